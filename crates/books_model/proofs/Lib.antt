@@ -1,0 +1,5 @@
+pub mod Maps
+pub mod InRange
+pub mod Above
+pub mod Changes
+pub mod Runs

@@ -1,0 +1,57 @@
+-- Clearing books: sizes, three finite maps and a queue.
+use Rattle.std.specs.Prelude.{ℕ, ◌+◌, List, [], refl, unwrap_or}
+use Rattle.std.specs.declared.cmp.Ordering.{Ordering}
+use Rattle.std.specs.Ordering.{nat_cmp, ordering_then}
+use Rattle.std.specs.Coded.{Coded, code_by, coded×, coded_ℕ, coded_list}
+use Rattle.std.specs.FinMap as map
+
+-- the order of positions: by account, and then by instrument
+abbrev pub position_cmp : ℕ × ℕ → ℕ × ℕ → Ordering
+position_cmp x y = ordering_then (nat_cmp x.0 y.0) (nat_cmp x.1 y.1)
+
+-- the books as contracts see them
+pub record ClearingBooks : Type 0 where
+  pub blocks : ℕ
+  pub instruments : ℕ
+  pub ring : ℕ
+  -- the cash of each account
+  pub accounts : map.FinMap nat_cmp ℕ
+  -- the quantity that each account holds of each instrument
+  pub positions : map.FinMap position_cmp ℕ
+  -- the price of each instrument that has one
+  pub prices : map.FinMap nat_cmp ℕ
+  -- the queue of margin calls, front first: an account and its shortfall
+  pub calls : List (ℕ × ℕ)
+
+-- books are stored as the tuple of their parts
+abbrev pub books_code : Coded ClearingBooks
+books_code =
+    code_by (ℕ × (ℕ × (ℕ × (map.FinMap nat_cmp ℕ × (map.FinMap position_cmp ℕ × (map.FinMap nat_cmp ℕ × List (ℕ × ℕ)))))))
+    (coded× coded_ℕ (coded× coded_ℕ (coded× coded_ℕ (coded× (map.code coded_ℕ coded_ℕ) (coded× (map.code (coded× coded_ℕ coded_ℕ) coded_ℕ) (coded× (map.code coded_ℕ coded_ℕ) (coded_list (coded× coded_ℕ coded_ℕ))))))))
+    (λ b. (b.blocks, (b.instruments, (b.ring, (b.accounts, (b.positions, (b.prices, b.calls)))))))
+    (λ p. record { blocks = p.0; instruments = p.1.0; ring = p.1.1.0; accounts = p.1.1.1.0; positions = p.1.1.1.1.0; prices = p.1.1.1.1.1.0; calls = p.1.1.1.1.1.1 })
+    (λ _. refl)
+
+-- books of these sizes with nothing in them
+abbrev pub empty_books : ℕ → ℕ → ℕ → ClearingBooks
+empty_books blocks instruments ring = record { blocks = blocks; instruments = instruments; ring = ring; accounts = map.empty; positions = map.empty; prices = map.empty; calls = [] }
+
+-- how many blocks are used: each account, position and price takes one
+abbrev pub used : ClearingBooks → ℕ
+used books = map.len books.accounts + map.len books.positions + map.len books.prices
+
+-- the cash of an account, or 0
+abbrev pub cash_of : ClearingBooks → ℕ → ℕ
+cash_of books a = unwrap_or (map.get books.accounts a) 0
+
+-- what an account holds of an instrument, or 0
+abbrev pub position_of : ClearingBooks → ℕ → ℕ → ℕ
+position_of books a i = unwrap_or (map.get books.positions (a, i)) 0
+
+-- the price of an instrument, or 0
+abbrev pub price_of : ClearingBooks → ℕ → ℕ
+price_of books i = unwrap_or (map.get books.prices i) 0
+
+-- the account has this cash
+abbrev pub put_cash : ClearingBooks → ℕ → ℕ → ClearingBooks
+put_cash books a cash = record books { accounts = map.insert books.accounts a cash }

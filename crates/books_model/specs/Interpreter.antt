@@ -1,0 +1,142 @@
+-- The sequential interpreter: what a script replies, and the books that it leaves.
+use Rattle.std.specs.Prelude.{ℕ, ◌+◌, ◌-◌, ◌*◌, ◌/◌, Bool, not, ◌&&◌, ◌||◌, ◌==◌, nat_lt, nat_le, if◌then◌else◌, List, [], ◌∷◌, ◌++◌, length, sum_by}
+use Rattle.std.specs.List.{list_any}
+use Rattle.std.specs.FinMap as map
+use Rattle.books_model.specs.declared.limits.TheConstants.{GREATEST_CASH, GREATEST_QUANTITY}
+use Rattle.books_model.specs.declared.script.Op.{Op}
+use Rattle.books_model.specs.declared.script.Op.TheVariants as op
+use Rattle.books_model.specs.declared.reply.Decline.{Decline}
+use Rattle.books_model.specs.declared.reply.Decline.TheVariants as decline
+use Rattle.books_model.specs.declared.reply.Value.{Value}
+use Rattle.books_model.specs.declared.reply.Value.TheVariants as value
+use Rattle.books_model.specs.declared.reply.Reply.{Reply}
+use Rattle.books_model.specs.declared.reply.Reply.TheVariants as reply
+use Rattle.books_model.specs.Books.{ClearingBooks, used, cash_of, position_of, price_of, put_cash}
+
+abbrev pub is_account : ClearingBooks → ℕ → Bool
+is_account books a = map.contains_key books.accounts a
+
+-- an account holds a position
+abbrev pub holds_any : ClearingBooks → ℕ → Bool
+holds_any books a = list_any (λ e. e.0.0 == a) (map.entries books.positions)
+
+-- no block is left
+abbrev pub is_full : ClearingBooks → Bool
+is_full books = used books == books.blocks
+
+-- the account holds this much of the instrument, and has no such position where it is 0
+abbrev pub put_position : ClearingBooks → ℕ → ℕ → ℕ → ClearingBooks
+put_position books a i quantity = record books {
+  positions = (if quantity == 0 then map.remove books.positions (a, i) else map.insert books.positions (a, i) quantity);
+}
+
+-- what an account's positions are worth at the prices of the books
+abbrev pub worth_of : ClearingBooks → ℕ → ℕ
+worth_of books a = sum_by (λ e. if e.0.0 == a then e.1 * price_of books e.0.1 else 0) (map.entries books.positions)
+
+-- by how much an account's cash falls short of a rate, in percent, of what its positions are worth
+abbrev pub shortfall_of : ClearingBooks → ℕ → ℕ → ℕ
+shortfall_of books a rate = worth_of books a * rate / 100 - cash_of books a
+
+-- the cash of all accounts from one number to another, both included
+abbrev pub cash_between : ClearingBooks → ℕ → ℕ → ℕ
+cash_between books a b = sum_by (λ e. if nat_le a e.0 && nat_le e.0 b then e.1 else 0) (map.entries books.accounts)
+
+-- what one operation does: it gives a value and leaves books, or is declined, or finds no block
+pub data Step : Type 0 where
+  Gives : Value → ClearingBooks → Step
+  Declines : Decline → Step
+  FindsNoBlock : Step
+
+-- a trade, from what the buyer pays and the books in which the seller's position is lowered
+abbrev pub trade_of : ClearingBooks → ClearingBooks → ℕ → ℕ → ℕ → ℕ → ℕ → Step
+trade_of books lowered a b i q cost =
+    if nat_lt (cash_of books a) cost then Declines decline.Cash
+    else (if nat_lt GREATEST_CASH (cash_of books b + cost) || nat_lt GREATEST_QUANTITY (position_of books a i + q) then Declines decline.Limit
+    else (if not (map.contains_key books.positions (a, i)) && is_full lowered then FindsNoBlock
+    else Gives value.Done (put_cash (put_cash (put_position lowered a i (position_of books a i + q)) a (cash_of books a - cost)) b (cash_of books b + cost))))
+
+-- a margin call for the shortfall, where there is one
+abbrev pub margin_of : ClearingBooks → ℕ → ℕ → Step
+margin_of books a shortfall =
+    if shortfall == 0 then Gives (value.Number 0) books
+    else (if length books.calls == books.ring then Declines decline.Queue
+    else Gives (value.Number shortfall) (record books { calls = books.calls ++ (a, shortfall) ∷ [] }))
+
+-- the queue's front is taken
+abbrev pub next_of : ClearingBooks → List (ℕ × ℕ) → Step
+next_of books [] = Gives value.Nothing books
+next_of books (call ∷ calls) = Gives (value.Call call.0 call.1) (record books { calls = calls })
+
+-- One operation. The reasons to refuse it are tried in the order in which they stand.
+abbrev pub step_of : Op → ClearingBooks → Step
+step_of (op.OpenAccount a) books =
+    if is_account books a then Declines decline.Exists
+    else (if is_full books then FindsNoBlock
+    else Gives value.Done (put_cash books a 0))
+step_of (op.Close a) books =
+    if not (is_account books a) then Declines decline.Absent
+    else (if not (cash_of books a == 0) then Declines decline.Cash
+    else (if holds_any books a then Declines decline.Held
+    else Gives value.Done (record books { accounts = map.remove books.accounts a })))
+step_of (op.Deposit a x) books =
+    if not (is_account books a) then Declines decline.Absent
+    else (if nat_lt GREATEST_CASH (cash_of books a + x) then Declines decline.Limit
+    else Gives value.Done (put_cash books a (cash_of books a + x)))
+step_of (op.Withdraw a x) books =
+    if not (is_account books a) then Declines decline.Absent
+    else (if nat_lt (cash_of books a) x then Declines decline.Cash
+    else Gives value.Done (put_cash books a (cash_of books a - x)))
+step_of (op.Move a b x) books =
+    if a == b then Declines decline.Same
+    else (if not (is_account books a && is_account books b) then Declines decline.Absent
+    else (if nat_lt (cash_of books a) x then Declines decline.Cash
+    else (if nat_lt GREATEST_CASH (cash_of books b + x) then Declines decline.Limit
+    else Gives value.Done (put_cash (put_cash books a (cash_of books a - x)) b (cash_of books b + x)))))
+step_of (op.Price i p) books =
+    if not (map.contains_key books.prices i) && is_full books then FindsNoBlock
+    else Gives value.Done (record books { prices = map.insert books.prices i p })
+step_of (op.Trade a b i q) books =
+    if a == b then Declines decline.Same
+    else (if not (is_account books a && is_account books b) then Declines decline.Absent
+    else (if not (map.contains_key books.prices i) then Declines decline.Price
+    else (if nat_lt (position_of books b i) q then Declines decline.Quantity
+    else trade_of books (put_position books b i (position_of books b i - q)) a b i q (q * price_of books i))))
+step_of (op.Margin a m) books =
+    if not (is_account books a) then Declines decline.Absent
+    else margin_of books a (shortfall_of books a m)
+step_of op.Next books = next_of books books.calls
+step_of (op.Show a) books =
+    if not (is_account books a) then Declines decline.Absent
+    else Gives (value.Number (cash_of books a)) books
+step_of (op.Sum a b) books = Gives (value.Number (cash_between books a b)) books
+
+-- how operations end: with a value for each and the books after them, or at the first that is refused
+pub data Run : Type 0 where
+  Ends : List Value → ClearingBooks → Run
+  Stops : Reply → Run
+
+-- a value in front of those that follow
+abbrev pub after_value : Value → Run → Run
+after_value v (Ends values books) = Ends (v ∷ values) books
+after_value v (Stops stop) = Stops stop
+
+-- operation number k took this step; what follows goes on from its books
+abbrev pub after_step : ℕ → Step → (ClearingBooks → Run) → Run
+after_step k (Gives v books) follows = after_value v (follows books)
+after_step k (Declines why) follows = Stops (reply.Declined k why)
+after_step k FindsNoBlock follows = Stops (reply.Full k)
+
+-- operations, the first of which has number k
+abbrev pub run_from : ℕ → List Op → ClearingBooks → Run
+run_from k [] books = Ends [] books
+run_from k (op ∷ ops) books = after_step k (step_of op books) (λ next. run_from (k + 1) ops next)
+
+-- a script that is refused changes nothing
+abbrev pub outcome_from : ClearingBooks → Run → Reply × ClearingBooks
+outcome_from before (Ends values after) = (reply.Done values, after)
+outcome_from before (Stops stop) = (stop, before)
+
+-- what a script replies, and the books that it leaves
+abbrev pub outcome_of : List Op → ClearingBooks → Reply × ClearingBooks
+outcome_of script books = outcome_from books (run_from 1 script books)

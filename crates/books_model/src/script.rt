@@ -1,0 +1,84 @@
+//! Scripts: lists of operations on clearing books.
+
+ghost use Rattle.std.specs.Prelude.{◌≡◌, ◌<◌, [], ◌∷◌, ◌++◌, length, Some, OnOk, OnErr, slice_get};
+
+use io_ends::OutOfMemory;
+use std::alloc::Global;
+use std::marker::Model;
+
+/// An operation. Accounts and instruments go by their numbers, amounts and prices are whole units of cash.
+#[derive(Clone, Copy, Debug, PartialEq, Eq)]
+pub enum Op {
+    /// Opens an account with no cash.
+    OpenAccount(u32),
+    /// Closes an account that has no cash and no position.
+    Close(u32),
+    /// Adds an amount to an account's cash.
+    Deposit(u32, u64),
+    /// Takes an amount from an account's cash.
+    Withdraw(u32, u64),
+    /// Moves an amount from the first account to the second.
+    Move(u32, u32, u64),
+    /// Sets the price of an instrument.
+    Price(u32, u64),
+    /// The first account buys from the second, of the instrument, the quantity, at its price.
+    Trade(u32, u32, u32, u64),
+    /// Queues a margin call for the account's shortfall at a rate in percent.
+    Margin(u32, u64),
+    /// Takes the front of the queue of margin calls.
+    Next,
+    /// Tells an account's cash.
+    Show(u32),
+    /// Tells the cash of all accounts from the first to the second.
+    Sum(u32, u32),
+}
+
+/// Operations that are run in order, all or none.
+#[derive(Debug, Drop)]
+pub struct Script {
+    operations: Vec<Op>,
+}
+
+impl Model for Script {
+    ghost use Rattle.std.specs.Prelude.{List};
+    ghost use Rattle.books_model.specs.declared.script.Op.{Op};
+
+    ghost Value = { List Op };
+
+    ghost view = { λ s. s.operations.items };
+}
+
+impl Script {
+    /// A script with no operation. It takes no memory.
+    pub fn new(alloc: Global) -> Script
+        ensures { result ≡ [] }
+    {
+        Script {
+            operations: Vec::new(alloc),
+        }
+    }
+
+    /// Adds an operation at the end.
+    pub fn push(&mut self, op: Op) -> Result<(), OutOfMemory>
+        ensures ok { OnOk result (self.new ≡ self.old ++ op ∷ []) }
+        ensures err { OnErr result (self.new ≡ self.old) }
+    {
+        self.operations.push(op)?;
+        Ok(())
+    }
+
+    /// How many operations it has.
+    pub fn len(&self) -> usize
+        ensures { result ≡ length self.now }
+    {
+        self.operations.len()
+    }
+
+    /// The operation at a place, from 0.
+    pub fn at(&self, i: usize) -> Op
+        requires { i < length self.now }
+        ensures { slice_get self.now i ≡ Some result }
+    {
+        self.operations[i]
+    }
+}

@@ -1,0 +1,102 @@
+ghost use Rattle.std.specs.Prelude.{All, IfOk};
+ghost use Rattle.books_model.specs.Ranges.{IsScriptFor};
+ghost use Rattle.books_model.specs.Cut.{IsRunSoFar, HaveOnlyAccounts};
+
+use crate::limits::GREATEST_CASH;
+use crate::{Books, Decline, Op, Reply, Script, Value, run_plain};
+use io_ends::OutOfMemory;
+use std::alloc::Global;
+use std::process::Abort;
+use std::test::Fail;
+
+// Books of 4 blocks with these accounts, added in order.
+fn books_of(rt: &impl Abort, alloc: Global, accounts: &[(u32, u64)]) -> Result<Books, OutOfMemory>
+    ensures { IfOk result HaveOnlyAccounts }
+{
+    let mut books = Books::new(alloc, 4, 1, 1);
+    for (account, cash) in accounts {
+        assert!(rt; *account > 0 && *cash <= GREATEST_CASH);
+        assert!(rt; books.cash(*account).is_none());
+        assert!(rt; books.used() < books.blocks());
+        books.add_account(*account, *cash)?;
+    }
+    Ok(books)
+}
+
+fn run(alloc: Global, operations: &[Op], books: &mut Books) -> Result<Reply, OutOfMemory>
+    requires range { IsScriptFor books.old operations.now }
+    requires built { All IsRunSoFar operations.now }
+    requires accounts { HaveOnlyAccounts books.old }
+    ensures { HaveOnlyAccounts books.new }
+{
+    let mut script = Script::new(alloc);
+    for operation in operations {
+        script.push(*operation)?;
+    }
+    run_plain(alloc, &script, books)
+}
+
+#[test]
+fn a_script_tells_values_and_changes_books(rt: HostRuntime) -> Result<(), Fail> {
+    let alloc = rt.alloc();
+    let mut books = books_of(&rt, alloc, &[(7, 100)])?;
+    let reply = run(alloc, &[Op::Deposit(7, 5), Op::Show(7)], &mut books)?;
+    let Reply::Done(values) = reply else {
+        panic!(rt; "refused")
+    };
+    assert_eq!(rt; values.len(), 2);
+    assert_eq!(rt; values.at(0), Value::Done);
+    assert_eq!(rt; values.at(1), Value::Number(105));
+    assert_eq!(rt; books.cash(7), Some(105));
+    Ok(())
+}
+
+#[test]
+fn an_empty_script_tells_no_values(rt: HostRuntime) -> Result<(), Fail> {
+    let alloc = rt.alloc();
+    let mut books = books_of(&rt, alloc, &[(7, 100)])?;
+    let Reply::Done(values) = run(alloc, &[], &mut books)? else {
+        panic!(rt; "refused")
+    };
+    assert_eq!(rt; values.len(), 0);
+    Ok(())
+}
+
+#[test]
+fn a_refused_script_changes_nothing(rt: HostRuntime) -> Result<(), Fail> {
+    let alloc = rt.alloc();
+    let mut books = books_of(&rt, alloc, &[(7, 100)])?;
+    let reply = run(alloc, &[Op::Deposit(7, 5), Op::Deposit(8, 1)], &mut books)?;
+    let Reply::Declined(number, why) = reply else {
+        panic!(rt; "not declined")
+    };
+    assert_eq!(rt; (number, why), (2, Decline::Absent));
+    assert_eq!(rt; books.cash(7), Some(100));
+    Ok(())
+}
+
+#[test]
+fn cash_has_a_limit(rt: HostRuntime) -> Result<(), Fail> {
+    let alloc = rt.alloc();
+    let mut books = books_of(&rt, alloc, &[(1, 999_999_999_999_999)])?;
+    let Reply::Done(values) = run(alloc, &[Op::Deposit(1, 1)], &mut books)? else {
+        panic!(rt; "refused")
+    };
+    assert_eq!(rt; values.len(), 1);
+    let Reply::Declined(number, why) = run(alloc, &[Op::Deposit(1, 1)], &mut books)? else {
+        panic!(rt; "not declined")
+    };
+    assert_eq!(rt; (number, why), (1, Decline::Limit));
+    assert_eq!(rt; books.cash(1), Some(1_000_000_000_000_000));
+    Ok(())
+}
+
+#[test]
+fn a_walk_goes_by_account_numbers(rt: HostRuntime) -> Result<(), Fail> {
+    let books = books_of(&rt, rt.alloc(), &[(3, 30), (1, 10)])?;
+    assert_eq!(rt; books.used(), 2);
+    assert_eq!(rt; books.account_after(0), Some((1, 10)));
+    assert_eq!(rt; books.account_after(1), Some((3, 30)));
+    assert_eq!(rt; books.account_after(3), None);
+    Ok(())
+}

@@ -1,0 +1,18 @@
+use Rattle.std.proofs.Common.{◌+◌, ◌<◌, ◌^◌, arith}
+use Rattle.history_model.specs.Fitting.{SomeFits}
+use Rattle.history_model.proofs.FittingLaws.{some_at}
+use Rattle.txn_words.proofs.CallLaws.{each_plain}
+use Rattle.counter.proofs.Sums.{sum_fits, sum_adds}
+use Rattle.counter.proofs.adding.add_to.Goals as goal
+
+pub overflow_add-v : goal.overflow_add-v
+overflow_add-v g c =
+    let words = g.W.Words in
+    let shapes = g.W.Shape.Shape in
+    let some : SomeFits (shapes.word_count (words.shape c.args.w.now)) (shapes.good (words.shape c.args.w.now)) (words.trace c.read.new.self) =
+    some_at shapes.word_count shapes.good _ _ _ c.in_ok-v.ensures.shape (g.met.W.Words.fits c.read.new.self c.in_ok-v.ensures.sound) in
+    let sum : c.in_ok-v.v + c.args.by < 2 ^ 64 = sum_fits _ _ _ _ c.args.a c.in_ok-v.v c.in_ok-v.ensures.value c.args.by (each_plain words shapes _ _ c.requires.room) some in
+    omega (arith, sum)
+
+pub returns-clause-added : goal.returns-clause-added
+returns-clause-added g c = record { at = (sum_adds _ _ _ _ c.args.a c.in_ok-v.v c.in_ok-v.ensures.value _ c.args.by c.in_ok-write.ensures.value).at }

@@ -1,0 +1,39 @@
+//! A call on any words, with the contract that a collection's call has.
+
+ghost use Rattle.std.specs.Prelude.{◌<◌, OnOk};
+ghost use Rattle.txn_words.specs.Calls.{IsReady, GoesOn, InEachState, LeadsTo};
+ghost use Rattle.counter.specs.Counting.{HasRoom, AddsTo};
+
+use txn_words::{Stop, Words};
+
+/// Adds `by` to the word at place `a`, of which every state that fits what was done before says that the sum fits.
+pub fn add_to<W: Words>(w: &mut W, a: u64, by: u64) -> Result<(), Stop>
+    requires ready { IsReady W.Words w.old }
+    requires within { a < W.Shape.word_count (W.shape w.old) }
+    requires room { InEachState W.Words W.Shape.Shape w.old (HasRoom a by) }
+    ensures added { OnOk result (LeadsTo W.Words W.Shape.Shape w.old w.new (AddsTo a by)) }
+    ensures goes_on { GoesOn W.Words w.old w.new result }
+{
+    let v = w.read(a)?;
+    w.write(a, v + by)?;
+    Ok(())
+}
+
+#[cfg(test)]
+mod tests {
+    use super::*;
+    use crate::increment::CounterShape;
+    use std::test::Fail;
+    use txn_words::Plain;
+
+    #[test]
+    fn a_word_that_was_read_is_added_to(rt: HostRuntime) -> Result<(), Fail> {
+        let words = Vec::from_slice(rt.alloc(), &[40])?;
+        let mut plain = Plain::new(rt.alloc(), CounterShape, words);
+        let v = plain.read(0)?;
+        assert_eq!(rt; v, 40);
+        add_to(&mut plain, 0, 2)?;
+        assert_eq!(rt; plain.words(), [42].as_slice());
+        Ok(())
+    }
+}

@@ -1,0 +1,3 @@
+pub mod TraceLaws
+pub mod LastEvents
+pub mod FittingLaws

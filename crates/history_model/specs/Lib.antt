@@ -1,0 +1,4 @@
+pub mod Locks
+pub mod Traces
+pub mod Fitting
+pub mod Statements

@@ -1,0 +1,32 @@
+-- What a call on words asks and leaves, over the ghost members of the words and of their shape.
+-- A collection cites these as `IsReady W.Words w.old` and `InEachState W.Words W.Shape.Shape w.old P`.
+use Rattle.std.specs.Prelude.{◌≡◌, ℕ, List, None, Result}
+use Rattle.history_model.specs.declared.shape.Shape.{Ghosts as Shapes}
+use Rattle.history_model.specs.Traces.{after, Begins}
+use Rattle.history_model.specs.Fitting.{Fits}
+use Rattle.txn_words.specs.declared.words.Stop.{Stop}
+use Rattle.txn_words.specs.declared.words.Words.{Ghosts as AnyWords}
+use Rattle.txn_words.specs.Steps.{stop_after}
+
+module _ {W S O : Type 0} (words : AnyWords W S O) where
+  -- a call may be made
+  pub record IsReady (w : W) : Type 0 where
+    pub going : words.stop w ≡ None
+    pub sound : words.is_sound w
+
+  -- what every call leaves, a refused one too: a stop that it answers is one that the words answered in it
+  pub record GoesOn {A : Type 0} (old new : W) (result : Result A Stop) : Type 0 where
+    pub shape : words.shape new ≡ words.shape old
+    pub origin : words.origin new ≡ words.origin old
+    pub begins : Begins (words.trace old) (words.trace new)
+    pub stops : words.stop new ≡ stop_after result
+    pub sound : words.is_sound new
+
+  module _ (shapes : Shapes S) where
+    -- P holds in every good state that fits the trace
+    pub record InEachState (w : W) (P : List ℕ → Type 0) : Type 0 where
+      pub at : (s : List ℕ) → Fits (shapes.word_count (words.shape w)) (shapes.good (words.shape w)) (words.trace w) s → P (after (words.trace w) s)
+
+    -- R leads from what the old trace leaves to what the new one leaves, of every good list on which the new one is legal
+    pub record LeadsTo (old new : W) (R : List ℕ → List ℕ → Type 0) : Type 0 where
+      pub at : (s : List ℕ) → Fits (shapes.word_count (words.shape old)) (shapes.good (words.shape old)) (words.trace new) s → R (after (words.trace old) s) (after (words.trace new) s)
