@@ -1,6 +1,6 @@
 //! Clearing books.
 
-ghost use Rattle.std.specs.Prelude.{◌≡◌, ℕ, ◌<◌, ◌≤◌, Some, None, IsSome, IfSome, IfNone, OnOk, OnErr, find, nat_lt};
+ghost use Rattle.std.specs.Prelude.{◌≡◌, ℕ, ◌<◌, ◌≤◌, Some, None, IsSome, IfOk, IfSome, IfNone, OnOk, OnErr, find, nat_lt};
 ghost use Rattle.std.specs.FinMap as map;
 ghost use Rattle.std.specs.Ordering.{nat_cmp};
 ghost use Rattle.books_model.specs.Draft.{put_in, AreKeysOf};
@@ -89,6 +89,21 @@ impl Books {
         ensures { result ≡ map.get self.now.accounts a }
     {
         self.accounts.get(&a).copied()
+    }
+
+    /// Equal books.
+    pub fn copy(&self) -> Result<Books, OutOfMemory>
+        ensures { IfOk result (λ copy. copy ≡ self.now) }
+    {
+        Ok(Books {
+            blocks: self.blocks,
+            instruments: self.instruments,
+            ring: self.ring,
+            accounts: self.accounts.clone()?,
+            positions: self.positions.clone()?,
+            prices: self.prices.clone()?,
+            calls: self.calls.clone()?,
+        })
     }
 
     /// How many accounts, positions and prices there are together.

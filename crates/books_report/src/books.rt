@@ -1,0 +1,70 @@
+//! The text of clearing books.
+
+ghost use Rattle.std.specs.Prelude.{◌≡◌, ◌∷◌, ◌++◌, IfOk, OnOk};
+ghost use Rattle.std.specs.String.{string_bytes};
+ghost use Rattle.std.specs.List.{flat_map};
+ghost use Rattle.std.specs.FinMap.{entries};
+ghost use Rattle.books_model.specs.Cut.{HaveOnlyAccounts};
+ghost use Rattle.books_model.specs.Ranges.{AreInRange};
+ghost use Rattle.script_reader.specs.declared.words.TheConstants.{SPACE};
+ghost use Rattle.script_reader.specs.Text.{account_line, books_lines, header_line, number};
+
+use books_model::Books;
+use io_ends::OutOfMemory;
+use std::alloc::{AllocError, Global};
+
+fn write_size(text: &mut String, name: &str, size: u32) -> Result<(), AllocError>
+    ensures { OnOk result (string_bytes text.new ≡ string_bytes text.old ++ SPACE ∷ (name.now ++ SPACE ∷ number size)) }
+{
+    write!(text, " {name} {size}")
+}
+
+fn write_header(text: &mut String, books: &Books) -> Result<(), AllocError>
+    ensures ok { OnOk result (string_bytes text.new ≡ string_bytes text.old ++ header_line books.now) }
+    ensures range { OnOk result (AreInRange books.now) }
+{
+    text.push_str("books 1")?;
+    write_size(text, "blocks", books.blocks())?;
+    write_size(text, "instruments", books.instruments())?;
+    write_size(text, "ring", books.ring())?;
+    text.push('\n')
+}
+
+fn write_account(text: &mut String, account: u32, cash: u64) -> Result<(), AllocError>
+    ensures { OnOk result (string_bytes text.new ≡ string_bytes text.old ++ account_line (account, cash)) }
+{
+    write!(text, "account {account} {cash}\n")
+}
+
+fn write_accounts(text: &mut String, books: &Books) -> Result<(), AllocError>
+    requires { AreInRange books.now }
+    ensures { OnOk result (string_bytes text.new ≡ string_bytes text.old ++ flat_map account_line (entries books.now.accounts)) }
+{
+    let mut last = 0;
+    while let Some((account, cash)) = books.account_after(last) {
+        write_account(text, account, cash)?;
+        last = account;
+    }
+    Ok(())
+}
+
+/// Appends the lines of the books.
+pub fn write_books(text: &mut String, books: &Books) -> Result<(), AllocError>
+    // Until positions, prices and margin calls are built.
+    requires { HaveOnlyAccounts books.now }
+    ensures { OnOk result (string_bytes text.new ≡ string_bytes text.old ++ books_lines books.now) }
+{
+    write_header(text, books)?;
+    write_accounts(text, books)
+}
+
+/// The lines of the books: the header, accounts, prices and positions in rising order, and the queue of margin calls.
+pub fn books_text(alloc: Global, books: &Books) -> Result<Vec<u8>, OutOfMemory>
+    // Until positions, prices and margin calls are built.
+    requires { HaveOnlyAccounts books.now }
+    ensures { IfOk result (λ text. text.items ≡ books_lines books.now) }
+{
+    let mut text = String::new(alloc);
+    write_books(&mut text, books)?;
+    Ok(text.into_bytes())
+}

@@ -1,0 +1,72 @@
+//! The text of a journal and of closing books.
+
+ghost use Rattle.std.specs.Prelude.{◌≡◌, ◌+◌, ◌<◌, ◌++◌, length, map, All, IfOk, OnOk};
+ghost use Rattle.std.specs.String.{string_bytes};
+ghost use Rattle.books_model.specs.Cut.{HaveOnlyAccounts};
+ghost use Rattle.script_reader.specs.Journal.{IsPlace};
+ghost use Rattle.books_report.specs.Output.{journal_line, journal_lines, place_of, text_of};
+
+use crate::books::write_books;
+use crate::line::Line;
+use crate::words::write_reply;
+use books_model::{Books, Reply};
+use io_ends::OutOfMemory;
+use script_reader::Input;
+use std::alloc::{AllocError, Global};
+
+fn write_line(
+    text: &mut String,
+    serial: u64,
+    name: &str,
+    line: Line,
+    reply: &Reply,
+) -> Result<(), AllocError>
+    ensures { OnOk result (string_bytes text.new ≡ string_bytes text.old ++ journal_line serial name.now line.index line.restarts reply.now) }
+{
+    let index = u64::from(line.index) + 1;
+    let restarts = line.restarts;
+    write!(text, "{serial} {name} {index} {restarts} ")?;
+    write_reply(text, reply)?;
+    text.push('\n')
+}
+
+fn write_lines(
+    text: &mut String,
+    input: &Input,
+    lines: &[Line],
+    replies: &[Reply],
+) -> Result<(), AllocError>
+    requires beside { length lines.now ≡ length replies.now }
+    requires places { All (λ l. IsPlace input.now (place_of l)) lines.now }
+    ensures { OnOk result (string_bytes text.new ≡ string_bytes text.old
+        ++ journal_lines input.now 1 (map place_of lines.now) (map (λ l. l.restarts) lines.now) replies.now) }
+{
+    for i in 0..lines.len() {
+        let line = lines[i];
+        let name = input.name(line.caller);
+        write_line(text, i as u64 + 1, name, line, &replies[i])?;
+    }
+    Ok(())
+}
+
+/// The whole output: a journal line for each line and reply, in their order, the closing books, and `finish`.
+pub fn journal_text(
+    alloc: Global,
+    input: &Input,
+    lines: &[Line],
+    replies: &[Reply],
+    closing: &Books,
+) -> Result<Vec<u8>, OutOfMemory>
+    requires beside { length lines.now ≡ length replies.now }
+    requires places { All (λ l. IsPlace input.now (place_of l)) lines.now }
+    // Until positions, prices and margin calls are built.
+    requires accounts { HaveOnlyAccounts closing.now }
+    ensures { IfOk result (λ text. text.items
+        ≡ text_of input.now (map place_of lines.now) (map (λ l. l.restarts) lines.now) replies.now closing.now) }
+{
+    let mut text = String::from_str(alloc, "journal\n")?;
+    write_lines(&mut text, input, lines, replies)?;
+    write_books(&mut text, closing)?;
+    text.push_str("finish\n")?;
+    Ok(text.into_bytes())
+}

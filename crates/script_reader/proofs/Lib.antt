@@ -1,0 +1,11 @@
+pub mod Cutting
+pub mod Numerals
+pub mod Gathering
+pub mod Naming
+pub mod Grouping
+pub mod Reading
+pub mod SoFar
+pub mod Heading
+pub mod Rising
+pub mod Whole
+pub mod Besides

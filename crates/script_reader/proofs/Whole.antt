@@ -1,0 +1,26 @@
+-- A whole text.
+use Rattle.std.proofs.Common.{◌≡◌, ℕ, List, [], ◌++◌, sym, ap, ◌∙◌, append_assoc}
+use Rattle.std.specs.List.{flat_map}
+use Rattle.std.proofs.lemmas.List.{append-nil}
+use Rattle.books_model.specs.Books.{ClearingBooks}
+use Rattle.books_model.specs.Cut.{HaveOnlyAccounts}
+use Rattle.books_model.specs.Ranges.{AreInRange}
+use Rattle.script_reader.specs.Text.{books_lines, scripts_line, finish_line}
+use Rattle.script_reader.specs.Input.{Caller}
+use Rattle.script_reader.specs.Grammar.{submission_lines, Spells}
+use Rattle.script_reader.specs.Scripts.{IsReadOf}
+
+-- books and scripts that were read to the end of a text are its input
+pub spelled : (books : ClearingBooks) (callers : List Caller) (start middle after : List ℕ) → AreInRange books → HaveOnlyAccounts books
+    → start ≡ books_lines books ++ scripts_line ++ middle → IsReadOf books callers middle after → after ≡ [] → Spells start (record { books = books; callers = callers })
+spelled books callers start middle after range cut first rest end = record {
+  submissions = rest.submissions;
+  text =
+      let scripts : List ℕ = flat_map submission_lines rest.submissions in
+      first
+      ∙ ap (λ m. books_lines books ++ scripts_line ++ m) (rest.text ∙ ap (λ a. scripts ++ finish_line ++ a) end ∙ append-nil (scripts ++ finish_line))
+      ∙ sym (append_assoc (books_lines books ++ scripts_line) scripts finish_line);
+  callers = rest.made;
+  valid = record { books = range; callers = rest.valid.range };
+  so_far = record { books = cut; scripts = rest.valid.so_far }
+}

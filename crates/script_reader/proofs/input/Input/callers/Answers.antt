@@ -1,0 +1,12 @@
+use Rattle.std.proofs.Common.{length, sym, ap, ◌∙◌, arith}
+use Rattle.std.specs.String.{string_bytes}
+use Rattle.script_reader.proofs.Gathering.{count_callers}
+use Rattle.script_reader.proofs.input.Input.callers.Goals as goal
+
+pub overflow_cast-result : goal.overflow_cast-result
+overflow_cast-result c =
+    omega (arith, c.len.ensures.len, c.self.invariant.0.callers.few, count_callers string_bytes (λ v. v.items) c.self.inside.names.keys c.self.inside.scripts.items c.self.invariant.1)
+
+pub returns-clause-value : goal.returns-clause-value
+returns-clause-value c =
+    c.len.ensures.len ∙ sym (count_callers string_bytes (λ v. v.items) c.self.inside.names.keys c.self.inside.scripts.items c.self.invariant.1) ∙ ap (λ i. length i.callers) c.self.view_is

@@ -1,0 +1,27 @@
+-- The grammar of inputs, as the text that an input has. Each number and each space has one spelling, so a text is that of one input at most.
+use Rattle.std.specs.Prelude.{◌≡◌, ℕ, List, [], ◌∷◌, ◌++◌, codes}
+use Rattle.std.specs.List.{flat_map}
+use Rattle.books_model.specs.Books.{ClearingBooks}
+use Rattle.script_reader.specs.Text.{line, books_lines, operation_lines, scripts_line, end_line, finish_line}
+use Rattle.script_reader.specs.Input.{ClearingInput, Submission, IsInput, callers_of}
+use Rattle.script_reader.specs.Cut.{IsReadSoFar}
+
+-- the line `script CALLER`, the operations, and the line `end`
+abbrev pub submission_lines : Submission → List ℕ
+submission_lines s = line (codes "script" ∷ s.caller ∷ []) ++ operation_lines s.script ++ end_line
+
+-- the text of books and of scripts in the order in which they are given
+abbrev pub input_text : ClearingBooks → List Submission → List ℕ
+input_text books submissions = books_lines books ++ scripts_line ++ flat_map submission_lines submissions ++ finish_line
+
+-- the bytes are a text of the input, whose callers gave their scripts in some order
+pub record Spells (bytes : List ℕ) (input : ClearingInput) : Type 0 where
+  pub submissions : List Submission
+  pub text : bytes ≡ input_text input.books submissions
+  pub callers : input.callers ≡ callers_of submissions
+  pub valid : IsInput input
+  pub so_far : IsReadSoFar input
+
+-- some input has these bytes as its text
+abbrev pub IsValidInput : List ℕ → Type 0
+IsValidInput bytes = (input : ClearingInput) × Spells bytes input

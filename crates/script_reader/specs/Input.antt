@@ -1,0 +1,83 @@
+-- An input: opening books, and callers with their scripts.
+use Rattle.std.specs.Prelude.{ℕ, ◌≤◌, List, [], ◌∷◌, ◌++◌, map, filter, fold, length, sum_by, All, if◌then◌else◌, refl, slice_index_or}
+use Rattle.std.specs.List.{list_any, IsDistinct}
+use Rattle.std.specs.Coded.{Coded, code_by, coded×, coded_ℕ, coded_list}
+use Rattle.std.specs.Str.{bytes_eq}
+use Rattle.books_model.specs.declared.script.Op.{Op}
+use Rattle.books_model.specs.contracts.script.Op as operation
+use Rattle.books_model.specs.Books.{ClearingBooks, books_code}
+use Rattle.books_model.specs.Ranges.{IsWithin, AreInRange, IsScriptFor}
+use Rattle.script_reader.specs.declared.limits.TheConstants.{MOST_CALLERS, MOST_SCRIPTS, LONGEST_NAME}
+
+-- a caller: its name, and its scripts in the order in which they were given
+pub record Caller : Type 0 where
+  pub name : List ℕ
+  pub scripts : List (List Op)
+
+-- opening books, and the callers in the order in which they were first seen
+pub record ClearingInput : Type 0 where
+  pub books : ClearingBooks
+  pub callers : List Caller
+
+-- an input is stored as its books and, for each caller, the pair of its parts
+abbrev pub caller_code : Coded Caller
+caller_code = code_by (List ℕ × List (List Op)) (coded× (coded_list coded_ℕ) (coded_list (coded_list operation.the_row.coded))) (λ c. (c.name, c.scripts)) (λ p. record { name = p.0; scripts = p.1 }) (λ _. refl)
+
+abbrev pub input_code : Coded ClearingInput
+input_code = code_by (ClearingBooks × List Caller) (coded× books_code (coded_list caller_code)) (λ i. (i.books, i.callers)) (λ p. record { books = p.0; callers = p.1 }) (λ _. refl)
+
+-- the caller with a number, from 0
+abbrev pub caller_at : ClearingInput → ℕ → Caller
+caller_at input c = slice_index_or input.callers c (record { name = []; scripts = [] })
+
+-- a script of a caller, both from 0
+abbrev pub script_at : ClearingInput → ℕ → ℕ → List Op
+script_at input c i = slice_index_or (caller_at input c).scripts i []
+
+-- names beside scripts, as callers
+abbrev pub beside : List (List ℕ) → List (List (List Op)) → List Caller
+beside [] scripts = []
+beside (name ∷ names) [] = []
+beside (name ∷ names) (scripts ∷ others) = record { name = name; scripts = scripts } ∷ beside names others
+
+-- a script as it stands in a text, with the name of its caller
+pub record Submission : Type 0 where
+  pub caller : List ℕ
+  pub script : List Op
+
+-- a name is some letters from `a` to `z`
+pub record IsName (name : List ℕ) : Type 0 where
+  pub length : IsWithin 1 LONGEST_NAME (length name)
+  pub letters : All (λ c. IsWithin 97 122 c) name
+
+-- the names seen so far, and this one behind them where it is new
+abbrev pub add_name : List (List ℕ) → List ℕ → List (List ℕ)
+add_name seen name = if list_any (bytes_eq name) seen then seen else seen ++ name ∷ []
+
+-- names in the order in which they are first seen, each once
+abbrev pub first_seen : List (List ℕ) → List (List ℕ)
+first_seen names = fold add_name [] names
+
+-- the scripts of one caller, in order
+abbrev pub scripts_by : List ℕ → List Submission → List (List Op)
+scripts_by name submissions = map (λ s. s.script) (filter (λ s. bytes_eq name s.caller) submissions)
+
+-- the callers of the scripts of a text
+abbrev pub callers_of : List Submission → List Caller
+callers_of submissions = map (λ name. record { name = name; scripts = scripts_by name submissions }) (first_seen (map (λ s. s.caller) submissions))
+
+abbrev pub count_scripts : List Caller → ℕ
+count_scripts callers = sum_by (λ c. length c.scripts) callers
+
+-- callers that the grammar can give, with scripts for the books
+pub record AreCallersFor (books : ClearingBooks) (callers : List Caller) : Type 0 where
+  pub few : length callers ≤ MOST_CALLERS
+  pub few_scripts : count_scripts callers ≤ MOST_SCRIPTS
+  pub names : All (λ c. IsName c.name) callers
+  pub names_differ : IsDistinct bytes_eq (map (λ c. c.name) callers)
+  pub scripts : All (λ c. All (IsScriptFor books) c.scripts) callers
+
+-- an input that the grammar can give
+pub record IsInput (input : ClearingInput) : Type 0 where
+  pub books : AreInRange input.books
+  pub callers : AreCallersFor input.books input.callers

@@ -1,0 +1,12 @@
+pub mod Text
+pub mod Lines
+pub mod Number
+pub mod Accounts
+pub mod Input
+pub mod Cut
+pub mod Grammar
+pub mod Placed
+pub mod Callers
+pub mod Scripts
+pub mod Journal
+pub mod Command

@@ -1,0 +1,75 @@
+-- The text of clearing books and of scripts: lines of words.
+use Rattle.std.specs.Prelude.{ℕ, List, [], ◌∷◌, ◌++◌, codes}
+use Rattle.std.specs.List.{join_with_byte, flat_map}
+use Rattle.std.specs.Fmt.{decimal}
+use Rattle.std.specs.FinMap as map
+use Rattle.books_model.specs.declared.script.Op.{Op}
+use Rattle.books_model.specs.declared.script.Op.TheVariants as op
+use Rattle.books_model.specs.Books.{ClearingBooks}
+use Rattle.script_reader.specs.declared.words.TheConstants.{SPACE, LINE_FEED}
+
+-- a number in a text: decimal digits, with no zero in front
+abbrev pub number : ℕ → List ℕ
+number n = decimal n
+
+-- words parted by exactly one space, and the line feed that ends the line
+abbrev pub line : List (List ℕ) → List ℕ
+line words = join_with_byte SPACE words ++ LINE_FEED ∷ []
+
+-- the words of the header
+abbrev pub header_words : ClearingBooks → List (List ℕ)
+header_words books =
+    codes "books" ∷ codes "1" ∷ codes "blocks" ∷ number books.blocks ∷ codes "instruments" ∷ number books.instruments ∷ codes "ring" ∷ number books.ring ∷ []
+
+abbrev pub header_line : ClearingBooks → List ℕ
+header_line books = line (header_words books)
+
+-- the words of an account
+abbrev pub account_words : ℕ × ℕ → List (List ℕ)
+account_words e = codes "account" ∷ number e.0 ∷ number e.1 ∷ []
+
+abbrev pub account_line : ℕ × ℕ → List ℕ
+account_line e = line (account_words e)
+
+abbrev pub price_line : ℕ × ℕ → List ℕ
+price_line e = line (codes "price" ∷ number e.0 ∷ number e.1 ∷ [])
+
+abbrev pub position_line : (ℕ × ℕ) × ℕ → List ℕ
+position_line e = line (codes "position" ∷ number e.0.0 ∷ number e.0.1 ∷ number e.1 ∷ [])
+
+abbrev pub call_line : ℕ × ℕ → List ℕ
+call_line call = line (codes "call" ∷ number call.0 ∷ number call.1 ∷ [])
+
+-- the lines of books: the header, and then accounts, prices and positions in rising order, and the queue from its front
+abbrev pub books_lines : ClearingBooks → List ℕ
+books_lines books =
+    header_line books
+    ++ flat_map account_line (map.entries books.accounts)
+    ++ flat_map price_line (map.entries books.prices)
+    ++ flat_map position_line (map.entries books.positions)
+    ++ flat_map call_line books.calls
+
+abbrev pub operation_words : Op → List (List ℕ)
+operation_words (op.OpenAccount a) = codes "open" ∷ number a ∷ []
+operation_words (op.Close a) = codes "close" ∷ number a ∷ []
+operation_words (op.Deposit a x) = codes "deposit" ∷ number a ∷ number x ∷ []
+operation_words (op.Withdraw a x) = codes "withdraw" ∷ number a ∷ number x ∷ []
+operation_words (op.Move a b x) = codes "move" ∷ number a ∷ number b ∷ number x ∷ []
+operation_words (op.Price i p) = codes "price" ∷ number i ∷ number p ∷ []
+operation_words (op.Trade a b i q) = codes "trade" ∷ number a ∷ number b ∷ number i ∷ number q ∷ []
+operation_words (op.Margin a m) = codes "margin" ∷ number a ∷ number m ∷ []
+operation_words op.Next = codes "next" ∷ []
+operation_words (op.Show a) = codes "show" ∷ number a ∷ []
+operation_words (op.Sum a b) = codes "sum" ∷ number a ∷ number b ∷ []
+
+abbrev pub operation_lines : List Op → List ℕ
+operation_lines ops = flat_map (λ o. line (operation_words o)) ops
+
+abbrev pub scripts_line : List ℕ
+scripts_line = line (codes "scripts" ∷ [])
+
+abbrev pub finish_line : List ℕ
+finish_line = line (codes "finish" ∷ [])
+
+abbrev pub end_line : List ℕ
+end_line = line (codes "end" ∷ [])

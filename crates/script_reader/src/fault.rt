@@ -1,0 +1,111 @@
+//! Why a text is refused.
+
+use io_ends::OutOfMemory;
+use std::alloc::{AllocError, AllocFailed};
+
+/// What is wrong with a line.
+#[derive(Clone, Copy, Debug, PartialEq, Eq)]
+pub enum Fault {
+    /// The first line is no header.
+    Header,
+    /// A word in a number's place is no number.
+    Number,
+    /// The first word is none that may stand there, the line has too few or too many words, or a name is misspelt.
+    Word,
+    /// A line of its kind may not stand there any more, or it does not rise.
+    Order,
+    /// A number is out of its range, or there are too many lines of a kind.
+    Limit,
+    /// A position is of an account that was not given.
+    Account,
+    /// A position is of an instrument that has no price.
+    Price,
+    /// More blocks are used than the books have.
+    Blocks,
+    /// The text ends too early, or goes on after its end.
+    End,
+}
+
+/// Why no input was read.
+#[derive(Clone, Copy, Debug, PartialEq, Eq)]
+pub enum InputFault {
+    /// The line with this number, from 1, is the first with a fault.
+    Line { line: u32, why: Fault },
+    /// No memory was found.
+    OutOfMemory,
+}
+
+impl From<OutOfMemory> for InputFault {
+    ghost use Rattle.std.specs.Prelude.{◌≡◌};
+    ghost use Rattle.script_reader.specs.declared.fault.InputFault.TheVariants as input_fault;
+
+    ghost from_gives = { λ _ fault. fault ≡ input_fault.OutOfMemory };
+
+    fn from(_error: OutOfMemory) -> InputFault {
+        InputFault::OutOfMemory
+    }
+}
+
+impl From<AllocError> for InputFault {
+    ghost use Rattle.std.specs.Prelude.{◌≡◌};
+    ghost use Rattle.script_reader.specs.declared.fault.InputFault.TheVariants as input_fault;
+
+    ghost from_gives = { λ _ fault. fault ≡ input_fault.OutOfMemory };
+
+    fn from(_error: AllocError) -> InputFault {
+        InputFault::OutOfMemory
+    }
+}
+
+impl<T: Drop> From<AllocFailed<T>> for InputFault {
+    ghost use Rattle.std.specs.Prelude.{◌≡◌};
+    ghost use Rattle.script_reader.specs.declared.fault.InputFault.TheVariants as input_fault;
+
+    ghost from_gives = { λ _ fault. fault ≡ input_fault.OutOfMemory };
+
+    fn from(_error: AllocFailed<T>) -> InputFault {
+        InputFault::OutOfMemory
+    }
+}
+
+// Why a part of a text was not read. The number of the line is added where the whole text is read.
+#[derive(Clone, Copy, Debug, PartialEq, Eq)]
+pub(crate) enum Refusal {
+    // The line that was read last has this fault, or with `Fault::End` the line after it.
+    LineFault(Fault),
+    // No memory was found.
+    OutOfMemory,
+}
+
+impl From<Fault> for Refusal {
+    ghost use Rattle.std.specs.Prelude.{◌≡◌};
+    ghost use Rattle.script_reader.specs.declared.fault.Refusal.TheVariants as refusal;
+
+    ghost from_gives = { λ why stop. stop ≡ refusal.LineFault why };
+
+    fn from(why: Fault) -> Refusal {
+        Refusal::LineFault(why)
+    }
+}
+
+impl From<OutOfMemory> for Refusal {
+    ghost use Rattle.std.specs.Prelude.{◌≡◌};
+    ghost use Rattle.script_reader.specs.declared.fault.Refusal.TheVariants as refusal;
+
+    ghost from_gives = { λ _ stop. stop ≡ refusal.OutOfMemory };
+
+    fn from(_error: OutOfMemory) -> Refusal {
+        Refusal::OutOfMemory
+    }
+}
+
+impl From<AllocError> for Refusal {
+    ghost use Rattle.std.specs.Prelude.{◌≡◌};
+    ghost use Rattle.script_reader.specs.declared.fault.Refusal.TheVariants as refusal;
+
+    ghost from_gives = { λ _ stop. stop ≡ refusal.OutOfMemory };
+
+    fn from(_error: AllocError) -> Refusal {
+        Refusal::OutOfMemory
+    }
+}

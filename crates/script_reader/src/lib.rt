@@ -1,0 +1,22 @@
+//! Reads clearing books and scripts from a text.
+#![tactic(auto)]
+
+mod books;
+mod callers;
+pub mod fault;
+mod front;
+pub mod input;
+pub mod limits;
+mod lines;
+mod names;
+mod numbers;
+mod operations;
+mod scripts;
+pub mod words;
+
+pub use fault::{Fault, InputFault};
+pub use front::read_input;
+pub use input::Input;
+
+#[cfg(test)]
+mod tests;

@@ -1,0 +1,13 @@
+//! How much an input may have, and how many workers may run it.
+
+/// The most callers of an input.
+pub const MOST_CALLERS: usize = 1_024;
+
+/// The most scripts of an input.
+pub const MOST_SCRIPTS: usize = 65_536;
+
+/// The most letters of a caller's name.
+pub const LONGEST_NAME: usize = 16;
+
+/// The most workers. One, until scripts are run by threads.
+pub const MOST_WORKERS: u32 = 1;

@@ -1,0 +1,70 @@
+//! Words that are numbers, and their ranges.
+
+ghost use Rattle.std.specs.Prelude.{◌≡◌, ℕ, ◌<◌, ◌≤◌, ◌^◌, ◌↔◌, true, min, IsTrue, IfOk, IfErr, Some, length};
+ghost use Rattle.std.specs.Option.{SomeIff};
+ghost use Rattle.std.specs.Result.{OkIff};
+ghost use Rattle.std.specs.List.{list_all};
+ghost use Rattle.std.specs.Char.{is_ascii_digit};
+ghost use Rattle.std.specs.Str.{all_ascii_digits};
+ghost use Rattle.std.specs.Str.Parse.{digits_value};
+ghost use Rattle.books_model.specs.Ranges.{IsWithin, IsAccountNumber};
+ghost use Rattle.script_reader.specs.Number.{IsNumber};
+
+use crate::fault::Fault;
+use books_model::limits::GREATEST_ACCOUNT;
+
+// The number that a word is, or the greatest `u64` where it is greater. None where the word is no number.
+pub(crate) fn numeral(word: &[u8]) -> Option<u64>
+    ensures { SomeIff result (IsNumber word.now) (min (digits_value 10 word.now) u64.MAX) }
+{
+    if is_number(word) {
+        Some(value_of(word))
+    } else {
+        None
+    }
+}
+
+// Whether a word is digits with no zero in front.
+fn is_number(word: &[u8]) -> bool
+    ensures { IsTrue result ↔ IsNumber word.now }
+{
+    !word.is_empty() && (word[0] != b'0' || word.len() == 1) && are_digits(word)
+}
+
+fn are_digits(word: &[u8]) -> bool
+    ensures { result ≡ list_all is_ascii_digit word.now }
+{
+    word.iter().all(|b| b.is_ascii_digit())
+}
+
+// The number that digits are, or the greatest `u64` where it is greater.
+fn value_of(word: &[u8]) -> u64
+    requires { all_ascii_digits word.now ≡ true }
+    ensures { result ≡ min (digits_value 10 word.now) u64.MAX }
+{
+    let mut value = 0u64;
+    for b in word {
+        value = value.saturating_mul(10).saturating_add(u64::from(*b - b'0'));
+    }
+    value
+}
+
+// A number that is in its range.
+pub(crate) fn within(n: u64, low: u64, high: u64) -> Result<u64, Fault>
+    ensures range { OkIff result (IsWithin low high n) n }
+    ensures err { IfErr result (λ why. why ≡ Fault.Limit) }
+{
+    if low <= n && n <= high {
+        Ok(n)
+    } else {
+        Err(Fault::Limit)
+    }
+}
+
+// A number that is an account number.
+pub(crate) fn account_number(n: u64) -> Result<u32, Fault>
+    ensures range { OkIff result (IsAccountNumber n) n }
+    ensures err { IfErr result (λ why. why ≡ Fault.Limit) }
+{
+    Ok(within(n, 1, u64::from(GREATEST_ACCOUNT))? as u32)
+}

@@ -1,0 +1,57 @@
+//! The scripts of a text.
+
+ghost use Rattle.std.specs.Prelude.{◌≡◌, ℕ, List, ◌++◌, IfOk};
+ghost use Rattle.script_reader.specs.Text.{operation_lines, end_line};
+ghost use Rattle.script_reader.specs.Callers.{callers_in, IsEven, IsReadScript};
+ghost use Rattle.script_reader.specs.Scripts.{IsReadOf};
+
+use crate::callers::Callers;
+use crate::fault::{Fault, Refusal};
+use crate::lines::Lines;
+use crate::names::caller_of;
+use crate::operations::operation_of;
+use books_model::limits::MOST_OPERATIONS;
+use books_model::{Books, Script};
+use std::alloc::Global;
+
+// The operations of a script, and the line that ends it.
+fn script_of(alloc: Global, lines: &mut Lines<'_>, books: &Books) -> Result<Script, Refusal>
+    ensures found { IfOk result (λ script. IsReadScript books.now script × (lines.old ≡ operation_lines script ++ end_line ++ lines.new)) }
+{
+    let mut script = Script::new(alloc);
+    loop {
+        let words = lines.words(alloc)?;
+        if words.is_only(b"end") {
+            return Ok(script);
+        }
+        let operation = operation_of(&words, books)?;
+        if script.len() >= MOST_OPERATIONS {
+            return Err(Refusal::LineFault(Fault::Limit));
+        }
+        script.push(operation)?;
+    }
+}
+
+// The scripts, gathered by caller, and the line that finishes the text.
+pub(crate) fn scripts_of(
+    alloc: Global,
+    lines: &mut Lines<'_>,
+    books: &Books,
+) -> Result<Callers, Refusal>
+    ensures even { IfOk result (λ callers. IsEven callers) }
+    ensures found { IfOk result (λ callers. IsReadOf books.now (callers_in callers) lines.old lines.new) }
+{
+    let mut callers = Callers::new(alloc);
+    loop {
+        let words = lines.words(alloc)?;
+        if words.is_only(b"finish") {
+            return Ok(callers);
+        }
+        let name = caller_of(&words)?;
+        if callers.is_full_for(name) {
+            return Err(Refusal::LineFault(Fault::Limit));
+        }
+        let script = script_of(alloc, lines, books)?;
+        callers.add(alloc, name, script)?;
+    }
+}

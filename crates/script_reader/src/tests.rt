@@ -1,0 +1,98 @@
+//! Whole texts, and the first fault of others.
+
+use crate::{Fault, Input, InputFault, read_input};
+use books_model::Op;
+use std::test::Fail;
+
+const HEADER: &str = "books 1 blocks 4 instruments 1 ring 1\n";
+
+fn read(rt: &HostRuntime, text: &str) -> Result<Input, InputFault> {
+    read_input(rt.alloc(), text.as_bytes())
+}
+
+#[test]
+fn whole_text(rt: HostRuntime) -> Result<(), Fail> {
+    let text = format!(in rt.alloc(); "{HEADER}account 7 100\nscripts\nscript ann\ndeposit 7 5\nshow 7\nend\nfinish\n")?;
+    let input = read(&rt, text.as_str())?;
+    assert_eq!(rt; input.books().cash(7), Some(100));
+    assert_eq!(rt; input.books().blocks(), 4);
+    assert_eq!(rt; input.scripts(), 1);
+    assert_eq!(rt; input.callers(), 1);
+    assert_eq!(rt; input.name(0), "ann");
+    assert_eq!(rt; input.scripts_of(0), 1);
+    let script = input.script(0, 0);
+    assert_eq!(rt; script.len(), 2);
+    assert_eq!(rt; script.at(0), Op::Deposit(7, 5));
+    assert_eq!(rt; script.at(1), Op::Show(7));
+    Ok(())
+}
+
+#[test]
+fn alternating_callers(rt: HostRuntime) -> Result<(), Fail> {
+    let text = format!(in rt.alloc(); "{HEADER}scripts\nscript ann\nshow 1\nend\nscript bob\nshow 2\nend\nscript ann\nshow 3\nend\nfinish\n")?;
+    let input = read(&rt, text.as_str())?;
+    assert_eq!(rt; input.callers(), 2);
+    assert_eq!(rt; input.scripts(), 3);
+    assert_eq!(rt; input.name(0), "ann");
+    assert_eq!(rt; input.name(1), "bob");
+    assert_eq!(rt; input.scripts_of(0), 2);
+    assert_eq!(rt; input.scripts_of(1), 1);
+    assert_eq!(rt; input.script(0, 0).len(), 1);
+    assert_eq!(rt; input.script(0, 0).at(0), Op::Show(1));
+    assert_eq!(rt; input.script(0, 1).len(), 1);
+    assert_eq!(rt; input.script(0, 1).at(0), Op::Show(3));
+    assert_eq!(rt; input.script(1, 0).len(), 1);
+    assert_eq!(rt; input.script(1, 0).at(0), Op::Show(2));
+    Ok(())
+}
+
+// The fault of a text that is no input.
+fn fault_of(rt: &HostRuntime, text: &str) -> Option<(u32, Fault)> {
+    match read(rt, text) {
+        Err(InputFault::Line { line, why }) => Some((line, why)),
+        _ => None,
+    }
+}
+
+#[test]
+fn first_faults(rt: HostRuntime) {
+    let table = [
+        ("", 1, Fault::End),
+        ("books 1 blocks 4 instruments 1 ring 1\naccount 7 100\nscripts\nscript ann\ndeposit 7 5\nshow 7\nend\n", 8, Fault::End),
+        ("books 1 blocks 4 instruments 1 ring 1\naccount 7 100\nscripts\nscript ann\ndeposit 7 5\nshow 7\nend\nfinish", 8, Fault::End),
+        ("books 1 blocks 4 instruments 1 ring 1\naccount 7 100\nscripts\nscript ann\ndeposit 7 5\nshow 7\nend\nfinish\nend\n", 9, Fault::End),
+        ("books 9 blocks 4 instruments 1 ring 1\n", 1, Fault::Header),
+        ("books 1 blocks 04 instruments 1 ring 1\n", 1, Fault::Number),
+        ("books 1 blocks 4 instruments 65 ring 1\n", 1, Fault::Limit),
+        ("books 1 blocks 4 instruments 1 ring 1\naccount 2 1\naccount 1 1\n", 3, Fault::Order),
+        ("books 1 blocks 4 instruments 1 ring 1\naccount 1 1\naccount 2 01\n", 3, Fault::Number),
+        ("books 1 blocks 4 instruments 1 ring 1\naccount 1 1\naccount 2 1000000000000001\n", 3, Fault::Limit),
+        ("books 1 blocks 4 instruments 1 ring 1\naccount 1 100000000000000000000000000000\n", 2, Fault::Limit),
+        ("books 1 blocks 4 instruments 1 ring 1\naccount 4294967296 x\n", 2, Fault::Number),
+        ("books 1 blocks 4 instruments 1 ring 1\naccount 1 1\naccount 2\n", 3, Fault::Word),
+        ("books 1 blocks 1 instruments 1 ring 1\naccount 1 1\naccount 2 1\n", 3, Fault::Blocks),
+        ("books 1 blocks 4 instruments 1 ring 1\naccount 1  1\n", 2, Fault::Word),
+        ("books 1 blocks 4 instruments 1 ring 1\nscripts\naccount 1 1\n", 3, Fault::Word),
+        ("books 1 blocks 4 instruments 1 ring 1\nscripts\nscript ann\nmove 1 2 3\n", 4, Fault::Word),
+        ("books 1 blocks 4 instruments 1 ring 1\nscripts\nscript abcdefghijklmnopq\n", 3, Fault::Word),
+        ("books 1 blocks 4 instruments 1 ring 1\nscripts\nscript Ann\n", 3, Fault::Word),
+        ("books 1 blocks 4 instruments 1 ring 1\nscripts\nscript ann\ndeposit 1 0\n", 4, Fault::Limit),
+    ];
+    for (text, line, why) in table {
+        assert_eq!(rt; fault_of(&rt, text), Some((line, why)), "{text}");
+    }
+}
+
+#[test]
+fn most_operations(rt: HostRuntime) -> Result<(), Fail> {
+    let mut text = format!(in rt.alloc(); "{HEADER}scripts\nscript ann\n")?;
+    for _ in 0..64 {
+        text.push_str("show 1\n")?;
+    }
+    let whole = format!(in rt.alloc(); "{text}end\nfinish\n")?;
+    let input = read(&rt, whole.as_str())?;
+    assert_eq!(rt; input.scripts(), 1);
+    text.push_str("show 1\n")?;
+    assert_eq!(rt; fault_of(&rt, text.as_str()), Some((68, Fault::Limit)));
+    Ok(())
+}

@@ -1,0 +1,172 @@
+-- One more script of a day.
+use Rattle.std.proofs.Common.{◌≡◌, ◌+◌, ◌<◌, ◌≤◌, ℕ, suc, Bool, true, false, cond, ◌&&◌, ◌||◌, ◌==◌, nat_lt, List, [], ◌∷◌, ◌++◌, length, map, get_or, All, refl, sym, ap, ◌∙◌, subst, arith, zero-add}
+use Rattle.std.specs.List.{count_by, AllPairs}
+use Rattle.std.proofs.lemmas.List.{map_push, length-map, get_or-map}
+use Rattle.std.proofs.lemmas.List.Sums.{sum_by-append}
+use Rattle.std.proofs.lemmas.List.Elements.{All-push, All-weaker, All-nil, All-map}
+use Rattle.std.proofs.lemmas.List.Quantifiers.{all_pairs_push}
+use Rattle.std.proofs.lemmas.Bool.Decides.{nat_tests}
+use Rattle.books_model.specs.declared.reply.Reply.{Reply}
+use Rattle.books_model.specs.Books.{ClearingBooks}
+use Rattle.books_model.specs.Interpreter.{outcome_of}
+use Rattle.books_model.specs.Cut.{IsRunSoFar, HaveOnlyAccounts}
+use Rattle.script_reader.specs.Cut.{IsReadSoFar}
+use Rattle.script_reader.specs.Input.{ClearingInput, IsInput, caller_at, script_at}
+use Rattle.script_reader.specs.Journal.{IsPlace, IsJournal}
+use Rattle.books_report.specs.declared.line.Line.{Line}
+use Rattle.books_report.specs.Output.{place_of, replies_of, books_after, text_of, IsOutput}
+use Rattle.twoplsf.specs.Day.{is_before, AreRun, HasRun, IsDay}
+use Rattle.books_model.specs.Ranges.{IsScriptFor}
+use Rattle.twoplsf.proofs.Kept.{KeepsRest, outcome_keeps, script_for}
+
+-- the books after one more script
+books_after-push : (input : ClearingInput) (books : ClearingBooks) (places : List (ℕ × ℕ)) (p : ℕ × ℕ)
+    → books_after input books (places ++ p ∷ []) ≡ (outcome_of (script_at input p.0 p.1) (books_after input books places)).1
+books_after-push input books [] p = refl
+books_after-push input books (q ∷ places) p = books_after-push input (outcome_of (script_at input q.0 q.1) books).1 places p
+
+-- the replies with one more script
+replies_of-push : (input : ClearingInput) (books : ClearingBooks) (places : List (ℕ × ℕ)) (p : ℕ × ℕ)
+    → replies_of input books (places ++ p ∷ []) ≡ replies_of input books places ++ (outcome_of (script_at input p.0 p.1) (books_after input books places)).0 ∷ []
+replies_of-push input books [] p = refl
+replies_of-push input books (q ∷ places) p =
+    ap (λ rs. (outcome_of (script_at input q.0 q.1) books).0 ∷ rs) (replies_of-push input (outcome_of (script_at input q.0 q.1) books).1 places p)
+
+-- what counts with one more place
+count_by-push : {A : Type 0} (p : A → Bool) (xs : List A) (x : A) → count_by p (xs ++ x ∷ []) ≡ count_by p xs + cond (p x) 1 0
+count_by-push p xs x = sum_by-append (λ y. cond (p y) 1 0) xs (x ∷ []) ∙ ap (λ n. count_by p xs + n) (zero-add (cond (p x) 1 0))
+
+-- a place before an index is before the next
+before_next : (caller index : ℕ) (p : ℕ × ℕ) → is_before caller index p ≡ true → is_before caller (index + 1) p ≡ true
+before_next caller index p h = grind (arith, nat_tests, h)
+
+-- the place at an index is before the next
+before_itself : (caller index : ℕ) → is_before caller (index + 1) (caller, index) ≡ true
+before_itself caller index = grind (arith, nat_tests)
+
+-- an earlier place of the same caller has a lower index
+earlier : (caller index : ℕ) (p : ℕ × ℕ) → is_before caller index p ≡ true → p.0 ≡ caller → p.1 < index
+earlier caller index p h e = grind (arith, nat_tests, h, e)
+
+-- how often a place stands, with one more
+counted : (caller index c i : ℕ) → cond (is_before caller index (c, i)) 1 0 + cond (caller == c && index == i) 1 0 ≡ cond (is_before caller (index + 1) (c, i)) 1 0
+counted caller index c i = grind (arith, nat_tests)
+
+-- all scripts of a caller are before the next caller
+next_caller : (caller index c i : ℕ) → (c ≡ caller → i < index) → is_before caller index (c, i) ≡ is_before (caller + 1) 0 (c, i)
+next_caller caller index c i h = grind (arith, nat_tests, h)
+
+-- a place before the end of a caller's scripts is before the next caller
+before_caller : (caller count : ℕ) (p : ℕ × ℕ) → is_before caller count p ≡ true → is_before (caller + 1) 0 p ≡ true
+before_caller caller count p h = grind (arith, nat_tests, h)
+
+-- after all callers each place is before
+all_before : (callers c i : ℕ) → c < callers → is_before callers 0 (c, i) ≡ true
+all_before callers c i h = grind (arith, nat_tests, h)
+
+-- with no caller there is no place before
+none_before : (c i : ℕ) → is_before 0 0 (c, i) ≡ false
+none_before c i = grind (arith, nat_tests)
+
+-- the script of a place is of the operations that are run so far
+pub runs_so_far : (input : ClearingInput) (caller index : ℕ) → IsReadSoFar input → caller < length input.callers → index < length (caller_at input caller).scripts → All IsRunSoFar (script_at input caller index)
+runs_so_far input caller index reads within at = reads.scripts caller (record { name = []; scripts = [] }) within index [] at
+
+-- the script of a place can be given to books that have as many instruments as the opening ones
+pub script_of_place : (input : ClearingInput) (books : ClearingBooks) (caller index : ℕ) → IsInput input → books.instruments ≡ input.books.instruments → caller < length input.callers → index < length (caller_at input caller).scripts → IsScriptFor books (script_at input caller index)
+script_of_place input books caller index valid e within at = script_for input.books books (script_at input caller index) e (valid.callers.scripts caller (record { name = []; scripts = [] }) within index [] at)
+
+module _ (input : ClearingInput) (caller index : ℕ) (lines : List Line) (replies : List Reply) (books : ClearingBooks) (answer : Reply) (after : ClearingBooks)
+    (within : caller < length input.callers) (at : index < length (caller_at input caller).scripts) (so_far : HasRun input caller index lines replies books)
+    (replied : answer ≡ (outcome_of (script_at input caller index) books).0) (left : after ≡ (outcome_of (script_at input caller index) books).1) (keeps : KeepsRest books after) where
+  -- the script's line
+  abbrev pub its_line : Line
+  its_line = record { caller = caller; index = index; restarts = 0 }
+
+  its_places : map place_of (lines ++ its_line ∷ []) ≡ map place_of lines ++ (caller, index) ∷ []
+  its_places = map_push place_of lines its_line
+
+  are_run : AreRun input (lines ++ its_line ∷ []) (replies ++ answer ∷ []) after
+  are_run =
+      let places = map place_of lines in
+      record {
+        replies_are =
+            ap (λ rs. rs ++ answer ∷ []) so_far.run.replies_are ∙ ap (λ r. replies_of input input.books places ++ r ∷ []) (replied ∙ ap (λ b. (outcome_of (script_at input caller index) b).0) so_far.run.books_are)
+            ∙ sym (replies_of-push input input.books places (caller, index)) ∙ ap (replies_of input input.books) (sym its_places);
+        books_are = left ∙ ap (λ b. (outcome_of (script_at input caller index) b).1) so_far.run.books_are ∙ sym (books_after-push input input.books places (caller, index)) ∙ ap (books_after input input.books) (sym its_places);
+        restarts = All-push (λ l. l.restarts ≡ 0) lines its_line so_far.run.restarts refl;
+      }
+
+  -- one more script was run
+  pub ran_one : HasRun input caller (index + 1) (lines ++ its_line ∷ []) (replies ++ answer ∷ []) after
+  ran_one =
+      let places = map place_of lines in
+      record {
+        run = are_run;
+        only = rw its_places (All-push (IsPlace input) places (caller, index) so_far.only (within, at));
+        before = rw its_places (All-push (λ p. is_before caller (index + 1) p ≡ true) places (caller, index) (All-weaker (λ p. is_before caller index p ≡ true) (λ p. is_before caller (index + 1) p ≡ true) (before_next caller index) places so_far.before) (before_itself caller index));
+        once = λ c i h. ap (count_by (λ p. p.0 == c && p.1 == i)) its_places ∙ count_by-push (λ p. p.0 == c && p.1 == i) places (caller, index) ∙ ap (λ n. n + cond (caller == c && index == i) 1 0) (so_far.once c i h) ∙ counted caller index c i;
+        rising = rw its_places (all_pairs_push (λ p q. p.0 ≡ q.0 → p.1 < q.1) places (caller, index) so_far.rising (λ k d h e. earlier caller index (get_or places k d) (so_far.before k d h) e));
+        instruments = keeps.instruments ∙ so_far.instruments;
+        accounts = keeps.only so_far.accounts;
+      }
+
+-- after all scripts of a caller comes the next one
+pub ran_caller : (input : ClearingInput) (caller : ℕ) (lines : List Line) (replies : List Reply) (books : ClearingBooks) → HasRun input caller (length (caller_at input caller).scripts) lines replies books → HasRun input (caller + 1) 0 lines replies books
+ran_caller input caller lines replies books h =
+    let count = length (caller_at input caller).scripts in
+    record {
+      run = h.run;
+      only = h.only;
+      before = All-weaker (λ p. is_before caller count p ≡ true) (λ p. is_before (caller + 1) 0 p ≡ true) (before_caller caller count) (map place_of lines) h.before;
+      once = λ c i place. h.once c i place ∙ ap (λ b. cond b 1 0) (next_caller caller count c i (λ e. subst (λ x. i < length (caller_at input x).scripts) e place.1));
+      rising = h.rising;
+      instruments = h.instruments;
+      accounts = h.accounts;
+    }
+
+-- nothing was run yet
+pub ran_none : (input : ClearingInput) (books : ClearingBooks) → books ≡ input.books → HaveOnlyAccounts input.books → HasRun input 0 0 [] [] books
+ran_none input books e only = record {
+  run = record { replies_are = refl; books_are = e; restarts = All-nil (λ l. l.restarts ≡ 0) };
+  only = All-nil (IsPlace input);
+  before = All-nil (λ p. is_before 0 0 p ≡ true);
+  once = λ c i h. sym (ap (λ b. cond b 1 0) (none_before c i));
+  rising = λ i j d lt short. absurd (omega arith);
+  instruments = ap (λ b. b.instruments) e;
+  accounts = subst HaveOnlyAccounts (sym e) only;
+}
+
+-- after all callers the day is done
+pub ran_all : (input : ClearingInput) (callers : ℕ) (lines : List Line) (replies : List Reply) (books : ClearingBooks) → callers ≡ length input.callers → HasRun input callers 0 lines replies books → IsDay input lines replies books
+ran_all input callers lines replies books all h = record {
+  run = h.run;
+  journal = record { only = h.only; once = λ c i place. h.once c i place ∙ ap (λ b. cond b 1 0) (all_before callers c i (subst (λ n. c < n) (sym all) place.0)); rising = h.rising };
+  accounts = h.accounts;
+}
+
+-- each script has one reply
+length-replies_of : (input : ClearingInput) (books : ClearingBooks) (places : List (ℕ × ℕ)) → length (replies_of input books places) ≡ length places
+length-replies_of input books [] = refl
+length-replies_of input books (p ∷ places) = ap suc (length-replies_of input (outcome_of (script_at input p.0 p.1) books).1 places)
+
+-- a day has as many replies as lines
+pub day_beside : (input : ClearingInput) (lines : List Line) (replies : List Reply) (books : ClearingBooks) → IsDay input lines replies books → length lines ≡ length replies
+day_beside input lines replies books day = sym (ap length day.run.replies_are ∙ length-replies_of input input.books (map place_of lines) ∙ length-map lines place_of)
+
+-- a day's lines are of scripts of the input
+pub day_places : (input : ClearingInput) (lines : List Line) (replies : List Reply) (books : ClearingBooks) → IsDay input lines replies books → All (λ l. IsPlace input (place_of l)) lines
+day_places input lines replies books day k d within =
+    subst (IsPlace input) (get_or-map place_of lines k d (place_of d) within) (day.journal.only k (place_of d) (subst (λ n. k < n) (sym (length-map lines place_of)) within))
+
+-- the text of a day is an output, for one worker
+pub day_output : (input : ClearingInput) (lines : List Line) (replies : List Reply) (books : ClearingBooks) (text : List ℕ) → IsDay input lines replies books
+    → text ≡ text_of input (map place_of lines) (map (λ l. l.restarts) lines) replies books → IsOutput input 1 text
+day_output input lines replies books text day h = record {
+    order = map place_of lines;
+    restarts = map (λ l. l.restarts) lines;
+    beside = length-map lines (λ (l : Line). l.restarts) ∙ sym (length-map lines place_of);
+    journal = day.journal;
+    below = All-map (λ n. n < 1) (λ l. l.restarts) lines (All-weaker (λ l. l.restarts ≡ 0) (λ l. l.restarts < 1) (λ l e. omega (arith, e)) lines day.run.restarts);
+    text_is = h ∙ ap (λ rs. text_of input (map place_of lines) (map (λ l. l.restarts) lines) rs books) day.run.replies_are ∙ ap (text_of input (map place_of lines) (map (λ l. l.restarts) lines) (replies_of input input.books (map place_of lines))) day.run.books_are;
+  }

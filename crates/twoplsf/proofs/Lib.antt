@@ -1,0 +1,4 @@
+pub mod Kept
+pub mod Days
+pub mod Commands
+pub mod Served

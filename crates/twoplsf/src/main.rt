@@ -1,0 +1,43 @@
+//! The clearing house: runs the scripts of a text on its clearing books, and prints a journal and the closing books.
+#![tactic(auto)]
+
+pub mod answer;
+pub mod command;
+pub mod day;
+pub mod limits;
+pub mod serve;
+pub mod status;
+
+use io_ends::{OutOfMemory, StdSink, StdSource};
+use serve::serve;
+use status::Status;
+use std::process::ExitCode;
+use std::{env, io};
+
+/// The words after the program's name. Words that are no text are no words at all, which no command has.
+fn words_of(rt: &HostRuntime) -> Result<Vec<String>, OutOfMemory> {
+    let mut words = Vec::new(rt.alloc());
+    match env::args(rt) {
+        Ok(args) => {
+            for word in args.skip(1) {
+                words.push(word)?;
+            }
+            Ok(words)
+        }
+        Err(error) if error.kind() == io::ErrorKind::OutOfMemory => Err(OutOfMemory),
+        Err(_) => Ok(words),
+    }
+}
+
+fn run(rt: &HostRuntime) -> Status {
+    let Ok(words) = words_of(rt) else {
+        return Status::OutOfMemory;
+    };
+    let mut source = StdSource::new(rt.reader());
+    let mut sink = StdSink::new(io::writer(rt));
+    serve(rt.alloc(), &words, &mut source, &mut sink)
+}
+
+fn main(rt: HostRuntime) -> ExitCode {
+    ExitCode::from(run(&rt).code())
+}

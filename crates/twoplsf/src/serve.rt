@@ -1,0 +1,84 @@
+//! The top call.
+
+ghost use Rattle.std.specs.Prelude.{◌≡◌, ◌≢◌, ◌+◌, ◌≤◌, ◌⊎◌, Some, map, IfSome, IsErr, OnOk, OnErr};
+ghost use Rattle.std.specs.String.{string_bytes};
+ghost use Rattle.std.specs.Io.KnownBytes.{Appends, IsAtEnd};
+ghost use Rattle.io_ends.specs.Counts.{Rose};
+ghost use Rattle.io_ends.specs.Taken.{AppendsPrefix, count_taken};
+ghost use Rattle.script_reader.specs.declared.fault.Fault.{Fault};
+ghost use Rattle.script_reader.specs.Command.{IsValidCommand};
+ghost use Rattle.twoplsf.specs.Answer.{PrintsOutput, refused_line, refused_size, refused_words};
+
+use crate::answer::{Answer, answer_to};
+use crate::command::workers_of;
+use crate::limits::MOST_INPUT_BYTES;
+use crate::status::Status;
+use io_ends::{ReadStop, Sink, Source, read_all, write_all_of};
+use std::alloc::Global;
+
+/// Writes a text, and answers the status that goes with it, or `WriteFault`.
+fn finish<K: Sink>(sink: &mut K, text: &[u8], status: Status) -> Status
+    ensures { (result ≡ status × Appends (K.taken sink.old) (K.taken sink.new) text.now)
+        ⊎ (result ≡ Status.WriteFault × Rose (K.faults sink.old) (K.faults sink.new) × AppendsPrefix (K.taken sink.old) (K.taken sink.new) text.now) }
+{
+    match write_all_of(sink, text) {
+        Ok(()) => status,
+        Err(_) => Status::WriteFault,
+    }
+}
+
+/// Does what the words say: `run W` reads an input from the source, runs each of its scripts as one transaction, and
+/// writes the journal and the closing books to the sink. Every text is made before the first write. Faults are looked for
+/// in the order words, read, size, input; want of memory may come before any of them but words.
+pub fn serve<S: Source, K: Sink>(
+    alloc: Global,
+    words: &[String],
+    source: &mut S,
+    sink: &mut K,
+) -> Status
+    // The serial journal theorem: what is printed is one serial history with every script once and each caller's in order;
+    // the sequential interpreter, run down it from the opening books, gives every reply and the closing books; and no
+    // script was restarted as often as there are workers.
+    ensures headline { result ≡ Status.Done → IfSome (S.left source.old)
+        (λ bytes. PrintsOutput (map string_bytes words.now) bytes (K.taken sink.old) (K.taken sink.new)) }
+    ensures done_words { result ≡ Status.Done → IsValidCommand (map string_bytes words.now) }
+    ensures done_end { result ≡ Status.Done → IsAtEnd (S.left source.new) }
+
+    // Wrong words: nothing is read.
+    ensures bad_words { result ≡ Status.BadWords → IsValidCommand (map string_bytes words.now) → ⊥ }
+    ensures bad_words_text { result ≡ Status.BadWords → Appends (K.taken sink.old) (K.taken sink.new) refused_words }
+    ensures bad_words_source { result ≡ Status.BadWords → source.new ≡ source.old }
+    ensures words_first { (IsValidCommand (map string_bytes words.now) → ⊥) → (result ≡ Status.BadWords) ⊎ (result ≡ Status.WriteFault) }
+
+    // Too many bytes.
+    ensures too_large { result ≡ Status.TooLarge → IfSome (count_taken (S.left source.old) (S.left source.new)) (λ n. n ≡ MOST_INPUT_BYTES + 1) }
+    ensures too_large_text { result ≡ Status.TooLarge → Appends (K.taken sink.old) (K.taken sink.new) refused_size }
+    ensures above_limit { count_taken (S.left source.old) (S.left source.new) ≡ Some (MOST_INPUT_BYTES + 1)
+        → (result ≡ Status.TooLarge) ⊎ (result ≡ Status.WriteFault) ⊎ (result ≡ Status.OutOfMemory) }
+
+    // Bytes that are no input.
+    ensures bad_input_text { result ≡ Status.BadInput → (l : _) × (why : Fault) × Appends (K.taken sink.old) (K.taken sink.new) (refused_line l why) }
+    ensures bad_input_end { result ≡ Status.BadInput → IsAtEnd (S.left source.new) }
+
+    // Faults of the outside.
+    ensures read_fault { result ≡ Status.ReadFault → Rose (S.faults source.old) (S.faults source.new) }
+    ensures write_fault { result ≡ Status.WriteFault → Rose (K.faults sink.old) (K.faults sink.new) }
+    ensures unwritten { (result ≡ Status.ReadFault) ⊎ (result ≡ Status.OutOfMemory) → sink.new ≡ sink.old }
+    ensures never_differs { result ≢ Status.Differs }
+    ensures reads { S.reads source.new ≤ S.reads source.old + MOST_INPUT_BYTES + 2 }
+{
+    if workers_of(words).is_none() {
+        return finish(sink, b"refused words\n", Status::BadWords);
+    }
+    let bytes = match read_all(alloc, source, MOST_INPUT_BYTES) {
+        Ok(bytes) => bytes,
+        Err(ReadStop::Fault) => return Status::ReadFault,
+        Err(ReadStop::TooLarge) => return finish(sink, b"refused size\n", Status::TooLarge),
+        Err(ReadStop::OutOfMemory) => return Status::OutOfMemory,
+    };
+    match answer_to(alloc, &bytes) {
+        Ok(Answer::Output(text)) => finish(sink, &text, Status::Done),
+        Ok(Answer::Refusal(text)) => finish(sink, &text, Status::BadInput),
+        Err(_) => Status::OutOfMemory,
+    }
+}
