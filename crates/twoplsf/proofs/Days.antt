@@ -163,10 +163,10 @@ day_places input lines replies books day k d within =
 pub day_output : (input : ClearingInput) (lines : List Line) (replies : List Reply) (books : ClearingBooks) (text : List ℕ) → IsDay input lines replies books
     → text ≡ text_of input (map place_of lines) (map (λ l. l.restarts) lines) replies books → IsOutput input 1 text
 day_output input lines replies books text day h = record {
-    order = map place_of lines;
-    restarts = map (λ l. l.restarts) lines;
-    beside = length-map lines (λ (l : Line). l.restarts) ∙ sym (length-map lines place_of);
-    journal = day.journal;
-    below = All-map (λ n. n < 1) (λ l. l.restarts) lines (All-weaker (λ l. l.restarts ≡ 0) (λ l. l.restarts < 1) (λ l e. omega (arith, e)) lines day.run.restarts);
-    text_is = h ∙ ap (λ rs. text_of input (map place_of lines) (map (λ l. l.restarts) lines) rs books) day.run.replies_are ∙ ap (text_of input (map place_of lines) (map (λ l. l.restarts) lines) (replies_of input input.books (map place_of lines))) day.run.books_are;
-  }
+  order = map place_of lines;
+  restarts = map (λ l. l.restarts) lines;
+  beside = length-map lines (λ (l : Line). l.restarts) ∙ sym (length-map lines place_of);
+  journal = day.journal;
+  below = All-map (λ n. n < 1) (λ l. l.restarts) lines (All-weaker (λ l. l.restarts ≡ 0) (λ l. l.restarts < 1) (λ l e. omega (arith, e)) lines day.run.restarts);
+  text_is = h ∙ ap (λ rs. text_of input (map place_of lines) (map (λ l. l.restarts) lines) rs books) day.run.replies_are ∙ ap (text_of input (map place_of lines) (map (λ l. l.restarts) lines) (replies_of input input.books (map place_of lines))) day.run.books_are;
+}

@@ -15,13 +15,13 @@ use Rattle.twoplsf.specs.Answer.{PrintsOutput}
 -- an output with every number of restarts below 1 has them below any number of workers
 more_workers : (input : ClearingInput) (w : ℕ) (text : List ℕ) → 1 ≤ w → IsOutput input 1 text → IsOutput input w text
 more_workers input w text some h = record {
-    order = h.order;
-    restarts = h.restarts;
-    beside = h.beside;
-    journal = h.journal;
-    below = All-weaker (λ n. n < 1) (λ n. n < w) (λ n e. omega arith) h.restarts h.below;
-    text_is = h.text_is;
-  }
+  order = h.order;
+  restarts = h.restarts;
+  beside = h.beside;
+  journal = h.journal;
+  below = All-weaker (λ n. n < 1) (λ n. n < w) (λ n e. omega arith) h.restarts h.below;
+  text_is = h.text_is;
+}
 
 -- what was read to the end is all that was left
 pub all_read : (left now : Option (List ℕ)) (bytes : List ℕ) (P : List ℕ → Type 0) → Consumes left now bytes → IsAtEnd now → P bytes → IfSome left P

@@ -13,4 +13,4 @@ returns-in-Ok-Output-clause-headline g c done =
     let printed = rw c.deref-in-Ok-Output.ensures.value at (written c.finish-in-Ok-Output.result status.Done _ _ _ c.finish-in-Ok-Output.ensures whole) in
     let some : IsSome c.workers_of.result = search rules in
     printed_output (map string_bytes c.args.words.now) c.workers_of.result (source.left c.args.source.now) (source.left c.read_all.new.source) c.in-Ok.bytes.items (sink.taken c.args.sink.now) (sink.taken c.finish-in-Ok-Output.new.sink) c.in-Ok-Output.text.items
-        some c.workers_of.ensures.some c.in-Ok.ensures.bytes c.in-Ok.ensures.end answer printed
+    some c.workers_of.ensures.some c.in-Ok.ensures.bytes c.in-Ok.ensures.end answer printed
