@@ -1,5 +1,5 @@
 -- Clearing books: sizes, three finite maps and a queue.
-use Rattle.std.specs.Prelude.{ℕ, ◌+◌, List, [], refl, unwrap_or}
+use Rattle.std.specs.Prelude.{◌≡◌, ℕ, ◌+◌, List, [], refl, unwrap_or}
 use Rattle.std.specs.declared.cmp.Ordering.{Ordering}
 use Rattle.std.specs.Ordering.{nat_cmp, ordering_then}
 use Rattle.std.specs.Coded.{Coded, code_by, coded×, coded_ℕ, coded_list}
@@ -55,3 +55,9 @@ price_of books i = unwrap_or (map.get books.prices i) 0
 -- the account has this cash
 abbrev pub put_cash : ClearingBooks → ℕ → ℕ → ClearingBooks
 put_cash books a cash = record books { accounts = map.insert books.accounts a cash }
+
+-- the books have as many blocks and instruments, and as long a queue, as before
+pub record HaveSameSizes (old new : ClearingBooks) : Type 0 where
+  pub blocks : new.blocks ≡ old.blocks
+  pub instruments : new.instruments ≡ old.instruments
+  pub ring : new.ring ≡ old.ring

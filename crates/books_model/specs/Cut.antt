@@ -8,6 +8,7 @@ use Rattle.books_model.specs.Books.{ClearingBooks}
 -- an operation that is run so far
 abbrev pub IsRunSoFar : Op → Type 0
 IsRunSoFar (op.Deposit a x) = Unit {0}
+IsRunSoFar (op.Move a b x) = Unit {0}
 IsRunSoFar (op.Show a) = Unit {0}
 IsRunSoFar _ = ⊥
 

@@ -1,6 +1,6 @@
 //! Clearing books.
 
-ghost use Rattle.std.specs.Prelude.{◌≡◌, ℕ, ◌<◌, ◌≤◌, Some, None, IsSome, IfOk, IfSome, IfNone, OnOk, OnErr, find, nat_lt};
+ghost use Rattle.std.specs.Prelude.{◌≡◌, ℕ, ◌<◌, ◌≤◌, Some, None, IsSome, IfSome, IfNone, IfOk, OnOk, OnErr, find, nat_lt};
 ghost use Rattle.std.specs.FinMap as map;
 ghost use Rattle.std.specs.Ordering.{nat_cmp};
 ghost use Rattle.books_model.specs.Draft.{put_in, AreKeysOf};
@@ -91,6 +91,13 @@ impl Books {
         self.accounts.get(&a).copied()
     }
 
+    /// How many accounts, positions and prices there are together.
+    pub fn used(&self) -> u32
+        ensures { result ≡ used self.now }
+    {
+        (self.accounts.len() + self.positions.len() + self.prices.len()) as u32
+    }
+
     /// Equal books.
     pub fn copy(&self) -> Result<Books, OutOfMemory>
         ensures { IfOk result (λ copy. copy ≡ self.now) }
@@ -104,13 +111,6 @@ impl Books {
             prices: self.prices.clone()?,
             calls: self.calls.clone()?,
         })
-    }
-
-    /// How many accounts, positions and prices there are together.
-    pub fn used(&self) -> u32
-        ensures { result ≡ used self.now }
-    {
-        (self.accounts.len() + self.positions.len() + self.prices.len()) as u32
     }
 
     /// Adds an account.

@@ -82,12 +82,12 @@ impl<'a> Draft<'a> {
     {
         match op {
             Op::Deposit(a, x) => self.deposit(a, x),
+            Op::Move(a, b, x) => self.move_cash(a, b, x),
             Op::Show(a) => Ok(self.show(a)),
             // Not built yet.
             Op::OpenAccount(_)
             | Op::Close(_)
             | Op::Withdraw(..)
-            | Op::Move(..)
             | Op::Price(..)
             | Op::Trade(..)
             | Op::Margin(..)
@@ -109,6 +109,32 @@ impl<'a> Draft<'a> {
             return Ok(Outcome::Declines(Decline::Limit));
         }
         self.set_cash(a, cash + x)?;
+        Ok(Outcome::Gives(Value::Done))
+    }
+
+    fn move_cash(&mut self, a: u32, b: u32, x: u64) -> Result<Outcome, OutOfMemory>
+        requires { x ≤ GREATEST_AMOUNT }
+        ensures step { IfOk result (λ outcome. step_of (Op.Move a b x) self.old.after
+            ≡ step_with outcome self.new.after) }
+        ensures before { self.new.before ≡ self.old.before }
+    {
+        if a == b {
+            return Ok(Outcome::Declines(Decline::Same));
+        }
+        let Some(from) = self.cash(a) else {
+            return Ok(Outcome::Declines(Decline::Absent));
+        };
+        let Some(to) = self.cash(b) else {
+            return Ok(Outcome::Declines(Decline::Absent));
+        };
+        if from < x {
+            return Ok(Outcome::Declines(Decline::Cash));
+        }
+        if to + x > GREATEST_CASH {
+            return Ok(Outcome::Declines(Decline::Limit));
+        }
+        self.set_cash(a, from - x)?;
+        self.set_cash(b, to + x)?;
         Ok(Outcome::Gives(Value::Done))
     }
 

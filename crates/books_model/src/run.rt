@@ -1,6 +1,7 @@
 //! The plain interpreter: one script at a time, on books in memory.
 
 ghost use Rattle.std.specs.Prelude.{◌≡◌, IfOk, OnOk, OnErr, All};
+ghost use Rattle.books_model.specs.Books.{HaveSameSizes};
 ghost use Rattle.books_model.specs.Ranges.{IsScriptFor};
 ghost use Rattle.books_model.specs.Interpreter.{outcome_of, run_from};
 ghost use Rattle.books_model.specs.Cut.{IsRunSoFar, HaveOnlyAccounts};
@@ -23,6 +24,8 @@ pub fn run_plain(alloc: Global, script: &Script, books: &mut Books) -> Result<Re
     ensures reply { IfOk result (λ reply. reply ≡ (outcome_of script.now books.old).0) }
     ensures books { OnOk result (books.new ≡ (outcome_of script.now books.old).1) }
     ensures err { OnErr result (books.new ≡ books.old) }
+    // What the next script is run on has the same sizes.
+    ensures sizes { HaveSameSizes books.old books.new }
     // Until the other operations are built, so that a script may follow another.
     ensures accounts { HaveOnlyAccounts books.new }
 {

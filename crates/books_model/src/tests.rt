@@ -2,7 +2,7 @@ ghost use Rattle.std.specs.Prelude.{All, IfOk};
 ghost use Rattle.books_model.specs.Ranges.{IsScriptFor};
 ghost use Rattle.books_model.specs.Cut.{IsRunSoFar, HaveOnlyAccounts};
 
-use crate::limits::GREATEST_CASH;
+use crate::limits::{GREATEST_AMOUNT, GREATEST_CASH};
 use crate::{Books, Decline, Op, Reply, Script, Value, run_plain};
 use io_ends::OutOfMemory;
 use std::alloc::Global;
@@ -88,6 +88,41 @@ fn cash_has_a_limit(rt: HostRuntime) -> Result<(), Fail> {
     };
     assert_eq!(rt; (number, why), (1, Decline::Limit));
     assert_eq!(rt; books.cash(1), Some(1_000_000_000_000_000));
+    Ok(())
+}
+
+#[test]
+fn cash_moves_from_one_account_to_another(rt: HostRuntime) -> Result<(), Fail> {
+    let alloc = rt.alloc();
+    let books = books_of(&rt, alloc, &[(1, 50), (2, 0), (3, 1_000_000_000_000_000)])?;
+    // From, to, the amount, why it is declined, and the cash of accounts 1 and 2 after it.
+    let rows = [
+        (1, 2, 50, None, 0, 50),
+        (1, 1, 1, Some(Decline::Same), 50, 0),
+        (9, 9, 1, Some(Decline::Same), 50, 0),
+        (1, 9, 1, Some(Decline::Absent), 50, 0),
+        (9, 1, 1, Some(Decline::Absent), 50, 0),
+        (2, 1, 1, Some(Decline::Cash), 50, 0),
+        (2, 3, 1, Some(Decline::Cash), 50, 0),
+        (1, 3, 1, Some(Decline::Limit), 50, 0),
+    ];
+    for (from, to, amount, declined, first, second) in &rows {
+        assert!(rt; *from > 0 && *to > 0 && *amount > 0 && *amount <= GREATEST_AMOUNT);
+        let mut after = books.copy()?;
+        match run(alloc, &[Op::Move(*from, *to, *amount)], &mut after)? {
+            Reply::Done(values) => {
+                assert_eq!(rt; *declined, None);
+                assert_eq!(rt; values.len(), 1);
+                assert_eq!(rt; values.at(0), Value::Done);
+            }
+            Reply::Declined(number, why) => {
+                assert_eq!(rt; (number, Some(why)), (1, *declined));
+            }
+            Reply::Full(_) => panic!(rt; "no block"),
+        }
+        assert_eq!(rt; after.cash(1), Some(*first));
+        assert_eq!(rt; after.cash(2), Some(*second));
+    }
     Ok(())
 }
 

@@ -1,12 +1,12 @@
 -- How a text is cut into lines, and a line into words.
-use Rattle.std.proofs.Common.{◌≡◌, ℕ, suc, zero, ◌+◌, ◌-◌, ◌<◌, ◌≤◌, ◌==◌, Bool, true, false, not, cond, List, [], ◌∷◌, ◌++◌, length, take, drop, get_or, nat_lt, Option, Some, None, refl, sym, ap, subst, ◌∙◌, append_assoc, eq-eqb, eqb-true, take-append-drop, arith, true≢false}
-use Rattle.std.specs.List.{AllByRecursion, All, slice_split, onto_first, join_with_byte, position, position_or_len, before_first, after_first, prefix_len}
+use Rattle.std.proofs.Common.{◌≡◌, ℕ, suc, zero, ◌-◌, ◌<◌, ◌≤◌, ◌==◌, Bool, true, false, cond, List, [], ◌∷◌, ◌++◌, length, take, drop, get_or, Some, None, refl, sym, ap, subst, ◌∙◌, append_assoc, eq-eqb, eqb-true, take-append-drop, arith, true≢false}
+use Rattle.std.specs.List.{AllByRecursion, slice_split, onto_first, join_with_byte, position, position_or_len}
 use Rattle.std.proofs.lemmas.List.{take_rest}
 use Rattle.std.proofs.Math.Seq.{drop-cons}
 use Rattle.std.proofs.lemmas.Grind.{common_steps}
 use Rattle.std.proofs.lemmas.List.Elements.{All-from_recursion, recursion_from_All}
 use Rattle.std.proofs.lemmas.List.Splits.{slice_split_none, slice_split_at, length-slice_split, join_with_byte-slice_split}
-use Rattle.std.proofs.lemmas.List.Sums.{fails_before_first, split_at_first, passes_at_first}
+use Rattle.std.proofs.lemmas.List.Sums.{fails_before_first}
 use Rattle.std.proofs.lemmas.List.Quantifiers.{position-Some}
 use Rattle.script_reader.specs.Lines.{IsFreeOf, IsWord, AreWords}
 use Rattle.script_reader.specs.Text.{line}
@@ -104,6 +104,7 @@ no_line text vs s f e = not_free LINE_FEED (join_with_byte SPACE vs) s (subst (I
 
 -- what a line that was taken says of its words
 pub taken : (old bytes new : List ℕ) (words : List (List ℕ)) → (old ≡ bytes ++ LINE_FEED ∷ new) × IsFreeOf LINE_FEED bytes → words ≡ slice_split (λ b. b == SPACE) bytes → AreWords words × (old ≡ line words ++ new)
-taken old bytes new words h e =
-    (subst AreWords (sym e) (words_of_line bytes h.1),
-     h.0 ∙ ap (λ b. b ++ LINE_FEED ∷ new) (sym (join_with_byte-slice_split SPACE bytes)) ∙ sym (line-append (slice_split (λ b. b == SPACE) bytes) new) ∙ ap (λ w. line w ++ new) (sym e))
+taken old bytes new words h e = (
+  subst AreWords (sym e) (words_of_line bytes h.1),
+  h.0 ∙ ap (λ b. b ++ LINE_FEED ∷ new) (sym (join_with_byte-slice_split SPACE bytes)) ∙ sym (line-append (slice_split (λ b. b == SPACE) bytes) new) ∙ ap (λ w. line w ++ new) (sym e),
+)

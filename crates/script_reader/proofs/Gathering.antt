@@ -1,6 +1,6 @@
 -- Callers that are gathered one script at a time.
-use Rattle.std.proofs.Common.{◌≡◌, ℕ, suc, zero, ◌+◌, ◌<◌, ◌≤◌, Bool, true, false, not, cond, ◌||◌, List, [], ◌∷◌, ◌++◌, map, length, set, slice_index_or, sum_by, if◌then◌else◌, refl, sym, ap, subst, ◌∙◌, length-append, arith}
-use Rattle.std.specs.List.{list_any, position_or_len, All, AllByRecursion}
+use Rattle.std.proofs.Common.{◌≡◌, ℕ, suc, zero, ◌+◌, ◌<◌, ◌≤◌, Bool, true, false, not, cond, ◌||◌, List, [], ◌∷◌, ◌++◌, map, length, set, slice_index_or, if◌then◌else◌, refl, sym, ap, ◌∙◌, length-append, arith}
+use Rattle.std.specs.List.{list_any, position_or_len}
 use Rattle.std.specs.Str.{bytes_eq}
 use Rattle.std.proofs.lemmas.List.{map-append, length-map}
 use Rattle.std.proofs.lemmas.List.Sums.{sum_by-cons}

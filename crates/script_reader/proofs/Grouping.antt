@@ -1,20 +1,17 @@
 -- The callers of a text's scripts are those that are gathered one script at a time.
-use Rattle.std.proofs.Common.{◌≡◌, ℕ, ◌+◌, ◌<◌, ◌≤◌, Bool, true, false, not, cond, ◌||◌, List, [], ◌∷◌, ◌++◌, map, filter, fold, length, if◌then◌else◌, refl, sym, ap, subst, ◌∙◌, append_assoc, length-append, true≢false, arith}
-use Rattle.std.specs.List.{list_any, All, AllByRecursion, IsDistinct}
+use Rattle.std.proofs.Common.{◌≡◌, ℕ, Bool, true, false, cond, ◌||◌, List, [], ◌∷◌, ◌++◌, map, filter, fold, if◌then◌else◌, refl, sym, ap, ◌∙◌, append_assoc, true≢false}
+use Rattle.std.specs.List.{list_any, AllByRecursion, IsDistinct}
 use Rattle.std.specs.Str.{bytes_eq}
 use Rattle.std.specs.Cmp.{IsEquivalence}
 use Rattle.std.specs.Cmp.Lexicographic.{nat_list_eq_equiv}
 use Rattle.std.proofs.lemmas.List.{map-append, append-nil}
-use Rattle.std.proofs.lemmas.List.Elements.{filter-append, All-from_recursion, recursion_from_All}
+use Rattle.std.proofs.lemmas.List.Elements.{filter-append}
 use Rattle.std.proofs.lemmas.List.Sums.{fold_push}
 use Rattle.std.proofs.lemmas.Map.Keys.{IsDistinct-head, IsDistinct-tail, IsDistinct-push}
 use Rattle.std.proofs.lemmas.Slice.Eq.{bytes_eq-Decides}
 use Rattle.books_model.specs.declared.script.Op.{Op}
-use Rattle.books_model.specs.Books.{ClearingBooks}
-use Rattle.script_reader.specs.Input.{Caller, Submission, count_scripts, add_name, first_seen, scripts_by, callers_of, AreCallersFor, IsName}
-use Rattle.script_reader.specs.Callers.{add_submission, is_caller, IsReadScript}
-use Rattle.script_reader.specs.Scripts.{AreReadCallers}
-use Rattle.script_reader.proofs.Gathering.{choice-cons, any-map, count-add}
+use Rattle.script_reader.specs.Input.{Caller, Submission, add_name, first_seen, scripts_by, callers_of}
+use Rattle.script_reader.specs.Callers.{add_submission}
 
 -- equal bytes are equal texts, and texts that are equal to one another are equal to the same others
 laws : IsEquivalence bytes_eq
@@ -150,8 +147,8 @@ module _ (scripts : List ℕ → List (List Op)) (s : Submission) where
       by true e rest = sym (append-nil (map has names)) ∙ rest
       by false e rest =
           let own : has s.caller ≡ record { name = s.caller; scripts = s.script ∷ [] } =
-              ap (λ b. record { name = s.caller; scripts = scripts s.caller ++ (if b then s.script ∷ [] else []) }) (laws.refl s.caller)
-              ∙ ap (λ l. record { name = s.caller; scripts = l ++ s.script ∷ [] }) (none e) in
+          ap (λ b. record { name = s.caller; scripts = scripts s.caller ++ (if b then s.script ∷ [] else []) }) (laws.refl s.caller)
+          ∙ ap (λ l. record { name = s.caller; scripts = l ++ s.script ∷ [] }) (none e) in
           map-append has names (s.caller ∷ []) ∙ ap (λ x. map has names ++ x ∷ []) own ∙ rest
 
 -- the callers of one more script
@@ -159,11 +156,11 @@ pub callers_of-push : (subs : List Submission) (s : Submission) → callers_of (
 callers_of-push subs s =
     let names : List (List ℕ) = first_seen (map (λ s. s.caller) subs) in
     let seen : first_seen (map (λ s. s.caller) (subs ++ s ∷ [])) ≡ add_name names s.caller =
-        ap first_seen (map-append (λ s. s.caller) subs (s ∷ [])) ∙ fold_push add_name [] (map (λ s. s.caller) subs) s.caller in
+    ap first_seen (map-append (λ s. s.caller) subs (s ∷ [])) ∙ fold_push add_name [] (map (λ s. s.caller) subs) s.caller in
     ap (map (λ n. record { name = n; scripts = scripts_by n (subs ++ s ∷ []) })) seen
     ∙ each (add_name names s.caller)
     ∙ has-added (λ n. scripts_by n subs) s names (seen-distinct (map (λ s. s.caller) subs) [] no-names)
-        (λ none. no-scripts s.caller subs (sym (any-seen s.caller (map (λ s. s.caller) subs) []) ∙ none))
+    (λ none. no-scripts s.caller subs (sym (any-seen s.caller (map (λ s. s.caller) subs) []) ∙ none))
   where
     each : (names : List (List ℕ)) → map (λ n. record { name = n; scripts = scripts_by n (subs ++ s ∷ []) }) names ≡ map (has (λ n. scripts_by n subs) s) names
     each [] = refl

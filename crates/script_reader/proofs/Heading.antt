@@ -1,5 +1,5 @@
 -- The words of a header, one by one.
-use Rattle.std.proofs.Common.{◌≡◌, ℕ, ◌<◌, ◌≤◌, List, [], ◌∷◌, codes, length, refl, sym, ap, subst, ◌∙◌, arith}
+use Rattle.std.proofs.Common.{◌≡◌, ℕ, List, [], ◌∷◌, codes, length, refl, ◌∙◌, arith}
 use Rattle.script_reader.specs.Lines.{word_at}
 use Rattle.script_reader.specs.Text.{number, header_words}
 use Rattle.books_model.specs.Books.{empty_books}

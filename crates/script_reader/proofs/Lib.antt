@@ -9,3 +9,6 @@ pub mod Heading
 pub mod Rising
 pub mod Whole
 pub mod Besides
+pub mod Remaining
+pub mod Targets
+pub mod Following

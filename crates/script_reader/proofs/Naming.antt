@@ -1,6 +1,5 @@
 -- Names are text.
-use Rattle.std.proofs.Common.{◌≡◌, ℕ, ◌<◌, List, arith}
-use Rattle.std.specs.List.{All}
+use Rattle.std.proofs.Common.{ℕ, List, arith}
 use Rattle.std.specs.Str.{IsUtf8}
 use Rattle.std.proofs.lemmas.Str.{IsUtf8-from_ascii}
 use Rattle.std.proofs.lemmas.Str.Ascii.{IsAscii-from_all}

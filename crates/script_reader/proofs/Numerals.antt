@@ -1,10 +1,8 @@
 -- What words that are numbers say.
-use Rattle.std.proofs.Common.{◌≡◌, ℕ, ◌+◌, ◌-◌, ◌^◌, ◌<◌, ◌≤◌, ◌==◌, Bool, true, false, min, Option, Some, None, Result, Ok, Err, List, [], ◌∷◌, length, get_or, refl, sym, ap, subst, ◌∙◌, eqb-true, lit<, inl, inr, arith}
-use Rattle.std.specs.Int.{IsInRange}
+use Rattle.std.proofs.Common.{◌≡◌, ℕ, ◌^◌, ◌<◌, true, min, Option, Some, None, List, [], ◌∷◌, sym, ap, subst, ◌∙◌, lit<, inl, inr, arith}
 use Rattle.std.specs.Option.{SomeIff}
 use Rattle.std.specs.Str.{all_ascii_digits}
-use Rattle.std.specs.Str.Parse.{digits_value, IsNumeral}
-use Rattle.std.specs.Fmt.{decimal}
+use Rattle.std.specs.Str.Parse.{digits_value}
 use Rattle.std.specs.Option.{ok_or}
 use Rattle.std.specs.Result.{IfOk}
 use Rattle.std.proofs.lemmas.Bool.{cases_lt}
@@ -26,10 +24,14 @@ text_of_number word h small = sym (decimal-digits_value model word h.digits h.so
 
 -- the text of a number is a number
 pub number-IsNumber : (n : ℕ) → n < 2 ^ 64 → IsNumber (number n)
-number-IsNumber n small = record { some = decimal_nonempty n small; digits = digits_decimal model n small; front = λ first. elim (cases_lt 0 n) [
-      | inl more ↦ absurd (omega (arith, first_decimal n more small))
-      | inr none ↦ omega (arith, length-decimal-le 1 n (omega arith) (omega arith) small, decimal_nonempty n small)
-    ] }
+number-IsNumber n small = record {
+  some = decimal_nonempty n small;
+  digits = digits_decimal model n small;
+  front = λ first. elim (cases_lt 0 n) [
+    | inl more ↦ absurd (omega (arith, first_decimal n more small))
+    | inr none ↦ omega (arith, length-decimal-le 1 n (omega arith) (omega arith) small, decimal_nonempty n small)
+  ];
+}
 
 -- with its value
 pub value_of_number : (n : ℕ) → n < 2 ^ 64 → digits_value 10 (number n) ≡ n

@@ -1,6 +1,6 @@
 -- The lines of a text, read one after another.
-use Rattle.std.proofs.Common.{◌≡◌, ℕ, ◌+◌, ◌<◌, ◌≤◌, List, [], ◌∷◌, ◌++◌, length, refl, sym, ap, subst, ◌∙◌, append_assoc, length-append, arith}
-use Rattle.std.specs.List.{flat_map, All, join_with_byte}
+use Rattle.std.proofs.Common.{◌≡◌, ℕ, ◌<◌, List, [], ◌∷◌, ◌++◌, length, sym, ap, ◌∙◌, append_assoc, length-append, arith}
+use Rattle.std.specs.List.{flat_map, join_with_byte}
 use Rattle.std.proofs.lemmas.List.{append-nil}
 use Rattle.std.proofs.lemmas.List.Concat.{flat_map-append}
 use Rattle.std.proofs.lemmas.List.Elements.{All-push}
@@ -9,7 +9,7 @@ use Rattle.books_model.specs.Books.{ClearingBooks}
 use Rattle.books_model.specs.Cut.{IsRunSoFar}
 use Rattle.books_model.specs.Ranges.{IsOperationFor}
 use Rattle.script_reader.specs.declared.words.TheConstants.{SPACE, LINE_FEED}
-use Rattle.script_reader.specs.Text.{line, operation_words, operation_lines}
+use Rattle.script_reader.specs.Text.{line}
 use Rattle.script_reader.specs.Callers.{IsReadScript}
 
 -- a line is not empty
@@ -26,5 +26,5 @@ more_text f done x start before after e h =
 pub script_more : (books : ClearingBooks) (script : List Op) (op : Op) → IsReadScript books script → IsRunSoFar op → IsOperationFor books op → length script < 64 → IsReadScript books (script ++ op ∷ [])
 script_more books script op valid so_far range room = record {
   range = record { few = omega (arith, length-append script (op ∷ [])); each = All-push (IsOperationFor books) script op valid.range.each range };
-  so_far = All-push IsRunSoFar script op valid.so_far so_far
+  so_far = All-push IsRunSoFar script op valid.so_far so_far;
 }

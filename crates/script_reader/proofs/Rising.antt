@@ -1,18 +1,19 @@
 -- Accounts that rise.
-use Rattle.std.proofs.Common.{◌≡◌, ℕ, ◌+◌, ◌<◌, ◌≤◌, Bool, true, false, cond, List, [], ◌∷◌, ◌++◌, codes, length, None, Some, refl, sym, ap, subst, ◌∙◌, append_assoc, arith}
+use Rattle.std.proofs.Common.{◌≡◌, ℕ, ◌<◌, ◌≤◌, cond, List, [], ◌∷◌, ◌++◌, codes, length, None, Some, refl, sym, ap, subst, ◌∙◌, append_assoc, arith}
 use Rattle.std.specs.List.{AllByRecursion, flat_map}
 use Rattle.std.specs.Cmp.{nat_cmp_total, nat_cmp_is}
 use Rattle.std.specs.Ordering.{nat_cmp, is_eq}
 use Rattle.std.specs.declared.cmp.Ordering.{Ordering}
-use Rattle.std.specs.declared.cmp.Ordering.TheVariants.{Less, Equal, Greater}
+use Rattle.std.specs.declared.cmp.Ordering.TheVariants.{Greater}
 use Rattle.std.specs.FinMap as map
 use Rattle.std.specs.FinMap.{find, put, entries-insert, get-entries, len-entries, len-empty}
 use Rattle.std.proofs.lemmas.List.{append-nil}
 use Rattle.books_model.specs.Books.{ClearingBooks, empty_books, put_cash, position_cmp}
 use Rattle.books_model.specs.Cut.{HaveOnlyAccounts}
-use Rattle.script_reader.specs.Text.{line, number, header_words, header_line, account_words, account_line, price_line, position_line, call_line, books_lines, scripts_line}
+use Rattle.script_reader.specs.Text.{line, number, header_words, header_line, account_line, price_line, position_line, call_line, books_lines, scripts_line}
 use Rattle.script_reader.specs.Accounts.{ReachAtMost, AddsAccount, HaveSameSizes}
 use Rattle.script_reader.proofs.Reading.{more_text}
+use Rattle.script_reader.proofs.Remaining.{middle}
 
 -- a greater number compares as greater
 greater : (x y : ℕ) → y < x → nat_cmp x y ≡ Greater
@@ -53,6 +54,8 @@ no_entries {X = X} R = no_length _ (sym (len-entries (map.empty {X = X} {R = R})
 -- what holds of the books after the lines of some accounts
 pub record AreReadUpTo (before books : ClearingBooks) (last : ℕ) (start rest : List ℕ) : Type 0 where
   pub reach : ReachAtMost books last
+  -- and the last one is there, where there is one
+  pub tight : (n : ℕ) → 0 < n → AllByRecursion (λ e. e.0 < n) (map.entries books.accounts) → last < n
   pub sizes : HaveSameSizes books before
   pub cut : HaveOnlyAccounts books
   pub text : start ≡ flat_map account_line (map.entries books.accounts) ++ rest
@@ -63,9 +66,10 @@ no_accounts before start e =
     let none : map.entries before.accounts ≡ [] = ap (λ b. map.entries b.accounts) e ∙ no_entries nat_cmp in
     record {
       reach = subst (AllByRecursion (λ e. e.0 ≤ 0)) (sym none) tt;
+      tight = λ n some all. some;
       sizes = record { blocks = refl; instruments = refl; ring = refl };
       cut = record { positions = ap (λ b. b.positions) e; prices = ap (λ b. b.prices) e; calls = ap (λ b. b.calls) e };
-      text = sym (ap (λ es. flat_map account_line es ++ start) none)
+      text = sym (ap (λ es. flat_map account_line es ++ start) none);
     }
 
 -- one more account was read
@@ -76,10 +80,11 @@ one_account first old new last a words start before after h adds e =
     let behind = entries_above old last a adds.cash h.reach adds.next.rises in
     subst P (sym adds.after) (record {
       reach = subst (AllByRecursion (λ e. e.0 ≤ a)) (sym behind) (reach-push last a adds.cash (map.entries old.accounts) h.reach adds.next.rises);
+      tight = λ n some all. middle (λ e. e.0 < n) (map.entries old.accounts) (a, adds.cash) [] (subst (AllByRecursion (λ e. e.0 < n)) behind all);
       sizes = record { blocks = h.sizes.blocks; instruments = h.sizes.instruments; ring = h.sizes.ring };
       cut = record { positions = h.cut.positions; prices = h.cut.prices; calls = h.cut.calls };
       text = more_text account_line (map.entries old.accounts) (a, adds.cash) start before after h.text (e ∙ ap (λ w. line w ++ after) adds.text)
-          ∙ ap (λ es. flat_map account_line es ++ after) (sym behind)
+          ∙ ap (λ es. flat_map account_line es ++ after) (sym behind);
     })
 
 -- the lines of books with accounts alone
@@ -99,7 +104,7 @@ pub text_of_books : (first books : ClearingBooks) (words : List (List ℕ)) (sta
     → start ≡ books_lines books ++ scripts_line ++ after
 text_of_books first books words start before after sizes cut e head rest =
     let same : header_words books ≡ header_words first =
-        λ t. codes "books" ∷ codes "1" ∷ codes "blocks" ∷ number (sizes.blocks t) ∷ codes "instruments" ∷ number (sizes.instruments t) ∷ codes "ring" ∷ number (sizes.ring t) ∷ [] in
+    λ t. codes "books" ∷ codes "1" ∷ codes "blocks" ∷ number (sizes.blocks t) ∷ codes "instruments" ∷ number (sizes.instruments t) ∷ codes "ring" ∷ number (sizes.ring t) ∷ [] in
     let accounts : List ℕ = flat_map account_line (map.entries books.accounts) in
     e ∙ ap (λ w. line w ++ before) (head ∙ sym same) ∙ ap (λ b. header_line books ++ b) (rest ∙ append_assoc accounts scripts_line after)
     ∙ sym (append_assoc (header_line books) accounts (scripts_line ++ after))

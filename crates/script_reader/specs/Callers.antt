@@ -1,5 +1,5 @@
 -- Callers with their scripts, as they are gathered while a text is read.
-use Rattle.std.specs.Prelude.{◌≡◌, ℕ, ◌≤◌, Bool, List, [], ◌∷◌, ◌++◌, map, length, All, if◌then◌else◌}
+use Rattle.std.specs.Prelude.{◌≡◌, ℕ, Bool, List, [], ◌∷◌, ◌++◌, map, length, All, if◌then◌else◌}
 use Rattle.std.specs.List.{list_any}
 use Rattle.std.specs.Str.{bytes_eq}
 use Rattle.std.specs.String.{string_bytes}
@@ -8,7 +8,7 @@ use Rattle.books_model.specs.Books.{ClearingBooks}
 use Rattle.books_model.specs.Cut.{IsRunSoFar}
 use Rattle.books_model.specs.Ranges.{IsScriptFor}
 use Rattle.script_reader.specs.declared.callers.Callers.{Callers}
-use Rattle.script_reader.specs.Input.{Caller, Submission, beside, count_scripts, IsName}
+use Rattle.script_reader.specs.Input.{Caller, Submission, beside, count_scripts}
 
 -- the callers that are gathered
 abbrev pub callers_in : Callers → List Caller

@@ -1,5 +1,5 @@
 -- Lines and their words, as they are cut out of a text.
-use Rattle.std.specs.Prelude.{◌≡◌, ℕ, ◌+◌, ◌<◌, ◌≤◌, ◌==◌, false, List, length, slice_index_or, []}
+use Rattle.std.specs.Prelude.{◌≡◌, ℕ, ◌<◌, ◌==◌, false, List, length, slice_index_or, []}
 use Rattle.std.specs.List.{AllByRecursion}
 use Rattle.script_reader.specs.declared.words.TheConstants.{SPACE, LINE_FEED}
 

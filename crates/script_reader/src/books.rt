@@ -1,14 +1,14 @@
 //! The books of a text.
 
-ghost use Rattle.std.specs.Prelude.{◌≡◌, ℕ, ◌++◌, length, IfOk, IsTrue, ◌↔◌, codes};
+ghost use Rattle.std.specs.Prelude.{◌≡◌, ℕ, List, ◌++◌, length, IfOk, MatchResult, IsTrue, ◌↔◌, codes};
 ghost use Rattle.std.specs.FinMap as map;
 ghost use Rattle.std.specs.List.{flat_map};
-ghost use Rattle.books_model.specs.Books.{ClearingBooks, empty_books};
+ghost use Rattle.books_model.specs.Books.{ClearingBooks, empty_books, put_cash};
 ghost use Rattle.books_model.specs.Cut.{HaveOnlyAccounts};
 ghost use Rattle.books_model.specs.Ranges.{AreInRange};
 ghost use Rattle.script_reader.specs.Lines.{word_at};
-ghost use Rattle.script_reader.specs.Text.{header_words, account_line, books_lines, scripts_line};
-ghost use Rattle.script_reader.specs.Accounts.{ReachAtMost, AddsAccount, HaveSameSizes};
+ghost use Rattle.script_reader.specs.Text.{header_words, account_words, account_line, books_lines, scripts_line};
+ghost use Rattle.script_reader.specs.Accounts.{ReachAtMost, AddsAccount, IsNextAccount, HaveSameSizes};
 
 use crate::fault::{Fault, Refusal};
 use crate::lines::Lines;
@@ -23,6 +23,8 @@ pub(crate) fn books_of(alloc: Global, lines: &mut Lines<'_>) -> Result<Books, Re
     ensures range { IfOk result (λ books. AreInRange books) }
     ensures cut { IfOk result (λ books. HaveOnlyAccounts books) }
     ensures text { IfOk result (λ books. lines.old ≡ books_lines books ++ scripts_line ++ lines.new) }
+    ensures only { (books : ClearingBooks) (after : List ℕ) → AreInRange books → HaveOnlyAccounts books → lines.old ≡ books_lines books ++ scripts_line ++ after
+        → MatchResult result (λ found. (found ≡ books) × (lines.new ≡ after)) (λ stop. stop ≡ Refusal.OutOfMemory) }
 {
     let words = lines.words(alloc)?;
     let header = header_of(alloc, &words)?;
@@ -37,6 +39,9 @@ fn accounts_of(alloc: Global, lines: &mut Lines<'_>, mut books: Books) -> Result
     ensures sizes { IfOk result (λ found. HaveSameSizes found books) }
     ensures cut { IfOk result (λ found. HaveOnlyAccounts found) }
     ensures text { IfOk result (λ found. lines.old ≡ flat_map account_line (map.entries found.accounts) ++ scripts_line ++ lines.new) }
+    ensures only { (target : ClearingBooks) (after : List ℕ) → AreInRange target → HaveOnlyAccounts target → HaveSameSizes target books
+        → lines.old ≡ flat_map account_line (map.entries target.accounts) ++ scripts_line ++ after
+        → MatchResult result (λ found. (found ≡ target) × (lines.new ≡ after)) (λ stop. stop ≡ Refusal.OutOfMemory) }
 {
     let mut last = 0u32;
     loop {
@@ -83,6 +88,8 @@ fn is_header(words: &Words<'_>) -> bool
 fn add_account(books: &mut Books, last: u32, words: &Words<'_>) -> Result<u32, Refusal>
     requires { ReachAtMost books.old last }
     ensures found { IfOk result (λ a. AddsAccount books.old books.new last a words.now) }
+    ensures only { (a cash : ℕ) → IsNextAccount books.old last a cash → words.now ≡ account_words (a, cash)
+        → MatchResult result (λ found. (found ≡ a) × (books.new ≡ put_cash books.old a cash)) (λ stop. stop ≡ Refusal.OutOfMemory) }
 {
     if words.len() != 3 || !words.is(0, b"account") {
         return Err(Refusal::LineFault(Fault::Word));

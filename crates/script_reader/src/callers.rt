@@ -40,11 +40,17 @@ impl Callers {
         ensures room { result ≡ false → (count_scripts (callers_in self.now) < MOST_SCRIPTS) × (is_caller name.now (callers_in self.now) ≡ false → length (callers_in self.now) < MOST_CALLERS) }
         ensures full { IsTrue result → (MOST_SCRIPTS ≤ count_scripts (callers_in self.now)) ⊎ ((is_caller name.now (callers_in self.now) ≡ false) × (MOST_CALLERS ≤ length (callers_in self.now))) }
     {
-        self.count >= MOST_SCRIPTS || (self.names.len() >= MOST_CALLERS && !self.names.contains(name))
+        self.count >= MOST_SCRIPTS
+            || (self.names.len() >= MOST_CALLERS && !self.names.contains(name))
     }
 
     // Adds a script of the caller with the name.
-    pub(crate) fn add(&mut self, alloc: Global, name: &str, script: Script) -> Result<(), OutOfMemory>
+    pub(crate) fn add(
+        &mut self,
+        alloc: Global,
+        name: &str,
+        script: Script,
+    ) -> Result<(), OutOfMemory>
         requires even { IsEven self.old }
         requires room { count_scripts (callers_in self.old) < MOST_SCRIPTS }
         ensures added { OnOk result (callers_in self.new ≡ add_submission (callers_in self.old) (record { caller = name.now; script = script })) }

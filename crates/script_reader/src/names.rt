@@ -9,7 +9,6 @@ use crate::limits::LONGEST_NAME;
 use crate::words::Words;
 use std::str;
 
-
 // The name that a word is.
 fn name_of(word: &[u8]) -> Result<&str, Fault>
     ensures found { IfOk result (λ name. (name.now ≡ word.now) × IsName word.now) }

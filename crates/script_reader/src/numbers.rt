@@ -44,7 +44,9 @@ fn value_of(word: &[u8]) -> u64
 {
     let mut value = 0u64;
     for b in word {
-        value = value.saturating_mul(10).saturating_add(u64::from(*b - b'0'));
+        value = value
+            .saturating_mul(10)
+            .saturating_add(u64::from(*b - b'0'));
     }
     value
 }

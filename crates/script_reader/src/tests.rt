@@ -12,7 +12,9 @@ fn read(rt: &HostRuntime, text: &str) -> Result<Input, InputFault> {
 
 #[test]
 fn whole_text(rt: HostRuntime) -> Result<(), Fail> {
-    let text = format!(in rt.alloc(); "{HEADER}account 7 100\nscripts\nscript ann\ndeposit 7 5\nshow 7\nend\nfinish\n")?;
+    let text = format!(in rt.alloc();
+        "{HEADER}account 7 100\nscripts\nscript ann\ndeposit 7 5\nshow 7\nend\nfinish\n"
+    )?;
     let input = read(&rt, text.as_str())?;
     assert_eq!(rt; input.books().cash(7), Some(100));
     assert_eq!(rt; input.books().blocks(), 4);
@@ -29,7 +31,9 @@ fn whole_text(rt: HostRuntime) -> Result<(), Fail> {
 
 #[test]
 fn alternating_callers(rt: HostRuntime) -> Result<(), Fail> {
-    let text = format!(in rt.alloc(); "{HEADER}scripts\nscript ann\nshow 1\nend\nscript bob\nshow 2\nend\nscript ann\nshow 3\nend\nfinish\n")?;
+    let text = format!(in rt.alloc();
+        "{HEADER}scripts\nscript ann\nshow 1\nend\nscript bob\nshow 2\nend\nscript ann\nshow 3\nend\nfinish\n"
+    )?;
     let input = read(&rt, text.as_str())?;
     assert_eq!(rt; input.callers(), 2);
     assert_eq!(rt; input.scripts(), 3);
@@ -58,25 +62,89 @@ fn fault_of(rt: &HostRuntime, text: &str) -> Option<(u32, Fault)> {
 fn first_faults(rt: HostRuntime) {
     let table = [
         ("", 1, Fault::End),
-        ("books 1 blocks 4 instruments 1 ring 1\naccount 7 100\nscripts\nscript ann\ndeposit 7 5\nshow 7\nend\n", 8, Fault::End),
-        ("books 1 blocks 4 instruments 1 ring 1\naccount 7 100\nscripts\nscript ann\ndeposit 7 5\nshow 7\nend\nfinish", 8, Fault::End),
-        ("books 1 blocks 4 instruments 1 ring 1\naccount 7 100\nscripts\nscript ann\ndeposit 7 5\nshow 7\nend\nfinish\nend\n", 9, Fault::End),
+        (
+            "books 1 blocks 4 instruments 1 ring 1\naccount 7 100\nscripts\nscript ann\ndeposit 7 5\nshow 7\nend\n",
+            8,
+            Fault::End,
+        ),
+        (
+            "books 1 blocks 4 instruments 1 ring 1\naccount 7 100\nscripts\nscript ann\ndeposit 7 5\nshow 7\nend\nfinish",
+            8,
+            Fault::End,
+        ),
+        (
+            "books 1 blocks 4 instruments 1 ring 1\naccount 7 100\nscripts\nscript ann\ndeposit 7 5\nshow 7\nend\nfinish\nend\n",
+            9,
+            Fault::End,
+        ),
         ("books 9 blocks 4 instruments 1 ring 1\n", 1, Fault::Header),
         ("books 1 blocks 04 instruments 1 ring 1\n", 1, Fault::Number),
         ("books 1 blocks 4 instruments 65 ring 1\n", 1, Fault::Limit),
-        ("books 1 blocks 4 instruments 1 ring 1\naccount 2 1\naccount 1 1\n", 3, Fault::Order),
-        ("books 1 blocks 4 instruments 1 ring 1\naccount 1 1\naccount 2 01\n", 3, Fault::Number),
-        ("books 1 blocks 4 instruments 1 ring 1\naccount 1 1\naccount 2 1000000000000001\n", 3, Fault::Limit),
-        ("books 1 blocks 4 instruments 1 ring 1\naccount 1 100000000000000000000000000000\n", 2, Fault::Limit),
-        ("books 1 blocks 4 instruments 1 ring 1\naccount 4294967296 x\n", 2, Fault::Number),
-        ("books 1 blocks 4 instruments 1 ring 1\naccount 1 1\naccount 2\n", 3, Fault::Word),
-        ("books 1 blocks 1 instruments 1 ring 1\naccount 1 1\naccount 2 1\n", 3, Fault::Blocks),
-        ("books 1 blocks 4 instruments 1 ring 1\naccount 1  1\n", 2, Fault::Word),
-        ("books 1 blocks 4 instruments 1 ring 1\nscripts\naccount 1 1\n", 3, Fault::Word),
-        ("books 1 blocks 4 instruments 1 ring 1\nscripts\nscript ann\nmove 1 2 3\n", 4, Fault::Word),
-        ("books 1 blocks 4 instruments 1 ring 1\nscripts\nscript abcdefghijklmnopq\n", 3, Fault::Word),
-        ("books 1 blocks 4 instruments 1 ring 1\nscripts\nscript Ann\n", 3, Fault::Word),
-        ("books 1 blocks 4 instruments 1 ring 1\nscripts\nscript ann\ndeposit 1 0\n", 4, Fault::Limit),
+        (
+            "books 1 blocks 4 instruments 1 ring 1\naccount 2 1\naccount 1 1\n",
+            3,
+            Fault::Order,
+        ),
+        (
+            "books 1 blocks 4 instruments 1 ring 1\naccount 1 1\naccount 2 01\n",
+            3,
+            Fault::Number,
+        ),
+        (
+            "books 1 blocks 4 instruments 1 ring 1\naccount 1 1\naccount 2 1000000000000001\n",
+            3,
+            Fault::Limit,
+        ),
+        (
+            "books 1 blocks 4 instruments 1 ring 1\naccount 1 100000000000000000000000000000\n",
+            2,
+            Fault::Limit,
+        ),
+        (
+            "books 1 blocks 4 instruments 1 ring 1\naccount 4294967296 x\n",
+            2,
+            Fault::Number,
+        ),
+        (
+            "books 1 blocks 4 instruments 1 ring 1\naccount 1 1\naccount 2\n",
+            3,
+            Fault::Word,
+        ),
+        (
+            "books 1 blocks 1 instruments 1 ring 1\naccount 1 1\naccount 2 1\n",
+            3,
+            Fault::Blocks,
+        ),
+        (
+            "books 1 blocks 4 instruments 1 ring 1\naccount 1  1\n",
+            2,
+            Fault::Word,
+        ),
+        (
+            "books 1 blocks 4 instruments 1 ring 1\nscripts\naccount 1 1\n",
+            3,
+            Fault::Word,
+        ),
+        (
+            "books 1 blocks 4 instruments 1 ring 1\nscripts\nscript ann\nwithdraw 1 2\n",
+            4,
+            Fault::Word,
+        ),
+        (
+            "books 1 blocks 4 instruments 1 ring 1\nscripts\nscript abcdefghijklmnopq\n",
+            3,
+            Fault::Word,
+        ),
+        (
+            "books 1 blocks 4 instruments 1 ring 1\nscripts\nscript Ann\n",
+            3,
+            Fault::Word,
+        ),
+        (
+            "books 1 blocks 4 instruments 1 ring 1\nscripts\nscript ann\ndeposit 1 0\n",
+            4,
+            Fault::Limit,
+        ),
     ];
     for (text, line, why) in table {
         assert_eq!(rt; fault_of(&rt, text), Some((line, why)), "{text}");

@@ -101,6 +101,21 @@ impl<'a> Words<'a> {
         let account = account_number(account)?;
         Ok((account, within(number, low, high)?))
     }
+
+    // Two account numbers, and the number in a range, of a line of four words.
+    pub(crate) fn two_accounts_and(&self, low: u64, high: u64) -> Result<(u32, u32, u64), Fault>
+        requires four { length self.now ≡ 4 }
+        requires exact { high < u64.MAX }
+        ensures found { IfOk result (λ e. IsAccountNumber e.0 × IsAccountNumber e.1 × IsWithin low high e.2 × (word_at self.now 1 ≡ number e.0) × (word_at self.now 2 ≡ number e.1) × (word_at self.now 3 ≡ number e.2)) }
+        ensures only { (a b n : ℕ) → IsAccountNumber a → IsAccountNumber b → IsWithin low high n → word_at self.now 1 ≡ number a → word_at self.now 2 ≡ number b → word_at self.now 3 ≡ number n → result ≡ Ok (a, b, n) }
+    {
+        let from = self.number(1)?;
+        let to = self.number(2)?;
+        let number = self.number(3)?;
+        let from = account_number(from)?;
+        let to = account_number(to)?;
+        Ok((from, to, within(number, low, high)?))
+    }
 }
 
 // The parts of a line between spaces.

@@ -1,5 +1,5 @@
 -- What scripts leave as it is.
-use Rattle.std.proofs.Common.{◌≡◌, ◌+◌, ◌≤◌, ℕ, Bool, true, false, cond, not, nat_lt, List, [], ◌∷◌, All, refl, sym, ap, ◌∙◌, subst}
+use Rattle.std.proofs.Common.{◌≡◌, ◌+◌, ◌-◌, ◌≤◌, ◌&&◌, ◌==◌, ℕ, Bool, true, false, cond, not, nat_lt, List, [], ◌∷◌, All, refl, sym, ap, ◌∙◌, subst}
 use Rattle.std.specs.List.{AllByRecursion}
 use Rattle.std.proofs.lemmas.List.Elements.{recursion_from_All, All-weaker}
 use Rattle.books_model.specs.declared.limits.TheConstants.{GREATEST_CASH}
@@ -50,7 +50,12 @@ step_keeps (op.Show a) books h = either (StepKeeps books) (not (is_account books
 step_keeps (op.OpenAccount a) books h = absurd h
 step_keeps (op.Close a) books h = absurd h
 step_keeps (op.Withdraw a x) books h = absurd h
-step_keeps (op.Move a b x) books h = absurd h
+step_keeps (op.Move a b x) books h =
+    either (StepKeeps books) (a == b) (Declines decline.Same) _ tt
+    (either (StepKeeps books) (not (is_account books a && is_account books b)) (Declines decline.Absent) _ tt
+    (either (StepKeeps books) (nat_lt (cash_of books a) x) (Declines decline.Cash) _ tt
+    (either (StepKeeps books) (nat_lt GREATEST_CASH (cash_of books b + x)) (Declines decline.Limit) (Gives value.Done (put_cash (put_cash books a (cash_of books a - x)) b (cash_of books b + x))) tt
+    (KeepsRest-then (KeepsRest-put_cash books a (cash_of books a - x)) (KeepsRest-put_cash (put_cash books a (cash_of books a - x)) b (cash_of books b + x))))))
 step_keeps (op.Price i p) books h = absurd h
 step_keeps (op.Trade a b i q) books h = absurd h
 step_keeps (op.Margin a m) books h = absurd h

@@ -1,13 +1,13 @@
 //! The top call.
 
-ghost use Rattle.std.specs.Prelude.{◌≡◌, ◌≢◌, ◌+◌, ◌≤◌, ◌⊎◌, Some, map, IfSome, IsErr, OnOk, OnErr};
+ghost use Rattle.std.specs.Prelude.{◌≡◌, ◌≢◌, ◌+◌, ◌≤◌, ◌⊎◌, Some, length, map, IfSome};
 ghost use Rattle.std.specs.String.{string_bytes};
 ghost use Rattle.std.specs.Io.KnownBytes.{Appends, IsAtEnd};
 ghost use Rattle.io_ends.specs.Counts.{Rose};
 ghost use Rattle.io_ends.specs.Taken.{AppendsPrefix, count_taken};
-ghost use Rattle.script_reader.specs.declared.fault.Fault.{Fault};
+ghost use Rattle.script_reader.specs.Grammar.{IsValidInput};
 ghost use Rattle.script_reader.specs.Command.{IsValidCommand};
-ghost use Rattle.twoplsf.specs.Answer.{PrintsOutput, refused_line, refused_size, refused_words};
+ghost use Rattle.twoplsf.specs.Answer.{PrintsOutput, TookText};
 
 use crate::answer::{Answer, answer_to};
 use crate::command::workers_of;
@@ -44,26 +44,34 @@ pub fn serve<S: Source, K: Sink>(
     ensures done_words { result ≡ Status.Done → IsValidCommand (map string_bytes words.now) }
     ensures done_end { result ≡ Status.Done → IsAtEnd (S.left source.new) }
 
+    // What the sink took: exactly the text of the status, and after a write fault a front of the text in whose place it stands.
+    ensures text { TookText result (map string_bytes words.now) (S.left source.old) (S.left source.new) (K.taken sink.old) (K.taken sink.new) }
+    ensures unwritten { (result ≡ Status.ReadFault) ⊎ (result ≡ Status.OutOfMemory) → sink.new ≡ sink.old }
+
     // Wrong words: nothing is read.
     ensures bad_words { result ≡ Status.BadWords → IsValidCommand (map string_bytes words.now) → ⊥ }
-    ensures bad_words_text { result ≡ Status.BadWords → Appends (K.taken sink.old) (K.taken sink.new) refused_words }
     ensures bad_words_source { result ≡ Status.BadWords → source.new ≡ source.old }
     ensures words_first { (IsValidCommand (map string_bytes words.now) → ⊥) → (result ≡ Status.BadWords) ⊎ (result ≡ Status.WriteFault) }
 
     // Too many bytes.
     ensures too_large { result ≡ Status.TooLarge → IfSome (count_taken (S.left source.old) (S.left source.new)) (λ n. n ≡ MOST_INPUT_BYTES + 1) }
-    ensures too_large_text { result ≡ Status.TooLarge → Appends (K.taken sink.old) (K.taken sink.new) refused_size }
     ensures above_limit { count_taken (S.left source.old) (S.left source.new) ≡ Some (MOST_INPUT_BYTES + 1)
         → (result ≡ Status.TooLarge) ⊎ (result ≡ Status.WriteFault) ⊎ (result ≡ Status.OutOfMemory) }
 
     // Bytes that are no input.
-    ensures bad_input_text { result ≡ Status.BadInput → (l : _) × (why : Fault) × Appends (K.taken sink.old) (K.taken sink.new) (refused_line l why) }
+    ensures bad_input { result ≡ Status.BadInput → IfSome (S.left source.old) (λ bytes. IsValidInput bytes → ⊥) }
     ensures bad_input_end { result ≡ Status.BadInput → IsAtEnd (S.left source.new) }
+    ensures no_input { IsValidCommand (map string_bytes words.now) → IfSome (S.left source.old) (λ bytes. length bytes ≤ MOST_INPUT_BYTES → (IsValidInput bytes → ⊥)
+        → (result ≡ Status.BadInput) ⊎ (result ≡ Status.ReadFault) ⊎ (result ≡ Status.WriteFault) ⊎ (result ≡ Status.OutOfMemory)) }
+
+    // Completeness: where nothing is wrong and no fault comes, the command is done, or memory is wanting.
+    ensures complete { IsValidCommand (map string_bytes words.now) → IfSome (S.left source.old) (λ bytes. length bytes ≤ MOST_INPUT_BYTES → IsValidInput bytes
+        → (Rose (S.faults source.old) (S.faults source.new) → ⊥) → (Rose (K.faults sink.old) (K.faults sink.new) → ⊥)
+        → (result ≡ Status.Done) ⊎ (result ≡ Status.OutOfMemory)) }
 
     // Faults of the outside.
     ensures read_fault { result ≡ Status.ReadFault → Rose (S.faults source.old) (S.faults source.new) }
     ensures write_fault { result ≡ Status.WriteFault → Rose (K.faults sink.old) (K.faults sink.new) }
-    ensures unwritten { (result ≡ Status.ReadFault) ⊎ (result ≡ Status.OutOfMemory) → sink.new ≡ sink.old }
     ensures never_differs { result ≢ Status.Differs }
     ensures reads { S.reads source.new ≤ S.reads source.old + MOST_INPUT_BYTES + 2 }
 {

@@ -87,6 +87,18 @@ fn scripts_are_run_and_printed(rt: HostRuntime) -> Result<(), Fail> {
             "journal\n1 ann 1 0 done\n",
             "finish\n",
         ),
+        // move_of_all_cash
+        (
+            "account 1 50\naccount 2 0\nscripts\nscript ann\nmove 1 2 50\nend\nfinish\n",
+            "journal\n1 ann 1 0 done ok\n",
+            "account 1 0\naccount 2 50\nfinish\n",
+        ),
+        // move_to_the_same_account_is_declined_before_absence
+        (
+            "scripts\nscript ann\nmove 9 9 1\nend\nfinish\n",
+            "journal\n1 ann 1 0 declined 1 same\n",
+            "finish\n",
+        ),
         // deposit_up_to_the_cash_limit
         (
             "account 1 999999999999999\nscripts\nscript ann\ndeposit 1 1\nend\nscript ann\ndeposit 1 1\nend\nfinish\n",

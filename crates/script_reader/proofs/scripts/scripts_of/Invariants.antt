@@ -6,7 +6,7 @@ use Rattle.script_reader.proofs.scripts.scripts_of.Given as goal
 abbrev pub invariant-loop-callers : goal.invariant-loop-callers
 invariant-loop-callers l = record {
   even : IsEven l.callers;
-  read : IsReadUpTo l.books (callers_in l.callers) l.initial.lines l.lines
+  read : IsReadUpTo l.books (callers_in l.callers) l.initial.lines l.lines;
 }
 
 abbrev pub decreases-loop-callers : goal.decreases-loop-callers

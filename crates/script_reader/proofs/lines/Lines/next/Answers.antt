@@ -1,4 +1,4 @@
-use Rattle.std.proofs.Common.{◌≡◌, ℕ, ◌==◌, List, Some, None, position, refl, sym, ap, subst, ◌∙◌}
+use Rattle.std.proofs.Common.{◌==◌, position, refl, sym, ap, ◌∙◌}
 use Rattle.script_reader.specs.declared.words.TheConstants.{LINE_FEED}
 use Rattle.script_reader.proofs.Cutting.{found_at, found_none}
 use Rattle.script_reader.proofs.lines.Lines.next.Goals as goal

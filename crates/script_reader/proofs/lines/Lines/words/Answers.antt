@@ -1,5 +1,5 @@
-use Rattle.std.proofs.Common.{◌≡◌, sym, ◌∙◌}
-use Rattle.script_reader.proofs.Cutting.{taken, line_once, no_line}
+use Rattle.std.proofs.Common.{sym, ◌∙◌}
+use Rattle.script_reader.proofs.Cutting.{taken, line_once}
 use Rattle.script_reader.proofs.lines.Lines.words.Goals as goal
 
 pub returns-clause-found : goal.returns-clause-found
