@@ -1,5 +1,5 @@
 -- The text of replies and of journal lines, one piece after another.
-use Rattle.std.proofs.Common.{◌≡◌, ◌+◌, ◌<◌, ◌≤◌, ◌++◌, [], ◌∷◌, ℕ, List, Some, map, take, length, codes, refl, sym, ap, ◌∙◌, get_or, append_assoc, append-nil, arith, add-zero, length-take}
+use Rattle.std.proofs.Common.{◌≡◌, ◌+◌, ◌<◌, ◌++◌, [], ◌∷◌, ℕ, List, Some, map, take, length, codes, refl, sym, ap, ◌∙◌, get_or, append_assoc, append-nil, arith, add-zero, length-take}
 use Rattle.std.specs.List.{flat_map, join_with_byte, slice_get}
 use Rattle.std.proofs.lemmas.List.{flat_map_more, take_more, map_push, length-map}
 use Rattle.std.proofs.lemmas.Option.{get_or_from_slice_get, slice_get_within}

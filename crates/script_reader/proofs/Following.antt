@@ -27,12 +27,13 @@ all_but_last : {A : Type 0} (P : A → Type 0) (xs : List A) (x : A) → AllByRe
 all_but_last P [] x all = (tt, all.0)
 all_but_last P (y ∷ xs) x all = let rest = all_but_last P xs x all.1 in ((all.0, rest.0), rest.1)
 
--- a caller that is read so far, and a script with its caller
+-- a caller that is read so far
 pub record IsGood (books : ClearingBooks) (c : Caller) : Type 0 where
   pub name : IsName c.name
   pub range : AllByRecursion (IsScriptFor books) c.scripts
   pub so_far : AllByRecursion (All IsRunSoFar) c.scripts
 
+-- a script that is read so far, of a caller with a name
 pub record IsGoodScript (books : ClearingBooks) (s : Submission) : Type 0 where
   pub name : IsName s.caller
   pub range : IsScriptFor books s.script
@@ -85,6 +86,7 @@ length-add-ge (c ∷ callers) s = by (bytes_eq s.caller c.name) (length-add-ge c
     by true rest = omega arith
     by false rest = omega arith
 
+-- nor do more scripts
 length-fold-ge : (callers : List Caller) (subs : List Submission) → length callers ≤ length (fold add_submission callers subs)
 length-fold-ge callers [] = omega arith
 length-fold-ge callers (s ∷ subs) = omega (arith, length-add-ge callers s, length-fold-ge (add_submission callers s) subs)
@@ -105,6 +107,7 @@ pub record IsNext (books : ClearingBooks) (callers : List Caller) (s : Submissio
   pub room : count_scripts callers < MOST_SCRIPTS
   pub space : is_caller s.caller callers ≡ false → length callers < MOST_CALLERS
 
+-- a script that comes next among those of an input is so
 pub next_script : (books : ClearingBooks) (callers : List Caller) (done all : List Submission) (left after : List ℕ) → callers ≡ fold add_submission [] done → AreReadCallers books (callers_of all)
     → (n : Comes submission_lines finish_line done all left after) → IsNext books callers n.next
 next_script books callers done all left after made valid n =

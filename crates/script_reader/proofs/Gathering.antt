@@ -121,9 +121,11 @@ module _ {K V : Type 0} (bytes : K → List ℕ) (view : V → List (List Op)) (
       (inserted : keys' ≡ (if list_any (λ k. bytes_eq (bytes key) (bytes k)) keys then keys else keys ++ key ∷ []))
       (at : place ≡ position_or_len (λ k. bytes_eq (bytes key) (bytes k)) keys)
       (put : map view xs' ≡ put_script (map view xs) place script) where
+    -- the names after the insertion
     names_after : map bytes keys' ≡ add_name (map bytes keys) name
     names_after = ap (map bytes) inserted ∙ keys-add bytes keys key ∙ ap (add_name (map bytes keys)) named
 
+    -- the scripts after one more was put
     scripts_after : map view xs' ≡ put_script (map view xs) (position_or_len (bytes_eq name) (map bytes keys)) script
     scripts_after = put ∙ ap (λ p. put_script (map view xs) p script) (at ∙ position-map bytes (bytes key) keys ∙ ap (λ n. position_or_len (bytes_eq n) (map bytes keys)) named)
 

@@ -101,10 +101,11 @@ scripts_by-push n subs s =
     by false = refl
 
 module _ (scripts : List ℕ → List (List Op)) (s : Submission) where
-  -- a caller with its scripts, and with one more where it is its own
+  -- a caller with its scripts
   abbrev had : List ℕ → Caller
   had n = record { name = n; scripts = scripts n }
 
+  -- and with one more where it is its own
   abbrev has : List ℕ → Caller
   has n = record { name = n; scripts = scripts n ++ (if bytes_eq n s.caller then s.script ∷ [] else []) }
 
@@ -112,6 +113,7 @@ module _ (scripts : List ℕ → List (List Op)) (s : Submission) where
   other : (n : List ℕ) → bytes_eq n s.caller ≡ false → has n ≡ had n
   other n apart = ap (λ b. record { name = n; scripts = scripts n ++ (if b then s.script ∷ [] else []) }) apart ∙ ap (λ l. record { name = n; scripts = l }) (append-nil (scripts n))
 
+  -- and so do all others
   others : (c : List ℕ) → c ≡ s.caller → (names : List (List ℕ)) → AllByRecursion (λ m. bytes_eq c m ≡ false) names → map has names ≡ map had names
   others c same [] apart = refl
   others c same (n ∷ names) apart =

@@ -21,6 +21,7 @@ abbrev pub header_words : ClearingBooks → List (List ℕ)
 header_words books =
     codes "books" ∷ codes "1" ∷ codes "blocks" ∷ number books.blocks ∷ codes "instruments" ∷ number books.instruments ∷ codes "ring" ∷ number books.ring ∷ []
 
+-- the first line: sizes of books
 abbrev pub header_line : ClearingBooks → List ℕ
 header_line books = line (header_words books)
 
@@ -28,15 +29,19 @@ header_line books = line (header_words books)
 abbrev pub account_words : ℕ × ℕ → List (List ℕ)
 account_words e = codes "account" ∷ number e.0 ∷ number e.1 ∷ []
 
+-- an account and its cash
 abbrev pub account_line : ℕ × ℕ → List ℕ
 account_line e = line (account_words e)
 
+-- an instrument and its price
 abbrev pub price_line : ℕ × ℕ → List ℕ
 price_line e = line (codes "price" ∷ number e.0 ∷ number e.1 ∷ [])
 
+-- an account, an instrument and the quantity that is held
 abbrev pub position_line : (ℕ × ℕ) × ℕ → List ℕ
 position_line e = line (codes "position" ∷ number e.0.0 ∷ number e.0.1 ∷ number e.1 ∷ [])
 
+-- a margin call: an account and its shortfall
 abbrev pub call_line : ℕ × ℕ → List ℕ
 call_line call = line (codes "call" ∷ number call.0 ∷ number call.1 ∷ [])
 
@@ -49,6 +54,7 @@ books_lines books =
     ++ flat_map position_line (map.entries books.positions)
     ++ flat_map call_line books.calls
 
+-- the words of an operation
 abbrev pub operation_words : Op → List (List ℕ)
 operation_words (op.OpenAccount a) = codes "open" ∷ number a ∷ []
 operation_words (op.Close a) = codes "close" ∷ number a ∷ []
@@ -62,14 +68,18 @@ operation_words op.Next = codes "next" ∷ []
 operation_words (op.Show a) = codes "show" ∷ number a ∷ []
 operation_words (op.Sum a b) = codes "sum" ∷ number a ∷ number b ∷ []
 
+-- operations, a line each
 abbrev pub operation_lines : List Op → List ℕ
 operation_lines ops = flat_map (λ o. line (operation_words o)) ops
 
+-- the line before the scripts
 abbrev pub scripts_line : List ℕ
 scripts_line = line (codes "scripts" ∷ [])
 
+-- the last line
 abbrev pub finish_line : List ℕ
 finish_line = line (codes "finish" ∷ [])
 
+-- the line that ends a script
 abbrev pub end_line : List ℕ
 end_line = line (codes "end" ∷ [])

@@ -1,5 +1,5 @@
 -- Command lines of two words.
-use Rattle.std.proofs.Common.{◌≡◌, ◌≤◌, ℕ, Bool, true, false, List, [], ◌∷◌, map, length, get_or, codes, refl, sym, ap, ◌∙◌, subst, arith, eqb}
+use Rattle.std.proofs.Common.{◌≡◌, ℕ, true, false, List, [], ◌∷◌, map, length, get_or, codes, refl, sym, ap, ◌∙◌, subst, arith, eqb}
 use Rattle.std.specs.Fmt.{digits}
 use Rattle.std.specs.Cmp.Lexicographic.{pointwise}
 use Rattle.books_model.specs.Ranges.{IsWithin}

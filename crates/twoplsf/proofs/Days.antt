@@ -1,6 +1,6 @@
 -- One more script of a day.
-use Rattle.std.proofs.Common.{◌≡◌, ◌+◌, ◌<◌, ◌≤◌, ℕ, suc, Bool, true, false, cond, ◌&&◌, ◌||◌, ◌==◌, nat_lt, List, [], ◌∷◌, ◌++◌, length, map, get_or, All, refl, sym, ap, ◌∙◌, subst, arith, zero-add}
-use Rattle.std.specs.List.{count_by, AllPairs}
+use Rattle.std.proofs.Common.{◌≡◌, ◌+◌, ◌<◌, ℕ, suc, Bool, true, false, cond, ◌&&◌, ◌==◌, List, [], ◌∷◌, ◌++◌, length, map, get_or, All, refl, sym, ap, ◌∙◌, subst, arith, zero-add}
+use Rattle.std.specs.List.{count_by}
 use Rattle.std.proofs.lemmas.List.{map_push, length-map, get_or-map}
 use Rattle.std.proofs.lemmas.List.Sums.{sum_by-append}
 use Rattle.std.proofs.lemmas.List.Elements.{All-push, All-weaker, All-nil, All-map}
@@ -12,12 +12,12 @@ use Rattle.books_model.specs.Interpreter.{outcome_of}
 use Rattle.books_model.specs.Cut.{IsRunSoFar, HaveOnlyAccounts}
 use Rattle.script_reader.specs.Cut.{IsReadSoFar}
 use Rattle.script_reader.specs.Input.{ClearingInput, IsInput, caller_at, script_at}
-use Rattle.script_reader.specs.Journal.{IsPlace, IsJournal}
+use Rattle.script_reader.specs.Journal.{IsPlace}
 use Rattle.books_report.specs.declared.line.Line.{Line}
 use Rattle.books_report.specs.Output.{place_of, replies_of, books_after, text_of, IsOutput}
 use Rattle.twoplsf.specs.Day.{is_before, AreRun, HasRun, IsDay}
 use Rattle.books_model.specs.Ranges.{IsScriptFor}
-use Rattle.twoplsf.proofs.Kept.{KeepsRest, outcome_keeps, script_for}
+use Rattle.twoplsf.proofs.Kept.{KeepsRest, script_for}
 
 -- the books after one more script
 books_after-push : (input : ClearingInput) (books : ClearingBooks) (places : List (ℕ × ℕ)) (p : ℕ × ℕ)

@@ -1,8 +1,7 @@
 -- What was printed, put together.
-use Rattle.std.proofs.Common.{◌≡◌, ◌≢◌, ◌<◌, ◌≤◌, ◌⊎◌, ◌++◌, ℕ, List, [], Option, Some, None, IfSome, IsSome, All, refl, sym, ap, ◌∙◌, subst, inl, inr, arith, append-nil}
+use Rattle.std.proofs.Common.{◌≡◌, ◌≢◌, ◌<◌, ◌≤◌, ◌⊎◌, ◌++◌, ℕ, List, Option, Some, None, IfSome, IsSome, sym, ap, ◌∙◌, subst, inl, inr, arith, append-nil}
 use Rattle.std.specs.Io.KnownBytes.{Appends, Consumes, IsAtEnd}
 use Rattle.std.proofs.lemmas.List.Elements.{All-weaker}
-use Rattle.io_ends.specs.Counts.{Rose}
 use Rattle.io_ends.specs.Taken.{AppendsPrefix}
 use Rattle.script_reader.specs.Input.{ClearingInput}
 use Rattle.script_reader.specs.Grammar.{Spells}
@@ -10,7 +9,7 @@ use Rattle.script_reader.specs.Command.{IsRunCommand, IsValidCommand}
 use Rattle.books_report.specs.Output.{IsOutput}
 use Rattle.twoplsf.specs.declared.status.Status.{Status}
 use Rattle.twoplsf.specs.declared.status.Status.TheVariants as status
-use Rattle.twoplsf.specs.Answer.{IsOutputFor, PrintsOutput, IsTextFor, TookText}
+use Rattle.twoplsf.specs.Answer.{IsOutputFor, IsTextFor, TookText}
 
 -- an output with every number of restarts below 1 has them below any number of workers
 more_workers : (input : ClearingInput) (w : ℕ) (text : List ℕ) → 1 ≤ w → IsOutput input 1 text → IsOutput input w text

@@ -1,3 +1,5 @@
+ghost use Rattle.std.specs.Prelude.{◌≤◌};
+
 use crate::limits::MOST_INPUT_BYTES;
 use crate::serve::serve;
 use crate::status::Status;

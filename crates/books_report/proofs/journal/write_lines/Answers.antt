@@ -1,4 +1,3 @@
-use Rattle.std.proofs.Common.{arith}
 use Rattle.std.specs.String.{string_bytes}
 use Rattle.books_report.proofs.Journals.{line_next}
 use Rattle.books_report.proofs.journal.write_lines.Goals as goal

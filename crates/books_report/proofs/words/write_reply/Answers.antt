@@ -1,5 +1,4 @@
 use Rattle.std.proofs.lemmas.Result.{IfOk-weaker}
-use Rattle.std.proofs.Common.{subst}
 use Rattle.std.specs.String.{string_bytes}
 use Rattle.books_report.proofs.Journals.{done_values}
 use Rattle.books_report.proofs.words.write_reply.Goals as goal

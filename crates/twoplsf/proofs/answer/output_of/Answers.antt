@@ -1,7 +1,5 @@
-use Rattle.std.proofs.Common.{◌≡◌, ap, sym, ◌∙◌, length, All, subst}
+use Rattle.std.proofs.Common.{ap, sym, ◌∙◌, length}
 use Rattle.std.proofs.lemmas.Result.{IfOk-weaker}
-use Rattle.script_reader.specs.Journal.{IsPlace}
-use Rattle.books_report.specs.Output.{place_of}
 use Rattle.twoplsf.proofs.Days.{day_beside, day_places, day_output}
 use Rattle.twoplsf.proofs.answer.output_of.Goals as goal
 

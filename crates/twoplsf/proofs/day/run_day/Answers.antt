@@ -1,5 +1,5 @@
 use Rattle.std.proofs.Common.{arith}
-use Rattle.twoplsf.proofs.Days.{ran_none, ran_all}
+use Rattle.twoplsf.proofs.Days.{ran_all}
 use Rattle.twoplsf.proofs.day.run_day.Goals as goal
 
 pub returns : goal.returns

@@ -1,4 +1,4 @@
-use Rattle.std.proofs.Common.{◌∙◌, ap, sym}
+use Rattle.std.proofs.Common.{◌∙◌, ap}
 use Rattle.books_model.specs.Interpreter.{outcome_of}
 use Rattle.script_reader.specs.Input.{script_at}
 use Rattle.twoplsf.proofs.Kept.{KeepsRest, outcome_keeps}

@@ -1,4 +1,4 @@
-use Rattle.std.proofs.Common.{map, rules, ◌≡◌, ◌≤◌, ◌≢◌, ◌+◌, ◌⊎◌, length, IsSome, IfSome, ℕ, refl}
+use Rattle.std.proofs.Common.{map, rules, ◌≡◌, ◌≤◌, ◌≢◌, ◌+◌, ◌⊎◌, length, IsSome, IfSome, refl}
 use Rattle.std.specs.String.{string_bytes}
 use Rattle.io_ends.specs.Counts.{Rose}
 use Rattle.io_ends.specs.Taken.{count_taken}
