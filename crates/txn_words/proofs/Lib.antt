@@ -1,3 +1,4 @@
 pub mod Steps
 pub mod CallLaws
 pub mod Listed
+pub mod FrameLaws

@@ -7,6 +7,7 @@ use Rattle.history_model.specs.Fitting.{Fits}
 use Rattle.txn_words.specs.declared.words.Stop.{Stop}
 use Rattle.txn_words.specs.declared.words.Words.{Ghosts as AnyWords}
 use Rattle.txn_words.specs.Steps.{stop_after}
+use Rattle.txn_words.specs.Frames.{AppendsOnly}
 
 module _ {W S O : Type 0} (words : AnyWords W S O) where
   -- a call may be made
@@ -21,6 +22,10 @@ module _ {W S O : Type 0} (words : AnyWords W S O) where
     pub begins : Begins (words.trace old) (words.trace new)
     pub stops : words.stop new ≡ stop_after result
     pub sound : words.is_sound new
+
+  -- the frame of a call: each write among the events that it appended is at a word that IsOwn holds of
+  pub record WritesOnly (old new : W) (IsOwn : ℕ → Type 0) : Type 0 where
+    pub appended : AppendsOnly (words.trace old) (words.trace new) IsOwn
 
   module _ (shapes : Shapes S) where
     -- P holds in every good state that fits the trace

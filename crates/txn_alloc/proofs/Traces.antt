@@ -1,0 +1,135 @@
+-- What holds in every fitting state at once, as blocks are taken and given back.
+use Rattle.std.proofs.Common.{◌≡◌, ◌≢◌, ℕ, ◌+◌, ◌^◌, ◌<◌, ◌≤◌, List, [], ◌∷◌, ◌++◌, length, slice_get, slice_set, Option, Some, None, sym, ap, ◌∙◌, subst, arith}
+use mathlib.Core.Bool.{true≢false}
+use Rattle.std.specs.FinSet as set
+use Rattle.history_model.specs.declared.event.Event.TheVariants.{Read}
+use Rattle.history_model.specs.Traces.{Trace, after, Begins}
+use Rattle.history_model.specs.Fitting.{Fits, SomeFits, InEach, Leads}
+use Rattle.history_model.proofs.TraceLaws.{read_there, after_read, length-after}
+use Rattle.history_model.proofs.FittingLaws.{fits_front, fits_begins}
+use Rattle.txn_words.specs.Steps.{EndsWithWrite}
+use Rattle.txn_words.proofs.Steps.{after_write_end, fits_write_end}
+use Rattle.txn_alloc.specs.declared.arena.Arena.{Arena}
+use Rattle.txn_alloc.specs.FreeLists.{block_at, IsLaidOut, IsInOrder, FreeListsHold, HasNone, Lacks, TakesBlock, Takes, Gives}
+use Rattle.txn_alloc.proofs.Sets.{out_both, out_less, out_itself, out_empty}
+use Rattle.txn_alloc.proofs.Lists.{one_set, heads_in, block_in, none_free, took, head_names, gave}
+
+-- where an arena lies among n words
+pub record Lies (arena : Arena) (n : ℕ) : Type 0 where
+  pub head : arena.heads < n
+  pub block : (b : ℕ) → b < arena.blocks → block_at arena b < n
+  pub small : n ≤ 2 ^ 64
+
+module _ (arena : Arena) (n : ℕ) (G : List ℕ → Type 0) (t : Trace) where
+  pub lies : InEach n G t (IsInOrder arena) → SomeFits n G t → Lies arena n
+  lies order some =
+      let s : List ℕ = after t some.0 in
+      let l : IsLaidOut arena s = ((order.at some.0 some.1).1).laid_out in
+      let long : length s ≡ n = length-after t some.0 ∙ some.1.count in
+      record {
+        head = omega (arith, long, heads_in arena s l);
+        block = λ b lt. let k : block_at arena b < length s = block_in arena s b l lt in omega (arith, long, k);
+        small = omega (arith, long, l.places);
+      }
+
+  module _ (u : Trace) (h : ℕ) (read : u ≡ t ++ Read arena.heads h ∷ []) where
+    -- the read found its value in the state, and left the state
+    pub head_read : (s : List ℕ) → Fits n G u s → (slice_get (after t s) arena.heads ≡ Some h) × (after u s ≡ after t s)
+    head_read s fit =
+        let whole : Fits n G (t ++ Read arena.heads h ∷ []) s = subst (λ w. Fits n G w s) read fit in
+        (read_there t s arena.heads h whole.legal, ap (λ w. after w s) read ∙ after_read t s arena.heads h)
+
+    pub fits_before : (s : List ℕ) → Fits n G u s → Fits n G t s
+    fits_before s fit = fits_front n G t (Read arena.heads h ∷ []) s (subst (λ w. Fits n G w s) read fit)
+
+    -- the number that the head names
+    pub named : (b : ℕ) → h ≡ b + 1 → InEach n G t (IsInOrder arena) → SomeFits n G u → b < arena.blocks
+    named b e order some =
+        let o : IsInOrder arena (after t some.0) = order.at some.0 (fits_before some.0 some.1) in
+        head_names arena (after t some.0) o.0 b ((head_read some.0 some.1).0 ∙ ap (λ k. Some k) e) o.1
+
+    -- nothing was taken
+    pub takes_none : Leads n G t u (Takes arena None)
+    takes_none = record { at = λ s fit. (head_read s fit).1 }
+
+    pub found_none : h ≡ 0 → InEach n G t (IsInOrder arena) → Leads n G t u (λ before after. HasNone arena before)
+    found_none z order = record {
+      at = λ s fit.
+          let o : IsInOrder arena (after t s) = order.at s (fits_before s fit) in
+          subst (λ f. FreeListsHold arena (after t s) f) (none_free arena (after t s) o.0 ((head_read s fit).0 ∙ ap (λ k. Some k) z) o.1) o.1;
+    }
+
+    -- the first block was taken
+    pub takes_some : (v w : Trace) (b p x : ℕ) → h ≡ b + 1 → p ≡ block_at arena b → v ≡ u ++ Read p x ∷ [] → EndsWithWrite v w arena.heads x → Leads n G t w (Takes arena (Some b))
+    takes_some v w b p x e is_p e2 ends = record {
+      at = λ s fit f hold.
+          let fit_v : Fits n G v s = fits_write_end n G v w arena.heads x s ends fit in
+          let fit_v' : Fits n G (u ++ Read p x ∷ []) s = subst (λ z. Fits n G z s) e2 fit_v in
+          let fit_u : Fits n G u s = fits_front n G u (Read p x ∷ []) s fit_v' in
+          let same_u : after u s ≡ after t s = (head_read s fit_u).1 in
+          let same_v : after v s ≡ after t s = ap (λ z. after z s) e2 ∙ after_read u s p x ∙ same_u in
+          let at_p : slice_get (after t s) p ≡ Some x = ap (λ z. slice_get z p) (sym same_u) ∙ read_there u s p x fit_v'.legal in
+          let at_block : slice_get (after t s) (block_at arena b) ≡ Some x = ap (λ k. slice_get (after t s) k) (sym is_p) ∙ at_p in
+          let last : after w s ≡ slice_set (after t s) arena.heads x = after_write_end v w arena.heads x s ends ∙ ap (λ z. slice_set z arena.heads x) same_v in
+          subst (λ z. TakesBlock arena b (after t s) z f) (sym last) (took arena (after t s) f b x ((head_read s fit_u).0 ∙ ap (λ k. Some k) e) at_block hold);
+    }
+
+    -- a block was given back
+    pub gives_back : (v w : Trace) (b p x : ℕ) → p ≡ block_at arena b → EndsWithWrite u v p h → x ≡ b + 1 → EndsWithWrite v w arena.heads x
+        → b < arena.blocks → InEach n G t (Lacks arena b) → Leads n G t w (Gives arena b)
+    gives_back v w b p x is_p ends1 is_x ends2 lt lacks = record {
+      at = λ s fit f hold.
+          let fit_v : Fits n G v s = fits_write_end n G v w arena.heads x s ends2 fit in
+          let fit_u : Fits n G u s = fits_write_end n G u v p h s ends1 fit_v in
+          let fit_t : Fits n G t s = fits_before s fit_u in
+          let same_u : after u s ≡ after t s = (head_read s fit_u).1 in
+          let first : after v s ≡ slice_set (after t s) (block_at arena b) h =
+          after_write_end u v p h s ends1 ∙ ap (λ z. slice_set z p h) same_u ∙ ap (λ k. slice_set (after t s) k h) is_p in
+          let last : after w s ≡ slice_set (slice_set (after t s) (block_at arena b) h) arena.heads (b + 1) =
+          after_write_end v w arena.heads x s ends2 ∙ ap (λ z. slice_set z arena.heads x) first ∙ ap (λ k. slice_set (slice_set (after t s) (block_at arena b) h) arena.heads k) is_x in
+          subst (λ z. FreeListsHold arena z (set.insert f b)) (sym last)
+          (gave arena (after t s) f b h (head_read s fit_u).0 lt (lacks.at s fit_t f hold) hold);
+    }
+
+  -- where a block was taken, not every state had none
+  pub taken_from_some : {A : Type 0} (w : Trace) (b : ℕ) → SomeFits n G w → Leads n G t w (Takes arena (Some b)) → Leads n G t w (λ before after. HasNone arena before) → A
+  taken_from_some w b some takes none =
+      let k : TakesBlock arena b (after t some.0) (after w some.0) set.empty = takes.at some.0 some.1 set.empty (none.at some.0 some.1) in
+      absurd (true≢false (sym k.was_free ∙ out_empty b))
+
+-- what each call leaves
+pub order_taken : (arena : Arena) (o : Option ℕ) (x y : List ℕ) → IsInOrder arena x → Takes arena o x y → IsInOrder arena y
+order_taken arena None x y i e = subst (λ z. IsInOrder arena z) (sym e) i
+order_taken arena (Some b) x y i takes = (set.remove i.0 b, (takes i.0 i.1).left)
+
+pub order_given : (arena : Arena) (b : ℕ) (x y : List ℕ) → IsInOrder arena x → Gives arena b x y → IsInOrder arena y
+order_given arena b x y i gives = (set.insert i.0 b, gives i.0 i.1)
+
+-- a block that was taken is in no list
+pub lacks_itself : (arena : Arena) (b : ℕ) (x y : List ℕ) → IsInOrder arena x → Takes arena (Some b) x y → Lacks arena b y
+lacks_itself arena b x y i takes f hold =
+    ap (λ z. set.contains z b) (one_set arena y f (set.remove i.0 b) hold (takes i.0 i.1).left) ∙ out_itself i.0 b
+
+-- one that was in no list is in none after another came or went
+pub lacks_taken : (arena : Arena) (o : Option ℕ) (c : ℕ) (x y : List ℕ) → IsInOrder arena x → Takes arena o x y → Lacks arena c x → Lacks arena c y
+lacks_taken arena None c x y i e lacks f hold = lacks f (subst (λ z. FreeListsHold arena z f) e hold)
+lacks_taken arena (Some b) c x y i takes lacks f hold =
+    ap (λ z. set.contains z c) (one_set arena y f (set.remove i.0 b) hold (takes i.0 i.1).left) ∙ out_less i.0 b c (lacks i.0 i.1)
+
+pub lacks_given : (arena : Arena) (b c : ℕ) (x y : List ℕ) → IsInOrder arena x → Gives arena b x y → c ≢ b → Lacks arena c x → Lacks arena c y
+lacks_given arena b c x y i gives ne lacks f hold =
+    ap (λ z. set.contains z c) (one_set arena y f (set.insert i.0 b) hold (gives i.0 i.1)) ∙ out_both i.0 b c ne (lacks i.0 i.1)
+
+-- what holds of every good list holds in every state before the first event
+pub each_fresh : (n : ℕ) (G : List ℕ → Type 0) (t : Trace) → t ≡ [] → InEach n G t G
+unfolding after
+each_fresh n G t e = record { at = λ s fit. subst (λ u. G (after u s)) (sym e) fit.good }
+
+-- a block that is in no list is in none after a call that took another, or none
+pub each_lacks_taken : (arena : Arena) (n : ℕ) (G : List ℕ → Type 0) (t u : Trace) (o : Option ℕ) (c : ℕ) → Begins t u
+    → InEach n G t (IsInOrder arena) → InEach n G t (Lacks arena c) → Leads n G t u (Takes arena o) → InEach n G u (Lacks arena c)
+each_lacks_taken arena n G t u o c begins order lacks takes = record {
+  at = λ s fit.
+      let before : Fits n G t s = fits_begins n G t u s begins fit in
+      lacks_taken arena o c (after t s) (after u s) (order.at s before) (takes.at s fit) (lacks.at s before);
+}

@@ -1,0 +1,53 @@
+use Rattle.std.proofs.Common.{◌≡◌, ◌+◌, ◌*◌, ◌<◌, inl, inr, arith, ap, ◌∙◌}
+use Rattle.history_model.proofs.TraceLaws.{begins_trans}
+use Rattle.txn_words.proofs.CallLaws.{each_plain, state_after}
+use Rattle.txn_words.proofs.FrameLaws.{only_read, only_write, only_then, writes_keep}
+use Rattle.txn_alloc.specs.FreeLists.{block_at, IsHeadOrIn, IsInBlock, IsInOrder, Gives}
+use Rattle.txn_alloc.proofs.Lists.{first_head}
+use Rattle.txn_alloc.proofs.Traces.{Lies, lies, gives_back, order_given}
+use Rattle.txn_alloc.proofs.free.give.Goals as goal
+
+pub read-requires-clause-within : goal.read-requires-clause-within
+read-requires-clause-within g c =
+    (lies c.args.arena.now _ _ _ (each_plain g.W.Words g.W.Shape.Shape _ _ c.requires.order) (g.met.W.Words.fits c.args.w.now c.requires.ready.sound)).head
+
+pub write-requires-clause-within : goal.write-requires-clause-within
+write-requires-clause-within g c =
+    let a = c.args.arena.now in
+    let l : Lies a (g.W.Shape.Shape.word_count (g.W.Words.shape c.args.w.now)) = lies a _ _ _ (each_plain g.W.Words g.W.Shape.Shape _ _ c.requires.order) (g.met.W.Words.fits c.args.w.now c.requires.ready.sound) in
+    let same : g.W.Shape.Shape.word_count (g.W.Words.shape c.read.new.self) ≡ g.W.Shape.Shape.word_count (g.W.Words.shape c.args.w.now) = ap g.W.Shape.Shape.word_count c.in_ok-head.ensures.shape in
+    let within : block_at a c.args.block < g.W.Shape.Shape.word_count (g.W.Words.shape c.args.w.now) = l.block c.args.block c.requires.number in
+    omega (arith, within, same)
+
+pub write-requires-2-clause-within : goal.write-requires-2-clause-within
+write-requires-2-clause-within g c =
+    let a = c.args.arena.now in
+    let l : Lies a (g.W.Shape.Shape.word_count (g.W.Words.shape c.args.w.now)) = lies a _ _ _ (each_plain g.W.Words g.W.Shape.Shape _ _ c.requires.order) (g.met.W.Words.fits c.args.w.now c.requires.ready.sound) in
+    let same : g.W.Shape.Shape.word_count (g.W.Words.shape c.write.new.self) ≡ g.W.Shape.Shape.word_count (g.W.Words.shape c.args.w.now) = ap g.W.Shape.Shape.word_count (c.in_ok-write.ensures.shape ∙ c.in_ok-head.ensures.shape) in
+    omega (arith, l.head, same)
+
+pub returns-clause-given : goal.returns-clause-given
+returns-clause-given g c =
+    let a = c.args.arena.now in
+    let is_block : a.first + 4 * c.from.result ≡ a.first + 4 * c.args.block = omega arith in
+    let is_name : c.from-2.result + 1 ≡ c.args.block + 1 = omega arith in
+    record { at = (gives_back a _ _ _ _ c.in_ok-head.head c.in_ok-head.ensures.value _ _ c.args.block _ _ is_block c.in_ok-write.ensures.value is_name c.in_ok-write-2.ensures.value c.requires.number (each_plain g.W.Words g.W.Shape.Shape _ _ c.requires.lacks)).at }
+
+pub returns-clause-order : goal.returns-clause-order
+returns-clause-order g c =
+    let a = c.args.arena.now in
+    state_after g.W.Words g.W.Shape.Shape _ _ (IsInOrder a) (IsInOrder a) (Gives a c.args.block) (c.in_ok-write-2.ensures.shape ∙ c.in_ok-write.ensures.shape ∙ c.in_ok-head.ensures.shape)
+    (begins_trans _ _ _ c.in_ok-head.ensures.begins (begins_trans _ _ _ c.in_ok-write.ensures.begins c.in_ok-write-2.ensures.begins)) c.requires.order (returns-clause-given g c) (order_given a c.args.block)
+
+pub returns-clause-frame : goal.returns-clause-frame
+returns-clause-frame g c =
+    let a = c.args.arena.now in
+    let is_own = IsHeadOrIn a c.args.block in
+    let in_block : IsInBlock a c.args.block (a.first + 4 * c.from.result) = record { low = omega arith; high = omega arith } in
+    record {
+      appended = only_then is_own _ _ _ (only_read is_own _ _ _ _ c.in_ok-head.ensures.value)
+          (only_then is_own _ _ _ (only_write is_own _ _ _ _ c.in_ok-write.ensures.value (inr in_block)) (only_write is_own _ _ _ _ c.in_ok-write-2.ensures.value (inl (first_head a))));
+    }
+
+pub returns-clause-others : goal.returns-clause-others
+returns-clause-others g c = writes_keep g.W.Words g.W.Shape.Shape _ _ _ (returns-clause-frame g c)

@@ -1,0 +1,75 @@
+-- The free blocks of an arena, as a set, and the lists that hold them.
+-- A word that names a block holds its number plus 1; 0 names none. Only `HasList` and `FreeListsHold` know
+-- how the lists go; all else speaks of the set.
+use Rattle.std.specs.Prelude.{◌≡◌, ℕ, ◌+◌, ◌*◌, ◌^◌, ◌<◌, ◌≤◌, ◌⊎◌, true, false, List, [], ◌∷◌, Option, Some, None, length, slice_get, nat_eq}
+use Rattle.std.specs.List.{IsDistinct}
+use Rattle.std.specs.Ordering.{nat_cmp}
+use Rattle.std.specs.FinSet as set
+use Rattle.txn_alloc.specs.declared.arena.Arena.{Arena}
+use Rattle.txn_alloc.specs.declared.arena.TheConstants.{HEADS}
+
+-- the first word of block b
+abbrev pub block_at : Arena → ℕ → ℕ
+block_at arena b = arena.first + 4 * b
+
+-- a is the head of a list of free blocks
+pub record IsHead (arena : Arena) (a : ℕ) : Type 0 where
+  pub low : arena.heads ≤ a
+  pub high : a < arena.heads + HEADS
+
+-- a is one of the four words of block b
+pub record IsInBlock (arena : Arena) (b a : ℕ) : Type 0 where
+  pub low : block_at arena b ≤ a
+  pub high : a < block_at arena b + 4
+
+-- a is a head, or a word of block b
+abbrev pub IsHeadOrIn : Arena → ℕ → ℕ → Type 0
+IsHeadOrIn arena b a = IsHead arena a ⊎ IsInBlock arena b a
+
+-- all four words of each block, and the heads, are words of the list, and no head is in a block; a place has 64 bits
+pub record IsLaidOut (arena : Arena) (words : List ℕ) : Type 0 where
+  pub places : length words ≤ 2 ^ 64
+  pub blocks : (b : ℕ) → b < arena.blocks → block_at arena b + 4 ≤ length words
+  pub heads : arena.heads + HEADS ≤ length words
+  pub outside : (b a : ℕ) → b < arena.blocks → IsInBlock arena b a → ¬ IsHead arena a
+
+-- the list whose head is the word at this place goes through these blocks, each of whose first words heads the rest
+abbrev pub HasList : Arena → List ℕ → ℕ → List ℕ → Type 0
+HasList arena words place [] = slice_get words place ≡ Some 0
+HasList arena words place (b ∷ bs) =
+    (slice_get words place ≡ Some (b + 1)) × (b < arena.blocks) × HasList arena words (block_at arena b) bs
+
+-- exactly these blocks are free: the list at the first head goes through them, each once, and the other heads name none
+pub record FreeListsHold (arena : Arena) (words : List ℕ) (free : set.FinSet nat_cmp) : Type 0 where
+  pub laid_out : IsLaidOut arena words
+  pub order : List ℕ
+  pub all : free ≡ set.from_list order
+  pub once : IsDistinct nat_eq order
+  pub first : HasList arena words arena.heads order
+  pub others : (a : ℕ) → IsHead arena a → arena.heads < a → slice_get words a ≡ Some 0
+
+-- the free lists hold some set of blocks
+abbrev pub IsInOrder : Arena → List ℕ → Type 0
+IsInOrder arena words = (free : set.FinSet nat_cmp) × FreeListsHold arena words free
+
+-- no block is free
+abbrev pub HasNone : Arena → List ℕ → Type 0
+HasNone arena words = FreeListsHold arena words set.empty
+
+-- block b is in no list
+abbrev pub Lacks : Arena → ℕ → List ℕ → Type 0
+Lacks arena b words = (free : set.FinSet nat_cmp) → FreeListsHold arena words free → set.contains free b ≡ false
+
+-- block b was free, and is free no more; the others are as they were
+pub record TakesBlock (arena : Arena) (b : ℕ) (old new : List ℕ) (free : set.FinSet nat_cmp) : Type 0 where
+  pub was_free : set.contains free b ≡ true
+  pub left : FreeListsHold arena new (set.remove free b)
+
+-- from state to state: a block is taken, or none, and then nothing changes
+abbrev pub Takes : Arena → Option ℕ → List ℕ → List ℕ → Type 0
+Takes arena None old new = new ≡ old
+Takes arena (Some b) old new = (free : set.FinSet nat_cmp) → FreeListsHold arena old free → TakesBlock arena b old new free
+
+-- from state to state: block b is free too
+abbrev pub Gives : Arena → ℕ → List ℕ → List ℕ → Type 0
+Gives arena b old new = (free : set.FinSet nat_cmp) → FreeListsHold arena old free → FreeListsHold arena new (set.insert free b)

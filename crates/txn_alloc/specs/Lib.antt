@@ -1,0 +1,2 @@
+pub mod FreeLists
+pub mod Statements

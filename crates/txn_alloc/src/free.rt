@@ -1,0 +1,113 @@
+//! Taking a free block, and giving one back.
+
+ghost use Rattle.std.specs.Prelude.{◌≡◌, ◌<◌, None, IfOk, IfSome, IfNone, OnOk};
+ghost use Rattle.txn_words.specs.Frames.{KeepsOthers};
+ghost use Rattle.txn_words.specs.Calls.{IsReady, GoesOn, WritesOnly, InEachState, LeadsTo};
+ghost use Rattle.txn_alloc.specs.FreeLists.{IsHead, IsHeadOrIn, IsInOrder, HasNone, Lacks, Takes, Gives};
+
+use crate::arena::{Arena, Block};
+use txn_words::{Stop, Words};
+
+/// Takes a free block, unless there is none. Its four words may hold anything.
+pub fn take<W: Words>(w: &mut W, arena: &Arena) -> Result<Option<Block>, Stop>
+    requires ready { IsReady W.Words w.old }
+    requires order { InEachState W.Words W.Shape.Shape w.old (IsInOrder arena.now) }
+
+    // The block leaves the free ones, of which nothing else changes.
+    ensures taken { IfOk result (λ block. LeadsTo W.Words W.Shape.Shape w.old w.new (Takes arena.now block)) }
+
+    // It answers None exactly where in every state none is free.
+    ensures none { IfOk result (λ block.
+        IfNone block (LeadsTo W.Words W.Shape.Shape w.old w.new (λ before _. HasNone arena.now before))) }
+    ensures none_if { IfOk result (λ block.
+        LeadsTo W.Words W.Shape.Shape w.old w.new (λ before _. HasNone arena.now before) → block ≡ None) }
+
+    // The block is one of the arena's, and in no list.
+    ensures number { IfOk result (λ block. IfSome block (λ b. b < arena.now.blocks)) }
+    ensures lacks { IfOk result (λ block.
+        IfSome block (λ b. InEachState W.Words W.Shape.Shape w.new (Lacks arena.now b))) }
+
+    ensures order { OnOk result (InEachState W.Words W.Shape.Shape w.new (IsInOrder arena.now)) }
+
+    // No word but the heads is written, so every other stays.
+    ensures frame { OnOk result (WritesOnly W.Words w.old w.new (IsHead arena.now)) }
+    ensures others { OnOk result (LeadsTo W.Words W.Shape.Shape w.old w.new (KeepsOthers (IsHead arena.now))) }
+    ensures goes_on { GoesOn W.Words w.old w.new result }
+{
+    let blocks = arena.blocks;
+    let head = w.read(arena.heads)?;
+    if head == 0 {
+        return Ok(None);
+    }
+    prove!(head - 1 < u64::from(blocks));
+    let number = (head - 1) as u32;
+    let next = w.read(arena.first + 4 * u64::from(number))?;
+    w.write(arena.heads, next)?;
+    Ok(Some(Block::of(number)))
+}
+
+/// Gives back a block that is in no list.
+pub fn give<W: Words>(w: &mut W, arena: &Arena, block: Block) -> Result<(), Stop>
+    requires ready { IsReady W.Words w.old }
+    requires order { InEachState W.Words W.Shape.Shape w.old (IsInOrder arena.now) }
+    requires number { block < arena.now.blocks }
+    requires lacks { InEachState W.Words W.Shape.Shape w.old (Lacks arena.now block) }
+
+    // The block is free, beside those that were.
+    ensures given { OnOk result (LeadsTo W.Words W.Shape.Shape w.old w.new (Gives arena.now block)) }
+    ensures order { OnOk result (InEachState W.Words W.Shape.Shape w.new (IsInOrder arena.now)) }
+
+    // No word but the heads and the block's own four is written, so every other stays.
+    ensures frame { OnOk result (WritesOnly W.Words w.old w.new (IsHeadOrIn arena.now block)) }
+    ensures others { OnOk result (LeadsTo W.Words W.Shape.Shape w.old w.new (KeepsOthers (IsHeadOrIn arena.now block))) }
+    ensures goes_on { GoesOn W.Words w.old w.new result }
+{
+    let number = block.number();
+    let head = w.read(arena.heads)?;
+    w.write(arena.first + 4 * u64::from(number), head)?;
+    w.write(arena.heads, u64::from(number) + 1)?;
+    Ok(())
+}
+
+#[cfg(test)]
+mod tests {
+    use super::*;
+    use history_model::Shape;
+    use std::test::Fail;
+    use txn_words::Plain;
+
+    /// 285 words, whose last eight are two blocks, free or in hand.
+    #[derive(Clone, Copy)]
+    struct TwoBlocks;
+
+    impl Shape for TwoBlocks {
+        ghost use Rattle.txn_alloc.specs.FreeLists.{IsInOrder};
+
+        ghost word_count = { λ _. 285 };
+
+        ghost good = { λ _ words. IsInOrder (record { heads = 1; first = 277; blocks = 2 }) words };
+    }
+
+    #[test]
+    fn take_until_none_and_give_back(rt: HostRuntime) -> Result<(), Fail> {
+        let mut words = vec![in rt.alloc(); 0u64; 285]?;
+        words[1] = 1;
+        words[277] = 2;
+        let mut plain = Plain::new(rt.alloc(), TwoBlocks, words);
+        let arena = Arena {
+            heads: 1,
+            first: 277,
+            blocks: 2,
+        };
+        let block = take(&mut plain, &arena)?.expect(&rt, "a free block");
+        assert_eq!(rt; block.number(), 0);
+        let block = take(&mut plain, &arena)?.expect(&rt, "a free block");
+        assert_eq!(rt; block.number(), 1);
+        let none = take(&mut plain, &arena)?;
+        assert!(rt; none.is_none());
+        give(&mut plain, &arena, block)?;
+        let block = take(&mut plain, &arena)?.expect(&rt, "a free block");
+        assert_eq!(rt; block.number(), 1);
+        Ok(())
+    }
+}

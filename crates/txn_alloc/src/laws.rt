@@ -1,0 +1,29 @@
+//! What a collection above concludes, each law the contract of a function that does nothing.
+
+ghost use Rattle.txn_words.specs.Frames.{OthersStand};
+ghost use Rattle.txn_alloc.specs.Statements.{OneFreeSet, FreeListsStand, LacksTaken, LacksGiven};
+
+/// In one word list the free blocks are one set.
+pub fn one_free_set()
+    ensures { OneFreeSet }
+{}
+
+/// The same blocks stay free while the heads and the words of the free blocks stay what they are.
+pub fn free_lists_stand()
+    ensures { FreeListsStand }
+{}
+
+/// A block that is in no list is in none after another was taken.
+pub fn lacks_taken()
+    ensures { LacksTaken }
+{}
+
+/// A block that is in no list is in none after another was given back.
+pub fn lacks_given()
+    ensures { LacksGiven }
+{}
+
+/// A word that a call did not write stands after the call: the law of the frame.
+pub fn others_stand()
+    ensures { OthersStand }
+{}

@@ -1,0 +1,15 @@
+//! Blocks of four words in any words: taken, given back, and exact about when none is left.
+//!
+//! An `Arena` says where its blocks lie and where the lists of its free blocks begin. `take` and `give` see the
+//! free blocks as a set; how the lists go through them stands in `specs/FreeLists` alone. `laws` has what a
+//! collection above concludes of them.
+#![tactic(auto)]
+
+pub mod arena;
+pub mod free;
+pub mod laws;
+pub mod put;
+
+pub use arena::{Arena, Block};
+pub use free::{give, take};
+pub use put::Put;

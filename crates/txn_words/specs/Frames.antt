@@ -1,0 +1,21 @@
+-- Which words a call may write, and what it leaves of the others.
+-- `WritesOnly` of `Calls` says the first of a call, and `LeadsTo .. (KeepsOthers IsOwn)` the second.
+use Rattle.std.specs.Prelude.{◌≡◌, ℕ, List, ◌++◌, length, slice_get, Bool, IsTrue}
+use Rattle.history_model.specs.Traces.{Trace, after, Writes}
+
+-- the new trace is the old one with more events, whose writes are all at words that IsOwn holds of
+pub record AppendsOnly (old new : Trace) (IsOwn : ℕ → Type 0) : Type 0 where
+  pub more : Trace
+  pub whole : new ≡ old ++ more
+  pub own : (a : ℕ) → Writes more a → IsOwn a
+
+-- there are as many words as before, and each that IsOwn does not hold of is what it was
+pub record KeepsOthers (IsOwn : ℕ → Type 0) (old new : List ℕ) : Type 0 where
+  pub count : length new ≡ length old
+  pub same : (a : ℕ) → ¬ IsOwn a → slice_get new a ≡ slice_get old a
+
+-- the law of the frame, for words that a test tells: what was not written is after the call what it was before
+abbrev pub OthersStand : Type 0
+OthersStand =
+    (old new : Trace) (is_own : ℕ → Bool) (words : List ℕ)
+    → AppendsOnly old new (λ a. IsTrue (is_own a)) → KeepsOthers (λ a. IsTrue (is_own a)) (after old words) (after new words)
