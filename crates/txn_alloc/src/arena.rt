@@ -42,6 +42,7 @@ impl Block {
         Block { number }
     }
 
+    /// Its number, counted from 0.
     pub fn number(&self) -> u32
         ensures { result ≡ self.now }
     {

@@ -1,0 +1,176 @@
+-- What holds in every fitting state at once, as items are pushed and popped.
+use Rattle.std.proofs.Common.{◌≡◌, ◌≢◌, ℕ, ◌+◌, ◌*◌, ◌%◌, ◌^◌, ◌<◌, ◌≤◌, Bool, false, true, List, [], ◌∷◌, ◌++◌, length, slice_get, slice_set, Option, Some, None, sym, ap, ◌∙◌, subst, arith}
+use Rattle.std.proofs.lemmas.Option.{same_Some}
+use Rattle.history_model.specs.declared.event.Event.TheVariants.{Read}
+use Rattle.history_model.specs.Traces.{Trace, after, Begins}
+use Rattle.history_model.specs.Fitting.{Fits, SomeFits, InEach, Leads}
+use Rattle.history_model.proofs.TraceLaws.{read_there, after_read, length-after}
+use Rattle.history_model.proofs.FittingLaws.{fits_front, fits_begins, each_at}
+use Rattle.history_model.specs.declared.shape.Shape.{Ghosts as Shapes}
+use Rattle.txn_words.specs.declared.words.Words.{Ghosts as AnyWords}
+use Rattle.txn_words.specs.Calls.{InEachState}
+use Rattle.txn_words.specs.Steps.{EndsWithWrite}
+use Rattle.txn_words.proofs.Steps.{after_write_end, fits_write_end}
+use Rattle.txn_ring.specs.declared.ring.Ring.{Ring}
+use Rattle.txn_ring.specs.Queues.{place_at, HasItem, QueueHolds, IsInOrder, IsFull, IsEmpty, HasCount, Pushes, Pops, TakesFront}
+use Rattle.txn_ring.proofs.Items.{pushed, popped, pushed_words, popped_words}
+
+-- where a ring lies among n words
+pub record Lies (ring : Ring) (n : ℕ) : Type 0 where
+  pub some : 0 < ring.capacity
+  pub whole : ring.at + 2 + 2 * ring.capacity ≤ n
+  pub small : n ≤ 2 ^ 64
+
+-- what a read says of a list that fits: the word's value, and that the words and what fitted before stay
+pub record Found (n : ℕ) (G : List ℕ → Type 0) (t u : Trace) (a v : ℕ) (s : List ℕ) : Type 0 where
+  pub there : slice_get (after t s) a ≡ Some v
+  pub same : after u s ≡ after t s
+  pub fits : Fits n G t s
+
+pub found : (n : ℕ) (G : List ℕ → Type 0) (t u : Trace) (a v : ℕ) → u ≡ t ++ Read a v ∷ [] → (s : List ℕ) → Fits n G u s → Found n G t u a v s
+found n G t u a v read s fit =
+    let whole : Fits n G (t ++ Read a v ∷ []) s = subst (λ w. Fits n G w s) read fit in
+    record {
+      there = read_there t s a v whole.legal;
+      same = ap (λ w. after w s) read ∙ after_read t s a v;
+      fits = fits_front n G t (Read a v ∷ []) s whole;
+    }
+
+module _ (ring : Ring) (n : ℕ) (G : List ℕ → Type 0) (t : Trace) where
+  pub lies : InEach n G t (IsInOrder ring) → SomeFits n G t → Lies ring n
+  lies order some =
+      let s : List ℕ = after t some.0 in
+      let h : QueueHolds ring s (order.at some.0 some.1).0 = (order.at some.0 some.1).1 in
+      let long : length s ≡ n = length-after t some.0 ∙ some.1.count in
+      record { some = omega (arith, h.below); whole = omega (arith, long, h.laid_out.whole); small = omega (arith, long, h.laid_out.places) }
+
+  module _ (u : Trace) (count : ℕ) (read : u ≡ t ++ Read (ring.at + 1) count ∷ []) where
+    counted : (s : List ℕ) → Fits n G u s → Found n G t u (ring.at + 1) count s
+    counted = found n G t u (ring.at + 1) count read
+
+    -- the number that was read is that of the items
+    pub is_count : (s : List ℕ) → Fits n G u s → (items : List (ℕ × ℕ)) → QueueHolds ring (after t s) items → length items ≡ count
+    is_count s fit items h = same_Some (length items) count (sym h.count_word ∙ (counted s fit).there)
+
+    -- nothing changed
+    pub same : Leads n G t u (λ before after. after ≡ before)
+    same = record { at = λ s fit. (counted s fit).same }
+
+    pub has_count : InEach n G u (HasCount ring count)
+    has_count = record { at = λ s fit items h. is_count s fit items (subst (λ z. QueueHolds ring z items) (counted s fit).same h) }
+
+    pub found_full : count ≡ ring.capacity → InEach n G t (IsInOrder ring) → Leads n G t u (λ before after. IsFull ring before)
+    found_full e order = record {
+      at = λ s fit.
+          let o : IsInOrder ring (after t s) = order.at s (counted s fit).fits in
+          (o.0, o.1, is_count s fit o.0 o.1 ∙ e);
+    }
+
+    pub found_empty : count ≡ 0 → InEach n G t (IsInOrder ring) → Leads n G t u (λ before after. IsEmpty ring before)
+    found_empty e order = record {
+      at = λ s fit.
+          let o : IsInOrder ring (after t s) = order.at s (counted s fit).fits in
+          at (after t s) o.0 (is_count s fit o.0 o.1 ∙ e) o.1;
+    }
+      where
+        at : (s : List ℕ) (items : List (ℕ × ℕ)) → length items ≡ 0 → QueueHolds ring s items → QueueHolds ring s []
+        at s [] z h = h
+        at s (x ∷ items) z h = absurd (omega (arith, z))
+
+    -- where there was room, not every state was full
+    pub not_full : {A : Type 0} (w : Trace) → Begins u w → SomeFits n G w → count ≢ ring.capacity → Leads n G t w (λ before after. IsFull ring before) → A
+    not_full w begins some ne full =
+        let k : IsFull ring (after t some.0) = full.at some.0 some.1 in
+        absurd (ne (sym (is_count some.0 (fits_begins n G u w some.0 begins some.1) k.0 k.1) ∙ k.2))
+
+    -- where an item was there, not every state was empty
+    pub not_empty : {A : Type 0} (w : Trace) → Begins u w → SomeFits n G w → count ≢ 0 → Leads n G t w (λ before after. IsEmpty ring before) → A
+    not_empty w begins some ne empty =
+        absurd (ne (sym (is_count some.0 (fits_begins n G u w some.0 begins some.1) [] (empty.at some.0 some.1))))
+
+    module _ (v : Trace) (front : ℕ) (read_front : v ≡ u ++ Read ring.at front ∷ []) where
+      -- both reads at once, of the words before them
+      seen : (s : List ℕ) → Fits n G v s → Found n G t v ring.at front s
+      seen s fit =
+          let second : Found n G u v ring.at front s = found n G u v ring.at front read_front s fit in
+          let first : Found n G t u (ring.at + 1) count s = counted s second.fits in
+          record { there = ap (λ z. slice_get z ring.at) (sym first.same) ∙ second.there; same = second.same ∙ first.same; fits = first.fits }
+
+      seen_count : (s : List ℕ) → Fits n G v s → slice_get (after t s) (ring.at + 1) ≡ Some count
+      seen_count s fit = (counted s (found n G u v ring.at front read_front s fit).fits).there
+
+      -- the front is a place, and there are no more items than places
+      pub bounds : InEach n G t (IsInOrder ring) → SomeFits n G v → (front < ring.capacity) × (count ≤ ring.capacity)
+      bounds order some =
+          let f : Found n G t v ring.at front some.0 = seen some.0 some.1 in
+          let o : IsInOrder ring (after t some.0) = order.at some.0 f.fits in
+          let h : QueueHolds ring (after t some.0) o.0 = o.1 in (
+            subst (λ (k : ℕ). k < ring.capacity) (same_Some h.front front (sym h.front_word ∙ f.there)) h.below,
+            subst (λ (k : ℕ). k ≤ ring.capacity) (same_Some (length o.0) count (sym h.count_word ∙ seen_count some.0 some.1)) h.room,
+          )
+
+      -- an item was pushed
+      pub pushes : (w1 w2 w3 : Trace) (item : ℕ × ℕ) (p a b x : ℕ) → p ≡ (front + count) % ring.capacity → a ≡ place_at ring p → b ≡ place_at ring p + 1 → x ≡ count + 1
+          → EndsWithWrite v w1 a item.0 → EndsWithWrite w1 w2 b item.1 → EndsWithWrite w2 w3 (ring.at + 1) x → count < ring.capacity → Leads n G t w3 (Pushes ring item true)
+      pushes w1 w2 w3 item p a b x is_p is_a is_b is_x ends1 ends2 ends3 lt = record {
+        at = λ s fit items h.
+            let fit2 : Fits n G w2 s = fits_write_end n G w2 w3 (ring.at + 1) x s ends3 fit in
+            let fit1 : Fits n G w1 s = fits_write_end n G w1 w2 b item.1 s ends2 fit2 in
+            let fit0 : Fits n G v s = fits_write_end n G v w1 a item.0 s ends1 fit1 in
+            let f : Found n G t v ring.at front s = seen s fit0 in
+            let is_a' : a ≡ place_at ring ((front + count) % ring.capacity) = is_a ∙ ap (λ k. place_at ring k) is_p in
+            let is_b' : b ≡ place_at ring ((front + count) % ring.capacity) + 1 = is_b ∙ ap (λ k. place_at ring k + 1) is_p in
+            let first : after w1 s ≡ slice_set (after t s) (place_at ring ((front + count) % ring.capacity)) item.0 =
+            after_write_end v w1 a item.0 s ends1 ∙ ap (λ z. slice_set z a item.0) f.same ∙ ap (λ k. slice_set (after t s) k item.0) is_a' in
+            let second : after w2 s ≡ slice_set (slice_set (after t s) (place_at ring ((front + count) % ring.capacity)) item.0) (place_at ring ((front + count) % ring.capacity) + 1) item.1 =
+            after_write_end w1 w2 b item.1 s ends2 ∙ ap (λ z. slice_set z b item.1) first
+            ∙ ap (λ k. slice_set (slice_set (after t s) (place_at ring ((front + count) % ring.capacity)) item.0) k item.1) is_b' in
+            let third : after w3 s ≡ pushed_words ring (after t s) ((front + count) % ring.capacity) item count =
+            after_write_end w2 w3 (ring.at + 1) x s ends3 ∙ ap (λ z. slice_set z (ring.at + 1) x) second
+            ∙ ap (λ k. slice_set (slice_set (slice_set (after t s) (place_at ring ((front + count) % ring.capacity)) item.0) (place_at ring ((front + count) % ring.capacity) + 1) item.1) (ring.at + 1) k) is_x in
+            subst (λ z. QueueHolds ring z (items ++ item ∷ [])) (sym third) (pushed ring (after t s) items item count front (seen_count s fit0) f.there lt h);
+      }
+
+      -- the front was popped
+      pub pops : (r1 r2 w1 w2 : Trace) (item : ℕ × ℕ) (a b f x : ℕ) → a ≡ place_at ring front → b ≡ place_at ring front + 1 → f ≡ (front + 1) % ring.capacity → count ≡ x + 1
+          → r1 ≡ v ++ Read a item.0 ∷ [] → r2 ≡ r1 ++ Read b item.1 ∷ [] → EndsWithWrite r2 w1 ring.at f → EndsWithWrite w1 w2 (ring.at + 1) x → Leads n G t w2 (Pops ring (Some item))
+      pops r1 r2 w1 w2 item a b f x is_a is_b is_f is_x read1 read2 ends1 ends2 = record {
+        at = λ s fit items h.
+            let fit_w1 : Fits n G w1 s = fits_write_end n G w1 w2 (ring.at + 1) x s ends2 fit in
+            let fit_r2 : Fits n G r2 s = fits_write_end n G r2 w1 ring.at f s ends1 fit_w1 in
+            let second : Found n G r1 r2 b item.1 s = found n G r1 r2 b item.1 read2 s fit_r2 in
+            let first : Found n G v r1 a item.0 s = found n G v r1 a item.0 read1 s second.fits in
+            let k : Found n G t v ring.at front s = seen s first.fits in
+            let same_r1 : after r1 s ≡ after t s = first.same ∙ k.same in
+            let here : HasItem ring (after t s) front item = record {
+              first = ap (λ z. slice_get (after t s) z) (sym is_a) ∙ ap (λ z. slice_get z a) (sym k.same) ∙ first.there;
+              second = ap (λ z. slice_get (after t s) z) (sym is_b) ∙ ap (λ z. slice_get z b) (sym same_r1) ∙ second.there;
+            } in
+            let moved : after w1 s ≡ slice_set (after t s) ring.at ((front + 1) % ring.capacity) =
+            after_write_end r2 w1 ring.at f s ends1 ∙ ap (λ z. slice_set z ring.at f) (second.same ∙ same_r1) ∙ ap (λ z. slice_set (after t s) ring.at z) is_f in
+            let last : after w2 s ≡ popped_words ring (after t s) front x = after_write_end w1 w2 (ring.at + 1) x s ends2 ∙ ap (λ z. slice_set z (ring.at + 1) x) moved in
+            let is_count : slice_get (after t s) (ring.at + 1) ≡ Some (x + 1) = seen_count s first.fits ∙ ap (λ z. Some z) is_x in
+            subst (λ z. TakesFront ring item z items) (sym last) (popped ring (after t s) items item x front is_count k.there here h);
+      }
+
+-- what holds after a call in every state, under the shape as it leaves it
+pub state_at : {W S O : Type 0} (words : AnyWords W S O) (shapes : Shapes S) (v w : W) (P : List ℕ → Type 0) → words.shape w ≡ words.shape v
+    → InEach (shapes.word_count (words.shape v)) (shapes.good (words.shape v)) (words.trace w) P → InEachState words shapes w P
+state_at words shapes v w P e h = record { at = (each_at shapes.word_count shapes.good (words.trace w) P (words.shape v) (words.shape w) (sym e) h).at }
+
+-- what each call leaves
+pub order_pushed : (ring : Ring) (item : ℕ × ℕ) (answer : Bool) (x y : List ℕ) → IsInOrder ring x → Pushes ring item answer x y → IsInOrder ring y
+order_pushed ring item true x y i pushes = (i.0 ++ item ∷ [], pushes i.0 i.1)
+order_pushed ring item false x y i e = subst (λ z. IsInOrder ring z) (sym e) i
+
+pub order_popped : (ring : Ring) (answer : Option (ℕ × ℕ)) (x y : List ℕ) → IsInOrder ring x → Pops ring answer x y → IsInOrder ring y
+order_popped ring None x y i e = subst (λ z. IsInOrder ring z) (sym e) i
+order_popped ring (Some item) x y i pops = let k : TakesFront ring item y i.0 = pops i.0 i.1 in (k.rest, k.left)
+
+pub order_same : (ring : Ring) (x y : List ℕ) → IsInOrder ring x → y ≡ x → IsInOrder ring y
+order_same ring x y i e = subst (λ z. IsInOrder ring z) (sym e) i
+
+-- what holds of every good list holds in every state before the first event
+pub each_fresh : (n : ℕ) (G : List ℕ → Type 0) (t : Trace) → t ≡ [] → InEach n G t G
+unfolding after
+each_fresh n G t e = record { at = λ s fit. subst (λ u. G (after u s)) (sym e) fit.good }
