@@ -2,3 +2,4 @@ pub mod Steps
 pub mod CallLaws
 pub mod Listed
 pub mod FrameLaws
+pub mod ReadLaws

@@ -1,6 +1,7 @@
 -- Which words a call may write, and what it leaves of the others.
 -- `WritesOnly` of `Calls` says the first of a call, and `LeadsTo .. (KeepsOthers IsOwn)` the second.
-use Rattle.std.specs.Prelude.{◌≡◌, ℕ, List, ◌++◌, length, slice_get, Bool, IsTrue}
+use Rattle.std.specs.Prelude.{◌≡◌, ℕ, List, ◌++◌, length, slice_get, Some, Bool, IsTrue}
+use Rattle.history_model.specs.declared.event.Event.TheVariants.{Read}
 use Rattle.history_model.specs.Traces.{Trace, after, Writes}
 
 -- the new trace is the old one with more events, whose writes are all at words that IsOwn holds of
@@ -8,6 +9,16 @@ pub record AppendsOnly (old new : Trace) (IsOwn : ℕ → Type 0) : Type 0 where
   pub more : Trace
   pub whole : new ≡ old ++ more
   pub own : (a : ℕ) → Writes more a → IsOwn a
+
+-- some event of the trace reads the word a
+abbrev pub Reads : Trace → ℕ → Type 0
+Reads trace a = (i v : ℕ) × (slice_get trace i ≡ Some (Read a v))
+
+-- the new trace is the old one with more events, whose reads are all at words that IsSeen holds of
+pub record AppendsReads (old new : Trace) (IsSeen : ℕ → Type 0) : Type 0 where
+  pub more : Trace
+  pub whole : new ≡ old ++ more
+  pub seen : (a : ℕ) → Reads more a → IsSeen a
 
 -- there are as many words as before, and each that IsOwn does not hold of is what it was
 pub record KeepsOthers (IsOwn : ℕ → Type 0) (old new : List ℕ) : Type 0 where

@@ -1,0 +1,126 @@
+-- Chains of cells in one word list.
+use Rattle.std.proofs.Common.{◌≡◌, ◌≢◌, ℕ, suc, ◌+◌, ◌*◌, ◌/◌, ◌%◌, ◌^◌, ◌<◌, ◌≤◌, Bool, true, false, List, [], ◌∷◌, ◌++◌, length, slice_get, Some, None, eqb, refl, sym, ap, ◌∙◌, subst, arith, rules}
+use mathlib.Core.Bool.{true≢false}
+use mathlib.Core.Logic.{dite}
+use native.Mathlib.Decide.{ℕ_discrete}
+use Rattle.std.specs.List.{IsDistinct, list_any, AllByRecursion}
+use Rattle.std.proofs.lemmas.Option.{same_Some}
+use Rattle.std.proofs.lemmas.Map.Keys.{IsDistinct-cons}
+use Rattle.std.proofs.lemmas.Map.Steps.{length-le_from_distinct_below}
+use Rattle.txn_alloc.specs.declared.arena.Arena.{Arena}
+use Rattle.txn_alloc.specs.FreeLists.{block_at}
+use Rattle.txn_hash_map.specs.declared.map.TheConstants.{BUCKETS, MULTIPLIER}
+use Rattle.txn_hash_map.specs.Chains.{Cell, HasChain, HasKeysOnce, HasKeysIn, value_of, has_block, bucket_of}
+use Rattle.txn_hash_map.specs.Searches.{place_after}
+use Rattle.std.proofs.lemmas.Nat.{shr_below}
+
+top_below : (x : ℕ) → x % 2 ^ 64 / 2 ^ 56 < 256
+top_below x = let low : x % 2 ^ 64 < 2 ^ (8 + 56) = omega arith in shr_below (x % 2 ^ 64) 8 56 low
+
+-- there are 256 buckets
+pub bucket_below : (key : ℕ) → bucket_of key < BUCKETS
+unfolding bucket_of
+bucket_below key = top_below (key * MULTIPLIER)
+
+same_cell : (c d : Cell) → c.block ≡ d.block → c.key ≡ d.key → c.value ≡ d.value → c ≡ d
+same_cell c d p q r = λ i. record { block = p i; key = q i; value = r i }
+
+-- a place heads one chain
+pub one_chain : (arena : Arena) (s : List ℕ) (p q : ℕ) (cs ds : List Cell) → slice_get s p ≡ slice_get s q → HasChain arena s p cs → HasChain arena s q ds → cs ≡ ds
+one_chain arena s p q [] [] e h k = refl
+one_chain arena s p q [] (d ∷ ds) e h k = let z : 0 ≡ d.block + 1 = same_Some 0 (d.block + 1) (sym h ∙ e ∙ k.0) in absurd (omega arith)
+one_chain arena s p q (c ∷ cs) [] e h k = let z : 0 ≡ c.block + 1 = same_Some 0 (c.block + 1) (sym k ∙ sym e ∙ h.0) in absurd (omega arith)
+one_chain arena s p q (c ∷ cs) (d ∷ ds) e h k =
+    let z : c.block + 1 ≡ d.block + 1 = same_Some (c.block + 1) (d.block + 1) (sym h.0 ∙ e ∙ k.0) in
+    let same : c.block ≡ d.block = omega arith in
+    let at : (j : ℕ) → slice_get s (block_at arena c.block + j) ≡ slice_get s (block_at arena d.block + j) = λ j. ap (λ b. slice_get s (block_at arena b + j)) same in
+    let keys : c.key ≡ d.key = same_Some c.key d.key (sym h.2 ∙ ap (λ b. slice_get s (block_at arena b)) same ∙ k.2) in
+    let values : c.value ≡ d.value = same_Some c.value d.value (sym h.3 ∙ at 1 ∙ k.3) in
+    ap (λ x. x ∷ cs) (same_cell c d same keys values) ∙ ap (λ xs. d ∷ xs) (one_chain arena s (block_at arena c.block + 2) (block_at arena d.block + 2) cs ds (at 2) h.4 k.4)
+
+-- a chain from a place on
+pub chain_rest : (arena : Arena) (s : List ℕ) (p : ℕ) (front rest : List Cell) → HasChain arena s p (front ++ rest) → HasChain arena s (place_after arena p front) rest
+chain_rest arena s p [] rest h = h
+chain_rest arena s p (c ∷ front) rest h = chain_rest arena s (block_at arena c.block + 2) front rest h.4
+
+pub place_after_more : (arena : Arena) (p : ℕ) (front : List Cell) (c : Cell) → place_after arena p (front ++ c ∷ []) ≡ block_at arena c.block + 2
+place_after_more arena p [] c = refl
+place_after_more arena p (d ∷ front) c = place_after_more arena (block_at arena d.block + 2) front c
+
+-- what cells say of a key that the first do not have
+pub value_past : (key : ℕ) (front rest : List Cell) → value_of key front ≡ None → value_of key (front ++ rest) ≡ value_of key rest
+value_past key [] rest h = refl
+value_past key (c ∷ front) rest h = grind (rules, value_past key front rest)
+
+pub value_first : (key : ℕ) (c : Cell) (cs : List Cell) → c.key ≡ key → value_of key (c ∷ cs) ≡ Some c.value
+value_first key c cs e = grind (rules)
+
+pub value_later : (key : ℕ) (c : Cell) (cs : List Cell) → c.key ≢ key → value_of key (c ∷ cs) ≡ value_of key cs
+value_later key c cs e = grind (rules)
+
+-- the first word of a block of a chain is a key that its cells have
+pub block_key : (arena : Arena) (s : List ℕ) (p b k : ℕ) (cs : List Cell) → HasChain arena s p cs → has_block b cs ≡ true → slice_get s (block_at arena b) ≡ Some k → value_of k cs ≢ None
+block_key arena s p b k [] h m e = absurd (true≢false (sym m))
+block_key arena s p b k (c ∷ cs) h m e = dite (ℕ_discrete c.block b)
+    (λ same.
+    let is_key : c.key ≡ k = same_Some c.key k (sym h.2 ∙ ap (λ d. slice_get s (block_at arena d)) same ∙ e) in
+    λ none. absurd (cc (value_first k c cs is_key)))
+    (λ other.
+    let there : has_block b cs ≡ true = grind rules in
+    let rest : value_of k cs ≢ None = block_key arena s (block_at arena c.block + 2) b k cs h.4 there e in
+    λ none. dite (ℕ_discrete c.key k) (λ is_key. absurd (cc (value_first k c cs is_key))) (λ is_other. rest (sym (value_later k c cs is_other) ∙ none)))
+
+-- a cell's block is in none of the others
+pub block_once : (arena : Arena) (s : List ℕ) (p : ℕ) (c : Cell) (cs : List Cell) → HasChain arena s p (c ∷ cs) → HasKeysOnce (c ∷ cs) → has_block c.block cs ≡ false
+block_once arena s p c cs h once = at (has_block c.block cs) refl
+  where
+    at : (m : Bool) → has_block c.block cs ≡ m → has_block c.block cs ≡ false
+    at false e = e
+    at true e = absurd (block_key arena s (block_at arena c.block + 2) c.block c.key cs h.4 e h.2 once.0)
+
+-- a chain's blocks are the arena's
+pub block_below : (arena : Arena) (s : List ℕ) (p b : ℕ) (cs : List Cell) → HasChain arena s p cs → has_block b cs ≡ true → b < arena.blocks
+block_below arena s p b [] h m = absurd (true≢false (sym m))
+block_below arena s p b (c ∷ cs) h m = dite (ℕ_discrete c.block b)
+    (λ same. subst (λ (d : ℕ). d < arena.blocks) same h.1)
+    (λ other. block_below arena s (block_at arena c.block + 2) b cs h.4 (let there : has_block b cs ≡ true = grind rules in there))
+
+-- the blocks of cells
+pub blocks_of : List Cell → List ℕ
+blocks_of [] = []
+blocks_of (c ∷ cs) = c.block ∷ blocks_of cs
+
+any_block : (b : ℕ) (cs : List Cell) → list_any (eqb b) (blocks_of cs) ≡ has_block b cs
+unfolding blocks_of
+any_block b [] = refl
+any_block b (c ∷ cs) = grind (rules, any_block b cs)
+
+all_differ : (b : ℕ) (cs : List Cell) → has_block b cs ≡ false → AllByRecursion (λ y. eqb b y ≡ false) (blocks_of cs)
+unfolding blocks_of
+all_differ b [] h = tt
+all_differ b (c ∷ cs) h = (grind (rules, h), all_differ b cs (grind (rules, h)))
+
+blocks_differ : (arena : Arena) (s : List ℕ) (p : ℕ) (cs : List Cell) → HasChain arena s p cs → HasKeysOnce cs → IsDistinct eqb (blocks_of cs)
+unfolding blocks_of IsDistinct
+blocks_differ arena s p [] h once = tt
+blocks_differ arena s p (c ∷ cs) h once =
+    IsDistinct-cons eqb c.block (blocks_of cs) (all_differ c.block cs (block_once arena s p c cs h once)) (blocks_differ arena s (block_at arena c.block + 2) cs h.4 once.1)
+
+length-blocks_of : (cs : List Cell) → length (blocks_of cs) ≡ length cs
+unfolding blocks_of
+length-blocks_of [] = refl
+length-blocks_of (c ∷ cs) = ap suc (length-blocks_of cs)
+
+-- so a chain is no longer than the arena has blocks
+pub chain_short : (arena : Arena) (s : List ℕ) (p : ℕ) (cs : List Cell) → HasChain arena s p cs → HasKeysOnce cs → length cs ≤ arena.blocks
+chain_short arena s p cs h once =
+    let short : length (blocks_of cs) ≤ arena.blocks =
+    length-le_from_distinct_below (blocks_of cs) arena.blocks (blocks_differ arena s p cs h once) (λ q m. block_below arena s p q cs h (sym (any_block q cs) ∙ m)) in
+    omega (arith, short, length-blocks_of cs)
+
+-- a key of these cells has their bucket
+pub key_own : (i k : ℕ) (cs : List Cell) → HasKeysIn i cs → value_of k cs ≢ None → bucket_of k ≡ i
+key_own i k [] h m = absurd (m refl)
+key_own i k (c ∷ cs) h m = dite (ℕ_discrete c.key k)
+    (λ same. subst (λ d. bucket_of d ≡ i) same h.0)
+    (λ other. key_own i k cs h.1 (λ none. m (value_later k c cs other ∙ none)))

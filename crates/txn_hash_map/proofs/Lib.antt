@@ -1,0 +1,10 @@
+pub mod Cells
+pub mod Steps
+pub mod Looks
+pub mod Stands
+pub mod Changes
+pub mod Fronts
+pub mod Inserts
+pub mod Cuts
+pub mod Removals
+pub mod OneMap

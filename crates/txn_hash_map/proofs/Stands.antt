@@ -1,0 +1,56 @@
+-- Chains whose words stay.
+use Rattle.std.proofs.Common.{◌≡◌, ℕ, ◌+◌, true, List, [], ◌∷◌, length, slice_get, ◌∙◌, arith, rules}
+use mathlib.Core.Logic.{dite}
+use native.Mathlib.Decide.{ℕ_discrete}
+use Rattle.std.specs.FinSet as set
+use Rattle.txn_alloc.specs.declared.arena.Arena.{Arena}
+use Rattle.txn_alloc.specs.FreeLists.{block_at, IsInBlock}
+use Rattle.txn_alloc.proofs.Lists.{laid_kept}
+use Rattle.txn_hash_map.specs.declared.map.ChainMap.{ChainMap}
+use Rattle.txn_hash_map.specs.Chains.{Cell, HasChain, has_block, IsLaid, IsBucket, ChainsHold, Entries, Blocks}
+
+-- the first cell's block is one of the blocks, and so are those of the others
+pub has_first : (c : Cell) (cs : List Cell) → has_block c.block (c ∷ cs) ≡ true
+has_first c cs = grind rules
+
+pub has_later : (b : ℕ) (c : Cell) (cs : List Cell) → has_block b cs ≡ true → has_block b (c ∷ cs) ≡ true
+has_later b c cs h = dite (ℕ_discrete c.block b) (λ e. grind (rules, e)) (λ e. grind (rules, h))
+
+-- a chain whose words are kept has the same cells, also from another place with the same value
+pub chain_kept : (arena : Arena) (s t : List ℕ) (p q : ℕ) (cs : List Cell) → slice_get t q ≡ slice_get s p
+    → ((b a : ℕ) → has_block b cs ≡ true → IsInBlock arena b a → slice_get t a ≡ slice_get s a) → HasChain arena s p cs → HasChain arena t q cs
+chain_kept arena s t p q [] e keep h = e ∙ h
+chain_kept arena s t p q (c ∷ cs) e keep h =
+    let here : (a : ℕ) → IsInBlock arena c.block a → slice_get t a ≡ slice_get s a = λ a k. keep c.block a (has_first c cs) k in (
+      e ∙ h.0,
+      h.1,
+      here (block_at arena c.block) (record { low = omega arith; high = omega arith }) ∙ h.2,
+      here (block_at arena c.block + 1) (record { low = omega arith; high = omega arith }) ∙ h.3,
+      chain_kept arena s t (block_at arena c.block + 2) (block_at arena c.block + 2) cs (here (block_at arena c.block + 2) (record { low = omega arith; high = omega arith }))
+          (λ b a m k. keep b a (has_later b c cs m) k) h.4,
+    )
+
+-- a list with as many words is laid out alike
+pub laid_alike : (map : ChainMap) (s t : List ℕ) → length t ≡ length s → IsLaid map s → IsLaid map t
+laid_alike map s t e l = record {
+  arena = laid_kept map.arena s t e l.arena;
+  buckets = omega (arith, l.buckets, e);
+  no_head = l.no_head;
+  outside = l.outside;
+}
+
+-- the map stands where its buckets and the words of its used blocks stay
+pub chains_stand : (map : ChainMap) (s t : List ℕ) (f : Entries) (u : Blocks) → ChainsHold map s f u → length t ≡ length s
+    → ((a : ℕ) → IsBucket map a → slice_get t a ≡ slice_get s a)
+    → ((b a : ℕ) → set.contains u b ≡ true → IsInBlock map.arena b a → slice_get t a ≡ slice_get s a) → ChainsHold map t f u
+chains_stand map s t f u h e buckets blocks = record {
+  laid = laid_alike map s t e h.laid;
+  cells = h.cells;
+  chain = λ i lt. chain_kept map.arena s t (map.buckets + i) (map.buckets + i) (h.cells i) (buckets (map.buckets + i) (record { low = omega arith; high = omega (arith, lt) }))
+      (λ b a m k. blocks b a (h.in_used b i lt m) k) (h.chain i lt);
+  own = h.own;
+  once = h.once;
+  entries_are = h.entries_are;
+  used_in = h.used_in;
+  in_used = h.in_used;
+}

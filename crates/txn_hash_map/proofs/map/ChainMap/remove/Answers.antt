@@ -1,0 +1,159 @@
+use Rattle.std.proofs.Common.{◌≡◌, ◌+◌, ◌*◌, ◌<◌, None, Some, inl, inr, arith, ap, ◌∙◌}
+use Rattle.history_model.specs.Fitting.{SomeFits}
+use Rattle.history_model.proofs.TraceLaws.{begins_trans}
+use Rattle.history_model.proofs.FittingLaws.{some_at}
+use Rattle.txn_words.proofs.CallLaws.{each_plain, state_after}
+use Rattle.txn_words.proofs.FrameLaws.{only_more}
+use Rattle.txn_alloc.specs.FreeLists.{block_at}
+use Rattle.txn_hash_map.specs.Chains.{IsInOrder, Removes}
+use Rattle.txn_hash_map.proofs.Looks.{laid_block, looks_read, looks_value, IsLinkOr, finds_none}
+use Rattle.txn_hash_map.proofs.Inserts.{leads_from, each_from}
+use Rattle.txn_hash_map.proofs.Removals.{order_removed, place_within, order_cut, lacks_cut, removes_some, owns_removed}
+use Rattle.txn_hash_map.proofs.map.ChainMap.remove.Goals as goal
+
+pub read-requires-clause-within : goal.read-requires-clause-within
+read-requires-clause-within g c =
+    let m = c.args.self.now in
+    let goes = c.in_ok-find.ensures.goes_on in
+    let found = rw c.in-Some.is at c.in_ok-find.ensures.found in
+    let below = rw c.in-Some.is at c.in_ok-find.ensures.block in
+    let some : SomeFits (g.W.Shape.Shape.word_count (g.W.Words.shape c.args.w.now)) (g.W.Shape.Shape.good (g.W.Words.shape c.args.w.now)) (g.W.Words.trace c.find.new.w) =
+    some_at g.W.Shape.Shape.word_count g.W.Shape.Shape.good _ _ _ (goes.shape) (g.met.W.Words.fits c.find.new.w goes.sound) in
+    let in_list = laid_block m _ _ _ c.in-Some.found.block (λ s fit. (found.holds s fit).laid) some below in
+    omega (arith, in_list.0, ap g.W.Shape.Shape.word_count goes.shape, c.from.ensures)
+
+pub read-requires-in-Some-clause-within : goal.read-requires-in-Some-clause-within
+read-requires-in-Some-clause-within g c =
+    let m = c.args.self.now in
+    let goes = c.in_ok-find.ensures.goes_on in
+    let found = rw c.in-Some.is at c.in_ok-find.ensures.found in
+    let below = rw c.in-Some.is at c.in_ok-find.ensures.block in
+    let some : SomeFits (g.W.Shape.Shape.word_count (g.W.Words.shape c.args.w.now)) (g.W.Shape.Shape.good (g.W.Words.shape c.args.w.now)) (g.W.Words.trace c.find.new.w) =
+    some_at g.W.Shape.Shape.word_count g.W.Shape.Shape.good _ _ _ (goes.shape) (g.met.W.Words.fits c.find.new.w goes.sound) in
+    let in_list = laid_block m _ _ _ c.in-Some.found.block (λ s fit. (found.holds s fit).laid) some below in
+    omega (arith, in_list.0, ap g.W.Shape.Shape.word_count goes.shape, ap g.W.Shape.Shape.word_count c.in_ok-value-in-Some.ensures.shape, c.from.ensures)
+
+pub write-requires-clause-within : goal.write-requires-clause-within
+write-requires-clause-within g c =
+    let m = c.args.self.now in
+    let goes = c.in_ok-find.ensures.goes_on in
+    let found = rw c.in-Some.is at c.in_ok-find.ensures.found in
+    let below = rw c.in-Some.is at c.in_ok-find.ensures.block in
+    let b = c.in-Some.found.block in
+    let p = c.in-Some.found.place in
+    let y = c.in_ok-value-in-Some.value in
+    let x = c.in_ok-next-in-Some.next in
+    let q = m.arena.first + 4 * c.from.result + 1 in
+    let r = m.arena.first + 4 * c.from.result + 2 in
+    let is_value : q ≡ block_at m.arena b + 1 = omega (arith, c.from.ensures) in
+    let is_next : r ≡ block_at m.arena b + 2 = omega (arith, c.from.ensures) in
+    let looks = looks_read _ _ _ (IsLinkOr m q) _ _ r x _ (looks_value m c.args.key _ _ _ _ _ p b q y found c.in_ok-value-in-Some.ensures.value) c.in_ok-next-in-Some.ensures.value (inl (inr (b, below, inr is_next))) in
+    let order = each_plain g.W.Words g.W.Shape.Shape _ _ c.requires.order in
+    let some : SomeFits (g.W.Shape.Shape.word_count (g.W.Words.shape c.args.w.now)) (g.W.Shape.Shape.good (g.W.Words.shape c.args.w.now)) (g.W.Words.trace c.read-in-Some.new.self) =
+    some_at g.W.Shape.Shape.word_count g.W.Shape.Shape.good _ _ _ (c.in_ok-next-in-Some.ensures.shape ∙ c.in_ok-value-in-Some.ensures.shape ∙ goes.shape) (g.met.W.Words.fits c.read-in-Some.new.self c.in_ok-next-in-Some.ensures.sound) in
+    let within : p < g.W.Shape.Shape.word_count (g.W.Words.shape c.args.w.now) = place_within m c.args.key _ _ _ _ p b q y r x is_value is_next looks some in
+    omega (arith, within, ap g.W.Shape.Shape.word_count (c.in_ok-next-in-Some.ensures.shape ∙ c.in_ok-value-in-Some.ensures.shape ∙ goes.shape))
+
+pub give-requires-clause-order : goal.give-requires-clause-order
+give-requires-clause-order g c =
+    let m = c.args.self.now in
+    let goes = c.in_ok-find.ensures.goes_on in
+    let found = rw c.in-Some.is at c.in_ok-find.ensures.found in
+    let below = rw c.in-Some.is at c.in_ok-find.ensures.block in
+    let b = c.in-Some.found.block in
+    let p = c.in-Some.found.place in
+    let y = c.in_ok-value-in-Some.value in
+    let x = c.in_ok-next-in-Some.next in
+    let q = m.arena.first + 4 * c.from.result + 1 in
+    let r = m.arena.first + 4 * c.from.result + 2 in
+    let is_value : q ≡ block_at m.arena b + 1 = omega (arith, c.from.ensures) in
+    let is_next : r ≡ block_at m.arena b + 2 = omega (arith, c.from.ensures) in
+    let looks = looks_read _ _ _ (IsLinkOr m q) _ _ r x _ (looks_value m c.args.key _ _ _ _ _ p b q y found c.in_ok-value-in-Some.ensures.value) c.in_ok-next-in-Some.ensures.value (inl (inr (b, below, inr is_next))) in
+    let order = each_plain g.W.Words g.W.Shape.Shape _ _ c.requires.order in
+    each_from g.W.Words g.W.Shape.Shape c.args.w.now c.write.new.self _ (c.in_ok-write-in-Some.ensures.shape ∙ c.in_ok-next-in-Some.ensures.shape ∙ c.in_ok-value-in-Some.ensures.shape ∙ goes.shape) (order_cut m c.args.key _ _ _ _ p b q y r x is_value is_next looks _ c.in_ok-write-in-Some.ensures.value order)
+
+pub give-requires-clause-lacks : goal.give-requires-clause-lacks
+give-requires-clause-lacks g c =
+    let m = c.args.self.now in
+    let goes = c.in_ok-find.ensures.goes_on in
+    let found = rw c.in-Some.is at c.in_ok-find.ensures.found in
+    let below = rw c.in-Some.is at c.in_ok-find.ensures.block in
+    let b = c.in-Some.found.block in
+    let p = c.in-Some.found.place in
+    let y = c.in_ok-value-in-Some.value in
+    let x = c.in_ok-next-in-Some.next in
+    let q = m.arena.first + 4 * c.from.result + 1 in
+    let r = m.arena.first + 4 * c.from.result + 2 in
+    let is_value : q ≡ block_at m.arena b + 1 = omega (arith, c.from.ensures) in
+    let is_next : r ≡ block_at m.arena b + 2 = omega (arith, c.from.ensures) in
+    let looks = looks_read _ _ _ (IsLinkOr m q) _ _ r x _ (looks_value m c.args.key _ _ _ _ _ p b q y found c.in_ok-value-in-Some.ensures.value) c.in_ok-next-in-Some.ensures.value (inl (inr (b, below, inr is_next))) in
+    let order = each_plain g.W.Words g.W.Shape.Shape _ _ c.requires.order in
+    rw c.of.ensures (each_from g.W.Words g.W.Shape.Shape c.args.w.now c.write.new.self _ (c.in_ok-write-in-Some.ensures.shape ∙ c.in_ok-next-in-Some.ensures.shape ∙ c.in_ok-value-in-Some.ensures.shape ∙ goes.shape) (lacks_cut m c.args.key _ _ _ _ p b q y r x is_value is_next looks _ c.in_ok-write-in-Some.ensures.value order))
+
+pub returns-in-None-clause-removed : goal.returns-in-None-clause-removed
+returns-in-None-clause-removed g c =
+    let missing = rw c.in-None.is at c.in_ok-find.ensures.missing in
+    record { at = (finds_none c.args.self.now c.args.key _ _ _ _ missing).at }
+
+pub returns-in-None-clause-order : goal.returns-in-None-clause-order
+returns-in-None-clause-order g c =
+    let m = c.args.self.now in
+    let goes = c.in_ok-find.ensures.goes_on in
+    state_after g.W.Words g.W.Shape.Shape _ _ (IsInOrder m) (IsInOrder m) (Removes m c.args.key None) goes.shape goes.begins c.requires.order (returns-in-None-clause-removed g c) (order_removed m c.args.key None)
+
+pub returns-in-None-clause-frame : goal.returns-in-None-clause-frame
+returns-in-None-clause-frame g c =
+    let missing = rw c.in-None.is at c.in_ok-find.ensures.missing in
+    record { at = λ s fit. only_more (λ a. ⊥) _ _ _ (λ a k. absurd k) missing.writes }
+
+pub returns-in_ok-give-in-Some-clause-removed : goal.returns-in_ok-give-in-Some-clause-removed
+returns-in_ok-give-in-Some-clause-removed g c =
+    let m = c.args.self.now in
+    let goes = c.in_ok-find.ensures.goes_on in
+    let found = rw c.in-Some.is at c.in_ok-find.ensures.found in
+    let below = rw c.in-Some.is at c.in_ok-find.ensures.block in
+    let b = c.in-Some.found.block in
+    let p = c.in-Some.found.place in
+    let y = c.in_ok-value-in-Some.value in
+    let x = c.in_ok-next-in-Some.next in
+    let q = m.arena.first + 4 * c.from.result + 1 in
+    let r = m.arena.first + 4 * c.from.result + 2 in
+    let is_value : q ≡ block_at m.arena b + 1 = omega (arith, c.from.ensures) in
+    let is_next : r ≡ block_at m.arena b + 2 = omega (arith, c.from.ensures) in
+    let looks = looks_read _ _ _ (IsLinkOr m q) _ _ r x _ (looks_value m c.args.key _ _ _ _ _ p b q y found c.in_ok-value-in-Some.ensures.value) c.in_ok-next-in-Some.ensures.value (inl (inr (b, below, inr is_next))) in
+    let order = each_plain g.W.Words g.W.Shape.Shape _ _ c.requires.order in
+    let given = rw c.of.ensures at c.in_ok-give-in-Some.ensures.given in
+    let kept = rw c.of.ensures at c.in_ok-give-in-Some.ensures.others in
+    let same = c.in_ok-write-in-Some.ensures.shape ∙ c.in_ok-next-in-Some.ensures.shape ∙ c.in_ok-value-in-Some.ensures.shape ∙ goes.shape in
+    record {
+      at = (removes_some m c.args.key _ _ _ _ p b q y r x is_value is_next looks _ c.in_ok-write-in-Some.ensures.value order _ c.in_ok-give-in-Some.ensures.goes_on.begins
+          (leads_from g.W.Words g.W.Shape.Shape c.args.w.now c.write.new.self c.give.new.w _ same given)
+          (leads_from g.W.Words g.W.Shape.Shape c.args.w.now c.write.new.self c.give.new.w _ same kept)).at;
+    }
+
+pub returns-in_ok-give-in-Some-clause-order : goal.returns-in_ok-give-in-Some-clause-order
+returns-in_ok-give-in-Some-clause-order g c =
+    let m = c.args.self.now in
+    let goes = c.in_ok-find.ensures.goes_on in
+    state_after g.W.Words g.W.Shape.Shape _ _ (IsInOrder m) (IsInOrder m) (Removes m c.args.key (Some c.in_ok-value-in-Some.value)) (c.in_ok-give-in-Some.ensures.goes_on.shape ∙ c.in_ok-write-in-Some.ensures.shape ∙ c.in_ok-next-in-Some.ensures.shape ∙ c.in_ok-value-in-Some.ensures.shape ∙ goes.shape)
+    (begins_trans _ _ _ goes.begins (begins_trans _ _ _ c.in_ok-value-in-Some.ensures.begins (begins_trans _ _ _ c.in_ok-next-in-Some.ensures.begins (begins_trans _ _ _ c.in_ok-write-in-Some.ensures.begins c.in_ok-give-in-Some.ensures.goes_on.begins)))) c.requires.order
+    (returns-in_ok-give-in-Some-clause-removed g c) (order_removed m c.args.key (Some c.in_ok-value-in-Some.value))
+
+pub returns-in_ok-give-in-Some-clause-frame : goal.returns-in_ok-give-in-Some-clause-frame
+returns-in_ok-give-in-Some-clause-frame g c =
+    let m = c.args.self.now in
+    let goes = c.in_ok-find.ensures.goes_on in
+    let found = rw c.in-Some.is at c.in_ok-find.ensures.found in
+    let below = rw c.in-Some.is at c.in_ok-find.ensures.block in
+    let b = c.in-Some.found.block in
+    let p = c.in-Some.found.place in
+    let y = c.in_ok-value-in-Some.value in
+    let x = c.in_ok-next-in-Some.next in
+    let q = m.arena.first + 4 * c.from.result + 1 in
+    let r = m.arena.first + 4 * c.from.result + 2 in
+    let is_value : q ≡ block_at m.arena b + 1 = omega (arith, c.from.ensures) in
+    let is_next : r ≡ block_at m.arena b + 2 = omega (arith, c.from.ensures) in
+    let looks = looks_read _ _ _ (IsLinkOr m q) _ _ r x _ (looks_value m c.args.key _ _ _ _ _ p b q y found c.in_ok-value-in-Some.ensures.value) c.in_ok-next-in-Some.ensures.value (inl (inr (b, below, inr is_next))) in
+    let order = each_plain g.W.Words g.W.Shape.Shape _ _ c.requires.order in
+    let given = rw c.of.ensures at c.in_ok-give-in-Some.ensures.frame in
+    record { at = owns_removed m c.args.key _ _ _ _ p b q y r x is_value is_next looks _ c.in_ok-write-in-Some.ensures.value order _ c.in_ok-give-in-Some.ensures.goes_on.begins given.appended }

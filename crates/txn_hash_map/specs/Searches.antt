@@ -1,0 +1,70 @@
+-- How far a search along a chain has come.
+use Rattle.std.specs.Prelude.{slice_get, ◌≡◌, ◌≢◌, ℕ, ◌+◌, ◌<◌, ◌⊎◌, List, [], ◌∷◌, ◌++◌, Some, None, length}
+use Rattle.history_model.specs.Traces.{Trace, after, Begins}
+use Rattle.history_model.specs.Fitting.{Fits}
+use Rattle.txn_words.specs.Frames.{AppendsOnly, AppendsReads}
+use Rattle.txn_alloc.specs.declared.arena.Arena.{Arena}
+use Rattle.txn_alloc.specs.FreeLists.{block_at, IsInBlock}
+use Rattle.txn_hash_map.specs.declared.map.ChainMap.{ChainMap}
+use Rattle.txn_hash_map.specs.Chains.{Cell, HasChain, HasKeysOnce, value_of, bucket_of, IsLaid, IsBucket}
+
+-- the place of the word that names the cell after these, which a word at the place given heads
+abbrev pub place_after : Arena → ℕ → List Cell → ℕ
+place_after arena place [] = place
+place_after arena place (c ∷ cs) = place_after arena (block_at arena c.block + 2) cs
+
+-- the chain of the key's bucket begins with so many cells that do not have the key, and then goes on at the place
+pub record IsPassed (map : ChainMap) (key place passed : ℕ) (words : List ℕ) : Type 0 where
+  pub laid : IsLaid map words
+  pub front : List Cell
+  pub rest : List Cell
+  pub chain : HasChain map.arena words (map.buckets + bucket_of key) (front ++ rest)
+  pub once : HasKeysOnce (front ++ rest)
+  pub at : place ≡ place_after map.arena (map.buckets + bucket_of key) front
+  pub lacking : value_of key front ≡ None
+  pub count : length front ≡ passed
+
+-- the word at the place names the block of the key's cell
+pub record IsFoundAt (map : ChainMap) (key place block : ℕ) (words : List ℕ) : Type 0 where
+  pub laid : IsLaid map words
+  pub front : List Cell
+  pub cell : Cell
+  pub rest : List Cell
+  pub chain : HasChain map.arena words (map.buckets + bucket_of key) (front ++ cell ∷ rest)
+  pub once : HasKeysOnce (front ++ cell ∷ rest)
+  pub at : place ≡ place_after map.arena (map.buckets + bucket_of key) front
+  pub lacking : value_of key front ≡ None
+  pub is_block : cell.block ≡ block
+  pub is_key : cell.key ≡ key
+
+-- the key is in no cell of its bucket
+pub record IsMissing (map : ChainMap) (key : ℕ) (words : List ℕ) : Type 0 where
+  pub cells : List Cell
+  pub chain : HasChain map.arena words (map.buckets + bucket_of key) cells
+  pub lacking : value_of key cells ≡ None
+
+-- a bucket's word, or the word of a key or of the next block in a block: what a search reads
+abbrev pub IsLink : ChainMap → ℕ → Type 0
+IsLink map a =
+    IsBucket map a ⊎ ((b : ℕ) × (b < map.arena.blocks) × ((a ≡ block_at map.arena b) ⊎ (a ≡ block_at map.arena b + 2)))
+
+-- from the old trace to the new one words were read alone, IsSeen holds of each, and P of each state
+pub record Looks (n : ℕ) (G : List ℕ → Type 0) (t u : Trace) (IsSeen : ℕ → Type 0) (P : List ℕ → Type 0) : Type 0 where
+  pub begins : Begins t u
+  pub same : (s : List ℕ) → Fits n G u s → after u s ≡ after t s
+  pub writes : AppendsOnly t u (λ a. ⊥)
+  pub reads : AppendsReads t u IsSeen
+  pub holds : (s : List ℕ) → Fits n G u s → P (after u s)
+
+-- the block is the first of its bucket's chain, with key and value, and heads what the bucket headed; other words stay
+pub record IsPutInFront (map : ChainMap) (key value block : ℕ) (old new : List ℕ) : Type 0 where
+  pub count : length new ≡ length old
+  pub name : slice_get new (map.buckets + bucket_of key) ≡ Some (block + 1)
+  pub key_there : slice_get new (block_at map.arena block) ≡ Some key
+  pub value_there : slice_get new (block_at map.arena block + 1) ≡ Some value
+  pub next_there : slice_get new (block_at map.arena block + 2) ≡ slice_get old (map.buckets + bucket_of key)
+  pub others : (a : ℕ) → a ≢ map.buckets + bucket_of key → ¬ IsInBlock map.arena block a → slice_get new a ≡ slice_get old a
+
+-- a is a bucket's word or in the block
+abbrev pub IsBucketOrIn : ChainMap → ℕ → ℕ → Type 0
+IsBucketOrIn map block a = IsBucket map a ⊎ IsInBlock map.arena block a

@@ -1,0 +1,56 @@
+//! Putting a key and a value into the map.
+
+ghost use Rattle.std.specs.Prelude.{◌≡◌, ℕ, IfOk, OnOk};
+ghost use Rattle.txn_words.specs.Calls.{IsReady, GoesOn, WritesWithin, InEachState, LeadsTo};
+ghost use Rattle.txn_alloc.specs.declared.put.Put.TheVariants.{Full, Old};
+ghost use Rattle.txn_hash_map.specs.Chains.{IsInOrder, Inserts, LacksRoom, IsOwn, IsValue};
+
+use crate::find::find;
+use crate::front::put_in_front;
+use crate::map::ChainMap;
+use txn_alloc::{Put, take};
+use txn_words::{Stop, Words};
+
+impl ChainMap {
+    /// Puts the value at the key. A key that is new gets a free block, if there is one.
+    pub fn insert<W: Words>(&self, w: &mut W, key: u64, value: u64) -> Result<Put, Stop>
+        requires ready { IsReady W.Words w.old }
+        requires order { InEachState W.Words W.Shape.Shape w.old (IsInOrder self.now) }
+
+        // The map has the value at the key, and else what it had.
+        ensures put { IfOk result (λ put. LeadsTo W.Words W.Shape.Shape w.old w.new (Inserts self.now key value put)) }
+
+        // It answers Full exactly where in every state the key is absent and no block is free.
+        ensures full { IfOk result (λ put.
+            put ≡ Full → LeadsTo W.Words W.Shape.Shape w.old w.new (λ before _. LacksRoom self.now key before)) }
+        ensures full_if { IfOk result (λ put.
+            LeadsTo W.Words W.Shape.Shape w.old w.new (λ before _. LacksRoom self.now key before) → put ≡ Full) }
+
+        ensures order { OnOk result (InEachState W.Words W.Shape.Shape w.new (IsInOrder self.now)) }
+
+        // No word is written but the heads, the buckets and the words of the map's blocks.
+        ensures frame { OnOk result (WritesWithin W.Words W.Shape.Shape w.old w.new (IsOwn self.now)) }
+
+        // Where the key was there, the word of its value alone is written.
+        ensures old { IfOk result (λ put. (was : ℕ)
+            → put ≡ Old was
+            → WritesWithin W.Words W.Shape.Shape w.old w.new (IsValue self.now key)) }
+        ensures goes_on { GoesOn W.Words w.old w.new result }
+    {
+        match find(w, self, key)? {
+            Some(found) => {
+                let at = self.arena.first + 4 * u64::from(found.block) + 1;
+                let old = w.read(at)?;
+                w.write(at, value)?;
+                Ok(Put::Old(old))
+            }
+            None => match take(w, &self.arena)? {
+                Some(block) => {
+                    put_in_front(w, self, key, value, block.number())?;
+                    Ok(Put::New)
+                }
+                None => Ok(Put::Full),
+            },
+        }
+    }
+}

@@ -1,0 +1,13 @@
+//! What a collection above concludes, each law the contract of a function that does nothing.
+
+ghost use Rattle.txn_hash_map.specs.Statements.{OneMap, ChainsStand};
+
+/// In one word list the map is one.
+pub fn one_map()
+    ensures { OneMap }
+{}
+
+/// The map stands where its buckets and the words of its used blocks stay.
+pub fn chains_stand()
+    ensures { ChainsStand }
+{}

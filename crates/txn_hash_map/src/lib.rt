@@ -1,0 +1,64 @@
+//! A map from keys to values on any words: a hashed chain of blocks for each of 256 buckets.
+//!
+//! A `ChainMap` says where its buckets lie and which arena its blocks are of. `get`, `insert` and `remove` see the
+//! map as a finite map from keys to values, with the set of the blocks that it uses and the set of those that are
+//! free; how the chains go through the blocks stands in `specs/Chains` alone. `laws` has what a collection above
+//! concludes of them.
+#![tactic(auto)]
+
+mod find;
+mod front;
+mod get;
+mod insert;
+pub mod laws;
+pub mod map;
+mod remove;
+
+pub use map::ChainMap;
+
+#[cfg(test)]
+mod tests {
+    use super::*;
+    use history_model::Shape;
+    use std::test::Fail;
+    use txn_alloc::{Arena, Put};
+    use txn_words::Plain;
+
+    /// 285 words, which hold a map of at most two entries.
+    #[derive(Clone, Copy)]
+    struct TwoEntries;
+
+    impl Shape for TwoEntries {
+        ghost use Rattle.txn_hash_map.specs.Chains.{IsInOrder};
+
+        ghost word_count = { λ _. 285 };
+
+        ghost good = { λ _ words. IsInOrder (record { buckets = 17; arena = record { heads = 1; first = 277; blocks = 2 } }) words };
+    }
+
+    /// The three keys have one bucket, the 141st after the first.
+    #[test]
+    fn two_entries_come_and_go(rt: HostRuntime) -> Result<(), Fail> {
+        let mut words = vec![in rt.alloc(); 0u64; 285]?;
+        words[1] = 1;
+        words[277] = 2;
+        let mut plain = Plain::new(rt.alloc(), TwoEntries, words);
+        let map = ChainMap {
+            buckets: 17,
+            arena: Arena {
+                heads: 1,
+                first: 277,
+                blocks: 2,
+            },
+        };
+        assert_eq!(rt; map.insert(&mut plain, 64, 70)?, Put::New);
+        assert_eq!(rt; map.insert(&mut plain, 64, 71)?, Put::Old(70));
+        assert_eq!(rt; map.insert(&mut plain, 208, 5)?, Put::New);
+        assert_eq!(rt; map.insert(&mut plain, 441, 6)?, Put::Full);
+        assert_eq!(rt; map.get(&mut plain, 64)?, Some(71));
+        assert_eq!(rt; map.remove(&mut plain, 64)?, Some(71));
+        assert_eq!(rt; map.get(&mut plain, 64)?, None);
+        assert_eq!(rt; map.insert(&mut plain, 441, 6)?, Put::New);
+        Ok(())
+    }
+}
