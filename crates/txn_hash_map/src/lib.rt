@@ -36,7 +36,7 @@ mod tests {
         ghost good = { λ _ words. IsInOrder (record { buckets = 17; arena = record { heads = 1; first = 277; blocks = 2 } }) words };
     }
 
-    /// The three keys have one bucket, the 141st after the first.
+    /// Keys 64, 208 and 441 have one bucket, the 141st after the first.
     #[test]
     fn two_entries_come_and_go(rt: HostRuntime) -> Result<(), Fail> {
         let mut words = vec![in rt.alloc(); 0u64; 285]?;
@@ -51,14 +51,21 @@ mod tests {
                 blocks: 2,
             },
         };
-        assert_eq!(rt; map.insert(&mut plain, 64, 70)?, Put::New);
-        assert_eq!(rt; map.insert(&mut plain, 64, 71)?, Put::Old(70));
-        assert_eq!(rt; map.insert(&mut plain, 208, 5)?, Put::New);
-        assert_eq!(rt; map.insert(&mut plain, 441, 6)?, Put::Full);
-        assert_eq!(rt; map.get(&mut plain, 64)?, Some(71));
-        assert_eq!(rt; map.remove(&mut plain, 64)?, Some(71));
+        assert_eq!(rt; map.insert(&mut plain, 64, 3)?, Put::New);
+        assert_eq!(rt; map.insert(&mut plain, 64, 4)?, Put::Old(3));
+        assert_eq!(rt; map.insert(&mut plain, 65, 5)?, Put::New);
+        assert_eq!(rt; map.insert(&mut plain, 66, 6)?, Put::Full);
+        assert_eq!(rt; map.get(&mut plain, 64)?, Some(4));
+        assert_eq!(rt; map.remove(&mut plain, 64)?, Some(4));
         assert_eq!(rt; map.get(&mut plain, 64)?, None);
-        assert_eq!(rt; map.insert(&mut plain, 441, 6)?, Put::New);
+
+        assert_eq!(rt; map.remove(&mut plain, 65)?, Some(5));
+        assert_eq!(rt; map.insert(&mut plain, 64, 70)?, Put::New);
+        assert_eq!(rt; map.insert(&mut plain, 208, 80)?, Put::New);
+        assert_eq!(rt; map.insert(&mut plain, 441, 90)?, Put::Full);
+        assert_eq!(rt; map.remove(&mut plain, 64)?, Some(70));
+        assert_eq!(rt; map.get(&mut plain, 208)?, Some(80));
+        assert_eq!(rt; map.insert(&mut plain, 441, 90)?, Put::New);
         Ok(())
     }
 }

@@ -151,10 +151,10 @@ mod tests {
             },
             long,
         );
-        assert!(rt; one.push(&mut words, (5, 3))?);
-        assert!(rt; !one.push(&mut words, (6, 1))?);
+        assert!(rt; one.push(&mut words, (1, 5))?);
+        assert!(rt; !one.push(&mut words, (1, 6))?);
         assert_eq!(rt; one.len(&mut words)?, 1);
-        assert_eq!(rt; one.pop(&mut words)?, Some((5, 3)));
+        assert_eq!(rt; one.pop(&mut words)?, Some((1, 5)));
         assert_eq!(rt; one.pop(&mut words)?, None);
         assert_eq!(rt; one.len(&mut words)?, 0);
 
