@@ -26,6 +26,10 @@ pub record IsInBlock (arena : Arena) (b a : ℕ) : Type 0 where
 abbrev pub IsHeadOrIn : Arena → ℕ → ℕ → Type 0
 IsHeadOrIn arena b a = IsHead arena a ⊎ IsInBlock arena b a
 
+-- a is a head, or the first word of one of the arena's blocks
+abbrev pub IsHeadOrFirst : Arena → ℕ → Type 0
+IsHeadOrFirst arena a = IsHead arena a ⊎ ((b : ℕ) × (b < arena.blocks) × (a ≡ block_at arena b))
+
 -- all four words of each block, and the heads, are words of the list, and no head is in a block; a place has 64 bits
 pub record IsLaidOut (arena : Arena) (words : List ℕ) : Type 0 where
   pub places : length words ≤ 2 ^ 64

@@ -1,9 +1,9 @@
 //! Taking a free block, and giving one back.
 
 ghost use Rattle.std.specs.Prelude.{◌≡◌, ◌<◌, None, IfOk, IfSome, IfNone, OnOk};
-ghost use Rattle.txn_words.specs.Frames.{KeepsOthers};
+ghost use Rattle.txn_words.specs.Frames.{AppendsReads, KeepsOthers};
 ghost use Rattle.txn_words.specs.Calls.{IsReady, GoesOn, WritesOnly, InEachState, LeadsTo};
-ghost use Rattle.txn_alloc.specs.FreeLists.{IsHead, IsHeadOrIn, IsInOrder, HasNone, Lacks, Takes, Gives};
+ghost use Rattle.txn_alloc.specs.FreeLists.{IsHead, IsHeadOrIn, IsHeadOrFirst, IsInOrder, HasNone, Lacks, Takes, Gives};
 
 use crate::arena::{Arena, Block};
 use txn_words::{Stop, Words};
@@ -32,6 +32,8 @@ pub fn take<W: Words>(w: &mut W, arena: &Arena) -> Result<Option<Block>, Stop>
     // No word but the heads is written, so every other stays.
     ensures frame { OnOk result (WritesOnly W.Words w.old w.new (IsHead arena.now)) }
     ensures others { OnOk result (LeadsTo W.Words W.Shape.Shape w.old w.new (KeepsOthers (IsHead arena.now))) }
+    // It reads heads and first words of blocks alone.
+    ensures reads { OnOk result (AppendsReads (W.trace w.old) (W.trace w.new) (IsHeadOrFirst arena.now)) }
     ensures goes_on { GoesOn W.Words w.old w.new result }
 {
     let blocks = arena.blocks;
@@ -60,6 +62,8 @@ pub fn give<W: Words>(w: &mut W, arena: &Arena, block: Block) -> Result<(), Stop
     // No word but the heads and the block's own four is written, so every other stays.
     ensures frame { OnOk result (WritesOnly W.Words w.old w.new (IsHeadOrIn arena.now block)) }
     ensures others { OnOk result (LeadsTo W.Words W.Shape.Shape w.old w.new (KeepsOthers (IsHeadOrIn arena.now block))) }
+    // It reads heads and first words of blocks alone.
+    ensures reads { OnOk result (AppendsReads (W.trace w.old) (W.trace w.new) (IsHeadOrFirst arena.now)) }
     ensures goes_on { GoesOn W.Words w.old w.new result }
 {
     let number = block.number();

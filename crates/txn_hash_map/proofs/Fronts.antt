@@ -7,8 +7,9 @@ use Rattle.history_model.specs.Fitting.{Fits, SomeFits, InEach, Leads}
 use Rattle.history_model.proofs.TraceLaws.{read_there, after_read, length-after, get_set_same, get_set_other}
 use Rattle.history_model.proofs.FittingLaws.{fits_front}
 use Rattle.txn_words.specs.Steps.{EndsWithWrite}
-use Rattle.txn_words.specs.Frames.{AppendsOnly}
+use Rattle.txn_words.specs.Frames.{AppendsOnly, AppendsReads}
 use Rattle.txn_words.proofs.Steps.{after_write_end, fits_write_end}
+use Rattle.txn_words.proofs.ReadLaws.{sees_read, sees_then, sees_write}
 use Rattle.txn_words.proofs.FrameLaws.{only_read, only_write, only_then}
 use Rattle.txn_alloc.specs.FreeLists.{block_at, IsInBlock}
 use Rattle.txn_hash_map.specs.declared.map.ChainMap.{ChainMap}
@@ -96,3 +97,12 @@ module _ (map : ChainMap) (key x b n : ℕ) (G : List ℕ → Type 0) (t t1 t2 t
       (only_then own t2 t3 t5 (only_write own t2 t3 (q + 1) x e3 (inr (record { low = omega (arith, is_block); high = omega (arith, is_block) })))
       (only_then own t3 t4 t5 (only_write own t3 t4 (q + 2) z e4 (inr (record { low = omega (arith, is_block); high = omega (arith, is_block) })))
       (only_write own t4 t5 p y e5 (inl (bucket_is map key p is_bucket))))))
+
+  pub front_reads : AppendsReads t t5 (IsBucketOrIn map b)
+  front_reads =
+      let seen : ℕ → Type 0 = IsBucketOrIn map b in
+      sees_then seen t t1 t5 (sees_read seen t t1 p z e1 (inl (bucket_is map key p is_bucket)))
+      (sees_then seen t1 t2 t5 (sees_write seen t1 t2 q key e2 (inr (record { low = omega (arith, is_block); high = omega (arith, is_block) })))
+      (sees_then seen t2 t3 t5 (sees_write seen t2 t3 (q + 1) x e3 (inr (record { low = omega (arith, is_block); high = omega (arith, is_block) })))
+      (sees_then seen t3 t4 t5 (sees_write seen t3 t4 (q + 2) z e4 (inr (record { low = omega (arith, is_block); high = omega (arith, is_block) })))
+      (sees_write seen t4 t5 p y e5 (inl (bucket_is map key p is_bucket))))))

@@ -1,6 +1,7 @@
 //! Putting a block in front of its bucket's chain.
 
 ghost use Rattle.std.specs.Prelude.{◌<◌, OnOk};
+ghost use Rattle.txn_words.specs.Frames.{AppendsReads};
 ghost use Rattle.txn_words.specs.Calls.{IsReady, GoesOn, WritesOnly, InEachState, LeadsTo};
 ghost use Rattle.txn_hash_map.specs.Chains.{IsLaid};
 ghost use Rattle.txn_hash_map.specs.Searches.{IsPutInFront, IsBucketOrIn};
@@ -22,6 +23,7 @@ pub fn put_in_front<W: Words>(
     requires block { block < map.now.arena.blocks }
     ensures put { OnOk result (LeadsTo W.Words W.Shape.Shape w.old w.new (IsPutInFront map.now key value block)) }
     ensures frame { OnOk result (WritesOnly W.Words w.old w.new (IsBucketOrIn map.now block)) }
+    ensures reads { OnOk result (AppendsReads (W.trace w.old) (W.trace w.new) (IsBucketOrIn map.now block)) }
     ensures goes_on { GoesOn W.Words w.old w.new result }
 {
     let place = map.buckets + bucket(key);

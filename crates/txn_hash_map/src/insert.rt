@@ -1,9 +1,9 @@
 //! Putting a key and a value into the map.
 
 ghost use Rattle.std.specs.Prelude.{◌≡◌, ℕ, IfOk, OnOk};
-ghost use Rattle.txn_words.specs.Calls.{IsReady, GoesOn, WritesWithin, InEachState, LeadsTo};
+ghost use Rattle.txn_words.specs.Calls.{IsReady, GoesOn, ReadsWithin, WritesWithin, InEachState, LeadsTo};
 ghost use Rattle.txn_alloc.specs.declared.put.Put.TheVariants.{Full, Old};
-ghost use Rattle.txn_hash_map.specs.Chains.{IsInOrder, Inserts, LacksRoom, IsOwn, IsValue};
+ghost use Rattle.txn_hash_map.specs.Chains.{IsInOrder, Inserts, LacksRoom, IsOwn, MayRead, IsValue};
 
 use crate::find::find;
 use crate::front::put_in_front;
@@ -35,6 +35,9 @@ impl ChainMap {
         ensures old { IfOk result (λ put. (was : ℕ)
             → put ≡ Old was
             → WritesWithin W.Words W.Shape.Shape w.old w.new (IsValue self.now key)) }
+
+        // The value of no other key is read.
+        ensures reads { OnOk result (ReadsWithin W.Words W.Shape.Shape w.old w.new (MayRead self.now key)) }
         ensures goes_on { GoesOn W.Words w.old w.new result }
     {
         match find(w, self, key)? {

@@ -1,8 +1,8 @@
 //! Taking a key out of the map.
 
 ghost use Rattle.std.specs.Prelude.{IfOk, OnOk};
-ghost use Rattle.txn_words.specs.Calls.{IsReady, GoesOn, WritesWithin, InEachState, LeadsTo};
-ghost use Rattle.txn_hash_map.specs.Chains.{IsInOrder, Removes, IsOwn};
+ghost use Rattle.txn_words.specs.Calls.{IsReady, GoesOn, ReadsWithin, WritesWithin, InEachState, LeadsTo};
+ghost use Rattle.txn_hash_map.specs.Chains.{IsInOrder, Removes, IsOwn, MayRead};
 
 use crate::find::find;
 use crate::map::ChainMap;
@@ -21,6 +21,9 @@ impl ChainMap {
 
         // No word is written but the heads, the buckets and the words of the map's blocks.
         ensures frame { OnOk result (WritesWithin W.Words W.Shape.Shape w.old w.new (IsOwn self.now)) }
+
+        // The value of no other key is read.
+        ensures reads { OnOk result (ReadsWithin W.Words W.Shape.Shape w.old w.new (MayRead self.now key)) }
         ensures goes_on { GoesOn W.Words w.old w.new result }
     {
         match find(w, self, key)? {

@@ -1,10 +1,11 @@
-use Rattle.std.proofs.Common.{◌≡◌, ◌+◌, ◌-◌, ◌*◌, ◌<◌, None, Some, arith, ap, ◌∙◌}
+use Rattle.std.proofs.Common.{◌≡◌, ◌+◌, ◌-◌, ◌*◌, ◌<◌, None, Some, inl, inr, arith, ap, ◌∙◌}
 use Rattle.history_model.specs.Fitting.{SomeFits}
 use Rattle.history_model.proofs.TraceLaws.{begins_trans}
 use Rattle.history_model.proofs.FittingLaws.{some_at}
 use Rattle.txn_words.proofs.CallLaws.{each_plain, leads_plain, state_after}
+use Rattle.txn_words.proofs.ReadLaws.{sees_read, sees_then, sees_write}
 use Rattle.txn_words.proofs.FrameLaws.{only_read, only_write, only_then, writes_keep}
-use Rattle.txn_alloc.specs.FreeLists.{block_at, IsHead, IsInOrder, HasNone, Lacks, Takes}
+use Rattle.txn_alloc.specs.FreeLists.{block_at, IsHead, IsHeadOrFirst, IsInOrder, HasNone, Lacks, Takes}
 use Rattle.txn_alloc.proofs.Lists.{first_head}
 use Rattle.txn_alloc.proofs.Traces.{Lies, lies, named, takes_none, found_none, takes_some, taken_from_some, order_taken, lacks_itself}
 use Rattle.txn_alloc.proofs.free.take.Goals as goal
@@ -94,3 +95,18 @@ returns-clause-frame g c =
 
 pub returns-clause-others : goal.returns-clause-others
 returns-clause-others g c = writes_keep g.W.Words g.W.Shape.Shape _ _ _ (returns-clause-frame g c)
+
+pub returns-then-head-eq0-clause-reads : goal.returns-then-head-eq0-clause-reads
+returns-then-head-eq0-clause-reads g c =
+    let a = c.args.arena.now in
+    sees_read (IsHeadOrFirst a) _ _ _ _ c.in_ok-head.ensures.value (inl (first_head a))
+
+pub returns-clause-reads : goal.returns-clause-reads
+returns-clause-reads g c =
+    let a = c.args.arena.now in
+    let seen = IsHeadOrFirst a in
+    let lt : c.in_ok-head.head - 1 < a.blocks = omega arith in
+    let is_first : a.first + 4 * c.from-2.result ≡ block_at a (c.in_ok-head.head - 1) = omega arith in
+    sees_then seen _ _ _ (sees_read seen _ _ _ _ c.in_ok-head.ensures.value (inl (first_head a)))
+    (sees_then seen _ _ _ (sees_read seen _ _ _ _ c.in_ok-next.ensures.value (inr (c.in_ok-head.head - 1, lt, is_first)))
+    (sees_write seen _ _ _ _ c.in_ok-write.ensures.value (inl (first_head a))))

@@ -1,7 +1,7 @@
 use Rattle.std.proofs.Common.{◌≡◌, ◌+◌, ◌*◌, arith, ap, ◌∙◌}
 use Rattle.txn_words.proofs.CallLaws.{each_plain}
 use Rattle.txn_hash_map.specs.Chains.{bucket_of}
-use Rattle.txn_hash_map.proofs.Fronts.{room, puts_front, front_only}
+use Rattle.txn_hash_map.proofs.Fronts.{room, puts_front, front_only, front_reads}
 use Rattle.txn_hash_map.proofs.front.put_in_front.Goals as goal
 
 pub overflow_add-place : goal.overflow_add-place
@@ -56,3 +56,12 @@ returns-clause-frame g c =
       appended = front_only m c.args.key c.args.value c.args.block 0 (λ s. ⊥) _ _ _ _ _ _ _ _ c.in_ok-next.next _ is_bucket is_block is_name
           c.in_ok-next.ensures.value c.in_ok-write.ensures.value c.in_ok-write-2.ensures.value c.in_ok-write-3.ensures.value c.in_ok-write-4.ensures.value;
     }
+
+pub returns-clause-reads : goal.returns-clause-reads
+returns-clause-reads g c =
+    let m = c.args.map.now in
+    let is_bucket : m.buckets + c.bucket.result ≡ m.buckets + bucket_of c.args.key = ap (λ k. m.buckets + k) c.bucket.ensures in
+    let is_block : m.arena.first + 4 * c.from.result ≡ m.arena.first + 4 * c.args.block = omega arith in
+    let is_name : c.from-2.result + 1 ≡ c.args.block + 1 = omega arith in
+    front_reads m c.args.key c.args.value c.args.block 0 (λ s. ⊥) _ _ _ _ _ _ _ _ c.in_ok-next.next _ is_bucket is_block is_name
+    c.in_ok-next.ensures.value c.in_ok-write.ensures.value c.in_ok-write-2.ensures.value c.in_ok-write-3.ensures.value c.in_ok-write-4.ensures.value

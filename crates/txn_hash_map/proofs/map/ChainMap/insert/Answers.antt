@@ -8,6 +8,7 @@ use Rattle.txn_alloc.specs.FreeLists.{block_at, HasNone}
 use Rattle.txn_hash_map.specs.Chains.{IsInOrder, Inserts, LacksRoom}
 use Rattle.txn_hash_map.proofs.Looks.{laid_block, looks_value}
 use Rattle.txn_hash_map.proofs.Inserts.{leads_from, each_from, order_inserted, leads_back, order_looks, inserts_new, owns_new, owns_none, laid_taken, lacks_room, inserts_old, owns_old, owns_value, not_new, not_old}
+use Rattle.txn_hash_map.proofs.Spares.{spares_none, spares_new, spares_old}
 use Rattle.txn_hash_map.proofs.map.ChainMap.insert.Goals as goal
 
 pub read-requires-clause-within : goal.read-requires-clause-within
@@ -225,3 +226,35 @@ returns-in_ok-put_in_front-in-Some-2-clause-old g c = λ was e. absurd (cc)
 
 pub returns-in-None-2-clause-old : goal.returns-in-None-2-clause-old
 returns-in-None-2-clause-old g c = λ was e. absurd (cc)
+
+pub returns-in_ok-write-in-Some-clause-reads : goal.returns-in_ok-write-in-Some-clause-reads
+returns-in_ok-write-in-Some-clause-reads g c =
+    let m = c.args.self.now in
+    let found = rw c.in-Some.is at c.in_ok-found.ensures.found in
+    let q = m.arena.first + 4 * c.from.result + 1 in
+    let is_value : q ≡ block_at m.arena c.in-Some.found.block + 1 = omega (arith, c.from.ensures) in
+    record {
+      at = spares_old m c.args.key _ _ _ _ (each_plain g.W.Words g.W.Shape.Shape _ _ c.requires.order) _ c.in-Some.found.place c.in-Some.found.block q c.in_ok-old-in-Some.old c.args.value is_value
+          (looks_value m c.args.key _ _ _ _ _ c.in-Some.found.place c.in-Some.found.block q c.in_ok-old-in-Some.old found c.in_ok-old-in-Some.ensures.value)
+          c.in_ok-write-in-Some.ensures.value;
+    }
+
+pub returns-in_ok-put_in_front-in-Some-2-clause-reads : goal.returns-in_ok-put_in_front-in-Some-2-clause-reads
+returns-in_ok-put_in_front-in-Some-2-clause-reads g c =
+    let m = c.args.self.now in
+    let missing = rw c.in-None.is at c.in_ok-found.ensures.missing in
+    let goes = c.in_ok-found.ensures.goes_on in
+    let then = c.in_ok-block-in-None.ensures in
+    let taken = rw c.in-Some-2.is at then.taken in
+    let front = rw c.number.ensures at c.in_ok-put_in_front-in-Some-2.ensures.reads in
+    record {
+      at = spares_new m c.args.key _ _ _ _ (each_plain g.W.Words g.W.Shape.Shape _ _ c.requires.order) missing _ _ c.in-Some-2.block then.goes_on.begins c.in_ok-put_in_front-in-Some-2.ensures.goes_on.begins
+          (leads_from g.W.Words g.W.Shape.Shape c.args.w.now c.find.new.w c.take.new.w _ goes.shape taken) then.reads front;
+    }
+
+pub returns-in-None-2-clause-reads : goal.returns-in-None-2-clause-reads
+returns-in-None-2-clause-reads g c =
+    let m = c.args.self.now in
+    let missing = rw c.in-None.is at c.in_ok-found.ensures.missing in
+    let then = c.in_ok-block-in-None.ensures in
+    record { at = spares_none m c.args.key _ _ _ _ (each_plain g.W.Words g.W.Shape.Shape _ _ c.requires.order) missing _ then.goes_on.begins then.reads }

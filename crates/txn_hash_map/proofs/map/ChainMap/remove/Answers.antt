@@ -6,9 +6,10 @@ use Rattle.txn_words.proofs.CallLaws.{each_plain, state_after}
 use Rattle.txn_words.proofs.FrameLaws.{only_more}
 use Rattle.txn_alloc.specs.FreeLists.{block_at}
 use Rattle.txn_hash_map.specs.Chains.{IsInOrder, Removes}
-use Rattle.txn_hash_map.proofs.Looks.{laid_block, looks_read, looks_value, IsLinkOr, finds_none}
+use Rattle.txn_hash_map.proofs.Looks.{laid_block, looks_read, looks_value, IsLinkOr, finds_none, spares_link}
 use Rattle.txn_hash_map.proofs.Inserts.{leads_from, each_from}
 use Rattle.txn_hash_map.proofs.Removals.{order_removed, place_within, order_cut, lacks_cut, removes_some, owns_removed}
+use Rattle.txn_hash_map.proofs.Spares.{spares_removed}
 use Rattle.txn_hash_map.proofs.map.ChainMap.remove.Goals as goal
 
 pub read-requires-clause-within : goal.read-requires-clause-within
@@ -157,3 +158,40 @@ returns-in_ok-give-in-Some-clause-frame g c =
     let order = each_plain g.W.Words g.W.Shape.Shape _ _ c.requires.order in
     let given = rw c.of.ensures at c.in_ok-give-in-Some.ensures.frame in
     record { at = owns_removed m c.args.key _ _ _ _ p b q y r x is_value is_next looks _ c.in_ok-write-in-Some.ensures.value order _ c.in_ok-give-in-Some.ensures.goes_on.begins given.appended }
+
+pub returns-in-None-clause-reads : goal.returns-in-None-clause-reads
+returns-in-None-clause-reads g c =
+    let missing = rw c.in-None.is at c.in_ok-find.ensures.missing in
+    record { at = spares_link c.args.self.now c.args.key _ _ _ _ missing (each_plain g.W.Words g.W.Shape.Shape _ _ c.requires.order) }
+
+pub returns-in_ok-give-in-Some-clause-reads : goal.returns-in_ok-give-in-Some-clause-reads
+returns-in_ok-give-in-Some-clause-reads g c =
+    let m = c.args.self.now in
+    let found = rw c.in-Some.is at c.in_ok-find.ensures.found in
+    let below = rw c.in-Some.is at c.in_ok-find.ensures.block in
+    let b = c.in-Some.found.block in
+    let p = c.in-Some.found.place in
+    let y = c.in_ok-value-in-Some.value in
+    let x = c.in_ok-next-in-Some.next in
+    let q = m.arena.first + 4 * c.from.result + 1 in
+    let r = m.arena.first + 4 * c.from.result + 2 in
+    let is_value : q ≡ block_at m.arena b + 1 = omega (arith, c.from.ensures) in
+    let is_next : r ≡ block_at m.arena b + 2 = omega (arith, c.from.ensures) in
+    let looks = looks_read _ _ _ (IsLinkOr m q) _ _ r x _ (looks_value m c.args.key _ _ _ _ _ p b q y found c.in_ok-value-in-Some.ensures.value) c.in_ok-next-in-Some.ensures.value (inl (inr (b, below, inr is_next))) in
+    let order = each_plain g.W.Words g.W.Shape.Shape _ _ c.requires.order in
+    record { at = spares_removed m c.args.key _ _ _ _ order _ _ p b q y r x is_value looks c.in_ok-write-in-Some.ensures.value c.in_ok-give-in-Some.ensures.goes_on.begins c.in_ok-give-in-Some.ensures.reads }
+
+pub returns-in_ok-give-in-Some-clause-goes_on : goal.returns-in_ok-give-in-Some-clause-goes_on
+returns-in_ok-give-in-Some-clause-goes_on g c =
+    let goes = c.in_ok-find.ensures.goes_on in
+    let value = c.in_ok-value-in-Some.ensures in
+    let next = c.in_ok-next-in-Some.ensures in
+    let write = c.in_ok-write-in-Some.ensures in
+    let given = c.in_ok-give-in-Some.ensures.goes_on in
+    record {
+      shape = given.shape ∙ write.shape ∙ next.shape ∙ value.shape ∙ goes.shape;
+      origin = given.origin ∙ write.origin ∙ next.origin ∙ value.origin ∙ goes.origin;
+      begins = begins_trans _ _ _ goes.begins (begins_trans _ _ _ value.begins (begins_trans _ _ _ next.begins (begins_trans _ _ _ write.begins given.begins)));
+      stops = given.stops;
+      sound = given.sound;
+    }
