@@ -2,3 +2,8 @@ pub mod Locks
 pub mod Traces
 pub mod Fitting
 pub mod Statements
+pub mod Sets
+pub mod Views
+pub mod Table
+pub mod Conflicts
+pub mod Histories

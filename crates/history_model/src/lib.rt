@@ -2,20 +2,25 @@
 //!
 //! It has definitions and laws alone, and nothing of it runs but `lock_of`. The definitions stand in `specs/`:
 //! `Traces` says what a trace leaves of a word list and where it is legal, `Fitting` which word lists are good
-//! and what holds in each that fits a trace, `Locks` which lock a word has. Legal traces and the opacity that is
-//! built on them are of Guerraoui and Kapalka, "On the correctness of transactional memory" (PPoPP 2008), here
-//! for words.
+//! and what holds in each that fits a trace, `Locks` which lock a word has, `Views` what a seat of the shared table
+//! holds of a lock, `Table` where the table's words stand, `Conflicts` when two calls are in conflict, and
+//! `Histories` what a committed history leaves of the words. Legal traces and the opacity that is built on them are
+//! of Guerraoui and Kapalka, "On the correctness of transactional memory" (PPoPP 2008), here for words.
 #![tactic(auto)]
 
 ghost use Rattle.std.specs.Prelude.{◌≡◌, ◌<◌};
 ghost use Rattle.history_model.specs.Locks.{lock_of_word};
 
+pub mod entry;
 pub mod event;
 pub mod laws;
 pub mod shape;
+pub mod view;
 
+pub use entry::{Abandoned, Entry};
 pub use event::{Cause, Event};
 pub use shape::Shape;
+pub use view::{Old, Phase, View};
 
 /// How many locks the words share.
 pub const LOCKS: u64 = 1024;
