@@ -1,0 +1,4 @@
+pub mod Actions
+pub mod Steps
+pub mod Splits
+pub mod Locks
