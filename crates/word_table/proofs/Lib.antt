@@ -1,0 +1,4 @@
+pub mod Soundness
+pub mod Rows
+pub mod Opening
+pub mod Passes

@@ -1,0 +1,104 @@
+-- Bits of a pass's own rows and masks.
+use Rattle.std.proofs.Common.{◌≡◌, ◌≢◌, ℕ, zero, suc, ◌+◌, ◌*◌, ◌/◌, ◌%◌, ◌^◌, ◌<◌, ◌≤◌, Bool, true, false, ◌⊎◌, inl, inr, ⊎_elim, List, [], ◌∷◌, length, slice_index, slice_index_or, slice_set, refl, sym, ap, ◌∙◌, subst, arith, length-set, get_or-set_other, get_or-set_same, if◌then◌else◌}
+use Rattle.std.specs.Prelude.{bit_and, bit_or}
+use Rattle.std.specs.Int.{bit_at, bit_not, trailing_zeros}
+use Rattle.std.proofs.lemmas.Nat.Bits.{bit_at-zero, bit_at-trailing_zeros, bit_at_set_same, bit_at_set_other}
+use mir.Syntax.{w64}
+use mathlib.Core.Logic.{dite}
+use native.Mathlib.Decide.{ℕ_discrete}
+use Rattle.history_model.specs.declared.TheConstants.{LOCKS}
+use Rattle.history_model.specs.Sets.{has, without, has_pair, without_first, flag}
+use Rattle.locks_rule.proofs.SetLemmas.{has-join, has-join_same, has-join_other, has-without, has-without_same, has-without_other, pair-join_same, pair-join_other, pair-without_same, pair-without_other}
+use Rattle.locks_rule.proofs.Bits.{put_same, put_other, raise_here, raise_there, lower_here, lower_there}
+use Rattle.word_table.specs.Copies.{Shows, ShowsPairs}
+
+shows_put : (f : ℕ → ℕ) (row before after : List ℕ) (k : ℕ) → k < LOCKS → ((w : ℕ) → bit_at (f w) (k % 64) ≡ flag (has k after)) → ((w i : ℕ) → i < 64 → i ≢ k % 64 → bit_at (f w) i ≡ bit_at w i)
+    → ((l : ℕ) → l ≢ k → has l after ≡ has l before) → ((l : ℕ) → has l after ≡ true → l < LOCKS)
+    → Shows row before → Shows (slice_set row (k / 64) (f (slice_index row (k / 64)))) after
+shows_put f row before after k near here there same close_all h =
+    let i : ℕ = k / 64 in let sixteen : length row ≡ 16 = h.sixteen in let lt : i < length row = omega arith in record {
+      sixteen = length-set row i _ ∙ sixteen;
+      bits = λ l close. dite (ℕ_discrete l k)
+          (λ e. subst (λ (z : ℕ). bit_at (slice_index (slice_set row i (f (slice_index row i))) (z / 64)) (z % 64) ≡ flag (has z after)) (sym e) (put_same f (flag (has k after)) k here there row i lt))
+          (λ ne. put_other f (flag (has k after)) k here there row 0 i (l / 64) l (omega arith) (omega arith) lt ne ∙ (h.bits l close ∙ ap flag (sym (same l ne))));
+      near = close_all;
+    }
+
+pub shows_raise : (row locks : List ℕ) (k x : ℕ) → k < LOCKS → x ≡ bit_or (slice_index row (k / 64)) (2 ^ (k % 64)) → Shows row locks → Shows (slice_set row (k / 64) x) (k ∷ locks)
+shows_raise row locks k x near e h = subst (λ (y : ℕ). Shows (slice_set row (k / 64) y) (k ∷ locks)) (sym e)
+    (shows_put (λ w. bit_or w (2 ^ (k % 64))) row locks (k ∷ locks) k near (λ w. raise_here k w ∙ ap flag (sym (has-join_same k locks))) (raise_there k) (λ l ne. has-join_other l k locks ne)
+    (λ l t. ⊎_elim (λ (z : l ≡ k). subst (λ (y : ℕ). y < LOCKS) (sym z) near) (λ old. h.near l old) (has-join l k locks t)) h)
+
+pub shows_lower : (row locks : List ℕ) (k x : ℕ) → k < LOCKS → x ≡ bit_and (slice_index row (k / 64)) (bit_not w64 (2 ^ (k % 64))) → Shows row locks → Shows (slice_set row (k / 64) x) (without k locks)
+shows_lower row locks k x near e h = subst (λ (y : ℕ). Shows (slice_set row (k / 64) y) (without k locks)) (sym e)
+    (shows_put (λ w. bit_and w (bit_not w64 (2 ^ (k % 64)))) row locks (without k locks) k near (λ w. lower_here k w ∙ ap flag (sym (has-without_same k locks))) (lower_there k) (λ l ne. has-without_other l k locks ne)
+    (λ l t. h.near l (has-without l k locks t).1) h)
+
+pub raise_yes : (row locks : List ℕ) (k : ℕ) (b : Bool) → b ≡ true → Shows row (k ∷ locks) → Shows row (if b then k ∷ locks else locks)
+raise_yes row locks k b e h = subst (λ (z : Bool). Shows row (if z then k ∷ locks else locks)) (sym e) h
+
+-- masks after the seats scanned for k are forgotten, and after one more is noted
+forgets : (masks : List ℕ) (pairs : List (ℕ × ℕ)) (k : ℕ) → k < length masks → ShowsPairs masks pairs → ShowsPairs (slice_set masks k 0) (without_first k pairs)
+forgets masks pairs k near h = record {
+  each_lock = length-set masks k 0 ∙ h.each_lock;
+  bits = λ l j close lt. dite (ℕ_discrete l k)
+      (λ e. subst (λ (z : ℕ). bit_at (slice_index (slice_set masks k 0) z) j ≡ flag (has_pair z j (without_first k pairs))) (sym e) (ap (λ (x : ℕ). bit_at x j) (get_or-set_same masks k 0 0 near) ∙ (bit_at-zero j ∙ ap flag (sym (pair-without_same k j pairs)))))
+      (λ ne. ap (λ (x : ℕ). bit_at x j) (get_or-set_other masks k l 0 0 ne) ∙ (h.bits l j close lt ∙ ap flag (sym (pair-without_other l j k pairs ne))));
+}
+
+notes : (masks : List ℕ) (pairs : List (ℕ × ℕ)) (k i x : ℕ) → k < length masks → i < 64 → x ≡ bit_or (slice_index masks k) (1 * 2 ^ i % 2 ^ 64) → ShowsPairs masks pairs → ShowsPairs (slice_set masks k x) ((k, i) ∷ pairs)
+notes masks pairs k i x near small e h = record {
+  each_lock = length-set masks k x ∙ h.each_lock;
+  bits = λ l j close lt. dite (ℕ_discrete l k)
+      (λ same. subst (λ (z : ℕ). bit_at (slice_index (slice_set masks k x) z) j ≡ flag (has_pair z j ((k, i) ∷ pairs))) (sym same)
+      (ap (λ (y : ℕ). bit_at y j) (get_or-set_same masks k x 0 near ∙ e) ∙ dite (ℕ_discrete j i)
+      (λ f. subst (λ (y : ℕ). bit_at (bit_or (slice_index masks k) (1 * 2 ^ i % 2 ^ 64)) y ≡ flag (has_pair k y ((k, i) ∷ pairs))) (sym f) (bit_at_set_same w64 (slice_index masks k) i small ∙ ap flag (sym (pair-join_same k i pairs))))
+      (λ n. bit_at_set_other w64 (slice_index masks k) i small j n ∙ (subst (λ (z : ℕ). bit_at (slice_index masks z) j ≡ flag (has_pair z j pairs)) same (h.bits l j close lt) ∙ ap flag (sym (pair-join_other k j k i pairs (inr n)))))))
+      (λ ne. ap (λ (y : ℕ). bit_at y j) (get_or-set_other masks k l x 0 ne) ∙ (h.bits l j close lt ∙ ap flag (sym (pair-join_other l j k i pairs (inl ne)))));
+}
+
+pub forget_yes : (masks : List ℕ) (pairs : List (ℕ × ℕ)) (k : ℕ) (b : Bool) → b ≡ true → k < length masks → ShowsPairs masks pairs → ShowsPairs (slice_set masks k 0) (if b then without_first k pairs else pairs)
+forget_yes masks pairs k b e near h = subst (λ (z : Bool). ShowsPairs (slice_set masks k 0) (if z then without_first k pairs else pairs)) (sym e) (forgets masks pairs k near h)
+
+any_default : (l : List ℕ) (i d e : ℕ) → i < length l → slice_index_or l i d ≡ slice_index_or l i e
+any_default [] i d e h = absurd (omega arith)
+any_default (x ∷ xs) zero d e h = refl
+any_default (x ∷ xs) (suc i) d e h = any_default xs i d e (omega arith)
+
+pub note_yes : (masks : List ℕ) (pairs : List (ℕ × ℕ)) (k i old : ℕ) (b : Bool) → b ≡ true → k < length masks → i < 64 → old ≡ slice_index_or masks k old → ShowsPairs masks pairs → ShowsPairs (slice_set masks k (bit_or old (1 * 2 ^ i % 2 ^ 64))) (if b then (k, i) ∷ pairs else pairs)
+note_yes masks pairs k i old b e near small is h = subst (λ (z : Bool). ShowsPairs (slice_set masks k (bit_or old (1 * 2 ^ i % 2 ^ 64))) (if z then (k, i) ∷ pairs else pairs)) (sym e)
+    (notes masks pairs k i (bit_or old (1 * 2 ^ i % 2 ^ 64)) near small (ap (λ (w : ℕ). bit_or w (1 * 2 ^ i % 2 ^ 64)) (is ∙ any_default masks k old 0 near)) h)
+
+-- a lock of the set has its bit in a word that is not 0
+word_of_lock : (row locks : List ℕ) (k : ℕ) → Shows row locks → has k locks ≡ true → bit_at (slice_index row (k / 64)) (k % 64) ≡ 1
+word_of_lock row locks k h t = h.bits k (h.near k t) ∙ ap flag t
+
+no_bit : (w b : ℕ) → w ≡ 0 → bit_at w b ≡ 0
+no_bit w b e = ap (λ (x : ℕ). bit_at x b) e ∙ bit_at-zero b
+
+pub least_none : (row locks : List ℕ) → ((m : ℕ) → m < 16 → slice_index row m ≡ 0) → Shows row locks → (k : ℕ) → has k locks ≡ true → ⊥
+least_none row locks zeros h k t =
+    let near : k < 1024 = h.near k t in let set : bit_at (slice_index row (k / 64)) (k % 64) ≡ 1 = word_of_lock row locks k h t in
+    let clear : bit_at (slice_index row (k / 64)) (k % 64) ≡ 0 = no_bit (slice_index row (k / 64)) (k % 64) (zeros (k / 64) (omega arith)) in
+    absurd (omega arith)
+
+flag_true : (b : Bool) → flag b ≡ 1 → b ≡ true
+flag_true true e = refl
+flag_true false e = absurd (omega arith)
+
+pub least_some : (row locks : List ℕ) (i w : ℕ) → i < 16 → w ≡ slice_index row i → w ≢ 0 → w < 2 ^ 64 → ((m : ℕ) → m < i → slice_index row m ≡ 0) → Shows row locks
+    → (has (64 * i + trailing_zeros w64 w) locks ≡ true) × ((k : ℕ) → k < 64 * i + trailing_zeros w64 w → has k locks ≡ true → ⊥)
+least_some row locks i w small is some_bit fits zeros h =
+    let low = bit_at-trailing_zeros w64 w (omega arith) fits in let t : ℕ = trailing_zeros w64 w in
+    let below : t < 64 = low.0 in
+    let quotient : (64 * i + t) / 64 ≡ i = omega arith in let remainder : (64 * i + t) % 64 ≡ t = omega arith in
+    let set : bit_at (slice_index row ((64 * i + t) / 64)) ((64 * i + t) % 64) ≡ 1 =
+        subst (λ (b : ℕ). bit_at (slice_index row ((64 * i + t) / 64)) b ≡ 1) (sym remainder) (subst (λ (m : ℕ). bit_at (slice_index row m) t ≡ 1) (sym quotient) (ap (λ (x : ℕ). bit_at x t) (sym is) ∙ low.1)) in
+    let near : 64 * i + t < 1024 = omega arith in (
+      flag_true (has (64 * i + t) locks) (sym (h.bits (64 * i + t) near) ∙ set),
+      λ k lt it. let one : bit_at (slice_index row (k / 64)) (k % 64) ≡ 1 = word_of_lock row locks k h it in
+          dite (ℕ_discrete (k / 64) i)
+          (λ same. let early : k % 64 < t = omega arith in let clear : bit_at w (k % 64) ≡ 0 = low.2 (k % 64) early in
+          let there : bit_at (slice_index row (k / 64)) (k % 64) ≡ 0 = ap (λ (m : ℕ). bit_at (slice_index row m) (k % 64)) same ∙ (ap (λ (x : ℕ). bit_at x (k % 64)) (sym is) ∙ clear) in absurd (omega arith))
+          (λ ne. let before : k / 64 < i = omega arith in let there : bit_at (slice_index row (k / 64)) (k % 64) ≡ 0 = no_bit (slice_index row (k / 64)) (k % 64) (zeros (k / 64) before) in absurd (omega arith)),
+    )

@@ -1,0 +1,15 @@
+use Rattle.word_table.proofs.Opening.{deals_at, dealt_left, dealt_right}
+use Rattle.word_table.proofs.deal.deal_one.Goals as goal
+
+pub split_seat-requires : goal.split_seat-requires
+split_seat-requires g c = (
+  c.requires.table,
+  c.requires.counts.2,
+  deals_at c.args.table.now.key.base.items c.args.n c.args.j c.args.seat.now.me c.requires.counts.0 c.requires.seat (g.S.Shape.good c.args.table.now.key.shape) c.args.table.now.key.seats c.args.seat.now.id,
+)
+
+pub returns-clause-left : goal.returns-clause-left
+returns-clause-left g c = dealt_left c.args.table.now.key.base.items c.args.n c.args.j c.args.seat.now.me c.requires.counts.0 c.requires.seat c.split_seat.new.seat.me c.split_seat.ensures.2
+
+pub returns-clause-dealt : goal.returns-clause-dealt
+returns-clause-dealt g c = dealt_right c.args.table.now.key.base.items c.args.n c.args.j c.args.seat.now.me c.requires.counts.0 c.requires.seat c.split_seat.result.me c.split_seat.ensures.4

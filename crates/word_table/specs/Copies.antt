@@ -1,0 +1,43 @@
+-- What a pass is seen as, and how what it keeps stands for what its seat knows.
+use Rattle.std.specs.Prelude.{◌≡◌, ℕ, ◌/◌, ◌%◌, ◌<◌, ◌≤◌, true, List, [], ◌∷◌, None, length, slice_index}
+use Rattle.std.specs.Int.{bit_at}
+use Rattle.atomic_table.specs.Table.{Me}
+use Rattle.atomic_table.specs.Seated.{TableId}
+use Rattle.history_model.specs.declared.TheConstants.{LOCKS}
+use Rattle.history_model.specs.declared.view.View.{View}
+use Rattle.history_model.specs.declared.view.Phase.{Phase}
+use Rattle.history_model.specs.Sets.{has, has_pair, flag}
+use Rattle.history_model.specs.Table.{table_words}
+use Rattle.word_table.specs.declared.limits.TheConstants.{MOST_PASSES, MOST_WORDS}
+
+-- a pass: the table that it is of, and what it knows
+pub record PassView : Type 0 where
+  pub table : TableId
+  pub view : View
+
+-- sixteen words show a set of locks, a bit for each
+pub record Shows (row locks : List ℕ) : Type 0 where
+  pub sixteen : length row ≡ 16
+  pub bits : (k : ℕ) → k < LOCKS → bit_at (slice_index row (k / 64)) (k % 64) ≡ flag (has k locks)
+  pub near : (k : ℕ) → has k locks ≡ true → k < LOCKS
+
+-- a word for each lock shows the seats that were scanned for it, a bit for each
+pub record ShowsPairs (masks : List ℕ) (pairs : List (ℕ × ℕ)) : Type 0 where
+  pub each_lock : length masks ≡ LOCKS
+  pub bits : (k j : ℕ) → k < LOCKS → j < 64 → bit_at (slice_index masks k) j ≡ flag (has_pair k j pairs)
+
+-- what a pass keeps is a copy of what its seat knows
+pub record IsCopy (seats who : ℕ) (phase : Phase) (bits reads claims scans : List ℕ) (table : TableId) (me : Me (Unit {0}) View) : Type 0 where
+  pub slots : me.1 ≡ []
+  pub seats_are : me.0.seats ≡ seats
+  pub who_is : me.0.who ≡ who ∷ []
+  pub phase_is : me.0.phase ≡ phase
+  pub no_cause : me.0.due ≡ None
+  pub below : who < seats
+  pub few : seats ≤ MOST_PASSES
+  pub short : length me.0.base ≤ MOST_WORDS
+  pub long : table.words ≡ table_words seats (length me.0.base)
+  pub bits_are : Shows bits me.0.bits
+  pub reads_are : Shows reads me.0.reads
+  pub claims_are : Shows claims me.0.claims
+  pub scans_are : ShowsPairs scans me.0.scans

@@ -1,0 +1,95 @@
+//! Sets of locks, a bit for each in sixteen words, and the seats scanned for a lock, a bit for each in one word.
+
+ghost use Rattle.std.specs.Prelude.{◌≡◌, ◌<◌, ◌/◌, ◌%◌, ◌^◌, ℕ, List, ◌∷◌, true, slice_index, length, bit_and, bit_or, if◌then◌else◌};
+ghost use Rattle.std.specs.Int.{bit_at, bit_not};
+ghost use mir.Syntax.{w64};
+ghost use Rattle.history_model.specs.Sets.{has, without, without_first, flag};
+ghost use Rattle.word_table.specs.Copies.{Shows, ShowsPairs};
+ghost use Rattle.word_table.specs.Least.{IsLeast};
+
+use history_model::LOCKS;
+
+/// Whether the lock's bit is set.
+pub(crate) fn test(row: &[u64; 16], lock: u32) -> bool
+    requires { lock < LOCKS }
+    ensures { flag result ≡ bit_at (slice_index row.now (lock / 64)) (lock % 64) }
+{
+    (row[(lock / 64) as usize] >> (lock % 64)) & 1 == 1
+}
+
+/// The word of the lock's bit with the bit set.
+pub(crate) fn raised(row: &[u64; 16], lock: u32) -> u64
+    requires { lock < LOCKS }
+    ensures value { result ≡ bit_or (slice_index row.now (lock / 64)) (2 ^ (lock % 64)) }
+    ensures fits { slice_index row.now (lock / 64) < 2 ^ 64 }
+{
+    row[(lock / 64) as usize] | 1 << (lock % 64)
+}
+
+/// The word of the lock's bit with the bit cleared.
+pub(crate) fn lowered(row: &[u64; 16], lock: u32) -> u64
+    requires { lock < LOCKS }
+    ensures value { result ≡ bit_and (slice_index row.now (lock / 64)) (bit_not w64 (2 ^ (lock % 64))) }
+    ensures fits { slice_index row.now (lock / 64) < 2 ^ 64 }
+{
+    row[(lock / 64) as usize] & !(1 << (lock % 64))
+}
+
+/// The lock joins the set.
+pub(crate) fn raise(row: &mut [u64; 16], lock: u32)
+    requires { lock < LOCKS }
+    ensures { (locks : List ℕ) → Shows row.old locks → Shows row.new (lock ∷ locks) }
+{
+    row[(lock / 64) as usize] = raised(row, lock);
+}
+
+/// The lock leaves the set.
+pub(crate) fn lower(row: &mut [u64; 16], lock: u32)
+    requires { lock < LOCKS }
+    ensures { (locks : List ℕ) → Shows row.old locks → Shows row.new (without lock locks) }
+{
+    row[(lock / 64) as usize] = lowered(row, lock);
+}
+
+/// The lock joins the set if `yes`.
+pub(crate) fn raise_if(row: &mut [u64; 16], lock: u32, yes: bool)
+    requires { lock < LOCKS }
+    ensures { (locks : List ℕ) → Shows row.old locks → Shows row.new (if yes then lock ∷ locks else locks) }
+{
+    if yes {
+        raise(row, lock);
+    }
+}
+
+/// The least lock of the set.
+pub(crate) fn least(row: &[u64; 16]) -> Option<u32>
+    ensures { (locks : List ℕ) → Shows row.now locks → IsLeast (λ k. has k locks ≡ true) result }
+{
+    for i in 0..16u32 {
+        let word = row[i as usize];
+        if word != 0 {
+            return Some(64 * i + word.trailing_zeros());
+        }
+    }
+    None
+}
+
+/// No seat is scanned for the lock any more, if `yes`.
+pub(crate) fn forget_if(masks: &mut Vec<u64>, lock: u32, yes: bool)
+    requires { lock < length masks.old.items }
+    ensures { (pairs : List (ℕ × ℕ)) → ShowsPairs masks.old.items pairs → ShowsPairs masks.new.items (if yes then without_first lock pairs else pairs) }
+{
+    if yes {
+        masks[lock as usize] = 0;
+    }
+}
+
+/// The seat is scanned for the lock, if `yes`.
+pub(crate) fn note_if(masks: &mut Vec<u64>, lock: u32, seat: u32, yes: bool)
+    requires { (lock < length masks.old.items) × (seat < 64) }
+    ensures { (pairs : List (ℕ × ℕ)) → ShowsPairs masks.old.items pairs → ShowsPairs masks.new.items (if yes then (lock, seat) ∷ pairs else pairs) }
+{
+    if yes {
+        masks[lock as usize] |= 1 << seat;
+    }
+}

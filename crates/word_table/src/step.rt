@@ -1,0 +1,164 @@
+//! The atomic operations of a seat, each as a kind of step that keeps the rule.
+//!
+//! An operation is proved here once, for every kind of step that fits it. Which kind it is exists in the proof alone.
+
+ghost use Rattle.std.specs.Prelude.{List, ◌≡◌, ◌<◌, ◌==◌, ◌+◌, ℕ, [], if◌then◌else◌};
+ghost use Rattle.history_model.specs.declared.entry.Entry.{Entry};
+ghost use Rattle.locks_rule.specs.Actions.{Action};
+ghost use Rattle.word_table.specs.Kinds.{action_of, May, Stores, Took};
+
+use crate::rule::TableWords;
+use atomic_table::{Play, Seat};
+use history_model::{Shape, View};
+use std::marker::{Brand, PhantomData};
+
+/// A kind of step, with the seat that takes it, the lock, and what else the step is about.
+#[derive(Clone, Copy)]
+pub enum Step {
+    SetReadBit { seat: u32, lock: u32, word: u64 },
+    ClearReadBit { seat: u32, lock: u32 },
+    LoadWriter { seat: u32, lock: u32, word: u64 },
+    ClaimWriter { seat: u32, lock: u32, word: u64 },
+    ScanRow { seat: u32, lock: u32, other: u32 },
+    ReleaseWriter { seat: u32, lock: u32 },
+}
+
+/// The kind of a step, which a call picks for its proof.
+pub trait Kind {
+    ghost use Rattle.word_table.specs.declared.step.Step.{Step};
+
+    ghost step: { Step };
+}
+
+impl Kind for Brand {
+    ghost use Rattle.word_table.specs.declared.step.Step.TheVariants.{ReleaseWriter};
+
+    ghost step = { ReleaseWriter 0 0 };
+}
+
+/// What a load or an exchange tells: the step took place, in a state that met the rule.
+struct Takes<A> {
+    kind: PhantomData<A>,
+}
+
+impl<A: Kind> Play<(), View> for Takes<A> {
+    ghost use Rattle.word_table.specs.Kinds.{action_of, Took};
+
+    ghost then = { λ st me found after. Took (action_of A.step me.0) me after found };
+}
+
+/// What a store tells, which finds nothing.
+struct Puts<A> {
+    kind: PhantomData<A>,
+}
+
+impl<A: Kind> Play<(), View> for Puts<A> {
+    ghost use Rattle.std.specs.Prelude.{◌≡◌, []};
+    ghost use Rattle.word_table.specs.Kinds.{action_of};
+
+    ghost then = { λ st me new after. after ≡ ((action_of A.step me.0).view [] new, me.1) };
+}
+
+fn load_by<S: Shape, A: Kind>(
+    table: &TableWords<S>,
+    seat: &mut Seat<(), View>,
+    word: usize,
+    step: &Step,
+) -> u64
+    requires table { (seat.old.table_id ≡ table.now.table_id) × (word < table.now.table_id.words) }
+    requires kind { step.now ≡ A.step }
+    requires action { let x : Action = action_of step.now seat.old.me.0 in (word ≡ x.at) × ((w : ℕ) → x.writes w ≡ w) }
+    requires may { May step.now seat.old.me.0 }
+    ensures seat { seat.new.table_id ≡ seat.old.table_id }
+    ensures took { Took (action_of step.now seat.old.me.0) seat.old.me seat.new.me result }
+{
+    table.load::<Takes<A>>(seat, word)
+}
+
+fn store_by<S: Shape, A: Kind>(
+    table: &TableWords<S>,
+    seat: &mut Seat<(), View>,
+    word: usize,
+    new: u64,
+    step: &Step,
+)
+    requires table { (seat.old.table_id ≡ table.now.table_id) × (word < table.now.table_id.words) }
+    requires kind { step.now ≡ A.step }
+    requires action { let x : Action = action_of step.now seat.old.me.0 in (word ≡ x.at) × ((h : List Entry) (w : ℕ) → x.view h w ≡ x.view [] new) }
+    requires may { May step.now seat.old.me.0 }
+    requires stored { Stores (action_of step.now seat.old.me.0) seat.old.me.0 new }
+    ensures seat { seat.new.table_id ≡ seat.old.table_id }
+    ensures view { seat.new.me ≡ ((action_of step.now seat.old.me.0).view [] new, seat.old.me.1) }
+{
+    table.store::<Puts<A>>(seat, word, new)
+}
+
+fn exchange_by<S: Shape, A: Kind>(
+    table: &TableWords<S>,
+    seat: &mut Seat<(), View>,
+    word: usize,
+    old: u64,
+    new: u64,
+    step: &Step,
+) -> u64
+    requires table { (seat.old.table_id ≡ table.now.table_id) × (word < table.now.table_id.words) }
+    requires kind { step.now ≡ A.step }
+    requires action { let x : Action = action_of step.now seat.old.me.0 in (word ≡ x.at) × ((w : ℕ) → x.writes w ≡ if w == old then new else w) }
+    requires may { May step.now seat.old.me.0 }
+    ensures seat { seat.new.table_id ≡ seat.old.table_id }
+    ensures took { Took (action_of step.now seat.old.me.0) seat.old.me seat.new.me result }
+{
+    table.compare_exchange::<Takes<A>>(seat, word, old, new)
+}
+
+/// A load that is the step `step`.
+pub(crate) fn load<S: Shape>(
+    table: &TableWords<S>,
+    seat: &mut Seat<(), View>,
+    word: usize,
+    step: &Step,
+) -> u64
+    requires table { (seat.old.table_id ≡ table.now.table_id) × (word < table.now.table_id.words) }
+    requires action { let x : Action = action_of step.now seat.old.me.0 in (word ≡ x.at) × ((w : ℕ) → x.writes w ≡ w) }
+    requires may { May step.now seat.old.me.0 }
+    ensures seat { seat.new.table_id ≡ seat.old.table_id }
+    ensures took { Took (action_of step.now seat.old.me.0) seat.old.me seat.new.me result }
+{
+    load_by::<S, Brand>(table, seat, word, step)
+}
+
+/// A store that is the step `step`.
+pub(crate) fn store<S: Shape>(
+    table: &TableWords<S>,
+    seat: &mut Seat<(), View>,
+    word: usize,
+    new: u64,
+    step: &Step,
+)
+    requires table { (seat.old.table_id ≡ table.now.table_id) × (word < table.now.table_id.words) }
+    requires action { let x : Action = action_of step.now seat.old.me.0 in (word ≡ x.at) × ((h : List Entry) (w : ℕ) → x.view h w ≡ x.view [] new) }
+    requires may { May step.now seat.old.me.0 }
+    requires stored { Stores (action_of step.now seat.old.me.0) seat.old.me.0 new }
+    ensures seat { seat.new.table_id ≡ seat.old.table_id }
+    ensures view { seat.new.me ≡ ((action_of step.now seat.old.me.0).view [] new, seat.old.me.1) }
+{
+    store_by::<S, Brand>(table, seat, word, new, step)
+}
+
+/// A compare-exchange that is the step `step`. It gives the number found.
+pub(crate) fn exchange<S: Shape>(
+    table: &TableWords<S>,
+    seat: &mut Seat<(), View>,
+    word: usize,
+    old: u64,
+    new: u64,
+    step: &Step,
+) -> u64
+    requires table { (seat.old.table_id ≡ table.now.table_id) × (word < table.now.table_id.words) }
+    requires action { let x : Action = action_of step.now seat.old.me.0 in (word ≡ x.at) × ((w : ℕ) → x.writes w ≡ if w == old then new else w) }
+    requires may { May step.now seat.old.me.0 }
+    ensures seat { seat.new.table_id ≡ seat.old.table_id }
+    ensures took { Took (action_of step.now seat.old.me.0) seat.old.me seat.new.me result }
+{
+    exchange_by::<S, Brand>(table, seat, word, old, new, step)
+}
