@@ -2,3 +2,5 @@ pub mod Soundness
 pub mod Rows
 pub mod Opening
 pub mod Passes
+pub mod Found
+pub mod After

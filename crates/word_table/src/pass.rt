@@ -197,4 +197,173 @@ impl<S: Shape> Pass<S> {
     {
         bits::least(&self.bits)
     }
+
+    // The store of the own row with the lock's bit set, for the word a.
+    pub(crate) fn set_read_bit(&mut self, table: &TableWords<S>, a: u64)
+        requires table { self.old.table ≡ table.now.table_id }
+        requires phase { self.old.view.phase ≡ Phase.Running }
+        requires bit { ¬ IsGranted self.old.view (lock_of_word a) × ¬ HasBit self.old.view (lock_of_word a) }
+        ensures table { self.new.table ≡ self.old.table }
+        ensures view { self.new.view ≡ (set_read_bit_action (number self.old.view) (lock_of_word a) a self.old.view).view [] 0 }
+    {
+        let lock = lock_of(a);
+        let new = bits::raised(&self.bits, lock);
+        step::store(
+            table,
+            &mut self.seat,
+            place_of_bit(self.seats, self.who, lock),
+            new,
+            &Step::SetReadBit {
+                seat: self.who,
+                lock,
+                word: a,
+            },
+        );
+        bits::raise(&mut self.bits, lock);
+    }
+
+    // Sets the bit where it is not set.
+    pub(crate) fn make_seen(&mut self, table: &TableWords<S>, a: u64)
+        requires table { self.old.table ≡ table.now.table_id }
+        requires phase { self.old.view.phase ≡ Phase.Running }
+        requires granted { ¬ IsGranted self.old.view (lock_of_word a) }
+        ensures table { self.new.table ≡ self.old.table }
+        ensures view { self.new.view ≡ with_bit (lock_of_word a) a self.old.view }
+    {
+        if self.has_bit(lock_of(a)) {
+            return;
+        }
+        self.set_read_bit(table, a);
+    }
+
+    // The load of the lock's writer word, for the word a. It is a read grant where no other seat claims.
+    pub(crate) fn load_writer(&mut self, table: &TableWords<S>, a: u64) -> u64
+        requires table { self.old.table ≡ table.now.table_id }
+        requires phase { self.old.view.phase ≡ Phase.Running }
+        requires bit { ¬ IsGranted self.old.view (lock_of_word a) × HasBit self.old.view (lock_of_word a) }
+        ensures table { self.new.table ≡ self.old.table }
+        ensures view { self.new.view ≡ (load_writer_action (number self.old.view) (lock_of_word a) a self.old.view).view [] result }
+        ensures word { IsWriterWord self.old.view.seats (lock_of_word a) result }
+        ensures small { result ≤ MOST_PASSES }
+    {
+        let lock = lock_of(a);
+        let found = step::load(
+            table,
+            &mut self.seat,
+            place_of_writer(self.seats, lock),
+            &Step::LoadWriter {
+                seat: self.who,
+                lock,
+                word: a,
+            },
+        );
+        let unclaimed = is_unclaimed(found, self.who);
+        bits::raise_if(&mut self.reads, lock, unclaimed);
+        found
+    }
+
+    // The compare-exchange of the lock's writer word, for the word a. It is a claim where the word was 0.
+    pub(crate) fn claim_writer(&mut self, table: &TableWords<S>, a: u64) -> u64
+        requires table { self.old.table ≡ table.now.table_id }
+        requires phase { self.old.view.phase ≡ Phase.Running }
+        requires claim { ¬ HasClaim self.old.view (lock_of_word a) }
+        ensures table { self.new.table ≡ self.old.table }
+        ensures view { self.new.view ≡ (claim_writer_action (number self.old.view) (lock_of_word a) a self.old.view).view [] result }
+        ensures word { IsWriterWord self.old.view.seats (lock_of_word a) result }
+        ensures other { result ≢ number self.old.view + 1 }
+        ensures small { result ≤ MOST_PASSES }
+    {
+        let lock = lock_of(a);
+        let own = u64::from(self.who) + 1;
+        let found = step::exchange(
+            table,
+            &mut self.seat,
+            place_of_writer(self.seats, lock),
+            0,
+            own,
+            &Step::ClaimWriter {
+                seat: self.who,
+                lock,
+                word: a,
+            },
+        );
+        let won = found == 0;
+        bits::raise_if(&mut self.claims, lock, won);
+        bits::forget_if(&mut self.scans, lock, won);
+        found
+    }
+
+    // The load of the row word of seat `other`, for the own claim. The seat is scanned where its bit is clear.
+    pub(crate) fn scan_row(&mut self, table: &TableWords<S>, k: u32, other: u32) -> u64
+        requires table { self.old.table ≡ table.now.table_id }
+        requires phase { self.old.view.phase ≡ Phase.Running }
+        requires claim { (k < LOCKS) × HasClaim self.old.view k }
+        requires other { (other < self.old.view.seats) × (other ≢ number self.old.view) }
+        ensures table { self.new.table ≡ self.old.table }
+        ensures view { self.new.view ≡ (scan_row_action (number self.old.view) k other self.old.view).view [] result }
+        ensures word { IsRowWord k other result }
+    {
+        let found = step::load(
+            table,
+            &mut self.seat,
+            place_of_bit(self.seats, other, k),
+            &Step::ScanRow {
+                seat: self.who,
+                lock: k,
+                other,
+            },
+        );
+        let clear = (found >> (k % 64)) & 1 == 0;
+        bits::note_if(&mut self.scans, k, other, clear);
+        found
+    }
+
+    // The store of 0 to the lock's writer word.
+    pub(crate) fn release_writer(&mut self, table: &TableWords<S>, k: u32)
+        requires table { self.old.table ≡ table.now.table_id }
+        requires claim { (k < LOCKS) × HasClaim self.old.view k }
+        requires undone { (self.old.view.undo ≡ []) ⊎ (self.old.view.phase ≡ Phase.Releasing) }
+        requires begun { self.old.view.phase ≢ Phase.Idle }
+        ensures table { self.new.table ≡ self.old.table }
+        ensures view { self.new.view ≡ (release_writer_action (number self.old.view) k self.old.view).view [] 0 }
+    {
+        step::store(
+            table,
+            &mut self.seat,
+            place_of_writer(self.seats, k),
+            0,
+            &Step::ReleaseWriter {
+                seat: self.who,
+                lock: k,
+            },
+        );
+        bits::lower(&mut self.claims, k);
+        bits::forget_if(&mut self.scans, k, true);
+        self.phase = after_release(self.phase);
+    }
+
+    // The store of the own row with the lock's bit cleared.
+    pub(crate) fn clear_read_bit(&mut self, table: &TableWords<S>, k: u32)
+        requires table { self.old.table ≡ table.now.table_id }
+        requires bit { (k < LOCKS) × HasBit self.old.view k }
+        requires undone { (self.old.view.undo ≡ []) ⊎ (self.old.view.phase ≡ Phase.Releasing) }
+        requires begun { self.old.view.phase ≢ Phase.Idle }
+        ensures table { self.new.table ≡ self.old.table }
+        ensures view { self.new.view ≡ (clear_read_bit_action (number self.old.view) k self.old.view).view [] 0 }
+    {
+        let new = bits::lowered(&self.bits, k);
+        step::store(
+            table,
+            &mut self.seat,
+            place_of_bit(self.seats, self.who, k),
+            new,
+            &Step::ClearReadBit {
+                seat: self.who,
+                lock: k,
+            },
+        );
+        bits::lower(&mut self.bits, k);
+        bits::lower(&mut self.reads, k);
+        self.phase = after_release(self.phase);
+    }
 }
