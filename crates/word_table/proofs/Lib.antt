@@ -4,3 +4,4 @@ pub mod Opening
 pub mod Passes
 pub mod Found
 pub mod After
+pub mod Answering

@@ -12,7 +12,7 @@ use Rattle.history_model.specs.declared.TheConstants.{LOCKS}
 use Rattle.history_model.specs.declared.view.View.{View}
 use Rattle.history_model.specs.declared.view.Phase.TheVariants.{Running}
 use Rattle.history_model.specs.Sets.{has, without, has_pair, flag}
-use Rattle.history_model.specs.Table.{Knows, row_word, writer_word, table_words}
+use Rattle.history_model.specs.Table.{Knows, row_word, writer_word, value_word, table_words}
 use Rattle.history_model.specs.Views.{HasClaim}
 use Rattle.locks_rule.specs.Locks.{LocksHold, IsSeat}
 use Rattle.locks_rule.specs.Splits.{opening_view, left_by_split, given_by_split, MaySplitSeat}
@@ -54,11 +54,11 @@ opening_locks n base =
     let none : (f : View → List ℕ) → f v ≡ [] → (id k : ℕ) (u : View) → Knows (v ∷ []) id u → has k (f u) ≡ false = λ f e id k u known.
     ap (λ (x : View). has k (f x)) (sym (one id u known).1) ∙ (ap (λ (l : List ℕ). has k l) e ∙ has-nil k) in
     record {
-      word_count = zeros_long (table_words n 0) base ∙ omega arith;
+      word_count = zeros_long (value_word n 0) base ∙ omega arith;
       rows_show_bits = λ id j k u s near. let lt : j < n = below id j u s in
-          ap (λ (x : ℕ). bit_at x (k % 64)) (zeros_at (table_words n 0) base (row_word n j k) (omega arith)) ∙ (bit_at-zero (k % 64) ∙ sym (ap flag (none (λ x. x.bits) refl id k u s.knows)));
+          ap (λ (x : ℕ). bit_at x (k % 64)) (zeros_at (value_word n 0) base (row_word n j k) (omega arith)) ∙ (bit_at-zero (k % 64) ∙ sym (ap flag (none (λ x. x.bits) refl id k u s.knows)));
       reads_lie_in_bits = λ id k u e t. absurd (differ (has k u.reads) t (none (λ x. x.reads) refl id k u e));
-      writers_show_claims = λ j k near e. let z : slice_index (opening_words n base) (writer_word n k) ≡ 0 = zeros_at (table_words n 0) base (writer_word n k) (omega arith) in absurd (omega arith);
+      writers_show_claims = λ j k near e. let z : slice_index (opening_words n base) (writer_word n k) ≡ 0 = zeros_at (value_word n 0) base (writer_word n k) (omega arith) in absurd (omega arith);
       claims_show_in_writers = λ id k u e t. absurd (differ (has k u.claims) t (none (λ x. x.claims) refl id k u e));
       scanned_excludes_readers = λ id other j k u w ne e s c t. none (λ x. x.reads) refl other k w s.knows;
       bits_were_asked = λ id k u e t. absurd (differ (has k u.bits) t (none (λ x. x.bits) refl id k u e));

@@ -1,7 +1,7 @@
 //! Where the words of the locks stand in a table.
 
 ghost use Rattle.std.specs.Prelude.{◌≡◌, ◌<◌, ◌≤◌};
-ghost use Rattle.history_model.specs.Table.{row_word, writer_word};
+ghost use Rattle.history_model.specs.Table.{row_word, writer_word, value_word};
 
 use crate::limits::MOST_PASSES;
 use history_model::LOCKS;
@@ -22,4 +22,12 @@ pub(crate) fn place_of_writer(seats: u32, lock: u32) -> usize
     ensures { result ≡ writer_word seats lock }
 {
     (2 + 18 * seats + lock) as usize
+}
+
+/// The first word of the memory, behind all words of the locks.
+pub(crate) fn place_of_values(seats: u32) -> usize
+    requires { seats ≤ MOST_PASSES }
+    ensures { result ≡ value_word seats 0 }
+{
+    2 + 18 * seats as usize + LOCKS as usize
 }

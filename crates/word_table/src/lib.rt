@@ -13,6 +13,7 @@
 pub mod answer;
 mod bits;
 mod deal;
+pub mod desk;
 mod layout;
 pub mod limits;
 pub mod pass;
@@ -20,6 +21,7 @@ pub mod rule;
 pub mod step;
 
 pub use answer::{Claimed, Scanned, Shared};
+pub use desk::Desk;
 pub use history_model::Phase;
 pub use limits::{MOST_PASSES, MOST_WORDS};
 pub use pass::Pass;

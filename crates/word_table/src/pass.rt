@@ -3,17 +3,18 @@
 //! The copy has a fixed size, which `Desk::new` makes. The rest of what a pass knows is its view, which exists in
 //! contracts alone.
 
-ghost use Rattle.std.specs.Prelude.{◌≡◌, ◌≢◌, ◌⊎◌, ◌↔◌, ◌<◌, ◌≤◌, ◌+◌, ◌||◌, ◌==◌, ℕ, true, false, IsTrue, IfSome, IsSome, length, [], ◌∷◌, None, replicate};
+ghost use Rattle.std.specs.Prelude.{◌≡◌, ◌≢◌, ◌⊎◌, ◌↔◌, ◌<◌, ◌≤◌, ◌+◌, ℕ, true, false, IsTrue, IfSome, IsSome, length, [], ◌∷◌, None, replicate};
 ghost use Rattle.history_model.specs.Locks.{lock_of_word};
 ghost use Rattle.history_model.specs.Sets.{has, has_pair};
 ghost use Rattle.history_model.specs.Table.{table_words};
 ghost use Rattle.history_model.specs.Views.{number, HasBit, HasReadGrant, HasClaim, IsScanned, HasWriteGrant, IsGranted};
 ghost use Rattle.locks_rule.specs.Splits.{opening_view};
-ghost use Rattle.locks_rule.specs.Steps.{is_free, released_phase, set_read_bit_action, clear_read_bit_action, load_writer_action, claim_writer_action, scan_row_action, release_writer_action};
+ghost use Rattle.locks_rule.specs.Steps.{released_phase, set_read_bit_action, clear_read_bit_action, load_writer_action, claim_writer_action, scan_row_action, release_writer_action};
 ghost use Rattle.word_table.specs.Calls.{IsWriterWord, IsRowWord, with_bit};
 ghost use Rattle.word_table.specs.Least.{IsLeast};
 ghost use Rattle.word_table.specs.Unscanned.{IsUnscanned};
 
+use crate::answer::is_unclaimed;
 use crate::layout::{place_of_bit, place_of_writer};
 use crate::limits::{MOST_PASSES, MOST_WORDS};
 use crate::rule::TableWords;
@@ -22,13 +23,6 @@ use crate::{bits, step};
 use atomic_table::Seat;
 use history_model::{LOCKS, Phase, Shape, View, lock_of};
 use std::marker::{Model, PhantomData};
-
-// No other seat claims a lock whose writer word is this.
-fn is_unclaimed(found: u64, who: u32) -> bool
-    ensures { result ≡ is_free who found }
-{
-    found == 0 || found == u64::from(who) + 1
-}
 
 // The phase once a lock was released.
 fn after_release(phase: Phase) -> Phase
@@ -222,13 +216,15 @@ impl<S: Shape> Pass<S> {
         bits::raise(&mut self.bits, lock);
     }
 
-    // Sets the bit where it is not set.
+    // Sets the bit of the lock of word a, where it is not set.
     pub(crate) fn make_seen(&mut self, table: &TableWords<S>, a: u64)
         requires table { self.old.table ≡ table.now.table_id }
         requires phase { self.old.view.phase ≡ Phase.Running }
         requires granted { ¬ IsGranted self.old.view (lock_of_word a) }
         ensures table { self.new.table ≡ self.old.table }
         ensures view { self.new.view ≡ with_bit (lock_of_word a) a self.old.view }
+        ensures phase { self.new.view.phase ≡ Phase.Running }
+        ensures bit { ¬ IsGranted self.new.view (lock_of_word a) × HasBit self.new.view (lock_of_word a) }
     {
         if self.has_bit(lock_of(a)) {
             return;
@@ -272,6 +268,7 @@ impl<S: Shape> Pass<S> {
         ensures word { IsWriterWord self.old.view.seats (lock_of_word a) result }
         ensures other { result ≢ number self.old.view + 1 }
         ensures small { result ≤ MOST_PASSES }
+        ensures one { self.old.view.who ≡ number self.old.view ∷ [] }
     {
         let lock = lock_of(a);
         let own = u64::from(self.who) + 1;
@@ -302,6 +299,7 @@ impl<S: Shape> Pass<S> {
         ensures table { self.new.table ≡ self.old.table }
         ensures view { self.new.view ≡ (scan_row_action (number self.old.view) k other self.old.view).view [] result }
         ensures word { IsRowWord k other result }
+        ensures one { self.old.view.who ≡ number self.old.view ∷ [] }
     {
         let found = step::load(
             table,

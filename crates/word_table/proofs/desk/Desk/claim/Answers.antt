@@ -1,0 +1,18 @@
+use Rattle.std.proofs.Common.{inr}
+use Rattle.history_model.specs.Locks.{lock_of_word}
+use Rattle.history_model.specs.Views.{number}
+use Rattle.word_table.proofs.Answering.{not_claimed, asks_claim, claim_pending, claim_met}
+use Rattle.word_table.proofs.desk.Desk.claim.Goals as goal
+
+-- there was no claim, and the step was taken
+pub returns-clause-step : goal.returns-clause-step
+returns-clause-step g c = inr (
+  not_claimed c.args.pass.now.view (lock_of_word c.args.a) c.lock_of.result c.has_claim.result c.lock_of.ensures.lock c.has_claim.ensures c.if-has_claim.false,
+  asks_claim c.args.pass.now.view c.claim_writer-found.new.self.view c.args.a c.claim_writer-found.result c.claimed_by.result c.claim_writer-found.ensures.view c.claim_writer-found.ensures.word c.claim_writer-found.ensures.other c.claimed_by.ensures,
+)
+
+pub returns-clause-pending : goal.returns-clause-pending
+returns-clause-pending g c = claim_pending c.args.pass.now.view c.args.a c.claimed_by.result c.claim_writer-found.new.self.view (returns-clause-step g c)
+
+pub returns-clause-met : goal.returns-clause-met
+returns-clause-met g c = claim_met c.args.pass.now.view c.args.a (number c.args.pass.now.view) c.claimed_by.result c.claim_writer-found.new.self.view c.claim_writer-found.ensures.one (returns-clause-step g c)

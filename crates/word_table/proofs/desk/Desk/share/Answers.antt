@@ -1,0 +1,25 @@
+use Rattle.std.proofs.Common.{ℕ, inr, ap, ◌∙◌}
+use Rattle.history_model.specs.Locks.{lock_of_word}
+use Rattle.word_table.specs.Calls.{shared_of}
+use Rattle.word_table.proofs.Answering.{not_granted, asks_shared, share_granted, share_met, share_bit}
+use Rattle.word_table.proofs.desk.Desk.share.Goals as goal
+
+-- the lock was not held, and both steps were taken
+pub returns-clause-step : goal.returns-clause-step
+returns-clause-step g c = inr (
+  not_granted c.args.pass.now.view (lock_of_word c.args.a) c.lock_of.result c.is_granted.result c.lock_of.ensures.lock c.is_granted.ensures.1 c.if-is_granted.false,
+  asks_shared c.args.pass.now.view c.make_seen.new.self.view c.load_writer-found.new.self.view c.args.a c.load_writer-found.result c.shared_by.result c.make_seen.ensures.view c.load_writer-found.ensures.view c.load_writer-found.ensures.word
+      (c.shared_by.ensures ∙ ap (λ (j : ℕ). shared_of j c.load_writer-found.result) c.who-who.ensures.number),
+)
+
+pub returns-clause-granted : goal.returns-clause-granted
+returns-clause-granted g c = share_granted c.args.pass.now.view c.args.a c.shared_by.result c.load_writer-found.new.self.view (returns-clause-step g c)
+
+pub returns-clause-met : goal.returns-clause-met
+returns-clause-met g c = share_met c.args.pass.now.view c.args.a c.who-who.result c.shared_by.result c.load_writer-found.new.self.view c.who-who.ensures.one (returns-clause-step g c)
+
+pub returns-clause-bit : goal.returns-clause-bit
+returns-clause-bit g c = share_bit c.args.pass.now.view c.args.a c.shared_by.result c.load_writer-found.new.self.view (returns-clause-step g c)
+
+pub returns-clause-held : goal.returns-clause-held
+returns-clause-held g c held = absurd (not_granted c.args.pass.now.view (lock_of_word c.args.a) c.lock_of.result c.is_granted.result c.lock_of.ensures.lock c.is_granted.ensures.1 c.if-is_granted.false held)

@@ -1,0 +1,159 @@
+//! The shared table, and the calls that step on its locks.
+
+ghost use Rattle.std.specs.Prelude.{◌≡◌, ◌≢◌, ◌⊎◌, ◌<◌, ◌≤◌, ℕ, [], ◌∷◌, length, IfOk, Some, slice_get};
+ghost use Rattle.history_model.specs.Fitting.{IsGood};
+ghost use Rattle.history_model.specs.Locks.{lock_of_word};
+ghost use Rattle.history_model.specs.Views.{number, HasBit, HasClaim, IsScanned, IsGranted};
+ghost use Rattle.locks_rule.specs.Splits.{opening_view};
+ghost use Rattle.locks_rule.specs.Steps.{release_writer_action, clear_read_bit_action};
+ghost use Rattle.word_table.specs.Calls.{SharedBy, ClaimedBy, ScannedBy, MetOn};
+ghost use Rattle.word_table.specs.Sound.{opening_words};
+
+use crate::answer::{Claimed, Scanned, Shared, claimed_by, scanned_by, shared_by};
+use crate::deal::deal;
+use crate::layout::place_of_values;
+use crate::limits::{MOST_PASSES, MOST_WORDS};
+use crate::pass::Pass;
+use crate::rule::{DeskRule, Ground};
+use atomic_table::Table;
+use history_model::{LOCKS, Phase, Shape, View, lock_of};
+use io_ends::OutOfMemory;
+use std::alloc::Global;
+use std::marker::Model;
+
+// The words of a table for n seats: those of the locks are 0, and the memory's come last.
+fn lay(alloc: Global, base: &Vec<u64>, n: u32) -> Result<Vec<u64>, OutOfMemory>
+    requires { (n ≤ MOST_PASSES) × (length base.now.items ≤ MOST_WORDS) }
+    ensures { IfOk result (λ words. words.items ≡ opening_words n base.now.items) }
+{
+    let mut words = vec![in alloc; 0u64; place_of_values(n)]?;
+    words.extend_from_slice(base.as_slice())?;
+    Ok(words)
+}
+
+/// The shared table. Any number of threads may step on it, each with a pass of its own.
+#[derive(Drop)]
+pub struct Desk<S: Shape> {
+    table: Table<(), View, Ground<S>, DeskRule<S>, Global>,
+}
+
+impl<S: Shape> Model for Desk<S> {
+    ghost use Rattle.std.specs.Prelude.{◌≡◌, length};
+    ghost use Rattle.history_model.specs.Table.{table_words};
+    ghost use Rattle.word_table.specs.Desks.{DeskView};
+
+    ghost Value = { DeskView S };
+
+    ghost view = { λ d. record { table = d.table.shared.table_id; base = d.table.shared.key.base.items; seats = d.table.shared.key.seats; shape = d.table.shared.key.shape } };
+
+    ghost invariant = { λ d. (d.table.shared.table_id.slots ≡ 0) × (d.table.shared.table_id.words ≡ table_words d.table.shared.key.seats (length d.table.shared.key.base.items)) };
+}
+
+impl<S: Shape> Desk<S> {
+    /// A desk over the words `base`, and a pass for each of n seats. Pass j has the number j.
+    pub fn new(
+        alloc: Global,
+        shape: S,
+        base: Vec<u64>,
+        n: u32,
+    ) -> Result<(Desk<S>, Vec<Pass<S>>), OutOfMemory>
+        requires good { IsGood (S.word_count shape) (S.good shape) base.items }
+        requires words { (1 ≤ length base.items) × (length base.items ≤ MOST_WORDS) }
+        requires seats { (1 ≤ n) × (n ≤ MOST_PASSES) }
+        ensures desk { IfOk result (λ made. (made.0.base ≡ base.items) × (made.0.seats ≡ n) × (made.0.shape ≡ shape)) }
+        ensures count { IfOk result (λ made. length made.1.items ≡ n) }
+        ensures passes { IfOk result (λ made. (j : ℕ) → j < n → slice_get made.1.items j ≡ Some (record { table = made.0.table; view = opening_view base.items n (j ∷ []) [] })) }
+    {
+        let words = lay(alloc, &base, n)?;
+        let ground = Ground {
+            seats: n,
+            base,
+            shape,
+        };
+        let (table, seat) = Table::of_words(alloc, words.as_slice(), &ground)?;
+        let passes = deal(alloc, &table.shared, seat, n)?;
+        Ok((Desk { table }, passes))
+    }
+
+    /// Asks for the lock of word a, to read it. A lock that is held already takes no step. Else the own read bit is
+    /// set, if it is not, and only then the writer word is looked at: a writer that claims the lock later scans for
+    /// the bit, so one of the two sees the other.
+    pub fn share(&self, pass: &mut Pass<S>, a: u64) -> Shared
+        requires desk { pass.old.table ≡ self.now.table }
+        requires phase { pass.old.view.phase ≡ Phase.Running }
+        requires word { a < length pass.old.view.base }
+        ensures desk { pass.new.table ≡ pass.old.table }
+        ensures step { SharedBy pass.old.view a result pass.new.view }
+        ensures granted { result ≡ Shared.Granted → IsGranted pass.new.view (lock_of_word a) }
+        ensures met { (j : ℕ) → result ≡ Shared.Met j → MetOn pass.old.view pass.new.view (lock_of_word a) j }
+        ensures bit { (j : ℕ) → result ≡ Shared.Met j → HasBit pass.new.view (lock_of_word a) }
+        ensures held { IsGranted pass.old.view (lock_of_word a) → (result ≡ Shared.Granted) × (pass.new.view ≡ pass.old.view) }
+    {
+        if pass.is_granted(lock_of(a)) {
+            return Shared::Granted;
+        }
+        let who = pass.who();
+        pass.make_seen(&self.table.shared, a);
+        let found = pass.load_writer(&self.table.shared, a);
+        shared_by(found, who)
+    }
+
+    /// Claims the lock of word a, to write it. An own claim takes no step. A claim is an exclusive lock once every
+    /// other seat was scanned for it: a reader sets its bit before it looks at the writer word, so one of the two
+    /// sees the other.
+    pub fn claim(&self, pass: &mut Pass<S>, a: u64) -> Claimed
+        requires desk { pass.old.table ≡ self.now.table }
+        requires phase { pass.old.view.phase ≡ Phase.Running }
+        requires word { a < length pass.old.view.base }
+        ensures desk { pass.new.table ≡ pass.old.table }
+        ensures step { ClaimedBy pass.old.view a result pass.new.view }
+        ensures pending { result ≡ Claimed.Pending → HasClaim pass.new.view (lock_of_word a) }
+        ensures met { (j : ℕ) → result ≡ Claimed.Met j → MetOn pass.old.view pass.new.view (lock_of_word a) j }
+        ensures held { HasClaim pass.old.view (lock_of_word a) → (result ≡ Claimed.Pending) × (pass.new.view ≡ pass.old.view) }
+    {
+        if pass.has_claim(lock_of(a)) {
+            return Claimed::Pending;
+        }
+        let found = pass.claim_writer(&self.table.shared, a);
+        claimed_by(found)
+    }
+
+    /// Looks whether the seat `other` has its read bit set, for the own claim on lock k.
+    pub fn scan(&self, pass: &mut Pass<S>, k: u32, other: u32) -> Scanned
+        requires desk { pass.old.table ≡ self.now.table }
+        requires phase { pass.old.view.phase ≡ Phase.Running }
+        requires claim { (k < LOCKS) × HasClaim pass.old.view k }
+        requires other { (other < pass.old.view.seats) × (other ≢ number pass.old.view) }
+        ensures desk { pass.new.table ≡ pass.old.table }
+        ensures step { ScannedBy pass.old.view k other result pass.new.view }
+        ensures clear { result ≡ Scanned.Clear → IsScanned pass.new.view k other }
+        ensures met { (j : ℕ) → result ≡ Scanned.Met j → (j ≡ other) × MetOn pass.old.view pass.new.view k j }
+    {
+        let found = pass.scan_row(&self.table.shared, k, other);
+        scanned_by(found, k, other)
+    }
+
+    /// Gives up the own claim on lock k. The call ends with that, unless it gives way.
+    pub fn unclaim(&self, pass: &mut Pass<S>, k: u32)
+        requires desk { pass.old.table ≡ self.now.table }
+        requires claim { (k < LOCKS) × HasClaim pass.old.view k }
+        requires undone { (pass.old.view.undo ≡ []) ⊎ (pass.old.view.phase ≡ Phase.Releasing) }
+        requires begun { pass.old.view.phase ≢ Phase.Idle }
+        ensures desk { pass.new.table ≡ pass.old.table }
+        ensures step { pass.new.view ≡ (release_writer_action (number pass.old.view) k pass.old.view).view [] 0 }
+    {
+        pass.release_writer(&self.table.shared, k);
+    }
+
+    /// Clears the own read bit on lock k. The call ends with that, unless it gives way.
+    pub fn unshare(&self, pass: &mut Pass<S>, k: u32)
+        requires desk { pass.old.table ≡ self.now.table }
+        requires bit { (k < LOCKS) × HasBit pass.old.view k }
+        requires undone { (pass.old.view.undo ≡ []) ⊎ (pass.old.view.phase ≡ Phase.Releasing) }
+        requires begun { pass.old.view.phase ≢ Phase.Idle }
+        ensures desk { pass.new.table ≡ pass.old.table }
+        ensures step { pass.new.view ≡ (clear_read_bit_action (number pass.old.view) k pass.old.view).view [] 0 }
+    {
+        pass.clear_read_bit(&self.table.shared, k);
+    }
+}
