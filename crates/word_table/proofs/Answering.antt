@@ -23,7 +23,7 @@ use Rattle.word_table.specs.declared.answer.Scanned.TheVariants as scanned
 use Rattle.word_table.specs.Calls.{SomeoneAt, IsWriterWord, IsRowWord, MetOn, with_bit, shared_of, AsksShared, SharedBy, claimed_of, AsksClaim, ClaimedBy, scanned_of, ScannedBy}
 
 -- the view once the own bit is set, where it was not
-with_bit_cases : (k a : ℕ) (v : View) (P : View → Type 0) → (HasBit v k → P v) → P ((set_read_bit_action (number v) k a v).view [] 0) → P (with_bit k a v)
+pub with_bit_cases : (k a : ℕ) (v : View) (P : View → Type 0) → (HasBit v k → P v) → P ((set_read_bit_action (number v) k a v).view [] 0) → P (with_bit k a v)
 with_bit_cases k a v P kept set = ⊎_elim
     (λ t. subst (λ (b : Bool). P (if b then v else (set_read_bit_action (number v) k a v).view [] 0)) (sym t) (kept t))
     (λ f. subst (λ (b : Bool). P (if b then v else (set_read_bit_action (number v) k a v).view [] 0)) (sym f) set)

@@ -5,3 +5,4 @@ pub mod Passes
 pub mod Found
 pub mod After
 pub mod Answering
+pub mod Staying

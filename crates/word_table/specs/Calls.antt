@@ -5,7 +5,7 @@ use Rattle.history_model.specs.declared.view.View.{View}
 use Rattle.history_model.specs.Conflicts.{IsAt, IsConflict}
 use Rattle.history_model.specs.Locks.{lock_of_word}
 use Rattle.history_model.specs.Sets.{has}
-use Rattle.history_model.specs.Views.{number, HasClaim, IsGranted}
+use Rattle.history_model.specs.Views.{number, HasReadGrant, HasClaim, HasWriteGrant, IsGranted}
 use Rattle.locks_rule.specs.Steps.{is_free, set_read_bit_action, load_writer_action, claim_writer_action, scan_row_action}
 use Rattle.word_table.specs.declared.answer.Shared.{Shared}
 use Rattle.word_table.specs.declared.answer.Shared.TheVariants as shared
@@ -31,6 +31,29 @@ pub record MetOn (old new : View) (k i : ℕ) : Type 0 where
   pub seat : i < old.seats
   pub other : has i old.who ≡ false
   pub conflict : (u : View) × IsConflict old new u k i
+
+-- the call goes on as it was: asking for locks leaves all but what is known of locks
+pub record SameCall (old new : View) : Type 0 where
+  pub base : new.base ≡ old.base
+  pub seats : new.seats ≡ old.seats
+  pub who : new.who ≡ old.who
+  pub joined : new.joined ≡ old.joined
+  pub seen : new.seen ≡ old.seen
+  pub olds : new.olds ≡ old.olds
+  pub phase : new.phase ≡ old.phase
+  pub call : new.call ≡ old.call
+  pub floor : new.floor ≡ old.floor
+  pub trace : new.trace ≡ old.trace
+  pub undo : new.undo ≡ old.undo
+  pub waits : new.waits ≡ old.waits
+  pub stamp : new.stamp ≡ old.stamp
+  pub announced : new.announced ≡ old.announced
+  pub due : new.due ≡ old.due
+  pub abandoned : new.abandoned ≡ old.abandoned
+
+-- a lock that was held still is
+abbrev pub GrantsStay : View → View → Type 0
+GrantsStay old new = (k : ℕ) → (HasReadGrant old k → HasReadGrant new k) × (HasWriteGrant old k → HasWriteGrant new k)
 
 -- the view with the read bit of lock k set, where it was not
 abbrev pub with_bit : ℕ → ℕ → View → View

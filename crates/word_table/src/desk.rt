@@ -6,7 +6,7 @@ ghost use Rattle.history_model.specs.Locks.{lock_of_word};
 ghost use Rattle.history_model.specs.Views.{number, HasBit, HasClaim, IsScanned, IsGranted};
 ghost use Rattle.locks_rule.specs.Splits.{opening_view};
 ghost use Rattle.locks_rule.specs.Steps.{release_writer_action, clear_read_bit_action};
-ghost use Rattle.word_table.specs.Calls.{SharedBy, ClaimedBy, ScannedBy, MetOn};
+ghost use Rattle.word_table.specs.Calls.{SharedBy, ClaimedBy, ScannedBy, MetOn, SameCall, GrantsStay};
 ghost use Rattle.word_table.specs.Sound.{opening_words};
 
 use crate::answer::{Claimed, Scanned, Shared, claimed_by, scanned_by, shared_by};
@@ -88,6 +88,8 @@ impl<S: Shape> Desk<S> {
         ensures met { (j : ℕ) → result ≡ Shared.Met j → MetOn pass.old.view pass.new.view (lock_of_word a) j }
         ensures bit { (j : ℕ) → result ≡ Shared.Met j → HasBit pass.new.view (lock_of_word a) }
         ensures held { IsGranted pass.old.view (lock_of_word a) → (result ≡ Shared.Granted) × (pass.new.view ≡ pass.old.view) }
+        ensures call { SameCall pass.old.view pass.new.view }
+        ensures grants { GrantsStay pass.old.view pass.new.view }
     {
         if pass.is_granted(lock_of(a)) {
             return Shared::Granted;
@@ -110,6 +112,8 @@ impl<S: Shape> Desk<S> {
         ensures pending { result ≡ Claimed.Pending → HasClaim pass.new.view (lock_of_word a) }
         ensures met { (j : ℕ) → result ≡ Claimed.Met j → MetOn pass.old.view pass.new.view (lock_of_word a) j }
         ensures held { HasClaim pass.old.view (lock_of_word a) → (result ≡ Claimed.Pending) × (pass.new.view ≡ pass.old.view) }
+        ensures call { SameCall pass.old.view pass.new.view }
+        ensures grants { GrantsStay pass.old.view pass.new.view }
     {
         if pass.has_claim(lock_of(a)) {
             return Claimed::Pending;
@@ -128,6 +132,8 @@ impl<S: Shape> Desk<S> {
         ensures step { ScannedBy pass.old.view k other result pass.new.view }
         ensures clear { result ≡ Scanned.Clear → IsScanned pass.new.view k other }
         ensures met { (j : ℕ) → result ≡ Scanned.Met j → (j ≡ other) × MetOn pass.old.view pass.new.view k j }
+        ensures call { SameCall pass.old.view pass.new.view }
+        ensures grants { GrantsStay pass.old.view pass.new.view }
     {
         let found = pass.scan_row(&self.table.shared, k, other);
         scanned_by(found, k, other)

@@ -2,6 +2,7 @@ use Rattle.std.proofs.Common.{inr}
 use Rattle.history_model.specs.Locks.{lock_of_word}
 use Rattle.history_model.specs.Views.{number}
 use Rattle.word_table.proofs.Answering.{not_claimed, asks_claim, claim_pending, claim_met}
+use Rattle.word_table.proofs.Staying.{claim_leaves}
 use Rattle.word_table.proofs.desk.Desk.claim.Goals as goal
 
 -- there was no claim, and the step was taken
@@ -16,3 +17,9 @@ returns-clause-pending g c = claim_pending c.args.pass.now.view c.args.a c.claim
 
 pub returns-clause-met : goal.returns-clause-met
 returns-clause-met g c = claim_met c.args.pass.now.view c.args.a (number c.args.pass.now.view) c.claimed_by.result c.claim_writer-found.new.self.view c.claim_writer-found.ensures.one (returns-clause-step g c)
+
+pub returns-clause-call : goal.returns-clause-call
+returns-clause-call g c = (claim_leaves c.args.pass.now.view c.args.a c.claimed_by.result c.claim_writer-found.new.self.view (returns-clause-step g c)).call
+
+pub returns-clause-grants : goal.returns-clause-grants
+returns-clause-grants g c = (claim_leaves c.args.pass.now.view c.args.a c.claimed_by.result c.claim_writer-found.new.self.view (returns-clause-step g c)).grants

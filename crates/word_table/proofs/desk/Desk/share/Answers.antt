@@ -2,6 +2,7 @@ use Rattle.std.proofs.Common.{ℕ, inr, ap, ◌∙◌}
 use Rattle.history_model.specs.Locks.{lock_of_word}
 use Rattle.word_table.specs.Calls.{shared_of}
 use Rattle.word_table.proofs.Answering.{not_granted, asks_shared, share_granted, share_met, share_bit}
+use Rattle.word_table.proofs.Staying.{share_leaves}
 use Rattle.word_table.proofs.desk.Desk.share.Goals as goal
 
 -- the lock was not held, and both steps were taken
@@ -23,3 +24,9 @@ returns-clause-bit g c = share_bit c.args.pass.now.view c.args.a c.shared_by.res
 
 pub returns-clause-held : goal.returns-clause-held
 returns-clause-held g c held = absurd (not_granted c.args.pass.now.view (lock_of_word c.args.a) c.lock_of.result c.is_granted.result c.lock_of.ensures.lock c.is_granted.ensures.1 c.if-is_granted.false held)
+
+pub returns-clause-call : goal.returns-clause-call
+returns-clause-call g c = (share_leaves c.args.pass.now.view c.args.a c.shared_by.result c.load_writer-found.new.self.view (returns-clause-step g c)).call
+
+pub returns-clause-grants : goal.returns-clause-grants
+returns-clause-grants g c = (share_leaves c.args.pass.now.view c.args.a c.shared_by.result c.load_writer-found.new.self.view (returns-clause-step g c)).grants

@@ -1,0 +1,65 @@
+-- What a step on locks leaves: the call, and every lock that was held.
+use Rattle.std.proofs.Common.{◌≡◌, ℕ, ◌-◌, ◌%◌, Bool, true, false, inl, inr, List, [], ◌∷◌, refl, sym, ◌∙◌, subst, ◌==◌, if◌then◌else◌}
+use Rattle.std.specs.Int.{bit_at}
+use Rattle.history_model.specs.declared.view.View.{View}
+use Rattle.history_model.specs.Locks.{lock_of_word}
+use Rattle.history_model.specs.Sets.{without_first}
+use Rattle.history_model.specs.Views.{number, HasClaim}
+use Rattle.locks_rule.specs.Steps.{is_free, set_read_bit_action, load_writer_action, claim_writer_action, scan_row_action, after_asking, after_meeting}
+use Rattle.locks_rule.proofs.SetLemmas.{has-join_old, pair-join_old, pair-without_other}
+use Rattle.word_table.specs.declared.answer.Shared.{Shared}
+use Rattle.word_table.specs.declared.answer.Claimed.{Claimed}
+use Rattle.word_table.specs.declared.answer.Scanned.{Scanned}
+use Rattle.word_table.specs.Calls.{with_bit, SharedBy, ClaimedBy, ScannedBy, SameCall, GrantsStay}
+use Rattle.word_table.proofs.Answering.{with_bit_cases}
+
+-- a step on locks leaves the call and the locks that are held
+pub record Leaves (old new : View) : Type 0 where
+  pub call : SameCall old new
+  pub grants : GrantsStay old new
+
+-- where only what is known of locks differs, the call is the same
+same_call : (v : View) (bits reads claims asked met : List ℕ) (scans meetings : List (ℕ × ℕ)) → SameCall v (record v { bits = bits; reads = reads; claims = claims; scans = scans; asked = asked; met = met; meetings = meetings })
+same_call v bits reads claims asked met scans meetings = record { base = refl; seats = refl; who = refl; joined = refl; seen = refl; olds = refl; phase = refl; call = refl; floor = refl; trace = refl; undo = refl; waits = refl; stamp = refl; announced = refl; due = refl; abandoned = refl }
+
+leaves_all : (v : View) → Leaves v v
+leaves_all v = record { call = same_call v _ _ _ _ _ _ _; grants = λ k. (λ t. t, λ t. t) }
+
+leaves_at : (v x u : View) → u ≡ x → Leaves v x → Leaves v u
+leaves_at v x u e h = subst (λ (y : View). Leaves v y) (sym e) h
+
+pub share_leaves : (v : View) (a : ℕ) (r : Shared) (u : View) → SharedBy v a r u → Leaves v u
+share_leaves v a r u (inl s) = leaves_at v v u s.2 (leaves_all v)
+share_leaves v a r u (inr t) =
+    let s = t.1 in let k : ℕ = lock_of_word a in let j : ℕ = number v in let set : View = (set_read_bit_action j k a v).view [] 0 in
+    let after : View → Bool → View = λ m b. if b then record (after_asking m a) { reads = k ∷ m.reads } else after_meeting (after_asking m a) k (s.word - 1) in
+    leaves_at v ((load_writer_action j k a (with_bit k a v)).view [] s.word) u s.view
+    (with_bit_cases k a v (λ m. Leaves v (after m (is_free j s.word)))
+    (λ held. elim (is_free j s.word) as (λ (b : Bool). Leaves v (after v b)) [
+      | true ↦ record { call = same_call v _ _ _ _ _ _ _; grants = λ l. (λ y. has-join_old l k v.reads y, λ y. y) }
+      | false ↦ record { call = same_call v _ _ _ _ _ _ _; grants = λ l. (λ y. y, λ y. y) }
+    ])
+    (elim (is_free j s.word) as (λ (b : Bool). Leaves v (after set b)) [
+      | true ↦ record { call = same_call v _ _ _ _ _ _ _; grants = λ l. (λ y. has-join_old l k v.reads y, λ y. y) }
+      | false ↦ record { call = same_call v _ _ _ _ _ _ _; grants = λ l. (λ y. y, λ y. y) }
+    ]))
+
+pub claim_leaves : (v : View) (a : ℕ) (r : Claimed) (u : View) → ClaimedBy v a r u → Leaves v u
+claim_leaves v a r u (inl s) = leaves_at v v u s.2 (leaves_all v)
+claim_leaves v a r u (inr t) =
+    let s = t.1 in let k : ℕ = lock_of_word a in
+    let won : View = record (after_asking v a) { claims = k ∷ v.claims; scans = without_first k v.scans } in
+    leaves_at v ((claim_writer_action (number v) k a v).view [] s.word) u s.view
+    (elim (s.word == 0) as (λ (b : Bool). Leaves v (if b then won else after_meeting (after_asking v a) k (s.word - 1))) [
+      | true ↦ record { call = same_call v _ _ _ _ _ _ _; grants = λ l. (λ y. y, λ y. (has-join_old l k v.claims y.0, λ i lt away. pair-without_other l i k v.scans (λ e. t.0 (subst (λ (x : ℕ). HasClaim v x) e y.0)) ∙ y.1 i lt away)) }
+      | false ↦ record { call = same_call v _ _ _ _ _ _ _; grants = λ l. (λ y. y, λ y. y) }
+    ])
+
+pub scan_leaves : (v : View) (k i : ℕ) (r : Scanned) (u : View) → ScannedBy v k i r u → Leaves v u
+scan_leaves v k i r u s =
+    let clear : View = record v { scans = (k, i) ∷ v.scans } in
+    leaves_at v ((scan_row_action (number v) k i v).view [] s.word) u s.view
+    (elim (bit_at s.word (k % 64) == 0) as (λ (b : Bool). Leaves v (if b then clear else after_meeting v k i)) [
+      | true ↦ record { call = same_call v _ _ _ _ _ _ _; grants = λ l. (λ y. y, λ y. (y.0, λ m lt away. pair-join_old l m k i v.scans (y.1 m lt away))) }
+      | false ↦ record { call = same_call v _ _ _ _ _ _ _; grants = λ l. (λ y. y, λ y. y) }
+    ])
