@@ -25,3 +25,6 @@ pub use desk::Desk;
 pub use history_model::Phase;
 pub use limits::{MOST_PASSES, MOST_WORDS};
 pub use pass::Pass;
+
+#[cfg(test)]
+mod tests;
