@@ -1,11 +1,10 @@
 -- A pass's copy after a step.
-use Rattle.std.proofs.Common.{◌≡◌, ℕ, ◌+◌, ◌-◌, ◌%◌, ◌^◌, ◌/◌, ◌≤◌, Bool, true, false, List, [], ◌∷◌, length, refl, sym, ap, ◌∙◌, subst, ◌==◌, if◌then◌else◌}
-use Rattle.std.specs.Prelude.{Option, None, bit_and}
+use Rattle.std.proofs.Common.{◌≡◌, ℕ, ◌-◌, ◌%◌, ◌^◌, ◌/◌, ◌≤◌, Bool, true, false, List, [], ◌∷◌, length, refl, sym, ap, ◌∙◌, subst, ◌==◌, if◌then◌else◌}
+use Rattle.std.specs.Prelude.{bit_and}
 use Rattle.std.specs.Int.{bit_at}
 use Rattle.std.proofs.lemmas.Nat.Bits.{shr_and_one}
 use Rattle.atomic_table.specs.Table.{Me}
 use Rattle.atomic_table.specs.Seated.{TableId}
-use Rattle.history_model.specs.declared.event.Cause.{Cause}
 use Rattle.history_model.specs.declared.view.View.{View}
 use Rattle.history_model.specs.declared.view.Phase.{Phase}
 use Rattle.history_model.specs.Sets.{without_first}
@@ -25,7 +24,6 @@ pub record Leaves (v w : View) (phase : Phase) (bits reads claims : List ℕ) (s
   pub reads_are : w.reads ≡ reads
   pub claims_are : w.claims ≡ claims
   pub scans_are : w.scans ≡ scans
-
 
 pub copy_after : {seats who : ℕ} {phase : Phase} {bits reads claims scans : List ℕ} {table : TableId} {me : Me (Unit {0}) View} → IsCopy seats who phase bits reads claims scans table me
     → (phase' : Phase) (bits' reads' claims' scans' : List ℕ) (table' : TableId) (me' : Me (Unit {0}) View) (w : View) {p : Phase} {bs rs cs : List ℕ} {ss : List (ℕ × ℕ)} → table' ≡ table → me' ≡ (w, me.1) → Leaves me.0 w p bs rs cs ss

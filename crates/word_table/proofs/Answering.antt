@@ -5,7 +5,6 @@ use Rattle.std.proofs.lemmas.Nat.Bits.{bit_at-lt}
 use mathlib.Core.Logic.{dite}
 use native.Mathlib.Decide.{ℕ_discrete}
 use Rattle.history_model.specs.declared.view.View.{View}
-use Rattle.history_model.specs.declared.view.Phase.{Phase}
 use Rattle.history_model.specs.declared.view.Phase.TheVariants.{Running}
 use Rattle.history_model.specs.Locks.{lock_of_word}
 use Rattle.history_model.specs.Sets.{has, without_first}
@@ -20,7 +19,7 @@ use Rattle.word_table.specs.declared.answer.Claimed.{Claimed}
 use Rattle.word_table.specs.declared.answer.Claimed.TheVariants as claimed
 use Rattle.word_table.specs.declared.answer.Scanned.{Scanned}
 use Rattle.word_table.specs.declared.answer.Scanned.TheVariants as scanned
-use Rattle.word_table.specs.Calls.{SomeoneAt, IsWriterWord, IsRowWord, MetOn, with_bit, shared_of, AsksShared, SharedBy, claimed_of, AsksClaim, ClaimedBy, scanned_of, ScannedBy}
+use Rattle.word_table.specs.Calls.{SomeoneAt, IsWriterWord, IsRowWord, MetOn, with_bit, shared_of, Looked, AsksShared, SharedBy, claimed_of, AsksClaim, ClaimedBy, scanned_of, ScannedBy}
 
 -- the view once the own bit is set, where it was not
 pub with_bit_cases : (k a : ℕ) (v : View) (P : View → Type 0) → (HasBit v k → P v) → P ((set_read_bit_action (number v) k a v).view [] 0) → P (with_bit k a v)
@@ -40,6 +39,10 @@ with_bit_phase k a v e = with_bit_cases k a v (λ u. u.phase ≡ Running) (λ t.
 
 with_bit_who : (k a : ℕ) (v : View) → number (with_bit k a v) ≡ number v
 with_bit_who k a v = with_bit_cases k a v (λ u. number u ≡ number v) (λ t. refl) refl
+
+-- the number is the same before and after the bit was set
+pub one_before : (v middle : View) (a : ℕ) → middle ≡ with_bit (lock_of_word a) a v → middle.who ≡ number middle ∷ [] → v.who ≡ number v ∷ []
+one_before v middle a e one = with_bit_cases (lock_of_word a) a v (λ u. u.who ≡ number u ∷ [] → v.who ≡ number v ∷ []) (λ t h. h) (λ h. h) (subst (λ (u : View). u.who ≡ number u ∷ []) e one)
 
 with_bit_seats : (k a : ℕ) (v : View) → (with_bit k a v).seats ≡ v.seats
 with_bit_seats k a v = with_bit_cases k a v (λ u. u.seats ≡ v.seats) (λ t. refl) refl
@@ -65,13 +68,13 @@ shared_granted : (j w : ℕ) (r : Shared) → r ≡ shared_of j w → r ≡ shar
 shared_granted j w r e is = ⊎_elim (λ t. t.1) (λ t. let met : shared_of j w ≡ shared.Met (w - 1) = ap (λ (b : Bool). if b then shared.Granted else shared.Met (w - 1)) t.2 in cc) (free_cases j w)
 
 -- share's two steps together
-pub asks_shared : (v middle u : View) (a w : ℕ) (r : Shared) → middle ≡ with_bit (lock_of_word a) a v → u ≡ (load_writer_action (number middle) (lock_of_word a) a middle).view [] w
-    → IsWriterWord middle.seats (lock_of_word a) w → r ≡ shared_of (number v) w → AsksShared v a r u
-asks_shared v middle u a w r em eu named er =
-    let l : ℕ = lock_of_word a in record {
+pub asks_shared : (v middle u : View) (a : ℕ) (r : Shared) → middle ≡ with_bit (lock_of_word a) a v → Looked middle a r u → AsksShared v a r u
+asks_shared v middle u a r em looked =
+    let l : ℕ = lock_of_word a in let w : ℕ = looked.word in
+    let er : r ≡ shared_of (number v) w = subst (λ (j : ℕ). r ≡ shared_of j w) (with_bit_who l a v) (subst (λ (x : View). r ≡ shared_of (number x) w) em looked.answer) in record {
       word = w;
-      writer_word = subst (λ (n : ℕ). IsWriterWord n l w) (with_bit_seats l a v) (subst (λ (x : View). IsWriterWord x.seats l w) em named);
-      view = subst (λ (j : ℕ). u ≡ (load_writer_action j l a (with_bit l a v)).view [] w) (with_bit_who l a v) (subst (λ (x : View). u ≡ (load_writer_action (number x) l a x).view [] w) em eu);
+      writer_word = subst (λ (n : ℕ). IsWriterWord n l w) (with_bit_seats l a v) (subst (λ (x : View). IsWriterWord x.seats l w) em looked.writer_word);
+      view = subst (λ (j : ℕ). u ≡ (load_writer_action j l a (with_bit l a v)).view [] w) (with_bit_who l a v) (subst (λ (x : View). u ≡ (load_writer_action (number x) l a x).view [] w) em looked.view);
       answer = er;
       met_named = λ i is. let m = shared_met (number v) w i r er is in (m.0, m.1);
       named_met = λ i is other. shared_named (number v) w i r er is other;
@@ -161,8 +164,11 @@ scan_clear v k i r u s is = ⊎_elim
 pub scan_met : (v : View) (k i j : ℕ) (r : Scanned) (u : View) → v.who ≡ j ∷ [] → i < v.seats → i ≢ j → ScannedBy v k i r u → (l : ℕ) → r ≡ scanned.Met l → (l ≡ i) × MetOn v u k l
 scan_met v k i j r u single lt other s l is = ⊎_elim
     (λ z. let clear = z.2 in cc)
-    (λ n. let same : l ≡ i = (s.met_set l is).0 in (same, subst (λ (x : ℕ). MetOn v u k x) (sym same)
-    (met_on v v u k i i j single refl (s.view ∙ ap (λ (b : Bool). if b then record v { scans = (k, i) ∷ v.scans } else after_meeting v k i) n.1) refl lt other (s.row_word n.0))))
+    (λ n. let same : l ≡ i = (s.met_set l is).0 in (
+      same,
+      subst (λ (x : ℕ). MetOn v u k x) (sym same)
+          (met_on v v u k i i j single refl (s.view ∙ ap (λ (b : Bool). if b then record v { scans = (k, i) ∷ v.scans } else after_meeting v k i) n.1) refl lt other (s.row_word n.0)),
+    ))
     (scanned_cases k i s.word r s.answer)
 
 -- a lock that was found not held is not held

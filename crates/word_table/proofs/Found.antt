@@ -1,19 +1,18 @@
 -- What a number that was found in the table, or is stored there, says while the rule holds.
-use Rattle.std.proofs.Common.{◌≡◌, ◌≢◌, ℕ, zero, suc, ◌+◌, ◌*◌, ◌/◌, ◌%◌, ◌^◌, ◌<◌, ◌≤◌, Bool, true, false, ◌⊎◌, inl, inr, ⊎_elim, List, [], ◌∷◌, slice_index, sym, ap, ◌∙◌, subst, arith}
+use Rattle.std.proofs.Common.{◌≡◌, ◌≢◌, ℕ, zero, suc, ◌+◌, ◌*◌, ◌/◌, ◌%◌, ◌^◌, ◌<◌, ◌≤◌, true, inl, inr, ⊎_elim, List, [], ◌∷◌, slice_index, sym, ap, ◌∙◌, subst, arith}
 use Rattle.std.specs.Prelude.{bit_and, bit_or}
 use Rattle.std.specs.Int.{bit_at, bit_not}
 use Rattle.std.proofs.lemmas.Nat.Bits.{same_from_bits_below}
 use mir.Syntax.{w64}
 use Rattle.history_model.specs.declared.TheConstants.{LOCKS}
 use Rattle.history_model.specs.declared.view.View.{View}
-use Rattle.history_model.specs.Conflicts.{IsAt}
 use Rattle.history_model.specs.Sets.{has, flag}
 use Rattle.history_model.specs.Table.{Knows, row_word, writer_word}
 use Rattle.history_model.specs.Views.{HasClaim}
-use Rattle.locks_rule.specs.Locks.{LocksHold, IsSeat}
+use Rattle.locks_rule.specs.Locks.{LocksHold}
 use Rattle.locks_rule.specs.Steps.{set_read_bit_action, clear_read_bit_action}
 use Rattle.locks_rule.proofs.SetLemmas.{bool_cases}
-use Rattle.locks_rule.proofs.Own.{own_number, own_word, writer_same, own_seat, so_many}
+use Rattle.locks_rule.proofs.Own.{own_word, writer_same, own_seat, so_many}
 use Rattle.word_table.specs.declared.limits.TheConstants.{MOST_PASSES}
 use Rattle.word_table.specs.Copies.{Shows}
 use Rattle.word_table.specs.Calls.{IsWriterWord, IsRowWord}

@@ -1,25 +1,24 @@
 -- How a table begins: one view has all numbers, and no lock is held. Its first numbers are dealt out.
-use Rattle.std.proofs.Common.{◌≡◌, ◌≢◌, ℕ, zero, suc, ◌+◌, ◌-◌, ◌*◌, ◌/◌, ◌%◌, ◌<◌, ◌≤◌, true, false, ◌⊎◌, inl, inr, ⊎_elim, List, [], ◌∷◌, ◌++◌, length, slice_index, replicate, refl, sym, ap, ◌∙◌, subst, arith, length-append, eq-eqb}
+use Rattle.std.proofs.Common.{◌≡◌, ℕ, zero, suc, ◌+◌, ◌-◌, ◌/◌, ◌%◌, ◌<◌, ◌≤◌, true, false, ⊎_elim, List, [], ◌∷◌, ◌++◌, length, slice_index, replicate, refl, sym, ap, ◌∙◌, subst, arith, length-append, eq-eqb}
 use Rattle.std.specs.Prelude.{Some, slice_get}
 use Rattle.std.specs.Int.{bit_at}
 use Rattle.std.proofs.lemmas.Nat.Bits.{bit_at-zero}
 use mathlib.Core.Logic.{dite}
 use native.Mathlib.Decide.{ℕ_discrete}
-use mathlib.Core.Option.{some, some-injective, some-ne-none}
+use mathlib.Core.Option.{some-injective, some-ne-none}
 use Rattle.atomic_table.specs.Table.{State, Me, Splits}
 use Rattle.atomic_table.specs.Seated.{TableId}
 use Rattle.history_model.specs.declared.TheConstants.{LOCKS}
 use Rattle.history_model.specs.declared.view.View.{View}
 use Rattle.history_model.specs.declared.view.Phase.TheVariants.{Running}
-use Rattle.history_model.specs.Sets.{has, without, has_pair, flag}
+use Rattle.history_model.specs.Sets.{has, without, flag}
 use Rattle.history_model.specs.Table.{Knows, row_word, writer_word, value_word, table_words}
-use Rattle.history_model.specs.Views.{HasClaim}
 use Rattle.locks_rule.specs.Locks.{LocksHold, IsSeat}
 use Rattle.locks_rule.specs.Splits.{opening_view, left_by_split, given_by_split, MaySplitSeat}
-use Rattle.locks_rule.proofs.SetLemmas.{differ, bool_cases, not_true, has-nil, pair-nil, has-join, has-join_same, has-join_old, without-absent}
+use Rattle.locks_rule.proofs.SetLemmas.{differ, not_true, has-nil, pair-nil, has-join, has-join_same, has-join_old, without-absent}
 use Rattle.locks_rule.proofs.Splitting.{split_seat_keeps}
 use Rattle.word_table.specs.declared.limits.TheConstants.{MOST_PASSES, MOST_WORDS}
-use Rattle.word_table.specs.Copies.{Shows, ShowsPairs, IsCopy, PassView}
+use Rattle.word_table.specs.Copies.{Shows, IsCopy, PassView}
 use Rattle.word_table.specs.Sound.{IsSound, opening_words, numbers}
 
 zeros_at : (k : ℕ) (xs : List ℕ) (i : ℕ) → i < k → slice_index (replicate k 0 ++ xs) i ≡ 0

@@ -1,5 +1,5 @@
 -- Bits of a pass's own rows and masks.
-use Rattle.std.proofs.Common.{◌≡◌, ◌≢◌, ℕ, zero, suc, ◌+◌, ◌*◌, ◌/◌, ◌%◌, ◌^◌, ◌<◌, ◌≤◌, Bool, true, false, ◌⊎◌, inl, inr, ⊎_elim, List, [], ◌∷◌, length, slice_index, slice_index_or, slice_set, refl, sym, ap, ◌∙◌, subst, arith, length-set, get_or-set_other, get_or-set_same, if◌then◌else◌}
+use Rattle.std.proofs.Common.{◌≡◌, ◌≢◌, ℕ, zero, suc, ◌+◌, ◌*◌, ◌/◌, ◌%◌, ◌^◌, ◌<◌, Bool, true, false, inl, inr, ⊎_elim, List, [], ◌∷◌, length, slice_index, slice_index_or, slice_set, refl, sym, ap, ◌∙◌, subst, arith, length-set, get_or-set_other, get_or-set_same, if◌then◌else◌}
 use Rattle.std.specs.Prelude.{bit_and, bit_or}
 use Rattle.std.specs.Int.{bit_at, bit_not, trailing_zeros}
 use Rattle.std.proofs.lemmas.Nat.Bits.{bit_at-zero, bit_at-trailing_zeros, bit_at_set_same, bit_at_set_other}
@@ -93,7 +93,7 @@ least_some row locks i w small is some_bit fits zeros h =
     let below : t < 64 = low.0 in
     let quotient : (64 * i + t) / 64 ≡ i = omega arith in let remainder : (64 * i + t) % 64 ≡ t = omega arith in
     let set : bit_at (slice_index row ((64 * i + t) / 64)) ((64 * i + t) % 64) ≡ 1 =
-        subst (λ (b : ℕ). bit_at (slice_index row ((64 * i + t) / 64)) b ≡ 1) (sym remainder) (subst (λ (m : ℕ). bit_at (slice_index row m) t ≡ 1) (sym quotient) (ap (λ (x : ℕ). bit_at x t) (sym is) ∙ low.1)) in
+    subst (λ (b : ℕ). bit_at (slice_index row ((64 * i + t) / 64)) b ≡ 1) (sym remainder) (subst (λ (m : ℕ). bit_at (slice_index row m) t ≡ 1) (sym quotient) (ap (λ (x : ℕ). bit_at x t) (sym is) ∙ low.1)) in
     let near : 64 * i + t < 1024 = omega arith in (
       flag_true (has (64 * i + t) locks) (sym (h.bits (64 * i + t) near) ∙ set),
       λ k lt it. let one : bit_at (slice_index row (k / 64)) (k % 64) ≡ 1 = word_of_lock row locks k h it in

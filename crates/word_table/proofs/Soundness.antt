@@ -5,7 +5,7 @@ use Rattle.atomic_table.specs.Table.{State, Me, Act, keeps, Allows}
 use Rattle.history_model.specs.declared.entry.Entry.{Entry}
 use Rattle.history_model.specs.declared.view.View.{View}
 use Rattle.history_model.specs.Table.{Knows, history_of}
-use Rattle.locks_rule.specs.Actions.{Action, Keeps, found_by, words_after, views_after}
+use Rattle.locks_rule.specs.Actions.{Action, Keeps, found_by, views_after}
 use Rattle.locks_rule.specs.Locks.{LocksHold}
 use Rattle.locks_rule.proofs.Readers.{set_read_bit_keeps, clear_read_bit_keeps, load_writer_keeps}
 use Rattle.locks_rule.proofs.Writers.{claim_writer_keeps, scan_row_keeps, release_writer_keeps}

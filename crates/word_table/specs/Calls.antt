@@ -63,6 +63,13 @@ with_bit k a v = if has k v.bits then v else (set_read_bit_action (number v) k a
 abbrev pub shared_of : ℕ → ℕ → Shared
 shared_of j w = if is_free j w then shared.Granted else shared.Met (w - 1)
 
+-- a seat whose bit is set looked at the writer word of word a's lock
+pub record Looked (v : View) (a : ℕ) (r : Shared) (u : View) : Type 0 where
+  pub word : ℕ
+  pub writer_word : IsWriterWord v.seats (lock_of_word a) word
+  pub view : u ≡ (load_writer_action (number v) (lock_of_word a) a v).view [] word
+  pub answer : r ≡ shared_of (number v) word
+
 -- share set the bit, where it was not set, and loaded a writer word
 pub record AsksShared (v : View) (a : ℕ) (r : Shared) (u : View) : Type 0 where
   pub word : ℕ

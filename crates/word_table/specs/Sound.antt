@@ -1,5 +1,5 @@
 -- What holds of a table between any two steps, and how it begins.
-use Rattle.std.specs.Prelude.{ℕ, zero, suc, ◌+◌, ◌*◌, List, [], ◌∷◌, ◌++◌, length, replicate}
+use Rattle.std.specs.Prelude.{ℕ, zero, suc, List, [], ◌∷◌, ◌++◌, length, replicate}
 use Rattle.history_model.specs.declared.view.View.{View}
 use Rattle.history_model.specs.Table.{value_word}
 use Rattle.locks_rule.specs.Locks.{LocksHold}

@@ -9,7 +9,7 @@ ghost use Rattle.locks_rule.specs.Steps.{release_writer_action, clear_read_bit_a
 ghost use Rattle.word_table.specs.Calls.{SharedBy, ClaimedBy, ScannedBy, MetOn, SameCall, GrantsStay};
 ghost use Rattle.word_table.specs.Sound.{opening_words};
 
-use crate::answer::{Claimed, Scanned, Shared, claimed_by, scanned_by, shared_by};
+use crate::answer::{Claimed, Scanned, Shared, claimed_by};
 use crate::deal::deal;
 use crate::layout::place_of_values;
 use crate::limits::{MOST_PASSES, MOST_WORDS};
@@ -94,10 +94,8 @@ impl<S: Shape> Desk<S> {
         if pass.is_granted(lock_of(a)) {
             return Shared::Granted;
         }
-        let who = pass.who();
         pass.make_seen(&self.table.shared, a);
-        let found = pass.load_writer(&self.table.shared, a);
-        shared_by(found, who)
+        pass.look(&self.table.shared, a)
     }
 
     /// Claims the lock of word a, to write it. An own claim takes no step. A claim is an exclusive lock once every
@@ -135,8 +133,7 @@ impl<S: Shape> Desk<S> {
         ensures call { SameCall pass.old.view pass.new.view }
         ensures grants { GrantsStay pass.old.view pass.new.view }
     {
-        let found = pass.scan_row(&self.table.shared, k, other);
-        scanned_by(found, k, other)
+        pass.look_for_bit(&self.table.shared, k, other)
     }
 
     /// Gives up the own claim on lock k. The call ends with that, unless it gives way.

@@ -3,18 +3,18 @@
 //! The copy has a fixed size, which `Desk::new` makes. The rest of what a pass knows is its view, which exists in
 //! contracts alone.
 
-ghost use Rattle.std.specs.Prelude.{◌≡◌, ◌≢◌, ◌⊎◌, ◌↔◌, ◌<◌, ◌≤◌, ◌+◌, ℕ, true, false, IsTrue, IfSome, IsSome, length, [], ◌∷◌, None, replicate};
+ghost use Rattle.std.specs.Prelude.{◌≡◌, ◌≢◌, ◌⊎◌, ◌↔◌, ◌<◌, ◌≤◌, ◌+◌, ℕ, true, false, IsTrue, IfSome, IsNone, length, [], ◌∷◌, None, replicate};
 ghost use Rattle.history_model.specs.Locks.{lock_of_word};
 ghost use Rattle.history_model.specs.Sets.{has, has_pair};
 ghost use Rattle.history_model.specs.Table.{table_words};
 ghost use Rattle.history_model.specs.Views.{number, HasBit, HasReadGrant, HasClaim, IsScanned, HasWriteGrant, IsGranted};
 ghost use Rattle.locks_rule.specs.Splits.{opening_view};
 ghost use Rattle.locks_rule.specs.Steps.{released_phase, set_read_bit_action, clear_read_bit_action, load_writer_action, claim_writer_action, scan_row_action, release_writer_action};
-ghost use Rattle.word_table.specs.Calls.{IsWriterWord, IsRowWord, with_bit};
+ghost use Rattle.word_table.specs.Calls.{IsWriterWord, IsRowWord, Looked, ScannedBy, with_bit};
 ghost use Rattle.word_table.specs.Least.{IsLeast};
 ghost use Rattle.word_table.specs.Unscanned.{IsUnscanned};
 
-use crate::answer::is_unclaimed;
+use crate::answer::{Scanned, Shared, is_unclaimed, scanned_by, shared_by};
 use crate::layout::{place_of_bit, place_of_writer};
 use crate::limits::{MOST_PASSES, MOST_WORDS};
 use crate::rule::TableWords;
@@ -142,6 +142,7 @@ impl<S: Shape> Pass<S> {
     pub fn unscanned(&self, k: u32) -> Option<u32>
         requires { k < LOCKS }
         ensures least { IsLeast (IsUnscanned self.now.view k) result }
+        ensures all_scanned { IsNone result → HasClaim self.now.view k → HasWriteGrant self.now.view k }
     {
         if !self.has_claim(k) {
             return None;
@@ -258,6 +259,20 @@ impl<S: Shape> Pass<S> {
         found
     }
 
+    // Looks at the writer word of the lock of word a, and says what it found.
+    pub(crate) fn look(&mut self, table: &TableWords<S>, a: u64) -> Shared
+        requires table { self.old.table ≡ table.now.table_id }
+        requires phase { self.old.view.phase ≡ Phase.Running }
+        requires bit { ¬ IsGranted self.old.view (lock_of_word a) × HasBit self.old.view (lock_of_word a) }
+        ensures table { self.new.table ≡ self.old.table }
+        ensures looked { Looked self.old.view a result self.new.view }
+        ensures one { self.old.view.who ≡ number self.old.view ∷ [] }
+    {
+        let who = self.who();
+        let found = self.load_writer(table, a);
+        shared_by(found, who)
+    }
+
     // The compare-exchange of the lock's writer word, for the word a. It is a claim where the word was 0.
     pub(crate) fn claim_writer(&mut self, table: &TableWords<S>, a: u64) -> u64
         requires table { self.old.table ≡ table.now.table_id }
@@ -316,6 +331,20 @@ impl<S: Shape> Pass<S> {
         found
     }
 
+    // Looks for the bit of seat `other`, for the own claim, and says what it found.
+    pub(crate) fn look_for_bit(&mut self, table: &TableWords<S>, k: u32, other: u32) -> Scanned
+        requires table { self.old.table ≡ table.now.table_id }
+        requires phase { self.old.view.phase ≡ Phase.Running }
+        requires claim { (k < LOCKS) × HasClaim self.old.view k }
+        requires other { (other < self.old.view.seats) × (other ≢ number self.old.view) }
+        ensures table { self.new.table ≡ self.old.table }
+        ensures scanned { ScannedBy self.old.view k other result self.new.view }
+        ensures one { self.old.view.who ≡ number self.old.view ∷ [] }
+    {
+        let found = self.scan_row(table, k, other);
+        scanned_by(found, k, other)
+    }
+
     // The store of 0 to the lock's writer word.
     pub(crate) fn release_writer(&mut self, table: &TableWords<S>, k: u32)
         requires table { self.old.table ≡ table.now.table_id }
@@ -325,11 +354,12 @@ impl<S: Shape> Pass<S> {
         ensures table { self.new.table ≡ self.old.table }
         ensures view { self.new.view ≡ (release_writer_action (number self.old.view) k self.old.view).view [] 0 }
     {
+        let nobody = 0;
         step::store(
             table,
             &mut self.seat,
             place_of_writer(self.seats, k),
-            0,
+            nobody,
             &Step::ReleaseWriter {
                 seat: self.who,
                 lock: k,
@@ -337,7 +367,8 @@ impl<S: Shape> Pass<S> {
         );
         bits::lower(&mut self.claims, k);
         bits::forget_if(&mut self.scans, k, true);
-        self.phase = after_release(self.phase);
+        let after_unclaim = after_release(self.phase);
+        self.phase = after_unclaim;
     }
 
     // The store of the own row with the lock's bit cleared.
@@ -362,6 +393,7 @@ impl<S: Shape> Pass<S> {
         );
         bits::lower(&mut self.bits, k);
         bits::lower(&mut self.reads, k);
-        self.phase = after_release(self.phase);
+        let after_unshare = after_release(self.phase);
+        self.phase = after_unshare;
     }
 }

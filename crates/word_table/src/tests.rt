@@ -38,9 +38,7 @@ fn open_one(alloc: Global) -> Result<(Desk<AnyWords>, Pass<AnyWords>), OutOfMemo
 }
 
 // A desk of 1,030 words, all 0, with two passes.
-fn open_two(
-    alloc: Global,
-) -> Result<(Desk<AnyWords>, Pass<AnyWords>, Pass<AnyWords>), OutOfMemory>
+fn open_two(alloc: Global) -> Result<(Desk<AnyWords>, Pass<AnyWords>, Pass<AnyWords>), OutOfMemory>
     ensures words { IfOk result (λ opened. length opened.0.base ≡ 1030) }
     ensures zero { IfOk result (λ opened. opened.1 ≡ record { table = opened.0.table; view = opening_view opened.0.base 2 (0 ∷ []) [] }) }
     ensures one { IfOk result (λ opened. opened.2 ≡ record { table = opened.0.table; view = opening_view opened.0.base 2 (1 ∷ []) [] }) }

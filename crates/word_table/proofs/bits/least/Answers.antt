@@ -1,4 +1,4 @@
-use Rattle.std.proofs.Common.{◌<◌, ◌^◌, ℕ, refl, arith, rules, slice_index}
+use Rattle.std.proofs.Common.{refl, arith, rules, slice_index}
 use Rattle.word_table.proofs.Rows.{least_none, least_some}
 use Rattle.word_table.proofs.bits.least.Goals as goal
 

@@ -1,4 +1,4 @@
-use Rattle.std.proofs.Common.{◌≡◌, ◌<◌, ◌≤◌, ◌+◌, ◌-◌, ◌∙◌, refl, arith}
+use Rattle.std.proofs.Common.{◌≡◌, ◌-◌, ◌∙◌, refl, arith}
 use Rattle.word_table.proofs.Opening.{dealt_push, last_me}
 use Rattle.word_table.proofs.deal.deal.Goals as goal
 

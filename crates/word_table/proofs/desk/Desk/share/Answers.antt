@@ -1,7 +1,7 @@
-use Rattle.std.proofs.Common.{ℕ, inr, ap, ◌∙◌}
+use Rattle.std.proofs.Common.{inr}
 use Rattle.history_model.specs.Locks.{lock_of_word}
-use Rattle.word_table.specs.Calls.{shared_of}
-use Rattle.word_table.proofs.Answering.{not_granted, asks_shared, share_granted, share_met, share_bit}
+use Rattle.history_model.specs.Views.{number}
+use Rattle.word_table.proofs.Answering.{not_granted, one_before, asks_shared, share_granted, share_met, share_bit}
 use Rattle.word_table.proofs.Staying.{share_leaves}
 use Rattle.word_table.proofs.desk.Desk.share.Goals as goal
 
@@ -9,24 +9,23 @@ use Rattle.word_table.proofs.desk.Desk.share.Goals as goal
 pub returns-clause-step : goal.returns-clause-step
 returns-clause-step g c = inr (
   not_granted c.args.pass.now.view (lock_of_word c.args.a) c.lock_of.result c.is_granted.result c.lock_of.ensures.lock c.is_granted.ensures.1 c.if-is_granted.false,
-  asks_shared c.args.pass.now.view c.make_seen.new.self.view c.load_writer-found.new.self.view c.args.a c.load_writer-found.result c.shared_by.result c.make_seen.ensures.view c.load_writer-found.ensures.view c.load_writer-found.ensures.word
-      (c.shared_by.ensures ∙ ap (λ (j : ℕ). shared_of j c.load_writer-found.result) c.who-who.ensures.number),
+  asks_shared c.args.pass.now.view c.make_seen.new.self.view c.look.new.self.view c.args.a c.look.result c.make_seen.ensures.view c.look.ensures.looked,
 )
 
 pub returns-clause-granted : goal.returns-clause-granted
-returns-clause-granted g c = share_granted c.args.pass.now.view c.args.a c.shared_by.result c.load_writer-found.new.self.view (returns-clause-step g c)
+returns-clause-granted g c = share_granted c.args.pass.now.view c.args.a c.look.result c.look.new.self.view (returns-clause-step g c)
 
 pub returns-clause-met : goal.returns-clause-met
-returns-clause-met g c = share_met c.args.pass.now.view c.args.a c.who-who.result c.shared_by.result c.load_writer-found.new.self.view c.who-who.ensures.one (returns-clause-step g c)
+returns-clause-met g c = share_met c.args.pass.now.view c.args.a (number c.args.pass.now.view) c.look.result c.look.new.self.view (one_before c.args.pass.now.view c.make_seen.new.self.view c.args.a c.make_seen.ensures.view c.look.ensures.one) (returns-clause-step g c)
 
 pub returns-clause-bit : goal.returns-clause-bit
-returns-clause-bit g c = share_bit c.args.pass.now.view c.args.a c.shared_by.result c.load_writer-found.new.self.view (returns-clause-step g c)
+returns-clause-bit g c = share_bit c.args.pass.now.view c.args.a c.look.result c.look.new.self.view (returns-clause-step g c)
 
 pub returns-clause-held : goal.returns-clause-held
 returns-clause-held g c held = absurd (not_granted c.args.pass.now.view (lock_of_word c.args.a) c.lock_of.result c.is_granted.result c.lock_of.ensures.lock c.is_granted.ensures.1 c.if-is_granted.false held)
 
 pub returns-clause-call : goal.returns-clause-call
-returns-clause-call g c = (share_leaves c.args.pass.now.view c.args.a c.shared_by.result c.load_writer-found.new.self.view (returns-clause-step g c)).call
+returns-clause-call g c = (share_leaves c.args.pass.now.view c.args.a c.look.result c.look.new.self.view (returns-clause-step g c)).call
 
 pub returns-clause-grants : goal.returns-clause-grants
-returns-clause-grants g c = (share_leaves c.args.pass.now.view c.args.a c.shared_by.result c.load_writer-found.new.self.view (returns-clause-step g c)).grants
+returns-clause-grants g c = (share_leaves c.args.pass.now.view c.args.a c.look.result c.look.new.self.view (returns-clause-step g c)).grants

@@ -11,6 +11,6 @@ store-requires-clause-stored g c = let i = c.self.invariant in
 
 pub invariant_of-self : goal.invariant_of-self
 invariant_of-self g c = let i = c.self.invariant in let p = c.self.inside in
-    copy_after i c.after_release-self-inside.result c.lower.new.row c.lower-2.new.row p.claims p.scans.items c.store.new.seat.table_id c.store.new.seat.me _ c.store.ensures.seat c.store.ensures.view
-    (same_fields p.seat.me.0 _ refl refl refl refl) (ap (λ (x : Phase). released_phase x) i.phase_is ∙ sym c.after_release-self-inside.ensures)
+    copy_after i c.after_release-after_unshare.result c.lower.new.row c.lower-2.new.row p.claims p.scans.items c.store.new.seat.table_id c.store.new.seat.me _ c.store.ensures.seat c.store.ensures.view
+    (same_fields p.seat.me.0 _ refl refl refl refl) (ap (λ (x : Phase). released_phase x) i.phase_is ∙ sym c.after_release-after_unshare.ensures)
     (c.lower.ensures p.seat.me.0.bits i.bits_are) (c.lower-2.ensures p.seat.me.0.reads i.reads_are) i.claims_are i.scans_are

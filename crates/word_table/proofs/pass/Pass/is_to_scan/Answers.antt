@@ -1,4 +1,4 @@
-use Rattle.std.proofs.Common.{◌≡◌, ◌∙◌, [], ◌∷◌, ap, sym}
+use Rattle.std.proofs.Common.{◌∙◌, ap, sym}
 use Rattle.word_table.specs.Copies.{PassView}
 use Rattle.word_table.proofs.Passes.{own_is_not_to_scan, other_is_to_scan}
 use Rattle.word_table.proofs.pass.Pass.is_to_scan.Goals as goal

@@ -1,4 +1,4 @@
-use Rattle.std.proofs.Common.{◌<◌, ◌≡◌, ◌∷◌, ◌%◌, subst, ap, sym, ◌∙◌, arith}
+use Rattle.std.proofs.Common.{◌<◌, ◌≡◌, ◌∷◌, ◌%◌, subst, ap, sym}
 use Rattle.word_table.specs.Copies.{PassView}
 use Rattle.word_table.proofs.Found.{row_word_found}
 use Rattle.word_table.proofs.After.{copy_after, clear_bit, scan_leaves}

@@ -1,4 +1,4 @@
-use Rattle.std.proofs.Common.{◌<◌, refl, arith}
+use Rattle.std.proofs.Common.{refl}
 use Rattle.word_table.proofs.Found.{set_stores}
 use Rattle.word_table.proofs.After.{copy_after, same_fields}
 use Rattle.word_table.proofs.pass.Pass.set_read_bit.Goals as goal
