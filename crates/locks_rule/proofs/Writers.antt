@@ -106,8 +106,8 @@ claims_unique n values ws vs h id other k v u ne me it mine = not_true (has k u.
     let same : a.0 ≡ b.0 = omega arith in
     ne (h.numbers_unique id other b.0 v u (subst (λ (i : ℕ). IsSeat vs id v i) same a.1) b.1))
 
-pub write_grant_excludes : (n values : ℕ) (ws : List ℕ) (vs : List View) → LocksHold n values ws vs → Excludes vs
-write_grant_excludes n values ws vs h id other j k v u ne me its grant =
+pub write_grant_excludes : (n values id other : ℕ) (ws : List ℕ) (vs : List View) → LocksHold n values ws vs → id ≢ other → Excludes vs id other
+write_grant_excludes n values id other ws vs h ne j k v u me its grant =
     let c = h.claims_show_in_writers id k v me grant.0 in
     let lt : j < v.seats = let a = h.numbers_below other j u its in let b = h.seats_alike id c.0 v c.1 in omega arith in
     let away : has j v.who ≡ false = not_true (has j v.who) (λ yes. ne (h.numbers_unique id other j v u (record { knows = me; named = yes }) its)) in (

@@ -44,8 +44,9 @@ pub record LocksHold (n values : ℕ) (words : List ℕ) (views : List View) : T
   pub bases_alike : (id other i j : ℕ) (v u : View) → IsSeat views id v i → IsSeat views other u j → v.base ≡ u.base
   pub base_long : (id j : ℕ) (v : View) → IsSeat views id v j → length v.base ≡ values
 
--- an exclusive lock of one seat excludes every lock of another, and every claim to one
-abbrev pub Excludes : List View → Type 0
-Excludes views =
-    (id other j k : ℕ) (v u : View)
-    → id ≢ other → Knows views id v → IsSeat views other u j → HasWriteGrant v k → (has k u.reads ≡ false) × (has k u.claims ≡ false)
+-- an exclusive lock of the view at place id excludes every lock of the seats behind the view at place other, and every
+-- claim to one
+abbrev pub Excludes : List View → ℕ → ℕ → Type 0
+Excludes views id other =
+    (j k : ℕ) (v u : View)
+    → Knows views id v → IsSeat views other u j → HasWriteGrant v k → (has k u.reads ≡ false) × (has k u.claims ≡ false)

@@ -6,7 +6,7 @@
 //! indicators of 2PLSF (Ramalhete, Correia, Felber, PPoPP 2023). `LocksHold` is what keeps this true between any two
 //! steps, and each kind of step has a law here that says so of every state.
 
-ghost use Rattle.std.specs.Prelude.{ℕ, List};
+ghost use Rattle.std.specs.Prelude.{◌≢◌, ℕ, List};
 ghost use Rattle.history_model.specs.declared.view.View.{View};
 ghost use Rattle.locks_rule.specs.Actions.{Keeps};
 ghost use Rattle.locks_rule.specs.Locks.{LocksHold, Excludes};
@@ -53,5 +53,5 @@ pub fn split_seat()
 /// Mutual exclusion: in every state that the lock invariant allows, while one seat holds a lock for writing, no other
 /// seat holds it, for reading or for writing, or claims it.
 pub fn mutual_exclusion()
-    ensures { (n values : ℕ) (words : List ℕ) (views : List View) → LocksHold n values words views → Excludes views }
+    ensures { (n values id other : ℕ) (words : List ℕ) (views : List View) → LocksHold n values words views → id ≢ other → Excludes views id other }
 {}

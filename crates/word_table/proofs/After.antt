@@ -74,3 +74,7 @@ scan_leaves j k i v w = let clear : View = record v { scans = (k, i) ∷ v.scans
 -- the bit that the code looks at
 pub clear_bit : (masks : List ℕ) (w i : ℕ) (a b : List (ℕ × ℕ)) → ShowsPairs masks (if bit_and (w / 2 ^ i) 1 == 0 then a else b) → ShowsPairs masks (if bit_at w i == 0 then a else b)
 clear_bit masks w i a b h = subst (λ (x : ℕ). ShowsPairs masks (if x == 0 then a else b)) (shr_and_one w i) h
+
+-- a row under a test that has the same answer
+pub same_test : (row locks : List ℕ) (k : ℕ) (a b : Bool) → a ≡ b → Shows row (if a then k ∷ locks else locks) → Shows row (if b then k ∷ locks else locks)
+same_test row locks k a b e h = subst (λ (x : Bool). Shows row (if x then k ∷ locks else locks)) e h

@@ -17,8 +17,8 @@ pub mod desk;
 mod layout;
 pub mod limits;
 pub mod pass;
-pub mod rule;
-pub mod step;
+mod rule;
+mod step;
 
 pub use answer::{Claimed, Scanned, Shared};
 pub use desk::Desk;

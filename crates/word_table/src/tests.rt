@@ -52,7 +52,7 @@ fn open_two(alloc: Global) -> Result<(Desk<AnyWords>, Pass<AnyWords>, Pass<AnyWo
 }
 
 // Clears all read bits.
-fn unshare_all(desk: &Desk<AnyWords>, pass: &mut Pass<AnyWords>)
+fn unshare_all<S: Shape>(desk: &Desk<S>, pass: &mut Pass<S>)
     requires desk { pass.old.table ≡ desk.now.table }
     requires undo { pass.old.view.undo ≡ [] }
     requires begun { pass.old.view.phase ≢ Phase.Idle }
@@ -105,7 +105,7 @@ fn scan_meets_a_reader_and_share_meets_a_writer(rt: HostRuntime) -> Result<(), F
 }
 
 // Shares the locks of two words, and clears the bits again.
-fn visit(desk: &Desk<AnyWords>, mut pass: Pass<AnyWords>, a: u64, b: u64) -> (Shared, Shared)
+fn visit<S: Shape>(desk: &Desk<S>, mut pass: Pass<S>, a: u64, b: u64) -> (Shared, Shared)
     requires desk { pass.table ≡ desk.now.table }
     requires words { (a < length pass.view.base) × (b < length pass.view.base) }
     requires fresh { (pass.view.phase ≡ Phase.Running) × (pass.view.undo ≡ []) }
@@ -117,11 +117,11 @@ fn visit(desk: &Desk<AnyWords>, mut pass: Pass<AnyWords>, a: u64, b: u64) -> (Sh
 }
 
 // Two threads, each with a pass: they share one lock, and each another.
-fn visit_together<R: Threads + Sync>(
+fn visit_together<S: Shape + Send + Sync, R: Threads + Sync>(
     rt: &R,
-    desk: &Desk<AnyWords>,
-    zero: Pass<AnyWords>,
-    one: Pass<AnyWords>,
+    desk: &Desk<S>,
+    zero: Pass<S>,
+    one: Pass<S>,
 ) -> ((Shared, Shared), (Shared, Shared))
     requires words { length desk.now.base ≡ 1030 }
     requires zero { zero ≡ record { table = desk.now.table; view = opening_view desk.now.base 2 (0 ∷ []) [] } }

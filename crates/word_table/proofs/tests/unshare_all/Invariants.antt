@@ -4,4 +4,4 @@ use Rattle.word_table.proofs.tests.unshare_all.Given as goal
 
 -- nothing is left to undo, and the call has begun
 abbrev pub invariant-loop : goal.invariant-loop
-invariant-loop l = (l.pass.table ≡ l.desk.table) × (l.pass.view.undo ≡ []) × (l.pass.view.phase ≢ Idle)
+invariant-loop g l = (l.pass.table ≡ l.desk.table) × (l.pass.view.undo ≡ []) × (l.pass.view.phase ≢ Idle)

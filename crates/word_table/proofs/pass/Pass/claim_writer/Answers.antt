@@ -1,15 +1,16 @@
-use Rattle.std.proofs.Common.{◌≡◌, ◌≤◌, ◌+◌, ℕ, List, slice_index, sym, ap, ◌∙◌, subst, arith}
+use Rattle.std.proofs.Common.{[], ◌≡◌, ◌≤◌, ◌+◌, ℕ, List, slice_index, sym, ap, ◌∙◌, subst, arith}
 use Rattle.history_model.specs.Views.{number, HasClaim}
 use Rattle.word_table.specs.declared.limits.TheConstants.{MOST_PASSES}
 use Rattle.word_table.specs.Calls.{IsWriterWord}
 use Rattle.word_table.specs.Copies.{PassView}
+use Rattle.locks_rule.specs.Steps.{claim_writer_action}
 use Rattle.word_table.proofs.Found.{writer_word_found, not_own_found, writer_small}
 use Rattle.word_table.proofs.After.{copy_after, claim_leaves}
 use Rattle.word_table.proofs.pass.Pass.claim_writer.Goals as goal
 
 pub invariant_of-self : goal.invariant_of-self
 invariant_of-self g c = let i = c.self.invariant in let p = c.self.inside in
-    copy_after i p.phase p.bits p.reads c.raise_if.new.row c.forget_if.new.masks.items c.exchange-found.new.seat.table_id c.exchange-found.new.seat.me _ c.exchange-found.ensures.seat c.exchange-found.ensures.took.after_is
+    copy_after i p.phase p.bits p.reads c.raise_if.new.row c.forget_if.new.masks.items c.exchange-found.new.seat.table_id c.exchange-found.new.seat.me ((claim_writer_action p.who c.lock_of-lock.result c.args.a p.seat.me.0).view [] c.exchange-found.result) c.exchange-found.ensures.seat c.exchange-found.ensures.took.after_is
     (claim_leaves p.who c.lock_of-lock.result c.args.a p.seat.me.0 c.exchange-found.result) i.phase_is i.bits_are i.reads_are (c.raise_if.ensures p.seat.me.0.claims i.claims_are) (c.forget_if.ensures p.seat.me.0.scans i.scans_are)
 
 pub returns-clause-word : goal.returns-clause-word

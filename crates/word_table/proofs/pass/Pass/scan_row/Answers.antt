@@ -1,12 +1,13 @@
-use Rattle.std.proofs.Common.{◌<◌, ◌≡◌, ◌∷◌, ◌%◌, subst, ap, sym}
+use Rattle.std.proofs.Common.{[], ◌<◌, ◌≡◌, ◌∷◌, ◌%◌, subst, ap, sym}
 use Rattle.word_table.specs.Copies.{PassView}
+use Rattle.locks_rule.specs.Steps.{scan_row_action}
 use Rattle.word_table.proofs.Found.{row_word_found}
 use Rattle.word_table.proofs.After.{copy_after, clear_bit, scan_leaves}
 use Rattle.word_table.proofs.pass.Pass.scan_row.Goals as goal
 
 pub invariant_of-self : goal.invariant_of-self
 invariant_of-self g c = let i = c.self.invariant in let p = c.self.inside in
-    copy_after i p.phase p.bits p.reads p.claims c.note_if.new.masks.items c.load-found.new.seat.table_id c.load-found.new.seat.me _ c.load-found.ensures.seat c.load-found.ensures.took.after_is
+    copy_after i p.phase p.bits p.reads p.claims c.note_if.new.masks.items c.load-found.new.seat.table_id c.load-found.new.seat.me ((scan_row_action p.who c.args.k c.args.other p.seat.me.0).view [] c.load-found.result) c.load-found.ensures.seat c.load-found.ensures.took.after_is
     (scan_leaves p.who c.args.k c.args.other p.seat.me.0 c.load-found.result) i.phase_is i.bits_are i.reads_are i.claims_are
     (clear_bit c.note_if.new.masks.items c.load-found.result (c.args.k % 64) ((c.args.k, c.args.other) ∷ p.seat.me.0.scans) p.seat.me.0.scans (c.note_if.ensures p.seat.me.0.scans i.scans_are))
 
