@@ -22,19 +22,24 @@ pub record IsSeat (views : List View) (id : ℕ) (v : View) (j : ℕ) : Type 0 w
 pub record LocksHold (n values : ℕ) (words : List ℕ) (views : List View) : Type 0 where
   pub word_count : length words ≡ table_words n values
   -- every row shows exactly the bits, and reads lie in bits
-  pub rows_show_bits : (id j k : ℕ) (v : View) → IsSeat views id v j → k < LOCKS → bit_at (slice_index words (row_word n j k)) (k % 64) ≡ flag (has k v.bits)
+  pub rows_show_bits : (id j k : ℕ) (v : View) → IsSeat views id v j → k < LOCKS
+      → bit_at (slice_index words (row_word n j k)) (k % 64) ≡ flag (has k v.bits)
   pub reads_lie_in_bits : (id k : ℕ) (v : View) → Knows views id v → HasReadGrant v k → HasBit v k
   -- a writer word is the number of a seat and 1 exactly where this seat claims the lock, and else 0
-  pub writers_show_claims : (j k : ℕ) → k < LOCKS → slice_index words (writer_word n k) ≡ j + 1 → (id : ℕ) × (v : View) × IsSeat views id v j × HasClaim v k
-  pub claims_show_in_writers : (id k : ℕ) (v : View) → Knows views id v → HasClaim v k → (j : ℕ) × IsSeat views id v j × (k < LOCKS) × (slice_index words (writer_word n k) ≡ j + 1)
+  pub writers_show_claims : (j k : ℕ) → k < LOCKS → slice_index words (writer_word n k) ≡ j + 1
+      → (id : ℕ) × (v : View) × IsSeat views id v j × HasClaim v k
+  pub claims_show_in_writers : (id k : ℕ) (v : View) → Knows views id v → HasClaim v k
+      → (j : ℕ) × IsSeat views id v j × (k < LOCKS) × (slice_index words (writer_word n k) ≡ j + 1)
   -- a seat that was scanned for another's claim has no read grant
-  pub scanned_excludes_readers : (id other j k : ℕ) (v u : View) → id ≢ other → Knows views id v → IsSeat views other u j → HasClaim v k → IsScanned v k j → has k u.reads ≡ false
+  pub scanned_excludes_readers : (id other j k : ℕ) (v u : View) → id ≢ other → Knows views id v → IsSeat views other u j
+      → HasClaim v k → IsScanned v k j → has k u.reads ≡ false
   -- each bit and each claim lies on the lock of a word that was asked for
   pub bits_were_asked : (id k : ℕ) (v : View) → Knows views id v → HasBit v k → AskedFor v k
   pub claims_were_asked : (id k : ℕ) (v : View) → Knows views id v → HasClaim v k → AskedFor v k
   -- met seats are others, and an idle view holds nothing
   pub met_are_others : (id j : ℕ) (v : View) → Knows views id v → has j v.met ≡ true → (j < n) × (has j v.who ≡ false)
-  pub idle_holds_nothing : (id k : ℕ) (v : View) → Knows views id v → v.phase ≡ Idle → (has k v.bits ≡ false) × (has k v.claims ≡ false)
+  pub idle_holds_nothing : (id k : ℕ) (v : View) → Knows views id v → v.phase ≡ Idle
+      → (has k v.bits ≡ false) × (has k v.claims ≡ false)
   -- no number is in two views, every number below n is in one, and no other is
   pub numbers_unique : (id other j : ℕ) (v u : View) → IsSeat views id v j → IsSeat views other u j → id ≡ other
   pub numbers_placed : (j : ℕ) → j < n → (id : ℕ) × (v : View) × IsSeat views id v j

@@ -51,7 +51,9 @@ pub(crate) fn deal<S: Shape>(
     requires table { (seat.table_id ≡ table.now.table_id) × (seat.table_id.words ≡ table_words n (length table.now.key.base.items)) }
     requires seat { seat.me ≡ (opening_view table.now.key.base.items n (numbers 0 n) [], []) }
     ensures count { IfOk result (λ passes. length passes.items ≡ n) }
-    ensures passes { IfOk result (λ passes. (j : ℕ) → j < n → slice_get passes.items j ≡ Some (record { table = table.now.table_id; view = opening_view table.now.key.base.items n (j ∷ []) [] })) }
+    ensures passes { IfOk result (λ passes. (j : ℕ) → j < n
+        → slice_get passes.items j
+        ≡ Some (record { table = table.now.table_id; view = opening_view table.now.key.base.items n (j ∷ []) [] })) }
 {
     let mut passes = Vec::new(alloc);
     for j in 0..n - 1 {

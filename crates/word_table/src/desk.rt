@@ -44,9 +44,16 @@ impl<S: Shape> Model for Desk<S> {
 
     ghost Value = { DeskView S };
 
-    ghost view = { λ d. record { table = d.table.shared.table_id; base = d.table.shared.key.base.items; seats = d.table.shared.key.seats; shape = d.table.shared.key.shape } };
+    ghost view = { λ d. record {
+      table = d.table.shared.table_id;
+      base = d.table.shared.key.base.items;
+      seats = d.table.shared.key.seats;
+      shape = d.table.shared.key.shape;
+    } };
 
-    ghost invariant = { λ d. (d.table.shared.table_id.slots ≡ 0) × (d.table.shared.table_id.words ≡ table_words d.table.shared.key.seats (length d.table.shared.key.base.items)) };
+    ghost invariant = { λ d.
+        (d.table.shared.table_id.slots ≡ 0)
+        × (d.table.shared.table_id.words ≡ table_words d.table.shared.key.seats (length d.table.shared.key.base.items)) };
 }
 
 impl<S: Shape> Desk<S> {
@@ -62,7 +69,8 @@ impl<S: Shape> Desk<S> {
         requires seats { (1 ≤ n) × (n ≤ MOST_PASSES) }
         ensures desk { IfOk result (λ made. (made.0.base ≡ base.items) × (made.0.seats ≡ n) × (made.0.shape ≡ shape)) }
         ensures count { IfOk result (λ made. length made.1.items ≡ n) }
-        ensures passes { IfOk result (λ made. (j : ℕ) → j < n → slice_get made.1.items j ≡ Some (record { table = made.0.table; view = opening_view base.items n (j ∷ []) [] })) }
+        ensures passes { IfOk result (λ made. (j : ℕ) → j < n
+            → slice_get made.1.items j ≡ Some (record { table = made.0.table; view = opening_view base.items n (j ∷ []) [] })) }
     {
         let words = lay(alloc, &base, n)?;
         let ground = Ground {
@@ -87,7 +95,8 @@ impl<S: Shape> Desk<S> {
         ensures granted { result ≡ Shared.Granted → IsGranted pass.new.view (lock_of_word a) }
         ensures met { (j : ℕ) → result ≡ Shared.Met j → MetOn pass.old.view pass.new.view (lock_of_word a) j }
         ensures bit { (j : ℕ) → result ≡ Shared.Met j → HasBit pass.new.view (lock_of_word a) }
-        ensures held { IsGranted pass.old.view (lock_of_word a) → (result ≡ Shared.Granted) × (pass.new.view ≡ pass.old.view) }
+        ensures held { IsGranted pass.old.view (lock_of_word a)
+            → (result ≡ Shared.Granted) × (pass.new.view ≡ pass.old.view) }
         ensures call { SameCall pass.old.view pass.new.view }
         ensures grants { GrantsStay pass.old.view pass.new.view }
     {
@@ -109,7 +118,8 @@ impl<S: Shape> Desk<S> {
         ensures step { ClaimedBy pass.old.view a result pass.new.view }
         ensures pending { result ≡ Claimed.Pending → HasClaim pass.new.view (lock_of_word a) }
         ensures met { (j : ℕ) → result ≡ Claimed.Met j → MetOn pass.old.view pass.new.view (lock_of_word a) j }
-        ensures held { HasClaim pass.old.view (lock_of_word a) → (result ≡ Claimed.Pending) × (pass.new.view ≡ pass.old.view) }
+        ensures held { HasClaim pass.old.view (lock_of_word a)
+            → (result ≡ Claimed.Pending) × (pass.new.view ≡ pass.old.view) }
         ensures call { SameCall pass.old.view pass.new.view }
         ensures grants { GrantsStay pass.old.view pass.new.view }
     {
