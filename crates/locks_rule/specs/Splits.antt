@@ -1,4 +1,4 @@
--- How seats are made: one view is cut in two.
+-- How seats are made: one view is cut in two. The table begins with one view that has all numbers.
 use Rattle.std.specs.Prelude.{◌≡◌, ℕ, false, List, [], ◌∷◌, ◌++◌, None, slice_set}
 use Rattle.history_model.specs.declared.entry.Entry.{Entry}
 use Rattle.history_model.specs.declared.view.View.{View}

@@ -1,5 +1,5 @@
--- The kinds of step on locks: when a seat may take one, and what it does.
--- The seat has the number j, k is a lock, and a the word that the lock is asked for.
+-- The kinds of step on locks: when a seat may take one, and what it does. They are those of 2PLSF (Ramalhete, Correia,
+-- Felber, PPoPP 2023). The seat has the number j, k is a lock, and a the word that the lock is asked for.
 use Rattle.std.specs.Prelude.{◌≡◌, ◌≢◌, ◌⊎◌, ℕ, ◌+◌, ◌-◌, ◌^◌, ◌%◌, ◌<◌, Bool, ◌||◌, [], ◌∷◌, ◌++◌, None, bit_and, bit_or, ◌==◌, if◌then◌else◌}
 use Rattle.std.specs.Int.{bit_at, bit_not}
 use mir.Syntax.{w64}

@@ -1,12 +1,12 @@
 -- What a step on locks leaves: the call, and every lock that was held.
-use Rattle.std.proofs.Common.{◌≡◌, ℕ, ◌-◌, ◌%◌, Bool, true, false, inl, inr, List, [], ◌∷◌, refl, sym, ◌∙◌, subst, ◌==◌, if◌then◌else◌}
+use Rattle.std.proofs.Common.{◌≡◌, ◌≢◌, ℕ, suc, ◌-◌, ◌%◌, Bool, true, false, inl, inr, List, [], ◌∷◌, length, refl, sym, ap, arith, ◌∙◌, subst, ◌==◌, if◌then◌else◌}
 use Rattle.std.specs.Int.{bit_at}
 use Rattle.history_model.specs.declared.view.View.{View}
 use Rattle.history_model.specs.Locks.{lock_of_word}
-use Rattle.history_model.specs.Sets.{without_first}
-use Rattle.history_model.specs.Views.{number, HasClaim}
-use Rattle.locks_rule.specs.Steps.{is_free, set_read_bit_action, load_writer_action, claim_writer_action, scan_row_action, after_asking, after_meeting}
-use Rattle.locks_rule.proofs.SetLemmas.{has-join_old, pair-join_old, pair-without_other}
+use Rattle.history_model.specs.Sets.{has, without_first}
+use Rattle.history_model.specs.Views.{number, HasBit, HasReadGrant, HasClaim, IsGranted}
+use Rattle.locks_rule.specs.Steps.{is_free, set_read_bit_action, clear_read_bit_action, load_writer_action, claim_writer_action, scan_row_action, release_writer_action, after_asking, after_meeting}
+use Rattle.locks_rule.proofs.SetLemmas.{differ, has-join_old, has-without_same, pair-join_old, pair-without_other}
 use Rattle.word_table.specs.declared.answer.Shared.{Shared}
 use Rattle.word_table.specs.declared.answer.Claimed.{Claimed}
 use Rattle.word_table.specs.declared.answer.Scanned.{Scanned}
@@ -63,3 +63,47 @@ scan_leaves v k i r u s =
       | true ↦ record { call = same_call v _ _ _ _ _ _ _; grants = λ l. (λ y. y, λ y. (y.0, λ m lt away. pair-join_old l m k i v.scans (y.1 m lt away))) }
       | false ↦ record { call = same_call v _ _ _ _ _ _ _; grants = λ l. (λ y. y, λ y. y) }
     ])
+
+-- a word more that was asked for is a change
+longer : (xs : List ℕ) (x : ℕ) → x ∷ xs ≢ xs
+longer xs x e = let same : suc (length xs) ≡ length xs = ap (λ (l : List ℕ). length l) e in omega arith
+
+longer_by_two : (xs : List ℕ) (x y : ℕ) → x ∷ (y ∷ xs) ≢ xs
+longer_by_two xs x y e = let same : suc (suc (length xs)) ≡ length xs = ap (λ (l : List ℕ). length l) e in omega arith
+
+-- where share changed nothing, the lock was held
+pub share_unchanged : (v : View) (a : ℕ) (r : Shared) (u : View) → SharedBy v a r u → u ≡ v → IsGranted v (lock_of_word a)
+share_unchanged v a r u (inl s) e = s.0
+share_unchanged v a r u (inr t) e =
+    let s = t.1 in let k : ℕ = lock_of_word a in let j : ℕ = number v in let set : View = (set_read_bit_action j k a v).view [] 0 in
+    let after : View → Bool → View = λ m b. if b then record (after_asking m a) { reads = k ∷ m.reads } else after_meeting (after_asking m a) k (s.word - 1) in
+    absurd (with_bit_cases k a v (λ m. after m (is_free j s.word) ≢ v)
+    (λ held. elim (is_free j s.word) as (λ (b : Bool). after v b ≢ v) [
+      | true ↦ λ same. longer v.asked a (ap (λ (x : View). x.asked) same)
+      | false ↦ λ same. longer v.asked a (ap (λ (x : View). x.asked) same)
+    ])
+    (elim (is_free j s.word) as (λ (b : Bool). after set b ≢ v) [
+      | true ↦ λ same. longer_by_two v.asked a a (ap (λ (x : View). x.asked) same)
+      | false ↦ λ same. longer_by_two v.asked a a (ap (λ (x : View). x.asked) same)
+    ]) (sym s.view ∙ e))
+
+-- where claim changed nothing, the claim stood
+pub claim_unchanged : (v : View) (a : ℕ) (r : Claimed) (u : View) → ClaimedBy v a r u → u ≡ v → HasClaim v (lock_of_word a)
+claim_unchanged v a r u (inl s) e = s.0
+claim_unchanged v a r u (inr t) e =
+    let s = t.1 in let k : ℕ = lock_of_word a in
+    let won : View = record (after_asking v a) { claims = k ∷ v.claims; scans = without_first k v.scans } in
+    absurd (elim (s.word == 0) as (λ (b : Bool). (if b then won else after_meeting (after_asking v a) k (s.word - 1)) ≢ v) [
+      | true ↦ λ same. longer v.asked a (ap (λ (x : View). x.asked) same)
+      | false ↦ λ same. longer v.asked a (ap (λ (x : View). x.asked) same)
+    ] (sym s.view ∙ e))
+
+-- a lock that was released is gone
+pub claim_gone : (v u : View) (k : ℕ) → u ≡ (release_writer_action (number v) k v).view [] 0 → ¬ HasClaim u k
+claim_gone v u k e claim = differ (has k u.claims) claim (ap (λ (x : View). has k x.claims) e ∙ has-without_same k v.claims)
+
+pub bit_gone : (v u : View) (k : ℕ) → u ≡ (clear_read_bit_action (number v) k v).view [] 0 → (¬ HasBit u k) × (¬ HasReadGrant u k)
+bit_gone v u k e = (
+  (λ bit. differ (has k u.bits) bit (ap (λ (x : View). has k x.bits) e ∙ has-without_same k v.bits)),
+  (λ read. differ (has k u.reads) read (ap (λ (x : View). has k x.reads) e ∙ has-without_same k v.reads)),
+)

@@ -3,7 +3,7 @@
 ghost use Rattle.std.specs.Prelude.{◌≡◌, ◌≢◌, ◌⊎◌, ◌<◌, ◌≤◌, ℕ, [], ◌∷◌, length, IfOk, Some, slice_get};
 ghost use Rattle.history_model.specs.Fitting.{IsGood};
 ghost use Rattle.history_model.specs.Locks.{lock_of_word};
-ghost use Rattle.history_model.specs.Views.{number, HasBit, HasClaim, IsScanned, IsGranted};
+ghost use Rattle.history_model.specs.Views.{number, HasBit, HasReadGrant, HasClaim, IsScanned, IsGranted};
 ghost use Rattle.locks_rule.specs.Splits.{opening_view};
 ghost use Rattle.locks_rule.specs.Steps.{release_writer_action, clear_read_bit_action};
 ghost use Rattle.word_table.specs.Calls.{SharedBy, ClaimedBy, ScannedBy, MetOn, SameCall, GrantsStay};
@@ -97,6 +97,7 @@ impl<S: Shape> Desk<S> {
         ensures bit { (j : ℕ) → result ≡ Shared.Met j → HasBit pass.new.view (lock_of_word a) }
         ensures held { IsGranted pass.old.view (lock_of_word a)
             → (result ≡ Shared.Granted) × (pass.new.view ≡ pass.old.view) }
+        ensures held_if { pass.new.view ≡ pass.old.view → IsGranted pass.old.view (lock_of_word a) }
         ensures call { SameCall pass.old.view pass.new.view }
         ensures grants { GrantsStay pass.old.view pass.new.view }
     {
@@ -120,6 +121,7 @@ impl<S: Shape> Desk<S> {
         ensures met { (j : ℕ) → result ≡ Claimed.Met j → MetOn pass.old.view pass.new.view (lock_of_word a) j }
         ensures held { HasClaim pass.old.view (lock_of_word a)
             → (result ≡ Claimed.Pending) × (pass.new.view ≡ pass.old.view) }
+        ensures held_if { pass.new.view ≡ pass.old.view → HasClaim pass.old.view (lock_of_word a) }
         ensures call { SameCall pass.old.view pass.new.view }
         ensures grants { GrantsStay pass.old.view pass.new.view }
     {
@@ -154,6 +156,7 @@ impl<S: Shape> Desk<S> {
         requires begun { pass.old.view.phase ≢ Phase.Idle }
         ensures desk { pass.new.table ≡ pass.old.table }
         ensures step { pass.new.view ≡ (release_writer_action (number pass.old.view) k pass.old.view).view [] 0 }
+        ensures gone { ¬ HasClaim pass.new.view k }
     {
         pass.release_writer(&self.table.shared, k);
     }
@@ -166,6 +169,7 @@ impl<S: Shape> Desk<S> {
         requires begun { pass.old.view.phase ≢ Phase.Idle }
         ensures desk { pass.new.table ≡ pass.old.table }
         ensures step { pass.new.view ≡ (clear_read_bit_action (number pass.old.view) k pass.old.view).view [] 0 }
+        ensures gone { ¬ HasBit pass.new.view k × ¬ HasReadGrant pass.new.view k }
     {
         pass.clear_read_bit(&self.table.shared, k);
     }

@@ -2,7 +2,7 @@ use Rattle.std.proofs.Common.{inr}
 use Rattle.history_model.specs.Locks.{lock_of_word}
 use Rattle.history_model.specs.Views.{number}
 use Rattle.word_table.proofs.Answering.{not_claimed, asks_claim, claim_pending, claim_met}
-use Rattle.word_table.proofs.Staying.{claim_leaves}
+use Rattle.word_table.proofs.Staying.{claim_leaves, claim_unchanged}
 use Rattle.word_table.proofs.desk.Desk.claim.Goals as goal
 
 -- there was no claim, and the step was taken
@@ -23,3 +23,6 @@ returns-clause-call g c = (claim_leaves c.args.pass.now.view c.args.a c.claimed_
 
 pub returns-clause-grants : goal.returns-clause-grants
 returns-clause-grants g c = (claim_leaves c.args.pass.now.view c.args.a c.claimed_by.result c.claim_writer-found.new.self.view (returns-clause-step g c)).grants
+
+pub returns-clause-held_if : goal.returns-clause-held_if
+returns-clause-held_if g c = claim_unchanged c.args.pass.now.view c.args.a c.claimed_by.result c.claim_writer-found.new.self.view (returns-clause-step g c)

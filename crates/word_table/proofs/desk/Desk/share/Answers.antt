@@ -2,7 +2,7 @@ use Rattle.std.proofs.Common.{inr}
 use Rattle.history_model.specs.Locks.{lock_of_word}
 use Rattle.history_model.specs.Views.{number}
 use Rattle.word_table.proofs.Answering.{not_granted, one_before, asks_shared, share_granted, share_met, share_bit}
-use Rattle.word_table.proofs.Staying.{share_leaves}
+use Rattle.word_table.proofs.Staying.{share_leaves, share_unchanged}
 use Rattle.word_table.proofs.desk.Desk.share.Goals as goal
 
 -- the lock was not held, and both steps were taken
@@ -29,3 +29,6 @@ returns-clause-call g c = (share_leaves c.args.pass.now.view c.args.a c.look.res
 
 pub returns-clause-grants : goal.returns-clause-grants
 returns-clause-grants g c = (share_leaves c.args.pass.now.view c.args.a c.look.result c.look.new.self.view (returns-clause-step g c)).grants
+
+pub returns-clause-held_if : goal.returns-clause-held_if
+returns-clause-held_if g c = share_unchanged c.args.pass.now.view c.args.a c.look.result c.look.new.self.view (returns-clause-step g c)
