@@ -2,3 +2,4 @@ pub mod Sets
 pub mod Lists
 pub mod Traces
 pub mod Looks
+pub mod Cells

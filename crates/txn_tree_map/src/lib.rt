@@ -1,0 +1,6 @@
+//! A map from keys to values on any words: a treap of blocks.
+#![tactic(auto)]
+
+pub mod map;
+
+pub use map::TreeMap;
