@@ -1,3 +1,4 @@
 pub mod Rising
 pub mod Trees
 pub mod Places
+pub mod Descents

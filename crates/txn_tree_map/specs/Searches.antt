@@ -26,14 +26,16 @@ IsNamed map place block key words = (slice_get words place ≡ Some (block + 1))
 abbrev pub IsEnd : ℕ → List ℕ → Type 0
 IsEnd place words = slice_get words place ≡ Some 0
 
--- the search for the key has come to the place, and passed so many nodes that no more than the other blocks are left below it
-pub record IsPassed (map : TreeMap) (key place passed : ℕ) (words : List ℕ) : Type 0 where
+-- the search for the key has come to the place, down nodes that all reach as high as the floor,
+-- and passed so many that no more than the other blocks are left below it
+pub record IsPassed (map : TreeMap) (key floor place passed : ℕ) (words : List ℕ) : Type 0 where
   pub path : Path
   pub rest : Tree
   pub is_at : IsAt map path rest words
   pub at : place ≡ place_of map.arena map.root path
   pub low : IsBelow key (before_of path)
   pub high : IsAbove key (after_of path)
+  pub higher : IsHigh (2 ^ 64) path floor
   pub count : passed + length (cells_of rest) ≤ map.arena.blocks
 
 -- the word at the place names the block of the key's cell
