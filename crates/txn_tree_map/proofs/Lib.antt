@@ -2,3 +2,4 @@ pub mod Rising
 pub mod Trees
 pub mod Places
 pub mod Descents
+pub mod Searching

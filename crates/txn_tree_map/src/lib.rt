@@ -1,6 +1,7 @@
 //! A map from keys to values on any words: a treap of blocks.
 #![tactic(auto)]
 
+mod find;
 pub mod map;
 
 pub use map::TreeMap;
