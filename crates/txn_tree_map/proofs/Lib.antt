@@ -3,3 +3,4 @@ pub mod Trees
 pub mod Places
 pub mod Descents
 pub mod Searching
+pub mod Gets

@@ -2,6 +2,7 @@
 #![tactic(auto)]
 
 mod find;
+mod get;
 pub mod map;
 
 pub use map::TreeMap;
