@@ -4,3 +4,4 @@ pub mod Places
 pub mod Descents
 pub mod Searching
 pub mod Gets
+pub mod Priorities
