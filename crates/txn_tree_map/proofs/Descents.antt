@@ -137,7 +137,7 @@ module _ (map : TreeMap) (key floor : ℕ) (s : List ℕ) where
   passed_leaf : (p n : ℕ) → (h : IsPassed map key floor p n s) → h.rest ≡ Leaf → IsMissing map key s
   passed_leaf p n h e = record { path = h.path; is_at = subst (λ t. IsAt map h.path t s) e h.is_at; low = h.low; high = h.high }
 
-  rest_name : (p n m : ℕ) (h : IsPassed map key floor p n s) → slice_get s p ≡ Some m → name_of h.rest ≡ m
+  pub rest_name : (p n m : ℕ) (h : IsPassed map key floor p n s) → slice_get s p ≡ Some m → name_of h.rest ≡ m
   rest_name p n m h e = same_Some (name_of h.rest) m (sym (at_name map s h.path h.rest h.is_at) ∙ ap (λ q. slice_get s q) (sym h.at) ∙ e)
 
   -- no more nodes hang there
@@ -147,7 +147,7 @@ module _ (map : TreeMap) (key floor : ℕ) (s : List ℕ) where
   pub passed_all : (p n : ℕ) → map.arena.blocks ≤ n → IsPassed map key floor p n s → IsMissing map key s
   passed_all p n le h = passed_leaf p n h (leaf_short h.rest (omega (arith, h.count, le)))
 
-  passed_node : (p n b k : ℕ) (h : IsPassed map key floor p n s) → IsNamed map p b k s → IsNode h.rest b k
+  pub passed_node : (p n b k : ℕ) (h : IsPassed map key floor p n s) → IsNamed map p b k s → IsNode h.rest b k
   passed_node p n b k h named = node_named map.arena s h.rest b k (rest_name p n (b + 1) h named.0) h.is_at.spelled named.1
 
   pub passed_found : (p n b k : ℕ) → IsPassed map key floor p n s → IsNamed map p b k s → k ≡ key → IsFoundAt map key p b s

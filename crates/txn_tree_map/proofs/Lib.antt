@@ -5,3 +5,4 @@ pub mod Descents
 pub mod Searching
 pub mod Gets
 pub mod Priorities
+pub mod Seats

@@ -1,7 +1,7 @@
 -- A place in the map's tree, and what the whole says there.
 use Rattle.std.proofs.Common.{◌≡◌, ◌≢◌, ℕ, ◌+◌, ◌*◌, ◌%◌, ◌^◌, ◌<◌, ◌≤◌, Bool, true, false, List, [], ◌∷◌, ◌++◌, length, slice_get, Some, None, inl, inr, ◌⊎◌, refl, sym, ap, ◌∙◌, subst, arith, if◌then◌else◌}
 use Rattle.std.proofs.lemmas.List.{append-nil}
-use Rattle.std.proofs.lemmas.Option.{slice_get_within}
+use Rattle.std.proofs.lemmas.Option.{slice_get_within, same_Some}
 use Rattle.std.specs.FinSet as set
 use Rattle.std.specs.FinMap as entry_map
 use Rattle.std.specs.List.{AllByRecursion}
@@ -146,3 +146,24 @@ module _ (map : TreeMap) (s : List ℕ) where
       -- a used block is one of the tree's
       pub used_count : (b : ℕ) → set.contains u b ≡ true → 1 ≤ count_on b path + count_in b tree
       used_count b k = let t : 1 ≤ times_in b all_cells = has_times b all_cells (sym (at_used b) ∙ k) in omega (arith, t, at_times b)
+
+    -- the whole, from the root
+    pub at_root : IsAt map [] (plug path tree) s
+    at_root =
+        let whole = hung_plug map.arena s map.root path tree m.hung m.spelled in
+        record {
+          laid = m.laid;
+          hung = whole.0;
+          spelled = whole.1;
+          search = subst (λ cs. IsRising cs) (sym (append-nil (cells_of (plug path tree)) ∙ cells_plug path tree)) m.search;
+          high = rank_small (plug path tree);
+          heap = (high_plug (2 ^ 64) path tree m.high m.heap).1;
+        }
+
+    -- another place in the same list is in the same tree
+    pub at_cells : (other_path : Path) (other : Tree) → IsAt map other_path other s → before_of other_path ++ (cells_of other ++ after_of other_path) ≡ all_cells
+    at_cells other_path other k =
+        let one = hung_plug map.arena s map.root path tree m.hung m.spelled in
+        let two = hung_plug map.arena s map.root other_path other k.hung k.spelled in
+        sym (cells_plug other_path other)
+        ∙ ap cells_of (one_tree map.arena s (plug other_path other) (plug path tree) (same_Some (name_of (plug other_path other)) (name_of (plug path tree)) (sym two.0 ∙ one.0)) two.1 one.1) ∙ cells_plug path tree

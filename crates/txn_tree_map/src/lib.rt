@@ -4,5 +4,6 @@
 mod find;
 mod get;
 pub mod map;
+mod seat;
 
 pub use map::TreeMap;

@@ -1,6 +1,6 @@
 //! Where a tree map lies, and the order of its priorities.
 
-ghost use Rattle.std.specs.Prelude.{◌≡◌};
+ghost use Rattle.std.specs.Prelude.{◌≡◌, ◌^◌, ◌<◌};
 ghost use Rattle.txn_tree_map.specs.Trees.{priority_of};
 
 use txn_alloc::Arena;
@@ -19,7 +19,9 @@ pub struct TreeMap {
 
 /// The priority of a key. The greater is higher.
 pub(crate) fn priority(key: u64) -> u64
-    ensures { result ≡ priority_of key }
+    ensures value { result ≡ priority_of key }
+    // A number of 64 bits, which callers' proofs know of no field of a struct.
+    ensures small { key < 2 ^ 64 }
 {
     key.wrapping_mul(MULTIPLIER)
 }
