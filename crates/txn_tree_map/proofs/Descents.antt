@@ -89,17 +89,17 @@ node_order path l r c h =
     }
 
 -- the cells around a child, where the key is on its side of the node
-low_down : (left : Bool) (key : ℕ) (path : Path) (l r : Tree) (c : Cell) → IsBelow key (before_of path) → NodeOrder path l r c → (left ≡ false → c.key < key) → IsBelow key (before_of (step_down left l c r ∷ path))
+pub low_down : (left : Bool) (key : ℕ) (path : Path) (l r : Tree) (c : Cell) → IsBelow key (before_of path) → IsBelow c.key (cells_of l) → (left ≡ false → c.key < key) → IsBelow key (before_of (step_down left l c r ∷ path))
 low_down true key path l r c low order side = all_append (λ d. d.key < key) (before_of path) [] low tt
 low_down false key path l r c low order side =
     let lt : c.key < key = side refl in
-    all_append (λ d. d.key < key) (before_of path) (cells_of l ++ c ∷ []) low (all_append (λ d. d.key < key) (cells_of l) (c ∷ []) (below_more c.key key (cells_of l) (omega (arith, lt)) order.left) (lt, tt))
+    all_append (λ d. d.key < key) (before_of path) (cells_of l ++ c ∷ []) low (all_append (λ d. d.key < key) (cells_of l) (c ∷ []) (below_more c.key key (cells_of l) (omega (arith, lt)) order) (lt, tt))
 
-high_down : (left : Bool) (key : ℕ) (path : Path) (l r : Tree) (c : Cell) → IsAbove key (after_of path) → NodeOrder path l r c → (left ≡ true → key < c.key) → IsAbove key (after_of (step_down left l c r ∷ path))
+pub high_down : (left : Bool) (key : ℕ) (path : Path) (l r : Tree) (c : Cell) → IsAbove key (after_of path) → IsAbove c.key (cells_of r) → (left ≡ true → key < c.key) → IsAbove key (after_of (step_down left l c r ∷ path))
 high_down false key path l r c high order side = high
 high_down true key path l r c high order side =
     let lt : key < c.key = side refl in
-    all_append (λ d. key < d.key) (c ∷ cells_of r) (after_of path) (lt, above_more key c.key (cells_of r) (omega (arith, lt)) order.right) high
+    all_append (λ d. key < d.key) (c ∷ cells_of r) (after_of path) (lt, above_more key c.key (cells_of r) (omega (arith, lt)) order) high
 
 floor_down : (left : Bool) (top floor : ℕ) (path : Path) (l r : Tree) (c : Cell) (n : ℕ) → floor ≤ priority_of c.key → IsHigh top (step_down left l c r ∷ path) n → IsHigh top (step_down left l c r ∷ path) floor
 floor_down left top floor path l r c n le h = (le, h.1, h.2, h.3)
@@ -181,8 +181,8 @@ module _ (map : TreeMap) (key floor : ℕ) (s : List ℕ) where
         rest = child_of left l r;
         is_at = down;
         at = ap (λ d. block_at map.arena d + (if left then 2 else 3)) (sym node.is_block);
-        low = low_down left key h.path l r c h.low order (λ e. let lt : k < key = side_right key k e ne in omega (arith, lt, node.is_key));
-        high = high_down left key h.path l r c h.high order (λ e. let lt : key < k = side_left key k e in omega (arith, lt, node.is_key));
+        low = low_down left key h.path l r c h.low order.left (λ e. let lt : k < key = side_right key k e ne in omega (arith, lt, node.is_key));
+        high = high_down left key h.path l r c h.high order.right (λ e. let lt : key < k = side_left key k e in omega (arith, lt, node.is_key));
         higher = floor_down left (2 ^ 64) floor h.path l r c (rank_of (child_of left l r)) (let same : priority_of k ≡ priority_of c.key = ap priority_of (sym node.is_key) in omega (arith, le, same)) down.high;
         count = omega (arith, h.count, whole, child_shorter left l r c);
       }

@@ -6,3 +6,4 @@ pub mod Searching
 pub mod Gets
 pub mod Priorities
 pub mod Seats
+pub mod Hanging

@@ -1,3 +1,4 @@
 pub mod Trees
 pub mod Paths
 pub mod Searches
+pub mod Changes
