@@ -7,3 +7,4 @@ pub mod Gets
 pub mod Priorities
 pub mod Seats
 pub mod Hanging
+pub mod Partings

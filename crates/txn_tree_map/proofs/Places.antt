@@ -35,7 +35,7 @@ hung_name arena s root (st ∷ path) name h = at (st.left) h.0
     at false k = k.right_there
 
 -- a node of a step is high where the step and what hangs below it are
-high_whole : (top : ℕ) (st : Step) (path : Path) (tree : Tree) → IsHigh top path (rank_of (whole_of st tree)) → IsHeap (whole_of st tree) → IsHigh top (st ∷ path) (rank_of tree) × IsHeap tree
+pub high_whole : (top : ℕ) (st : Step) (path : Path) (tree : Tree) → IsHigh top path (rank_of (whole_of st tree)) → IsHeap (whole_of st tree) → IsHigh top (st ∷ path) (rank_of tree) × IsHeap tree
 high_whole top st path tree high heap = at (st.left) high heap
   where
     at : (left : Bool) → IsHigh top path (rank_of (if left then Node tree st.cell st.other else Node st.other st.cell tree)) → IsHeap (if left then Node tree st.cell st.other else Node st.other st.cell tree)

@@ -30,6 +30,10 @@ pub rising_last : (xs ys : List Cell) → IsRising (xs ++ ys) → IsRising ys
 rising_last [] ys h = h
 rising_last (x ∷ xs) ys h = rising_last xs ys h.1
 
+pub rising_first : (xs ys : List Cell) → IsRising (xs ++ ys) → IsRising xs
+rising_first [] ys h = tt
+rising_first (x ∷ xs) ys h = (all_first (λ d. x.key < d.key) xs ys h.0, rising_first xs ys h.1)
+
 pub rising_below : (xs ys : List Cell) (c : Cell) → IsRising (xs ++ c ∷ ys) → IsBelow c.key xs
 rising_below [] ys c h = tt
 rising_below (x ∷ xs) ys c h = ((all_last (λ d. x.key < d.key) xs (c ∷ ys) h.0).0, rising_below xs ys c h.1)
