@@ -8,3 +8,4 @@ pub mod Priorities
 pub mod Seats
 pub mod Hanging
 pub mod Partings
+pub mod Splitting

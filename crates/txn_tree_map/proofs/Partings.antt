@@ -10,14 +10,15 @@ use Rattle.txn_alloc.specs.FreeLists.{block_at, IsInBlock}
 use Rattle.txn_alloc.specs.EntryMaps.{Cell, has_block}
 use Rattle.txn_alloc.proofs.Cells.{times_in, times-append, times_has, has_times, all_append, all_first, all_last}
 use Rattle.txn_tree_map.specs.declared.map.TreeMap.{TreeMap}
-use Rattle.txn_tree_map.specs.Trees.{Tree, priority_of, name_of, rank_of, cells_of, IsSpelled, IsAbove, IsRising, IsHeap}
+use Rattle.txn_tree_map.specs.Trees.{Tree, priority_of, name_of, rank_of, cells_of, IsSpelled, IsAbove, IsRising, IsHeap, IsLaid}
 use Rattle.txn_tree_map.specs.Trees.Tree.{Leaf, Node}
 use Rattle.txn_tree_map.specs.Paths.{Step, Path, whole_of, plug, place_of, before_of, after_of, IsHung, IsHigh, IsBelow}
 use Rattle.txn_tree_map.specs.Changes.{Hangs, IsNameIn, IsWhole, IsParted, Splits}
 use Rattle.txn_tree_map.proofs.Rising.{rising_once, rising_first, rising_last, rising_below, rising_above, length_below}
 use Rattle.txn_tree_map.proofs.Trees.{count_in, count_on, times_cells, cells_plug, all_tree, spelled_stays, hung_stays, hung_plug}
 use Rattle.txn_tree_map.proofs.Places.{hung_name, high_plug, high_lower, high_whole}
-use Rattle.txn_tree_map.proofs.Descents.{IsNode, node_named, leaf_short, step_down, child_of, low_down, high_down}
+use Rattle.txn_tree_map.proofs.Descents.{IsNode, node_named, leaf_named, leaf_short, step_down, child_of, low_down, high_down}
+use Rattle.txn_tree_map.proofs.Searching.{laid_alike, name_below}
 use Rattle.txn_tree_map.proofs.Hanging.{times_around, place_mine, same_block, hole_within, same_in, same_root, hung_here, hung_step, keeps_set, keeps_none}
 
 -- a word of the list has some value
@@ -233,3 +234,95 @@ module _ (map : TreeMap) (key block name turns smaller greater rest : ℕ) (old 
           count = omega (arith, h.count, longer, length-append (cells_of l) (c ∷ cells_of r));
           kept = keeps_set (IsNameIn map block h.tree) old s (place_of a q h.high_path) (c.block + 1) h.kept (subst (λ z. IsNameIn map block h.tree z) h.greater_at greater_own);
         })
+
+  -- all is parted where the rest is a leaf
+  pub parted_over : h.inner ≡ Leaf → IsParted map key block name 0 smaller greater 0 old s
+  parted_over leaf = record {
+    tree = h.tree;
+    whole = h.whole;
+    low_path = h.low_path;
+    high_path = h.high_path;
+    inner = Leaf;
+    is_rest = refl;
+    smaller_at = h.smaller_at;
+    greater_at = h.greater_at;
+    smaller_has = h.smaller_has;
+    greater_has = h.greater_has;
+    low_hung = h.low_hung;
+    high_hung = h.high_hung;
+    spelled = tt;
+    cells = h.cells ∙ ap (λ z. before_of h.low_path ++ (cells_of z ++ after_of h.high_path)) leaf;
+    low_end = h.low_end;
+    high_end = h.high_end;
+    low = h.low;
+    high = h.high;
+    low_falls = subst (λ z. IsHigh (priority_of key) h.low_path (rank_of z)) leaf h.low_falls;
+    high_falls = subst (λ z. IsHigh (priority_of key) h.high_path (rank_of z)) leaf h.high_falls;
+    heap = tt;
+    count = omega arith;
+    kept = h.kept;
+  }
+
+  pub parted_end : rest ≡ 0 → IsParted map key block name 0 smaller greater 0 old s
+  parted_end e = parted_over (leaf_named h.inner (h.is_rest ∙ e))
+
+  pub parted_all : map.arena.blocks ≤ turns → IsParted map key block name 0 smaller greater 0 old s
+  parted_all le = parted_over (leaf_short h.inner (omega (arith, h.count, le)))
+
+  -- what a call may rely on
+  pub parted_laid : IsLaid map s
+  parted_laid = laid_alike map old s h.kept.count h.whole.laid
+
+  pub parted_below : (b : ℕ) → rest ≡ b + 1 → b < map.arena.blocks
+  parted_below b e = name_below map.arena s h.inner b (h.is_rest ∙ e) h.spelled
+
+-- the last words are written
+pub splits_end : (map : TreeMap) (key block name smaller greater : ℕ) (old s : List ℕ) → IsParted map key block name 0 smaller greater 0 old s
+    → Splits map key block name old (slice_set (slice_set s smaller 0) greater 0)
+splits_end map key block name smaller greater old s h =
+    let a : Arena = map.arena in
+    let p : ℕ = block_at a block + 2 in
+    let q : ℕ = block_at a block + 3 in
+    let t : List ℕ = slice_set s (place_of a p h.low_path) 0 in
+    let u : List ℕ = slice_set t (place_of a q h.high_path) 0 in
+    let same : slice_set (slice_set s smaller 0) greater 0 ≡ u = ap (λ z. slice_set (slice_set s z 0) greater 0) h.smaller_at ∙ ap (λ z. slice_set t z 0) h.greater_at in
+    let once : (b : ℕ) → count_on b h.low_path + count_in b h.inner + count_on b h.high_path ≤ 1 =
+    λ b. omega (arith, parted_times map key block name 0 smaller greater 0 old s h b, whole_once map key block name h.tree old h.whole b) in
+    let out : (y b : ℕ) → (y ≡ p) ⊎ (y ≡ q) → 1 ≤ count_on b h.low_path + count_in b h.inner + count_on b h.high_path → ¬ IsInBlock a b y =
+    λ y b e k. whole_out map key block name h.tree old h.whole b y e (omega (arith, parted_times map key block name 0 smaller greater 0 old s h b, k)) in
+    let low_t : IsHung a t p h.low_path 0 = hung_here a s p h.low_path h.smaller_has 0 h.low_hung (λ b. omega (arith, once b)) (λ b k. out p b (inl refl) (omega (arith, k))) in
+    let high_t : IsHung a t q h.high_path h.greater_has = hung_stays a s t q h.high_path h.greater_has
+    (same_root a s p h.low_path h.smaller_has 0 h.low_hung q (λ e. omega (arith, e)) (λ b k. out q b (inr refl) (omega (arith, k))))
+    (same_in a s p h.low_path h.smaller_has 0 h.low_hung (λ d. count_on d h.high_path) (λ b. omega (arith, once b)) (λ b k. out p b (inl refl) (omega (arith, k)))) h.high_hung in
+    let high_u : IsHung a u q h.high_path 0 = hung_here a t q h.high_path h.greater_has 0 high_t (λ b. omega (arith, once b)) (λ b k. out q b (inr refl) (omega (arith, k))) in
+    let low_u : IsHung a u p h.low_path 0 = hung_stays a t u p h.low_path 0
+    (same_root a t q h.high_path h.greater_has 0 high_t p (λ e. omega (arith, e)) (λ b k. out p b (inl refl) (omega (arith, k))))
+    (same_in a t q h.high_path h.greater_has 0 high_t (λ d. count_on d h.low_path) (λ b. omega (arith, once b)) (λ b k. out q b (inr refl) (omega (arith, k)))) low_t in
+    let leaf : h.inner ≡ Leaf = leaf_named h.inner h.is_rest in
+    let left : Tree = plug h.low_path Leaf in
+    let right : Tree = plug h.high_path Leaf in
+    let left_is : cells_of left ≡ before_of h.low_path = cells_plug h.low_path Leaf ∙ ap (λ z. before_of h.low_path ++ z) h.low_end ∙ append-nil (before_of h.low_path) in
+    let right_is : cells_of right ≡ after_of h.high_path = cells_plug h.high_path Leaf ∙ ap (λ z. z ++ after_of h.high_path) h.high_end in
+    let lows = high_plug (priority_of key) h.low_path Leaf (subst (λ z. IsHigh (priority_of key) h.low_path (rank_of z)) leaf h.low_falls) tt in
+    let highs = high_plug (priority_of key) h.high_path Leaf (subst (λ z. IsHigh (priority_of key) h.high_path (rank_of z)) leaf h.high_falls) tt in
+    let kept_t : KeepsOthers (IsNameIn map block h.tree) old t =
+    keeps_set (IsNameIn map block h.tree) old s (place_of a p h.low_path) 0 h.kept (subst (λ z. IsNameIn map block h.tree z) h.smaller_at (smaller_own map key block name 0 smaller greater 0 old s h)) in
+    let kept_u : KeepsOthers (IsNameIn map block h.tree) old u =
+    keeps_set (IsNameIn map block h.tree) old t (place_of a q h.high_path) 0 kept_t (subst (λ z. IsNameIn map block h.tree z) h.greater_at (greater_own map key block name 0 smaller greater 0 old s h)) in
+    subst (λ z. Splits map key block name old z) (sym same)
+    (record {
+      tree = h.tree;
+      whole = h.whole;
+      left = left;
+      right = right;
+      left_there = hung_plug a u p h.low_path Leaf low_u tt;
+      right_there = hung_plug a u q h.high_path Leaf high_u tt;
+      cells = h.cells ∙ ap (λ z. before_of h.low_path ++ (cells_of z ++ after_of h.high_path)) leaf ∙ sym (ap (λ z. z ++ cells_of right) left_is ∙ ap (λ z. before_of h.low_path ++ z) right_is);
+      low = subst (λ cs. IsBelow key cs) (sym left_is) h.low;
+      high = subst (λ cs. IsAbove key cs) (sym right_is) h.high;
+      left_lower = lows.0;
+      right_lower = highs.0;
+      left_heap = lows.1;
+      right_heap = highs.1;
+      kept = kept_u;
+    })

@@ -6,6 +6,7 @@ use Rattle.history_model.specs.Fitting.{Fits, SomeFits, InEach}
 use Rattle.history_model.proofs.TraceLaws.{length-after}
 use Rattle.txn_alloc.specs.declared.arena.Arena.{Arena}
 use Rattle.txn_alloc.specs.FreeLists.{block_at}
+use Rattle.txn_alloc.proofs.Lists.{laid_kept}
 use Rattle.txn_tree_map.specs.declared.map.TreeMap.{TreeMap}
 use Rattle.txn_tree_map.specs.Trees.{Tree, name_of, IsSpelled, IsLaid}
 use Rattle.txn_tree_map.specs.Trees.Tree.{Leaf, Node}
@@ -50,3 +51,7 @@ module _ (map : TreeMap) (n : ℕ) (G : List ℕ → Type 0) (t : Trace) (some :
 pub link_down : (map : TreeMap) (b : ℕ) (left : Bool) → b < map.arena.blocks → IsLink map (block_at map.arena b + (if left then 2 else 3))
 link_down map b true lt = inr (b, lt, inr (inl refl))
 link_down map b false lt = inr (b, lt, inr (inr refl))
+
+-- a list with as many words is laid out alike
+pub laid_alike : (map : TreeMap) (s t : List ℕ) → length t ≡ length s → IsLaid map s → IsLaid map t
+laid_alike map s t e l = record { arena = laid_kept map.arena s t e l.arena; root = omega (arith, l.root, e); no_head = l.no_head; outside = l.outside }

@@ -68,13 +68,15 @@ pub record IsParted (map : TreeMap) (key block name turns smaller greater rest :
   pub count : turns + length (cells_of inner) ≤ map.arena.blocks
   pub kept : KeepsOthers (IsNameIn map block tree) old new
 
--- from state to state: one node more is parted
-abbrev pub PartsOne : TreeMap → ℕ → ℕ → ℕ → ℕ → ℕ → ℕ → ℕ → ℕ → ℕ → List ℕ → List ℕ → Type 0
-PartsOne map key block name smaller greater rest smaller' greater' rest' old new =
-    (turns : ℕ) (start : List ℕ) → IsParted map key block name turns smaller greater rest start old → IsParted map key block name (turns + 1) smaller' greater' rest' start new
+-- from state to state: what was parted so far is so still, by one node more
+abbrev pub PartsOne : TreeMap → ℕ → ℕ → ℕ → ℕ → ℕ → ℕ → ℕ → List ℕ → List ℕ → Type 0
+PartsOne map key smaller greater rest smaller' greater' rest' old new =
+    (block name turns : ℕ) (start : List ℕ) → IsParted map key block name turns smaller greater rest start old → IsParted map key block name (turns + 1) smaller' greater' rest' start new
 
--- there is a node to be parted
-pub record CanPart (map : TreeMap) (key block name smaller greater rest : ℕ) (words : List ℕ) : Type 0 where
+-- some tree is parted so far
+pub record CanPart (map : TreeMap) (key smaller greater rest : ℕ) (words : List ℕ) : Type 0 where
+  pub block : ℕ
+  pub name : ℕ
   pub turns : ℕ
   pub start : List ℕ
   pub parted : IsParted map key block name turns smaller greater rest start words

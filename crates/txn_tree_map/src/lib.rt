@@ -3,7 +3,9 @@
 
 mod find;
 mod get;
+mod hang;
 pub mod map;
 mod seat;
+mod split;
 
 pub use map::TreeMap;
