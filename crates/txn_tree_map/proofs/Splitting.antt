@@ -15,9 +15,9 @@ use Rattle.txn_alloc.proofs.Looks.{looks_one, seen_before, leads_back}
 use Rattle.txn_tree_map.specs.declared.map.TreeMap.{TreeMap}
 use Rattle.txn_tree_map.specs.Trees.{Tree}
 use Rattle.txn_tree_map.specs.Searches.{IsLink}
-use Rattle.txn_tree_map.specs.Changes.{Hangs, AreWithin, IsNameIn, IsWhole, IsParted, CanPart, PartsOne, Splits, IsSplitOwn}
+use Rattle.txn_tree_map.specs.Changes.{Hangs, AreWithin, IsNameIn, IsWhole, CanSplit, IsParted, CanPart, PartsOne, Splits, IsSplitOwn}
 use Rattle.txn_tree_map.proofs.Trees.{one_tree}
-use Rattle.txn_tree_map.proofs.Partings.{smaller_within, greater_within, smaller_own, greater_own, parted_low, parted_high, parted_other, parted_laid, parted_below, splits_end}
+use Rattle.txn_tree_map.proofs.Partings.{parted_none, smaller_within, greater_within, smaller_own, greater_own, parted_low, parted_high, parted_other, parted_laid, parted_below, splits_end}
 
 module _ (n : ℕ) (G : List ℕ → Type 0) (t : Trace) where
   pub are_within : (hole inner : ℕ) → SomeFits n G t → InEach n G t (AreWithin hole inner) → (hole < n) × (inner < n)
@@ -93,6 +93,15 @@ module _ (map : TreeMap) (key block name : ℕ) (n : ℕ) (G : List ℕ → Type
       let mine : ℕ → Type 0 = IsSplitOwn map key block name (after t s) (after v s) in
       only_then mine t u v (own s fit_u) (only_more (λ a. (a ≡ smaller) ⊎ (a ≡ greater)) mine u v (ends_own turns smaller greater rest (after t s) (after u s) (h s fit_u)) frame)
 
+  pub ends_within : (smaller greater : ℕ) → Leads n G t u (IsParted map key block name 0 smaller greater 0) → SomeFits n G u → (smaller < n) × (greater < n)
+  ends_within smaller greater parted some =
+      let s : List ℕ = after u some.0 in
+      let long : length s ≡ n = length-after u some.0 ∙ some.1.count in
+      let h = parted.at some.0 some.1 in
+      let one_in : smaller < length s = smaller_within map key block name 0 smaller greater 0 (after t some.0) s h in
+      let two_in : greater < length s = greater_within map key block name 0 smaller greater 0 (after t some.0) s h in
+      (omega (arith, long, one_in), omega (arith, long, two_in))
+
   -- the last words were written
   module _ (v w : Trace) (smaller greater : ℕ) (one : EndsWithWrite u v smaller 0) (two : EndsWithWrite v w greater 0) (parted : Leads n G t u (IsParted map key block name 0 smaller greater 0)) where
     fits_u : (s : List ℕ) → Fits n G w s → Fits n G u s
@@ -111,11 +120,6 @@ module _ (map : TreeMap) (key block name : ℕ) (n : ℕ) (G : List ℕ → Type
         let at : (a : ℕ) → (a ≡ smaller) ⊎ (a ≡ greater) → mine a = ends_own 0 smaller greater 0 (after t s) (after u s) (parted.at s (fits_u s fit)) in
         only_then mine t u w (own s (fits_u s fit)) (only_then mine u v w (only_write mine u v smaller 0 one (at smaller (inl refl))) (only_write mine v w greater 0 two (at greater (inr refl))))
 
-    pub ends_within : SomeFits n G u → (smaller < n) × (greater < n)
-    ends_within some =
-        let s : List ℕ = after u some.0 in
-        let long : length s ≡ n = length-after u some.0 ∙ some.1.count in
-        let h = parted.at some.0 some.1 in
-        let one_in : smaller < length s = smaller_within map key block name 0 smaller greater 0 (after t some.0) s h in
-        let two_in : greater < length s = greater_within map key block name 0 smaller greater 0 (after t some.0) s h in
-        (omega (arith, long, one_in), omega (arith, long, two_in))
+-- a split begins
+pub parted_start : (map : TreeMap) (key block name a : ℕ) (s : List ℕ) → block_at map.arena block ≡ a → CanSplit map key block name s → IsParted map key block name 0 (a + 2) (a + 3) name s s
+parted_start map key block name a s e k = subst (λ z. IsParted map key block name 0 (z + 2) (z + 3) name s s) e (parted_none map key block name k.tree s k.whole)
