@@ -9,3 +9,4 @@ pub mod Seats
 pub mod Hanging
 pub mod Partings
 pub mod Splitting
+pub mod Puts

@@ -95,7 +95,7 @@ module _ (map : TreeMap) (s : List ℕ) where
     at_all P step = all_append P (before_of path) (cells_of tree ++ after_of path) (all_before map.arena s P step map.root path (name_of tree) m.hung)
         (all_append P (cells_of tree) (after_of path) (all_tree map.arena s P step tree m.spelled) (all_after map.arena s P step map.root path (name_of tree) m.hung))
 
-    at_times : (b : ℕ) → times_in b all_cells ≡ count_on b path + count_in b tree
+    pub at_times : (b : ℕ) → times_in b all_cells ≡ count_on b path + count_in b tree
     at_times b =
         let whole : times_in b (cells_of (plug path tree)) ≡ count_in b (plug path tree) = times_cells b (plug path tree) in
         let parts : count_in b (plug path tree) ≡ count_on b path + count_in b tree = count_plug b path tree in

@@ -2,11 +2,13 @@
 use Rattle.std.specs.Prelude.{◌≡◌, ◌≢◌, ℕ, ◌+◌, ◌<◌, ◌≤◌, ◌⊎◌, true, false, List, [], ◌++◌, Some, length, slice_get, slice_set}
 use Rattle.std.specs.List.{AllByRecursion}
 use Rattle.txn_words.specs.Frames.{KeepsOthers}
-use Rattle.txn_alloc.specs.FreeLists.{block_at}
+use Rattle.txn_alloc.specs.FreeLists.{block_at, IsInBlock}
 use Rattle.txn_alloc.specs.EntryMaps.{Cell, has_block}
 use Rattle.txn_tree_map.specs.declared.map.TreeMap.{TreeMap}
 use Rattle.txn_tree_map.specs.Trees.{Tree, priority_of, name_of, rank_of, cells_of, IsSpelled, HasTree, IsAbove, IsRising, IsHeap, IsLaid}
-use Rattle.txn_tree_map.specs.Paths.{Path, place_of, before_of, after_of, IsHung, IsHigh, IsBelow}
+use Rattle.txn_tree_map.specs.Trees.Tree.{Leaf, Node}
+use Rattle.txn_tree_map.specs.Paths.{Path, place_of, before_of, after_of, IsHung, IsHigh, IsBelow, IsAt}
+use Rattle.txn_tree_map.specs.Searches.{IsLink, IsMissing}
 
 -- from state to state: the word at the hole has the name, and nothing else changed; the inner word held what was answered
 pub record Hangs (hole name inner rest : ℕ) (old new : List ℕ) : Type 0 where
@@ -101,3 +103,32 @@ pub record Splits (map : TreeMap) (key block name : ℕ) (old new : List ℕ) : 
 -- a names a subtree in the block, or in a block of a tree that the name heads
 abbrev pub IsSplitOwn : TreeMap → ℕ → ℕ → ℕ → List ℕ → List ℕ → ℕ → Type 0
 IsSplitOwn map key block name before after a = (tree : Tree) → IsWhole map key block name tree before → IsNameIn map block tree a
+
+-- the key is in no cell, and the block is one of the arena's and in none of the tree's cells
+pub record CanPut (map : TreeMap) (key block : ℕ) (words : List ℕ) : Type 0 where
+  pub missing : IsMissing map key words
+  pub below : block < map.arena.blocks
+  pub apart : has_block block (before_of missing.path ++ after_of missing.path) ≡ false
+
+-- a is the root, or in the block, or in the block of one of the cells
+abbrev pub IsRootOrIn : TreeMap → ℕ → List Cell → ℕ → Type 0
+IsRootOrIn map block cs a = (a ≡ map.root) ⊎ ((b : ℕ) × ((b ≡ block) ⊎ (has_block b cs ≡ true)) × IsInBlock map.arena b a)
+
+-- from state to state: the key's cell is in its place among those that were there, in the block
+pub record IsPut (map : TreeMap) (key value block : ℕ) (old new : List ℕ) : Type 0 where
+  pub before : CanPut map key block old
+  pub path : Path
+  pub left : Tree
+  pub right : Tree
+  pub is_at : IsAt map path (Node left (record { block = block; key = key; value = value }) right) new
+  pub cells : before_of before.missing.path ++ after_of before.missing.path ≡ (before_of path ++ cells_of left) ++ (cells_of right ++ after_of path)
+  pub low : IsBelow key (before_of path ++ cells_of left)
+  pub kept : KeepsOthers (IsRootOrIn map block (before_of before.missing.path ++ after_of before.missing.path)) old new
+
+-- a is the root, or in the block, or in one of the tree's blocks
+abbrev pub IsPutOwn : TreeMap → ℕ → ℕ → List ℕ → List ℕ → ℕ → Type 0
+IsPutOwn map key block before after a = (can : CanPut map key block before) → IsRootOrIn map block (before_of can.missing.path ++ after_of can.missing.path) a
+
+-- a link, or in the block
+abbrev pub IsLinkOrIn : TreeMap → ℕ → ℕ → Type 0
+IsLinkOrIn map block a = IsLink map a ⊎ IsInBlock map.arena block a
