@@ -10,3 +10,4 @@ pub mod Hanging
 pub mod Partings
 pub mod Splitting
 pub mod Puts
+pub mod Putting

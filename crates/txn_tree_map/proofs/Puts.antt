@@ -99,6 +99,25 @@ module _ (map : TreeMap) (key value block place name : ℕ) (r : List ℕ) (can 
       not_there zero e = e
       not_there (suc n) e = absurd (true≢false (sym (times_has block cells_there (omega (arith, e))) ∙ can.apart))
 
+  abbrev pub own : ℕ → Type 0
+  own = IsRootOrIn map block cells_there
+
+  pub name_own : (a : ℕ) → IsNameIn map block seat.rest a → own a
+  name_own a n = inr (n.owner, elim (n.mine) [
+    | inl e ↦ inl e
+    | inr m ↦ inr (seat_has n.owner (let t : 1 ≤ times_in n.owner (cells_of seat.rest) = has_times n.owner (cells_of seat.rest) m in omega (arith, t, times_cells n.owner seat.rest)))
+  ], name_in map block seat.rest a n)
+
+  -- the words that are written are the root, the block's and the tree's
+  pub place_own : own place
+  place_own = elim (place_mine map.arena map.root seat.path) [
+    | inl e ↦ inl (seat.at ∙ e)
+    | inr d ↦ inr (d.0, inr (seat_has d.0 (omega (arith, d.1))), elim (d.2) [
+      | inl e ↦ record { low = omega (arith, e, seat.at); high = omega (arith, e, seat.at) }
+      | inr e ↦ record { low = omega (arith, e, seat.at); high = omega (arith, e, seat.at) }
+    ])
+  ]
+
   module _ (u : List ℕ) (split : Splits map key block name with_value u) where
     same_tree : split.tree ≡ seat.rest
     same_tree = one_tree map.arena with_value split.tree seat.rest (split.whole.is_name ∙ sym seat.is_name) split.whole.spelled put_whole.spelled
@@ -204,16 +223,6 @@ module _ (map : TreeMap) (key value block place name : ℕ) (r : List ℕ) (can 
         around_parts = ap (λ z. before_of seat.path ++ z) (append_assoc (cells_of split.left) (cells_of split.right) (after_of seat.path))
             ∙ sym (append_assoc (before_of seat.path) (cells_of split.left) (cells_of split.right ++ after_of seat.path))
 
-    abbrev own : ℕ → Type 0
-    own = IsRootOrIn map block cells_there
-
-    -- the words that are written are the root, the block's and the tree's
-    pub place_own : own (place_of map.arena map.root seat.path)
-    place_own = elim (place_mine map.arena map.root seat.path) [
-      | inl e ↦ inl e
-      | inr d ↦ inr (d.0, inr (seat_has d.0 (omega (arith, d.1))), elim (d.2) [ inl e ↦ record { low = omega (arith, e); high = omega (arith, e) } | inr e ↦ record { low = omega (arith, e); high = omega (arith, e) } ])
-    ]
-
     pub put_done : IsPut map key value block r put_words
     put_done = record {
       before = can;
@@ -229,11 +238,5 @@ module _ (map : TreeMap) (key value block place name : ℕ) (r : List ℕ) (can 
           (keeps_then own r with_value u
           (record { count = long; same = λ a no. written_other a (λ m. no (inr (block, inl refl, m))) })
           (record { count = kept.count; same = λ a no. kept.same a (λ n. no (name_own a n)) }))
-          place_own;
+          (subst own seat.at place_own);
     }
-      where
-        name_own : (a : ℕ) → IsNameIn map block seat.rest a → own a
-        name_own a n = inr (n.owner, elim (n.mine) [
-          | inl e ↦ inl e
-          | inr m ↦ inr (seat_has n.owner (let t : 1 ≤ times_in n.owner (cells_of seat.rest) = has_times n.owner (cells_of seat.rest) m in omega (arith, t, times_cells n.owner seat.rest)))
-        ], name_in map block seat.rest a n)

@@ -4,6 +4,7 @@
 mod find;
 mod get;
 mod hang;
+mod insert;
 pub mod map;
 mod seat;
 mod split;
