@@ -11,3 +11,4 @@ pub mod Partings
 pub mod Splitting
 pub mod Puts
 pub mod Putting
+pub mod Maps
