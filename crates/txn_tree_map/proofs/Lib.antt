@@ -12,3 +12,4 @@ pub mod Splitting
 pub mod Puts
 pub mod Putting
 pub mod Maps
+pub mod Values
