@@ -13,3 +13,4 @@ pub mod Puts
 pub mod Putting
 pub mod Maps
 pub mod Values
+pub mod Inserting
