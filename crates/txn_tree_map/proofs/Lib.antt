@@ -14,3 +14,4 @@ pub mod Putting
 pub mod Maps
 pub mod Values
 pub mod Inserting
+pub mod Joinings

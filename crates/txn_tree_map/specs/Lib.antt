@@ -2,3 +2,4 @@ pub mod Trees
 pub mod Paths
 pub mod Searches
 pub mod Changes
+pub mod Joins
