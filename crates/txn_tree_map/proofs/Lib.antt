@@ -15,3 +15,4 @@ pub mod Maps
 pub mod Values
 pub mod Inserting
 pub mod Joinings
+pub mod Joining

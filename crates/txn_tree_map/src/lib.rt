@@ -5,6 +5,7 @@ mod find;
 mod get;
 mod hang;
 mod insert;
+mod join;
 pub mod map;
 mod seat;
 mod split;
