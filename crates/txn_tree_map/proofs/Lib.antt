@@ -16,3 +16,4 @@ pub mod Values
 pub mod Inserting
 pub mod Joinings
 pub mod Joining
+pub mod Cuttings

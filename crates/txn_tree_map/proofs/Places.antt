@@ -8,7 +8,7 @@ use Rattle.std.specs.List.{AllByRecursion}
 use Rattle.txn_alloc.specs.declared.arena.Arena.{Arena}
 use Rattle.txn_alloc.specs.FreeLists.{block_at, IsInBlock}
 use Rattle.txn_alloc.specs.EntryMaps.{Cell, Entries, Blocks, value_of, has_block}
-use Rattle.txn_alloc.proofs.Cells.{all_append, times_in, times-append, one_in, one_here, has_times}
+use Rattle.txn_alloc.proofs.Cells.{all_append, times_in, times-append, one_in, one_here, has_times, times_has}
 use Rattle.txn_tree_map.specs.declared.map.TreeMap.{TreeMap}
 use Rattle.txn_tree_map.specs.Trees.{Tree, priority_of, name_of, rank_of, cells_of, HasNode, IsSpelled, HasTree, IsRising, IsHeap, IsLaid, TreeHolds}
 use Rattle.txn_tree_map.specs.Trees.Tree.{Leaf, Node}
@@ -146,6 +146,10 @@ module _ (map : TreeMap) (s : List ℕ) where
       -- a used block is one of the tree's
       pub used_count : (b : ℕ) → set.contains u b ≡ true → 1 ≤ count_on b path + count_in b tree
       used_count b k = let t : 1 ≤ times_in b all_cells = has_times b all_cells (sym (at_used b) ∙ k) in omega (arith, t, at_times b)
+
+      -- and the other way round
+      pub used_from : (b : ℕ) → 1 ≤ count_on b path + count_in b tree → set.contains u b ≡ true
+      used_from b k = at_used b ∙ times_has b all_cells (omega (arith, k, at_times b))
 
     -- the whole, from the root
     pub at_root : IsAt map [] (plug path tree) s

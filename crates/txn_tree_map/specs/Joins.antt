@@ -1,11 +1,12 @@
 -- How two trees are joined into one, on words.
-use Rattle.std.specs.Prelude.{◌≡◌, ℕ, ◌+◌, ◌<◌, ◌≤◌, ◌⊎◌, true, List, ◌++◌, length, slice_get}
+use Rattle.std.specs.Prelude.{◌≡◌, ℕ, ◌+◌, ◌<◌, ◌≤◌, ◌⊎◌, true, List, ◌++◌, Some, length, slice_get}
 use Rattle.txn_words.specs.Frames.{KeepsOthers}
 use Rattle.txn_alloc.specs.FreeLists.{block_at, IsInBlock}
 use Rattle.txn_alloc.specs.EntryMaps.{Cell, has_block}
 use Rattle.txn_tree_map.specs.declared.map.TreeMap.{TreeMap}
 use Rattle.txn_tree_map.specs.Trees.{Tree, name_of, rank_of, cells_of, IsSpelled, HasTree, IsRising, IsHeap, IsLaid}
-use Rattle.txn_tree_map.specs.Paths.{Path, place_of, before_of, after_of, IsHung, IsHigh}
+use Rattle.txn_tree_map.specs.Paths.{Path, place_of, before_of, after_of, IsHung, IsHigh, IsAt}
+use Rattle.txn_tree_map.specs.Searches.{IsLink, IsFoundAt}
 
 -- a is the hole, or names a subtree in the block of one of the cells
 abbrev pub IsHoleOrName : TreeMap → ℕ → List Cell → ℕ → Type 0
@@ -100,3 +101,29 @@ pub record Joins (map : TreeMap) (hole left right : ℕ) (old new : List ℕ) : 
 -- a is the hole, or names a subtree in a block of the two trees that the numbers head
 abbrev pub IsJoinOwn : TreeMap → ℕ → ℕ → ℕ → List ℕ → List ℕ → ℕ → Type 0
 IsJoinOwn map hole left right before after a = (first second : Tree) → ArePair map hole left right first second before → IsHoleOrName map hole (cells_of first ++ cells_of second) a
+
+-- the key's cell is out of the tree: where it was hangs one tree of the cells below it
+pub record IsCut (map : TreeMap) (key place block value : ℕ) (old new : List ℕ) : Type 0 where
+  pub before : IsFoundAt map key place block old
+  pub value_there : slice_get old (block_at map.arena block + 1) ≡ Some value
+  pub tree : Tree
+  pub is_at : IsAt map before.path tree new
+  pub cells : cells_of before.left ++ cells_of before.right ≡ cells_of tree
+  pub kept : KeepsOthers (IsHoleOrName map place (cells_of before.left ++ cells_of before.right)) old new
+
+-- the word at the place names the block of some key's cell
+pub record CanCut (map : TreeMap) (place block : ℕ) (words : List ℕ) : Type 0 where
+  pub key : ℕ
+  pub found : IsFoundAt map key place block words
+
+-- from state to state: whichever key was found there, its cell is out of the tree
+abbrev pub Cuts : TreeMap → ℕ → ℕ → ℕ → List ℕ → List ℕ → Type 0
+Cuts map place block value old new = (key : ℕ) → IsFoundAt map key place block old → IsCut map key place block value old new
+
+-- a is the place, or names a subtree in a block below the cell
+abbrev pub IsCutOwn : TreeMap → ℕ → ℕ → List ℕ → List ℕ → ℕ → Type 0
+IsCutOwn map place block before after a = (key : ℕ) (h : IsFoundAt map key place block before) → IsHoleOrName map place (cells_of h.left ++ cells_of h.right) a
+
+-- a link, or the word of the block's value
+abbrev pub IsLinkOrValue : TreeMap → ℕ → ℕ → Type 0
+IsLinkOrValue map block a = IsLink map a ⊎ (a ≡ block_at map.arena block + 1)

@@ -63,6 +63,7 @@ pub(crate) fn find<W: Words>(w: &mut W, map: &TreeMap, key: u64) -> Result<Optio
     ensures missing { IfOk result (λ answer. IfNone answer
         (Looks (W.Shape.word_count (W.shape w.old)) (W.Shape.good (W.shape w.old)) (W.trace w.old) (W.trace w.new) (IsLink map.now) (IsMissing map.now key))) }
     ensures block { IfOk result (λ answer. IfSome answer (λ f. f.block < map.now.arena.blocks)) }
+    ensures link { IfOk result (λ answer. IfSome answer (λ f. IsLink map.now f.place)) }
     ensures goes_on { GoesOn W.Words w.old w.new result }
 {
     let mut place = map.root;

@@ -47,6 +47,9 @@ returns-then-node-key-clause-found g c =
     (λ s h. passed_found m c.args.key 0 s c.loop.place c.loop.counter node.block node.key h.0 h.1 c.if-node-key.true)
     (looks_then _ _ _ (IsLink m) _ _ _ (IsNamed m c.loop.place node.block node.key) i.looks (looks_from g.W.Words g.W.Shape.Shape c.args.w.now c.loop.w _ _ (IsLink m) _ i.shape named))
 
+pub returns-then-node-key-clause-link : goal.returns-then-node-key-clause-link
+returns-then-node-key-clause-link g c = c.loop.invariant.link
+
 pub loop-preserved : goal.loop-preserved
 loop-preserved g c =
     let m = c.args.map.now in
