@@ -179,7 +179,7 @@ module _ (map : TreeMap) (key place b value : ℕ) (s r : List ℕ) (f : Entries
       ∙ sym (less_block d xs ys h.cell (λ e. ne (sym e ∙ h.is_block))) ∙ ap (λ cs. has_block d cs) (sym cut_cells)))
 
   -- the written words are no heads, and in no free block
-  written_used : (a : ℕ) → IsHoleOrName map place (cells_below map key place b s h) a → (a ≡ map.root) ⊎ ((d : ℕ) × (set.contains u d ≡ true) × IsInBlock map.arena d a)
+  pub written_used : (a : ℕ) → IsHoleOrName map place (cells_below map key place b s h) a → (a ≡ map.root) ⊎ ((d : ℕ) × (set.contains u d ≡ true) × IsInBlock map.arena d a)
   written_used a k = elim k [
     | inl e ↦ elim (place_mine map.arena map.root h.path) [
       | inl z ↦ inl (e ∙ h.at ∙ z)

@@ -17,3 +17,4 @@ pub mod Inserting
 pub mod Joinings
 pub mod Joining
 pub mod Cuttings
+pub mod Removing
