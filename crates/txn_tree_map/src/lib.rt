@@ -7,6 +7,7 @@ mod hang;
 mod insert;
 mod join;
 pub mod map;
+mod remove;
 mod seat;
 mod split;
 
