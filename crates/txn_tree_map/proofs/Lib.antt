@@ -18,3 +18,4 @@ pub mod Joinings
 pub mod Joining
 pub mod Cuttings
 pub mod Removing
+pub mod Entries
