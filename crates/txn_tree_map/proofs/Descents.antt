@@ -60,7 +60,7 @@ pub node_whole : (left : Bool) (l r : Tree) (c : Cell) → Node l c r ≡ whole_
 node_whole true l r c = refl
 node_whole false l r c = refl
 
-child_shorter : (left : Bool) (l r : Tree) (c : Cell) → length (cells_of (child_of left l r)) + 1 ≤ length (cells_of (Node l c r))
+pub child_shorter : (left : Bool) (l r : Tree) (c : Cell) → length (cells_of (child_of left l r)) + 1 ≤ length (cells_of (Node l c r))
 child_shorter true l r c = omega (arith, length-append (cells_of l) (c ∷ cells_of r))
 child_shorter false l r c = omega (arith, length-append (cells_of l) (c ∷ cells_of r))
 

@@ -19,3 +19,4 @@ pub mod Joining
 pub mod Cuttings
 pub mod Removing
 pub mod Entries
+pub mod Nearest

@@ -3,3 +3,4 @@ pub mod Paths
 pub mod Searches
 pub mod Changes
 pub mod Joins
+pub mod Sums

@@ -2,6 +2,7 @@
 #![tactic(auto)]
 
 mod find;
+mod first;
 mod get;
 mod hang;
 mod insert;
