@@ -7,8 +7,8 @@ use Rattle.history_model.specs.Fitting.{Fits, InEach, Leads}
 use Rattle.history_model.proofs.TraceLaws.{read_there, after_read, begins_refl, begins_trans}
 use Rattle.history_model.proofs.FittingLaws.{fits_front, fits_begins, each_at, leads_at}
 use Rattle.txn_words.specs.declared.words.Words.{Ghosts as AnyWords}
-use Rattle.txn_words.specs.Calls.{InEachState, LeadsTo, WritesOnly, WritesWithin}
-use Rattle.txn_words.specs.Frames.{AppendsOnly}
+use Rattle.txn_words.specs.Calls.{InEachState, LeadsTo, WritesOnly, WritesWithin, ReadsWithin}
+use Rattle.txn_words.specs.Frames.{AppendsOnly, AppendsReads}
 use Rattle.txn_words.proofs.CallLaws.{leads_plain}
 use Rattle.txn_words.proofs.FrameLaws.{only_same, only_read, only_then}
 use Rattle.txn_words.proofs.ReadLaws.{sees_same, sees_read, sees_then, sees_more}
@@ -104,3 +104,8 @@ each_from words shapes u v P e h = record { at = (each_at shapes.word_count shap
 pub within_from : {W S O : Type 0} (words : AnyWords W S O) (shapes : Shapes S) (u v w : W) (IsOwn : List ℕ → List ℕ → ℕ → Type 0) → words.shape v ≡ words.shape u → WritesWithin words shapes v w IsOwn
     → (s : List ℕ) → Fits (shapes.word_count (words.shape u)) (shapes.good (words.shape u)) (words.trace w) s → AppendsOnly (words.trace v) (words.trace w) (IsOwn (after (words.trace v) s) (after (words.trace w) s))
 within_from words shapes u v w IsOwn e h s fit = h.at s (subst (λ z. Fits (shapes.word_count z) (shapes.good z) (words.trace w) s) (sym e) fit)
+
+-- what a later call read, likewise
+pub reads_from : {W S O : Type 0} (words : AnyWords W S O) (shapes : Shapes S) (u v w : W) (IsSeen : List ℕ → List ℕ → ℕ → Type 0) → words.shape v ≡ words.shape u → ReadsWithin words shapes v w IsSeen
+    → (s : List ℕ) → Fits (shapes.word_count (words.shape u)) (shapes.good (words.shape u)) (words.trace w) s → AppendsReads (words.trace v) (words.trace w) (IsSeen (after (words.trace v) s) (after (words.trace w) s))
+reads_from words shapes u v w IsSeen e h s fit = h.at s (subst (λ z. Fits (shapes.word_count z) (shapes.good z) (words.trace w) s) (sym e) fit)

@@ -20,3 +20,5 @@ pub mod Cuttings
 pub mod Removing
 pub mod Entries
 pub mod Nearest
+pub mod Summing
+pub mod Totals

@@ -64,3 +64,31 @@ pub record IsTotal (map : TreeMap) (low high total : ℕ) (words : List ℕ) : T
   pub tree : Tree
   pub is_at : IsAt map [] tree words
   pub sum : total ≡ sum_cells (counted low high) (cells_of tree)
+
+-- of the tree's cells from the key on, the first has this key and this value
+pub record IsNext (map : TreeMap) (least key value : ℕ) (words : List ℕ) : Type 0 where
+  pub tree : Tree
+  pub is_at : IsAt map [] tree words
+  pub lows : List Cell
+  pub cell : Cell
+  pub highs : List Cell
+  pub cells : cells_of tree ≡ lows ++ cell ∷ highs
+  pub low : IsBelow least lows
+  pub from : least ≤ cell.key
+  pub is_key : cell.key ≡ key
+  pub is_value : cell.value ≡ value
+
+-- no cell has a key from the least to the high one, both included
+pub record HasNoneTo (map : TreeMap) (least high : ℕ) (words : List ℕ) : Type 0 where
+  pub tree : Tree
+  pub is_at : IsAt map [] tree words
+  pub lows : List Cell
+  pub highs : List Cell
+  pub cells : cells_of tree ≡ lows ++ highs
+  pub low : IsBelow least lows
+  pub from : IsFrom least highs
+  pub past : IsFrom (high + 1) highs
+
+-- any word
+abbrev pub IsAnyWord : ℕ → Type 0
+IsAnyWord a = Unit {0}

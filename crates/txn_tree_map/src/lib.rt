@@ -11,5 +11,6 @@ pub mod map;
 mod remove;
 mod seat;
 mod split;
+mod sum;
 
 pub use map::TreeMap;
