@@ -22,3 +22,4 @@ pub mod Entries
 pub mod Nearest
 pub mod Summing
 pub mod Totals
+pub mod Lists

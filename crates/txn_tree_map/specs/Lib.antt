@@ -4,3 +4,4 @@ pub mod Searches
 pub mod Changes
 pub mod Joins
 pub mod Sums
+pub mod Statements

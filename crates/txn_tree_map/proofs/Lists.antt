@@ -1,0 +1,87 @@
+-- Word lists of tests.
+use Rattle.std.proofs.Common.{◌≡◌, ℕ, ◌+◌, ◌<◌, List, [], ◌∷◌, length, slice_get, slice_set, Some, None, replicate, refl, sym, ap, ◌∙◌, arith, rules}
+use Rattle.std.proofs.lemmas.List.{length-set, length-replicate, get_or-replicate}
+use Rattle.std.proofs.lemmas.Option.{slice_get-get_or}
+use Rattle.std.specs.List.{IsDistinct}
+use Rattle.std.specs.Ordering.{nat_cmp}
+use Rattle.std.specs.FinSet.{members}
+use Rattle.std.specs.FinSet as set
+use Rattle.std.specs.FinMap as entry_map
+use Rattle.std.specs.FinMap.{gets}
+use mathlib.Core.Bool.{true≢false}
+use Rattle.history_model.specs.Fitting.{IsGood}
+use Rattle.history_model.proofs.TraceLaws.{get_set_same, get_set_other}
+use Rattle.txn_alloc.specs.declared.arena.Arena.{Arena}
+use Rattle.txn_alloc.specs.FreeLists.{IsLaidOut}
+use Rattle.txn_alloc.specs.EntryMaps.{HasMapApart}
+use Rattle.txn_alloc.proofs.Sets.{out_empty}
+use Rattle.txn_tree_map.specs.declared.map.TreeMap.{TreeMap}
+use Rattle.txn_tree_map.specs.Trees.{Tree, TreeHolds}
+use Rattle.txn_tree_map.specs.Trees.Tree.{Leaf}
+
+abbrev pub two : Arena
+two = record { heads = 1; first = 277; blocks = 2 }
+
+abbrev pub small : TreeMap
+small = record { root = 0; arena = record { heads = 1; first = 277; blocks = 2 } }
+
+nothing : (k : ℕ) → entry_map.get (entry_map.empty {X = ℕ} {R = nat_cmp}) k ≡ None
+nothing k = grind (gets, rules)
+
+-- each word of a list of zeros is 0
+zero_there : (n i : ℕ) (ws : List ℕ) → ws ≡ replicate n 0 → i < n → slice_get ws i ≡ Some 0
+zero_there n i ws e lt =
+    let nil : ℕ = 0 in
+    let zeros : List ℕ = replicate n nil in
+    ap (λ xs. slice_get xs i) e ∙ slice_get-get_or zeros i 0 (let long : length zeros ≡ n = length-replicate n nil in omega (arith, long, lt)) ∙ ap (λ k. Some k) (get_or-replicate n i nil nil lt)
+
+-- a list of zeros but for the two words that link the blocks is good
+pub linked : (n : ℕ) (ws : List ℕ) → n ≡ 285 → ws ≡ replicate n 0 → IsGood 285 (HasMapApart two (TreeHolds small)) (slice_set (slice_set ws 1 1) 277 2)
+unfolding IsDistinct
+linked n ws is_n e =
+    let nil : ℕ = 0 in
+    let long : length ws ≡ n = ap length e ∙ length-replicate n nil in
+    let t : List ℕ = slice_set ws 1 1 in
+    let s : List ℕ = slice_set t 277 2 in
+    let long_t : length t ≡ length ws = length-set ws 1 1 in
+    let long_s : length s ≡ 285 = length-set t 277 2 ∙ long_t ∙ long ∙ is_n in
+    let rest : (i : ℕ) → i < n → (i ≡ 1 → ⊥) → (i ≡ 277 → ⊥) → slice_get s i ≡ Some 0 =
+    λ i lt one last. get_set_other t 277 i 2 last ∙ get_set_other ws 1 i 1 one ∙ zero_there n i ws e lt in
+    let laid : IsLaidOut two s = record {
+      places = omega (arith, long_s);
+      blocks = λ b lt. omega (arith, long_s, lt);
+      heads = omega (arith, long_s);
+      outside = λ b a lt in_block head. omega (arith, in_block.low, head.high);
+    } in
+    record {
+      count = long_s;
+      good = record {
+        entries = entry_map.empty;
+        used = set.empty;
+        free = set.from_list (0 ∷ 1 ∷ []);
+        holds = record {
+          map = record {
+            laid = record { arena = laid; root = omega (arith, long_s); no_head = λ head. omega (arith, head.low); outside = λ b lt mine. omega (arith, mine.low) };
+            tree = Leaf;
+            spelled = (rest 0 (omega (arith, is_n)) (λ k. omega (arith, k)) (λ k. omega (arith, k)), tt);
+            search = tt;
+            heap = tt;
+            entries_are = nothing;
+            used_are = out_empty;
+          };
+          free_lists = record {
+            laid_out = laid;
+            order = 0 ∷ 1 ∷ [];
+            all = refl;
+            once = ((refl, tt), (tt, tt));
+            first = (
+              get_set_other t 277 1 2 (λ k. absurd (omega (arith, k))) ∙ get_set_same ws 1 1 (omega (arith, long, is_n)),
+              omega arith,
+              (get_set_same t 277 2 (omega (arith, long_t, long, is_n)), omega arith, rest 281 (omega (arith, is_n)) (λ k. omega (arith, k)) (λ k. omega (arith, k))),
+            );
+            others = λ a is lt. rest a (omega (arith, is.high, is_n)) (λ k. omega (arith, k, lt)) (λ k. omega (arith, k, is.high));
+          };
+          apart = λ b m. absurd (true≢false (sym m ∙ out_empty b));
+        };
+      };
+    }

@@ -1,0 +1,42 @@
+//! Each call of a map of at most two entries, at words in a plain list.
+
+use crate::map::TreeMap;
+use history_model::Shape;
+use std::test::Fail;
+use txn_alloc::{Arena, Put, give, take};
+use txn_words::Plain;
+
+/// 285 words, which hold a map of at most two entries.
+#[derive(Clone, Copy)]
+struct TwoEntries;
+
+impl Shape for TwoEntries {
+    ghost use Rattle.txn_alloc.specs.EntryMaps.{HasMapApart};
+    ghost use Rattle.txn_tree_map.specs.Trees.{TreeHolds};
+
+    ghost word_count = { λ _. 285 };
+
+    ghost good = { λ _ words. HasMapApart (record { heads = 1; first = 277; blocks = 2 }) (TreeHolds (record { root = 0; arena = record { heads = 1; first = 277; blocks = 2 } })) words };
+}
+
+/// The map of these words.
+const MAP: TreeMap = TreeMap {
+    root: 0,
+    arena: Arena {
+        heads: 1,
+        first: 277,
+        blocks: 2,
+    },
+};
+
+#[test]
+fn a_value_is_put_and_replaced(rt: HostRuntime) -> Result<(), Fail> {
+    let mut words = vec![in rt.alloc(); 0u64; 285]?;
+    words[1] = 1;
+    words[277] = 2;
+    let mut plain = Plain::new(rt.alloc(), TwoEntries, words);
+    assert_eq!(rt; MAP.insert(&mut plain, 7, 70)?, Put::New);
+    assert_eq!(rt; MAP.insert(&mut plain, 7, 71)?, Put::Old(70));
+    assert_eq!(rt; MAP.get(&mut plain, 7)?, Some(71));
+    Ok(())
+}
