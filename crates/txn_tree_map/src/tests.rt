@@ -40,3 +40,43 @@ fn a_value_is_put_and_replaced(rt: HostRuntime) -> Result<(), Fail> {
     assert_eq!(rt; MAP.get(&mut plain, 7)?, Some(71));
     Ok(())
 }
+
+#[test]
+fn a_third_entry_finds_no_room(rt: HostRuntime) -> Result<(), Fail> {
+    let mut words = vec![in rt.alloc(); 0u64; 285]?;
+    words[1] = 1;
+    words[277] = 2;
+    let mut plain = Plain::new(rt.alloc(), TwoEntries, words);
+    assert_eq!(rt; MAP.insert(&mut plain, 7, 71)?, Put::New);
+    assert_eq!(rt; MAP.insert(&mut plain, 8, 80)?, Put::New);
+    assert_eq!(rt; MAP.insert(&mut plain, 9, 90)?, Put::Full);
+    Ok(())
+}
+
+#[test]
+fn an_entry_goes(rt: HostRuntime) -> Result<(), Fail> {
+    let mut words = vec![in rt.alloc(); 0u64; 285]?;
+    words[1] = 1;
+    words[277] = 2;
+    let mut plain = Plain::new(rt.alloc(), TwoEntries, words);
+    assert_eq!(rt; MAP.insert(&mut plain, 7, 71)?, Put::New);
+    assert_eq!(rt; MAP.insert(&mut plain, 8, 80)?, Put::New);
+    assert_eq!(rt; MAP.remove(&mut plain, 7)?, Some(71));
+    assert_eq!(rt; MAP.get(&mut plain, 8)?, Some(80));
+    assert_eq!(rt; MAP.get(&mut plain, 7)?, None);
+    Ok(())
+}
+
+#[test]
+fn the_other_block_is_free(rt: HostRuntime) -> Result<(), Fail> {
+    let mut words = vec![in rt.alloc(); 0u64; 285]?;
+    words[1] = 1;
+    words[277] = 2;
+    let mut plain = Plain::new(rt.alloc(), TwoEntries, words);
+    assert_eq!(rt; MAP.insert(&mut plain, 8, 80)?, Put::New);
+    let block = take(&mut plain, &MAP.arena)?.expect(&rt, "a free block");
+    let none = take(&mut plain, &MAP.arena)?;
+    assert!(rt; none.is_none());
+    give(&mut plain, &MAP.arena, block)?;
+    Ok(())
+}

@@ -12,3 +12,6 @@ new-plain-requires g c = linked 285 c.in_ok-words.words.items refl (c.in_ok-word
 
 pub insert-requires-clause-order : goal.insert-requires-clause-order
 insert-requires-clause-order g c = record { at = (each_fresh 285 (HasMapApart two (TreeHolds small)) _ (ap (λ (v : PlainView TwoEntries). v.trace) c.new-plain.ensures.view)).at }
+
+pub get-requires-clause-order : goal.get-requires-clause-order
+get-requires-clause-order g c = record { at = λ s fit. let o = c.in_ok-insert-2.ensures.order.at s fit in record { entries = o.entries; used = o.used; holds = o.holds.map } }
