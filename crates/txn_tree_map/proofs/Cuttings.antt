@@ -66,10 +66,10 @@ module _ (map : TreeMap) (key place b : ℕ) (s : List ℕ) (h : IsFoundAt map k
       elim (place_mine map.arena map.root h.path) [
         | inl e ↦ at_outside map s h.path node h.is_at d (omega (arith, there, below_times d)) (subst (λ z. IsInBlock map.arena d z) (h.at ∙ e) mine)
         | inr q ↦
-          let own : IsInBlock map.arena q.0 place = elim (q.2) [ inl e ↦ record { low = omega (arith, e, h.at); high = omega (arith, e, h.at) } | inr e ↦ record { low = omega (arith, e, h.at); high = omega (arith, e, h.at) } ] in
-          let same : q.0 ≡ d = one_block map.arena q.0 d place own mine in
-          let here : 1 ≤ count_on d h.path = subst (λ z. 1 ≤ count_on z h.path) same q.1 in
-          omega (arith, there, below_times d, here, once d)
+            let own : IsInBlock map.arena q.0 place = elim (q.2) [ inl e ↦ record { low = omega (arith, e, h.at); high = omega (arith, e, h.at) } | inr e ↦ record { low = omega (arith, e, h.at); high = omega (arith, e, h.at) } ] in
+            let same : q.0 ≡ d = one_block map.arena q.0 d place own mine in
+            let here : 1 ≤ count_on d h.path = subst (λ z. 1 ≤ count_on z h.path) same q.1 in
+            omega (arith, there, below_times d, here, once d)
       ]
 
   -- the two subtrees may be joined there
@@ -108,19 +108,19 @@ module _ (map : TreeMap) (key place b : ℕ) (s : List ℕ) (h : IsFoundAt map k
     path_kept d a k mine ne = kept.same a (λ m. elim m [
       | inl e ↦ ne (e ∙ h.at)
       | inr q ↦
-        let own : IsInBlock map.arena q.0 a = elim (q.2) [ inl e ↦ record { low = omega (arith, e); high = omega (arith, e) } | inr e ↦ record { low = omega (arith, e); high = omega (arith, e) } ] in
-        let same : q.0 ≡ d = one_block map.arena q.0 d a own mine in
-        let there : 1 ≤ times_in d cells_below = subst (λ z. 1 ≤ times_in z cells_below) same (has_times q.0 cells_below q.1) in
-        omega (arith, there, below_times d, k, once d)
+          let own : IsInBlock map.arena q.0 a = elim (q.2) [ inl e ↦ record { low = omega (arith, e); high = omega (arith, e) } | inr e ↦ record { low = omega (arith, e); high = omega (arith, e) } ] in
+          let same : q.0 ≡ d = one_block map.arena q.0 d a own mine in
+          let there : 1 ≤ times_in d cells_below = subst (λ z. 1 ≤ times_in z cells_below) same (has_times q.0 cells_below q.1) in
+          omega (arith, there, below_times d, k, once d)
     ])
 
     root_kept : map.root ≢ place_of map.arena map.root h.path → slice_get t map.root ≡ slice_get s map.root
     root_kept ne = kept.same map.root (λ m. elim m [
       | inl e ↦ ne (e ∙ h.at)
       | inr q ↦
-        let own : IsInBlock map.arena q.0 map.root = elim (q.2) [ inl e ↦ record { low = omega (arith, e); high = omega (arith, e) } | inr e ↦ record { low = omega (arith, e); high = omega (arith, e) } ] in
-        let there : 1 ≤ times_in q.0 cells_below = has_times q.0 cells_below q.1 in
-        at_outside map s h.path node h.is_at q.0 (omega (arith, there, below_times q.0)) own
+          let own : IsInBlock map.arena q.0 map.root = elim (q.2) [ inl e ↦ record { low = omega (arith, e); high = omega (arith, e) } | inr e ↦ record { low = omega (arith, e); high = omega (arith, e) } ] in
+          let there : 1 ≤ times_in q.0 cells_below = has_times q.0 cells_below q.1 in
+          at_outside map s h.path node h.is_at q.0 (omega (arith, there, below_times q.0)) own
     ])
 
     pub cut_at : IsAt map h.path j.tree t
@@ -159,8 +159,17 @@ module _ (map : TreeMap) (key place b value : ℕ) (s r : List ℕ) (f : Entries
       let xs = lows map key place b s h in
       let ys = highs map key place b s h in
       let one : one_in b h.cell ≡ 1 = one_here b h.cell h.is_block in
-      omega (arith, times-append b xs ys, times-append b (before_of h.path) (cells_of h.left), times-append b (cells_of h.right) (after_of h.path), times_around b h.path, times_cells b h.left, times_cells b h.right, one,
-      once map key place b s h b)
+      omega (
+        arith,
+        times-append b xs ys,
+        times-append b (before_of h.path) (cells_of h.left),
+        times-append b (cells_of h.right) (after_of h.path),
+        times_around b h.path,
+        times_cells b h.left,
+        times_cells b h.right,
+        one,
+        once map key place b s h b,
+      )
 
   pub cut_holds : TreeHolds map r (entry_map.remove f key) (set.remove u b)
   cut_holds =
@@ -186,8 +195,8 @@ module _ (map : TreeMap) (key place b value : ℕ) (s r : List ℕ) (f : Entries
       | inr q ↦ inr (q.0, count_used q.0 (omega (arith, q.1)), elim (q.2) [ inl z ↦ record { low = omega (arith, e, z, h.at); high = omega (arith, e, z, h.at) } | inr z ↦ record { low = omega (arith, e, z, h.at); high = omega (arith, e, z, h.at) } ])
     ]
     | inr q ↦
-      let there : 1 ≤ times_in q.0 (cells_below map key place b s h) = has_times q.0 (cells_below map key place b s h) q.1 in
-      inr (q.0, count_used q.0 (omega (arith, there, below_times map key place b s h q.0)), elim (q.2) [ inl z ↦ record { low = omega (arith, z); high = omega (arith, z) } | inr z ↦ record { low = omega (arith, z); high = omega (arith, z) } ])
+        let there : 1 ≤ times_in q.0 (cells_below map key place b s h) = has_times q.0 (cells_below map key place b s h) q.1 in
+        inr (q.0, count_used q.0 (omega (arith, there, below_times map key place b s h q.0)), elim (q.2) [ inl z ↦ record { low = omega (arith, z); high = omega (arith, z) } | inr z ↦ record { low = omega (arith, z); high = omega (arith, z) } ])
   ]
     where
       count_used : (d : ℕ) → 1 ≤ count_on d h.path + (count_in d h.left + one_in d h.cell + count_in d h.right) → set.contains u d ≡ true

@@ -50,11 +50,11 @@ module _ (arena : Arena) (s : List ℕ) (root : ℕ) (path : Path) (x m : ℕ) (
   hole_apart count once out b a k mine e = elim (place_mine arena root path) [
     | inl at ↦ out b k (subst (λ y. IsInBlock arena b y) (e ∙ at) mine)
     | inr d ↦
-      let same : b ≡ d.0 = same_block arena b d.0 a mine (elim (d.2) [ inl z ↦ inl (e ∙ z) | inr z ↦ inr (e ∙ z) ]) in
-      let twice : count_on d.0 path + count d.0 ≤ 1 = once d.0 in
-      let here : 1 ≤ count d.0 = subst (λ y. 1 ≤ count y) same k in
-      let more : 1 ≤ count_on d.0 path = d.1 in
-      absurd (omega (arith, twice, here, more))
+        let same : b ≡ d.0 = same_block arena b d.0 a mine (elim (d.2) [ inl z ↦ inl (e ∙ z) | inr z ↦ inr (e ∙ z) ]) in
+        let twice : count_on d.0 path + count d.0 ≤ 1 = once d.0 in
+        let here : 1 ≤ count d.0 = subst (λ y. 1 ≤ count y) same k in
+        let more : 1 ≤ count_on d.0 path = d.1 in
+        absurd (omega (arith, twice, here, more))
   ]
 
   pub same_in : (count : ℕ → ℕ) → ((b : ℕ) → count_on b path + count b ≤ 1) → ((b : ℕ) → 1 ≤ count b → ¬ IsInBlock arena b root) → SameIn arena s (slice_set s hole m) count

@@ -58,8 +58,7 @@ module _ (map : TreeMap) (key x n : ℕ) (G : List ℕ → Type 0) (t u : Trace)
     pub lacks_room : (v : Trace) → Begins u v → Leads n G u v (λ before after. HasNone map.arena before) → Leads n G t v (λ before after. LacksRoom map.arena (TreeHolds map) key before)
     lacks_room v b none = record {
       at = λ s fit f used free hold.
-          let fit_u : Fits n G u s = fits_begins n G u v s b fit in
-          (
+          let fit_u : Fits n G u s = fits_begins n G u v s b fit in (
             missing_value map key (after t s) f used (missing_start s fit_u) hold.map,
             one_set map.arena (after t s) free set.empty hold.free_lists ((leads_back n G t u l v _ b none).at s fit),
           );

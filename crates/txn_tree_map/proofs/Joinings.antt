@@ -71,8 +71,16 @@ module _ (map : TreeMap) (hole left right turns place left_rest right_rest : ℕ
   pub joined_times : (b : ℕ) → count_on b h.path + (count_in b h.lefts + count_in b h.rights) ≡ times_in b cells_both
   joined_times b =
       let whole : times_in b cells_both ≡ times_in b (before_of h.path ++ ((cells_of h.lefts ++ cells_of h.rights) ++ after_of h.path)) = ap (λ cs. times_in b cs) h.cells in
-      omega (arith, whole, times-append b (before_of h.path) ((cells_of h.lefts ++ cells_of h.rights) ++ after_of h.path), times-append b (cells_of h.lefts ++ cells_of h.rights) (after_of h.path),
-      times-append b (cells_of h.lefts) (cells_of h.rights), times_around b h.path, times_cells b h.lefts, times_cells b h.rights)
+      omega (
+        arith,
+        whole,
+        times-append b (before_of h.path) ((cells_of h.lefts ++ cells_of h.rights) ++ after_of h.path),
+        times-append b (cells_of h.lefts ++ cells_of h.rights) (after_of h.path),
+        times-append b (cells_of h.lefts) (cells_of h.rights),
+        times_around b h.path,
+        times_cells b h.lefts,
+        times_cells b h.rights,
+      )
 
   once : (b : ℕ) → count_on b h.path + (count_in b h.lefts + count_in b h.rights) ≤ 1
   once b = omega (arith, joined_times b, pair_once map hole left right h.first h.second old h.pair b)

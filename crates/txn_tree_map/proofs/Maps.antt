@@ -37,8 +37,7 @@ both false false f g = refl
 -- in one word list the map is one
 pub one_map : (map : TreeMap) (s : List ℕ) (f g : Entries) (u w : Blocks) → TreeHolds map s f u → TreeHolds map s g w → (f ≡ g) × (u ≡ w)
 one_map map s f g u w h k =
-    let m : IsAt map [] h.tree s = at_tree map s f u h in
-    (
+    let m : IsAt map [] h.tree s = at_tree map s f u h in (
       entry_map.same_map nat_cmp_total nat_cmp-IsAntisymmetric f g (λ q. at_value map s [] h.tree m f u h q ∙ sym (at_value map s [] h.tree m g w k q)),
       set.same_set nat_cmp_total nat_cmp-IsAntisymmetric u w (λ q. at_used map s [] h.tree m f u h q ∙ sym (at_used map s [] h.tree m g w k q)),
     )
@@ -145,16 +144,16 @@ inserted_new map key x b s r t f u v hold none taken kept put =
             (λ c head. put.kept.same c (λ k. elim k [
               | inl e ↦ l.no_head (subst (λ z. IsHead a z) e head)
               | inr m ↦ l.arena.outside m.0 c
-                (elim (m.1) [ inl e ↦ subst (λ d. d < a.blocks) (sym e) put.before.below | inr z ↦ used_below map r f u m.0 h (used m.0 z) ]) m.2 head
+                  (elim (m.1) [ inl e ↦ subst (λ d. d < a.blocks) (sym e) put.before.below | inr z ↦ used_below map r f u m.0 h (used m.0 z) ]) m.2 head
             ]))
             (λ d c free mine. put.kept.same c (λ k. elim k [
               | inl e ↦ l.outside d (free_below a r (set.remove v b) d taken.left free) (subst (λ z. IsInBlock a d z) e mine)
               | inr m ↦
-                let same : d ≡ m.0 = one_block a d m.0 c mine m.2 in
-                elim (m.1) [
-                  | inl e ↦ true≢false (sym free ∙ ap (λ q. set.contains (set.remove v b) q) (same ∙ e) ∙ out_itself v b)
-                  | inr z ↦ true≢false (sym free ∙ ap (λ q. set.contains (set.remove v b) q) same ∙ out_less v b m.0 (hold.apart m.0 (used m.0 z)))
-                ]
+                  let same : d ≡ m.0 = one_block a d m.0 c mine m.2 in
+                  elim (m.1) [
+                    | inl e ↦ true≢false (sym free ∙ ap (λ q. set.contains (set.remove v b) q) (same ∙ e) ∙ out_itself v b)
+                    | inr z ↦ true≢false (sym free ∙ ap (λ q. set.contains (set.remove v b) q) same ∙ out_less v b m.0 (hold.apart m.0 (used m.0 z)))
+                  ]
             ]));
         apart = λ d m. elim (in_or u b d m) [
           | inl e ↦ ap (λ q. set.contains (set.remove v b) q) e ∙ out_itself v b

@@ -77,8 +77,17 @@ module _ (map : TreeMap) (key block name turns smaller greater rest : ℕ) (old 
       let whole : times_in b (cells_of h.tree) ≡ times_in b (before_of h.low_path ++ (cells_of h.inner ++ after_of h.high_path)) = ap (λ cs. times_in b cs) h.cells in
       let ends : times_in b (after_of h.low_path) ≡ 0 = nothing_in b (after_of h.low_path) h.low_end in
       let ends' : times_in b (before_of h.high_path) ≡ 0 = nothing_in b (before_of h.high_path) h.high_end in
-      omega (arith, whole, ends, ends', times-append b (before_of h.low_path) (cells_of h.inner ++ after_of h.high_path), times-append b (cells_of h.inner) (after_of h.high_path),
-      times_around b h.low_path, times_around b h.high_path, times_cells b h.inner)
+      omega (
+        arith,
+        whole,
+        ends,
+        ends',
+        times-append b (before_of h.low_path) (cells_of h.inner ++ after_of h.high_path),
+        times-append b (cells_of h.inner) (after_of h.high_path),
+        times_around b h.low_path,
+        times_around b h.high_path,
+        times_cells b h.inner,
+      )
 
   once : (b : ℕ) → count_on b h.low_path + count_in b h.inner + count_on b h.high_path ≤ 1
   once b = omega (arith, parted_times b, whole_once map key block name h.tree old h.whole b)

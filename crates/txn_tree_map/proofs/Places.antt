@@ -50,6 +50,7 @@ high_plug top (st ∷ path) tree high heap = high_plug top path (whole_of st tre
     at : (left : Bool) → IsHigh top path (rank_of (if left then Node tree st.cell st.other else Node st.other st.cell tree))
     at true = high.3
     at false = high.3
+
     both : (left : Bool) → IsHeap (if left then Node tree st.cell st.other else Node st.other st.cell tree)
     both true = (high.0, high.1, heap, high.2)
     both false = (high.1, high.0, high.2, heap)

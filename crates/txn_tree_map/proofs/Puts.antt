@@ -103,19 +103,27 @@ module _ (map : TreeMap) (key value block place name : ℕ) (r : List ℕ) (can 
   own = IsRootOrIn map block cells_there
 
   pub name_own : (a : ℕ) → IsNameIn map block seat.rest a → own a
-  name_own a n = inr (n.owner, elim (n.mine) [
-    | inl e ↦ inl e
-    | inr m ↦ inr (seat_has n.owner (let t : 1 ≤ times_in n.owner (cells_of seat.rest) = has_times n.owner (cells_of seat.rest) m in omega (arith, t, times_cells n.owner seat.rest)))
-  ], name_in map block seat.rest a n)
+  name_own a n = inr (
+    n.owner,
+    elim (n.mine) [
+      | inl e ↦ inl e
+      | inr m ↦ inr (seat_has n.owner (let t : 1 ≤ times_in n.owner (cells_of seat.rest) = has_times n.owner (cells_of seat.rest) m in omega (arith, t, times_cells n.owner seat.rest)))
+    ],
+    name_in map block seat.rest a n,
+  )
 
   -- the words that are written are the root, the block's and the tree's
   pub place_own : own place
   place_own = elim (place_mine map.arena map.root seat.path) [
     | inl e ↦ inl (seat.at ∙ e)
-    | inr d ↦ inr (d.0, inr (seat_has d.0 (omega (arith, d.1))), elim (d.2) [
-      | inl e ↦ record { low = omega (arith, e, seat.at); high = omega (arith, e, seat.at) }
-      | inr e ↦ record { low = omega (arith, e, seat.at); high = omega (arith, e, seat.at) }
-    ])
+    | inr d ↦ inr (
+      d.0,
+      inr (seat_has d.0 (omega (arith, d.1))),
+      elim (d.2) [
+        | inl e ↦ record { low = omega (arith, e, seat.at); high = omega (arith, e, seat.at) }
+        | inr e ↦ record { low = omega (arith, e, seat.at); high = omega (arith, e, seat.at) }
+      ],
+    )
   ]
 
   module _ (u : List ℕ) (split : Splits map key block name with_value u) where
@@ -140,18 +148,18 @@ module _ (map : TreeMap) (key value block place name : ℕ) (r : List ℕ) (can 
         elim (n.mine) [
           | inl e ↦ seat_apart b (omega (arith, k)) (same ∙ e)
           | inr m ↦
-            let twice : 1 ≤ times_in n.owner (cells_of seat.rest) = has_times n.owner (cells_of seat.rest) m in
-            let here : 1 ≤ count_on n.owner seat.path = subst (λ d. 1 ≤ count_on d seat.path) same k in
-            let one : count_on n.owner seat.path + count_in n.owner seat.rest ≤ 1 = once n.owner in
-            omega (arith, twice, here, one, times_cells n.owner seat.rest)
-    ])
+              let twice : 1 ≤ times_in n.owner (cells_of seat.rest) = has_times n.owner (cells_of seat.rest) m in
+              let here : 1 ≤ count_on n.owner seat.path = subst (λ d. 1 ≤ count_on d seat.path) same k in
+              let one : count_on n.owner seat.path + count_in n.owner seat.rest ≤ 1 = once n.owner in
+              omega (arith, twice, here, one, times_cells n.owner seat.rest)
+        ])
 
     root_kept : slice_get u map.root ≡ slice_get with_value map.root
     root_kept = kept.same map.root (λ n. elim (n.mine) [
       | inl e ↦ seat.is_at.laid.outside n.owner (subst (λ d. d < map.arena.blocks) (sym e) can.below) (name_in map block seat.rest map.root n)
       | inr m ↦
-        let there : 1 ≤ times_in n.owner (cells_of seat.rest) = has_times n.owner (cells_of seat.rest) m in
-        at_outside map r seat.path seat.rest seat.is_at n.owner (omega (arith, there, times_cells n.owner seat.rest)) (name_in map block seat.rest map.root n)
+          let there : 1 ≤ times_in n.owner (cells_of seat.rest) = has_times n.owner (cells_of seat.rest) m in
+          at_outside map r seat.path seat.rest seat.is_at n.owner (omega (arith, there, times_cells n.owner seat.rest)) (name_in map block seat.rest map.root n)
     ])
 
     hung_u : IsHung map.arena u map.root seat.path (name_of seat.rest)
@@ -169,9 +177,9 @@ module _ (map : TreeMap) (key value block place name : ℕ) (r : List ℕ) (can 
     node_u =
         let fits : block_at map.arena block + 4 ≤ length r = seat.is_at.laid.arena.blocks block can.below in
         let stays : (a : ℕ) → (a ≡ block_at map.arena block) ⊎ (a ≡ block_at map.arena block + 1) → slice_get u a ≡ slice_get with_value a = λ a e. kept.same a (λ n.
-            elim e [
-              | inl z ↦ elim (n.place) [ inl y ↦ omega (arith, z, y) | inr y ↦ omega (arith, z, y) ]
-              | inr z ↦ elim (n.place) [ inl y ↦ omega (arith, z, y) | inr y ↦ omega (arith, z, y) ]
+        elim e [
+          | inl z ↦ elim (n.place) [ inl y ↦ omega (arith, z, y) | inr y ↦ omega (arith, z, y) ]
+          | inr z ↦ elim (n.place) [ inl y ↦ omega (arith, z, y) | inr y ↦ omega (arith, z, y) ]
         ]) in
         record {
           below = can.below;
@@ -186,17 +194,17 @@ module _ (map : TreeMap) (key value block place name : ℕ) (r : List ℕ) (can 
     place_apart : (b a : ℕ) → (b ≡ block) ⊎ (1 ≤ count_in b seat.rest) → IsInBlock map.arena b a → slice_get put_words a ≡ slice_get u a
     place_apart b a k mine = get_set_other u (place_of map.arena map.root seat.path) a (block + 1) (λ e. elim (place_mine map.arena map.root seat.path) [
       | inl at ↦ seat.is_at.laid.outside b (elim k [ inl z ↦ subst (λ d. d < map.arena.blocks) (sym z) can.below | inr z ↦ at_below map r seat.path seat.rest seat.is_at b (omega (arith, z)) ])
-        (subst (λ y. IsInBlock map.arena b y) (e ∙ at) mine)
+          (subst (λ y. IsInBlock map.arena b y) (e ∙ at) mine)
       | inr d ↦
-        let there : IsInBlock map.arena d.0 a = elim (d.2) [ inl y ↦ record { low = omega (arith, e, y); high = omega (arith, e, y) } | inr y ↦ record { low = omega (arith, e, y); high = omega (arith, e, y) } ] in
-        let same : d.0 ≡ b = one_block map.arena d.0 b a there mine in
-        elim k [
-          | inl z ↦ seat_apart d.0 (omega (arith, d.1)) (same ∙ z)
-          | inr z ↦
-            let here : 1 ≤ count_in d.0 seat.rest = subst (λ y. 1 ≤ count_in y seat.rest) (sym same) z in
-            let one : count_on d.0 seat.path + count_in d.0 seat.rest ≤ 1 = once d.0 in
-            omega (arith, here, one, d.1)
-        ]
+          let there : IsInBlock map.arena d.0 a = elim (d.2) [ inl y ↦ record { low = omega (arith, e, y); high = omega (arith, e, y) } | inr y ↦ record { low = omega (arith, e, y); high = omega (arith, e, y) } ] in
+          let same : d.0 ≡ b = one_block map.arena d.0 b a there mine in
+          elim k [
+            | inl z ↦ seat_apart d.0 (omega (arith, d.1)) (same ∙ z)
+            | inr z ↦
+                let here : 1 ≤ count_in d.0 seat.rest = subst (λ y. 1 ≤ count_in y seat.rest) (sym same) z in
+                let one : count_on d.0 seat.path + count_in d.0 seat.rest ≤ 1 = once d.0 in
+                omega (arith, here, one, d.1)
+          ]
     ])
 
     put_is_at : IsAt map seat.path (Node split.left cell split.right) put_words

@@ -38,6 +38,7 @@ counted_high low high c h = at (nat_le low c.key) refl
   where
     no : nat_le c.key high ≡ false
     no = grind (arith, rules, h)
+
     at : (b : Bool) → nat_le low c.key ≡ b → counted low high c ≡ 0
     at true e = grind (rules, e, no)
     at false e = grind (rules, e)

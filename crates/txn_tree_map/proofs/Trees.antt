@@ -204,8 +204,7 @@ module _ (arena : Arena) (s t : List ℕ) where
       let elsewhere : (b a : ℕ) → 1 ≤ count_in b st.other + count_on b path → IsInBlock arena b a → a ≢ block_at arena c.block + (if st.left then 2 else 3) = λ b a k mine e.
       let same_block : b ≡ c.block = omega (arith, e, low, mine.low, mine.high) in
       let again : 1 ≤ count_in c.block st.other + count_on c.block path = subst (λ d. 1 ≤ count_in d st.other + count_on d path) same_block k in
-      omega (arith, again, whole, one) in
-      (
+      omega (arith, again, whole, one) in (
         node_again st.left c n m (name_of st.other) (λ a k ne. same c.block a (omega (arith, one)) k ne) there h.0,
         spelled_stays st.other (λ b a k mine. same b a (omega (arith, k)) mine (elsewhere b a (omega (arith, k)) mine)) h.1,
         hung_stays root path (c.block + 1)

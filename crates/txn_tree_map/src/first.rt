@@ -20,7 +20,11 @@ pub(crate) fn better(best: Option<Named>, node: Named, least: u64) -> Option<Nam
 }
 
 /// Of the nodes whose keys are `least` or more, the one with the least key.
-pub(crate) fn first_at<W: Words>(w: &mut W, map: &TreeMap, least: u64) -> Result<Option<Named>, Stop>
+pub(crate) fn first_at<W: Words>(
+    w: &mut W,
+    map: &TreeMap,
+    least: u64,
+) -> Result<Option<Named>, Stop>
     requires ready { IsReady W.Words w.old }
     requires order { InEachState W.Words W.Shape.Shape w.old (HasMap map.now.arena (TreeHolds map.now)) }
     ensures nearest { IfOk result (λ answer.

@@ -19,6 +19,19 @@ impl Shape for TwoEntries {
     ghost good = { λ _ words. HasMapApart (record { heads = 1; first = 277; blocks = 2 }) (TreeHolds (record { root = 0; arena = record { heads = 1; first = 277; blocks = 2 } })) words };
 }
 
+/// 285 words, which hold a map of at most two entries whose values have a sum of 64 bits.
+#[derive(Clone, Copy)]
+struct SmallSum;
+
+impl Shape for SmallSum {
+    ghost use Rattle.txn_alloc.specs.EntryMaps.{HasMap, HasSmallSum};
+    ghost use Rattle.txn_tree_map.specs.Trees.{TreeHolds};
+
+    ghost word_count = { λ _. 285 };
+
+    ghost good = { λ _ words. HasMap (record { heads = 1; first = 277; blocks = 2 }) (TreeHolds (record { root = 0; arena = record { heads = 1; first = 277; blocks = 2 } })) words × HasSmallSum (record { heads = 1; first = 277; blocks = 2 }) (TreeHolds (record { root = 0; arena = record { heads = 1; first = 277; blocks = 2 } })) words };
+}
+
 /// The map of these words.
 const MAP: TreeMap = TreeMap {
     root: 0,
@@ -78,5 +91,22 @@ fn the_other_block_is_free(rt: HostRuntime) -> Result<(), Fail> {
     let none = take(&mut plain, &MAP.arena)?;
     assert!(rt; none.is_none());
     give(&mut plain, &MAP.arena, block)?;
+    Ok(())
+}
+
+/// The keys are 7 and 8, of which 8 has the higher priority.
+#[test]
+fn values_are_summed(rt: HostRuntime) -> Result<(), Fail> {
+    let mut words = vec![in rt.alloc(); 0u64; 285]?;
+    words[0] = 2;
+    words[277] = 7;
+    words[278] = 71;
+    words[281] = 8;
+    words[282] = 80;
+    words[283] = 1;
+    let mut plain = Plain::new(rt.alloc(), SmallSum, words);
+    assert_eq!(rt; MAP.sum_range(&mut plain, 1, 9)?, 151);
+    assert_eq!(rt; MAP.sum_range(&mut plain, 8, 8)?, 80);
+    assert_eq!(rt; MAP.sum_range(&mut plain, 8, 7)?, 0);
     Ok(())
 }

@@ -67,11 +67,11 @@ loop-preserved g c =
       link = subst (λ a. IsLink m a) next (link_down m node.block (nat_lt key node.key) below);
       looks = looks_map _ _ _ (IsLink m) _ _ _
           (λ s h. (
-          subst (λ a. IsPassed m key (priority_of key + 1) a (c.loop.counter + 1) s) next
-              (passed_down m key (priority_of key + 1) s c.loop.place c.loop.counter node.block node.key h.0.0 h.1
-              (missing_other m key s c.loop.place c.loop.counter node.block node.key h.0.1 h.0.0 h.1) higher),
-          h.0.1,
-        ))
+            subst (λ a. IsPassed m key (priority_of key + 1) a (c.loop.counter + 1) s) next
+                (passed_down m key (priority_of key + 1) s c.loop.place c.loop.counter node.block node.key h.0.0 h.1
+                (missing_other m key s c.loop.place c.loop.counter node.block node.key h.0.1 h.0.0 h.1) higher),
+            h.0.1,
+          ))
           (looks_then _ _ _ (IsLink m) _ _ _ (IsNamed m c.loop.place node.block node.key) i.looks (looks_from g.W.Words g.W.Shape.Shape c.args.w.now c.loop.w _ _ (IsLink m) _ i.shape named));
     }
 
