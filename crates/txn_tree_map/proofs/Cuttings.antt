@@ -1,28 +1,27 @@
 -- A cell cut out of the tree, in one word list.
-use Rattle.std.proofs.Common.{◌≡◌, ◌≢◌, ℕ, ◌+◌, ◌^◌, ◌<◌, ◌≤◌, Bool, true, false, List, [], ◌∷◌, ◌++◌, length, slice_get, Some, None, ◌⊎◌, inl, inr, refl, sym, ap, ◌∙◌, subst, arith, append_assoc}
+use Rattle.std.proofs.Common.{◌≡◌, ◌≢◌, ℕ, ◌+◌, ◌^◌, ◌≤◌, true, List, [], ◌∷◌, ◌++◌, slice_get, Some, ◌⊎◌, inl, inr, refl, sym, ap, ◌∙◌, subst, arith, append_assoc}
 use mathlib.Core.Bool.{true≢false}
 use mathlib.Core.Logic.{dite}
 use native.Mathlib.Decide.{ℕ_discrete}
-use Rattle.std.proofs.lemmas.Option.{same_Some}
 use Rattle.std.specs.FinSet as set
 use Rattle.std.specs.FinMap as entry_map
 use Rattle.txn_words.specs.Frames.{KeepsOthers}
 use Rattle.txn_alloc.specs.declared.arena.Arena.{Arena}
 use Rattle.txn_alloc.specs.FreeLists.{block_at, IsHead, IsInBlock, IsHeadOrIn, FreeListsHold, Lacks, Gives}
 use Rattle.txn_alloc.specs.EntryMaps.{Cell, Entries, Blocks, value_of, has_block, HoldsApart, RemovesOne}
-use Rattle.txn_alloc.proofs.Sets.{in_or, out_both, out_itself, contains-remove_other}
+use Rattle.txn_alloc.proofs.Sets.{out_both, out_itself, contains-remove_other}
 use Rattle.txn_alloc.proofs.Lists.{free_kept, free_below, one_set}
-use Rattle.txn_alloc.proofs.Cells.{all_append, value_less, less_block, has_not, has_times, times_in, times-append, one_in, one_here, remove_same, remove_other}
+use Rattle.txn_alloc.proofs.Cells.{value_less, less_block, has_not, has_times, times_in, times-append, one_in, one_here, remove_same, remove_other}
 use Rattle.txn_tree_map.specs.declared.map.TreeMap.{TreeMap}
-use Rattle.txn_tree_map.specs.Trees.{Tree, priority_of, name_of, rank_of, cells_of, IsSpelled, HasTree, IsAbove, IsRising, IsHeap, TreeHolds}
-use Rattle.txn_tree_map.specs.Trees.Tree.{Leaf, Node}
-use Rattle.txn_tree_map.specs.Paths.{Path, place_of, before_of, after_of, IsHung, IsHigh, IsBelow, IsAt}
+use Rattle.txn_tree_map.specs.Trees.{Tree, priority_of, name_of, rank_of, cells_of, IsAbove, IsRising, TreeHolds}
+use Rattle.txn_tree_map.specs.Trees.Tree.{Node}
+use Rattle.txn_tree_map.specs.Paths.{place_of, before_of, after_of, IsAt}
 use Rattle.txn_tree_map.specs.Searches.{IsFoundAt}
 use Rattle.txn_tree_map.specs.Joins.{IsHoleOrName, ArePair, Joins, IsCut}
-use Rattle.txn_tree_map.proofs.Rising.{rising_first, rising_last, rising_cut, rising_below, rising_above, value_between}
+use Rattle.txn_tree_map.proofs.Rising.{rising_first, rising_last, rising_cut, rising_above, value_between}
 use Rattle.txn_tree_map.proofs.Trees.{count_in, count_on, times_cells, one_tree, hung_again}
-use Rattle.txn_tree_map.proofs.Places.{at_once, at_below, at_outside, at_within, at_value, at_used, used_from, high_lower}
-use Rattle.txn_tree_map.proofs.Descents.{NodeOrder, node_order, around_node, found_value, found_key}
+use Rattle.txn_tree_map.proofs.Places.{at_once, at_outside, at_within, at_value, at_used, used_from, high_lower}
+use Rattle.txn_tree_map.proofs.Descents.{around_node, found_value}
 use Rattle.txn_tree_map.proofs.Searching.{laid_alike}
 use Rattle.txn_tree_map.proofs.Hanging.{place_mine, times_around}
 use Rattle.txn_tree_map.proofs.Gets.{used_below}

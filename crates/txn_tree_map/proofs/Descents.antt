@@ -1,22 +1,18 @@
 -- The steps of a search down the tree, in one word list.
-use Rattle.std.proofs.Common.{◌≡◌, ◌≢◌, ℕ, ◌+◌, ◌*◌, ◌^◌, ◌<◌, ◌≤◌, Bool, true, false, nat_lt, List, [], ◌∷◌, ◌++◌, length, slice_get, Option, Some, None, refl, sym, ap, ◌∙◌, subst, arith, rules, if◌then◌else◌, append_assoc, length-append}
-use Rattle.std.proofs.lemmas.List.{append-nil}
+use Rattle.std.proofs.Common.{◌≡◌, ◌≢◌, ℕ, ◌+◌, ◌^◌, ◌<◌, ◌≤◌, Bool, true, false, nat_lt, List, [], ◌∷◌, ◌++◌, length, slice_get, Some, None, refl, sym, ap, ◌∙◌, subst, arith, rules, if◌then◌else◌, append_assoc, length-append}
 use Rattle.std.proofs.lemmas.Option.{same_Some}
-use mathlib.Core.Logic.{dite}
-use native.Mathlib.Decide.{ℕ_discrete}
 use Rattle.std.specs.FinMap as entry_map
-use Rattle.std.specs.List.{AllByRecursion}
 use Rattle.txn_alloc.specs.declared.arena.Arena.{Arena}
 use Rattle.txn_alloc.specs.FreeLists.{block_at}
 use Rattle.txn_alloc.specs.EntryMaps.{Cell, Entries, Blocks, value_of}
 use Rattle.txn_alloc.proofs.Cells.{all_append, all_first, all_last}
 use Rattle.txn_tree_map.specs.declared.map.TreeMap.{TreeMap}
-use Rattle.txn_tree_map.specs.Trees.{Tree, priority_of, name_of, rank_of, cells_of, IsSpelled, HasTree, IsAbove, IsRising, TreeHolds}
+use Rattle.txn_tree_map.specs.Trees.{Tree, priority_of, name_of, rank_of, cells_of, IsSpelled, IsAbove, IsRising, TreeHolds}
 use Rattle.txn_tree_map.specs.Trees.Tree.{Leaf, Node}
-use Rattle.txn_tree_map.specs.Paths.{Step, Path, whole_of, plug, place_of, before_of, after_of, IsHung, IsHigh, IsBelow, IsAt}
+use Rattle.txn_tree_map.specs.Paths.{Step, Path, whole_of, before_of, after_of, IsHigh, IsBelow, IsAt}
 use Rattle.txn_tree_map.specs.Searches.{HasTop, IsNamed, IsPassed, IsFoundAt, IsMissing}
 use Rattle.txn_tree_map.proofs.Rising.{above_more, below_more, rising_below, rising_above, value_there, value_between}
-use Rattle.txn_tree_map.proofs.Places.{priority_small, at_tree, at_step, at_room, at_name, at_within, at_value}
+use Rattle.txn_tree_map.proofs.Places.{at_step, at_room, at_name, at_within, at_value}
 
 -- a tree whose name is 0, or that has no cells, is a leaf
 pub leaf_named : (tree : Tree) → name_of tree ≡ 0 → tree ≡ Leaf

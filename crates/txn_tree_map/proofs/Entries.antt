@@ -1,18 +1,16 @@
 -- The entries of the map, in the order of their keys: the tree's cells from left to right.
-use Rattle.std.proofs.Common.{◌≡◌, ◌≢◌, ℕ, ◌+◌, ◌^◌, ◌<◌, ◌≤◌, Bool, true, false, nat_lt, nat_le, ◌&&◌, List, [], ◌∷◌, ◌++◌, Option, Some, None, refl, sym, ap, ◌∙◌, subst, arith, rules, cond, if◌then◌else◌, T}
+use Rattle.std.proofs.Common.{◌≡◌, ◌≢◌, ℕ, ◌<◌, ◌≤◌, Bool, true, false, nat_lt, List, [], ◌∷◌, refl, sym, ap, ◌∙◌, subst, arith, rules, T}
 use mathlib.Core.Logic.{dite}
 use native.Mathlib.Decide.{ℕ_discrete}
-use Rattle.std.proofs.lemmas.List.Sums.{sum_by-append, sum_by-cons}
-use Rattle.std.specs.List.{AllByRecursion, sum_by}
 use Rattle.std.specs.Cmp.{nat_cmp_total, nat_cmp_is}
 use Rattle.std.specs.Ordering.{nat_cmp, is_lt, is_eq, eq_by_cmp}
 use Rattle.std.specs.declared.cmp.Ordering.TheVariants.{Less, Equal, Greater}
 use Rattle.std.specs.FinMap.{nat_cmp-IsAntisymmetric}
 use Rattle.std.specs.FinMap as entry_map
 use Rattle.std.specs.FinMap.Entries.{is_sorted, below_all, find}
-use Rattle.txn_alloc.specs.EntryMaps.{Cell, Entries, Blocks, value_of, sum_between}
+use Rattle.txn_alloc.specs.EntryMaps.{Cell, Entries, Blocks, value_of}
 use Rattle.txn_tree_map.specs.declared.map.TreeMap.{TreeMap}
-use Rattle.txn_tree_map.specs.Trees.{Tree, cells_of, IsAbove, IsRising, TreeHolds}
+use Rattle.txn_tree_map.specs.Trees.{cells_of, IsAbove, IsRising, TreeHolds}
 
 -- the keys and values of cells
 abbrev pub pairs_of : List Cell → List (ℕ × ℕ)

@@ -1,5 +1,5 @@
 -- What a search that found the key, or missed it, says of the map; and that it reads the value of no other key.
-use Rattle.std.proofs.Common.{◌≡◌, ℕ, ◌+◌, ◌*◌, ◌<◌, ◌⊎◌, inl, inr, true, List, [], ◌∷◌, ◌++◌, slice_get, Option, Some, None, refl, sym, ap, ◌∙◌, subst, arith}
+use Rattle.std.proofs.Common.{◌≡◌, ℕ, ◌+◌, ◌<◌, ◌⊎◌, inl, inr, true, List, [], ◌∷◌, ◌++◌, slice_get, Some, None, refl, sym, ap, ◌∙◌, arith}
 use Rattle.std.specs.FinSet as set
 use Rattle.history_model.specs.declared.event.Event.TheVariants.{Read}
 use Rattle.history_model.specs.Traces.{Trace, after}
@@ -8,7 +8,7 @@ use Rattle.history_model.proofs.FittingLaws.{fits_begins}
 use Rattle.txn_words.specs.Frames.{AppendsReads}
 use Rattle.txn_words.proofs.ReadLaws.{sees_more}
 use Rattle.txn_alloc.specs.FreeLists.{block_at, IsHeadOrFirst}
-use Rattle.txn_alloc.specs.EntryMaps.{Entries, Blocks, HasMap, Finds, Uses, IsOtherValue, MayRead}
+use Rattle.txn_alloc.specs.EntryMaps.{Entries, Blocks, Finds, Uses, IsOtherValue, MayRead}
 use Rattle.txn_alloc.specs.Looks.{Looks}
 use Rattle.txn_alloc.proofs.Looks.{looks_read, looks_wider, seen_before}
 use Rattle.txn_tree_map.specs.declared.map.TreeMap.{TreeMap}

@@ -1,7 +1,5 @@
 -- A tree hung at the end of a path, by writing the word there.
-use Rattle.std.proofs.Common.{◌≡◌, ◌≢◌, ℕ, ◌+◌, ◌<◌, ◌≤◌, Bool, true, false, List, [], ◌∷◌, ◌++◌, length, slice_get, slice_set, Some, ◌⊎◌, inl, inr, refl, sym, ap, ◌∙◌, subst, arith, if◌then◌else◌}
-use mathlib.Core.Logic.{dite}
-use native.Mathlib.Decide.{ℕ_discrete}
+use Rattle.std.proofs.Common.{◌≡◌, ◌≢◌, ℕ, ◌+◌, ◌<◌, ◌≤◌, Bool, true, false, List, [], ◌∷◌, ◌++◌, length, slice_get, slice_set, ◌⊎◌, inl, inr, refl, sym, ap, ◌∙◌, subst, arith, if◌then◌else◌}
 use Rattle.std.proofs.lemmas.List.{length-set}
 use Rattle.std.proofs.lemmas.Option.{slice_get_within}
 use Rattle.history_model.proofs.TraceLaws.{get_set_same, get_set_other}
@@ -10,7 +8,7 @@ use Rattle.txn_alloc.specs.declared.arena.Arena.{Arena}
 use Rattle.txn_alloc.specs.FreeLists.{block_at, IsInBlock}
 use Rattle.txn_alloc.proofs.Cells.{times_in, times-append, one_in, one_here}
 use Rattle.txn_tree_map.specs.Trees.{Tree, name_of, cells_of, IsSpelled}
-use Rattle.txn_tree_map.specs.Trees.Tree.{Leaf, Node}
+use Rattle.txn_tree_map.specs.Trees.Tree.{Leaf}
 use Rattle.txn_tree_map.specs.Paths.{Step, Path, whole_of, plug, place_of, before_of, after_of, IsHung}
 use Rattle.txn_tree_map.proofs.Trees.{count_in, count_on, times_cells, cells_plug, count_plug, SameIn, spelled_stays, hung_again, spelled_whole}
 use Rattle.txn_tree_map.proofs.Places.{hung_name}

@@ -1,5 +1,5 @@
 -- What an insert leads to, writes and reads, in every fitting state at once.
-use Rattle.std.proofs.Common.{◌≡◌, ℕ, ◌+◌, inl, inr, ◌⊎◌, true, List, slice_get, slice_set, Some, None, refl, sym, ap, ◌∙◌, subst, arith}
+use Rattle.std.proofs.Common.{◌≡◌, ℕ, ◌+◌, inl, inr, true, List, slice_get, slice_set, Some, None, refl, sym, ap, ◌∙◌, subst, arith}
 use mathlib.Core.Bool.{true≢false}
 use Rattle.std.specs.FinSet as set
 use Rattle.std.specs.FinMap as entry_map
@@ -14,7 +14,7 @@ use Rattle.txn_words.proofs.ReadLaws.{sees_more, sees_then, sees_write}
 use Rattle.txn_alloc.specs.declared.put.Put.{Put}
 use Rattle.txn_alloc.specs.declared.put.Put.TheVariants.{New, Old, Full}
 use Rattle.txn_alloc.specs.FreeLists.{block_at, IsHead, IsInBlock, IsHeadOrFirst, HasNone, TakesBlock, Takes}
-use Rattle.txn_alloc.specs.EntryMaps.{Entries, Blocks, HasMap, HasMapApart, HoldsApart, Uses, IsOtherValue, MayRead, IsOwn, IsValue, Inserts, InsertsOld, LacksRoom}
+use Rattle.txn_alloc.specs.EntryMaps.{Entries, Blocks, HasMapApart, HoldsApart, Uses, IsOtherValue, MayRead, IsOwn, IsValue, Inserts, InsertsOld, LacksRoom}
 use Rattle.txn_alloc.specs.Looks.{Looks}
 use Rattle.txn_alloc.proofs.Lists.{one_set}
 use Rattle.txn_alloc.proofs.Sets.{in_here, out_empty}
@@ -26,7 +26,7 @@ use Rattle.txn_tree_map.specs.Searches.{IsLink, IsFoundAt, IsMissing}
 use Rattle.txn_tree_map.specs.Changes.{CanPut, IsPut, IsPutOwn, IsLinkOrIn}
 use Rattle.txn_tree_map.proofs.Places.{at_used}
 use Rattle.txn_tree_map.proofs.Descents.{missing_value, found_key}
-use Rattle.txn_tree_map.proofs.Gets.{IsLinkOr, uses_below, link_spares, name_spares, value_spares, finds_some, spares_link, spares_value}
+use Rattle.txn_tree_map.proofs.Gets.{IsLinkOr, link_spares, name_spares, value_spares, spares_link, spares_value}
 use Rattle.txn_tree_map.proofs.Maps.{one_map, tree_headed, can_put, put_holds, inserted_new}
 use Rattle.txn_tree_map.proofs.Values.{found_used, inserted_old}
 

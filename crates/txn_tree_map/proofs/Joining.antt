@@ -1,8 +1,8 @@
 -- What the calls that join two trees lead to, in every fitting state at once.
-use Rattle.std.proofs.Common.{◌≡◌, ◌≢◌, ℕ, ◌+◌, ◌^◌, ◌<◌, ◌≤◌, List, [], ◌∷◌, ◌++◌, length, slice_get, slice_set, Some, ◌⊎◌, inl, inr, refl, sym, ap, ◌∙◌, subst, arith}
+use Rattle.std.proofs.Common.{◌≡◌, ◌≢◌, ℕ, ◌+◌, ◌^◌, ◌<◌, ◌≤◌, List, [], ◌∷◌, ◌++◌, length, ◌⊎◌, inl, inr, refl, sym, ◌∙◌, subst, arith}
 use Rattle.history_model.specs.declared.event.Event.TheVariants.{Read}
 use Rattle.history_model.specs.Traces.{Trace, after, Begins}
-use Rattle.history_model.specs.Fitting.{Fits, SomeFits, InEach, Leads}
+use Rattle.history_model.specs.Fitting.{Fits, SomeFits, Leads}
 use Rattle.history_model.proofs.TraceLaws.{length-after}
 use Rattle.history_model.proofs.FittingLaws.{fits_begins}
 use Rattle.txn_words.specs.Steps.{EndsWithWrite}

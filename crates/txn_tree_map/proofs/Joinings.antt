@@ -1,20 +1,18 @@
 -- The steps by which two trees are joined, in one word list.
-use Rattle.std.proofs.Common.{◌≡◌, ◌≢◌, ℕ, ◌+◌, ◌<◌, ◌≤◌, Bool, true, false, List, [], ◌∷◌, ◌++◌, length, slice_get, slice_set, get_or, Some, ◌⊎◌, inl, inr, refl, sym, ap, ◌∙◌, subst, arith, append_assoc, length-append}
+use Rattle.std.proofs.Common.{◌≡◌, ℕ, ◌+◌, ◌<◌, ◌≤◌, true, false, List, [], ◌∷◌, ◌++◌, length, slice_get, slice_set, get_or, Some, inl, inr, refl, sym, ap, ◌∙◌, subst, arith, append_assoc, length-append}
 use Rattle.std.proofs.lemmas.List.{append-nil}
 use Rattle.std.proofs.lemmas.Option.{same_Some}
-use Rattle.std.specs.List.{AllByRecursion}
-use Rattle.txn_words.specs.Frames.{KeepsOthers}
 use Rattle.txn_alloc.specs.declared.arena.Arena.{Arena}
 use Rattle.txn_alloc.specs.FreeLists.{block_at, IsInBlock}
-use Rattle.txn_alloc.specs.EntryMaps.{Cell, has_block}
+use Rattle.txn_alloc.specs.EntryMaps.{Cell}
 use Rattle.txn_alloc.proofs.Cells.{all_append, all_last, times_in, times-append, times_has}
 use Rattle.txn_tree_map.specs.declared.map.TreeMap.{TreeMap}
 use Rattle.txn_tree_map.specs.Trees.{Tree, priority_of, name_of, rank_of, cells_of, IsSpelled, IsRising, IsHeap, IsLaid}
 use Rattle.txn_tree_map.specs.Trees.Tree.{Leaf, Node}
-use Rattle.txn_tree_map.specs.Paths.{Step, Path, plug, place_of, before_of, after_of, IsHung, IsHigh}
+use Rattle.txn_tree_map.specs.Paths.{Step, plug, place_of, before_of, after_of, IsHung, IsHigh}
 use Rattle.txn_tree_map.specs.Changes.{Hangs}
 use Rattle.txn_tree_map.specs.Joins.{IsHoleOrName, ArePair, IsJoined, IsGathered, Joins}
-use Rattle.txn_tree_map.proofs.Rising.{HasKeys, rising_once, rising_first, rising_last, rising_below, rising_above, length_below}
+use Rattle.txn_tree_map.proofs.Rising.{rising_once, rising_first, rising_last, rising_above, length_below}
 use Rattle.txn_tree_map.proofs.Trees.{count_in, count_on, times_cells, cells_plug, all_tree, spelled_stays, hung_plug}
 use Rattle.txn_tree_map.proofs.Places.{high_plug, high_whole}
 use Rattle.txn_tree_map.proofs.Descents.{IsNode, node_named, leaf_named, leaf_short, step_down}

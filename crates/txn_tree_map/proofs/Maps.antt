@@ -1,29 +1,28 @@
 -- The map as a whole: it is one, it stands while its words stay, and what it is after a change at a place.
-use Rattle.std.proofs.Common.{◌≡◌, ◌≢◌, ℕ, ◌+◌, ◌<◌, ◌≤◌, Bool, true, false, List, [], ◌∷◌, ◌++◌, length, slice_get, Some, None, ◌⊎◌, inl, inr, refl, sym, ap, ◌∙◌, subst, arith}
+use Rattle.std.proofs.Common.{◌≡◌, ℕ, ◌+◌, ◌<◌, ◌≤◌, Bool, true, false, List, [], ◌∷◌, ◌++◌, length, slice_get, inl, inr, refl, sym, ap, ◌∙◌, subst, arith}
 use mathlib.Core.Bool.{true≢false}
 use mathlib.Core.Logic.{dite}
 use native.Mathlib.Decide.{ℕ_discrete}
-use Rattle.std.proofs.lemmas.List.{append-nil}
 use Rattle.std.specs.Cmp.{nat_cmp_total}
 use Rattle.std.specs.FinSet.{nat_cmp-IsAntisymmetric}
 use Rattle.std.specs.FinSet as set
 use Rattle.std.specs.FinMap as entry_map
 use Rattle.txn_words.specs.Frames.{KeepsOthers}
 use Rattle.txn_alloc.specs.declared.arena.Arena.{Arena}
-use Rattle.txn_alloc.specs.FreeLists.{block_at, IsHead, IsInBlock, TakesBlock}
+use Rattle.txn_alloc.specs.FreeLists.{IsHead, IsInBlock, TakesBlock}
 use Rattle.txn_alloc.specs.EntryMaps.{Cell, Entries, Blocks, value_of, has_block, HoldsApart, InsertsNew}
-use Rattle.txn_alloc.proofs.Sets.{in_here, out_itself, in_or, out_less, contains-insert_other, contains-remove_other}
+use Rattle.txn_alloc.proofs.Sets.{in_here, out_itself, in_or, out_less, contains-insert_other}
 use Rattle.txn_alloc.proofs.Lists.{free_kept, free_below}
-use Rattle.txn_alloc.proofs.Cells.{value_less, has_middle, less_block, insert_same, insert_other, times_in, has_times, times_has}
+use Rattle.txn_alloc.proofs.Cells.{value_less, has_middle, less_block, insert_same, insert_other, times_has}
 use Rattle.txn_tree_map.specs.declared.map.TreeMap.{TreeMap}
 use Rattle.txn_tree_map.specs.Trees.{Tree, name_of, cells_of, IsRising, IsLaid, TreeHolds}
 use Rattle.txn_tree_map.specs.Trees.Tree.{Leaf, Node}
-use Rattle.txn_tree_map.specs.Paths.{Path, plug, before_of, after_of, IsAt, IsBelow}
+use Rattle.txn_tree_map.specs.Paths.{Path, plug, before_of, after_of, IsAt}
 use Rattle.txn_tree_map.specs.Searches.{IsMissing}
-use Rattle.txn_tree_map.specs.Changes.{CanPut, IsRootOrIn, IsPut}
+use Rattle.txn_tree_map.specs.Changes.{CanPut, IsPut}
 use Rattle.txn_tree_map.proofs.Rising.{value_there}
 use Rattle.txn_tree_map.proofs.Trees.{count_in, count_on, cells_plug, spelled_stays, hung_stays}
-use Rattle.txn_tree_map.proofs.Places.{at_tree, at_value, at_used, at_below, at_times, at_root, used_count}
+use Rattle.txn_tree_map.proofs.Places.{at_tree, at_value, at_used, at_below, at_times, at_root}
 use Rattle.txn_tree_map.proofs.Descents.{around_node, missing_value}
 use Rattle.txn_tree_map.proofs.Searching.{laid_alike}
 use Rattle.txn_tree_map.proofs.Gets.{used_below}

@@ -1,22 +1,20 @@
 -- The steps of the search for the first node from a key on, in one word list.
-use Rattle.std.proofs.Common.{◌≡◌, ◌≢◌, ℕ, ◌+◌, ◌*◌, ◌^◌, ◌<◌, ◌≤◌, Bool, true, false, nat_lt, nat_le, List, [], ◌∷◌, ◌++◌, length, slice_get, Option, Some, None, refl, sym, ap, ◌∙◌, subst, arith, rules, if◌then◌else◌, length-append}
-use Rattle.std.proofs.lemmas.List.{append-nil}
+use Rattle.std.proofs.Common.{◌≡◌, ℕ, ◌+◌, ◌<◌, ◌≤◌, Bool, true, false, nat_lt, nat_le, List, [], ◌∷◌, ◌++◌, length, slice_get, Option, Some, None, refl, sym, ap, ◌∙◌, subst, arith, rules, if◌then◌else◌, length-append}
 use Rattle.std.proofs.lemmas.Option.{same_Some}
-use Rattle.std.specs.List.{AllByRecursion}
 use Rattle.txn_alloc.specs.FreeLists.{block_at}
 use Rattle.txn_alloc.specs.EntryMaps.{Cell}
 use Rattle.txn_alloc.proofs.Cells.{all_append, all_map}
 use Rattle.txn_tree_map.specs.declared.map.TreeMap.{TreeMap}
 use Rattle.txn_tree_map.specs.declared.find.Named.{Named}
-use Rattle.txn_tree_map.specs.Trees.{Tree, name_of, cells_of, IsAbove, IsRising}
+use Rattle.txn_tree_map.specs.Trees.{Tree, name_of, cells_of, IsRising}
 use Rattle.txn_tree_map.specs.Trees.Tree.{Leaf, Node}
-use Rattle.txn_tree_map.specs.Paths.{Step, Path, plug, place_of, before_of, after_of, IsAt, IsBelow}
+use Rattle.txn_tree_map.specs.Paths.{plug, before_of, after_of, IsAt}
 use Rattle.txn_tree_map.specs.Searches.{HasTop, IsNamed}
-use Rattle.txn_tree_map.specs.Sums.{IsFrom, IsFirst, IsNear, IsNearest}
+use Rattle.txn_tree_map.specs.Sums.{IsNear, IsNearest}
 use Rattle.txn_tree_map.proofs.Rising.{below_more}
 use Rattle.txn_tree_map.proofs.Trees.{cells_plug}
 use Rattle.txn_tree_map.proofs.Places.{at_step, at_room, at_name, at_root}
-use Rattle.txn_tree_map.proofs.Descents.{IsNode, NodeOrder, node_order, node_named, node_whole, child_shorter, leaf_named, leaf_short, step_down, child_of}
+use Rattle.txn_tree_map.proofs.Descents.{IsNode, NodeOrder, node_order, node_named, node_whole, child_shorter, leaf_named, leaf_short, step_down}
 
 module _ (map : TreeMap) (least : ℕ) (s : List ℕ) where
   pub near_none : (tree : Tree) → IsAt map [] tree s → IsNear map least None map.root 0 s

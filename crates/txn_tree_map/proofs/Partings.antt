@@ -1,23 +1,23 @@
 -- The steps by which a tree is parted around a key, in one word list.
-use Rattle.std.proofs.Common.{◌≡◌, ◌≢◌, ℕ, ◌+◌, ◌<◌, ◌≤◌, Bool, true, false, List, [], ◌∷◌, ◌++◌, length, slice_get, slice_set, get_or, Some, ◌⊎◌, inl, inr, refl, sym, ap, ◌∙◌, subst, arith, append_assoc, length-append}
+use Rattle.std.proofs.Common.{◌≡◌, ◌≢◌, ℕ, ◌+◌, ◌<◌, ◌≤◌, true, false, List, [], ◌∷◌, ◌++◌, length, slice_get, slice_set, get_or, Some, ◌⊎◌, inl, inr, refl, sym, ap, ◌∙◌, subst, arith, append_assoc, length-append}
 use mathlib.Core.Bool.{true≢false}
 use Rattle.std.proofs.lemmas.List.{append-nil}
-use Rattle.std.proofs.lemmas.Option.{same_Some, slice_get_within, slice_get-get_or}
+use Rattle.std.proofs.lemmas.Option.{same_Some, slice_get-get_or}
 use Rattle.std.specs.List.{AllByRecursion}
 use Rattle.txn_words.specs.Frames.{KeepsOthers}
 use Rattle.txn_alloc.specs.declared.arena.Arena.{Arena}
 use Rattle.txn_alloc.specs.FreeLists.{block_at, IsInBlock}
 use Rattle.txn_alloc.specs.EntryMaps.{Cell, has_block}
-use Rattle.txn_alloc.proofs.Cells.{times_in, times-append, times_has, has_times, all_append, all_first, all_last}
+use Rattle.txn_alloc.proofs.Cells.{times_in, times-append, times_has, all_first, all_last}
 use Rattle.txn_tree_map.specs.declared.map.TreeMap.{TreeMap}
 use Rattle.txn_tree_map.specs.Trees.{Tree, priority_of, name_of, rank_of, cells_of, IsSpelled, IsAbove, IsRising, IsHeap, IsLaid}
 use Rattle.txn_tree_map.specs.Trees.Tree.{Leaf, Node}
-use Rattle.txn_tree_map.specs.Paths.{Step, Path, whole_of, plug, place_of, before_of, after_of, IsHung, IsHigh, IsBelow}
+use Rattle.txn_tree_map.specs.Paths.{Step, plug, place_of, before_of, after_of, IsHung, IsHigh, IsBelow}
 use Rattle.txn_tree_map.specs.Changes.{Hangs, IsNameIn, IsWhole, IsParted, Splits}
 use Rattle.txn_tree_map.proofs.Rising.{rising_once, rising_first, rising_last, rising_below, rising_above, length_below}
-use Rattle.txn_tree_map.proofs.Trees.{count_in, count_on, times_cells, cells_plug, all_tree, spelled_stays, hung_stays, hung_plug}
-use Rattle.txn_tree_map.proofs.Places.{hung_name, high_plug, high_lower, high_whole}
-use Rattle.txn_tree_map.proofs.Descents.{IsNode, node_named, leaf_named, leaf_short, step_down, child_of, low_down, high_down}
+use Rattle.txn_tree_map.proofs.Trees.{count_in, count_on, times_cells, cells_plug, all_tree, hung_stays, hung_plug}
+use Rattle.txn_tree_map.proofs.Places.{high_plug, high_lower, high_whole}
+use Rattle.txn_tree_map.proofs.Descents.{IsNode, node_named, leaf_named, leaf_short, step_down, low_down, high_down}
 use Rattle.txn_tree_map.proofs.Searching.{laid_alike, name_below}
 use Rattle.txn_tree_map.proofs.Hanging.{times_around, place_mine, same_block, hole_within, same_in, same_root, hung_here, hung_step, keeps_set, keeps_none}
 

@@ -1,5 +1,5 @@
 -- A place in the map's tree, and what the whole says there.
-use Rattle.std.proofs.Common.{◌≡◌, ◌≢◌, ℕ, ◌+◌, ◌*◌, ◌%◌, ◌^◌, ◌<◌, ◌≤◌, Bool, true, false, List, [], ◌∷◌, ◌++◌, length, slice_get, Some, None, inl, inr, ◌⊎◌, refl, sym, ap, ◌∙◌, subst, arith, if◌then◌else◌}
+use Rattle.std.proofs.Common.{◌≡◌, ℕ, ◌+◌, ◌^◌, ◌<◌, ◌≤◌, Bool, true, false, List, [], ◌∷◌, ◌++◌, length, slice_get, Some, sym, ap, ◌∙◌, subst, arith, if◌then◌else◌}
 use Rattle.std.proofs.lemmas.List.{append-nil}
 use Rattle.std.proofs.lemmas.Option.{slice_get_within, same_Some}
 use Rattle.std.specs.FinSet as set
@@ -8,12 +8,12 @@ use Rattle.std.specs.List.{AllByRecursion}
 use Rattle.txn_alloc.specs.declared.arena.Arena.{Arena}
 use Rattle.txn_alloc.specs.FreeLists.{block_at, IsInBlock}
 use Rattle.txn_alloc.specs.EntryMaps.{Cell, Entries, Blocks, value_of, has_block}
-use Rattle.txn_alloc.proofs.Cells.{all_append, times_in, times-append, one_in, one_here, has_times, times_has}
+use Rattle.txn_alloc.proofs.Cells.{all_append, times_in, has_times, times_has}
 use Rattle.txn_tree_map.specs.declared.map.TreeMap.{TreeMap}
-use Rattle.txn_tree_map.specs.Trees.{Tree, priority_of, name_of, rank_of, cells_of, HasNode, IsSpelled, HasTree, IsRising, IsHeap, IsLaid, TreeHolds}
+use Rattle.txn_tree_map.specs.Trees.{Tree, priority_of, name_of, rank_of, cells_of, HasNode, IsSpelled, IsRising, IsHeap, TreeHolds}
 use Rattle.txn_tree_map.specs.Trees.Tree.{Leaf, Node}
 use Rattle.txn_tree_map.specs.Paths.{Step, Path, whole_of, plug, place_of, before_of, after_of, IsHung, IsHigh, IsAt}
-use Rattle.txn_tree_map.proofs.Rising.{HasKeys, rising_once, times_all, length_below}
+use Rattle.txn_tree_map.proofs.Rising.{rising_once, times_all, length_below}
 use Rattle.txn_tree_map.proofs.Trees.{count_in, count_on, times_cells, cells_step, cells_plug, count_plug, all_tree, all_before, all_after, spelled_whole, name_whole, hung_plug, one_tree}
 
 pub priority_small : (key : ℕ) → priority_of key < 2 ^ 64

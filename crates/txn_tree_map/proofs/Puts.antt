@@ -1,5 +1,5 @@
 -- A new cell put into the tree, in one word list.
-use Rattle.std.proofs.Common.{◌≡◌, ◌≢◌, ℕ, zero, suc, ◌+◌, ◌^◌, ◌<◌, ◌≤◌, List, [], ◌∷◌, ◌++◌, length, slice_get, slice_set, Some, true, false, ◌⊎◌, inl, inr, refl, sym, ap, ◌∙◌, subst, arith, append_assoc}
+use Rattle.std.proofs.Common.{◌≡◌, ◌≢◌, ℕ, zero, suc, ◌+◌, ◌<◌, ◌≤◌, List, ◌∷◌, ◌++◌, length, slice_get, slice_set, true, ◌⊎◌, inl, inr, refl, sym, ap, ◌∙◌, subst, arith, append_assoc}
 use mathlib.Core.Bool.{true≢false}
 use Rattle.std.proofs.lemmas.List.{length-set}
 use Rattle.std.specs.List.{AllByRecursion}
@@ -8,19 +8,19 @@ use Rattle.txn_words.specs.Frames.{KeepsOthers}
 use Rattle.txn_alloc.specs.declared.arena.Arena.{Arena}
 use Rattle.txn_alloc.specs.FreeLists.{block_at, IsInBlock}
 use Rattle.txn_alloc.specs.EntryMaps.{Cell, has_block}
-use Rattle.txn_alloc.proofs.Cells.{times_in, times-append, times_has, has_times, has_not, all_append, all_first, all_last, one_in, one_here}
+use Rattle.txn_alloc.proofs.Cells.{times_in, times-append, times_has, has_times, has_not, all_append, all_first, all_last}
 use Rattle.txn_tree_map.specs.declared.map.TreeMap.{TreeMap}
-use Rattle.txn_tree_map.specs.Trees.{Tree, priority_of, name_of, rank_of, cells_of, HasNode, IsSpelled, HasTree, IsAbove, IsRising, IsHeap, IsLaid}
+use Rattle.txn_tree_map.specs.Trees.{Tree, name_of, cells_of, HasNode, IsRising}
 use Rattle.txn_tree_map.specs.Trees.Tree.{Leaf, Node}
-use Rattle.txn_tree_map.specs.Paths.{Path, place_of, before_of, after_of, IsHung, IsHigh, IsBelow, IsAt}
-use Rattle.txn_tree_map.specs.Searches.{IsMissing, IsSeat}
-use Rattle.txn_tree_map.specs.Changes.{IsNameIn, IsWhole, CanSplit, Splits, CanPut, IsRootOrIn, IsPut}
+use Rattle.txn_tree_map.specs.Paths.{place_of, before_of, after_of, IsHung, IsAt}
+use Rattle.txn_tree_map.specs.Searches.{IsSeat}
+use Rattle.txn_tree_map.specs.Changes.{IsNameIn, IsWhole, Splits, CanPut, IsRootOrIn, IsPut}
 use Rattle.txn_tree_map.proofs.Rising.{below_other, above_other, rising_first, rising_last, rising_put}
 use Rattle.txn_tree_map.proofs.Trees.{count_in, count_on, times_cells, node_stays, spelled_stays, hung_stays, one_tree}
 use Rattle.txn_tree_map.proofs.Places.{at_once, at_below, at_outside, at_cells, at_times}
 use Rattle.txn_tree_map.proofs.Descents.{around_node}
 use Rattle.txn_tree_map.proofs.Searching.{laid_alike}
-use Rattle.txn_tree_map.proofs.Hanging.{hole_within, hole_apart, same_in, same_root, hung_here, place_mine, keeps_set, keeps_then}
+use Rattle.txn_tree_map.proofs.Hanging.{hung_here, place_mine, keeps_set, keeps_then}
 
 -- a word that names a subtree is in its block
 pub name_in : (map : TreeMap) (block : ℕ) (tree : Tree) (a : ℕ) (k : IsNameIn map block tree a) → IsInBlock map.arena k.owner a

@@ -1,5 +1,5 @@
 -- What the call that puts a new cell into the tree leads to, in every fitting state at once.
-use Rattle.std.proofs.Common.{◌≡◌, ◌≢◌, ℕ, ◌+◌, ◌<◌, ◌≤◌, List, [], ◌∷◌, ◌++◌, length, slice_get, slice_set, Some, ◌⊎◌, inl, inr, refl, sym, ap, ◌∙◌, subst, arith}
+use Rattle.std.proofs.Common.{◌≡◌, ℕ, ◌+◌, ◌<◌, ◌≤◌, List, length, slice_set, inl, inr, refl, sym, ap, ◌∙◌, subst, arith}
 use Rattle.history_model.specs.Traces.{Trace, after, Begins}
 use Rattle.history_model.specs.Fitting.{Fits, SomeFits, InEach, Leads}
 use Rattle.history_model.proofs.TraceLaws.{length-after}
@@ -9,16 +9,15 @@ use Rattle.txn_words.specs.Frames.{AppendsOnly, AppendsReads}
 use Rattle.txn_words.proofs.Steps.{after_write_end, fits_write_end}
 use Rattle.txn_words.proofs.FrameLaws.{only_write, only_then, only_more}
 use Rattle.txn_words.proofs.ReadLaws.{sees_write, sees_then, sees_more}
-use Rattle.txn_alloc.specs.FreeLists.{block_at, IsInBlock}
+use Rattle.txn_alloc.specs.FreeLists.{block_at}
 use Rattle.txn_alloc.specs.Looks.{Looks}
 use Rattle.txn_alloc.proofs.Looks.{seen_before}
 use Rattle.txn_tree_map.specs.declared.map.TreeMap.{TreeMap}
-use Rattle.txn_tree_map.specs.Trees.{IsLaid}
 use Rattle.txn_tree_map.specs.Paths.{place_of}
 use Rattle.txn_tree_map.specs.Searches.{IsLink, IsSeat}
-use Rattle.txn_tree_map.specs.Changes.{IsWhole, CanSplit, Splits, IsSplitOwn, CanPut, IsRootOrIn, IsPut, IsPutOwn, IsLinkOrIn}
+use Rattle.txn_tree_map.specs.Changes.{IsWhole, CanSplit, Splits, IsSplitOwn, CanPut, IsPut, IsPutOwn, IsLinkOrIn}
 use Rattle.txn_tree_map.proofs.Places.{at_within}
-use Rattle.txn_tree_map.proofs.Puts.{with_value, put_whole, put_words, put_done, name_own, place_own}
+use Rattle.txn_tree_map.proofs.Puts.{put_whole, put_words, put_done, name_own, place_own}
 
 module _ (map : TreeMap) (key value block place name : ℕ) (n : ℕ) (G : List ℕ → Type 0) (t u : Trace) (l : Looks n G t u (IsLink map) (IsSeat map key place name)) (order : InEach n G t (CanPut map key block)) where
   can_before : (s : List ℕ) → Fits n G u s → CanPut map key block (after t s)

@@ -1,5 +1,5 @@
 -- What a removal leads to, writes and reads, in every fitting state at once.
-use Rattle.std.proofs.Common.{◌≡◌, ℕ, ◌+◌, ◌<◌, inl, inr, ◌⊎◌, true, List, [], ◌∷◌, ◌++◌, slice_get, Option, Some, None, refl, sym, ap, ◌∙◌, subst, arith}
+use Rattle.std.proofs.Common.{◌≡◌, ℕ, ◌+◌, ◌<◌, inl, inr, true, List, [], ◌∷◌, ◌++◌, slice_get, Option, Some, None, refl, sym, ap, ◌∙◌, subst}
 use Rattle.std.proofs.lemmas.Option.{same_Some}
 use Rattle.std.specs.FinSet as set
 use Rattle.std.specs.FinMap as entry_map
@@ -12,14 +12,13 @@ use Rattle.txn_words.proofs.FrameLaws.{only_more, only_then}
 use Rattle.txn_words.proofs.ReadLaws.{sees_more, sees_then}
 use Rattle.txn_alloc.specs.FreeLists.{block_at, IsHead, IsInBlock, IsHeadOrIn, IsHeadOrFirst, Lacks, Gives}
 use Rattle.txn_alloc.specs.FreeLists as lists
-use Rattle.txn_alloc.specs.EntryMaps.{Entries, Blocks, HasMapApart, Finds, Uses, MayRead, IsOwn, Removes}
+use Rattle.txn_alloc.specs.EntryMaps.{HasMapApart, Uses, MayRead, IsOwn, Removes}
 use Rattle.txn_alloc.specs.Looks.{Looks}
 use Rattle.txn_alloc.proofs.Looks.{looks_one, looks_read, leads_back, seen_before}
 use Rattle.txn_tree_map.specs.declared.map.TreeMap.{TreeMap}
-use Rattle.txn_tree_map.specs.Trees.{name_of, cells_of, TreeHolds}
-use Rattle.txn_tree_map.specs.Trees.Tree.{Node}
+use Rattle.txn_tree_map.specs.Trees.{name_of, TreeHolds}
 use Rattle.txn_tree_map.specs.Searches.{IsLink, IsFoundAt}
-use Rattle.txn_tree_map.specs.Joins.{ArePair, CanJoin, Joins, IsJoinOwn, IsHoleOrName, CanCut, IsCut, Cuts, IsCutOwn, IsLinkOrValue}
+use Rattle.txn_tree_map.specs.Joins.{ArePair, CanJoin, Joins, IsJoinOwn, CanCut, IsCut, Cuts, IsCutOwn, IsLinkOrValue}
 use Rattle.txn_tree_map.proofs.Descents.{found_key}
 use Rattle.txn_tree_map.proofs.Gets.{link_spares, name_spares, value_spares}
 use Rattle.txn_tree_map.proofs.Values.{found_used}

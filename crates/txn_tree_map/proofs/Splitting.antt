@@ -1,21 +1,18 @@
 -- What the calls that part a tree lead to, in every fitting state at once.
-use Rattle.std.proofs.Common.{◌≡◌, ◌≢◌, ℕ, ◌+◌, ◌<◌, ◌≤◌, List, [], ◌∷◌, ◌++◌, length, slice_get, slice_set, Some, ◌⊎◌, inl, inr, refl, sym, ap, ◌∙◌, subst, arith}
+use Rattle.std.proofs.Common.{◌≡◌, ◌≢◌, ℕ, ◌+◌, ◌<◌, ◌≤◌, List, [], ◌∷◌, ◌++◌, length, slice_set, ◌⊎◌, inl, inr, refl, sym, ap, ◌∙◌, subst, arith}
 use Rattle.history_model.specs.declared.event.Event.TheVariants.{Read}
 use Rattle.history_model.specs.Traces.{Trace, after, Begins}
 use Rattle.history_model.specs.Fitting.{Fits, SomeFits, InEach, Leads}
 use Rattle.history_model.proofs.TraceLaws.{length-after}
 use Rattle.history_model.proofs.FittingLaws.{fits_begins}
 use Rattle.txn_words.specs.Steps.{EndsWithWrite}
-use Rattle.txn_words.specs.Frames.{AppendsOnly, AppendsReads}
+use Rattle.txn_words.specs.Frames.{AppendsOnly}
 use Rattle.txn_words.proofs.Steps.{after_write_end, fits_write_end}
-use Rattle.txn_words.proofs.FrameLaws.{only_read, only_write, only_then, only_more}
-use Rattle.txn_words.proofs.ReadLaws.{sees_read, sees_write, sees_then}
+use Rattle.txn_words.proofs.FrameLaws.{only_write, only_then, only_more}
 use Rattle.txn_alloc.specs.FreeLists.{block_at}
 use Rattle.txn_alloc.proofs.Looks.{looks_one, seen_before, leads_back}
 use Rattle.txn_tree_map.specs.declared.map.TreeMap.{TreeMap}
-use Rattle.txn_tree_map.specs.Trees.{Tree}
-use Rattle.txn_tree_map.specs.Searches.{IsLink}
-use Rattle.txn_tree_map.specs.Changes.{Hangs, AreWithin, IsNameIn, IsWhole, CanSplit, IsParted, CanPart, PartsOne, Splits, IsSplitOwn}
+use Rattle.txn_tree_map.specs.Changes.{Hangs, AreWithin, IsNameIn, CanSplit, IsParted, CanPart, PartsOne, Splits, IsSplitOwn}
 use Rattle.txn_tree_map.proofs.Trees.{one_tree}
 use Rattle.txn_tree_map.proofs.Partings.{parted_none, smaller_within, greater_within, smaller_own, greater_own, parted_low, parted_high, parted_other, parted_laid, parted_below, splits_end}
 

@@ -1,5 +1,5 @@
 -- The steps of a sum over keys, in one word list.
-use Rattle.std.proofs.Common.{◌≡◌, ◌≢◌, ℕ, ◌+◌, ◌*◌, ◌^◌, ◌<◌, ◌≤◌, Bool, true, false, nat_lt, nat_le, ◌&&◌, List, [], ◌∷◌, ◌++◌, length, slice_get, Option, Some, None, refl, sym, ap, ◌∙◌, subst, arith, rules, if◌then◌else◌, length-append}
+use Rattle.std.proofs.Common.{◌≡◌, ℕ, ◌+◌, ◌^◌, ◌<◌, ◌≤◌, Bool, true, false, nat_lt, nat_le, ◌&&◌, List, [], ◌∷◌, ◌++◌, length, slice_get, Some, None, refl, sym, ap, ◌∙◌, subst, arith, rules, if◌then◌else◌, length-append}
 use Rattle.std.proofs.lemmas.List.{append-nil, append_assoc}
 use Rattle.std.proofs.lemmas.List.Sums.{sum_by-cons}
 use Rattle.std.proofs.lemmas.Option.{same_Some}
@@ -7,13 +7,13 @@ use Rattle.std.specs.List.{AllByRecursion, sum_by}
 use Rattle.std.specs.FinMap as entry_map
 use Rattle.txn_alloc.specs.FreeLists.{block_at}
 use Rattle.txn_alloc.specs.EntryMaps.{Cell, Entries, Blocks, sum_between, HasSmallSum}
-use Rattle.txn_alloc.proofs.Cells.{all_append, all_first, all_last, all_map}
+use Rattle.txn_alloc.proofs.Cells.{all_append, all_last, all_map}
 use Rattle.txn_tree_map.specs.declared.map.TreeMap.{TreeMap}
 use Rattle.txn_tree_map.specs.declared.find.Named.{Named}
-use Rattle.txn_tree_map.specs.Trees.{Tree, cells_of, HasNode, IsSpelled, IsAbove, IsRising, TreeHolds}
+use Rattle.txn_tree_map.specs.Trees.{Tree, cells_of, IsAbove, IsRising, TreeHolds}
 use Rattle.txn_tree_map.specs.Paths.{IsAt, IsBelow}
-use Rattle.txn_tree_map.specs.Sums.{IsFrom, IsFirst, IsNearest, sum_cells, counted, IsSummed, IsTotal, IsNext, HasNoneTo}
-use Rattle.txn_tree_map.proofs.Rising.{below_more, rising_last, rising_above}
+use Rattle.txn_tree_map.specs.Sums.{IsFrom, IsNearest, sum_cells, counted, IsSummed, IsTotal, IsNext, HasNoneTo}
+use Rattle.txn_tree_map.proofs.Rising.{below_more, rising_above}
 use Rattle.txn_tree_map.proofs.Trees.{all_tree}
 use Rattle.txn_tree_map.proofs.Places.{at_tree, at_cells, at_room}
 use Rattle.txn_tree_map.proofs.Entries.{pairs_of, entries_cells}

@@ -1,5 +1,5 @@
 -- Another value at a key that was found.
-use Rattle.std.proofs.Common.{◌≡◌, ◌≢◌, ℕ, ◌+◌, ◌<◌, ◌≤◌, true, false, List, [], ◌∷◌, ◌++◌, length, slice_get, slice_set, Some, None, inl, inr, refl, sym, ap, ◌∙◌, subst, arith}
+use Rattle.std.proofs.Common.{◌≡◌, ◌≢◌, ℕ, ◌+◌, ◌<◌, ◌≤◌, true, List, [], ◌∷◌, ◌++◌, length, slice_get, slice_set, Some, refl, sym, ap, ◌∙◌, subst, arith}
 use mathlib.Core.Bool.{true≢false}
 use mathlib.Core.Logic.{dite}
 use native.Mathlib.Decide.{ℕ_discrete}
@@ -7,19 +7,18 @@ use Rattle.std.proofs.lemmas.List.{length-set}
 use Rattle.std.specs.FinSet as set
 use Rattle.std.specs.FinMap as entry_map
 use Rattle.history_model.proofs.TraceLaws.{get_set_same, get_set_other}
-use Rattle.txn_alloc.specs.declared.arena.Arena.{Arena}
 use Rattle.txn_alloc.specs.FreeLists.{block_at, IsInBlock}
 use Rattle.txn_alloc.specs.EntryMaps.{Cell, Entries, Blocks, value_of, has_block, HoldsApart, InsertsOld}
 use Rattle.txn_alloc.proofs.Lists.{free_kept}
 use Rattle.txn_alloc.proofs.Cells.{all_append, value_less, has_middle, less_block, insert_same, insert_other, one_in, one_here}
 use Rattle.txn_tree_map.specs.declared.map.TreeMap.{TreeMap}
-use Rattle.txn_tree_map.specs.Trees.{Tree, name_of, cells_of, IsRising, TreeHolds}
-use Rattle.txn_tree_map.specs.Trees.Tree.{Leaf, Node}
-use Rattle.txn_tree_map.specs.Paths.{Path, before_of, after_of, IsAt, IsBelow}
+use Rattle.txn_tree_map.specs.Trees.{cells_of, IsRising, TreeHolds}
+use Rattle.txn_tree_map.specs.Trees.Tree.{Node}
+use Rattle.txn_tree_map.specs.Paths.{before_of, after_of, IsAt, IsBelow}
 use Rattle.txn_tree_map.specs.Searches.{IsFoundAt}
 use Rattle.txn_tree_map.proofs.Rising.{rising_cut, rising_put, rising_below, rising_above, value_there}
 use Rattle.txn_tree_map.proofs.Trees.{count_in, count_on, spelled_stays, hung_stays}
-use Rattle.txn_tree_map.proofs.Places.{at_once, at_below, at_outside, at_value, at_used}
+use Rattle.txn_tree_map.proofs.Places.{at_once, at_below, at_value, at_used}
 use Rattle.txn_tree_map.proofs.Descents.{NodeOrder, node_order, around_node, found_value}
 use Rattle.txn_tree_map.proofs.Searching.{laid_alike}
 use Rattle.txn_tree_map.proofs.Puts.{one_block}

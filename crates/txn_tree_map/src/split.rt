@@ -49,18 +49,18 @@ pub(crate) fn part_one<W: Words>(
     let at = map.arena.first + 4 * (rest - 1);
     let there = w.read(at)?;
     if there < key {
-        let inner = hang(w, map, smaller, rest, at + 3)?;
+        let right = hang(w, map, smaller, rest, at + 3)?;
         return Ok(Ends {
             smaller: at + 3,
             greater,
-            rest: inner,
+            rest: right,
         });
     }
-    let inner = hang(w, map, greater, rest, at + 2)?;
+    let left = hang(w, map, greater, rest, at + 2)?;
     Ok(Ends {
         smaller,
         greater: at + 2,
-        rest: inner,
+        rest: left,
     })
 }
 

@@ -1,5 +1,4 @@
-use Rattle.std.proofs.Common.{◌≡◌, ◌+◌, ◌*◌, ◌<◌, ◌≤◌, nat_lt, nat_le, inl, inr, refl, sym, ap, ◌∙◌, subst, arith, if◌then◌else◌}
-use Rattle.txn_words.proofs.CallLaws.{each_plain}
+use Rattle.std.proofs.Common.{◌≡◌, ◌+◌, ◌*◌, nat_le, inl, refl, sym, ◌∙◌, subst, arith, if◌then◌else◌}
 use Rattle.txn_alloc.specs.FreeLists.{block_at}
 use Rattle.txn_alloc.proofs.Looks.{looks_none, looks_map, looks_then, looks_each, looks_from}
 use Rattle.txn_tree_map.specs.Searches.{HasTop, IsNamed, IsEnd, IsLink}

@@ -1,10 +1,9 @@
-use Rattle.std.proofs.Common.{◌≡◌, ℕ, ◌+◌, ◌*◌, ◌^◌, ◌<◌, ◌≤◌, ap, ◌∙◌, arith}
-use Rattle.history_model.specs.Fitting.{SomeFits, InEach}
+use Rattle.std.proofs.Common.{◌≡◌, ◌+◌, ◌*◌, ◌<◌, ap, ◌∙◌, arith}
+use Rattle.history_model.specs.Fitting.{SomeFits}
 use Rattle.history_model.proofs.FittingLaws.{some_at}
 use Rattle.txn_words.proofs.CallLaws.{each_plain}
 use Rattle.txn_alloc.specs.FreeLists.{block_at}
-use Rattle.txn_alloc.proofs.Looks.{looks_each, each_looked, each_from, leads_from, within_from}
-use Rattle.txn_tree_map.specs.Searches.{IsLink}
+use Rattle.txn_alloc.proofs.Looks.{each_from, leads_from, within_from}
 use Rattle.txn_tree_map.proofs.Searching.{laid_block}
 use Rattle.txn_tree_map.proofs.Putting.{seat_within, can_split, put_leads, put_own, put_reads}
 use Rattle.txn_tree_map.proofs.insert.put_in.Goals as goal

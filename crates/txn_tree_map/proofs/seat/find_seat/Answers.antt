@@ -1,9 +1,8 @@
-use Rattle.std.proofs.Common.{◌≡◌, ◌+◌, ◌*◌, ◌^◌, ◌<◌, ◌≤◌, nat_lt, inl, inr, refl, sym, ap, ◌∙◌, subst, arith, if◌then◌else◌}
-use Rattle.txn_words.proofs.CallLaws.{each_plain}
+use Rattle.std.proofs.Common.{◌≡◌, ◌+◌, ◌*◌, ◌≤◌, nat_lt, inl, refl, ◌∙◌, subst, arith, if◌then◌else◌}
 use Rattle.txn_alloc.specs.FreeLists.{block_at}
 use Rattle.txn_alloc.proofs.Looks.{looks_none, looks_map, looks_then, looks_each, looks_from}
 use Rattle.txn_tree_map.specs.Trees.{priority_of}
-use Rattle.txn_tree_map.specs.Searches.{HasTop, IsPassed, IsNamed, IsEnd, IsMissing, IsSeat, IsLink}
+use Rattle.txn_tree_map.specs.Searches.{HasTop, IsPassed, IsNamed, IsEnd, IsSeat, IsLink}
 use Rattle.txn_tree_map.proofs.Descents.{passed_top, passed_down}
 use Rattle.txn_tree_map.proofs.Seats.{passed_missing, missing_other, seat_end, seat_all, seat_here}
 use Rattle.txn_tree_map.proofs.Searching.{link_down}

@@ -1,13 +1,11 @@
-use Rattle.std.proofs.Common.{◌≡◌, ◌≢◌, ℕ, ◌+◌, ◌*◌, ◌<◌, ◌≤◌, inl, inr, refl, sym, ap, ◌∙◌, subst, arith}
+use Rattle.std.proofs.Common.{◌≡◌, ◌+◌, ◌*◌, ◌<◌, inl, inr, refl, sym, ap, ◌∙◌, arith}
 use Rattle.history_model.proofs.TraceLaws.{begins_refl, begins_trans}
-use Rattle.history_model.proofs.FittingLaws.{fits_begins}
-use Rattle.txn_words.proofs.CallLaws.{each_plain}
 use Rattle.txn_words.proofs.FrameLaws.{only_same}
 use Rattle.txn_words.proofs.ReadLaws.{sees_same, sees_then}
 use Rattle.txn_alloc.specs.FreeLists.{block_at}
 use Rattle.txn_alloc.proofs.Looks.{each_from, leads_from}
 use Rattle.txn_tree_map.specs.Searches.{IsLink}
-use Rattle.txn_tree_map.specs.Changes.{IsParted, CanPart, IsSplitOwn}
+use Rattle.txn_tree_map.specs.Changes.{CanPart}
 use Rattle.txn_tree_map.proofs.Partings.{parted_end, parted_all}
 use Rattle.txn_tree_map.proofs.Splitting.{parted_start, parted_more, own_more}
 use Rattle.txn_tree_map.proofs.split.part.Goals as goal

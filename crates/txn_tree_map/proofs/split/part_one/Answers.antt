@@ -1,13 +1,11 @@
-use Rattle.std.proofs.Common.{◌≡◌, ◌≢◌, ℕ, ◌+◌, ◌-◌, ◌*◌, ◌^◌, ◌<◌, ◌≤◌, ◌⊎◌, inl, inr, refl, sym, ap, ◌∙◌, arith}
-use Rattle.history_model.specs.Fitting.{SomeFits}
-use Rattle.history_model.proofs.FittingLaws.{some_at}
+use Rattle.std.proofs.Common.{◌≡◌, ℕ, ◌+◌, ◌-◌, ◌<◌, ◌⊎◌, inl, inr, refl, arith}
 use Rattle.txn_words.proofs.CallLaws.{each_plain}
 use Rattle.txn_words.proofs.FrameLaws.{only_read, only_then, only_more}
 use Rattle.txn_words.proofs.ReadLaws.{sees_read, sees_then}
 use Rattle.txn_alloc.specs.FreeLists.{block_at}
 use Rattle.txn_alloc.proofs.Looks.{looks_one, each_looked, each_from, leads_from}
 use Rattle.txn_tree_map.specs.Searches.{IsLink}
-use Rattle.txn_tree_map.specs.Changes.{Hangs, AreWithin, CanPart}
+use Rattle.txn_tree_map.specs.Changes.{CanPart}
 use Rattle.txn_tree_map.proofs.Searching.{laid_block}
 use Rattle.txn_tree_map.proofs.Partings.{parted_laid}
 use Rattle.txn_tree_map.proofs.Splitting.{can_part_within, can_part_below, parts_low, parts_high}
@@ -94,8 +92,8 @@ returns-then-there-key-clause-parted g c =
     let e = c.args.ends in
     let is_name : e.rest ≡ (e.rest - 1) + 1 = omega (arith, c.requires.rest) in
     record {
-      at = (parts_low m c.args.key e.smaller e.greater e.rest _ _ _ _ _ (e.rest - 1) c.in_ok-there.there c.in_ok-inner.inner is_name c.in_ok-there.ensures.value c.in_ok-inner.ensures.goes_on.begins c.if-there-key.true
-          (leads_from g.W.Words g.W.Shape.Shape c.args.w.now c.read.new.self c.hang.new.w _ c.in_ok-there.ensures.shape c.in_ok-inner.ensures.hung)).at;
+      at = (parts_low m c.args.key e.smaller e.greater e.rest _ _ _ _ _ (e.rest - 1) c.in_ok-there.there c.in_ok-right.right is_name c.in_ok-there.ensures.value c.in_ok-right.ensures.goes_on.begins c.if-there-key.true
+          (leads_from g.W.Words g.W.Shape.Shape c.args.w.now c.read.new.self c.hang.new.w _ c.in_ok-there.ensures.shape c.in_ok-right.ensures.hung)).at;
     }
 
 pub returns-clause-parted : goal.returns-clause-parted
@@ -104,8 +102,8 @@ returns-clause-parted g c =
     let e = c.args.ends in
     let is_name : e.rest ≡ (e.rest - 1) + 1 = omega (arith, c.requires.rest) in
     record {
-      at = (parts_high m c.args.key e.smaller e.greater e.rest _ _ _ _ _ (e.rest - 1) c.in_ok-there.there c.in_ok-inner-2.inner is_name c.in_ok-there.ensures.value c.in_ok-inner-2.ensures.goes_on.begins (λ k. omega (arith, k, c.if-there-key.false))
-          (leads_from g.W.Words g.W.Shape.Shape c.args.w.now c.read.new.self c.hang-2.new.w _ c.in_ok-there.ensures.shape c.in_ok-inner-2.ensures.hung)).at;
+      at = (parts_high m c.args.key e.smaller e.greater e.rest _ _ _ _ _ (e.rest - 1) c.in_ok-there.there c.in_ok-left.left is_name c.in_ok-there.ensures.value c.in_ok-left.ensures.goes_on.begins (λ k. omega (arith, k, c.if-there-key.false))
+          (leads_from g.W.Words g.W.Shape.Shape c.args.w.now c.read.new.self c.hang-2.new.w _ c.in_ok-there.ensures.shape c.in_ok-left.ensures.hung)).at;
     }
 
 pub returns-then-there-key-clause-smaller : goal.returns-then-there-key-clause-smaller
@@ -125,7 +123,7 @@ returns-then-there-key-clause-frame g c =
     let e = c.args.ends in
     let own : ℕ → Type 0 = λ a. (a ≡ e.smaller) ⊎ (a ≡ e.greater) in
     record {
-      appended = only_then own _ _ _ (only_read own _ _ _ _ c.in_ok-there.ensures.value) (only_more (λ a. a ≡ e.smaller) own _ _ (λ a k. inl k) c.in_ok-inner.ensures.frame.appended);
+      appended = only_then own _ _ _ (only_read own _ _ _ _ c.in_ok-there.ensures.value) (only_more (λ a. a ≡ e.smaller) own _ _ (λ a k. inl k) c.in_ok-right.ensures.frame.appended);
     }
 
 pub returns-clause-frame : goal.returns-clause-frame
@@ -133,17 +131,17 @@ returns-clause-frame g c =
     let e = c.args.ends in
     let own : ℕ → Type 0 = λ a. (a ≡ e.smaller) ⊎ (a ≡ e.greater) in
     record {
-      appended = only_then own _ _ _ (only_read own _ _ _ _ c.in_ok-there.ensures.value) (only_more (λ a. a ≡ e.greater) own _ _ (λ a k. inr k) c.in_ok-inner-2.ensures.frame.appended);
+      appended = only_then own _ _ _ (only_read own _ _ _ _ c.in_ok-there.ensures.value) (only_more (λ a. a ≡ e.greater) own _ _ (λ a k. inr k) c.in_ok-left.ensures.frame.appended);
     }
 
 pub returns-then-there-key-clause-reads : goal.returns-then-there-key-clause-reads
 returns-then-there-key-clause-reads g c =
     let m = c.args.map.now in
     let lt : c.args.ends.rest - 1 < m.arena.blocks = omega arith in
-    sees_then (IsLink m) _ _ _ (sees_read (IsLink m) _ _ _ _ c.in_ok-there.ensures.value (inr (c.args.ends.rest - 1, lt, inl refl))) c.in_ok-inner.ensures.reads
+    sees_then (IsLink m) _ _ _ (sees_read (IsLink m) _ _ _ _ c.in_ok-there.ensures.value (inr (c.args.ends.rest - 1, lt, inl refl))) c.in_ok-right.ensures.reads
 
 pub returns-clause-reads : goal.returns-clause-reads
 returns-clause-reads g c =
     let m = c.args.map.now in
     let lt : c.args.ends.rest - 1 < m.arena.blocks = omega arith in
-    sees_then (IsLink m) _ _ _ (sees_read (IsLink m) _ _ _ _ c.in_ok-there.ensures.value (inr (c.args.ends.rest - 1, lt, inl refl))) c.in_ok-inner-2.ensures.reads
+    sees_then (IsLink m) _ _ _ (sees_read (IsLink m) _ _ _ _ c.in_ok-there.ensures.value (inr (c.args.ends.rest - 1, lt, inl refl))) c.in_ok-left.ensures.reads

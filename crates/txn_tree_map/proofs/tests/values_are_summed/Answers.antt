@@ -1,4 +1,4 @@
-use Rattle.std.proofs.Common.{◌≡◌, refl, ap}
+use Rattle.std.proofs.Common.{ap}
 use Rattle.txn_words.proofs.CallLaws.{state_after}
 use Rattle.txn_words.specs.Plainly.{PlainView}
 use Rattle.txn_alloc.specs.EntryMaps.{HasSmallSum, SumsRange}

@@ -1,7 +1,4 @@
-use Rattle.std.proofs.Common.{◌≡◌, ◌+◌, ◌*◌, ◌<◌, None, Some, arith, ap, ◌∙◌}
-use Rattle.history_model.specs.Fitting.{SomeFits}
-use Rattle.history_model.proofs.TraceLaws.{begins_trans}
-use Rattle.history_model.proofs.FittingLaws.{some_at}
+use Rattle.std.proofs.Common.{◌≡◌, ◌+◌, ◌*◌, arith, ap, ◌∙◌}
 use Rattle.txn_words.proofs.CallLaws.{each_plain}
 use Rattle.txn_alloc.specs.FreeLists.{block_at}
 use Rattle.txn_alloc.specs.EntryMaps.{HasMap}

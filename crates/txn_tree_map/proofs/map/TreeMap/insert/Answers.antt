@@ -1,5 +1,5 @@
-use Rattle.std.proofs.Common.{◌≡◌, ℕ, ◌+◌, ◌*◌, ◌<◌, arith, rules, ap, ◌∙◌}
-use Rattle.history_model.specs.Fitting.{SomeFits, InEach}
+use Rattle.std.proofs.Common.{◌≡◌, ◌+◌, ◌*◌, arith, rules, ap, ◌∙◌}
+use Rattle.history_model.specs.Fitting.{SomeFits}
 use Rattle.history_model.proofs.TraceLaws.{begins_trans}
 use Rattle.history_model.proofs.FittingLaws.{some_at}
 use Rattle.txn_words.proofs.CallLaws.{each_plain, leads_plain, state_after}
@@ -7,7 +7,7 @@ use Rattle.txn_words.proofs.FrameLaws.{only_then}
 use Rattle.txn_alloc.specs.declared.put.Put.TheVariants.{New, Old, Full}
 use Rattle.txn_alloc.specs.FreeLists.{block_at, HasNone}
 use Rattle.txn_alloc.specs.FreeLists as lists
-use Rattle.txn_alloc.specs.EntryMaps.{HasMap, HasMapApart, Inserts, LacksRoom}
+use Rattle.txn_alloc.specs.EntryMaps.{HasMapApart, Inserts, LacksRoom}
 use Rattle.txn_alloc.proofs.Looks.{each_looked, each_from, leads_from, leads_back, within_from}
 use Rattle.txn_tree_map.specs.Trees.{TreeHolds}
 use Rattle.txn_tree_map.proofs.Searching.{laid_block}

@@ -1,5 +1,4 @@
-use Rattle.std.proofs.Common.{◌≡◌, ℕ, ◌<◌, Some, None, arith, rules, ap, ◌∙◌}
-use Rattle.history_model.specs.Fitting.{InEach}
+use Rattle.std.proofs.Common.{Some, None, arith, ◌∙◌}
 use Rattle.history_model.proofs.TraceLaws.{begins_trans}
 use Rattle.txn_words.proofs.CallLaws.{each_plain, state_after}
 use Rattle.txn_words.proofs.FrameLaws.{only_more}

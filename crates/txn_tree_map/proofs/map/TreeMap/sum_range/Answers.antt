@@ -1,4 +1,4 @@
-use Rattle.std.proofs.Common.{◌≡◌, ◌+◌, ◌^◌, ◌<◌, ◌≤◌, refl, ap, ◌∙◌, arith}
+use Rattle.std.proofs.Common.{◌+◌, ◌^◌, ◌<◌, refl, ◌∙◌, arith}
 use Rattle.history_model.specs.Fitting.{SomeFits}
 use Rattle.history_model.proofs.FittingLaws.{some_at}
 use Rattle.txn_words.proofs.CallLaws.{each_plain}
@@ -6,7 +6,7 @@ use Rattle.txn_words.proofs.ReadLaws.{sees_same}
 use Rattle.txn_alloc.specs.EntryMaps.{HasMap}
 use Rattle.txn_alloc.proofs.Looks.{looks_none, looks_map, looks_then, looks_only, looks_from, each_looked, each_from, reads_from}
 use Rattle.txn_tree_map.specs.Trees.{TreeHolds}
-use Rattle.txn_tree_map.specs.Sums.{IsAnyWord, IsSummed, IsTotal, IsNext, HasNoneTo}
+use Rattle.txn_tree_map.specs.Sums.{IsAnyWord, IsTotal, IsNext, HasNoneTo}
 use Rattle.txn_tree_map.proofs.Places.{at_tree}
 use Rattle.txn_tree_map.proofs.Summing.{summed_none, summed_more, total_none, total_all, total_high}
 use Rattle.txn_tree_map.proofs.Totals.{reads_on, room, sums_range}
