@@ -7,9 +7,13 @@ use Rattle.txn_alloc.specs.declared.put.Put.TheVariants.{New, Old, Full}
 use Rattle.txn_alloc.specs.FreeLists.{block_at, HasNone}
 use Rattle.txn_hash_map.specs.Chains.{IsInOrder, Inserts, LacksRoom}
 use Rattle.txn_hash_map.proofs.Looks.{laid_block, looks_value}
-use Rattle.txn_hash_map.proofs.Inserts.{leads_from, each_from, order_inserted, leads_back, order_looks, inserts_new, owns_new, owns_none, laid_taken, lacks_room, inserts_old, owns_old, owns_value, not_new, not_old}
+use Rattle.txn_alloc.proofs.Looks.{leads_from, each_from, leads_back}
+use Rattle.txn_hash_map.proofs.Inserts.{order_inserted, order_looks, inserts_new, owns_new, owns_none, laid_taken, lacks_room, inserts_old, owns_old, owns_value, not_new, not_old}
 use Rattle.txn_hash_map.proofs.Spares.{spares_none, spares_new, spares_old}
 use Rattle.txn_hash_map.proofs.map.ChainMap.insert.Goals as goal
+
+pub find-requires-clause-order : goal.find-requires-clause-order
+find-requires-clause-order g c = record { at = λ s fit. let o = c.requires.order.at s fit in record { entries = o.entries; used = o.used; holds = o.holds.map } }
 
 pub read-requires-clause-within : goal.read-requires-clause-within
 read-requires-clause-within g c =
@@ -190,7 +194,7 @@ returns-in-None-2-clause-put g c =
     let then = c.in_ok-block-in-None.ensures in
     let taken = rw c.in-None-2.is at then.taken in
     record {
-      at = (leads_back m c.args.key c.args.value _ _ _ _ missing _ (λ before after. after ≡ before) then.goes_on.begins
+      at = (leads_back _ _ _ _ missing _ (λ before after. after ≡ before) then.goes_on.begins
           (leads_from g.W.Words g.W.Shape.Shape c.args.w.now c.find.new.w c.take.new.w _ goes.shape taken)).at;
     }
 
