@@ -1,21 +1,17 @@
 -- What a call that only reads learns, of every fitting state at once.
 use Rattle.std.proofs.Common.{◌≡◌, ℕ, ◌+◌, ◌^◌, ◌<◌, ◌≤◌, ◌⊎◌, List, [], ◌∷◌, ◌++◌, length, slice_get, Some, None, inl, inr, refl, sym, ap, ◌∙◌, subst, arith}
-use Rattle.history_model.specs.declared.shape.Shape.{Ghosts as Shapes}
 use Rattle.history_model.specs.declared.event.Event.TheVariants.{Read}
 use Rattle.history_model.specs.Traces.{Trace, after}
 use Rattle.history_model.specs.Fitting.{Fits, SomeFits, InEach, Leads}
-use Rattle.history_model.proofs.TraceLaws.{read_there, after_read, length-after, begins_refl, begins_trans}
-use Rattle.history_model.proofs.FittingLaws.{fits_front, fits_begins, each_at}
-use Rattle.txn_words.specs.declared.words.Words.{Ghosts as AnyWords}
-use Rattle.txn_words.specs.Calls.{InEachState, LeadsTo, WritesOnly}
+use Rattle.history_model.proofs.TraceLaws.{length-after}
+use Rattle.history_model.proofs.FittingLaws.{fits_begins}
 use Rattle.txn_words.specs.Frames.{AppendsReads}
-use Rattle.txn_words.proofs.FrameLaws.{only_same, only_read, only_then}
-use Rattle.txn_words.proofs.ReadLaws.{sees_same, sees_read, sees_then, sees_more}
+use Rattle.txn_words.proofs.ReadLaws.{sees_more}
 use Rattle.txn_alloc.specs.FreeLists.{block_at}
 use Rattle.txn_alloc.specs.Looks.{Looks}
 use Rattle.txn_alloc.proofs.Looks.{looks_map, looks_read}
 use Rattle.txn_hash_map.specs.declared.map.ChainMap.{ChainMap}
-use Rattle.txn_hash_map.specs.Chains.{IsInOrder, IsLaid, Finds, MayRead}
+use Rattle.txn_hash_map.specs.Chains.{IsLaid, Finds, MayRead}
 use Rattle.txn_hash_map.specs.Searches.{IsPassed, IsLink, IsFoundAt, IsMissing}
 use Rattle.txn_hash_map.proofs.Steps.{passed_within, passed_names, missing_value, found_value, found_key, link_spares, value_spares}
 

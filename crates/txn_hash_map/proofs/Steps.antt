@@ -5,7 +5,7 @@ use Rattle.std.specs.FinMap as entry_map
 use Rattle.txn_alloc.specs.FreeLists.{block_at, IsHeadOrFirst}
 use Rattle.txn_alloc.proofs.Cells.{value_past, value_first, value_later}
 use Rattle.txn_hash_map.specs.declared.map.ChainMap.{ChainMap}
-use Rattle.txn_hash_map.specs.Chains.{Cell, HasChain, HasKeysOnce, value_of, bucket_of, IsLaid, IsHeld, IsInOrder, ChainsHold, MapHolds, Entries, Blocks, Finds, Uses, IsOtherValue}
+use Rattle.txn_hash_map.specs.Chains.{Cell, HasChain, HasKeysOnce, value_of, bucket_of, IsLaid, IsHeld, IsInOrder, ChainsHold, Entries, Blocks, Finds, Uses, IsOtherValue}
 use Rattle.txn_hash_map.specs.Searches.{place_after, IsPassed, IsFoundAt, IsMissing, IsLink}
 use Rattle.txn_hash_map.proofs.Cells.{bucket_below, one_chain, chain_rest, place_after_more, chain_short, block_below}
 

@@ -1,4 +1,4 @@
-use Rattle.std.proofs.Common.{◌≡◌, refl, ap}
+use Rattle.std.proofs.Common.{refl, ap}
 use Rattle.txn_words.specs.Plainly.{PlainView}
 use Rattle.txn_alloc.proofs.Traces.{each_fresh}
 use Rattle.txn_hash_map.specs.declared.tests.TwoEntries.{TwoEntries}

@@ -2,7 +2,7 @@ use Rattle.std.proofs.Common.{◌≡◌, ◌+◌, ◌*◌, None, Some, arith, ap
 use Rattle.history_model.specs.Fitting.{SomeFits}
 use Rattle.history_model.proofs.TraceLaws.{begins_trans}
 use Rattle.history_model.proofs.FittingLaws.{some_at}
-use Rattle.txn_words.proofs.CallLaws.{each_plain, state_after}
+use Rattle.txn_words.proofs.CallLaws.{state_after}
 use Rattle.txn_alloc.specs.FreeLists.{block_at}
 use Rattle.txn_hash_map.specs.Chains.{IsHeld, Finds}
 use Rattle.txn_hash_map.specs.Searches.{IsLink}

@@ -3,6 +3,7 @@ use Rattle.history_model.specs.Fitting.{SomeFits}
 use Rattle.history_model.proofs.TraceLaws.{begins_trans}
 use Rattle.history_model.proofs.FittingLaws.{some_at}
 use Rattle.txn_words.proofs.CallLaws.{each_plain, leads_plain, state_after}
+use Rattle.txn_words.proofs.FrameLaws.{only_then}
 use Rattle.txn_alloc.specs.declared.put.Put.TheVariants.{New, Old, Full}
 use Rattle.txn_alloc.specs.FreeLists.{block_at, HasNone}
 use Rattle.txn_hash_map.specs.Chains.{IsInOrder, Inserts, LacksRoom}
@@ -262,3 +263,15 @@ returns-in-None-2-clause-reads g c =
     let missing = rw c.in-None.is at c.in_ok-found.ensures.missing in
     let then = c.in_ok-block-in-None.ensures in
     record { at = spares_none m c.args.key _ _ _ _ (each_plain g.W.Words g.W.Shape.Shape _ _ c.requires.order) missing _ then.goes_on.begins then.reads }
+
+pub returns-in-None-2-clause-full_frame : goal.returns-in-None-2-clause-full_frame
+returns-in-None-2-clause-full_frame g c =
+    let missing = rw c.in-None.is at c.in_ok-found.ensures.missing in
+    let still = rw c.in-None-2.is at c.in_ok-block-in-None.ensures.none_frame in
+    λ e. record { appended = only_then (λ a. ⊥) _ _ _ missing.writes still.appended }
+
+pub returns-in_ok-write-in-Some-clause-full_frame : goal.returns-in_ok-write-in-Some-clause-full_frame
+returns-in_ok-write-in-Some-clause-full_frame g c = λ e. absurd (cc)
+
+pub returns-in_ok-put_in_front-in-Some-2-clause-full_frame : goal.returns-in_ok-put_in_front-in-Some-2-clause-full_frame
+returns-in_ok-put_in_front-in-Some-2-clause-full_frame g c = λ e. absurd (cc)
