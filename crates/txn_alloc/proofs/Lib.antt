@@ -3,3 +3,4 @@ pub mod Lists
 pub mod Traces
 pub mod Looks
 pub mod Cells
+pub mod Zeros

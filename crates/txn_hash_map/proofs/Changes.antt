@@ -11,7 +11,7 @@ use Rattle.history_model.proofs.TraceLaws.{get_set_same, get_set_other}
 use Rattle.txn_alloc.specs.declared.arena.Arena.{Arena}
 use Rattle.txn_words.specs.Frames.{KeepsOthers}
 use Rattle.txn_alloc.specs.FreeLists.{block_at, IsHead, IsInBlock, TakesBlock}
-use Rattle.txn_alloc.proofs.Lists.{free_kept, free_below}
+use Rattle.txn_alloc.proofs.Lists.{free_kept, free_below, same_block}
 use Rattle.txn_alloc.proofs.Sets.{in_here, in_there, in_or, out_less, out_itself}
 use Rattle.txn_alloc.proofs.Cells.{value_first, value_later, has_first, has_later, has_middle, insert_same, insert_other}
 use Rattle.txn_hash_map.specs.declared.map.ChainMap.{ChainMap}
@@ -186,10 +186,6 @@ module _ (map : ChainMap) (s : List ℕ) (f : Entries) (u v : Blocks) (hold : Ma
       at : (m : Bool) → set.contains u b ≡ m → set.contains u b ≡ false
       at false e = e
       at true e = absurd (true≢false (sym free ∙ hold.apart b e))
-
--- words of two blocks are words of one
-pub same_block : (arena : Arena) (b d a : ℕ) → IsInBlock arena b a → IsInBlock arena d a → b ≡ d
-same_block arena b d a h k = omega (arith, h.low, h.high, k.low, k.high)
 
 -- a new key, in a block that was free
 pub left_new : (map : ChainMap) (key x b : ℕ) (s r t : List ℕ) (f : Entries) (u v : Blocks) → MapHolds map s f u v → IsMissing map key s

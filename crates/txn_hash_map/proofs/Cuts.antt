@@ -12,7 +12,7 @@ use Rattle.history_model.proofs.TraceLaws.{get_set_same, get_set_other}
 use Rattle.txn_words.specs.Frames.{KeepsOthers}
 use Rattle.txn_alloc.specs.declared.arena.Arena.{Arena}
 use Rattle.txn_alloc.specs.FreeLists.{block_at, IsHead, IsInBlock, IsHeadOrIn, Lacks, Gives}
-use Rattle.txn_alloc.proofs.Lists.{free_kept, free_below, one_set}
+use Rattle.txn_alloc.proofs.Lists.{free_kept, free_below, one_set, same_block}
 use Rattle.txn_alloc.proofs.Sets.{out_both, out_itself}
 use Rattle.txn_alloc.proofs.Cells.{value_past, value_first, value_later, value_less, has_first, has_later, has_middle, first_block, later_block, less_block, remove_same, remove_other}
 use Rattle.txn_hash_map.specs.declared.map.ChainMap.{ChainMap}
@@ -23,7 +23,7 @@ use Rattle.txn_hash_map.proofs.Cells.{bucket_below, one_chain, block_key, block_
 use Rattle.txn_hash_map.proofs.Steps.{found_key, found_value, found_names}
 use Rattle.txn_hash_map.proofs.Stands.{laid_alike, chains_stand}
 use Rattle.txn_hash_map.proofs.Fronts.{bucket_is}
-use Rattle.txn_hash_map.proofs.Changes.{same_block, found_used, found_below, used_below}
+use Rattle.txn_hash_map.proofs.Changes.{found_used, found_below, used_below}
 
 less_in : (u : Blocks) (b d : ℕ) → set.contains (set.remove u b) d ≡ true → set.contains u d ≡ true
 less_in u b d h = grind (members, rules)

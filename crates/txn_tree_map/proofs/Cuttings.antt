@@ -10,7 +10,7 @@ use Rattle.txn_alloc.specs.declared.arena.Arena.{Arena}
 use Rattle.txn_alloc.specs.FreeLists.{block_at, IsHead, IsInBlock, IsHeadOrIn, FreeListsHold, Lacks, Gives}
 use Rattle.txn_alloc.specs.EntryMaps.{Cell, Entries, Blocks, value_of, has_block, HoldsApart, RemovesOne}
 use Rattle.txn_alloc.proofs.Sets.{out_both, out_itself, contains-remove_other}
-use Rattle.txn_alloc.proofs.Lists.{free_kept, free_below, one_set}
+use Rattle.txn_alloc.proofs.Lists.{free_kept, free_below, one_set, same_block}
 use Rattle.txn_alloc.proofs.Cells.{value_less, less_block, has_not, has_times, times_in, times-append, one_in, one_here, remove_same, remove_other}
 use Rattle.txn_tree_map.specs.declared.map.TreeMap.{TreeMap}
 use Rattle.txn_tree_map.specs.Trees.{Tree, priority_of, name_of, rank_of, cells_of, IsAbove, IsRising, TreeHolds}
@@ -25,7 +25,6 @@ use Rattle.txn_tree_map.proofs.Descents.{around_node, found_value}
 use Rattle.txn_tree_map.proofs.Searching.{laid_alike}
 use Rattle.txn_tree_map.proofs.Hanging.{place_mine, times_around}
 use Rattle.txn_tree_map.proofs.Gets.{used_below}
-use Rattle.txn_tree_map.proofs.Puts.{one_block}
 use Rattle.txn_tree_map.proofs.Maps.{holds_at, tree_stands}
 use Rattle.txn_tree_map.proofs.Values.{found_below, found_used, found_low}
 
@@ -66,7 +65,7 @@ module _ (map : TreeMap) (key place b : ℕ) (s : List ℕ) (h : IsFoundAt map k
         | inl e ↦ at_outside map s h.path node h.is_at d (omega (arith, there, below_times d)) (subst (λ z. IsInBlock map.arena d z) (h.at ∙ e) mine)
         | inr q ↦
             let own : IsInBlock map.arena q.0 place = elim (q.2) [ inl e ↦ record { low = omega (arith, e, h.at); high = omega (arith, e, h.at) } | inr e ↦ record { low = omega (arith, e, h.at); high = omega (arith, e, h.at) } ] in
-            let same : q.0 ≡ d = one_block map.arena q.0 d place own mine in
+            let same : q.0 ≡ d = same_block map.arena q.0 d place own mine in
             let here : 1 ≤ count_on d h.path = subst (λ z. 1 ≤ count_on z h.path) same q.1 in
             omega (arith, there, below_times d, here, once d)
       ]
@@ -108,7 +107,7 @@ module _ (map : TreeMap) (key place b : ℕ) (s : List ℕ) (h : IsFoundAt map k
       | inl e ↦ ne (e ∙ h.at)
       | inr q ↦
           let own : IsInBlock map.arena q.0 a = elim (q.2) [ inl e ↦ record { low = omega (arith, e); high = omega (arith, e) } | inr e ↦ record { low = omega (arith, e); high = omega (arith, e) } ] in
-          let same : q.0 ≡ d = one_block map.arena q.0 d a own mine in
+          let same : q.0 ≡ d = same_block map.arena q.0 d a own mine in
           let there : 1 ≤ times_in d cells_below = subst (λ z. 1 ≤ times_in z cells_below) same (has_times q.0 cells_below q.1) in
           omega (arith, there, below_times d, k, once d)
     ])
@@ -209,7 +208,7 @@ module _ (map : TreeMap) (key place b value : ℕ) (s r : List ℕ) (f : Entries
       ]))
       (λ d a free mine. c.kept.same a (λ k. elim (written_used a k) [
         | inl e ↦ hold.map.laid.outside d (free_below map.arena s v d hold.free_lists free) (subst (λ z. IsInBlock map.arena d z) e mine)
-        | inr q ↦ let same : q.0 ≡ d = one_block map.arena q.0 d a q.2 mine in true≢false (sym free ∙ ap (λ z. set.contains v z) (sym same) ∙ hold.apart q.0 q.1)
+        | inr q ↦ let same : q.0 ≡ d = same_block map.arena q.0 d a q.2 mine in true≢false (sym free ∙ ap (λ z. set.contains v z) (sym same) ∙ hold.apart q.0 q.1)
       ]))
 
   pub cut_lacks : Lacks map.arena b r
@@ -229,7 +228,7 @@ module _ (map : TreeMap) (key place b value : ℕ) (s r : List ℕ) (f : Entries
               (others.same map.root (λ k. elim k [ inl head ↦ here.laid.no_head head | inr mine ↦ here.laid.outside b (found_below map key place b 0 s h) mine ]))
               (λ d e k mine. others.same e (λ m. elim m [
                 | inl head ↦ here.laid.arena.outside d e (used_below map r (entry_map.remove f key) (set.remove u b) d here k) mine head
-                | inr z ↦ true≢false (sym k ∙ ap (λ q. set.contains (set.remove u b) q) (one_block a d b e mine z) ∙ out_itself u b)
+                | inr z ↦ true≢false (sym k ∙ ap (λ q. set.contains (set.remove u b) q) (same_block a d b e mine z) ∙ out_itself u b)
               ]));
           free_lists = gives v cut_free;
           apart = λ d k. dite (ℕ_discrete d b)

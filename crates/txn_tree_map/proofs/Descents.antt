@@ -12,7 +12,7 @@ use Rattle.txn_tree_map.specs.Trees.Tree.{Leaf, Node}
 use Rattle.txn_tree_map.specs.Paths.{Step, Path, whole_of, before_of, after_of, IsHigh, IsBelow, IsAt}
 use Rattle.txn_tree_map.specs.Searches.{HasTop, IsNamed, IsPassed, IsFoundAt, IsMissing}
 use Rattle.txn_tree_map.proofs.Rising.{above_more, below_more, rising_below, rising_above, value_there, value_between}
-use Rattle.txn_tree_map.proofs.Places.{at_step, at_room, at_name, at_within, at_value}
+use Rattle.txn_tree_map.proofs.Places.{at_step, at_room, at_name, at_value}
 
 -- a tree whose name is 0, or that has no cells, is a leaf
 pub leaf_named : (tree : Tree) → name_of tree ≡ 0 → tree ≡ Leaf
@@ -127,9 +127,6 @@ module _ (map : TreeMap) (key floor : ℕ) (s : List ℕ) where
     head = (ap (λ q. slice_get s q) h.at ∙ at_name map s h.path h.rest h.is_at, h.is_at.spelled);
   }
 
-  pub passed_within : (p n : ℕ) → IsPassed map key floor p n s → p < length s
-  passed_within p n h = omega (arith, h.at, at_within map s h.path h.rest h.is_at)
-
   passed_leaf : (p n : ℕ) → (h : IsPassed map key floor p n s) → h.rest ≡ Leaf → IsMissing map key s
   passed_leaf p n h e = record { path = h.path; is_at = subst (λ t. IsAt map h.path t s) e h.is_at; low = h.low; high = h.high }
 
@@ -187,9 +184,6 @@ module _ (map : TreeMap) (key : ℕ) (s : List ℕ) where
   -- what a map that is held there says of the key
   pub missing_value : (f : Entries) (u : Blocks) → IsMissing map key s → TreeHolds map s f u → entry_map.get f key ≡ None
   missing_value f u h hold = at_value map s h.path Leaf h.is_at f u hold key ∙ value_between key (before_of h.path) (after_of h.path) h.low h.high
-
-  pub found_name : (p b : ℕ) → IsFoundAt map key p b s → slice_get s p ≡ Some (b + 1)
-  found_name p b h = ap (λ q. slice_get s q) h.at ∙ at_name map s h.path (Node h.left h.cell h.right) h.is_at ∙ ap (λ d. Some (d + 1)) h.is_block
 
   pub found_key : (p b : ℕ) → IsFoundAt map key p b s → slice_get s (block_at map.arena b) ≡ Some key
   found_key p b h = ap (λ d. slice_get s (block_at map.arena d)) (sym h.is_block) ∙ h.is_at.spelled.0.key ∙ ap (λ k. Some k) h.is_key

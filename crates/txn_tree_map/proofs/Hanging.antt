@@ -32,9 +32,9 @@ place_mine arena root (st ∷ path) =
     at true = inl refl
     at false = inr refl
 
-pub same_block : (arena : Arena) (b d a : ℕ) → IsInBlock arena b a → (a ≡ block_at arena d + 2) ⊎ (a ≡ block_at arena d + 3) → b ≡ d
-same_block arena b d a h (inl e) = omega (arith, h.low, h.high, e)
-same_block arena b d a h (inr e) = omega (arith, h.low, h.high, e)
+pub named_block : (arena : Arena) (b d a : ℕ) → IsInBlock arena b a → (a ≡ block_at arena d + 2) ⊎ (a ≡ block_at arena d + 3) → b ≡ d
+named_block arena b d a h (inl e) = omega (arith, h.low, h.high, e)
+named_block arena b d a h (inr e) = omega (arith, h.low, h.high, e)
 
 module _ (arena : Arena) (s : List ℕ) (root : ℕ) (path : Path) (x m : ℕ) (hung : IsHung arena s root path x) where
   abbrev pub hole : ℕ
@@ -48,7 +48,7 @@ module _ (arena : Arena) (s : List ℕ) (root : ℕ) (path : Path) (x m : ℕ) (
   hole_apart count once out b a k mine e = elim (place_mine arena root path) [
     | inl at ↦ out b k (subst (λ y. IsInBlock arena b y) (e ∙ at) mine)
     | inr d ↦
-        let same : b ≡ d.0 = same_block arena b d.0 a mine (elim (d.2) [ inl z ↦ inl (e ∙ z) | inr z ↦ inr (e ∙ z) ]) in
+        let same : b ≡ d.0 = named_block arena b d.0 a mine (elim (d.2) [ inl z ↦ inl (e ∙ z) | inr z ↦ inr (e ∙ z) ]) in
         let twice : count_on d.0 path + count d.0 ≤ 1 = once d.0 in
         let here : 1 ≤ count d.0 = subst (λ y. 1 ≤ count y) same k in
         let more : 1 ≤ count_on d.0 path = d.1 in

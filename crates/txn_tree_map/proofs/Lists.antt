@@ -1,7 +1,6 @@
 -- Word lists of tests.
 use Rattle.std.proofs.Common.{◌≡◌, ℕ, ◌<◌, ◌≤◌, List, [], ◌∷◌, length, slice_get, slice_set, Some, None, replicate, refl, sym, ap, ◌∙◌, subst, arith, rules}
-use Rattle.std.proofs.lemmas.List.{length-set, length-replicate, get_or-replicate}
-use Rattle.std.proofs.lemmas.Option.{slice_get-get_or}
+use Rattle.std.proofs.lemmas.List.{length-set, length-replicate}
 use Rattle.std.specs.List.{IsDistinct, sum_by}
 use Rattle.std.specs.Ordering.{nat_cmp}
 use Rattle.std.specs.FinSet.{members}
@@ -12,6 +11,7 @@ use mathlib.Core.Bool.{true≢false}
 use Rattle.history_model.specs.Fitting.{IsGood}
 use Rattle.history_model.proofs.TraceLaws.{get_set_same, get_set_other}
 use Rattle.txn_alloc.specs.declared.arena.Arena.{Arena}
+use Rattle.txn_alloc.proofs.Zeros.{zero_there}
 use Rattle.txn_alloc.specs.FreeLists.{IsLaidOut}
 use Rattle.txn_alloc.specs.EntryMaps.{Cell, Entries, value_of, has_block, HasMap, HasMapApart, HasSmallSum, SumsRange}
 use Rattle.txn_alloc.proofs.Sets.{out_empty}
@@ -29,13 +29,6 @@ small = record { root = 0; arena = record { heads = 1; first = 277; blocks = 2 }
 
 nothing : (k : ℕ) → entry_map.get (entry_map.empty {X = ℕ} {R = nat_cmp}) k ≡ None
 nothing k = grind (gets, rules)
-
--- each word of a list of zeros is 0
-zero_there : (n i : ℕ) (ws : List ℕ) → ws ≡ replicate n 0 → i < n → slice_get ws i ≡ Some 0
-zero_there n i ws e lt =
-    let nil : ℕ = 0 in
-    let zeros : List ℕ = replicate n nil in
-    ap (λ xs. slice_get xs i) e ∙ slice_get-get_or zeros i 0 (let long : length zeros ≡ n = length-replicate n nil in omega (arith, long, lt)) ∙ ap (λ k. Some k) (get_or-replicate n i nil nil lt)
 
 -- a list of zeros but for the two words that link the blocks is good
 pub linked : (n : ℕ) (ws : List ℕ) → n ≡ 285 → ws ≡ replicate n 0 → IsGood 285 (HasMapApart two (TreeHolds small)) (slice_set (slice_set ws 1 1) 277 2)

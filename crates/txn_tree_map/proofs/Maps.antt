@@ -12,7 +12,7 @@ use Rattle.txn_alloc.specs.declared.arena.Arena.{Arena}
 use Rattle.txn_alloc.specs.FreeLists.{IsHead, IsInBlock, TakesBlock}
 use Rattle.txn_alloc.specs.EntryMaps.{Cell, Entries, Blocks, value_of, has_block, HoldsApart, InsertsNew}
 use Rattle.txn_alloc.proofs.Sets.{in_here, out_itself, in_or, out_less, contains-insert_other}
-use Rattle.txn_alloc.proofs.Lists.{free_kept, free_below}
+use Rattle.txn_alloc.proofs.Lists.{free_kept, free_below, same_block}
 use Rattle.txn_alloc.proofs.Cells.{value_less, has_middle, less_block, insert_same, insert_other, times_has}
 use Rattle.txn_tree_map.specs.declared.map.TreeMap.{TreeMap}
 use Rattle.txn_tree_map.specs.Trees.{Tree, name_of, cells_of, IsRising, IsLaid, TreeHolds}
@@ -26,12 +26,6 @@ use Rattle.txn_tree_map.proofs.Places.{at_tree, at_value, at_used, at_below, at_
 use Rattle.txn_tree_map.proofs.Descents.{around_node, missing_value}
 use Rattle.txn_tree_map.proofs.Searching.{laid_alike}
 use Rattle.txn_tree_map.proofs.Gets.{used_below}
-use Rattle.txn_tree_map.proofs.Puts.{one_block}
-
-both : (a b : Bool) → (a ≡ true → b ≡ true) → (b ≡ true → a ≡ true) → a ≡ b
-both true b f g = sym (f refl)
-both false true f g = g refl
-both false false f g = refl
 
 -- in one word list the map is one
 pub one_map : (map : TreeMap) (s : List ℕ) (f g : Entries) (u w : Blocks) → TreeHolds map s f u → TreeHolds map s g w → (f ≡ g) × (u ≡ w)
@@ -148,7 +142,7 @@ inserted_new map key x b s r t f u v hold none taken kept put =
             (λ d c free mine. put.kept.same c (λ k. elim k [
               | inl e ↦ l.outside d (free_below a r (set.remove v b) d taken.left free) (subst (λ z. IsInBlock a d z) e mine)
               | inr m ↦
-                  let same : d ≡ m.0 = one_block a d m.0 c mine m.2 in
+                  let same : d ≡ m.0 = same_block a d m.0 c mine m.2 in
                   elim (m.1) [
                     | inl e ↦ true≢false (sym free ∙ ap (λ q. set.contains (set.remove v b) q) (same ∙ e) ∙ out_itself v b)
                     | inr z ↦ true≢false (sym free ∙ ap (λ q. set.contains (set.remove v b) q) same ∙ out_less v b m.0 (hold.apart m.0 (used m.0 z)))

@@ -19,7 +19,7 @@ use Rattle.txn_tree_map.proofs.Trees.{count_in, count_on, times_cells, cells_plu
 use Rattle.txn_tree_map.proofs.Places.{high_plug, high_lower, high_whole}
 use Rattle.txn_tree_map.proofs.Descents.{IsNode, node_named, leaf_named, leaf_short, step_down, low_down, high_down}
 use Rattle.txn_tree_map.proofs.Searching.{laid_alike, name_below}
-use Rattle.txn_tree_map.proofs.Hanging.{times_around, place_mine, same_block, hole_within, same_in, same_root, hung_here, hung_step, keeps_set, keeps_none}
+use Rattle.txn_tree_map.proofs.Hanging.{times_around, place_mine, named_block, hole_within, same_in, same_root, hung_here, hung_step, keeps_set, keeps_none}
 
 -- a word of the list has some value
 pub some_word : (s : List ℕ) (a : ℕ) → a < length s → slice_get s a ≡ Some (get_or s a 0)
@@ -34,7 +34,7 @@ module _ (map : TreeMap) (key block name : ℕ) (tree : Tree) (old : List ℕ) (
 
   -- no block of the tree has a word of the new block
   pub whole_out : (b a : ℕ) → (a ≡ block_at map.arena block + 2) ⊎ (a ≡ block_at map.arena block + 3) → 1 ≤ times_in b (cells_of tree) → ¬ IsInBlock map.arena b a
-  whole_out b a e k mine = whole_below b k (same_block map.arena b block a mine e)
+  whole_out b a e k mine = whole_below b k (named_block map.arena b block a mine e)
 
   -- nothing is parted yet
   pub parted_none : IsParted map key block name 0 (block_at map.arena block + 2) (block_at map.arena block + 3) name old old

@@ -5,10 +5,10 @@ use Rattle.std.proofs.lemmas.List.{length-set}
 use Rattle.std.specs.List.{AllByRecursion}
 use Rattle.history_model.proofs.TraceLaws.{get_set_same, get_set_other}
 use Rattle.txn_words.specs.Frames.{KeepsOthers}
-use Rattle.txn_alloc.specs.declared.arena.Arena.{Arena}
 use Rattle.txn_alloc.specs.FreeLists.{block_at, IsInBlock}
 use Rattle.txn_alloc.specs.EntryMaps.{Cell, has_block}
 use Rattle.txn_alloc.proofs.Cells.{times_in, times-append, times_has, has_times, has_not, all_append, all_first, all_last}
+use Rattle.txn_alloc.proofs.Lists.{same_block}
 use Rattle.txn_tree_map.specs.declared.map.TreeMap.{TreeMap}
 use Rattle.txn_tree_map.specs.Trees.{Tree, name_of, cells_of, HasNode, IsRising}
 use Rattle.txn_tree_map.specs.Trees.Tree.{Leaf, Node}
@@ -25,10 +25,6 @@ use Rattle.txn_tree_map.proofs.Hanging.{hung_here, place_mine, keeps_set, keeps_
 -- a word that names a subtree is in its block
 pub name_in : (map : TreeMap) (block : ℕ) (tree : Tree) (a : ℕ) (k : IsNameIn map block tree a) → IsInBlock map.arena k.owner a
 name_in map block tree a k = elim (k.place) [ inl e ↦ record { low = omega (arith, e); high = omega (arith, e) } | inr e ↦ record { low = omega (arith, e); high = omega (arith, e) } ]
-
--- words of two blocks are words of one
-pub one_block : (arena : Arena) (b d a : ℕ) → IsInBlock arena b a → IsInBlock arena d a → b ≡ d
-one_block arena b d a h k = omega (arith, h.low, h.high, k.low, k.high)
 
 module _ (map : TreeMap) (key value block place name : ℕ) (r : List ℕ) (can : CanPut map key block r) (seat : IsSeat map key place name r) where
   -- the cells that were there
@@ -69,7 +65,7 @@ module _ (map : TreeMap) (key value block place name : ℕ) (r : List ℕ) (can 
   root_other = written_other map.root (seat.is_at.laid.outside block can.below)
 
   block_other : (b a : ℕ) → 1 ≤ count_on b seat.path + count_in b seat.rest → IsInBlock map.arena b a → slice_get with_value a ≡ slice_get r a
-  block_other b a k mine = written_other a (λ m. seat_apart b k (one_block map.arena b block a mine m))
+  block_other b a k mine = written_other a (λ m. seat_apart b k (same_block map.arena b block a mine m))
 
   abbrev other : Cell → Type 0
   other c = c.key ≢ key
@@ -144,7 +140,7 @@ module _ (map : TreeMap) (key value block place name : ℕ) (r : List ℕ) (can 
     -- what the split did not write
     path_kept : (b a : ℕ) → 1 ≤ count_on b seat.path → IsInBlock map.arena b a → slice_get u a ≡ slice_get with_value a
     path_kept b a k mine = kept.same a (λ n.
-        let same : b ≡ n.owner = one_block map.arena b n.owner a mine (name_in map block seat.rest a n) in
+        let same : b ≡ n.owner = same_block map.arena b n.owner a mine (name_in map block seat.rest a n) in
         elim (n.mine) [
           | inl e ↦ seat_apart b (omega (arith, k)) (same ∙ e)
           | inr m ↦
@@ -197,7 +193,7 @@ module _ (map : TreeMap) (key value block place name : ℕ) (r : List ℕ) (can 
           (subst (λ y. IsInBlock map.arena b y) (e ∙ at) mine)
       | inr d ↦
           let there : IsInBlock map.arena d.0 a = elim (d.2) [ inl y ↦ record { low = omega (arith, e, y); high = omega (arith, e, y) } | inr y ↦ record { low = omega (arith, e, y); high = omega (arith, e, y) } ] in
-          let same : d.0 ≡ b = one_block map.arena d.0 b a there mine in
+          let same : d.0 ≡ b = same_block map.arena d.0 b a there mine in
           elim k [
             | inl z ↦ seat_apart d.0 (omega (arith, d.1)) (same ∙ z)
             | inr z ↦

@@ -27,13 +27,6 @@ module _ (map : TreeMap) (n : ℕ) (G : List ℕ → Type 0) (t : Trace) (some :
       let k : block_at map.arena b + 4 ≤ length s = l.arena.blocks b lt in
       (omega (arith, long, k), omega (arith, long, l.arena.places))
 
-  pub there_within : (p m : ℕ) → InEach n G t (λ s. slice_get s p ≡ Some m) → p < n
-  there_within p m each =
-      let s : List ℕ = after t some.0 in
-      let long : length s ≡ n = length-after t some.0 ∙ some.1.count in
-      let within : p < length s = slice_get_within s p m (each.at some.0 some.1) in
-      omega (arith, long, within)
-
   pub top_within : (p : ℕ) → InEach n G t (HasTop map p) → p < n
   top_within p top =
       let s : List ℕ = after t some.0 in

@@ -9,7 +9,7 @@ use Rattle.std.specs.FinMap as entry_map
 use Rattle.history_model.proofs.TraceLaws.{get_set_same, get_set_other}
 use Rattle.txn_alloc.specs.FreeLists.{block_at, IsInBlock}
 use Rattle.txn_alloc.specs.EntryMaps.{Cell, Entries, Blocks, value_of, has_block, HoldsApart, InsertsOld}
-use Rattle.txn_alloc.proofs.Lists.{free_kept}
+use Rattle.txn_alloc.proofs.Lists.{free_kept, same_block}
 use Rattle.txn_alloc.proofs.Cells.{all_append, value_less, has_middle, less_block, insert_same, insert_other, one_in, one_here}
 use Rattle.txn_tree_map.specs.declared.map.TreeMap.{TreeMap}
 use Rattle.txn_tree_map.specs.Trees.{cells_of, IsRising, TreeHolds}
@@ -21,7 +21,6 @@ use Rattle.txn_tree_map.proofs.Trees.{count_in, count_on, spelled_stays, hung_st
 use Rattle.txn_tree_map.proofs.Places.{at_once, at_below, at_value, at_used}
 use Rattle.txn_tree_map.proofs.Descents.{NodeOrder, node_order, around_node, found_value}
 use Rattle.txn_tree_map.proofs.Searching.{laid_alike}
-use Rattle.txn_tree_map.proofs.Puts.{one_block}
 use Rattle.txn_tree_map.proofs.Maps.{holds_at}
 
 module _ (map : TreeMap) (key p b x : ℕ) (s : List ℕ) (h : IsFoundAt map key p b s) where
@@ -56,7 +55,7 @@ module _ (map : TreeMap) (key p b x : ℕ) (s : List ℕ) (h : IsFoundAt map key
   value_in a out = get_set_other s (block_at map.arena b + 1) a x (λ e. out (record { low = omega (arith, e); high = omega (arith, e) }))
 
   other_block : (d a : ℕ) → d ≢ b → IsInBlock map.arena d a → slice_get with_value a ≡ slice_get s a
-  other_block d a ne mine = value_in a (λ m. ne (one_block map.arena d b a mine m))
+  other_block d a ne mine = value_in a (λ m. ne (same_block map.arena d b a mine m))
 
   -- other blocks of the tree are other blocks
   apart : (d : ℕ) → 1 ≤ count_on d h.path + count_in d h.left + count_in d h.right → d ≢ b
