@@ -1,3 +1,6 @@
 pub mod Sets
 pub mod Lists
 pub mod Traces
+pub mod Looks
+pub mod Cells
+pub mod Zeros

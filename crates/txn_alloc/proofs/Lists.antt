@@ -47,6 +47,10 @@ one_list arena s p q (b ∷ bs) (c ∷ cs) e h k =
 pub one_set : (arena : Arena) (s : List ℕ) (f g : Blocks) → FreeListsHold arena s f → FreeListsHold arena s g → f ≡ g
 one_set arena s f g h k = h.all ∙ ap (λ bs. blocks_of bs) (one_list arena s arena.heads arena.heads h.order k.order refl h.first k.first) ∙ sym k.all
 
+-- words of two blocks are words of one
+pub same_block : (arena : Arena) (b d a : ℕ) → IsInBlock arena b a → IsInBlock arena d a → b ≡ d
+same_block arena b d a h k = omega (arith, h.low, h.high, k.low, k.high)
+
 -- a list with as many words is laid out alike
 pub laid_kept : (arena : Arena) (s t : List ℕ) → length t ≡ length s → IsLaidOut arena s → IsLaidOut arena t
 laid_kept arena s t e l = record {

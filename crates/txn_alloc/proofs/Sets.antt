@@ -33,6 +33,13 @@ out_itself free b = grind (members, rules)
 pub out_empty : (b : ℕ) → set.contains (set.empty {R = nat_cmp}) b ≡ false
 out_empty b = grind (members, rules)
 
+-- of the other blocks nothing changes
+pub contains-insert_other : (free : Blocks) (b c : ℕ) → c ≢ b → set.contains (set.insert free b) c ≡ set.contains free c
+contains-insert_other free b c n = grind (members, rules)
+
+pub contains-remove_other : (free : Blocks) (b c : ℕ) → c ≢ b → set.contains (set.remove free b) c ≡ set.contains free c
+contains-remove_other free b c n = grind (members, rules)
+
 -- a block that comes and goes
 pub remove-insert : (free : Blocks) (b : ℕ) → set.contains free b ≡ false → set.remove (set.insert free b) b ≡ free
 remove-insert free b out = set.same_set nat_cmp_total nat_cmp-IsAntisymmetric _ _ (λ q. grind (members, rules))

@@ -1,2 +1,4 @@
 pub mod FreeLists
 pub mod Statements
+pub mod EntryMaps
+pub mod Looks

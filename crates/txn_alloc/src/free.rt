@@ -32,6 +32,9 @@ pub fn take<W: Words>(w: &mut W, arena: &Arena) -> Result<Option<Block>, Stop>
     // No word but the heads is written, so every other stays.
     ensures frame { OnOk result (WritesOnly W.Words w.old w.new (IsHead arena.now)) }
     ensures others { OnOk result (LeadsTo W.Words W.Shape.Shape w.old w.new (KeepsOthers (IsHead arena.now))) }
+
+    // Where it answers None, none is.
+    ensures none_frame { IfOk result (λ block. IfNone block (WritesOnly W.Words w.old w.new (λ a. ⊥))) }
     // It reads heads and first words of blocks alone.
     ensures reads { OnOk result (AppendsReads (W.trace w.old) (W.trace w.new) (IsHeadOrFirst arena.now)) }
     ensures goes_on { GoesOn W.Words w.old w.new result }

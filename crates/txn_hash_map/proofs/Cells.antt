@@ -9,6 +9,7 @@ use Rattle.std.proofs.lemmas.Map.Keys.{IsDistinct-cons}
 use Rattle.std.proofs.lemmas.Map.Steps.{length-le_from_distinct_below}
 use Rattle.txn_alloc.specs.declared.arena.Arena.{Arena}
 use Rattle.txn_alloc.specs.FreeLists.{block_at}
+use Rattle.txn_alloc.proofs.Cells.{value_first, value_later}
 use Rattle.txn_hash_map.specs.declared.map.TheConstants.{BUCKETS, MULTIPLIER}
 use Rattle.txn_hash_map.specs.Chains.{Cell, HasChain, HasKeysOnce, HasKeysIn, value_of, has_block, bucket_of}
 use Rattle.txn_hash_map.specs.Searches.{place_after}
@@ -46,17 +47,6 @@ chain_rest arena s p (c ∷ front) rest h = chain_rest arena s (block_at arena c
 pub place_after_more : (arena : Arena) (p : ℕ) (front : List Cell) (c : Cell) → place_after arena p (front ++ c ∷ []) ≡ block_at arena c.block + 2
 place_after_more arena p [] c = refl
 place_after_more arena p (d ∷ front) c = place_after_more arena (block_at arena d.block + 2) front c
-
--- what cells say of a key that the first do not have
-pub value_past : (key : ℕ) (front rest : List Cell) → value_of key front ≡ None → value_of key (front ++ rest) ≡ value_of key rest
-value_past key [] rest h = refl
-value_past key (c ∷ front) rest h = grind (rules, value_past key front rest)
-
-pub value_first : (key : ℕ) (c : Cell) (cs : List Cell) → c.key ≡ key → value_of key (c ∷ cs) ≡ Some c.value
-value_first key c cs e = grind (rules)
-
-pub value_later : (key : ℕ) (c : Cell) (cs : List Cell) → c.key ≢ key → value_of key (c ∷ cs) ≡ value_of key cs
-value_later key c cs e = grind (rules)
 
 -- the first word of a block of a chain is a key that its cells have
 pub block_key : (arena : Arena) (s : List ℕ) (p b k : ℕ) (cs : List Cell) → HasChain arena s p cs → has_block b cs ≡ true → slice_get s (block_at arena b) ≡ Some k → value_of k cs ≢ None

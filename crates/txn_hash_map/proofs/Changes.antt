@@ -7,27 +7,20 @@ use Rattle.std.proofs.lemmas.List.{length-set}
 use Rattle.std.proofs.lemmas.Option.{same_Some}
 use Rattle.std.specs.FinSet as set
 use Rattle.std.specs.FinMap as entry_map
-use Rattle.std.specs.FinMap.{gets}
 use Rattle.history_model.proofs.TraceLaws.{get_set_same, get_set_other}
 use Rattle.txn_alloc.specs.declared.arena.Arena.{Arena}
 use Rattle.txn_words.specs.Frames.{KeepsOthers}
 use Rattle.txn_alloc.specs.FreeLists.{block_at, IsHead, IsInBlock, TakesBlock}
-use Rattle.txn_alloc.proofs.Lists.{free_kept, free_below}
+use Rattle.txn_alloc.proofs.Lists.{free_kept, free_below, same_block}
 use Rattle.txn_alloc.proofs.Sets.{in_here, in_there, in_or, out_less, out_itself}
+use Rattle.txn_alloc.proofs.Cells.{value_first, value_later, has_first, has_later, has_middle, insert_same, insert_other}
 use Rattle.txn_hash_map.specs.declared.map.ChainMap.{ChainMap}
 use Rattle.txn_hash_map.specs.declared.map.TheConstants.{BUCKETS}
 use Rattle.txn_hash_map.specs.Chains.{Cell, HasChain, HasKeysOnce, HasKeysIn, value_of, has_block, bucket_of, IsLaid, IsBucket, ChainsHold, MapHolds, Entries, Blocks, InsertsNew}
 use Rattle.txn_hash_map.specs.Searches.{IsFoundAt, IsMissing, IsPutInFront}
-use Rattle.txn_hash_map.proofs.Cells.{bucket_below, one_chain, value_first, value_later, block_key, block_below}
+use Rattle.txn_hash_map.proofs.Cells.{bucket_below, one_chain, block_key, block_below}
 use Rattle.txn_hash_map.proofs.Steps.{found_key, missing_value}
-use Rattle.txn_hash_map.proofs.Stands.{has_first, has_later, chain_kept, laid_alike, chains_stand}
-
--- an entry more
-pub insert_same : (f : Entries) (key x : ℕ) → entry_map.get (entry_map.insert f key x) key ≡ Some x
-insert_same f key x = grind (gets, rules)
-
-pub insert_other : (f : Entries) (key x k : ℕ) → k ≢ key → entry_map.get (entry_map.insert f key x) k ≡ entry_map.get f k
-insert_other f key x k ne = grind (gets, rules)
+use Rattle.txn_hash_map.proofs.Stands.{chain_kept, laid_alike, chains_stand}
 
 -- the value of a cell in block c, where block b has x
 pub if_block : ℕ → ℕ → ℕ → ℕ → ℕ
@@ -102,30 +95,26 @@ revalued_same arena s p b x key (c ∷ cs) h once e m =
     let not_none : value_of key cs ≢ None = block_key arena s (block_at arena c.block + 2) b key cs h.4 there e in
     value_later key d (revalued b x cs) (λ k. not_none (ap (λ j. value_of j cs) (sym k) ∙ once.0)) ∙ revalued_same arena s (block_at arena c.block + 2) b x key cs h.4 once.1 e there)
 
-pub has_middle : (b : ℕ) (front rest : List Cell) (c : Cell) → c.block ≡ b → has_block b (front ++ c ∷ rest) ≡ true
-has_middle b [] rest c e = ap (λ d. has_block d (c ∷ rest)) (sym e) ∙ has_first c rest
-has_middle b (d ∷ front) rest c e = has_later b d (front ++ c ∷ rest) (has_middle b front rest c e)
-
 module _ (map : ChainMap) (key : ℕ) (s : List ℕ) (f : Entries) (u v : Blocks) (hold : MapHolds map s f u v) where
   -- the block where the key was found is in the chain of its bucket
-  pub found_block : (p b : ℕ) → IsFoundAt map key p b s → has_block b (hold.chains.cells (bucket_of key)) ≡ true
+  pub found_block : (p b : ℕ) → IsFoundAt map key p b s → has_block b (hold.map.cells (bucket_of key)) ≡ true
   found_block p b m =
       let i : ℕ = bucket_of key in
-      ap (λ cs. has_block b cs) (one_chain map.arena s (map.buckets + i) (map.buckets + i) (hold.chains.cells i) (m.front ++ m.cell ∷ m.rest) refl (hold.chains.chain i (bucket_below key)) m.chain)
+      ap (λ cs. has_block b cs) (one_chain map.arena s (map.buckets + i) (map.buckets + i) (hold.map.cells i) (m.front ++ m.cell ∷ m.rest) refl (hold.map.chain i (bucket_below key)) m.chain)
       ∙ has_middle b m.front m.rest m.cell m.is_block
 
   pub found_used : (p b : ℕ) → IsFoundAt map key p b s → set.contains u b ≡ true
-  found_used p b m = hold.chains.in_used b (bucket_of key) (bucket_below key) (found_block p b m)
+  found_used p b m = hold.map.in_used b (bucket_of key) (bucket_below key) (found_block p b m)
 
   pub found_below : (p b : ℕ) → IsFoundAt map key p b s → b < map.arena.blocks
-  found_below p b m = let i : ℕ = bucket_of key in block_below map.arena s (map.buckets + i) b (hold.chains.cells i) (hold.chains.chain i (bucket_below key)) (found_block p b m)
+  found_below p b m = let i : ℕ = bucket_of key in block_below map.arena s (map.buckets + i) b (hold.map.cells i) (hold.map.chain i (bucket_below key)) (found_block p b m)
 
   -- the value is another
   pub inserted_old : (p b x : ℕ) → IsFoundAt map key p b s → MapHolds map (slice_set s (block_at map.arena b + 1) x) (entry_map.insert f key x) u v
   inserted_old p b x m =
       let a : Arena = map.arena in
       let t : List ℕ = slice_set s (block_at a b + 1) x in
-      let h : ChainsHold map s f u = hold.chains in
+      let h : ChainsHold map s f u = hold.map in
       let below : b < a.blocks = found_below p b m in
       let long : length t ≡ length s = length-set s (block_at a b + 1) x in
       let in_list : block_at a b + 4 ≤ length s = h.laid.arena.blocks b below in
@@ -133,7 +122,7 @@ module _ (map : ChainMap) (key : ℕ) (s : List ℕ) (f : Entries) (u v : Blocks
       let is_key : slice_get s (block_at a b) ≡ Some key = found_key map key s p b m in
       let mine : IsInBlock a b (block_at a b + 1) = record { low = omega arith; high = omega arith } in
       record {
-        chains = record {
+        map = record {
           laid = laid_alike map s t long h.laid;
           cells = λ i. revalued b x (h.cells i);
           chain = λ i lt. revalued_chain a s b x within (map.buckets + i) (h.cells i)
@@ -188,8 +177,8 @@ hung_or d j i c cells = hung_all (λ l cs. has_block d cs ≡ true → (d ≡ c.
 module _ (map : ChainMap) (s : List ℕ) (f : Entries) (u v : Blocks) (hold : MapHolds map s f u v) where
   pub used_below : (d : ℕ) → set.contains u d ≡ true → d < map.arena.blocks
   used_below d m =
-      let q = hold.chains.used_in d m in
-      block_below map.arena s (map.buckets + q.0) d (hold.chains.cells q.0) (hold.chains.chain q.0 q.1) q.2
+      let q = hold.map.used_in d m in
+      block_below map.arena s (map.buckets + q.0) d (hold.map.cells q.0) (hold.map.chain q.0 q.1) q.2
 
   pub free_unused : (b : ℕ) → set.contains v b ≡ true → set.contains u b ≡ false
   free_unused b free = at (set.contains u b) refl
@@ -198,10 +187,6 @@ module _ (map : ChainMap) (s : List ℕ) (f : Entries) (u v : Blocks) (hold : Ma
       at false e = e
       at true e = absurd (true≢false (sym free ∙ hold.apart b e))
 
--- words of two blocks are words of one
-pub same_block : (arena : Arena) (b d a : ℕ) → IsInBlock arena b a → IsInBlock arena d a → b ≡ d
-same_block arena b d a h k = omega (arith, h.low, h.high, k.low, k.high)
-
 -- a new key, in a block that was free
 pub left_new : (map : ChainMap) (key x b : ℕ) (s r t : List ℕ) (f : Entries) (u v : Blocks) → MapHolds map s f u v → IsMissing map key s
     → TakesBlock map.arena b s r v → KeepsOthers (IsHead map.arena) s r → IsPutInFront map key x b r t
@@ -209,9 +194,9 @@ pub left_new : (map : ChainMap) (key x b : ℕ) (s r t : List ℕ) (f : Entries)
 left_new map key x b s r t f u v hold missing taken kept put =
     let a : Arena = map.arena in
     let j : ℕ = bucket_of key in
-    let l : IsLaid map s = hold.chains.laid in
-    let h : ChainsHold map r f u = chains_stand map s r f u hold.chains kept.count (λ c k. kept.same c (l.no_head c k)) (λ d c m k. kept.same c (l.arena.outside d c (used_below map s f u v hold d m) k)) in
-    let absent : entry_map.get f key ≡ None = missing_value map key s f u v missing hold in
+    let l : IsLaid map s = hold.map.laid in
+    let h : ChainsHold map r f u = chains_stand map s r f u hold.map kept.count (λ c k. kept.same c (l.no_head c k)) (λ d c m k. kept.same c (l.arena.outside d c (used_below map s f u v hold d m) k)) in
+    let absent : entry_map.get f key ≡ None = missing_value map key s f u missing hold.map in
     let below : b < a.blocks = free_below a s v b hold.free_lists taken.was_free in
     let unused : set.contains u b ≡ false = free_unused map s f u v hold b taken.was_free in
     let c : Cell = record { block = b; key = key; value = x } in
@@ -221,7 +206,7 @@ left_new map key x b s r t f u v hold missing taken kept put =
     put.others e (λ w. l.outside d e (used_below map s f u v hold d m) k (subst (λ q. IsBucket map q) (sym w) here))
     (λ mine. true≢false (sym m ∙ ap (λ q. set.contains u q) (same_block a d b e k mine) ∙ unused)) in
     record {
-      chains = record {
+      map = record {
         laid = laid_alike map r t put.count h.laid;
         cells = hung j c h.cells;
         chain = λ i lt. hung_all (λ k cs. HasChain a t (map.buckets + k) cs) j c h.cells
@@ -259,7 +244,7 @@ left_new map key x b s r t f u v hold missing taken kept put =
 pub inserted_new : (map : ChainMap) (key x b : ℕ) (s r t : List ℕ) (f : Entries) (u v : Blocks) → MapHolds map s f u v → IsMissing map key s
     → TakesBlock map.arena b s r v → KeepsOthers (IsHead map.arena) s r → IsPutInFront map key x b r t → InsertsNew map key x t f u v
 inserted_new map key x b s r t f u v hold missing taken kept put = record {
-  absent = missing_value map key s f u v missing hold;
+  absent = missing_value map key s f u missing hold.map;
   block = b;
   was_free = taken.was_free;
   left = left_new map key x b s r t f u v hold missing taken kept put;

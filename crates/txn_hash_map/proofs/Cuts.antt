@@ -8,28 +8,22 @@ use Rattle.std.proofs.lemmas.Option.{same_Some, slice_get_within}
 use Rattle.std.specs.FinSet.{members}
 use Rattle.std.specs.FinSet as set
 use Rattle.std.specs.FinMap as entry_map
-use Rattle.std.specs.FinMap.{gets}
 use Rattle.history_model.proofs.TraceLaws.{get_set_same, get_set_other}
 use Rattle.txn_words.specs.Frames.{KeepsOthers}
 use Rattle.txn_alloc.specs.declared.arena.Arena.{Arena}
 use Rattle.txn_alloc.specs.FreeLists.{block_at, IsHead, IsInBlock, IsHeadOrIn, Lacks, Gives}
-use Rattle.txn_alloc.proofs.Lists.{free_kept, free_below, one_set}
+use Rattle.txn_alloc.proofs.Lists.{free_kept, free_below, one_set, same_block}
 use Rattle.txn_alloc.proofs.Sets.{out_both, out_itself}
+use Rattle.txn_alloc.proofs.Cells.{value_past, value_first, value_later, value_less, has_first, has_later, has_middle, first_block, later_block, less_block, remove_same, remove_other}
 use Rattle.txn_hash_map.specs.declared.map.ChainMap.{ChainMap}
 use Rattle.txn_hash_map.specs.declared.map.TheConstants.{BUCKETS}
 use Rattle.txn_hash_map.specs.Chains.{Cell, HasChain, HasKeysOnce, HasKeysIn, value_of, has_block, bucket_of, IsLaid, IsBucket, ChainsHold, MapHolds, Entries, Blocks, RemovesOne}
 use Rattle.txn_hash_map.specs.Searches.{place_after, IsFoundAt}
-use Rattle.txn_hash_map.proofs.Cells.{bucket_below, one_chain, value_past, value_first, value_later, block_key, block_once, key_own}
+use Rattle.txn_hash_map.proofs.Cells.{bucket_below, one_chain, block_key, block_once, key_own}
 use Rattle.txn_hash_map.proofs.Steps.{found_key, found_value, found_names}
-use Rattle.txn_hash_map.proofs.Stands.{has_first, has_later, laid_alike, chains_stand}
+use Rattle.txn_hash_map.proofs.Stands.{laid_alike, chains_stand}
 use Rattle.txn_hash_map.proofs.Fronts.{bucket_is}
-use Rattle.txn_hash_map.proofs.Changes.{has_middle, same_block, found_used, found_below, used_below}
-
-remove_same : (f : Entries) (key : ℕ) → entry_map.get (entry_map.remove f key) key ≡ None
-remove_same f key = grind (gets, rules)
-
-remove_other : (f : Entries) (key k : ℕ) → k ≢ key → entry_map.get (entry_map.remove f key) k ≡ entry_map.get f k
-remove_other f key k ne = grind (gets, rules)
+use Rattle.txn_hash_map.proofs.Changes.{found_used, found_below, used_below}
 
 less_in : (u : Blocks) (b d : ℕ) → set.contains (set.remove u b) d ≡ true → set.contains u d ≡ true
 less_in u b d h = grind (members, rules)
@@ -58,24 +52,6 @@ less_once (d ∷ front) rest c h = (less_none d.key front rest c h.0, less_once 
 once_rest : (front rest : List Cell) (c : Cell) → HasKeysOnce (front ++ c ∷ rest) → value_of c.key rest ≡ None
 once_rest [] rest c h = h.0
 once_rest (d ∷ front) rest c h = once_rest front rest c h.1
-
-less_value : (k : ℕ) (front rest : List Cell) (c : Cell) → c.key ≢ k → value_of k (front ++ rest) ≡ value_of k (front ++ c ∷ rest)
-less_value k [] rest c ne = sym (value_later k c rest ne)
-less_value k (d ∷ front) rest c ne = dite (ℕ_discrete d.key k)
-    (λ e. value_first k d (front ++ rest) e ∙ sym (value_first k d (front ++ c ∷ rest) e))
-    (λ e. value_later k d (front ++ rest) e ∙ less_value k front rest c ne ∙ sym (value_later k d (front ++ c ∷ rest) e))
-
-later_block : (d : ℕ) (c : Cell) (cs : List Cell) → c.block ≢ d → has_block d (c ∷ cs) ≡ has_block d cs
-later_block d c cs ne = grind rules
-
-first_block : (d : ℕ) (c : Cell) (cs : List Cell) → c.block ≡ d → has_block d (c ∷ cs) ≡ true
-first_block d c cs e = grind rules
-
-less_block : (d : ℕ) (front rest : List Cell) (c : Cell) → c.block ≢ d → has_block d (front ++ rest) ≡ has_block d (front ++ c ∷ rest)
-less_block d [] rest c ne = sym (later_block d c rest ne)
-less_block d (e ∷ front) rest c ne = dite (ℕ_discrete e.block d)
-    (λ k. first_block d e (front ++ rest) k ∙ sym (first_block d e (front ++ c ∷ rest) k))
-    (λ k. later_block d e (front ++ rest) k ∙ less_block d front rest c ne ∙ sym (later_block d e (front ++ c ∷ rest) k))
 
 -- the cells of each bucket, with others in bucket j
 swapped : ℕ → List Cell → (ℕ → List Cell) → ℕ → List Cell
@@ -148,16 +124,16 @@ module _ (map : ChainMap) (key : ℕ) (s : List ℕ) (f : Entries) (u v : Blocks
   pub place_used : IsBucket map p ⊎ ((e : ℕ) × (set.contains u e ≡ true) × (p ≡ block_at map.arena e + 2))
   place_used =
       let j : ℕ = bucket_of key in
-      let same : hold.chains.cells j ≡ m.front ++ m.cell ∷ m.rest = one_chain map.arena s (map.buckets + j) (map.buckets + j) (hold.chains.cells j) (m.front ++ m.cell ∷ m.rest) refl (hold.chains.chain j (bucket_below key)) m.chain in
+      let same : hold.map.cells j ≡ m.front ++ m.cell ∷ m.rest = one_chain map.arena s (map.buckets + j) (map.buckets + j) (hold.map.cells j) (m.front ++ m.cell ∷ m.rest) refl (hold.map.chain j (bucket_below key)) m.chain in
       elim (place_kind map.arena s (map.buckets + j) m.front (m.cell ∷ m.rest) m.chain) [
         | inl e ↦ inl (bucket_is map key p (m.at ∙ e))
-        | inr k ↦ inr (k.0, hold.chains.in_used k.0 j (bucket_below key) (ap (λ cs. has_block k.0 cs) same ∙ k.1), m.at ∙ k.2)
+        | inr k ↦ inr (k.0, hold.map.in_used k.0 j (bucket_below key) (ap (λ cs. has_block k.0 cs) same ∙ k.1), m.at ∙ k.2)
       ]
 
   -- and so no word of a block but such a third one, and no head
   place_apart : (d a : ℕ) → d < map.arena.blocks → IsInBlock map.arena d a → (set.contains u d ≡ true → a ≢ block_at map.arena d + 2) → a ≢ p
   place_apart d a lt k out e = elim place_used [
-    | inl w ↦ hold.chains.laid.outside d a lt k (subst (λ q. IsBucket map q) (sym e) w)
+    | inl w ↦ hold.map.laid.outside d a lt k (subst (λ q. IsBucket map q) (sym e) w)
     | inr w ↦
         let same : w.0 ≡ d = omega (arith, k.low, k.high, e, w.2) in
         out (ap (λ q. set.contains u q) (sym same) ∙ w.1) (e ∙ w.2 ∙ ap (λ q. block_at map.arena q + 2) same)
@@ -165,8 +141,8 @@ module _ (map : ChainMap) (key : ℕ) (s : List ℕ) (f : Entries) (u v : Blocks
 
   place_no_head : ¬ IsHead map.arena p
   place_no_head head = elim place_used [
-    | inl w ↦ hold.chains.laid.no_head p w head
-    | inr w ↦ hold.chains.laid.arena.outside w.0 p (used_below map s f u v hold w.0 w.1) (record { low = omega (arith, w.2); high = omega (arith, w.2) }) head
+    | inl w ↦ hold.map.laid.no_head p w head
+    | inr w ↦ hold.map.laid.arena.outside w.0 p (used_below map s f u v hold w.0 w.1) (record { low = omega (arith, w.2); high = omega (arith, w.2) }) head
   ]
 
   -- the cell is out, and its block neither used nor free
@@ -176,7 +152,7 @@ module _ (map : ChainMap) (key : ℕ) (s : List ℕ) (f : Entries) (u v : Blocks
       let j : ℕ = bucket_of key in
       let jt : j < BUCKETS = bucket_below key in
       let t : List ℕ = slice_set s p x in
-      let h : ChainsHold map s f u = hold.chains in
+      let h : ChainsHold map s f u = hold.map in
       let long : length t ≡ length s = length-set s p x in
       let names : slice_get s p ≡ Some (b + 1) = found_names map key s p b m in
       let is_key : slice_get s (block_at a b) ≡ Some key = found_key map key s p b m in
@@ -199,7 +175,7 @@ module _ (map : ChainMap) (key : ℕ) (s : List ℕ) (f : Entries) (u v : Blocks
       let is_j : j ≡ i = key_own i key (swapped j ds h.cells i) (own i lt) has in
       has (ap (λ q. value_of key (swapped j ds h.cells q)) (sym is_j) ∙ ap (λ cs. value_of key cs) (swapped_here j ds h.cells) ∙ gone) in
       record {
-        chains = record {
+        map = record {
           laid = laid_alike map s t long h.laid;
           cells = swapped j ds h.cells;
           chain = chain;
@@ -210,7 +186,7 @@ module _ (map : ChainMap) (key : ℕ) (s : List ℕ) (f : Entries) (u v : Blocks
               (remove_same f key ∙ sym (ap (λ cs. value_of key cs) (swapped_here j ds h.cells) ∙ gone)))
               (λ e. remove_other f key k e ∙ h.entries_are k
               ∙ sym (swapped_all (λ i cs. value_of k cs ≡ value_of k (h.cells i)) j ds h.cells
-              (less_value k m.front m.rest m.cell (λ w. e (sym w ∙ m.is_key)) ∙ ap (λ cs. value_of k cs) (sym same)) (bucket_of k) (λ ne. refl)));
+              (value_less k m.front m.rest m.cell (λ w. e (sym w ∙ m.is_key)) ∙ ap (λ cs. value_of k cs) (sym same)) (bucket_of k) (λ ne. refl)));
           used_in = λ d k.
               let q = h.used_in d (less_in u b d k) in
               let other : m.cell.block ≢ d = λ w. less_other u b d k (sym w ∙ m.is_block) in (
@@ -246,15 +222,15 @@ module _ (map : ChainMap) (key : ℕ) (s : List ℕ) (f : Entries) (u v : Blocks
   removed x y t next value gives kept =
       let r : List ℕ = slice_set s p x in
       let k : MapHolds map r (entry_map.remove f key) (set.remove u b) v = cut x next in
-      let l : IsLaid map r = k.chains.laid in
+      let l : IsLaid map r = k.map.laid in
       let used : set.contains u b ≡ true = found_used map key s f u v hold p b m in
       let below : b < map.arena.blocks = found_below map key s f u v hold p b m in
       record {
-        present = found_value map key s f u v p b y m value hold;
+        present = found_value map key s f u p b y m value hold.map;
         block = b;
         was_used = used;
         left = record {
-          chains = chains_stand map r t (entry_map.remove f key) (set.remove u b) k.chains kept.count
+          map = chains_stand map r t (entry_map.remove f key) (set.remove u b) k.map kept.count
               (λ c w. kept.same c (λ o. elim o [ inl head ↦ l.no_head c w head | inr mine ↦ l.outside b c below mine w ]))
               (λ d c w q. kept.same c (λ o. elim o [
                 | inl head ↦ l.arena.outside d c (used_below map s f u v hold d (less_in u b d w)) q head

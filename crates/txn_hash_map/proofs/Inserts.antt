@@ -3,15 +3,11 @@ use Rattle.std.proofs.Common.{◌≡◌, ℕ, ◌+◌, inl, inr, List, slice_get
 use mathlib.Core.Bool.{true≢false}
 use Rattle.std.specs.FinSet as set
 use Rattle.std.specs.FinMap as entry_map
-use Rattle.history_model.specs.declared.shape.Shape.{Ghosts as Shapes}
 use Rattle.history_model.specs.Traces.{Trace, after, Begins}
 use Rattle.history_model.specs.Fitting.{Fits, SomeFits, InEach, Leads}
-use Rattle.history_model.proofs.FittingLaws.{fits_begins, leads_at, each_at}
-use Rattle.txn_words.specs.declared.words.Words.{Ghosts as AnyWords}
-use Rattle.txn_words.specs.Calls.{InEachState, LeadsTo}
+use Rattle.history_model.proofs.FittingLaws.{fits_begins}
 use Rattle.txn_words.specs.Steps.{EndsWithWrite}
 use Rattle.txn_words.specs.Frames.{KeepsOthers, AppendsOnly}
-use Rattle.txn_words.proofs.CallLaws.{leads_plain}
 use Rattle.txn_words.proofs.Steps.{after_write_end, fits_write_end}
 use Rattle.txn_words.proofs.FrameLaws.{only_more, only_then, only_write}
 use Rattle.txn_alloc.specs.declared.put.Put.{Put}
@@ -19,22 +15,15 @@ use Rattle.txn_alloc.specs.declared.put.Put.TheVariants.{New, Old, Full}
 use Rattle.txn_alloc.specs.FreeLists.{block_at, IsHead, IsInBlock, HasNone, TakesBlock, Takes}
 use Rattle.txn_alloc.proofs.Lists.{one_set}
 use Rattle.txn_alloc.proofs.Sets.{in_here, out_empty}
+use Rattle.txn_alloc.proofs.Looks.{leads_back}
 use Rattle.txn_hash_map.specs.declared.map.ChainMap.{ChainMap}
 use Rattle.txn_hash_map.specs.Chains.{IsInOrder, MapHolds, Inserts, LacksRoom, IsOwn, IsValue, Uses, IsLaid}
-use Rattle.txn_hash_map.specs.Searches.{IsFoundAt, IsMissing, IsLink, Looks, IsPutInFront, IsBucketOrIn}
+use Rattle.txn_alloc.specs.Looks.{Looks}
+use Rattle.txn_hash_map.specs.Searches.{IsFoundAt, IsMissing, IsLink, IsPutInFront, IsBucketOrIn}
 use Rattle.txn_hash_map.proofs.Steps.{missing_value, found_key}
 use Rattle.txn_hash_map.proofs.Looks.{IsLinkOr, finds_some}
 use Rattle.txn_hash_map.proofs.Stands.{laid_alike}
 use Rattle.txn_hash_map.proofs.Changes.{inserted_old, inserted_new, left_new, found_used}
-
--- a later call's relation, said at the shape that the first began with
-pub leads_from : {W S O : Type 0} (words : AnyWords W S O) (shapes : Shapes S) (u v w : W) (R : List ℕ → List ℕ → Type 0) → words.shape v ≡ words.shape u → LeadsTo words shapes v w R
-    → Leads (shapes.word_count (words.shape u)) (shapes.good (words.shape u)) (words.trace v) (words.trace w) R
-leads_from words shapes u v w R e h = leads_at shapes.word_count shapes.good (words.trace v) (words.trace w) R (words.shape v) (words.shape u) e (leads_plain words shapes v w R h)
-
-pub each_from : {W S O : Type 0} (words : AnyWords W S O) (shapes : Shapes S) (u v : W) (P : List ℕ → Type 0) → words.shape v ≡ words.shape u
-    → InEach (shapes.word_count (words.shape u)) (shapes.good (words.shape u)) (words.trace v) P → InEachState words shapes v P
-each_from words shapes u v P e h = record { at = (each_at shapes.word_count shapes.good (words.trace v) P (words.shape u) (words.shape v) (sym e) h).at }
 
 -- what an insert leaves is in order
 pub order_inserted : (map : ChainMap) (key x : ℕ) (put : Put) (s t : List ℕ) → IsInOrder map s → Inserts map key x put s t → IsInOrder map t
@@ -46,10 +35,6 @@ order_inserted map key x Full s t o h = subst (λ z. IsInOrder map z) (sym h) o
 
 module _ (map : ChainMap) (key x n : ℕ) (G : List ℕ → Type 0) (t u : Trace) where
   module _ {IsSeen : ℕ → Type 0} {P : List ℕ → Type 0} (l : Looks n G t u IsSeen P) where
-    -- the state is what it was as the search began
-    pub leads_back : (v : Trace) (R : List ℕ → List ℕ → Type 0) → Begins u v → Leads n G u v R → Leads n G t v R
-    leads_back v R b h = record { at = λ s fit. subst (λ z. R z (after v s)) (l.same s (fits_begins n G u v s b fit)) (h.at s fit) }
-
     pub order_looks : InEach n G t (IsInOrder map) → InEach n G u (IsInOrder map)
     order_looks o = record { at = λ s fit. subst (λ z. IsInOrder map z) (sym (l.same s fit)) (o.at s (fits_begins n G t u s l.begins fit)) }
 
@@ -61,8 +46,8 @@ module _ (map : ChainMap) (key x n : ℕ) (G : List ℕ → Type 0) (t u : Trace
           let fit_v : Fits n G v s = fits_begins n G v w s bw fit in
           let fit_u : Fits n G u s = fits_begins n G u v s bv fit_v in
           let missing : IsMissing map key (after t s) = subst (λ z. IsMissing map key z) (l.same s fit_u) (l.holds s fit_u) in
-          let taken : TakesBlock map.arena b (after t s) (after v s) free = (leads_back l v (Takes map.arena (Some b)) bv takes).at s fit_v free hold.free_lists in
-          let kept : KeepsOthers (IsHead map.arena) (after t s) (after v s) = (leads_back l v (KeepsOthers (IsHead map.arena)) bv keeps).at s fit_v in
+          let taken : TakesBlock map.arena b (after t s) (after v s) free = (leads_back n G t u l v (Takes map.arena (Some b)) bv takes).at s fit_v free hold.free_lists in
+          let kept : KeepsOthers (IsHead map.arena) (after t s) (after v s) = (leads_back n G t u l v (KeepsOthers (IsHead map.arena)) bv keeps).at s fit_v in
           inserted_new map key x b (after t s) (after v s) (after w s) f used free hold missing taken kept (puts.at s fit);
     }
 
@@ -74,11 +59,11 @@ module _ (map : ChainMap) (key x n : ℕ) (G : List ℕ → Type 0) (t u : Trace
         let fit_u : Fits n G u s = fits_begins n G u v s bv fit_v in
         let o : IsInOrder map (after t s) = order.at s (fits_begins n G t u s l.begins fit_u) in
         let missing : IsMissing map key (after t s) = subst (λ z. IsMissing map key z) (l.same s fit_u) (l.holds s fit_u) in
-        let taken : TakesBlock map.arena b (after t s) (after v s) o.free = (leads_back l v (Takes map.arena (Some b)) bv takes).at s fit_v o.free o.holds.free_lists in
-        let kept : KeepsOthers (IsHead map.arena) (after t s) (after v s) = (leads_back l v (KeepsOthers (IsHead map.arena)) bv keeps).at s fit_v in (
+        let taken : TakesBlock map.arena b (after t s) (after v s) o.free = (leads_back n G t u l v (Takes map.arena (Some b)) bv takes).at s fit_v o.free o.holds.free_lists in
+        let kept : KeepsOthers (IsHead map.arena) (after t s) (after v s) = (leads_back n G t u l v (KeepsOthers (IsHead map.arena)) bv keeps).at s fit_v in (
           entry_map.insert o.entries key x,
           set.insert o.used b,
-          (left_new map key x b (after t s) (after v s) (after w s) o.entries o.used o.free o.holds missing taken kept (puts.at s fit)).chains,
+          (left_new map key x b (after t s) (after v s) (after w s) o.entries o.used o.free o.holds missing taken kept (puts.at s fit)).map,
           in_here o.used b,
         )
 
@@ -100,7 +85,7 @@ module _ (map : ChainMap) (key x n : ℕ) (G : List ℕ → Type 0) (t u : Trace
     -- the map lies as before
     pub laid_taken : (v : Trace) → Begins u v → InEach n G t (IsInOrder map) → Leads n G u v (KeepsOthers (IsHead map.arena)) → InEach n G v (IsLaid map)
     laid_taken v bv order keeps = record {
-      at = λ s fit. laid_alike map (after u s) (after v s) ((keeps.at s fit).count) (((order_looks l order).at s (fits_begins n G u v s bv fit)).holds.chains.laid);
+      at = λ s fit. laid_alike map (after u s) (after v s) ((keeps.at s fit).count) (((order_looks l order).at s (fits_begins n G u v s bv fit)).holds.map.laid);
     }
 
     pub lacks_room : (v : Trace) → Begins u v → Leads n G u v (λ before after. HasNone map.arena before) → Leads n G t v (λ before after. LacksRoom map key before)
@@ -108,8 +93,8 @@ module _ (map : ChainMap) (key x n : ℕ) (G : List ℕ → Type 0) (t u : Trace
       at = λ s fit f used free hold.
           let fit_u : Fits n G u s = fits_begins n G u v s bv fit in
           let missing : IsMissing map key (after t s) = subst (λ z. IsMissing map key z) (l.same s fit_u) (l.holds s fit_u) in (
-            missing_value map key (after t s) f used free missing hold,
-            one_set map.arena (after t s) free set.empty hold.free_lists ((leads_back l v (λ before after. HasNone map.arena before) bv none).at s fit),
+            missing_value map key (after t s) f used missing hold.map,
+            one_set map.arena (after t s) free set.empty hold.free_lists ((leads_back n G t u l v (λ before after. HasNone map.arena before) bv none).at s fit),
           );
     }
 
@@ -122,7 +107,7 @@ module _ (map : ChainMap) (key x n : ℕ) (G : List ℕ → Type 0) (t u : Trace
         let at : IsFoundAt map key p b (after t s) = subst (λ z. IsFoundAt map key p b z) (l.same s fit_u) ((l.holds s fit_u).0) in
         let last : after v s ≡ slice_set (after t s) (block_at map.arena b + 1) x = after_write_end u v q x s e ∙ ap (λ z. slice_set z q x) (l.same s fit_u) ∙ ap (λ z. slice_set (after t s) z x) is_value in
         record {
-          present = sym (((finds_some map key n G t u p b q was is_value l).at s fit_u).found f used free hold);
+          present = sym (((finds_some map key n G t u p b q was is_value l).at s fit_u).found f used hold.map);
           left = subst (λ z. MapHolds map z (entry_map.insert f key x) used free) (sym last) (inserted_old map key (after t s) f used free hold p b x at);
         };
   }
@@ -134,7 +119,7 @@ module _ (map : ChainMap) (key x n : ℕ) (G : List ℕ → Type 0) (t u : Trace
       let own : ℕ → Type 0 = IsOwn map (after t s) (after v s) in
       let o : IsInOrder map (after t s) = order.at s (fits_begins n G t u s l.begins fit_u) in
       let at : IsFoundAt map key p b (after t s) = subst (λ z. IsFoundAt map key p b z) (l.same s fit_u) ((l.holds s fit_u).0) in
-      let uses : Uses map (after t s) b = (o.entries, o.used, o.holds.chains, found_used map key (after t s) o.entries o.used o.free o.holds p b at) in
+      let uses : Uses map (after t s) b = (o.entries, o.used, o.holds.map, found_used map key (after t s) o.entries o.used o.free o.holds p b at) in
       let mine : IsInBlock map.arena b q = record { low = omega (arith, is_value); high = omega (arith, is_value) } in
       only_then own t u v (only_more (λ a. ⊥) own t u (λ a k. absurd k) l.writes) (only_write own u v q x e (inr (inr (b, inl uses, mine))))
 
@@ -146,7 +131,7 @@ module _ (map : ChainMap) (key x n : ℕ) (G : List ℕ → Type 0) (t u : Trace
       let own : ℕ → Type 0 = IsValue map key (after t s) (after v s) in
       let o : IsInOrder map (after t s) = order.at s (fits_begins n G t u s l.begins fit_u) in
       let at : IsFoundAt map key p b (after t s) = subst (λ z. IsFoundAt map key p b z) (l.same s fit_u) ((l.holds s fit_u).0) in
-      let uses : Uses map (after t s) b = (o.entries, o.used, o.holds.chains, found_used map key (after t s) o.entries o.used o.free o.holds p b at) in
+      let uses : Uses map (after t s) b = (o.entries, o.used, o.holds.map, found_used map key (after t s) o.entries o.used o.free o.holds p b at) in
       only_then own t u v (only_more (λ a. ⊥) own t u (λ a k. absurd k) l.writes) (only_write own u v q x e (b, uses, found_key map key (after t s) p b at, is_value))
 
 -- where there was room, not every state had none

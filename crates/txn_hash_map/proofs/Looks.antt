@@ -1,52 +1,21 @@
 -- What a call that only reads learns, of every fitting state at once.
 use Rattle.std.proofs.Common.{◌≡◌, ℕ, ◌+◌, ◌^◌, ◌<◌, ◌≤◌, ◌⊎◌, List, [], ◌∷◌, ◌++◌, length, slice_get, Some, None, inl, inr, refl, sym, ap, ◌∙◌, subst, arith}
-use Rattle.history_model.specs.declared.shape.Shape.{Ghosts as Shapes}
 use Rattle.history_model.specs.declared.event.Event.TheVariants.{Read}
 use Rattle.history_model.specs.Traces.{Trace, after}
 use Rattle.history_model.specs.Fitting.{Fits, SomeFits, InEach, Leads}
-use Rattle.history_model.proofs.TraceLaws.{read_there, after_read, length-after, begins_refl, begins_trans}
-use Rattle.history_model.proofs.FittingLaws.{fits_front, fits_begins, each_at}
-use Rattle.txn_words.specs.declared.words.Words.{Ghosts as AnyWords}
-use Rattle.txn_words.specs.Calls.{InEachState, LeadsTo, WritesOnly}
+use Rattle.history_model.proofs.TraceLaws.{length-after}
+use Rattle.history_model.proofs.FittingLaws.{fits_begins}
 use Rattle.txn_words.specs.Frames.{AppendsReads}
-use Rattle.txn_words.proofs.FrameLaws.{only_same, only_read, only_then}
-use Rattle.txn_words.proofs.ReadLaws.{sees_same, sees_read, sees_then, sees_more}
+use Rattle.txn_words.proofs.ReadLaws.{sees_more}
 use Rattle.txn_alloc.specs.FreeLists.{block_at}
+use Rattle.txn_alloc.specs.Looks.{Looks}
+use Rattle.txn_alloc.proofs.Looks.{looks_map, looks_read}
 use Rattle.txn_hash_map.specs.declared.map.ChainMap.{ChainMap}
-use Rattle.txn_hash_map.specs.Chains.{IsInOrder, IsLaid, Finds, MayRead}
-use Rattle.txn_hash_map.specs.Searches.{IsPassed, IsLink, IsFoundAt, IsMissing, Looks}
+use Rattle.txn_hash_map.specs.Chains.{IsLaid, Finds, MayRead}
+use Rattle.txn_hash_map.specs.Searches.{IsPassed, IsLink, IsFoundAt, IsMissing}
 use Rattle.txn_hash_map.proofs.Steps.{passed_within, passed_names, missing_value, found_value, found_key, link_spares, value_spares}
 
 module _ (n : ℕ) (G : List ℕ → Type 0) (t : Trace) (IsSeen : ℕ → Type 0) where
-  pub looks_none : (P : List ℕ → Type 0) → InEach n G t P → Looks n G t t IsSeen P
-  looks_none P h = record {
-    begins = begins_refl t;
-    same = λ s fit. refl;
-    writes = only_same (λ a. ⊥) t;
-    reads = sees_same IsSeen t;
-    holds = h.at;
-  }
-
-  -- one read more
-  pub looks_read : (u v : Trace) (a x : ℕ) (P : List ℕ → Type 0) → Looks n G t u IsSeen P → v ≡ u ++ Read a x ∷ [] → IsSeen a
-      → Looks n G t v IsSeen (λ s. P s × (slice_get s a ≡ Some x))
-  looks_read u v a x P l e seen =
-      let front : (s : List ℕ) → Fits n G v s → Fits n G u s = λ s fit. fits_front n G u (Read a x ∷ []) s (subst (λ w. Fits n G w s) e fit) in
-      let same : (s : List ℕ) → after v s ≡ after u s = λ s. ap (λ w. after w s) e ∙ after_read u s a x in
-      record {
-        begins = begins_trans t u v l.begins (Read a x ∷ [], e);
-        same = λ s fit. same s ∙ l.same s (front s fit);
-        writes = only_then (λ b. ⊥) t u v l.writes (only_read (λ b. ⊥) u v a x e);
-        reads = sees_then IsSeen t u v l.reads (sees_read IsSeen u v a x e seen);
-        holds = λ s fit. (
-          subst P (sym (same s)) (l.holds s (front s fit)),
-          ap (λ z. slice_get z a) (same s) ∙ read_there u s a x ((subst (λ w. Fits n G w s) e fit).legal),
-        );
-      }
-
-  pub looks_map : (u : Trace) (P Q : List ℕ → Type 0) → ((s : List ℕ) → P s → Q s) → Looks n G t u IsSeen P → Looks n G t u IsSeen Q
-  looks_map u P Q step l = record { begins = l.begins; same = l.same; writes = l.writes; reads = l.reads; holds = λ s fit. step (after u s) (l.holds s fit) }
-
   -- what some state says, said of the number of words
   module _ (map : ChainMap) (key : ℕ) where
     pub looks_within : (u : Trace) (p k : ℕ) → Looks n G t u IsSeen (IsPassed map key p k) → SomeFits n G u → p < n
@@ -65,8 +34,8 @@ module _ (n : ℕ) (G : List ℕ → Type 0) (t : Trace) (IsSeen : ℕ → Type 
       → IsSeen p → IsSeen a → h ≡ b + 1 → a ≡ block_at map.arena b
       → Looks n G t w IsSeen (λ s. IsPassed map key p k s × (slice_get s p ≡ Some (b + 1)) × (slice_get s (block_at map.arena b) ≡ Some x))
   looks_key map key u v w p k h b a x l e f seen_p seen_a is_name is_block =
-      looks_map w _ _ (λ s q. (q.0.0, q.0.1 ∙ ap (λ z. Some z) is_name, ap (λ z. slice_get s z) (sym is_block) ∙ q.1))
-      (looks_read v w a x (λ s. IsPassed map key p k s × (slice_get s p ≡ Some h)) (looks_read u v p h (IsPassed map key p k) l e seen_p) f seen_a)
+      looks_map n G t IsSeen w _ _ (λ s q. (q.0.0, q.0.1 ∙ ap (λ z. Some z) is_name, ap (λ z. slice_get s z) (sym is_block) ∙ q.1))
+      (looks_read n G t IsSeen v w a x (λ s. IsPassed map key p k s × (slice_get s p ≡ Some h)) (looks_read n G t IsSeen u v p h (IsPassed map key p k) l e seen_p) f seen_a)
 
 -- the arena's blocks are words
 pub laid_block : (map : ChainMap) (n : ℕ) (G : List ℕ → Type 0) (u : Trace) (b : ℕ) → ((s : List ℕ) → Fits n G u s → IsLaid map (after u s)) → SomeFits n G u → b < map.arena.blocks
@@ -88,7 +57,7 @@ module _ (map : ChainMap) (key n : ℕ) (G : List ℕ → Type 0) (t u : Trace) 
   finds_none l = record {
     at = λ s fit. record {
       same = l.same s fit;
-      found = λ f used free h. sym (missing_value map key (after t s) f used free (subst (λ z. IsMissing map key z) (l.same s fit) (l.holds s fit)) h);
+      found = λ f used h. sym (missing_value map key (after t s) f used (subst (λ z. IsMissing map key z) (l.same s fit) (l.holds s fit)) h);
     };
   }
 
@@ -107,34 +76,23 @@ module _ (map : ChainMap) (key n : ℕ) (G : List ℕ → Type 0) (t u : Trace) 
         ap (λ z. slice_get (after t s) z) (sym is_value) ∙ ap (λ z. slice_get z q) (sym (l.same s fit)) ∙ (l.holds s fit).1 in
         record {
           same = l.same s fit;
-          found = λ f used free h. sym (found_value map key (after t s) f used free p b x at there h);
+          found = λ f used h. sym (found_value map key (after t s) f used p b x at there h);
         };
   }
 
   -- neither was another key's value
-  pub spares_link : {P : List ℕ → Type 0} → Looks n G t u (IsLink map) P → InEach n G t (IsInOrder map)
+  pub spares_link : {P : List ℕ → Type 0} → Looks n G t u (IsLink map) P → InEach n G t (IsLaid map)
       → (s : List ℕ) → Fits n G u s → AppendsReads t u (MayRead map key (after t s) (after u s))
   spares_link l order s fit =
-      sees_more (IsLink map) (MayRead map key (after t s) (after u s)) t u (λ a k. link_spares map key (after t s) a ((order.at s (fits_begins n G t u s l.begins fit)).holds.chains.laid) k) l.reads
+      sees_more (IsLink map) (MayRead map key (after t s) (after u s)) t u (λ a k. link_spares map key (after t s) a (order.at s (fits_begins n G t u s l.begins fit)) k) l.reads
 
-  pub spares_value : (p b q x : ℕ) → q ≡ block_at map.arena b + 1 → Looks n G t u (IsLinkOr map q) (λ s. IsFoundAt map key p b s × (slice_get s q ≡ Some x)) → InEach n G t (IsInOrder map)
+  pub spares_value : (p b q x : ℕ) → q ≡ block_at map.arena b + 1 → Looks n G t u (IsLinkOr map q) (λ s. IsFoundAt map key p b s × (slice_get s q ≡ Some x)) → InEach n G t (IsLaid map)
       → (s : List ℕ) → Fits n G u s → AppendsReads t u (MayRead map key (after t s) (after u s))
   spares_value p b q x is_value l order s fit =
       let at : IsFoundAt map key p b (after t s) = subst (λ z. IsFoundAt map key p b z) (l.same s fit) ((l.holds s fit).0) in
       let own = found_key map key (after t s) p b at in
       let step : (a : ℕ) → IsLinkOr map q a → MayRead map key (after t s) (after u s) a = λ a k. elim k [
-        | inl m ↦ link_spares map key (after t s) a ((order.at s (fits_begins n G t u s l.begins fit)).holds.chains.laid) m
+        | inl m ↦ link_spares map key (after t s) a (order.at s (fits_begins n G t u s l.begins fit)) m
         | inr e ↦ value_spares map key (after t s) a b own (e ∙ is_value)
       ] in
       sees_more (IsLinkOr map q) (MayRead map key (after t s) (after u s)) t u step l.reads
-
-module _ {W S O : Type 0} (words : AnyWords W S O) (shapes : Shapes S) (v w : W) (IsSeen : ℕ → Type 0) (P : List ℕ → Type 0)
-    (l : Looks (shapes.word_count (words.shape v)) (shapes.good (words.shape v)) (words.trace v) (words.trace w) IsSeen P) where
-  pub looks_each : words.shape w ≡ words.shape v → InEachState words shapes w P
-  looks_each e = record { at = (each_at shapes.word_count shapes.good (words.trace w) P (words.shape v) (words.shape w) (sym e) (record { at = l.holds })).at }
-
-  pub looks_same : LeadsTo words shapes v w (λ x y. y ≡ x)
-  looks_same = record { at = l.same }
-
-  pub looks_only : WritesOnly words v w (λ a. ⊥)
-  looks_only = record { appended = l.writes }

@@ -15,7 +15,8 @@ use Rattle.txn_alloc.specs.FreeLists.{block_at, IsHead, IsInBlock, IsHeadOrIn, F
 use Rattle.txn_alloc.specs.FreeLists as lists
 use Rattle.txn_hash_map.specs.declared.map.ChainMap.{ChainMap}
 use Rattle.txn_hash_map.specs.Chains.{IsInOrder, Removes, IsOwn, Uses}
-use Rattle.txn_hash_map.specs.Searches.{IsFoundAt, Looks}
+use Rattle.txn_alloc.specs.Looks.{Looks}
+use Rattle.txn_hash_map.specs.Searches.{IsFoundAt}
 use Rattle.txn_hash_map.proofs.Steps.{found_names, order_found}
 use Rattle.txn_hash_map.proofs.Looks.{IsLinkOr}
 use Rattle.txn_hash_map.proofs.Changes.{found_used}
@@ -86,7 +87,7 @@ module _ (map : ChainMap) (key n : ℕ) (G : List ℕ → Type 0) (t u : Trace) 
         let own : ℕ → Type 0 = IsOwn map (after t s) (after w s) in
         let o : IsInOrder map (after t s) = order_start s fit_v in
         let at : IsFoundAt map key p b (after t s) = (at_start s fit_v).0.0 in
-        let uses : (d : ℕ) → set.contains o.used d ≡ true → Uses map (after t s) d = λ d k. (o.entries, o.used, o.holds.chains, k) in
+        let uses : (d : ℕ) → set.contains o.used d ≡ true → Uses map (after t s) d = λ d k. (o.entries, o.used, o.holds.map, k) in
         let used : set.contains o.used b ≡ true = found_used map key (after t s) o.entries o.used o.free o.holds p b at in
         let mine : own p = elim (place_used map key (after t s) o.entries o.used o.free o.holds p b at) [
           | inl k ↦ inr (inl k)

@@ -12,21 +12,22 @@ use Rattle.txn_words.proofs.ReadLaws.{sees_more, sees_then, sees_write}
 use Rattle.txn_alloc.specs.FreeLists.{block_at, IsHeadOrFirst, TakesBlock, Takes}
 use Rattle.txn_hash_map.specs.declared.map.ChainMap.{ChainMap}
 use Rattle.txn_hash_map.specs.Chains.{IsInOrder, MapHolds, Entries, Blocks, MayRead}
-use Rattle.txn_hash_map.specs.Searches.{IsFoundAt, IsMissing, IsLink, Looks, IsBucketOrIn}
+use Rattle.txn_alloc.specs.Looks.{Looks}
+use Rattle.txn_hash_map.specs.Searches.{IsFoundAt, IsMissing, IsLink, IsBucketOrIn}
 use Rattle.txn_hash_map.proofs.Steps.{found_key, uses_below, link_spares, name_spares, value_spares}
 use Rattle.txn_hash_map.proofs.Looks.{IsLinkOr, spares_link, spares_value}
 use Rattle.txn_hash_map.proofs.OneMap.{one_map}
-use Rattle.txn_hash_map.proofs.Inserts.{leads_back}
+use Rattle.txn_alloc.proofs.Looks.{leads_back}
 use Rattle.txn_hash_map.proofs.Cuts.{place_used}
 use Rattle.txn_hash_map.proofs.Removals.{IsRead}
 
 -- a bucket's word, or a word of a block that was free, is no value
 front_spares : (map : ChainMap) (key : ℕ) (s t : List ℕ) (a b : ℕ) (f : Entries) (u v : Blocks) → MapHolds map s f u v → set.contains v b ≡ true → IsBucketOrIn map b a → MayRead map key s t a
 front_spares map key s t a b f u v hold free (inl k) o =
-    hold.chains.laid.outside o.block a (uses_below map key s o.block o.used) (record { low = omega (arith, o.place); high = omega (arith, o.place) }) k
+    hold.map.laid.outside o.block a (uses_below map key s o.block o.used) (record { low = omega (arith, o.place); high = omega (arith, o.place) }) k
 front_spares map key s t a b f u v hold free (inr k) o =
     let same : o.block ≡ b = omega (arith, o.place, k.low, k.high) in
-    let one : u ≡ o.used.1 = (one_map map s f (o.used.0) u (o.used.1) hold.chains (o.used.2)).1 in
+    let one : u ≡ o.used.1 = (one_map map s f (o.used.0) u (o.used.1) hold.map (o.used.2)).1 in
     let used : set.contains u b ≡ true = ap (λ z. set.contains z b) one ∙ ap (λ d. set.contains (o.used.1) d) (sym same) ∙ o.used.3 in
     true≢false (sym free ∙ hold.apart b used)
 
@@ -38,8 +39,8 @@ module _ (map : ChainMap) (key n : ℕ) (G : List ℕ → Type 0) (t u : Trace) 
         let fit_u : Fits n G u s = fits_begins n G u v s bv fit in
         let o : IsInOrder map (after t s) = order.at s (fits_begins n G t u s l.begins fit_u) in
         let may : ℕ → Type 0 = MayRead map key (after t s) (after v s) in
-        sees_then may t u v (spares_link map key n G t u l order s fit_u)
-        (sees_more (IsHeadOrFirst map.arena) may u v (λ a k. name_spares map key (after t s) a o.holds.chains.laid k) names)
+        sees_then may t u v (spares_link map key n G t u l (record { at = λ r fits. (order.at r fits).holds.map.laid }) s fit_u)
+        (sees_more (IsHeadOrFirst map.arena) may u v (λ a k. name_spares map key (after t s) a o.holds.map.laid k) names)
 
     -- a block was taken, and put in front of its chain
     pub spares_new : (v w : Trace) (b : ℕ) → Begins u v → Begins v w → Leads n G u v (Takes map.arena (Some b)) → AppendsReads u v (IsHeadOrFirst map.arena) → AppendsReads v w (IsBucketOrIn map b)
@@ -48,7 +49,7 @@ module _ (map : ChainMap) (key n : ℕ) (G : List ℕ → Type 0) (t u : Trace) 
         let fit_v : Fits n G v s = fits_begins n G v w s bw fit in
         let fit_u : Fits n G u s = fits_begins n G u v s bv fit_v in
         let o : IsInOrder map (after t s) = order.at s (fits_begins n G t u s l.begins fit_u) in
-        let taken : TakesBlock map.arena b (after t s) (after v s) o.free = (leads_back map key 0 n G t u l v (Takes map.arena (Some b)) bv takes).at s fit_v o.free o.holds.free_lists in
+        let taken : TakesBlock map.arena b (after t s) (after v s) o.free = (leads_back n G t u l v (Takes map.arena (Some b)) bv takes).at s fit_v o.free o.holds.free_lists in
         let may : ℕ → Type 0 = MayRead map key (after t s) (after w s) in
         let step : (a : ℕ) → IsBucketOrIn map b a → may a = λ a k. front_spares map key (after t s) (after w s) a b o.entries o.used o.free o.holds taken.was_free k in
         sees_then may t v w (spares_none v bv names s fit_v) (sees_more (IsBucketOrIn map b) may v w step front)
@@ -60,7 +61,7 @@ module _ (map : ChainMap) (key n : ℕ) (G : List ℕ → Type 0) (t u : Trace) 
       let fit_u : Fits n G u s = fits_write_end n G u v q x s e fit in
       let at : IsFoundAt map key p b (after t s) = subst (λ z. IsFoundAt map key p b z) (l.same s fit_u) ((l.holds s fit_u).0) in
       let may : ℕ → Type 0 = MayRead map key (after t s) (after v s) in
-      sees_then may t u v (spares_value map key n G t u p b q was is_value l order s fit_u)
+      sees_then may t u v (spares_value map key n G t u p b q was is_value l (record { at = λ r fits. (order.at r fits).holds.map.laid }) s fit_u)
       (sees_write may u v q x e (value_spares map key (after t s) q b (found_key map key (after t s) p b at) is_value))
 
   -- the key was taken out, and its block given back
@@ -73,13 +74,13 @@ module _ (map : ChainMap) (key n : ℕ) (G : List ℕ → Type 0) (t u : Trace) 
       let at : IsFoundAt map key p b (after t s) = subst (λ z. IsFoundAt map key p b z) (l.same s fit_u) ((l.holds s fit_u).0.0) in
       let may : ℕ → Type 0 = MayRead map key (after t s) (after w s) in
       let step : (a : ℕ) → IsLinkOr map q a → may a = λ a k. elim k [
-        | inl m ↦ link_spares map key (after t s) a o.holds.chains.laid m
+        | inl m ↦ link_spares map key (after t s) a o.holds.map.laid m
         | inr m ↦ value_spares map key (after t s) a b (found_key map key (after t s) p b at) (m ∙ is_value)
       ] in
       let mine : may p = elim (place_used map key (after t s) o.entries o.used o.free o.holds p b at) [
-        | inl k ↦ link_spares map key (after t s) p o.holds.chains.laid (inl k)
+        | inl k ↦ link_spares map key (after t s) p o.holds.map.laid (inl k)
         | inr k ↦ λ z. omega (arith, z.place, k.2)
       ] in
       sees_then may t u w (sees_more (IsLinkOr map q) may t u step l.reads)
       (sees_then may u v w (sees_write may u v p x e mine)
-      (sees_more (IsHeadOrFirst map.arena) may v w (λ a k. name_spares map key (after t s) a o.holds.chains.laid k) names))
+      (sees_more (IsHeadOrFirst map.arena) may v w (λ a k. name_spares map key (after t s) a o.holds.map.laid k) names))

@@ -1,20 +1,12 @@
 -- Chains whose words stay.
-use Rattle.std.proofs.Common.{◌≡◌, ℕ, ◌+◌, true, List, [], ◌∷◌, length, slice_get, ◌∙◌, arith, rules}
-use mathlib.Core.Logic.{dite}
-use native.Mathlib.Decide.{ℕ_discrete}
+use Rattle.std.proofs.Common.{◌≡◌, ℕ, ◌+◌, true, List, [], ◌∷◌, length, slice_get, ◌∙◌, arith}
 use Rattle.std.specs.FinSet as set
 use Rattle.txn_alloc.specs.declared.arena.Arena.{Arena}
 use Rattle.txn_alloc.specs.FreeLists.{block_at, IsInBlock}
 use Rattle.txn_alloc.proofs.Lists.{laid_kept}
+use Rattle.txn_alloc.proofs.Cells.{has_first, has_later}
 use Rattle.txn_hash_map.specs.declared.map.ChainMap.{ChainMap}
 use Rattle.txn_hash_map.specs.Chains.{Cell, HasChain, has_block, IsLaid, IsBucket, ChainsHold, Entries, Blocks}
-
--- the first cell's block is one of the blocks, and so are those of the others
-pub has_first : (c : Cell) (cs : List Cell) → has_block c.block (c ∷ cs) ≡ true
-has_first c cs = grind rules
-
-pub has_later : (b : ℕ) (c : Cell) (cs : List Cell) → has_block b cs ≡ true → has_block b (c ∷ cs) ≡ true
-has_later b c cs h = dite (ℕ_discrete c.block b) (λ e. grind (rules, e)) (λ e. grind (rules, h))
 
 -- a chain whose words are kept has the same cells, also from another place with the same value
 pub chain_kept : (arena : Arena) (s t : List ℕ) (p q : ℕ) (cs : List Cell) → slice_get t q ≡ slice_get s p

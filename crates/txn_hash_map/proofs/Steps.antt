@@ -3,27 +3,28 @@ use Rattle.std.proofs.Common.{◌≡◌, ◌≢◌, ℕ, ◌+◌, ◌^◌, ◌<�
 use Rattle.std.proofs.lemmas.Option.{slice_get_within, same_Some}
 use Rattle.std.specs.FinMap as entry_map
 use Rattle.txn_alloc.specs.FreeLists.{block_at, IsHeadOrFirst}
+use Rattle.txn_alloc.proofs.Cells.{value_past, value_first, value_later}
 use Rattle.txn_hash_map.specs.declared.map.ChainMap.{ChainMap}
-use Rattle.txn_hash_map.specs.Chains.{Cell, HasChain, HasKeysOnce, value_of, bucket_of, IsLaid, IsInOrder, ChainsHold, MapHolds, Entries, Blocks, Finds, Uses, IsOtherValue}
+use Rattle.txn_hash_map.specs.Chains.{Cell, HasChain, HasKeysOnce, value_of, bucket_of, IsLaid, IsHeld, IsInOrder, ChainsHold, Entries, Blocks, Finds, Uses, IsOtherValue}
 use Rattle.txn_hash_map.specs.Searches.{place_after, IsPassed, IsFoundAt, IsMissing, IsLink}
-use Rattle.txn_hash_map.proofs.Cells.{bucket_below, one_chain, chain_rest, place_after_more, value_past, value_first, value_later, chain_short, block_below}
+use Rattle.txn_hash_map.proofs.Cells.{bucket_below, one_chain, chain_rest, place_after_more, chain_short, block_below}
 
 module _ (map : ChainMap) (key : ℕ) (s : List ℕ) where
   -- the search begins at the bucket
-  pub passed_none : (p : ℕ) → p ≡ map.buckets + bucket_of key → IsInOrder map s → IsPassed map key p 0 s
-  passed_none p e o = record {
-    laid = o.holds.chains.laid;
+  pub passed_none : (f : Entries) (u : Blocks) (p : ℕ) → p ≡ map.buckets + bucket_of key → ChainsHold map s f u → IsPassed map key p 0 s
+  passed_none f u p e h = record {
+    laid = h.laid;
     front = [];
-    rest = o.holds.chains.cells (bucket_of key);
-    chain = o.holds.chains.chain (bucket_of key) (bucket_below key);
-    once = o.holds.chains.once (bucket_of key) (bucket_below key);
+    rest = h.cells (bucket_of key);
+    chain = h.chain (bucket_of key) (bucket_below key);
+    once = h.once (bucket_of key) (bucket_below key);
     at = e;
     lacking = refl;
     count = refl;
   }
 
-  pub bucket_fits : IsInOrder map s → map.buckets + bucket_of key < 2 ^ 64
-  bucket_fits o = omega (arith, bucket_below key, o.holds.chains.laid.buckets, o.holds.chains.laid.arena.places)
+  pub bucket_fits : IsLaid map s → map.buckets + bucket_of key < 2 ^ 64
+  bucket_fits l = omega (arith, bucket_below key, l.buckets, l.arena.places)
 
   -- the word at the place is a word of the list
   pub passed_within : (p n : ℕ) → IsPassed map key p n s → p < length s
@@ -118,19 +119,19 @@ module _ (map : ChainMap) (key : ℕ) (s : List ℕ) where
       none (c ∷ cs) e = absurd (omega (arith, short, e, le, h.count))
 
   -- what the entries have at a key that is missing, and at one that is found
-  pub missing_value : (f : Entries) (u v : Blocks) → IsMissing map key s → MapHolds map s f u v → entry_map.get f key ≡ None
-  missing_value f u v m h =
+  pub missing_value : (f : Entries) (u : Blocks) → IsMissing map key s → ChainsHold map s f u → entry_map.get f key ≡ None
+  missing_value f u m h =
       let i : ℕ = bucket_of key in
-      h.chains.entries_are key
-      ∙ ap (λ cs. value_of key cs) (one_chain map.arena s (map.buckets + i) (map.buckets + i) (h.chains.cells i) m.cells refl (h.chains.chain i (bucket_below key)) m.chain)
+      h.entries_are key
+      ∙ ap (λ cs. value_of key cs) (one_chain map.arena s (map.buckets + i) (map.buckets + i) (h.cells i) m.cells refl (h.chain i (bucket_below key)) m.chain)
       ∙ m.lacking
 
-  pub found_value : (f : Entries) (u v : Blocks) (p b x : ℕ) → IsFoundAt map key p b s → slice_get s (block_at map.arena b + 1) ≡ Some x → MapHolds map s f u v → entry_map.get f key ≡ Some x
-  found_value f u v p b x m e h =
+  pub found_value : (f : Entries) (u : Blocks) (p b x : ℕ) → IsFoundAt map key p b s → slice_get s (block_at map.arena b + 1) ≡ Some x → ChainsHold map s f u → entry_map.get f key ≡ Some x
+  found_value f u p b x m e h =
       let i : ℕ = bucket_of key in
       let here = chain_rest map.arena s (map.buckets + i) m.front (m.cell ∷ m.rest) m.chain in
-      h.chains.entries_are key
-      ∙ ap (λ cs. value_of key cs) (one_chain map.arena s (map.buckets + i) (map.buckets + i) (h.chains.cells i) (m.front ++ m.cell ∷ m.rest) refl (h.chains.chain i (bucket_below key)) m.chain)
+      h.entries_are key
+      ∙ ap (λ cs. value_of key cs) (one_chain map.arena s (map.buckets + i) (map.buckets + i) (h.cells i) (m.front ++ m.cell ∷ m.rest) refl (h.chain i (bucket_below key)) m.chain)
       ∙ value_past key m.front (m.cell ∷ m.rest) m.lacking ∙ value_first key m.cell m.rest m.is_key
       ∙ sym here.3 ∙ ap (λ d. slice_get s (block_at map.arena d + 1)) m.is_block ∙ e
 
@@ -165,13 +166,16 @@ module _ (map : ChainMap) (key : ℕ) (s : List ℕ) where
   pub value_spares : (a b : ℕ) → slice_get s (block_at map.arena b) ≡ Some key → a ≡ block_at map.arena b + 1 → ¬ IsOtherValue map key s a
   value_spares a b e is_value o =
       let same : o.block ≡ b = omega (arith, o.place, is_value) in
-      o.other (ap (λ d. slice_get s (block_at map.arena d)) same ∙ e)
+      o.other key refl (ap (λ d. slice_get s (block_at map.arena d)) same ∙ e)
 
   pub found_key : (p b : ℕ) → IsFoundAt map key p b s → slice_get s (block_at map.arena b) ≡ Some key
   found_key p b m =
       let here = chain_rest map.arena s (map.buckets + bucket_of key) m.front (m.cell ∷ m.rest) m.chain in
       ap (λ d. slice_get s (block_at map.arena d)) (sym m.is_block) ∙ here.2 ∙ ap (λ k. Some k) m.is_key
 
--- what a look leaves is in order
+-- what a look leaves is held, and in order
+pub held_found : (map : ChainMap) (key : ℕ) (answer : Option ℕ) (x y : List ℕ) → IsHeld map x → Finds map key answer x y → IsHeld map y
+held_found map key answer x y o f = subst (λ z. IsHeld map z) (sym f.same) o
+
 pub order_found : (map : ChainMap) (key : ℕ) (answer : Option ℕ) (x y : List ℕ) → IsInOrder map x → Finds map key answer x y → IsInOrder map y
 order_found map key answer x y o f = subst (λ z. IsInOrder map z) (sym f.same) o

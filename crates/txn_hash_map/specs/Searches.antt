@@ -1,8 +1,5 @@
 -- How far a search along a chain has come.
 use Rattle.std.specs.Prelude.{slice_get, ◌≡◌, ◌≢◌, ℕ, ◌+◌, ◌<◌, ◌⊎◌, List, [], ◌∷◌, ◌++◌, Some, None, length}
-use Rattle.history_model.specs.Traces.{Trace, after, Begins}
-use Rattle.history_model.specs.Fitting.{Fits}
-use Rattle.txn_words.specs.Frames.{AppendsOnly, AppendsReads}
 use Rattle.txn_alloc.specs.declared.arena.Arena.{Arena}
 use Rattle.txn_alloc.specs.FreeLists.{block_at, IsInBlock}
 use Rattle.txn_hash_map.specs.declared.map.ChainMap.{ChainMap}
@@ -47,14 +44,6 @@ pub record IsMissing (map : ChainMap) (key : ℕ) (words : List ℕ) : Type 0 wh
 abbrev pub IsLink : ChainMap → ℕ → Type 0
 IsLink map a =
     IsBucket map a ⊎ ((b : ℕ) × (b < map.arena.blocks) × ((a ≡ block_at map.arena b) ⊎ (a ≡ block_at map.arena b + 2)))
-
--- from the old trace to the new one words were read alone, IsSeen holds of each, and P of each state
-pub record Looks (n : ℕ) (G : List ℕ → Type 0) (t u : Trace) (IsSeen : ℕ → Type 0) (P : List ℕ → Type 0) : Type 0 where
-  pub begins : Begins t u
-  pub same : (s : List ℕ) → Fits n G u s → after u s ≡ after t s
-  pub writes : AppendsOnly t u (λ a. ⊥)
-  pub reads : AppendsReads t u IsSeen
-  pub holds : (s : List ℕ) → Fits n G u s → P (after u s)
 
 -- the block is the first of its bucket's chain, with key and value, and heads what the bucket headed; other words stay
 pub record IsPutInFront (map : ChainMap) (key value block : ℕ) (old new : List ℕ) : Type 0 where

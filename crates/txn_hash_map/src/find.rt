@@ -2,30 +2,31 @@
 
 ghost use Rattle.std.specs.Prelude.{◌≡◌, ◌<◌, IfOk, IfSome, IfNone};
 ghost use Rattle.txn_words.specs.Calls.{IsReady, GoesOn, InEachState};
-ghost use Rattle.txn_hash_map.specs.Chains.{IsInOrder, bucket_of};
-ghost use Rattle.txn_hash_map.specs.Searches.{IsFoundAt, IsMissing, IsLink, Looks};
+ghost use Rattle.txn_hash_map.specs.Chains.{IsHeld, bucket_of};
+ghost use Rattle.txn_alloc.specs.Looks.{Looks};
+ghost use Rattle.txn_hash_map.specs.Searches.{IsFoundAt, IsMissing, IsLink};
 
 use crate::map::{ChainMap, MULTIPLIER};
 use txn_words::{Stop, Words};
 
 /// Where a key was found: the place of the word that names its block, and the block.
 #[derive(Clone, Copy)]
-pub struct Found {
+pub(crate) struct Found {
     pub place: u64,
     pub block: u32,
 }
 
 /// The bucket of a key.
-pub fn bucket(key: u64) -> u64
+pub(crate) fn bucket(key: u64) -> u64
     ensures { result ≡ bucket_of key }
 {
     key.wrapping_mul(MULTIPLIER) >> 56
 }
 
 /// Looks for the key along its bucket's chain.
-pub fn find<W: Words>(w: &mut W, map: &ChainMap, key: u64) -> Result<Option<Found>, Stop>
+pub(crate) fn find<W: Words>(w: &mut W, map: &ChainMap, key: u64) -> Result<Option<Found>, Stop>
     requires ready { IsReady W.Words w.old }
-    requires order { InEachState W.Words W.Shape.Shape w.old (IsInOrder map.now) }
+    requires order { InEachState W.Words W.Shape.Shape w.old (IsHeld map.now) }
     ensures found { IfOk result (λ answer. IfSome answer (λ f.
         Looks (W.Shape.word_count (W.shape w.old)) (W.Shape.good (W.shape w.old)) (W.trace w.old) (W.trace w.new) (IsLink map.now) (IsFoundAt map.now key f.place f.block))) }
     ensures missing { IfOk result (λ answer. IfNone answer

@@ -11,7 +11,7 @@ use crate::map::ChainMap;
 use txn_words::{Stop, Words};
 
 /// Writes key and value into the block, and hangs it in front of the key's bucket's chain.
-pub fn put_in_front<W: Words>(
+pub(crate) fn put_in_front<W: Words>(
     w: &mut W,
     map: &ChainMap,
     key: u64,

@@ -2,7 +2,7 @@
 
 ghost use Rattle.std.specs.Prelude.{IfOk, OnOk};
 ghost use Rattle.txn_words.specs.Calls.{IsReady, GoesOn, WritesOnly, InEachState, LeadsTo, ReadsWithin};
-ghost use Rattle.txn_hash_map.specs.Chains.{IsInOrder, Finds, MayRead};
+ghost use Rattle.txn_hash_map.specs.Chains.{IsHeld, Finds, MayRead};
 
 use crate::find::find;
 use crate::map::ChainMap;
@@ -12,11 +12,11 @@ impl ChainMap {
     /// The value at the key, if there is one.
     pub fn get<W: Words>(&self, w: &mut W, key: u64) -> Result<Option<u64>, Stop>
         requires ready { IsReady W.Words w.old }
-        requires order { InEachState W.Words W.Shape.Shape w.old (IsInOrder self.now) }
+        requires order { InEachState W.Words W.Shape.Shape w.old (IsHeld self.now) }
 
         // Nothing changes, and the answer is what the map has at the key.
         ensures found { IfOk result (λ answer. LeadsTo W.Words W.Shape.Shape w.old w.new (Finds self.now key answer)) }
-        ensures order { OnOk result (InEachState W.Words W.Shape.Shape w.new (IsInOrder self.now)) }
+        ensures order { OnOk result (InEachState W.Words W.Shape.Shape w.new (IsHeld self.now)) }
 
         // No word is written.
         ensures frame { OnOk result (WritesOnly W.Words w.old w.new (λ a. ⊥)) }

@@ -1,7 +1,7 @@
 //! Putting a key and a value into the map.
 
 ghost use Rattle.std.specs.Prelude.{◌≡◌, ℕ, IfOk, OnOk};
-ghost use Rattle.txn_words.specs.Calls.{IsReady, GoesOn, ReadsWithin, WritesWithin, InEachState, LeadsTo};
+ghost use Rattle.txn_words.specs.Calls.{IsReady, GoesOn, ReadsWithin, WritesOnly, WritesWithin, InEachState, LeadsTo};
 ghost use Rattle.txn_alloc.specs.declared.put.Put.TheVariants.{Full, Old};
 ghost use Rattle.txn_hash_map.specs.Chains.{IsInOrder, Inserts, LacksRoom, IsOwn, MayRead, IsValue};
 
@@ -35,6 +35,9 @@ impl ChainMap {
         ensures old { IfOk result (λ put. (was : ℕ)
             → put ≡ Old was
             → WritesWithin W.Words W.Shape.Shape w.old w.new (IsValue self.now key)) }
+
+        // Where there is no room, no word is written.
+        ensures full_frame { IfOk result (λ put. put ≡ Full → WritesOnly W.Words w.old w.new (λ a. ⊥)) }
 
         // The value of no other key is read.
         ensures reads { OnOk result (ReadsWithin W.Words W.Shape.Shape w.old w.new (MayRead self.now key)) }

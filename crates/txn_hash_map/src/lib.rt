@@ -36,36 +36,67 @@ mod tests {
         ghost good = { λ _ words. IsInOrder (record { buckets = 17; arena = record { heads = 1; first = 277; blocks = 2 } }) words };
     }
 
-    /// Keys 64, 208 and 441 have one bucket, the 141st after the first.
+    /// The map of these words. Keys 64, 208 and 441 have one bucket, the 141st after the first.
+    const MAP: ChainMap = ChainMap {
+        buckets: 17,
+        arena: Arena {
+            heads: 1,
+            first: 277,
+            blocks: 2,
+        },
+    };
+
     #[test]
-    fn two_entries_come_and_go(rt: HostRuntime) -> Result<(), Fail> {
+    fn a_third_entry_finds_no_room(rt: HostRuntime) -> Result<(), Fail> {
         let mut words = vec![in rt.alloc(); 0u64; 285]?;
         words[1] = 1;
         words[277] = 2;
         let mut plain = Plain::new(rt.alloc(), TwoEntries, words);
-        let map = ChainMap {
-            buckets: 17,
-            arena: Arena {
-                heads: 1,
-                first: 277,
-                blocks: 2,
-            },
-        };
-        assert_eq!(rt; map.insert(&mut plain, 64, 3)?, Put::New);
-        assert_eq!(rt; map.insert(&mut plain, 64, 4)?, Put::Old(3));
-        assert_eq!(rt; map.insert(&mut plain, 65, 5)?, Put::New);
-        assert_eq!(rt; map.insert(&mut plain, 66, 6)?, Put::Full);
-        assert_eq!(rt; map.get(&mut plain, 64)?, Some(4));
-        assert_eq!(rt; map.remove(&mut plain, 64)?, Some(4));
-        assert_eq!(rt; map.get(&mut plain, 64)?, None);
+        assert_eq!(rt; MAP.insert(&mut plain, 64, 3)?, Put::New);
+        assert_eq!(rt; MAP.insert(&mut plain, 64, 4)?, Put::Old(3));
+        assert_eq!(rt; MAP.insert(&mut plain, 65, 5)?, Put::New);
+        assert_eq!(rt; MAP.insert(&mut plain, 66, 6)?, Put::Full);
+        Ok(())
+    }
 
-        assert_eq!(rt; map.remove(&mut plain, 65)?, Some(5));
-        assert_eq!(rt; map.insert(&mut plain, 64, 70)?, Put::New);
-        assert_eq!(rt; map.insert(&mut plain, 208, 80)?, Put::New);
-        assert_eq!(rt; map.insert(&mut plain, 441, 90)?, Put::Full);
-        assert_eq!(rt; map.remove(&mut plain, 64)?, Some(70));
-        assert_eq!(rt; map.get(&mut plain, 208)?, Some(80));
-        assert_eq!(rt; map.insert(&mut plain, 441, 90)?, Put::New);
+    #[test]
+    fn an_entry_goes_and_comes_again(rt: HostRuntime) -> Result<(), Fail> {
+        let mut words = vec![in rt.alloc(); 0u64; 285]?;
+        words[1] = 1;
+        words[277] = 2;
+        let mut plain = Plain::new(rt.alloc(), TwoEntries, words);
+        assert_eq!(rt; MAP.insert(&mut plain, 64, 4)?, Put::New);
+        assert_eq!(rt; MAP.remove(&mut plain, 64)?, Some(4));
+        assert_eq!(rt; MAP.insert(&mut plain, 64, 70)?, Put::New);
+        assert_eq!(rt; MAP.get(&mut plain, 64)?, Some(70));
+        assert_eq!(rt; MAP.get(&mut plain, 65)?, None);
+        Ok(())
+    }
+
+    #[test]
+    fn a_chain_is_cut_at_its_end(rt: HostRuntime) -> Result<(), Fail> {
+        let mut words = vec![in rt.alloc(); 0u64; 285]?;
+        words[1] = 1;
+        words[277] = 2;
+        let mut plain = Plain::new(rt.alloc(), TwoEntries, words);
+        assert_eq!(rt; MAP.insert(&mut plain, 64, 70)?, Put::New);
+        assert_eq!(rt; MAP.insert(&mut plain, 208, 80)?, Put::New);
+        assert_eq!(rt; MAP.remove(&mut plain, 64)?, Some(70));
+        assert_eq!(rt; MAP.get(&mut plain, 208)?, Some(80));
+        Ok(())
+    }
+
+    #[test]
+    fn a_full_bucket_has_room_again(rt: HostRuntime) -> Result<(), Fail> {
+        let mut words = vec![in rt.alloc(); 0u64; 285]?;
+        words[1] = 1;
+        words[277] = 2;
+        let mut plain = Plain::new(rt.alloc(), TwoEntries, words);
+        assert_eq!(rt; MAP.insert(&mut plain, 208, 80)?, Put::New);
+        assert_eq!(rt; MAP.insert(&mut plain, 64, 70)?, Put::New);
+        assert_eq!(rt; MAP.insert(&mut plain, 441, 90)?, Put::Full);
+        assert_eq!(rt; MAP.remove(&mut plain, 208)?, Some(80));
+        assert_eq!(rt; MAP.insert(&mut plain, 441, 90)?, Put::New);
         Ok(())
     }
 }

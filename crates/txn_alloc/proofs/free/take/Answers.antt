@@ -31,6 +31,9 @@ pub returns-then-head-eq0-clause-frame : goal.returns-then-head-eq0-clause-frame
 returns-then-head-eq0-clause-frame g c =
     record { appended = only_read (IsHead c.args.arena.now) _ _ _ _ c.in_ok-head.ensures.value }
 
+pub returns-then-head-eq0-clause-none_frame : goal.returns-then-head-eq0-clause-none_frame
+returns-then-head-eq0-clause-none_frame g c = record { appended = only_read (λ a. ⊥) _ _ _ _ c.in_ok-head.ensures.value }
+
 pub returns-then-head-eq0-clause-others : goal.returns-then-head-eq0-clause-others
 returns-then-head-eq0-clause-others g c = writes_keep g.W.Words g.W.Shape.Shape _ _ _ (returns-then-head-eq0-clause-frame g c)
 

@@ -3,14 +3,15 @@ use Rattle.history_model.specs.Fitting.{SomeFits}
 use Rattle.history_model.proofs.FittingLaws.{some_at}
 use Rattle.txn_hash_map.specs.Searches.{IsPassed, IsFoundAt, IsMissing, IsLink}
 use Rattle.txn_hash_map.proofs.Steps.{bucket_fits, passed_none, passed_end, passed_more, passed_found, passed_all}
-use Rattle.txn_hash_map.proofs.Looks.{looks_none, looks_read, looks_map, looks_within, looks_names, looks_key, laid_block}
+use Rattle.txn_alloc.proofs.Looks.{looks_none, looks_read, looks_map}
+use Rattle.txn_hash_map.proofs.Looks.{looks_within, looks_names, looks_key, laid_block}
 use Rattle.txn_hash_map.proofs.Cells.{bucket_below}
 use Rattle.txn_hash_map.proofs.find.find.Goals as goal
 
 pub overflow_add-place : goal.overflow_add-place
 overflow_add-place g c =
     let some = g.met.W.Words.fits c.args.w.now c.requires.ready.sound in
-    let low = bucket_fits c.args.map.now c.args.key _ (c.requires.order.at some.0 some.1) in
+    let low = bucket_fits c.args.map.now c.args.key _ (c.requires.order.at some.0 some.1).holds.laid in
     omega (arith, low, c.bucket.ensures)
 
 pub loop-init : goal.loop-init
@@ -22,7 +23,7 @@ loop-init g c =
       stop = c.requires.ready.going;
       sound = c.requires.ready.sound;
       link = inl (record { low = omega arith; high = omega (arith, bucket_below c.args.key, c.bucket.ensures) });
-      looks = looks_none _ _ _ (IsLink m) _ (record { at = λ s fit. passed_none m c.args.key _ (m.buckets + c.bucket.result) (ap (λ b. m.buckets + b) c.bucket.ensures) (c.requires.order.at s fit) });
+      looks = looks_none _ _ _ (IsLink m) _ (record { at = λ s fit. let o = c.requires.order.at s fit in passed_none m c.args.key _ o.entries o.used (m.buckets + c.bucket.result) (ap (λ b. m.buckets + b) c.bucket.ensures) o.holds });
     }
 
 pub read-requires-clause-within : goal.read-requires-clause-within

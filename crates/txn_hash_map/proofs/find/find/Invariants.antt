@@ -1,5 +1,6 @@
 use Rattle.std.proofs.Common.{◌≡◌, None}
-use Rattle.txn_hash_map.specs.Searches.{IsPassed, IsLink, Looks}
+use Rattle.txn_alloc.specs.Looks.{Looks}
+use Rattle.txn_hash_map.specs.Searches.{IsPassed, IsLink}
 use Rattle.txn_hash_map.proofs.find.find.Given as goal
 
 abbrev pub invariant-loop : goal.invariant-loop

@@ -1,12 +1,12 @@
 use Rattle.std.proofs.Common.{◌≡◌, ℕ, ◌<◌, List, [], ◌∷◌, length, slice_get, slice_set, Some, replicate, refl, ap, ◌∙◌, arith}
-use Rattle.std.proofs.lemmas.List.{length-set, length-replicate, get_or-replicate}
-use Rattle.std.proofs.lemmas.Option.{slice_get-get_or}
+use Rattle.std.proofs.lemmas.List.{length-set, length-replicate}
 use Rattle.std.specs.List.{IsDistinct}
 use Rattle.std.specs.FinSet as set
 use Rattle.history_model.specs.Fitting.{IsGood}
 use Rattle.history_model.proofs.TraceLaws.{get_set_same, get_set_other}
 use Rattle.txn_words.specs.Plainly.{PlainView}
 use Rattle.txn_alloc.specs.declared.arena.Arena.{Arena}
+use Rattle.txn_alloc.proofs.Zeros.{zero_there}
 use Rattle.txn_alloc.specs.declared.free.tests.TwoBlocks.{TwoBlocks}
 use Rattle.txn_alloc.specs.FreeLists.{IsInOrder}
 use Rattle.txn_alloc.proofs.Traces.{each_fresh, each_lacks_taken}
@@ -14,13 +14,6 @@ use Rattle.txn_alloc.proofs.free.tests.take_until_none_and_give_back.Goals as go
 
 abbrev two : Arena
 two = record { heads = 1; first = 277; blocks = 2 }
-
--- each word of a list of zeros is 0
-zero_there : (n i : ℕ) (ws : List ℕ) → ws ≡ replicate n 0 → i < n → slice_get ws i ≡ Some 0
-zero_there n i ws e lt =
-    let nil : ℕ = 0 in
-    let zeros : List ℕ = replicate n nil in
-    ap (λ xs. slice_get xs i) e ∙ slice_get-get_or zeros i 0 (let long : length zeros ≡ n = length-replicate n nil in omega (arith, long, lt)) ∙ ap (λ k. Some k) (get_or-replicate n i nil nil lt)
 
 -- a list of zeros but for the two words that link the blocks is good
 linked : (n : ℕ) (ws : List ℕ) → n ≡ 285 → ws ≡ replicate n 0 → IsGood 285 (IsInOrder two) (slice_set (slice_set ws 1 1) 277 2)

@@ -3,13 +3,18 @@ use Rattle.history_model.specs.Fitting.{SomeFits}
 use Rattle.history_model.proofs.TraceLaws.{begins_trans}
 use Rattle.history_model.proofs.FittingLaws.{some_at}
 use Rattle.txn_words.proofs.CallLaws.{each_plain, leads_plain, state_after}
+use Rattle.txn_words.proofs.FrameLaws.{only_then}
 use Rattle.txn_alloc.specs.declared.put.Put.TheVariants.{New, Old, Full}
 use Rattle.txn_alloc.specs.FreeLists.{block_at, HasNone}
 use Rattle.txn_hash_map.specs.Chains.{IsInOrder, Inserts, LacksRoom}
 use Rattle.txn_hash_map.proofs.Looks.{laid_block, looks_value}
-use Rattle.txn_hash_map.proofs.Inserts.{leads_from, each_from, order_inserted, leads_back, order_looks, inserts_new, owns_new, owns_none, laid_taken, lacks_room, inserts_old, owns_old, owns_value, not_new, not_old}
+use Rattle.txn_alloc.proofs.Looks.{leads_from, each_from, leads_back}
+use Rattle.txn_hash_map.proofs.Inserts.{order_inserted, order_looks, inserts_new, owns_new, owns_none, laid_taken, lacks_room, inserts_old, owns_old, owns_value, not_new, not_old}
 use Rattle.txn_hash_map.proofs.Spares.{spares_none, spares_new, spares_old}
 use Rattle.txn_hash_map.proofs.map.ChainMap.insert.Goals as goal
+
+pub find-requires-clause-order : goal.find-requires-clause-order
+find-requires-clause-order g c = record { at = λ s fit. let o = c.requires.order.at s fit in record { entries = o.entries; used = o.used; holds = o.holds.map } }
 
 pub read-requires-clause-within : goal.read-requires-clause-within
 read-requires-clause-within g c =
@@ -190,7 +195,7 @@ returns-in-None-2-clause-put g c =
     let then = c.in_ok-block-in-None.ensures in
     let taken = rw c.in-None-2.is at then.taken in
     record {
-      at = (leads_back m c.args.key c.args.value _ _ _ _ missing _ (λ before after. after ≡ before) then.goes_on.begins
+      at = (leads_back _ _ _ _ missing _ (λ before after. after ≡ before) then.goes_on.begins
           (leads_from g.W.Words g.W.Shape.Shape c.args.w.now c.find.new.w c.take.new.w _ goes.shape taken)).at;
     }
 
@@ -258,3 +263,15 @@ returns-in-None-2-clause-reads g c =
     let missing = rw c.in-None.is at c.in_ok-found.ensures.missing in
     let then = c.in_ok-block-in-None.ensures in
     record { at = spares_none m c.args.key _ _ _ _ (each_plain g.W.Words g.W.Shape.Shape _ _ c.requires.order) missing _ then.goes_on.begins then.reads }
+
+pub returns-in-None-2-clause-full_frame : goal.returns-in-None-2-clause-full_frame
+returns-in-None-2-clause-full_frame g c =
+    let missing = rw c.in-None.is at c.in_ok-found.ensures.missing in
+    let still = rw c.in-None-2.is at c.in_ok-block-in-None.ensures.none_frame in
+    λ e. record { appended = only_then (λ a. ⊥) _ _ _ missing.writes still.appended }
+
+pub returns-in_ok-write-in-Some-clause-full_frame : goal.returns-in_ok-write-in-Some-clause-full_frame
+returns-in_ok-write-in-Some-clause-full_frame g c = λ e. absurd (cc)
+
+pub returns-in_ok-put_in_front-in-Some-2-clause-full_frame : goal.returns-in_ok-put_in_front-in-Some-2-clause-full_frame
+returns-in_ok-put_in_front-in-Some-2-clause-full_frame g c = λ e. absurd (cc)

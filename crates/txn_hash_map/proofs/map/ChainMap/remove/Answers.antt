@@ -6,11 +6,15 @@ use Rattle.txn_words.proofs.CallLaws.{each_plain, state_after}
 use Rattle.txn_words.proofs.FrameLaws.{only_more}
 use Rattle.txn_alloc.specs.FreeLists.{block_at}
 use Rattle.txn_hash_map.specs.Chains.{IsInOrder, Removes}
-use Rattle.txn_hash_map.proofs.Looks.{laid_block, looks_read, looks_value, IsLinkOr, finds_none, spares_link}
-use Rattle.txn_hash_map.proofs.Inserts.{leads_from, each_from}
+use Rattle.txn_alloc.proofs.Looks.{looks_read}
+use Rattle.txn_hash_map.proofs.Looks.{laid_block, looks_value, IsLinkOr, finds_none, spares_link}
+use Rattle.txn_alloc.proofs.Looks.{leads_from, each_from}
 use Rattle.txn_hash_map.proofs.Removals.{order_removed, place_within, order_cut, lacks_cut, removes_some, owns_removed}
 use Rattle.txn_hash_map.proofs.Spares.{spares_removed}
 use Rattle.txn_hash_map.proofs.map.ChainMap.remove.Goals as goal
+
+pub find-requires-clause-order : goal.find-requires-clause-order
+find-requires-clause-order g c = record { at = λ s fit. let o = c.requires.order.at s fit in record { entries = o.entries; used = o.used; holds = o.holds.map } }
 
 pub read-requires-clause-within : goal.read-requires-clause-within
 read-requires-clause-within g c =
@@ -162,7 +166,7 @@ returns-in_ok-give-in-Some-clause-frame g c =
 pub returns-in-None-clause-reads : goal.returns-in-None-clause-reads
 returns-in-None-clause-reads g c =
     let missing = rw c.in-None.is at c.in_ok-find.ensures.missing in
-    record { at = spares_link c.args.self.now c.args.key _ _ _ _ missing (each_plain g.W.Words g.W.Shape.Shape _ _ c.requires.order) }
+    record { at = spares_link c.args.self.now c.args.key _ _ _ _ missing (record { at = λ s fit. (c.requires.order.at s fit).holds.map.laid }) }
 
 pub returns-in_ok-give-in-Some-clause-reads : goal.returns-in_ok-give-in-Some-clause-reads
 returns-in_ok-give-in-Some-clause-reads g c =

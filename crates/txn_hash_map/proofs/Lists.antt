@@ -1,7 +1,7 @@
+-- Word lists of tests.
 use Rattle.std.proofs.Common.{◌≡◌, ℕ, ◌+◌, ◌<◌, List, [], ◌∷◌, length, slice_get, slice_set, Some, None, replicate, refl, sym, ap, ◌∙◌, arith, rules}
 use mathlib.Core.Bool.{true≢false}
-use Rattle.std.proofs.lemmas.List.{length-set, length-replicate, get_or-replicate}
-use Rattle.std.proofs.lemmas.Option.{slice_get-get_or}
+use Rattle.std.proofs.lemmas.List.{length-set, length-replicate}
 use Rattle.std.specs.List.{IsDistinct}
 use Rattle.std.specs.Ordering.{nat_cmp}
 use Rattle.std.specs.FinSet as set
@@ -9,34 +9,24 @@ use Rattle.std.specs.FinMap as entry_map
 use Rattle.std.specs.FinMap.{gets}
 use Rattle.history_model.specs.Fitting.{IsGood}
 use Rattle.history_model.proofs.TraceLaws.{get_set_same, get_set_other}
-use Rattle.txn_words.specs.Plainly.{PlainView}
 use Rattle.txn_alloc.specs.declared.arena.Arena.{Arena}
+use Rattle.txn_alloc.proofs.Zeros.{zero_there}
 use Rattle.txn_alloc.specs.FreeLists.{IsLaidOut}
 use Rattle.txn_alloc.proofs.Sets.{out_empty}
-use Rattle.txn_alloc.proofs.Traces.{each_fresh}
 use Rattle.txn_hash_map.specs.declared.map.ChainMap.{ChainMap}
-use Rattle.txn_hash_map.specs.declared.tests.TwoEntries.{TwoEntries}
 use Rattle.txn_hash_map.specs.Chains.{IsInOrder}
-use Rattle.txn_hash_map.proofs.tests.two_entries_come_and_go.Goals as goal
 
-abbrev two : Arena
+abbrev pub two : Arena
 two = record { heads = 1; first = 277; blocks = 2 }
 
-abbrev small : ChainMap
+abbrev pub small : ChainMap
 small = record { buckets = 17; arena = record { heads = 1; first = 277; blocks = 2 } }
 
 nothing : (k : ℕ) → entry_map.get (entry_map.empty {X = ℕ} {R = nat_cmp}) k ≡ None
 nothing k = grind (gets, rules)
 
--- each word of a list of zeros is 0
-zero_there : (n i : ℕ) (ws : List ℕ) → ws ≡ replicate n 0 → i < n → slice_get ws i ≡ Some 0
-zero_there n i ws e lt =
-    let nil : ℕ = 0 in
-    let zeros : List ℕ = replicate n nil in
-    ap (λ xs. slice_get xs i) e ∙ slice_get-get_or zeros i 0 (let long : length zeros ≡ n = length-replicate n nil in omega (arith, long, lt)) ∙ ap (λ k. Some k) (get_or-replicate n i nil nil lt)
-
 -- a list of zeros but for the two words that link the blocks is good
-linked : (n : ℕ) (ws : List ℕ) → n ≡ 285 → ws ≡ replicate n 0 → IsGood 285 (IsInOrder small) (slice_set (slice_set ws 1 1) 277 2)
+pub linked : (n : ℕ) (ws : List ℕ) → n ≡ 285 → ws ≡ replicate n 0 → IsGood 285 (IsInOrder small) (slice_set (slice_set ws 1 1) 277 2)
 unfolding IsDistinct
 linked n ws is_n e =
     let nil : ℕ = 0 in
@@ -60,7 +50,7 @@ linked n ws is_n e =
         used = set.empty;
         free = set.from_list (0 ∷ 1 ∷ []);
         holds = record {
-          chains = record {
+          map = record {
             laid = record {
               arena = laid;
               buckets = omega (arith, long_s);
@@ -91,9 +81,3 @@ linked n ws is_n e =
         };
       };
     }
-
-pub new-plain-requires : goal.new-plain-requires
-new-plain-requires g c = linked 285 c.in_ok-words.words.items refl (c.in_ok-words.ensures.items_if_clones_equal (λ y e. e))
-
-pub insert-requires-clause-order : goal.insert-requires-clause-order
-insert-requires-clause-order g c = record { at = (each_fresh 285 (IsInOrder small) _ (ap (λ (v : PlainView TwoEntries). v.trace) c.new-plain.ensures.view)).at }

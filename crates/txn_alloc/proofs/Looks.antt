@@ -1,0 +1,111 @@
+-- How what was seen grows read by read, and what a later call's relation says from an earlier state on.
+use Rattle.std.proofs.Common.{◌≡◌, ℕ, List, [], ◌∷◌, ◌++◌, slice_get, Some, refl, sym, ap, ◌∙◌, subst}
+use Rattle.history_model.specs.declared.shape.Shape.{Ghosts as Shapes}
+use Rattle.history_model.specs.declared.event.Event.TheVariants.{Read}
+use Rattle.history_model.specs.Traces.{Trace, after, Begins}
+use Rattle.history_model.specs.Fitting.{Fits, InEach, Leads}
+use Rattle.history_model.proofs.TraceLaws.{read_there, after_read, begins_refl, begins_trans}
+use Rattle.history_model.proofs.FittingLaws.{fits_begins, each_at, leads_at}
+use Rattle.txn_words.specs.declared.words.Words.{Ghosts as AnyWords}
+use Rattle.txn_words.specs.Calls.{InEachState, LeadsTo, WritesOnly, WritesWithin, ReadsWithin}
+use Rattle.txn_words.specs.Frames.{AppendsOnly, AppendsReads}
+use Rattle.txn_words.proofs.CallLaws.{leads_plain}
+use Rattle.txn_words.proofs.FrameLaws.{only_same, only_read, only_then}
+use Rattle.txn_words.proofs.ReadLaws.{sees_same, sees_read, sees_then, sees_more}
+use Rattle.txn_alloc.specs.Looks.{Looks}
+
+module _ (n : ℕ) (G : List ℕ → Type 0) (t : Trace) (IsSeen : ℕ → Type 0) where
+  pub looks_none : (P : List ℕ → Type 0) → InEach n G t P → Looks n G t t IsSeen P
+  looks_none P h = record {
+    begins = begins_refl t;
+    same = λ s fit. refl;
+    writes = only_same (λ a. ⊥) t;
+    reads = sees_same IsSeen t;
+    holds = h.at;
+  }
+
+  -- one look after another
+  pub looks_then : (u v : Trace) (P Q : List ℕ → Type 0) → Looks n G t u IsSeen P → Looks n G u v IsSeen Q → Looks n G t v IsSeen (λ s. P s × Q s)
+  looks_then u v P Q l m = record {
+    begins = begins_trans t u v l.begins m.begins;
+    same = λ s fit. m.same s fit ∙ l.same s (fits_begins n G u v s m.begins fit);
+    writes = only_then (λ b. ⊥) t u v l.writes m.writes;
+    reads = sees_then IsSeen t u v l.reads m.reads;
+    holds = λ s fit. (subst P (sym (m.same s fit)) (l.holds s (fits_begins n G u v s m.begins fit)), m.holds s fit);
+  }
+
+  -- a look at one word
+  pub looks_one : (v : Trace) (a x : ℕ) → v ≡ t ++ Read a x ∷ [] → IsSeen a → Looks n G t v IsSeen (λ s. slice_get s a ≡ Some x)
+  looks_one v a x e seen =
+      let same : (s : List ℕ) → after v s ≡ after t s = λ s. ap (λ w. after w s) e ∙ after_read t s a x in
+      record {
+        begins = (Read a x ∷ [], e);
+        same = λ s fit. same s;
+        writes = only_read (λ b. ⊥) t v a x e;
+        reads = sees_read IsSeen t v a x e seen;
+        holds = λ s fit. ap (λ z. slice_get z a) (same s) ∙ read_there t s a x ((subst (λ w. Fits n G w s) e fit).legal);
+      }
+
+  pub looks_map : (u : Trace) (P Q : List ℕ → Type 0) → ((s : List ℕ) → P s → Q s) → Looks n G t u IsSeen P → Looks n G t u IsSeen Q
+  looks_map u P Q step l = record { begins = l.begins; same = l.same; writes = l.writes; reads = l.reads; holds = λ s fit. step (after u s) (l.holds s fit) }
+
+  -- what held before holds still
+  pub looks_still : (u : Trace) (P Q : List ℕ → Type 0) → InEach n G t Q → Looks n G t u IsSeen P → Looks n G t u IsSeen (λ s. Q s × P s)
+  looks_still u P Q each l = looks_then t u Q P (looks_none Q each) l
+
+-- one read more
+pub looks_read : (n : ℕ) (G : List ℕ → Type 0) (t : Trace) (IsSeen : ℕ → Type 0) (u v : Trace) (a x : ℕ) (P : List ℕ → Type 0) → Looks n G t u IsSeen P → v ≡ u ++ Read a x ∷ [] → IsSeen a
+    → Looks n G t v IsSeen (λ s. P s × (slice_get s a ≡ Some x))
+looks_read n G t IsSeen u v a x P l e seen = looks_then n G t IsSeen u v P (λ s. slice_get s a ≡ Some x) l (looks_one n G u IsSeen v a x e seen)
+
+-- what may see more
+pub looks_wider : (n : ℕ) (G : List ℕ → Type 0) (t u : Trace) (IsSeen IsWider : ℕ → Type 0) (P : List ℕ → Type 0) → ((a : ℕ) → IsSeen a → IsWider a) → Looks n G t u IsSeen P → Looks n G t u IsWider P
+looks_wider n G t u IsSeen IsWider P wider l = record { begins = l.begins; same = l.same; writes = l.writes; reads = sees_more IsSeen IsWider t u wider l.reads; holds = l.holds }
+
+module _ (n : ℕ) (G : List ℕ → Type 0) (t u : Trace) {IsSeen : ℕ → Type 0} {P : List ℕ → Type 0} (l : Looks n G t u IsSeen P) where
+  -- the state is what it was as the look began
+  pub leads_back : (v : Trace) (R : List ℕ → List ℕ → Type 0) → Begins u v → Leads n G u v R → Leads n G t v R
+  leads_back v R b h = record { at = λ s fit. subst (λ z. R z (after v s)) (l.same s (fits_begins n G u v s b fit)) (h.at s fit) }
+
+  -- what held still holds
+  pub each_looked : (Q : List ℕ → Type 0) → InEach n G t Q → InEach n G u Q
+  each_looked Q o = record { at = λ s fit. subst Q (sym (l.same s fit)) (o.at s (fits_begins n G t u s l.begins fit)) }
+
+  -- what was seen held as the look began
+  pub seen_before : (s : List ℕ) → Fits n G u s → P (after t s)
+  seen_before s fit = subst P (l.same s fit) (l.holds s fit)
+
+module _ {W S O : Type 0} (words : AnyWords W S O) (shapes : Shapes S) (v w : W) (IsSeen : ℕ → Type 0) (P : List ℕ → Type 0)
+    (l : Looks (shapes.word_count (words.shape v)) (shapes.good (words.shape v)) (words.trace v) (words.trace w) IsSeen P) where
+  pub looks_each : words.shape w ≡ words.shape v → InEachState words shapes w P
+  looks_each e = record { at = (each_at shapes.word_count shapes.good (words.trace w) P (words.shape v) (words.shape w) (sym e) (record { at = l.holds })).at }
+
+  pub looks_same : LeadsTo words shapes v w (λ x y. y ≡ x)
+  looks_same = record { at = l.same }
+
+  pub looks_only : WritesOnly words v w (λ a. ⊥)
+  looks_only = record { appended = l.writes }
+
+-- a later look, said at the shape that an earlier call began with
+pub looks_from : {W S O : Type 0} (words : AnyWords W S O) (shapes : Shapes S) (u v : W) (t y : Trace) (IsSeen : ℕ → Type 0) (P : List ℕ → Type 0) → words.shape v ≡ words.shape u
+    → Looks (shapes.word_count (words.shape v)) (shapes.good (words.shape v)) t y IsSeen P → Looks (shapes.word_count (words.shape u)) (shapes.good (words.shape u)) t y IsSeen P
+looks_from words shapes u v t y IsSeen P e l = subst (λ z. Looks (shapes.word_count z) (shapes.good z) t y IsSeen P) e l
+
+-- a later call's relation, likewise
+pub leads_from : {W S O : Type 0} (words : AnyWords W S O) (shapes : Shapes S) (u v w : W) (R : List ℕ → List ℕ → Type 0) → words.shape v ≡ words.shape u → LeadsTo words shapes v w R
+    → Leads (shapes.word_count (words.shape u)) (shapes.good (words.shape u)) (words.trace v) (words.trace w) R
+leads_from words shapes u v w R e h = leads_at shapes.word_count shapes.good (words.trace v) (words.trace w) R (words.shape v) (words.shape u) e (leads_plain words shapes v w R h)
+
+pub each_from : {W S O : Type 0} (words : AnyWords W S O) (shapes : Shapes S) (u v : W) (P : List ℕ → Type 0) → words.shape v ≡ words.shape u
+    → InEach (shapes.word_count (words.shape u)) (shapes.good (words.shape u)) (words.trace v) P → InEachState words shapes v P
+each_from words shapes u v P e h = record { at = (each_at shapes.word_count shapes.good (words.trace v) P (words.shape u) (words.shape v) (sym e) h).at }
+
+-- a later call's frame, likewise
+pub within_from : {W S O : Type 0} (words : AnyWords W S O) (shapes : Shapes S) (u v w : W) (IsOwn : List ℕ → List ℕ → ℕ → Type 0) → words.shape v ≡ words.shape u → WritesWithin words shapes v w IsOwn
+    → (s : List ℕ) → Fits (shapes.word_count (words.shape u)) (shapes.good (words.shape u)) (words.trace w) s → AppendsOnly (words.trace v) (words.trace w) (IsOwn (after (words.trace v) s) (after (words.trace w) s))
+within_from words shapes u v w IsOwn e h s fit = h.at s (subst (λ z. Fits (shapes.word_count z) (shapes.good z) (words.trace w) s) (sym e) fit)
+
+-- what a later call read, likewise
+pub reads_from : {W S O : Type 0} (words : AnyWords W S O) (shapes : Shapes S) (u v w : W) (IsSeen : List ℕ → List ℕ → ℕ → Type 0) → words.shape v ≡ words.shape u → ReadsWithin words shapes v w IsSeen
+    → (s : List ℕ) → Fits (shapes.word_count (words.shape u)) (shapes.good (words.shape u)) (words.trace w) s → AppendsReads (words.trace v) (words.trace w) (IsSeen (after (words.trace v) s) (after (words.trace w) s))
+reads_from words shapes u v w IsSeen e h s fit = h.at s (subst (λ z. Fits (shapes.word_count z) (shapes.good z) (words.trace w) s) (sym e) fit)

@@ -1,0 +1,108 @@
+-- What the calls that join two trees lead to, in every fitting state at once.
+use Rattle.std.proofs.Common.{◌≡◌, ◌≢◌, ℕ, ◌+◌, ◌^◌, ◌<◌, ◌≤◌, List, [], ◌∷◌, ◌++◌, length, ◌⊎◌, inl, inr, refl, sym, ◌∙◌, subst, arith}
+use Rattle.history_model.specs.declared.event.Event.TheVariants.{Read}
+use Rattle.history_model.specs.Traces.{Trace, after, Begins}
+use Rattle.history_model.specs.Fitting.{Fits, SomeFits, Leads}
+use Rattle.history_model.proofs.TraceLaws.{length-after}
+use Rattle.history_model.proofs.FittingLaws.{fits_begins}
+use Rattle.txn_words.specs.Steps.{EndsWithWrite}
+use Rattle.txn_words.specs.Frames.{AppendsOnly}
+use Rattle.txn_words.proofs.Steps.{after_write_end, fits_write_end}
+use Rattle.txn_words.proofs.FrameLaws.{only_write, only_then, only_more}
+use Rattle.txn_alloc.specs.FreeLists.{block_at}
+use Rattle.txn_alloc.proofs.Looks.{looks_one, looks_read, seen_before, leads_back}
+use Rattle.txn_tree_map.specs.declared.map.TreeMap.{TreeMap}
+use Rattle.txn_tree_map.specs.Trees.{Tree, priority_of, cells_of}
+use Rattle.txn_tree_map.specs.Changes.{Hangs}
+use Rattle.txn_tree_map.specs.Joins.{IsHoleOrName, ArePair, IsJoined, CanGoOn, JoinsOne, IsGathered, Joins, IsJoinOwn}
+use Rattle.txn_tree_map.proofs.Trees.{one_tree}
+use Rattle.txn_tree_map.proofs.Priorities.{priorities_differ}
+use Rattle.txn_tree_map.proofs.Joinings.{joined_within, joined_own, joined_laid, joined_left_below, joined_right_below, tops_differ, joined_left, joined_right, gathered_own, gathered_within, joins_end}
+
+module _ (map : TreeMap) (place left_rest right_rest : ℕ) where
+  pub can_go_on_within : (s : List ℕ) (b : ℕ) → CanGoOn map place left_rest right_rest s → b < map.arena.blocks → (place < length s) × (block_at map.arena b + 4 ≤ length s)
+  can_go_on_within s b h lt = (
+    joined_within map h.hole h.left h.right h.turns place left_rest right_rest h.start s h.joined,
+    (joined_laid map h.hole h.left h.right h.turns place left_rest right_rest h.start s h.joined).arena.blocks b lt,
+  )
+
+  pub can_go_on_below : (s : List ℕ) → CanGoOn map place left_rest right_rest s → ((b : ℕ) → left_rest ≡ b + 1 → b < map.arena.blocks) × ((b : ℕ) → right_rest ≡ b + 1 → b < map.arena.blocks)
+  can_go_on_below s h = (
+    joined_left_below map h.hole h.left h.right h.turns place left_rest right_rest h.start s h.joined,
+    joined_right_below map h.hole h.left h.right h.turns place left_rest right_rest h.start s h.joined,
+  )
+
+  module _ (n : ℕ) (G : List ℕ → Type 0) (t u v w : Trace) (b d j k next : ℕ) (left_is : left_rest ≡ b + 1) (right_is : right_rest ≡ d + 1)
+      (one : u ≡ t ++ Read (block_at map.arena b) j ∷ []) (two : v ≡ u ++ Read (block_at map.arena d) k ∷ []) (begins : Begins v w) where
+    abbrev seen : ℕ → Type 0
+    seen a = (a ≡ block_at map.arena b) ⊎ (a ≡ block_at map.arena d)
+
+    -- the keys were read, and the left top hung
+    pub joins_left : priority_of k < priority_of j → Leads n G v w (Hangs place left_rest (block_at map.arena b + 3) next) → Leads n G t w (JoinsOne map place left_rest right_rest (block_at map.arena b + 3) next right_rest)
+    joins_left lt hangs = record {
+      at = λ s fit hole left right turns start h.
+          let look = looks_read n G t seen u v (block_at map.arena d) k _ (looks_one n G t seen u (block_at map.arena b) j one (inl refl)) two (inr refl) in
+          let there = seen_before n G t v look s (fits_begins n G v w s begins fit) in
+          joined_left map hole left right turns place left_rest right_rest start (after t s) h b d j k left_is right_is there.0 there.1 next (after w s) lt ((leads_back n G t v look w _ begins hangs).at s fit);
+    }
+
+    pub joins_right : j < 2 ^ 64 → k < 2 ^ 64 → (priority_of k < priority_of j → ⊥) → Leads n G v w (Hangs place right_rest (block_at map.arena d + 2) next)
+        → Leads n G t w (JoinsOne map place left_rest right_rest (block_at map.arena d + 2) left_rest next)
+    joins_right low_j low_k le hangs = record {
+      at = λ s fit hole left right turns start h.
+          let look = looks_read n G t seen u v (block_at map.arena d) k _ (looks_one n G t seen u (block_at map.arena b) j one (inl refl)) two (inr refl) in
+          let there = seen_before n G t v look s (fits_begins n G v w s begins fit) in
+          let rises : j < k = tops_differ map hole left right turns place left_rest right_rest start (after t s) h b d j k left_is right_is there.0 there.1 in
+          let ne : priority_of j ≢ priority_of k = λ e. let same : j ≡ k = priorities_differ j k low_j low_k e in omega (arith, same, rises) in
+          joined_right map hole left right turns place left_rest right_rest start (after t s) h b d j k left_is right_is there.0 there.1 next (after w s) (omega (arith, le, ne)) ((leads_back n G t v look w _ begins hangs).at s fit);
+    }
+
+module _ (map : TreeMap) (hole left right : ℕ) (n : ℕ) (G : List ℕ → Type 0) (t u : Trace) where
+  -- whichever trees the numbers headed, they are these
+  own_any : (old s : List ℕ) (first second : Tree) → ArePair map hole left right first second old → (a : ℕ) → IsHoleOrName map hole (cells_of first ++ cells_of second) a → IsJoinOwn map hole left right old s a
+  own_any old s first second w a k first' second' w' =
+      let one : first ≡ first' = one_tree map.arena old first first' (w.left_name ∙ sym w'.left_name) w.left_spelled w'.left_spelled in
+      let two : second ≡ second' = one_tree map.arena old second second' (w.right_name ∙ sym w'.right_name) w.right_spelled w'.right_spelled in
+      subst (λ z. IsHoleOrName map hole (cells_of first' ++ cells_of z) a) two (subst (λ z. IsHoleOrName map hole (cells_of z ++ cells_of second) a) one k)
+
+  -- one node more was joined
+  pub joined_more : (v : Trace) (turns place left_rest right_rest place' left_rest' right_rest' : ℕ) → Begins u v
+      → ((s : List ℕ) → Fits n G u s → IsJoined map hole left right turns place left_rest right_rest (after t s) (after u s))
+      → Leads n G u v (JoinsOne map place left_rest right_rest place' left_rest' right_rest') → (s : List ℕ) → Fits n G v s → IsJoined map hole left right (turns + 1) place' left_rest' right_rest' (after t s) (after v s)
+  joined_more v turns place left_rest right_rest place' left_rest' right_rest' b h one s fit = one.at s fit hole left right turns (after t s) (h s (fits_begins n G u v s b fit))
+
+  pub gap_own_more : (v : Trace) (turns place left_rest right_rest : ℕ) → Begins u v
+      → ((s : List ℕ) → Fits n G u s → IsJoined map hole left right turns place left_rest right_rest (after t s) (after u s))
+      → ((s : List ℕ) → Fits n G u s → AppendsOnly t u (IsJoinOwn map hole left right (after t s) (after u s))) → AppendsOnly u v (λ a. a ≡ place)
+      → (s : List ℕ) → Fits n G v s → AppendsOnly t v (IsJoinOwn map hole left right (after t s) (after v s))
+  gap_own_more v turns place left_rest right_rest b h own frame s fit =
+      let fit_u : Fits n G u s = fits_begins n G u v s b fit in
+      let mine : ℕ → Type 0 = IsJoinOwn map hole left right (after t s) (after v s) in
+      let k = h s fit_u in
+      let at : mine place = own_any (after t s) (after v s) k.first k.second k.pair place (joined_own map hole left right turns place left_rest right_rest (after t s) (after u s) k) in
+      only_then mine t u v (own s fit_u) (only_more (λ a. a ≡ place) mine u v (λ a e. subst mine (sym e) at) frame)
+
+  -- the last word was written
+  module _ (place name : ℕ) (gathered : Leads n G t u (IsGathered map hole left right place name)) where
+    pub last_within : SomeFits n G u → place < n
+    last_within some =
+        let s : List ℕ = after u some.0 in
+        let long : length s ≡ n = length-after u some.0 ∙ some.1.count in
+        let within : place < length s = gathered_within map hole left right place name (after t some.0) s (gathered.at some.0 some.1) in
+        omega (arith, long, within)
+
+    module _ (v : Trace) (e : EndsWithWrite u v place name) where
+      pub joins_leads : Leads n G t v (Joins map hole left right)
+      joins_leads = record {
+        at = λ s fit.
+            subst (λ z. Joins map hole left right (after t s) z) (sym (after_write_end u v place name s e))
+            (joins_end map hole left right place name (after t s) (after u s) (gathered.at s (fits_write_end n G u v place name s e fit)));
+      }
+
+      pub joins_own : ((s : List ℕ) → Fits n G u s → AppendsOnly t u (IsJoinOwn map hole left right (after t s) (after u s))) → (s : List ℕ) → Fits n G v s → AppendsOnly t v (IsJoinOwn map hole left right (after t s) (after v s))
+      joins_own own s fit =
+          let fit_u : Fits n G u s = fits_write_end n G u v place name s e fit in
+          let mine : ℕ → Type 0 = IsJoinOwn map hole left right (after t s) (after v s) in
+          let k = gathered.at s fit_u in
+          let at : mine place = own_any (after t s) (after v s) k.first k.second k.pair place (gathered_own map hole left right place name (after t s) (after u s) k) in
+          only_then mine t u v (own s fit_u) (only_write mine u v place name e at)

@@ -1,0 +1,161 @@
+-- Word lists of tests.
+use Rattle.std.proofs.Common.{◌≡◌, ℕ, ◌<◌, ◌≤◌, List, [], ◌∷◌, length, slice_get, slice_set, Some, None, replicate, refl, sym, ap, ◌∙◌, subst, arith, rules}
+use Rattle.std.proofs.lemmas.List.{length-set, length-replicate}
+use Rattle.std.specs.List.{IsDistinct, sum_by}
+use Rattle.std.specs.Ordering.{nat_cmp}
+use Rattle.std.specs.FinSet.{members}
+use Rattle.std.specs.FinSet as set
+use Rattle.std.specs.FinMap as entry_map
+use Rattle.std.specs.FinMap.{gets}
+use mathlib.Core.Bool.{true≢false}
+use Rattle.history_model.specs.Fitting.{IsGood}
+use Rattle.history_model.proofs.TraceLaws.{get_set_same, get_set_other}
+use Rattle.txn_alloc.specs.declared.arena.Arena.{Arena}
+use Rattle.txn_alloc.proofs.Zeros.{zero_there}
+use Rattle.txn_alloc.specs.FreeLists.{IsLaidOut}
+use Rattle.txn_alloc.specs.EntryMaps.{Cell, Entries, value_of, has_block, HasMap, HasMapApart, HasSmallSum, SumsRange}
+use Rattle.txn_alloc.proofs.Sets.{out_empty}
+use Rattle.txn_tree_map.specs.declared.map.TreeMap.{TreeMap}
+use Rattle.txn_tree_map.specs.Trees.{Tree, priority_of, rank_of, TreeHolds}
+use Rattle.txn_tree_map.specs.Trees.Tree.{Leaf, Node}
+use Rattle.txn_tree_map.proofs.Maps.{one_map}
+use Rattle.txn_tree_map.proofs.Entries.{entries_cells}
+
+abbrev pub two : Arena
+two = record { heads = 1; first = 277; blocks = 2 }
+
+abbrev pub small : TreeMap
+small = record { root = 0; arena = record { heads = 1; first = 277; blocks = 2 } }
+
+nothing : (k : ℕ) → entry_map.get (entry_map.empty {X = ℕ} {R = nat_cmp}) k ≡ None
+nothing k = grind (gets, rules)
+
+-- a list of zeros but for the two words that link the blocks is good
+pub linked : (n : ℕ) (ws : List ℕ) → n ≡ 285 → ws ≡ replicate n 0 → IsGood 285 (HasMapApart two (TreeHolds small)) (slice_set (slice_set ws 1 1) 277 2)
+unfolding IsDistinct
+linked n ws is_n e =
+    let nil : ℕ = 0 in
+    let long : length ws ≡ n = ap length e ∙ length-replicate n nil in
+    let t : List ℕ = slice_set ws 1 1 in
+    let s : List ℕ = slice_set t 277 2 in
+    let long_t : length t ≡ length ws = length-set ws 1 1 in
+    let long_s : length s ≡ 285 = length-set t 277 2 ∙ long_t ∙ long ∙ is_n in
+    let rest : (i : ℕ) → i < n → (i ≡ 1 → ⊥) → (i ≡ 277 → ⊥) → slice_get s i ≡ Some 0 =
+    λ i lt one last. get_set_other t 277 i 2 last ∙ get_set_other ws 1 i 1 one ∙ zero_there n i ws e lt in
+    let laid : IsLaidOut two s = record {
+      places = omega (arith, long_s);
+      blocks = λ b lt. omega (arith, long_s, lt);
+      heads = omega (arith, long_s);
+      outside = λ b a lt in_block head. omega (arith, in_block.low, head.high);
+    } in
+    record {
+      count = long_s;
+      good = record {
+        entries = entry_map.empty;
+        used = set.empty;
+        free = set.from_list (0 ∷ 1 ∷ []);
+        holds = record {
+          map = record {
+            laid = record { arena = laid; root = omega (arith, long_s); no_head = λ head. omega (arith, head.low); outside = λ b lt mine. omega (arith, mine.low) };
+            tree = Leaf;
+            spelled = (rest 0 (omega (arith, is_n)) (λ k. omega (arith, k)) (λ k. omega (arith, k)), tt);
+            search = tt;
+            heap = tt;
+            entries_are = nothing;
+            used_are = out_empty;
+          };
+          free_lists = record {
+            laid_out = laid;
+            order = 0 ∷ 1 ∷ [];
+            all = refl;
+            once = ((refl, tt), (tt, tt));
+            first = (
+              get_set_other t 277 1 2 (λ k. absurd (omega (arith, k))) ∙ get_set_same ws 1 1 (omega (arith, long, is_n)),
+              omega arith,
+              (get_set_same t 277 2 (omega (arith, long_t, long, is_n)), omega arith, rest 281 (omega (arith, is_n)) (λ k. omega (arith, k)) (λ k. omega (arith, k))),
+            );
+            others = λ a is lt. rest a (omega (arith, is.high, is_n)) (λ k. omega (arith, k, lt)) (λ k. omega (arith, k, is.high));
+          };
+          apart = λ b m. absurd (true≢false (sym m ∙ out_empty b));
+        };
+      };
+    }
+
+-- two entries, the greater key on top
+abbrev seven : Cell
+seven = record { block = 0; key = 7; value = 71 }
+
+abbrev eight : Cell
+eight = record { block = 1; key = 8; value = 80 }
+
+abbrev both : Tree
+both = Node (Node Leaf seven Leaf) eight Leaf
+
+abbrev both_entries : Entries
+both_entries = entry_map.insert (entry_map.insert entry_map.empty 7 71) 8 80
+
+abbrev pub is_summed : List ℕ → Type 0
+is_summed words = HasMap two (TreeHolds small) words × HasSmallSum two (TreeHolds small) words
+
+-- zeros but for the words of the two entries
+abbrev pub spelled_both : List ℕ → List ℕ
+spelled_both ws = slice_set (slice_set (slice_set (slice_set (slice_set (slice_set ws 0 2) 277 7) 278 71) 281 8) 282 80) 283 1
+
+abbrev zeros : List ℕ
+zeros = replicate 285 0
+
+seven_lower : rank_of (Node Leaf seven Leaf) ≤ priority_of 8
+unfolding priority_of
+seven_lower = omega arith
+
+entries_both : (k : ℕ) → entry_map.get both_entries k ≡ value_of k (seven ∷ eight ∷ [])
+entries_both k = grind (gets, rules)
+
+used_both : (b : ℕ) → set.contains (set.from_list {R = nat_cmp} (0 ∷ 1 ∷ [])) b ≡ has_block b (seven ∷ eight ∷ [])
+used_both b = grind (members, rules)
+
+both_hold : TreeHolds small (spelled_both zeros) both_entries (set.from_list (0 ∷ 1 ∷ []))
+both_hold =
+    let long : length (spelled_both zeros) ≡ 285 = refl in
+    record {
+      laid = record {
+        arena = record {
+          places = omega (arith, long);
+          blocks = λ b lt. omega (arith, long, lt);
+          heads = omega (arith, long);
+          outside = λ b a lt in_block head. omega (arith, in_block.low, head.high);
+        };
+        root = omega (arith, long);
+        no_head = λ head. omega (arith, head.low);
+        outside = λ b lt mine. omega (arith, mine.low);
+      };
+      tree = both;
+      spelled = (
+        refl,
+        (
+          record { below = omega arith; key = refl; value = refl; left_there = refl; right_there = refl },
+          (record { below = omega arith; key = refl; value = refl; left_there = refl; right_there = refl }, tt, tt),
+          tt,
+        ),
+      );
+      search = ((omega arith, tt), (tt, tt));
+      heap = (seven_lower, omega arith, (omega arith, omega arith, tt, tt), tt);
+      entries_are = entries_both;
+      used_are = used_both;
+    }
+
+both_small : HasSmallSum two (TreeHolds small) (spelled_both zeros)
+unfolding both_hold
+both_small f u hold =
+    let one : f ≡ both_entries = (one_map small (spelled_both zeros) f both_entries u (set.from_list (0 ∷ 1 ∷ [])) hold both_hold).0 in
+    let cells : entry_map.entries f ≡ (7, 71) ∷ (8, 80) ∷ [] = ap entry_map.entries one ∙ entries_cells small (spelled_both zeros) both_entries (set.from_list (0 ∷ 1 ∷ [])) both_hold in
+    let sum : sum_by (λ e. e.1) (entry_map.entries f) ≡ 151 = ap (λ es. sum_by (λ e. e.1) es) cells in
+    omega (arith, sum)
+
+pub summed : (ws : List ℕ) → ws ≡ replicate 285 0 → IsGood 285 is_summed (spelled_both ws)
+summed ws e = subst (λ z. IsGood 285 is_summed (spelled_both z)) (sym e)
+    (record { count = refl; good = (record { entries = both_entries; used = set.from_list (0 ∷ 1 ∷ []); holds = both_hold }, both_small) })
+
+-- a sum leaves the sum small
+pub small_after : (low high total : ℕ) (s t : List ℕ) → HasSmallSum two (TreeHolds small) s → SumsRange two (TreeHolds small) low high total s t → HasSmallSum two (TreeHolds small) t
+small_after low high total s t h k = subst (λ z. HasSmallSum two (TreeHolds small) z) (sym k.same) h

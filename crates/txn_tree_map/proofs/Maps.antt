@@ -1,0 +1,156 @@
+-- The map as a whole: it is one, it stands while its words stay, and what it is after a change at a place.
+use Rattle.std.proofs.Common.{◌≡◌, ℕ, ◌+◌, ◌<◌, ◌≤◌, Bool, true, false, List, [], ◌∷◌, ◌++◌, length, slice_get, inl, inr, refl, sym, ap, ◌∙◌, subst, arith}
+use mathlib.Core.Bool.{true≢false}
+use mathlib.Core.Logic.{dite}
+use native.Mathlib.Decide.{ℕ_discrete}
+use Rattle.std.specs.Cmp.{nat_cmp_total}
+use Rattle.std.specs.FinSet.{nat_cmp-IsAntisymmetric}
+use Rattle.std.specs.FinSet as set
+use Rattle.std.specs.FinMap as entry_map
+use Rattle.txn_words.specs.Frames.{KeepsOthers}
+use Rattle.txn_alloc.specs.declared.arena.Arena.{Arena}
+use Rattle.txn_alloc.specs.FreeLists.{IsHead, IsInBlock, TakesBlock}
+use Rattle.txn_alloc.specs.EntryMaps.{Cell, Entries, Blocks, value_of, has_block, HoldsApart, InsertsNew}
+use Rattle.txn_alloc.proofs.Sets.{in_here, out_itself, in_or, out_less, contains-insert_other}
+use Rattle.txn_alloc.proofs.Lists.{free_kept, free_below, same_block}
+use Rattle.txn_alloc.proofs.Cells.{value_less, has_middle, less_block, insert_same, insert_other, times_has}
+use Rattle.txn_tree_map.specs.declared.map.TreeMap.{TreeMap}
+use Rattle.txn_tree_map.specs.Trees.{Tree, name_of, cells_of, IsRising, IsLaid, TreeHolds}
+use Rattle.txn_tree_map.specs.Trees.Tree.{Leaf, Node}
+use Rattle.txn_tree_map.specs.Paths.{Path, plug, before_of, after_of, IsAt}
+use Rattle.txn_tree_map.specs.Searches.{IsMissing}
+use Rattle.txn_tree_map.specs.Changes.{CanPut, IsPut}
+use Rattle.txn_tree_map.proofs.Rising.{value_there}
+use Rattle.txn_tree_map.proofs.Trees.{count_in, count_on, cells_plug, spelled_stays, hung_stays}
+use Rattle.txn_tree_map.proofs.Places.{at_tree, at_value, at_used, at_below, at_times, at_root}
+use Rattle.txn_tree_map.proofs.Descents.{around_node, missing_value}
+use Rattle.txn_tree_map.proofs.Searching.{laid_alike}
+use Rattle.txn_tree_map.proofs.Gets.{used_below}
+
+-- in one word list the map is one
+pub one_map : (map : TreeMap) (s : List ℕ) (f g : Entries) (u w : Blocks) → TreeHolds map s f u → TreeHolds map s g w → (f ≡ g) × (u ≡ w)
+one_map map s f g u w h k =
+    let m : IsAt map [] h.tree s = at_tree map s f u h in (
+      entry_map.same_map nat_cmp_total nat_cmp-IsAntisymmetric f g (λ q. at_value map s [] h.tree m f u h q ∙ sym (at_value map s [] h.tree m g w k q)),
+      set.same_set nat_cmp_total nat_cmp-IsAntisymmetric u w (λ q. at_used map s [] h.tree m f u h q ∙ sym (at_used map s [] h.tree m g w k q)),
+    )
+
+-- a place in a tree whose words stay
+pub at_stays : (map : TreeMap) (s t : List ℕ) (path : Path) (tree : Tree) → IsAt map path tree s → length t ≡ length s → slice_get t map.root ≡ slice_get s map.root
+    → ((b a : ℕ) → 1 ≤ count_on b path + count_in b tree → IsInBlock map.arena b a → slice_get t a ≡ slice_get s a) → IsAt map path tree t
+at_stays map s t path tree m e root same = record {
+  laid = laid_alike map s t e m.laid;
+  hung = hung_stays map.arena s t map.root path (name_of tree) root (λ b a k mine. same b a (omega (arith, k)) mine) m.hung;
+  spelled = spelled_stays map.arena s t tree (λ b a k mine. same b a (omega (arith, k)) mine) m.spelled;
+  search = m.search;
+  high = m.high;
+  heap = m.heap;
+}
+
+-- the whole of a place, with what its cells say
+pub holds_at : (map : TreeMap) (s : List ℕ) (path : Path) (tree : Tree) (f : Entries) (u : Blocks) → IsAt map path tree s
+    → ((key : ℕ) → entry_map.get f key ≡ value_of key (before_of path ++ (cells_of tree ++ after_of path)))
+    → ((b : ℕ) → set.contains u b ≡ has_block b (before_of path ++ (cells_of tree ++ after_of path))) → TreeHolds map s f u
+holds_at map s path tree f u m entries used =
+    let whole : IsAt map [] (plug path tree) s = at_root map s path tree m in
+    record {
+      laid = m.laid;
+      tree = plug path tree;
+      spelled = (whole.hung, whole.spelled);
+      search = subst (λ cs. IsRising cs) (sym (cells_plug path tree)) m.search;
+      heap = whole.heap;
+      entries_are = λ key. entries key ∙ ap (λ cs. value_of key cs) (sym (cells_plug path tree));
+      used_are = λ b. used b ∙ ap (λ cs. has_block b cs) (sym (cells_plug path tree));
+    }
+
+-- the map stands where its root and the words of its used blocks stay
+pub tree_stands : (map : TreeMap) (s t : List ℕ) (f : Entries) (u : Blocks) → TreeHolds map s f u → length t ≡ length s → slice_get t map.root ≡ slice_get s map.root
+    → ((b a : ℕ) → set.contains u b ≡ true → IsInBlock map.arena b a → slice_get t a ≡ slice_get s a) → TreeHolds map t f u
+tree_stands map s t f u h e root blocks =
+    let m : IsAt map [] h.tree s = at_tree map s f u h in
+    holds_at map t [] h.tree f u
+    (at_stays map s t [] h.tree m e root (λ b a k mine. blocks b a (at_used map s [] h.tree m f u h b ∙ times_has b (cells_of h.tree ++ []) (omega (arith, k, at_times map s [] h.tree m b))) mine))
+    (at_value map s [] h.tree m f u h) (at_used map s [] h.tree m f u h)
+
+-- it stands too where heads alone are written
+pub at_headed : (map : TreeMap) (s t : List ℕ) (path : Path) (tree : Tree) → IsAt map path tree s → KeepsOthers (IsHead map.arena) s t → IsAt map path tree t
+at_headed map s t path tree m kept = at_stays map s t path tree m kept.count (kept.same map.root m.laid.no_head)
+    (λ b a k mine. kept.same a (m.laid.arena.outside b a (at_below map s path tree m b k) mine))
+
+pub tree_headed : (map : TreeMap) (s t : List ℕ) (f : Entries) (u : Blocks) → TreeHolds map s f u → KeepsOthers (IsHead map.arena) s t → TreeHolds map t f u
+tree_headed map s t f u h kept = tree_stands map s t f u h kept.count (kept.same map.root h.laid.no_head)
+    (λ b a k mine. kept.same a (h.laid.arena.outside b a (used_below map s f u b h k) mine))
+
+-- a block that is free is not used
+pub free_unused : (map : TreeMap) (s : List ℕ) (f : Entries) (u v : Blocks) (b : ℕ) → HoldsApart map.arena (TreeHolds map) s f u v → set.contains v b ≡ true → set.contains u b ≡ false
+free_unused map s f u v b hold free = at (set.contains u b) refl
+  where
+    at : (m : Bool) → set.contains u b ≡ m → set.contains u b ≡ false
+    at false e = e
+    at true e = absurd (true≢false (sym free ∙ hold.apart b e))
+
+-- a free block was taken: it may be put into the tree
+pub can_put : (map : TreeMap) (key b : ℕ) (s r : List ℕ) (f : Entries) (u v : Blocks) → HoldsApart map.arena (TreeHolds map) s f u v → IsMissing map key s
+    → TakesBlock map.arena b s r v → KeepsOthers (IsHead map.arena) s r → CanPut map key b r
+can_put map key b s r f u v hold none taken kept = record {
+  missing = record { path = none.path; is_at = at_headed map s r none.path Leaf none.is_at kept; low = none.low; high = none.high };
+  below = free_below map.arena s v b hold.free_lists taken.was_free;
+  apart = sym (at_used map s none.path Leaf none.is_at f u hold.map b) ∙ free_unused map s f u v b hold taken.was_free;
+}
+
+-- the map with a cell more
+pub put_holds : (map : TreeMap) (key x b : ℕ) (r t : List ℕ) (f : Entries) (u : Blocks) → TreeHolds map r f u → IsPut map key x b r t → TreeHolds map t (entry_map.insert f key x) (set.insert u b)
+put_holds map key x b r t f u hold put =
+    let none : IsMissing map key r = put.before.missing in
+    let c : Cell = record { block = b; key = key; value = x } in
+    let xs : List Cell = before_of put.path ++ cells_of put.left in
+    let ys : List Cell = cells_of put.right ++ after_of put.path in
+    let whole : before_of put.path ++ (cells_of (Node put.left c put.right) ++ after_of put.path) ≡ xs ++ c ∷ ys = around_node (before_of put.path) (cells_of put.left) (cells_of put.right) (after_of put.path) c in
+    holds_at map t put.path (Node put.left c put.right) (entry_map.insert f key x) (set.insert u b) put.is_at
+    (λ k. dite (ℕ_discrete k key)
+    (λ e. subst (λ q. entry_map.get (entry_map.insert f key x) q ≡ value_of q (before_of put.path ++ (cells_of (Node put.left c put.right) ++ after_of put.path))) (sym e)
+    (insert_same f key x ∙ sym (ap (λ cs. value_of key cs) whole ∙ value_there key xs ys c refl put.low)))
+    (λ ne. insert_other f key x k ne ∙ at_value map r none.path Leaf none.is_at f u hold k ∙ ap (λ cs. value_of k cs) put.cells
+    ∙ value_less k xs ys c (λ e. ne (sym e)) ∙ ap (λ cs. value_of k cs) (sym whole)))
+    (λ d. dite (ℕ_discrete d b)
+    (λ e. subst (λ q. set.contains (set.insert u b) q ≡ has_block q (before_of put.path ++ (cells_of (Node put.left c put.right) ++ after_of put.path))) (sym e)
+    (in_here u b ∙ sym (ap (λ cs. has_block b cs) whole ∙ has_middle b xs ys c refl)))
+    (λ ne. contains-insert_other u b d ne ∙ at_used map r none.path Leaf none.is_at f u hold d ∙ ap (λ cs. has_block d cs) put.cells
+    ∙ less_block d xs ys c (λ e. ne (sym e)) ∙ ap (λ cs. has_block d cs) (sym whole)))
+
+-- with the free lists beside it
+pub inserted_new : (map : TreeMap) (key x b : ℕ) (s r t : List ℕ) (f : Entries) (u v : Blocks) → HoldsApart map.arena (TreeHolds map) s f u v → IsMissing map key s
+    → TakesBlock map.arena b s r v → KeepsOthers (IsHead map.arena) s r → IsPut map key x b r t → InsertsNew map.arena (TreeHolds map) key x t f u v
+inserted_new map key x b s r t f u v hold none taken kept put =
+    let a : Arena = map.arena in
+    let h : TreeHolds map r f u = tree_headed map s r f u hold.map kept in
+    let here : IsMissing map key r = put.before.missing in
+    let l : IsLaid map r = h.laid in
+    let used : (d : ℕ) → has_block d (before_of here.path ++ after_of here.path) ≡ true → set.contains u d ≡ true = λ d k. at_used map r here.path Leaf here.is_at f u h d ∙ k in
+    record {
+      absent = missing_value map key s f u none hold.map;
+      block = b;
+      was_free = taken.was_free;
+      left = record {
+        map = put_holds map key x b r t f u h put;
+        free_lists = free_kept a r t (set.remove v b) taken.left put.kept.count
+            (λ c head. put.kept.same c (λ k. elim k [
+              | inl e ↦ l.no_head (subst (λ z. IsHead a z) e head)
+              | inr m ↦ l.arena.outside m.0 c
+                  (elim (m.1) [ inl e ↦ subst (λ d. d < a.blocks) (sym e) put.before.below | inr z ↦ used_below map r f u m.0 h (used m.0 z) ]) m.2 head
+            ]))
+            (λ d c free mine. put.kept.same c (λ k. elim k [
+              | inl e ↦ l.outside d (free_below a r (set.remove v b) d taken.left free) (subst (λ z. IsInBlock a d z) e mine)
+              | inr m ↦
+                  let same : d ≡ m.0 = same_block a d m.0 c mine m.2 in
+                  elim (m.1) [
+                    | inl e ↦ true≢false (sym free ∙ ap (λ q. set.contains (set.remove v b) q) (same ∙ e) ∙ out_itself v b)
+                    | inr z ↦ true≢false (sym free ∙ ap (λ q. set.contains (set.remove v b) q) same ∙ out_less v b m.0 (hold.apart m.0 (used m.0 z)))
+                  ]
+            ]));
+        apart = λ d m. elim (in_or u b d m) [
+          | inl e ↦ ap (λ q. set.contains (set.remove v b) q) e ∙ out_itself v b
+          | inr k ↦ out_less v b d (hold.apart d k)
+        ];
+      };
+    }

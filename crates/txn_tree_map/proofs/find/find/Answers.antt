@@ -1,0 +1,76 @@
+use Rattle.std.proofs.Common.{◌≡◌, ◌+◌, ◌*◌, nat_lt, inl, refl, ◌∙◌, subst, arith, if◌then◌else◌}
+use Rattle.txn_alloc.specs.FreeLists.{block_at}
+use Rattle.txn_alloc.proofs.Looks.{looks_none, looks_map, looks_then, looks_each, looks_from}
+use Rattle.txn_tree_map.specs.Searches.{HasTop, IsPassed, IsNamed, IsEnd, IsFoundAt, IsMissing, IsLink}
+use Rattle.txn_tree_map.proofs.Places.{at_tree}
+use Rattle.txn_tree_map.proofs.Descents.{passed_tree, passed_top, passed_end, passed_all, passed_found, passed_down}
+use Rattle.txn_tree_map.proofs.Searching.{link_down}
+use Rattle.txn_tree_map.proofs.find.find.Goals as goal
+
+pub loop-init : goal.loop-init
+loop-init g c =
+    let m = c.args.map.now in
+    record {
+      shape = refl;
+      origin = refl;
+      stop = c.requires.ready.going;
+      sound = c.requires.ready.sound;
+      link = inl refl;
+      looks = looks_none _ _ _ (IsLink m) _ (record {
+        at = λ s fit. let o = c.requires.order.at s fit in passed_tree m c.args.key 0 _ o.holds.tree (at_tree m _ o.entries o.used o.holds) (omega arith);
+      });
+    }
+
+pub look-requires-clause-top : goal.look-requires-clause-top
+look-requires-clause-top g c =
+    let m = c.args.map.now in
+    let i = c.loop.invariant in
+    looks_each g.W.Words g.W.Shape.Shape _ _ (IsLink m) (HasTop m c.loop.place) (looks_map _ _ _ (IsLink m) _ _ _ (λ s h. passed_top m c.args.key 0 s c.loop.place c.loop.counter h) i.looks) i.shape
+
+pub returns-in-None-clause-missing : goal.returns-in-None-clause-missing
+returns-in-None-clause-missing g c =
+    let m = c.args.map.now in
+    let i = c.loop.invariant in
+    let end = rw c.in-None.is at c.in_ok-look.ensures.end in
+    looks_map _ _ _ (IsLink m) _ _ (IsMissing m c.args.key) (λ s h. passed_end m c.args.key 0 s c.loop.place c.loop.counter h.0 h.1)
+    (looks_then _ _ _ (IsLink m) _ _ _ (IsEnd c.loop.place) i.looks (looks_from g.W.Words g.W.Shape.Shape c.args.w.now c.loop.w _ _ (IsLink m) _ i.shape end))
+
+pub returns-then-node-key-clause-found : goal.returns-then-node-key-clause-found
+returns-then-node-key-clause-found g c =
+    let m = c.args.map.now in
+    let i = c.loop.invariant in
+    let node = c.in-Some.node in
+    let named = rw c.in-Some.is at c.in_ok-look.ensures.named in
+    looks_map _ _ _ (IsLink m) _ _ (IsFoundAt m c.args.key c.loop.place node.block)
+    (λ s h. passed_found m c.args.key 0 s c.loop.place c.loop.counter node.block node.key h.0 h.1 c.if-node-key.true)
+    (looks_then _ _ _ (IsLink m) _ _ _ (IsNamed m c.loop.place node.block node.key) i.looks (looks_from g.W.Words g.W.Shape.Shape c.args.w.now c.loop.w _ _ (IsLink m) _ i.shape named))
+
+pub returns-then-node-key-clause-link : goal.returns-then-node-key-clause-link
+returns-then-node-key-clause-link g c = c.loop.invariant.link
+
+pub loop-preserved : goal.loop-preserved
+loop-preserved g c =
+    let m = c.args.map.now in
+    let i = c.loop.invariant in
+    let node = c.in-Some.node in
+    let goes = c.in_ok-look.ensures.goes_on in
+    let named = rw c.in-Some.is at c.in_ok-look.ensures.named in
+    let below = rw c.in-Some.is at c.in_ok-look.ensures.block in
+    let next : block_at m.arena node.block + (if nat_lt c.args.key node.key then 2 else 3) ≡ m.arena.first + 4 * c.from.result + c.side.result = omega (arith, c.from.ensures, c.side.ensures) in
+    record {
+      shape = goes.shape ∙ i.shape;
+      origin = goes.origin ∙ i.origin;
+      stop = goes.stops;
+      sound = goes.sound;
+      link = subst (λ a. IsLink m a) next (link_down m node.block (nat_lt c.args.key node.key) below);
+      looks = looks_map _ _ _ (IsLink m) _ _ _
+          (λ s h. subst (λ a. IsPassed m c.args.key 0 a (c.loop.counter + 1) s) next
+          (passed_down m c.args.key 0 s c.loop.place c.loop.counter node.block node.key h.0 h.1 c.if-node-key.false (omega arith)))
+          (looks_then _ _ _ (IsLink m) _ _ _ (IsNamed m c.loop.place node.block node.key) i.looks (looks_from g.W.Words g.W.Shape.Shape c.args.w.now c.loop.w _ _ (IsLink m) _ i.shape named));
+    }
+
+pub returns-clause-missing : goal.returns-clause-missing
+returns-clause-missing g c =
+    let m = c.args.map.now in
+    let i = c.loop.invariant in
+    looks_map _ _ _ (IsLink m) _ _ (IsMissing m c.args.key) (λ s h. passed_all m c.args.key 0 s c.loop.place c.loop.counter (omega (arith, c.loop-test.false)) h) i.looks

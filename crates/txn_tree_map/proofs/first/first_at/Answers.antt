@@ -1,0 +1,63 @@
+use Rattle.std.proofs.Common.{◌≡◌, ◌+◌, ◌*◌, nat_le, inl, refl, sym, ◌∙◌, subst, arith, if◌then◌else◌}
+use Rattle.txn_alloc.specs.FreeLists.{block_at}
+use Rattle.txn_alloc.proofs.Looks.{looks_none, looks_map, looks_then, looks_each, looks_from}
+use Rattle.txn_tree_map.specs.Searches.{HasTop, IsNamed, IsEnd, IsLink}
+use Rattle.txn_tree_map.specs.Sums.{IsNear, IsNearest}
+use Rattle.txn_tree_map.proofs.Places.{at_tree}
+use Rattle.txn_tree_map.proofs.Nearest.{near_none, near_top, near_end, near_all, near_down}
+use Rattle.txn_tree_map.proofs.Searching.{link_down}
+use Rattle.txn_tree_map.proofs.first.first_at.Goals as goal
+
+pub loop-init : goal.loop-init
+loop-init g c =
+    let m = c.args.map.now in
+    record {
+      shape = refl;
+      origin = refl;
+      stop = c.requires.ready.going;
+      sound = c.requires.ready.sound;
+      link = inl refl;
+      looks = looks_none _ _ _ (IsLink m) _ (record { at = λ s fit. let o = c.requires.order.at s fit in near_none m c.args.least _ o.holds.tree (at_tree m _ o.entries o.used o.holds) });
+    }
+
+pub look-requires-clause-top : goal.look-requires-clause-top
+look-requires-clause-top g c =
+    let m = c.args.map.now in
+    let i = c.loop.invariant in
+    looks_each g.W.Words g.W.Shape.Shape _ _ (IsLink m) (HasTop m c.loop.place) (looks_map _ _ _ (IsLink m) _ _ _ (λ s h. near_top m c.args.least s c.loop.best c.loop.place c.loop.counter h) i.looks) i.shape
+
+pub returns-in-None-clause-nearest : goal.returns-in-None-clause-nearest
+returns-in-None-clause-nearest g c =
+    let m = c.args.map.now in
+    let i = c.loop.invariant in
+    let end = rw c.in-None.is at c.in_ok-look.ensures.end in
+    looks_map _ _ _ (IsLink m) _ _ (IsNearest m c.args.least c.loop.best) (λ s h. near_end m c.args.least s c.loop.best c.loop.place c.loop.counter h.0 h.1)
+    (looks_then _ _ _ (IsLink m) _ _ _ (IsEnd c.loop.place) i.looks (looks_from g.W.Words g.W.Shape.Shape c.args.w.now c.loop.w _ _ (IsLink m) _ i.shape end))
+
+pub loop-preserved : goal.loop-preserved
+loop-preserved g c =
+    let m = c.args.map.now in
+    let i = c.loop.invariant in
+    let node = c.in-Some.node in
+    let least = c.args.least in
+    let goes = c.in_ok-look.ensures.goes_on in
+    let named = rw c.in-Some.is at c.in_ok-look.ensures.named in
+    let below = rw c.in-Some.is at c.in_ok-look.ensures.block in
+    let next : block_at m.arena node.block + (if nat_le least node.key then 2 else 3) ≡ m.arena.first + 4 * c.from.result + c.side.result = omega (arith, c.from.ensures, c.side.ensures) in
+    record {
+      shape = goes.shape ∙ i.shape;
+      origin = goes.origin ∙ i.origin;
+      stop = goes.stops;
+      sound = goes.sound;
+      link = subst (λ a. IsLink m a) next (link_down m node.block (nat_le least node.key) below);
+      looks = looks_map _ _ _ (IsLink m) _ _ _
+          (λ s h. subst (λ a. IsNear m least c.better-best.result a (c.loop.counter + 1) s) next
+          (subst (λ o. IsNear m least o (block_at m.arena node.block + (if nat_le least node.key then 2 else 3)) (c.loop.counter + 1) s) (sym c.better-best.ensures)
+          (near_down m least s c.loop.best c.loop.place c.loop.counter node.block node.key h.0 h.1)))
+          (looks_then _ _ _ (IsLink m) _ _ _ (IsNamed m c.loop.place node.block node.key) i.looks (looks_from g.W.Words g.W.Shape.Shape c.args.w.now c.loop.w _ _ (IsLink m) _ i.shape named));
+    }
+
+pub returns-clause-nearest : goal.returns-clause-nearest
+returns-clause-nearest g c =
+    let m = c.args.map.now in
+    looks_map _ _ _ (IsLink m) _ _ (IsNearest m c.args.least c.loop.best) (λ s h. near_all m c.args.least s c.loop.best c.loop.place c.loop.counter (omega (arith, c.loop-test.false)) h) c.loop.invariant.looks

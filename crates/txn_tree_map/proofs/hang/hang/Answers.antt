@@ -1,0 +1,29 @@
+use Rattle.std.proofs.Common.{◌≡◌, ℕ, refl, ap, arith}
+use Rattle.txn_words.proofs.CallLaws.{each_plain}
+use Rattle.txn_words.proofs.FrameLaws.{only_read, only_write, only_then}
+use Rattle.txn_words.proofs.ReadLaws.{sees_read, sees_write, sees_then}
+use Rattle.txn_tree_map.specs.Searches.{IsLink}
+use Rattle.txn_tree_map.proofs.Splitting.{are_within, hangs_leads}
+use Rattle.txn_tree_map.proofs.hang.hang.Goals as goal
+
+pub read-requires-clause-within : goal.read-requires-clause-within
+read-requires-clause-within g c =
+    (are_within _ _ _ c.args.hole c.args.inner (g.met.W.Words.fits c.args.w.now c.requires.ready.sound) (each_plain g.W.Words g.W.Shape.Shape _ _ c.requires.within)).1
+
+pub write-requires-clause-within : goal.write-requires-clause-within
+write-requires-clause-within g c =
+    let within = are_within _ _ _ c.args.hole c.args.inner (g.met.W.Words.fits c.args.w.now c.requires.ready.sound) (each_plain g.W.Words g.W.Shape.Shape _ _ c.requires.within) in
+    omega (arith, within.0, ap g.W.Shape.Shape.word_count c.in_ok-rest.ensures.shape)
+
+pub returns-clause-hung : goal.returns-clause-hung
+returns-clause-hung g c = record { at = (hangs_leads _ _ _ _ _ c.args.hole c.args.name c.args.inner c.in_ok-rest.rest c.in_ok-rest.ensures.value c.in_ok-write.ensures.value).at }
+
+pub returns-clause-frame : goal.returns-clause-frame
+returns-clause-frame g c =
+    let own : ℕ → Type 0 = λ a. a ≡ c.args.hole in
+    record { appended = only_then own _ _ _ (only_read own _ _ _ _ c.in_ok-rest.ensures.value) (only_write own _ _ _ _ c.in_ok-write.ensures.value refl) }
+
+pub returns-clause-reads : goal.returns-clause-reads
+returns-clause-reads g c =
+    let seen = IsLink c.args.map.now in
+    sees_then seen _ _ _ (sees_read seen _ _ _ _ c.in_ok-rest.ensures.value c.requires.inner_link) (sees_write seen _ _ _ _ c.in_ok-write.ensures.value c.requires.hole_link)

@@ -1,0 +1,85 @@
+use Rattle.std.proofs.Common.{◌≡◌, ◌+◌, ◌*◌, ◌<◌, ap, ◌∙◌, arith}
+use Rattle.history_model.specs.Fitting.{SomeFits}
+use Rattle.history_model.proofs.FittingLaws.{some_at}
+use Rattle.txn_words.proofs.CallLaws.{each_plain}
+use Rattle.txn_alloc.specs.FreeLists.{block_at}
+use Rattle.txn_alloc.proofs.Looks.{each_from, leads_from, within_from}
+use Rattle.txn_tree_map.proofs.Searching.{laid_block}
+use Rattle.txn_tree_map.proofs.Putting.{seat_within, can_split, put_leads, put_own, put_reads}
+use Rattle.txn_tree_map.proofs.insert.put_in.Goals as goal
+
+pub find_seat-requires-clause-missing : goal.find_seat-requires-clause-missing
+find_seat-requires-clause-missing g c = record { at = λ s fit. (c.requires.missing.at s fit).missing }
+
+pub write-requires-clause-within : goal.write-requires-clause-within
+write-requires-clause-within g c =
+    let m = c.args.map.now in
+    let some = g.met.W.Words.fits c.args.w.now c.requires.ready.sound in
+    let below : c.args.block < m.arena.blocks = (c.requires.missing.at some.0 some.1).below in
+    let in_list = laid_block m _ _ _ some c.args.block (record { at = λ s fit. (c.requires.missing.at s fit).missing.is_at.laid }) below in
+    omega (arith, in_list.0, c.from.ensures, ap g.W.Shape.Shape.word_count c.in_ok-seat.ensures.goes_on.shape)
+
+pub write-requires-2-clause-within : goal.write-requires-2-clause-within
+write-requires-2-clause-within g c =
+    let m = c.args.map.now in
+    let some = g.met.W.Words.fits c.args.w.now c.requires.ready.sound in
+    let below : c.args.block < m.arena.blocks = (c.requires.missing.at some.0 some.1).below in
+    let in_list = laid_block m _ _ _ some c.args.block (record { at = λ s fit. (c.requires.missing.at s fit).missing.is_at.laid }) below in
+    omega (arith, in_list.0, c.from.ensures, ap g.W.Shape.Shape.word_count (c.in_ok-write.ensures.shape ∙ c.in_ok-seat.ensures.goes_on.shape))
+
+pub split-requires-clause-whole : goal.split-requires-clause-whole
+split-requires-clause-whole g c =
+    let m = c.args.map.now in
+    let seat = c.in_ok-seat.seat in
+    let is_block : m.arena.first + 4 * c.from.result ≡ block_at m.arena c.args.block = omega (arith, c.from.ensures) in
+    each_from g.W.Words g.W.Shape.Shape c.args.w.now c.write-2.new.self _ (c.in_ok-write-2.ensures.shape ∙ c.in_ok-write.ensures.shape ∙ c.in_ok-seat.ensures.goes_on.shape)
+    (can_split m c.args.key c.args.value c.args.block seat.place seat.name _ _ _ _ c.in_ok-seat.ensures.seat (each_plain g.W.Words g.W.Shape.Shape _ _ c.requires.missing)
+    (m.arena.first + 4 * c.from.result) 0 _ _ is_block c.in_ok-write.ensures.value c.in_ok-write-2.ensures.value)
+
+pub write-requires-3-clause-within : goal.write-requires-3-clause-within
+write-requires-3-clause-within g c =
+    let m = c.args.map.now in
+    let seat = c.in_ok-seat.seat in
+    let goes = c.in_ok-seat.ensures.goes_on in
+    let some : SomeFits (g.W.Shape.Shape.word_count (g.W.Words.shape c.args.w.now)) (g.W.Shape.Shape.good (g.W.Words.shape c.args.w.now)) (g.W.Words.trace c.find_seat.new.w) =
+    some_at g.W.Shape.Shape.word_count g.W.Shape.Shape.good _ _ _ goes.shape (g.met.W.Words.fits c.find_seat.new.w goes.sound) in
+    let within = seat_within m c.args.key c.args.value c.args.block seat.place seat.name _ _ _ _ c.in_ok-seat.ensures.seat (each_plain g.W.Words g.W.Shape.Shape _ _ c.requires.missing) some in
+    omega (arith, within, ap g.W.Shape.Shape.word_count (c.in_ok-split.ensures.goes_on.shape ∙ c.in_ok-write-2.ensures.shape ∙ c.in_ok-write.ensures.shape ∙ goes.shape))
+
+pub returns-clause-put : goal.returns-clause-put
+returns-clause-put g c =
+    let m = c.args.map.now in
+    let seat = c.in_ok-seat.seat in
+    let is_block : m.arena.first + 4 * c.from.result ≡ block_at m.arena c.args.block = omega (arith, c.from.ensures) in
+    let is_name : c.from-2.result + 1 ≡ c.args.block + 1 = omega (arith, c.from-2.ensures) in
+    record {
+      at = (put_leads m c.args.key c.args.value c.args.block seat.place seat.name _ _ _ _ c.in_ok-seat.ensures.seat (each_plain g.W.Words g.W.Shape.Shape _ _ c.requires.missing)
+          (m.arena.first + 4 * c.from.result) (c.from-2.result + 1) _ _ is_block c.in_ok-write.ensures.value c.in_ok-write-2.ensures.value _ _ c.in_ok-split.ensures.goes_on.begins
+          (leads_from g.W.Words g.W.Shape.Shape c.args.w.now c.write-2.new.self c.split.new.w _ (c.in_ok-write-2.ensures.shape ∙ c.in_ok-write.ensures.shape ∙ c.in_ok-seat.ensures.goes_on.shape) c.in_ok-split.ensures.split)
+          is_name c.in_ok-write-3.ensures.value).at;
+    }
+
+pub returns-clause-frame : goal.returns-clause-frame
+returns-clause-frame g c =
+    let m = c.args.map.now in
+    let seat = c.in_ok-seat.seat in
+    let is_block : m.arena.first + 4 * c.from.result ≡ block_at m.arena c.args.block = omega (arith, c.from.ensures) in
+    let is_name : c.from-2.result + 1 ≡ c.args.block + 1 = omega (arith, c.from-2.ensures) in
+    let same = c.in_ok-write-2.ensures.shape ∙ c.in_ok-write.ensures.shape ∙ c.in_ok-seat.ensures.goes_on.shape in
+    record {
+      at = put_own m c.args.key c.args.value c.args.block seat.place seat.name _ _ _ _ c.in_ok-seat.ensures.seat (each_plain g.W.Words g.W.Shape.Shape _ _ c.requires.missing)
+          (m.arena.first + 4 * c.from.result) (c.from-2.result + 1) _ _ is_block c.in_ok-write.ensures.value c.in_ok-write-2.ensures.value _ _ c.in_ok-split.ensures.goes_on.begins
+          (leads_from g.W.Words g.W.Shape.Shape c.args.w.now c.write-2.new.self c.split.new.w _ same c.in_ok-split.ensures.split) is_name c.in_ok-write-3.ensures.value
+          (within_from g.W.Words g.W.Shape.Shape c.args.w.now c.write-2.new.self c.split.new.w _ same c.in_ok-split.ensures.frame);
+    }
+
+pub returns-clause-reads : goal.returns-clause-reads
+returns-clause-reads g c =
+    let m = c.args.map.now in
+    let seat = c.in_ok-seat.seat in
+    let is_block : m.arena.first + 4 * c.from.result ≡ block_at m.arena c.args.block = omega (arith, c.from.ensures) in
+    let is_name : c.from-2.result + 1 ≡ c.args.block + 1 = omega (arith, c.from-2.ensures) in
+    put_reads m c.args.key c.args.value c.args.block seat.place seat.name _ _ _ _ c.in_ok-seat.ensures.seat (each_plain g.W.Words g.W.Shape.Shape _ _ c.requires.missing)
+    (m.arena.first + 4 * c.from.result) (c.from-2.result + 1) _ _ is_block c.in_ok-write.ensures.value c.in_ok-write-2.ensures.value _ _ c.in_ok-split.ensures.goes_on.begins
+    (leads_from g.W.Words g.W.Shape.Shape c.args.w.now c.write-2.new.self c.split.new.w _ (c.in_ok-write-2.ensures.shape ∙ c.in_ok-write.ensures.shape ∙ c.in_ok-seat.ensures.goes_on.shape) c.in_ok-split.ensures.split)
+    is_name c.in_ok-write-3.ensures.value c.in_ok-split.ensures.reads c.in_ok-seat.ensures.link

@@ -1,0 +1,80 @@
+use Rattle.std.proofs.Common.{refl, ◌∙◌, arith}
+use Rattle.history_model.proofs.TraceLaws.{begins_refl, begins_trans}
+use Rattle.txn_words.proofs.FrameLaws.{only_same}
+use Rattle.txn_words.proofs.ReadLaws.{sees_same, sees_then}
+use Rattle.txn_alloc.proofs.Looks.{each_from, leads_from}
+use Rattle.txn_tree_map.specs.Searches.{IsLink}
+use Rattle.txn_tree_map.specs.Joins.{CanGoOn}
+use Rattle.txn_tree_map.proofs.Joinings.{joined_none, gathered_no_left, gathered_no_right, gathered_all}
+use Rattle.txn_tree_map.proofs.Joining.{joined_more, gap_own_more}
+use Rattle.txn_tree_map.proofs.join.gather.Goals as goal
+
+pub loop-init : goal.loop-init
+loop-init g c =
+    let m = c.args.map.now in
+    record {
+      shape = refl;
+      origin = refl;
+      stop = c.requires.ready.going;
+      sound = c.requires.ready.sound;
+      begins = begins_refl _;
+      place = c.requires.link;
+      reads = sees_same (IsLink m) _;
+      own = λ s fit. only_same _ _;
+      joined = λ s fit. let k = c.requires.pair.at s fit in joined_none m c.args.hole c.args.left c.args.right k.first k.second _ k.pair;
+    }
+
+pub join_one-requires-clause-joined : goal.join_one-requires-clause-joined
+join_one-requires-clause-joined g c =
+    let m = c.args.map.now in
+    let i = c.loop.invariant in
+    let p = c.loop.gap in
+    each_from g.W.Words g.W.Shape.Shape c.args.w.now c.loop.w (CanGoOn m p.place p.left p.right) i.shape
+    (record { at = λ s fit. record { hole = c.args.hole; left = c.args.left; right = c.args.right; turns = c.loop.counter; start = _; joined = i.joined s fit } })
+
+pub loop-preserved : goal.loop-preserved
+loop-preserved g c =
+    let m = c.args.map.now in
+    let i = c.loop.invariant in
+    let p = c.loop.gap in
+    let q = c.in_ok-gap.gap in
+    let one = c.in_ok-gap.ensures in
+    record {
+      shape = one.goes_on.shape ∙ i.shape;
+      origin = one.goes_on.origin ∙ i.origin;
+      stop = one.goes_on.stops;
+      sound = one.goes_on.sound;
+      begins = begins_trans _ _ _ i.begins one.goes_on.begins;
+      place = one.place;
+      reads = sees_then (IsLink m) _ _ _ i.reads one.reads;
+      own = gap_own_more m c.args.hole c.args.left c.args.right _ _ _ _ _ c.loop.counter p.place p.left p.right one.goes_on.begins i.joined i.own one.frame.appended;
+      joined = joined_more m c.args.hole c.args.left c.args.right _ _ _ _ _ c.loop.counter p.place p.left p.right q.place q.left q.right one.goes_on.begins i.joined
+          (leads_from g.W.Words g.W.Shape.Shape c.args.w.now c.loop.w c.join_one.new.w _ i.shape one.joined);
+    }
+
+pub returns-then-gap-eq0-clause-gathered : goal.returns-then-gap-eq0-clause-gathered
+returns-then-gap-eq0-clause-gathered g c =
+    let m = c.args.map.now in
+    let p = c.loop.gap in
+    record { at = λ s fit. gathered_no_left m c.args.hole c.args.left c.args.right c.loop.counter p.place p.left p.right _ _ (c.loop.invariant.joined s fit) c.if-gap-eq0.true }
+
+pub returns-then-gap-eq0-2-clause-gathered : goal.returns-then-gap-eq0-2-clause-gathered
+returns-then-gap-eq0-2-clause-gathered g c =
+    let m = c.args.map.now in
+    let p = c.loop.gap in
+    record { at = λ s fit. gathered_no_right m c.args.hole c.args.left c.args.right c.loop.counter p.place p.left p.right _ _ (c.loop.invariant.joined s fit) c.if-gap-eq0-2.true }
+
+pub returns-clause-gathered : goal.returns-clause-gathered
+returns-clause-gathered g c =
+    let m = c.args.map.now in
+    let p = c.loop.gap in
+    record { at = λ s fit. gathered_all m c.args.hole c.args.left c.args.right c.loop.counter p.place p.left p.right _ _ (c.loop.invariant.joined s fit) (omega (arith, c.loop-test.false)) }
+
+pub returns-then-gap-eq0-clause-frame : goal.returns-then-gap-eq0-clause-frame
+returns-then-gap-eq0-clause-frame g c = record { at = c.loop.invariant.own }
+
+pub returns-then-gap-eq0-2-clause-frame : goal.returns-then-gap-eq0-2-clause-frame
+returns-then-gap-eq0-2-clause-frame g c = record { at = c.loop.invariant.own }
+
+pub returns-clause-frame : goal.returns-clause-frame
+returns-clause-frame g c = record { at = c.loop.invariant.own }

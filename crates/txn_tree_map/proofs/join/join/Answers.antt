@@ -1,0 +1,35 @@
+use Rattle.std.proofs.Common.{ap, arith}
+use Rattle.history_model.specs.Fitting.{SomeFits}
+use Rattle.history_model.proofs.FittingLaws.{some_at}
+use Rattle.txn_words.proofs.CallLaws.{leads_plain}
+use Rattle.txn_words.proofs.ReadLaws.{sees_write, sees_then}
+use Rattle.txn_tree_map.specs.Searches.{IsLink}
+use Rattle.txn_tree_map.proofs.Joining.{last_within, joins_leads, joins_own}
+use Rattle.txn_tree_map.proofs.join.join.Goals as goal
+
+pub write-requires-clause-within : goal.write-requires-clause-within
+write-requires-clause-within g c =
+    let p = c.in_ok-last.last in
+    let one = c.in_ok-last.ensures in
+    let some : SomeFits (g.W.Shape.Shape.word_count (g.W.Words.shape c.args.w.now)) (g.W.Shape.Shape.good (g.W.Words.shape c.args.w.now)) (g.W.Words.trace c.gather.new.w) =
+    some_at g.W.Shape.Shape.word_count g.W.Shape.Shape.good _ _ _ one.goes_on.shape (g.met.W.Words.fits c.gather.new.w one.goes_on.sound) in
+    let within = last_within c.args.map.now c.args.hole c.args.left c.args.right _ _ _ _ p.place p.name (leads_plain g.W.Words g.W.Shape.Shape _ _ _ one.gathered) some in
+    omega (arith, within, ap g.W.Shape.Shape.word_count one.goes_on.shape)
+
+pub returns-clause-joined : goal.returns-clause-joined
+returns-clause-joined g c =
+    let p = c.in_ok-last.last in
+    record { at = (joins_leads c.args.map.now c.args.hole c.args.left c.args.right _ _ _ _ p.place p.name (leads_plain g.W.Words g.W.Shape.Shape _ _ _ c.in_ok-last.ensures.gathered) _ c.in_ok-write.ensures.value).at }
+
+pub returns-clause-frame : goal.returns-clause-frame
+returns-clause-frame g c =
+    let p = c.in_ok-last.last in
+    record {
+      at = joins_own c.args.map.now c.args.hole c.args.left c.args.right _ _ _ _ p.place p.name (leads_plain g.W.Words g.W.Shape.Shape _ _ _ c.in_ok-last.ensures.gathered) _ c.in_ok-write.ensures.value c.in_ok-last.ensures.frame.at;
+    }
+
+pub returns-clause-reads : goal.returns-clause-reads
+returns-clause-reads g c =
+    let seen = IsLink c.args.map.now in
+    let one = c.in_ok-last.ensures in
+    sees_then seen _ _ _ one.reads (sees_write seen _ _ _ _ c.in_ok-write.ensures.value one.place)

@@ -1,0 +1,171 @@
+use Rattle.std.proofs.Common.{◌≡◌, ℕ, ◌+◌, ◌-◌, ◌<◌, ◌⊎◌, inl, inr, refl, ap, ◌∙◌, arith}
+use Rattle.txn_words.proofs.CallLaws.{each_plain}
+use Rattle.txn_words.proofs.FrameLaws.{only_read, only_then}
+use Rattle.txn_words.proofs.ReadLaws.{sees_read, sees_then}
+use Rattle.txn_alloc.specs.FreeLists.{block_at}
+use Rattle.txn_alloc.proofs.Looks.{looks_one, looks_read, each_looked, each_from, leads_from}
+use Rattle.txn_tree_map.specs.Searches.{IsLink}
+use Rattle.txn_tree_map.specs.Joins.{CanGoOn}
+use Rattle.txn_tree_map.proofs.Searching.{laid_block}
+use Rattle.txn_tree_map.proofs.Joinings.{joined_laid}
+use Rattle.txn_tree_map.proofs.Joining.{can_go_on_within, can_go_on_below, joins_left, joins_right}
+use Rattle.txn_tree_map.proofs.join.join_one.Goals as goal
+
+pub prove-unreachable-requires : goal.prove-unreachable-requires
+prove-unreachable-requires g c =
+    let m = c.args.map.now in
+    let p = c.args.gap in
+    let some = g.met.W.Words.fits c.args.w.now c.requires.ready.sound in
+    let lt : p.left - 1 < m.arena.blocks = (can_go_on_below m p.place p.left p.right _ (c.requires.joined.at some.0 some.1)).0 (p.left - 1) (omega (arith, c.requires.left)) in
+    omega (arith, lt)
+
+pub prove-unreachable-requires-2 : goal.prove-unreachable-requires-2
+prove-unreachable-requires-2 g c =
+    let m = c.args.map.now in
+    let p = c.args.gap in
+    let some = g.met.W.Words.fits c.args.w.now c.requires.ready.sound in
+    let lt : p.right - 1 < m.arena.blocks = (can_go_on_below m p.place p.left p.right _ (c.requires.joined.at some.0 some.1)).1 (p.right - 1) (omega (arith, c.requires.right)) in
+    omega (arith, lt)
+
+pub overflow_add-right_at : goal.overflow_add-right_at
+overflow_add-right_at g c =
+    let m = c.args.map.now in
+    let p = c.args.gap in
+    let lt : p.right - 1 < m.arena.blocks = omega arith in
+    let in_list = laid_block m _ _ _ (g.met.W.Words.fits c.args.w.now c.requires.ready.sound) (p.right - 1)
+    (record { at = λ s fit. let h = c.requires.joined.at s fit in joined_laid m h.hole h.left h.right h.turns p.place p.left p.right h.start _ h.joined }) lt in
+    omega (arith, in_list.0, in_list.1)
+
+pub read-requires-clause-within : goal.read-requires-clause-within
+read-requires-clause-within g c =
+    let m = c.args.map.now in
+    let p = c.args.gap in
+    let lt : p.left - 1 < m.arena.blocks = omega arith in
+    let in_list = laid_block m _ _ _ (g.met.W.Words.fits c.args.w.now c.requires.ready.sound) (p.left - 1)
+    (record { at = λ s fit. let h = c.requires.joined.at s fit in joined_laid m h.hole h.left h.right h.turns p.place p.left p.right h.start _ h.joined }) lt in
+    omega (arith, in_list.0)
+
+pub read-requires-2-clause-within : goal.read-requires-2-clause-within
+read-requires-2-clause-within g c =
+    let m = c.args.map.now in
+    let p = c.args.gap in
+    let lt : p.right - 1 < m.arena.blocks = omega arith in
+    let in_list = laid_block m _ _ _ (g.met.W.Words.fits c.args.w.now c.requires.ready.sound) (p.right - 1)
+    (record { at = λ s fit. let h = c.requires.joined.at s fit in joined_laid m h.hole h.left h.right h.turns p.place p.left p.right h.start _ h.joined }) lt in
+    omega (arith, in_list.0, ap g.W.Shape.Shape.word_count c.in_ok-left_key.ensures.shape)
+
+pub hang-requires-clause-inner_link : goal.hang-requires-clause-inner_link
+hang-requires-clause-inner_link g c =
+    let m = c.args.map.now in
+    let p = c.args.gap in
+    let lt : p.left - 1 < m.arena.blocks = omega arith in
+    inr (p.left - 1, lt, inr (inr refl))
+
+pub hang-requires-2-clause-inner_link : goal.hang-requires-2-clause-inner_link
+hang-requires-2-clause-inner_link g c =
+    let m = c.args.map.now in
+    let p = c.args.gap in
+    let lt : p.right - 1 < m.arena.blocks = omega arith in
+    inr (p.right - 1, lt, inr (inl refl))
+
+pub returns-then-priority-clause-place : goal.returns-then-priority-clause-place
+returns-then-priority-clause-place g c =
+    let m = c.args.map.now in
+    let p = c.args.gap in
+    let lt : p.left - 1 < m.arena.blocks = omega arith in
+    inr (p.left - 1, lt, inr (inr refl))
+
+pub returns-clause-place : goal.returns-clause-place
+returns-clause-place g c =
+    let m = c.args.map.now in
+    let p = c.args.gap in
+    let lt : p.right - 1 < m.arena.blocks = omega arith in
+    inr (p.right - 1, lt, inr (inl refl))
+
+pub hang-requires-clause-within : goal.hang-requires-clause-within
+hang-requires-clause-within g c =
+    let m = c.args.map.now in
+    let p = c.args.gap in
+    let lt : p.left - 1 < m.arena.blocks = omega arith in
+    let seen : ℕ → Type 0 = λ a. (a ≡ block_at m.arena (p.left - 1)) ⊎ (a ≡ block_at m.arena (p.right - 1)) in
+    let look = looks_read _ _ _ seen _ _ (block_at m.arena (p.right - 1)) c.in_ok-right_key.right_key _
+    (looks_one _ _ _ seen _ (block_at m.arena (p.left - 1)) c.in_ok-left_key.left_key c.in_ok-left_key.ensures.value (inl refl)) c.in_ok-right_key.ensures.value (inr refl) in
+    let can = each_looked _ _ _ _ look (CanGoOn m p.place p.left p.right) (each_plain g.W.Words g.W.Shape.Shape _ _ c.requires.joined) in
+    each_from g.W.Words g.W.Shape.Shape c.args.w.now c.read-2.new.self _ (c.in_ok-right_key.ensures.shape ∙ c.in_ok-left_key.ensures.shape)
+    (record {
+      at = λ s fit.
+          let k = can_go_on_within m p.place p.left p.right _ (p.left - 1) (can.at s fit) lt in
+          record { hole_in = k.0; inner_in = omega (arith, k.1) };
+    })
+
+pub hang-requires-2-clause-within : goal.hang-requires-2-clause-within
+hang-requires-2-clause-within g c =
+    let m = c.args.map.now in
+    let p = c.args.gap in
+    let lt : p.right - 1 < m.arena.blocks = omega arith in
+    let seen : ℕ → Type 0 = λ a. (a ≡ block_at m.arena (p.left - 1)) ⊎ (a ≡ block_at m.arena (p.right - 1)) in
+    let look = looks_read _ _ _ seen _ _ (block_at m.arena (p.right - 1)) c.in_ok-right_key.right_key _
+    (looks_one _ _ _ seen _ (block_at m.arena (p.left - 1)) c.in_ok-left_key.left_key c.in_ok-left_key.ensures.value (inl refl)) c.in_ok-right_key.ensures.value (inr refl) in
+    let can = each_looked _ _ _ _ look (CanGoOn m p.place p.left p.right) (each_plain g.W.Words g.W.Shape.Shape _ _ c.requires.joined) in
+    each_from g.W.Words g.W.Shape.Shape c.args.w.now c.read-2.new.self _ (c.in_ok-right_key.ensures.shape ∙ c.in_ok-left_key.ensures.shape)
+    (record {
+      at = λ s fit.
+          let k = can_go_on_within m p.place p.left p.right _ (p.right - 1) (can.at s fit) lt in
+          record { hole_in = k.0; inner_in = omega (arith, k.1) };
+    })
+
+pub returns-then-priority-clause-joined : goal.returns-then-priority-clause-joined
+returns-then-priority-clause-joined g c =
+    let m = c.args.map.now in
+    let p = c.args.gap in
+    let left_is : p.left ≡ (p.left - 1) + 1 = omega (arith, c.requires.left) in
+    let right_is : p.right ≡ (p.right - 1) + 1 = omega (arith, c.requires.right) in
+    record {
+      at = (joins_left m p.place p.left p.right _ _ _ _ _ _ (p.left - 1) (p.right - 1) c.in_ok-left_key.left_key c.in_ok-right_key.right_key c.in_ok-inner.inner left_is right_is
+          c.in_ok-left_key.ensures.value c.in_ok-right_key.ensures.value c.in_ok-inner.ensures.goes_on.begins (omega (arith, c.if-priority.true, c.priority.ensures.value, c.priority-2.ensures.value))
+          (leads_from g.W.Words g.W.Shape.Shape c.args.w.now c.read-2.new.self c.hang.new.w _ (c.in_ok-right_key.ensures.shape ∙ c.in_ok-left_key.ensures.shape) c.in_ok-inner.ensures.hung)).at;
+    }
+
+pub returns-clause-joined : goal.returns-clause-joined
+returns-clause-joined g c =
+    let m = c.args.map.now in
+    let p = c.args.gap in
+    let left_is : p.left ≡ (p.left - 1) + 1 = omega (arith, c.requires.left) in
+    let right_is : p.right ≡ (p.right - 1) + 1 = omega (arith, c.requires.right) in
+    record {
+      at = (joins_right m p.place p.left p.right _ _ _ _ _ _ (p.left - 1) (p.right - 1) c.in_ok-left_key.left_key c.in_ok-right_key.right_key c.in_ok-inner-2.inner left_is right_is
+          c.in_ok-left_key.ensures.value c.in_ok-right_key.ensures.value c.in_ok-inner-2.ensures.goes_on.begins c.priority-2.ensures.small c.priority.ensures.small (λ k. omega (arith, k, c.if-priority.false, c.priority.ensures.value, c.priority-2.ensures.value))
+          (leads_from g.W.Words g.W.Shape.Shape c.args.w.now c.read-2.new.self c.hang-2.new.w _ (c.in_ok-right_key.ensures.shape ∙ c.in_ok-left_key.ensures.shape) c.in_ok-inner-2.ensures.hung)).at;
+    }
+
+pub returns-then-priority-clause-frame : goal.returns-then-priority-clause-frame
+returns-then-priority-clause-frame g c =
+    let own : ℕ → Type 0 = λ a. a ≡ c.args.gap.place in
+    record {
+      appended = only_then own _ _ _ (only_read own _ _ _ _ c.in_ok-left_key.ensures.value) (only_then own _ _ _ (only_read own _ _ _ _ c.in_ok-right_key.ensures.value) c.in_ok-inner.ensures.frame.appended);
+    }
+
+pub returns-clause-frame : goal.returns-clause-frame
+returns-clause-frame g c =
+    let own : ℕ → Type 0 = λ a. a ≡ c.args.gap.place in
+    record {
+      appended = only_then own _ _ _ (only_read own _ _ _ _ c.in_ok-left_key.ensures.value) (only_then own _ _ _ (only_read own _ _ _ _ c.in_ok-right_key.ensures.value) c.in_ok-inner-2.ensures.frame.appended);
+    }
+
+pub returns-then-priority-clause-reads : goal.returns-then-priority-clause-reads
+returns-then-priority-clause-reads g c =
+    let m = c.args.map.now in
+    let p = c.args.gap in
+    let left_lt : p.left - 1 < m.arena.blocks = omega arith in
+    let right_lt : p.right - 1 < m.arena.blocks = omega arith in
+    sees_then (IsLink m) _ _ _ (sees_read (IsLink m) _ _ _ _ c.in_ok-left_key.ensures.value (inr (p.left - 1, left_lt, inl refl)))
+    (sees_then (IsLink m) _ _ _ (sees_read (IsLink m) _ _ _ _ c.in_ok-right_key.ensures.value (inr (p.right - 1, right_lt, inl refl))) c.in_ok-inner.ensures.reads)
+
+pub returns-clause-reads : goal.returns-clause-reads
+returns-clause-reads g c =
+    let m = c.args.map.now in
+    let p = c.args.gap in
+    let left_lt : p.left - 1 < m.arena.blocks = omega arith in
+    let right_lt : p.right - 1 < m.arena.blocks = omega arith in
+    sees_then (IsLink m) _ _ _ (sees_read (IsLink m) _ _ _ _ c.in_ok-left_key.ensures.value (inr (p.left - 1, left_lt, inl refl)))
+    (sees_then (IsLink m) _ _ _ (sees_read (IsLink m) _ _ _ _ c.in_ok-right_key.ensures.value (inr (p.right - 1, right_lt, inl refl))) c.in_ok-inner-2.ensures.reads)

@@ -1,0 +1,5 @@
+use Rattle.txn_tree_map.proofs.Priorities.{priorities_differ}
+use Rattle.txn_tree_map.proofs.laws.priorities_differ.Goals as goal
+
+pub returns : goal.returns
+returns c = priorities_differ

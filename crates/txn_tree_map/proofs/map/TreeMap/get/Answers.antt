@@ -1,0 +1,80 @@
+use Rattle.std.proofs.Common.{◌≡◌, ◌+◌, ◌*◌, arith, ap, ◌∙◌}
+use Rattle.txn_words.proofs.CallLaws.{each_plain}
+use Rattle.txn_alloc.specs.FreeLists.{block_at}
+use Rattle.txn_alloc.specs.EntryMaps.{HasMap}
+use Rattle.txn_alloc.proofs.Looks.{looks_only, each_looked, each_from}
+use Rattle.txn_tree_map.specs.Trees.{TreeHolds}
+use Rattle.txn_tree_map.specs.Searches.{IsLink}
+use Rattle.txn_tree_map.proofs.Searching.{laid_block}
+use Rattle.txn_tree_map.proofs.Gets.{IsLinkOr, looks_value, finds_none, finds_some, spares_link, spares_value}
+use Rattle.txn_tree_map.proofs.map.TreeMap.get.Goals as goal
+
+pub read-requires-clause-within : goal.read-requires-clause-within
+read-requires-clause-within g c =
+    let m = c.args.self.now in
+    let found = rw c.in-Some.is at c.in_ok-find.ensures.found in
+    let below = rw c.in-Some.is at c.in_ok-find.ensures.block in
+    let goes = c.in_ok-find.ensures.goes_on in
+    let in_list = laid_block m _ _ _ (g.met.W.Words.fits c.args.w.now c.requires.ready.sound) c.in-Some.found.block (record { at = λ s fit. (c.requires.order.at s fit).holds.laid }) below in
+    omega (arith, in_list.0, ap g.W.Shape.Shape.word_count goes.shape, c.from.ensures)
+
+pub returns-in-None-clause-found : goal.returns-in-None-clause-found
+returns-in-None-clause-found g c =
+    let missing = rw c.in-None.is at c.in_ok-find.ensures.missing in
+    record { at = (finds_none c.args.self.now c.args.key _ _ _ _ missing).at }
+
+pub returns-in-None-clause-order : goal.returns-in-None-clause-order
+returns-in-None-clause-order g c =
+    let m = c.args.self.now in
+    let missing = rw c.in-None.is at c.in_ok-find.ensures.missing in
+    each_from g.W.Words g.W.Shape.Shape c.args.w.now _ _ c.in_ok-find.ensures.goes_on.shape
+    (each_looked _ _ _ _ missing (HasMap m.arena (TreeHolds m)) (each_plain g.W.Words g.W.Shape.Shape _ _ c.requires.order))
+
+pub returns-in-None-clause-frame : goal.returns-in-None-clause-frame
+returns-in-None-clause-frame g c =
+    let missing = rw c.in-None.is at c.in_ok-find.ensures.missing in
+    looks_only g.W.Words g.W.Shape.Shape _ _ (IsLink c.args.self.now) _ missing
+
+pub returns-in-None-clause-reads : goal.returns-in-None-clause-reads
+returns-in-None-clause-reads g c =
+    let missing = rw c.in-None.is at c.in_ok-find.ensures.missing in
+    record { at = spares_link c.args.self.now c.args.key _ _ _ _ missing (record { at = λ s fit. (c.requires.order.at s fit).holds.laid }) }
+
+pub returns-in_ok-value-in-Some-clause-found : goal.returns-in_ok-value-in-Some-clause-found
+returns-in_ok-value-in-Some-clause-found g c =
+    let m = c.args.self.now in
+    let found = rw c.in-Some.is at c.in_ok-find.ensures.found in
+    let q = m.arena.first + 4 * c.from.result + 1 in
+    let is_value : q ≡ block_at m.arena c.in-Some.found.block + 1 = omega (arith, c.from.ensures) in
+    record {
+      at = (finds_some m c.args.key _ _ _ _ c.in-Some.found.place c.in-Some.found.block q c.in_ok-value-in-Some.value is_value
+          (looks_value m c.args.key _ _ _ _ _ c.in-Some.found.place c.in-Some.found.block q c.in_ok-value-in-Some.value found c.in_ok-value-in-Some.ensures.value)).at;
+    }
+
+pub returns-in_ok-value-in-Some-clause-order : goal.returns-in_ok-value-in-Some-clause-order
+returns-in_ok-value-in-Some-clause-order g c =
+    let m = c.args.self.now in
+    let found = rw c.in-Some.is at c.in_ok-find.ensures.found in
+    let q = m.arena.first + 4 * c.from.result + 1 in
+    each_from g.W.Words g.W.Shape.Shape c.args.w.now _ _ (c.in_ok-value-in-Some.ensures.shape ∙ c.in_ok-find.ensures.goes_on.shape)
+    (each_looked _ _ _ _ (looks_value m c.args.key _ _ _ _ _ c.in-Some.found.place c.in-Some.found.block q c.in_ok-value-in-Some.value found c.in_ok-value-in-Some.ensures.value) (HasMap m.arena (TreeHolds m))
+    (each_plain g.W.Words g.W.Shape.Shape _ _ c.requires.order))
+
+pub returns-in_ok-value-in-Some-clause-frame : goal.returns-in_ok-value-in-Some-clause-frame
+returns-in_ok-value-in-Some-clause-frame g c =
+    let m = c.args.self.now in
+    let found = rw c.in-Some.is at c.in_ok-find.ensures.found in
+    let q = m.arena.first + 4 * c.from.result + 1 in
+    looks_only g.W.Words g.W.Shape.Shape _ _ (IsLinkOr m q) _
+    (looks_value m c.args.key _ _ _ _ _ c.in-Some.found.place c.in-Some.found.block q c.in_ok-value-in-Some.value found c.in_ok-value-in-Some.ensures.value)
+
+pub returns-in_ok-value-in-Some-clause-reads : goal.returns-in_ok-value-in-Some-clause-reads
+returns-in_ok-value-in-Some-clause-reads g c =
+    let m = c.args.self.now in
+    let found = rw c.in-Some.is at c.in_ok-find.ensures.found in
+    let q = m.arena.first + 4 * c.from.result + 1 in
+    let is_value : q ≡ block_at m.arena c.in-Some.found.block + 1 = omega (arith, c.from.ensures) in
+    record {
+      at = spares_value m c.args.key _ _ _ _ c.in-Some.found.place c.in-Some.found.block q c.in_ok-value-in-Some.value is_value
+          (looks_value m c.args.key _ _ _ _ _ c.in-Some.found.place c.in-Some.found.block q c.in_ok-value-in-Some.value found c.in_ok-value-in-Some.ensures.value);
+    }

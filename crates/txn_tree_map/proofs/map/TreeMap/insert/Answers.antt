@@ -1,0 +1,277 @@
+use Rattle.std.proofs.Common.{◌≡◌, ◌+◌, ◌*◌, arith, rules, ap, ◌∙◌}
+use Rattle.history_model.specs.Fitting.{SomeFits}
+use Rattle.history_model.proofs.TraceLaws.{begins_trans}
+use Rattle.history_model.proofs.FittingLaws.{some_at}
+use Rattle.txn_words.proofs.CallLaws.{each_plain, leads_plain, state_after}
+use Rattle.txn_words.proofs.FrameLaws.{only_then}
+use Rattle.txn_alloc.specs.declared.put.Put.TheVariants.{New, Old, Full}
+use Rattle.txn_alloc.specs.FreeLists.{block_at, HasNone}
+use Rattle.txn_alloc.specs.FreeLists as lists
+use Rattle.txn_alloc.specs.EntryMaps.{HasMapApart, Inserts, LacksRoom}
+use Rattle.txn_alloc.proofs.Looks.{each_looked, each_from, leads_from, leads_back, within_from}
+use Rattle.txn_tree_map.specs.Trees.{TreeHolds}
+use Rattle.txn_tree_map.proofs.Searching.{laid_block}
+use Rattle.txn_tree_map.proofs.Gets.{looks_value}
+use Rattle.txn_tree_map.proofs.Inserting.{order_inserted, lacks_room, owns_heads, spares_heads, can_put_each, inserts_new, owns_new, spares_new, inserts_old, owns_old, owns_value, spares_old, not_new, not_old}
+use Rattle.txn_tree_map.proofs.map.TreeMap.insert.Goals as goal
+
+pub find-requires-clause-order : goal.find-requires-clause-order
+find-requires-clause-order g c = record { at = λ s fit. let o = c.requires.order.at s fit in record { entries = o.entries; used = o.used; holds = o.holds.map } }
+
+pub read-requires-clause-within : goal.read-requires-clause-within
+read-requires-clause-within g c =
+    let m = c.args.self.now in
+    let below = rw c.in-Some.is at c.in_ok-found.ensures.block in
+    let goes = c.in_ok-found.ensures.goes_on in
+    let in_list = laid_block m _ _ _ (g.met.W.Words.fits c.args.w.now c.requires.ready.sound) c.in-Some.found.block (record { at = λ s fit. (c.requires.order.at s fit).holds.map.laid }) below in
+    omega (arith, in_list.0, ap g.W.Shape.Shape.word_count goes.shape, c.from.ensures)
+
+pub write-requires-clause-within : goal.write-requires-clause-within
+write-requires-clause-within g c =
+    let m = c.args.self.now in
+    let below = rw c.in-Some.is at c.in_ok-found.ensures.block in
+    let goes = c.in_ok-found.ensures.goes_on in
+    let in_list = laid_block m _ _ _ (g.met.W.Words.fits c.args.w.now c.requires.ready.sound) c.in-Some.found.block (record { at = λ s fit. (c.requires.order.at s fit).holds.map.laid }) below in
+    omega (arith, in_list.0, ap g.W.Shape.Shape.word_count goes.shape, ap g.W.Shape.Shape.word_count c.in_ok-old-in-Some.ensures.shape, c.from.ensures)
+
+pub take-requires-clause-order : goal.take-requires-clause-order
+take-requires-clause-order g c =
+    let m = c.args.self.now in
+    let missing = rw c.in-None.is at c.in_ok-found.ensures.missing in
+    let goes = c.in_ok-found.ensures.goes_on in
+    each_from g.W.Words g.W.Shape.Shape c.args.w.now c.find.new.w _ goes.shape
+    (each_looked _ _ _ _ missing (lists.IsInOrder m.arena) (record { at = λ s fit. let o = c.requires.order.at s fit in (o.free, o.holds.free_lists) }))
+
+pub put_in-requires-clause-missing : goal.put_in-requires-clause-missing
+put_in-requires-clause-missing g c =
+    let m = c.args.self.now in
+    let missing = rw c.in-None.is at c.in_ok-found.ensures.missing in
+    let goes = c.in_ok-found.ensures.goes_on in
+    let then = c.in_ok-block-in-None.ensures in
+    let taken = rw c.in-Some-2.is at then.taken in
+    rw c.number.ensures (each_from g.W.Words g.W.Shape.Shape c.args.w.now c.take.new.w _ (then.goes_on.shape ∙ goes.shape)
+    (can_put_each m c.args.key c.args.value _ _ _ _ (each_plain g.W.Words g.W.Shape.Shape _ _ c.requires.order) missing _ c.in-Some-2.block then.goes_on.begins
+    (leads_from g.W.Words g.W.Shape.Shape c.args.w.now c.find.new.w c.take.new.w _ goes.shape taken)
+    (leads_from g.W.Words g.W.Shape.Shape c.args.w.now c.find.new.w c.take.new.w _ goes.shape then.others)))
+
+pub returns-in_err-put_in-in-Some-2-clause-goes_on : goal.returns-in_err-put_in-in-Some-2-clause-goes_on
+returns-in_err-put_in-in-Some-2-clause-goes_on g c =
+    let one = c.in_ok-found.ensures.goes_on in
+    let two = c.in_ok-block-in-None.ensures.goes_on in
+    let three = c.in_err-put_in-in-Some-2.ensures.goes_on in
+    record {
+      shape = three.shape ∙ two.shape ∙ one.shape;
+      origin = three.origin ∙ two.origin ∙ one.origin;
+      begins = begins_trans _ _ _ one.begins (begins_trans _ _ _ two.begins three.begins);
+      stops = search rules;
+      sound = three.sound;
+    }
+
+pub returns-in_ok-put_in-in-Some-2-clause-goes_on : goal.returns-in_ok-put_in-in-Some-2-clause-goes_on
+returns-in_ok-put_in-in-Some-2-clause-goes_on g c =
+    let one = c.in_ok-found.ensures.goes_on in
+    let two = c.in_ok-block-in-None.ensures.goes_on in
+    let three = c.in_ok-put_in-in-Some-2.ensures.goes_on in
+    record {
+      shape = three.shape ∙ two.shape ∙ one.shape;
+      origin = three.origin ∙ two.origin ∙ one.origin;
+      begins = begins_trans _ _ _ one.begins (begins_trans _ _ _ two.begins three.begins);
+      stops = three.stops;
+      sound = three.sound;
+    }
+
+pub returns-in_ok-write-in-Some-clause-put : goal.returns-in_ok-write-in-Some-clause-put
+returns-in_ok-write-in-Some-clause-put g c =
+    let m = c.args.self.now in
+    let found = rw c.in-Some.is at c.in_ok-found.ensures.found in
+    let q = m.arena.first + 4 * c.from.result + 1 in
+    let is_value : q ≡ block_at m.arena c.in-Some.found.block + 1 = omega (arith, c.from.ensures) in
+    record {
+      at = (inserts_old m c.args.key c.args.value _ _ _ _ (each_plain g.W.Words g.W.Shape.Shape _ _ c.requires.order) _ c.in-Some.found.place c.in-Some.found.block q c.in_ok-old-in-Some.old is_value
+          (looks_value m c.args.key _ _ _ _ _ c.in-Some.found.place c.in-Some.found.block q c.in_ok-old-in-Some.old found c.in_ok-old-in-Some.ensures.value)
+          c.in_ok-write-in-Some.ensures.value).at;
+    }
+
+pub returns-in_ok-write-in-Some-clause-full_if : goal.returns-in_ok-write-in-Some-clause-full_if
+returns-in_ok-write-in-Some-clause-full_if g c =
+    let m = c.args.self.now in
+    let goes = c.in_ok-found.ensures.goes_on in
+    let begins = begins_trans _ _ _ goes.begins (begins_trans _ _ _ c.in_ok-old-in-Some.ensures.begins c.in_ok-write-in-Some.ensures.begins) in
+    let some : SomeFits (g.W.Shape.Shape.word_count (g.W.Words.shape c.args.w.now)) (g.W.Shape.Shape.good (g.W.Words.shape c.args.w.now)) (g.W.Words.trace c.write.new.self) =
+    some_at g.W.Shape.Shape.word_count g.W.Shape.Shape.good _ _ _ (c.in_ok-write-in-Some.ensures.shape ∙ c.in_ok-old-in-Some.ensures.shape ∙ goes.shape) (g.met.W.Words.fits c.write.new.self c.in_ok-write-in-Some.ensures.sound) in
+    λ lacks. not_old m c.args.key c.args.value _ _ _ (g.W.Words.trace c.args.w.now) (each_plain g.W.Words g.W.Shape.Shape _ _ c.requires.order) _ begins some
+    (leads_plain g.W.Words g.W.Shape.Shape _ _ (λ before after. LacksRoom m.arena (TreeHolds m) c.args.key before) lacks) c.in_ok-old-in-Some.old
+    (leads_plain g.W.Words g.W.Shape.Shape _ _ (Inserts m.arena (TreeHolds m) c.args.key c.args.value (Old c.in_ok-old-in-Some.old)) (returns-in_ok-write-in-Some-clause-put g c))
+
+pub returns-in_ok-write-in-Some-clause-order : goal.returns-in_ok-write-in-Some-clause-order
+returns-in_ok-write-in-Some-clause-order g c =
+    let m = c.args.self.now in
+    let goes = c.in_ok-found.ensures.goes_on in
+    let begins = begins_trans _ _ _ goes.begins (begins_trans _ _ _ c.in_ok-old-in-Some.ensures.begins c.in_ok-write-in-Some.ensures.begins) in
+    state_after g.W.Words g.W.Shape.Shape _ _ (HasMapApart m.arena (TreeHolds m)) (HasMapApart m.arena (TreeHolds m)) (Inserts m.arena (TreeHolds m) c.args.key c.args.value (Old c.in_ok-old-in-Some.old))
+    (c.in_ok-write-in-Some.ensures.shape ∙ c.in_ok-old-in-Some.ensures.shape ∙ goes.shape) begins c.requires.order (returns-in_ok-write-in-Some-clause-put g c)
+    (order_inserted m c.args.key c.args.value (Old c.in_ok-old-in-Some.old))
+
+pub returns-in_ok-write-in-Some-clause-frame : goal.returns-in_ok-write-in-Some-clause-frame
+returns-in_ok-write-in-Some-clause-frame g c =
+    let m = c.args.self.now in
+    let found = rw c.in-Some.is at c.in_ok-found.ensures.found in
+    let q = m.arena.first + 4 * c.from.result + 1 in
+    let is_value : q ≡ block_at m.arena c.in-Some.found.block + 1 = omega (arith, c.from.ensures) in
+    record {
+      at = owns_old m c.args.key c.args.value _ _ _ _ (each_plain g.W.Words g.W.Shape.Shape _ _ c.requires.order) _ c.in-Some.found.place c.in-Some.found.block q c.in_ok-old-in-Some.old is_value
+          (looks_value m c.args.key _ _ _ _ _ c.in-Some.found.place c.in-Some.found.block q c.in_ok-old-in-Some.old found c.in_ok-old-in-Some.ensures.value)
+          c.in_ok-write-in-Some.ensures.value;
+    }
+
+pub returns-in_ok-write-in-Some-clause-old : goal.returns-in_ok-write-in-Some-clause-old
+returns-in_ok-write-in-Some-clause-old g c =
+    let m = c.args.self.now in
+    let found = rw c.in-Some.is at c.in_ok-found.ensures.found in
+    let q = m.arena.first + 4 * c.from.result + 1 in
+    let is_value : q ≡ block_at m.arena c.in-Some.found.block + 1 = omega (arith, c.from.ensures) in
+    λ was e. record {
+      at = owns_value m c.args.key c.args.value _ _ _ _ (each_plain g.W.Words g.W.Shape.Shape _ _ c.requires.order) _ c.in-Some.found.place c.in-Some.found.block q c.in_ok-old-in-Some.old is_value
+          (looks_value m c.args.key _ _ _ _ _ c.in-Some.found.place c.in-Some.found.block q c.in_ok-old-in-Some.old found c.in_ok-old-in-Some.ensures.value)
+          c.in_ok-write-in-Some.ensures.value;
+    }
+
+pub returns-in_ok-write-in-Some-clause-reads : goal.returns-in_ok-write-in-Some-clause-reads
+returns-in_ok-write-in-Some-clause-reads g c =
+    let m = c.args.self.now in
+    let found = rw c.in-Some.is at c.in_ok-found.ensures.found in
+    let q = m.arena.first + 4 * c.from.result + 1 in
+    let is_value : q ≡ block_at m.arena c.in-Some.found.block + 1 = omega (arith, c.from.ensures) in
+    record {
+      at = spares_old m c.args.key c.args.value _ _ _ _ (each_plain g.W.Words g.W.Shape.Shape _ _ c.requires.order) _ c.in-Some.found.place c.in-Some.found.block q c.in_ok-old-in-Some.old is_value
+          (looks_value m c.args.key _ _ _ _ _ c.in-Some.found.place c.in-Some.found.block q c.in_ok-old-in-Some.old found c.in_ok-old-in-Some.ensures.value)
+          c.in_ok-write-in-Some.ensures.value;
+    }
+
+pub returns-in_ok-put_in-in-Some-2-clause-put : goal.returns-in_ok-put_in-in-Some-2-clause-put
+returns-in_ok-put_in-in-Some-2-clause-put g c =
+    let m = c.args.self.now in
+    let missing = rw c.in-None.is at c.in_ok-found.ensures.missing in
+    let goes = c.in_ok-found.ensures.goes_on in
+    let then = c.in_ok-block-in-None.ensures in
+    let taken = rw c.in-Some-2.is at then.taken in
+    let put = rw c.number.ensures at c.in_ok-put_in-in-Some-2.ensures.put in
+    record {
+      at = (inserts_new m c.args.key c.args.value _ _ _ _ (each_plain g.W.Words g.W.Shape.Shape _ _ c.requires.order) missing _ c.in-Some-2.block then.goes_on.begins
+          (leads_from g.W.Words g.W.Shape.Shape c.args.w.now c.find.new.w c.take.new.w _ goes.shape taken)
+          (leads_from g.W.Words g.W.Shape.Shape c.args.w.now c.find.new.w c.take.new.w _ goes.shape then.others) _ c.in_ok-put_in-in-Some-2.ensures.goes_on.begins
+          (leads_from g.W.Words g.W.Shape.Shape c.args.w.now c.take.new.w c.put_in.new.w _ (then.goes_on.shape ∙ goes.shape) put)).at;
+    }
+
+pub returns-in_ok-put_in-in-Some-2-clause-full_if : goal.returns-in_ok-put_in-in-Some-2-clause-full_if
+returns-in_ok-put_in-in-Some-2-clause-full_if g c =
+    let m = c.args.self.now in
+    let goes = returns-in_ok-put_in-in-Some-2-clause-goes_on g c in
+    let some : SomeFits (g.W.Shape.Shape.word_count (g.W.Words.shape c.args.w.now)) (g.W.Shape.Shape.good (g.W.Words.shape c.args.w.now)) (g.W.Words.trace c.put_in.new.w) =
+    some_at g.W.Shape.Shape.word_count g.W.Shape.Shape.good _ _ _ (goes.shape) (g.met.W.Words.fits c.put_in.new.w goes.sound) in
+    λ lacks. not_new m c.args.key c.args.value _ _ _ (g.W.Words.trace c.args.w.now) (each_plain g.W.Words g.W.Shape.Shape _ _ c.requires.order) _ goes.begins some
+    (leads_plain g.W.Words g.W.Shape.Shape _ _ (λ before after. LacksRoom m.arena (TreeHolds m) c.args.key before) lacks)
+    (leads_plain g.W.Words g.W.Shape.Shape _ _ (Inserts m.arena (TreeHolds m) c.args.key c.args.value New) (returns-in_ok-put_in-in-Some-2-clause-put g c))
+
+pub returns-in_ok-put_in-in-Some-2-clause-order : goal.returns-in_ok-put_in-in-Some-2-clause-order
+returns-in_ok-put_in-in-Some-2-clause-order g c =
+    let m = c.args.self.now in
+    let goes = returns-in_ok-put_in-in-Some-2-clause-goes_on g c in
+    state_after g.W.Words g.W.Shape.Shape _ _ (HasMapApart m.arena (TreeHolds m)) (HasMapApart m.arena (TreeHolds m)) (Inserts m.arena (TreeHolds m) c.args.key c.args.value New) goes.shape goes.begins c.requires.order
+    (returns-in_ok-put_in-in-Some-2-clause-put g c) (order_inserted m c.args.key c.args.value New)
+
+pub returns-in_ok-put_in-in-Some-2-clause-frame : goal.returns-in_ok-put_in-in-Some-2-clause-frame
+returns-in_ok-put_in-in-Some-2-clause-frame g c =
+    let m = c.args.self.now in
+    let missing = rw c.in-None.is at c.in_ok-found.ensures.missing in
+    let goes = c.in_ok-found.ensures.goes_on in
+    let then = c.in_ok-block-in-None.ensures in
+    let taken = rw c.in-Some-2.is at then.taken in
+    let put = rw c.number.ensures at c.in_ok-put_in-in-Some-2.ensures.put in
+    let front = rw c.number.ensures at c.in_ok-put_in-in-Some-2.ensures.frame in
+    record {
+      at = owns_new m c.args.key c.args.value _ _ _ _ (each_plain g.W.Words g.W.Shape.Shape _ _ c.requires.order) missing _ c.in-Some-2.block then.goes_on.begins
+          (leads_from g.W.Words g.W.Shape.Shape c.args.w.now c.find.new.w c.take.new.w _ goes.shape taken)
+          (leads_from g.W.Words g.W.Shape.Shape c.args.w.now c.find.new.w c.take.new.w _ goes.shape then.others) _ c.in_ok-put_in-in-Some-2.ensures.goes_on.begins
+          (leads_from g.W.Words g.W.Shape.Shape c.args.w.now c.take.new.w c.put_in.new.w _ (then.goes_on.shape ∙ goes.shape) put)
+          then.frame.appended (within_from g.W.Words g.W.Shape.Shape c.args.w.now c.take.new.w c.put_in.new.w _ (then.goes_on.shape ∙ goes.shape) front);
+    }
+
+pub returns-in_ok-put_in-in-Some-2-clause-reads : goal.returns-in_ok-put_in-in-Some-2-clause-reads
+returns-in_ok-put_in-in-Some-2-clause-reads g c =
+    let m = c.args.self.now in
+    let missing = rw c.in-None.is at c.in_ok-found.ensures.missing in
+    let goes = c.in_ok-found.ensures.goes_on in
+    let then = c.in_ok-block-in-None.ensures in
+    let taken = rw c.in-Some-2.is at then.taken in
+    let front = rw c.number.ensures at c.in_ok-put_in-in-Some-2.ensures.reads in
+    record {
+      at = spares_new m c.args.key c.args.value _ _ _ _ (each_plain g.W.Words g.W.Shape.Shape _ _ c.requires.order) missing _ c.in-Some-2.block then.goes_on.begins
+          (leads_from g.W.Words g.W.Shape.Shape c.args.w.now c.find.new.w c.take.new.w _ goes.shape taken)
+          (leads_from g.W.Words g.W.Shape.Shape c.args.w.now c.find.new.w c.take.new.w _ goes.shape then.others) _ c.in_ok-put_in-in-Some-2.ensures.goes_on.begins then.reads front;
+    }
+
+pub returns-in_ok-put_in-in-Some-2-clause-old : goal.returns-in_ok-put_in-in-Some-2-clause-old
+returns-in_ok-put_in-in-Some-2-clause-old g c = λ was e. absurd (cc)
+
+pub returns-in-None-2-clause-put : goal.returns-in-None-2-clause-put
+returns-in-None-2-clause-put g c =
+    let m = c.args.self.now in
+    let missing = rw c.in-None.is at c.in_ok-found.ensures.missing in
+    let goes = c.in_ok-found.ensures.goes_on in
+    let then = c.in_ok-block-in-None.ensures in
+    let taken = rw c.in-None-2.is at then.taken in
+    record {
+      at = (leads_back _ _ _ _ missing _ (λ before after. after ≡ before) then.goes_on.begins
+          (leads_from g.W.Words g.W.Shape.Shape c.args.w.now c.find.new.w c.take.new.w _ goes.shape taken)).at;
+    }
+
+pub returns-in-None-2-clause-full : goal.returns-in-None-2-clause-full
+returns-in-None-2-clause-full g c =
+    let m = c.args.self.now in
+    let missing = rw c.in-None.is at c.in_ok-found.ensures.missing in
+    let goes = c.in_ok-found.ensures.goes_on in
+    let then = c.in_ok-block-in-None.ensures in
+    let none = rw c.in-None-2.is at then.none in
+    λ e. record {
+      at = (lacks_room m c.args.key c.args.value _ _ _ _ (each_plain g.W.Words g.W.Shape.Shape _ _ c.requires.order) missing _ then.goes_on.begins
+          (leads_from g.W.Words g.W.Shape.Shape c.args.w.now c.find.new.w c.take.new.w (λ before after. HasNone m.arena before) goes.shape none)).at;
+    }
+
+pub returns-in-None-2-clause-order : goal.returns-in-None-2-clause-order
+returns-in-None-2-clause-order g c =
+    let m = c.args.self.now in
+    let goes = c.in_ok-found.ensures.goes_on in
+    let then = c.in_ok-block-in-None.ensures in
+    state_after g.W.Words g.W.Shape.Shape _ _ (HasMapApart m.arena (TreeHolds m)) (HasMapApart m.arena (TreeHolds m)) (Inserts m.arena (TreeHolds m) c.args.key c.args.value Full) (then.goes_on.shape ∙ goes.shape)
+    (begins_trans _ _ _ goes.begins then.goes_on.begins) c.requires.order
+    (returns-in-None-2-clause-put g c) (order_inserted m c.args.key c.args.value Full)
+
+pub returns-in-None-2-clause-frame : goal.returns-in-None-2-clause-frame
+returns-in-None-2-clause-frame g c =
+    let m = c.args.self.now in
+    let missing = rw c.in-None.is at c.in_ok-found.ensures.missing in
+    let then = c.in_ok-block-in-None.ensures in
+    record { at = owns_heads m c.args.key c.args.value _ _ _ _ (each_plain g.W.Words g.W.Shape.Shape _ _ c.requires.order) missing _ then.goes_on.begins then.frame.appended }
+
+pub returns-in-None-2-clause-full_frame : goal.returns-in-None-2-clause-full_frame
+returns-in-None-2-clause-full_frame g c =
+    let missing = rw c.in-None.is at c.in_ok-found.ensures.missing in
+    let still = rw c.in-None-2.is at c.in_ok-block-in-None.ensures.none_frame in
+    λ e. record { appended = only_then (λ a. ⊥) _ _ _ missing.writes still.appended }
+
+pub returns-in-None-2-clause-old : goal.returns-in-None-2-clause-old
+returns-in-None-2-clause-old g c = λ was e. absurd (cc)
+
+pub returns-in-None-2-clause-reads : goal.returns-in-None-2-clause-reads
+returns-in-None-2-clause-reads g c =
+    let m = c.args.self.now in
+    let missing = rw c.in-None.is at c.in_ok-found.ensures.missing in
+    let then = c.in_ok-block-in-None.ensures in
+    record { at = spares_heads m c.args.key c.args.value _ _ _ _ (each_plain g.W.Words g.W.Shape.Shape _ _ c.requires.order) missing _ then.goes_on.begins then.reads }
+
+pub returns-in_ok-write-in-Some-clause-full_frame : goal.returns-in_ok-write-in-Some-clause-full_frame
+returns-in_ok-write-in-Some-clause-full_frame g c = λ e. absurd (cc)
+
+pub returns-in_ok-put_in-in-Some-2-clause-full_frame : goal.returns-in_ok-put_in-in-Some-2-clause-full_frame
+returns-in_ok-put_in-in-Some-2-clause-full_frame g c = λ e. absurd (cc)

@@ -1,0 +1,141 @@
+use Rattle.std.proofs.Common.{Some, None, arith, ◌∙◌}
+use Rattle.history_model.proofs.TraceLaws.{begins_trans}
+use Rattle.txn_words.proofs.CallLaws.{each_plain, state_after}
+use Rattle.txn_words.proofs.FrameLaws.{only_more}
+use Rattle.txn_alloc.specs.EntryMaps.{HasMapApart, Removes}
+use Rattle.txn_alloc.proofs.Looks.{looks_each, looks_map, each_from, leads_from, within_from}
+use Rattle.txn_tree_map.specs.Trees.{TreeHolds}
+use Rattle.txn_tree_map.specs.Searches.{IsLink}
+use Rattle.txn_tree_map.specs.Joins.{CanCut}
+use Rattle.txn_tree_map.proofs.Gets.{finds_none, spares_link}
+use Rattle.txn_tree_map.proofs.Removing.{order_removed, order_cut, lacks_cut, removes_some, owns_removed, spares_removed}
+use Rattle.txn_tree_map.proofs.map.TreeMap.remove.Goals as goal
+
+pub find-requires-clause-order : goal.find-requires-clause-order
+find-requires-clause-order g c = record { at = λ s fit. let o = c.requires.order.at s fit in record { entries = o.entries; used = o.used; holds = o.holds.map } }
+
+pub cut-requires-clause-link : goal.cut-requires-clause-link
+cut-requires-clause-link g c = rw c.in-Some.is at c.in_ok-find.ensures.link
+
+pub cut-requires-clause-block : goal.cut-requires-clause-block
+cut-requires-clause-block g c = rw c.in-Some.is at c.in_ok-find.ensures.block
+
+pub cut-requires-clause-can : goal.cut-requires-clause-can
+cut-requires-clause-can g c =
+    let m = c.args.self.now in
+    let f = c.in-Some.found in
+    let found = rw c.in-Some.is at c.in_ok-find.ensures.found in
+    looks_each g.W.Words g.W.Shape.Shape _ _ (IsLink m) (CanCut m f.place f.block) (looks_map _ _ _ (IsLink m) _ _ _ (λ s h. record { key = c.args.key; found = h }) found) c.in_ok-find.ensures.goes_on.shape
+
+pub give-requires-clause-order : goal.give-requires-clause-order
+give-requires-clause-order g c =
+    let m = c.args.self.now in
+    let f = c.in-Some.found in
+    let goes = c.in_ok-find.ensures.goes_on in
+    let cut = c.in_ok-value-in-Some.ensures in
+    let found = rw c.in-Some.is at c.in_ok-find.ensures.found in
+    each_from g.W.Words g.W.Shape.Shape c.args.w.now c.cut.new.w _ (cut.goes_on.shape ∙ goes.shape)
+    (order_cut m c.args.key f.place f.block c.in_ok-value-in-Some.value _ _ _ _ _ (each_plain g.W.Words g.W.Shape.Shape _ _ c.requires.order) found cut.goes_on.begins
+    (leads_from g.W.Words g.W.Shape.Shape c.args.w.now c.find.new.w c.cut.new.w _ goes.shape cut.cut))
+
+pub give-requires-clause-number : goal.give-requires-clause-number
+give-requires-clause-number g c =
+    let below = rw c.in-Some.is at c.in_ok-find.ensures.block in
+    omega (arith, below, c.of.ensures)
+
+pub give-requires-clause-lacks : goal.give-requires-clause-lacks
+give-requires-clause-lacks g c =
+    let m = c.args.self.now in
+    let f = c.in-Some.found in
+    let goes = c.in_ok-find.ensures.goes_on in
+    let cut = c.in_ok-value-in-Some.ensures in
+    let found = rw c.in-Some.is at c.in_ok-find.ensures.found in
+    rw c.of.ensures (each_from g.W.Words g.W.Shape.Shape c.args.w.now c.cut.new.w _ (cut.goes_on.shape ∙ goes.shape)
+    (lacks_cut m c.args.key f.place f.block c.in_ok-value-in-Some.value _ _ _ _ _ (each_plain g.W.Words g.W.Shape.Shape _ _ c.requires.order) found cut.goes_on.begins
+    (leads_from g.W.Words g.W.Shape.Shape c.args.w.now c.find.new.w c.cut.new.w _ goes.shape cut.cut)))
+
+pub returns-in-None-clause-removed : goal.returns-in-None-clause-removed
+returns-in-None-clause-removed g c =
+    let missing = rw c.in-None.is at c.in_ok-find.ensures.missing in
+    record { at = (finds_none c.args.self.now c.args.key _ _ _ _ missing).at }
+
+pub returns-in-None-clause-order : goal.returns-in-None-clause-order
+returns-in-None-clause-order g c =
+    let m = c.args.self.now in
+    let goes = c.in_ok-find.ensures.goes_on in
+    state_after g.W.Words g.W.Shape.Shape _ _ (HasMapApart m.arena (TreeHolds m)) (HasMapApart m.arena (TreeHolds m)) (Removes m.arena (TreeHolds m) c.args.key None) goes.shape goes.begins c.requires.order
+    (returns-in-None-clause-removed g c) (order_removed m c.args.key None)
+
+pub returns-in-None-clause-frame : goal.returns-in-None-clause-frame
+returns-in-None-clause-frame g c =
+    let missing = rw c.in-None.is at c.in_ok-find.ensures.missing in
+    record { at = λ s fit. only_more (λ a. ⊥) _ _ _ (λ a k. absurd k) missing.writes }
+
+pub returns-in-None-clause-reads : goal.returns-in-None-clause-reads
+returns-in-None-clause-reads g c =
+    let missing = rw c.in-None.is at c.in_ok-find.ensures.missing in
+    record { at = spares_link c.args.self.now c.args.key _ _ _ _ missing (record { at = λ s fit. (c.requires.order.at s fit).holds.map.laid }) }
+
+pub returns-in_ok-give-in-Some-clause-goes_on : goal.returns-in_ok-give-in-Some-clause-goes_on
+returns-in_ok-give-in-Some-clause-goes_on g c =
+    let one = c.in_ok-find.ensures.goes_on in
+    let two = c.in_ok-value-in-Some.ensures.goes_on in
+    let three = c.in_ok-give-in-Some.ensures.goes_on in
+    record {
+      shape = three.shape ∙ two.shape ∙ one.shape;
+      origin = three.origin ∙ two.origin ∙ one.origin;
+      begins = begins_trans _ _ _ one.begins (begins_trans _ _ _ two.begins three.begins);
+      stops = three.stops;
+      sound = three.sound;
+    }
+
+pub returns-in_ok-give-in-Some-clause-removed : goal.returns-in_ok-give-in-Some-clause-removed
+returns-in_ok-give-in-Some-clause-removed g c =
+    let m = c.args.self.now in
+    let f = c.in-Some.found in
+    let goes = c.in_ok-find.ensures.goes_on in
+    let cut = c.in_ok-value-in-Some.ensures in
+    let same = cut.goes_on.shape ∙ goes.shape in
+    let found = rw c.in-Some.is at c.in_ok-find.ensures.found in
+    let given = rw c.of.ensures at c.in_ok-give-in-Some.ensures.given in
+    let kept = rw c.of.ensures at c.in_ok-give-in-Some.ensures.others in
+    record {
+      at = (removes_some m c.args.key f.place f.block c.in_ok-value-in-Some.value _ _ _ _ _ (each_plain g.W.Words g.W.Shape.Shape _ _ c.requires.order) found cut.goes_on.begins
+          (leads_from g.W.Words g.W.Shape.Shape c.args.w.now c.find.new.w c.cut.new.w _ goes.shape cut.cut) _ c.in_ok-give-in-Some.ensures.goes_on.begins
+          (leads_from g.W.Words g.W.Shape.Shape c.args.w.now c.cut.new.w c.give.new.w _ same given)
+          (leads_from g.W.Words g.W.Shape.Shape c.args.w.now c.cut.new.w c.give.new.w _ same kept)).at;
+    }
+
+pub returns-in_ok-give-in-Some-clause-order : goal.returns-in_ok-give-in-Some-clause-order
+returns-in_ok-give-in-Some-clause-order g c =
+    let m = c.args.self.now in
+    let goes = returns-in_ok-give-in-Some-clause-goes_on g c in
+    state_after g.W.Words g.W.Shape.Shape _ _ (HasMapApart m.arena (TreeHolds m)) (HasMapApart m.arena (TreeHolds m)) (Removes m.arena (TreeHolds m) c.args.key (Some c.in_ok-value-in-Some.value)) goes.shape goes.begins c.requires.order
+    (returns-in_ok-give-in-Some-clause-removed g c) (order_removed m c.args.key (Some c.in_ok-value-in-Some.value))
+
+pub returns-in_ok-give-in-Some-clause-frame : goal.returns-in_ok-give-in-Some-clause-frame
+returns-in_ok-give-in-Some-clause-frame g c =
+    let m = c.args.self.now in
+    let f = c.in-Some.found in
+    let goes = c.in_ok-find.ensures.goes_on in
+    let cut = c.in_ok-value-in-Some.ensures in
+    let found = rw c.in-Some.is at c.in_ok-find.ensures.found in
+    let given = rw c.of.ensures at c.in_ok-give-in-Some.ensures.frame in
+    record {
+      at = owns_removed m c.args.key f.place f.block c.in_ok-value-in-Some.value _ _ _ _ _ (each_plain g.W.Words g.W.Shape.Shape _ _ c.requires.order) found cut.goes_on.begins
+          (leads_from g.W.Words g.W.Shape.Shape c.args.w.now c.find.new.w c.cut.new.w _ goes.shape cut.cut) _ c.in_ok-give-in-Some.ensures.goes_on.begins
+          (within_from g.W.Words g.W.Shape.Shape c.args.w.now c.find.new.w c.cut.new.w _ goes.shape cut.frame) given.appended;
+    }
+
+pub returns-in_ok-give-in-Some-clause-reads : goal.returns-in_ok-give-in-Some-clause-reads
+returns-in_ok-give-in-Some-clause-reads g c =
+    let m = c.args.self.now in
+    let f = c.in-Some.found in
+    let goes = c.in_ok-find.ensures.goes_on in
+    let cut = c.in_ok-value-in-Some.ensures in
+    let found = rw c.in-Some.is at c.in_ok-find.ensures.found in
+    record {
+      at = spares_removed m c.args.key f.place f.block c.in_ok-value-in-Some.value _ _ _ _ _ (each_plain g.W.Words g.W.Shape.Shape _ _ c.requires.order) found cut.goes_on.begins
+          (leads_from g.W.Words g.W.Shape.Shape c.args.w.now c.find.new.w c.cut.new.w _ goes.shape cut.cut) _ c.in_ok-give-in-Some.ensures.goes_on.begins
+          cut.reads c.in_ok-give-in-Some.ensures.reads;
+    }

@@ -1,0 +1,78 @@
+use Rattle.std.proofs.Common.{◌≡◌, ◌+◌, ◌*◌, ◌<◌, inl, inr, refl, sym, ap, ◌∙◌, arith}
+use Rattle.history_model.proofs.TraceLaws.{begins_refl, begins_trans}
+use Rattle.txn_words.proofs.FrameLaws.{only_same}
+use Rattle.txn_words.proofs.ReadLaws.{sees_same, sees_then}
+use Rattle.txn_alloc.specs.FreeLists.{block_at}
+use Rattle.txn_alloc.proofs.Looks.{each_from, leads_from}
+use Rattle.txn_tree_map.specs.Searches.{IsLink}
+use Rattle.txn_tree_map.specs.Changes.{CanPart}
+use Rattle.txn_tree_map.proofs.Partings.{parted_end, parted_all}
+use Rattle.txn_tree_map.proofs.Splitting.{parted_start, parted_more, own_more}
+use Rattle.txn_tree_map.proofs.split.part.Goals as goal
+
+pub loop-init : goal.loop-init
+loop-init g c =
+    let m = c.args.map.now in
+    let b = c.args.block in
+    let some = g.met.W.Words.fits c.args.w.now c.requires.ready.sound in
+    let below : b < m.arena.blocks = (c.requires.whole.at some.0 some.1).whole.below in
+    let is_block : block_at m.arena b ≡ m.arena.first + 4 * c.from.result = omega (arith, c.from.ensures) in
+    record {
+      shape = refl;
+      origin = refl;
+      stop = c.requires.ready.going;
+      sound = c.requires.ready.sound;
+      begins = begins_refl _;
+      smaller = inr (b, below, inr (inl (ap (λ a. a + 2) (sym is_block))));
+      greater = inr (b, below, inr (inr (ap (λ a. a + 3) (sym is_block))));
+      reads = sees_same (IsLink m) _;
+      own = λ s fit. only_same _ _;
+      parted = λ s fit. parted_start m c.args.key b c.args.name (m.arena.first + 4 * c.from.result) _ is_block (c.requires.whole.at s fit);
+    }
+
+pub part_one-requires-clause-parted : goal.part_one-requires-clause-parted
+part_one-requires-clause-parted g c =
+    let m = c.args.map.now in
+    let i = c.loop.invariant in
+    let e = c.loop.ends in
+    each_from g.W.Words g.W.Shape.Shape c.args.w.now c.loop.w (CanPart m c.args.key e.smaller e.greater e.rest) i.shape
+    (record { at = λ s fit. record { block = c.args.block; name = c.args.name; turns = c.loop.counter; start = _; parted = i.parted s fit } })
+
+pub loop-preserved : goal.loop-preserved
+loop-preserved g c =
+    let m = c.args.map.now in
+    let i = c.loop.invariant in
+    let e = c.loop.ends in
+    let f = c.in_ok-ends.ends in
+    let one = c.in_ok-ends.ensures in
+    record {
+      shape = one.goes_on.shape ∙ i.shape;
+      origin = one.goes_on.origin ∙ i.origin;
+      stop = one.goes_on.stops;
+      sound = one.goes_on.sound;
+      begins = begins_trans _ _ _ i.begins one.goes_on.begins;
+      smaller = one.smaller;
+      greater = one.greater;
+      reads = sees_then (IsLink m) _ _ _ i.reads one.reads;
+      own = own_more m c.args.key c.args.block c.args.name _ _ _ _ _ c.loop.counter e.smaller e.greater e.rest one.goes_on.begins i.parted i.own one.frame.appended;
+      parted = parted_more m c.args.key c.args.block c.args.name _ _ _ _ _ c.loop.counter e.smaller e.greater e.rest f.smaller f.greater f.rest one.goes_on.begins i.parted
+          (leads_from g.W.Words g.W.Shape.Shape c.args.w.now c.loop.w c.part_one.new.w _ i.shape one.parted);
+    }
+
+pub returns-then-ends-eq0-clause-parted : goal.returns-then-ends-eq0-clause-parted
+returns-then-ends-eq0-clause-parted g c =
+    let m = c.args.map.now in
+    let e = c.loop.ends in
+    record { at = λ s fit. parted_end m c.args.key c.args.block c.args.name c.loop.counter e.smaller e.greater e.rest _ _ (c.loop.invariant.parted s fit) c.if-ends-eq0.true }
+
+pub returns-clause-parted : goal.returns-clause-parted
+returns-clause-parted g c =
+    let m = c.args.map.now in
+    let e = c.loop.ends in
+    record { at = λ s fit. parted_all m c.args.key c.args.block c.args.name c.loop.counter e.smaller e.greater e.rest _ _ (c.loop.invariant.parted s fit) (omega (arith, c.loop-test.false)) }
+
+pub returns-then-ends-eq0-clause-frame : goal.returns-then-ends-eq0-clause-frame
+returns-then-ends-eq0-clause-frame g c = record { at = c.loop.invariant.own }
+
+pub returns-clause-frame : goal.returns-clause-frame
+returns-clause-frame g c = record { at = c.loop.invariant.own }

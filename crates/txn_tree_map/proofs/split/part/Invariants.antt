@@ -1,0 +1,25 @@
+use Rattle.std.proofs.Common.{◌≡◌, ℕ, List, None}
+use Rattle.history_model.specs.Traces.{after, Begins}
+use Rattle.history_model.specs.Fitting.{Fits}
+use Rattle.txn_words.specs.Frames.{AppendsOnly, AppendsReads}
+use Rattle.txn_tree_map.specs.Searches.{IsLink}
+use Rattle.txn_tree_map.specs.Changes.{IsParted, IsSplitOwn}
+use Rattle.txn_tree_map.proofs.split.part.Given as goal
+
+abbrev pub invariant-loop : goal.invariant-loop
+invariant-loop g l =
+    let words = g.W.Words in
+    record {
+      shape : words.shape l.w ≡ words.shape l.fn.w;
+      origin : words.origin l.w ≡ words.origin l.fn.w;
+      stop : words.stop l.w ≡ None;
+      sound : words.is_sound l.w;
+      begins : Begins (words.trace l.fn.w) (words.trace l.w);
+      smaller : IsLink l.map l.ends.smaller;
+      greater : IsLink l.map l.ends.greater;
+      reads : AppendsReads (words.trace l.fn.w) (words.trace l.w) (IsLink l.map);
+      own : (s : List ℕ) → Fits (g.W.Shape.Shape.word_count (words.shape l.fn.w)) (g.W.Shape.Shape.good (words.shape l.fn.w)) (words.trace l.w) s
+          → AppendsOnly (words.trace l.fn.w) (words.trace l.w) (IsSplitOwn l.map l.key l.block l.name (after (words.trace l.fn.w) s) (after (words.trace l.w) s));
+      parted : (s : List ℕ) → Fits (g.W.Shape.Shape.word_count (words.shape l.fn.w)) (g.W.Shape.Shape.good (words.shape l.fn.w)) (words.trace l.w) s
+          → IsParted l.map l.key l.block l.name l.counter l.ends.smaller l.ends.greater l.ends.rest (after (words.trace l.fn.w) s) (after (words.trace l.w) s);
+    }

@@ -1,0 +1,147 @@
+use Rattle.std.proofs.Common.{◌≡◌, ℕ, ◌+◌, ◌-◌, ◌<◌, ◌⊎◌, inl, inr, refl, arith}
+use Rattle.txn_words.proofs.CallLaws.{each_plain}
+use Rattle.txn_words.proofs.FrameLaws.{only_read, only_then, only_more}
+use Rattle.txn_words.proofs.ReadLaws.{sees_read, sees_then}
+use Rattle.txn_alloc.specs.FreeLists.{block_at}
+use Rattle.txn_alloc.proofs.Looks.{looks_one, each_looked, each_from, leads_from}
+use Rattle.txn_tree_map.specs.Searches.{IsLink}
+use Rattle.txn_tree_map.specs.Changes.{CanPart}
+use Rattle.txn_tree_map.proofs.Searching.{laid_block}
+use Rattle.txn_tree_map.proofs.Partings.{parted_laid}
+use Rattle.txn_tree_map.proofs.Splitting.{can_part_within, can_part_below, parts_low, parts_high}
+use Rattle.txn_tree_map.proofs.split.part_one.Goals as goal
+
+pub prove-unreachable-requires : goal.prove-unreachable-requires
+prove-unreachable-requires g c =
+    let m = c.args.map.now in
+    let e = c.args.ends in
+    let some = g.met.W.Words.fits c.args.w.now c.requires.ready.sound in
+    let lt : e.rest - 1 < m.arena.blocks = can_part_below m c.args.key e.smaller e.greater e.rest _ (e.rest - 1) (c.requires.parted.at some.0 some.1) (omega (arith, c.requires.rest)) in
+    omega (arith, lt)
+
+pub read-requires-clause-within : goal.read-requires-clause-within
+read-requires-clause-within g c =
+    let m = c.args.map.now in
+    let e = c.args.ends in
+    let lt : e.rest - 1 < m.arena.blocks = omega arith in
+    let in_list = laid_block m _ _ _ (g.met.W.Words.fits c.args.w.now c.requires.ready.sound) (e.rest - 1)
+    (record { at = λ s fit. let h = c.requires.parted.at s fit in parted_laid m c.args.key h.block h.name h.turns e.smaller e.greater e.rest h.start _ h.parted }) lt in
+    omega (arith, in_list.0)
+
+pub overflow_add-at-then-there-key : goal.overflow_add-at-then-there-key
+overflow_add-at-then-there-key g c =
+    let m = c.args.map.now in
+    let e = c.args.ends in
+    let lt : e.rest - 1 < m.arena.blocks = omega arith in
+    let in_list = laid_block m _ _ _ (g.met.W.Words.fits c.args.w.now c.requires.ready.sound) (e.rest - 1)
+    (record { at = λ s fit. let h = c.requires.parted.at s fit in parted_laid m c.args.key h.block h.name h.turns e.smaller e.greater e.rest h.start _ h.parted }) lt in
+    omega (arith, in_list.0, in_list.1)
+
+pub overflow_add-at-2 : goal.overflow_add-at-2
+overflow_add-at-2 g c =
+    let m = c.args.map.now in
+    let e = c.args.ends in
+    let lt : e.rest - 1 < m.arena.blocks = omega arith in
+    let in_list = laid_block m _ _ _ (g.met.W.Words.fits c.args.w.now c.requires.ready.sound) (e.rest - 1)
+    (record { at = λ s fit. let h = c.requires.parted.at s fit in parted_laid m c.args.key h.block h.name h.turns e.smaller e.greater e.rest h.start _ h.parted }) lt in
+    omega (arith, in_list.0, in_list.1)
+
+pub hang-requires-clause-inner_link : goal.hang-requires-clause-inner_link
+hang-requires-clause-inner_link g c =
+    let e = c.args.ends in
+    let lt : e.rest - 1 < c.args.map.now.arena.blocks = omega arith in
+    inr (e.rest - 1, lt, inr (inr refl))
+
+pub hang-requires-2-clause-inner_link : goal.hang-requires-2-clause-inner_link
+hang-requires-2-clause-inner_link g c =
+    let e = c.args.ends in
+    let lt : e.rest - 1 < c.args.map.now.arena.blocks = omega arith in
+    inr (e.rest - 1, lt, inr (inl refl))
+
+pub hang-requires-clause-within : goal.hang-requires-clause-within
+hang-requires-clause-within g c =
+    let m = c.args.map.now in
+    let e = c.args.ends in
+    let lt : e.rest - 1 < m.arena.blocks = omega arith in
+    let look = looks_one _ _ _ (λ a. a ≡ block_at m.arena (e.rest - 1)) _ (block_at m.arena (e.rest - 1)) c.in_ok-there.there c.in_ok-there.ensures.value refl in
+    let can = each_looked _ _ _ _ look (CanPart m c.args.key e.smaller e.greater e.rest) (each_plain g.W.Words g.W.Shape.Shape _ _ c.requires.parted) in
+    each_from g.W.Words g.W.Shape.Shape c.args.w.now c.read.new.self _ c.in_ok-there.ensures.shape
+    (record {
+      at = λ s fit.
+          let k = can_part_within m c.args.key e.smaller e.greater e.rest _ (e.rest - 1) (can.at s fit) lt in
+          record { hole_in = k.0; inner_in = omega (arith, k.2) };
+    })
+
+pub hang-requires-2-clause-within : goal.hang-requires-2-clause-within
+hang-requires-2-clause-within g c =
+    let m = c.args.map.now in
+    let e = c.args.ends in
+    let lt : e.rest - 1 < m.arena.blocks = omega arith in
+    let look = looks_one _ _ _ (λ a. a ≡ block_at m.arena (e.rest - 1)) _ (block_at m.arena (e.rest - 1)) c.in_ok-there.there c.in_ok-there.ensures.value refl in
+    let can = each_looked _ _ _ _ look (CanPart m c.args.key e.smaller e.greater e.rest) (each_plain g.W.Words g.W.Shape.Shape _ _ c.requires.parted) in
+    each_from g.W.Words g.W.Shape.Shape c.args.w.now c.read.new.self _ c.in_ok-there.ensures.shape
+    (record {
+      at = λ s fit.
+          let k = can_part_within m c.args.key e.smaller e.greater e.rest _ (e.rest - 1) (can.at s fit) lt in
+          record { hole_in = k.1; inner_in = omega (arith, k.2) };
+    })
+
+pub returns-then-there-key-clause-parted : goal.returns-then-there-key-clause-parted
+returns-then-there-key-clause-parted g c =
+    let m = c.args.map.now in
+    let e = c.args.ends in
+    let is_name : e.rest ≡ (e.rest - 1) + 1 = omega (arith, c.requires.rest) in
+    record {
+      at = (parts_low m c.args.key e.smaller e.greater e.rest _ _ _ _ _ (e.rest - 1) c.in_ok-there.there c.in_ok-right.right is_name c.in_ok-there.ensures.value c.in_ok-right.ensures.goes_on.begins c.if-there-key.true
+          (leads_from g.W.Words g.W.Shape.Shape c.args.w.now c.read.new.self c.hang.new.w _ c.in_ok-there.ensures.shape c.in_ok-right.ensures.hung)).at;
+    }
+
+pub returns-clause-parted : goal.returns-clause-parted
+returns-clause-parted g c =
+    let m = c.args.map.now in
+    let e = c.args.ends in
+    let is_name : e.rest ≡ (e.rest - 1) + 1 = omega (arith, c.requires.rest) in
+    record {
+      at = (parts_high m c.args.key e.smaller e.greater e.rest _ _ _ _ _ (e.rest - 1) c.in_ok-there.there c.in_ok-left.left is_name c.in_ok-there.ensures.value c.in_ok-left.ensures.goes_on.begins (λ k. omega (arith, k, c.if-there-key.false))
+          (leads_from g.W.Words g.W.Shape.Shape c.args.w.now c.read.new.self c.hang-2.new.w _ c.in_ok-there.ensures.shape c.in_ok-left.ensures.hung)).at;
+    }
+
+pub returns-then-there-key-clause-smaller : goal.returns-then-there-key-clause-smaller
+returns-then-there-key-clause-smaller g c =
+    let e = c.args.ends in
+    let lt : e.rest - 1 < c.args.map.now.arena.blocks = omega arith in
+    inr (e.rest - 1, lt, inr (inr refl))
+
+pub returns-clause-greater : goal.returns-clause-greater
+returns-clause-greater g c =
+    let e = c.args.ends in
+    let lt : e.rest - 1 < c.args.map.now.arena.blocks = omega arith in
+    inr (e.rest - 1, lt, inr (inl refl))
+
+pub returns-then-there-key-clause-frame : goal.returns-then-there-key-clause-frame
+returns-then-there-key-clause-frame g c =
+    let e = c.args.ends in
+    let own : ℕ → Type 0 = λ a. (a ≡ e.smaller) ⊎ (a ≡ e.greater) in
+    record {
+      appended = only_then own _ _ _ (only_read own _ _ _ _ c.in_ok-there.ensures.value) (only_more (λ a. a ≡ e.smaller) own _ _ (λ a k. inl k) c.in_ok-right.ensures.frame.appended);
+    }
+
+pub returns-clause-frame : goal.returns-clause-frame
+returns-clause-frame g c =
+    let e = c.args.ends in
+    let own : ℕ → Type 0 = λ a. (a ≡ e.smaller) ⊎ (a ≡ e.greater) in
+    record {
+      appended = only_then own _ _ _ (only_read own _ _ _ _ c.in_ok-there.ensures.value) (only_more (λ a. a ≡ e.greater) own _ _ (λ a k. inr k) c.in_ok-left.ensures.frame.appended);
+    }
+
+pub returns-then-there-key-clause-reads : goal.returns-then-there-key-clause-reads
+returns-then-there-key-clause-reads g c =
+    let m = c.args.map.now in
+    let lt : c.args.ends.rest - 1 < m.arena.blocks = omega arith in
+    sees_then (IsLink m) _ _ _ (sees_read (IsLink m) _ _ _ _ c.in_ok-there.ensures.value (inr (c.args.ends.rest - 1, lt, inl refl))) c.in_ok-right.ensures.reads
+
+pub returns-clause-reads : goal.returns-clause-reads
+returns-clause-reads g c =
+    let m = c.args.map.now in
+    let lt : c.args.ends.rest - 1 < m.arena.blocks = omega arith in
+    sees_then (IsLink m) _ _ _ (sees_read (IsLink m) _ _ _ _ c.in_ok-there.ensures.value (inr (c.args.ends.rest - 1, lt, inl refl))) c.in_ok-left.ensures.reads

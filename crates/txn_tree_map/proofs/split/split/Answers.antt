@@ -1,0 +1,49 @@
+use Rattle.std.proofs.Common.{ap, ◌∙◌, arith}
+use Rattle.history_model.specs.Fitting.{SomeFits}
+use Rattle.history_model.proofs.FittingLaws.{some_at}
+use Rattle.txn_words.proofs.CallLaws.{leads_plain}
+use Rattle.txn_words.proofs.ReadLaws.{sees_write, sees_then}
+use Rattle.txn_tree_map.specs.Searches.{IsLink}
+use Rattle.txn_tree_map.proofs.Splitting.{splits_leads, splits_own, ends_within}
+use Rattle.txn_tree_map.proofs.split.split.Goals as goal
+
+pub write-requires-clause-within : goal.write-requires-clause-within
+write-requires-clause-within g c =
+    let m = c.args.map.now in
+    let e = c.in_ok-ends.ends in
+    let one = c.in_ok-ends.ensures in
+    let some : SomeFits (g.W.Shape.Shape.word_count (g.W.Words.shape c.args.w.now)) (g.W.Shape.Shape.good (g.W.Words.shape c.args.w.now)) (g.W.Words.trace c.part.new.w) =
+    some_at g.W.Shape.Shape.word_count g.W.Shape.Shape.good _ _ _ one.goes_on.shape (g.met.W.Words.fits c.part.new.w one.goes_on.sound) in
+    let within = ends_within m c.args.key c.args.block c.args.name _ _ _ _ e.smaller e.greater (leads_plain g.W.Words g.W.Shape.Shape _ _ _ one.parted) some in
+    omega (arith, within.0, ap g.W.Shape.Shape.word_count one.goes_on.shape)
+
+pub write-requires-2-clause-within : goal.write-requires-2-clause-within
+write-requires-2-clause-within g c =
+    let m = c.args.map.now in
+    let e = c.in_ok-ends.ends in
+    let one = c.in_ok-ends.ensures in
+    let some : SomeFits (g.W.Shape.Shape.word_count (g.W.Words.shape c.args.w.now)) (g.W.Shape.Shape.good (g.W.Words.shape c.args.w.now)) (g.W.Words.trace c.part.new.w) =
+    some_at g.W.Shape.Shape.word_count g.W.Shape.Shape.good _ _ _ one.goes_on.shape (g.met.W.Words.fits c.part.new.w one.goes_on.sound) in
+    let within = ends_within m c.args.key c.args.block c.args.name _ _ _ _ e.smaller e.greater (leads_plain g.W.Words g.W.Shape.Shape _ _ _ one.parted) some in
+    omega (arith, within.1, ap g.W.Shape.Shape.word_count (c.in_ok-write.ensures.shape ∙ one.goes_on.shape))
+
+pub returns-clause-split : goal.returns-clause-split
+returns-clause-split g c =
+    let e = c.in_ok-ends.ends in
+    record {
+      at = (splits_leads c.args.map.now c.args.key c.args.block c.args.name _ _ _ _ _ _ e.smaller e.greater c.in_ok-write.ensures.value c.in_ok-write-2.ensures.value (leads_plain g.W.Words g.W.Shape.Shape _ _ _ c.in_ok-ends.ensures.parted)).at;
+    }
+
+pub returns-clause-frame : goal.returns-clause-frame
+returns-clause-frame g c =
+    let e = c.in_ok-ends.ends in
+    record {
+      at = splits_own c.args.map.now c.args.key c.args.block c.args.name _ _ _ _ _ _ e.smaller e.greater c.in_ok-write.ensures.value c.in_ok-write-2.ensures.value (leads_plain g.W.Words g.W.Shape.Shape _ _ _ c.in_ok-ends.ensures.parted)
+          c.in_ok-ends.ensures.frame.at;
+    }
+
+pub returns-clause-reads : goal.returns-clause-reads
+returns-clause-reads g c =
+    let seen = IsLink c.args.map.now in
+    let one = c.in_ok-ends.ensures in
+    sees_then seen _ _ _ one.reads (sees_then seen _ _ _ (sees_write seen _ _ _ _ c.in_ok-write.ensures.value one.smaller) (sees_write seen _ _ _ _ c.in_ok-write-2.ensures.value one.greater))

@@ -1,0 +1,71 @@
+use Rattle.std.proofs.Common.{◌≡◌, ◌+◌, ◌*◌, ◌<◌, ap, arith}
+use Rattle.history_model.specs.Fitting.{SomeFits}
+use Rattle.history_model.proofs.FittingLaws.{some_at}
+use Rattle.txn_alloc.specs.FreeLists.{block_at}
+use Rattle.txn_tree_map.proofs.Searching.{laid_block}
+use Rattle.txn_tree_map.proofs.Totals.{none_from, past_from, links_from, node_below, node_from, next_from, value_from}
+use Rattle.txn_tree_map.proofs.sum.entry_from.Goals as goal
+
+pub prove-unreachable-requires : goal.prove-unreachable-requires
+prove-unreachable-requires g c =
+    let node = c.in-Some.node in
+    let nearest = rw c.in-Some.is at c.in_ok-first_at.ensures.nearest in
+    let goes = c.in_ok-first_at.ensures.goes_on in
+    let some : SomeFits (g.W.Shape.Shape.word_count (g.W.Words.shape c.args.w.now)) (g.W.Shape.Shape.good (g.W.Words.shape c.args.w.now)) (g.W.Words.trace c.first_at.new.w) =
+    some_at g.W.Shape.Shape.word_count g.W.Shape.Shape.good _ _ _ goes.shape (g.met.W.Words.fits c.first_at.new.w goes.sound) in
+    let lt : node.block < c.args.map.now.arena.blocks = node_below c.args.map.now _ _ _ _ c.args.least c.args.high node nearest some in
+    omega (arith, lt, c.if-prove.true)
+
+pub read-requires-clause-within : goal.read-requires-clause-within
+read-requires-clause-within g c =
+    let m = c.args.map.now in
+    let node = c.in-Some.node in
+    let lt : node.block < m.arena.blocks = omega (arith, c.if-prove.false) in
+    let in_list = laid_block m _ _ _ (g.met.W.Words.fits c.args.w.now c.requires.ready.sound) node.block (record { at = λ s fit. (c.requires.order.at s fit).holds.laid }) lt in
+    omega (arith, in_list.0, ap g.W.Shape.Shape.word_count c.in_ok-first_at.ensures.goes_on.shape, c.from.ensures)
+
+pub returns-in-None-clause-none : goal.returns-in-None-clause-none
+returns-in-None-clause-none g c =
+    let nearest = rw c.in-None.is at c.in_ok-first_at.ensures.nearest in
+    none_from c.args.map.now _ _ _ _ c.args.least c.args.high nearest
+
+pub returns-in-None-clause-reads : goal.returns-in-None-clause-reads
+returns-in-None-clause-reads g c =
+    let nearest = rw c.in-None.is at c.in_ok-first_at.ensures.nearest in
+    record { at = links_from c.args.map.now _ _ _ _ c.args.least c.args.high nearest (record { at = λ s fit. (c.requires.order.at s fit).holds.laid }) }
+
+pub returns-then-key-high-clause-none : goal.returns-then-key-high-clause-none
+returns-then-key-high-clause-none g c =
+    let nearest = rw c.in-Some.is at c.in_ok-first_at.ensures.nearest in
+    past_from c.args.map.now _ _ _ _ c.args.least c.args.high c.in-Some.node c.if-key-high.true nearest
+
+pub returns-then-key-high-clause-reads : goal.returns-then-key-high-clause-reads
+returns-then-key-high-clause-reads g c =
+    let nearest = rw c.in-Some.is at c.in_ok-first_at.ensures.nearest in
+    record { at = links_from c.args.map.now _ _ _ _ c.args.least c.args.high nearest (record { at = λ s fit. (c.requires.order.at s fit).holds.laid }) }
+
+pub returns-in_ok-value-in-Some-clause-next : goal.returns-in_ok-value-in-Some-clause-next
+returns-in_ok-value-in-Some-clause-next g c =
+    let m = c.args.map.now in
+    let node = c.in-Some.node in
+    let q = m.arena.first + 4 * c.from.result + 1 in
+    let is_value : q ≡ block_at m.arena node.block + 1 = omega (arith, c.from.ensures) in
+    let nearest = rw c.in-Some.is at c.in_ok-first_at.ensures.nearest in
+    next_from m _ _ _ _ c.args.least c.args.high node _ q c.in_ok-value-in-Some.value is_value nearest c.in_ok-value-in-Some.ensures.value
+
+pub returns-in_ok-value-in-Some-clause-reads : goal.returns-in_ok-value-in-Some-clause-reads
+returns-in_ok-value-in-Some-clause-reads g c =
+    let m = c.args.map.now in
+    let node = c.in-Some.node in
+    let q = m.arena.first + 4 * c.from.result + 1 in
+    let is_value : q ≡ block_at m.arena node.block + 1 = omega (arith, c.from.ensures) in
+    let nearest = rw c.in-Some.is at c.in_ok-first_at.ensures.nearest in
+    record { at = value_from m _ _ _ _ c.args.least c.args.high node _ q c.in_ok-value-in-Some.value is_value nearest c.in_ok-value-in-Some.ensures.value c.if-key-high.false }
+
+pub returns-in_ok-value-in-Some-clause-low : goal.returns-in_ok-value-in-Some-clause-low
+returns-in_ok-value-in-Some-clause-low g c =
+    let nearest = rw c.in-Some.is at c.in_ok-first_at.ensures.nearest in
+    let goes = c.in_ok-first_at.ensures.goes_on in
+    let some : SomeFits (g.W.Shape.Shape.word_count (g.W.Words.shape c.args.w.now)) (g.W.Shape.Shape.good (g.W.Words.shape c.args.w.now)) (g.W.Words.trace c.first_at.new.w) =
+    some_at g.W.Shape.Shape.word_count g.W.Shape.Shape.good _ _ _ goes.shape (g.met.W.Words.fits c.first_at.new.w goes.sound) in
+    node_from c.args.map.now _ _ _ _ c.args.least c.args.high c.in-Some.node nearest some

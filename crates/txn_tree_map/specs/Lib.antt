@@ -1,0 +1,7 @@
+pub mod Trees
+pub mod Paths
+pub mod Searches
+pub mod Changes
+pub mod Joins
+pub mod Sums
+pub mod Statements

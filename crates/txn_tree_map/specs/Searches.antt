@@ -1,0 +1,69 @@
+-- How far a search down the tree has come, and what it found.
+use Rattle.std.specs.Prelude.{◌≡◌, ℕ, ◌+◌, ◌^◌, ◌<◌, ◌≤◌, ◌⊎◌, List, Some, length, slice_get}
+use Rattle.txn_alloc.specs.FreeLists.{block_at}
+use Rattle.txn_alloc.specs.EntryMaps.{Cell}
+use Rattle.txn_tree_map.specs.declared.map.TreeMap.{TreeMap}
+use Rattle.txn_tree_map.specs.Trees.{Tree, priority_of, cells_of, rank_of, name_of, HasTree, IsLaid, IsAbove}
+use Rattle.txn_tree_map.specs.Trees.Tree.{Leaf, Node}
+use Rattle.txn_tree_map.specs.Paths.{Path, place_of, before_of, after_of, IsAt, IsBelow, IsHigh}
+
+-- the root, or the word of a key or of a name in a block: what a search reads
+abbrev pub IsLink : TreeMap → ℕ → Type 0
+IsLink map a =
+    (a ≡ map.root) ⊎ ((b : ℕ) × (b < map.arena.blocks) × ((a ≡ block_at map.arena b) ⊎ ((a ≡ block_at map.arena b + 2) ⊎ (a ≡ block_at map.arena b + 3))))
+
+-- the word at the place heads some tree
+pub record HasTop (map : TreeMap) (place : ℕ) (words : List ℕ) : Type 0 where
+  pub laid : IsLaid map words
+  pub tree : Tree
+  pub head : HasTree map.arena words place tree
+
+-- the word at the place names the block, and this is its key
+abbrev pub IsNamed : TreeMap → ℕ → ℕ → ℕ → List ℕ → Type 0
+IsNamed map place block key words = (slice_get words place ≡ Some (block + 1)) × (slice_get words (block_at map.arena block) ≡ Some key)
+
+-- the word at the place names none
+abbrev pub IsEnd : ℕ → List ℕ → Type 0
+IsEnd place words = slice_get words place ≡ Some 0
+
+-- the search for the key has come to the place, down nodes that all reach as high as the floor,
+-- and passed so many that no more than the other blocks are left below it
+pub record IsPassed (map : TreeMap) (key floor place passed : ℕ) (words : List ℕ) : Type 0 where
+  pub path : Path
+  pub rest : Tree
+  pub is_at : IsAt map path rest words
+  pub at : place ≡ place_of map.arena map.root path
+  pub low : IsBelow key (before_of path)
+  pub high : IsAbove key (after_of path)
+  pub higher : IsHigh (2 ^ 64) path floor
+  pub count : passed + length (cells_of rest) ≤ map.arena.blocks
+
+-- the word at the place names the block of the key's cell
+pub record IsFoundAt (map : TreeMap) (key place block : ℕ) (words : List ℕ) : Type 0 where
+  pub path : Path
+  pub left : Tree
+  pub cell : Cell
+  pub right : Tree
+  pub is_at : IsAt map path (Node left cell right) words
+  pub at : place ≡ place_of map.arena map.root path
+  pub is_block : cell.block ≡ block
+  pub is_key : cell.key ≡ key
+
+-- the key is in no cell: the place where it would hang is a leaf
+pub record IsMissing (map : TreeMap) (key : ℕ) (words : List ℕ) : Type 0 where
+  pub path : Path
+  pub is_at : IsAt map path Leaf words
+  pub low : IsBelow key (before_of path)
+  pub high : IsAbove key (after_of path)
+
+-- the place where a node with this key hangs by its priority: all above are higher, and what hangs there, which the number names, is not
+pub record IsSeat (map : TreeMap) (key place name : ℕ) (words : List ℕ) : Type 0 where
+  pub path : Path
+  pub rest : Tree
+  pub is_at : IsAt map path rest words
+  pub at : place ≡ place_of map.arena map.root path
+  pub low : IsBelow key (before_of path)
+  pub high : IsAbove key (after_of path)
+  pub higher : IsHigh (2 ^ 64) path (priority_of key + 1)
+  pub lower : rank_of rest ≤ priority_of key
+  pub is_name : name_of rest ≡ name

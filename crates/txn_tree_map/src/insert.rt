@@ -1,0 +1,94 @@
+//! Putting a key and a value into the map.
+
+ghost use Rattle.std.specs.Prelude.{◌≡◌, ℕ, IfOk, OnOk};
+ghost use Rattle.txn_words.specs.Frames.{AppendsReads};
+ghost use Rattle.txn_words.specs.Calls.{IsReady, GoesOn, ReadsWithin, WritesOnly, WritesWithin, InEachState, LeadsTo};
+ghost use Rattle.txn_alloc.specs.declared.put.Put.TheVariants.{Full, Old};
+ghost use Rattle.txn_alloc.specs.EntryMaps.{HasMapApart, Inserts, LacksRoom, IsOwn, MayRead, IsValue};
+ghost use Rattle.txn_tree_map.specs.Trees.{TreeHolds};
+ghost use Rattle.txn_tree_map.specs.Changes.{CanPut, IsPut, IsPutOwn, IsLinkOrIn};
+
+use crate::find::find;
+use crate::map::TreeMap;
+use crate::seat::find_seat;
+use crate::split::split;
+use txn_alloc::{Put, take};
+use txn_words::{Stop, Words};
+
+/// Writes key and value into the block, and hangs it at the key's seat, above the parts of what hung there.
+pub(crate) fn put_in<W: Words>(
+    w: &mut W,
+    map: &TreeMap,
+    key: u64,
+    value: u64,
+    block: u32,
+) -> Result<(), Stop>
+    requires ready { IsReady W.Words w.old }
+    requires missing { InEachState W.Words W.Shape.Shape w.old (CanPut map.now key block) }
+    ensures put { OnOk result (LeadsTo W.Words W.Shape.Shape w.old w.new (IsPut map.now key value block)) }
+    ensures frame { OnOk result (WritesWithin W.Words W.Shape.Shape w.old w.new (IsPutOwn map.now key block)) }
+    ensures reads { OnOk result (AppendsReads (W.trace w.old) (W.trace w.new) (IsLinkOrIn map.now block)) }
+    ensures goes_on { GoesOn W.Words w.old w.new result }
+{
+    let seat = find_seat(w, map, key)?;
+    let at = map.arena.first + 4 * u64::from(block);
+    w.write(at, key)?;
+    w.write(at + 1, value)?;
+    split(w, map, key, block, seat.name)?;
+    w.write(seat.place, u64::from(block) + 1)?;
+    Ok(())
+}
+
+impl TreeMap {
+    /// Puts the value at the key. A key that is new gets a free block, if there is one.
+    pub fn insert<W: Words>(&self, w: &mut W, key: u64, value: u64) -> Result<Put, Stop>
+        requires ready { IsReady W.Words w.old }
+        requires order { InEachState W.Words W.Shape.Shape w.old (HasMapApart self.now.arena (TreeHolds self.now)) }
+
+        // The map has the value at the key, and else what it had.
+        ensures put { IfOk result (λ put.
+            LeadsTo W.Words W.Shape.Shape w.old w.new (Inserts self.now.arena (TreeHolds self.now) key value put)) }
+
+        // It answers Full exactly where in every state the key is absent and no block is free.
+        ensures full { IfOk result (λ put. put ≡ Full
+            → LeadsTo W.Words W.Shape.Shape w.old w.new (λ before _. LacksRoom self.now.arena (TreeHolds self.now) key before)) }
+        ensures full_if { IfOk result (λ put.
+            LeadsTo W.Words W.Shape.Shape w.old w.new (λ before _. LacksRoom self.now.arena (TreeHolds self.now) key before)
+            → put ≡ Full) }
+
+        ensures order { OnOk result (
+            InEachState W.Words W.Shape.Shape w.new (HasMapApart self.now.arena (TreeHolds self.now))) }
+
+        // No word is written but the heads, the root and the words of the map's blocks.
+        ensures frame { OnOk result (
+            WritesWithin W.Words W.Shape.Shape w.old w.new (IsOwn self.now.arena (TreeHolds self.now) (λ a. a ≡ self.now.root))) }
+
+        // Where the key was there, the word of its value alone is written.
+        ensures old { IfOk result (λ put. (was : ℕ) → put ≡ Old was
+            → WritesWithin W.Words W.Shape.Shape w.old w.new (IsValue self.now.arena (TreeHolds self.now) key)) }
+
+        // Where there is no room, no word is written.
+        ensures full_frame { IfOk result (λ put. put ≡ Full → WritesOnly W.Words w.old w.new (λ a. ⊥)) }
+
+        // The value of no other key is read.
+        ensures reads { OnOk result (
+            ReadsWithin W.Words W.Shape.Shape w.old w.new (MayRead self.now.arena (TreeHolds self.now) key)) }
+        ensures goes_on { GoesOn W.Words w.old w.new result }
+    {
+        match find(w, self, key)? {
+            Some(found) => {
+                let at = self.arena.first + 4 * u64::from(found.block) + 1;
+                let old = w.read(at)?;
+                w.write(at, value)?;
+                Ok(Put::Old(old))
+            }
+            None => match take(w, &self.arena)? {
+                Some(block) => {
+                    put_in(w, self, key, value, block.number())?;
+                    Ok(Put::New)
+                }
+                None => Ok(Put::Full),
+            },
+        }
+    }
+}

@@ -1,0 +1,18 @@
+//! What a collection above concludes, each law the contract of a function that does nothing.
+
+ghost use Rattle.txn_tree_map.specs.Statements.{OneMap, TreeStands, PrioritiesDiffer};
+
+/// In one word list the map is one.
+pub fn one_map()
+    ensures { OneMap }
+{}
+
+/// The map stands where its root and the words of its used blocks stay.
+pub fn tree_stands()
+    ensures { TreeStands }
+{}
+
+/// Different keys have different priorities, so that a tree of given keys is one.
+pub fn priorities_differ()
+    ensures { PrioritiesDiffer }
+{}

@@ -1,0 +1,27 @@
+//! Where a tree map lies, and the order of its priorities.
+
+ghost use Rattle.std.specs.Prelude.{◌≡◌, ◌^◌, ◌<◌};
+ghost use Rattle.txn_tree_map.specs.Trees.{priority_of};
+
+use txn_alloc::Arena;
+
+/// What a key is multiplied by for its priority: 2^64 by the golden ratio, to the nearest odd number.
+pub const MULTIPLIER: u64 = 0x9E37_79B9_7F4A_7C15;
+
+/// A map from keys to values on words: a treap of the arena's blocks.
+#[derive(Clone, Copy, Debug, PartialEq, Eq)]
+pub struct TreeMap {
+    /// The word that names the block on top.
+    pub root: u64,
+    /// Whose blocks the tree is built of. Other collections may take blocks of it too.
+    pub arena: Arena,
+}
+
+/// The priority of a key. The greater is higher.
+pub(crate) fn priority(key: u64) -> u64
+    ensures value { result ≡ priority_of key }
+    // A number of 64 bits, which callers' proofs know of no field of a struct.
+    ensures small { key < 2 ^ 64 }
+{
+    key.wrapping_mul(MULTIPLIER)
+}

@@ -1,0 +1,90 @@
+//! The sum of the values from one key to another.
+
+ghost use Rattle.std.specs.Prelude.{◌≤◌, IfOk, IfSome, IfNone, OnOk};
+ghost use Rattle.txn_words.specs.Calls.{IsReady, GoesOn, ReadsWithin, WritesOnly, InEachState, LeadsTo};
+ghost use Rattle.txn_alloc.specs.Looks.{Looks};
+ghost use Rattle.txn_alloc.specs.EntryMaps.{HasMap, HasSmallSum, SumsRange, MayReadRange};
+ghost use Rattle.txn_tree_map.specs.Trees.{TreeHolds};
+ghost use Rattle.txn_tree_map.specs.Sums.{IsAnyWord, IsNext, HasNoneTo};
+
+use crate::first::first_at;
+use crate::map::TreeMap;
+use txn_words::{Stop, Words};
+
+/// A key of the map, and its value.
+#[derive(Clone, Copy)]
+pub(crate) struct Entry {
+    pub key: u64,
+    pub value: u64,
+}
+
+/// Of the entries whose keys are from `least` to `high`, both included, the one with the least key.
+pub(crate) fn entry_from<W: Words>(
+    w: &mut W,
+    map: &TreeMap,
+    least: u64,
+    high: u64,
+) -> Result<Option<Entry>, Stop>
+    requires ready { IsReady W.Words w.old }
+    requires order { InEachState W.Words W.Shape.Shape w.old (HasMap map.now.arena (TreeHolds map.now)) }
+    ensures next { IfOk result (λ answer. IfSome answer (λ entry.
+        Looks (W.Shape.word_count (W.shape w.old)) (W.Shape.good (W.shape w.old)) (W.trace w.old) (W.trace w.new) IsAnyWord (IsNext map.now least entry.key entry.value))) }
+    ensures none { IfOk result (λ answer. IfNone answer
+        (Looks (W.Shape.word_count (W.shape w.old)) (W.Shape.good (W.shape w.old)) (W.trace w.old) (W.trace w.new) IsAnyWord (HasNoneTo map.now least high))) }
+    ensures low { IfOk result (λ answer. IfSome answer (λ entry. least ≤ entry.key)) }
+    ensures high { IfOk result (λ answer. IfSome answer (λ entry. entry.key ≤ high)) }
+    ensures reads { OnOk result (
+        ReadsWithin W.Words W.Shape.Shape w.old w.new (MayReadRange map.now.arena (TreeHolds map.now) least high)) }
+    ensures goes_on { GoesOn W.Words w.old w.new result }
+{
+    match first_at(w, map, least)? {
+        None => Ok(None),
+        Some(node) => {
+            let key = node.key;
+            if key > high {
+                return Ok(None);
+            }
+            prove!(node.block < map.arena.blocks);
+            let value = w.read(map.arena.first + 4 * u64::from(node.block) + 1)?;
+            Ok(Some(Entry { key, value }))
+        }
+    }
+}
+
+impl TreeMap {
+    /// The sum of the values of the keys from `low` to `high`, both included: 0 where `low` is above `high`.
+    pub fn sum_range<W: Words>(&self, w: &mut W, low: u64, high: u64) -> Result<u64, Stop>
+        requires ready { IsReady W.Words w.old }
+        requires order { InEachState W.Words W.Shape.Shape w.old (HasMap self.now.arena (TreeHolds self.now)) }
+        requires small { InEachState W.Words W.Shape.Shape w.old (HasSmallSum self.now.arena (TreeHolds self.now)) }
+
+        // Nothing changes, and the answer is the sum.
+        ensures sum { IfOk result (λ total.
+            LeadsTo W.Words W.Shape.Shape w.old w.new (SumsRange self.now.arena (TreeHolds self.now) low high total)) }
+        ensures order { OnOk result (
+            InEachState W.Words W.Shape.Shape w.new (HasMap self.now.arena (TreeHolds self.now))) }
+
+        // No word is written.
+        ensures frame { OnOk result (WritesOnly W.Words w.old w.new (λ a. ⊥)) }
+
+        // The value of no other key is read.
+        ensures reads { OnOk result (
+            ReadsWithin W.Words W.Shape.Shape w.old w.new (MayReadRange self.now.arena (TreeHolds self.now) low high)) }
+        ensures goes_on { GoesOn W.Words w.old w.new result }
+    {
+        let mut total = 0;
+        let mut least = low;
+        for _ in 0..self.arena.blocks {
+            let entry = match entry_from(w, self, least, high)? {
+                None => return Ok(total),
+                Some(entry) => entry,
+            };
+            total += entry.value;
+            if entry.key == high {
+                return Ok(total);
+            }
+            least = entry.key + 1;
+        }
+        Ok(total)
+    }
+}
