@@ -2,4 +2,8 @@ pub mod Maps
 pub mod InRange
 pub mod Above
 pub mod Changes
+pub mod Entries
+pub mod Sums
+pub mod Queues
+pub mod Drafts
 pub mod Runs

@@ -4,16 +4,16 @@ ghost use Rattle.std.specs.Prelude.{◌≡◌, ℕ, ◌<◌, ◌≤◌, Some, No
 ghost use Rattle.std.specs.BTreeMap.Range.{IsLtBy, IsLeBy};
 ghost use Rattle.std.specs.FinMap as map;
 ghost use Rattle.std.specs.Ordering.{nat_cmp, is_lt};
-ghost use Rattle.books_model.specs.Draft.{put_in, AreKeysOf};
 
 use crate::limits::{
     GREATEST_CASH, GREATEST_PRICE, GREATEST_QUANTITY, MOST_BLOCKS, MOST_INSTRUMENTS, MOST_RING,
 };
+use crate::overlay::{Changes, append_all, drop_front, make_all_room, settle, take_back};
 use io_ends::OutOfMemory;
 use std::alloc::Global;
 use std::collections::{BTreeMap, VecDeque};
 use std::marker::Model;
-use std::ops::Bound::{Excluded, Unbounded};
+use std::ops::Bound::{Excluded, Included, Unbounded};
 
 /// Accounts with their cash, positions, prices, and a queue of margin calls.
 #[derive(Debug, Drop)]
@@ -43,7 +43,8 @@ impl Model for Books {
 
 impl Books {
     ghost use Rattle.books_model.specs.Books.{empty_books, position_cmp, put_call, put_cash, put_price, put_quantity, used};
-    ghost use Rattle.books_model.specs.Draft.{put_all_cash};
+    ghost use Rattle.books_model.specs.Changes.{AreChangesOf, changed_books};
+    ghost use Rattle.books_model.specs.Interpreter.{cash_between};
     ghost use Rattle.books_model.specs.Ranges.{AreInRange, IsWithin, IsAccountNumber, IsCall, IsInstrumentOf};
 
     /// Empty books of these sizes. They take no memory.
@@ -196,13 +197,43 @@ impl Books {
         Ok(())
     }
 
-    /// Puts in the changed cash of accounts. It takes no memory.
-    pub(crate) fn put_all_cash(&mut self, changes: &BTreeMap<u32, u64>)
-        requires accounts { AreKeysOf self.old.accounts changes.now.entries }
-        requires range { AreInRange (put_all_cash self.old changes.now.entries) }
-        ensures { self.new ≡ put_all_cash self.old changes.now.entries }
+    /// Puts in the changes of a script. Where memory is wanting the books are as before.
+    pub(crate) fn put_in(&mut self, changes: &Changes) -> Result<(), OutOfMemory>
+        requires changes { AreChangesOf self.old changes.now }
+        requires range { AreInRange (changed_books self.old changes.now) }
+        ensures ok { OnOk result (self.new ≡ changed_books self.old changes.now) }
+        ensures err { OnErr result (self.new ≡ self.old) }
     {
-        overwrite(&mut self.accounts, changes);
+        self.calls.reserve(changes.added.len())?;
+        if let Err(wanting) = make_all_room(
+            &mut self.accounts,
+            &mut self.positions,
+            &mut self.prices,
+            changes,
+        ) {
+            take_back(&mut self.accounts, &changes.accounts);
+            take_back(&mut self.positions, &changes.positions);
+            take_back(&mut self.prices, &changes.prices);
+            return Err(wanting);
+        }
+        settle(&mut self.accounts, &changes.accounts);
+        settle(&mut self.positions, &changes.positions);
+        settle(&mut self.prices, &changes.prices);
+        append_all(&mut self.calls, &changes.added);
+        drop_front(&mut self.calls, changes.taken);
+        Ok(())
+    }
+
+    /// The cash of all accounts from one number to another, both included.
+    pub(crate) fn cash_between(&self, a: u32, b: u32) -> u64
+        requires { a ≤ b }
+        ensures { result ≡ cash_between self.now a b }
+    {
+        let mut total = 0;
+        for (_, cash) in self.accounts.range((Included(a), Included(b))) {
+            total += *cash;
+        }
+        total
     }
 
     /// The account with the least number above the given one, and its cash. A walk over all accounts begins with 0.
@@ -242,18 +273,5 @@ impl Books {
     {
         let (key, quantity) = self.positions.range((Excluded((a, i)), Unbounded)).next()?;
         Some((key.0, key.1, *quantity))
-    }
-}
-
-// Puts in changes of keys that are there, which takes no memory.
-fn overwrite(values: &mut BTreeMap<u32, u64>, changes: &BTreeMap<u32, u64>)
-    requires { AreKeysOf (map.from_entries {R = nat_cmp} values.old.entries) changes.now.entries }
-    ensures { map.from_entries values.new.entries
-        ≡ put_in (map.from_entries {R = nat_cmp} values.old.entries) changes.now.entries }
-{
-    for (key, value) in changes {
-        let Ok(_) = values.insert(*key, *value) else {
-            unreachable!()
-        };
     }
 }

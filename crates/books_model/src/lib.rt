@@ -4,6 +4,8 @@
 pub mod books;
 mod draft;
 pub mod limits;
+mod operations;
+mod overlay;
 pub mod reply;
 pub mod run;
 pub mod script;

@@ -1,6 +1,4 @@
-ghost use Rattle.std.specs.Prelude.{All, IfOk};
 ghost use Rattle.books_model.specs.Ranges.{IsScriptFor};
-ghost use Rattle.books_model.specs.Cut.{IsRunSoFar, HaveOnlyAccounts};
 
 use crate::limits::{GREATEST_AMOUNT, GREATEST_CASH};
 use crate::{Books, Decline, Op, Reply, Script, Value, run_plain};
@@ -10,9 +8,7 @@ use std::process::Abort;
 use std::test::Fail;
 
 // Books of 4 blocks with these accounts, added in order.
-fn books_of(rt: &impl Abort, alloc: Global, accounts: &[(u32, u64)]) -> Result<Books, OutOfMemory>
-    ensures { IfOk result HaveOnlyAccounts }
-{
+fn books_of(rt: &impl Abort, alloc: Global, accounts: &[(u32, u64)]) -> Result<Books, OutOfMemory> {
     let mut books = Books::new(alloc, 4, 1, 1);
     for (account, cash) in accounts {
         assert!(rt; *account > 0 && *cash <= GREATEST_CASH);
@@ -25,9 +21,6 @@ fn books_of(rt: &impl Abort, alloc: Global, accounts: &[(u32, u64)]) -> Result<B
 
 fn run(alloc: Global, operations: &[Op], books: &mut Books) -> Result<Reply, OutOfMemory>
     requires range { IsScriptFor books.old operations.now }
-    requires built { All IsRunSoFar operations.now }
-    requires accounts { HaveOnlyAccounts books.old }
-    ensures { HaveOnlyAccounts books.new }
 {
     let mut script = Script::new(alloc);
     for operation in operations {
