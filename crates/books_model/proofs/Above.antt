@@ -11,15 +11,8 @@ use Rattle.std.specs.Cmp.{IsTotalOrder, nat_cmp_total, nat_cmp_is}
 use Rattle.std.specs.FinMap as map
 use Rattle.std.proofs.lemmas.Cmp.{ranked}
 use Rattle.std.proofs.lemmas.Map.Keys.{le_from_not_gt}
+use Rattle.books_model.specs.Keys.{is_lt-nat_cmp}
 use Rattle.books_model.proofs.Maps.{get-lookup, entries-from_entries}
-
--- one number below another by the order of numbers
-pub is_lt-nat_cmp : (a b : ℕ) → nat_lt a b ≡ is_lt (nat_cmp a b)
-is_lt-nat_cmp a b = of_tests (nat_lt a b) (a == b) where
-  of_tests : (above same : Bool) → above ≡ is_lt (cond above Less (cond same Equal Greater))
-  of_tests true same = refl
-  of_tests false true = refl
-  of_tests false false = refl
 
 -- a test that passes puts an entry first in both searches, and one that fails leaves them
 first_of_both : {X : Type 0} (above : Bool) (e : X) (found : Option X) (kept : List X) → found ≡ slice_get kept 0

@@ -11,20 +11,8 @@ use Rattle.std.proofs.lemmas.Bool.{cases_lt}
 use Rattle.std.proofs.lemmas.List.Sums.{sum_by-cons}
 use Rattle.std.proofs.lemmas.Map.Lookups.{CmpEqualImpliesEq}
 use Rattle.std.proofs.lemmas.Map.Views.{tells_apart}
+use Rattle.books_model.specs.Keys.{below_first, below_rest, sorted_first, sorted_rest, below_less}
 use Rattle.books_model.specs.Changes.{set_at}
-
-pub first_part : (a b : Bool) → T (a && b) → T a
-first_part true b h = tt
-first_part false b h = h
-
-pub second_part : (a b : Bool) → T (a && b) → T b
-second_part true b h = h
-second_part false b h = absurd h
-
-pub less_of : (r : Ordering) → T (is_lt r) → r ≡ Less
-less_of Less h = refl
-less_of Equal h = absurd h
-less_of Greater h = absurd h
 
 -- a property of all entries, at another function that is the same at them
 pub AllByRecursion-weaker : {X : Type 0} (P Q : X → Type 0) → ((x : X) → P x → Q x) → (xs : List X) → AllByRecursion P xs → AllByRecursion Q xs
@@ -65,13 +53,7 @@ module _ {K : Type 0} {R : K → K → Ordering} (o : IsTotalOrder R) where
   -- nothing is found at a key below all others
   find_below : {X : Type 0} (q : K) (es : List (K × X)) → T (below_all R q es) → find R q es ≡ None
   find_below q [] h = refl
-  find_below q (e ∷ es) h = ap (λ r. cond (is_eq r) (Some e.1) (find R q es)) (less_of _ (first_part (is_lt (R q e.0)) (below_all R q es) h)) ∙ find_below q es (second_part (is_lt (R q e.0)) (below_all R q es) h)
-
-  below_less : {X : Type 0} (x y : K) (es : List (K × X)) → R x y ≡ Less → T (below_all R y es) → T (below_all R x es)
-  below_less x y [] less h = tt
-  below_less x y (e ∷ es) less h =
-      let here : R x e.0 ≡ Less = o.trans x y e.0 less (less_of _ (first_part (is_lt (R y e.0)) (below_all R y es) h)) in
-      subst (λ r. T (is_lt r && below_all R x es)) (sym here) (below_less x y es less (second_part (is_lt (R y e.0)) (below_all R y es) h))
+  find_below q (e ∷ es) h = ap (λ r. cond (is_eq r) (Some e.1) (find R q es)) (below_first R q e es h) ∙ find_below q es (below_rest R q e es h)
 
   module _ (exact : CmpEqualImpliesEq R) where
     -- no entry passes a test that a key passes with every value: the key is not there
@@ -109,12 +91,12 @@ module _ {K : Type 0} {R : K → K → Ordering} (o : IsTotalOrder R) where
     all_entries P [] sorted each = tt
     all_entries P (e ∷ es) sorted each = (
       each e.0 e.1 (ap (λ r. cond (is_eq r) (Some e.1) (find R e.0 es)) (tied_itself o e.0)),
-      all_entries P es (second_part (below_all R e.0 es) (is_sorted R es) sorted) (λ k v found. each k v (further k v found)),
+      all_entries P es (sorted_rest R e es sorted) (λ k v found. each k v (further k v found)),
     )
       where
         further : (k : K) (v : _) → find R k es ≡ Some v → find R k (e ∷ es) ≡ Some v
         further k v found = elim (eq_by_cmp R k e.0) as (λ b. eq_by_cmp R k e.0 ≡ b → cond b (Some e.1) (find R k es) ≡ Some v) [
-          | true ↦ λ at. let none : find R k es ≡ None = ap (λ q. find R q es) (tells_apart exact k e.0 at) ∙ find_below e.0 es (first_part (below_all R e.0 es) (is_sorted R es) sorted) in absurd (cc)
+          | true ↦ λ at. let none : find R k es ≡ None = ap (λ q. find R q es) (tells_apart exact k e.0 at) ∙ find_below e.0 es (sorted_first R e es sorted) in absurd (cc)
           | false ↦ λ _. found
         ] refl
 
@@ -127,14 +109,14 @@ module _ {K : Type 0} {R : K → K → Ordering} (o : IsTotalOrder R) where
     sum_by-put f k v (e ∷ es) sorted =
         elim (R k e.0) as (λ r. R k e.0 ≡ r → sum_by f (by_order r ((k, v) ∷ e ∷ es) ((e.0, v) ∷ es) (e ∷ put R k v es)) + weigh f k (cond (is_eq r) (Some e.1) (find R k es)) ≡ sum_by f (e ∷ es) + f (k, v)) [
           | Less ↦ λ less.
-              let none : weigh f k (find R k es) ≡ 0 = ap (weigh f k) (find_below k es (below_less k e.0 es less (first_part (below_all R e.0 es) (is_sorted R es) sorted))) in
+              let none : weigh f k (find R k es) ≡ 0 = ap (weigh f k) (find_below k es (below_less R o k e.0 es less (sorted_first R e es sorted))) in
               omega (arith, sum_by-cons f (k, v) (e ∷ es))
           | Equal ↦ λ same.
               let here : f (e.0, v) ≡ f (k, v) = ap (λ q. f (q, v)) (sym (exact k e.0 same)) in
               let was : f (k, e.1) ≡ f e = ap (λ q. f (q, e.1)) (exact k e.0 same) in
               omega (arith, sum_by-cons f (e.0, v) es, sum_by-cons f e es)
           | Greater ↦ λ more.
-              let rest = sum_by-put f k v es (second_part (below_all R e.0 es) (is_sorted R es) sorted) in
+              let rest = sum_by-put f k v es (sorted_rest R e es sorted) in
               omega (arith, sum_by-cons f e (put R k v es), sum_by-cons f e es)
         ] refl
 
