@@ -5,8 +5,9 @@ use Rattle.twoplsf.proofs.Days.{script_of_place, ran_one}
 use Rattle.twoplsf.proofs.day.run_script.Goals as goal
 
 pub run_plain-requires : goal.run_plain-requires
-run_plain-requires c =
-    rw c.script.ensures (script_of_place c.args.input.now c.args.day.now.books c.args.caller c.args.index c.requires.valid c.requires.so_far.instruments c.requires.caller c.requires.index)
+run_plain-requires c = record {
+  range = rw c.script.ensures (script_of_place c.args.input.now c.args.day.now.books c.args.caller c.args.index c.requires.valid c.requires.so_far.instruments c.requires.caller c.requires.index);
+}
 
 pub returns : goal.returns
 returns c =
