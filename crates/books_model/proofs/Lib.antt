@@ -7,3 +7,7 @@ pub mod Sums
 pub mod Queues
 pub mod Drafts
 pub mod Runs
+pub mod Outcomes
+pub mod CashLaws
+pub mod RangeLaws
+pub mod QueueLaws

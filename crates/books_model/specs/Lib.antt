@@ -5,3 +5,4 @@ pub mod Keys
 pub mod Changes
 pub mod Draft
 pub mod Steps
+pub mod Laws

@@ -3,6 +3,7 @@
 
 pub mod books;
 mod draft;
+pub mod laws;
 pub mod limits;
 mod operations;
 mod overlay;

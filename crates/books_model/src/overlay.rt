@@ -185,7 +185,7 @@ pub(crate) fn append_all(queue: &mut VecDeque<(u32, u64)>, items: &[(u32, u64)])
 pub(crate) fn drop_front(queue: &mut VecDeque<(u32, u64)>, count: usize)
     ensures { queue.new.items ≡ drop count queue.old.items }
 {
-    for index in 0..count {
+    for _index in 0..count {
         let _ = queue.pop_front();
     }
 }

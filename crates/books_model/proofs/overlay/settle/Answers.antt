@@ -12,7 +12,7 @@ pub set_value-requires : goal.set_value-requires
 set_value-requires g c =
     let was = map.from_entries {R = g.K.Ord.cmp} c.loop-key.values.entries in
     let e : g.row.K.Denot × Change = (c.in-Some.key.now, c.in-Some.change.now) in
-    let room = subst (HasRoomFor was) c.in-Some.ensures.steps c.loop-key.invariant.room in
+    let room = subst (HasRoomFor was) {x = c.loop-key.key-iterator} c.in-Some.ensures.steps c.loop-key.invariant.room in
     room c.in-Some.key.now c.in-Some.change.now (change_at_first g.met.K.Ord.total e c.next.new.self)
 
 pub loop-key-preserved : goal.loop-key-preserved
@@ -24,8 +24,8 @@ loop-key-preserved g c =
     let e : g.row.K.Denot × Change = (c.in-Some.key.now, c.in-Some.change.now) in
     let rest = c.next.new.self in
     let step = c.in-Some.ensures.steps in
-    let ordered = subst (λ es. IsStrictlySortedBy R (keys_of es)) step c.loop-key.invariant.ordered in
-    let room = subst (HasRoomFor was) step c.loop-key.invariant.room in
+    let ordered = subst (λ es. IsStrictlySortedBy R (keys_of es)) {x = c.loop-key.key-iterator} step c.loop-key.invariant.ordered in
+    let room = subst (HasRoomFor was) {x = c.loop-key.key-iterator} step c.loop-key.invariant.room in
     let put = c.set_value.ensures in
     record {
       ordered = sorted_tail R c.in-Some.key.now (keys_of rest) ordered;
