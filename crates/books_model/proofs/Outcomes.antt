@@ -1,12 +1,12 @@
 -- What holds of a step, and of the run of a script, wherever it is done.
-use Rattle.std.proofs.Common.{◌≡◌, ◌≢◌, ℕ, ◌+◌, Bool, true, false, if◌then◌else◌, List, [], ◌∷◌, refl, sym, ap, subst, ◌∙◌}
+use Rattle.std.proofs.Common.{◌≡◌, ◌≢◌, ℕ, ◌+◌, Bool, true, false, if◌then◌else◌, List, [], ◌∷◌, refl, ap, subst, ◌∙◌}
 use Rattle.books_model.specs.declared.script.Op.{Op}
 use Rattle.books_model.specs.declared.reply.Decline.{Decline}
 use Rattle.books_model.specs.declared.reply.Value.{Value}
 use Rattle.books_model.specs.declared.reply.Reply.{Reply}
 use Rattle.books_model.specs.declared.reply.Reply.TheVariants as reply
 use Rattle.books_model.specs.Books.{ClearingBooks}
-use Rattle.books_model.specs.Interpreter.{Step, Gives, Declines, FindsNoBlock, Run, Ends, Stops, step_of, run_from, after_value, after_step, outcome_from, outcome_of}
+use Rattle.books_model.specs.Interpreter.{Step, Gives, Declines, FindsNoBlock, Run, Ends, Stops, step_of, run_from, after_value, after_step, outcome_from}
 
 -- what holds of the value and the books of a step that is done
 pub WhereDone : (Value → ClearingBooks → Type 0) → Step → Type 0

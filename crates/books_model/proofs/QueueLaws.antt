@@ -1,12 +1,12 @@
 -- Margin calls are taken in the order in which they were queued.
-use Rattle.std.proofs.Common.{◌≡◌, ℕ, ◌+◌, ◌-◌, ◌*◌, Bool, true, false, cond, not, ◌&&◌, ◌||◌, ◌==◌, nat_lt, List, [], ◌∷◌, ◌++◌, length, refl, sym, ap, ◌∙◌, append-nil, append_assoc}
+use Rattle.std.proofs.Common.{◌≡◌, ℕ, ◌+◌, ◌-◌, ◌*◌, cond, not, ◌&&◌, ◌||◌, ◌==◌, nat_lt, List, [], ◌∷◌, ◌++◌, length, refl, sym, ap, ◌∙◌, append-nil, append_assoc}
 use Rattle.std.specs.List.{flat_map}
 use Rattle.std.specs.FinMap as map
 use Rattle.books_model.specs.declared.limits.TheConstants.{GREATEST_CASH, GREATEST_QUANTITY}
 use Rattle.books_model.specs.declared.script.Op.{Op}
 use Rattle.books_model.specs.declared.script.Op.TheVariants as op
 use Rattle.books_model.specs.declared.reply.Value.{Value}
-use Rattle.books_model.specs.Books.{ClearingBooks, cash_of, position_of, price_of, put_cash}
+use Rattle.books_model.specs.Books.{ClearingBooks, cash_of, position_of, price_of}
 use Rattle.books_model.specs.Interpreter.{holds_any, is_account, is_full, margin_of, next_of, put_position, shortfall_of, run_from, step_of}
 use Rattle.books_model.specs.Laws.{queued_by, queued, taken_by}
 use Rattle.books_model.proofs.CashLaws.{traded}

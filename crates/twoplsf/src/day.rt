@@ -4,6 +4,7 @@ ghost use Rattle.std.specs.Prelude.{◌+◌, ◌<◌, length, IfOk, OnOk};
 ghost use Rattle.script_reader.specs.Input.{IsInput, caller_at};
 ghost use Rattle.twoplsf.specs.Day.{IsDay, HasRun};
 
+use books_model::laws::scripts_go_by_instruments;
 use books_model::{Books, Reply, run_plain};
 use books_report::Line;
 use io_ends::OutOfMemory;
@@ -31,6 +32,8 @@ fn run_script(
     requires so_far { HasRun input.now caller index day.old.lines.items day.old.replies.items day.old.books }
     ensures { OnOk result (HasRun input.now caller (index + 1) day.new.lines.items day.new.replies.items day.new.books) }
 {
+    // A script for the opening books is one for these.
+    scripts_go_by_instruments();
     let reply = run_plain(alloc, input.script(caller, index), &mut day.books)?;
     day.replies.push(reply)?;
     day.lines.push(Line {

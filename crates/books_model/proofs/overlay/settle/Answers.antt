@@ -4,7 +4,7 @@ use Rattle.std.specs.Map.{keys_of}
 use Rattle.std.specs.List.Sorted.{IsStrictlySortedBy}
 use Rattle.std.proofs.lemmas.Map.Keys.{sorted_tail}
 use Rattle.books_model.specs.declared.overlay.Change.{Change}
-use Rattle.books_model.specs.Changes.{HasRoomFor, changed}
+use Rattle.books_model.specs.Changes.{HasRoomFor, changed, set_at}
 use Rattle.books_model.proofs.Changes.{HasRoomFor-further, changed-first, change_at_first}
 use Rattle.books_model.proofs.overlay.settle.Goals as goal
 
@@ -29,6 +29,6 @@ loop-key-preserved g c =
     let put = c.set_value.ensures in
     record {
       ordered = sorted_tail R c.in-Some.key.now (keys_of rest) ordered;
-      room = subst (λ m. HasRoomFor m rest) (sym put) (HasRoomFor-further total exact was e rest ordered room);
+      room = subst (λ m. HasRoomFor m rest) {x = set_at was e.0 e.1.now} (sym {b = set_at was e.0 e.1.now} put) (HasRoomFor-further total exact was e rest ordered room);
       rest = ap (λ m. changed m rest) put ∙ changed-first total exact was e rest ordered ∙ ap (changed was) (sym step) ∙ c.loop-key.invariant.rest;
     }

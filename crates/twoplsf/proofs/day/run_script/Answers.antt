@@ -6,7 +6,7 @@ use Rattle.twoplsf.proofs.day.run_script.Goals as goal
 
 pub run_plain-requires : goal.run_plain-requires
 run_plain-requires c = record {
-  range = rw c.script.ensures (script_of_place c.args.input.now c.args.day.now.books c.args.caller c.args.index c.requires.valid c.requires.so_far.instruments c.requires.caller c.requires.index);
+  range = rw c.script.ensures (c.scripts_go_by_instruments.ensures (script_at c.args.input.now c.args.caller c.args.index) c.args.input.now.books c.args.day.now.books c.requires.so_far.instruments (script_of_place c.args.input.now c.args.caller c.args.index c.requires.valid c.requires.caller c.requires.index));
 }
 
 pub returns : goal.returns
