@@ -1,5 +1,5 @@
 -- What operations do to all cash, and to all that is held of an instrument.
-use Rattle.std.proofs.Common.{◌≡◌, ◌≢◌, ℕ, ◌+◌, ◌-◌, ◌*◌, ◌≤◌, Bool, true, false, cond, not, ◌&&◌, ◌||◌, ◌==◌, nat_lt, Option, Some, None, unwrap_or, refl, sym, ap, ◌∙◌, arith}
+use Rattle.std.proofs.Common.{◌≡◌, ℕ, ◌+◌, ◌-◌, ◌*◌, ◌≤◌, Bool, true, false, cond, not, ◌&&◌, ◌||◌, ◌==◌, nat_lt, Option, Some, None, unwrap_or, refl, sym, ap, ◌∙◌, arith}
 use Rattle.std.specs.Cmp.{nat_cmp_total}
 use Rattle.std.specs.Ordering.{nat_cmp, eq_by_cmp}
 use Rattle.std.specs.FinMap as map
@@ -12,6 +12,7 @@ use Rattle.books_model.specs.declared.reply.Value.{Value}
 use Rattle.books_model.specs.Books.{ClearingBooks, cash_of, position_of, price_of, put_cash}
 use Rattle.books_model.specs.Interpreter.{is_account, is_full, put_position, step_of, trade_of}
 use Rattle.books_model.specs.Laws.{all_cash, all_held}
+use Rattle.books_model.proofs.Comparing.{enough, not_apart}
 use Rattle.books_model.proofs.Maps.{positions_total, exact_positions}
 use Rattle.books_model.proofs.Entries.{weigh, sum_by-set_at}
 use Rattle.books_model.proofs.Drafts.{put_position-apart}
@@ -32,9 +33,7 @@ all_cash-put_cash books a cash =
 cash_of-apart : (books : ClearingBooks) (a b cash : ℕ) → (a == b) ≡ false → cash_of (put_cash books a cash) b ≡ cash_of books b
 cash_of-apart books a b cash apart = ap (λ x. unwrap_or x 0) (map.get-insert nat_cmp_total books.accounts a cash b ∙ ap (λ t. cond t (Some cash) (map.get books.accounts b)) (other (eq_by_cmp nat_cmp b a) refl)) where
   other : (t : Bool) → eq_by_cmp nat_cmp b a ≡ t → eq_by_cmp nat_cmp b a ≡ false
-  other true at = let same : b ≡ a = tells_apart exact_unsigned b a at in absurd (differ a b same apart) where
-    differ : (a b : ℕ) → b ≡ a → (a == b) ≡ false → ⊥
-    differ a b same apart = grind (arith, nat_tests, same, apart)
+  other true at = let same : b ≡ a = tells_apart exact_unsigned b a at in absurd (not_apart a b (sym same) apart)
   other false at = at
 
 -- what one account gives to another is all there still
@@ -44,10 +43,6 @@ given books a b x apart fits =
     let second = all_cash-put_cash (put_cash books a (cash_of books a - x)) b (cash_of books b + x) in
     let same = cash_of-apart books a b (cash_of books a - x) apart in
     omega (arith, first, second, same)
-
--- a test that fails leaves enough
-pub enough : (have want : ℕ) → nat_lt have want ≡ false → want ≤ have
-enough have want test = grind (arith, nat_tests, test)
 
 -- a deposit adds its amount
 pub deposited : (books : ClearingBooks) (a x : ℕ) → WhereDone (λ _ after. all_cash after ≡ all_cash books + x) (step_of (op.Deposit a x) books)
@@ -101,12 +96,9 @@ traded_quantities books a b i q j = traded _ books a b i q (λ apart fits.
     let lowered = put_position books b i (position_of books b i - q) in
     let sold = all_held-put_position books b i (position_of books b i - q) j in
     let bought = all_held-put_position lowered a i (position_of books a i + q) j in
-    let same : position_of lowered a i ≡ position_of books a i = ap (λ x. unwrap_or x 0) (put_position-apart books a b i (position_of books b i - q) (differ a b apart)) in
+    let same : position_of lowered a i ≡ position_of books a i = ap (λ x. unwrap_or x 0) (put_position-apart books a b i (position_of books b i - q) (λ e. not_apart a b e apart)) in
     choice _ (nat_lt (cash_of books a) (q * price_of books i)) _ _ (λ _. declines _ _) (λ _. choice _ (nat_lt GREATEST_CASH (cash_of books b + q * price_of books i) || nat_lt GREATEST_QUANTITY (position_of books a i + q)) _ _ (λ _. declines _ _) (λ _. choice _ (not (map.contains_key books.positions (a, i)) && is_full (put_position books b i (position_of books b i - q))) _ _ (λ _. finds_no_block _) (λ _. gives _ _ _ (in_all (i == j) (position_of books a i) (position_of books b i) q (all_held books j) (all_held lowered j) _ fits sold (ap (λ n. all_held (put_position lowered a i (position_of books a i + q)) j + cond (i == j) n 0) (sym same) ∙ bought))))))
   where
-    differ : (a b : ℕ) → (a == b) ≡ false → a ≢ b
-    differ a b apart = λ same. grind (arith, nat_tests, same, apart)
-
     in_all : (t : Bool) (pa pb q before lowered after : ℕ) → q ≤ pb → lowered + cond t pb 0 ≡ before + cond t (pb - q) 0 → after + cond t pa 0 ≡ lowered + cond t (pa + q) 0 → after ≡ before
     in_all true pa pb q before lowered after fits sold bought = omega arith
     in_all false pa pb q before lowered after fits sold bought = omega arith

@@ -12,6 +12,7 @@ use Rattle.std.proofs.lemmas.Map.Entries.{lookup_head, none_past_head}
 use Rattle.std.proofs.lemmas.Map.Keys.{IsDistinct-from_sorted}
 use Rattle.std.proofs.lemmas.Map.Lookups.{CmpEqualImpliesEq}
 use Rattle.std.proofs.lemmas.Map.Views.{tells_apart}
+use Rattle.books_model.proofs.Comparing.{none_of}
 use Rattle.books_model.proofs.Maps.{stays_after_insert}
 use Rattle.books_model.specs.declared.overlay.Change.{Change}
 use Rattle.books_model.specs.Changes.{set_at, changed, change_at, new_value, now_or, KnowBefore, HasRoomFor, IsRoomier}
@@ -209,7 +210,7 @@ module _ {K : Type 0} {R : K → K → Ordering} (o : IsTotalOrder R) where
       -- taking out a key that was new leaves the room for the changes further on
       pub roomier-taken : is_some e.1.before ≡ false → IsRoomier es before (remove now e.0)
       roomier-taken new =
-          let absent : get before e.0 ≡ None = is_none_of (get before e.0) (ap is_some (sym was) ∙ new) in
+          let absent : get before e.0 ≡ None = none_of (get before e.0) (ap is_some (sym was) ∙ new) in
           record {
             kept = λ q there. elim (at_or_apart q e.0) [
               | inl here ↦ let none : get before q ≡ None = ap (get before) here ∙ absent in let found : IsSome {T = ℕ} None = subst IsSome none there in absurd (cc)
@@ -220,10 +221,6 @@ module _ {K : Type 0} {R : K → K → Ordering} (o : IsTotalOrder R) where
               | inr apart ↦ get-remove o now e.0 q ∙ ap (λ b. cond b None (get now q)) apart ∙ h.others q (none_left q apart no)
             ];
           }
-        where
-          is_none_of : (x : Option ℕ) → is_some x ≡ false → x ≡ None
-          is_none_of None _ = refl
-          is_none_of (Some v) none = absurd (cc)
 
       -- a key that was there needs no taking out
       pub roomier-left : is_some e.1.before ≡ true → IsRoomier es before now

@@ -3,7 +3,6 @@ use Rattle.std.proofs.Common.{◌≡◌, ◌≢◌, if◌then◌else◌, ℕ, �
 use Rattle.std.specs.Cmp.{nat_cmp_total}
 use Rattle.std.specs.Ordering.{nat_cmp, eq_by_cmp}
 use Rattle.std.specs.FinMap as map
-use Rattle.std.proofs.lemmas.Bool.Decides.{nat_tests}
 use Rattle.std.proofs.lemmas.List.Elements.{All-drop}
 use Rattle.std.proofs.lemmas.List.{length-drop}
 use Rattle.std.proofs.lemmas.Map.Lookups.{exact_unsigned}
@@ -13,6 +12,7 @@ use Rattle.books_model.specs.Books.{ClearingBooks, position_cmp, used, put_price
 use Rattle.books_model.specs.Ranges.{AreInRange, IsWithin, IsCall, IsInstrumentOf}
 use Rattle.books_model.specs.Interpreter.{holds_any, is_full, put_position}
 use Rattle.books_model.specs.Draft.{set_account, set_position, set_price}
+use Rattle.books_model.proofs.Comparing.{below_most}
 use Rattle.books_model.proofs.Maps.{positions_total, exact_positions}
 use Rattle.books_model.proofs.InRange.{put_price-in_range, put_quantity-in_range, used_after_price, used_after_position}
 use Rattle.books_model.proofs.Entries.{len-set_at, len_positive, none_found}
@@ -51,16 +51,9 @@ found_after_remove : {X : Type 0} (b : Bool) (x : Option X) (v : X) → cond b N
 found_after_remove true x v found = absurd (cc)
 found_after_remove false x v found = (refl, found)
 
--- nothing is found where no test of it passes
-pub none_of : {X : Type 0} (x : Option X) → is_some x ≡ false → x ≡ None
-none_of None _ = refl
-none_of (Some v) none = absurd (cc)
-
 -- books that are not full have a block left
 pub room_left : (books : ClearingBooks) → AreInRange books → is_full books ≡ false → used books < books.blocks
-room_left books h not_full = below_of (used books) books.blocks h.blocks_used not_full where
-  below_of : (n most : ℕ) → n ≤ most → (n == most) ≡ false → n < most
-  below_of n most fits apart = grind (arith, nat_tests, apart)
+room_left books h not_full = below_most (used books) books.blocks h.blocks_used not_full
 
 -- books in range stay so when an instrument has a price, for which there is a block where it had none
 pub priced-in_range : (books : ClearingBooks) (i price : ℕ) → AreInRange books → IsInstrumentOf books i → IsWithin 1 GREATEST_PRICE price → (map.get books.prices i ≡ None → used books < books.blocks) → AreInRange (put_price books i price)

@@ -1,5 +1,5 @@
 -- Books that stay in range.
-use Rattle.std.proofs.Common.{◌≡◌, ℕ, ◌+◌, ◌<◌, ◌≤◌, length, ◌∷◌, [], Option, Some, None, IsSome, IfSome, inl, inr, refl, sym, subst, ◌∙◌, arith, length-append}
+use Rattle.std.proofs.Common.{◌≡◌, ℕ, ◌+◌, ◌<◌, ◌≤◌, length, ◌∷◌, [], Option, Some, None, IsSome, inl, inr, refl, sym, subst, ◌∙◌, arith, length-append}
 use Rattle.std.specs.Cmp.{nat_cmp_total}
 use Rattle.std.specs.Ordering.{nat_cmp}
 use Rattle.std.specs.FinMap as map
@@ -113,11 +113,6 @@ used_after_position books a i quantity absent = omega (arith, len_after_insert p
 -- other cash of an account takes no block
 pub used_after_change : (books : ClearingBooks) (a cash : ℕ) → IsSome (map.get books.accounts a) → used (put_cash books a cash) ≡ used books
 used_after_change books a cash there = omega (arith, len_after_change nat_cmp_total books.accounts a cash there)
-
--- the cash of an account is in range
-pub cash-in_range : (books : ClearingBooks) (a : ℕ) → AreInRange books → (found : Option ℕ) → found ≡ map.get books.accounts a → IfSome found (λ cash. cash ≤ GREATEST_CASH)
-cash-in_range books a h None is = tt
-cash-in_range books a h (Some cash) is = (h.accounts a cash (sym is)).1
 
 -- an account has an account's number
 pub number-in_range : (books : ClearingBooks) (a : ℕ) → AreInRange books → (found : Option ℕ) → found ≡ map.get books.accounts a → IsSome found → IsAccountNumber a

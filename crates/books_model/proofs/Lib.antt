@@ -1,3 +1,4 @@
+pub mod Comparing
 pub mod Maps
 pub mod InRange
 pub mod Above

@@ -5,19 +5,18 @@ use Rattle.std.specs.Cmp.{nat_cmp_total}
 use Rattle.std.specs.List.{AllByRecursion}
 use Rattle.std.specs.FinMap as map
 use Rattle.std.proofs.lemmas.Bool.{and_parts}
-use Rattle.std.proofs.lemmas.Bool.Decides.{nat_tests}
 use Rattle.books_model.specs.declared.limits.TheConstants.{GREATEST_CASH, GREATEST_QUANTITY, GREATEST_RATE, GREATEST_SHORTFALL}
 use Rattle.books_model.specs.declared.script.Op.{Op}
 use Rattle.books_model.specs.declared.script.Op.TheVariants as op
 use Rattle.books_model.specs.Books.{ClearingBooks, cash_of, position_of, price_of, put_cash, used}
 use Rattle.books_model.specs.Ranges.{AreInRange, IsWithin, IsAccountNumber, IsOperationFor}
 use Rattle.books_model.specs.Interpreter.{holds_any, is_account, is_full, margin_of, next_of, put_position, shortfall_of, worth_of, run_from, step_of, trade_of}
+use Rattle.books_model.proofs.Comparing.{at_least_one, below_most, enough, none_of, not_apart}
 use Rattle.books_model.proofs.Maps.{stays_after_insert}
 use Rattle.books_model.proofs.InRange.{put_cash-in_range, put_call-in_range, change-in_range, used_after_insert}
-use Rattle.books_model.proofs.Drafts.{none_of, room_left, quantity-in_range, price-in_range, priced-in_range, held-in_range, unheld-in_range, closed-in_range, taken-in_range, put_position-apart}
+use Rattle.books_model.proofs.Drafts.{room_left, quantity-in_range, price-in_range, priced-in_range, held-in_range, unheld-in_range, closed-in_range, taken-in_range, put_position-apart}
 use Rattle.books_model.proofs.Entries.{AllByRecursion-weaker}
 use Rattle.books_model.proofs.Sums.{worth_below, worth_first, worth_next, worth_last, price_of_most}
-use Rattle.books_model.proofs.CashLaws.{enough}
 use Rattle.books_model.proofs.Outcomes.{WhereDone, WhereEnds, choice, gives, declines, finds_no_block, step_first}
 
 -- in range, with as many instruments
@@ -47,11 +46,8 @@ positioned : (books : ClearingBooks) (a i quantity : ℕ) → AreInRange books �
     → AreInRange (put_position books a i quantity)
 positioned books a i quantity h account price fits room = elim (quantity == 0) as (λ t. (quantity == 0) ≡ t → AreInRange (record books { positions = cond t (map.remove books.positions (a, i)) (map.insert books.positions (a, i) quantity) })) [
   | true ↦ λ _. unheld-in_range books a i h
-  | false ↦ λ test. held-in_range books a i quantity h account price (some quantity test, fits) room
+  | false ↦ λ test. held-in_range books a i quantity h account price (at_least_one quantity test, fits) room
 ] refl
-  where
-    some : (n : ℕ) → (n == 0) ≡ false → 1 ≤ n
-    some n test = grind (arith, nat_tests, test)
 
 -- books stay in range after a trade
 exchanged : (books : ClearingBooks) (a b i q : ℕ) → AreInRange books → 1 ≤ q → (a == b) ≡ false → IsSome (map.get books.accounts a) → IsSome (map.get books.accounts b) → IsSome (map.get books.prices i) → q ≤ position_of books b i
@@ -61,7 +57,7 @@ exchanged books a b i q h some apart buyer seller price sells =
     let lowered = put_position books b i (position_of books b i - q) in
     let fits = held_most books b i h in
     let low : AreInRange lowered = positioned books b i (position_of books b i - q) h seller price (omega (arith, fits)) (λ none. let zero : position_of books b i ≡ 0 = ap (λ x. unwrap_or x 0) none in absurd (omega (arith, zero, sells, some))) in
-    let same = put_position-apart books a b i (position_of books b i - q) (λ e. differ a b e apart) in
+    let same = put_position-apart books a b i (position_of books b i - q) (λ e. not_apart a b e apart) in
     choice _ (nat_lt (cash_of books a) cost) _ _ (λ _. declines _ _) (λ pays.
     choice _ (nat_lt GREATEST_CASH (cash_of books b + cost) || nat_lt GREATEST_QUANTITY (position_of books a i + q)) _ _ (λ _. declines _ _) (λ limit.
     choice _ (not (map.contains_key books.positions (a, i)) && is_full lowered) _ _ (λ _. finds_no_block _) (λ block.
@@ -72,9 +68,6 @@ exchanged books a b i q h some apart buyer seller price sells =
     let taken = change-in_range (put_cash (put_position lowered a i (position_of books a i + q)) a (cash_of books a - cost)) b (cash_of books b + cost) paid (stays_after_insert nat_cmp_total books.accounts a b (cash_of books a - cost) seller) (enough GREATEST_CASH (cash_of books b + cost) most.0) in
     gives _ _ _ (taken, refl))))
   where
-    differ : (a b : ℕ) → a ≡ b → (a == b) ≡ false → ⊥
-    differ a b same apart = grind (arith, nat_tests, same, apart)
-
     or_parts : (s t : Bool) → (s || t) ≡ false → (s ≡ false) × (t ≡ false)
     or_parts true t e = absurd (cc)
     or_parts false t e = (refl, e)
@@ -111,13 +104,7 @@ margin_stays : (books : ClearingBooks) (a shortfall : ℕ) → AreInRange books 
 margin_stays books a shortfall h number most =
     choice _ (shortfall == 0) _ _ (λ _. gives _ _ _ (h, refl)) (λ some.
     choice _ (length books.calls == books.ring) _ _ (λ _. declines _ _) (λ room.
-    gives _ _ _ (put_call-in_range books a shortfall h (number, (positive shortfall some, most)) (below (length books.calls) books.ring h.queue room), refl)))
-  where
-    positive : (n : ℕ) → (n == 0) ≡ false → 1 ≤ n
-    positive n test = grind (arith, nat_tests, test)
-
-    below : (n most : ℕ) → n ≤ most → (n == most) ≡ false → n < most
-    below n most fits test = grind (arith, nat_tests, fits, test)
+    gives _ _ _ (put_call-in_range books a shortfall h (number, (at_least_one shortfall some, most)) (below_most (length books.calls) books.ring h.queue room), refl)))
 
 -- books in range stay so after each step
 step_stays : (o : Op) (books : ClearingBooks) → AreInRange books → IsOperationFor books o → WhereDone (λ _ after. Stays books after) (step_of o books)
