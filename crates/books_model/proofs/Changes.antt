@@ -1,103 +1,237 @@
--- Changes put into a map.
-use Rattle.std.proofs.Common.{◌≡◌, Bool, true, false, cond, List, [], ◌∷◌, Option, Some, None, IsSome, is_some, ◌⊎◌, inl, inr, refl, sym, ap, subst, ◌∙◌}
+-- Changes of a map, and how they are put into it.
+use Rattle.std.proofs.Common.{◌≡◌, ℕ, Bool, true, false, cond, List, [], ◌∷◌, Option, Some, None, IsSome, is_some, ◌⊎◌, inl, inr, refl, sym, ap, subst, ◌∙◌}
 use Rattle.std.specs.declared.cmp.Ordering.{Ordering}
-use Rattle.std.specs.Cmp.{IsTotalOrder, eq_by_cmp_equiv}
+use Rattle.std.specs.Cmp.{IsTotalOrder, eq_by_cmp_equiv, tied_itself}
 use Rattle.std.specs.Ordering.{eq_by_cmp, is_eq}
-use Rattle.std.specs.Option.{option_or}
 use Rattle.std.specs.BTreeMap.{is_at}
-use Rattle.std.specs.Map.{lookup, keys_of}
+use Rattle.std.specs.Map.{keys_of}
 use Rattle.std.specs.List.Sorted.{IsStrictlySortedBy}
-use Rattle.std.specs.FinMap.{FinMap, get, insert, get-insert}
-use Rattle.std.proofs.lemmas.Cmp.{tied_itself}
+use Rattle.std.specs.FinMap.{FinMap, get, insert, remove, get-insert, get-remove, same_map}
 use Rattle.std.proofs.lemmas.Map.{lookup-none}
 use Rattle.std.proofs.lemmas.Map.Entries.{lookup_head, none_past_head}
 use Rattle.std.proofs.lemmas.Map.Keys.{IsDistinct-from_sorted}
 use Rattle.std.proofs.lemmas.Map.Lookups.{CmpEqualImpliesEq}
 use Rattle.std.proofs.lemmas.Map.Views.{tells_apart}
-use Rattle.books_model.proofs.Maps.{stays_after_insert, is_insert}
-use Rattle.books_model.specs.Draft.{put_in, AreKeysOf}
+use Rattle.books_model.proofs.Comparing.{none_of}
+use Rattle.books_model.proofs.Maps.{stays_after_insert}
+use Rattle.books_model.specs.declared.overlay.Change.{Change}
+use Rattle.books_model.specs.Changes.{set_at, changed, change_at, new_value, now_or, KnowBefore, HasRoomFor, IsRoomier}
 
--- a value put in front of a choice
-or-cond : {X : Type 0} (b : Bool) (v : X) (x y : Option X) → cond b (Some v) (option_or x y) ≡ option_or (cond b (Some v) x) y
-or-cond true v x y = refl
-or-cond false v x y = refl
+-- a change in front of others
+now_or-cond : (b : Bool) (change : Change) (others : Option Change) (was : Option ℕ) → cond b change.now (now_or others was) ≡ now_or (cond b (Some change) others) was
+now_or-cond true change others was = refl
+now_or-cond false change others was = refl
 
--- a value put behind a choice that has none where it is put
-cond-or : {X : Type 0} (b : Bool) (v : X) (x y : Option X) → (b ≡ true → x ≡ None) → option_or x (cond b (Some v) y) ≡ cond b (Some v) (option_or x y)
-cond-or true v x y none = ap (λ x. option_or x (Some v)) (none refl)
-cond-or false v x y none = refl
+-- a change behind others, none of which is where it is
+now_or-last : (b : Bool) (w : Option ℕ) (others : Option Change) (was : Option ℕ) → (b ≡ true → others ≡ None) → now_or others (cond b w was) ≡ cond b w (now_or others was)
+now_or-last true w others was none = ap (λ x. now_or x w) (none refl)
+now_or-last false w others was none = refl
 
--- a choice finds something where its first part does
-or_from_first : {X : Type 0} (x y : Option X) → IsSome x → IsSome (option_or x y)
-or_from_first None y there = absurd (cc)
-or_from_first (Some v) y there = there
+-- making room: what is left of the changes are changes, and each key that changes give a value is in the map or among those that are left
+pub record IsMaking {K : Type 0} {R : K → K → Ordering} (before : FinMap R ℕ) (all : List (K × Change)) (now : FinMap R ℕ) (es : List (K × Change)) : Type 0 where
+  pub left : (q : K) (change : Change) → change_at R es q ≡ Some change → change_at R all q ≡ Some change
+  pub roomier : IsRoomier all before now
+  pub room : (q : K) (change : Change) → change_at R all q ≡ Some change → IsSome change.now → IsSome (get now q) ⊎ (change_at R es q ≡ Some change)
 
--- a choice finds something in one of its parts
-or_cases : {X : Type 0} (x y : Option X) → IsSome (option_or x y) → IsSome x ⊎ IsSome y
-or_cases None y there = inr there
-or_cases (Some v) y there = inl refl
+module _ {K : Type 0} {R : K → K → Ordering} (o : IsTotalOrder R) where
+  -- what a map has after a change at a key
+  pub get-set_at : {X : Type 0} (m : FinMap R X) (k : K) (w : Option X) (q : K) → get (set_at m k w) q ≡ cond (eq_by_cmp R q k) w (get m q)
+  get-set_at m k None q = get-remove o m k q
+  get-set_at m k (Some v) q = get-insert o m k v q
 
--- a look-up that finds something further on finds something
-lookup_further : {K X : Type 0} (test : K → Bool) (e : K × X) (es : List (K × X)) → IsSome (lookup test es) → IsSome (lookup test (e ∷ es))
-lookup_further test e es there = elim (test e.0) as (λ b. IsSome (cond b (Some e.1) (lookup test es))) [ true ↦ refl | false ↦ there ]
+  -- what a map has after changes
+  pub get-changed : (m : FinMap R ℕ) (es : List (K × Change)) (q : K) → get (changed m es) q ≡ now_or (change_at R es q) (get m q)
+  get-changed m [] q = refl
+  get-changed m (e ∷ es) q =
+      get-set_at (changed m es) e.0 e.1.now q
+      ∙ ap (cond (eq_by_cmp R q e.0) e.1.now) (get-changed m es q)
+      ∙ now_or-cond (eq_by_cmp R q e.0) e.1 (change_at R es q) (get m q)
 
-module _ {K X : Type 0} {R : K → K → Ordering} (o : IsTotalOrder R) where
-  -- the map has the changed value where there is one, and else what it had
-  pub get-put_in : (m : FinMap R X) (es : List (K × X)) (q : K) → get (put_in m es) q ≡ option_or (lookup (is_at (R q)) es) (get m q)
-  get-put_in m [] q = refl
-  get-put_in m (e ∷ es) q =
-      get-insert o (put_in m es) e.0 e.1 q
-      ∙ ap (cond (eq_by_cmp R q e.0) (Some e.1)) (get-put_in m es q)
-      ∙ or-cond (eq_by_cmp R q e.0) e.1 (lookup (is_at (R q)) es) (get m q)
+  -- the change at the first key is the first one
+  pub change_at_first : (e : K × Change) (es : List (K × Change)) → change_at R (e ∷ es) e.0 ≡ Some e.1
+  change_at_first e es = lookup_head (is_at (R e.0)) e es (ap is_eq (tied_itself o e.0))
 
-  -- a key of the changed map is one of the map, where the changed keys are
-  key_before_changes : (m : FinMap R X) (es : List (K × X)) (k : K) → AreKeysOf m es → IsSome (get (put_in m es) k) → IsSome (get m k)
-  key_before_changes m es k known there = elim (or_cases (lookup (is_at (R k)) es) (get m k) (subst IsSome (get-put_in m es k) there)) [
-    | inl changed ↦ known k changed
-    | inr old ↦ old
-  ]
+  -- where keys rise, nothing further on is changed at the first one
+  pub none_further : (e : K × Change) (es : List (K × Change)) (q : K) → IsStrictlySortedBy R (keys_of (e ∷ es)) → eq_by_cmp R q e.0 ≡ true → change_at R es q ≡ None
+  none_further e es q sorted at = lookup-none (is_at (R q)) es (none_past_head (eq_by_cmp_equiv o) q e es (IsDistinct-from_sorted R (keys_of (e ∷ es)) sorted) at)
 
-  -- the keys of further changes are keys of the map too
-  pub AreKeysOf-rest : (m : FinMap R X) (e : K × X) (es : List (K × X)) → AreKeysOf m (e ∷ es) → AreKeysOf m es
-  AreKeysOf-rest m e es known = λ k there. known k (lookup_further (is_at (R k)) e es there)
+  -- where keys rise, a key that is changed further on is not the first one
+  pub apart_further : (e : K × Change) (es : List (K × Change)) (q : K) (change : Change) → IsStrictlySortedBy R (keys_of (e ∷ es)) → change_at R es q ≡ Some change → eq_by_cmp R q e.0 ≡ false
+  apart_further e es q change sorted there = elim (eq_by_cmp R q e.0) as (λ b. eq_by_cmp R q e.0 ≡ b → eq_by_cmp R q e.0 ≡ false) [
+    | true ↦ λ at. let none = none_further e es q sorted at in absurd (cc)
+    | false ↦ λ apart. apart
+  ] refl
 
-  -- the first changed key is a key of the map
-  pub first_is_key : (m : FinMap R X) (e : K × X) (es : List (K × X)) → AreKeysOf m (e ∷ es) → IsSome (get m e.0)
-  first_is_key m e es known = known e.0 (ap is_some (lookup_head (is_at (R e.0)) e es (ap is_eq (tied_itself o e.0))))
+  -- where keys rise, a change further on is one of all
+  pub change_further : (e : K × Change) (es : List (K × Change)) (q : K) (change : Change) → IsStrictlySortedBy R (keys_of (e ∷ es)) → change_at R es q ≡ Some change → change_at R (e ∷ es) q ≡ Some change
+  change_further e es q change sorted there = ap (λ b. cond b (Some e.1) (change_at R es q)) (apart_further e es q change sorted there) ∙ there
 
-  -- an insertion takes no key out
-  pub AreKeysOf-insert : (m : FinMap R X) (k : K) (v : X) (es : List (K × X)) → AreKeysOf m es → AreKeysOf (insert m k v) es
-  AreKeysOf-insert m k v es known = λ q there. stays_after_insert o m k q v (known q there)
+  -- changes further on know what their keys had before too
+  pub KnowBefore-further : (m : FinMap R ℕ) (e : K × Change) (es : List (K × Change)) → IsStrictlySortedBy R (keys_of (e ∷ es)) → KnowBefore m (e ∷ es) → KnowBefore m es
+  KnowBefore-further m e es sorted known = λ q change there. known q change (change_further e es q change sorted there)
+
+  -- changes further on know what their keys have in a map changed at the first one
+  pub KnowBefore-past : (m : FinMap R ℕ) (e : K × Change) (es : List (K × Change)) (w : Option ℕ) → IsStrictlySortedBy R (keys_of (e ∷ es)) → KnowBefore m (e ∷ es) → KnowBefore (set_at m e.0 w) es
+  KnowBefore-past m e es w sorted known = λ q change there.
+      known q change (change_further e es q change sorted there) ∙ sym (get-set_at m e.0 w q ∙ ap (λ b. cond b w (get m q)) (apart_further e es q change sorted there))
 
   module _ (exact : CmpEqualImpliesEq R) where
-    -- one more change is an insertion into the changed map
-    pub put_in-inserted : (m : FinMap R X) (es fs : List (K × X)) (k : K) (v : X)
-        → ((q : K) → lookup (is_at (R q)) fs ≡ cond (is_at (R k) q) (Some v) (lookup (is_at (R q)) es))
-        → put_in m fs ≡ insert (put_in m es) k v
-    put_in-inserted m es fs k v changed = is_insert o exact (put_in m es) (put_in m fs) k v (λ q.
-        get-put_in m fs q
-        ∙ ap (λ x. option_or x (get m q)) (changed q)
-        ∙ sym (or-cond (is_at (R k) q) v (lookup (is_at (R q)) es) (get m q))
-        ∙ ap (cond (is_at (R k) q) (Some v)) (sym (get-put_in m es q)))
-
     -- changes in order may be put in from the first to the last
-    pub put_in-first : (m : FinMap R X) (e : K × X) (es : List (K × X)) → IsStrictlySortedBy R (keys_of (e ∷ es)) → put_in (insert m e.0 e.1) es ≡ put_in m (e ∷ es)
-    put_in-first m e es sorted = is_insert o exact (put_in m es) (put_in (insert m e.0 e.1) es) e.0 e.1 (λ q.
-        let symm = (eq_by_cmp_equiv o).symm q e.0 in
-        let last : is_at (R e.0) q ≡ true → lookup (is_at (R q)) es ≡ None = λ at. lookup-none (is_at (R q)) es (none_past_head (eq_by_cmp_equiv o) q e es (IsDistinct-from_sorted R (keys_of (e ∷ es)) sorted) (symm ∙ at)) in
-        get-put_in (insert m e.0 e.1) es q
-        ∙ ap (option_or (lookup (is_at (R q)) es)) (get-insert o m e.0 e.1 q ∙ ap (λ b. cond b (Some e.1) (get m q)) symm)
-        ∙ cond-or (is_at (R e.0) q) e.1 (lookup (is_at (R q)) es) (get m q) last
-        ∙ ap (cond (is_at (R e.0) q) (Some e.1)) (sym (get-put_in m es q)))
+    pub changed-first : (m : FinMap R ℕ) (e : K × Change) (es : List (K × Change)) → IsStrictlySortedBy R (keys_of (e ∷ es)) → changed (set_at m e.0 e.1.now) es ≡ changed m (e ∷ es)
+    changed-first m e es sorted = same_map o exact (changed (set_at m e.0 e.1.now) es) (changed m (e ∷ es)) (λ q.
+        get-changed (set_at m e.0 e.1.now) es q
+        ∙ ap (now_or (change_at R es q)) (get-set_at m e.0 e.1.now q)
+        ∙ now_or-last (eq_by_cmp R q e.0) e.1.now (change_at R es q) (get m q) (none_further e es q sorted)
+        ∙ ap (cond (eq_by_cmp R q e.0) e.1.now) (sym (get-changed m es q))
+        ∙ sym (get-set_at (changed m es) e.0 e.1.now q))
 
-    -- a key of a map after an insertion at a key that was there was there
-    key_before_insert : (m : FinMap R X) (k q : K) (v : X) (b : Bool) → eq_by_cmp R q k ≡ b → IsSome (get m k) → IsSome (cond b (Some v) (get m q)) → IsSome (get m q)
-    key_before_insert m k q v true at there now = subst (λ q. IsSome (get m q)) (sym (tells_apart exact q k at)) there
-    key_before_insert m k q v false at there now = now
+    module _ (es fs : List (K × Change)) (k : K) (change : Change) (noted : (q : K) → change_at R fs q ≡ cond (is_at (R k) q) (Some change) (change_at R es q)) where
+      -- one more change is a change of the changed map
+      pub changed-noted : (m : FinMap R ℕ) → changed m fs ≡ set_at (changed m es) k change.now
+      changed-noted m = same_map o exact (changed m fs) (set_at (changed m es) k change.now) (λ q.
+          get-changed m fs q
+          ∙ ap (λ x. now_or x (get m q)) (noted q)
+          ∙ sym (now_or-cond (is_at (R k) q) change (change_at R es q) (get m q))
+          ∙ ap (cond (is_at (R k) q) change.now) (sym (get-changed m es q))
+          ∙ ap (λ b. cond b change.now (get (changed m es) q)) ((eq_by_cmp_equiv o).symm k q)
+          ∙ sym (get-set_at (changed m es) k change.now q))
 
-    -- one more change of a key that is there changes keys that are there
-    pub AreKeysOf-changed : (m : FinMap R X) (es fs : List (K × X)) (k : K) (v : X) → put_in m fs ≡ insert (put_in m es) k v → AreKeysOf m es → IsSome (get (put_in m es) k) → AreKeysOf m fs
-    AreKeysOf-changed m es fs k v same known there = λ q changed.
-        let now : IsSome (get (insert (put_in m es) k v) q) = subst (λ n. IsSome (get n q)) same (subst IsSome (sym (get-put_in m fs q)) (or_from_first (lookup (is_at (R q)) fs) (get m q) changed)) in
-        let before : IsSome (cond (eq_by_cmp R q k) (Some v) (get (put_in m es) q)) = subst IsSome (get-insert o (put_in m es) k v q) now in
-        key_before_changes m es q known (key_before_insert (put_in m es) k q v (eq_by_cmp R q k) refl there before)
+      -- a change that knows what its key had joins others that do
+      pub KnowBefore-noted : (m : FinMap R ℕ) → change.before ≡ get m k → KnowBefore m es → KnowBefore m fs
+      KnowBefore-noted m was known = λ q found there. elim (is_at (R k) q) as (λ b. is_at (R k) q ≡ b → cond b (Some change) (change_at R es q) ≡ Some found → found.before ≡ get m q) [
+        | true ↦ λ at f. let same : change ≡ found = cc in ap (λ (c : Change). c.before) (sym same) ∙ was ∙ ap (get m) (tells_apart exact k q at)
+        | false ↦ λ at f. known q found f
+      ] refl (sym (noted q) ∙ there)
+
+    -- changes have one result on a map and on it with room for them
+    pub changed-roomier : (m n : FinMap R ℕ) (es : List (K × Change)) → IsRoomier es m n → changed n es ≡ changed m es
+    changed-roomier m n es h = same_map o exact (changed n es) (changed m es) (λ q.
+        get-changed n es q
+        ∙ elim (change_at R es q) as (λ x. change_at R es q ≡ x → now_or x (get n q) ≡ now_or x (get m q)) [
+          | None ↦ λ none. h.others q none
+          | Some change ↦ λ _. refl
+        ] refl
+        ∙ sym (get-changed m es q))
+
+    -- what the cases of a change in front of others are
+    change_cases : (e : K × Change) (es : List (K × Change)) (q : K) (change : Change) → change_at R (e ∷ es) q ≡ Some change → ((q ≡ e.0) × (change ≡ e.1)) ⊎ (change_at R es q ≡ Some change)
+    change_cases e es q change found = elim (eq_by_cmp R q e.0) as (λ b. eq_by_cmp R q e.0 ≡ b → cond b (Some e.1) (change_at R es q) ≡ Some change → ((q ≡ e.0) × (change ≡ e.1)) ⊎ (change_at R es q ≡ Some change)) [
+      | true ↦ λ at f. inl (tells_apart exact q e.0 at, cc)
+      | false ↦ λ at f. inr f
+    ] refl found
+
+    -- after a change at a key that had room, there is room for those further on
+    pub HasRoomFor-further : (m : FinMap R ℕ) (e : K × Change) (es : List (K × Change)) → IsStrictlySortedBy R (keys_of (e ∷ es)) → HasRoomFor m (e ∷ es) → HasRoomFor (set_at m e.0 e.1.now) es
+    HasRoomFor-further m e es sorted room = λ q change there some.
+        subst IsSome (sym (get-set_at m e.0 e.1.now q ∙ ap (λ b. cond b e.1.now (get m q)) (apart_further e es q change sorted there))) (room q change (change_further e es q change sorted there) some)
+
+    -- at most one of two maps at a key
+    at_or_apart : (q k : K) → (q ≡ k) ⊎ (eq_by_cmp R q k ≡ false)
+    at_or_apart q k = elim (eq_by_cmp R q k) as (λ b. eq_by_cmp R q k ≡ b → (q ≡ k) ⊎ (eq_by_cmp R q k ≡ false)) [
+      | true ↦ λ at. inl (tells_apart exact q k at)
+      | false ↦ λ apart. inr apart
+    ] refl
+
+    module _ (before : FinMap R ℕ) (all : List (K × Change)) (known : KnowBefore before all) (now : FinMap R ℕ) (e : K × Change) (es : List (K × Change)) where
+      -- a key with a new value gets room
+      pub making-new : (v : ℕ) → IsStrictlySortedBy R (keys_of (e ∷ es)) → IsMaking before all now (e ∷ es) → new_value e.1 ≡ Some v → IsMaking before all (insert now e.0 v) es
+      making-new v sorted h new =
+          let first : change_at R all e.0 ≡ Some e.1 = h.left e.0 e.1 (change_at_first e es) in
+          let absent : get before e.0 ≡ None = sym (known e.0 e.1 first) ∙ was_none e.1 v new in
+          record {
+            left = λ q change there. h.left q change (change_further e es q change sorted there);
+            roomier = record {
+              kept = λ q there. elim (at_or_apart q e.0) [
+                | inl same ↦ let none : get before q ≡ None = ap (get before) same ∙ absent in let found : IsSome {T = ℕ} None = subst IsSome none there in absurd (cc)
+                | inr apart ↦ get-insert o now e.0 v q ∙ ap (λ b. cond b (Some v) (get now q)) apart ∙ h.roomier.kept q there
+              ];
+              others = λ q none. elim (at_or_apart q e.0) [
+                | inl same ↦ let found : change_at R all q ≡ Some e.1 = ap (change_at R all) same ∙ first in absurd (cc)
+                | inr apart ↦ get-insert o now e.0 v q ∙ ap (λ b. cond b (Some v) (get now q)) apart ∙ h.roomier.others q none
+              ];
+            };
+            room = λ q change there some. elim (h.room q change there some) [
+              | inl was ↦ inl (stays_after_insert o now e.0 q v was)
+              | inr ahead ↦ elim (change_cases e es q change ahead) [
+                | inl this ↦ inl (subst (λ k. IsSome (get (insert now e.0 v) k)) (sym this.0) (subst IsSome (sym (get-insert o now e.0 v e.0 ∙ ap (λ r. cond (is_eq r) (Some v) (get now e.0)) (tied_itself o e.0))) refl))
+                | inr further ↦ inr further
+              ]
+            ];
+          }
+        where
+          was_none : (change : Change) (v : ℕ) → new_value change ≡ Some v → change.before ≡ None
+          was_none change v is = elim change.before as (λ b. cond (is_some b) None change.now ≡ Some v → b ≡ None) [
+            | None ↦ λ _. refl
+            | Some u ↦ λ f. absurd (cc)
+          ] is
+
+      -- a key with no new value needs none
+      pub making-old : IsStrictlySortedBy R (keys_of (e ∷ es)) → IsMaking before all now (e ∷ es) → new_value e.1 ≡ None → IsMaking before all now es
+      making-old sorted h old = record {
+        left = λ q change there. h.left q change (change_further e es q change sorted there);
+        roomier = h.roomier;
+        room = λ q change there some. elim (h.room q change there some) [
+          | inl was ↦ inl was
+          | inr ahead ↦ elim (change_cases e es q change ahead) [
+            | inl this ↦
+                let first : change_at R all e.0 ≡ Some e.1 = h.left e.0 e.1 (change_at_first e es) in
+                let was : IsSome (get before e.0) = subst IsSome (known e.0 e.1 first) (was_some e.1 old (subst (λ (c : Change). IsSome c.now) this.1 some)) in
+                inl (subst (λ k. IsSome (get now k)) (sym this.0) (subst IsSome (sym (h.roomier.kept e.0 was)) was))
+            | inr further ↦ inr further
+          ]
+        ];
+      }
+        where
+          was_some : (change : Change) → new_value change ≡ None → IsSome change.now → IsSome change.before
+          was_some change is some = elim change.before as (λ b. cond (is_some b) None change.now ≡ None → IsSome b) [
+            | None ↦ λ f. let found : IsSome {T = ℕ} None = subst IsSome f some in absurd (cc)
+            | Some u ↦ λ _. refl
+          ] is
+
+    -- no room is made before the first change
+    pub making-first : (before : FinMap R ℕ) (all : List (K × Change)) → IsMaking before all before all
+    making-first before all = record {
+      left = λ q change there. there;
+      roomier = record { kept = λ q _. refl; others = λ q _. refl };
+      room = λ q change there some. inr there;
+    }
+
+    -- where no change is left there is room for all
+    pub making-done : (before : FinMap R ℕ) (all : List (K × Change)) (now : FinMap R ℕ) → IsMaking before all now [] → HasRoomFor now all
+    making-done before all now h = λ q change there some. elim (h.room q change there some) [
+      | inl was ↦ was
+      | inr ahead ↦ absurd (cc)
+    ]
+
+    module _ (before now : FinMap R ℕ) (e : K × Change) (es : List (K × Change)) (was : e.1.before ≡ get before e.0) (h : IsRoomier (e ∷ es) before now) where
+      none_left : (q : K) → eq_by_cmp R q e.0 ≡ false → change_at R es q ≡ None → change_at R (e ∷ es) q ≡ None
+      none_left q apart none = ap (λ b. cond b (Some e.1) (change_at R es q)) apart ∙ none
+
+      -- taking out a key that was new leaves the room for the changes further on
+      pub roomier-taken : is_some e.1.before ≡ false → IsRoomier es before (remove now e.0)
+      roomier-taken new =
+          let absent : get before e.0 ≡ None = none_of (get before e.0) (ap is_some (sym was) ∙ new) in
+          record {
+            kept = λ q there. elim (at_or_apart q e.0) [
+              | inl here ↦ let none : get before q ≡ None = ap (get before) here ∙ absent in let found : IsSome {T = ℕ} None = subst IsSome none there in absurd (cc)
+              | inr apart ↦ get-remove o now e.0 q ∙ ap (λ b. cond b None (get now q)) apart ∙ h.kept q there
+            ];
+            others = λ q no. elim (at_or_apart q e.0) [
+              | inl here ↦ get-remove o now e.0 q ∙ ap (λ k. cond (eq_by_cmp R k e.0) None (get now q)) here ∙ ap (λ r. cond (is_eq r) None (get now q)) (tied_itself o e.0) ∙ sym (ap (get before) here ∙ absent)
+              | inr apart ↦ get-remove o now e.0 q ∙ ap (λ b. cond b None (get now q)) apart ∙ h.others q (none_left q apart no)
+            ];
+          }
+
+      -- a key that was there needs no taking out
+      pub roomier-left : is_some e.1.before ≡ true → IsRoomier es before now
+      roomier-left old = record {
+        kept = h.kept;
+        others = λ q no. elim (at_or_apart q e.0) [
+          | inl here ↦ h.kept q (subst (λ k. IsSome (get before k)) (sym here) (ap is_some (sym was) ∙ old))
+          | inr apart ↦ h.others q (none_left q apart no)
+        ];
+      }
+
+    -- with no change left no room is left
+    pub roomier-none : (before now : FinMap R ℕ) → IsRoomier [] before now → now ≡ before
+    roomier-none before now h = same_map o exact now before (λ q. h.others q refl)

@@ -1,5 +1,14 @@
+pub mod Comparing
 pub mod Maps
 pub mod InRange
 pub mod Above
 pub mod Changes
+pub mod Entries
+pub mod Sums
+pub mod Queues
+pub mod Drafts
 pub mod Runs
+pub mod Outcomes
+pub mod CashLaws
+pub mod RangeLaws
+pub mod QueueLaws

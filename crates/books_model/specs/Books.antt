@@ -1,5 +1,5 @@
 -- Clearing books: sizes, three finite maps and a queue.
-use Rattle.std.specs.Prelude.{◌≡◌, ℕ, ◌+◌, List, [], refl, unwrap_or}
+use Rattle.std.specs.Prelude.{◌≡◌, ℕ, ◌+◌, List, [], ◌∷◌, ◌++◌, refl, unwrap_or}
 use Rattle.std.specs.declared.cmp.Ordering.{Ordering}
 use Rattle.std.specs.Ordering.{nat_cmp, ordering_then}
 use Rattle.std.specs.Coded.{Coded, code_by, coded×, coded_ℕ, coded_list}
@@ -55,6 +55,18 @@ price_of books i = unwrap_or (map.get books.prices i) 0
 -- the account has this cash
 abbrev pub put_cash : ClearingBooks → ℕ → ℕ → ClearingBooks
 put_cash books a cash = record books { accounts = map.insert books.accounts a cash }
+
+-- the instrument has this price
+abbrev pub put_price : ClearingBooks → ℕ → ℕ → ClearingBooks
+put_price books i price = record books { prices = map.insert books.prices i price }
+
+-- the account holds this much of the instrument
+abbrev pub put_quantity : ClearingBooks → ℕ → ℕ → ℕ → ClearingBooks
+put_quantity books a i quantity = record books { positions = map.insert books.positions (a, i) quantity }
+
+-- a margin call joins the queue's back
+abbrev pub put_call : ClearingBooks → ℕ → ℕ → ClearingBooks
+put_call books a shortfall = record books { calls = books.calls ++ (a, shortfall) ∷ [] }
 
 -- the books have as many blocks and instruments, and as long a queue, as before
 pub record HaveSameSizes (old new : ClearingBooks) : Type 0 where

@@ -1,6 +1,8 @@
 pub mod Books
 pub mod Ranges
 pub mod Interpreter
-pub mod Cut
+pub mod Keys
+pub mod Changes
 pub mod Draft
 pub mod Steps
+pub mod Laws

@@ -1,16 +1,19 @@
 //! Clearing books.
 
-ghost use Rattle.std.specs.Prelude.{◌≡◌, ℕ, ◌<◌, ◌≤◌, Some, None, IsSome, IfSome, IfNone, IfOk, OnOk, OnErr, find, nat_lt};
+ghost use Rattle.std.specs.Prelude.{◌≡◌, ℕ, ◌<◌, ◌≤◌, Some, None, IsSome, IfSome, IfNone, IfOk, OnOk, OnErr, find, nat_lt, length, option_map, slice_get};
+ghost use Rattle.std.specs.BTreeMap.Range.{IsLtBy, IsLeBy};
 ghost use Rattle.std.specs.FinMap as map;
-ghost use Rattle.std.specs.Ordering.{nat_cmp};
-ghost use Rattle.books_model.specs.Draft.{put_in, AreKeysOf};
+ghost use Rattle.std.specs.Ordering.{nat_cmp, is_lt};
 
-use crate::limits::{GREATEST_CASH, MOST_BLOCKS, MOST_INSTRUMENTS, MOST_RING};
+use crate::limits::{
+    GREATEST_CASH, GREATEST_PRICE, GREATEST_QUANTITY, MOST_BLOCKS, MOST_INSTRUMENTS, MOST_RING,
+};
+use crate::overlay::{Changes, append_all, drop_front, make_all_room, settle, take_back};
 use io_ends::OutOfMemory;
 use std::alloc::Global;
 use std::collections::{BTreeMap, VecDeque};
 use std::marker::Model;
-use std::ops::Bound::{Excluded, Unbounded};
+use std::ops::Bound::{Excluded, Included, Unbounded};
 
 /// Accounts with their cash, positions, prices, and a queue of margin calls.
 #[derive(Debug, Drop)]
@@ -39,9 +42,10 @@ impl Model for Books {
 }
 
 impl Books {
-    ghost use Rattle.books_model.specs.Books.{empty_books, put_cash, used};
-    ghost use Rattle.books_model.specs.Draft.{put_all_cash};
-    ghost use Rattle.books_model.specs.Ranges.{AreInRange, IsWithin, IsAccountNumber};
+    ghost use Rattle.books_model.specs.Books.{empty_books, position_cmp, put_call, put_cash, put_price, put_quantity, used};
+    ghost use Rattle.books_model.specs.Changes.{AreChangesOf, changed_books};
+    ghost use Rattle.books_model.specs.Interpreter.{cash_between};
+    ghost use Rattle.books_model.specs.Ranges.{AreInRange, IsWithin, IsAccountNumber, IsCall, IsInstrumentOf};
 
     /// Empty books of these sizes. They take no memory.
     pub fn new(alloc: Global, blocks: u32, instruments: u32, ring: u32) -> Books
@@ -91,6 +95,35 @@ impl Books {
         self.accounts.get(&a).copied()
     }
 
+    /// How much an account holds of an instrument.
+    pub fn position(&self, a: u32, i: u32) -> Option<u64>
+        ensures { result ≡ map.get self.now.positions (a, i) }
+    {
+        self.positions.get(&(a, i)).copied()
+    }
+
+    /// The price of an instrument.
+    pub fn price(&self, i: u32) -> Option<u64>
+        ensures { result ≡ map.get self.now.prices i }
+    {
+        self.prices.get(&i).copied()
+    }
+
+    /// How many margin calls are queued.
+    pub fn calls(&self) -> u32
+        ensures { result ≡ length self.now.calls }
+    {
+        self.calls.len() as u32
+    }
+
+    /// The margin call at a place of the queue, from 0 at the front: its account and its shortfall.
+    pub fn call_at(&self, n: u32) -> (u32, u64)
+        requires { n < length self.now.calls }
+        ensures { slice_get self.now.calls n ≡ Some result }
+    {
+        self.calls[n as usize]
+    }
+
     /// How many accounts, positions and prices there are together.
     pub fn used(&self) -> u32
         ensures { result ≡ used self.now }
@@ -126,13 +159,81 @@ impl Books {
         Ok(())
     }
 
-    /// Puts in the changed cash of accounts. It takes no memory.
-    pub(crate) fn put_all_cash(&mut self, changes: &BTreeMap<u32, u64>)
-        requires accounts { AreKeysOf self.old.accounts changes.now.entries }
-        requires range { AreInRange (put_all_cash self.old changes.now.entries) }
-        ensures { self.new ≡ put_all_cash self.old changes.now.entries }
+    /// Gives an instrument a price.
+    pub fn add_price(&mut self, i: u32, p: u64) -> Result<(), OutOfMemory>
+        requires instrument { IsInstrumentOf self.old i }
+        requires price { IsWithin 1 GREATEST_PRICE p }
+        requires absent { map.get self.old.prices i ≡ None }
+        requires room { used self.old < self.old.blocks }
+        ensures ok { OnOk result (self.new ≡ put_price self.old i p) }
+        ensures err { OnErr result (self.new ≡ self.old) }
     {
-        overwrite(&mut self.accounts, changes);
+        self.prices.insert(i, p)?;
+        Ok(())
+    }
+
+    /// Adds a position: a quantity that an account holds of an instrument.
+    pub fn add_position(&mut self, a: u32, i: u32, q: u64) -> Result<(), OutOfMemory>
+        requires account { IsSome (map.get self.old.accounts a) }
+        requires price { IsSome (map.get self.old.prices i) }
+        requires quantity { IsWithin 1 GREATEST_QUANTITY q }
+        requires absent { map.get self.old.positions (a, i) ≡ None }
+        requires room { used self.old < self.old.blocks }
+        ensures ok { OnOk result (self.new ≡ put_quantity self.old a i q) }
+        ensures err { OnErr result (self.new ≡ self.old) }
+    {
+        self.positions.insert((a, i), q)?;
+        Ok(())
+    }
+
+    /// Adds a margin call at the back of the queue: an account, which need not be there, and its shortfall.
+    pub fn add_call(&mut self, a: u32, d: u64) -> Result<(), OutOfMemory>
+        requires call { IsCall (a, d) }
+        requires room { length self.old.calls < self.old.ring }
+        ensures ok { OnOk result (self.new ≡ put_call self.old a d) }
+        ensures err { OnErr result (self.new ≡ self.old) }
+    {
+        self.calls.push_back((a, d))?;
+        Ok(())
+    }
+
+    /// Puts in the changes of a script. Where memory is wanting the books are as before.
+    pub(crate) fn put_in(&mut self, changes: &Changes) -> Result<(), OutOfMemory>
+        requires changes { AreChangesOf self.old changes.now }
+        requires range { AreInRange (changed_books self.old changes.now) }
+        ensures ok { OnOk result (self.new ≡ changed_books self.old changes.now) }
+        ensures err { OnErr result (self.new ≡ self.old) }
+    {
+        self.calls.reserve(changes.added.len())?;
+        if let Err(wanting) = make_all_room(
+            &mut self.accounts,
+            &mut self.positions,
+            &mut self.prices,
+            changes,
+        ) {
+            take_back(&mut self.accounts, &changes.accounts);
+            take_back(&mut self.positions, &changes.positions);
+            take_back(&mut self.prices, &changes.prices);
+            return Err(wanting);
+        }
+        settle(&mut self.accounts, &changes.accounts);
+        settle(&mut self.positions, &changes.positions);
+        settle(&mut self.prices, &changes.prices);
+        append_all(&mut self.calls, &changes.added);
+        drop_front(&mut self.calls, changes.taken);
+        Ok(())
+    }
+
+    /// The cash of all accounts from one number to another, both included.
+    pub(crate) fn cash_between(&self, a: u32, b: u32) -> u64
+        requires { a ≤ b }
+        ensures { result ≡ cash_between self.now a b }
+    {
+        let mut total = 0;
+        for (_, cash) in self.accounts.range((Included(a), Included(b))) {
+            total += *cash;
+        }
+        total
     }
 
     /// The account with the least number above the given one, and its cash. A walk over all accounts begins with 0.
@@ -145,17 +246,32 @@ impl Books {
         let (number, cash) = self.accounts.range((Excluded(a), Unbounded)).next()?;
         Some((*number, *cash))
     }
-}
 
-// Puts in changes of keys that are there, which takes no memory.
-fn overwrite(values: &mut BTreeMap<u32, u64>, changes: &BTreeMap<u32, u64>)
-    requires { AreKeysOf (map.from_entries {R = nat_cmp} values.old.entries) changes.now.entries }
-    ensures { map.from_entries values.new.entries
-        ≡ put_in (map.from_entries {R = nat_cmp} values.old.entries) changes.now.entries }
-{
-    for (key, value) in changes {
-        let Ok(_) = values.insert(*key, *value) else {
-            unreachable!()
-        };
+    /// The instrument with a price that has the least number above the given one, and its price. A walk over all prices
+    /// begins with 0.
+    pub fn price_after(&self, i: u32) -> Option<(u32, u64)>
+        ensures first { result ≡ find (λ e. nat_lt i e.0) (map.entries self.now.prices) }
+        ensures least { IfSome result (λ e. (i < e.0) × (map.get self.now.prices e.0 ≡ Some e.1)
+            × ((k : ℕ) → i < k → IsSome (map.get self.now.prices k) → e.0 ≤ k)) }
+        ensures none { IfNone result ((k : ℕ) → IsSome (map.get self.now.prices k) → k ≤ i) }
+    {
+        let (number, price) = self.prices.range((Excluded(i), Unbounded)).next()?;
+        Some((*number, *price))
+    }
+
+    /// The least position above the given one, by account and then by instrument, and its quantity. A walk over all
+    /// positions begins with 0 and 0.
+    pub fn position_after(&self, a: u32, i: u32) -> Option<(u32, u32, u64)>
+        ensures first { result ≡ option_map (λ e. (e.0.0, e.0.1, e.1))
+            (find (λ e. is_lt (position_cmp (a, i) e.0)) (map.entries self.now.positions)) }
+        ensures least { IfSome result (λ e. IsLtBy position_cmp (a, i) (e.0, e.1)
+            × (map.get self.now.positions (e.0, e.1) ≡ Some e.2)
+            × ((k : ℕ × ℕ) → IsLtBy position_cmp (a, i) k → IsSome (map.get self.now.positions k)
+            → IsLeBy position_cmp (e.0, e.1) k)) }
+        ensures none { IfNone result ((k : ℕ × ℕ) → IsSome (map.get self.now.positions k)
+            → IsLeBy position_cmp k (a, i)) }
+    {
+        let (key, quantity) = self.positions.range((Excluded((a, i)), Unbounded)).next()?;
+        Some((key.0, key.1, *quantity))
     }
 }

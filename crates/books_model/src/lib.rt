@@ -3,7 +3,10 @@
 
 pub mod books;
 mod draft;
+pub mod laws;
 pub mod limits;
+mod operations;
+mod overlay;
 pub mod reply;
 pub mod run;
 pub mod script;

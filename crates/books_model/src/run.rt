@@ -1,10 +1,9 @@
 //! The plain interpreter: one script at a time, on books in memory.
 
-ghost use Rattle.std.specs.Prelude.{◌≡◌, IfOk, OnOk, OnErr, All};
+ghost use Rattle.std.specs.Prelude.{◌≡◌, IfOk, OnOk, OnErr};
 ghost use Rattle.books_model.specs.Books.{HaveSameSizes};
 ghost use Rattle.books_model.specs.Ranges.{IsScriptFor};
 ghost use Rattle.books_model.specs.Interpreter.{outcome_of, run_from};
-ghost use Rattle.books_model.specs.Cut.{IsRunSoFar, HaveOnlyAccounts};
 ghost use Rattle.books_model.specs.Steps.{run_with};
 
 use crate::books::Books;
@@ -18,22 +17,17 @@ use std::alloc::Global;
 /// leave the books as they were.
 pub fn run_plain(alloc: Global, script: &Script, books: &mut Books) -> Result<Reply, OutOfMemory>
     requires range { IsScriptFor books.old script.now }
-    // Until the other operations are built.
-    requires operations { All IsRunSoFar script.now }
-    requires accounts { HaveOnlyAccounts books.old }
     ensures reply { IfOk result (λ reply. reply ≡ (outcome_of script.now books.old).0) }
     ensures books { OnOk result (books.new ≡ (outcome_of script.now books.old).1) }
     ensures err { OnErr result (books.new ≡ books.old) }
     // What the next script is run on has the same sizes.
     ensures sizes { HaveSameSizes books.old books.new }
-    // Until the other operations are built, so that a script may follow another.
-    ensures accounts { HaveOnlyAccounts books.new }
 {
     let mut draft = Draft::new(alloc, books);
     let reply = run_all(alloc, script, &mut draft)?;
-    let cash = draft.into_cash();
+    let changes = draft.into_changes();
     if let Reply::Done(_) = &reply {
-        books.put_all_cash(&cash);
+        books.put_in(&changes)?;
     }
     Ok(reply)
 }
@@ -41,7 +35,6 @@ pub fn run_plain(alloc: Global, script: &Script, books: &mut Books) -> Result<Re
 // Runs the operations in order, up to the first that is refused.
 fn run_all(alloc: Global, script: &Script, draft: &mut Draft<'_>) -> Result<Reply, OutOfMemory>
     requires range { IsScriptFor draft.old.before script.now }
-    requires operations { All IsRunSoFar script.now }
     ensures run { IfOk result (λ reply. run_from 1 script.now draft.old.after ≡ run_with reply draft.new.after) }
     ensures before { draft.new.before ≡ draft.old.before }
 {

@@ -1,3 +1,3 @@
 pub mod Walks
-pub mod BooksLines
+pub mod Walked
 pub mod Journals

@@ -4,10 +4,9 @@ ghost use Rattle.std.specs.Prelude.{◌≡◌, ◌∷◌, ◌++◌, IfOk, OnOk};
 ghost use Rattle.std.specs.String.{string_bytes};
 ghost use Rattle.std.specs.List.{flat_map};
 ghost use Rattle.std.specs.FinMap.{entries};
-ghost use Rattle.books_model.specs.Cut.{HaveOnlyAccounts};
 ghost use Rattle.books_model.specs.Ranges.{AreInRange};
 ghost use Rattle.script_reader.specs.declared.words.TheConstants.{SPACE};
-ghost use Rattle.script_reader.specs.Text.{account_line, books_lines, header_line, number};
+ghost use Rattle.script_reader.specs.Text.{account_line, books_lines, call_line, header_line, number, position_line, price_line};
 
 use books_model::Books;
 use io_ends::OutOfMemory;
@@ -48,20 +47,76 @@ fn write_accounts(text: &mut String, books: &Books) -> Result<(), AllocError>
     Ok(())
 }
 
+fn write_price(text: &mut String, instrument: u32, price: u64) -> Result<(), AllocError>
+    ensures { OnOk result (string_bytes text.new ≡ string_bytes text.old ++ price_line (instrument, price)) }
+{
+    write!(text, "price {instrument} {price}\n")
+}
+
+fn write_prices(text: &mut String, books: &Books) -> Result<(), AllocError>
+    requires { AreInRange books.now }
+    ensures { OnOk result (string_bytes text.new ≡ string_bytes text.old ++ flat_map price_line (entries books.now.prices)) }
+{
+    let mut last = 0;
+    while let Some((instrument, price)) = books.price_after(last) {
+        write_price(text, instrument, price)?;
+        last = instrument;
+    }
+    Ok(())
+}
+
+fn write_position(
+    text: &mut String,
+    account: u32,
+    instrument: u32,
+    quantity: u64,
+) -> Result<(), AllocError>
+    ensures { OnOk result (string_bytes text.new ≡ string_bytes text.old ++ position_line ((account, instrument), quantity)) }
+{
+    write!(text, "position {account} {instrument} {quantity}\n")
+}
+
+fn write_positions(text: &mut String, books: &Books) -> Result<(), AllocError>
+    requires { AreInRange books.now }
+    ensures { OnOk result (string_bytes text.new ≡ string_bytes text.old ++ flat_map position_line (entries books.now.positions)) }
+{
+    let mut last = (0, 0);
+    while let Some((account, instrument, quantity)) = books.position_after(last.0, last.1) {
+        write_position(text, account, instrument, quantity)?;
+        last = (account, instrument);
+    }
+    Ok(())
+}
+
+fn write_call(text: &mut String, account: u32, shortfall: u64) -> Result<(), AllocError>
+    ensures { OnOk result (string_bytes text.new ≡ string_bytes text.old ++ call_line (account, shortfall)) }
+{
+    write!(text, "call {account} {shortfall}\n")
+}
+
+fn write_calls(text: &mut String, books: &Books) -> Result<(), AllocError>
+    ensures { OnOk result (string_bytes text.new ≡ string_bytes text.old ++ flat_map call_line books.now.calls) }
+{
+    for place in 0..books.calls() {
+        let (account, shortfall) = books.call_at(place);
+        write_call(text, account, shortfall)?;
+    }
+    Ok(())
+}
+
 /// Appends the lines of the books.
 pub fn write_books(text: &mut String, books: &Books) -> Result<(), AllocError>
-    // Until positions, prices and margin calls are built.
-    requires { HaveOnlyAccounts books.now }
     ensures { OnOk result (string_bytes text.new ≡ string_bytes text.old ++ books_lines books.now) }
 {
     write_header(text, books)?;
-    write_accounts(text, books)
+    write_accounts(text, books)?;
+    write_prices(text, books)?;
+    write_positions(text, books)?;
+    write_calls(text, books)
 }
 
 /// The lines of the books: the header, accounts, prices and positions in rising order, and the queue of margin calls.
 pub fn books_text(alloc: Global, books: &Books) -> Result<Vec<u8>, OutOfMemory>
-    // Until positions, prices and margin calls are built.
-    requires { HaveOnlyAccounts books.now }
     ensures { IfOk result (λ text. text.items ≡ books_lines books.now) }
 {
     let mut text = String::new(alloc);

@@ -2,7 +2,6 @@
 
 ghost use Rattle.std.specs.Prelude.{◌≡◌, ◌+◌, ◌<◌, ◌++◌, length, map, All, IfOk, OnOk};
 ghost use Rattle.std.specs.String.{string_bytes};
-ghost use Rattle.books_model.specs.Cut.{HaveOnlyAccounts};
 ghost use Rattle.script_reader.specs.Journal.{IsPlace};
 ghost use Rattle.books_report.specs.Output.{journal_line, journal_lines, place_of, text_of};
 
@@ -59,8 +58,6 @@ pub fn journal_text(
 ) -> Result<Vec<u8>, OutOfMemory>
     requires beside { length lines.now ≡ length replies.now }
     requires places { All (λ l. IsPlace input.now (place_of l)) lines.now }
-    // Until positions, prices and margin calls are built.
-    requires accounts { HaveOnlyAccounts closing.now }
     ensures { IfOk result (λ text. text.items
         ≡ text_of input.now (map place_of lines.now) (map (λ l. l.restarts) lines.now) replies.now closing.now) }
 {

@@ -1,17 +1,150 @@
-use crate::books_text;
-use books_model::Books;
+use crate::{Line, books_text, journal_text};
+use books_model::limits::{GREATEST_CASH, GREATEST_PRICE, GREATEST_QUANTITY, GREATEST_SHORTFALL};
+use books_model::{Books, Decline, Reply, Value, Values};
+use io_ends::OutOfMemory;
+use script_reader::{Input, read_input};
+use std::alloc::Global;
+use std::process::Abort;
 use std::test::Fail;
 
+// The text of the books that `full_books` makes.
+const FULL_BOOKS: &str = "books 1 blocks 8 instruments 2 ring 2
+account 1 0
+account 30 1000000000000000
+price 1 10
+price 2 1000000000
+position 1 2 5
+position 30 1 1000000
+position 30 2 1
+call 9 64000000000000000
+call 7 1
+";
+
+// Books with every kind of line, made in another order than that of their text.
+fn full_books(rt: &impl Abort, alloc: Global) -> Result<Books, OutOfMemory> {
+    let mut books = Books::new(alloc, 8, 2, 2);
+    for (account, cash) in &[(30, GREATEST_CASH), (1, 0)] {
+        assert!(rt; *account > 0 && *cash <= GREATEST_CASH);
+        assert!(rt; books.cash(*account).is_none() && books.used() < books.blocks());
+        books.add_account(*account, *cash)?;
+    }
+    for (instrument, price) in &[(2, GREATEST_PRICE), (1, 10)] {
+        assert!(rt; *instrument > 0 && *instrument <= books.instruments());
+        assert!(rt; *price > 0 && *price <= GREATEST_PRICE);
+        assert!(rt; books.price(*instrument).is_none() && books.used() < books.blocks());
+        books.add_price(*instrument, *price)?;
+    }
+    for (account, instrument, quantity) in &[(30, 2, 1), (30, 1, GREATEST_QUANTITY), (1, 2, 5)] {
+        assert!(rt; books.cash(*account).is_some() && books.price(*instrument).is_some());
+        assert!(rt; *quantity > 0 && *quantity <= GREATEST_QUANTITY);
+        assert!(rt; books.position(*account, *instrument).is_none());
+        assert!(rt; books.used() < books.blocks());
+        books.add_position(*account, *instrument, *quantity)?;
+    }
+    for (account, shortfall) in &[(9, GREATEST_SHORTFALL), (7, 1)] {
+        assert!(rt; *account > 0 && *shortfall > 0 && *shortfall <= GREATEST_SHORTFALL);
+        assert!(rt; books.calls() < books.ring());
+        books.add_call(*account, *shortfall)?;
+    }
+    Ok(books)
+}
+
 #[test]
-fn books_have_a_header_and_rising_accounts(rt: HostRuntime) -> Result<(), Fail> {
+fn books_have_every_kind_of_line_in_order(rt: HostRuntime) -> Result<(), Fail> {
     let alloc = rt.alloc();
-    let mut books = Books::new(alloc, 4, 1, 2);
-    assert!(rt; books.used() < books.blocks());
-    books.add_account(30, 0)?;
-    assert!(rt; books.cash(7).is_none() && books.used() < books.blocks());
-    books.add_account(7, 1_000_000_000_000_000)?;
-    let text = books_text(alloc, &books)?;
-    let want = "books 1 blocks 4 instruments 1 ring 2\naccount 7 1000000000000000\naccount 30 0\n";
+    let text = books_text(alloc, &full_books(&rt, alloc)?)?;
+    assert_eq!(rt; text.as_slice(), FULL_BOOKS.as_bytes());
+    Ok(())
+}
+
+// An input with so many scripts of one caller.
+fn input_of(rt: &impl Abort, alloc: Global, scripts: usize) -> Result<Input, OutOfMemory> {
+    let mut text = String::from_str(alloc, "books 1 blocks 4 instruments 1 ring 1\nscripts\n")?;
+    for _ in 0..scripts {
+        text.push_str("script ann\nend\n")?;
+    }
+    text.push_str("finish\n")?;
+    match read_input(alloc, text.as_bytes()) {
+        Ok(input) => Ok(input),
+        Err(_) => panic!(rt; "refused"),
+    }
+}
+
+// The text of a journal in which one caller's scripts have these replies.
+fn journal_of(
+    rt: &impl Abort,
+    alloc: Global,
+    input: &Input,
+    replies: &[Reply],
+    closing: &Books,
+) -> Result<Vec<u8>, OutOfMemory> {
+    let mut lines = Vec::new(alloc);
+    for index in 0..replies.len() {
+        assert!(rt; index < 1_000 && input.callers() > 0);
+        let index = index as u32;
+        assert!(rt; index < input.scripts_of(0));
+        lines.push(Line {
+            caller: 0,
+            index,
+            restarts: 0,
+        })?;
+    }
+    journal_text(alloc, input, &lines, replies, closing)
+}
+
+// Operations that are declined, by their numbers.
+const DECLINES: [(u32, Decline); 9] = [
+    (1, Decline::Exists),
+    (2, Decline::Absent),
+    (3, Decline::Cash),
+    (4, Decline::Held),
+    (5, Decline::Limit),
+    (6, Decline::Same),
+    (7, Decline::Price),
+    (8, Decline::Quantity),
+    (9, Decline::Queue),
+];
+
+#[test]
+fn a_journal_has_every_word_of_replies(rt: HostRuntime) -> Result<(), Fail> {
+    let alloc = rt.alloc();
+    let mut values = Values::new(alloc);
+    for value in &[
+        Value::Done,
+        Value::Number(105),
+        Value::Call(7, 9),
+        Value::Nothing,
+    ] {
+        values.push(*value)?;
+    }
+    let mut replies = Vec::new(alloc);
+    replies.push(Reply::Done(values))?;
+    for (number, why) in &DECLINES {
+        replies.push(Reply::Declined(*number, *why))?;
+    }
+    replies.push(Reply::Full(64))?;
+    replies.push(Reply::Done(Values::new(alloc)))?;
+    let input = input_of(&rt, alloc, replies.len())?;
+    let text = journal_of(&rt, alloc, &input, &replies, &full_books(&rt, alloc)?)?;
+    let mut want = String::from_str(
+        alloc,
+        "journal
+1 ann 1 0 done ok 105 7:9 none
+2 ann 2 0 declined 1 exists
+3 ann 3 0 declined 2 absent
+4 ann 4 0 declined 3 cash
+5 ann 5 0 declined 4 held
+6 ann 6 0 declined 5 limit
+7 ann 7 0 declined 6 same
+8 ann 8 0 declined 7 price
+9 ann 9 0 declined 8 quantity
+10 ann 10 0 declined 9 queue
+11 ann 11 0 full 64
+12 ann 12 0 done
+",
+    )?;
+    want.push_str(FULL_BOOKS)?;
+    want.push_str("finish\n")?;
     assert_eq!(rt; text.as_slice(), want.as_bytes());
     Ok(())
 }

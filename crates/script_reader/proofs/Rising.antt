@@ -9,7 +9,7 @@ use Rattle.std.specs.FinMap as map
 use Rattle.std.specs.FinMap.{find, put, entries-insert, get-entries, len-entries, len-empty}
 use Rattle.std.proofs.lemmas.List.{append-nil}
 use Rattle.books_model.specs.Books.{ClearingBooks, empty_books, put_cash, position_cmp}
-use Rattle.books_model.specs.Cut.{HaveOnlyAccounts}
+use Rattle.script_reader.specs.SoFar.{HaveOnlyAccounts}
 use Rattle.script_reader.specs.Text.{line, number, header_words, header_line, account_line, price_line, position_line, call_line, books_lines, scripts_line}
 use Rattle.script_reader.specs.Accounts.{ReachAtMost, AddsAccount, HaveSameSizes}
 use Rattle.script_reader.proofs.Reading.{more_text}

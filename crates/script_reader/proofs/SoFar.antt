@@ -7,7 +7,7 @@ use Rattle.std.proofs.lemmas.List.Elements.{All-push, All-from_recursion, recurs
 use Rattle.std.proofs.lemmas.List.Sums.{fold_push}
 use Rattle.books_model.specs.declared.script.Op.{Op}
 use Rattle.books_model.specs.Books.{ClearingBooks}
-use Rattle.books_model.specs.Cut.{IsRunSoFar}
+use Rattle.script_reader.specs.SoFar.{IsRunSoFar}
 use Rattle.books_model.specs.Ranges.{IsScriptFor}
 use Rattle.script_reader.specs.declared.limits.TheConstants.{MOST_CALLERS, MOST_SCRIPTS}
 use Rattle.script_reader.specs.Text.{line, operation_lines, end_line, finish_line}

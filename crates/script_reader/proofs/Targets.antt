@@ -10,7 +10,7 @@ use Rattle.std.specs.FinMap.{find, is_sorted, get-entries, len-entries, len-empt
 use Rattle.std.specs.FinMap.Entries.{below_all}
 use Rattle.std.proofs.lemmas.Cmp.{ranked}
 use Rattle.books_model.specs.Books.{ClearingBooks, position_cmp, used}
-use Rattle.books_model.specs.Cut.{HaveOnlyAccounts}
+use Rattle.script_reader.specs.SoFar.{HaveOnlyAccounts}
 use Rattle.books_model.specs.Ranges.{AreInRange}
 use Rattle.script_reader.specs.Lines.{AreWords}
 use Rattle.script_reader.specs.Text.{line, header_words, header_line, account_words, account_line, books_lines, scripts_line}

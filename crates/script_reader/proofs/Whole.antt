@@ -3,7 +3,7 @@ use Rattle.std.proofs.Common.{◌≡◌, ℕ, List, [], ◌++◌, sym, ap, subst
 use Rattle.std.specs.List.{flat_map}
 use Rattle.std.proofs.lemmas.List.{append-nil}
 use Rattle.books_model.specs.Books.{ClearingBooks}
-use Rattle.books_model.specs.Cut.{HaveOnlyAccounts}
+use Rattle.script_reader.specs.SoFar.{HaveOnlyAccounts}
 use Rattle.books_model.specs.Ranges.{AreInRange}
 use Rattle.script_reader.specs.Text.{books_lines, scripts_line, finish_line}
 use Rattle.script_reader.specs.Input.{Caller, ClearingInput, callers_of}

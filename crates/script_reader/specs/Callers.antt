@@ -5,7 +5,7 @@ use Rattle.std.specs.Str.{bytes_eq}
 use Rattle.std.specs.String.{string_bytes}
 use Rattle.books_model.specs.declared.script.Op.{Op}
 use Rattle.books_model.specs.Books.{ClearingBooks}
-use Rattle.books_model.specs.Cut.{IsRunSoFar}
+use Rattle.script_reader.specs.SoFar.{IsRunSoFar}
 use Rattle.books_model.specs.Ranges.{IsScriptFor}
 use Rattle.script_reader.specs.declared.callers.Callers.{Callers}
 use Rattle.script_reader.specs.Input.{Caller, Submission, beside, count_scripts}

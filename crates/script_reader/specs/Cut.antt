@@ -1,6 +1,6 @@
 -- What of the grammar is read so far.
 use Rattle.std.specs.Prelude.{All}
-use Rattle.books_model.specs.Cut.{IsRunSoFar, HaveOnlyAccounts}
+use Rattle.script_reader.specs.SoFar.{IsRunSoFar, HaveOnlyAccounts}
 use Rattle.script_reader.specs.Input.{ClearingInput}
 
 -- books with accounts alone, and the operations that are run so far

@@ -1,3 +1,4 @@
+pub mod SoFar
 pub mod Text
 pub mod Lines
 pub mod Number

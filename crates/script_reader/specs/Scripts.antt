@@ -2,7 +2,7 @@
 use Rattle.std.specs.Prelude.{◌≡◌, ℕ, List, ◌++◌, All}
 use Rattle.std.specs.List.{flat_map}
 use Rattle.books_model.specs.Books.{ClearingBooks}
-use Rattle.books_model.specs.Cut.{IsRunSoFar}
+use Rattle.script_reader.specs.SoFar.{IsRunSoFar}
 use Rattle.script_reader.specs.Text.{finish_line}
 use Rattle.script_reader.specs.Input.{Caller, Submission, AreCallersFor, callers_of}
 use Rattle.script_reader.specs.Grammar.{submission_lines}

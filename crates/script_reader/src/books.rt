@@ -4,7 +4,7 @@ ghost use Rattle.std.specs.Prelude.{◌≡◌, ℕ, List, ◌++◌, length, IfOk
 ghost use Rattle.std.specs.FinMap as map;
 ghost use Rattle.std.specs.List.{flat_map};
 ghost use Rattle.books_model.specs.Books.{ClearingBooks, empty_books, put_cash};
-ghost use Rattle.books_model.specs.Cut.{HaveOnlyAccounts};
+ghost use Rattle.script_reader.specs.SoFar.{HaveOnlyAccounts};
 ghost use Rattle.books_model.specs.Ranges.{AreInRange};
 ghost use Rattle.script_reader.specs.Lines.{word_at};
 ghost use Rattle.script_reader.specs.Text.{header_words, account_words, account_line, books_lines, scripts_line};

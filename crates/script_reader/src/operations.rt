@@ -2,7 +2,7 @@
 
 ghost use Rattle.std.specs.Prelude.{◌≡◌, IfOk};
 ghost use Rattle.books_model.specs.declared.script.Op.{Op as AnyOp};
-ghost use Rattle.books_model.specs.Cut.{IsRunSoFar};
+ghost use Rattle.script_reader.specs.SoFar.{IsRunSoFar};
 ghost use Rattle.books_model.specs.Ranges.{IsOperationFor};
 ghost use Rattle.script_reader.specs.Text.{operation_words};
 

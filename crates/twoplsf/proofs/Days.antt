@@ -9,15 +9,12 @@ use Rattle.std.proofs.lemmas.Bool.Decides.{nat_tests}
 use Rattle.books_model.specs.declared.reply.Reply.{Reply}
 use Rattle.books_model.specs.Books.{ClearingBooks}
 use Rattle.books_model.specs.Interpreter.{outcome_of}
-use Rattle.books_model.specs.Cut.{IsRunSoFar, HaveOnlyAccounts}
-use Rattle.script_reader.specs.Cut.{IsReadSoFar}
 use Rattle.script_reader.specs.Input.{ClearingInput, IsInput, caller_at, script_at}
 use Rattle.script_reader.specs.Journal.{IsPlace}
 use Rattle.books_report.specs.declared.line.Line.{Line}
 use Rattle.books_report.specs.Output.{place_of, replies_of, books_after, text_of, IsOutput}
 use Rattle.twoplsf.specs.Day.{is_before, AreRun, HasRun, IsDay}
 use Rattle.books_model.specs.Ranges.{IsScriptFor}
-use Rattle.twoplsf.proofs.Kept.{KeepsRest, script_for}
 
 -- the books after one more script
 books_after-push : (input : ClearingInput) (books : ClearingBooks) (places : List (ℕ × ℕ)) (p : ℕ × ℕ)
@@ -68,17 +65,13 @@ all_before callers c i h = grind (arith, nat_tests, h)
 none_before : (c i : ℕ) → is_before 0 0 (c, i) ≡ false
 none_before c i = grind (arith, nat_tests)
 
--- the script of a place is of the operations that are run so far
-pub runs_so_far : (input : ClearingInput) (caller index : ℕ) → IsReadSoFar input → caller < length input.callers → index < length (caller_at input caller).scripts → All IsRunSoFar (script_at input caller index)
-runs_so_far input caller index reads within at = reads.scripts caller (record { name = []; scripts = [] }) within index [] at
-
--- the script of a place can be given to books that have as many instruments as the opening ones
-pub script_of_place : (input : ClearingInput) (books : ClearingBooks) (caller index : ℕ) → IsInput input → books.instruments ≡ input.books.instruments → caller < length input.callers → index < length (caller_at input caller).scripts → IsScriptFor books (script_at input caller index)
-script_of_place input books caller index valid e within at = script_for input.books books (script_at input caller index) e (valid.callers.scripts caller (record { name = []; scripts = [] }) within index [] at)
+-- the script of a place can be given to the opening books
+pub script_of_place : (input : ClearingInput) (caller index : ℕ) → IsInput input → caller < length input.callers → index < length (caller_at input caller).scripts → IsScriptFor input.books (script_at input caller index)
+script_of_place input caller index valid within at = valid.callers.scripts caller (record { name = []; scripts = [] }) within index [] at
 
 module _ (input : ClearingInput) (caller index : ℕ) (lines : List Line) (replies : List Reply) (books : ClearingBooks) (answer : Reply) (after : ClearingBooks)
     (within : caller < length input.callers) (at : index < length (caller_at input caller).scripts) (so_far : HasRun input caller index lines replies books)
-    (replied : answer ≡ (outcome_of (script_at input caller index) books).0) (left : after ≡ (outcome_of (script_at input caller index) books).1) (keeps : KeepsRest books after) where
+    (replied : answer ≡ (outcome_of (script_at input caller index) books).0) (left : after ≡ (outcome_of (script_at input caller index) books).1) (keeps : after.instruments ≡ books.instruments) where
   -- the script's line
   abbrev pub its_line : Line
   its_line = record { caller = caller; index = index; restarts = 0 }
@@ -107,8 +100,7 @@ module _ (input : ClearingInput) (caller index : ℕ) (lines : List Line) (repli
         before = rw its_places (All-push (λ p. is_before caller (index + 1) p ≡ true) places (caller, index) (All-weaker (λ p. is_before caller index p ≡ true) (λ p. is_before caller (index + 1) p ≡ true) (before_next caller index) places so_far.before) (before_itself caller index));
         once = λ c i h. ap (count_by (λ p. p.0 == c && p.1 == i)) its_places ∙ count_by-push (λ p. p.0 == c && p.1 == i) places (caller, index) ∙ ap (λ n. n + cond (caller == c && index == i) 1 0) (so_far.once c i h) ∙ counted caller index c i;
         rising = rw its_places (all_pairs_push (λ p q. p.0 ≡ q.0 → p.1 < q.1) places (caller, index) so_far.rising (λ k d h e. earlier caller index (get_or places k d) (so_far.before k d h) e));
-        instruments = keeps.instruments ∙ so_far.instruments;
-        accounts = keeps.only so_far.accounts;
+        instruments = keeps ∙ so_far.instruments;
       }
 
 -- after all scripts of a caller comes the next one
@@ -122,19 +114,17 @@ ran_caller input caller lines replies books h =
       once = λ c i place. h.once c i place ∙ ap (λ b. cond b 1 0) (next_caller caller count c i (λ e. subst (λ x. i < length (caller_at input x).scripts) e place.1));
       rising = h.rising;
       instruments = h.instruments;
-      accounts = h.accounts;
     }
 
 -- nothing was run yet
-pub ran_none : (input : ClearingInput) (books : ClearingBooks) → books ≡ input.books → HaveOnlyAccounts input.books → HasRun input 0 0 [] [] books
-ran_none input books e only = record {
+pub ran_none : (input : ClearingInput) (books : ClearingBooks) → books ≡ input.books → HasRun input 0 0 [] [] books
+ran_none input books e = record {
   run = record { replies_are = refl; books_are = e; restarts = All-nil (λ l. l.restarts ≡ 0) };
   only = All-nil (IsPlace input);
   before = All-nil (λ p. is_before 0 0 p ≡ true);
   once = λ c i h. sym (ap (λ b. cond b 1 0) (none_before c i));
   rising = λ i j d lt short. absurd (omega arith);
   instruments = ap (λ b. b.instruments) e;
-  accounts = subst HaveOnlyAccounts (sym e) only;
 }
 
 -- after all callers the day is done
@@ -142,7 +132,6 @@ pub ran_all : (input : ClearingInput) (callers : ℕ) (lines : List Line) (repli
 ran_all input callers lines replies books all h = record {
   run = h.run;
   journal = record { only = h.only; once = λ c i place. h.once c i place ∙ ap (λ b. cond b 1 0) (all_before callers c i (subst (λ n. c < n) (sym all) place.0)); rising = h.rising };
-  accounts = h.accounts;
 }
 
 -- each script has one reply

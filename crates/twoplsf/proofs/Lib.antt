@@ -1,4 +1,3 @@
-pub mod Kept
 pub mod Days
 pub mod Commands
 pub mod Served

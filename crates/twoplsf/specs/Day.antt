@@ -2,7 +2,6 @@
 use Rattle.std.specs.Prelude.{◌≡◌, ℕ, ◌<◌, ◌&&◌, ◌||◌, ◌==◌, nat_lt, Bool, true, if◌then◌else◌, List, map, count_by, All, AllPairs}
 use Rattle.books_model.specs.declared.reply.Reply.{Reply}
 use Rattle.books_model.specs.Books.{ClearingBooks}
-use Rattle.books_model.specs.Cut.{HaveOnlyAccounts}
 use Rattle.script_reader.specs.Input.{ClearingInput}
 use Rattle.script_reader.specs.Journal.{IsPlace, IsJournal}
 use Rattle.books_report.specs.declared.line.Line.{Line}
@@ -25,12 +24,9 @@ pub record HasRun (input : ClearingInput) (caller index : ℕ) (lines : List Lin
   pub before : All (λ p. is_before caller index p ≡ true) (map place_of lines)
   pub once : (c i : ℕ) → IsPlace input (c, i) → count_by (λ p. p.0 == c && p.1 == i) (map place_of lines) ≡ (if is_before caller index (c, i) then 1 else 0)
   pub rising : AllPairs (λ p q. p.0 ≡ q.0 → p.1 < q.1) (map place_of lines)
-  -- until the other operations are built
   pub instruments : books.instruments ≡ input.books.instruments
-  pub accounts : HaveOnlyAccounts books
 
 -- every script was run, in an order that a journal may have
 pub record IsDay (input : ClearingInput) (lines : List Line) (replies : List Reply) (books : ClearingBooks) : Type 0 where
   pub run : AreRun input lines replies books
   pub journal : IsJournal input (map place_of lines)
-  pub accounts : HaveOnlyAccounts books

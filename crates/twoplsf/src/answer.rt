@@ -1,7 +1,6 @@
 //! The answer to the bytes of an input.
 
 ghost use Rattle.std.specs.Prelude.{◌≡◌, IfOk};
-ghost use Rattle.script_reader.specs.Cut.{IsReadSoFar};
 ghost use Rattle.books_report.specs.Output.{IsOutput};
 ghost use Rattle.twoplsf.specs.Answer.{IsAnswerTo, fault_word, refused_line};
 
@@ -47,8 +46,6 @@ fn refusal_of(alloc: Global, line: u32, why: Fault) -> Result<Vec<u8>, OutOfMemo
 }
 
 fn output_of(alloc: Global, input: &Input) -> Result<Vec<u8>, OutOfMemory>
-    // Until the other operations are built.
-    requires { IsReadSoFar input.now }
     ensures { IfOk result (λ text. IsOutput input.now 1 text.items) }
 {
     let day = run_day(alloc, input)?;

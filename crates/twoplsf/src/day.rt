@@ -1,10 +1,10 @@
 //! A day: the scripts of an input, run one after the other.
 
 ghost use Rattle.std.specs.Prelude.{◌+◌, ◌<◌, length, IfOk, OnOk};
-ghost use Rattle.script_reader.specs.Cut.{IsReadSoFar};
 ghost use Rattle.script_reader.specs.Input.{IsInput, caller_at};
 ghost use Rattle.twoplsf.specs.Day.{IsDay, HasRun};
 
+use books_model::laws::scripts_go_by_instruments;
 use books_model::{Books, Reply, run_plain};
 use books_report::Line;
 use io_ends::OutOfMemory;
@@ -29,10 +29,11 @@ fn run_script(
     requires caller { caller < length input.now.callers }
     requires index { index < length (caller_at input.now caller).scripts }
     requires valid { IsInput input.now }
-    requires read_so_far { IsReadSoFar input.now }
     requires so_far { HasRun input.now caller index day.old.lines.items day.old.replies.items day.old.books }
     ensures { OnOk result (HasRun input.now caller (index + 1) day.new.lines.items day.new.replies.items day.new.books) }
 {
+    // A script for the opening books is one for these.
+    scripts_go_by_instruments();
     let reply = run_plain(alloc, input.script(caller, index), &mut day.books)?;
     day.replies.push(reply)?;
     day.lines.push(Line {
@@ -46,7 +47,6 @@ fn run_script(
 fn run_caller(alloc: Global, input: &Input, caller: u32, day: &mut Day) -> Result<(), OutOfMemory>
     requires caller { caller < length input.now.callers }
     requires valid { IsInput input.now }
-    requires read_so_far { IsReadSoFar input.now }
     requires so_far { HasRun input.now caller 0 day.old.lines.items day.old.replies.items day.old.books }
     ensures { OnOk result (HasRun input.now (caller + 1) 0 day.new.lines.items day.new.replies.items day.new.books) }
 {
@@ -58,8 +58,6 @@ fn run_caller(alloc: Global, input: &Input, caller: u32, day: &mut Day) -> Resul
 
 /// Runs each script once, caller by caller, and each caller's in their order.
 pub fn run_day(alloc: Global, input: &Input) -> Result<Day, OutOfMemory>
-    // Until the other operations are built.
-    requires { IsReadSoFar input.now }
     ensures { IfOk result (λ day. IsDay input.now day.lines.items day.replies.items day.books) }
 {
     let mut day = Day {

@@ -2,7 +2,7 @@ use Rattle.std.proofs.Common.{◌≡◌, ℕ, List, ◌++◌, length}
 use Rattle.std.specs.FinMap as map
 use Rattle.std.specs.List.{flat_map}
 use Rattle.books_model.specs.Books.{ClearingBooks}
-use Rattle.books_model.specs.Cut.{HaveOnlyAccounts}
+use Rattle.script_reader.specs.SoFar.{HaveOnlyAccounts}
 use Rattle.books_model.specs.Ranges.{AreInRange}
 use Rattle.script_reader.specs.Text.{account_line, scripts_line}
 use Rattle.script_reader.specs.Accounts.{HaveSameSizes}

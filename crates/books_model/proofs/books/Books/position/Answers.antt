@@ -1,0 +1,8 @@
+use Rattle.std.proofs.Common.{sym, ap, ◌∙◌}
+use Rattle.std.specs.FinMap as map
+use Rattle.books_model.proofs.Maps.{get-lookup, positions_total}
+use Rattle.books_model.proofs.books.Books.position.Goals as goal
+
+pub returns : goal.returns
+returns c =
+    c.copied.ensures ∙ c.get.ensures.value ∙ sym (get-lookup positions_total c.self.inside.positions.entries (c.args.a, c.args.i)) ∙ ap (λ b. map.get b.positions (c.args.a, c.args.i)) c.self.view_is

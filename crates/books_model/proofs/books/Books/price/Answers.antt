@@ -1,0 +1,8 @@
+use Rattle.std.proofs.Common.{sym, ap, ◌∙◌}
+use Rattle.std.specs.FinMap as map
+use Rattle.std.specs.Cmp.{nat_cmp_total}
+use Rattle.books_model.proofs.Maps.{get-lookup}
+use Rattle.books_model.proofs.books.Books.price.Goals as goal
+
+pub returns : goal.returns
+returns c = c.copied.ensures ∙ c.get.ensures.value ∙ sym (get-lookup nat_cmp_total c.self.inside.prices.entries c.args.i) ∙ ap (λ b. map.get b.prices c.args.i) c.self.view_is

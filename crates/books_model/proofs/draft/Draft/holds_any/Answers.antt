@@ -1,0 +1,25 @@
+use Rattle.std.proofs.Common.{◌≡◌, None, sym, ap, subst, ◌∙◌, inl, inr, arith}
+use Rattle.std.specs.FinMap as map
+use Rattle.std.proofs.lemmas.Bool.{cases_lt}
+use Rattle.books_model.specs.Ranges.{AreInRange}
+use Rattle.books_model.proofs.Comparing.{none_of}
+use Rattle.books_model.proofs.Sums.{holds_nothing, holds_one}
+use Rattle.books_model.proofs.draft.Draft.holds_any.Goals as goal
+
+pub returns-then-is_some : goal.returns-then-is_some
+returns-then-is_some c = holds_one c.args.self.now.after c.args.a c.loop-i.i c.quantity.result c.quantity.ensures.value (sym c.is_some.ensures ∙ c.if-is_some.true)
+
+pub loop-i-preserved : goal.loop-i-preserved
+loop-i-preserved c = λ j from below. elim (cases_lt j c.loop-i.i) [
+  | inl before ↦ c.loop-i.invariant j from before
+  | inr past ↦
+      let here : c.loop-i.i ≡ j = omega arith in
+      let none = sym c.quantity.ensures.value ∙ none_of c.quantity.result (sym c.is_some.ensures ∙ c.if-is_some.false) in
+      subst (λ i. map.get c.args.self.now.after.positions (c.args.a, i) ≡ None) here none
+]
+
+pub returns : goal.returns
+returns c =
+    let in_range = subst (λ d. AreInRange d.after) c.self.view_is c.self.invariant.after in
+    let instruments = ap (λ d. d.after.instruments) c.self.view_is in
+    sym (holds_nothing c.args.self.now.after c.args.a in_range (λ j from below. c.loop-i.invariant j from (omega (arith, c.loop-i-test.false, c.instruments-i-end.ensures, instruments))))

@@ -1,0 +1,7 @@
+use Rattle.std.proofs.Common.{◌≡◌, ℕ, ◌<◌, ◌≤◌, None}
+use Rattle.std.specs.FinMap as map
+use Rattle.books_model.proofs.draft.Draft.holds_any.Given as goal
+
+-- the account has no position in the instruments so far
+abbrev pub invariant-loop-i : goal.invariant-loop-i
+invariant-loop-i l = (j : ℕ) → 1 ≤ j → j < l.i → map.get l.self.after.positions (l.a, j) ≡ None

@@ -1,0 +1,13 @@
+use Rattle.std.proofs.Common.{◌≡◌, None, sym, ◌∙◌, arith}
+use Rattle.std.specs.FinMap as map
+use Rattle.books_model.proofs.InRange.{put_cash-in_range, used_after_insert}
+use Rattle.books_model.proofs.Drafts.{room_left}
+use Rattle.books_model.proofs.Comparing.{none_of}
+use Rattle.books_model.proofs.draft.Draft.open.Goals as goal
+
+pub change_account-requires : goal.change_account-requires
+change_account-requires c =
+    let books = c.args.self.now.after in
+    let absent : map.get books.accounts c.args.a ≡ None = sym c.cash.ensures.value ∙ none_of c.cash.result (sym c.is_some.ensures ∙ c.if-is_some.false) in
+    let more = room_left books c.is_full.ensures.range (sym c.if-is_full.ensures.value) in
+    put_cash-in_range books c.args.a 0 c.is_full.ensures.range c.requires (omega arith) (omega (arith, used_after_insert books c.args.a 0 absent))

@@ -1,0 +1,8 @@
+use Rattle.books_model.specs.declared.script.Op.TheVariants as op
+use Rattle.books_model.specs.Interpreter.{step_of}
+use Rattle.books_model.proofs.Outcomes.{done}
+use Rattle.books_model.proofs.CashLaws.{traded_cash}
+use Rattle.books_model.proofs.laws.trade_keeps_all_cash.Goals as goal
+
+pub returns : goal.returns
+returns c = λ a b i q before after h. done _ (step_of (op.Trade a b i q) before) h.0 after (traded_cash before a b i q) h.1
