@@ -1,6 +1,6 @@
 -- How a text is cut into lines, and a line into words.
-use Rattle.std.proofs.Common.{◌≡◌, ℕ, suc, zero, ◌-◌, ◌<◌, ◌≤◌, ◌==◌, Bool, true, false, cond, List, [], ◌∷◌, ◌++◌, length, take, drop, get_or, Some, None, refl, sym, ap, subst, ◌∙◌, append_assoc, eq-eqb, eqb-true, take-append-drop, arith, true≢false}
-use Rattle.std.specs.List.{AllByRecursion, slice_split, onto_first, join_with_byte, position, position_or_len}
+use Rattle.std.proofs.Common.{◌≡◌, ℕ, suc, zero, ◌-◌, ◌<◌, ◌≤◌, ◌==◌, Bool, true, false, not, ◌&&◌, cond, List, [], ◌∷◌, ◌++◌, length, take, drop, get_or, Some, None, refl, sym, ap, subst, ◌∙◌, append_assoc, eq-eqb, eqb-true, take-append-drop, arith, true≢false}
+use Rattle.std.specs.List.{AllByRecursion, list_all, slice_split, onto_first, join_with_byte, position, position_or_len}
 use Rattle.std.proofs.lemmas.List.{take_rest}
 use Rattle.std.proofs.Math.Seq.{drop-cons}
 use Rattle.std.proofs.lemmas.Grind.{common_steps}
@@ -108,3 +108,14 @@ taken old bytes new words h e = (
   subst AreWords (sym e) (words_of_line bytes h.1),
   h.0 ∙ ap (λ b. b ++ LINE_FEED ∷ new) (sym (join_with_byte-slice_split SPACE bytes)) ∙ sym (line-append (slice_split (λ b. b == SPACE) bytes) new) ∙ ap (λ w. line w ++ new) (sym e),
 )
+
+-- bytes that are no space and no line feed are a word
+pub word_from_test : (word : List ℕ) → list_all (λ b. not (b == SPACE) && not (b == LINE_FEED)) word ≡ true → IsWord word
+word_from_test [] h = (tt, tt)
+word_from_test (b ∷ word) h = by (b == SPACE) refl (b == LINE_FEED) refl (list_all (λ b. not (b == SPACE) && not (b == LINE_FEED)) word) (word_from_test word) h
+  where
+    by : (p : Bool) → (b == SPACE) ≡ p → (q : Bool) → (b == LINE_FEED) ≡ q → (r : Bool) → (r ≡ true → IsWord word) → ((not p && not q) && r) ≡ true → IsWord (b ∷ word)
+    by false e false f true rest h = let words = rest refl in ((e, words.0), (f, words.1))
+    by true e q f r rest h = cc
+    by false e true f r rest h = cc
+    by false e false f false rest h = cc

@@ -1,10 +1,19 @@
 -- Names are text.
-use Rattle.std.proofs.Common.{ℕ, List, arith}
+use Rattle.std.proofs.Common.{ℕ, ◌≡◌, ◌<◌, true, ◌&&◌, nat_le, List, [], ◌∷◌, arith}
+use Rattle.std.specs.List.{list_all, AllByRecursion}
 use Rattle.std.specs.Str.{IsUtf8}
+use Rattle.std.proofs.lemmas.Bool.{leb-true}
 use Rattle.std.proofs.lemmas.Str.{IsUtf8-from_ascii}
 use Rattle.std.proofs.lemmas.Str.Ascii.{IsAscii-from_all}
+use Rattle.std.proofs.lemmas.List.Elements.{All-from_recursion}
 use Rattle.script_reader.specs.Input.{IsName}
+use Rattle.script_reader.proofs.Conditions.{both}
+
+-- letters are small bytes
+letters_small : (name : List ℕ) → list_all (λ c. nat_le 97 c && nat_le c 122) name ≡ true → AllByRecursion (λ c. c < 128) name
+letters_small [] h = tt
+letters_small (c ∷ name) h = (omega (arith, leb-true c 122 (both (both h).0).1), letters_small name (both h).1)
 
 -- a name is text
 pub IsName-text : (name : List ℕ) → IsName name → IsUtf8 name
-IsName-text name h = IsUtf8-from_ascii name (IsAscii-from_all name (λ k d less. omega (arith, (h.letters k d less).1)))
+IsName-text name h = IsUtf8-from_ascii name (IsAscii-from_all name (All-from_recursion _ _ (letters_small name (both h).1)))

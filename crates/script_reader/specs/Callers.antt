@@ -1,12 +1,8 @@
 -- Callers with their scripts, as they are gathered while a text is read.
-use Rattle.std.specs.Prelude.{◌≡◌, ℕ, Bool, List, [], ◌∷◌, ◌++◌, map, length, All, if◌then◌else◌}
+use Rattle.std.specs.Prelude.{◌≡◌, ℕ, Bool, List, [], ◌∷◌, ◌++◌, map, length, if◌then◌else◌}
 use Rattle.std.specs.List.{list_any}
 use Rattle.std.specs.Str.{bytes_eq}
 use Rattle.std.specs.String.{string_bytes}
-use Rattle.books_model.specs.declared.script.Op.{Op}
-use Rattle.books_model.specs.Books.{ClearingBooks}
-use Rattle.script_reader.specs.SoFar.{IsRunSoFar}
-use Rattle.books_model.specs.Ranges.{IsScriptFor}
 use Rattle.script_reader.specs.declared.callers.Callers.{Callers}
 use Rattle.script_reader.specs.Input.{Caller, Submission, beside, count_scripts}
 
@@ -24,11 +20,6 @@ abbrev pub add_submission : List Caller → Submission → List Caller
 add_submission [] s = record { name = s.caller; scripts = s.script ∷ [] } ∷ []
 add_submission (c ∷ callers) s =
     if bytes_eq s.caller c.name then record { name = c.name; scripts = c.scripts ++ s.script ∷ [] } ∷ callers else c ∷ add_submission callers s
-
--- a script that is read so far, for the books
-pub record IsReadScript (books : ClearingBooks) (script : List Op) : Type 0 where
-  pub range : IsScriptFor books script
-  pub so_far : All IsRunSoFar script
 
 -- some caller has this name
 abbrev pub is_caller : List ℕ → List Caller → Bool

@@ -1,12 +1,12 @@
 -- An input: opening books, and callers with their scripts.
-use Rattle.std.specs.Prelude.{ℕ, ◌≤◌, List, [], ◌∷◌, ◌++◌, map, filter, fold, length, sum_by, All, if◌then◌else◌, refl, slice_index_or}
-use Rattle.std.specs.List.{list_any, IsDistinct}
+use Rattle.std.specs.Prelude.{◌≡◌, ℕ, ◌≤◌, Bool, true, ◌&&◌, nat_le, List, [], ◌∷◌, ◌++◌, map, filter, fold, length, sum_by, All, if◌then◌else◌, refl, slice_index_or}
+use Rattle.std.specs.List.{list_any, list_all, IsDistinct}
 use Rattle.std.specs.Coded.{Coded, code_by, coded×, coded_ℕ, coded_list}
 use Rattle.std.specs.Str.{bytes_eq}
 use Rattle.books_model.specs.declared.script.Op.{Op}
 use Rattle.books_model.specs.contracts.script.Op as operation
 use Rattle.books_model.specs.Books.{ClearingBooks, books_code}
-use Rattle.books_model.specs.Ranges.{IsWithin, AreInRange, IsScriptFor}
+use Rattle.books_model.specs.Ranges.{AreInRange, IsScriptFor}
 use Rattle.script_reader.specs.declared.limits.TheConstants.{MOST_CALLERS, MOST_SCRIPTS, LONGEST_NAME}
 
 -- a caller: its name, and its scripts in the order in which they were given
@@ -45,10 +45,12 @@ pub record Submission : Type 0 where
   pub caller : List ℕ
   pub script : List Op
 
--- a name is some letters from `a` to `z`
-pub record IsName (name : List ℕ) : Type 0 where
-  pub length : IsWithin 1 LONGEST_NAME (length name)
-  pub letters : All (λ c. IsWithin 97 122 c) name
+-- whether a name is some letters from `a` to `z`
+abbrev pub is_name : List ℕ → Bool
+is_name name = nat_le 1 (length name) && nat_le (length name) LONGEST_NAME && list_all (λ c. nat_le 97 c && nat_le c 122) name
+
+abbrev pub IsName : List ℕ → Type 0
+IsName name = is_name name ≡ true
 
 -- the names seen so far, and this one behind them where it is new
 abbrev pub add_name : List (List ℕ) → List ℕ → List (List ℕ)

@@ -1,13 +1,14 @@
-pub mod SoFar
 pub mod Text
 pub mod Lines
 pub mod Number
-pub mod Accounts
 pub mod Input
-pub mod Cut
 pub mod Grammar
+pub mod Forms
+pub mod Faults
+pub mod Rows
 pub mod Placed
 pub mod Callers
 pub mod Scripts
 pub mod Journal
 pub mod Command
+pub mod Statements

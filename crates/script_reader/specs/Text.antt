@@ -3,6 +3,7 @@ use Rattle.std.specs.Prelude.{ℕ, List, [], ◌∷◌, ◌++◌, codes}
 use Rattle.std.specs.List.{join_with_byte, flat_map}
 use Rattle.std.specs.Fmt.{decimal}
 use Rattle.std.specs.FinMap as map
+use Rattle.std.specs.Prelude.{map as map_list}
 use Rattle.books_model.specs.declared.script.Op.{Op}
 use Rattle.books_model.specs.declared.script.Op.TheVariants as op
 use Rattle.books_model.specs.Books.{ClearingBooks}
@@ -33,17 +34,29 @@ account_words e = codes "account" ∷ number e.0 ∷ number e.1 ∷ []
 abbrev pub account_line : ℕ × ℕ → List ℕ
 account_line e = line (account_words e)
 
+-- the words of a price
+abbrev pub price_words : ℕ × ℕ → List (List ℕ)
+price_words e = codes "price" ∷ number e.0 ∷ number e.1 ∷ []
+
 -- an instrument and its price
 abbrev pub price_line : ℕ × ℕ → List ℕ
-price_line e = line (codes "price" ∷ number e.0 ∷ number e.1 ∷ [])
+price_line e = line (price_words e)
+
+-- the words of a position
+abbrev pub position_words : (ℕ × ℕ) × ℕ → List (List ℕ)
+position_words e = codes "position" ∷ number e.0.0 ∷ number e.0.1 ∷ number e.1 ∷ []
 
 -- an account, an instrument and the quantity that is held
 abbrev pub position_line : (ℕ × ℕ) × ℕ → List ℕ
-position_line e = line (codes "position" ∷ number e.0.0 ∷ number e.0.1 ∷ number e.1 ∷ [])
+position_line e = line (position_words e)
+
+-- the words of a margin call
+abbrev pub call_words : ℕ × ℕ → List (List ℕ)
+call_words call = codes "call" ∷ number call.0 ∷ number call.1 ∷ []
 
 -- a margin call: an account and its shortfall
 abbrev pub call_line : ℕ × ℕ → List ℕ
-call_line call = line (codes "call" ∷ number call.0 ∷ number call.1 ∷ [])
+call_line call = line (call_words call)
 
 -- the lines of books: the header, and then accounts, prices and positions in rising order, and the queue from its front
 abbrev pub books_lines : ClearingBooks → List ℕ
@@ -53,6 +66,15 @@ books_lines books =
     ++ flat_map price_line (map.entries books.prices)
     ++ flat_map position_line (map.entries books.positions)
     ++ flat_map call_line books.calls
+
+-- the lines of books, as their words
+abbrev pub books_words : ClearingBooks → List (List (List ℕ))
+books_words books =
+    header_words books
+    ∷ (map_list account_words (map.entries books.accounts)
+    ++ (map_list price_words (map.entries books.prices)
+    ++ (map_list position_words (map.entries books.positions)
+    ++ map_list call_words books.calls)))
 
 -- the words of an operation
 abbrev pub operation_words : Op → List (List ℕ)

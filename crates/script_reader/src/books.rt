@@ -1,64 +1,66 @@
 //! The books of a text.
 
-ghost use Rattle.std.specs.Prelude.{◌≡◌, ℕ, List, ◌++◌, length, IfOk, MatchResult, IsTrue, ◌↔◌, codes};
+ghost use Rattle.std.specs.Prelude.{◌≡◌, ◌+◌, nat_le, None, ◌∷◌, [], ◌++◌, ◌&&◌, ◌||◌, ◌==◌, true, false, length, codes, IfOk, IfErr, OnOk, Some, Err};
 ghost use Rattle.std.specs.FinMap as map;
-ghost use Rattle.std.specs.List.{flat_map};
-ghost use Rattle.books_model.specs.Books.{ClearingBooks, empty_books, put_cash};
-ghost use Rattle.script_reader.specs.SoFar.{HaveOnlyAccounts};
+ghost use Rattle.std.specs.List.{flat_map, list_any};
 ghost use Rattle.books_model.specs.Ranges.{AreInRange};
-ghost use Rattle.script_reader.specs.Lines.{word_at};
-ghost use Rattle.script_reader.specs.Text.{header_words, account_words, account_line, books_lines, scripts_line};
-ghost use Rattle.script_reader.specs.Accounts.{ReachAtMost, AddsAccount, IsNextAccount, HaveSameSizes};
+ghost use Rattle.script_reader.specs.declared.fault.Fault.{Fault as AnyFault};
+ghost use Rattle.script_reader.specs.Text.{line, books_words};
+ghost use Rattle.script_reader.specs.Forms.{begins, is_only, is_header, value_at};
+ghost use Rattle.script_reader.specs.Faults.{header_fault, fault_of, IsFaultyBehind};
 
 use crate::fault::{Fault, Refusal};
 use crate::lines::Lines;
 use crate::numbers::within;
+use crate::rows::{ACCOUNTS, CASH, PRICES, QUANTITIES, SHORTFALLS, instruments_of};
 use crate::words::Words;
 use books_model::Books;
-use books_model::limits::{GREATEST_CASH, MOST_BLOCKS, MOST_INSTRUMENTS, MOST_RING};
+use books_model::limits::{MOST_BLOCKS, MOST_INSTRUMENTS, MOST_RING};
 use std::alloc::Global;
 
-// The books, with the lines of their accounts, and the line that begins the scripts.
+// The books of the next lines, and the line that begins the scripts.
 pub(crate) fn books_of(alloc: Global, lines: &mut Lines<'_>) -> Result<Books, Refusal>
     ensures range { IfOk result (λ books. AreInRange books) }
-    ensures cut { IfOk result (λ books. HaveOnlyAccounts books) }
-    ensures text { IfOk result (λ books. lines.old ≡ books_lines books ++ scripts_line ++ lines.new) }
-    ensures only { (books : ClearingBooks) (after : List ℕ) → AreInRange books → HaveOnlyAccounts books → lines.old ≡ books_lines books ++ scripts_line ++ after
-        → MatchResult result (λ found. (found ≡ books) × (lines.new ≡ after)) (λ stop. stop ≡ Refusal.OutOfMemory) }
+    ensures text { IfOk result (λ books. lines.old ≡ flat_map line (books_words books) ++ (line (codes "scripts" ∷ []) ++ lines.new)) }
+    ensures fault { (why : AnyFault) → result ≡ Err (Refusal.LineFault why) → IsFaultyBehind [] lines.old lines.new why }
 {
     let words = lines.words(alloc)?;
-    let header = header_of(alloc, &words)?;
-    let books = accounts_of(alloc, lines, header)?;
-    Ok(books)
+    let books = header_of(alloc, &words)?;
+    filled(alloc, lines, books)
 }
 
-// The books with the accounts of the next lines, and the line that begins the scripts.
-fn accounts_of(alloc: Global, lines: &mut Lines<'_>, mut books: Books) -> Result<Books, Refusal>
-    requires { books ≡ empty_books books.blocks books.instruments books.ring }
+// The books with what the next lines give, up to the line that begins the scripts.
+fn filled(alloc: Global, lines: &mut Lines<'_>, mut books: Books) -> Result<Books, Refusal>
     ensures range { IfOk result (λ found. AreInRange found) }
-    ensures sizes { IfOk result (λ found. HaveSameSizes found books) }
-    ensures cut { IfOk result (λ found. HaveOnlyAccounts found) }
-    ensures text { IfOk result (λ found. lines.old ≡ flat_map account_line (map.entries found.accounts) ++ scripts_line ++ lines.new) }
-    ensures only { (target : ClearingBooks) (after : List ℕ) → AreInRange target → HaveOnlyAccounts target → HaveSameSizes target books
-        → lines.old ≡ flat_map account_line (map.entries target.accounts) ++ scripts_line ++ after
-        → MatchResult result (λ found. (found ≡ target) × (lines.new ≡ after)) (λ stop. stop ≡ Refusal.OutOfMemory) }
+    ensures text { IfOk result (λ found. flat_map line (books_words books) ++ lines.old ≡ flat_map line (books_words found) ++ (line (codes "scripts" ∷ []) ++ lines.new)) }
+    ensures fault { (why : AnyFault) → result ≡ Err (Refusal.LineFault why) → IsFaultyBehind (books_words books) lines.old lines.new why }
 {
-    let mut last = 0u32;
     loop {
+        // What holds of all books.
+        let _ = books.blocks();
         let words = lines.words(alloc)?;
         if words.is_only(b"scripts") {
-            let has_room = books.used() <= books.blocks();
-            prove!(has_room);
             return Ok(books);
         }
-        last = add_account(&mut books, last, &words)?;
+        add_line(&mut books, &words)?;
     }
 }
 
-// The books of a header.
+// The empty books of a header.
 fn header_of(alloc: Global, words: &Words<'_>) -> Result<Books, Fault>
-    ensures found { IfOk result (λ books. (words.now ≡ header_words books) × (books ≡ empty_books books.blocks books.instruments books.ring)) }
-    ensures only { (books : ClearingBooks) → AreInRange books → words.now ≡ header_words books → result ≡ Ok (empty_books books.blocks books.instruments books.ring) }
+    ensures found { IfOk result (λ books. books_words books ≡ words.now ∷ []) }
+    ensures fine { OnOk result (header_fault words.now ≡ None) }
+    ensures err { IfErr result (λ why. header_fault words.now ≡ Some why) }
+{
+    let (blocks, instruments, ring) = sizes_of(words)?;
+    Ok(Books::new(alloc, blocks, instruments, ring))
+}
+
+// The blocks, the instruments and the ring of a header.
+fn sizes_of(words: &Words<'_>) -> Result<(u32, u32, u32), Fault>
+    ensures found { IfOk result (λ sizes. (sizes.0 ≡ value_at words.now 3) × (sizes.1 ≡ value_at words.now 5) × (sizes.2 ≡ value_at words.now 7)) }
+    ensures fine { OnOk result (header_fault words.now ≡ None) }
+    ensures err { IfErr result (λ why. header_fault words.now ≡ Some why) }
 {
     if !is_header(words) {
         return Err(Fault::Header);
@@ -66,15 +68,16 @@ fn header_of(alloc: Global, words: &Words<'_>) -> Result<Books, Fault>
     let blocks = words.number(3)?;
     let instruments = words.number(5)?;
     let ring = words.number(7)?;
-    let blocks = within(blocks, 1, u64::from(MOST_BLOCKS))? as u32;
-    let instruments = within(instruments, 1, u64::from(MOST_INSTRUMENTS))? as u32;
-    let ring = within(ring, 1, u64::from(MOST_RING))? as u32;
-    Ok(Books::new(alloc, blocks, instruments, ring))
+    Ok((
+        within(blocks, 1, u64::from(MOST_BLOCKS))? as u32,
+        within(instruments, 1, u64::from(MOST_INSTRUMENTS))? as u32,
+        within(ring, 1, u64::from(MOST_RING))? as u32,
+    ))
 }
 
 // Whether a line has the words of a header around its numbers.
 fn is_header(words: &Words<'_>) -> bool
-    ensures { IsTrue result ↔ ((length words.now ≡ 8) × (word_at words.now 0 ≡ codes "books") × (word_at words.now 1 ≡ codes "1") × (word_at words.now 2 ≡ codes "blocks") × (word_at words.now 4 ≡ codes "instruments") × (word_at words.now 6 ≡ codes "ring")) }
+    ensures { result ≡ is_header words.now }
 {
     words.len() == 8
         && words.is(0, b"books")
@@ -84,23 +87,210 @@ fn is_header(words: &Words<'_>) -> bool
         && words.is(6, b"ring")
 }
 
-// Adds the account of a line, which must rise above the last one, and returns its number.
-fn add_account(books: &mut Books, last: u32, words: &Words<'_>) -> Result<u32, Refusal>
-    requires { ReachAtMost books.old last }
-    ensures found { IfOk result (λ a. AddsAccount books.old books.new last a words.now) }
-    ensures only { (a cash : ℕ) → IsNextAccount books.old last a cash → words.now ≡ account_words (a, cash)
-        → MatchResult result (λ found. (found ≡ a) × (books.new ≡ put_cash books.old a cash)) (λ stop. stop ≡ Refusal.OutOfMemory) }
+// Adds what a line gives to the books. It is not the line that begins the scripts.
+fn add_line(books: &mut Books, words: &Words<'_>) -> Result<(), Refusal>
+    requires { is_only (codes "scripts") words.now ≡ false }
+    ensures added { OnOk result (books_words books.new ≡ books_words books.old ++ words.now ∷ []) }
+    ensures fault { (why : AnyFault) → result ≡ Err (Refusal.LineFault why) → fault_of (books_words books.old) words.now ≡ Some why }
 {
-    if words.len() != 3 || !words.is(0, b"account") {
-        return Err(Refusal::LineFault(Fault::Word));
+    // What holds of all books.
+    let _ = books.blocks();
+    if words.is_row(b"account", 3) {
+        return add_account(books, words);
     }
-    let (account, cash) = words.account_and(0, GREATEST_CASH)?;
-    if account <= last {
-        return Err(Refusal::LineFault(Fault::Order));
+    if words.is_row(b"price", 3) {
+        return add_price(books, words);
     }
-    if books.used() >= books.blocks() {
-        return Err(Refusal::LineFault(Fault::Blocks));
+    if words.is_row(b"position", 4) {
+        return add_position(books, words);
     }
+    if words.is_row(b"call", 3) {
+        return add_call(books, words);
+    }
+    Err(Refusal::LineFault(Fault::Word))
+}
+
+fn has_prices(books: &Books) -> bool
+    ensures { result ≡ list_any (λ _. true) (map.entries books.now.prices) }
+{
+    // What holds of all books.
+    let _ = books.blocks();
+    books.price_after(0).is_some()
+}
+
+fn has_positions(books: &Books) -> bool
+    ensures { result ≡ list_any (λ _. true) (map.entries books.now.positions) }
+{
+    // What holds of all books.
+    let _ = books.blocks();
+    books.position_after(0, 0).is_some()
+}
+
+fn has_calls(books: &Books) -> bool
+    ensures { result ≡ list_any (λ _. true) books.now.calls }
+{
+    books.calls() > 0
+}
+
+// Whether there is a line of a kind behind that of prices.
+fn is_past_prices(books: &Books) -> bool
+    ensures { result ≡ (list_any (λ _. true) (map.entries books.now.positions) || list_any (λ _. true) books.now.calls) }
+{
+    has_positions(books) || has_calls(books)
+}
+
+// Whether there is a line of a kind behind that of accounts.
+fn is_past_accounts(books: &Books) -> bool
+    ensures { result ≡ (list_any (λ _. true) (map.entries books.now.prices)
+        || (list_any (λ _. true) (map.entries books.now.positions) || list_any (λ _. true) books.now.calls)) }
+{
+    has_prices(books) || is_past_prices(books)
+}
+
+fn is_full(books: &Books) -> bool
+    ensures { result ≡ nat_le books.now.blocks (length (map.entries books.now.accounts) + length (map.entries books.now.prices) + length (map.entries books.now.positions)) }
+{
+    books.used() >= books.blocks()
+}
+
+// The account and the cash of a line.
+fn account_of(books: &Books, words: &Words<'_>) -> Result<(u32, u64), Fault>
+    requires { (begins (codes "account") words.now && length words.now == 3) ≡ true }
+    ensures fine { OnOk result (fault_of (books_words books.now) words.now ≡ None) }
+    ensures found { IfOk result (λ n. (n.0 ≡ value_at words.now 1) × (n.1 ≡ value_at words.now 2)) }
+    ensures err { IfErr result (λ why. fault_of (books_words books.now) words.now ≡ Some why) }
+{
+    // What holds of all books.
+    let _ = books.blocks();
+    if is_past_accounts(books) {
+        return Err(Fault::Order);
+    }
+    let (account, cash) = words.two_numbers(ACCOUNTS, CASH)?;
+    let account = account as u32;
+    if books.account_after(account - 1).is_some() {
+        return Err(Fault::Order);
+    }
+    if is_full(books) {
+        return Err(Fault::Blocks);
+    }
+    Ok((account, cash))
+}
+
+fn add_account(books: &mut Books, words: &Words<'_>) -> Result<(), Refusal>
+    requires { (begins (codes "account") words.now && length words.now == 3) ≡ true }
+    ensures added { OnOk result (books_words books.new ≡ books_words books.old ++ words.now ∷ []) }
+    ensures fault { (why : AnyFault) → result ≡ Err (Refusal.LineFault why) → fault_of (books_words books.old) words.now ≡ Some why }
+{
+    // What holds of all books.
+    let _ = books.blocks();
+    let (account, cash) = account_of(books, words)?;
     books.add_account(account, cash)?;
-    Ok(account)
+    Ok(())
+}
+
+// The instrument and the price of a line.
+fn price_of(books: &Books, words: &Words<'_>) -> Result<(u32, u64), Fault>
+    requires { (begins (codes "price") words.now && length words.now == 3) ≡ true }
+    ensures fine { OnOk result (fault_of (books_words books.now) words.now ≡ None) }
+    ensures found { IfOk result (λ n. (n.0 ≡ value_at words.now 1) × (n.1 ≡ value_at words.now 2)) }
+    ensures err { IfErr result (λ why. fault_of (books_words books.now) words.now ≡ Some why) }
+{
+    // What holds of all books.
+    let _ = books.blocks();
+    if is_past_prices(books) {
+        return Err(Fault::Order);
+    }
+    let instruments = instruments_of(books);
+    let (instrument, price) = words.two_numbers(instruments, PRICES)?;
+    let instrument = instrument as u32;
+    if books.price_after(instrument - 1).is_some() {
+        return Err(Fault::Order);
+    }
+    if is_full(books) {
+        return Err(Fault::Blocks);
+    }
+    Ok((instrument, price))
+}
+
+fn add_price(books: &mut Books, words: &Words<'_>) -> Result<(), Refusal>
+    requires { (begins (codes "price") words.now && length words.now == 3) ≡ true }
+    ensures added { OnOk result (books_words books.new ≡ books_words books.old ++ words.now ∷ []) }
+    ensures fault { (why : AnyFault) → result ≡ Err (Refusal.LineFault why) → fault_of (books_words books.old) words.now ≡ Some why }
+{
+    // What holds of all books.
+    let _ = books.blocks();
+    let (instrument, price) = price_of(books, words)?;
+    books.add_price(instrument, price)?;
+    Ok(())
+}
+
+// The account, the instrument and the quantity of a line.
+fn position_of(books: &Books, words: &Words<'_>) -> Result<(u32, u32, u64), Fault>
+    requires { (begins (codes "position") words.now && length words.now == 4) ≡ true }
+    ensures fine { OnOk result (fault_of (books_words books.now) words.now ≡ None) }
+    ensures found { IfOk result (λ n. (n.0 ≡ value_at words.now 1) × (n.1 ≡ value_at words.now 2) × (n.2 ≡ value_at words.now 3)) }
+    ensures err { IfErr result (λ why. fault_of (books_words books.now) words.now ≡ Some why) }
+{
+    // What holds of all books.
+    let _ = books.blocks();
+    if has_calls(books) {
+        return Err(Fault::Order);
+    }
+    let instruments = instruments_of(books);
+    let (account, instrument, quantity) = words.three_numbers(ACCOUNTS, instruments, QUANTITIES)?;
+    let account = account as u32;
+    let instrument = instrument as u32;
+    if books.position_after(account, instrument - 1).is_some() {
+        return Err(Fault::Order);
+    }
+    if books.cash(account).is_none() {
+        return Err(Fault::Account);
+    }
+    if books.price(instrument).is_none() {
+        return Err(Fault::Price);
+    }
+    if is_full(books) {
+        return Err(Fault::Blocks);
+    }
+    Ok((account, instrument, quantity))
+}
+
+fn add_position(books: &mut Books, words: &Words<'_>) -> Result<(), Refusal>
+    requires { (begins (codes "position") words.now && length words.now == 4) ≡ true }
+    ensures added { OnOk result (books_words books.new ≡ books_words books.old ++ words.now ∷ []) }
+    ensures fault { (why : AnyFault) → result ≡ Err (Refusal.LineFault why) → fault_of (books_words books.old) words.now ≡ Some why }
+{
+    // What holds of all books.
+    let _ = books.blocks();
+    let (account, instrument, quantity) = position_of(books, words)?;
+    books.add_position(account, instrument, quantity)?;
+    Ok(())
+}
+
+// The account and the shortfall of a line.
+fn call_of(books: &Books, words: &Words<'_>) -> Result<(u32, u64), Fault>
+    requires { (begins (codes "call") words.now && length words.now == 3) ≡ true }
+    ensures fine { OnOk result (fault_of (books_words books.now) words.now ≡ None) }
+    ensures found { IfOk result (λ n. (n.0 ≡ value_at words.now 1) × (n.1 ≡ value_at words.now 2)) }
+    ensures err { IfErr result (λ why. fault_of (books_words books.now) words.now ≡ Some why) }
+{
+    // What holds of all books.
+    let _ = books.blocks();
+    let (account, shortfall) = words.two_numbers(ACCOUNTS, SHORTFALLS)?;
+    if books.calls() >= books.ring() {
+        return Err(Fault::Limit);
+    }
+    Ok((account as u32, shortfall))
+}
+
+fn add_call(books: &mut Books, words: &Words<'_>) -> Result<(), Refusal>
+    requires { (begins (codes "call") words.now && length words.now == 3) ≡ true }
+    ensures added { OnOk result (books_words books.new ≡ books_words books.old ++ words.now ∷ []) }
+    ensures fault { (why : AnyFault) → result ≡ Err (Refusal.LineFault why) → fault_of (books_words books.old) words.now ≡ Some why }
+{
+    // What holds of all books.
+    let _ = books.blocks();
+    let (account, shortfall) = call_of(books, words)?;
+    books.add_call(account, shortfall)?;
+    Ok(())
 }

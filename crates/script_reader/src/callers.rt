@@ -1,6 +1,6 @@
 //! Callers in the order in which they are first seen, each with its scripts in their order.
 
-ghost use Rattle.std.specs.Prelude.{◌≡◌, ◌+◌, ◌<◌, ◌≤◌, [], length, OnOk, IsTrue, ◌⊎◌, false};
+ghost use Rattle.std.specs.Prelude.{◌≡◌, ◌<◌, ◌&&◌, ◌||◌, not, nat_le, [], length, OnOk};
 ghost use Rattle.std.specs.Prelude.{map};
 ghost use Rattle.script_reader.specs.Input.{Caller, count_scripts};
 ghost use Rattle.script_reader.specs.Placed.{put_script};
@@ -37,11 +37,10 @@ impl Callers {
     // Whether a script of the name would be one too many, or its caller.
     pub(crate) fn is_full_for(&self, name: &str) -> bool
         requires { IsEven self.now }
-        ensures room { result ≡ false → (count_scripts (callers_in self.now) < MOST_SCRIPTS) × (is_caller name.now (callers_in self.now) ≡ false → length (callers_in self.now) < MOST_CALLERS) }
-        ensures full { IsTrue result → (MOST_SCRIPTS ≤ count_scripts (callers_in self.now)) ⊎ ((is_caller name.now (callers_in self.now) ≡ false) × (MOST_CALLERS ≤ length (callers_in self.now))) }
+        ensures { result ≡ (nat_le MOST_SCRIPTS (count_scripts (callers_in self.now)) || (not (is_caller name.now (callers_in self.now)) && nat_le MOST_CALLERS (length (callers_in self.now)))) }
     {
         self.count >= MOST_SCRIPTS
-            || (self.names.len() >= MOST_CALLERS && !self.names.contains(name))
+            || (!self.names.contains(name) && self.names.len() >= MOST_CALLERS)
     }
 
     // Adds a script of the caller with the name.

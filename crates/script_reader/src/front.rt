@@ -1,44 +1,89 @@
-//! A whole text.
+//! A whole text, or its front.
 
-ghost use Rattle.std.specs.Prelude.{◌≡◌, ℕ, IfOk, MatchResult};
+ghost use Rattle.std.specs.Prelude.{◌≡◌, ◌≢◌, ◌⊎◌, ℕ, ◌+◌, ◌≤◌, ◌<◌, ◌^◌, ◌==◌, ◌++◌, [], List, IfOk, MatchResult, Err, length, take, count_by};
+ghost use Rattle.std.specs.List.{flat_map};
 ghost use Rattle.script_reader.specs.declared.fault.Fault.{Fault as AnyFault};
+ghost use Rattle.script_reader.specs.declared.words.TheConstants.{LINE_FEED};
 ghost use Rattle.script_reader.specs.Input.{ClearingInput};
-ghost use Rattle.script_reader.specs.Grammar.{Spells, IsValidInput};
+ghost use Rattle.script_reader.specs.Grammar.{Spells};
+ghost use Rattle.script_reader.specs.Scripts.{HasFront};
+ghost use Rattle.script_reader.specs.Faults.{IsFaultyBehind, IsFrontFault, IsFirstFault};
 
 use crate::books::books_of;
 use crate::fault::{Fault, InputFault, Refusal};
 use crate::input::Input;
 use crate::lines::Lines;
 use crate::scripts::scripts_of;
+use crate::words::LINE_FEED;
 use std::alloc::Global;
 
 /// Reads opening books and scripts, all of the bytes. What a text spells is read, unless memory runs out, and nothing else is.
-/// A fault names the first line that is refused, and the first reason that applies to it: no contract says so yet.
+/// The fault of a text that is refused is its first.
 pub fn read_input(alloc: Global, bytes: &[u8]) -> Result<Input, InputFault>
     ensures ok { IfOk result (λ input. Spells bytes.now input) }
-    ensures read { (input : ClearingInput) → Spells bytes.now input → MatchResult result (λ found. found ≡ input) (λ fault. fault ≡ InputFault.OutOfMemory) }
-    ensures refused { (line : ℕ) (why : AnyFault) → result ≡ Err (InputFault.Line line why) → IsValidInput bytes.now → ⊥ }
+    ensures read { (input : ClearingInput) → Spells bytes.now input
+        → MatchResult result (λ found. found ≡ input) (λ fault. fault ≡ InputFault.OutOfMemory) }
+    ensures refused { (number : ℕ) (why : AnyFault) → result ≡ Err (InputFault.Line number why) → IsFirstFault bytes.now number why }
+    ensures faulty { (number : ℕ) (why : AnyFault) → IsFirstFault bytes.now number why
+        → MatchResult result (λ _. ⊥) (λ fault. (fault ≡ InputFault.Line number why) ⊎ (fault ≡ InputFault.OutOfMemory)) }
+{
+    let (input, end) = read_front(alloc, bytes)?;
+    if end < bytes.len() {
+        return Err(InputFault::Line {
+            line: line_feeds(&bytes[..end]) as u32 + 1,
+            why: Fault::End,
+        });
+    }
+    Ok(input)
+}
+
+/// Reads opening books and scripts, up to the line feed after `finish`, and tells where the rest of the bytes begins.
+/// The fault of a text that is refused is the first before that.
+pub fn read_front(alloc: Global, bytes: &[u8]) -> Result<(Input, usize), InputFault>
+    ensures ok { IfOk result (λ front. (front.1 ≤ length bytes.now) × Spells (take front.1 bytes.now) front.0) }
+    ensures read { (input : ClearingInput) (end : ℕ) → end ≤ length bytes.now → Spells (take end bytes.now) input
+        → MatchResult result (λ front. (front.0 ≡ input) × (front.1 ≡ end)) (λ fault. fault ≡ InputFault.OutOfMemory) }
+    ensures refused { (number : ℕ) (why : AnyFault) → result ≡ Err (InputFault.Line number why) → IsFrontFault bytes.now number why }
+    ensures faulty { (number : ℕ) (why : AnyFault) → IsFrontFault bytes.now number why
+        → MatchResult result (λ _. ⊥) (λ fault. (fault ≡ InputFault.Line number why) ⊎ (fault ≡ InputFault.OutOfMemory)) }
 {
     let mut lines = Lines::new(bytes);
     match input_of(alloc, &mut lines) {
-        Ok(input) => Ok(input),
+        Ok(input) => Ok((input, bytes.len() - lines.len())),
         Err(Refusal::OutOfMemory) => Err(InputFault::OutOfMemory),
-        Err(Refusal::LineFault(why)) => Err(InputFault::Line {
-            line: lines.number_of(why),
-            why,
-        }),
+        Err(Refusal::LineFault(why)) => {
+            let read = line_feeds(&bytes[..bytes.len() - lines.len()]);
+            let line = faulty_line(read, why);
+            Err(InputFault::Line { line, why })
+        }
     }
 }
 
-// The input of all lines.
+// The input of the next lines, up to the last one.
 fn input_of(alloc: Global, lines: &mut Lines<'_>) -> Result<Input, Refusal>
-    ensures found { IfOk result (λ input. Spells lines.old input) }
-    ensures only { (input : ClearingInput) → Spells lines.old input → MatchResult result (λ found. found ≡ input) (λ stop. stop ≡ Refusal.OutOfMemory) }
+    ensures found { IfOk result (λ input. HasFront input lines.old lines.new) }
+    ensures fault { (why : AnyFault) → result ≡ Err (Refusal.LineFault why) → IsFaultyBehind [] lines.old lines.new why }
 {
     let books = books_of(alloc, lines)?;
     let callers = scripts_of(alloc, lines, &books)?;
-    if !lines.is_at_end() {
-        return Err(Refusal::LineFault(Fault::End));
-    }
     Ok(Input::new(books, callers))
+}
+
+// The number of the line with a fault, from 1, where so many lines were read. A line that is missing is the next.
+fn faulty_line(read: usize, why: Fault) -> u32
+    requires { read + 1 < 2 ^ 32 }
+    ensures missing { why ≡ Fault.End → result ≡ read + 1 }
+    ensures whole { why ≢ Fault.End → result ≡ read }
+{
+    match why {
+        Fault::End => read as u32 + 1,
+        _ => read as u32,
+    }
+}
+
+// How many lines end in these bytes.
+fn line_feeds(bytes: &[u8]) -> usize
+    ensures { result ≡ count_by (λ b. b == LINE_FEED) bytes.now }
+{
+    bytes.iter().filter(|b| **b == LINE_FEED).count()
 }

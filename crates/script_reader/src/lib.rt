@@ -6,16 +6,18 @@ mod callers;
 pub mod fault;
 mod front;
 pub mod input;
+pub mod laws;
 pub mod limits;
 mod lines;
 mod names;
 mod numbers;
 mod operations;
+mod rows;
 mod scripts;
 pub mod words;
 
 pub use fault::{Fault, InputFault};
-pub use front::read_input;
+pub use front::{read_front, read_input};
 pub use input::Input;
 
 #[cfg(test)]

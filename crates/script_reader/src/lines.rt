@@ -1,6 +1,7 @@
 //! The lines of a text, one after another.
 
-ghost use Rattle.std.specs.Prelude.{◌≡◌, ℕ, ◌==◌, ◌↔◌, List, [], ◌∷◌, ◌++◌, IsTrue, IfOk, IfErr, MatchResult, position};
+ghost use Rattle.std.specs.Prelude.{◌≡◌, ℕ, ◌==◌, ◌++◌, ◌∷◌, [], ◌↔◌, IsTrue, IfOk, IfSome, IfNone, Err, length, position};
+ghost use Rattle.script_reader.specs.declared.fault.Fault.{Fault as AnyFault};
 ghost use Rattle.script_reader.specs.Lines.{IsFreeOf, AreWords};
 ghost use Rattle.script_reader.specs.Text.{line as text_of};
 ghost use Rattle.script_reader.specs.declared.words.TheConstants.{LINE_FEED};
@@ -10,11 +11,10 @@ use crate::words::{LINE_FEED, Words};
 use std::alloc::Global;
 use std::marker::Model;
 
-// What is left of a text, and how many of its lines were read. Contracts see what is left.
+// What is left of a text. Contracts see it.
 #[derive(Drop)]
 pub(crate) struct Lines<'a> {
     left: &'a [u8],
-    read: u32,
 }
 
 impl<'a> Model for Lines<'a> {
@@ -30,47 +30,35 @@ impl<'a> Lines<'a> {
     pub(crate) fn new(text: &'a [u8]) -> Lines<'a>
         ensures { result ≡ text.now }
     {
-        Lines {
-            left: text,
-            read: 0,
-        }
+        Lines { left: text }
     }
 
-    pub(crate) fn is_at_end(&self) -> bool
-        ensures { IsTrue result ↔ (self.now ≡ []) }
+    // How many bytes are left.
+    pub(crate) fn len(&self) -> usize
+        ensures { result ≡ length self.now }
     {
-        self.left.is_empty()
-    }
-
-    // The number of the line with a fault, from 1: the one after those that were read, where the text ends too early or goes on, and else the one that was read last.
-    pub(crate) fn number_of(&self, why: Fault) -> u32 {
-        match why {
-            Fault::End => self.read.saturating_add(1),
-            _ => self.read,
-        }
+        self.left.len()
     }
 
     // The next line, without its line feed. Where no line feed is left, nothing changes.
-    fn next(&mut self) -> Result<&'a [u8], Fault>
-        ensures found { IfOk result (λ line. (self.old ≡ line.now ++ LINE_FEED ∷ self.new) × IsFreeOf LINE_FEED line.now) }
-        ensures end { IfErr result (λ why. (why ≡ Fault.End) × IsFreeOf LINE_FEED self.old × (self.new ≡ self.old)) }
+    fn next(&mut self) -> Option<&'a [u8]>
+        ensures found { IfSome result (λ line. (self.old ≡ line.now ++ LINE_FEED ∷ self.new) × IsFreeOf LINE_FEED line.now) }
+        ensures end { IfNone result (IsFreeOf LINE_FEED self.old × (self.new ≡ self.old)) }
     {
-        let Some(end) = line_end(self.left) else {
-            return Err(Fault::End);
-        };
+        let end = line_end(self.left)?;
         let (line, after) = self.left.split_at(end);
         self.left = &after[1..];
-        self.read = self.read.saturating_add(1);
-        Ok(line)
+        Some(line)
     }
 
-    // The words of the next line.
+    // The words of the next line. Where no whole line is left, nothing changes.
     pub(crate) fn words(&mut self, alloc: Global) -> Result<Words<'a>, Refusal>
         ensures found { IfOk result (λ words. AreWords words × (self.old ≡ text_of words ++ self.new)) }
-        ensures only { (words : List (List ℕ)) (after : List ℕ) → AreWords words → self.old ≡ text_of words ++ after
-            → MatchResult result (λ found. (found ≡ words) × (self.new ≡ after)) (λ stop. stop ≡ Refusal.OutOfMemory) }
+        ensures end { (why : AnyFault) → result ≡ Err (Refusal.LineFault why) → (why ≡ Fault.End) × IsFreeOf LINE_FEED self.old × (self.new ≡ self.old) }
     {
-        let line = self.next()?;
+        let Some(line) = self.next() else {
+            return Err(Refusal::LineFault(Fault::End));
+        };
         Ok(Words::of_line(alloc, line)?)
     }
 }

@@ -1,8 +1,9 @@
 //! The names of callers.
 
-ghost use Rattle.std.specs.Prelude.{◌≡◌, ℕ, ◌≤◌, All, List, ◌∷◌, [], length, IfOk, IfErr, IsTrue, ◌↔◌, codes};
-ghost use Rattle.books_model.specs.Ranges.{IsWithin};
-ghost use Rattle.script_reader.specs.Input.{IsName};
+ghost use Rattle.std.specs.Prelude.{◌≡◌, ◌&&◌, false, nat_le, ◌∷◌, [], IfOk, IfErr, codes};
+ghost use Rattle.std.specs.List.{list_all};
+ghost use Rattle.script_reader.specs.Input.{IsName, is_name};
+ghost use Rattle.script_reader.specs.Forms.{is_script_line};
 
 use crate::fault::Fault;
 use crate::limits::LONGEST_NAME;
@@ -12,7 +13,7 @@ use std::str;
 // The name that a word is.
 fn name_of(word: &[u8]) -> Result<&str, Fault>
     ensures found { IfOk result (λ name. (name.now ≡ word.now) × IsName word.now) }
-    ensures none { IfErr result (λ why. (why ≡ Fault.Word) × (IsName word.now → ⊥)) }
+    ensures none { IfErr result (λ why. (why ≡ Fault.Word) × (is_name word.now ≡ false)) }
 {
     if !is_name(word) {
         return Err(Fault::Word);
@@ -24,13 +25,13 @@ fn name_of(word: &[u8]) -> Result<&str, Fault>
 }
 
 fn is_name(word: &[u8]) -> bool
-    ensures { IsTrue result ↔ IsName word.now }
+    ensures { result ≡ is_name word.now }
 {
     !word.is_empty() && word.len() <= LONGEST_NAME && are_letters(word)
 }
 
 fn are_letters(word: &[u8]) -> bool
-    ensures { IsTrue result ↔ All (λ b. IsWithin 97 122 b) word.now }
+    ensures { result ≡ list_all (λ b. nat_le 97 b && nat_le b 122) word.now }
 {
     word.iter().all(|b| b'a' <= *b && *b <= b'z')
 }
@@ -38,9 +39,9 @@ fn are_letters(word: &[u8]) -> bool
 // The caller's name of a line that begins a script.
 pub(crate) fn caller_of<'a>(words: &Words<'a>) -> Result<&'a str, Fault>
     ensures found { IfOk result (λ name. (words.now ≡ codes "script" ∷ name.now ∷ []) × IsName name.now) }
-    ensures none { IfErr result (λ why. (why ≡ Fault.Word) × ((name : List ℕ) → IsName name → words.now ≡ codes "script" ∷ name ∷ [] → ⊥)) }
+    ensures none { IfErr result (λ why. (why ≡ Fault.Word) × (is_script_line words.now ≡ false)) }
 {
-    if words.len() != 2 || !words.is(0, b"script") {
+    if !words.is_row(b"script", 2) {
         return Err(Fault::Word);
     }
     name_of(words.at(1))

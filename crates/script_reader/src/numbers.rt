@@ -7,11 +7,10 @@ ghost use Rattle.std.specs.List.{list_all};
 ghost use Rattle.std.specs.Char.{is_ascii_digit};
 ghost use Rattle.std.specs.Str.{all_ascii_digits};
 ghost use Rattle.std.specs.Str.Parse.{digits_value};
-ghost use Rattle.books_model.specs.Ranges.{IsWithin, IsAccountNumber};
-ghost use Rattle.script_reader.specs.Number.{IsNumber};
+ghost use Rattle.books_model.specs.Ranges.{IsWithin};
+ghost use Rattle.script_reader.specs.Number.{IsNumber, is_number};
 
 use crate::fault::Fault;
-use books_model::limits::GREATEST_ACCOUNT;
 
 // The number that a word is, or the greatest `u64` where it is greater. None where the word is no number.
 pub(crate) fn numeral(word: &[u8]) -> Option<u64>
@@ -26,7 +25,7 @@ pub(crate) fn numeral(word: &[u8]) -> Option<u64>
 
 // Whether a word is digits with no zero in front.
 fn is_number(word: &[u8]) -> bool
-    ensures { IsTrue result ↔ IsNumber word.now }
+    ensures { result ≡ is_number word.now }
 {
     !word.is_empty() && (word[0] != b'0' || word.len() == 1) && are_digits(word)
 }
@@ -61,12 +60,4 @@ pub(crate) fn within(n: u64, low: u64, high: u64) -> Result<u64, Fault>
     } else {
         Err(Fault::Limit)
     }
-}
-
-// A number that is an account number.
-pub(crate) fn account_number(n: u64) -> Result<u32, Fault>
-    ensures range { OkIff result (IsAccountNumber n) n }
-    ensures err { IfErr result (λ why. why ≡ Fault.Limit) }
-{
-    Ok(within(n, 1, u64::from(GREATEST_ACCOUNT))? as u32)
 }

@@ -1,31 +1,72 @@
 //! The operations of a script.
 
-ghost use Rattle.std.specs.Prelude.{◌≡◌, IfOk};
-ghost use Rattle.books_model.specs.declared.script.Op.{Op as AnyOp};
-ghost use Rattle.script_reader.specs.SoFar.{IsRunSoFar};
+ghost use Rattle.std.specs.Prelude.{◌≡◌, Some, false, IfOk, IfErr, codes};
 ghost use Rattle.books_model.specs.Ranges.{IsOperationFor};
 ghost use Rattle.script_reader.specs.Text.{operation_words};
+ghost use Rattle.script_reader.specs.Forms.{script_forms, is_only};
+ghost use Rattle.script_reader.specs.Rows.{row_fault};
 
 use crate::fault::Fault;
+use crate::rows::{ACCOUNTS, AMOUNTS, PRICES, QUANTITIES, RATES, instruments_of};
 use crate::words::Words;
-use books_model::limits::GREATEST_AMOUNT;
 use books_model::{Books, Op};
 
-// The operation of a line in a script for the books. So far only deposits, moves and shows are read, whose numbers no books limit.
+// The operation of a line in a script for the books. The line is not the one that ends the script.
 pub(crate) fn operation_of(words: &Words<'_>, books: &Books) -> Result<Op, Fault>
-    ensures found { IfOk result (λ op. IsRunSoFar op × IsOperationFor books.now op × (words.now ≡ operation_words op)) }
-    ensures only { (op : AnyOp) → IsRunSoFar op → IsOperationFor books.now op → words.now ≡ operation_words op → result ≡ Ok op }
+    requires { is_only (codes "end") words.now ≡ false }
+    ensures found { IfOk result (λ op. IsOperationFor books.now op × (words.now ≡ operation_words op)) }
+    ensures err { IfErr result (λ why. row_fault (script_forms books.now.instruments) words.now ≡ Some why) }
 {
-    if words.len() == 3 && words.is(0, b"deposit") {
-        let (account, amount) = words.account_and(1, GREATEST_AMOUNT)?;
-        return Ok(Op::Deposit(account, amount));
+    // What holds of all books.
+    let _ = books.blocks();
+    let instruments = instruments_of(books);
+    if words.is_row(b"open", 2) {
+        let account = words.one_number(ACCOUNTS)?;
+        return Ok(Op::OpenAccount(account as u32));
     }
-    if words.len() == 4 && words.is(0, b"move") {
-        let (from, to, amount) = words.two_accounts_and(1, GREATEST_AMOUNT)?;
-        return Ok(Op::Move(from, to, amount));
+    if words.is_row(b"close", 2) {
+        let account = words.one_number(ACCOUNTS)?;
+        return Ok(Op::Close(account as u32));
     }
-    if words.len() == 2 && words.is(0, b"show") {
-        return Ok(Op::Show(words.account()?));
+    if words.is_row(b"deposit", 3) {
+        let (account, amount) = words.two_numbers(ACCOUNTS, AMOUNTS)?;
+        return Ok(Op::Deposit(account as u32, amount));
+    }
+    if words.is_row(b"withdraw", 3) {
+        let (account, amount) = words.two_numbers(ACCOUNTS, AMOUNTS)?;
+        return Ok(Op::Withdraw(account as u32, amount));
+    }
+    if words.is_row(b"move", 4) {
+        let (from, to, amount) = words.three_numbers(ACCOUNTS, ACCOUNTS, AMOUNTS)?;
+        return Ok(Op::Move(from as u32, to as u32, amount));
+    }
+    if words.is_row(b"price", 3) {
+        let (instrument, price) = words.two_numbers(instruments, PRICES)?;
+        return Ok(Op::Price(instrument as u32, price));
+    }
+    if words.is_row(b"trade", 5) {
+        let (buyer, seller, instrument, quantity) = words.four_numbers(
+            ACCOUNTS,
+            ACCOUNTS,
+            instruments,
+            QUANTITIES,
+        )?;
+        return Ok(Op::Trade(buyer as u32, seller as u32, instrument as u32, quantity));
+    }
+    if words.is_row(b"margin", 3) {
+        let (account, rate) = words.two_numbers(ACCOUNTS, RATES)?;
+        return Ok(Op::Margin(account as u32, rate));
+    }
+    if words.is_row(b"next", 1) {
+        return Ok(Op::Next);
+    }
+    if words.is_row(b"show", 2) {
+        let account = words.one_number(ACCOUNTS)?;
+        return Ok(Op::Show(account as u32));
+    }
+    if words.is_row(b"sum", 3) {
+        let (first, last) = words.two_numbers(ACCOUNTS, ACCOUNTS)?;
+        return Ok(Op::Sum(first as u32, last as u32));
     }
     Err(Fault::Word)
 }

@@ -1,13 +1,16 @@
 //! The scripts of a text.
 
-ghost use Rattle.std.specs.Prelude.{◌≡◌, ℕ, List, ◌++◌, IfOk, MatchResult};
+ghost use Rattle.std.specs.Prelude.{◌≡◌, ℕ, List, [], ◌∷◌, ◌++◌, codes, IfOk, Err};
 ghost use Rattle.std.specs.List.{flat_map};
-ghost use Rattle.books_model.specs.declared.script.Op.{Op};
-ghost use Rattle.script_reader.specs.Text.{operation_lines, end_line, finish_line};
-ghost use Rattle.script_reader.specs.Input.{Submission, callers_of};
-ghost use Rattle.script_reader.specs.Grammar.{submission_lines};
-ghost use Rattle.script_reader.specs.Callers.{callers_in, IsEven, IsReadScript};
-ghost use Rattle.script_reader.specs.Scripts.{IsReadOf, AreReadCallers};
+ghost use Rattle.books_model.specs.Books.{ClearingBooks};
+ghost use Rattle.books_model.specs.Ranges.{IsScriptFor, AreInRange};
+ghost use Rattle.script_reader.specs.declared.fault.Fault.{Fault as AnyFault};
+ghost use Rattle.script_reader.specs.Text.{line, operation_lines, end_line};
+ghost use Rattle.script_reader.specs.Input.{Submission};
+ghost use Rattle.script_reader.specs.Grammar.{lines_so_far, lines_inside};
+ghost use Rattle.script_reader.specs.Callers.{callers_in, IsEven};
+ghost use Rattle.script_reader.specs.Faults.{IsFaultyBehind};
+ghost use Rattle.script_reader.specs.Scripts.{IsReadOf};
 
 use crate::callers::Callers;
 use crate::fault::{Fault, Refusal};
@@ -18,12 +21,16 @@ use books_model::limits::MOST_OPERATIONS;
 use books_model::{Books, Script};
 use std::alloc::Global;
 
-// The operations of a script, and the line that ends it.
+// The operations of a script, and the line that ends it. What is wrong with its lines does not depend on the scripts
+// before it, nor on its caller.
 fn script_of(alloc: Global, lines: &mut Lines<'_>, books: &Books) -> Result<Script, Refusal>
-    ensures found { IfOk result (λ script. IsReadScript books.now script × (lines.old ≡ operation_lines script ++ end_line ++ lines.new)) }
-    ensures only { (script : List Op) (after : List ℕ) → IsReadScript books.now script → lines.old ≡ operation_lines script ++ end_line ++ after
-        → MatchResult result (λ found. (found ≡ script) × (lines.new ≡ after)) (λ stop. stop ≡ Refusal.OutOfMemory) }
+    ensures range { IfOk result (λ script. IsScriptFor books.now script) }
+    ensures text { IfOk result (λ script. lines.old ≡ operation_lines script ++ (end_line ++ lines.new)) }
+    ensures fault { (why : AnyFault) → result ≡ Err (Refusal.LineFault why)
+        → (subs : List Submission) (name : List ℕ) → IsFaultyBehind (lines_inside books.now subs name []) lines.old lines.new why }
 {
+    // What holds of all books.
+    let _ = books.blocks();
     let mut script = Script::new(alloc);
     loop {
         let words = lines.words(alloc)?;
@@ -46,9 +53,10 @@ pub(crate) fn scripts_of(
 ) -> Result<Callers, Refusal>
     ensures even { IfOk result (λ callers. IsEven callers) }
     ensures found { IfOk result (λ callers. IsReadOf books.now (callers_in callers) lines.old lines.new) }
-    ensures only { (submissions : List Submission) (after : List ℕ) → AreReadCallers books.now (callers_of submissions) → lines.old ≡ flat_map submission_lines submissions ++ finish_line ++ after
-        → MatchResult result (λ found. (callers_in found ≡ callers_of submissions) × (lines.new ≡ after)) (λ stop. stop ≡ Refusal.OutOfMemory) }
+    ensures fault { (why : AnyFault) → result ≡ Err (Refusal.LineFault why) → IsFaultyBehind (lines_so_far books.now []) lines.old lines.new why }
 {
+    // What holds of all books.
+    let _ = books.blocks();
     let mut callers = Callers::new(alloc);
     loop {
         let words = lines.words(alloc)?;

@@ -1,6 +1,6 @@
 //! Whole texts, and the first fault of others.
 
-use crate::{Fault, Input, InputFault, read_input};
+use crate::{Fault, Input, InputFault, read_front, read_input};
 use books_model::Op;
 use std::test::Fail;
 
@@ -26,6 +26,19 @@ fn whole_text(rt: HostRuntime) -> Result<(), Fail> {
     assert_eq!(rt; script.len(), 2);
     assert_eq!(rt; script.at(0), Op::Deposit(7, 5));
     assert_eq!(rt; script.at(1), Op::Show(7));
+    Ok(())
+}
+
+#[test]
+fn front_of_a_longer_text(rt: HostRuntime) -> Result<(), Fail> {
+    let text = format!(in rt.alloc();
+        "{HEADER}account 7 100\nscripts\nscript ann\ndeposit 7 5\nend\nfinish\njournal\n"
+    )?;
+    let (input, end) = read_front(rt.alloc(), text.as_str().as_bytes())?;
+    assert_eq!(rt; input.books().cash(7), Some(100));
+    assert_eq!(rt; input.scripts(), 1);
+    // 38 bytes of the header, 14, 8, 11, 12, 4 and 7.
+    assert_eq!(rt; end, 94);
     Ok(())
 }
 
@@ -126,7 +139,7 @@ fn first_faults(rt: HostRuntime) {
             Fault::Word,
         ),
         (
-            "books 1 blocks 4 instruments 1 ring 1\nscripts\nscript ann\nwithdraw 1 2\n",
+            "books 1 blocks 4 instruments 1 ring 1\nscripts\nscript ann\ntry 1 2\n",
             4,
             Fault::Word,
         ),

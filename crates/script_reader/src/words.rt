@@ -1,13 +1,14 @@
 //! The words of a line.
 
-ghost use Rattle.std.specs.Prelude.{◌≡◌, ℕ, ◌<◌, ◌==◌, ◌↔◌, [], ◌∷◌, length, map, IsTrue, IfOk};
+ghost use Rattle.std.specs.Prelude.{◌≡◌, ℕ, ◌<◌, ◌==◌, ◌&&◌, true, false, min, length, map, IfOk, IfErr};
 ghost use Rattle.std.specs.List.{slice_split};
-ghost use Rattle.books_model.specs.Ranges.{IsWithin, IsAccountNumber};
+ghost use Rattle.std.specs.Str.{bytes_eq};
 ghost use Rattle.script_reader.specs.Lines.{word_at};
-ghost use Rattle.script_reader.specs.Text.{number};
+ghost use Rattle.script_reader.specs.Number.{is_number};
+ghost use Rattle.script_reader.specs.Forms.{begins, is_only, value_at};
 
 use crate::fault::Fault;
-use crate::numbers::{account_number, numeral, within};
+use crate::numbers::numeral;
 use io_ends::OutOfMemory;
 use std::alloc::{AllocError, Global};
 use std::marker::Model;
@@ -59,62 +60,33 @@ impl<'a> Words<'a> {
     // Whether the word at a place is the given one.
     pub(crate) fn is(&self, i: usize, word: &[u8]) -> bool
         requires { i < length self.now }
-        ensures { IsTrue result ↔ (word_at self.now i ≡ word.now) }
+        ensures { result ≡ bytes_eq (word_at self.now i) word.now }
     {
         self.at(i) == word
     }
 
+    // Whether the line has the given first word, and so many words.
+    pub(crate) fn is_row(&self, keyword: &[u8], len: usize) -> bool
+        requires { 0 < len }
+        ensures { result ≡ (begins keyword.now self.now && length self.now == len) }
+    {
+        !self.words.is_empty() && self.is(0, keyword) && self.len() == len
+    }
+
     // Whether the line is one word, the given one.
     pub(crate) fn is_only(&self, word: &[u8]) -> bool
-        ensures { IsTrue result ↔ (self.now ≡ word.now ∷ []) }
+        ensures { result ≡ is_only word.now self.now }
     {
-        self.len() == 1 && self.is(0, word)
+        self.is_row(word, 1)
     }
 
-    // The number that the word at a place is. It is exact below the greatest `u64`, which stands for what is greater.
+    // The number that the word at a place is, or the greatest `u64` where it is greater.
     pub(crate) fn number(&self, i: usize) -> Result<u64, Fault>
         requires { i < length self.now }
-        ensures found { IfOk result (λ n. n < u64.MAX → word_at self.now i ≡ number n) }
-        ensures only { (n : ℕ) → n < u64.MAX → word_at self.now i ≡ number n → result ≡ Ok n }
+        ensures found { IfOk result (λ n. (is_number (word_at self.now i) ≡ true) × (n ≡ min (value_at self.now i) u64.MAX)) }
+        ensures err { IfErr result (λ why. (why ≡ Fault.Number) × (is_number (word_at self.now i) ≡ false)) }
     {
         numeral(self.at(i)).ok_or(Fault::Number)
-    }
-
-    // The account number of a line of two words.
-    pub(crate) fn account(&self) -> Result<u32, Fault>
-        requires { length self.now ≡ 2 }
-        ensures found { IfOk result (λ a. IsAccountNumber a × (word_at self.now 1 ≡ number a)) }
-        ensures only { (a : ℕ) → IsAccountNumber a → word_at self.now 1 ≡ number a → result ≡ Ok a }
-    {
-        account_number(self.number(1)?)
-    }
-
-    // The account number, and the number in a range, of a line of three words.
-    pub(crate) fn account_and(&self, low: u64, high: u64) -> Result<(u32, u64), Fault>
-        requires three { length self.now ≡ 3 }
-        requires exact { high < u64.MAX }
-        ensures found { IfOk result (λ e. IsAccountNumber e.0 × IsWithin low high e.1 × (word_at self.now 1 ≡ number e.0) × (word_at self.now 2 ≡ number e.1)) }
-        ensures only { (a n : ℕ) → IsAccountNumber a → IsWithin low high n → word_at self.now 1 ≡ number a → word_at self.now 2 ≡ number n → result ≡ Ok (a, n) }
-    {
-        let account = self.number(1)?;
-        let number = self.number(2)?;
-        let account = account_number(account)?;
-        Ok((account, within(number, low, high)?))
-    }
-
-    // Two account numbers, and the number in a range, of a line of four words.
-    pub(crate) fn two_accounts_and(&self, low: u64, high: u64) -> Result<(u32, u32, u64), Fault>
-        requires four { length self.now ≡ 4 }
-        requires exact { high < u64.MAX }
-        ensures found { IfOk result (λ e. IsAccountNumber e.0 × IsAccountNumber e.1 × IsWithin low high e.2 × (word_at self.now 1 ≡ number e.0) × (word_at self.now 2 ≡ number e.1) × (word_at self.now 3 ≡ number e.2)) }
-        ensures only { (a b n : ℕ) → IsAccountNumber a → IsAccountNumber b → IsWithin low high n → word_at self.now 1 ≡ number a → word_at self.now 2 ≡ number b → word_at self.now 3 ≡ number n → result ≡ Ok (a, b, n) }
-    {
-        let from = self.number(1)?;
-        let to = self.number(2)?;
-        let number = self.number(3)?;
-        let from = account_number(from)?;
-        let to = account_number(to)?;
-        Ok((from, to, within(number, low, high)?))
     }
 }
 

@@ -6,7 +6,8 @@ use Rattle.script_reader.specs.declared.fault.Fault.{Fault}
 use Rattle.script_reader.specs.declared.fault.Fault.TheVariants as fault
 use Rattle.script_reader.specs.Text.{line, number}
 use Rattle.script_reader.specs.Input.{ClearingInput}
-use Rattle.script_reader.specs.Grammar.{Spells, IsValidInput}
+use Rattle.script_reader.specs.Grammar.{Spells}
+use Rattle.script_reader.specs.Faults.{IsFirstFault}
 use Rattle.script_reader.specs.Command.{IsRunCommand, IsValidCommand}
 use Rattle.books_report.specs.Output.{IsOutput}
 use Rattle.twoplsf.specs.declared.limits.TheConstants.{MOST_INPUT_BYTES}
@@ -53,17 +54,23 @@ fault_word fault.End = codes "end"
 abbrev pub refused_line : ℕ → Fault → List ℕ
 refused_line l why = line (codes "refused" ∷ codes "line" ∷ number l ∷ fault_word why ∷ [])
 
--- the answer to bytes: an output of the input that they spell, for one worker, or a refused line where they spell none
+-- the text refuses the first faulty line of the bytes, with the first reason that applies to it
+pub record IsRefusalOf (bytes text : List ℕ) : Type 0 where
+  pub number : ℕ
+  pub why : Fault
+  pub first : IsFirstFault bytes number why
+  pub text_is : text ≡ refused_line number why
+
+-- the answer to bytes: an output of the input that they spell, for one worker, or the refusal of their first fault
 abbrev pub IsAnswerTo : List ℕ → Answer → Type 0
 IsAnswerTo bytes (Output text) = (input : ClearingInput) × Spells bytes input × IsOutput input 1 text.items
-IsAnswerTo bytes (Refusal text) = (IsValidInput bytes → ⊥) × ((l : ℕ) × (why : Fault) × (text.items ≡ refused_line l why))
+IsAnswerTo bytes (Refusal text) = IsRefusalOf bytes text.items
 
 -- a text goes with a status, by the words and by what the source had left and has left now
 abbrev pub IsTextFor : Status → List (List ℕ) → Option (List ℕ) → Option (List ℕ) → List ℕ → Type 0
 IsTextFor status.Done words left now text = IsAtEnd now × IfSome left (λ bytes. IsOutputFor words bytes text)
 IsTextFor status.BadWords words left now text = (IsValidCommand words → ⊥) × (text ≡ refused_words)
-IsTextFor status.BadInput words left now text =
-    IsValidCommand words × IsAtEnd now × IfSome left (λ bytes. IsValidInput bytes → ⊥) × ((l : ℕ) × (why : Fault) × (text ≡ refused_line l why))
+IsTextFor status.BadInput words left now text = IsValidCommand words × IsAtEnd now × IfSome left (λ bytes. IsRefusalOf bytes text)
 IsTextFor status.TooLarge words left now text = IsValidCommand words × IfSome (count_taken left now) (λ n. n ≡ MOST_INPUT_BYTES + 1) × (text ≡ refused_size)
 IsTextFor status.Differs words left now text = ⊥
 IsTextFor status.ReadFault words left now text = ⊥

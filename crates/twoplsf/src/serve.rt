@@ -1,13 +1,15 @@
 //! The top call.
 
-ghost use Rattle.std.specs.Prelude.{◌≡◌, ◌≢◌, ◌+◌, ◌≤◌, ◌⊎◌, Some, length, map, IfSome};
+ghost use Rattle.std.specs.Prelude.{◌≡◌, ◌≢◌, ℕ, ◌+◌, ◌≤◌, ◌⊎◌, Some, length, map, IfSome};
 ghost use Rattle.std.specs.String.{string_bytes};
 ghost use Rattle.std.specs.Io.KnownBytes.{Appends, IsAtEnd};
 ghost use Rattle.io_ends.specs.Counts.{Rose};
 ghost use Rattle.io_ends.specs.Taken.{AppendsPrefix, count_taken};
 ghost use Rattle.script_reader.specs.Grammar.{IsValidInput};
+ghost use Rattle.script_reader.specs.declared.fault.Fault.{Fault};
+ghost use Rattle.script_reader.specs.Faults.{IsFirstFault};
 ghost use Rattle.script_reader.specs.Command.{IsValidCommand};
-ghost use Rattle.twoplsf.specs.Answer.{PrintsOutput, TookText};
+ghost use Rattle.twoplsf.specs.Answer.{PrintsOutput, TookText, refused_line};
 
 use crate::answer::{Answer, answer_to};
 use crate::command::workers_of;
@@ -58,7 +60,9 @@ pub fn serve<S: Source, K: Sink>(
     ensures above_limit { count_taken (S.left source.old) (S.left source.new) ≡ Some (MOST_INPUT_BYTES + 1)
         → (result ≡ Status.TooLarge) ⊎ (result ≡ Status.WriteFault) ⊎ (result ≡ Status.OutOfMemory) }
 
-    // Bytes that are no input.
+    // Bytes that are no input: the first faulty line is refused, with the first reason that applies to it.
+    ensures first_fault { result ≡ Status.BadInput → IfSome (S.left source.old) (λ bytes. (number : ℕ) (why : Fault) → IsFirstFault bytes number why
+        → Appends (K.taken sink.old) (K.taken sink.new) (refused_line number why)) }
     ensures bad_input { result ≡ Status.BadInput → IfSome (S.left source.old) (λ bytes. IsValidInput bytes → ⊥) }
     ensures bad_input_end { result ≡ Status.BadInput → IsAtEnd (S.left source.new) }
     ensures no_input { IsValidCommand (map string_bytes words.now) → IfSome (S.left source.old) (λ bytes. length bytes ≤ MOST_INPUT_BYTES → (IsValidInput bytes → ⊥)

@@ -19,6 +19,10 @@ const FIRST_OUTPUT: (&str, &str) = (
     "account 7 105\nfinish\n",
 );
 
+/// Books of four blocks, and two trades of which the second finds no block.
+const TRADES: &str =
+    "account 1 100\naccount 2 0\nprice 1 10\nposition 2 1 3\nscripts\nscript ann\ntrade 1 2 1 3\nend\nscript ann\ntrade 2 1 1 1\nend\nfinish\n";
+
 /// What a run came to, and what its sink took.
 #[derive(Drop)]
 struct Outcome {
@@ -56,7 +60,7 @@ fn served(alloc: Global, line: &str, bytes: Vec<u8>, ends: Ends) -> Result<Outco
     let mut source = MemSource::new(bytes, ends.most, vec![in alloc; ends.read_fails]?);
     let mut sink = MemSink::with_room(
         alloc,
-        100_000,
+        1_000_000,
         ends.most,
         vec![in alloc; ends.write_fails]?,
     )?;
@@ -107,6 +111,36 @@ fn scripts_are_run_and_printed(rt: HostRuntime) -> Result<(), Fail> {
             "journal\n1 ann 1 0 done ok\n2 ann 2 0 declined 1 limit\n",
             "account 1 1000000000000000\nfinish\n",
         ),
+        // a_declined_script_leaves_the_books
+        (
+            "account 1 10\nscripts\nscript ann\ndeposit 1 5\nwithdraw 1 1000\nend\nscript ann\nshow 1\nend\nfinish\n",
+            "journal\n1 ann 1 0 declined 2 cash\n2 ann 2 0 done 10\n",
+            "account 1 10\nfinish\n",
+        ),
+        // trade_of_the_last_block
+        (
+            TRADES,
+            "journal\n1 ann 1 0 done ok\n2 ann 2 0 full 1\n",
+            "account 1 70\naccount 2 30\nprice 1 10\nposition 1 1 3\nfinish\n",
+        ),
+        // margin_calls_up_to_the_queue
+        (
+            "account 1 4\nprice 1 7\nposition 1 1 3\nscripts\nscript ann\nmargin 1 27\nend\nscript ann\nmargin 1 27\nend\nscript ann\nmargin 1 19\nend\nfinish\n",
+            "journal\n1 ann 1 0 done 1\n2 ann 2 0 declined 1 queue\n3 ann 3 0 done 0\n",
+            "account 1 4\nprice 1 7\nposition 1 1 3\ncall 1 1\nfinish\n",
+        ),
+        // next_takes_a_call_of_an_absent_account
+        (
+            "call 7 9\nscripts\nscript ann\nnext\nnext\nend\nfinish\n",
+            "journal\n1 ann 1 0 done 7:9 none\n",
+            "finish\n",
+        ),
+        // sums_of_ranges
+        (
+            "account 1 1000000000000000\naccount 2 1000000000000000\naccount 5 1\nscripts\nscript ann\nsum 3 4\nsum 1 4294967295\nsum 5 1\nend\nfinish\n",
+            "journal\n1 ann 1 0 done 0 2000000000000001 0\n",
+            "account 1 1000000000000000\naccount 2 1000000000000000\naccount 5 1\nfinish\n",
+        ),
         // a declined script leaves the books, and the next one finds them so
         (
             "account 1 10\nscripts\nscript ann\ndeposit 1 5\nshow 2\nend\nscript bob\nshow 1\nend\nfinish\n",
@@ -120,6 +154,49 @@ fn scripts_are_run_and_printed(rt: HostRuntime) -> Result<(), Fail> {
         let want = text(alloc, &[journal, HEADER, books])?;
         assert_eq!(rt; run.taken.as_slice(), want.as_slice(), "{input}");
     }
+    Ok(())
+}
+
+#[test]
+fn scripts_are_run_on_other_sizes(rt: HostRuntime) -> Result<(), Fail> {
+    let alloc = rt.alloc();
+    let rows = [
+        // second_account_finds_no_block
+        (
+            "books 1 blocks 1 instruments 1 ring 1\n",
+            "scripts\nscript ann\nopen 1\nopen 2\nend\nfinish\n",
+            "journal\n1 ann 1 0 full 2\n",
+            "finish\n",
+        ),
+        // accounts_are_closed_and_opened
+        (
+            "books 1 blocks 8 instruments 1 ring 1\n",
+            "account 1 5\naccount 2 0\naccount 3 0\nprice 1 10\nposition 2 1 1\nscripts\nscript ann\nclose 1\nend\nscript ann\nclose 2\nend\nscript ann\nclose 3\nend\nscript ann\nclose 3\nend\nscript ann\nopen 1\nend\nscript ann\ntrade 1 2 1 1\nend\nscript ann\ntrade 1 2 1 2\nend\nscript ann\ntrade 1 9 1 1\nend\nfinish\n",
+            "journal\n1 ann 1 0 declined 1 cash\n2 ann 2 0 declined 1 held\n3 ann 3 0 done ok\n4 ann 4 0 declined 1 absent\n5 ann 5 0 declined 1 exists\n6 ann 6 0 declined 1 cash\n7 ann 7 0 declined 1 quantity\n8 ann 8 0 declined 1 absent\n",
+            "account 1 5\naccount 2 0\nprice 1 10\nposition 2 1 1\nfinish\n",
+        ),
+    ];
+    for (header, input, journal, books) in rows {
+        let run = served(alloc, "run 1", text(alloc, &[header, input])?, GOOD)?;
+        assert_eq!(rt; run.status, Status::Done, "{input}");
+        let want = text(alloc, &[journal, header, books])?;
+        assert_eq!(rt; run.taken.as_slice(), want.as_slice(), "{input}");
+    }
+    Ok(())
+}
+
+#[test]
+fn the_cash_of_all_accounts_is_summed(rt: HostRuntime) -> Result<(), Fail> {
+    let alloc = rt.alloc();
+    let mut input = String::from_str(alloc, "books 1 blocks 16384 instruments 1 ring 1\n")?;
+    for account in 1..=16_384u32 {
+        write!(input, "account {account} 1000000000000000\n")?;
+    }
+    input.push_str("scripts\nscript ann\nsum 1 16384\nend\nfinish\n")?;
+    let run = served(alloc, "run 1", input.into_bytes(), GOOD)?;
+    assert_eq!(rt; run.status, Status::Done);
+    let want = b"journal\n1 ann 1 0 done 16384000000000000000\nbooks ".as_slice();
+    assert!(rt; run.taken.starts_with(want));
     Ok(())
 }
 
@@ -188,15 +265,117 @@ fn one_byte_more_than_the_largest_input_is_refused(rt: HostRuntime) -> Result<()
 fn faulty_lines_are_refused(rt: HostRuntime) -> Result<(), Fail> {
     let alloc = rt.alloc();
     let rows = [
+        // lines that are missing, or come after the last one
         ("scripts\n", "refused line 3 end\n"),
-        ("account 1 1\naccount 2 01\n", "refused line 3 number\n"),
-        ("account 2 1\naccount 1 1\n", "refused line 3 order\n"),
+        ("scripts\nfinish", "refused line 3 end\n"),
         ("scripts\nfinish\nfinish\n", "refused line 4 end\n"),
+        ("scripts\nfinish\nx", "refused line 4 end\n"),
+        // kinds of line, and counts of words
+        ("account 1 1\naccount 2\n", "refused line 3 word\n"),
+        (
+            "account 1 1\nbooks 1 blocks 4 instruments 1 ring 1\n",
+            "refused line 3 word\n",
+        ),
+        ("account 1  5\n", "refused line 2 word\n"),
+        ("finish\r\n", "refused line 2 word\n"),
+        ("scripts\naccount 1 1\n", "refused line 3 word\n"),
+        ("scripts\nscript ann\ntry\nend\n", "refused line 4 word\n"),
+        (
+            "scripts\nscript abcdefghijklmnopq\n",
+            "refused line 3 word\n",
+        ),
+        // the order of kinds of line, and that of lines of a kind
+        ("price 1 1\naccount 1 1\n", "refused line 3 order\n"),
+        ("account 2 1\naccount 1 1\n", "refused line 3 order\n"),
+        ("account 2 1\naccount 2 1\n", "refused line 3 order\n"),
+        // numbers and their ranges
+        ("account 1 1\naccount 2 01\n", "refused line 3 number\n"),
+        ("account 1 -5\n", "refused line 2 number\n"),
+        (
+            "account 1 1\naccount 2 1000000000000001\n",
+            "refused line 3 limit\n",
+        ),
+        ("account 0 5\n", "refused line 2 limit\n"),
+        ("account 0 x\n", "refused line 2 number\n"),
+        ("call 1 1\ncall 2 1\n", "refused line 3 limit\n"),
+        // positions
+        ("account 1 1\nposition 2 1 1\n", "refused line 3 account\n"),
+        (
+            "account 1 5\nposition 1 1 2\nscripts\nfinish\n",
+            "refused line 3 price\n",
+        ),
+        // a row on which several reasons apply, from the first to the last
+        (
+            "account 1 1\ncall 1 1\nprice 0 0\n",
+            "refused line 4 order\n",
+        ),
     ];
     for (input, taken) in rows {
         let run = served(alloc, "run 1", text(alloc, &[HEADER, input])?, GOOD)?;
         assert_eq!(rt; run.status, Status::BadInput, "{input}");
         assert_eq!(rt; run.taken.as_slice(), taken.as_bytes(), "{input}");
     }
+    Ok(())
+}
+
+#[test]
+fn faults_in_whole_texts_are_refused(rt: HostRuntime) -> Result<(), Fail> {
+    let alloc = rt.alloc();
+    let rows = [
+        ("", "refused line 1 end\n"),
+        (
+            "books 9 blocks 4 instruments 1 ring 1\n",
+            "refused line 1 header\n",
+        ),
+        (
+            "books 1 blocks 04 instruments 1 ring 1\n",
+            "refused line 1 number\n",
+        ),
+        (
+            "books 1 blocks 16385 instruments 1 ring 1\n",
+            "refused line 1 limit\n",
+        ),
+        (
+            "books 1 blocks 1 instruments 1 ring 1\naccount 1 1\naccount 2 1\n",
+            "refused line 3 blocks\n",
+        ),
+    ];
+    for (input, taken) in rows {
+        let run = served(alloc, "run 1", text(alloc, &[input])?, GOOD)?;
+        assert_eq!(rt; run.status, Status::BadInput, "{input}");
+        assert_eq!(rt; run.taken.as_slice(), taken.as_bytes(), "{input}");
+    }
+    Ok(())
+}
+
+#[test]
+fn each_front_of_a_text_ends_too_soon(rt: HostRuntime) -> Result<(), Fail> {
+    let alloc = rt.alloc();
+    let whole = text(alloc, &[HEADER, TRADES])?;
+    for end in 0..whole.len() {
+        let front = &whole[..end];
+        let lines = front.iter().filter(|b| **b == b'\n').count() as u64;
+        let run = served(alloc, "run 1", front.to_vec(alloc)?, GOOD)?;
+        let want = format!(in alloc; "refused line {} end\n", lines.saturating_add(1))?;
+        assert_eq!(rt; run.status, Status::BadInput, "{end}");
+        assert_eq!(rt; run.taken.as_slice(), want.as_bytes(), "{end}");
+    }
+    Ok(())
+}
+
+#[test]
+fn long_numbers_and_long_scripts_are_refused(rt: HostRuntime) -> Result<(), Fail> {
+    let alloc = rt.alloc();
+    let mut number = text(alloc, &[HEADER, "account 1 "])?;
+    number.extend_from_slice(vec![in alloc; b'9'; 1_000]?.as_slice())?;
+    number.extend_from_slice(b"\n")?;
+    let run = served(alloc, "run 1", number, GOOD)?;
+    assert_eq!(rt; run.taken.as_slice(), b"refused line 2 limit\n".as_slice());
+    let mut script = text(alloc, &[HEADER, "scripts\nscript ann\n"])?;
+    for _ in 0..65 {
+        script.extend_from_slice(b"next\n")?;
+    }
+    let run = served(alloc, "run 1", script, GOOD)?;
+    assert_eq!(rt; run.taken.as_slice(), b"refused line 68 limit\n".as_slice());
     Ok(())
 }

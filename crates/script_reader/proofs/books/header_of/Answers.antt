@@ -1,13 +1,20 @@
-use Rattle.std.proofs.Common.{refl, sym, ap, ◌∙◌, arith}
-use Rattle.script_reader.specs.Text.{number}
-use Rattle.script_reader.proofs.Heading.{header_from_words}
+use Rattle.std.proofs.Common.{ap, sym, subst, ◌∙◌}
+use Rattle.books_model.specs.Books.{empty_books}
+use Rattle.books_model.specs.Ranges.{IsWithin}
+use Rattle.script_reader.specs.Text.{books_words}
+use Rattle.script_reader.proofs.Extending.{header_adds}
 use Rattle.script_reader.proofs.books.header_of.Goals as goal
 
+pub new-requires-clause-blocks : goal.new-requires-clause-blocks
+new-requires-clause-blocks c = subst (IsWithin 1 16384) (sym c.in_ok-blocks.ensures.found.0) (header_adds c.args.words.now c.in_ok-blocks.ensures.fine).in_range.blocks
+
+pub new-requires-clause-instruments : goal.new-requires-clause-instruments
+new-requires-clause-instruments c = subst (IsWithin 1 64) (sym c.in_ok-blocks.ensures.found.1) (header_adds c.args.words.now c.in_ok-blocks.ensures.fine).in_range.instruments
+
+pub new-requires-clause-ring : goal.new-requires-clause-ring
+new-requires-clause-ring c = subst (IsWithin 1 1024) (sym c.in_ok-blocks.ensures.found.2) (header_adds c.args.words.now c.in_ok-blocks.ensures.fine).in_range.ring
+
 pub returns-clause-found : goal.returns-clause-found
-returns-clause-found c = rw c.new.ensures (
-  header_from_words c.args.words.now _ _ _ (c.if-not-is_header.ensures.0 refl)
-      (c.in_ok-blocks.ensures.found (omega (arith, c.in_ok-blocks-2.ensures.range.0.1, c.from.ensures)) ∙ ap number (sym c.in_ok-blocks-2.ensures.range.1))
-      (c.in_ok-instruments.ensures.found (omega (arith, c.in_ok-instruments-2.ensures.range.0.1, c.from-2.ensures)) ∙ ap number (sym c.in_ok-instruments-2.ensures.range.1))
-      (c.in_ok-ring.ensures.found (omega (arith, c.in_ok-ring-2.ensures.range.0.1, c.from-3.ensures)) ∙ ap number (sym c.in_ok-ring-2.ensures.range.1)),
-  refl,
-)
+returns-clause-found c =
+    ap books_words (c.new.ensures ∙ (λ i. empty_books (c.in_ok-blocks.ensures.found.0 i) (c.in_ok-blocks.ensures.found.1 i) (c.in_ok-blocks.ensures.found.2 i)))
+    ∙ (header_adds c.args.words.now c.in_ok-blocks.ensures.fine).lines

@@ -1,14 +1,78 @@
-use Rattle.std.proofs.Common.{sym, subst}
+-- A whole text, or its first fault.
+use Rattle.std.proofs.Common.{◌≡◌, ◌⊎◌, inl, inr, ℕ, ◌+◌, ◌≤◌, ◌<◌, ◌==◌, List, Err, MatchResult, length, take, drop, refl, sym, ap, subst, take-append-drop, take_all, length-append, length-drop, arith}
+use Rattle.std.specs.List.{count_by}
+use Rattle.std.proofs.lemmas.Result.{err_from_is_err_and}
+use Rattle.script_reader.specs.declared.fault.Fault.{Fault as AnyFault}
+use Rattle.script_reader.specs.declared.fault.Fault.TheVariants as fault
+use Rattle.script_reader.specs.declared.fault.InputFault.TheVariants as refused
+use Rattle.script_reader.specs.declared.words.TheConstants.{LINE_FEED}
+use Rattle.script_reader.specs.Input.{ClearingInput}
 use Rattle.script_reader.specs.Grammar.{Spells}
+use Rattle.script_reader.specs.Faults.{GoesOn, IsFirstFault}
+use Rattle.script_reader.proofs.Counting.{few_of_input}
+use Rattle.script_reader.proofs.Deciding.{not_both, one_fault}
+use Rattle.script_reader.proofs.Fronting.{take_front}
+use Rattle.script_reader.proofs.OneInput.{one_input}
 use Rattle.script_reader.proofs.front.read_input.Goals as goal
 
-pub returns-in-Ok-clause-read : goal.returns-in-Ok-clause-read
-returns-in-Ok-clause-read c input h = c.in-Ok.ensures.only input (subst (λ bytes. Spells bytes input) (sym c.new-lines.ensures) h)
+-- a text that goes on begins with one of an input
+front_read : (text : List ℕ) (number : ℕ) (why : AnyFault) → (g : GoesOn text number why) → (length g.front ≤ length text) × Spells (take (length g.front) text) g.input
+front_read text number why g = (
+  omega (arith, ap length g.text_is, length-append g.front g.rest),
+  subst (λ t. Spells t g.input) (sym (take_front text g.front g.rest (length g.front) g.text_is (omega (arith, ap length g.text_is, length-append g.front g.rest)))) g.spelled,
+)
 
-pub returns-in-Err-LineFault-clause-read : goal.returns-in-Err-LineFault-clause-read
-returns-in-Err-LineFault-clause-read c input h =
-    absurd (cc (rw c.in-Err-LineFault.field-0-is at (c.in-Err-LineFault.ensures.only input (subst (λ bytes. Spells bytes input) (sym c.new-lines.ensures) h))))
+-- a text whose front is that of an input, and which is longer, goes on
+goes_on : (text : List ℕ) (end number : ℕ) (input : ClearingInput) → end < length text → Spells (take end text) input → number ≡ count_by (λ b. b == LINE_FEED) (take end text) → GoesOn text (number + 1) fault.End
+goes_on text end number input shorter h counted = record {
+  front = take end text;
+  rest = drop end text;
+  input = input;
+  text_is = sym (take-append-drop end text);
+  spelled = h;
+  some = λ none. omega (arith, ap length none, length-drop end text, shorter);
+  number_is = ap (λ n. n + 1) counted;
+  why_is = refl;
+}
 
-pub returns-in-Err-LineFault-clause-refused : goal.returns-in-Err-LineFault-clause-refused
-returns-in-Err-LineFault-clause-refused c line why e valid =
-    absurd (cc (rw c.in-Err-LineFault.field-0-is at (c.in-Err-LineFault.ensures.only valid.0 (subst (λ bytes. Spells bytes valid.0) (sym c.new-lines.ensures) valid.1))))
+pub returns-in_err-input-clause-faulty : goal.returns-in_err-input-clause-faulty
+returns-in_err-input-clause-faulty c number why h =
+    let p = err_from_is_err_and c.from_residual.result c.from_residual.ensures.1 in
+    let is : c.from_residual.result ≡ Err c.in_err-input.field-0.0 = cc (p.1, p.2) in
+    subst (λ r. MatchResult r (λ x. ⊥) (λ fault. (fault ≡ refused.Line number why) ⊎ (fault ≡ refused.OutOfMemory))) (sym is) (elim h [
+      | inl f ↦ c.in_err-input.ensures.faulty number why f
+      | inr g ↦ let front = front_read c.args.bytes.now number why g in inr (c.in_err-input.ensures.read g.input (length g.front) front.0 front.1)
+    ])
+
+pub overflow_cast-result : goal.overflow_cast-result
+overflow_cast-result c = omega (arith, c.line_feeds.ensures, few_of_input (take c.in_ok-input.end c.args.bytes.now) c.in_ok-input.input c.in_ok-input.ensures.ok.1)
+
+pub overflow_add-result : goal.overflow_add-result
+overflow_add-result c = omega (arith, c.line_feeds.ensures, few_of_input (take c.in_ok-input.end c.args.bytes.now) c.in_ok-input.input c.in_ok-input.ensures.ok.1)
+
+more : (c : goal.After-drop-input-inside-then-end-bytes-8) → GoesOn c.args.bytes.now (c.line_feeds.result + 1) fault.End
+more c = goes_on c.args.bytes.now c.in_ok-input.end c.line_feeds.result c.in_ok-input.input c.if-end-bytes.true c.in_ok-input.ensures.ok.1 c.line_feeds.ensures
+
+pub returns-then-end-bytes-clause-read : goal.returns-then-end-bytes-clause-read
+returns-then-end-bytes-clause-read c input h = absurd (not_both c.args.bytes.now (input, h) (c.line_feeds.result + 1, fault.End, inr (more c)))
+
+pub returns-then-end-bytes-clause-refused : goal.returns-then-end-bytes-clause-refused
+returns-then-end-bytes-clause-refused c number why e =
+    let same_number : c.line_feeds.result + 1 ≡ number = cc in
+    let same_reason : fault.End ≡ why = cc in
+    subst (λ n. IsFirstFault c.args.bytes.now n why) same_number (subst (IsFirstFault c.args.bytes.now (c.line_feeds.result + 1)) same_reason (inr (more c)))
+
+pub returns-then-end-bytes-clause-faulty : goal.returns-then-end-bytes-clause-faulty
+returns-then-end-bytes-clause-faulty c number why h =
+    let same = one_fault c.args.bytes.now (c.line_feeds.result + 1) number fault.End why (inr (more c)) h in
+    inl (λ i. refused.Line (same.0 i) (same.1 i))
+
+-- all was read
+all_read : (c : goal.Else-end-bytes) → Spells c.args.bytes.now c.in_ok-input.input
+all_read c = subst (λ t. Spells t c.in_ok-input.input) (take_all c.in_ok-input.end c.args.bytes.now (omega (arith, c.if-end-bytes.false))) c.in_ok-input.ensures.ok.1
+
+pub returns-clause-read : goal.returns-clause-read
+returns-clause-read c input h = one_input c.args.bytes.now c.in_ok-input.input input (all_read c) h
+
+pub returns-clause-faulty : goal.returns-clause-faulty
+returns-clause-faulty c number why h = not_both c.args.bytes.now (c.in_ok-input.input, all_read c) (number, why, h)

@@ -1,12 +1,18 @@
-use Rattle.std.proofs.Common.{length}
+use Rattle.std.proofs.Common.{◌≡◌, ◌++◌, List, length}
+use Rattle.std.specs.List.{flat_map}
+use Rattle.script_reader.specs.Text.{line}
+use Rattle.script_reader.specs.Input.{Submission, AreCallersFor, callers_of}
+use Rattle.script_reader.specs.Grammar.{submission_words}
 use Rattle.script_reader.specs.Callers.{callers_in, IsEven}
-use Rattle.script_reader.proofs.SoFar.{IsReadUpTo}
 use Rattle.script_reader.proofs.scripts.scripts_of.Given as goal
 
 abbrev pub invariant-loop-callers : goal.invariant-loop-callers
 invariant-loop-callers l = record {
   even : IsEven l.callers;
-  read : IsReadUpTo l.books (callers_in l.callers) l.initial.lines l.lines;
+  subs : List Submission;
+  made : callers_in l.callers ≡ callers_of subs;
+  valid : AreCallersFor l.books (callers_of subs);
+  text : l.initial.lines ≡ flat_map line (flat_map submission_words subs) ++ l.lines;
 }
 
 abbrev pub decreases-loop-callers : goal.decreases-loop-callers

@@ -1,12 +1,16 @@
-use Rattle.std.proofs.Common.{map, rules, ◌≡◌, ◌≤◌, ◌≢◌, ◌+◌, ◌⊎◌, length, IsSome, IfSome, refl}
+use Rattle.std.proofs.Common.{map, rules, ◌≡◌, ◌≤◌, ◌≢◌, ◌+◌, ◌⊎◌, ℕ, length, IsSome, IfSome, refl, subst, ◌∙◌}
 use Rattle.std.specs.String.{string_bytes}
 use Rattle.io_ends.specs.Counts.{Rose}
 use Rattle.io_ends.specs.Taken.{count_taken}
+use Rattle.std.specs.Io.KnownBytes.{Appends}
+use Rattle.script_reader.specs.declared.fault.Fault.{Fault}
+use Rattle.script_reader.specs.Faults.{IsFirstFault}
 use Rattle.script_reader.specs.Grammar.{IsValidInput}
 use Rattle.script_reader.specs.Command.{IsValidCommand}
 use Rattle.twoplsf.specs.declared.limits.TheConstants.{MOST_INPUT_BYTES}
 use Rattle.twoplsf.specs.declared.status.Status.TheVariants as status
-use Rattle.twoplsf.specs.Answer.{IsOutputFor, PrintsOutput, refused_words, refused_size}
+use Rattle.twoplsf.specs.Answer.{IsOutputFor, IsRefusalOf, PrintsOutput, refused_line, refused_words, refused_size}
+use Rattle.script_reader.proofs.Deciding.{not_both, one_fault}
 use Rattle.twoplsf.proofs.Served.{all_read, output_for, valid_command, written, took_text}
 use Rattle.twoplsf.proofs.serve.serve.Goals as goal
 
@@ -78,14 +82,14 @@ returns-in-Ok-Refusal-clause-text g c =
     let answer = rw (c.in-Ok-Refusal.field-0-is, c.deref.ensures.value) at c.in-Ok-Refusal.ensures in
     let some : IsSome c.workers_of.result = search rules in
     took_text c.finish-in-Ok-Refusal.result status.BadInput words left now (sink.taken c.args.sink.now) (sink.taken c.finish-in-Ok-Refusal.new.sink) c.in-Ok-Refusal.text.items _
-    (valid_command words c.workers_of.result some c.workers_of.ensures.some, c.in-Ok.ensures.end, all_read left now c.in-Ok.bytes.items (λ all. IsValidInput all → ⊥) c.in-Ok.ensures.bytes c.in-Ok.ensures.end answer.0, answer.1)
+    (valid_command words c.workers_of.result some c.workers_of.ensures.some, c.in-Ok.ensures.end, all_read left now c.in-Ok.bytes.items (λ all. IsRefusalOf all c.in-Ok-Refusal.text.items) c.in-Ok.ensures.bytes c.in-Ok.ensures.end answer)
     (rw c.deref-in-Ok-Refusal.ensures.value at c.finish-in-Ok-Refusal.ensures)
 
 pub returns-in-Ok-Refusal-clause-bad_input : goal.returns-in-Ok-Refusal-clause-bad_input
 returns-in-Ok-Refusal-clause-bad_input g c is =
     let source = g.S.Source in
     let answer = rw (c.in-Ok-Refusal.field-0-is, c.deref.ensures.value) at c.in-Ok-Refusal.ensures in
-    all_read (source.left c.args.source.now) (source.left c.read_all.new.source) c.in-Ok.bytes.items (λ all. IsValidInput all → ⊥) c.in-Ok.ensures.bytes c.in-Ok.ensures.end answer.0
+    all_read (source.left c.args.source.now) (source.left c.read_all.new.source) c.in-Ok.bytes.items (λ all. IsValidInput all → ⊥) c.in-Ok.ensures.bytes c.in-Ok.ensures.end (λ some. not_both c.in-Ok.bytes.items some (answer.number, answer.why, answer.first))
 
 pub returns-in-Ok-Refusal-clause-complete : goal.returns-in-Ok-Refusal-clause-complete
 returns-in-Ok-Refusal-clause-complete g c valid =
@@ -95,4 +99,19 @@ returns-in-Ok-Refusal-clause-complete g c valid =
     let result = c.finish-in-Ok-Refusal.result in
     all_read (source.left c.args.source.now) (source.left c.read_all.new.source) c.in-Ok.bytes.items
     (λ all. length all ≤ MOST_INPUT_BYTES → IsValidInput all → (Rose (source.faults c.args.source.now) (source.faults c.read_all.new.source) → ⊥) → (Rose (sink.faults c.args.sink.now) (sink.faults c.finish-in-Ok-Refusal.new.sink) → ⊥) → (result ≡ status.Done) ⊎ (result ≡ status.OutOfMemory))
-    c.in-Ok.ensures.bytes c.in-Ok.ensures.end (λ few some read wrote. absurd (answer.0 some))
+    c.in-Ok.ensures.bytes c.in-Ok.ensures.end (λ few some read wrote. absurd (not_both c.in-Ok.bytes.items some (answer.number, answer.why, answer.first)))
+
+pub returns-in-Ok-Refusal-clause-first_fault : goal.returns-in-Ok-Refusal-clause-first_fault
+returns-in-Ok-Refusal-clause-first_fault g c is =
+    let source = g.S.Source in
+    let sink = g.K.Sink in
+    let before = sink.taken c.args.sink.now in
+    let after = sink.taken c.finish-in-Ok-Refusal.new.sink in
+    let answer = rw (c.in-Ok-Refusal.field-0-is, c.deref.ensures.value) at c.in-Ok-Refusal.ensures in
+    let whole : c.finish-in-Ok-Refusal.result ≢ status.WriteFault = λ w. cc in
+    let printed = rw c.deref-in-Ok-Refusal.ensures.value at (written c.finish-in-Ok-Refusal.result status.BadInput _ _ _ c.finish-in-Ok-Refusal.ensures whole) in
+    all_read (source.left c.args.source.now) (source.left c.read_all.new.source) c.in-Ok.bytes.items
+    (λ all. (number : ℕ) (why : Fault) → IsFirstFault all number why → Appends before after (refused_line number why)) c.in-Ok.ensures.bytes c.in-Ok.ensures.end
+    (λ number why first.
+    let same = one_fault c.in-Ok.bytes.items answer.number number answer.why why answer.first first in
+    subst (Appends before after) (answer.text_is ∙ (λ i. refused_line (same.0 i) (same.1 i))) printed)

@@ -1,0 +1,60 @@
+use Rattle.std.proofs.Common.{◌≡◌, true, false, not, ◌||◌, ◌∷◌, [], drop, codes, sym, ap, ◌∙◌, arith}
+use Rattle.std.specs.Option.{is_some}
+use Rattle.std.specs.FinMap as map
+use Rattle.std.proofs.lemmas.Result.{err_from_is_err_and}
+use Rattle.script_reader.specs.Forms.{are_numbers, are_in_range, value_at}
+use Rattle.script_reader.proofs.Conditions.{or_false}
+use Rattle.script_reader.proofs.Printed.{is_late_in, is_low_in}
+use Rattle.script_reader.proofs.BooksFaultless.{printed}
+use Rattle.script_reader.proofs.Refusing.{reasons, numbers_first, some_is, has_no_block, account_fault}
+use Rattle.script_reader.proofs.Ranging.{first_within, row_length}
+use Rattle.script_reader.proofs.Finding.{low_found}
+use Rattle.script_reader.proofs.books.account_of.Goals as goal
+
+pub returns-then-is_past_accounts-clause-err : goal.returns-then-is_past_accounts-clause-err
+returns-then-is_past_accounts-clause-err c =
+    let b = c.args.books.now in
+    let late : is_late_in 0 (printed b) ≡ true = sym (λ i. some_is (map.entries b.prices) i || (some_is (map.entries b.positions) i || some_is b.calls i)) ∙ sym c.is_past_accounts.ensures ∙ c.if-is_past_accounts.true in
+    account_fault b c.blocks-2.ensures.range c.args.words.now c.requires
+    ∙ (λ i. reasons false (late i) (not (are_numbers (drop 1 c.args.words.now))) (not (are_in_range (drop 1 c.args.words.now) ((1, 4294967295) ∷ (0, 1000000000000000) ∷ [])) || false) (is_low_in 0 (value_at c.args.words.now 1, 0) (printed b)) false false (has_no_block b))
+
+pub returns-in_err-account-clause-err : goal.returns-in_err-account-clause-err
+returns-in_err-account-clause-err c =
+    let b = c.args.books.now in
+    let late : is_late_in 0 (printed b) ≡ false = sym (λ i. some_is (map.entries b.prices) i || (some_is (map.entries b.positions) i || some_is b.calls i)) ∙ sym c.is_past_accounts.ensures ∙ c.if-is_past_accounts.false in
+    let p = err_from_is_err_and c.from_residual.result c.from_residual.ensures.1 in
+    rw (p.1, p.2) (
+    account_fault b c.blocks-2.ensures.range c.args.words.now c.requires
+    ∙ (λ i. reasons false (late i) (not (are_numbers (drop 1 c.args.words.now))) (not (are_in_range (drop 1 c.args.words.now) ((1, 4294967295) ∷ (0, 1000000000000000) ∷ [])) || false) (is_low_in 0 (value_at c.args.words.now 1, 0) (printed b)) false false (has_no_block b))
+    ∙ numbers_first _ _ false (is_low_in 0 (value_at c.args.words.now 1, 0) (printed b)) false false (has_no_block b) _ c.in_err-account.ensures.err
+    )
+
+pub returns-then-is_some-clause-err : goal.returns-then-is_some-clause-err
+returns-then-is_some-clause-err c =
+    let b = c.args.books.now in
+    let late : is_late_in 0 (printed b) ≡ false = sym (λ i. some_is (map.entries b.prices) i || (some_is (map.entries b.positions) i || some_is b.calls i)) ∙ sym c.is_past_accounts.ensures ∙ c.if-is_past_accounts.false in
+    let found = c.in_ok-account.ensures.found in
+    let low : is_low_in 0 (value_at c.args.words.now 1, 0) (printed b) ≡ true =
+    or_false _ ∙ sym (low_found c.in_ok-account.account (value_at c.args.words.now 1) (map.entries b.accounts) (omega (arith, found.1, (first_within c.args.words.now 1 4294967295 ((0, 1000000000000000) ∷ []) (omega (arith, row_length (codes "account") 3 c.args.words.now c.requires)) found.0.in_range).0)) found.1) ∙ sym (ap is_some c.account_after.ensures.first) ∙ sym c.is_some.ensures ∙ c.if-is_some.true in
+    account_fault b c.blocks-2.ensures.range c.args.words.now c.requires
+    ∙ (λ i. reasons false (late i) (not (found.0.numbers i)) (not (found.0.in_range i) || false) (low i) false false (has_no_block b))
+
+pub returns-then-is_full-clause-err : goal.returns-then-is_full-clause-err
+returns-then-is_full-clause-err c =
+    let b = c.args.books.now in
+    let late : is_late_in 0 (printed b) ≡ false = sym (λ i. some_is (map.entries b.prices) i || (some_is (map.entries b.positions) i || some_is b.calls i)) ∙ sym c.is_past_accounts.ensures ∙ c.if-is_past_accounts.false in
+    let found = c.in_ok-account.ensures.found in
+    let low : is_low_in 0 (value_at c.args.words.now 1, 0) (printed b) ≡ false =
+    or_false _ ∙ sym (low_found c.in_ok-account.account (value_at c.args.words.now 1) (map.entries b.accounts) (omega (arith, found.1, (first_within c.args.words.now 1 4294967295 ((0, 1000000000000000) ∷ []) (omega (arith, row_length (codes "account") 3 c.args.words.now c.requires)) found.0.in_range).0)) found.1) ∙ sym (ap is_some c.account_after.ensures.first) ∙ sym c.is_some.ensures ∙ c.if-is_some.false in
+    account_fault b c.blocks-2.ensures.range c.args.words.now c.requires
+    ∙ (λ i. reasons false (late i) (not (found.0.numbers i)) (not (found.0.in_range i) || false) (low i) false false ((sym c.is_full.ensures ∙ c.if-is_full.true) i))
+
+pub returns-clause-fine : goal.returns-clause-fine
+returns-clause-fine c =
+    let b = c.args.books.now in
+    let late : is_late_in 0 (printed b) ≡ false = sym (λ i. some_is (map.entries b.prices) i || (some_is (map.entries b.positions) i || some_is b.calls i)) ∙ sym c.is_past_accounts.ensures ∙ c.if-is_past_accounts.false in
+    let found = c.in_ok-account.ensures.found in
+    let low : is_low_in 0 (value_at c.args.words.now 1, 0) (printed b) ≡ false =
+    or_false _ ∙ sym (low_found c.in_ok-account.account (value_at c.args.words.now 1) (map.entries b.accounts) (omega (arith, found.1, (first_within c.args.words.now 1 4294967295 ((0, 1000000000000000) ∷ []) (omega (arith, row_length (codes "account") 3 c.args.words.now c.requires)) found.0.in_range).0)) found.1) ∙ sym (ap is_some c.account_after.ensures.first) ∙ sym c.is_some.ensures ∙ c.if-is_some.false in
+    account_fault b c.blocks-2.ensures.range c.args.words.now c.requires
+    ∙ (λ i. reasons false (late i) (not (found.0.numbers i)) (not (found.0.in_range i) || false) (low i) false false ((sym c.is_full.ensures ∙ c.if-is_full.false) i))

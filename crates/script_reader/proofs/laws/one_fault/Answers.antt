@@ -1,0 +1,5 @@
+use Rattle.script_reader.proofs.Deciding.{one_fault}
+use Rattle.script_reader.proofs.laws.one_fault.Goals as goal
+
+pub returns : goal.returns
+returns c = one_fault

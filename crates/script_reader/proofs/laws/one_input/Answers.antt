@@ -1,0 +1,5 @@
+use Rattle.script_reader.proofs.OneInput.{one_input}
+use Rattle.script_reader.proofs.laws.one_input.Goals as goal
+
+pub returns : goal.returns
+returns c = one_input

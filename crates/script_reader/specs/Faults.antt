@@ -1,0 +1,163 @@
+-- The first fault of a text: its line, and the first reason that applies to that line beside those before it.
+-- Reasons are tried in this order, each where it can apply: header, word, order of kinds, number, limit, order of lines,
+-- account, price, blocks. `IsFirstFault` has what is beside them: a line that does not exist, or comes after the last.
+use Rattle.std.specs.Prelude.{◌≡◌, ◌≢◌, ◌⊎◌, ℕ, ◌+◌, Bool, true, false, not, ◌&&◌, ◌||◌, ◌==◌, nat_lt, nat_le, if◌then◌else◌, List, [], ◌∷◌, ◌++◌, Option, Some, None, codes, length, drop, map, filter, fold, count_by, slice_index_or}
+use Rattle.std.specs.List.{list_any, flat_map, position_or_len}
+use Rattle.std.specs.Option.{is_none}
+use Rattle.std.specs.Str.{bytes_eq}
+use Rattle.books_model.specs.declared.limits.TheConstants.{MOST_OPERATIONS}
+use Rattle.script_reader.specs.declared.limits.TheConstants.{MOST_CALLERS, MOST_SCRIPTS}
+use Rattle.script_reader.specs.declared.words.TheConstants.{LINE_FEED}
+use Rattle.script_reader.specs.declared.fault.Fault.{Fault}
+use Rattle.script_reader.specs.declared.fault.Fault.TheVariants as fault
+use Rattle.script_reader.specs.Lines.{IsFreeOf, AreWords, word_at}
+use Rattle.script_reader.specs.Text.{line}
+use Rattle.script_reader.specs.Input.{ClearingInput, first_seen}
+use Rattle.script_reader.specs.Grammar.{Spells}
+use Rattle.script_reader.specs.Forms.{Words, sizes, books_forms, script_forms, begins, is_only, form_of, ranges_of, is_header, is_script_line, size_words, value_at, are_numbers, are_in_range}
+
+-- the first reason of a list that applies
+abbrev pub first_reason : List (Bool × Fault) → Option Fault
+first_reason [] = None
+first_reason (reason ∷ reasons) = if reason.0 then Some reason.1 else first_reason reasons
+
+-- a size of the books, by its place in their header
+abbrev pub size_at : List Words → ℕ → ℕ
+size_at before i = value_at (slice_index_or before 0 []) i
+
+-- what is wrong with the first line
+abbrev pub header_fault : Words → Option Fault
+header_fault words = first_reason (
+    (not (is_header words), fault.Header)
+    ∷ (not (are_numbers (size_words words)), fault.Number)
+    ∷ (not (are_in_range (size_words words) sizes), fault.Limit)
+    ∷ []
+    )
+
+-- which kind of line of books a line is, from 0, in the order in which they stand
+abbrev pub kind_of : Words → ℕ
+kind_of words = position_or_len (λ f. begins f.keyword words) (books_forms 0)
+
+-- accounts, prices and positions take a block each
+abbrev pub takes_block : Words → Bool
+takes_block words = nat_lt (kind_of words) 3
+
+-- that by which lines of a kind rise: a number, or two of which the first goes first
+abbrev pub key_of : Words → ℕ × ℕ
+key_of words = (value_at words 1, if begins (codes "position") words then value_at words 2 else 0)
+
+abbrev pub is_below : ℕ × ℕ → ℕ × ℕ → Bool
+is_below x y = nat_lt x.0 y.0 || (x.0 == y.0 && nat_lt x.1 y.1)
+
+-- some line before is of a kind that stands behind that of this one
+abbrev pub is_late : List Words → Words → Bool
+is_late before words = list_any (λ w. nat_lt (kind_of words) (kind_of w)) (drop 1 before)
+
+-- this line takes a block, and does not rise above all of its kind before it
+abbrev pub is_low : List Words → Words → Bool
+is_low before words = list_any (λ w. takes_block w && ((kind_of w == kind_of words) && not (is_below (key_of w) (key_of words)))) (drop 1 before)
+
+-- a line before it is this kind of line for the number
+abbrev pub is_given : List Words → List ℕ → ℕ → Bool
+is_given before keyword n = list_any (λ w. begins keyword w && value_at w 1 == n) before
+
+-- what is wrong with a line before the scripts, or with the line that begins them
+abbrev pub books_fault : List Words → Words → Option Fault
+books_fault before words =
+    let form = form_of (books_forms (size_at before 5)) words in
+    first_reason (
+    (is_none form, fault.Word)
+    ∷ (is_late before words, fault.Order)
+    ∷ (not (are_numbers (drop 1 words)), fault.Number)
+    ∷ (not (are_in_range (drop 1 words) (ranges_of form)) || (begins (codes "call") words && nat_le (size_at before 7) (count_by (begins (codes "call")) before)), fault.Limit)
+    ∷ (is_low before words, fault.Order)
+    ∷ (begins (codes "position") words && not (is_given before (codes "account") (value_at words 1)), fault.Account)
+    ∷ (begins (codes "position") words && not (is_given before (codes "price") (value_at words 2)), fault.Price)
+    ∷ (takes_block words && nat_le (size_at before 3) (count_by takes_block before), fault.Blocks)
+    ∷ []
+    )
+
+-- the callers of the scripts before, in the order in which they are first seen
+abbrev pub callers_before : List Words → List (List ℕ)
+callers_before before = first_seen (map (λ w. word_at w 1) (filter (begins (codes "script")) before))
+
+-- a script of this caller would be one too many, or its caller
+abbrev pub is_beyond : List Words → List ℕ → Bool
+is_beyond before name =
+    nat_le MOST_SCRIPTS (count_by (begins (codes "script")) before)
+    || (not (list_any (bytes_eq name) (callers_before before)) && nat_le MOST_CALLERS (length (callers_before before)))
+
+-- what is wrong with a line between scripts
+abbrev pub outside_fault : List Words → Words → Option Fault
+outside_fault before words = first_reason (
+    (not (is_only (codes "finish") words || is_script_line words), fault.Word)
+    ∷ (is_script_line words && is_beyond before (word_at words 1), fault.Limit)
+    ∷ []
+    )
+
+-- how many lines stand behind the last that begins a script
+abbrev pub operations_before : List Words → ℕ
+operations_before before = fold (λ n w. if begins (codes "script") w then 0 else n + 1) 0 before
+
+-- what is wrong with a line of a script
+abbrev pub inside_fault : List Words → Words → Option Fault
+inside_fault before words =
+    let form = form_of (script_forms (size_at before 5)) words in
+    first_reason (
+    (is_none form, fault.Word)
+    ∷ (not (are_numbers (drop 1 words)), fault.Number)
+    ∷ (not (are_in_range (drop 1 words) (ranges_of form)) || (not (is_only (codes "end") words) && nat_le MOST_OPERATIONS (operations_before before)), fault.Limit)
+    ∷ []
+    )
+
+-- whether the last line before that begins or ends a script begins one
+abbrev pub is_inside : List Words → Bool
+is_inside before = fold (λ inside w. if begins (codes "script") w then true else (if is_only (codes "end") w then false else inside)) false before
+
+-- what is wrong with a line of a text, beside the lines before it
+abbrev pub fault_of : List Words → Words → Option Fault
+fault_of [] words = header_fault words
+fault_of (header ∷ lines) words =
+    if not (list_any (is_only (codes "scripts")) (header ∷ lines)) then books_fault (header ∷ lines) words
+    else (if is_inside (header ∷ lines) then inside_fault (header ∷ lines) words
+    else outside_fault (header ∷ lines) words)
+
+-- no line of a list is faulty beside the lines before it and those of the list ahead of it, and none is the last of a text
+abbrev pub AreFaultless : List Words → List Words → Type 0
+AreFaultless before [] = Unit {0}
+AreFaultless before (words ∷ more) = AreWords words × (fault_of before words ≡ None) × (is_only (codes "finish") words ≡ false) × AreFaultless (before ++ words ∷ []) more
+
+-- the text begins with a line with this fault, and goes on; or it has no whole line, which is a fault too
+abbrev pub StartsFaulty : List Words → List ℕ → List ℕ → Fault → Type 0
+StartsFaulty before text left why =
+    ((words : Words) × AreWords words × (text ≡ line words ++ left) × (fault_of before words ≡ Some why))
+    ⊎ (IsFreeOf LINE_FEED text × (left ≡ text) × (why ≡ fault.End))
+
+-- behind the lines before, the text has lines without fault, and then the fault; what is left stands behind the faulty line
+pub record IsFaultyBehind (before : List Words) (text left : List ℕ) (why : Fault) : Type 0 where
+  pub more : List Words
+  pub rest : List ℕ
+  pub faultless : AreFaultless before more
+  pub text_is : text ≡ flat_map line more ++ rest
+  pub here : StartsFaulty (before ++ more) rest left why
+
+-- the first fault of a text up to its line `finish`; lines are numbered from 1
+pub record IsFrontFault (text : List ℕ) (number : ℕ) (why : Fault) : Type 0 where
+  pub left : List ℕ
+  pub faulty : IsFaultyBehind [] text left why
+  pub number_is : number ≡ length faulty.more + 1
+
+-- the text goes on behind the line `finish`
+pub record GoesOn (text : List ℕ) (number : ℕ) (why : Fault) : Type 0 where
+  pub front : List ℕ
+  pub rest : List ℕ
+  pub input : ClearingInput
+  pub text_is : text ≡ front ++ rest
+  pub spelled : Spells front input
+  pub some : rest ≢ []
+  pub number_is : number ≡ count_by (λ b. b == LINE_FEED) front + 1
+  pub why_is : why ≡ fault.End
+
+-- the first fault of a whole text
+abbrev pub IsFirstFault : List ℕ → ℕ → Fault → Type 0
+IsFirstFault text number why = IsFrontFault text number why ⊎ GoesOn text number why
