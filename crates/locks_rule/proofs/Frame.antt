@@ -10,8 +10,8 @@ use Rattle.history_model.specs.Sets.{has, flag}
 use Rattle.history_model.specs.Table.{Knows, row_word, writer_word}
 use Rattle.history_model.specs.Views.{HasBit, HasReadGrant, HasClaim, IsScanned}
 use Rattle.locks_rule.specs.Locks.{LocksHold, IsSeat, AskedFor}
-use Rattle.locks_rule.proofs.SetLemmas.{differ, not_true}
-use Rattle.locks_rule.proofs.Places.{same_view, put_here, put_there, put_cases}
+use Rattle.history_model.proofs.SetLemmas.{differ, not_true}
+use Rattle.history_model.proofs.Places.{same_view, put_here, put_there, put_cases}
 
 -- what one step owes
 pub record Moves (n : ℕ) (ws ws' : List ℕ) (v w : View) : Type 0 where

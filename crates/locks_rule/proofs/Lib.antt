@@ -1,6 +1,4 @@
-pub mod SetLemmas
 pub mod Bits
-pub mod Places
 pub mod Frame
 pub mod Own
 pub mod Readers

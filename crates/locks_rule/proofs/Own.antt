@@ -12,9 +12,9 @@ use Rattle.history_model.specs.Sets.{has, flag}
 use Rattle.history_model.specs.Table.{Knows, row_word, writer_word, table_words}
 use Rattle.history_model.specs.Views.{HasBit, HasReadGrant, HasClaim, IsScanned}
 use Rattle.locks_rule.specs.Locks.{LocksHold, IsSeat, AskedFor}
-use Rattle.locks_rule.proofs.SetLemmas.{differ, bool_cases, has-one, has-join, has-join_same, has-join_old}
+use Rattle.history_model.proofs.SetLemmas.{differ, bool_cases, has-one, has-join, has-join_same, has-join_old}
 use Rattle.locks_rule.proofs.Bits.{put_same, put_other}
-use Rattle.locks_rule.proofs.Places.{same_view}
+use Rattle.history_model.proofs.Places.{same_view}
 use Rattle.locks_rule.proofs.Frame.{moves}
 
 -- the one number of a pass

@@ -15,7 +15,7 @@ use Rattle.history_model.specs.Views.{HasBit}
 use Rattle.locks_rule.specs.Actions.{Keeps}
 use Rattle.locks_rule.specs.Locks.{LocksHold}
 use Rattle.locks_rule.specs.Steps.{MaySetReadBit, MayClearReadBit, MayLoadWriter, set_read_bit_action, clear_read_bit_action, load_writer_action, after_asking, after_meeting, is_free, released_phase}
-use Rattle.locks_rule.proofs.SetLemmas.{has-join, has-join_same, has-join_other, has-join_old, has-without, has-without_same, has-without_other}
+use Rattle.history_model.proofs.SetLemmas.{has-join, has-join_same, has-join_other, has-join_old, has-without, has-without_same, has-without_other}
 use Rattle.locks_rule.proofs.Bits.{raise_here, raise_there, lower_here, lower_there}
 use Rattle.locks_rule.proofs.Frame.{moves}
 use Rattle.locks_rule.proofs.Own.{more_asked, now_asked, lock_near, named, own_claim, quiet, writer_same, past_row, other_row, row_after, holder_met, unclaimed}

@@ -8,8 +8,8 @@ use Rattle.history_model.specs.Table.{Knows}
 use Rattle.history_model.specs.Views.{number, HasClaim}
 use Rattle.locks_rule.specs.Locks.{LocksHold, IsSeat}
 use Rattle.locks_rule.specs.Splits.{KeepsSplit, MaySplitSeat, left_by_split, given_by_split}
-use Rattle.locks_rule.proofs.SetLemmas.{differ, not_true, empty-has, has-nil, has-one, has-join_same, has-without, has-without_other}
-use Rattle.locks_rule.proofs.Places.{same_view, put_here, put_there, put_cases, added_here, added_there, added_cases}
+use Rattle.history_model.proofs.SetLemmas.{differ, not_true, empty-has, has-nil, has-one, has-join_same, has-without, has-without_other}
+use Rattle.history_model.proofs.Places.{same_view, put_here, put_there, put_cases, added_here, added_there, added_cases}
 
 -- what both parts of a view that is cut have in common
 record IsPart (n : ℕ) (v u : View) : Type 0 where

@@ -12,7 +12,7 @@ use Rattle.history_model.specs.Views.{HasClaim}
 use Rattle.locks_rule.specs.Actions.{Keeps}
 use Rattle.locks_rule.specs.Locks.{LocksHold, IsSeat, Excludes}
 use Rattle.locks_rule.specs.Steps.{MayClaimWriter, MayScanRow, MayReleaseWriter, claim_writer_action, scan_row_action, release_writer_action, after_asking, after_meeting}
-use Rattle.locks_rule.proofs.SetLemmas.{differ, not_true, has-join, has-join_same, has-join_old, has-without, has-without_other, pair-join, pair-without_same, pair-without_other}
+use Rattle.history_model.proofs.SetLemmas.{differ, not_true, has-join, has-join_same, has-join_old, has-without, has-without_other, pair-join, pair-without_same, pair-without_other}
 use Rattle.locks_rule.proofs.Frame.{moves}
 use Rattle.locks_rule.proofs.Own.{own_number, is_own, not_own, other_number, more_asked, now_asked, lock_near, named, own_claim, quiet, so_many, writer_same, past_writer, other_writer, this_writer, holder_met, own_word}
 use Rattle.locks_rule.proofs.Readers.{running_busy, released_busy}

@@ -10,7 +10,7 @@ use Rattle.history_model.specs.Locks.{lock_of_word}
 use Rattle.history_model.specs.Sets.{has, without_first}
 use Rattle.history_model.specs.Views.{number, HasBit, HasReadGrant, HasClaim, IsScanned, IsGranted}
 use Rattle.locks_rule.specs.Steps.{is_free, set_read_bit_action, load_writer_action, claim_writer_action, scan_row_action, after_asking, after_meeting}
-use Rattle.locks_rule.proofs.SetLemmas.{differ, bool_cases, has-join_same, pair-join_same}
+use Rattle.history_model.proofs.SetLemmas.{differ, bool_cases, has-join_same, pair-join_same}
 use Rattle.locks_rule.proofs.Own.{other_number}
 use Rattle.locks_rule.proofs.Readers.{free_cases}
 use Rattle.word_table.specs.declared.answer.Shared.{Shared}

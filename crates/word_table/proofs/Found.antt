@@ -11,7 +11,7 @@ use Rattle.history_model.specs.Table.{Knows, row_word, writer_word}
 use Rattle.history_model.specs.Views.{HasClaim}
 use Rattle.locks_rule.specs.Locks.{LocksHold}
 use Rattle.locks_rule.specs.Steps.{set_read_bit_action, clear_read_bit_action}
-use Rattle.locks_rule.proofs.SetLemmas.{bool_cases}
+use Rattle.history_model.proofs.SetLemmas.{bool_cases}
 use Rattle.locks_rule.proofs.Own.{own_word, writer_same, own_seat, so_many}
 use Rattle.word_table.specs.declared.limits.TheConstants.{MOST_PASSES}
 use Rattle.word_table.specs.Copies.{Shows}

@@ -4,7 +4,7 @@ use Rattle.std.specs.Prelude.{IsTrue, IfSome, Option, Some, None}
 use Rattle.history_model.specs.declared.TheConstants.{LOCKS}
 use Rattle.history_model.specs.declared.view.View.{View}
 use Rattle.history_model.specs.Sets.{has, has_pair}
-use Rattle.locks_rule.proofs.SetLemmas.{differ}
+use Rattle.history_model.proofs.SetLemmas.{differ}
 use Rattle.locks_rule.proofs.Own.{own_number, other_number}
 use Rattle.word_table.specs.Copies.{Shows}
 use Rattle.word_table.specs.Least.{IsLeast}

@@ -8,7 +8,7 @@ use mathlib.Core.Logic.{dite}
 use native.Mathlib.Decide.{ℕ_discrete}
 use Rattle.history_model.specs.declared.TheConstants.{LOCKS}
 use Rattle.history_model.specs.Sets.{has, without, has_pair, without_first, flag}
-use Rattle.locks_rule.proofs.SetLemmas.{has-join, has-join_same, has-join_other, has-without, has-without_same, has-without_other, pair-join_same, pair-join_other, pair-without_same, pair-without_other}
+use Rattle.history_model.proofs.SetLemmas.{has-join, has-join_same, has-join_other, has-without, has-without_same, has-without_other, pair-join_same, pair-join_other, pair-without_same, pair-without_other}
 use Rattle.locks_rule.proofs.Bits.{put_same, put_other, raise_here, raise_there, lower_here, lower_there}
 use Rattle.word_table.specs.Copies.{Shows, ShowsPairs}
 

@@ -6,7 +6,7 @@ use Rattle.history_model.specs.Locks.{lock_of_word}
 use Rattle.history_model.specs.Sets.{has, without_first}
 use Rattle.history_model.specs.Views.{number, HasBit, HasReadGrant, HasClaim, IsGranted}
 use Rattle.locks_rule.specs.Steps.{is_free, set_read_bit_action, clear_read_bit_action, load_writer_action, claim_writer_action, scan_row_action, release_writer_action, after_asking, after_meeting}
-use Rattle.locks_rule.proofs.SetLemmas.{differ, has-join_old, has-without_same, pair-join_old, pair-without_other}
+use Rattle.history_model.proofs.SetLemmas.{differ, has-join_old, has-without_same, pair-join_old, pair-without_other}
 use Rattle.word_table.specs.declared.answer.Shared.{Shared}
 use Rattle.word_table.specs.declared.answer.Claimed.{Claimed}
 use Rattle.word_table.specs.declared.answer.Scanned.{Scanned}

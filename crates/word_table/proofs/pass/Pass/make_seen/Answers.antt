@@ -2,7 +2,7 @@ use Rattle.std.proofs.Common.{subst, sym}
 use Rattle.history_model.specs.declared.view.View.{View}
 use Rattle.history_model.specs.Locks.{lock_of_word}
 use Rattle.history_model.specs.Views.{HasBit, IsGranted}
-use Rattle.locks_rule.proofs.SetLemmas.{has-join_same}
+use Rattle.history_model.proofs.SetLemmas.{has-join_same}
 use Rattle.word_table.proofs.pass.Pass.make_seen.Goals as goal
 
 pub returns-clause-bit : goal.returns-clause-bit
