@@ -1,7 +1,13 @@
--- traces and what they leave
+-- traces, what they leave, and how their writes are undone
 pub mod TraceLaws
 pub mod LastEvents
 pub mod FittingLaws
+pub mod UndoLaws
+pub mod ReplayLaws
+pub mod HistoryLaws
 -- sets, and views by their places
 pub mod SetLemmas
 pub mod Places
+pub mod Changes
+-- the table's words
+pub mod TableLaws

@@ -7,3 +7,6 @@ pub mod Views
 pub mod Table
 pub mod Conflicts
 pub mod Histories
+pub mod Legal
+pub mod Undoing
+pub mod Places

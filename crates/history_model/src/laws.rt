@@ -1,8 +1,12 @@
-//! The laws of traces, each the contract of a function that does nothing.
+//! The laws of traces, histories and the table's words, each the contract of a function that does nothing.
 //!
-//! A proof cites a law by calling its function, or the lemma of `proofs/TraceLaws` behind it.
+//! A proof cites a law by calling its function, or the lemma of `proofs/` behind it.
 
-ghost use Rattle.history_model.specs.Statements.{AppendedAfter, AppendedLegal, KeptLength, LegalByPlaces, LastEventStands, LastWriteStands, UnwrittenStays, TouchedByLast};
+ghost use Rattle.history_model.specs.Statements.{AppendedAfter, AppendedLegal, KeptLength, LegalByPlaces, LastEventStands, LastWriteStands, UnwrittenStays, TouchedByLast, WritesUndone, NotedWrite, AppendedReplay, LastReplayed, WordsApart, LongestSeen, LegalPrefix, LegalOneMore, LegalLeavesGood, FewAttempts};
+ghost use Rattle.std.specs.Prelude.{◌≡◌};
+ghost use Rattle.history_model.specs.declared.TheConstants.{LOCKS};
+
+use crate::shape::Shape;
 
 /// What an appended trace leaves is what its second part leaves of what its first part leaves.
 pub fn appended_after()
@@ -42,4 +46,60 @@ pub fn unwritten_stays()
 /// A trace has a last event on exactly the words that it touches.
 pub fn touched_by_last()
     ensures { TouchedByLast }
+{}
+
+/// The notes of a trace's writes, written back newest first, restore the words.
+pub fn writes_undone()
+    ensures { WritesUndone }
+{}
+
+/// A write that is noted last and written back first leaves what the earlier notes, written back, leave.
+pub fn noted_write()
+    ensures { NotedWrite }
+{}
+
+/// The second part of a history is replayed on what its first part leaves.
+pub fn appended_replay()
+    ensures { AppendedReplay }
+{}
+
+/// The last entry of a history does its writes where it was kept, and leaves the words where it was not.
+pub fn last_replayed()
+    ensures { LastReplayed }
+{}
+
+/// The words of the shared table are different words: each name's range stands behind the one before it, and within
+/// its range each has a word of its own.
+pub fn words_apart()
+    ensures { WordsApart }
+{}
+
+/// The committed history is a longest that some view has seen.
+pub fn longest_seen()
+    ensures { LongestSeen }
+{}
+
+/// A prefix of a legal history is legal.
+pub fn legal_prefix<S: Shape>()
+    ensures { (shape : _) → LegalPrefix (S.good shape) }
+{}
+
+/// A legal history with one more legal entry is legal.
+pub fn legal_one_more<S: Shape>()
+    ensures { (shape : _) → LegalOneMore (S.good shape) }
+{}
+
+/// Each prefix of a legal history leaves good words.
+pub fn legal_leaves_good<S: Shape>()
+    ensures { (shape : _) → LegalLeavesGood (S.good shape) }
+{}
+
+/// A call has fewer abandoned attempts than there are seats: each gave way to another seat, and no two to the same.
+pub fn few_attempts()
+    ensures { FewAttempts }
+{}
+
+/// How many locks the words share, in digits.
+pub fn number_of_locks()
+    ensures { LOCKS ≡ 1024 }
 {}

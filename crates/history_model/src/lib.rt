@@ -3,9 +3,10 @@
 //! It has definitions and laws alone, and nothing of it runs but `lock_of`. The definitions stand in `specs/`:
 //! `Traces` says what a trace leaves of a word list and where it is legal, `Fitting` which word lists are good
 //! and what holds in each that fits a trace, `Locks` which lock a word has, `Views` what a seat of the shared table
-//! holds of a lock, `Table` where the table's words stand, `Conflicts` when two calls are in conflict, and
-//! `Histories` what a committed history leaves of the words. Legal traces and the opacity that is built on them are
-//! of Guerraoui and Kapalka, "On the correctness of transactional memory" (PPoPP 2008), here for words.
+//! holds of a lock, `Table` where the table's words stand, `Conflicts` when two calls are in conflict, `Histories`
+//! what a committed history leaves of the words, `Legal` which histories are legal, and `Undoing` what an undo log
+//! restores. Legal traces and the opacity that is built on them are of Guerraoui and Kapalka, "On the correctness of
+//! transactional memory" (PPoPP 2008), here for words. `laws` has what follows from the definitions.
 #![tactic(auto)]
 
 ghost use Rattle.std.specs.Prelude.{◌≡◌, ◌<◌};

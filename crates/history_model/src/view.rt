@@ -40,7 +40,7 @@ pub struct View {
     pub seats: u32,
     /// The numbers of the seats behind this view.
     pub who: LinkedList<u32>,
-    /// Whether the view took in another's.
+    /// Whether the view took in another's numbers. One that took in a note's history alone did not.
     pub joined: bool,
     /// The committed history as far as it is known, oldest entry first.
     pub seen: LinkedList<Entry>,
