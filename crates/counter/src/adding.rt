@@ -1,7 +1,7 @@
 //! A call on any words, with the contract that a collection's call has.
 
-ghost use Rattle.std.specs.Prelude.{◌<◌, OnOk};
-ghost use Rattle.txn_words.specs.Calls.{IsReady, GoesOn, InEachState, LeadsTo};
+ghost use Rattle.std.specs.Prelude.{◌≡◌, ◌<◌, OnOk};
+ghost use Rattle.txn_words.specs.Calls.{IsReady, GoesOn, WritesOnly, ReadsOnly, InEachState, LeadsTo};
 ghost use Rattle.counter.specs.Counting.{HasRoom, AddsTo};
 
 use txn_words::{Stop, Words};
@@ -12,6 +12,10 @@ pub fn add_to<W: Words>(w: &mut W, a: u64, by: u64) -> Result<(), Stop>
     requires within { a < W.Shape.word_count (W.shape w.old) }
     requires room { InEachState W.Words W.Shape.Shape w.old (HasRoom a by) }
     ensures added { OnOk result (LeadsTo W.Words W.Shape.Shape w.old w.new (AddsTo a by)) }
+
+    // No word but this one is written or read.
+    ensures frame { OnOk result (WritesOnly W.Words w.old w.new (λ b. b ≡ a)) }
+    ensures reads { OnOk result (ReadsOnly W.Words w.old w.new (λ b. b ≡ a)) }
     ensures goes_on { GoesOn W.Words w.old w.new result }
 {
     let v = w.read(a)?;

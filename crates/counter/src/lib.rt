@@ -12,4 +12,4 @@ pub mod on_plain;
 pub use add_all::AddAll;
 pub use adding::add_to;
 pub use increment::{CounterShape, Increment};
-pub use on_plain::{Counted, increment_plain, run_on_plain};
+pub use on_plain::{Counted, increment_plain};

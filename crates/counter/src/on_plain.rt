@@ -1,37 +1,12 @@
-//! Jobs on a plain list.
+//! The counter's jobs on a plain list.
 
-ghost use Rattle.std.specs.Prelude.{◌≡◌, true, false, IfOk, length};
-ghost use Rattle.history_model.specs.Traces.{after};
-ghost use Rattle.history_model.specs.Fitting.{IsGood};
-ghost use Rattle.txn_words.specs.Verdicts.{is_kept, answer_of};
+ghost use Rattle.std.specs.Prelude.{◌≡◌, false, IfOk, length};
 ghost use Rattle.counter.specs.Counting.{Counts};
 
 use crate::increment::{CounterShape, Increment};
-use history_model::Shape;
 use io_ends::OutOfMemory;
 use std::alloc::Global;
-use txn_words::{Job, Plain, Stop, Verdict};
-
-/// Runs a job on a good list of its shape, and gives its verdict with the words as the job left them, reverted or not.
-pub fn run_on_plain<S: Shape, J: Job<Shape = S>>(
-    alloc: Global,
-    shape: S,
-    words: Vec<u64>,
-    job: &J,
-) -> Result<(Verdict<J::Answer>, Plain<S>), OutOfMemory>
-    requires good { IsGood (S.word_count shape) (S.good shape) words.items }
-    requires job { J.shape job.now ≡ shape }
-    ensures origin { IfOk result (λ r. r.1.origin ≡ words.items) }
-    ensures meaning { IfOk result (λ r. J.means job.now words.items (is_kept r.0) (answer_of r.0) (after r.1.trace words.items)) }
-    ensures kept_good { IfOk result (λ r. is_kept r.0 ≡ true → S.good shape (after r.1.trace words.items)) }
-{
-    let mut plain = Plain::new(alloc, shape, words);
-    match job.run(&mut plain) {
-        Ok(verdict) => Ok((verdict, plain)),
-        Err(Stop::Memory) => Err(OutOfMemory),
-        Err(Stop::Yield) => unreachable!(),
-    }
-}
+use txn_words::{Verdict, run_on_plain};
 
 /// What came of adding one: whether it was kept, what the counter was, and the words afterwards.
 #[derive(Debug, Drop)]
@@ -53,12 +28,12 @@ pub fn increment_plain(alloc: Global, words: &[u64]) -> Result<Counted, OutOfMem
         Verdict::Keep(answer) => Ok(Counted {
             kept: true,
             answer,
-            words: Vec::from_slice(alloc, plain.words())?,
+            words: plain.into_words(),
         }),
         Verdict::Revert(answer) => Ok(Counted {
             kept: false,
             answer,
-            words: Vec::from_slice(alloc, words)?,
+            words: plain.into_origin(),
         }),
     }
 }

@@ -1,9 +1,9 @@
 -- From what a call on words did to what holds after it.
-use Rattle.std.proofs.Common.{◌≡◌, ℕ, List, [], subst}
+use Rattle.std.proofs.Common.{◌≡◌, ℕ, List, [], sym, subst}
 use Rattle.history_model.specs.declared.shape.Shape.{Ghosts as Shapes}
 use Rattle.history_model.specs.Traces.{after, Begins}
 use Rattle.history_model.specs.Fitting.{Fits, InEach, Leads}
-use Rattle.history_model.proofs.FittingLaws.{fits_begins, after_call, leads_at}
+use Rattle.history_model.proofs.FittingLaws.{fits_begins, after_call, leads_at, each_at}
 use Rattle.txn_words.specs.declared.words.Words.{Ghosts as AnyWords}
 use Rattle.txn_words.specs.Calls.{InEachState, LeadsTo}
 
@@ -37,3 +37,8 @@ module _ {W S O : Type 0} (words : AnyWords W S O) (shapes : Shapes S) where
       → (s : List ℕ) → Fits (shapes.word_count (words.shape v)) (shapes.good (words.shape v)) (words.trace w) s → R s (after (words.trace w) s)
   unfolding after
   leads_from_start v w R e leads s fit = subst (λ t. R (after t s) (after (words.trace w) s)) e (leads.at s fit)
+
+  -- what holds after a call in every state, under the shape as it leaves it
+  pub state_at : (v w : W) (P : List ℕ → Type 0) → words.shape w ≡ words.shape v
+      → InEach (shapes.word_count (words.shape v)) (shapes.good (words.shape v)) (words.trace w) P → InEachState words shapes w P
+  state_at v w P e h = record { at = (each_at shapes.word_count shapes.good (words.trace w) P (words.shape v) (words.shape w) (sym e) h).at }

@@ -1,5 +1,5 @@
 -- The frame of a call: step by step, and what it says of the words that the call may not write.
-use Rattle.std.proofs.Common.{◌≡◌, ℕ, zero, suc, List, [], ◌∷◌, ◌++◌, ◌⊎◌, inl, inr, slice_get, Some, refl, sym, ap, ◌∙◌, subst}
+use Rattle.std.proofs.Common.{◌≡◌, ℕ, zero, suc, List, [], ◌∷◌, ◌++◌, length, ◌⊎◌, inl, inr, slice_get, Some, refl, sym, ap, ◌∙◌, subst}
 use Rattle.std.proofs.lemmas.List.{append_assoc, append-nil}
 use Rattle.std.proofs.lemmas.Option.{same_Some}
 use Rattle.history_model.specs.declared.shape.Shape.{Ghosts as Shapes}
@@ -34,6 +34,13 @@ writes_one x a w = at (w.0) (w.1) (w.2)
 place : Event → ℕ
 place (Read a v) = a
 place (Write a v) = a
+
+-- what appended events do not write stays
+pub appended_keeps : (t u : Trace) (s : List ℕ) → (length (after (t ++ u) s) ≡ length (after t s)) × ((a : ℕ) → ¬ Writes u a → slice_get (after (t ++ u) s) a ≡ slice_get (after t s) a)
+appended_keeps t u s = (
+  length-after (t ++ u) s ∙ sym (length-after t s),
+  λ a not_written. ap (λ z. slice_get z a) (after-append t u s) ∙ unwritten_stays u (after t s) a not_written,
+)
 
 module _ (IsOwn : ℕ → Type 0) where
   -- no event more
@@ -70,12 +77,12 @@ module _ (IsOwn : ℕ → Type 0) where
 
   -- words that are not its own stay, from every list
   pub only_keeps : (t u : Trace) (s : List ℕ) → AppendsOnly t u IsOwn → KeepsOthers IsOwn (after t s) (after u s)
-  only_keeps t u s f = record {
-    count = length-after u s ∙ sym (length-after t s);
-    same = λ a not_own.
-        ap (λ z. slice_get (after z s) a) f.whole ∙ ap (λ z. slice_get z a) (after-append t f.more s)
-        ∙ unwritten_stays f.more (after t s) a (λ w. not_own (f.own a w));
-  }
+  only_keeps t u s f =
+      let k = appended_keeps t f.more s in
+      record {
+        count = ap (λ z. length (after z s)) f.whole ∙ k.0;
+        same = λ a not_own. ap (λ z. slice_get (after z s) a) f.whole ∙ k.1 a (λ w. not_own (f.own a w));
+      }
 
 -- a call that may write less may write more
 pub only_more : (IsOwn IsWider : ℕ → Type 0) (t u : Trace) → ((a : ℕ) → IsOwn a → IsWider a) → AppendsOnly t u IsOwn → AppendsOnly t u IsWider

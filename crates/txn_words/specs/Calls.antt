@@ -27,6 +27,10 @@ module _ {W S O : Type 0} (words : AnyWords W S O) where
   pub record WritesOnly (old new : W) (IsOwn : ℕ → Type 0) : Type 0 where
     pub appended : AppendsOnly (words.trace old) (words.trace new) IsOwn
 
+  -- what a call reads: each read among the events that it appended is at a word that IsSeen holds of
+  pub record ReadsOnly (old new : W) (IsSeen : ℕ → Type 0) : Type 0 where
+    pub appended : AppendsReads (words.trace old) (words.trace new) IsSeen
+
   module _ (shapes : Shapes S) where
     -- P holds in every good state that fits the trace
     pub record InEachState (w : W) (P : List ℕ → Type 0) : Type 0 where

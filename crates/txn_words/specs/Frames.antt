@@ -1,6 +1,6 @@
 -- Which words a call may write, and what it leaves of the others.
 -- `WritesOnly` of `Calls` says the first of a call, and `LeadsTo .. (KeepsOthers IsOwn)` the second.
-use Rattle.std.specs.Prelude.{◌≡◌, ℕ, List, ◌++◌, length, slice_get, Some, Bool, IsTrue}
+use Rattle.std.specs.Prelude.{◌≡◌, ℕ, List, ◌++◌, length, slice_get, Some}
 use Rattle.history_model.specs.declared.event.Event.TheVariants.{Read}
 use Rattle.history_model.specs.Traces.{Trace, after, Writes}
 
@@ -25,8 +25,9 @@ pub record KeepsOthers (IsOwn : ℕ → Type 0) (old new : List ℕ) : Type 0 wh
   pub count : length new ≡ length old
   pub same : (a : ℕ) → ¬ IsOwn a → slice_get new a ≡ slice_get old a
 
--- the law of the frame, for words that a test tells: what was not written is after the call what it was before
+-- the law of the frame: what the events that a call appended do not write is after the call what it was before
 abbrev pub OthersStand : Type 0
 OthersStand =
-    (old new : Trace) (is_own : ℕ → Bool) (words : List ℕ)
-    → AppendsOnly old new (λ a. IsTrue (is_own a)) → KeepsOthers (λ a. IsTrue (is_own a)) (after old words) (after new words)
+    (old more : Trace) (words : List ℕ)
+    → (length (after (old ++ more) words) ≡ length (after old words))
+    × ((a : ℕ) → ¬ Writes more a → slice_get (after (old ++ more) words) a ≡ slice_get (after old words) a)

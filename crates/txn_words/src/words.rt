@@ -8,6 +8,7 @@ ghost use Rattle.txn_words.specs.declared.words.Stop.{Stop};
 ghost use Rattle.txn_words.specs.Steps.{EndsWithWrite, stop_after};
 
 use history_model::Shape;
+use io_ends::OutOfMemory;
 
 /// Why a transaction has to be given up. Whoever is given one hands the words back, and calls nothing more of them.
 #[derive(Clone, Copy, Debug, PartialEq, Eq)]
@@ -16,6 +17,19 @@ pub enum Stop {
     Yield,
     /// No memory was found.
     Memory,
+}
+
+impl From<OutOfMemory> for Stop {
+    ghost use Rattle.std.specs.Prelude.{◌≡◌};
+    ghost use Rattle.txn_words.specs.declared.words.Stop.TheVariants.{Memory};
+
+    fn from(_: OutOfMemory) -> Self
+        ensures { result ≡ Memory }
+    {
+        Stop::Memory
+    }
+
+    ghost from_gives = { λ _ stop. stop ≡ Memory };
 }
 
 /// The words that a transaction sees, with the trace of all that it did to them.

@@ -25,6 +25,15 @@ impl Model for UndoLog {
 }
 
 impl UndoLog {
+    /// An empty log, made without memory. What is noted in it wants memory from the first pair on.
+    pub fn new(alloc: Global) -> UndoLog
+        ensures empty { result.list ≡ [] }
+    {
+        UndoLog {
+            entries: Vec::new(alloc),
+        }
+    }
+
     /// An empty log that takes `n` pairs without memory.
     pub fn with_room(alloc: Global, n: usize) -> Result<UndoLog, OutOfMemory>
         ensures empty { IfOk result (λ log. log.list ≡ []) }
@@ -97,7 +106,7 @@ mod tests {
 
     #[test]
     fn undo_log_grows_past_its_room(rt: HostRuntime) -> Result<(), Fail> {
-        let mut log = UndoLog::with_room(rt.alloc(), 0)?;
+        let mut log = UndoLog::new(rt.alloc());
         for i in 0..100u64 {
             log.note(i, i)?;
         }

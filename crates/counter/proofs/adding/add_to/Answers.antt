@@ -1,7 +1,9 @@
-use Rattle.std.proofs.Common.{◌+◌, ◌<◌, ◌^◌, arith}
+use Rattle.std.proofs.Common.{◌≡◌, ◌+◌, ◌<◌, ◌^◌, refl, arith}
 use Rattle.history_model.specs.Fitting.{SomeFits}
 use Rattle.history_model.proofs.FittingLaws.{some_at}
 use Rattle.txn_words.proofs.CallLaws.{each_plain}
+use Rattle.txn_words.proofs.FrameLaws.{only_read, only_write, only_then}
+use Rattle.txn_words.proofs.ReadLaws.{sees_read, sees_write, sees_then}
 use Rattle.counter.proofs.Sums.{sum_fits, sum_adds}
 use Rattle.counter.proofs.adding.add_to.Goals as goal
 
@@ -16,3 +18,13 @@ overflow_add-v g c =
 
 pub returns-clause-added : goal.returns-clause-added
 returns-clause-added g c = record { at = (sum_adds _ _ _ _ c.args.a c.in_ok-v.v c.in_ok-v.ensures.value _ c.args.by c.in_ok-write.ensures.value).at }
+
+pub returns-clause-frame : goal.returns-clause-frame
+returns-clause-frame g c = record {
+  appended = only_then (λ b. b ≡ c.args.a) _ _ _ (only_read (λ b. b ≡ c.args.a) _ _ c.args.a c.in_ok-v.v c.in_ok-v.ensures.value) (only_write (λ b. b ≡ c.args.a) _ _ c.args.a (c.in_ok-v.v + c.args.by) c.in_ok-write.ensures.value refl);
+}
+
+pub returns-clause-reads : goal.returns-clause-reads
+returns-clause-reads g c = record {
+  appended = sees_then (λ b. b ≡ c.args.a) _ _ _ (sees_read (λ b. b ≡ c.args.a) _ _ c.args.a c.in_ok-v.v c.in_ok-v.ensures.value refl) (sees_write (λ b. b ≡ c.args.a) _ _ c.args.a (c.in_ok-v.v + c.args.by) c.in_ok-write.ensures.value refl);
+}
