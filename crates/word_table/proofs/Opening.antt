@@ -45,7 +45,7 @@ one_view v zero u e = (refl, some-injective v u e)
 one_view v (suc id) u e = absurd (some-ne-none u (sym e))
 
 -- at the start no lock is held, and one view has all numbers
-opening_locks : (n : ℕ) (base : List ℕ) → LocksHold n (length base) (opening_words n base) (opening_view base n (numbers 0 n) [] ∷ [])
+opening_locks : (n : ℕ) (base : List ℕ) → LocksHold n base (opening_words n base) (opening_view base n (numbers 0 n) [] ∷ [])
 opening_locks n base =
     let v : View = opening_view base n (numbers 0 n) [] in
     let one : (id : ℕ) (u : View) → Knows (v ∷ []) id u → (id ≡ 0) × (v ≡ u) = one_view v in
@@ -68,8 +68,7 @@ opening_locks n base =
       numbers_placed = λ j lt. (0, v, record { knows = refl; named = numbers_have 0 n j (omega arith) (omega arith) });
       numbers_below = below;
       seats_alike = λ id j u s. sym (ap (λ (x : View). x.seats) (one id u s.knows).1);
-      bases_alike = λ id other i j u w s t. sym (ap (λ (x : View). x.base) (one id u s.knows).1) ∙ ap (λ (x : View). x.base) (one other w t.knows).1;
-      base_long = λ id j u s. sym (ap (λ (x : View). length x.base) (one id u s.knows).1);
+      bases_alike = λ id j u s. sym (ap (λ (x : View). x.base) (one id u s.knows).1);
     }
 
 module _ (good : List ℕ → Type 0) (n : ℕ) (base : List ℕ) where
@@ -77,7 +76,7 @@ module _ (good : List ℕ → Type 0) (n : ℕ) (base : List ℕ) where
   opening_sound ws e fine = subst (λ (l : List ℕ). IsSound good n base l (opening_view base n (numbers 0 n) [] ∷ [])) (sym e) record { locks = opening_locks n base; base_good = fine }
 
   split_sound : (id j : ℕ) (v : View) → MaySplitSeat j v → Splits (λ (s : State (Unit {0}) View). IsSound good n base s.words s.views) id v (left_by_split v) (given_by_split v)
-  split_sound id j v may s h known = record { locks = split_seat_keeps n (length base) j s.words s.views id v h.locks known may; base_good = h.base_good }
+  split_sound id j v may s h known = record { locks = split_seat_keeps n base j s.words s.views id v h.locks known may; base_good = h.base_good }
 
 -- a view with what the seat has taken, which is nothing
 abbrev with_none : View → Me (Unit {0}) View

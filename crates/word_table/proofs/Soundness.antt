@@ -14,24 +14,24 @@ use Rattle.word_table.specs.declared.step.Step.TheVariants.{SetReadBit, ClearRea
 use Rattle.word_table.specs.Kinds.{action_of, May, Stores, Took}
 use Rattle.word_table.specs.Sound.{IsSound}
 
-locks_kept : (n values : ℕ) (st : Step) → Keeps (LocksHold n values) (May st) (action_of st)
-locks_kept n values (SetReadBit j k a) = set_read_bit_keeps n values j k a
-locks_kept n values (ClearReadBit j k) = clear_read_bit_keeps n values j k
-locks_kept n values (LoadWriter j k a) = load_writer_keeps n values j k a
-locks_kept n values (ClaimWriter j k a) = claim_writer_keeps n values j k a
-locks_kept n values (ScanRow j k i) = scan_row_keeps n values j k i
-locks_kept n values (ReleaseWriter j k) = release_writer_keeps n values j k
+locks_kept : (n : ℕ) (base : List ℕ) (st : Step) → Keeps (LocksHold n base) (May st) (action_of st)
+locks_kept n base (SetReadBit j k a) = set_read_bit_keeps n base j k a
+locks_kept n base (ClearReadBit j k) = clear_read_bit_keeps n base j k
+locks_kept n base (LoadWriter j k a) = load_writer_keeps n base j k a
+locks_kept n base (ClaimWriter j k a) = claim_writer_keeps n base j k a
+locks_kept n base (ScanRow j k i) = scan_row_keeps n base j k i
+locks_kept n base (ReleaseWriter j k) = release_writer_keeps n base j k
 
 -- a view with what the seat has taken, which is nothing here
 abbrev pub told : Me (Unit {0}) View → View → Me (Unit {0}) View
 told me v = (v, me.1)
 
 -- what a step of this kind tells
-abbrev pub Tells : Step → Me (Unit {0}) View → ℕ → Me (Unit {0}) View → Type 0
-Tells kind me k after = Took (action_of kind me.0) me after k
+abbrev pub Tells : (List ℕ → List View → Type 0) → Step → Me (Unit {0}) View → ℕ → Me (Unit {0}) View → Type 0
+Tells sound kind me k after = Took sound (action_of kind me.0) me after k
 
-abbrev pub PutsTo : Step → Me (Unit {0}) View → ℕ → Me (Unit {0}) View → Type 0
-PutsTo kind me k after = after ≡ told me ((action_of kind me.0).view [] k)
+abbrev pub PutsTo : (List ℕ → List View → Type 0) → Step → Me (Unit {0}) View → ℕ → Me (Unit {0}) View → Type 0
+PutsTo sound kind me k after = (after ≡ told me ((action_of kind me.0).view [] k)) × ((w : ℕ) × Took sound (action_of kind me.0) me after w)
 
 same_step : (me : Me (Unit {0}) View) (k : ℕ) (a b : Step) → a ≡ b → told me ((action_of a me.0).view [] k) ≡ told me ((action_of b me.0).view [] k)
 same_step me k a b e = ap (λ (st : Step). told me ((action_of st me.0).view [] k)) e
@@ -42,11 +42,11 @@ chosen false x y = refl
 
 module _ (good : List ℕ → Type 0) (n : ℕ) (base : List ℕ) where
   pub sound_kept : (st : Step) → Keeps (IsSound good n base) (May st) (action_of st)
-  sound_kept st ws vs id v h me may = record { locks = locks_kept n (length base) st ws vs id v h.locks me may; base_good = h.base_good }
+  sound_kept st ws vs id v h me may = record { locks = locks_kept n base st ws vs id v h.locks me may; base_good = h.base_good }
 
   allowed : (slots id : ℕ) (me : Me (Unit {0}) View) (st : Step) (i : ℕ) (f : ℕ → ℕ) (tell : ℕ → Me (Unit {0}) View → Type 0) → i ≡ (action_of st me.0).at → May st me.0
-      → ((ws : List ℕ) (vs : List View) → LocksHold n (length base) ws vs → Knows vs id me.0 → found_by (action_of st me.0) ws < 2 ^ 64 → (action_of st me.0).writes (found_by (action_of st me.0) ws) ≡ f (found_by (action_of st me.0) ws))
-      → ((h : List Entry) (k : ℕ) (after : Me (Unit {0}) View) → after ≡ told me ((action_of st me.0).view h k) → Took (action_of st me.0) me after k → tell k after)
+      → ((ws : List ℕ) (vs : List View) → LocksHold n base ws vs → Knows vs id me.0 → found_by (action_of st me.0) ws < 2 ^ 64 → (action_of st me.0).writes (found_by (action_of st me.0) ws) ≡ f (found_by (action_of st me.0) ws))
+      → ((h : List Entry) (k : ℕ) (after : Me (Unit {0}) View) → after ≡ told me ((action_of st me.0).view h k) → Took (IsSound good n base) (action_of st me.0) me after k → tell k after)
       → Allows (λ (s : State (Unit {0}) View). IsSound good n base s.words s.views) slots id me i f tell
   allowed slots id me st i f tell at may writes tells s h homes known wide =
       let x : Action = action_of st me.0 in
@@ -56,24 +56,25 @@ module _ (good : List ℕ → Type 0) (n : ℕ) (base : List ℕ) where
         keeps,
         tt,
         subst (λ (y : ℕ). IsSound good n base (slice_set s.words x.at y) (views_after x id s.words s.views)) (writes s.words s.views h.locks known lt) (sound_kept st s.words s.views id me.0 h known may),
-        tells (history_of s.views) (found_by x s.words) (told me (x.view (history_of s.views) (found_by x s.words))) refl record { n = n; values = length base; words = s.words; views = s.views; id = id; locks = h.locks; known = known; found = refl; after_is = refl },
+        tells (history_of s.views) (found_by x s.words) (told me (x.view (history_of s.views) (found_by x s.words))) refl record { words = s.words; views = s.views; id = id; held = h; known = known; found = refl; after_is = refl },
       ) in
       let got = subst P (sym at) here wide in (got.0, keeps, tt, got.3, got.4)
 
-module _ (good : List ℕ → Type 0) (n : ℕ) (base : List ℕ) (slots id : ℕ) (me : Me (Unit {0}) View) (st kind : Step) (same : st ≡ kind) (i : ℕ) (at : i ≡ (action_of st me.0).at) (may : May st me.0) where
+module _ (good : List ℕ → Type 0) (n : ℕ) (base : List ℕ) (slots id : ℕ) (me : Me (Unit {0}) View) (st kind : Step) (same : st ≡ kind) (i : ℕ) (at : i ≡ (action_of st me.0).at) (may : May st me.0)
+    (sound : List ℕ → List View → Type 0) (weaker : (ws : List ℕ) (vs : List View) → IsSound good n base ws vs → sound ws vs) where
   abbrev Holds : State (Unit {0}) View → Type 0
   Holds s = IsSound good n base s.words s.views
 
-  tells_kind : (h : List Entry) (k : ℕ) (after : Me (Unit {0}) View) → after ≡ told me ((action_of st me.0).view h k) → Took (action_of st me.0) me after k → Tells kind me k after
-  tells_kind h k after e t = subst (λ (x : Step). Took (action_of x me.0) me after k) same t
+  tells_kind : (h : List Entry) (k : ℕ) (after : Me (Unit {0}) View) → after ≡ told me ((action_of st me.0).view h k) → Took (IsSound good n base) (action_of st me.0) me after k → Tells sound kind me k after
+  tells_kind h k after e t = subst (λ (x : Step). Took sound (action_of x me.0) me after k) same record { words = t.words; views = t.views; id = t.id; held = weaker t.words t.views t.held; known = t.known; found = t.found; after_is = t.after_is }
 
-  pub load_allowed : ((w : ℕ) → (action_of st me.0).writes w ≡ w) → Allows Holds slots id me i (λ k. k) (Tells kind me)
-  load_allowed reads = allowed good n base slots id me st i (λ k. k) (Tells kind me) at may (λ ws vs h known wide. reads (found_by (action_of st me.0) ws)) tells_kind
+  pub load_allowed : ((w : ℕ) → (action_of st me.0).writes w ≡ w) → Allows Holds slots id me i (λ k. k) (Tells sound kind me)
+  load_allowed reads = allowed good n base slots id me st i (λ k. k) (Tells sound kind me) at may (λ ws vs h known wide. reads (found_by (action_of st me.0) ws)) tells_kind
 
-  pub store_allowed : (new : ℕ) → ((h : List Entry) (w : ℕ) → (action_of st me.0).view h w ≡ (action_of st me.0).view [] new) → Stores (action_of st me.0) me.0 new → Allows Holds slots id me i (λ _. new) (λ _. PutsTo kind me new)
-  store_allowed new blind stored = allowed good n base slots id me st i (λ _. new) (λ _. PutsTo kind me new) at may (λ ws vs h known wide. stored n (length base) ws vs id h known wide)
-      (λ h k after e t. e ∙ (ap (λ (v : View). told me v) (blind h k) ∙ same_step me new st kind same))
+  pub store_allowed : (new : ℕ) → ((h : List Entry) (w : ℕ) → (action_of st me.0).view h w ≡ (action_of st me.0).view [] new) → Stores (action_of st me.0) me.0 new → Allows Holds slots id me i (λ _. new) (λ _. PutsTo sound kind me new)
+  store_allowed new blind stored = allowed good n base slots id me st i (λ _. new) (λ _. PutsTo sound kind me new) at may (λ ws vs h known wide. stored n base ws vs id h known wide)
+      (λ h k after e t. (e ∙ (ap (λ (v : View). told me v) (blind h k) ∙ same_step me new st kind same), (k, tells_kind h k after e t)))
 
-  pub exchange_allowed : (old new : ℕ) → ((w : ℕ) → (action_of st me.0).writes w ≡ (if w == old then new else w)) → Allows Holds slots id me i (λ k. either (k == old) new k) (Tells kind me)
-  exchange_allowed old new writes = allowed good n base slots id me st i (λ k. either (k == old) new k) (Tells kind me) at may
+  pub exchange_allowed : (old new : ℕ) → ((w : ℕ) → (action_of st me.0).writes w ≡ (if w == old then new else w)) → Allows Holds slots id me i (λ k. either (k == old) new k) (Tells sound kind me)
+  exchange_allowed old new writes = allowed good n base slots id me st i (λ k. either (k == old) new k) (Tells sound kind me) at may
       (λ ws vs h known wide. writes (found_by (action_of st me.0) ws) ∙ chosen (found_by (action_of st me.0) ws == old) new (found_by (action_of st me.0) ws)) tells_kind

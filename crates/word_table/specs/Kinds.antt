@@ -30,17 +30,15 @@ May (ReleaseWriter j k) v = MayReleaseWriter j k v
 -- the number is what the step writes, whatever the table is when a seat that knows v takes it
 abbrev pub Stores : Action → View → ℕ → Type 0
 Stores action v new =
-    (n values : ℕ) (words : List ℕ) (views : List View) (id : ℕ)
-    → LocksHold n values words views → Knows views id v → found_by action words < 2 ^ 64 → action.writes (found_by action words) ≡ new
+    (n : ℕ) (base words : List ℕ) (views : List View) (id : ℕ)
+    → LocksHold n base words views → Knows views id v → found_by action words < 2 ^ 64 → action.writes (found_by action words) ≡ new
 
--- the step found w in a state that met the rule, where the seat knew what it knew, and now it knows what the step says
-pub record Took (action : Action) (me after : Me (Unit {0}) View) (w : ℕ) : Type 0 where
-  pub n : ℕ
-  pub values : ℕ
+-- the step found w in a sound state, where the seat knew what it knew, and now it knows what the step says
+pub record Took (sound : List ℕ → List View → Type 0) (action : Action) (me after : Me (Unit {0}) View) (w : ℕ) : Type 0 where
   pub words : List ℕ
   pub views : List View
   pub id : ℕ
-  pub locks : LocksHold n values words views
+  pub held : sound words views
   pub known : Knows views id me.0
   pub found : found_by action words ≡ w
   pub after_is : after ≡ (action.view (history_of views) w, me.1)

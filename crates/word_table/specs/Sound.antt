@@ -6,7 +6,7 @@ use Rattle.locks_rule.specs.Locks.{LocksHold}
 
 -- for n seats and the words base that the memory began with, of which some lists are good
 pub record IsSound (good : List ℕ → Type 0) (n : ℕ) (base words : List ℕ) (views : List View) : Type 0 where
-  pub locks : LocksHold n (length base) words views
+  pub locks : LocksHold n base words views
   pub base_good : good base
 
 -- the words at the start: the base, and 0 in all words before it

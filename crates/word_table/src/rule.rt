@@ -2,6 +2,7 @@
 
 ghost use Rattle.locks_rule.specs.Splits.{opening_view};
 ghost use Rattle.std.specs.Prelude.{[]};
+ghost use Rattle.history_model.specs.Fitting.{IsGood};
 ghost use Rattle.word_table.specs.Sound.{IsSound, numbers};
 
 use atomic_table::TableRule;
@@ -22,7 +23,7 @@ pub struct DeskRule<S> {
 }
 
 impl<S: Shape> TableRule<(), View, Ground<S>> for DeskRule<S> {
-    ghost holds = { λ ground s. IsSound (S.good ground.shape) ground.seats ground.base.items s.words s.views };
+    ghost holds = { λ ground s. IsSound (IsGood (S.word_count ground.shape) (S.good ground.shape)) ground.seats ground.base.items s.words s.views };
 
     ghost first = { λ ground. opening_view ground.base.items ground.seats (numbers 0 ground.seats) [] };
 }

@@ -4,8 +4,11 @@
 
 ghost use Rattle.std.specs.Prelude.{List, ◌≡◌, ◌<◌, ◌==◌, ◌+◌, ℕ, [], if◌then◌else◌};
 ghost use Rattle.history_model.specs.declared.entry.Entry.{Entry};
+ghost use Rattle.history_model.specs.declared.view.View.{View};
 ghost use Rattle.locks_rule.specs.Actions.{Action};
+ghost use Rattle.history_model.specs.Fitting.{IsGood};
 ghost use Rattle.word_table.specs.Kinds.{action_of, May, Stores, Took};
+ghost use Rattle.word_table.specs.Sound.{IsSound};
 
 use crate::rule::TableWords;
 use atomic_table::{Play, Seat};
@@ -25,15 +28,22 @@ pub enum Step {
 
 /// The kind of a step, which a call picks for its proof.
 pub trait Kind {
+    ghost use Rattle.std.specs.Prelude.{ℕ, List};
+    ghost use Rattle.history_model.specs.declared.view.View.{View};
     ghost use Rattle.word_table.specs.declared.step.Step.{Step};
 
     ghost step: { Step };
+
+    ghost sound: { List ℕ → List View → Type 0 };
 }
 
 impl Kind for Brand {
+    ghost use Rattle.std.specs.Prelude.{⊤};
     ghost use Rattle.word_table.specs.declared.step.Step.TheVariants.{ReleaseWriter};
 
     ghost step = { ReleaseWriter 0 0 };
+
+    ghost sound = { λ _ _. ⊤ };
 }
 
 /// What a load or an exchange tells: the step took place, in a state that met the rule.
@@ -44,7 +54,7 @@ struct Takes<A> {
 impl<A: Kind> Play<(), View> for Takes<A> {
     ghost use Rattle.word_table.specs.Kinds.{action_of, Took};
 
-    ghost then = { λ st me found after. Took (action_of A.step me.0) me after found };
+    ghost then = { λ st me found after. Took A.sound (action_of A.step me.0) me after found };
 }
 
 /// What a store tells, which finds nothing.
@@ -53,10 +63,10 @@ struct Puts<A> {
 }
 
 impl<A: Kind> Play<(), View> for Puts<A> {
-    ghost use Rattle.std.specs.Prelude.{◌≡◌, []};
-    ghost use Rattle.word_table.specs.Kinds.{action_of};
+    ghost use Rattle.std.specs.Prelude.{◌≡◌, ℕ, []};
+    ghost use Rattle.word_table.specs.Kinds.{action_of, Took};
 
-    ghost then = { λ st me new after. after ≡ ((action_of A.step me.0).view [] new, me.1) };
+    ghost then = { λ st me new after. (after ≡ ((action_of A.step me.0).view [] new, me.1)) × ((w : ℕ) × Took A.sound (action_of A.step me.0) me after w) };
 }
 
 fn load_by<S: Shape, A: Kind>(
@@ -68,9 +78,10 @@ fn load_by<S: Shape, A: Kind>(
     requires table { (seat.old.table_id ≡ table.now.table_id) × (word < table.now.table_id.words) }
     requires kind { step.now ≡ A.step }
     requires action { let x : Action = action_of step.now seat.old.me.0 in (word ≡ x.at) × ((w : ℕ) → x.writes w ≡ w) }
+    requires sound { (words : List ℕ) (views : List View) → IsSound (IsGood (S.word_count table.now.key.shape) (S.good table.now.key.shape)) table.now.key.seats table.now.key.base.items words views → A.sound words views }
     requires may { May step.now seat.old.me.0 }
     ensures seat { seat.new.table_id ≡ seat.old.table_id }
-    ensures took { Took (action_of step.now seat.old.me.0) seat.old.me seat.new.me result }
+    ensures took { Took A.sound (action_of step.now seat.old.me.0) seat.old.me seat.new.me result }
 {
     table.load::<Takes<A>>(seat, word)
 }
@@ -85,10 +96,12 @@ fn store_by<S: Shape, A: Kind>(
     requires table { (seat.old.table_id ≡ table.now.table_id) × (word < table.now.table_id.words) }
     requires kind { step.now ≡ A.step }
     requires action { let x : Action = action_of step.now seat.old.me.0 in (word ≡ x.at) × ((h : List Entry) (w : ℕ) → x.view h w ≡ x.view [] new) }
+    requires sound { (words : List ℕ) (views : List View) → IsSound (IsGood (S.word_count table.now.key.shape) (S.good table.now.key.shape)) table.now.key.seats table.now.key.base.items words views → A.sound words views }
     requires may { May step.now seat.old.me.0 }
     requires stored { Stores (action_of step.now seat.old.me.0) seat.old.me.0 new }
     ensures seat { seat.new.table_id ≡ seat.old.table_id }
     ensures view { seat.new.me ≡ ((action_of step.now seat.old.me.0).view [] new, seat.old.me.1) }
+    ensures took { (w : ℕ) × Took A.sound (action_of step.now seat.old.me.0) seat.old.me seat.new.me w }
 {
     table.store::<Puts<A>>(seat, word, new)
 }
@@ -104,9 +117,10 @@ fn exchange_by<S: Shape, A: Kind>(
     requires table { (seat.old.table_id ≡ table.now.table_id) × (word < table.now.table_id.words) }
     requires kind { step.now ≡ A.step }
     requires action { let x : Action = action_of step.now seat.old.me.0 in (word ≡ x.at) × ((w : ℕ) → x.writes w ≡ if w == old then new else w) }
+    requires sound { (words : List ℕ) (views : List View) → IsSound (IsGood (S.word_count table.now.key.shape) (S.good table.now.key.shape)) table.now.key.seats table.now.key.base.items words views → A.sound words views }
     requires may { May step.now seat.old.me.0 }
     ensures seat { seat.new.table_id ≡ seat.old.table_id }
-    ensures took { Took (action_of step.now seat.old.me.0) seat.old.me seat.new.me result }
+    ensures took { Took A.sound (action_of step.now seat.old.me.0) seat.old.me seat.new.me result }
 {
     table.compare_exchange::<Takes<A>>(seat, word, old, new)
 }
@@ -122,7 +136,7 @@ pub(crate) fn load<S: Shape>(
     requires action { let x : Action = action_of step.now seat.old.me.0 in (word ≡ x.at) × ((w : ℕ) → x.writes w ≡ w) }
     requires may { May step.now seat.old.me.0 }
     ensures seat { seat.new.table_id ≡ seat.old.table_id }
-    ensures took { Took (action_of step.now seat.old.me.0) seat.old.me seat.new.me result }
+    ensures took { Took (IsSound (IsGood (S.word_count table.now.key.shape) (S.good table.now.key.shape)) table.now.key.seats table.now.key.base.items) (action_of step.now seat.old.me.0) seat.old.me seat.new.me result }
 {
     load_by::<S, Brand>(table, seat, word, step)
 }
@@ -141,6 +155,7 @@ pub(crate) fn store<S: Shape>(
     requires stored { Stores (action_of step.now seat.old.me.0) seat.old.me.0 new }
     ensures seat { seat.new.table_id ≡ seat.old.table_id }
     ensures view { seat.new.me ≡ ((action_of step.now seat.old.me.0).view [] new, seat.old.me.1) }
+    ensures took { (w : ℕ) × Took (IsSound (IsGood (S.word_count table.now.key.shape) (S.good table.now.key.shape)) table.now.key.seats table.now.key.base.items) (action_of step.now seat.old.me.0) seat.old.me seat.new.me w }
 {
     store_by::<S, Brand>(table, seat, word, new, step)
 }
@@ -158,7 +173,7 @@ pub(crate) fn exchange<S: Shape>(
     requires action { let x : Action = action_of step.now seat.old.me.0 in (word ≡ x.at) × ((w : ℕ) → x.writes w ≡ if w == old then new else w) }
     requires may { May step.now seat.old.me.0 }
     ensures seat { seat.new.table_id ≡ seat.old.table_id }
-    ensures took { Took (action_of step.now seat.old.me.0) seat.old.me seat.new.me result }
+    ensures took { Took (IsSound (IsGood (S.word_count table.now.key.shape) (S.good table.now.key.shape)) table.now.key.seats table.now.key.base.items) (action_of step.now seat.old.me.0) seat.old.me seat.new.me result }
 {
     exchange_by::<S, Brand>(table, seat, word, old, new, step)
 }

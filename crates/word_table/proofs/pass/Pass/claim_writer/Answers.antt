@@ -1,4 +1,4 @@
-use Rattle.std.proofs.Common.{[], ◌≡◌, ◌≤◌, ◌+◌, ℕ, List, slice_index, sym, ap, ◌∙◌, subst, arith}
+use Rattle.std.proofs.Common.{length, [], ◌≡◌, ◌≤◌, ◌+◌, ℕ, List, slice_index, sym, ap, ◌∙◌, subst, arith}
 use Rattle.history_model.specs.Views.{number, HasClaim}
 use Rattle.word_table.specs.declared.limits.TheConstants.{MOST_PASSES}
 use Rattle.word_table.specs.Calls.{IsWriterWord}
@@ -17,16 +17,16 @@ pub returns-clause-word : goal.returns-clause-word
 returns-clause-word g c = let i = c.self.invariant in let p = c.self.inside in let t = c.exchange-found.ensures.took in
     subst (λ (k : ℕ). IsWriterWord c.args.self.now.view.seats k c.exchange-found.result) c.lock_of-lock.ensures.lock
     (subst (λ (x : PassView). IsWriterWord x.view.seats c.lock_of-lock.result c.exchange-found.result) c.self.view_is
-    (writer_word_found t.n t.values t.words t.views t.id p.seat.me.0 p.who c.lock_of-lock.result t.locks t.known i.who_is c.lock_of-lock.ensures.below c.exchange-found.result t.found))
+    (writer_word_found c.args.table.now.key.seats c.args.table.now.key.base.items t.words t.views t.id p.seat.me.0 p.who c.lock_of-lock.result t.held.locks t.known i.who_is c.lock_of-lock.ensures.below c.exchange-found.result t.found))
 
 pub returns-clause-other : goal.returns-clause-other
 returns-clause-other g c own = let i = c.self.invariant in let p = c.self.inside in let t = c.exchange-found.ensures.took in
     let number_is : number c.args.self.now.view ≡ p.who = ap (λ (x : PassView). number x.view) (sym c.self.view_is) ∙ ap (λ (l : List ℕ). slice_index l 0) i.who_is in
     let no_claim : ¬ HasClaim p.seat.me.0 c.lock_of-lock.result = λ claim. c.requires.claim (subst (λ (k : ℕ). HasClaim c.args.self.now.view k) c.lock_of-lock.ensures.lock (subst (λ (x : PassView). HasClaim x.view c.lock_of-lock.result) c.self.view_is claim)) in
-    not_own_found t.n t.values t.words t.views t.id p.seat.me.0 p.who c.lock_of-lock.result t.locks t.known i.who_is c.lock_of-lock.ensures.below c.exchange-found.result t.found no_claim (own ∙ ap (λ (x : ℕ). x + 1) number_is)
+    not_own_found c.args.table.now.key.seats c.args.table.now.key.base.items t.words t.views t.id p.seat.me.0 p.who c.lock_of-lock.result t.held.locks t.known i.who_is c.lock_of-lock.ensures.below c.exchange-found.result t.found no_claim (own ∙ ap (λ (x : ℕ). x + 1) number_is)
 
 pub returns-clause-small : goal.returns-clause-small
 returns-clause-small g c = let i = c.self.invariant in let p = c.self.inside in let t = c.exchange-found.ensures.took in
     let few : p.seat.me.0.seats ≤ MOST_PASSES = omega (arith, i.seats_are, i.few) in
     writer_small p.seat.me.0.seats c.lock_of-lock.result c.exchange-found.result few
-    (writer_word_found t.n t.values t.words t.views t.id p.seat.me.0 p.who c.lock_of-lock.result t.locks t.known i.who_is c.lock_of-lock.ensures.below c.exchange-found.result t.found)
+    (writer_word_found c.args.table.now.key.seats c.args.table.now.key.base.items t.words t.views t.id p.seat.me.0 p.who c.lock_of-lock.result t.held.locks t.known i.who_is c.lock_of-lock.ensures.below c.exchange-found.result t.found)

@@ -1,4 +1,4 @@
-use Rattle.std.proofs.Common.{[], ℕ, ◌≤◌, subst, arith}
+use Rattle.std.proofs.Common.{length, [], ℕ, ◌≤◌, subst, arith}
 use Rattle.word_table.specs.declared.limits.TheConstants.{MOST_PASSES}
 use Rattle.word_table.specs.Calls.{IsWriterWord}
 use Rattle.word_table.specs.Copies.{PassView}
@@ -17,10 +17,10 @@ pub returns-clause-word : goal.returns-clause-word
 returns-clause-word g c = let i = c.self.invariant in let p = c.self.inside in let t = c.load-found.ensures.took in
     subst (λ (k : ℕ). IsWriterWord c.args.self.now.view.seats k c.load-found.result) c.lock_of-lock.ensures.lock
     (subst (λ (x : PassView). IsWriterWord x.view.seats c.lock_of-lock.result c.load-found.result) c.self.view_is
-    (writer_word_found t.n t.values t.words t.views t.id p.seat.me.0 p.who c.lock_of-lock.result t.locks t.known i.who_is c.lock_of-lock.ensures.below c.load-found.result t.found))
+    (writer_word_found c.args.table.now.key.seats c.args.table.now.key.base.items t.words t.views t.id p.seat.me.0 p.who c.lock_of-lock.result t.held.locks t.known i.who_is c.lock_of-lock.ensures.below c.load-found.result t.found))
 
 pub returns-clause-small : goal.returns-clause-small
 returns-clause-small g c = let i = c.self.invariant in let p = c.self.inside in let t = c.load-found.ensures.took in
     let few : p.seat.me.0.seats ≤ MOST_PASSES = omega (arith, i.seats_are, i.few) in
     writer_small p.seat.me.0.seats c.lock_of-lock.result c.load-found.result few
-    (writer_word_found t.n t.values t.words t.views t.id p.seat.me.0 p.who c.lock_of-lock.result t.locks t.known i.who_is c.lock_of-lock.ensures.below c.load-found.result t.found)
+    (writer_word_found c.args.table.now.key.seats c.args.table.now.key.base.items t.words t.views t.id p.seat.me.0 p.who c.lock_of-lock.result t.held.locks t.known i.who_is c.lock_of-lock.ensures.below c.load-found.result t.found)

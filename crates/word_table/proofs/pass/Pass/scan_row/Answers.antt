@@ -1,4 +1,4 @@
-use Rattle.std.proofs.Common.{[], ◌<◌, ◌≡◌, ◌∷◌, ◌%◌, subst, ap, sym}
+use Rattle.std.proofs.Common.{length, [], ◌<◌, ◌≡◌, ◌∷◌, ◌%◌, subst, ap, sym}
 use Rattle.word_table.specs.Copies.{PassView}
 use Rattle.locks_rule.specs.Steps.{scan_row_action}
 use Rattle.word_table.proofs.Found.{row_word_found}
@@ -15,4 +15,4 @@ pub returns-clause-word : goal.returns-clause-word
 returns-clause-word g c = let i = c.self.invariant in let p = c.self.inside in let t = c.load-found.ensures.took in
     let seats : c.args.self.now.view.seats ≡ p.seat.me.0.seats = ap (λ (x : PassView). x.view.seats) (sym c.self.view_is) in
     let lt : c.args.other < p.seat.me.0.seats = subst (λ (n : _). c.args.other < n) seats c.requires.other.0 in
-    row_word_found t.n t.values t.words t.views t.id p.seat.me.0 p.who c.args.k t.locks t.known i.who_is c.requires.claim.0 c.args.other c.load-found.result lt t.found
+    row_word_found c.args.table.now.key.seats c.args.table.now.key.base.items t.words t.views t.id p.seat.me.0 p.who c.args.k t.held.locks t.known i.who_is c.requires.claim.0 c.args.other c.load-found.result lt t.found
