@@ -4,3 +4,4 @@ pub mod Own
 pub mod Readers
 pub mod Writers
 pub mod Splitting
+pub mod Asides

@@ -41,7 +41,7 @@ now_asked v a k l lock e = (a, has-join_same a v.asked, lock ∙ sym e)
 pub lock_near : (v : View) (k : ℕ) → AskedFor v k → k < LOCKS
 lock_near v k t = let lock : t.0 % 1024 ≡ k = t.2 in omega arith
 
-module _ (n values : ℕ) (ws : List ℕ) (vs : List View) (id : ℕ) (v : View) (h : LocksHold n values ws vs) (me : Knows vs id v) where
+module _ (n : ℕ) (base ws : List ℕ) (vs : List View) (id : ℕ) (v : View) (h : LocksHold n base ws vs) (me : Knows vs id v) where
   -- a writer word names a seat that claims
   pub named : (j k : ℕ) → k < LOCKS → slice_index ws (writer_word n k) ≡ j + 1 → ((has j v.who ≡ true) × HasClaim v k) ⊎ ((has j v.who ≡ false) × (slice_index ws (writer_word n k) ≡ j + 1))
   named j k near e = ⊎_elim
@@ -59,10 +59,10 @@ module _ (n values : ℕ) (ws : List ℕ) (vs : List View) (id : ℕ) (v : View)
       → ((k j : ℕ) → IsScanned w k j → IsScanned v k j ⊎ ((k < LOCKS) × (bit_at (slice_index ws (row_word n j k)) (k % 64) ≡ 0)))
       → ((a : ℕ) → has a v.asked ≡ true → has a w.asked ≡ true)
       → ((j : ℕ) → has j w.met ≡ true → (j < n) × (has j v.who ≡ false))
-      → (i : ℕ) → LocksHold n values (slice_set ws i (slice_index ws i)) (slice_set vs id w)
-  quiet w base seats who bits claims busy reads grants scans asked met i = subst (λ (l : List ℕ). LocksHold n values l (slice_set vs id w)) (sym (set-get_or ws i 0)) (moves n values ws ws vs id v w h me record {
+      → (i : ℕ) → LocksHold n base (slice_set ws i (slice_index ws i)) (slice_set vs id w)
+  quiet w same_base seats who bits claims busy reads grants scans asked met i = subst (λ (l : List ℕ). LocksHold n base l (slice_set vs id w)) (sym (set-get_or ws i 0)) (moves n base ws ws vs id v w h me record {
     long = refl;
-    base = base;
+    base = same_base;
     seats = seats;
     who = who;
     own_row = λ j k it near. h.rows_show_bits id j k v (record { knows = me; named = it }) near ∙ ap (λ (l : List ℕ). flag (has k l)) (sym bits);
@@ -90,10 +90,10 @@ module _ (n values : ℕ) (ws : List ℕ) (vs : List View) (id : ℕ) (v : View)
     so_many = h.seats_alike id j v own_seat
 
     row_there : row_word v.seats j k < length ws
-    row_there = let a : j < n = low in let b : v.seats ≡ n = so_many in let c : length ws ≡ table_words n values = h.word_count in omega arith
+    row_there = let a : j < n = low in let b : v.seats ≡ n = so_many in let c : length ws ≡ table_words n (length base) = h.word_count in omega arith
 
     writer_there : writer_word v.seats k < length ws
-    writer_there = let a : j < n = low in let b : v.seats ≡ n = so_many in let c : length ws ≡ table_words n values = h.word_count in omega arith
+    writer_there = let a : j < n = low in let b : v.seats ≡ n = so_many in let c : length ws ≡ table_words n (length base) = h.word_count in omega arith
 
     pub writer_same : slice_index ws (writer_word n k) ≡ slice_index ws (writer_word v.seats k)
     writer_same = ap (λ (m : ℕ). slice_index ws (writer_word m k)) (sym so_many)

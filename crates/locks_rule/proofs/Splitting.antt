@@ -21,7 +21,7 @@ record IsPart (n : ℕ) (v u : View) : Type 0 where
   claims : (k : ℕ) → has k u.claims ≡ false
   met : (x : ℕ) → has x u.met ≡ true → (x < n) × (has x u.who ≡ false)
 
-module _ (n values j : ℕ) (ws : List ℕ) (vs : List View) (id : ℕ) (v : View) (h : LocksHold n values ws vs) (me : Knows vs id v) (may : MaySplitSeat j v) where
+module _ (n : ℕ) (base : List ℕ) (j : ℕ) (ws : List ℕ) (vs : List View) (id : ℕ) (v : View) (h : LocksHold n base ws vs) (me : Knows vs id v) (may : MaySplitSeat j v) where
   own : has (number v) v.who ≡ true
   own = let first : number v ≡ j = ap (λ (l : List ℕ). slice_index l 0) may.who.1 in
       subst (λ (x : ℕ). has x v.who ≡ true) (sym first) (subst (λ (l : List ℕ). has j l ≡ true) (sym may.who.1) (has-join_same j may.who.0))
@@ -113,10 +113,7 @@ module _ (n values j : ℕ) (ws : List ℕ) (vs : List View) (id : ℕ) (v : Vie
       both (inr (inr s)) (inr (inl t)) = absurd (apart_old a x (left_by_split v) u left_part (subst In (sym t.1) sb.named) s.0 s.1 sa.named)
       both (inr (inr s)) (inr (inr t)) = h.numbers_unique a b x u w (record { knows = s.1; named = sa.named }) (record { knows = t.1; named = sb.named })
 
-  base_kept : (other x : ℕ) (u : View) → IsSeat (slice_set vs id (left_by_split v) ++ given_by_split v ∷ []) other u x → (old : ℕ) × (w : View) × IsSeat vs old w x × (u.base ≡ w.base)
-  base_kept other x u s = ⊎_elim (λ t. (id, v, mine x (t.numbers x s.named), t.base)) (λ t. (other, u, record { knows = t.1; named = s.named }, refl)) (part_or_old other u s.knows)
-
-  splits : LocksHold n values ws (slice_set vs id (left_by_split v) ++ given_by_split v ∷ [])
+  splits : LocksHold n base ws (slice_set vs id (left_by_split v) ++ given_by_split v ∷ [])
   splits = record {
     word_count = h.word_count;
     rows_show_bits = λ other x k u s near. ⊎_elim
@@ -140,9 +137,8 @@ module _ (n values j : ℕ) (ws : List ℕ) (vs : List View) (id : ℕ) (v : Vie
         (λ ne. (o.0, o.1, record { knows = old_stays o.0 o.1 ne o.2.knows; named = o.2.named }));
     numbers_below = λ other x u s. ⊎_elim (λ t. h.numbers_below id x v (mine x (t.numbers x s.named))) (λ t. h.numbers_below other x u (record { knows = t.1; named = s.named })) (part_or_old other u s.knows);
     seats_alike = λ other x u s. ⊎_elim (λ t. t.seats ∙ h.seats_alike id x v (mine x (t.numbers x s.named))) (λ t. h.seats_alike other x u (record { knows = t.1; named = s.named })) (part_or_old other u s.knows);
-    bases_alike = λ a b x y u w sa sb. let p = base_kept a x u sa in let q = base_kept b y w sb in p.3 ∙ (h.bases_alike p.0 q.0 x y p.1 q.1 p.2 q.2 ∙ sym q.3);
-    base_long = λ other x u s. let p = base_kept other x u s in ap (λ (l : List ℕ). length l) p.3 ∙ h.base_long p.0 x p.1 p.2;
+    bases_alike = λ other x u s. ⊎_elim (λ t. t.base ∙ h.bases_alike id x v (mine x (t.numbers x s.named))) (λ t. h.bases_alike other x u (record { knows = t.1; named = s.named })) (part_or_old other u s.knows);
   }
 
-pub split_seat_keeps : (n values j : ℕ) → KeepsSplit (LocksHold n values) (MaySplitSeat j) left_by_split given_by_split
-split_seat_keeps n values j ws vs id v h me may = splits n values j ws vs id v h me may
+pub split_seat_keeps : (n : ℕ) (base : List ℕ) (j : ℕ) → KeepsSplit (LocksHold n base) (MaySplitSeat j) left_by_split given_by_split
+split_seat_keeps n base j ws vs id v h me may = splits n base j ws vs id v h me may

@@ -2,3 +2,4 @@ pub mod Actions
 pub mod Steps
 pub mod Splits
 pub mod Locks
+pub mod Asides

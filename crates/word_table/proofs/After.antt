@@ -11,65 +11,93 @@ use Rattle.history_model.specs.Sets.{without_first}
 use Rattle.history_model.specs.Table.{table_words}
 use Rattle.locks_rule.specs.Steps.{is_free, load_writer_action, claim_writer_action, scan_row_action, after_asking, after_meeting}
 use Rattle.word_table.specs.declared.limits.TheConstants.{MOST_WORDS}
-use Rattle.word_table.specs.Copies.{Shows, ShowsPairs, IsCopy}
+use Rattle.word_table.specs.declared.copies.CallCopy.{CallCopy}
+use Rattle.word_table.specs.declared.copies.LockCopy.{LockCopy}
+use Rattle.word_table.specs.Copies.{Shows, ShowsPairs, IsLockCopy, IsCopy}
 
--- what a step leaves of the fields that a pass copies
-pub record Leaves (v w : View) (phase : Phase) (bits reads claims : List ℕ) (scans : List (ℕ × ℕ)) : Type 0 where
+-- what a pass relies on beside its copies
+pub record SameSeat (v w : View) : Type 0 where
   pub base : w.base ≡ v.base
   pub seats : w.seats ≡ v.seats
   pub who : w.who ≡ v.who
   pub due : w.due ≡ v.due
-  pub phase_is : w.phase ≡ phase
-  pub bits_are : w.bits ≡ bits
-  pub reads_are : w.reads ≡ reads
-  pub claims_are : w.claims ≡ claims
-  pub scans_are : w.scans ≡ scans
 
-pub copy_after : {seats who : ℕ} {phase : Phase} {bits reads claims scans : List ℕ} {table : TableId} {me : Me (Unit {0}) View} → IsCopy seats who phase bits reads claims scans table me
-    → (phase' : Phase) (bits' reads' claims' scans' : List ℕ) (table' : TableId) (me' : Me (Unit {0}) View) (w : View) {p : Phase} {bs rs cs : List ℕ} {ss : List (ℕ × ℕ)} → table' ≡ table → me' ≡ (w, me.1) → Leaves me.0 w p bs rs cs ss
-    → p ≡ phase' → Shows bits' bs → Shows reads' rs → Shows claims' cs → ShowsPairs scans' ss → IsCopy seats who phase' bits' reads' claims' scans' table' me'
-copy_after {seats} {who} {phase} {bits} {reads} {claims} {scans} {table} {me} i phase' bits' reads' claims' scans' table' me' w et em l ep sb sr sc ss =
-    subst (λ (t : TableId). IsCopy seats who phase' bits' reads' claims' scans' t me') (sym et)
-    (subst (λ (m : Me (Unit {0}) View). IsCopy seats who phase' bits' reads' claims' scans' table m) (sym em)
-    record {
-      slots = i.slots;
-      seats_are = l.seats ∙ i.seats_are;
-      who_is = l.who ∙ i.who_is;
-      phase_is = l.phase_is ∙ ep;
-      no_cause = l.due ∙ i.no_cause;
+pub steady : (v w : View) → w.base ≡ v.base → w.seats ≡ v.seats → w.who ≡ v.who → w.due ≡ v.due → SameSeat v w
+steady v w eb es ew ed = record { base = eb; seats = es; who = ew; due = ed }
+
+-- a pass's copies after a step of its seat, from the seat and from the copy of its locks
+pub copy_after : {call : CallCopy} {locks : LockCopy} {table : TableId} {me : Me (Unit {0}) View} → IsCopy call locks table me → (phase : Phase) (locks' : LockCopy) (table' : TableId) (me' : Me (Unit {0}) View) (w : View)
+    → table' ≡ table → me'.0 ≡ w → me'.1 ≡ me.1 → SameSeat me.0 w → w.phase ≡ phase → IsLockCopy locks' w → IsCopy (record call { phase = phase }) locks' table' me'
+copy_after {call} {locks} {table} {me} i phase locks' table' me' w et ew es same ep copy =
+    subst (λ (t : TableId). IsCopy (record call { phase = phase }) locks' t me') (sym et) record {
+      slots = es ∙ i.slots;
+      no_cause = ap (λ (x : View). x.due) ew ∙ (same.due ∙ i.no_cause);
       below = i.below;
       few = i.few;
-      short = subst (λ (b : List ℕ). length b ≤ MOST_WORDS) (sym l.base) i.short;
-      long = i.long ∙ ap (λ (b : List ℕ). table_words seats (length b)) (sym l.base);
-      bits_are = subst (λ (x : List ℕ). Shows bits' x) (sym l.bits_are) sb;
-      reads_are = subst (λ (x : List ℕ). Shows reads' x) (sym l.reads_are) sr;
-      claims_are = subst (λ (x : List ℕ). Shows claims' x) (sym l.claims_are) sc;
-      scans_are = subst (λ (x : List (ℕ × ℕ)). ShowsPairs scans' x) (sym l.scans_are) ss;
-    })
+      short = subst (λ (x : List ℕ). length x ≤ MOST_WORDS) (sym (ap (λ (x : View). x.base) ew ∙ same.base)) i.short;
+      long = i.long ∙ ap (λ (x : List ℕ). table_words call.seats (length x)) (sym (ap (λ (x : View). x.base) ew ∙ same.base));
+      call_is = record {
+        seats_are = ap (λ (x : View). x.seats) ew ∙ (same.seats ∙ i.call_is.seats_are);
+        who_is = ap (λ (x : View). x.who) ew ∙ (same.who ∙ i.call_is.who_is);
+        phase_is = ap (λ (x : View). x.phase) ew ∙ ep;
+      };
+      locks_are = subst (λ (x : View). IsLockCopy locks' x) (sym ew) copy;
+    }
 
-pub same_fields : (v w : View) → w.base ≡ v.base → w.seats ≡ v.seats → w.who ≡ v.who → w.due ≡ v.due → Leaves v w w.phase w.bits w.reads w.claims w.scans
-same_fields v w eb es ew ed = record { base = eb; seats = es; who = ew; due = ed; phase_is = refl; bits_are = refl; reads_are = refl; claims_are = refl; scans_are = refl }
+-- a copy that shows a view's four sets
+pub lock_copy : (copy : LockCopy) (v : View) → Shows copy.bits v.bits → Shows copy.reads v.reads → Shows copy.claims v.claims → ShowsPairs copy.scans.items v.scans → IsLockCopy copy v
+lock_copy copy v sb sr sc ss = record { bits_are = sb; reads_are = sr; claims_are = sc; scans_are = ss }
 
-pub load_leaves : (j k a : ℕ) (v : View) (w : ℕ) → Leaves v ((load_writer_action j k a v).view [] w) v.phase v.bits (if is_free j w then k ∷ v.reads else v.reads) v.claims v.scans
-load_leaves j k a v w = let granted : View = record (after_asking v a) { reads = k ∷ v.reads } in let met : View = after_meeting (after_asking v a) k (w - 1) in
-    elim (is_free j w) as (λ (b : Bool). Leaves v (if b then granted else met) v.phase v.bits (if b then k ∷ v.reads else v.reads) v.claims v.scans) [
-      | true ↦ same_fields v granted refl refl refl refl
-      | false ↦ same_fields v met refl refl refl refl
-    ]
+-- after a look at a writer word, by whether it was granted
+pub load_same : (j k a : ℕ) (v : View) (w : ℕ) → SameSeat v ((load_writer_action j k a v).view [] w)
+load_same j k a v w = let granted : View = record (after_asking v a) { reads = k ∷ v.reads } in let met : View = after_meeting (after_asking v a) k (w - 1) in
+    elim (is_free j w) as (λ (b : Bool). SameSeat v (if b then granted else met)) [ true ↦ steady v granted refl refl refl refl | false ↦ steady v met refl refl refl refl ]
 
-pub claim_leaves : (j k a : ℕ) (v : View) (w : ℕ) → Leaves v ((claim_writer_action j k a v).view [] w) v.phase v.bits v.reads (if w == 0 then k ∷ v.claims else v.claims) (if w == 0 then without_first k v.scans else v.scans)
-claim_leaves j k a v w = let won : View = record (after_asking v a) { claims = k ∷ v.claims; scans = without_first k v.scans } in let met : View = after_meeting (after_asking v a) k (w - 1) in
-    elim (w == 0) as (λ (b : Bool). Leaves v (if b then won else met) v.phase v.bits v.reads (if b then k ∷ v.claims else v.claims) (if b then without_first k v.scans else v.scans)) [
-      | true ↦ same_fields v won refl refl refl refl
-      | false ↦ same_fields v met refl refl refl refl
-    ]
+pub load_phase : (j k a : ℕ) (v : View) (w : ℕ) → ((load_writer_action j k a v).view [] w).phase ≡ v.phase
+load_phase j k a v w = let granted : View = record (after_asking v a) { reads = k ∷ v.reads } in let met : View = after_meeting (after_asking v a) k (w - 1) in
+    elim (is_free j w) as (λ (b : Bool). (if b then granted else met).phase ≡ v.phase) [ true ↦ refl | false ↦ refl ]
 
-pub scan_leaves : (j k i : ℕ) (v : View) (w : ℕ) → Leaves v ((scan_row_action j k i v).view [] w) v.phase v.bits v.reads v.claims (if bit_at w (k % 64) == 0 then (k, i) ∷ v.scans else v.scans)
-scan_leaves j k i v w = let clear : View = record v { scans = (k, i) ∷ v.scans } in
-    elim (bit_at w (k % 64) == 0) as (λ (b : Bool). Leaves v (if b then clear else after_meeting v k i) v.phase v.bits v.reads v.claims (if b then (k, i) ∷ v.scans else v.scans)) [
-      | true ↦ same_fields v clear refl refl refl refl
-      | false ↦ same_fields v (after_meeting v k i) refl refl refl refl
-    ]
+pub load_copy : (copy : LockCopy) (j k a : ℕ) (v : View) (w : ℕ) → Shows copy.bits v.bits → Shows copy.reads (if is_free j w then k ∷ v.reads else v.reads) → Shows copy.claims v.claims → ShowsPairs copy.scans.items v.scans
+    → IsLockCopy copy ((load_writer_action j k a v).view [] w)
+load_copy copy j k a v w sb sr sc ss = let granted : View = record (after_asking v a) { reads = k ∷ v.reads } in let met : View = after_meeting (after_asking v a) k (w - 1) in
+    (elim (is_free j w) as (λ (b : Bool). Shows copy.reads (if b then k ∷ v.reads else v.reads) → IsLockCopy copy (if b then granted else met)) [
+      | true ↦ λ s. record { bits_are = sb; reads_are = s; claims_are = sc; scans_are = ss }
+      | false ↦ λ s. record { bits_are = sb; reads_are = s; claims_are = sc; scans_are = ss }
+    ]) sr
+
+-- after a claim, by whether the writer word was 0
+pub claim_same : (j k a : ℕ) (v : View) (w : ℕ) → SameSeat v ((claim_writer_action j k a v).view [] w)
+claim_same j k a v w = let won : View = record (after_asking v a) { claims = k ∷ v.claims; scans = without_first k v.scans } in let met : View = after_meeting (after_asking v a) k (w - 1) in
+    elim (w == 0) as (λ (b : Bool). SameSeat v (if b then won else met)) [ true ↦ steady v won refl refl refl refl | false ↦ steady v met refl refl refl refl ]
+
+pub claim_phase : (j k a : ℕ) (v : View) (w : ℕ) → ((claim_writer_action j k a v).view [] w).phase ≡ v.phase
+claim_phase j k a v w = let won : View = record (after_asking v a) { claims = k ∷ v.claims; scans = without_first k v.scans } in let met : View = after_meeting (after_asking v a) k (w - 1) in
+    elim (w == 0) as (λ (b : Bool). (if b then won else met).phase ≡ v.phase) [ true ↦ refl | false ↦ refl ]
+
+pub claim_copy : (copy : LockCopy) (j k a : ℕ) (v : View) (w : ℕ) → Shows copy.bits v.bits → Shows copy.reads v.reads → Shows copy.claims (if w == 0 then k ∷ v.claims else v.claims) → ShowsPairs copy.scans.items (if w == 0 then without_first k v.scans else v.scans)
+    → IsLockCopy copy ((claim_writer_action j k a v).view [] w)
+claim_copy copy j k a v w sb sr sc ss = let won : View = record (after_asking v a) { claims = k ∷ v.claims; scans = without_first k v.scans } in let met : View = after_meeting (after_asking v a) k (w - 1) in
+    (elim (w == 0) as (λ (b : Bool). Shows copy.claims (if b then k ∷ v.claims else v.claims) → ShowsPairs copy.scans.items (if b then without_first k v.scans else v.scans) → IsLockCopy copy (if b then won else met)) [
+      | true ↦ λ s t. record { bits_are = sb; reads_are = sr; claims_are = s; scans_are = t }
+      | false ↦ λ s t. record { bits_are = sb; reads_are = sr; claims_are = s; scans_are = t }
+    ]) sc ss
+
+-- after a scan, by whether the bit was clear
+pub scan_same : (j k i : ℕ) (v : View) (w : ℕ) → SameSeat v ((scan_row_action j k i v).view [] w)
+scan_same j k i v w = let clear : View = record v { scans = (k, i) ∷ v.scans } in
+    elim (bit_at w (k % 64) == 0) as (λ (b : Bool). SameSeat v (if b then clear else after_meeting v k i)) [ true ↦ steady v clear refl refl refl refl | false ↦ steady v (after_meeting v k i) refl refl refl refl ]
+
+pub scan_phase : (j k i : ℕ) (v : View) (w : ℕ) → ((scan_row_action j k i v).view [] w).phase ≡ v.phase
+scan_phase j k i v w = let clear : View = record v { scans = (k, i) ∷ v.scans } in
+    elim (bit_at w (k % 64) == 0) as (λ (b : Bool). (if b then clear else after_meeting v k i).phase ≡ v.phase) [ true ↦ refl | false ↦ refl ]
+
+pub scan_copy : (copy : LockCopy) (j k i : ℕ) (v : View) (w : ℕ) → Shows copy.bits v.bits → Shows copy.reads v.reads → Shows copy.claims v.claims → ShowsPairs copy.scans.items (if bit_at w (k % 64) == 0 then (k, i) ∷ v.scans else v.scans)
+    → IsLockCopy copy ((scan_row_action j k i v).view [] w)
+scan_copy copy j k i v w sb sr sc ss = let clear : View = record v { scans = (k, i) ∷ v.scans } in
+    (elim (bit_at w (k % 64) == 0) as (λ (b : Bool). ShowsPairs copy.scans.items (if b then (k, i) ∷ v.scans else v.scans) → IsLockCopy copy (if b then clear else after_meeting v k i)) [
+      | true ↦ λ t. record { bits_are = sb; reads_are = sr; claims_are = sc; scans_are = t }
+      | false ↦ λ t. record { bits_are = sb; reads_are = sr; claims_are = sc; scans_are = t }
+    ]) ss
 
 -- the bit that the code looks at
 pub clear_bit : (masks : List ℕ) (w i : ℕ) (a b : List (ℕ × ℕ)) → ShowsPairs masks (if bit_and (w / 2 ^ i) 1 == 0 then a else b) → ShowsPairs masks (if bit_at w i == 0 then a else b)

@@ -1,8 +1,10 @@
-pub mod Soundness
 pub mod Rows
+pub mod Taken
+pub mod Soundness
 pub mod Opening
 pub mod Passes
 pub mod Found
 pub mod After
 pub mod Answering
 pub mod Staying
+pub mod RunLaws

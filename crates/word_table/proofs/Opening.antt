@@ -14,17 +14,23 @@ use Rattle.history_model.specs.declared.view.Phase.TheVariants.{Running}
 use Rattle.history_model.specs.Sets.{has, without, flag}
 use Rattle.history_model.specs.Table.{Knows, row_word, writer_word, value_word, table_words}
 use Rattle.locks_rule.specs.Locks.{LocksHold, IsSeat}
-use Rattle.locks_rule.specs.Splits.{opening_view, left_by_split, given_by_split, MaySplitSeat}
+use Rattle.locks_rule.specs.Splits.{opening_view, left_by_split, given_by_split, MaySplitSeat, KeepsSplit}
 use Rattle.history_model.proofs.SetLemmas.{differ, not_true, has-nil, pair-nil, has-join, has-join_same, has-join_old, without-absent}
 use Rattle.locks_rule.proofs.Splitting.{split_seat_keeps}
 use Rattle.word_table.specs.declared.limits.TheConstants.{MOST_PASSES, MOST_WORDS}
-use Rattle.word_table.specs.Copies.{Shows, IsCopy, PassView}
+use Rattle.word_table.specs.declared.copies.CallCopy.{CallCopy}
+use Rattle.word_table.specs.declared.copies.LockCopy.{LockCopy}
+use Rattle.word_table.specs.Copies.{Shows, ShowsPairs, IsCopy, PassView}
 use Rattle.word_table.specs.Sound.{IsSound, opening_words, numbers}
 
 zeros_at : (k : ℕ) (xs : List ℕ) (i : ℕ) → i < k → slice_index (replicate k 0 ++ xs) i ≡ 0
 zeros_at zero xs i h = absurd (omega arith)
 zeros_at (suc k) xs zero h = refl
 zeros_at (suc k) xs (suc i) h = zeros_at k xs i (omega arith)
+
+past_zeros : (k : ℕ) (xs : List ℕ) (i : ℕ) → slice_index (replicate k 0 ++ xs) (k + i) ≡ slice_index xs i
+past_zeros zero xs i = let e : 0 + i ≡ i = omega arith in ap (λ (m : ℕ). slice_index xs m) e
+past_zeros (suc k) xs i = let e : suc k + i ≡ suc (k + i) = omega arith in ap (λ (m : ℕ). slice_index (replicate (suc k) 0 ++ xs) m) e ∙ past_zeros k xs i
 
 zeros_long : (k : ℕ) (xs : List ℕ) → length (replicate k 0 ++ xs) ≡ k + length xs
 zeros_long zero xs = omega arith
@@ -45,7 +51,7 @@ one_view v zero u e = (refl, some-injective v u e)
 one_view v (suc id) u e = absurd (some-ne-none u (sym e))
 
 -- at the start no lock is held, and one view has all numbers
-opening_locks : (n : ℕ) (base : List ℕ) → LocksHold n (length base) (opening_words n base) (opening_view base n (numbers 0 n) [] ∷ [])
+opening_locks : (n : ℕ) (base : List ℕ) → LocksHold n base (opening_words n base) (opening_view base n (numbers 0 n) [] ∷ [])
 opening_locks n base =
     let v : View = opening_view base n (numbers 0 n) [] in
     let one : (id : ℕ) (u : View) → Knows (v ∷ []) id u → (id ≡ 0) × (v ≡ u) = one_view v in
@@ -68,16 +74,28 @@ opening_locks n base =
       numbers_placed = λ j lt. (0, v, record { knows = refl; named = numbers_have 0 n j (omega arith) (omega arith) });
       numbers_below = below;
       seats_alike = λ id j u s. sym (ap (λ (x : View). x.seats) (one id u s.knows).1);
-      bases_alike = λ id other i j u w s t. sym (ap (λ (x : View). x.base) (one id u s.knows).1) ∙ ap (λ (x : View). x.base) (one other w t.knows).1;
-      base_long = λ id j u s. sym (ap (λ (x : View). length x.base) (one id u s.knows).1);
+      bases_alike = λ id j u s. sym (ap (λ (x : View). x.base) (one id u s.knows).1);
     }
 
 module _ (good : List ℕ → Type 0) (n : ℕ) (base : List ℕ) where
   pub opening_sound : (ws : List ℕ) → ws ≡ opening_words n base → good base → IsSound good n base ws (opening_view base n (numbers 0 n) [] ∷ [])
-  opening_sound ws e fine = subst (λ (l : List ℕ). IsSound good n base l (opening_view base n (numbers 0 n) [] ∷ [])) (sym e) record { locks = opening_locks n base; base_good = fine }
+  opening_sound ws e fine = subst (λ (l : List ℕ). IsSound good n base l (opening_view base n (numbers 0 n) [] ∷ [])) (sym e) record {
+    locks = opening_locks n base;
+    base_good = fine;
+    counters_are_zero = λ i lt. zeros_at (value_word n 0) base i (omega arith);
+    values_are_base = λ a lt. let e : value_word n a ≡ value_word n 0 + a = omega arith in ap (λ (i : ℕ). slice_index (opening_words n base) i) e ∙ past_zeros (value_word n 0) base a;
+  }
+
+  pub split_kept : (j : ℕ) → KeepsSplit (IsSound good n base) (MaySplitSeat j) left_by_split given_by_split
+  split_kept j ws vs id v h known may = record {
+    locks = split_seat_keeps n base j ws vs id v h.locks known may;
+    base_good = h.base_good;
+    counters_are_zero = h.counters_are_zero;
+    values_are_base = h.values_are_base;
+  }
 
   split_sound : (id j : ℕ) (v : View) → MaySplitSeat j v → Splits (λ (s : State (Unit {0}) View). IsSound good n base s.words s.views) id v (left_by_split v) (given_by_split v)
-  split_sound id j v may s h known = record { locks = split_seat_keeps n (length base) j s.words s.views id v h.locks known may; base_good = h.base_good }
+  split_sound id j v may s h known = split_kept j s.words s.views id v h known may
 
 -- a view with what the seat has taken, which is nothing
 abbrev with_none : View → Me (Unit {0}) View
@@ -136,24 +154,23 @@ shows_none = record {
   near = λ k t. absurd (differ (has k []) t (has-nil k));
 }
 
-pub opening_copy : (base : List ℕ) (seats who : ℕ) (scans : List ℕ) (table : TableId) (me : Me (Unit {0}) View) → me ≡ (opening_view base seats (who ∷ []) [], []) → who < seats → seats ≤ MOST_PASSES → length base ≤ MOST_WORDS
-    → table.words ≡ table_words seats (length base) → scans ≡ replicate LOCKS 0 → IsCopy seats who Running (zeros 16) (zeros 16) (zeros 16) scans table me
-opening_copy base seats who scans table me em below few short long es = subst (λ (m : Me (Unit {0}) View). IsCopy seats who Running (zeros 16) (zeros 16) (zeros 16) scans table m) (sym em)
-    (subst (λ (l : List ℕ). IsCopy seats who Running (zeros 16) (zeros 16) (zeros 16) l table (opening_view base seats (who ∷ []) [], [])) (sym es) record {
-      slots = refl;
-      seats_are = refl;
-      who_is = refl;
-      phase_is = refl;
-      no_cause = refl;
-      below = below;
-      few = few;
-      short = short;
-      long = long;
-      bits_are = shows_none;
-      reads_are = shows_none;
-      claims_are = shows_none;
-      scans_are = record { each_lock = zeros_count LOCKS; bits = λ k j near lt. ap (λ (x : ℕ). bit_at x j) (zero_at LOCKS k) ∙ (bit_at-zero j ∙ sym (ap flag (pair-nil k j))) };
-    })
+pub opening_copy : (base : List ℕ) (call : CallCopy) (locks : LockCopy) (table : TableId) (me : Me (Unit {0}) View) → me ≡ (opening_view base call.seats (call.who ∷ []) [], []) → call.phase ≡ Running → call.who < call.seats → call.seats ≤ MOST_PASSES
+    → length base ≤ MOST_WORDS → table.words ≡ table_words call.seats (length base) → locks.bits ≡ zeros 16 → locks.reads ≡ zeros 16 → locks.claims ≡ zeros 16 → locks.scans.items ≡ replicate LOCKS 0 → IsCopy call locks table me
+opening_copy base call locks table me em running below few short long eb er ec es = subst (λ (m : Me (Unit {0}) View). IsCopy call locks table m) (sym em) record {
+  slots = refl;
+  no_cause = refl;
+  below = below;
+  few = few;
+  short = short;
+  long = long;
+  call_is = record { seats_are = refl; who_is = refl; phase_is = sym running };
+  locks_are = record {
+    bits_are = subst (λ (row : List ℕ). Shows row []) (sym eb) shows_none;
+    reads_are = subst (λ (row : List ℕ). Shows row []) (sym er) shows_none;
+    claims_are = subst (λ (row : List ℕ). Shows row []) (sym ec) shows_none;
+    scans_are = subst (λ (masks : List ℕ). ShowsPairs masks []) (sym es) record { each_lock = zeros_count LOCKS; bits = λ k j near lt. ap (λ (x : ℕ). bit_at x j) (zero_at LOCKS k) ∙ (bit_at-zero j ∙ sym (ap flag (pair-nil k j))) };
+  };
+}
 
 -- the first j passes of n
 pub record Dealt (base : List ℕ) (n : ℕ) (t : TableId) (j : ℕ) (passes : List PassView) : Type 0 where

@@ -1,11 +1,14 @@
--- What each call of a desk answers, and what it does to what the pass knows.
-use Rattle.std.specs.Prelude.{◌≡◌, ◌≢◌, ◌⊎◌, ℕ, ◌+◌, ◌-◌, ◌%◌, ◌<◌, false, [], ◌==◌, if◌then◌else◌}
+-- What each call of a desk answers, and what it does to what the pass knows. A step of a call is told of in a state of
+-- the table that is sound, as `sound` says.
+use Rattle.std.specs.Prelude.{◌≡◌, ◌≢◌, ◌⊎◌, ℕ, ◌+◌, ◌-◌, ◌%◌, ◌<◌, false, List, [], ◌==◌, if◌then◌else◌}
 use Rattle.std.specs.Int.{bit_at}
 use Rattle.history_model.specs.declared.view.View.{View}
-use Rattle.history_model.specs.Conflicts.{IsAt, IsConflict}
+use Rattle.history_model.specs.Conflicts.{IsConflict}
 use Rattle.history_model.specs.Locks.{lock_of_word}
 use Rattle.history_model.specs.Sets.{has}
-use Rattle.history_model.specs.Views.{number, HasReadGrant, HasClaim, HasWriteGrant, IsGranted}
+use Rattle.history_model.specs.Table.{Knows}
+use Rattle.history_model.specs.Views.{number, HasBit, HasReadGrant, HasClaim, HasWriteGrant, IsGranted}
+use Rattle.locks_rule.specs.Actions.{Action}
 use Rattle.locks_rule.specs.Steps.{is_free, set_read_bit_action, load_writer_action, claim_writer_action, scan_row_action}
 use Rattle.word_table.specs.declared.answer.Shared.{Shared}
 use Rattle.word_table.specs.declared.answer.Shared.TheVariants as shared
@@ -13,43 +16,31 @@ use Rattle.word_table.specs.declared.answer.Claimed.{Claimed}
 use Rattle.word_table.specs.declared.answer.Claimed.TheVariants as claimed
 use Rattle.word_table.specs.declared.answer.Scanned.{Scanned}
 use Rattle.word_table.specs.declared.answer.Scanned.TheVariants as scanned
+use Rattle.word_table.specs.Kinds.{TakenIn}
 
--- some seat i stood on lock k, with a read bit or a claim, when a word was found
-abbrev pub SomeoneAt : ℕ → ℕ → Type 0
-SomeoneAt k i = (other : View) × IsAt other k i
-
--- a number that the writer word of lock k had: where it is i + 1, seat i claimed the lock
-abbrev pub IsWriterWord : ℕ → ℕ → ℕ → Type 0
-IsWriterWord seats k w = (i : ℕ) → w ≡ i + 1 → (i < seats) × SomeoneAt k i
-
--- a number that the row word of seat i had: where its bit is set, seat i stood on the lock
-abbrev pub IsRowWord : ℕ → ℕ → ℕ → Type 0
-IsRowWord k i w = bit_at w (k % 64) ≢ 0 → SomeoneAt k i
-
--- the call met another seat, i, on lock k
-pub record MetOn (old new : View) (k i : ℕ) : Type 0 where
+-- the call that began with the view old met another seat, i, on lock k: by a step that it took from the view asking, in
+-- a state of the table in which that seat stood on the lock
+pub record MetOn (sound : List ℕ → List View → Type 0) (action : View → Action) (old asking new : View) (k i : ℕ) : Type 0 where
+  pub found : ℕ
+  pub taken : TakenIn sound (action asking) asking found new
   pub seat : i < old.seats
   pub other : has i old.who ≡ false
-  pub conflict : (u : View) × IsConflict old new u k i
+  pub place : ℕ
+  pub view : View
+  pub knows : Knows taken.views place view
+  pub conflict : IsConflict old new view k i
 
--- the call goes on as it was: asking for locks leaves all but what is known of locks
-pub record SameCall (old new : View) : Type 0 where
-  pub base : new.base ≡ old.base
-  pub seats : new.seats ≡ old.seats
-  pub who : new.who ≡ old.who
-  pub joined : new.joined ≡ old.joined
-  pub seen : new.seen ≡ old.seen
-  pub olds : new.olds ≡ old.olds
-  pub phase : new.phase ≡ old.phase
-  pub call : new.call ≡ old.call
-  pub floor : new.floor ≡ old.floor
-  pub trace : new.trace ≡ old.trace
-  pub undo : new.undo ≡ old.undo
-  pub waits : new.waits ≡ old.waits
-  pub stamp : new.stamp ≡ old.stamp
-  pub announced : new.announced ≡ old.announced
-  pub due : new.due ≡ old.due
-  pub abandoned : new.abandoned ≡ old.abandoned
+-- the call goes on as it was: all but what is known of locks is the same
+abbrev pub SameCall : View → View → Type 0
+SameCall old new = new ≡ record old {
+  bits = new.bits;
+  reads = new.reads;
+  claims = new.claims;
+  scans = new.scans;
+  asked = new.asked;
+  met = new.met;
+  meetings = new.meetings;
+}
 
 -- a lock that was held still is
 abbrev pub GrantsStay : View → View → Type 0
@@ -59,60 +50,67 @@ GrantsStay old new = (k : ℕ) → (HasReadGrant old k → HasReadGrant new k) �
 abbrev pub with_bit : ℕ → ℕ → View → View
 with_bit k a v = if has k v.bits then v else (set_read_bit_action (number v) k a v).view [] 0
 
--- what share answers to seat j where it loaded the writer word w
+-- the bit of word a's lock was set already, or a step set it
+abbrev pub MakesSeen : (List ℕ → List View → Type 0) → View → ℕ → Type 0
+MakesSeen sound v a =
+    HasBit v (lock_of_word a)
+    ⊎ ((found : ℕ) × TakenIn sound (set_read_bit_action (number v) (lock_of_word a) a v) v found (with_bit (lock_of_word a) a v))
+
+-- what share answers to seat j where it found the writer word to be w
 abbrev pub shared_of : ℕ → ℕ → Shared
 shared_of j w = if is_free j w then shared.Granted else shared.Met (w - 1)
 
 -- a seat whose bit is set looked at the writer word of word a's lock
-pub record Looked (v : View) (a : ℕ) (r : Shared) (u : View) : Type 0 where
-  pub word : ℕ
-  pub writer_word : IsWriterWord v.seats (lock_of_word a) word
-  pub view : u ≡ (load_writer_action (number v) (lock_of_word a) a v).view [] word
-  pub answer : r ≡ shared_of (number v) word
+pub record Looked (sound : List ℕ → List View → Type 0) (v : View) (a : ℕ) (r : Shared) (u : View) : Type 0 where
+  pub found : ℕ
+  pub taken : TakenIn sound (load_writer_action (number v) (lock_of_word a) a v) v found u
+  pub answer : r ≡ shared_of (number v) found
 
--- share set the bit, where it was not set, and loaded a writer word
-pub record AsksShared (v : View) (a : ℕ) (r : Shared) (u : View) : Type 0 where
-  pub word : ℕ
-  pub writer_word : IsWriterWord v.seats (lock_of_word a) word
-  pub view : u ≡ (load_writer_action (number v) (lock_of_word a) a (with_bit (lock_of_word a) a v)).view [] word
-  pub answer : r ≡ shared_of (number v) word
-  -- it met a seat exactly where the word is another seat's number and 1
-  pub met_named : (i : ℕ) → r ≡ shared.Met i → (word ≡ i + 1) × (i ≢ number v)
-  pub named_met : (i : ℕ) → word ≡ i + 1 → i ≢ number v → r ≡ shared.Met i
+-- share set the bit, where it was not set, and then loaded the writer word
+pub record AsksShared (sound : List ℕ → List View → Type 0) (v : View) (a : ℕ) (r : Shared) (u : View) : Type 0 where
+  pub makes_seen : MakesSeen sound v a
+  pub found : ℕ
+  pub taken : TakenIn sound (load_writer_action (number v) (lock_of_word a) a (with_bit (lock_of_word a) a v)) (with_bit (lock_of_word a) a v) found u
+  pub answer : r ≡ shared_of (number v) found
+  -- it met a seat exactly where the number found is another seat's and 1
+  pub met_named : (i : ℕ) → r ≡ shared.Met i → (found ≡ i + 1) × (i ≢ number v)
+  pub named_met : (i : ℕ) → found ≡ i + 1 → i ≢ number v → r ≡ shared.Met i
 
 -- a lock that is held takes no step, and any other is asked for
-abbrev pub SharedBy : View → ℕ → Shared → View → Type 0
-SharedBy v a r u = (IsGranted v (lock_of_word a) × (r ≡ shared.Granted) × (u ≡ v)) ⊎ (¬ IsGranted v (lock_of_word a) × AsksShared v a r u)
+abbrev pub SharedBy : (List ℕ → List View → Type 0) → View → ℕ → Shared → View → Type 0
+SharedBy sound v a r u =
+    (IsGranted v (lock_of_word a) × (r ≡ shared.Granted) × (u ≡ v))
+    ⊎ (¬ IsGranted v (lock_of_word a) × AsksShared sound v a r u)
 
--- what claim answers where it found the writer word w
+-- what claim answers where it found the writer word to be w
 abbrev pub claimed_of : ℕ → Claimed
 claimed_of w = if w == 0 then claimed.Pending else claimed.Met (w - 1)
 
 -- claim tried to make the writer word the seat's
-pub record AsksClaim (v : View) (a : ℕ) (r : Claimed) (u : View) : Type 0 where
-  pub word : ℕ
-  pub writer_word : IsWriterWord v.seats (lock_of_word a) word
-  pub view : u ≡ (claim_writer_action (number v) (lock_of_word a) a v).view [] word
-  pub answer : r ≡ claimed_of word
-  -- it met a seat exactly where the word is another seat's number and 1, and it never is the own one
-  pub not_own : word ≢ number v + 1
-  pub met_named : (i : ℕ) → r ≡ claimed.Met i → word ≡ i + 1
-  pub named_met : (i : ℕ) → word ≡ i + 1 → r ≡ claimed.Met i
+pub record AsksClaim (sound : List ℕ → List View → Type 0) (v : View) (a : ℕ) (r : Claimed) (u : View) : Type 0 where
+  pub found : ℕ
+  pub taken : TakenIn sound (claim_writer_action (number v) (lock_of_word a) a v) v found u
+  pub answer : r ≡ claimed_of found
+  -- it met a seat exactly where the number found is another seat's and 1, and it never is the own one
+  pub not_own : found ≢ number v + 1
+  pub met_named : (i : ℕ) → r ≡ claimed.Met i → found ≡ i + 1
+  pub named_met : (i : ℕ) → found ≡ i + 1 → r ≡ claimed.Met i
 
 -- a claim that stands takes no step
-abbrev pub ClaimedBy : View → ℕ → Claimed → View → Type 0
-ClaimedBy v a r u = (HasClaim v (lock_of_word a) × (r ≡ claimed.Pending) × (u ≡ v)) ⊎ (¬ HasClaim v (lock_of_word a) × AsksClaim v a r u)
+abbrev pub ClaimedBy : (List ℕ → List View → Type 0) → View → ℕ → Claimed → View → Type 0
+ClaimedBy sound v a r u =
+    (HasClaim v (lock_of_word a) × (r ≡ claimed.Pending) × (u ≡ v))
+    ⊎ (¬ HasClaim v (lock_of_word a) × AsksClaim sound v a r u)
 
--- what scan answers where it loaded the row word w of seat i
+-- what scan answers where it found the row word of seat i to be w
 abbrev pub scanned_of : ℕ → ℕ → ℕ → Scanned
 scanned_of k i w = if bit_at w (k % 64) == 0 then scanned.Clear else scanned.Met i
 
 -- scan loaded the row word of seat i
-pub record ScannedBy (v : View) (k i : ℕ) (r : Scanned) (u : View) : Type 0 where
-  pub word : ℕ
-  pub row_word : IsRowWord k i word
-  pub view : u ≡ (scan_row_action (number v) k i v).view [] word
-  pub answer : r ≡ scanned_of k i word
-  -- it met the seat exactly where the seat's bit was set in the word
-  pub met_set : (j : ℕ) → r ≡ scanned.Met j → (j ≡ i) × (bit_at word (k % 64) ≡ 1)
-  pub set_met : bit_at word (k % 64) ≡ 1 → r ≡ scanned.Met i
+pub record ScannedBy (sound : List ℕ → List View → Type 0) (v : View) (k i : ℕ) (r : Scanned) (u : View) : Type 0 where
+  pub found : ℕ
+  pub taken : TakenIn sound (scan_row_action (number v) k i v) v found u
+  pub answer : r ≡ scanned_of k i found
+  -- it met the seat exactly where the seat's bit was set in the number found
+  pub met_set : (j : ℕ) → r ≡ scanned.Met j → (j ≡ i) × (bit_at found (k % 64) ≡ 1)
+  pub set_met : bit_at found (k % 64) ≡ 1 → r ≡ scanned.Met i

@@ -5,9 +5,10 @@ use Rattle.atomic_table.specs.Table.{Me}
 use Rattle.atomic_table.specs.Seated.{TableId}
 use Rattle.history_model.specs.declared.TheConstants.{LOCKS}
 use Rattle.history_model.specs.declared.view.View.{View}
-use Rattle.history_model.specs.declared.view.Phase.{Phase}
 use Rattle.history_model.specs.Sets.{has, has_pair, flag}
 use Rattle.history_model.specs.Table.{table_words}
+use Rattle.word_table.specs.declared.copies.CallCopy.{CallCopy}
+use Rattle.word_table.specs.declared.copies.LockCopy.{LockCopy}
 use Rattle.word_table.specs.declared.limits.TheConstants.{MOST_PASSES, MOST_WORDS}
 
 -- a pass: the table that it is of, and what it knows
@@ -26,18 +27,26 @@ pub record ShowsPairs (masks : List ℕ) (pairs : List (ℕ × ℕ)) : Type 0 wh
   pub each_lock : length masks ≡ LOCKS
   pub bits : (k j : ℕ) → k < LOCKS → j < 64 → bit_at (slice_index masks k) j ≡ flag (has_pair k j pairs)
 
+-- the copy has the view's locks
+pub record IsLockCopy (copy : LockCopy) (v : View) : Type 0 where
+  pub bits_are : Shows copy.bits v.bits
+  pub reads_are : Shows copy.reads v.reads
+  pub claims_are : Shows copy.claims v.claims
+  pub scans_are : ShowsPairs copy.scans.items v.scans
+
+-- the copy has what the view says of the call
+pub record IsCallCopy (copy : CallCopy) (v : View) : Type 0 where
+  pub seats_are : v.seats ≡ copy.seats
+  pub who_is : v.who ≡ copy.who ∷ []
+  pub phase_is : v.phase ≡ copy.phase
+
 -- what a pass keeps is a copy of what its seat knows
-pub record IsCopy (seats who : ℕ) (phase : Phase) (bits reads claims scans : List ℕ) (table : TableId) (me : Me (Unit {0}) View) : Type 0 where
+pub record IsCopy (call : CallCopy) (locks : LockCopy) (table : TableId) (me : Me (Unit {0}) View) : Type 0 where
   pub slots : me.1 ≡ []
-  pub seats_are : me.0.seats ≡ seats
-  pub who_is : me.0.who ≡ who ∷ []
-  pub phase_is : me.0.phase ≡ phase
   pub no_cause : me.0.due ≡ None
-  pub below : who < seats
-  pub few : seats ≤ MOST_PASSES
+  pub below : call.who < call.seats
+  pub few : call.seats ≤ MOST_PASSES
   pub short : length me.0.base ≤ MOST_WORDS
-  pub long : table.words ≡ table_words seats (length me.0.base)
-  pub bits_are : Shows bits me.0.bits
-  pub reads_are : Shows reads me.0.reads
-  pub claims_are : Shows claims me.0.claims
-  pub scans_are : ShowsPairs scans me.0.scans
+  pub long : table.words ≡ table_words call.seats (length me.0.base)
+  pub call_is : IsCallCopy call me.0
+  pub locks_are : IsLockCopy locks me.0

@@ -1,6 +1,9 @@
--- What a desk is seen as.
+-- What a desk is seen as, and what holds of its table.
 use Rattle.std.specs.Prelude.{ℕ, List}
 use Rattle.atomic_table.specs.Seated.{TableId}
+use Rattle.history_model.specs.declared.view.View.{View}
+use Rattle.history_model.specs.Fitting.{IsGood}
+use Rattle.word_table.specs.Sound.{IsSound}
 
 -- a desk: which table it is, the words that it began with, how many seats it has, and which words are good
 pub record DeskView (S : Type 0) : Type 0 where
@@ -8,3 +11,7 @@ pub record DeskView (S : Type 0) : Type 0 where
   pub base : List ℕ
   pub seats : ℕ
   pub shape : S
+
+-- the rule of a desk's table; word_count and good are those of the shape
+abbrev pub DeskHolds : {S : Type 0} → (S → ℕ) → (S → List ℕ → Type 0) → DeskView S → List ℕ → List View → Type 0
+DeskHolds word_count good desk = IsSound (IsGood (word_count desk.shape) (good desk.shape)) desk.seats desk.base

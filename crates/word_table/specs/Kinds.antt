@@ -18,29 +18,31 @@ action_of (ClaimWriter j k a) v = claim_writer_action j k a v
 action_of (ScanRow j k i) v = scan_row_action j k i v
 action_of (ReleaseWriter j k) v = release_writer_action j k v
 
--- a seat that knows v may take the step
-abbrev pub May : Step → View → Type 0
-May (SetReadBit j k a) v = MaySetReadBit j k a v
-May (ClearReadBit j k) v = MayClearReadBit j k v
-May (LoadWriter j k a) v = MayLoadWriter j k a v
-May (ClaimWriter j k a) v = MayClaimWriter j k a v
-May (ScanRow j k i) v = MayScanRow j k i v
-May (ReleaseWriter j k) v = MayReleaseWriter j k v
+-- a seat that knows v may take the step, where these are the good lists of words
+abbrev pub May : (List ℕ → Type 0) → Step → View → Type 0
+May good (SetReadBit j k a) v = MaySetReadBit j k a v
+May good (ClearReadBit j k) v = MayClearReadBit j k v
+May good (LoadWriter j k a) v = MayLoadWriter j k a v
+May good (ClaimWriter j k a) v = MayClaimWriter j k a v
+May good (ScanRow j k i) v = MayScanRow j k i v
+May good (ReleaseWriter j k) v = MayReleaseWriter j k v
 
 -- the number is what the step writes, whatever the table is when a seat that knows v takes it
 abbrev pub Stores : Action → View → ℕ → Type 0
 Stores action v new =
-    (n values : ℕ) (words : List ℕ) (views : List View) (id : ℕ)
-    → LocksHold n values words views → Knows views id v → found_by action words < 2 ^ 64 → action.writes (found_by action words) ≡ new
+    (n : ℕ) (base words : List ℕ) (views : List View) (id : ℕ)
+    → LocksHold n base words views → Knows views id v → found_by action words < 2 ^ 64 → action.writes (found_by action words) ≡ new
 
--- the step found w in a state that met the rule, where the seat knew what it knew, and now it knows what the step says
-pub record Took (action : Action) (me after : Me (Unit {0}) View) (w : ℕ) : Type 0 where
-  pub n : ℕ
-  pub values : ℕ
+-- in a state of the table that is sound, where it knew old, a seat took the step that found this number, and then knew new
+pub record TakenIn (sound : List ℕ → List View → Type 0) (action : Action) (old : View) (found : ℕ) (new : View) : Type 0 where
   pub words : List ℕ
   pub views : List View
-  pub id : ℕ
-  pub locks : LocksHold n values words views
-  pub known : Knows views id me.0
-  pub found : found_by action words ≡ w
-  pub after_is : after ≡ (action.view (history_of views) w, me.1)
+  pub place : ℕ
+  pub holds : sound words views
+  pub knows : Knows views place old
+  pub found_is : found_by action words ≡ found
+  pub view : new ≡ action.view (history_of views) found
+
+-- the same, of what the atomic table says that a seat has
+abbrev pub Took : (List ℕ → List View → Type 0) → Action → Me (Unit {0}) View → Me (Unit {0}) View → ℕ → Type 0
+Took sound action me after found = TakenIn sound action me.0 found after.0 × (after.1 ≡ me.1)

@@ -5,3 +5,4 @@ pub mod Kinds
 pub mod Desks
 pub mod Unscanned
 pub mod Calls
+pub mod Runs

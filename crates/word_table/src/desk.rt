@@ -5,8 +5,10 @@ ghost use Rattle.history_model.specs.Fitting.{IsGood};
 ghost use Rattle.history_model.specs.Locks.{lock_of_word};
 ghost use Rattle.history_model.specs.Views.{number, HasBit, HasReadGrant, HasClaim, IsScanned, IsGranted};
 ghost use Rattle.locks_rule.specs.Splits.{opening_view};
-ghost use Rattle.locks_rule.specs.Steps.{release_writer_action, clear_read_bit_action};
-ghost use Rattle.word_table.specs.Calls.{SharedBy, ClaimedBy, ScannedBy, MetOn, SameCall, GrantsStay};
+ghost use Rattle.locks_rule.specs.Steps.{load_writer_action, claim_writer_action, scan_row_action, release_writer_action, clear_read_bit_action};
+ghost use Rattle.word_table.specs.Calls.{SharedBy, ClaimedBy, ScannedBy, MetOn, SameCall, GrantsStay, with_bit};
+ghost use Rattle.word_table.specs.Desks.{DeskHolds};
+ghost use Rattle.word_table.specs.Kinds.{TakenIn};
 ghost use Rattle.word_table.specs.Sound.{opening_words};
 
 use crate::answer::{Claimed, Scanned, Shared, claimed_by};
@@ -91,9 +93,11 @@ impl<S: Shape> Desk<S> {
         requires phase { pass.old.view.phase ≡ Phase.Running }
         requires word { a < length pass.old.view.base }
         ensures desk { pass.new.table ≡ pass.old.table }
-        ensures step { SharedBy pass.old.view a result pass.new.view }
+        ensures step { SharedBy (DeskHolds S.word_count S.good self.now) pass.old.view a result pass.new.view }
         ensures granted { result ≡ Shared.Granted → IsGranted pass.new.view (lock_of_word a) }
-        ensures met { (j : ℕ) → result ≡ Shared.Met j → MetOn pass.old.view pass.new.view (lock_of_word a) j }
+        ensures met { (j : ℕ) → result ≡ Shared.Met j → MetOn (DeskHolds S.word_count S.good self.now)
+            (load_writer_action (number pass.old.view) (lock_of_word a) a)
+            pass.old.view (with_bit (lock_of_word a) a pass.old.view) pass.new.view (lock_of_word a) j }
         ensures bit { (j : ℕ) → result ≡ Shared.Met j → HasBit pass.new.view (lock_of_word a) }
         ensures held { IsGranted pass.old.view (lock_of_word a)
             → (result ≡ Shared.Granted) × (pass.new.view ≡ pass.old.view) }
@@ -116,9 +120,11 @@ impl<S: Shape> Desk<S> {
         requires phase { pass.old.view.phase ≡ Phase.Running }
         requires word { a < length pass.old.view.base }
         ensures desk { pass.new.table ≡ pass.old.table }
-        ensures step { ClaimedBy pass.old.view a result pass.new.view }
+        ensures step { ClaimedBy (DeskHolds S.word_count S.good self.now) pass.old.view a result pass.new.view }
         ensures pending { result ≡ Claimed.Pending → HasClaim pass.new.view (lock_of_word a) }
-        ensures met { (j : ℕ) → result ≡ Claimed.Met j → MetOn pass.old.view pass.new.view (lock_of_word a) j }
+        ensures met { (j : ℕ) → result ≡ Claimed.Met j → MetOn (DeskHolds S.word_count S.good self.now)
+            (claim_writer_action (number pass.old.view) (lock_of_word a) a)
+            pass.old.view pass.old.view pass.new.view (lock_of_word a) j }
         ensures held { HasClaim pass.old.view (lock_of_word a)
             → (result ≡ Claimed.Pending) × (pass.new.view ≡ pass.old.view) }
         ensures held_if { pass.new.view ≡ pass.old.view → HasClaim pass.old.view (lock_of_word a) }
@@ -139,9 +145,10 @@ impl<S: Shape> Desk<S> {
         requires claim { (k < LOCKS) × HasClaim pass.old.view k }
         requires other { (other < pass.old.view.seats) × (other ≢ number pass.old.view) }
         ensures desk { pass.new.table ≡ pass.old.table }
-        ensures step { ScannedBy pass.old.view k other result pass.new.view }
+        ensures step { ScannedBy (DeskHolds S.word_count S.good self.now) pass.old.view k other result pass.new.view }
         ensures clear { result ≡ Scanned.Clear → IsScanned pass.new.view k other }
-        ensures met { (j : ℕ) → result ≡ Scanned.Met j → (j ≡ other) × MetOn pass.old.view pass.new.view k j }
+        ensures met { (j : ℕ) → result ≡ Scanned.Met j → (j ≡ other) × MetOn (DeskHolds S.word_count S.good self.now)
+            (scan_row_action (number pass.old.view) k other) pass.old.view pass.old.view pass.new.view k j }
         ensures call { SameCall pass.old.view pass.new.view }
         ensures grants { GrantsStay pass.old.view pass.new.view }
     {
@@ -156,6 +163,8 @@ impl<S: Shape> Desk<S> {
         requires begun { pass.old.view.phase ≢ Phase.Idle }
         ensures desk { pass.new.table ≡ pass.old.table }
         ensures step { pass.new.view ≡ (release_writer_action (number pass.old.view) k pass.old.view).view [] 0 }
+        ensures taken { (found : ℕ) × TakenIn (DeskHolds S.word_count S.good self.now)
+            (release_writer_action (number pass.old.view) k pass.old.view) pass.old.view found pass.new.view }
         ensures gone { ¬ HasClaim pass.new.view k }
     {
         pass.release_writer(&self.table.shared, k);
@@ -169,6 +178,8 @@ impl<S: Shape> Desk<S> {
         requires begun { pass.old.view.phase ≢ Phase.Idle }
         ensures desk { pass.new.table ≡ pass.old.table }
         ensures step { pass.new.view ≡ (clear_read_bit_action (number pass.old.view) k pass.old.view).view [] 0 }
+        ensures taken { (found : ℕ) × TakenIn (DeskHolds S.word_count S.good self.now)
+            (clear_read_bit_action (number pass.old.view) k pass.old.view) pass.old.view found pass.new.view }
         ensures gone { ¬ HasBit pass.new.view k × ¬ HasReadGrant pass.new.view k }
     {
         pass.clear_read_bit(&self.table.shared, k);

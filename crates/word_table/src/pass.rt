@@ -1,6 +1,6 @@
 //! One caller's seat, with its own copy of what it knows of locks.
 //!
-//! The copy has a fixed size, which `Desk::new` makes. The rest of what a pass knows is its view, which exists in
+//! The copies have a fixed size, which `Desk::new` makes. The rest of what a pass knows is its view, which exists in
 //! contracts alone.
 
 ghost use Rattle.std.specs.Prelude.{◌≡◌, ◌≢◌, ◌⊎◌, ◌↔◌, ◌<◌, ◌≤◌, ◌+◌, ℕ, true, false, IsTrue, IfSome, IsNone, length, [], ◌∷◌, None, replicate};
@@ -10,11 +10,14 @@ ghost use Rattle.history_model.specs.Table.{table_words};
 ghost use Rattle.history_model.specs.Views.{number, HasBit, HasReadGrant, HasClaim, IsScanned, HasWriteGrant, IsGranted};
 ghost use Rattle.locks_rule.specs.Splits.{opening_view};
 ghost use Rattle.locks_rule.specs.Steps.{released_phase, set_read_bit_action, clear_read_bit_action, load_writer_action, claim_writer_action, scan_row_action, release_writer_action};
-ghost use Rattle.word_table.specs.Calls.{IsWriterWord, IsRowWord, Looked, ScannedBy, with_bit};
+ghost use Rattle.word_table.specs.Calls.{Looked, MakesSeen, ScannedBy, with_bit};
+ghost use Rattle.word_table.specs.Kinds.{TakenIn};
 ghost use Rattle.word_table.specs.Least.{IsLeast};
+ghost use Rattle.word_table.specs.Sound.{GroundHolds};
 ghost use Rattle.word_table.specs.Unscanned.{IsUnscanned};
 
 use crate::answer::{Scanned, Shared, is_unclaimed, scanned_by, shared_by};
+use crate::copies::{CallCopy, LockCopy};
 use crate::layout::{place_of_bit, place_of_writer};
 use crate::limits::{MOST_PASSES, MOST_WORDS};
 use crate::rule::TableWords;
@@ -38,13 +41,8 @@ fn after_release(phase: Phase) -> Phase
 #[derive(Drop)]
 pub struct Pass<S> {
     seat: Seat<(), View>,
-    seats: u32,
-    who: u32,
-    phase: Phase,
-    bits: [u64; 16],
-    reads: [u64; 16],
-    claims: [u64; 16],
-    scans: Vec<u64>,
+    call: CallCopy,
+    locks: LockCopy,
     shape: PhantomData<S>,
 }
 
@@ -55,7 +53,7 @@ impl<S> Model for Pass<S> {
 
     ghost view = { λ p. record { table = p.seat.table_id; view = p.seat.me.0 } };
 
-    ghost invariant = { λ p. IsCopy p.seats p.who p.phase p.bits p.reads p.claims p.scans.items p.seat.table_id p.seat.me };
+    ghost invariant = { λ p. IsCopy p.call p.locks p.seat.table_id p.seat.me };
 }
 
 impl<S: Shape> Pass<S> {
@@ -68,15 +66,21 @@ impl<S: Shape> Pass<S> {
         ensures table { result.table ≡ seat.table_id }
         ensures view { result.view ≡ opening_view seat.me.0.base seats (who ∷ []) [] }
     {
-        Pass {
-            seat,
+        let call = CallCopy {
             seats,
             who,
             phase: Phase::Running,
+        };
+        let locks = LockCopy {
             bits: [0; 16],
             reads: [0; 16],
             claims: [0; 16],
             scans,
+        };
+        Pass {
+            seat,
+            call,
+            locks,
             shape: PhantomData,
         }
     }
@@ -87,28 +91,28 @@ impl<S: Shape> Pass<S> {
         ensures one { self.now.view.who ≡ result ∷ [] }
         ensures seat { result < self.now.view.seats }
     {
-        self.who
+        self.call.who
     }
 
     /// Where the pass is in its calls.
     pub fn phase(&self) -> Phase
         ensures { result ≡ self.now.view.phase }
     {
-        self.phase
+        self.call.phase
     }
 
     pub(crate) fn has_bit(&self, k: u32) -> bool
         requires { k < LOCKS }
         ensures { result ≡ has k self.now.view.bits }
     {
-        bits::test(&self.bits, k)
+        bits::test(&self.locks.bits, k)
     }
 
     pub(crate) fn has_claim(&self, k: u32) -> bool
         requires { k < LOCKS }
         ensures { result ≡ has k self.now.view.claims }
     {
-        bits::test(&self.claims, k)
+        bits::test(&self.locks.claims, k)
     }
 
     /// Whether the lock is held for reading. A lock that is held for writing need not be.
@@ -116,7 +120,7 @@ impl<S: Shape> Pass<S> {
         requires { k < LOCKS }
         ensures { IsTrue result ↔ HasReadGrant self.now.view k }
     {
-        bits::test(&self.reads, k)
+        bits::test(&self.locks.reads, k)
     }
 
     // Whether the seat `other` was found clear for the own claim on the lock.
@@ -124,7 +128,7 @@ impl<S: Shape> Pass<S> {
         requires { (k < LOCKS) × (other < 64) }
         ensures { result ≡ has_pair k other self.now.view.scans }
     {
-        (self.scans[k as usize] >> other) & 1 == 1
+        (self.locks.scans[k as usize] >> other) & 1 == 1
     }
 
     // Whether the seat is another, and not yet found clear for the lock.
@@ -132,7 +136,7 @@ impl<S: Shape> Pass<S> {
         requires { (k < LOCKS) × (other < 64) }
         ensures { IsTrue result ↔ ((has other self.now.view.who ≡ false) × (has_pair k other self.now.view.scans ≡ false)) }
     {
-        if other == self.who {
+        if other == self.call.who {
             return false;
         }
         !self.is_scanned(k, other)
@@ -147,7 +151,7 @@ impl<S: Shape> Pass<S> {
         if !self.has_claim(k) {
             return None;
         }
-        for other in 0..self.seats {
+        for other in 0..self.call.seats {
             if self.is_to_scan(k, other) {
                 return Some(other);
             }
@@ -182,7 +186,7 @@ impl<S: Shape> Pass<S> {
         ensures least { IsLeast (HasClaim self.now.view) result }
         ensures lock { IfSome result (λ k. k < LOCKS) }
     {
-        bits::least(&self.claims)
+        bits::least(&self.locks.claims)
     }
 
     /// The least lock whose read bit the pass has set.
@@ -190,7 +194,7 @@ impl<S: Shape> Pass<S> {
         ensures least { IsLeast (HasBit self.now.view) result }
         ensures lock { IfSome result (λ k. k < LOCKS) }
     {
-        bits::least(&self.bits)
+        bits::least(&self.locks.bits)
     }
 
     // The store of the own row with the lock's bit set, for the word a.
@@ -200,21 +204,23 @@ impl<S: Shape> Pass<S> {
         requires bit { ¬ IsGranted self.old.view (lock_of_word a) × ¬ HasBit self.old.view (lock_of_word a) }
         ensures table { self.new.table ≡ self.old.table }
         ensures view { self.new.view ≡ (set_read_bit_action (number self.old.view) (lock_of_word a) a self.old.view).view [] 0 }
+        ensures taken { (found : ℕ) × TakenIn (GroundHolds S.word_count S.good table.now.key)
+            (set_read_bit_action (number self.old.view) (lock_of_word a) a self.old.view) self.old.view found self.new.view }
     {
         let lock = lock_of(a);
-        let new = bits::raised(&self.bits, lock);
+        let new = bits::raised(&self.locks.bits, lock);
         step::store(
             table,
             &mut self.seat,
-            place_of_bit(self.seats, self.who, lock),
+            place_of_bit(self.call.seats, self.call.who, lock),
             new,
             &Step::SetReadBit {
-                seat: self.who,
+                seat: self.call.who,
                 lock,
                 word: a,
             },
         );
-        bits::raise(&mut self.bits, lock);
+        bits::raise(&mut self.locks.bits, lock);
     }
 
     // Sets the bit of the lock of word a, where it is not set.
@@ -224,8 +230,9 @@ impl<S: Shape> Pass<S> {
         requires granted { ¬ IsGranted self.old.view (lock_of_word a) }
         ensures table { self.new.table ≡ self.old.table }
         ensures view { self.new.view ≡ with_bit (lock_of_word a) a self.old.view }
+        ensures seen { MakesSeen (GroundHolds S.word_count S.good table.now.key) self.old.view a }
         ensures phase { self.new.view.phase ≡ Phase.Running }
-        ensures bit { ¬ IsGranted self.new.view (lock_of_word a) × HasBit self.new.view (lock_of_word a) }
+        ensures bit { HasBit self.new.view (lock_of_word a) }
     {
         if self.has_bit(lock_of(a)) {
             return;
@@ -237,25 +244,25 @@ impl<S: Shape> Pass<S> {
     pub(crate) fn load_writer(&mut self, table: &TableWords<S>, a: u64) -> u64
         requires table { self.old.table ≡ table.now.table_id }
         requires phase { self.old.view.phase ≡ Phase.Running }
-        requires bit { ¬ IsGranted self.old.view (lock_of_word a) × HasBit self.old.view (lock_of_word a) }
+        requires bit { HasBit self.old.view (lock_of_word a) }
         ensures table { self.new.table ≡ self.old.table }
-        ensures view { self.new.view ≡ (load_writer_action (number self.old.view) (lock_of_word a) a self.old.view).view [] result }
-        ensures word { IsWriterWord self.old.view.seats (lock_of_word a) result }
+        ensures taken { TakenIn (GroundHolds S.word_count S.good table.now.key)
+            (load_writer_action (number self.old.view) (lock_of_word a) a self.old.view) self.old.view result self.new.view }
         ensures small { result ≤ MOST_PASSES }
     {
         let lock = lock_of(a);
         let found = step::load(
             table,
             &mut self.seat,
-            place_of_writer(self.seats, lock),
+            place_of_writer(self.call.seats, lock),
             &Step::LoadWriter {
-                seat: self.who,
+                seat: self.call.who,
                 lock,
                 word: a,
             },
         );
-        let unclaimed = is_unclaimed(found, self.who);
-        bits::raise_if(&mut self.reads, lock, unclaimed);
+        let unclaimed = is_unclaimed(found, self.call.who);
+        bits::raise_if(&mut self.locks.reads, lock, unclaimed);
         found
     }
 
@@ -263,9 +270,9 @@ impl<S: Shape> Pass<S> {
     pub(crate) fn look(&mut self, table: &TableWords<S>, a: u64) -> Shared
         requires table { self.old.table ≡ table.now.table_id }
         requires phase { self.old.view.phase ≡ Phase.Running }
-        requires bit { ¬ IsGranted self.old.view (lock_of_word a) × HasBit self.old.view (lock_of_word a) }
+        requires bit { HasBit self.old.view (lock_of_word a) }
         ensures table { self.new.table ≡ self.old.table }
-        ensures looked { Looked self.old.view a result self.new.view }
+        ensures looked { Looked (GroundHolds S.word_count S.good table.now.key) self.old.view a result self.new.view }
         ensures one { self.old.view.who ≡ number self.old.view ∷ [] }
     {
         let who = self.who();
@@ -279,29 +286,29 @@ impl<S: Shape> Pass<S> {
         requires phase { self.old.view.phase ≡ Phase.Running }
         requires claim { ¬ HasClaim self.old.view (lock_of_word a) }
         ensures table { self.new.table ≡ self.old.table }
-        ensures view { self.new.view ≡ (claim_writer_action (number self.old.view) (lock_of_word a) a self.old.view).view [] result }
-        ensures word { IsWriterWord self.old.view.seats (lock_of_word a) result }
+        ensures taken { TakenIn (GroundHolds S.word_count S.good table.now.key)
+            (claim_writer_action (number self.old.view) (lock_of_word a) a self.old.view) self.old.view result self.new.view }
         ensures other { result ≢ number self.old.view + 1 }
         ensures small { result ≤ MOST_PASSES }
         ensures one { self.old.view.who ≡ number self.old.view ∷ [] }
     {
         let lock = lock_of(a);
-        let own = u64::from(self.who) + 1;
+        let own = u64::from(self.call.who) + 1;
         let found = step::exchange(
             table,
             &mut self.seat,
-            place_of_writer(self.seats, lock),
+            place_of_writer(self.call.seats, lock),
             0,
             own,
             &Step::ClaimWriter {
-                seat: self.who,
+                seat: self.call.who,
                 lock,
                 word: a,
             },
         );
         let won = found == 0;
-        bits::raise_if(&mut self.claims, lock, won);
-        bits::forget_if(&mut self.scans, lock, won);
+        bits::raise_if(&mut self.locks.claims, lock, won);
+        bits::forget_if(&mut self.locks.scans, lock, won);
         found
     }
 
@@ -312,22 +319,22 @@ impl<S: Shape> Pass<S> {
         requires claim { (k < LOCKS) × HasClaim self.old.view k }
         requires other { (other < self.old.view.seats) × (other ≢ number self.old.view) }
         ensures table { self.new.table ≡ self.old.table }
-        ensures view { self.new.view ≡ (scan_row_action (number self.old.view) k other self.old.view).view [] result }
-        ensures word { IsRowWord k other result }
+        ensures taken { TakenIn (GroundHolds S.word_count S.good table.now.key)
+            (scan_row_action (number self.old.view) k other self.old.view) self.old.view result self.new.view }
         ensures one { self.old.view.who ≡ number self.old.view ∷ [] }
     {
         let found = step::load(
             table,
             &mut self.seat,
-            place_of_bit(self.seats, other, k),
+            place_of_bit(self.call.seats, other, k),
             &Step::ScanRow {
-                seat: self.who,
+                seat: self.call.who,
                 lock: k,
                 other,
             },
         );
         let clear = (found >> (k % 64)) & 1 == 0;
-        bits::note_if(&mut self.scans, k, other, clear);
+        bits::note_if(&mut self.locks.scans, k, other, clear);
         found
     }
 
@@ -338,7 +345,7 @@ impl<S: Shape> Pass<S> {
         requires claim { (k < LOCKS) × HasClaim self.old.view k }
         requires other { (other < self.old.view.seats) × (other ≢ number self.old.view) }
         ensures table { self.new.table ≡ self.old.table }
-        ensures scanned { ScannedBy self.old.view k other result self.new.view }
+        ensures scanned { ScannedBy (GroundHolds S.word_count S.good table.now.key) self.old.view k other result self.new.view }
         ensures one { self.old.view.who ≡ number self.old.view ∷ [] }
     {
         let found = self.scan_row(table, k, other);
@@ -353,22 +360,24 @@ impl<S: Shape> Pass<S> {
         requires begun { self.old.view.phase ≢ Phase.Idle }
         ensures table { self.new.table ≡ self.old.table }
         ensures view { self.new.view ≡ (release_writer_action (number self.old.view) k self.old.view).view [] 0 }
+        ensures taken { (found : ℕ) × TakenIn (GroundHolds S.word_count S.good table.now.key)
+            (release_writer_action (number self.old.view) k self.old.view) self.old.view found self.new.view }
     {
         let nobody = 0;
         step::store(
             table,
             &mut self.seat,
-            place_of_writer(self.seats, k),
+            place_of_writer(self.call.seats, k),
             nobody,
             &Step::ReleaseWriter {
-                seat: self.who,
+                seat: self.call.who,
                 lock: k,
             },
         );
-        bits::lower(&mut self.claims, k);
-        bits::forget_if(&mut self.scans, k, true);
-        let after_unclaim = after_release(self.phase);
-        self.phase = after_unclaim;
+        bits::lower(&mut self.locks.claims, k);
+        bits::forget_if(&mut self.locks.scans, k, true);
+        let after_unclaim = after_release(self.call.phase);
+        self.call.phase = after_unclaim;
     }
 
     // The store of the own row with the lock's bit cleared.
@@ -379,21 +388,23 @@ impl<S: Shape> Pass<S> {
         requires begun { self.old.view.phase ≢ Phase.Idle }
         ensures table { self.new.table ≡ self.old.table }
         ensures view { self.new.view ≡ (clear_read_bit_action (number self.old.view) k self.old.view).view [] 0 }
+        ensures taken { (found : ℕ) × TakenIn (GroundHolds S.word_count S.good table.now.key)
+            (clear_read_bit_action (number self.old.view) k self.old.view) self.old.view found self.new.view }
     {
-        let new = bits::lowered(&self.bits, k);
+        let new = bits::lowered(&self.locks.bits, k);
         step::store(
             table,
             &mut self.seat,
-            place_of_bit(self.seats, self.who, k),
+            place_of_bit(self.call.seats, self.call.who, k),
             new,
             &Step::ClearReadBit {
-                seat: self.who,
+                seat: self.call.who,
                 lock: k,
             },
         );
-        bits::lower(&mut self.bits, k);
-        bits::lower(&mut self.reads, k);
-        let after_unshare = after_release(self.phase);
-        self.phase = after_unshare;
+        bits::lower(&mut self.locks.bits, k);
+        bits::lower(&mut self.locks.reads, k);
+        let after_unshare = after_release(self.call.phase);
+        self.call.phase = after_unshare;
     }
 }

@@ -1,8 +1,8 @@
-//! The rule that a table keeps between any two steps.
+//! The rule that a desk's table keeps between any two steps: `IsSound` of `specs/Sound`.
 
 ghost use Rattle.locks_rule.specs.Splits.{opening_view};
 ghost use Rattle.std.specs.Prelude.{[]};
-ghost use Rattle.word_table.specs.Sound.{IsSound, numbers};
+ghost use Rattle.word_table.specs.Sound.{GroundHolds, numbers};
 
 use atomic_table::TableRule;
 use history_model::{Shape, View};
@@ -11,8 +11,11 @@ use std::marker::PhantomData;
 /// What a table was made with, which no step changes.
 #[derive(Drop)]
 pub struct Ground<S> {
+    /// How many seats there are.
     pub seats: u32,
+    /// The words that the memory began with.
     pub base: Vec<u64>,
+    /// Which words are good.
     pub shape: S,
 }
 
@@ -22,9 +25,9 @@ pub struct DeskRule<S> {
 }
 
 impl<S: Shape> TableRule<(), View, Ground<S>> for DeskRule<S> {
-    ghost holds = { λ ground s. IsSound (S.good ground.shape) ground.seats ground.base.items s.words s.views };
+    ghost holds = { λ made s. GroundHolds S.word_count S.good made s.words s.views };
 
-    ghost first = { λ ground. opening_view ground.base.items ground.seats (numbers 0 ground.seats) [] };
+    ghost first = { λ made. opening_view made.base.items made.seats (numbers 0 made.seats) [] };
 }
 
 /// The words of a desk's table, as threads share them.

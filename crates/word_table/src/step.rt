@@ -4,36 +4,58 @@
 
 ghost use Rattle.std.specs.Prelude.{List, ◌≡◌, ◌<◌, ◌==◌, ◌+◌, ℕ, [], if◌then◌else◌};
 ghost use Rattle.history_model.specs.declared.entry.Entry.{Entry};
+ghost use Rattle.history_model.specs.declared.view.View.{View};
 ghost use Rattle.locks_rule.specs.Actions.{Action};
+ghost use Rattle.history_model.specs.Fitting.{IsGood};
 ghost use Rattle.word_table.specs.Kinds.{action_of, May, Stores, Took};
+ghost use Rattle.word_table.specs.Sound.{GroundHolds};
 
 use crate::rule::TableWords;
 use atomic_table::{Play, Seat};
 use history_model::{Shape, View};
 use std::marker::{Brand, PhantomData};
 
-/// A kind of step, with the seat that takes it, the lock, and what else the step is about.
+/// A kind of step, with the number of the seat that takes it, the lock, and what else the step is about: the memory's
+/// word that the lock is asked for, or the other seat.
+///
+/// Contracts and proofs alone speak of it: `Kinds` in `specs/` says what a step of each kind does (`action_of`) and
+/// when a seat may take it (`May`).
 #[derive(Clone, Copy)]
 pub enum Step {
+    /// The own row is stored with the lock's bit set.
     SetReadBit { seat: u32, lock: u32, word: u64 },
+    /// The own row is stored with the lock's bit cleared.
     ClearReadBit { seat: u32, lock: u32 },
+    /// The lock's writer word is loaded, once the own bit is set.
     LoadWriter { seat: u32, lock: u32, word: u64 },
+    /// The lock's writer word is made the seat's by a compare-exchange from 0.
     ClaimWriter { seat: u32, lock: u32, word: u64 },
+    /// The row word of another seat is loaded, for an own claim.
     ScanRow { seat: u32, lock: u32, other: u32 },
+    /// 0 is stored to the lock's writer word.
     ReleaseWriter { seat: u32, lock: u32 },
 }
 
-/// The kind of a step, which a call picks for its proof.
+/// The kind of a step, and the rule that a step of it tells of. A call picks both for its proof.
 pub trait Kind {
+    ghost use Rattle.std.specs.Prelude.{ℕ, List};
+    ghost use Rattle.history_model.specs.declared.view.View.{View};
     ghost use Rattle.word_table.specs.declared.step.Step.{Step};
 
+    /// Which step it is.
     ghost step: { Step };
+
+    /// What held of the table's words and of all views when the step was taken.
+    ghost sound: { List ℕ → List View → Type 0 };
 }
 
 impl Kind for Brand {
+    ghost use Rattle.std.specs.Prelude.{⊤};
     ghost use Rattle.word_table.specs.declared.step.Step.TheVariants.{ReleaseWriter};
 
     ghost step = { ReleaseWriter 0 0 };
+
+    ghost sound = { λ _ _. ⊤ };
 }
 
 /// What a load or an exchange tells: the step took place, in a state that met the rule.
@@ -44,7 +66,7 @@ struct Takes<A> {
 impl<A: Kind> Play<(), View> for Takes<A> {
     ghost use Rattle.word_table.specs.Kinds.{action_of, Took};
 
-    ghost then = { λ st me found after. Took (action_of A.step me.0) me after found };
+    ghost then = { λ st me found after. Took A.sound (action_of A.step me.0) me after found };
 }
 
 /// What a store tells, which finds nothing.
@@ -53,10 +75,10 @@ struct Puts<A> {
 }
 
 impl<A: Kind> Play<(), View> for Puts<A> {
-    ghost use Rattle.std.specs.Prelude.{◌≡◌, []};
-    ghost use Rattle.word_table.specs.Kinds.{action_of};
+    ghost use Rattle.std.specs.Prelude.{◌≡◌, ℕ, []};
+    ghost use Rattle.word_table.specs.Kinds.{action_of, Took};
 
-    ghost then = { λ st me new after. after ≡ ((action_of A.step me.0).view [] new, me.1) };
+    ghost then = { λ st me new after. (after ≡ ((action_of A.step me.0).view [] new, me.1)) × ((found : ℕ) × Took A.sound (action_of A.step me.0) me after found) };
 }
 
 fn load_by<S: Shape, A: Kind>(
@@ -68,9 +90,11 @@ fn load_by<S: Shape, A: Kind>(
     requires table { (seat.old.table_id ≡ table.now.table_id) × (word < table.now.table_id.words) }
     requires kind { step.now ≡ A.step }
     requires action { let x : Action = action_of step.now seat.old.me.0 in (word ≡ x.at) × ((w : ℕ) → x.writes w ≡ w) }
-    requires may { May step.now seat.old.me.0 }
+    requires sound { (words : List ℕ) (views : List View)
+        → GroundHolds S.word_count S.good table.now.key words views → A.sound words views }
+    requires may { May (IsGood (S.word_count table.now.key.shape) (S.good table.now.key.shape)) step.now seat.old.me.0 }
     ensures seat { seat.new.table_id ≡ seat.old.table_id }
-    ensures took { Took (action_of step.now seat.old.me.0) seat.old.me seat.new.me result }
+    ensures took { Took A.sound (action_of step.now seat.old.me.0) seat.old.me seat.new.me result }
 {
     table.load::<Takes<A>>(seat, word)
 }
@@ -85,10 +109,13 @@ fn store_by<S: Shape, A: Kind>(
     requires table { (seat.old.table_id ≡ table.now.table_id) × (word < table.now.table_id.words) }
     requires kind { step.now ≡ A.step }
     requires action { let x : Action = action_of step.now seat.old.me.0 in (word ≡ x.at) × ((h : List Entry) (w : ℕ) → x.view h w ≡ x.view [] new) }
-    requires may { May step.now seat.old.me.0 }
+    requires sound { (words : List ℕ) (views : List View)
+        → GroundHolds S.word_count S.good table.now.key words views → A.sound words views }
+    requires may { May (IsGood (S.word_count table.now.key.shape) (S.good table.now.key.shape)) step.now seat.old.me.0 }
     requires stored { Stores (action_of step.now seat.old.me.0) seat.old.me.0 new }
     ensures seat { seat.new.table_id ≡ seat.old.table_id }
     ensures view { seat.new.me ≡ ((action_of step.now seat.old.me.0).view [] new, seat.old.me.1) }
+    ensures took { (found : ℕ) × Took A.sound (action_of step.now seat.old.me.0) seat.old.me seat.new.me found }
 {
     table.store::<Puts<A>>(seat, word, new)
 }
@@ -104,9 +131,11 @@ fn exchange_by<S: Shape, A: Kind>(
     requires table { (seat.old.table_id ≡ table.now.table_id) × (word < table.now.table_id.words) }
     requires kind { step.now ≡ A.step }
     requires action { let x : Action = action_of step.now seat.old.me.0 in (word ≡ x.at) × ((w : ℕ) → x.writes w ≡ if w == old then new else w) }
-    requires may { May step.now seat.old.me.0 }
+    requires sound { (words : List ℕ) (views : List View)
+        → GroundHolds S.word_count S.good table.now.key words views → A.sound words views }
+    requires may { May (IsGood (S.word_count table.now.key.shape) (S.good table.now.key.shape)) step.now seat.old.me.0 }
     ensures seat { seat.new.table_id ≡ seat.old.table_id }
-    ensures took { Took (action_of step.now seat.old.me.0) seat.old.me seat.new.me result }
+    ensures took { Took A.sound (action_of step.now seat.old.me.0) seat.old.me seat.new.me result }
 {
     table.compare_exchange::<Takes<A>>(seat, word, old, new)
 }
@@ -120,9 +149,9 @@ pub(crate) fn load<S: Shape>(
 ) -> u64
     requires table { (seat.old.table_id ≡ table.now.table_id) × (word < table.now.table_id.words) }
     requires action { let x : Action = action_of step.now seat.old.me.0 in (word ≡ x.at) × ((w : ℕ) → x.writes w ≡ w) }
-    requires may { May step.now seat.old.me.0 }
+    requires may { May (IsGood (S.word_count table.now.key.shape) (S.good table.now.key.shape)) step.now seat.old.me.0 }
     ensures seat { seat.new.table_id ≡ seat.old.table_id }
-    ensures took { Took (action_of step.now seat.old.me.0) seat.old.me seat.new.me result }
+    ensures took { Took (GroundHolds S.word_count S.good table.now.key) (action_of step.now seat.old.me.0) seat.old.me seat.new.me result }
 {
     load_by::<S, Brand>(table, seat, word, step)
 }
@@ -137,10 +166,11 @@ pub(crate) fn store<S: Shape>(
 )
     requires table { (seat.old.table_id ≡ table.now.table_id) × (word < table.now.table_id.words) }
     requires action { let x : Action = action_of step.now seat.old.me.0 in (word ≡ x.at) × ((h : List Entry) (w : ℕ) → x.view h w ≡ x.view [] new) }
-    requires may { May step.now seat.old.me.0 }
+    requires may { May (IsGood (S.word_count table.now.key.shape) (S.good table.now.key.shape)) step.now seat.old.me.0 }
     requires stored { Stores (action_of step.now seat.old.me.0) seat.old.me.0 new }
     ensures seat { seat.new.table_id ≡ seat.old.table_id }
     ensures view { seat.new.me ≡ ((action_of step.now seat.old.me.0).view [] new, seat.old.me.1) }
+    ensures took { (found : ℕ) × Took (GroundHolds S.word_count S.good table.now.key) (action_of step.now seat.old.me.0) seat.old.me seat.new.me found }
 {
     store_by::<S, Brand>(table, seat, word, new, step)
 }
@@ -156,9 +186,9 @@ pub(crate) fn exchange<S: Shape>(
 ) -> u64
     requires table { (seat.old.table_id ≡ table.now.table_id) × (word < table.now.table_id.words) }
     requires action { let x : Action = action_of step.now seat.old.me.0 in (word ≡ x.at) × ((w : ℕ) → x.writes w ≡ if w == old then new else w) }
-    requires may { May step.now seat.old.me.0 }
+    requires may { May (IsGood (S.word_count table.now.key.shape) (S.good table.now.key.shape)) step.now seat.old.me.0 }
     ensures seat { seat.new.table_id ≡ seat.old.table_id }
-    ensures took { Took (action_of step.now seat.old.me.0) seat.old.me seat.new.me result }
+    ensures took { Took (GroundHolds S.word_count S.good table.now.key) (action_of step.now seat.old.me.0) seat.old.me seat.new.me result }
 {
     exchange_by::<S, Brand>(table, seat, word, old, new, step)
 }

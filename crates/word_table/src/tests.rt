@@ -66,6 +66,21 @@ fn unshare_all<S: Shape>(desk: &Desk<S>, pass: &mut Pass<S>)
     }
 }
 
+// Gives up all claims.
+fn unclaim_all<S: Shape>(desk: &Desk<S>, pass: &mut Pass<S>)
+    requires desk { pass.old.table ≡ desk.now.table }
+    requires undo { pass.old.view.undo ≡ [] }
+    requires begun { pass.old.view.phase ≢ Phase.Idle }
+    ensures { (pass.new.table ≡ desk.now.table) × (pass.new.view.undo ≡ []) × (pass.new.view.phase ≢ Phase.Idle) }
+{
+    for _ in 0..LOCKS {
+        let Some(lock) = pass.next_claim() else {
+            return;
+        };
+        desk.unclaim(pass, lock);
+    }
+}
+
 #[test]
 fn a_claim_of_the_only_pass_is_an_exclusive_lock(rt: HostRuntime) -> Result<(), Fail> {
     let (desk, mut pass) = open_one(rt.alloc())?;
@@ -76,6 +91,10 @@ fn a_claim_of_the_only_pass_is_an_exclusive_lock(rt: HostRuntime) -> Result<(), 
     assert_eq!(rt; desk.share(&mut pass, 1029), Shared::Granted);
     assert_eq!(rt; pass.next_bit(), None);
     assert_eq!(rt; pass.next_claim(), Some(5));
+    unclaim_all(&desk, &mut pass);
+    assert_eq!(rt; pass.next_claim(), None);
+    assert!(rt; !pass.has_write(5));
+    assert_eq!(rt; pass.phase(), Phase::Releasing);
     Ok(())
 }
 

@@ -1,3 +1,4 @@
+use Rattle.history_model.specs.Fitting.{IsGood}
 use Rattle.word_table.proofs.Opening.{deals_at, dealt_left, dealt_right}
 use Rattle.word_table.proofs.deal.deal_one.Goals as goal
 
@@ -5,7 +6,7 @@ pub split_seat-requires : goal.split_seat-requires
 split_seat-requires g c = (
   c.requires.table,
   c.requires.counts.2,
-  deals_at c.args.table.now.key.base.items c.args.n c.args.j c.args.seat.now.me c.requires.counts.0 c.requires.seat (g.S.Shape.good c.args.table.now.key.shape) c.args.table.now.key.seats c.args.seat.now.id,
+  deals_at c.args.table.now.key.base.items c.args.n c.args.j c.args.seat.now.me c.requires.counts.0 c.requires.seat (IsGood (g.S.Shape.word_count c.args.table.now.key.shape) (g.S.Shape.good c.args.table.now.key.shape)) c.args.table.now.key.seats c.args.seat.now.id,
 )
 
 pub returns-clause-left : goal.returns-clause-left

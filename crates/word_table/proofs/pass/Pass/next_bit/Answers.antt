@@ -6,7 +6,7 @@ use Rattle.word_table.proofs.Passes.{least_near}
 use Rattle.word_table.proofs.pass.Pass.next_bit.Goals as goal
 
 pub returns-clause-least : goal.returns-clause-least
-returns-clause-least g c = subst (λ (p : PassView). IsLeast (HasBit p.view) c.least.result) c.self.view_is (c.least.ensures c.self.inside.seat.me.0.bits c.self.invariant.bits_are)
+returns-clause-least g c = subst (λ (p : PassView). IsLeast (HasBit p.view) c.least.result) c.self.view_is (c.least.ensures c.self.inside.seat.me.0.bits c.self.invariant.locks_are.bits_are)
 
 pub returns-clause-lock : goal.returns-clause-lock
-returns-clause-lock g c = least_near c.self.inside.bits c.self.inside.seat.me.0.bits c.least.result c.self.invariant.bits_are (c.least.ensures c.self.inside.seat.me.0.bits c.self.invariant.bits_are)
+returns-clause-lock g c = least_near c.self.inside.locks.bits c.self.inside.seat.me.0.bits c.least.result c.self.invariant.locks_are.bits_are (c.least.ensures c.self.inside.seat.me.0.bits c.self.invariant.locks_are.bits_are)

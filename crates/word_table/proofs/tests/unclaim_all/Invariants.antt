@@ -1,0 +1,7 @@
+use Rattle.std.proofs.Common.{◌≡◌, ◌≢◌, []}
+use Rattle.history_model.specs.declared.view.Phase.TheVariants.{Idle}
+use Rattle.word_table.proofs.tests.unclaim_all.Given as goal
+
+-- nothing is left to undo, and the call has begun
+abbrev pub invariant-loop : goal.invariant-loop
+invariant-loop g l = (l.pass.table ≡ l.desk.table) × (l.pass.view.undo ≡ []) × (l.pass.view.phase ≢ Idle)

@@ -1,0 +1,39 @@
+//! The laws of the table, each the contract of a function that does nothing.
+
+ghost use Rattle.std.specs.Prelude.{◌≡◌, ℕ, List, [], ◌∷◌, Some, slice_get};
+ghost use Rattle.history_model.specs.declared.view.View.{View};
+ghost use Rattle.history_model.specs.Fitting.{IsGood};
+ghost use Rattle.history_model.specs.Table.{TableState, Knows};
+ghost use Rattle.locks_rule.specs.Actions.{words_after, views_after};
+ghost use Rattle.word_table.specs.declared.step.Step.{Step};
+ghost use Rattle.word_table.specs.Kinds.{action_of, May};
+ghost use Rattle.word_table.specs.Runs.{IsOpening, IsRun, Steps};
+ghost use Rattle.word_table.specs.Sound.{IsSound};
+
+use history_model::Shape;
+
+/// Every state of every run meets the rule: for every shape, every number of seats, every good memory to begin with,
+/// and every list of steps in any order of seats, by the same kinds of step that the calls of a desk take.
+pub fn every_run<S: Shape>()
+    ensures { (shape : _) (n : ℕ) (base : List ℕ) (run : List TableState)
+        → IsGood (S.word_count shape) (S.good shape) base
+        → IsRun (IsGood (S.word_count shape) (S.good shape)) n base run
+        → (p : ℕ) (state : TableState) → slice_get run p ≡ Some state
+        → IsSound (IsGood (S.word_count shape) (S.good shape)) n base state.words state.views }
+{}
+
+/// The opening alone is a run.
+pub fn opening_run<S: Shape>()
+    ensures { (shape : _) (n : ℕ) (base : List ℕ) (state : TableState) → IsOpening n base state
+        → IsRun (IsGood (S.word_count shape) (S.good shape)) n base (state ∷ []) }
+{}
+
+/// A step that a seat may take leads from each state on to the state that the step leaves.
+pub fn step_leads<S: Shape>()
+    ensures { (shape : _) (state : TableState) (step : Step) (place : ℕ) (view : View)
+        → Knows state.views place view → May (IsGood (S.word_count shape) (S.good shape)) step view
+        → Steps (IsGood (S.word_count shape) (S.good shape)) state (record {
+          words = words_after (action_of step view) state.words;
+          views = views_after (action_of step view) place state.words state.views;
+        }) }
+{}
