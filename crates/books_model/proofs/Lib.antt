@@ -11,4 +11,5 @@ pub mod Runs
 pub mod Outcomes
 pub mod CashLaws
 pub mod RangeLaws
+pub mod SizeLaws
 pub mod QueueLaws

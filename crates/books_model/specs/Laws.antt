@@ -7,7 +7,7 @@ use Rattle.books_model.specs.declared.script.Op.TheVariants as op
 use Rattle.books_model.specs.declared.reply.Value.{Value}
 use Rattle.books_model.specs.declared.reply.Value.TheVariants as value
 use Rattle.books_model.specs.declared.reply.Reply.TheVariants as reply
-use Rattle.books_model.specs.Books.{ClearingBooks}
+use Rattle.books_model.specs.Books.{ClearingBooks, HaveSameSizes}
 use Rattle.books_model.specs.Ranges.{AreInRange, IsScriptFor}
 use Rattle.books_model.specs.Interpreter.{Gives, step_of, outcome_of}
 
@@ -50,6 +50,10 @@ WithdrawTakesItsAmount = (a x : ℕ) (before after : ClearingBooks) → Leads (o
 -- books in range stay in range, whatever script for them is run: so blocks and queue never hold more than they can
 abbrev pub BooksStayInRange : Type 0
 BooksStayInRange = (script : List Op) (books : ClearingBooks) → AreInRange books → IsScriptFor books script → AreInRange (outcome_of script books).1
+
+-- no script changes the sizes of books
+abbrev pub ScriptsKeepSizes : Type 0
+ScriptsKeepSizes = (script : List Op) (books : ClearingBooks) → HaveSameSizes books (outcome_of script books).1
 
 -- a script for books is one for others with as many instruments
 abbrev pub ScriptsGoByInstruments : Type 0

@@ -1,6 +1,27 @@
 //! Laws of the language, each the contract of a function that does nothing.
 
-ghost use Rattle.books_model.specs.Laws.{RefusedChangesNothing, MoveKeepsAllCash, TradeKeepsAllCash, TradeKeepsQuantities, DepositAddsItsAmount, WithdrawTakesItsAmount, BooksStayInRange, ScriptsGoByInstruments, QueueIsFirstInFirstOut};
+ghost use Rattle.std.specs.Prelude.{◌≡◌};
+ghost use Rattle.books_model.specs.Laws.{RefusedChangesNothing, MoveKeepsAllCash, TradeKeepsAllCash, TradeKeepsQuantities, DepositAddsItsAmount, WithdrawTakesItsAmount, BooksStayInRange, ScriptsKeepSizes, ScriptsGoByInstruments, QueueIsFirstInFirstOut};
+
+use crate::limits::{
+    GREATEST_ACCOUNT, GREATEST_AMOUNT, GREATEST_CASH, GREATEST_PRICE, GREATEST_QUANTITY,
+    GREATEST_RATE, GREATEST_SHORTFALL, MOST_BLOCKS, MOST_INSTRUMENTS, MOST_OPERATIONS, MOST_RING,
+};
+
+/// The limits of the language, in digits: whatever cites them by name means these numbers.
+pub fn limits_are_those_of_the_language()
+    ensures blocks { MOST_BLOCKS ≡ 16_384 }
+    ensures instruments { MOST_INSTRUMENTS ≡ 64 }
+    ensures ring { MOST_RING ≡ 1_024 }
+    ensures account { GREATEST_ACCOUNT ≡ 4_294_967_295 }
+    ensures cash { GREATEST_CASH ≡ 1_000_000_000_000_000 }
+    ensures amount { GREATEST_AMOUNT ≡ 1_000_000_000_000_000 }
+    ensures price { GREATEST_PRICE ≡ 1_000_000_000 }
+    ensures quantity { GREATEST_QUANTITY ≡ 1_000_000 }
+    ensures rate { GREATEST_RATE ≡ 100 }
+    ensures shortfall { GREATEST_SHORTFALL ≡ 64_000_000_000_000_000 }
+    ensures operations { MOST_OPERATIONS ≡ 64 }
+{}
 
 /// A script that is declined or finds no block changes nothing.
 pub fn refused_changes_nothing()
@@ -35,6 +56,11 @@ pub fn withdraw_takes_its_amount()
 /// Books in range are in range after every script for them.
 pub fn books_stay_in_range()
     ensures { BooksStayInRange }
+{}
+
+/// Books have as many blocks and instruments, and as long a queue, after every script.
+pub fn scripts_keep_sizes()
+    ensures { ScriptsKeepSizes }
 {}
 
 /// A script for books is one for all books with as many instruments.

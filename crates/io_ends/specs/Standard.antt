@@ -1,11 +1,13 @@
--- Standard input and output, as contracts see them: nothing is known of their bytes.
+-- Readers and writers of std as a source and a sink, as contracts see them: they tell no bytes themselves, and what they do to the inner stream is said in std's own words.
 use Rattle.std.specs.Prelude.{ℕ}
 
--- how many reads there were, and how many of them failed
-pub record StandardSource : Type 0 where
+-- the reader, how many reads there were, and how many of them failed
+pub record StandardSource (T : Type 0) : Type 0 where
+  pub inner : T
   pub reads : ℕ
   pub faults : ℕ
 
--- how many writes failed
-pub record StandardSink : Type 0 where
+-- the writer, and how many writes failed
+pub record StandardSink (T : Type 0) : Type 0 where
+  pub inner : T
   pub faults : ℕ

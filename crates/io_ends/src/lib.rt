@@ -2,6 +2,7 @@
 #![tactic(auto)]
 
 pub mod counts;
+pub mod laws;
 pub mod memory;
 pub mod out_of_memory;
 pub mod reading;

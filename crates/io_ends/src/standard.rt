@@ -1,4 +1,6 @@
-//! Standard input and output as a source and a sink. Nothing is known of their bytes.
+//! A reader and a writer of std as a source and a sink, as standard input and output. As source and sink they tell no
+//! bytes, since a reader may get more at any time. But what they do to the inner stream is known whatever that stream is:
+//! bytes go through unchanged, each once and in its order.
 
 ghost use Rattle.std.specs.Prelude.{◌≡◌};
 
@@ -18,15 +20,15 @@ pub struct StdSource<T> {
 impl<T> Model for StdSource<T> {
     ghost use Rattle.io_ends.specs.Standard.{StandardSource};
 
-    ghost Value = { StandardSource };
+    ghost Value = { StandardSource T };
 
-    ghost view = { λ s. record { reads = s.reads; faults = s.faults } };
+    ghost view = { λ s. record { inner = s.inner; reads = s.reads; faults = s.faults } };
 }
 
 impl<T> StdSource<T> {
     /// A source that tells no bytes, and counts each error of the reader as a fault.
     pub fn new(inner: T) -> StdSource<T>
-        ensures { result ≡ record { reads = 0; faults = 0 } }
+        ensures { result ≡ record { inner = inner; reads = 0; faults = 0 } }
     {
         StdSource {
             inner,
@@ -47,7 +49,7 @@ impl<T: Read> Source for StdSource<T> {
 
     ghost reads = { λ s. s.reads };
 
-    /// One read of the reader. Each of its errors is a fault.
+    /// One read of the reader: the bytes that it gave, or the end where it gave none. Each of its errors is a fault.
     fn read(&mut self, buf: &mut [u8]) -> Result<usize, Failed>
         ensures bound { IfOk result (λ n. n ≤ length buf.new) }
         ensures bytes { ReadConsumes None None result buf.new }
@@ -55,6 +57,10 @@ impl<T: Read> Source for StdSource<T> {
         ensures faults { self.old.faults ≤ self.new.faults }
         ensures reads { self.new.reads ≡ next_count self.old.reads }
 
+        // The reader lost exactly the bytes that were given, none of them after a failure; and it is at its end where
+        // none were given although there was room.
+        ensures inner { ReadConsumes (T.remaining self.old.inner) (T.remaining self.new.inner)
+            result buf.new }
         ensures counted { self.new.faults ≡ (if is_err result then next_count self.old.faults else self.old.faults) }
     {
         self.reads = self.reads.saturating_add(1);
@@ -78,16 +84,16 @@ pub struct StdSink<T> {
 impl<T> Model for StdSink<T> {
     ghost use Rattle.io_ends.specs.Standard.{StandardSink};
 
-    ghost Value = { StandardSink };
+    ghost Value = { StandardSink T };
 
-    ghost view = { λ s. record { faults = s.faults } };
+    ghost view = { λ s. record { inner = s.inner; faults = s.faults } };
 }
 
 impl<T> StdSink<T> {
     /// A sink that tells no bytes. It counts each error of the writer as a fault, and each write of a piece that is not
     /// empty and of which nothing was taken.
     pub fn new(inner: T) -> StdSink<T>
-        ensures { result ≡ record { faults = 0 } }
+        ensures { result ≡ record { inner = inner; faults = 0 } }
     {
         StdSink { inner, faults: 0 }
     }
@@ -111,6 +117,9 @@ impl<T: Write> Sink for StdSink<T> {
         ensures cause { HasCause result self.old.faults self.new.faults }
         ensures faults { self.old.faults ≤ self.new.faults }
 
+        // The writer gained exactly the front of the piece that was taken, and nothing after a failure.
+        ensures inner { WriteAppends (T.contents self.old.inner) (T.contents self.new.inner)
+            result piece.now }
         ensures counted { self.new.faults ≡ (if is_err result then next_count self.old.faults else self.old.faults) }
     {
         match self.inner.write(piece) {

@@ -1,0 +1,67 @@
+-- No script changes the sizes of books.
+use Rattle.std.proofs.Common.{ℕ, ◌+◌, ◌-◌, ◌*◌, not, ◌&&◌, ◌||◌, ◌==◌, nat_lt, List, [], ◌∷◌, length, refl, ◌∙◌}
+use Rattle.std.specs.FinMap as map
+use Rattle.books_model.specs.declared.limits.TheConstants.{GREATEST_CASH, GREATEST_QUANTITY}
+use Rattle.books_model.specs.declared.script.Op.{Op}
+use Rattle.books_model.specs.declared.script.Op.TheVariants as op
+use Rattle.books_model.specs.declared.reply.Value.{Value}
+use Rattle.books_model.specs.Books.{ClearingBooks, HaveSameSizes, cash_of, position_of, price_of}
+use Rattle.books_model.specs.Interpreter.{holds_any, is_account, is_full, next_of, put_position, shortfall_of, run_from, step_of}
+use Rattle.books_model.proofs.CashLaws.{traded}
+use Rattle.books_model.proofs.Outcomes.{WhereDone, WhereEnds, choice, gives, declines, finds_no_block, step_first}
+
+-- the sizes are those of the books before
+abbrev Keeps : ClearingBooks → Value → ClearingBooks → Type 0
+Keeps books v after = HaveSameSizes books after
+
+-- books have the sizes that they have
+pub same_sizes : (books : ClearingBooks) → HaveSameSizes books books
+same_sizes books = record { blocks = refl; instruments = refl; ring = refl }
+
+-- the sizes of books that have those of others, which have those of the first
+sizes-trans : (a b c : ClearingBooks) → HaveSameSizes a b → HaveSameSizes b c → HaveSameSizes a c
+sizes-trans a b c h k = record { blocks = k.blocks ∙ h.blocks; instruments = k.instruments ∙ h.instruments; ring = k.ring ∙ h.ring }
+
+-- the front of the queue is taken, or there is none
+next_keeps : (books : ClearingBooks) (calls : List (ℕ × ℕ)) → WhereDone (Keeps books) (next_of books calls)
+next_keeps books [] = gives _ _ _ (same_sizes books)
+next_keeps books (call ∷ calls) = gives _ _ _ (record { blocks = refl; instruments = refl; ring = refl })
+
+-- each operation keeps the sizes
+step_keeps : (o : Op) (books : ClearingBooks) → WhereDone (Keeps books) (step_of o books)
+step_keeps (op.OpenAccount a) books =
+    choice _ (is_account books a) _ _ (λ _. declines _ _) (λ _. choice _ (is_full books) _ _ (λ _. finds_no_block _) (λ _. gives _ _ _ (record { blocks = refl; instruments = refl; ring = refl })))
+step_keeps (op.Close a) books =
+    choice _ (not (is_account books a)) _ _ (λ _. declines _ _) (λ _. choice _ (not (cash_of books a == 0)) _ _ (λ _. declines _ _) (λ _.
+    choice _ (holds_any books a) _ _ (λ _. declines _ _) (λ _. gives _ _ _ (record { blocks = refl; instruments = refl; ring = refl }))))
+step_keeps (op.Deposit a x) books =
+    choice _ (not (is_account books a)) _ _ (λ _. declines _ _) (λ _.
+    choice _ (nat_lt GREATEST_CASH (cash_of books a + x)) _ _ (λ _. declines _ _) (λ _. gives _ _ _ (record { blocks = refl; instruments = refl; ring = refl })))
+step_keeps (op.Withdraw a x) books =
+    choice _ (not (is_account books a)) _ _ (λ _. declines _ _) (λ _.
+    choice _ (nat_lt (cash_of books a) x) _ _ (λ _. declines _ _) (λ _. gives _ _ _ (record { blocks = refl; instruments = refl; ring = refl })))
+step_keeps (op.Move a b x) books =
+    choice _ (a == b) _ _ (λ _. declines _ _) (λ _. choice _ (not (is_account books a && is_account books b)) _ _ (λ _. declines _ _) (λ _.
+    choice _ (nat_lt (cash_of books a) x) _ _ (λ _. declines _ _) (λ _.
+    choice _ (nat_lt GREATEST_CASH (cash_of books b + x)) _ _ (λ _. declines _ _) (λ _. gives _ _ _ (record { blocks = refl; instruments = refl; ring = refl })))))
+step_keeps (op.Price i p) books =
+    choice _ (not (map.contains_key books.prices i) && is_full books) _ _ (λ _. finds_no_block _) (λ _. gives _ _ _ (record { blocks = refl; instruments = refl; ring = refl }))
+step_keeps (op.Trade a b i q) books = traded _ books a b i q (λ _ _.
+    choice _ (nat_lt (cash_of books a) (q * price_of books i)) _ _ (λ _. declines _ _) (λ _.
+    choice _ (nat_lt GREATEST_CASH (cash_of books b + q * price_of books i) || nat_lt GREATEST_QUANTITY (position_of books a i + q)) _ _ (λ _. declines _ _) (λ _.
+    choice _ (not (map.contains_key books.positions (a, i)) && is_full (put_position books b i (position_of books b i - q))) _ _ (λ _. finds_no_block _) (λ _.
+    gives _ _ _ (record { blocks = refl; instruments = refl; ring = refl })))))
+step_keeps (op.Margin a m) books =
+    choice _ (not (is_account books a)) _ _ (λ _. declines _ _) (λ _.
+    choice _ (shortfall_of books a m == 0) _ _ (λ _. gives _ _ _ (same_sizes books)) (λ _.
+    choice _ (length books.calls == books.ring) _ _ (λ _. declines _ _) (λ _. gives _ _ _ (record { blocks = refl; instruments = refl; ring = refl }))))
+step_keeps op.Next books = next_keeps books books.calls
+step_keeps (op.Show a) books = choice _ (not (is_account books a)) _ _ (λ _. declines _ _) (λ _. gives _ _ _ (same_sizes books))
+step_keeps (op.Sum a b) books = gives _ _ _ (same_sizes books)
+
+-- each run keeps the sizes
+pub run_keeps : (k : ℕ) (ops : List Op) (books : ClearingBooks) → WhereEnds (λ _ after. HaveSameSizes books after) (run_from k ops books)
+run_keeps k [] books = same_sizes books
+run_keeps k (o ∷ ops) books =
+    step_first (λ _ after. HaveSameSizes books after) (Keeps books) k (step_of o books) (λ next. run_from (k + 1) ops next) (step_keeps o books)
+    (λ v next first. (λ _ after. HaveSameSizes next after, run_keeps (k + 1) ops next, λ values after rest. sizes-trans books next after first rest))
