@@ -4,11 +4,8 @@ use Rattle.std.proofs.lemmas.Option.{same_Some}
 use Rattle.history_model.specs.declared.event.Event.TheVariants.{Read}
 use Rattle.history_model.specs.Traces.{Trace, after, Begins}
 use Rattle.history_model.specs.Fitting.{Fits, SomeFits, InEach, Leads}
-use Rattle.history_model.proofs.TraceLaws.{read_there, after_read, length-after}
-use Rattle.history_model.proofs.FittingLaws.{fits_front, fits_begins, each_at}
-use Rattle.history_model.specs.declared.shape.Shape.{Ghosts as Shapes}
-use Rattle.txn_words.specs.declared.words.Words.{Ghosts as AnyWords}
-use Rattle.txn_words.specs.Calls.{InEachState}
+use Rattle.history_model.proofs.TraceLaws.{length-after}
+use Rattle.history_model.proofs.FittingLaws.{Found, found, fits_begins}
 use Rattle.txn_words.specs.Steps.{EndsWithWrite}
 use Rattle.txn_words.proofs.Steps.{after_write_end, fits_write_end}
 use Rattle.txn_ring.specs.declared.ring.Ring.{Ring}
@@ -20,21 +17,6 @@ pub record Lies (ring : Ring) (n : ℕ) : Type 0 where
   pub some : 0 < ring.capacity
   pub whole : ring.at + 2 + 2 * ring.capacity ≤ n
   pub small : n ≤ 2 ^ 64
-
--- what a read says of a list that fits: the word's value, and that the words and what fitted before stay
-pub record Found (n : ℕ) (G : List ℕ → Type 0) (t u : Trace) (a v : ℕ) (s : List ℕ) : Type 0 where
-  pub there : slice_get (after t s) a ≡ Some v
-  pub same : after u s ≡ after t s
-  pub fits : Fits n G t s
-
-pub found : (n : ℕ) (G : List ℕ → Type 0) (t u : Trace) (a v : ℕ) → u ≡ t ++ Read a v ∷ [] → (s : List ℕ) → Fits n G u s → Found n G t u a v s
-found n G t u a v read s fit =
-    let whole : Fits n G (t ++ Read a v ∷ []) s = subst (λ w. Fits n G w s) read fit in
-    record {
-      there = read_there t s a v whole.legal;
-      same = ap (λ w. after w s) read ∙ after_read t s a v;
-      fits = fits_front n G t (Read a v ∷ []) s whole;
-    }
 
 module _ (ring : Ring) (n : ℕ) (G : List ℕ → Type 0) (t : Trace) where
   pub lies : InEach n G t (IsInOrder ring) → SomeFits n G t → Lies ring n
@@ -153,11 +135,6 @@ module _ (ring : Ring) (n : ℕ) (G : List ℕ → Type 0) (t : Trace) where
             subst (λ z. TakesFront ring item z items) (sym last) (popped ring (after t s) items item x front is_count k.there here h);
       }
 
--- what holds after a call in every state, under the shape as it leaves it
-pub state_at : {W S O : Type 0} (words : AnyWords W S O) (shapes : Shapes S) (v w : W) (P : List ℕ → Type 0) → words.shape w ≡ words.shape v
-    → InEach (shapes.word_count (words.shape v)) (shapes.good (words.shape v)) (words.trace w) P → InEachState words shapes w P
-state_at words shapes v w P e h = record { at = (each_at shapes.word_count shapes.good (words.trace w) P (words.shape v) (words.shape w) (sym e) h).at }
-
 -- what each call leaves
 pub order_pushed : (ring : Ring) (item : ℕ × ℕ) (answer : Bool) (x y : List ℕ) → IsInOrder ring x → Pushes ring item answer x y → IsInOrder ring y
 order_pushed ring item true x y i pushes = (i.0 ++ item ∷ [], pushes i.0 i.1)
@@ -169,8 +146,3 @@ order_popped ring (Some item) x y i pops = let k : TakesFront ring item y i.0 = 
 
 pub order_same : (ring : Ring) (x y : List ℕ) → IsInOrder ring x → y ≡ x → IsInOrder ring y
 order_same ring x y i e = subst (λ z. IsInOrder ring z) (sym e) i
-
--- what holds of every good list holds in every state before the first event
-pub each_fresh : (n : ℕ) (G : List ℕ → Type 0) (t : Trace) → t ≡ [] → InEach n G t G
-unfolding after
-each_fresh n G t e = record { at = λ s fit. subst (λ u. G (after u s)) (sym e) fit.good }

@@ -15,7 +15,7 @@ pub struct Ring {
 impl Ring {
     ghost use Rattle.std.specs.Prelude.{◌≡◌, None, false, IfOk, IfSome, IfNone, OnOk};
     ghost use Rattle.txn_words.specs.Frames.{KeepsOthers};
-    ghost use Rattle.txn_words.specs.Calls.{IsReady, GoesOn, WritesOnly, InEachState, LeadsTo};
+    ghost use Rattle.txn_words.specs.Calls.{IsReady, GoesOn, WritesOnly, ReadsOnly, InEachState, LeadsTo};
     ghost use Rattle.txn_ring.specs.Queues.{IsOwn, IsInOrder, IsFull, IsEmpty, HasCount, Pushes, Pops};
 
     /// Puts an item behind those that are there, unless there is no room for one more.
@@ -35,9 +35,12 @@ impl Ring {
 
         ensures order { OnOk result (InEachState W.Words W.Shape.Shape w.new (IsInOrder self.now)) }
 
-        // No word but the ring's own is written, so every other stays.
+        // No word but the ring's own is written, so every other stays, and none but these is read. A push that is
+        // refused writes nothing.
         ensures frame { OnOk result (WritesOnly W.Words w.old w.new (IsOwn self.now)) }
         ensures others { OnOk result (LeadsTo W.Words W.Shape.Shape w.old w.new (KeepsOthers (IsOwn self.now))) }
+        ensures full_frame { IfOk result (λ answer. answer ≡ false → WritesOnly W.Words w.old w.new (λ _. ⊥)) }
+        ensures reads { OnOk result (ReadsOnly W.Words w.old w.new (IsOwn self.now)) }
         ensures goes_on { GoesOn W.Words w.old w.new result }
     {
         let capacity = u64::from(self.capacity);
@@ -73,9 +76,12 @@ impl Ring {
 
         ensures order { OnOk result (InEachState W.Words W.Shape.Shape w.new (IsInOrder self.now)) }
 
-        // No word but the ring's own is written, so every other stays.
+        // No word but the ring's own is written, so every other stays, and none but these is read. A pop that finds
+        // no item writes nothing.
         ensures frame { OnOk result (WritesOnly W.Words w.old w.new (IsOwn self.now)) }
         ensures others { OnOk result (LeadsTo W.Words W.Shape.Shape w.old w.new (KeepsOthers (IsOwn self.now))) }
+        ensures none_frame { IfOk result (λ answer. IfNone answer (WritesOnly W.Words w.old w.new (λ _. ⊥))) }
+        ensures reads { OnOk result (ReadsOnly W.Words w.old w.new (IsOwn self.now)) }
         ensures goes_on { GoesOn W.Words w.old w.new result }
     {
         let capacity = u64::from(self.capacity);
@@ -86,11 +92,11 @@ impl Ring {
         }
         let front = w.read(self.at)?;
         prove!(front < capacity);
-        let key = w.read(self.at + 2 + 2 * front)?;
-        let value = w.read(self.at + 3 + 2 * front)?;
+        let first = w.read(self.at + 2 + 2 * front)?;
+        let second = w.read(self.at + 3 + 2 * front)?;
         w.write(self.at, (front + 1) % capacity)?;
         w.write(self.at + 1, count - 1)?;
-        Ok(Some((key, value)))
+        Ok(Some((first, second)))
     }
 
     /// How many items there are, which the number of places bounds.
@@ -103,6 +109,7 @@ impl Ring {
         // No word is written, so nothing changes.
         ensures frame { OnOk result (WritesOnly W.Words w.old w.new (λ _. ⊥)) }
         ensures same { OnOk result (LeadsTo W.Words W.Shape.Shape w.old w.new (λ before after. after ≡ before)) }
+        ensures reads { OnOk result (ReadsOnly W.Words w.old w.new (IsOwn self.now)) }
         ensures goes_on { GoesOn W.Words w.old w.new result }
     {
         let capacity = u64::from(self.capacity);

@@ -5,6 +5,7 @@ use Rattle.history_model.proofs.TraceLaws.{begins_trans}
 use Rattle.history_model.proofs.FittingLaws.{some_at}
 use Rattle.txn_words.proofs.CallLaws.{each_plain, leads_plain, state_after}
 use Rattle.txn_words.proofs.FrameLaws.{only_read, only_write, only_then, writes_keep}
+use Rattle.txn_words.proofs.ReadLaws.{sees_read, sees_write, sees_then}
 use Rattle.txn_ring.specs.Queues.{place_at, IsOwn, IsInOrder, IsFull, Pushes}
 use Rattle.txn_ring.proofs.Traces.{Lies, lies, same, found_full, not_full, bounds, pushes, order_pushed}
 use Rattle.txn_ring.proofs.ring.Ring.push.Goals as goal
@@ -126,3 +127,27 @@ returns-clause-frame g c =
 
 pub returns-clause-others : goal.returns-clause-others
 returns-clause-others g c = writes_keep g.W.Words g.W.Shape.Shape _ _ _ (returns-clause-frame g c)
+
+pub returns-then-count-capacity-clause-full_frame : goal.returns-then-count-capacity-clause-full_frame
+returns-then-count-capacity-clause-full_frame g c = λ _. record { appended = only_read (λ _. ⊥) _ _ _ _ c.in_ok-count.ensures.value }
+
+pub returns-then-count-capacity-clause-reads : goal.returns-then-count-capacity-clause-reads
+returns-then-count-capacity-clause-reads g c =
+    let ring = c.args.self.now in
+    let count : IsOwn ring (ring.at + 1) = record { low = omega arith; high = omega arith } in
+    record { appended = sees_read (IsOwn ring) _ _ _ _ c.in_ok-count.ensures.value count }
+
+pub returns-clause-reads : goal.returns-clause-reads
+returns-clause-reads g c =
+    let ring = c.args.self.now in
+    let is_own = IsOwn ring in
+    let place : (c.in_ok-front.front + c.in_ok-count.count) % c.from-capacity.result < c.from-capacity.result = mod-lt (c.in_ok-front.front + c.in_ok-count.count) (omega arith) in
+    let front : IsOwn ring ring.at = record { low = omega arith; high = omega arith } in
+    let first : IsOwn ring (ring.at + 2 + 2 * ((c.in_ok-front.front + c.in_ok-count.count) % c.from-capacity.result)) = record { low = omega arith; high = omega (arith, place) } in
+    let second : IsOwn ring (ring.at + 3 + 2 * ((c.in_ok-front.front + c.in_ok-count.count) % c.from-capacity.result)) = record { low = omega arith; high = omega (arith, place) } in
+    let count : IsOwn ring (ring.at + 1) = record { low = omega arith; high = omega arith } in
+    record {
+      appended = sees_then is_own _ _ _ (sees_read is_own _ _ _ _ c.in_ok-count.ensures.value count) (sees_then is_own _ _ _ (sees_read is_own _ _ _ _ c.in_ok-front.ensures.value front)
+          (sees_then is_own _ _ _ (sees_write is_own _ _ _ _ c.in_ok-write.ensures.value first)
+          (sees_then is_own _ _ _ (sees_write is_own _ _ _ _ c.in_ok-write-2.ensures.value second) (sees_write is_own _ _ _ _ c.in_ok-write-3.ensures.value count))));
+    }

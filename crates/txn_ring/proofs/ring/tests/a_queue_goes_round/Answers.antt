@@ -10,7 +10,7 @@ use Rattle.txn_ring.specs.declared.ring.Ring.{Ring}
 use Rattle.txn_ring.specs.declared.ring.tests.WithRing.{WithRing}
 use Rattle.txn_ring.specs.Queues.{IsInOrder}
 use Rattle.txn_ring.proofs.Items.{starts_empty}
-use Rattle.txn_ring.proofs.Traces.{each_fresh}
+use Rattle.history_model.proofs.FittingLaws.{each_fresh}
 use Rattle.txn_ring.proofs.ring.tests.a_queue_goes_round.Goals as goal
 
 abbrev one_place : Ring
