@@ -5,6 +5,8 @@ pub mod FittingLaws
 pub mod UndoLaws
 pub mod ReplayLaws
 pub mod HistoryLaws
+pub mod EndEvents
+pub mod TraceAgree
 -- sets, and views by their places
 pub mod SetLemmas
 pub mod Places

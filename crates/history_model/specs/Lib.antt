@@ -10,3 +10,4 @@ pub mod Histories
 pub mod Legal
 pub mod Undoing
 pub mod Places
+pub mod Counts

@@ -1,0 +1,95 @@
+-- The beginning and the end of a call keep the value invariant.
+use Rattle.std.proofs.Common.{◌≡◌, ◌≢◌, ℕ, ◌+◌, ◌*◌, ◌^◌, ◌<◌, ◌≤◌, Bool, true, false, ◌⊎◌, inl, inr, ⊎_elim, List, [], ◌∷◌, length, Option, Some, None, IsSome, slice_get, slice_index, slice_set, refl, sym, ap, ◌∙◌, subst, arith, get_or-set_other, get_or-set_same}
+use mathlib.Core.Logic.{dite}
+use native.Mathlib.Decide.{ℕ_discrete}
+use Rattle.history_model.specs.declared.TheConstants.{LOCKS}
+use Rattle.history_model.specs.declared.entry.Entry.{Entry}
+use Rattle.history_model.specs.declared.view.View.{View}
+use Rattle.history_model.specs.declared.view.Phase.TheVariants.{Idle, Running, Releasing}
+use Rattle.history_model.specs.Counts.{is_attempt, is_open, calls_sum, calls_below}
+use Rattle.history_model.specs.Histories.{replay}
+use Rattle.history_model.specs.Sets.{has, flag}
+use Rattle.history_model.specs.Table.{Knows, history_of, serial_word, calls_word, stamps_word, value_word, table_words}
+use Rattle.history_model.specs.Traces.{IsLegalTrace, value_after}
+use Rattle.history_model.proofs.SetLemmas.{has-one, has-join_same, differ}
+use Rattle.locks_rule.specs.Locks.{LocksHold, IsSeat}
+use Rattle.values_rule.specs.Keeping.{KeepsValues}
+use Rattle.values_rule.specs.Steps.{MayBeginCall, begin_call_action, MayFinishCall, finish_call_action}
+use Rattle.values_rule.specs.Values.{value_at, oldest, ValuesHold}
+use Rattle.values_rule.proofs.Asides.{SameCalls, IsAside, ended_keeps, undo_empty}
+use Rattle.values_rule.proofs.Counting.{calls_below-more}
+use Rattle.values_rule.proofs.Frames.{CallsMove, TraceMoves, FloorMoves, moves}
+use Rattle.values_rule.proofs.LockKinds.{Own, own}
+use Rattle.values_rule.proofs.Notes.{oldest-nil}
+
+-- an attempt that did nothing yet
+fresh_trace : (n : ℕ) (base now ws' : List ℕ) (w : View) → w.trace ≡ [] → w.undo ≡ [] → w.phase ≡ Running → TraceMoves n base now ws' w
+unfolding IsLegalTrace value_after
+fresh_trace n base now ws' w trace undo runs = record {
+  granted = λ a busy t. absurd (let z = ap (λ (l : _). slice_get l t.0) trace in ⊎_elim (λ e. cc) (λ e. cc) t.2);
+  legal = λ busy. rw trace tt;
+  undo_written = λ a o busy t. absurd (let z : None ≡ Some o = sym (oldest-nil a) ∙ (ap (λ (l : List (ℕ × ℕ)). oldest a l) (sym undo) ∙ t) in cc);
+  written_noted = λ a is t. absurd (let z = ap (λ (l : _). slice_get l t.0) trace in cc (t.2));
+  last_stands = λ a x is t. absurd (let z : None ≡ Some x = (rw trace at t) in cc);
+  rested = λ t. undo;
+}
+
+pub begin_call_values : (good : List ℕ → Type 0) (j : ℕ) → KeepsValues good (MayBeginCall j) (begin_call_action j)
+begin_call_values good j n base ws vs id v h q me may =
+    let o = own n base ws vs id j v h me may.who in
+    let i : ℕ = calls_word v.seats j in
+    let x : ℕ = v.call + 1 in
+    let w : View = (begin_call_action j v).view (history_of vs) (slice_index ws i) in
+    let alone : v.joined ≡ false = q.calls.alone_unjoined id j v me may.who in
+    let none : v.undo ≡ [] = q.trace.rested id v me (inl may.phase) in
+    let long : i < length ws = omega (arith, h.word_count, o.below) in
+    let shown : slice_index ws (calls_word n j) ≡ v.call = q.calls.calls_shown id j v o.seat alone in
+    let one : (l : ℕ) → has l w.who ≡ true → l ≡ j = λ l t. has-one l j (subst (λ (s : List ℕ). has l s ≡ true) may.who t) in
+    let mine : (l : ℕ) → has l w.who ≡ true → IsSeat vs id v l = λ l t. record { knows = me; named = t } in
+    let here : slice_index (slice_set ws i x) (calls_word n j) ≡ x = get_or-set_same ws i x 0 long in
+    let there : (l : ℕ) → l ≢ j → slice_index (slice_set ws i x) (calls_word n l) ≡ slice_index ws (calls_word n l) = λ l ne. get_or-set_other ws i (calls_word n l) x 0 (λ e. ne (omega arith)) in
+    moves good n base ws (slice_set ws i x) vs id v w h q me record {
+      seen = record { serial = get_or-set_other ws i serial_word x 0 (λ e. omega arith); seen = refl; olds = refl; who = refl; joined = refl };
+      calls = record {
+        alone = λ busy. (j, may.who);
+        own = λ l t un. subst (λ (y : ℕ). slice_index (slice_set ws i x) (calls_word n y) ≡ x) (sym (one l t)) here;
+        others = λ l away lt. there l (λ e. differ (has l v.who) (subst (λ (y : ℕ). has y v.who ≡ true) (sym e) o.seat.named) away);
+        numbered = λ l p e t un at own_entry. let le = q.calls.entries_numbered id l p v e (mine l t) un at own_entry in omega arith;
+        open_numbered = λ l p e t un busy at own_entry. let le = q.calls.entries_numbered id l p v e (mine l t) un at own_entry in omega arith;
+        fit = λ l lt. dite (ℕ_discrete l j) (λ e. subst (λ (y : ℕ). slice_index (slice_set ws i x) (calls_word n y) < 2 ^ 32) (sym e) (omega (arith, here, may.room))) (λ ne. subst (λ (y : ℕ). y < 2 ^ 32) (sym (there l ne)) (q.calls.calls_fit l lt));
+        counted =
+            let sums : calls_below n n (slice_set ws (calls_word n j) x) + slice_index ws (calls_word n j) ≡ calls_below n n ws + x = calls_below-more n n j x ws o.below long in
+            let before : flag (is_open v.phase) ≡ 0 = ap (λ p. flag (is_open p)) may.phase in
+            omega (arith, sums, shown, before);
+      };
+      undo = undo_empty good n base ws vs id v h q me w i x (omega (arith, o.seats, o.below)) none refl;
+      trace = fresh_trace n base (replay base (history_of vs)) (slice_set ws i x) w refl refl refl;
+      floor = record {
+        floor_seen = omega arith;
+        open_before = λ l p e t busy at own_entry. q.calls.own_seen id l p v e (mine l t) at own_entry;
+        attempts = λ l single busy. record {
+          abandoned_legal = λ y t. absurd (let z = t.1 in cc);
+          causes_bounded = λ y t. absurd (let z = t.1 in cc);
+          causes_differ = λ a b y z at more same. absurd (cc at);
+        };
+      };
+    }
+
+pub finish_call_values : (good : List ℕ → Type 0) (j : ℕ) → KeepsValues good (MayFinishCall j) (finish_call_action j)
+finish_call_values good j n base ws vs id v h q me may =
+    let o = own n base ws vs id j v h me may.who in
+    let w : View = (finish_call_action j v).view (history_of vs) (slice_index ws (stamps_word v.seats j)) in
+    ended_keeps good n base ws vs id v h q me w (stamps_word v.seats j) 0
+    record { serial = omega arith; calls = inr (omega (arith, o.seats)); values = omega (arith, o.seats, o.below) }
+    record {
+      seen = refl;
+      olds = refl;
+      who = refl;
+      joined = refl;
+      call = refl;
+      floor = refl;
+      abandoned = refl;
+      stamp = λ busy. absurd (busy refl);
+      still_open = λ t. absurd (cc t);
+      still_begun = λ busy. absurd (busy refl);
+    } refl may.undone may.undone

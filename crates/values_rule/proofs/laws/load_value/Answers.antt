@@ -1,0 +1,9 @@
+use Rattle.values_rule.proofs.LocksStand.{load_value_locks}
+use Rattle.values_rule.proofs.ValueKinds.{load_value_values}
+use Rattle.values_rule.proofs.laws.load_value.Goals as goal
+
+pub returns-clause-locks : goal.returns-clause-locks
+returns-clause-locks g c = load_value_locks
+
+pub returns-clause-values : goal.returns-clause-values
+returns-clause-values g c = λ shape. load_value_values (g.S.Shape.good shape)

@@ -1,0 +1,14 @@
+-- What it means that a kind of step keeps the value invariant.
+use Rattle.std.specs.Prelude.{ℕ, List}
+use Rattle.history_model.specs.declared.view.View.{View}
+use Rattle.history_model.specs.Table.{Knows}
+use Rattle.locks_rule.specs.Actions.{Action, words_after, views_after}
+use Rattle.locks_rule.specs.Locks.{LocksHold}
+use Rattle.values_rule.specs.Values.{ValuesHold}
+
+-- a step of a seat that may take it keeps the value invariant in every state in which the lock invariant holds too
+abbrev pub KeepsValues : (List ℕ → Type 0) → (View → Type 0) → (View → Action) → Type 0
+KeepsValues good may action =
+    (n : ℕ) (base words : List ℕ) (views : List View) (id : ℕ) (v : View)
+    → LocksHold n base words views → ValuesHold good n base words views → Knows views id v → may v
+    → ValuesHold good n base (words_after (action v) words) (views_after (action v) id words views)

@@ -1,0 +1,100 @@
+//! The laws of values, each the contract of a function that does nothing.
+//!
+//! A seat writes in place, under the exclusive lock of the word, and notes the old value first. So whoever else may read
+//! the word waits until the call has its entry or has undone the write; and a call gives up no lock before that (strict
+//! two-phase locking). Hence what an attempt reads under its locks is what the committed history and its own writes
+//! leave, and an entry at the history's end is legal. `ValuesHold` is what keeps this true between any two steps, and
+//! each kind of step has a law here that says so of every state in which the lock invariant holds too.
+
+ghost use Rattle.std.specs.Prelude.{ℕ, List, Bool};
+ghost use Rattle.locks_rule.specs.Actions.{Keeps};
+ghost use Rattle.locks_rule.specs.Locks.{LocksHold};
+ghost use Rattle.locks_rule.specs.Steps.{MaySetReadBit, MayClearReadBit, MayLoadWriter, MayClaimWriter, MayScanRow, MayReleaseWriter, set_read_bit_action, clear_read_bit_action, load_writer_action, claim_writer_action, scan_row_action, release_writer_action};
+ghost use Rattle.values_rule.specs.Keeping.{KeepsValues};
+ghost use Rattle.values_rule.specs.Steps.{MayBeginCall, MayLoadValue, MayStoreValue, MayUndoStore, MayCommitCall, MayFinishCall, begin_call_action, load_value_action, store_value_action, undo_store_action, commit_call_action, finish_call_action};
+ghost use Rattle.values_rule.specs.Undone.{UndoingRestores};
+
+use history_model::Shape;
+
+/// A seat that begins a call keeps both invariants: all its entries lie before the call's floor.
+pub fn begin_call<S: Shape>()
+    ensures locks { (n : ℕ) (base : List ℕ) (j : ℕ)
+        → Keeps (LocksHold n base) (MayBeginCall j) (begin_call_action j) }
+    ensures values { (shape : _) (j : ℕ) → KeepsValues (S.good shape) (MayBeginCall j) (begin_call_action j) }
+{}
+
+/// A seat that loads a value under a lock keeps both invariants: the value is what its own events and the history leave.
+pub fn load_value<S: Shape>()
+    ensures locks { (n : ℕ) (base : List ℕ) (j a : ℕ)
+        → Keeps (LocksHold n base) (MayLoadValue j a) (load_value_action j a) }
+    ensures values { (shape : _) (j a : ℕ) → KeepsValues (S.good shape) (MayLoadValue j a) (load_value_action j a) }
+{}
+
+/// A seat that stores a value under the exclusive lock, with the old one noted, keeps both invariants.
+pub fn store_value<S: Shape>()
+    ensures locks { (n : ℕ) (base : List ℕ) (j a x : ℕ)
+        → Keeps (LocksHold n base) (MayStoreValue j a) (store_value_action j a x) }
+    ensures values { (shape : _) (j a x : ℕ)
+        → KeepsValues (S.good shape) (MayStoreValue j a) (store_value_action j a x) }
+{}
+
+/// A seat that writes its newest note back keeps both invariants.
+pub fn undo_store<S: Shape>()
+    ensures locks { (n : ℕ) (base : List ℕ) (j a old : ℕ)
+        → Keeps (LocksHold n base) (MayUndoStore j a old) (undo_store_action j a old) }
+    ensures values { (shape : _) (j a old : ℕ)
+        → KeepsValues (S.good shape) (MayUndoStore j a old) (undo_store_action j a old) }
+{}
+
+/// A seat that commits keeps both invariants, whether its writes are kept or not: the history has one legal entry more.
+pub fn commit_call<S: Shape>()
+    ensures locks { (shape : _) (n : ℕ) (base : List ℕ) (j : ℕ) (kept : Bool)
+        → Keeps (LocksHold n base) (MayCommitCall (S.good shape) j kept) (commit_call_action j kept) }
+    ensures values { (shape : _) (j : ℕ) (kept : Bool)
+        → KeepsValues (S.good shape) (MayCommitCall (S.good shape) j kept) (commit_call_action j kept) }
+{}
+
+/// A seat that ends its call keeps both invariants: it has no lock and nothing to undo.
+pub fn finish_call<S: Shape>()
+    ensures locks { (n : ℕ) (base : List ℕ) (j : ℕ)
+        → Keeps (LocksHold n base) (MayFinishCall j) (finish_call_action j) }
+    ensures values { (shape : _) (j : ℕ) → KeepsValues (S.good shape) (MayFinishCall j) (finish_call_action j) }
+{}
+
+/// A seat that sets its read bit keeps the value invariant.
+pub fn set_read_bit<S: Shape>()
+    ensures { (shape : _) (j k a : ℕ) → KeepsValues (S.good shape) (MaySetReadBit j k a) (set_read_bit_action j k a) }
+{}
+
+/// A seat that looks at a writer word keeps the value invariant.
+pub fn load_writer<S: Shape>()
+    ensures { (shape : _) (j k a : ℕ) → KeepsValues (S.good shape) (MayLoadWriter j k a) (load_writer_action j k a) }
+{}
+
+/// A seat that claims a writer word keeps the value invariant.
+pub fn claim_writer<S: Shape>()
+    ensures { (shape : _) (j k a : ℕ)
+        → KeepsValues (S.good shape) (MayClaimWriter j k a) (claim_writer_action j k a) }
+{}
+
+/// A seat that scans another's row keeps the value invariant.
+pub fn scan_row<S: Shape>()
+    ensures { (shape : _) (j k i : ℕ) → KeepsValues (S.good shape) (MayScanRow j k i) (scan_row_action j k i) }
+{}
+
+/// A seat that clears its read bit keeps the value invariant: nothing is left to undo, and no attempt goes on.
+pub fn clear_read_bit<S: Shape>()
+    ensures { (shape : _) (j k : ℕ) → KeepsValues (S.good shape) (MayClearReadBit j k) (clear_read_bit_action j k) }
+{}
+
+/// A seat that gives its claim up keeps the value invariant: nothing is left to undo, and no attempt goes on.
+pub fn release_writer<S: Shape>()
+    ensures { (shape : _) (j k : ℕ)
+        → KeepsValues (S.good shape) (MayReleaseWriter j k) (release_writer_action j k) }
+{}
+
+/// In every state that both invariants allow, the memory with all unfinished writes taken back is what the history
+/// leaves.
+pub fn undoing_restores<S: Shape>()
+    ensures { (shape : _) → UndoingRestores (S.good shape) }
+{}
