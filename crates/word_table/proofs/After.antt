@@ -32,6 +32,7 @@ copy_after {call} {locks} {table} {me} i phase locks' table' me' w et ew es same
     subst (λ (t : TableId). IsCopy (record call { phase = phase }) locks' t me') (sym et) record {
       slots = es ∙ i.slots;
       no_cause = ap (λ (x : View). x.due) ew ∙ (same.due ∙ i.no_cause);
+      others_are = i.others_are;
       below = i.below;
       few = i.few;
       short = subst (λ (x : List ℕ). length x ≤ MOST_WORDS) (sym (ap (λ (x : View). x.base) ew ∙ same.base)) i.short;

@@ -1,8 +1,8 @@
 -- Bits of a pass's own rows and masks.
-use Rattle.std.proofs.Common.{◌≡◌, ◌≢◌, ℕ, zero, suc, ◌+◌, ◌*◌, ◌/◌, ◌%◌, ◌^◌, ◌<◌, Bool, true, false, inl, inr, ⊎_elim, List, [], ◌∷◌, length, slice_index, slice_index_or, slice_set, refl, sym, ap, ◌∙◌, subst, arith, length-set, get_or-set_other, get_or-set_same, if◌then◌else◌}
+use Rattle.std.proofs.Common.{◌≡◌, ◌≢◌, ℕ, zero, suc, ◌+◌, ◌*◌, ◌/◌, ◌%◌, ◌^◌, ◌<◌, ◌≤◌, ◌-◌, Bool, true, false, inl, inr, ⊎_elim, List, [], ◌∷◌, length, slice_index, slice_index_or, slice_set, refl, sym, ap, ◌∙◌, subst, arith, length-set, get_or-set_other, get_or-set_same, if◌then◌else◌}
 use Rattle.std.specs.Prelude.{bit_and, bit_or}
 use Rattle.std.specs.Int.{bit_at, bit_not, trailing_zeros}
-use Rattle.std.proofs.lemmas.Nat.Bits.{bit_at-zero, bit_at-trailing_zeros, bit_at_set_same, bit_at_set_other}
+use Rattle.std.proofs.lemmas.Nat.Bits.{bit_at-zero, bit_at-trailing_zeros, bit_at_set_same, bit_at_set_other, bit_at_and, bit_at_clear_same, bit_at_clear_other, bit_at_ones, bit_at_ones_above, ones_shr}
 use mir.Syntax.{w64}
 use mathlib.Core.Logic.{dite}
 use native.Mathlib.Decide.{ℕ_discrete}
@@ -10,7 +10,8 @@ use Rattle.history_model.specs.declared.TheConstants.{LOCKS}
 use Rattle.history_model.specs.Sets.{has, without, has_pair, without_first, flag}
 use Rattle.history_model.proofs.SetLemmas.{has-join, has-join_same, has-join_other, has-without, has-without_same, has-without_other, pair-join_same, pair-join_other, pair-without_same, pair-without_other}
 use Rattle.locks_rule.proofs.Bits.{put_same, put_other, raise_here, raise_there, lower_here, lower_there}
-use Rattle.word_table.specs.Copies.{Shows, ShowsPairs}
+use Rattle.word_table.specs.declared.limits.TheConstants.{MOST_PASSES}
+use Rattle.word_table.specs.Copies.{Shows, ShowsOthers, ShowsPairs}
 
 shows_put : (f : ℕ → ℕ) (row before after : List ℕ) (k : ℕ) → k < LOCKS → ((w : ℕ) → bit_at (f w) (k % 64) ≡ flag (has k after)) → ((w i : ℕ) → i < 64 → i ≢ k % 64 → bit_at (f w) i ≡ bit_at w i)
     → ((l : ℕ) → l ≢ k → has l after ≡ has l before) → ((l : ℕ) → has l after ≡ true → l < LOCKS)
@@ -102,3 +103,21 @@ least_some row locks i w small is some_bit fits zeros h =
           let there : bit_at (slice_index row (k / 64)) (k % 64) ≡ 0 = ap (λ (m : ℕ). bit_at (slice_index row m) (k % 64)) same ∙ (ap (λ (x : ℕ). bit_at x (k % 64)) (sym is) ∙ clear) in absurd (omega arith))
           (λ ne. let before : k / 64 < i = omega arith in let there : bit_at (slice_index row (k / 64)) (k % 64) ≡ 0 = no_bit (slice_index row (k / 64)) (k % 64) (zeros (k / 64) before) in absurd (omega arith)),
     )
+
+-- all seats but one, as the code makes them
+pub shows_others : (seats who : ℕ) → who < seats → seats ≤ MOST_PASSES → ShowsOthers (bit_and ((2 ^ 64 - 1) / 2 ^ (64 - seats)) (bit_not w64 (1 * 2 ^ who % 2 ^ 64))) seats who
+shows_others seats who lt few =
+    let left : 64 - (64 - seats) ≡ seats = omega arith in let within : 64 - seats ≤ 64 = omega arith in let near : who < 64 = omega arith in
+    let ones : (2 ^ 64 - 1) / 2 ^ (64 - seats) ≡ 2 ^ seats - 1 = ones_shr 64 (64 - seats) within ∙ ap (λ (x : ℕ). 2 ^ x - 1) left in
+    subst (λ (m : ℕ). ShowsOthers (bit_and m (bit_not w64 (1 * 2 ^ who % 2 ^ 64))) seats who) (sym ones) record {
+      own = bit_at_clear_same w64 (2 ^ seats - 1) who near;
+      others = λ j below ne. let close : j < 64 = omega arith in bit_at_clear_other w64 (2 ^ seats - 1) who near j close ne ∙ bit_at_ones seats j below;
+      above = λ j far. bit_at_and (2 ^ seats - 1) (bit_not w64 (1 * 2 ^ who % 2 ^ 64)) j ∙ (let none : bit_at (2 ^ seats - 1) j ≡ 0 = bit_at_ones_above seats j far in omega arith);
+    }
+
+-- the least bit of a word
+pub no_seat : (w k : ℕ) → w ≡ 0 → ¬ (bit_at w k ≡ 1)
+no_seat w k e one = let zero_bit : bit_at w k ≡ 0 = no_bit w k e in absurd (omega arith)
+
+pub least_bit : (w : ℕ) → w ≢ 0 → w < 2 ^ 64 → (bit_at w (trailing_zeros w64 w) ≡ 1) × ((k : ℕ) → k < trailing_zeros w64 w → ¬ (bit_at w k ≡ 1))
+least_bit w some fits = let low = bit_at-trailing_zeros w64 w (omega arith) fits in (low.1, λ k lt one. let clear : bit_at w k ≡ 0 = low.2 k lt in absurd (omega arith))

@@ -2,11 +2,12 @@
 
 use history_model::Phase;
 
-/// The call: how many seats there are, the own number, and where the pass is in its calls.
+/// The call: how many seats there are, the own number, the others as a bit for each, and where the pass is in its calls.
 #[derive(Clone, Copy)]
 pub(crate) struct CallCopy {
     pub(crate) seats: u32,
     pub(crate) who: u32,
+    pub(crate) others: u64,
     pub(crate) phase: Phase,
 }
 

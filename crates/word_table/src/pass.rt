@@ -5,7 +5,7 @@
 
 ghost use Rattle.std.specs.Prelude.{◌≡◌, ◌≢◌, ◌⊎◌, ◌↔◌, ◌<◌, ◌≤◌, ◌+◌, ℕ, true, false, IsTrue, IfSome, IsNone, length, [], ◌∷◌, None, replicate};
 ghost use Rattle.history_model.specs.Locks.{lock_of_word};
-ghost use Rattle.history_model.specs.Sets.{has, has_pair};
+ghost use Rattle.history_model.specs.Sets.{has};
 ghost use Rattle.history_model.specs.Table.{table_words};
 ghost use Rattle.history_model.specs.Views.{number, HasBit, HasReadGrant, HasClaim, IsScanned, HasWriteGrant, IsGranted};
 ghost use Rattle.locks_rule.specs.Splits.{opening_view};
@@ -69,6 +69,7 @@ impl<S: Shape> Pass<S> {
         let call = CallCopy {
             seats,
             who,
+            others: bits::all_but(seats, who),
             phase: Phase::Running,
         };
         let locks = LockCopy {
@@ -123,25 +124,6 @@ impl<S: Shape> Pass<S> {
         bits::test(&self.locks.reads, k)
     }
 
-    // Whether the seat `other` was found clear for the own claim on the lock.
-    fn is_scanned(&self, k: u32, other: u32) -> bool
-        requires { (k < LOCKS) × (other < 64) }
-        ensures { result ≡ has_pair k other self.now.view.scans }
-    {
-        (self.locks.scans[k as usize] >> other) & 1 == 1
-    }
-
-    // Whether the seat is another, and not yet found clear for the lock.
-    fn is_to_scan(&self, k: u32, other: u32) -> bool
-        requires { (k < LOCKS) × (other < 64) }
-        ensures { IsTrue result ↔ ((has other self.now.view.who ≡ false) × (has_pair k other self.now.view.scans ≡ false)) }
-    {
-        if other == self.call.who {
-            return false;
-        }
-        !self.is_scanned(k, other)
-    }
-
     /// The least other seat that was not yet found clear for the own claim on the lock. Without a claim there is none.
     pub fn unscanned(&self, k: u32) -> Option<u32>
         requires { k < LOCKS }
@@ -151,12 +133,8 @@ impl<S: Shape> Pass<S> {
         if !self.has_claim(k) {
             return None;
         }
-        for other in 0..self.call.seats {
-            if self.is_to_scan(k, other) {
-                return Some(other);
-            }
-        }
-        None
+        let left = bits::left_to_scan(self.call.others, &self.locks.scans, k);
+        bits::least_seat(left)
     }
 
     /// Whether the lock is held for writing: the own claim stands, and every other seat was found clear for it.
@@ -209,6 +187,7 @@ impl<S: Shape> Pass<S> {
     {
         let lock = lock_of(a);
         let new = bits::raised(&self.locks.bits, lock);
+        bits::raise(&mut self.locks.bits, lock);
         step::store(
             table,
             &mut self.seat,
@@ -220,7 +199,6 @@ impl<S: Shape> Pass<S> {
                 word: a,
             },
         );
-        bits::raise(&mut self.locks.bits, lock);
     }
 
     // Sets the bit of the lock of word a, where it is not set.
@@ -251,6 +229,7 @@ impl<S: Shape> Pass<S> {
         ensures small { result ≤ MOST_PASSES }
     {
         let lock = lock_of(a);
+        let who = self.call.who;
         let found = step::load(
             table,
             &mut self.seat,
@@ -261,7 +240,7 @@ impl<S: Shape> Pass<S> {
                 word: a,
             },
         );
-        let unclaimed = is_unclaimed(found, self.call.who);
+        let unclaimed = is_unclaimed(found, who);
         bits::raise_if(&mut self.locks.reads, lock, unclaimed);
         found
     }
@@ -364,6 +343,10 @@ impl<S: Shape> Pass<S> {
             (release_writer_action (number self.old.view) k self.old.view) self.old.view found self.new.view }
     {
         let nobody = 0;
+        bits::lower(&mut self.locks.claims, k);
+        bits::forget_if(&mut self.locks.scans, k, true);
+        let after_unclaim = after_release(self.call.phase);
+        self.call.phase = after_unclaim;
         step::store(
             table,
             &mut self.seat,
@@ -374,10 +357,6 @@ impl<S: Shape> Pass<S> {
                 lock: k,
             },
         );
-        bits::lower(&mut self.locks.claims, k);
-        bits::forget_if(&mut self.locks.scans, k, true);
-        let after_unclaim = after_release(self.call.phase);
-        self.call.phase = after_unclaim;
     }
 
     // The store of the own row with the lock's bit cleared.
@@ -392,6 +371,10 @@ impl<S: Shape> Pass<S> {
             (clear_read_bit_action (number self.old.view) k self.old.view) self.old.view found self.new.view }
     {
         let new = bits::lowered(&self.locks.bits, k);
+        bits::lower(&mut self.locks.bits, k);
+        bits::lower(&mut self.locks.reads, k);
+        let after_unshare = after_release(self.call.phase);
+        self.call.phase = after_unshare;
         step::store(
             table,
             &mut self.seat,
@@ -402,9 +385,5 @@ impl<S: Shape> Pass<S> {
                 lock: k,
             },
         );
-        bits::lower(&mut self.locks.bits, k);
-        bits::lower(&mut self.locks.reads, k);
-        let after_unshare = after_release(self.call.phase);
-        self.call.phase = after_unshare;
     }
 }
