@@ -60,6 +60,11 @@ pub no_claim_none : (v : View) (k : ℕ) → has k v.claims ≡ false → IsLeas
 no_claim_none v k none j u = differ (has k v.claims) u.claim none
 
 -- the least lock of a set that is shown is one of the locks
-pub least_near : (row locks : List ℕ) (o : Option ℕ) → Shows row locks → IsLeast (λ k. has k locks ≡ true) o → IfSome o (λ k. k < LOCKS)
-least_near row locks None h l = tt
-least_near row locks (Some k) h l = h.near k l.0
+pub least_near : (row locks : List ℕ) (from : ℕ) (o : Option ℕ) → Shows row locks → IsLeast (λ k. (from ≤ k) × (has k locks ≡ true)) o → IfSome o (λ k. k < LOCKS)
+least_near row locks from None h l = tt
+least_near row locks from (Some k) h l = h.near k l.0.1
+
+-- the least from 0 on is the least
+pub least_of_all : (locks : List ℕ) (o : Option ℕ) → IsLeast (λ k. (0 ≤ k) × (has k locks ≡ true)) o → IsLeast (λ k. has k locks ≡ true) o
+least_of_all locks None none = λ k t. none k (omega arith, t)
+least_of_all locks (Some j) least = (least.0.1, λ k lt t. least.1 k lt (omega arith, t))

@@ -62,11 +62,26 @@ pub(crate) fn raise_if(row: &mut [u64; 16], lock: u32, yes: bool)
     }
 }
 
-/// The least lock of the set.
-pub(crate) fn least(row: &[u64; 16]) -> Option<u32>
-    ensures { (locks : List ℕ) → Shows row.now locks → IsLeast (λ k. has k locks ≡ true) result }
+// The word with its bits below `from` cleared.
+fn high_bits(word: u64, from: u32) -> u64
+    requires { from < 64 }
+    ensures above { (b : ℕ) → from ≤ b → b < 64 → bit_at result b ≡ bit_at word b }
+    ensures below { (b : ℕ) → b < from → bit_at result b ≡ 0 }
 {
-    for i in 0..16u32 {
+    word & u64::MAX << from
+}
+
+/// The least lock of the set from `from` on.
+pub(crate) fn least_from(row: &[u64; 16], from: u32) -> Option<u32>
+    requires { from < LOCKS }
+    ensures { (locks : List ℕ) → Shows row.now locks → IsLeast (λ k. (from ≤ k) × (has k locks ≡ true)) result }
+{
+    let first = from / 64;
+    let rest = high_bits(row[first as usize], from % 64);
+    if rest != 0 {
+        return Some(64 * first + rest.trailing_zeros());
+    }
+    for i in first + 1..16 {
         let word = row[i as usize];
         if word != 0 {
             return Some(64 * i + word.trailing_zeros());

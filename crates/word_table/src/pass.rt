@@ -164,7 +164,16 @@ impl<S: Shape> Pass<S> {
         ensures least { IsLeast (HasClaim self.now.view) result }
         ensures lock { IfSome result (λ k. k < LOCKS) }
     {
-        bits::least(&self.locks.claims)
+        bits::least_from(&self.locks.claims, 0)
+    }
+
+    /// The least lock from `from` on that the pass claims. So who gives up all claims goes on from the last one.
+    pub fn next_claim_from(&self, from: u32) -> Option<u32>
+        requires { from < LOCKS }
+        ensures least { IsLeast (λ k. (from ≤ k) × HasClaim self.now.view k) result }
+        ensures lock { IfSome result (λ k. k < LOCKS) }
+    {
+        bits::least_from(&self.locks.claims, from)
     }
 
     /// The least lock whose read bit the pass has set.
@@ -172,7 +181,16 @@ impl<S: Shape> Pass<S> {
         ensures least { IsLeast (HasBit self.now.view) result }
         ensures lock { IfSome result (λ k. k < LOCKS) }
     {
-        bits::least(&self.locks.bits)
+        bits::least_from(&self.locks.bits, 0)
+    }
+
+    /// The least lock from `from` on whose read bit the pass has set. So who clears all bits goes on from the last one.
+    pub fn next_bit_from(&self, from: u32) -> Option<u32>
+        requires { from < LOCKS }
+        ensures least { IsLeast (λ k. (from ≤ k) × HasBit self.now.view k) result }
+        ensures lock { IfSome result (λ k. k < LOCKS) }
+    {
+        bits::least_from(&self.locks.bits, from)
     }
 
     // The store of the own row with the lock's bit set, for the word a.
