@@ -46,9 +46,12 @@ module _ (v : View) (k seats who others scanned : ℕ) (claim : HasClaim v k) (s
       let clear : bit_at scanned j ≡ 0 = shown j near ∙ ap flag u.unscanned in
       let is = left_is j near in omega arith
 
-  pub least_unscanned : (o : Option ℕ) → IsLeast (λ j. bit_at left j ≡ 1) o → IsLeast (IsUnscanned v k) o
-  least_unscanned None none = λ j u. none j (stays_to_scan j u)
-  least_unscanned (Some j) least = (to_scan j least.0, λ i lt u. least.1 i lt (stays_to_scan i u))
+  least_left : (o : Option ℕ) → IsLeast (λ j. bit_at left j ≡ 1) o → IsLeast (IsUnscanned v k) o
+  least_left None none = λ j u. none j (stays_to_scan j u)
+  least_left (Some j) least = (to_scan j least.0, λ i lt u. least.1 i lt (stays_to_scan i u))
+
+  pub least_unscanned : (rest : ℕ) (o : Option ℕ) → rest ≡ left → IsLeast (λ j. bit_at rest j ≡ 1) o → IsLeast (IsUnscanned v k) o
+  least_unscanned rest o is least = least_left o (subst (λ (w : ℕ). IsLeast (λ j. bit_at w j ≡ 1) o) is least)
 
 -- with a claim and nobody left to scan the lock is held for writing
 pub all_scanned : (v : View) (k : ℕ) (o : Option ℕ) → IsLeast (IsUnscanned v k) o → IsNone o → HasClaim v k → HasWriteGrant v k
