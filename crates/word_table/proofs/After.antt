@@ -33,6 +33,8 @@ copy_after {call} {locks} {table} {me} i phase locks' table' me' w et ew es same
       slots = es ∙ i.slots;
       no_cause = ap (λ (x : View). x.due) ew ∙ (same.due ∙ i.no_cause);
       others_are = i.others_are;
+      row_is = i.row_is;
+      writers_are = i.writers_are;
       below = i.below;
       few = i.few;
       short = subst (λ (x : List ℕ). length x ≤ MOST_WORDS) (sym (ap (λ (x : View). x.base) ew ∙ same.base)) i.short;

@@ -6,7 +6,7 @@ use Rattle.atomic_table.specs.Seated.{TableId}
 use Rattle.history_model.specs.declared.TheConstants.{LOCKS}
 use Rattle.history_model.specs.declared.view.View.{View}
 use Rattle.history_model.specs.Sets.{has, has_pair, flag}
-use Rattle.history_model.specs.Table.{table_words}
+use Rattle.history_model.specs.Table.{row_word, writer_word, table_words}
 use Rattle.word_table.specs.declared.copies.CallCopy.{CallCopy}
 use Rattle.word_table.specs.declared.copies.LockCopy.{LockCopy}
 use Rattle.word_table.specs.declared.limits.TheConstants.{MOST_PASSES, MOST_WORDS}
@@ -51,6 +51,8 @@ pub record IsCopy (call : CallCopy) (locks : LockCopy) (table : TableId) (me : M
   pub slots : me.1 ≡ []
   pub no_cause : me.0.due ≡ None
   pub others_are : ShowsOthers call.others call.seats call.who
+  pub row_is : call.row ≡ row_word call.seats call.who 0
+  pub writers_are : call.writers ≡ writer_word call.seats 0
   pub below : call.who < call.seats
   pub few : call.seats ≤ MOST_PASSES
   pub short : length me.0.base ≤ MOST_WORDS

@@ -18,7 +18,7 @@ ghost use Rattle.word_table.specs.Unscanned.{IsUnscanned};
 
 use crate::answer::{Scanned, Shared, is_unclaimed, scanned_by, shared_by};
 use crate::copies::{CallCopy, LockCopy};
-use crate::layout::{place_of_bit, place_of_writer};
+use crate::layout::{place_of_bit, place_of_own_bit, place_of_writer};
 use crate::limits::{MOST_PASSES, MOST_WORDS};
 use crate::rule::TableWords;
 use crate::step::Step;
@@ -70,6 +70,8 @@ impl<S: Shape> Pass<S> {
             seats,
             who,
             others: bits::all_but(seats, who),
+            row: 2 + 2 * seats + 16 * who,
+            writers: 2 + 18 * seats,
             phase: Phase::Running,
         };
         let locks = LockCopy {
@@ -209,7 +211,7 @@ impl<S: Shape> Pass<S> {
         step::store(
             table,
             &mut self.seat,
-            place_of_bit(self.call.seats, self.call.who, lock),
+            place_of_own_bit(&self.call, lock),
             new,
             &Step::SetReadBit {
                 seat: self.call.who,
@@ -251,7 +253,7 @@ impl<S: Shape> Pass<S> {
         let found = step::load(
             table,
             &mut self.seat,
-            place_of_writer(self.call.seats, lock),
+            place_of_writer(&self.call, lock),
             &Step::LoadWriter {
                 seat: self.call.who,
                 lock,
@@ -294,7 +296,7 @@ impl<S: Shape> Pass<S> {
         let found = step::exchange(
             table,
             &mut self.seat,
-            place_of_writer(self.call.seats, lock),
+            place_of_writer(&self.call, lock),
             0,
             own,
             &Step::ClaimWriter {
@@ -368,7 +370,7 @@ impl<S: Shape> Pass<S> {
         step::store(
             table,
             &mut self.seat,
-            place_of_writer(self.call.seats, k),
+            place_of_writer(&self.call, k),
             nobody,
             &Step::ReleaseWriter {
                 seat: self.call.who,
@@ -396,7 +398,7 @@ impl<S: Shape> Pass<S> {
         step::store(
             table,
             &mut self.seat,
-            place_of_bit(self.call.seats, self.call.who, k),
+            place_of_own_bit(&self.call, k),
             new,
             &Step::ClearReadBit {
                 seat: self.call.who,
