@@ -1,5 +1,5 @@
 -- A step on a word of no lock, after which the seat knows the same of locks, keeps the lock invariant.
-use Rattle.std.proofs.Common.{◌≡◌, ◌≢◌, ℕ, ◌%◌, ◌<◌, true, false, inl, inr, ⊎_elim, List, slice_index, slice_set, sym, ap, ◌∙◌, subst, arith, length-set, get_or-set_other}
+use Rattle.std.proofs.Common.{◌≡◌, ℕ, ◌%◌, ◌<◌, true, inl, inr, ⊎_elim, List, slice_index, slice_set, sym, ap, ◌∙◌, subst, arith, length-set, get_or-set_other}
 use Rattle.std.specs.Int.{bit_at}
 use Rattle.history_model.specs.declared.TheConstants.{LOCKS}
 use Rattle.history_model.specs.declared.view.View.{View}

@@ -9,6 +9,7 @@ use Rattle.history_model.specs.Views.{number, HasClaim}
 use Rattle.locks_rule.specs.Locks.{LocksHold, IsSeat}
 use Rattle.locks_rule.specs.Splits.{KeepsSplit, MaySplitSeat, left_by_split, given_by_split}
 use Rattle.history_model.proofs.SetLemmas.{differ, not_true, empty-has, has-nil, has-one, has-join_same, has-without, has-without_other}
+use Rattle.history_model.proofs.Changes.{Change, StepTouches, NewByCut, change_cut}
 use Rattle.history_model.proofs.Places.{same_view, put_here, put_there, put_cases, added_here, added_there, added_cases}
 
 -- what both parts of a view that is cut have in common
@@ -57,16 +58,13 @@ module _ (n : ℕ) (base : List ℕ) (j : ℕ) (ws : List ℕ) (vs : List View) 
     met = λ x t. absurd (differ (has x []) t (has-nil x));
   }
 
-  -- a view afterwards is the new seat's, what the cut left, or an old one
-  case : (other : ℕ) (u : View) → Knows (slice_set vs id (left_by_split v) ++ given_by_split v ∷ []) other u
-      → ((other ≡ length vs) × (given_by_split v ≡ u)) ⊎ (((other ≡ id) × (left_by_split v ≡ u)) ⊎ ((other ≢ id) × Knows vs other u))
-  case other u e = ⊎_elim (λ t. inl (t.0 ∙ length-set vs id (left_by_split v), t.1)) (λ t. inr (put_cases vs id other (left_by_split v) u t)) (added_cases (slice_set vs id (left_by_split v)) (given_by_split v) u other e)
+  cut : Change vs (slice_set vs id (left_by_split v) ++ given_by_split v ∷ []) (StepTouches id) (NewByCut vs id (left_by_split v) (given_by_split v))
+  cut = change_cut vs id (left_by_split v) (given_by_split v)
 
   part_or_old : (other : ℕ) (u : View) → Knows (slice_set vs id (left_by_split v) ++ given_by_split v ∷ []) other u → IsPart n v u ⊎ ((other ≢ id) × Knows vs other u)
-  part_or_old other u e = ⊎_elim (λ t. inl (subst (λ (x : View). IsPart n v x) t.1 given_part)) (λ t. ⊎_elim (λ s. inl (subst (λ (x : View). IsPart n v x) s.1 left_part)) (λ s. inr s) t) (case other u e)
-
-  old_stays : (other : ℕ) (u : View) → other ≢ id → Knows vs other u → Knows (slice_set vs id (left_by_split v) ++ given_by_split v ∷ []) other u
-  old_stays other u ne e = added_there (slice_set vs id (left_by_split v)) (given_by_split v) u other (put_there vs id other (left_by_split v) u ne e)
+  part_or_old other u e = ⊎_elim
+      (λ t. inl (⊎_elim (λ s. subst (λ (x : View). IsPart n v x) s.1 given_part) (λ s. subst (λ (x : View). IsPart n v x) s.1 left_part) t))
+      inr (cut.cases other u e)
 
   -- each number of the view that is cut is in one of its parts
   placed : (x : ℕ) → has x v.who ≡ true → (other : ℕ) × (u : View) × IsSeat (slice_set vs id (left_by_split v) ++ given_by_split v ∷ []) other u x
@@ -96,22 +94,24 @@ module _ (n : ℕ) (base : List ℕ) (j : ℕ) (ws : List ℕ) (vs : List View) 
   apart_old other x u w part t ne e y = ne (h.numbers_unique other id x w v (record { knows = e; named = y }) (mine x (part.numbers x t)))
 
   unique : (a b x : ℕ) (u w : View) → IsSeat (slice_set vs id (left_by_split v) ++ given_by_split v ∷ []) a u x → IsSeat (slice_set vs id (left_by_split v) ++ given_by_split v ∷ []) b w x → a ≡ b
-  unique a b x u w sa sb = both (case a u sa.knows) (case b w sb.knows)
+  unique a b x u w sa sb = both (cut.cases a u sa.knows) (cut.cases b w sb.knows)
     where
       In : View → Type 0
       In y = has x y.who ≡ true
 
-      both : ((a ≡ length vs) × (given_by_split v ≡ u)) ⊎ (((a ≡ id) × (left_by_split v ≡ u)) ⊎ ((a ≢ id) × Knows vs a u))
-          → ((b ≡ length vs) × (given_by_split v ≡ w)) ⊎ (((b ≡ id) × (left_by_split v ≡ w)) ⊎ ((b ≢ id) × Knows vs b w)) → a ≡ b
-      both (inl s) (inl t) = s.0 ∙ sym t.0
-      both (inl s) (inr (inl t)) = absurd (apart x (subst In (sym s.1) sa.named) (subst In (sym t.1) sb.named))
-      both (inl s) (inr (inr t)) = absurd (apart_old b x (given_by_split v) w given_part (subst In (sym s.1) sa.named) t.0 t.1 sb.named)
-      both (inr (inl s)) (inl t) = absurd (apart x (subst In (sym t.1) sb.named) (subst In (sym s.1) sa.named))
-      both (inr (inl s)) (inr (inl t)) = s.0 ∙ sym t.0
-      both (inr (inl s)) (inr (inr t)) = absurd (apart_old b x (left_by_split v) w left_part (subst In (sym s.1) sa.named) t.0 t.1 sb.named)
-      both (inr (inr s)) (inl t) = absurd (apart_old a x (given_by_split v) u given_part (subst In (sym t.1) sb.named) s.0 s.1 sa.named)
-      both (inr (inr s)) (inr (inl t)) = absurd (apart_old a x (left_by_split v) u left_part (subst In (sym t.1) sb.named) s.0 s.1 sa.named)
-      both (inr (inr s)) (inr (inr t)) = h.numbers_unique a b x u w (record { knows = s.1; named = sa.named }) (record { knows = t.1; named = sb.named })
+      Case : ℕ → View → Type 0
+      Case o y = NewByCut vs id (left_by_split v) (given_by_split v) o y ⊎ (¬ StepTouches id o × Knows vs o y)
+
+      both : Case a u → Case b w → a ≡ b
+      both (inl (inl s)) (inl (inl t)) = s.0 ∙ sym t.0
+      both (inl (inl s)) (inl (inr t)) = absurd (apart x (subst In (sym s.1) sa.named) (subst In (sym t.1) sb.named))
+      both (inl (inl s)) (inr t) = absurd (apart_old b x (given_by_split v) w given_part (subst In (sym s.1) sa.named) t.0 t.1 sb.named)
+      both (inl (inr s)) (inl (inl t)) = absurd (apart x (subst In (sym t.1) sb.named) (subst In (sym s.1) sa.named))
+      both (inl (inr s)) (inl (inr t)) = s.0 ∙ sym t.0
+      both (inl (inr s)) (inr t) = absurd (apart_old b x (left_by_split v) w left_part (subst In (sym s.1) sa.named) t.0 t.1 sb.named)
+      both (inr s) (inl (inl t)) = absurd (apart_old a x (given_by_split v) u given_part (subst In (sym t.1) sb.named) s.0 s.1 sa.named)
+      both (inr s) (inl (inr t)) = absurd (apart_old a x (left_by_split v) u left_part (subst In (sym t.1) sb.named) s.0 s.1 sa.named)
+      both (inr s) (inr t) = h.numbers_unique a b x u w (record { knows = s.1; named = sa.named }) (record { knows = t.1; named = sb.named })
 
   splits : LocksHold n base ws (slice_set vs id (left_by_split v) ++ given_by_split v ∷ [])
   splits = record {
@@ -122,7 +122,7 @@ module _ (n : ℕ) (base : List ℕ) (j : ℕ) (ws : List ℕ) (vs : List View) 
     reads_lie_in_bits = λ other k u e z. ⊎_elim (λ t. absurd (differ (has k u.reads) z (t.reads k))) (λ t. h.reads_lie_in_bits other k u t.1 z) (part_or_old other u e);
     writers_show_claims = λ x k near e. let c = h.writers_show_claims x k near e in
         let ne : c.0 ≢ id = λ same. differ (has k v.claims) (subst (λ (y : View). HasClaim y k) (same_view vs id c.0 v c.1 me c.2.knows same) c.3) (no_claim k) in
-        (c.0, c.1, record { knows = old_stays c.0 c.1 ne c.2.knows; named = c.2.named }, c.3);
+        (c.0, c.1, record { knows = cut.kept c.0 c.1 ne c.2.knows; named = c.2.named }, c.3);
     claims_show_in_writers = λ other k u e z. ⊎_elim (λ t. absurd (differ (has k u.claims) z (t.claims k)))
         (λ t. let c = h.claims_show_in_writers other k u t.1 z in (c.0, record { knows = e; named = c.1.named }, c.2, c.3)) (part_or_old other u e);
     scanned_excludes_readers = λ a b x k u w ne ea sb claim scan. ⊎_elim (λ t. absurd (differ (has k u.claims) claim (t.claims k)))
@@ -134,7 +134,7 @@ module _ (n : ℕ) (base : List ℕ) (j : ℕ) (ws : List ℕ) (vs : List View) 
     numbers_unique = unique;
     numbers_placed = λ x lt. let o = h.numbers_placed x lt in dite (ℕ_discrete o.0 id)
         (λ e. placed x (subst (λ (u : View). has x u.who ≡ true) (same_view vs id o.0 v o.1 me o.2.knows e) o.2.named))
-        (λ ne. (o.0, o.1, record { knows = old_stays o.0 o.1 ne o.2.knows; named = o.2.named }));
+        (λ ne. (o.0, o.1, record { knows = cut.kept o.0 o.1 ne o.2.knows; named = o.2.named }));
     numbers_below = λ other x u s. ⊎_elim (λ t. h.numbers_below id x v (mine x (t.numbers x s.named))) (λ t. h.numbers_below other x u (record { knows = t.1; named = s.named })) (part_or_old other u s.knows);
     seats_alike = λ other x u s. ⊎_elim (λ t. t.seats ∙ h.seats_alike id x v (mine x (t.numbers x s.named))) (λ t. h.seats_alike other x u (record { knows = t.1; named = s.named })) (part_or_old other u s.knows);
     bases_alike = λ other x u s. ⊎_elim (λ t. t.base ∙ h.bases_alike id x v (mine x (t.numbers x s.named))) (λ t. h.bases_alike other x u (record { knows = t.1; named = s.named })) (part_or_old other u s.knows);

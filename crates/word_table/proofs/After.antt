@@ -32,6 +32,9 @@ copy_after {call} {locks} {table} {me} i phase locks' table' me' w et ew es same
     subst (λ (t : TableId). IsCopy (record call { phase = phase }) locks' t me') (sym et) record {
       slots = es ∙ i.slots;
       no_cause = ap (λ (x : View). x.due) ew ∙ (same.due ∙ i.no_cause);
+      others_are = i.others_are;
+      row_is = i.row_is;
+      writers_are = i.writers_are;
       below = i.below;
       few = i.few;
       short = subst (λ (x : List ℕ). length x ≤ MOST_WORDS) (sym (ap (λ (x : View). x.base) ew ∙ same.base)) i.short;
@@ -43,6 +46,12 @@ copy_after {call} {locks} {table} {me} i phase locks' table' me' w et ew es same
       };
       locks_are = subst (λ (x : View). IsLockCopy locks' x) (sym ew) copy;
     }
+
+-- the same after a store, which tells the view as a whole
+pub copy_stored : {call : CallCopy} {locks : LockCopy} {table : TableId} {me : Me (Unit {0}) View} → IsCopy call locks table me → (phase : Phase) (locks' : LockCopy) (table' : TableId) (me' : Me (Unit {0}) View) (w : View)
+    → table' ≡ table → me' ≡ (w, me.1) → SameSeat me.0 w → w.phase ≡ phase → IsLockCopy locks' w → IsCopy (record call { phase = phase }) locks' table' me'
+copy_stored {call} {locks} {table} {me} i phase locks' table' me' w et em = let after : Me (Unit {0}) View = (w, me.1) in
+    copy_after i phase locks' table' me' w et (ap (λ (m : Me (Unit {0}) View). m.0) {y = after} em) (ap (λ (m : Me (Unit {0}) View). m.1) {y = after} em)
 
 -- a copy that shows a view's four sets
 pub lock_copy : (copy : LockCopy) (v : View) → Shows copy.bits v.bits → Shows copy.reads v.reads → Shows copy.claims v.claims → ShowsPairs copy.scans.items v.scans → IsLockCopy copy v

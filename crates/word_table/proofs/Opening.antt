@@ -20,7 +20,7 @@ use Rattle.locks_rule.proofs.Splitting.{split_seat_keeps}
 use Rattle.word_table.specs.declared.limits.TheConstants.{MOST_PASSES, MOST_WORDS}
 use Rattle.word_table.specs.declared.copies.CallCopy.{CallCopy}
 use Rattle.word_table.specs.declared.copies.LockCopy.{LockCopy}
-use Rattle.word_table.specs.Copies.{Shows, ShowsPairs, IsCopy, PassView}
+use Rattle.word_table.specs.Copies.{Shows, ShowsOthers, ShowsPairs, IsCopy, PassView}
 use Rattle.word_table.specs.Sound.{IsSound, opening_words, numbers}
 
 zeros_at : (k : ℕ) (xs : List ℕ) (i : ℕ) → i < k → slice_index (replicate k 0 ++ xs) i ≡ 0
@@ -154,11 +154,14 @@ shows_none = record {
   near = λ k t. absurd (differ (has k []) t (has-nil k));
 }
 
-pub opening_copy : (base : List ℕ) (call : CallCopy) (locks : LockCopy) (table : TableId) (me : Me (Unit {0}) View) → me ≡ (opening_view base call.seats (call.who ∷ []) [], []) → call.phase ≡ Running → call.who < call.seats → call.seats ≤ MOST_PASSES
+pub opening_copy : (base : List ℕ) (call : CallCopy) (locks : LockCopy) (table : TableId) (me : Me (Unit {0}) View) → me ≡ (opening_view base call.seats (call.who ∷ []) [], []) → call.phase ≡ Running → ShowsOthers call.others call.seats call.who → call.row ≡ row_word call.seats call.who 0 → call.writers ≡ writer_word call.seats 0 → call.who < call.seats → call.seats ≤ MOST_PASSES
     → length base ≤ MOST_WORDS → table.words ≡ table_words call.seats (length base) → locks.bits ≡ zeros 16 → locks.reads ≡ zeros 16 → locks.claims ≡ zeros 16 → locks.scans.items ≡ replicate LOCKS 0 → IsCopy call locks table me
-opening_copy base call locks table me em running below few short long eb er ec es = subst (λ (m : Me (Unit {0}) View). IsCopy call locks table m) (sym em) record {
+opening_copy base call locks table me em running others row writers below few short long eb er ec es = subst (λ (m : Me (Unit {0}) View). IsCopy call locks table m) (sym em) record {
   slots = refl;
   no_cause = refl;
+  others_are = others;
+  row_is = row;
+  writers_are = writers;
   below = below;
   few = few;
   short = short;

@@ -1,12 +1,12 @@
 -- What a pass is seen as, and how what it keeps stands for what its seat knows.
-use Rattle.std.specs.Prelude.{◌≡◌, ℕ, ◌/◌, ◌%◌, ◌<◌, ◌≤◌, true, List, [], ◌∷◌, None, length, slice_index}
+use Rattle.std.specs.Prelude.{◌≡◌, ◌≢◌, ℕ, ◌/◌, ◌%◌, ◌<◌, ◌≤◌, true, List, [], ◌∷◌, None, length, slice_index}
 use Rattle.std.specs.Int.{bit_at}
 use Rattle.atomic_table.specs.Table.{Me}
 use Rattle.atomic_table.specs.Seated.{TableId}
 use Rattle.history_model.specs.declared.TheConstants.{LOCKS}
 use Rattle.history_model.specs.declared.view.View.{View}
 use Rattle.history_model.specs.Sets.{has, has_pair, flag}
-use Rattle.history_model.specs.Table.{table_words}
+use Rattle.history_model.specs.Table.{row_word, writer_word, table_words}
 use Rattle.word_table.specs.declared.copies.CallCopy.{CallCopy}
 use Rattle.word_table.specs.declared.copies.LockCopy.{LockCopy}
 use Rattle.word_table.specs.declared.limits.TheConstants.{MOST_PASSES, MOST_WORDS}
@@ -27,6 +27,12 @@ pub record ShowsPairs (masks : List ℕ) (pairs : List (ℕ × ℕ)) : Type 0 wh
   pub each_lock : length masks ≡ LOCKS
   pub bits : (k j : ℕ) → k < LOCKS → j < 64 → bit_at (slice_index masks k) j ≡ flag (has_pair k j pairs)
 
+-- a word shows all seats but the own one, a bit for each
+pub record ShowsOthers (mask seats who : ℕ) : Type 0 where
+  pub own : bit_at mask who ≡ 0
+  pub others : (j : ℕ) → j < seats → j ≢ who → bit_at mask j ≡ 1
+  pub above : (j : ℕ) → seats ≤ j → bit_at mask j ≡ 0
+
 -- the copy has the view's locks
 pub record IsLockCopy (copy : LockCopy) (v : View) : Type 0 where
   pub bits_are : Shows copy.bits v.bits
@@ -44,6 +50,9 @@ pub record IsCallCopy (copy : CallCopy) (v : View) : Type 0 where
 pub record IsCopy (call : CallCopy) (locks : LockCopy) (table : TableId) (me : Me (Unit {0}) View) : Type 0 where
   pub slots : me.1 ≡ []
   pub no_cause : me.0.due ≡ None
+  pub others_are : ShowsOthers call.others call.seats call.who
+  pub row_is : call.row ≡ row_word call.seats call.who 0
+  pub writers_are : call.writers ≡ writer_word call.seats 0
   pub below : call.who < call.seats
   pub few : call.seats ≤ MOST_PASSES
   pub short : length me.0.base ≤ MOST_WORDS

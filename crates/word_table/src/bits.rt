@@ -1,12 +1,13 @@
-//! Sets of locks, a bit for each in sixteen words, and the seats scanned for a lock, a bit for each in one word.
+//! Sets of locks, a bit for each in sixteen words, and sets of seats, a bit for each in one word.
 
-ghost use Rattle.std.specs.Prelude.{◌≡◌, ◌<◌, ◌/◌, ◌%◌, ◌^◌, ℕ, List, ◌∷◌, true, slice_index, length, bit_and, bit_or, if◌then◌else◌};
+ghost use Rattle.std.specs.Prelude.{◌≡◌, ◌<◌, ◌≤◌, ◌/◌, ◌%◌, ◌^◌, ℕ, List, ◌∷◌, true, slice_index, length, bit_and, bit_or, if◌then◌else◌};
 ghost use Rattle.std.specs.Int.{bit_at, bit_not};
 ghost use mir.Syntax.{w64};
 ghost use Rattle.history_model.specs.Sets.{has, without, without_first, flag};
-ghost use Rattle.word_table.specs.Copies.{Shows, ShowsPairs};
+ghost use Rattle.word_table.specs.Copies.{Shows, ShowsOthers, ShowsPairs};
 ghost use Rattle.word_table.specs.Least.{IsLeast};
 
+use crate::limits::MOST_PASSES;
 use history_model::LOCKS;
 
 /// Whether the lock's bit is set.
@@ -61,17 +62,59 @@ pub(crate) fn raise_if(row: &mut [u64; 16], lock: u32, yes: bool)
     }
 }
 
-/// The least lock of the set.
-pub(crate) fn least(row: &[u64; 16]) -> Option<u32>
-    ensures { (locks : List ℕ) → Shows row.now locks → IsLeast (λ k. has k locks ≡ true) result }
+// The word with its bits below `from` cleared.
+fn high_bits(word: u64, from: u32) -> u64
+    requires { from < 64 }
+    ensures above { (b : ℕ) → from ≤ b → b < 64 → bit_at result b ≡ bit_at word b }
+    ensures below { (b : ℕ) → b < from → bit_at result b ≡ 0 }
 {
-    for i in 0..16u32 {
+    word & u64::MAX << from
+}
+
+/// The least lock of the set from `from` on.
+pub(crate) fn least_from(row: &[u64; 16], from: u32) -> Option<u32>
+    requires { from < LOCKS }
+    ensures { (locks : List ℕ) → Shows row.now locks → IsLeast (λ k. (from ≤ k) × (has k locks ≡ true)) result }
+{
+    let first = from / 64;
+    let rest = high_bits(row[first as usize], from % 64);
+    if rest != 0 {
+        return Some(64 * first + rest.trailing_zeros());
+    }
+    for i in first + 1..16 {
         let word = row[i as usize];
         if word != 0 {
             return Some(64 * i + word.trailing_zeros());
         }
     }
     None
+}
+
+/// All seats but one.
+pub(crate) fn all_but(seats: u32, who: u32) -> u64
+    requires { (who < seats) × (seats ≤ MOST_PASSES) }
+    ensures { ShowsOthers result seats who }
+{
+    (u64::MAX >> (64 - seats)) & !(1 << who)
+}
+
+/// The seats of `others` that were not scanned for the lock.
+pub(crate) fn left_to_scan(others: u64, masks: &Vec<u64>, lock: u32) -> u64
+    requires { lock < length masks.now.items }
+    ensures value { result ≡ bit_and others (bit_not w64 (slice_index masks.now.items lock)) }
+    ensures fits { slice_index masks.now.items lock < 2 ^ 64 }
+{
+    others & !masks[lock as usize]
+}
+
+/// The least seat of a set.
+pub(crate) fn least_seat(seats: u64) -> Option<u32>
+    ensures { IsLeast (λ j. bit_at seats j ≡ 1) result }
+{
+    if seats == 0 {
+        return None;
+    }
+    Some(seats.trailing_zeros())
 }
 
 /// No seat is scanned for the lock any more, if `yes`.

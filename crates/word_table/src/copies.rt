@@ -2,11 +2,15 @@
 
 use history_model::Phase;
 
-/// The call: how many seats there are, the own number, and where the pass is in its calls.
+/// The call: how many seats there are, the own number, the others as a bit for each, where the own row and the writer
+/// words begin in the table, and where the pass is in its calls.
 #[derive(Clone, Copy)]
 pub(crate) struct CallCopy {
     pub(crate) seats: u32,
     pub(crate) who: u32,
+    pub(crate) others: u64,
+    pub(crate) row: u32,
+    pub(crate) writers: u32,
     pub(crate) phase: Phase,
 }
 

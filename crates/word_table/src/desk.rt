@@ -88,6 +88,7 @@ impl<S: Shape> Desk<S> {
     /// Asks for the lock of word a, to read it. A lock that is held already takes no step. Else the own read bit is
     /// set, if it is not, and only then the writer word is looked at: a writer that claims the lock later scans for
     /// the bit, so one of the two sees the other.
+    #[inline]
     pub fn share(&self, pass: &mut Pass<S>, a: u64) -> Shared
         requires desk { pass.old.table ≡ self.now.table }
         requires phase { pass.old.view.phase ≡ Phase.Running }
@@ -115,6 +116,7 @@ impl<S: Shape> Desk<S> {
     /// Claims the lock of word a, to write it. An own claim takes no step. A claim is an exclusive lock once every
     /// other seat was scanned for it: a reader sets its bit before it looks at the writer word, so one of the two
     /// sees the other.
+    #[inline]
     pub fn claim(&self, pass: &mut Pass<S>, a: u64) -> Claimed
         requires desk { pass.old.table ≡ self.now.table }
         requires phase { pass.old.view.phase ≡ Phase.Running }

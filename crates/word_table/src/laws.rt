@@ -10,6 +10,7 @@ ghost use Rattle.word_table.specs.Kinds.{action_of, May};
 ghost use Rattle.word_table.specs.Runs.{IsOpening, IsRun, Steps};
 ghost use Rattle.word_table.specs.Sound.{IsSound};
 
+use crate::limits::{MOST_PASSES, MOST_WORDS};
 use history_model::Shape;
 
 /// Every state of every run meets the rule: for every shape, every number of seats, every good memory to begin with,
@@ -36,4 +37,10 @@ pub fn step_leads<S: Shape>()
           words = words_after (action_of step view) state.words;
           views = views_after (action_of step view) place state.words state.views;
         }) }
+{}
+
+/// The greatest numbers of passes and of words, in digits. All else cites the constants.
+pub fn greatest_sizes()
+    ensures passes { MOST_PASSES ≡ 16 }
+    ensures words { MOST_WORDS ≡ 1048576 }
 {}

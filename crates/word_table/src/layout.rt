@@ -3,6 +3,7 @@
 ghost use Rattle.std.specs.Prelude.{◌≡◌, ◌<◌, ◌≤◌};
 ghost use Rattle.history_model.specs.Table.{row_word, writer_word, value_word};
 
+use crate::copies::CallCopy;
 use crate::limits::MOST_PASSES;
 use history_model::LOCKS;
 
@@ -15,13 +16,24 @@ pub(crate) fn place_of_bit(seats: u32, seat: u32, lock: u32) -> usize
     (2 + 2 * seats + 16 * seat + lock / 64) as usize
 }
 
-/// The writer word of a lock.
-pub(crate) fn place_of_writer(seats: u32, lock: u32) -> usize
-    requires seats { seats ≤ MOST_PASSES }
+/// The word that has the own read bit for a lock.
+pub(crate) fn place_of_own_bit(call: &CallCopy, lock: u32) -> usize
+    requires seats { (call.now.seats ≤ MOST_PASSES) × (call.now.who < call.now.seats) }
+    requires row { call.now.row ≡ row_word call.now.seats call.now.who 0 }
     requires lock { lock < LOCKS }
-    ensures { result ≡ writer_word seats lock }
+    ensures { result ≡ row_word call.now.seats call.now.who lock }
 {
-    (2 + 18 * seats + lock) as usize
+    (call.row + lock / 64) as usize
+}
+
+/// The writer word of a lock.
+pub(crate) fn place_of_writer(call: &CallCopy, lock: u32) -> usize
+    requires seats { call.now.seats ≤ MOST_PASSES }
+    requires writers { call.now.writers ≡ writer_word call.now.seats 0 }
+    requires lock { lock < LOCKS }
+    ensures { result ≡ writer_word call.now.seats lock }
+{
+    (call.writers + lock) as usize
 }
 
 /// The first word of the memory, behind all words of the locks.

@@ -5,7 +5,7 @@
 
 ghost use Rattle.std.specs.Prelude.{◌≡◌, ◌≢◌, ◌⊎◌, ◌↔◌, ◌<◌, ◌≤◌, ◌+◌, ℕ, true, false, IsTrue, IfSome, IsNone, length, [], ◌∷◌, None, replicate};
 ghost use Rattle.history_model.specs.Locks.{lock_of_word};
-ghost use Rattle.history_model.specs.Sets.{has, has_pair};
+ghost use Rattle.history_model.specs.Sets.{has};
 ghost use Rattle.history_model.specs.Table.{table_words};
 ghost use Rattle.history_model.specs.Views.{number, HasBit, HasReadGrant, HasClaim, IsScanned, HasWriteGrant, IsGranted};
 ghost use Rattle.locks_rule.specs.Splits.{opening_view};
@@ -18,7 +18,7 @@ ghost use Rattle.word_table.specs.Unscanned.{IsUnscanned};
 
 use crate::answer::{Scanned, Shared, is_unclaimed, scanned_by, shared_by};
 use crate::copies::{CallCopy, LockCopy};
-use crate::layout::{place_of_bit, place_of_writer};
+use crate::layout::{place_of_bit, place_of_own_bit, place_of_writer};
 use crate::limits::{MOST_PASSES, MOST_WORDS};
 use crate::rule::TableWords;
 use crate::step::Step;
@@ -69,6 +69,9 @@ impl<S: Shape> Pass<S> {
         let call = CallCopy {
             seats,
             who,
+            others: bits::all_but(seats, who),
+            row: 2 + 2 * seats + 16 * who,
+            writers: 2 + 18 * seats,
             phase: Phase::Running,
         };
         let locks = LockCopy {
@@ -123,25 +126,6 @@ impl<S: Shape> Pass<S> {
         bits::test(&self.locks.reads, k)
     }
 
-    // Whether the seat `other` was found clear for the own claim on the lock.
-    fn is_scanned(&self, k: u32, other: u32) -> bool
-        requires { (k < LOCKS) × (other < 64) }
-        ensures { result ≡ has_pair k other self.now.view.scans }
-    {
-        (self.locks.scans[k as usize] >> other) & 1 == 1
-    }
-
-    // Whether the seat is another, and not yet found clear for the lock.
-    fn is_to_scan(&self, k: u32, other: u32) -> bool
-        requires { (k < LOCKS) × (other < 64) }
-        ensures { IsTrue result ↔ ((has other self.now.view.who ≡ false) × (has_pair k other self.now.view.scans ≡ false)) }
-    {
-        if other == self.call.who {
-            return false;
-        }
-        !self.is_scanned(k, other)
-    }
-
     /// The least other seat that was not yet found clear for the own claim on the lock. Without a claim there is none.
     pub fn unscanned(&self, k: u32) -> Option<u32>
         requires { k < LOCKS }
@@ -151,12 +135,8 @@ impl<S: Shape> Pass<S> {
         if !self.has_claim(k) {
             return None;
         }
-        for other in 0..self.call.seats {
-            if self.is_to_scan(k, other) {
-                return Some(other);
-            }
-        }
-        None
+        let left = bits::left_to_scan(self.call.others, &self.locks.scans, k);
+        bits::least_seat(left)
     }
 
     /// Whether the lock is held for writing: the own claim stands, and every other seat was found clear for it.
@@ -186,7 +166,16 @@ impl<S: Shape> Pass<S> {
         ensures least { IsLeast (HasClaim self.now.view) result }
         ensures lock { IfSome result (λ k. k < LOCKS) }
     {
-        bits::least(&self.locks.claims)
+        bits::least_from(&self.locks.claims, 0)
+    }
+
+    /// The least lock from `from` on that the pass claims. So who gives up all claims goes on from the last one.
+    pub fn next_claim_from(&self, from: u32) -> Option<u32>
+        requires { from < LOCKS }
+        ensures least { IsLeast (λ k. (from ≤ k) × HasClaim self.now.view k) result }
+        ensures lock { IfSome result (λ k. k < LOCKS) }
+    {
+        bits::least_from(&self.locks.claims, from)
     }
 
     /// The least lock whose read bit the pass has set.
@@ -194,7 +183,16 @@ impl<S: Shape> Pass<S> {
         ensures least { IsLeast (HasBit self.now.view) result }
         ensures lock { IfSome result (λ k. k < LOCKS) }
     {
-        bits::least(&self.locks.bits)
+        bits::least_from(&self.locks.bits, 0)
+    }
+
+    /// The least lock from `from` on whose read bit the pass has set. So who clears all bits goes on from the last one.
+    pub fn next_bit_from(&self, from: u32) -> Option<u32>
+        requires { from < LOCKS }
+        ensures least { IsLeast (λ k. (from ≤ k) × HasBit self.now.view k) result }
+        ensures lock { IfSome result (λ k. k < LOCKS) }
+    {
+        bits::least_from(&self.locks.bits, from)
     }
 
     // The store of the own row with the lock's bit set, for the word a.
@@ -209,10 +207,11 @@ impl<S: Shape> Pass<S> {
     {
         let lock = lock_of(a);
         let new = bits::raised(&self.locks.bits, lock);
+        bits::raise(&mut self.locks.bits, lock);
         step::store(
             table,
             &mut self.seat,
-            place_of_bit(self.call.seats, self.call.who, lock),
+            place_of_own_bit(&self.call, lock),
             new,
             &Step::SetReadBit {
                 seat: self.call.who,
@@ -220,7 +219,6 @@ impl<S: Shape> Pass<S> {
                 word: a,
             },
         );
-        bits::raise(&mut self.locks.bits, lock);
     }
 
     // Sets the bit of the lock of word a, where it is not set.
@@ -251,17 +249,18 @@ impl<S: Shape> Pass<S> {
         ensures small { result ≤ MOST_PASSES }
     {
         let lock = lock_of(a);
+        let who = self.call.who;
         let found = step::load(
             table,
             &mut self.seat,
-            place_of_writer(self.call.seats, lock),
+            place_of_writer(&self.call, lock),
             &Step::LoadWriter {
                 seat: self.call.who,
                 lock,
                 word: a,
             },
         );
-        let unclaimed = is_unclaimed(found, self.call.who);
+        let unclaimed = is_unclaimed(found, who);
         bits::raise_if(&mut self.locks.reads, lock, unclaimed);
         found
     }
@@ -297,7 +296,7 @@ impl<S: Shape> Pass<S> {
         let found = step::exchange(
             table,
             &mut self.seat,
-            place_of_writer(self.call.seats, lock),
+            place_of_writer(&self.call, lock),
             0,
             own,
             &Step::ClaimWriter {
@@ -364,20 +363,20 @@ impl<S: Shape> Pass<S> {
             (release_writer_action (number self.old.view) k self.old.view) self.old.view found self.new.view }
     {
         let nobody = 0;
+        bits::lower(&mut self.locks.claims, k);
+        bits::forget_if(&mut self.locks.scans, k, true);
+        let after_unclaim = after_release(self.call.phase);
+        self.call.phase = after_unclaim;
         step::store(
             table,
             &mut self.seat,
-            place_of_writer(self.call.seats, k),
+            place_of_writer(&self.call, k),
             nobody,
             &Step::ReleaseWriter {
                 seat: self.call.who,
                 lock: k,
             },
         );
-        bits::lower(&mut self.locks.claims, k);
-        bits::forget_if(&mut self.locks.scans, k, true);
-        let after_unclaim = after_release(self.call.phase);
-        self.call.phase = after_unclaim;
     }
 
     // The store of the own row with the lock's bit cleared.
@@ -392,19 +391,19 @@ impl<S: Shape> Pass<S> {
             (clear_read_bit_action (number self.old.view) k self.old.view) self.old.view found self.new.view }
     {
         let new = bits::lowered(&self.locks.bits, k);
+        bits::lower(&mut self.locks.bits, k);
+        bits::lower(&mut self.locks.reads, k);
+        let after_unshare = after_release(self.call.phase);
+        self.call.phase = after_unshare;
         step::store(
             table,
             &mut self.seat,
-            place_of_bit(self.call.seats, self.call.who, k),
+            place_of_own_bit(&self.call, k),
             new,
             &Step::ClearReadBit {
                 seat: self.call.who,
                 lock: k,
             },
         );
-        bits::lower(&mut self.locks.bits, k);
-        bits::lower(&mut self.locks.reads, k);
-        let after_unshare = after_release(self.call.phase);
-        self.call.phase = after_unshare;
     }
 }

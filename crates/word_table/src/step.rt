@@ -37,7 +37,7 @@ pub enum Step {
 }
 
 /// The kind of a step, and the rule that a step of it tells of. A call picks both for its proof.
-pub trait Kind {
+pub(crate) trait Kind {
     ghost use Rattle.std.specs.Prelude.{ℕ, List};
     ghost use Rattle.history_model.specs.declared.view.View.{View};
     ghost use Rattle.word_table.specs.declared.step.Step.{Step};

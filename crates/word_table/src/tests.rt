@@ -58,11 +58,13 @@ fn unshare_all<S: Shape>(desk: &Desk<S>, pass: &mut Pass<S>)
     requires begun { pass.old.view.phase ≢ Phase.Idle }
     ensures { (pass.new.table ≡ desk.now.table) × (pass.new.view.undo ≡ []) × (pass.new.view.phase ≢ Phase.Idle) }
 {
+    let mut from = 0;
     for _ in 0..LOCKS {
-        let Some(lock) = pass.next_bit() else {
+        let Some(lock) = pass.next_bit_from(from) else {
             return;
         };
         desk.unshare(pass, lock);
+        from = lock;
     }
 }
 
@@ -73,11 +75,13 @@ fn unclaim_all<S: Shape>(desk: &Desk<S>, pass: &mut Pass<S>)
     requires begun { pass.old.view.phase ≢ Phase.Idle }
     ensures { (pass.new.table ≡ desk.now.table) × (pass.new.view.undo ≡ []) × (pass.new.view.phase ≢ Phase.Idle) }
 {
+    let mut from = 0;
     for _ in 0..LOCKS {
-        let Some(lock) = pass.next_claim() else {
+        let Some(lock) = pass.next_claim_from(from) else {
             return;
         };
         desk.unclaim(pass, lock);
+        from = lock;
     }
 }
 

@@ -1,5 +1,4 @@
 use Rattle.std.proofs.Common.{[], refl, sym, ap, ◌∙◌}
-use Rattle.atomic_table.specs.Table.{Me}
 use Rattle.history_model.specs.declared.view.Phase.{Phase}
 use Rattle.history_model.specs.declared.view.View.{View}
 use Rattle.history_model.specs.Fitting.{IsGood}
@@ -7,7 +6,7 @@ use Rattle.word_table.specs.Sound.{IsSound}
 use Rattle.locks_rule.specs.Steps.{clear_read_bit_action, released_phase}
 use Rattle.word_table.proofs.Found.{clear_stores}
 use Rattle.word_table.proofs.Taken.{taken_in}
-use Rattle.word_table.proofs.After.{copy_after, steady, lock_copy}
+use Rattle.word_table.proofs.After.{copy_stored, steady, lock_copy}
 use Rattle.word_table.proofs.pass.Pass.clear_read_bit.Goals as goal
 
 pub store-requires-clause-stored : goal.store-requires-clause-stored
@@ -16,8 +15,8 @@ store-requires-clause-stored g c = let i = c.self.invariant in
 
 pub invariant_of-self : goal.invariant_of-self
 invariant_of-self g c = let i = c.self.invariant in let p = c.self.inside in let l = i.locks_are in let v : View = (clear_read_bit_action p.call.who c.args.k p.seat.me.0).view [] c.lowered-new.result in
-    copy_after i c.after_release-after_unshare.result (record p.locks { bits = c.lower.new.row; reads = c.lower-2.new.row }) c.store.new.seat.table_id c.store.new.seat.me v c.store.ensures.seat
-    (ap (λ (m : Me (Unit {0}) View). m.0) c.store.ensures.view) (ap (λ (m : Me (Unit {0}) View). m.1) c.store.ensures.view)
+    copy_stored i c.after_release-after_unshare.result (record p.locks { bits = c.lower.new.row; reads = c.lower-2.new.row }) c.store.new.seat.table_id c.store.new.seat.me v c.store.ensures.seat
+    c.store.ensures.view
     (steady p.seat.me.0 v refl refl refl refl) (ap (λ (x : Phase). released_phase x) i.call_is.phase_is ∙ sym c.after_release-after_unshare.ensures)
     (lock_copy (record p.locks { bits = c.lower.new.row; reads = c.lower-2.new.row }) v (c.lower.ensures p.seat.me.0.bits l.bits_are) (c.lower-2.ensures p.seat.me.0.reads l.reads_are) l.claims_are l.scans_are)
 

@@ -1,4 +1,4 @@
-use Rattle.std.proofs.Common.{◌≡◌, ℕ, inl, inr, sym, subst}
+use Rattle.std.proofs.Common.{sym, subst}
 use Rattle.history_model.specs.Locks.{lock_of_word}
 use Rattle.history_model.specs.declared.view.View.{View}
 use Rattle.history_model.specs.Views.{HasBit}

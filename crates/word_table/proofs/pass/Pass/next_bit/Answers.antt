@@ -2,11 +2,13 @@ use Rattle.std.proofs.Common.{subst}
 use Rattle.history_model.specs.Views.{HasBit}
 use Rattle.word_table.specs.Copies.{PassView}
 use Rattle.word_table.specs.Least.{IsLeast}
-use Rattle.word_table.proofs.Passes.{least_near}
+use Rattle.word_table.proofs.Passes.{least_of_all, least_near}
 use Rattle.word_table.proofs.pass.Pass.next_bit.Goals as goal
 
 pub returns-clause-least : goal.returns-clause-least
-returns-clause-least g c = subst (λ (p : PassView). IsLeast (HasBit p.view) c.least.result) c.self.view_is (c.least.ensures c.self.inside.seat.me.0.bits c.self.invariant.locks_are.bits_are)
+returns-clause-least g c = let v = c.self.inside.seat.me.0 in let i = c.self.invariant.locks_are in
+    subst (λ (p : PassView). IsLeast (HasBit p.view) c.least_from.result) c.self.view_is (least_of_all v.bits c.least_from.result (c.least_from.ensures v.bits i.bits_are))
 
 pub returns-clause-lock : goal.returns-clause-lock
-returns-clause-lock g c = least_near c.self.inside.locks.bits c.self.inside.seat.me.0.bits c.least.result c.self.invariant.locks_are.bits_are (c.least.ensures c.self.inside.seat.me.0.bits c.self.invariant.locks_are.bits_are)
+returns-clause-lock g c = let v = c.self.inside.seat.me.0 in let i = c.self.invariant.locks_are in
+    least_near c.self.inside.locks.bits v.bits 0 c.least_from.result i.bits_are (c.least_from.ensures v.bits i.bits_are)

@@ -1,5 +1,4 @@
-use Rattle.std.proofs.Common.{[], ◌∷◌, refl, ap}
-use Rattle.atomic_table.specs.Table.{Me}
+use Rattle.std.proofs.Common.{[], refl}
 use Rattle.history_model.specs.declared.view.View.{View}
 use Rattle.history_model.specs.Fitting.{IsGood}
 use Rattle.word_table.specs.Sound.{IsSound}
@@ -7,7 +6,7 @@ use Rattle.history_model.specs.Locks.{lock_of_word}
 use Rattle.locks_rule.specs.Steps.{set_read_bit_action}
 use Rattle.word_table.proofs.Found.{set_stores}
 use Rattle.word_table.proofs.Taken.{taken_in}
-use Rattle.word_table.proofs.After.{copy_after, steady, lock_copy}
+use Rattle.word_table.proofs.After.{copy_stored, steady, lock_copy}
 use Rattle.word_table.proofs.pass.Pass.set_read_bit.Goals as goal
 
 pub store-requires-clause-stored : goal.store-requires-clause-stored
@@ -16,8 +15,8 @@ store-requires-clause-stored g c = let i = c.self.invariant in
 
 pub invariant_of-self : goal.invariant_of-self
 invariant_of-self g c = let i = c.self.invariant in let p = c.self.inside in let v : View = (set_read_bit_action p.call.who c.lock_of-lock.result c.args.a p.seat.me.0).view [] c.raised-new.result in
-    copy_after i p.call.phase (record p.locks { bits = c.raise.new.row }) c.store.new.seat.table_id c.store.new.seat.me v c.store.ensures.seat
-    (ap (λ (m : Me (Unit {0}) View). m.0) c.store.ensures.view) (ap (λ (m : Me (Unit {0}) View). m.1) c.store.ensures.view)
+    copy_stored i p.call.phase (record p.locks { bits = c.raise.new.row }) c.store.new.seat.table_id c.store.new.seat.me v c.store.ensures.seat
+    c.store.ensures.view
     (steady p.seat.me.0 v refl refl refl refl) i.call_is.phase_is
     (lock_copy (record p.locks { bits = c.raise.new.row }) v (c.raise.ensures p.seat.me.0.bits i.locks_are.bits_are) i.locks_are.reads_are i.locks_are.claims_are i.locks_are.scans_are)
 

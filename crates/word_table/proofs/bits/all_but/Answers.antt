@@ -1,0 +1,5 @@
+use Rattle.word_table.proofs.Rows.{shows_others}
+use Rattle.word_table.proofs.bits.all_but.Goals as goal
+
+pub returns : goal.returns
+returns c = shows_others c.args.seats c.args.who c.requires.0 c.requires.1
