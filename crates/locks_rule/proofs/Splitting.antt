@@ -24,17 +24,17 @@ record IsPart (n : ℕ) (v u : View) : Type 0 where
 
 module _ (n : ℕ) (base : List ℕ) (j : ℕ) (ws : List ℕ) (vs : List View) (id : ℕ) (v : View) (h : LocksHold n base ws vs) (me : Knows vs id v) (may : MaySplitSeat j v) where
   own : has (number v) v.who ≡ true
-  own = let first : number v ≡ j = ap (λ (l : List ℕ). slice_index l 0) may.who.1 in
-      subst (λ (x : ℕ). has x v.who ≡ true) (sym first) (subst (λ (l : List ℕ). has j l ≡ true) (sym may.who.1) (has-join_same j may.who.0))
+  own = let first : number v ≡ j = ap (λ (l : List ℕ). slice_index l 0) may.who.2 in
+      subst (λ (x : ℕ). has x v.who ≡ true) (sym first) (subst (λ (l : List ℕ). has j l ≡ true) (sym may.who.2) (has-join_same j (may.who.0 ∷ may.who.1)))
 
   mine : (x : ℕ) → has x v.who ≡ true → IsSeat vs id v x
   mine x t = record { knows = me; named = t }
 
   no_bit : (k : ℕ) → has k v.bits ≡ false
-  no_bit k = empty-has v.bits k may.no_bits
+  no_bit k = (h.idle_holds_nothing id k v me may.phase).0
 
   no_claim : (k : ℕ) → has k v.claims ≡ false
-  no_claim k = empty-has v.claims k may.no_claims
+  no_claim k = (h.idle_holds_nothing id k v me may.phase).1
 
   left_part : IsPart n v (left_by_split v)
   left_part = record {

@@ -1,16 +1,16 @@
 -- How seats are made: one view is cut in two. The table begins with one view that has all numbers.
-use Rattle.std.specs.Prelude.{◌≡◌, ℕ, false, List, [], ◌∷◌, ◌++◌, None, slice_set}
+use Rattle.std.specs.Prelude.{◌≡◌, ◌≢◌, ℕ, false, List, [], ◌∷◌, ◌++◌, None, slice_set}
 use Rattle.history_model.specs.declared.entry.Entry.{Entry}
 use Rattle.history_model.specs.declared.view.View.{View}
 use Rattle.history_model.specs.declared.view.Phase.{Phase}
-use Rattle.history_model.specs.declared.view.Phase.TheVariants.{Running}
+use Rattle.history_model.specs.declared.view.Phase.TheVariants.{Idle}
 use Rattle.history_model.specs.Sets.{without}
 use Rattle.history_model.specs.Table.{Knows}
 use Rattle.history_model.specs.Views.{number}
 
 -- the phase of a new seat
 abbrev pub opening_phase : Phase
-opening_phase = Running
+opening_phase = Idle
 
 -- what is known with the numbers who, of n seats, when nothing was done and this history was seen
 abbrev pub opening_view : List ℕ → ℕ → List ℕ → List Entry → View
@@ -40,11 +40,12 @@ opening_view base n who seen = record {
   abandoned = [];
 }
 
--- a view with a number that holds no lock may give that number up
+-- a view with several numbers, between calls, may give up its first: it is the one from which the seats are made
 pub record MaySplitSeat (j : ℕ) (v : View) : Type 0 where
-  pub who : (more : List ℕ) × (v.who ≡ j ∷ more)
-  pub no_bits : v.bits ≡ []
-  pub no_claims : v.claims ≡ []
+  pub who : (i : ℕ) × (more : List ℕ) × (v.who ≡ j ∷ i ∷ more) × (i ≢ j)
+  pub phase : v.phase ≡ Idle
+  pub unjoined : v.joined ≡ false
+  pub no_cause : v.due ≡ None
 
 -- what is left of the view: all but its first number
 abbrev pub left_by_split : View → View

@@ -60,6 +60,7 @@ module _ (good : List ℕ → Type 0) (n : ℕ) (base ws : List ℕ) (vs : List 
   pub calls_aside : (i < 2) ⊎ (2 + n ≤ i) → SameCalls v w → CallsMove n (history_of vs) ws (slice_set ws i x) v w
   calls_aside out s = record {
     alone = λ busy. let c = q.calls.callers_alone id v me (s.still_begun busy) in (c.0, s.who ∙ c.1);
+    fresh = λ i j t k ne un. s.call ∙ q.calls.dealers_fresh id i j v (mine i t s) (mine j k s) ne (sym s.joined ∙ un);
     own = λ j t alone. calls_stay out j (h.numbers_below id j v (mine j t s)) ∙ q.calls.calls_shown id j v (mine j t s) (sym s.joined ∙ alone) ∙ sym s.call;
     others = λ j away lt. calls_stay out j lt;
     numbered = λ j p e t alone at own. subst (λ (c : ℕ). e.call ≤ c) (sym s.call) (q.calls.entries_numbered id j p v e (mine j t s) (sym s.joined ∙ alone) at own);

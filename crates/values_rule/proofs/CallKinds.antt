@@ -52,6 +52,7 @@ begin_call_values good j n base ws vs id v h q me may =
       seen = record { serial = get_or-set_other ws i serial_word x 0 (λ e. omega arith); seen = refl; olds = refl; who = refl; joined = refl };
       calls = record {
         alone = λ busy. (j, may.who);
+        fresh = λ l k t r ne un. absurd (ne (one l t ∙ sym (one k r)));
         own = λ l t un. subst (λ (y : ℕ). slice_index (slice_set ws i x) (calls_word n y) ≡ x) (sym (one l t)) here;
         others = λ l away lt. there l (λ e. differ (has l v.who) (subst (λ (y : ℕ). has y v.who ≡ true) (sym e) o.seat.named) away);
         numbered = λ l p e t un at own_entry. let le = q.calls.entries_numbered id l p v e (mine l t) un at own_entry in omega arith;

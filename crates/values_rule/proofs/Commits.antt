@@ -201,6 +201,9 @@ module _ (good : List ℕ → Type 0) (n : ℕ) (base ws : List ℕ) (vs : List 
         (λ z. q.calls.old_numbers other i u o z.1 t named) (case other u k);
     callers_alone = λ other u k busy. ⊎_elim (λ z. (j, subst (λ (y : View). y.who ≡ j ∷ []) z.1 may.who)) (λ z. q.calls.callers_alone other u z.1 busy) (case other u k);
     alone_unjoined = λ other i u k single. ⊎_elim (λ z. subst (λ (y : View). y.joined ≡ false) z.1 alone) (λ z. q.calls.alone_unjoined other i u z.1 single) (case other u k);
+    dealers_fresh = λ other i k u s t ne un. ⊎_elim
+        (λ z. subst (λ (y : View). y.call ≡ 0) z.1 (q.calls.dealers_fresh id i k v (record { knows = me; named = subst (λ (y : View). has i y.who ≡ true) (sym z.1) s.named }) (record { knows = me; named = subst (λ (y : View). has k y.who ≡ true) (sym z.1) t.named }) ne alone))
+        (λ z. q.calls.dealers_fresh other i k u (record { knows = z.1; named = s.named }) (record { knows = z.1; named = t.named }) ne un) (case other u s.knows);
     calls_shown = λ other i u s un. call_stays i ∙ ⊎_elim
         (λ z. q.calls.calls_shown id i v (record { knows = me; named = subst (λ (y : View). has i y.who ≡ true) (sym z.1) s.named }) alone ∙ ap (λ (y : View). y.call) z.1)
         (λ z. q.calls.calls_shown other i u (record { knows = z.1; named = s.named }) un) (case other u s.knows);

@@ -33,6 +33,7 @@ pub record SeenSame (ws ws' : List ℕ) (v w : View) : Type 0 where
 -- calls
 pub record CallsMove (n : ℕ) (hist : List Entry) (ws ws' : List ℕ) (v w : View) : Type 0 where
   pub alone : w.phase ≢ Idle → (j : ℕ) × (w.who ≡ j ∷ [])
+  pub fresh : (i j : ℕ) → has i w.who ≡ true → has j w.who ≡ true → i ≢ j → w.joined ≡ false → w.call ≡ 0
   pub own : (j : ℕ) → has j w.who ≡ true → w.joined ≡ false → slice_index ws' (calls_word n j) ≡ w.call
   pub others : (j : ℕ) → has j v.who ≡ false → j < n → slice_index ws' (calls_word n j) ≡ slice_index ws (calls_word n j)
   pub numbered : (j q : ℕ) (e : Entry) → has j w.who ≡ true → w.joined ≡ false → slice_get hist q ≡ Some e → e.who ≡ j → e.call ≤ w.call
@@ -141,6 +142,9 @@ module _ (good : List ℕ → Type 0) (n : ℕ) (base ws ws' : List ℕ) (vs : L
     alone_unjoined = λ other j u k single. ⊎_elim
         (λ z. ap (λ (x : View). x.joined) (sym z.1) ∙ m.seen.joined ∙ q.calls.alone_unjoined id j v me (sym m.seen.who ∙ ap (λ (x : View). x.who) z.1 ∙ single))
         (λ z. q.calls.alone_unjoined other j u z.1 single) (case other u k);
+    dealers_fresh = λ other i j u s t ne un. ⊎_elim
+        (λ z. subst (λ (x : View). x.call ≡ 0) z.1 (m.calls.fresh i j (is_mine i u z.1 s.named) (is_mine j u z.1 t.named) ne (subst (λ (x : View). x.joined ≡ false) (sym z.1) un)))
+        (λ z. q.calls.dealers_fresh other i j u (record { knows = z.1; named = s.named }) (record { knows = z.1; named = t.named }) ne un) (case other u s.knows);
     calls_shown = λ other j u s alone. ⊎_elim
         (λ z. subst (λ (x : View). slice_index ws' (calls_word n j) ≡ x.call) z.1 (m.calls.own j (is_mine j u z.1 s.named) (subst (λ (x : View). x.joined ≡ false) (sym z.1) alone)))
         (λ z. m.calls.others j (foreign_number other j u z.0 z.1 s.named) (h.numbers_below other j u (record { knows = z.1; named = s.named }))

@@ -11,5 +11,6 @@ pub mod Current
 pub mod ValueKinds
 pub mod Commits
 pub mod LocksStand
+pub mod Cuts
 -- the memory with all unfinished writes taken back
 pub mod Undone

@@ -1,5 +1,5 @@
 -- What it means that a kind of step keeps the value invariant.
-use Rattle.std.specs.Prelude.{ℕ, List}
+use Rattle.std.specs.Prelude.{ℕ, List, [], ◌∷◌, ◌++◌, slice_set}
 use Rattle.history_model.specs.declared.view.View.{View}
 use Rattle.history_model.specs.Table.{Knows}
 use Rattle.locks_rule.specs.Actions.{Action, words_after, views_after}
@@ -12,3 +12,10 @@ KeepsValues good may action =
     (n : ℕ) (base words : List ℕ) (views : List View) (id : ℕ) (v : View)
     → LocksHold n base words views → ValuesHold good n base words views → Knows views id v → may v
     → ValuesHold good n base (words_after (action v) words) (views_after (action v) id words views)
+
+-- a cut of a view that may be cut keeps it too
+abbrev pub KeepsValuesSplit : (List ℕ → Type 0) → (View → Type 0) → (View → View) → (View → View) → Type 0
+KeepsValuesSplit good may left given =
+    (n : ℕ) (base words : List ℕ) (views : List View) (id : ℕ) (v : View)
+    → LocksHold n base words views → ValuesHold good n base words views → Knows views id v → may v
+    → ValuesHold good n base words (slice_set views id (left v) ++ given v ∷ [])

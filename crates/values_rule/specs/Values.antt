@@ -48,6 +48,8 @@ pub record CallsCounted (n : ℕ) (words : List ℕ) (views : List View) : Type 
   -- that it began
   pub callers_alone : (id : ℕ) (v : View) → Knows views id v → v.phase ≢ Idle → (j : ℕ) × (v.who ≡ j ∷ [])
   pub alone_unjoined : (id j : ℕ) (v : View) → Knows views id v → v.who ≡ j ∷ [] → v.joined ≡ false
+  -- an unjoined view of several numbers is the one from which the seats are made, and began no call
+  pub dealers_fresh : (id i j : ℕ) (v : View) → IsSeat views id v i → IsSeat views id v j → i ≢ j → v.joined ≡ false → v.call ≡ 0
   pub calls_shown : (id j : ℕ) (v : View) → IsSeat views id v j → v.joined ≡ false → slice_index words (calls_word n j) ≡ v.call
   pub entries_numbered : (id j q : ℕ) (v : View) (e : Entry) → IsSeat views id v j → v.joined ≡ false
       → slice_get (history_of views) q ≡ Some e → e.who ≡ j → e.call ≤ v.call

@@ -9,8 +9,9 @@
 ghost use Rattle.std.specs.Prelude.{ℕ, List, Bool};
 ghost use Rattle.locks_rule.specs.Actions.{Keeps};
 ghost use Rattle.locks_rule.specs.Locks.{LocksHold};
+ghost use Rattle.locks_rule.specs.Splits.{MaySplitSeat, left_by_split, given_by_split};
 ghost use Rattle.locks_rule.specs.Steps.{MaySetReadBit, MayClearReadBit, MayLoadWriter, MayClaimWriter, MayScanRow, MayReleaseWriter, set_read_bit_action, clear_read_bit_action, load_writer_action, claim_writer_action, scan_row_action, release_writer_action};
-ghost use Rattle.values_rule.specs.Keeping.{KeepsValues};
+ghost use Rattle.values_rule.specs.Keeping.{KeepsValues, KeepsValuesSplit};
 ghost use Rattle.values_rule.specs.Steps.{MayBeginCall, MayLoadValue, MayStoreValue, MayUndoStore, MayCommitCall, MayFinishCall, begin_call_action, load_value_action, store_value_action, undo_store_action, commit_call_action, finish_call_action};
 ghost use Rattle.values_rule.specs.Undone.{UndoingRestores};
 
@@ -91,6 +92,11 @@ pub fn clear_read_bit<S: Shape>()
 pub fn release_writer<S: Shape>()
     ensures { (shape : _) (j k : ℕ)
         → KeepsValues (S.good shape) (MayReleaseWriter j k) (release_writer_action j k) }
+{}
+
+/// A view that gives up its first number to a new seat keeps the value invariant.
+pub fn split_seat<S: Shape>()
+    ensures { (shape : _) (j : ℕ) → KeepsValuesSplit (S.good shape) (MaySplitSeat j) left_by_split given_by_split }
 {}
 
 /// In every state that both invariants allow, the memory with all unfinished writes taken back is what the history
