@@ -14,7 +14,7 @@ use Rattle.history_model.specs.Traces.{IsLegalTrace, value_after}
 use Rattle.history_model.proofs.SetLemmas.{has-one, has-join_same, differ}
 use Rattle.locks_rule.specs.Locks.{LocksHold, IsSeat}
 use Rattle.values_rule.specs.Keeping.{KeepsValues}
-use Rattle.values_rule.specs.Steps.{MayBeginCall, begin_call_action, MayFinishCall, finish_call_action}
+use Rattle.values_rule.specs.Steps.{MayBeginCall, begin_call_action, MayClearStamp, clear_stamp_action}
 use Rattle.values_rule.specs.Values.{value_at, oldest, ValuesHold}
 use Rattle.values_rule.proofs.Asides.{SameCalls, IsAside, ended_keeps, undo_empty}
 use Rattle.values_rule.proofs.Counting.{calls_below-more}
@@ -76,10 +76,10 @@ begin_call_values good j n base ws vs id v h q me may =
       };
     }
 
-pub finish_call_values : (good : List ℕ → Type 0) (j : ℕ) → KeepsValues good (MayFinishCall j) (finish_call_action j)
-finish_call_values good j n base ws vs id v h q me may =
+pub clear_stamp_values : (good : List ℕ → Type 0) (j : ℕ) → KeepsValues good (MayClearStamp j) (clear_stamp_action j)
+clear_stamp_values good j n base ws vs id v h q me may =
     let o = own n base ws vs id j v h me may.who in
-    let w : View = (finish_call_action j v).view (history_of vs) (slice_index ws (stamps_word v.seats j)) in
+    let w : View = (clear_stamp_action j v).view (history_of vs) (slice_index ws (stamps_word v.seats j)) in
     ended_keeps good n base ws vs id v h q me w (stamps_word v.seats j) 0
     record { serial = omega arith; calls = inr (omega (arith, o.seats)); values = omega (arith, o.seats, o.below) }
     record {

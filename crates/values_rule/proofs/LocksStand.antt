@@ -13,7 +13,7 @@ use Rattle.locks_rule.specs.Actions.{Action, Keeps, found_by}
 use Rattle.locks_rule.specs.Asides.{IsLockWord, SameLocks}
 use Rattle.locks_rule.specs.Locks.{LocksHold, AskedFor}
 use Rattle.locks_rule.proofs.Asides.{aside_keeps}
-use Rattle.values_rule.specs.Steps.{MayBeginCall, begin_call_action, MayLoadValue, load_value_action, MayStoreValue, store_value_action, MayUndoStore, undo_store_action, undoing_phase, MayCommitCall, commit_call_action, MayFinishCall, finish_call_action}
+use Rattle.values_rule.specs.Steps.{MayBeginCall, begin_call_action, MayLoadValue, load_value_action, MayStoreValue, store_value_action, MayUndoStore, undo_store_action, undoing_phase, MayCommitCall, commit_call_action, MayClearStamp, clear_stamp_action}
 use Rattle.values_rule.proofs.LockKinds.{own}
 
 -- a step after which the seat has the same locks, in another phase than Idle
@@ -82,10 +82,10 @@ commit_call_locks good n base j kept ws vs id v h me may =
     (same_locks v ((commit_call_action j kept v).view (history_of vs) (found_by (commit_call_action j kept v) ws)) refl refl refl refl refl refl refl refl refl
     (λ e. let z : Releasing ≡ Idle = e in cc))
 
-pub finish_call_locks : (n : ℕ) (base : List ℕ) (j : ℕ) → Keeps (LocksHold n base) (MayFinishCall j) (finish_call_action j)
-finish_call_locks n base j ws vs id v h me may =
+pub clear_stamp_locks : (n : ℕ) (base : List ℕ) (j : ℕ) → Keeps (LocksHold n base) (MayClearStamp j) (clear_stamp_action j)
+clear_stamp_locks n base j ws vs id v h me may =
     let o = own n base ws vs id j v h me may.who in
-    aside_keeps n base id ws vs v (finish_call_action j v) h me (λ t. let low = t.0 in omega (arith, o.seats, o.below)) record {
+    aside_keeps n base id ws vs v (clear_stamp_action j v) h me (λ t. let low = t.0 in omega (arith, o.seats, o.below)) record {
       base = refl;
       seats = refl;
       who = refl;

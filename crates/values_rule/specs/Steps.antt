@@ -127,7 +127,7 @@ commit_call_action j kept v = record {
 }
 
 -- the call ends: 0 is stored to the own STAMPS word
-pub record MayFinishCall (j : ℕ) (v : View) : Type 0 where
+pub record MayClearStamp (j : ℕ) (v : View) : Type 0 where
   pub who : v.who ≡ j ∷ []
   pub phase : (is_attempt v.phase ≡ true) ⊎ (v.phase ≡ Releasing)
   pub no_bit : (k : ℕ) → ¬ HasBit v k
@@ -135,8 +135,8 @@ pub record MayFinishCall (j : ℕ) (v : View) : Type 0 where
   pub undone : v.undo ≡ []
   pub no_cause : v.due ≡ None
 
-abbrev pub finish_call_action : ℕ → View → Action
-finish_call_action j v = record {
+abbrev pub clear_stamp_action : ℕ → View → Action
+clear_stamp_action j v = record {
   at = stamps_word v.seats j;
   writes = λ w. 0;
   view = λ h w. record v { phase = Idle; stamp = 0; announced = false };

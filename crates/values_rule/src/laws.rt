@@ -12,7 +12,7 @@ ghost use Rattle.locks_rule.specs.Locks.{LocksHold};
 ghost use Rattle.locks_rule.specs.Splits.{MaySplitSeat, left_by_split, given_by_split};
 ghost use Rattle.locks_rule.specs.Steps.{MaySetReadBit, MayClearReadBit, MayLoadWriter, MayClaimWriter, MayScanRow, MayReleaseWriter, set_read_bit_action, clear_read_bit_action, load_writer_action, claim_writer_action, scan_row_action, release_writer_action};
 ghost use Rattle.values_rule.specs.Keeping.{KeepsValues, KeepsValuesSplit};
-ghost use Rattle.values_rule.specs.Steps.{MayBeginCall, MayLoadValue, MayStoreValue, MayUndoStore, MayCommitCall, MayFinishCall, begin_call_action, load_value_action, store_value_action, undo_store_action, commit_call_action, finish_call_action};
+ghost use Rattle.values_rule.specs.Steps.{MayBeginCall, MayLoadValue, MayStoreValue, MayUndoStore, MayCommitCall, MayClearStamp, begin_call_action, load_value_action, store_value_action, undo_store_action, commit_call_action, clear_stamp_action};
 ghost use Rattle.values_rule.specs.Undone.{UndoingRestores};
 
 use history_model::Shape;
@@ -56,10 +56,10 @@ pub fn commit_call<S: Shape>()
 {}
 
 /// A seat that ends its call keeps both invariants: it has no lock and nothing to undo.
-pub fn finish_call<S: Shape>()
+pub fn clear_stamp<S: Shape>()
     ensures locks { (n : ℕ) (base : List ℕ) (j : ℕ)
-        → Keeps (LocksHold n base) (MayFinishCall j) (finish_call_action j) }
-    ensures values { (shape : _) (j : ℕ) → KeepsValues (S.good shape) (MayFinishCall j) (finish_call_action j) }
+        → Keeps (LocksHold n base) (MayClearStamp j) (clear_stamp_action j) }
+    ensures values { (shape : _) (j : ℕ) → KeepsValues (S.good shape) (MayClearStamp j) (clear_stamp_action j) }
 {}
 
 /// A seat that sets its read bit keeps the value invariant.

@@ -21,31 +21,40 @@ pub record SameSeat (v w : View) : Type 0 where
   pub seats : w.seats ≡ v.seats
   pub who : w.who ≡ v.who
   pub due : w.due ≡ v.due
+  pub call : w.call ≡ v.call
 
-pub steady : (v w : View) → w.base ≡ v.base → w.seats ≡ v.seats → w.who ≡ v.who → w.due ≡ v.due → SameSeat v w
-steady v w eb es ew ed = record { base = eb; seats = es; who = ew; due = ed }
+pub steady : (v w : View) → w.base ≡ v.base → w.seats ≡ v.seats → w.who ≡ v.who → w.due ≡ v.due → w.call ≡ v.call → SameSeat v w
+steady v w eb es ew ed ec = record { base = eb; seats = es; who = ew; due = ed; call = ec }
 
--- a pass's copies after a step of its seat, from the seat and from the copy of its locks
-pub copy_after : {call : CallCopy} {locks : LockCopy} {table : TableId} {me : Me (Unit {0}) View} → IsCopy call locks table me → (phase : Phase) (locks' : LockCopy) (table' : TableId) (me' : Me (Unit {0}) View) (w : View)
-    → table' ≡ table → me'.0 ≡ w → me'.1 ≡ me.1 → SameSeat me.0 w → w.phase ≡ phase → IsLockCopy locks' w → IsCopy (record call { phase = phase }) locks' table' me'
-copy_after {call} {locks} {table} {me} i phase locks' table' me' w et ew es same ep copy =
-    subst (λ (t : TableId). IsCopy (record call { phase = phase }) locks' t me') (sym et) record {
+-- a pass's copies after a step of its seat, from the seat, from the number of calls and from the copy of its locks
+pub copy_called : {call : CallCopy} {locks : LockCopy} {table : TableId} {me : Me (Unit {0}) View} → IsCopy call locks table me → (phase : Phase) (calls : ℕ) (locks' : LockCopy) (table' : TableId) (me' : Me (Unit {0}) View) (w : View)
+    → table' ≡ table → me'.0 ≡ w → me'.1 ≡ me.1 → w.base ≡ me.0.base → w.seats ≡ me.0.seats → w.who ≡ me.0.who → w.due ≡ me.0.due → w.call ≡ calls → w.phase ≡ phase → IsLockCopy locks' w
+    → IsCopy (record call { phase = phase; calls = calls }) locks' table' me'
+copy_called {call} {locks} {table} {me} i phase calls locks' table' me' w et ew es eb en eo ed ec ep copy =
+    subst (λ (t : TableId). IsCopy (record call { phase = phase; calls = calls }) locks' t me') (sym et) record {
       slots = es ∙ i.slots;
-      no_cause = ap (λ (x : View). x.due) ew ∙ (same.due ∙ i.no_cause);
+      no_cause = ap (λ (x : View). x.due) ew ∙ (ed ∙ i.no_cause);
       others_are = i.others_are;
       row_is = i.row_is;
       writers_are = i.writers_are;
       below = i.below;
       few = i.few;
-      short = subst (λ (x : List ℕ). length x ≤ MOST_WORDS) (sym (ap (λ (x : View). x.base) ew ∙ same.base)) i.short;
-      long = i.long ∙ ap (λ (x : List ℕ). table_words call.seats (length x)) (sym (ap (λ (x : View). x.base) ew ∙ same.base));
+      short = subst (λ (x : List ℕ). length x ≤ MOST_WORDS) (sym (ap (λ (x : View). x.base) ew ∙ eb)) i.short;
+      long = i.long ∙ ap (λ (x : List ℕ). table_words call.seats (length x)) (sym (ap (λ (x : View). x.base) ew ∙ eb));
       call_is = record {
-        seats_are = ap (λ (x : View). x.seats) ew ∙ (same.seats ∙ i.call_is.seats_are);
-        who_is = ap (λ (x : View). x.who) ew ∙ (same.who ∙ i.call_is.who_is);
+        seats_are = ap (λ (x : View). x.seats) ew ∙ (en ∙ i.call_is.seats_are);
+        who_is = ap (λ (x : View). x.who) ew ∙ (eo ∙ i.call_is.who_is);
         phase_is = ap (λ (x : View). x.phase) ew ∙ ep;
+        calls_are = ap (λ (x : View). x.call) ew ∙ ec;
       };
       locks_are = subst (λ (x : View). IsLockCopy locks' x) (sym ew) copy;
     }
+
+-- the same in the call that goes on
+pub copy_after : {call : CallCopy} {locks : LockCopy} {table : TableId} {me : Me (Unit {0}) View} → IsCopy call locks table me → (phase : Phase) (locks' : LockCopy) (table' : TableId) (me' : Me (Unit {0}) View) (w : View)
+    → table' ≡ table → me'.0 ≡ w → me'.1 ≡ me.1 → SameSeat me.0 w → w.phase ≡ phase → IsLockCopy locks' w → IsCopy (record call { phase = phase }) locks' table' me'
+copy_after {call} {locks} {table} {me} i phase locks' table' me' w et ew es same ep copy =
+    copy_called i phase call.calls locks' table' me' w et ew es same.base same.seats same.who same.due (same.call ∙ i.call_is.calls_are) ep copy
 
 -- the same after a store, which tells the view as a whole
 pub copy_stored : {call : CallCopy} {locks : LockCopy} {table : TableId} {me : Me (Unit {0}) View} → IsCopy call locks table me → (phase : Phase) (locks' : LockCopy) (table' : TableId) (me' : Me (Unit {0}) View) (w : View)
@@ -60,7 +69,7 @@ lock_copy copy v sb sr sc ss = record { bits_are = sb; reads_are = sr; claims_ar
 -- after a look at a writer word, by whether it was granted
 pub load_same : (j k a : ℕ) (v : View) (w : ℕ) → SameSeat v ((load_writer_action j k a v).view [] w)
 load_same j k a v w = let granted : View = record (after_asking v a) { reads = k ∷ v.reads } in let met : View = after_meeting (after_asking v a) k (w - 1) in
-    elim (is_free j w) as (λ (b : Bool). SameSeat v (if b then granted else met)) [ true ↦ steady v granted refl refl refl refl | false ↦ steady v met refl refl refl refl ]
+    elim (is_free j w) as (λ (b : Bool). SameSeat v (if b then granted else met)) [ true ↦ steady v granted refl refl refl refl refl | false ↦ steady v met refl refl refl refl refl ]
 
 pub load_phase : (j k a : ℕ) (v : View) (w : ℕ) → ((load_writer_action j k a v).view [] w).phase ≡ v.phase
 load_phase j k a v w = let granted : View = record (after_asking v a) { reads = k ∷ v.reads } in let met : View = after_meeting (after_asking v a) k (w - 1) in
@@ -77,7 +86,7 @@ load_copy copy j k a v w sb sr sc ss = let granted : View = record (after_asking
 -- after a claim, by whether the writer word was 0
 pub claim_same : (j k a : ℕ) (v : View) (w : ℕ) → SameSeat v ((claim_writer_action j k a v).view [] w)
 claim_same j k a v w = let won : View = record (after_asking v a) { claims = k ∷ v.claims; scans = without_first k v.scans } in let met : View = after_meeting (after_asking v a) k (w - 1) in
-    elim (w == 0) as (λ (b : Bool). SameSeat v (if b then won else met)) [ true ↦ steady v won refl refl refl refl | false ↦ steady v met refl refl refl refl ]
+    elim (w == 0) as (λ (b : Bool). SameSeat v (if b then won else met)) [ true ↦ steady v won refl refl refl refl refl | false ↦ steady v met refl refl refl refl refl ]
 
 pub claim_phase : (j k a : ℕ) (v : View) (w : ℕ) → ((claim_writer_action j k a v).view [] w).phase ≡ v.phase
 claim_phase j k a v w = let won : View = record (after_asking v a) { claims = k ∷ v.claims; scans = without_first k v.scans } in let met : View = after_meeting (after_asking v a) k (w - 1) in
@@ -94,7 +103,7 @@ claim_copy copy j k a v w sb sr sc ss = let won : View = record (after_asking v 
 -- after a scan, by whether the bit was clear
 pub scan_same : (j k i : ℕ) (v : View) (w : ℕ) → SameSeat v ((scan_row_action j k i v).view [] w)
 scan_same j k i v w = let clear : View = record v { scans = (k, i) ∷ v.scans } in
-    elim (bit_at w (k % 64) == 0) as (λ (b : Bool). SameSeat v (if b then clear else after_meeting v k i)) [ true ↦ steady v clear refl refl refl refl | false ↦ steady v (after_meeting v k i) refl refl refl refl ]
+    elim (bit_at w (k % 64) == 0) as (λ (b : Bool). SameSeat v (if b then clear else after_meeting v k i)) [ true ↦ steady v clear refl refl refl refl refl | false ↦ steady v (after_meeting v k i) refl refl refl refl refl ]
 
 pub scan_phase : (j k i : ℕ) (v : View) (w : ℕ) → ((scan_row_action j k i v).view [] w).phase ≡ v.phase
 scan_phase j k i v w = let clear : View = record v { scans = (k, i) ∷ v.scans } in
@@ -115,3 +124,12 @@ clear_bit masks w i a b h = subst (λ (x : ℕ). ShowsPairs masks (if x == 0 the
 -- a row under a test that has the same answer
 pub same_test : (row locks : List ℕ) (k : ℕ) (a b : Bool) → a ≡ b → Shows row (if a then k ∷ locks else locks) → Shows row (if b then k ∷ locks else locks)
 same_test row locks k a b e h = subst (λ (x : Bool). Shows row (if x then k ∷ locks else locks)) e h
+
+-- a copy of a view's locks is one of any view with the same
+pub same_locks : (copy : LockCopy) (v w : View) → w.bits ≡ v.bits → w.reads ≡ v.reads → w.claims ≡ v.claims → w.scans ≡ v.scans → IsLockCopy copy v → IsLockCopy copy w
+same_locks copy v w eb er ec es i = record {
+  bits_are = subst (λ (l : List ℕ). Shows copy.bits l) (sym eb) i.bits_are;
+  reads_are = subst (λ (l : List ℕ). Shows copy.reads l) (sym er) i.reads_are;
+  claims_are = subst (λ (l : List ℕ). Shows copy.claims l) (sym ec) i.claims_are;
+  scans_are = subst (λ (l : List (ℕ × ℕ)). ShowsPairs copy.scans.items l) (sym es) i.scans_are;
+}

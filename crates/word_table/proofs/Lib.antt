@@ -1,6 +1,9 @@
 pub mod Rows
 pub mod Taken
 pub mod Soundness
+pub mod Growing
+pub mod Zeros
+pub mod OpeningValues
 pub mod Opening
 pub mod Passes
 pub mod Found

@@ -10,31 +10,21 @@ use Rattle.atomic_table.specs.Table.{State, Me, Splits}
 use Rattle.atomic_table.specs.Seated.{TableId}
 use Rattle.history_model.specs.declared.TheConstants.{LOCKS}
 use Rattle.history_model.specs.declared.view.View.{View}
-use Rattle.history_model.specs.declared.view.Phase.TheVariants.{Running}
+use Rattle.history_model.specs.declared.view.Phase.TheVariants.{Idle}
 use Rattle.history_model.specs.Sets.{has, without, flag}
-use Rattle.history_model.specs.Table.{Knows, row_word, writer_word, value_word, table_words}
+use Rattle.history_model.specs.Table.{Knows, clock_word, stamps_word, row_word, writer_word, value_word, table_words}
 use Rattle.locks_rule.specs.Locks.{LocksHold, IsSeat}
 use Rattle.locks_rule.specs.Splits.{opening_view, left_by_split, given_by_split, MaySplitSeat, KeepsSplit}
 use Rattle.history_model.proofs.SetLemmas.{differ, not_true, has-nil, pair-nil, has-join, has-join_same, has-join_old, without-absent}
 use Rattle.locks_rule.proofs.Splitting.{split_seat_keeps}
+use Rattle.values_rule.proofs.Cuts.{split_seat_values}
 use Rattle.word_table.specs.declared.limits.TheConstants.{MOST_PASSES, MOST_WORDS}
 use Rattle.word_table.specs.declared.copies.CallCopy.{CallCopy}
 use Rattle.word_table.specs.declared.copies.LockCopy.{LockCopy}
 use Rattle.word_table.specs.Copies.{Shows, ShowsOthers, ShowsPairs, IsCopy, PassView}
 use Rattle.word_table.specs.Sound.{IsSound, opening_words, numbers}
-
-zeros_at : (k : ℕ) (xs : List ℕ) (i : ℕ) → i < k → slice_index (replicate k 0 ++ xs) i ≡ 0
-zeros_at zero xs i h = absurd (omega arith)
-zeros_at (suc k) xs zero h = refl
-zeros_at (suc k) xs (suc i) h = zeros_at k xs i (omega arith)
-
-past_zeros : (k : ℕ) (xs : List ℕ) (i : ℕ) → slice_index (replicate k 0 ++ xs) (k + i) ≡ slice_index xs i
-past_zeros zero xs i = let e : 0 + i ≡ i = omega arith in ap (λ (m : ℕ). slice_index xs m) e
-past_zeros (suc k) xs i = let e : suc k + i ≡ suc (k + i) = omega arith in ap (λ (m : ℕ). slice_index (replicate (suc k) 0 ++ xs) m) e ∙ past_zeros k xs i
-
-zeros_long : (k : ℕ) (xs : List ℕ) → length (replicate k 0 ++ xs) ≡ k + length xs
-zeros_long zero xs = omega arith
-zeros_long (suc k) xs = omega (arith, zeros_long k xs)
+use Rattle.word_table.proofs.OpeningValues.{opening_values}
+use Rattle.word_table.proofs.Zeros.{zeros_at, zeros_long, one_view}
 
 numbers_within : (j m x : ℕ) → has x (numbers j m) ≡ true → (j ≤ x) × (x < j + m)
 numbers_within j zero x h = absurd (differ (has x []) h (has-nil x))
@@ -45,10 +35,6 @@ numbers_have a zero j lo hi = absurd (omega arith)
 numbers_have a (suc m) j lo hi = dite (ℕ_discrete j a)
     (λ e. subst (λ (z : ℕ). has z (a ∷ numbers (suc a) m) ≡ true) (sym e) (has-join_same a (numbers (suc a) m)))
     (λ ne. has-join_old j a (numbers (suc a) m) (numbers_have (suc a) m j (omega arith) (omega arith)))
-
-one_view : (v : View) (id : ℕ) (u : View) → Knows (v ∷ []) id u → (id ≡ 0) × (v ≡ u)
-one_view v zero u e = (refl, some-injective v u e)
-one_view v (suc id) u e = absurd (some-ne-none u (sym e))
 
 -- at the start no lock is held, and one view has all numbers
 opening_locks : (n : ℕ) (base : List ℕ) → LocksHold n base (opening_words n base) (opening_view base n (numbers 0 n) [] ∷ [])
@@ -81,17 +67,17 @@ module _ (good : List ℕ → Type 0) (n : ℕ) (base : List ℕ) where
   pub opening_sound : (ws : List ℕ) → ws ≡ opening_words n base → good base → IsSound good n base ws (opening_view base n (numbers 0 n) [] ∷ [])
   opening_sound ws e fine = subst (λ (l : List ℕ). IsSound good n base l (opening_view base n (numbers 0 n) [] ∷ [])) (sym e) record {
     locks = opening_locks n base;
-    base_good = fine;
-    counters_are_zero = λ i lt. zeros_at (value_word n 0) base i (omega arith);
-    values_are_base = λ a lt. let e : value_word n a ≡ value_word n 0 + a = omega arith in ap (λ (i : ℕ). slice_index (opening_words n base) i) e ∙ past_zeros (value_word n 0) base a;
+    values = opening_values good n base fine (opening_locks n base);
+    clock_is_zero = zeros_at (value_word n 0) base clock_word (omega arith);
+    stamps_are_zero = λ j lt. zeros_at (value_word n 0) base (stamps_word n j) (omega arith);
   }
 
   pub split_kept : (j : ℕ) → KeepsSplit (IsSound good n base) (MaySplitSeat j) left_by_split given_by_split
   split_kept j ws vs id v h known may = record {
     locks = split_seat_keeps n base j ws vs id v h.locks known may;
-    base_good = h.base_good;
-    counters_are_zero = h.counters_are_zero;
-    values_are_base = h.values_are_base;
+    values = split_seat_values good j n base ws vs id v h.locks h.values known may;
+    clock_is_zero = h.clock_is_zero;
+    stamps_are_zero = h.stamps_are_zero;
   }
 
   split_sound : (id j : ℕ) (v : View) → MaySplitSeat j v → Splits (λ (s : State (Unit {0}) View). IsSound good n base s.words s.views) id v (left_by_split v) (given_by_split v)
@@ -117,11 +103,16 @@ module _ (base : List ℕ) (n j : ℕ) (me : Me (Unit {0}) View) (lt : j < n) (e
   known : me ≡ (opening_view base n (j ∷ numbers (suc j) (n - (j + 1))) [], [])
   known = let some_left : n - j ≡ suc (n - (j + 1)) = omega arith in e ∙ ap (λ (y : ℕ). with_none (opening_view base n (numbers j y) [])) some_left
 
-  pub deals_at : (good : List ℕ → Type 0) (m : ℕ) (id : ℕ) → Splits (λ (s : State (Unit {0}) View). IsSound good m base s.words s.views) id me.0 (left_by_split me.0) (given_by_split me.0)
-  deals_at good m id = split_sound good m base id j me.0 record {
-    who = (numbers (suc j) (n - (j + 1)), ap (λ (x : Me (Unit {0}) View). x.0.who) known);
-    no_bits = ap (λ (x : Me (Unit {0}) View). x.0.bits) known;
-    no_claims = ap (λ (x : Me (Unit {0}) View). x.0.claims) known;
+  -- there is another number behind the first
+  two_more : j + 1 < n → numbers (suc j) (n - (j + 1)) ≡ suc j ∷ numbers (suc (suc j)) (n - (j + 2))
+  two_more more = let some_left : n - (j + 1) ≡ suc (n - (j + 2)) = omega arith in ap (λ (y : ℕ). numbers (suc j) y) some_left
+
+  pub deals_at : j + 1 < n → (good : List ℕ → Type 0) (m : ℕ) (id : ℕ) → Splits (λ (s : State (Unit {0}) View). IsSound good m base s.words s.views) id me.0 (left_by_split me.0) (given_by_split me.0)
+  deals_at more good m id = split_sound good m base id j me.0 record {
+    who = (suc j, numbers (suc (suc j)) (n - (j + 2)), ap (λ (x : Me (Unit {0}) View). x.0.who) known ∙ ap (λ (l : List ℕ). j ∷ l) (two_more more), (λ same. omega arith));
+    phase = ap (λ (x : Me (Unit {0}) View). x.0.phase) known;
+    unjoined = ap (λ (x : Me (Unit {0}) View). x.0.joined) known;
+    no_cause = ap (λ (x : Me (Unit {0}) View). x.0.due) known;
   }
 
   pub dealt_left : (after : Me (Unit {0}) View) → after ≡ (left_by_split me.0, me.1) → after ≡ (opening_view base n (numbers (j + 1) (n - (j + 1))) [], [])
@@ -154,9 +145,9 @@ shows_none = record {
   near = λ k t. absurd (differ (has k []) t (has-nil k));
 }
 
-pub opening_copy : (base : List ℕ) (call : CallCopy) (locks : LockCopy) (table : TableId) (me : Me (Unit {0}) View) → me ≡ (opening_view base call.seats (call.who ∷ []) [], []) → call.phase ≡ Running → ShowsOthers call.others call.seats call.who → call.row ≡ row_word call.seats call.who 0 → call.writers ≡ writer_word call.seats 0 → call.who < call.seats → call.seats ≤ MOST_PASSES
+pub opening_copy : (base : List ℕ) (call : CallCopy) (locks : LockCopy) (table : TableId) (me : Me (Unit {0}) View) → me ≡ (opening_view base call.seats (call.who ∷ []) [], []) → call.phase ≡ Idle → call.calls ≡ 0 → ShowsOthers call.others call.seats call.who → call.row ≡ row_word call.seats call.who 0 → call.writers ≡ writer_word call.seats 0 → call.who < call.seats → call.seats ≤ MOST_PASSES
     → length base ≤ MOST_WORDS → table.words ≡ table_words call.seats (length base) → locks.bits ≡ zeros 16 → locks.reads ≡ zeros 16 → locks.claims ≡ zeros 16 → locks.scans.items ≡ replicate LOCKS 0 → IsCopy call locks table me
-opening_copy base call locks table me em running others row writers below few short long eb er ec es = subst (λ (m : Me (Unit {0}) View). IsCopy call locks table m) (sym em) record {
+opening_copy base call locks table me em idle fresh others row writers below few short long eb er ec es = subst (λ (m : Me (Unit {0}) View). IsCopy call locks table m) (sym em) record {
   slots = refl;
   no_cause = refl;
   others_are = others;
@@ -166,7 +157,7 @@ opening_copy base call locks table me em running others row writers below few sh
   few = few;
   short = short;
   long = long;
-  call_is = record { seats_are = refl; who_is = refl; phase_is = sym running };
+  call_is = record { seats_are = refl; who_is = refl; phase_is = sym idle; calls_are = sym fresh };
   locks_are = record {
     bits_are = subst (λ (row : List ℕ). Shows row []) (sym eb) shows_none;
     reads_are = subst (λ (row : List ℕ). Shows row []) (sym er) shows_none;

@@ -1,13 +1,15 @@
 -- All kinds of step, what each does, and when a seat may take it.
-use Rattle.std.specs.Prelude.{◌≡◌, ℕ, ◌^◌, ◌<◌, List}
+use Rattle.std.specs.Prelude.{◌≡◌, ℕ, ◌+◌, ◌^◌, ◌<◌, List}
 use Rattle.atomic_table.specs.Table.{Me}
 use Rattle.history_model.specs.declared.view.View.{View}
 use Rattle.history_model.specs.Table.{Knows, history_of}
 use Rattle.locks_rule.specs.Actions.{Action, found_by}
 use Rattle.locks_rule.specs.Locks.{LocksHold}
 use Rattle.locks_rule.specs.Steps.{MaySetReadBit, MayClearReadBit, MayLoadWriter, MayClaimWriter, MayScanRow, MayReleaseWriter, set_read_bit_action, clear_read_bit_action, load_writer_action, claim_writer_action, scan_row_action, release_writer_action}
+use Rattle.values_rule.specs.Steps.{MayBeginCall, MayLoadValue, MayStoreValue, MayUndoStore, MayCommitCall, MayClearStamp, begin_call_action, load_value_action, store_value_action, undo_store_action, commit_call_action, clear_stamp_action}
 use Rattle.word_table.specs.declared.step.Step.{Step}
-use Rattle.word_table.specs.declared.step.Step.TheVariants.{SetReadBit, ClearReadBit, LoadWriter, ClaimWriter, ScanRow, ReleaseWriter}
+use Rattle.word_table.specs.declared.step.Step.TheVariants.{SetReadBit, ClearReadBit, LoadWriter, ClaimWriter, ScanRow, ReleaseWriter, BeginCall, LoadValue, StoreValue, UndoStore, CommitCall, ClearStamp}
+use Rattle.word_table.specs.Sound.{IsSound}
 
 -- what the step does, where the seat knows v
 abbrev pub action_of : Step → View → Action
@@ -17,6 +19,12 @@ action_of (LoadWriter j k a) v = load_writer_action j k a v
 action_of (ClaimWriter j k a) v = claim_writer_action j k a v
 action_of (ScanRow j k i) v = scan_row_action j k i v
 action_of (ReleaseWriter j k) v = release_writer_action j k v
+action_of (BeginCall j) v = begin_call_action j v
+action_of (LoadValue j a) v = load_value_action j a v
+action_of (StoreValue j a x) v = store_value_action j a x v
+action_of (UndoStore j a old) v = undo_store_action j a old v
+action_of (CommitCall j kept) v = commit_call_action j kept v
+action_of (ClearStamp j) v = clear_stamp_action j v
 
 -- a seat that knows v may take the step, where these are the good lists of words
 abbrev pub May : (List ℕ → Type 0) → Step → View → Type 0
@@ -26,12 +34,24 @@ May good (LoadWriter j k a) v = MayLoadWriter j k a v
 May good (ClaimWriter j k a) v = MayClaimWriter j k a v
 May good (ScanRow j k i) v = MayScanRow j k i v
 May good (ReleaseWriter j k) v = MayReleaseWriter j k v
+May good (BeginCall j) v = MayBeginCall j v
+May good (LoadValue j a) v = MayLoadValue j a v
+May good (StoreValue j a x) v = MayStoreValue j a v
+May good (UndoStore j a old) v = MayUndoStore j a old v
+May good (CommitCall j kept) v = MayCommitCall good j kept v
+May good (ClearStamp j) v = MayClearStamp j v
 
 -- the number is what the step writes, whatever the table is when a seat that knows v takes it
 abbrev pub Stores : Action → View → ℕ → Type 0
 Stores action v new =
     (n : ℕ) (base words : List ℕ) (views : List View) (id : ℕ)
     → LocksHold n base words views → Knows views id v → found_by action words < 2 ^ 64 → action.writes (found_by action words) ≡ new
+
+-- one more than the number found fits a word, whatever the table is when a seat that knows v takes it
+abbrev pub Grows : (List ℕ → Type 0) → Action → View → Type 0
+Grows good action v =
+    (n : ℕ) (base words : List ℕ) (views : List View) (id : ℕ)
+    → IsSound good n base words views → Knows views id v → found_by action words + 1 < 2 ^ 64
 
 -- in a state of the table that is sound, where it knew old, a seat took the step that found this number, and then knew new
 pub record TakenIn (sound : List ℕ → List View → Type 0) (action : Action) (old : View) (found : ℕ) (new : View) : Type 0 where

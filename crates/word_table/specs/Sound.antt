@@ -2,17 +2,18 @@
 use Rattle.std.specs.Prelude.{◌≡◌, ℕ, zero, suc, ◌<◌, List, [], ◌∷◌, ◌++◌, length, replicate, slice_index}
 use Rattle.history_model.specs.declared.view.View.{View}
 use Rattle.history_model.specs.Fitting.{IsGood}
-use Rattle.history_model.specs.Table.{row_word, value_word}
+use Rattle.history_model.specs.Table.{clock_word, stamps_word, value_word}
 use Rattle.locks_rule.specs.Locks.{LocksHold}
+use Rattle.values_rule.specs.Values.{ValuesHold}
 use Rattle.word_table.specs.declared.rule.Ground.{Ground}
 
 -- for n seats and the words base that the memory began with, of which some lists are good
 pub record IsSound (good : List ℕ → Type 0) (n : ℕ) (base words : List ℕ) (views : List View) : Type 0 where
   pub locks : LocksHold n base words views
-  pub base_good : good base
-  -- so far no step is on a word of no lock: the counters are 0, and the values are those that the memory began with
-  pub counters_are_zero : (i : ℕ) → i < row_word n 0 0 → slice_index words i ≡ 0
-  pub values_are_base : (a : ℕ) → a < length base → slice_index words (value_word n a) ≡ slice_index base a
+  pub values : ValuesHold good n base words views
+  -- so far no seat has a timestamp
+  pub clock_is_zero : slice_index words clock_word ≡ 0
+  pub stamps_are_zero : (j : ℕ) → j < n → slice_index words (stamps_word n j) ≡ 0
 
 -- the same, for a table that was made with this ground; word_count and good are those of its shape
 abbrev pub GroundHolds : {S : Type 0} → (S → ℕ) → (S → List ℕ → Type 0) → Ground S → List ℕ → List View → Type 0

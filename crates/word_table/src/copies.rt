@@ -3,7 +3,7 @@
 use history_model::Phase;
 
 /// The call: how many seats there are, the own number, the others as a bit for each, where the own row and the writer
-/// words begin in the table, and where the pass is in its calls.
+/// words begin in the table, how many calls were begun, and where the pass is in its calls.
 #[derive(Clone, Copy)]
 pub(crate) struct CallCopy {
     pub(crate) seats: u32,
@@ -11,6 +11,7 @@ pub(crate) struct CallCopy {
     pub(crate) others: u64,
     pub(crate) row: u32,
     pub(crate) writers: u32,
+    pub(crate) calls: u32,
     pub(crate) phase: Phase,
 }
 

@@ -29,7 +29,7 @@ fn deal_one<S: Shape>(
     n: u32,
     j: u32,
 ) -> Seat<(), View>
-    requires counts { (j < n) × (n ≡ table.now.key.seats) × (0 < table.now.table_id.words) }
+    requires counts { (j + 1 < n) × (n ≡ table.now.key.seats) × (0 < table.now.table_id.words) }
     requires table { seat.old.table_id ≡ table.now.table_id }
     requires seat { seat.old.me ≡ (opening_view table.now.key.base.items n (numbers j (n - j)) [], []) }
     ensures table { (seat.new.table_id ≡ seat.old.table_id) × (result.table_id ≡ seat.old.table_id) }

@@ -1,11 +1,14 @@
 //! Where the words of the locks stand in a table.
 
-ghost use Rattle.std.specs.Prelude.{◌≡◌, ◌<◌, ◌≤◌};
-ghost use Rattle.history_model.specs.Table.{row_word, writer_word, value_word};
+ghost use Rattle.std.specs.Prelude.{◌≡◌, ◌<◌, ◌≤◌, ℕ};
+ghost use Rattle.history_model.specs.Table.{calls_word, stamps_word, row_word, writer_word, value_word};
 
 use crate::copies::CallCopy;
-use crate::limits::MOST_PASSES;
+use crate::limits::{MOST_PASSES, MOST_WORDS};
 use history_model::LOCKS;
+
+/// The word that counts the entries of the history.
+pub(crate) const PLACE_OF_SERIAL: usize = 0;
 
 /// The word that has a seat's read bit for a lock.
 pub(crate) fn place_of_bit(seats: u32, seat: u32, lock: u32) -> usize
@@ -34,6 +37,31 @@ pub(crate) fn place_of_writer(call: &CallCopy, lock: u32) -> usize
     ensures { result ≡ writer_word call.now.seats lock }
 {
     (call.writers + lock) as usize
+}
+
+/// The word that has the number of calls that a seat began.
+pub(crate) fn place_of_calls(seat: u32) -> usize
+    requires { seat < MOST_PASSES }
+    ensures { (n : ℕ) → result ≡ calls_word n seat }
+{
+    2 + seat as usize
+}
+
+/// The word that shows a seat's timestamp.
+pub(crate) fn place_of_stamp(seats: u32, seat: u32) -> usize
+    requires { (seats ≤ MOST_PASSES) × (seat < seats) }
+    ensures { result ≡ stamps_word seats seat }
+{
+    (2 + seats + seat) as usize
+}
+
+/// The word that has a value of the memory.
+pub(crate) fn place_of_value(seats: u32, word: u64) -> usize
+    requires seats { seats ≤ MOST_PASSES }
+    requires word { word < MOST_WORDS }
+    ensures { result ≡ value_word seats word }
+{
+    place_of_values(seats) + word as usize
 }
 
 /// The first word of the memory, behind all words of the locks.

@@ -30,7 +30,7 @@ pub mod step;
 pub use answer::{Claimed, Scanned, Shared};
 pub use desk::Desk;
 pub use history_model::Phase;
-pub use limits::{MOST_PASSES, MOST_WORDS};
+pub use limits::{LAST_CALL, MOST_PASSES, MOST_WORDS};
 pub use pass::Pass;
 pub use rule::{DeskRule, Ground};
 

@@ -7,7 +7,7 @@ ghost use Rattle.history_model.specs.declared.entry.Entry.{Entry};
 ghost use Rattle.history_model.specs.declared.view.View.{View};
 ghost use Rattle.locks_rule.specs.Actions.{Action};
 ghost use Rattle.history_model.specs.Fitting.{IsGood};
-ghost use Rattle.word_table.specs.Kinds.{action_of, May, Stores, Took};
+ghost use Rattle.word_table.specs.Kinds.{action_of, May, Stores, Grows, Took};
 ghost use Rattle.word_table.specs.Sound.{GroundHolds};
 
 use crate::rule::TableWords;
@@ -15,8 +15,8 @@ use atomic_table::{Play, Seat};
 use history_model::{Shape, View};
 use std::marker::{Brand, PhantomData};
 
-/// A kind of step, with the number of the seat that takes it, the lock, and what else the step is about: the memory's
-/// word that the lock is asked for, or the other seat.
+/// A kind of step, with the number of the seat that takes it, and what the step is about: a lock with the memory's word
+/// that it is asked for or with the other seat, a word of the memory, or the call.
 ///
 /// Contracts and proofs alone speak of it: `Kinds` in `specs/` says what a step of each kind does (`action_of`) and
 /// when a seat may take it (`May`).
@@ -34,6 +34,18 @@ pub enum Step {
     ScanRow { seat: u32, lock: u32, other: u32 },
     /// 0 is stored to the lock's writer word.
     ReleaseWriter { seat: u32, lock: u32 },
+    /// The number of a new call is stored to the own CALLS word.
+    BeginCall { seat: u32 },
+    /// A value of the memory is loaded.
+    LoadValue { seat: u32, word: u64 },
+    /// A value is stored to a word of the memory, and the old one is noted.
+    StoreValue { seat: u32, word: u64, value: u64 },
+    /// The newest note is written back.
+    UndoStore { seat: u32, word: u64, old: u64 },
+    /// The counter of entries goes up by 1.
+    CommitCall { seat: u32, kept: bool },
+    /// 0 is stored to the own STAMPS word, and the call ends.
+    ClearStamp { seat: u32 },
 }
 
 /// The kind of a step, and the rule that a step of it tells of. A call picks both for its proof.
@@ -140,6 +152,25 @@ fn exchange_by<S: Shape, A: Kind>(
     table.compare_exchange::<Takes<A>>(seat, word, old, new)
 }
 
+fn add_by<S: Shape, A: Kind>(
+    table: &TableWords<S>,
+    seat: &mut Seat<(), View>,
+    word: usize,
+    step: &Step,
+) -> u64
+    requires table { (seat.old.table_id ≡ table.now.table_id) × (word < table.now.table_id.words) }
+    requires kind { step.now ≡ A.step }
+    requires action { let x : Action = action_of step.now seat.old.me.0 in (word ≡ x.at) × ((w : ℕ) → x.writes w ≡ w + 1) }
+    requires sound { (words : List ℕ) (views : List View)
+        → GroundHolds S.word_count S.good table.now.key words views → A.sound words views }
+    requires may { May (IsGood (S.word_count table.now.key.shape) (S.good table.now.key.shape)) step.now seat.old.me.0 }
+    requires room { Grows (IsGood (S.word_count table.now.key.shape) (S.good table.now.key.shape)) (action_of step.now seat.old.me.0) seat.old.me.0 }
+    ensures seat { seat.new.table_id ≡ seat.old.table_id }
+    ensures took { Took A.sound (action_of step.now seat.old.me.0) seat.old.me seat.new.me result }
+{
+    table.fetch_add::<Takes<A>>(seat, word, 1)
+}
+
 /// A load that is the step `step`.
 pub(crate) fn load<S: Shape>(
     table: &TableWords<S>,
@@ -191,4 +222,21 @@ pub(crate) fn exchange<S: Shape>(
     ensures took { Took (GroundHolds S.word_count S.good table.now.key) (action_of step.now seat.old.me.0) seat.old.me seat.new.me result }
 {
     exchange_by::<S, Brand>(table, seat, word, old, new, step)
+}
+
+/// A fetch-and-add of 1 that is the step `step`. It gives the number found.
+pub(crate) fn add<S: Shape>(
+    table: &TableWords<S>,
+    seat: &mut Seat<(), View>,
+    word: usize,
+    step: &Step,
+) -> u64
+    requires table { (seat.old.table_id ≡ table.now.table_id) × (word < table.now.table_id.words) }
+    requires action { let x : Action = action_of step.now seat.old.me.0 in (word ≡ x.at) × ((w : ℕ) → x.writes w ≡ w + 1) }
+    requires may { May (IsGood (S.word_count table.now.key.shape) (S.good table.now.key.shape)) step.now seat.old.me.0 }
+    requires room { Grows (IsGood (S.word_count table.now.key.shape) (S.good table.now.key.shape)) (action_of step.now seat.old.me.0) seat.old.me.0 }
+    ensures seat { seat.new.table_id ≡ seat.old.table_id }
+    ensures took { Took (GroundHolds S.word_count S.good table.now.key) (action_of step.now seat.old.me.0) seat.old.me seat.new.me result }
+{
+    add_by::<S, Brand>(table, seat, word, step)
 }

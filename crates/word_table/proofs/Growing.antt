@@ -1,0 +1,24 @@
+-- The counter of entries has room for one more: there are no more entries than calls that were begun.
+use Rattle.std.proofs.Common.{◌≡◌, ℕ, zero, suc, ◌+◌, ◌*◌, ◌^◌, ◌<◌, ◌≤◌, Bool, List, [], ◌∷◌, length, slice_index, sym, ap, ◌∙◌, arith}
+use Rattle.history_model.specs.declared.entry.Entry.{Entry}
+use Rattle.history_model.specs.declared.view.View.{View}
+use Rattle.history_model.specs.Counts.{calls_below}
+use Rattle.history_model.specs.Table.{Knows, calls_word, history_of}
+use Rattle.values_rule.specs.Steps.{commit_call_action}
+use Rattle.values_rule.proofs.LockKinds.{own}
+use Rattle.word_table.specs.declared.limits.TheConstants.{MOST_PASSES}
+use Rattle.word_table.specs.Kinds.{Grows}
+
+calls_small : (n m : ℕ) (ws : List ℕ) → ((j : ℕ) → j < m → slice_index ws (calls_word n j) < 2 ^ 32) → calls_below n m ws ≤ m * 2 ^ 32
+unfolding calls_below
+calls_small n zero ws few = omega arith
+calls_small n (suc m) ws few = let rest = calls_small n m ws (λ j lt. few j (omega arith)) in let here = few m (omega arith) in omega arith
+
+pub commit_grows : (good : List ℕ → Type 0) (v : View) (j : ℕ) (kept : Bool) → v.who ≡ j ∷ [] → v.seats ≤ MOST_PASSES → Grows good (commit_call_action j kept v) v
+commit_grows good v j kept single few n base ws vs id h me =
+    let o = own n base ws vs id j v h.locks me single in
+    let small = calls_small n n ws (λ i lt. h.values.calls.calls_fit i lt) in
+    let counted = h.values.calls.counted in
+    let serial = h.values.seen.serial in
+    let seats = o.seats in
+    omega arith
