@@ -10,7 +10,7 @@ use Rattle.locks_rule.specs.Locks.{LocksHold, IsSeat}
 use Rattle.locks_rule.specs.Splits.{KeepsSplit, MaySplitSeat, left_by_split, given_by_split}
 use Rattle.history_model.proofs.SetLemmas.{differ, not_true, empty-has, has-nil, has-one, has-join_same, has-without, has-without_other}
 use Rattle.history_model.proofs.Changes.{Change, StepTouches, NewByCut, change_cut}
-use Rattle.history_model.proofs.Places.{same_view, put_here, put_there, put_cases, added_here, added_there, added_cases}
+use Rattle.history_model.proofs.Places.{same_view, put_here, added_here, added_there}
 
 -- what both parts of a view that is cut have in common
 record IsPart (n : ℕ) (v u : View) : Type 0 where
