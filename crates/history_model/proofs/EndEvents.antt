@@ -66,14 +66,14 @@ last_or_before [] a = inr (λ o. refl)
 last_or_before (Read b v ∷ t) a = ⊎_elim
     (λ k. inl (k.0, λ o. k.1 (if a == b then Some v else o)))
     (λ k. dite (ℕ_discrete a b)
-      (λ e. inl (v, λ o. rw (eq-eqb a b e) (k (Some v))))
-      (λ n. inr (λ o. rw (ne_eqb a b n) (k o))))
+    (λ e. inl (v, λ o. rw (eq-eqb a b e) (k (Some v))))
+    (λ n. inr (λ o. rw (ne_eqb a b n) (k o))))
     (last_or_before t a)
 last_or_before (Write b v ∷ t) a = ⊎_elim
     (λ k. inl (k.0, λ o. k.1 (if a == b then Some v else o)))
     (λ k. dite (ℕ_discrete a b)
-      (λ e. inl (v, λ o. rw (eq-eqb a b e) (k (Some v))))
-      (λ n. inr (λ o. rw (ne_eqb a b n) (k o))))
+    (λ e. inl (v, λ o. rw (eq-eqb a b e) (k (Some v))))
+    (λ n. inr (λ o. rw (ne_eqb a b n) (k o))))
     (last_or_before t a)
 
 pub last_event : (t : Trace) (a x : ℕ) (o : Option ℕ) → value_after t a None ≡ Some x → value_after t a o ≡ Some x

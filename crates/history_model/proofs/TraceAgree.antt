@@ -15,12 +15,12 @@ use Rattle.history_model.proofs.TraceLaws.{get_set_same, get_set_other}
 write_both : (s r : List ℕ) (a v b : ℕ) → length s ≡ length r → (b ≢ a → slice_get s b ≡ slice_get r b) → slice_get (slice_set s a v) b ≡ slice_get (slice_set r a v) b
 write_both s r a v b long same = dite (ℕ_discrete b a)
     (λ e. subst (λ (c : ℕ). slice_get (slice_set s a v) c ≡ slice_get (slice_set r a v) c) (sym e) (⊎_elim
-      (λ t. let past : length s ≤ a = t.1 in
-        let s_long = length-set s a v in
-        let r_long = length-set r a v in
-        slice_get_past (slice_set s a v) a (omega arith) ∙ sym (slice_get_past (slice_set r a v) a (omega arith)))
-      (λ t. let within : a < length s = t.1 in get_set_same s a v within ∙ sym (get_set_same r a v (omega arith)))
-      (leb_tells (length s) a)))
+    (λ t. let past : length s ≤ a = t.1 in
+    let s_long = length-set s a v in
+    let r_long = length-set r a v in
+    slice_get_past (slice_set s a v) a (omega arith) ∙ sym (slice_get_past (slice_set r a v) a (omega arith)))
+    (λ t. let within : a < length s = t.1 in get_set_same s a v within ∙ sym (get_set_same r a v (omega arith)))
+    (leb_tells (length s) a)))
     (λ n. get_set_other s a b v n ∙ (same n ∙ sym (get_set_other r a b v n)))
 
 pub legal_agree : (t : Trace) (s r : List ℕ) → length s ≡ length r → ((a : ℕ) → Touches t a → slice_get s a ≡ slice_get r a) → IsLegalTrace t s → IsLegalTrace t r

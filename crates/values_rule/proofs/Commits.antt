@@ -165,7 +165,7 @@ module _ (good : List ℕ → Type 0) (n : ℕ) (base ws : List ℕ) (vs : List 
     seen_begin = λ other u k. subst (λ (l : List Entry). IsPrefix u.seen l) (sym history_is_longer) (begins other u k);
     olds_begin = λ other u o k i. subst (λ (l : List Entry). IsPrefix o.seen l) (sym history_is_longer)
         (let p = ⊎_elim (λ t. q.seen.olds_begin id v o me (subst (λ (x : View). IsIn o x.olds) (sym t.1) i)) (λ t. q.seen.olds_begin other u o t.1 i) (case other u k) in
-          (p.0 ++ e ∷ [], ap (λ (l : List Entry). l ++ e ∷ []) p.1 ∙ append_assoc o.seen p.0 (e ∷ [])));
+        (p.0 ++ e ∷ [], ap (λ (l : List Entry). l ++ e ∷ []) p.1 ∙ append_assoc o.seen p.0 (e ∷ [])));
   }
 
   history_part : HistoryLegal good n base vs'
@@ -192,12 +192,12 @@ module _ (good : List ℕ → Type 0) (n : ℕ) (base ws : List ℕ) (vs : List 
         (case other u s.knows);
     old_seen = λ other i p u o x k t named at own_entry.
         let old : (other : ℕ) (u : View) → Knows vs other u → IsIn o u.olds → p < length o.seen = λ other u k t. ⊎_elim
-              (λ z. q.calls.old_seen other i p u o x k t named z.1 own_entry)
-              (λ z. absurd (old_number other i u o k t named (entry_is_j x i z.1 own_entry))) (entry_cases p x at) in
+        (λ z. q.calls.old_seen other i p u o x k t named z.1 own_entry)
+        (λ z. absurd (old_number other i u o k t named (entry_is_j x i z.1 own_entry))) (entry_cases p x at) in
         ⊎_elim (λ z. old id v me (subst (λ (y : View). IsIn o y.olds) (sym z.1) t)) (λ z. old other u z.1 t) (case other u k);
     old_numbers = λ other i u o k t named. ⊎_elim
         (λ z. let c = q.calls.old_numbers id i v o me (subst (λ (y : View). IsIn o y.olds) (sym z.1) t) named in
-          (subst (λ (y : View). has i y.who ≡ true) z.1 c.0, subst (λ (y : View). y.joined ≡ true) z.1 c.1))
+        (subst (λ (y : View). has i y.who ≡ true) z.1 c.0, subst (λ (y : View). y.joined ≡ true) z.1 c.1))
         (λ z. q.calls.old_numbers other i u o z.1 t named) (case other u k);
     callers_alone = λ other u k busy. ⊎_elim (λ z. (j, subst (λ (y : View). y.who ≡ j ∷ []) z.1 may.who)) (λ z. q.calls.callers_alone other u z.1 busy) (case other u k);
     alone_unjoined = λ other i u k single. ⊎_elim (λ z. subst (λ (y : View). y.joined ≡ false) z.1 alone) (λ z. q.calls.alone_unjoined other i u z.1 single) (case other u k);
@@ -209,8 +209,8 @@ module _ (good : List ℕ → Type 0) (n : ℕ) (base ws : List ℕ) (vs : List 
         (λ z. q.calls.calls_shown other i u (record { knows = z.1; named = s.named }) un) (case other u s.knows);
     entries_numbered = λ other i p u x s un at own_entry. ⊎_elim
         (λ t. subst (λ (y : View). x.call ≤ y.call) t.1 (⊎_elim
-          (λ z. q.calls.entries_numbered id i p v x (record { knows = me; named = subst (λ (y : View). has i y.who ≡ true) (sym t.1) s.named }) alone z.1 own_entry)
-          (λ z. let same : v.call ≡ x.call = ap (λ (y : Entry). y.call) z.1 in omega arith) (entry_cases p x at)))
+        (λ z. q.calls.entries_numbered id i p v x (record { knows = me; named = subst (λ (y : View). has i y.who ≡ true) (sym t.1) s.named }) alone z.1 own_entry)
+        (λ z. let same : v.call ≡ x.call = ap (λ (y : Entry). y.call) z.1 in omega arith) (entry_cases p x at)))
         (λ t. ⊎_elim (λ z. q.calls.entries_numbered other i p u x (record { knows = t.1; named = s.named }) un z.1 own_entry) (λ z. absurd (not_theirs other i u x t.0 t.1 s.named z.1 own_entry)) (entry_cases p x at))
         (case other u s.knows);
     open_numbered = λ other i p u x s un busy at own_entry. ⊎_elim
@@ -257,17 +257,17 @@ module _ (good : List ℕ → Type 0) (n : ℕ) (base ws : List ℕ) (vs : List 
       (λ ne. free other u (put_there vs id other w u ne z)))
   unnoted_by true a k lt free = ⊎_elim
       (λ (none : oldest a v.undo ≡ None). unwritten_stays v.trace now a (λ wrote. is_missing (oldest a v.undo) none (q.trace.written_noted id a v me (may.runs k) wrote))
-        ∙ q.undo.unnoted a lt (λ other u z. dite (ℕ_discrete other id)
-          (λ same. subst (λ (x : View). oldest a x.undo ≡ None) (sym (same_view vs id other v u me z same)) none)
-          (λ ne. free other u (put_there vs id other w u ne z))))
+      ∙ q.undo.unnoted a lt (λ other u z. dite (ℕ_discrete other id)
+      (λ same. subst (λ (x : View). oldest a x.undo ≡ None) (sym (same_view vs id other v u me z same)) none)
+      (λ ne. free other u (put_there vs id other w u ne z))))
       (λ (some : (o : ℕ) × (oldest a v.undo ≡ Some o)).
-        let wrote = q.trace.undo_written id a some.0 v me may.phase some.1 in
-        let within : a < length now = omega (arith, length-replay base H) in
-        ⊎_elim
-        (λ (none : value_after v.trace a None ≡ None). absurd (is_missing (value_after v.trace a None) none (last_from_touched v.trace a None (inr (touched_if_written v.trace a wrote)))))
-        (λ (last : (x : ℕ) × (value_after v.trace a None ≡ Some x)). get-after-value_after v.trace now a legal_now within ∙ (last_event v.trace a last.0 (slice_get now a) last.1
-          ∙ ap (λ (x : ℕ). Some x) (sym (q.trace.last_stands id a last.0 v me (may.runs k) last.1))))
-        (option_cases (value_after v.trace a None)))
+      let wrote = q.trace.undo_written id a some.0 v me may.phase some.1 in
+      let within : a < length now = omega (arith, length-replay base H) in
+      ⊎_elim
+      (λ (none : value_after v.trace a None ≡ None). absurd (is_missing (value_after v.trace a None) none (last_from_touched v.trace a None (inr (touched_if_written v.trace a wrote)))))
+      (λ (last : (x : ℕ) × (value_after v.trace a None ≡ Some x)). get-after-value_after v.trace now a legal_now within ∙ (last_event v.trace a last.0 (slice_get now a) last.1
+      ∙ ap (λ (x : ℕ). Some x) (sym (q.trace.last_stands id a last.0 v me (may.runs k) last.1))))
+      (option_cases (value_after v.trace a None)))
       (option_cases (oldest a v.undo))
 
   undo_at : UndoRestores n base left ws' vs'
@@ -275,7 +275,7 @@ module _ (good : List ℕ → Type 0) (n : ℕ) (base ws : List ℕ) (vs : List 
     noted = λ other a o u k t. ⊎_elim
         (λ z. absurd (let y : None ≡ Some o = sym (oldest-nil a) ∙ subst (λ (x : View). oldest a x.undo ≡ Some o) (sym z.1) t in cc))
         (λ z. let c = q.undo.noted other a o u z.1 t in let s = seat_of other u z.1 (noting other a o u z.1 t) in
-          (c.0, c.1, stands a (unwritten other s.0 a u z.0 s.1 (inr c.1)) ∙ c.2)) (case other u k);
+        (c.0, c.1, stands a (unwritten other s.0 a u z.0 s.1 (inr c.1)) ∙ c.2)) (case other u k);
     unnoted = λ a lt free. ap (λ (l : List ℕ). slice_get l a) then_is ∙ (unnoted_by kept a refl lt free ∙ ap (λ (x : ℕ). Some x) (sym (value_stays a)));
   }
 
@@ -290,7 +290,7 @@ module _ (good : List ℕ → Type 0) (n : ℕ) (base ws : List ℕ) (vs : List 
     legal = λ other u k busy. ⊎_elim
         (λ z. absurd (let y : false ≡ true = subst (λ (x : View). is_attempt x.phase ≡ true) (sym z.1) busy in cc))
         (λ z. let s = seat_of other u z.1 (attempt_begun u.phase busy) in
-          legal_agree u.trace now left then_long (λ a t. sym (stands a (unwritten other s.0 a u z.0 s.1 (q.trace.granted other a u z.1 busy t).1))) (q.trace.legal other u z.1 busy)) (case other u k);
+        legal_agree u.trace now left then_long (λ a t. sym (stands a (unwritten other s.0 a u z.0 s.1 (q.trace.granted other a u z.1 busy t).1))) (q.trace.legal other u z.1 busy)) (case other u k);
     undo_written = λ other a o u k busy t. ⊎_elim
         (λ z. absurd (let y : false ≡ true = subst (λ (x : View). is_attempt x.phase ≡ true) (sym z.1) busy in cc))
         (λ z. q.trace.undo_written other a o u z.1 busy t) (case other u k);
@@ -312,9 +312,9 @@ module _ (good : List ℕ → Type 0) (n : ℕ) (base ws : List ℕ) (vs : List 
         (case other u s.knows);
     attempts = λ other i u k single busy. subst (λ (l : List Entry). AreAttemptsLegal n base l i u.stamp u.floor (length u.seen) u.abandoned) (sym history_is_longer) (⊎_elim
         (λ z. subst (λ (x : View). AreAttemptsLegal n base longer i x.stamp x.floor (length x.seen) x.abandoned) z.1
-          (attempts_wider n base longer i v.stamp v.floor (length H) (length longer) v.abandoned (let l = long in omega arith)
-          (attempts_agree n base (length H) i v.stamp v.floor (length H) H longer v.abandoned (agree_longer H (e ∷ [])) (omega arith)
-          (attempts_wider n base H i v.stamp v.floor (length v.seen) (length H) v.abandoned seen_few (q.floor.attempts id i v me (ap (λ (x : View). x.who) z.1 ∙ single) busy_begun)))))
+        (attempts_wider n base longer i v.stamp v.floor (length H) (length longer) v.abandoned (let l = long in omega arith)
+        (attempts_agree n base (length H) i v.stamp v.floor (length H) H longer v.abandoned (agree_longer H (e ∷ [])) (omega arith)
+        (attempts_wider n base H i v.stamp v.floor (length v.seen) (length H) v.abandoned seen_few (q.floor.attempts id i v me (ap (λ (x : View). x.who) z.1 ∙ single) busy_begun)))))
         (λ z. attempts_agree n base (length H) i u.stamp u.floor (length u.seen) H longer u.abandoned (agree_longer H (e ∷ [])) (seen_at_most vs other u z.1) (q.floor.attempts other i u z.1 single busy))
         (case other u k));
   }

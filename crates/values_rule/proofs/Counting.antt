@@ -61,12 +61,12 @@ unfolding calls_below
 calls_below-more n zero j x ws lt long = absurd (omega arith)
 calls_below-more n (suc m) j x ws lt long = ⊎_elim
     (λ (t : (nat_le m j ≡ true) × (m ≤ j)). let le = t.1 in
-      let is : m ≡ j = omega arith in
-      let below = calls_below-same n m ws (slice_set ws (calls_word n j) x) (λ i near. get_or-set_other ws (calls_word n j) (calls_word n i) x 0 (λ e. omega arith)) in
-      let here : slice_index (slice_set ws (calls_word n j) x) (calls_word n m) ≡ x = subst (λ (i : ℕ). slice_index (slice_set ws (calls_word n j) x) (calls_word n i) ≡ x) (sym is) (get_or-set_same ws (calls_word n j) x 0 long) in
-      let there : slice_index ws (calls_word n m) ≡ slice_index ws (calls_word n j) = ap (λ (i : ℕ). slice_index ws (calls_word n i)) is in
-      omega arith)
+    let is : m ≡ j = omega arith in
+    let below = calls_below-same n m ws (slice_set ws (calls_word n j) x) (λ i near. get_or-set_other ws (calls_word n j) (calls_word n i) x 0 (λ e. omega arith)) in
+    let here : slice_index (slice_set ws (calls_word n j) x) (calls_word n m) ≡ x = subst (λ (i : ℕ). slice_index (slice_set ws (calls_word n j) x) (calls_word n i) ≡ x) (sym is) (get_or-set_same ws (calls_word n j) x 0 long) in
+    let there : slice_index ws (calls_word n m) ≡ slice_index ws (calls_word n j) = ap (λ (i : ℕ). slice_index ws (calls_word n i)) is in
+    omega arith)
     (λ (t : (nat_le m j ≡ false) × (j < m)). let rest = calls_below-more n m j x ws t.1 long in
-      let here : slice_index (slice_set ws (calls_word n j) x) (calls_word n m) ≡ slice_index ws (calls_word n m) = get_or-set_other ws (calls_word n j) (calls_word n m) x 0 (λ e. let near = t.1 in omega arith) in
-      omega arith)
+    let here : slice_index (slice_set ws (calls_word n j) x) (calls_word n m) ≡ slice_index ws (calls_word n m) = get_or-set_other ws (calls_word n j) (calls_word n m) x 0 (λ e. let near = t.1 in omega arith) in
+    omega arith)
     (leb_tells m j)

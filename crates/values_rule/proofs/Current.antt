@@ -36,10 +36,10 @@ module _ (good : List ℕ → Type 0) (n : ℕ) (base ws : List ℕ) (vs : List 
   untouched_stands none = q.undo.unnoted a within (λ other u k. ⊎_elim
       (λ (t : oldest a u.undo ≡ None). t)
       (λ (t : (o : ℕ) × (oldest a u.undo ≡ Some o)). absurd (dite (ℕ_discrete other id)
-        (λ e. let mine : oldest a v.undo ≡ Some t.0 = subst (λ (x : View). oldest a x.undo ≡ Some t.0) (same_view vs id other v u me k e) t.1 in
-          let wrote = q.trace.undo_written id a t.0 v me (attempt_runs v runs) mine in
-          is_missing (value_after v.trace a None) none (last_from_touched v.trace a None (inr (touched_if_written v.trace a wrote))))
-        (λ ne. not_noted other u t.0 ne k t.1)))
+      (λ e. let mine : oldest a v.undo ≡ Some t.0 = subst (λ (x : View). oldest a x.undo ≡ Some t.0) (same_view vs id other v u me k e) t.1 in
+      let wrote = q.trace.undo_written id a t.0 v me (attempt_runs v runs) mine in
+      is_missing (value_after v.trace a None) none (last_from_touched v.trace a None (inr (touched_if_written v.trace a wrote))))
+      (λ ne. not_noted other u t.0 ne k t.1)))
       (option_cases (oldest a u.undo)))
 
   -- the word stands as the attempt's trace leaves it of the history's words
@@ -50,5 +50,5 @@ module _ (good : List ℕ → Type 0) (n : ℕ) (base ws : List ℕ) (vs : List 
       is ∙ ⊎_elim
       (λ (t : value_after v.trace a None ≡ None). no_event v.trace a (slice_get (replay base (history_of vs)) a) t ∙ untouched_stands t)
       (λ (t : (x : ℕ) × (value_after v.trace a None ≡ Some x)). last_event v.trace a t.0 (slice_get (replay base (history_of vs)) a) t.1
-        ∙ ap (λ (x : ℕ). Some x) (sym (q.trace.last_stands id a t.0 v me runs t.1)))
+      ∙ ap (λ (x : ℕ). Some x) (sym (q.trace.last_stands id a t.0 v me runs t.1)))
       (option_cases (value_after v.trace a None))

@@ -108,7 +108,7 @@ module _ (good : List ℕ → Type 0) (n : ℕ) (base : List ℕ) (j : ℕ) (ws 
   stays : history_of vs' ≡ history_of vs
   stays = let s = saw_all vs id v me in dite (ℕ_discrete s.0 id)
       (λ e. history_is vs' (history_of vs) id (left_by_split v) begins (added_there (slice_set vs id (left_by_split v)) (given_by_split v) (left_by_split v) id (put_here vs id v (left_by_split v) me))
-        (ap (λ (x : View). x.seen) (sym (same_view vs id s.0 v s.1 me s.2 e)) ∙ sym s.3))
+      (ap (λ (x : View). x.seen) (sym (same_view vs id s.0 v s.1 me s.2 e)) ∙ sym s.3))
       (λ ne. history_is vs' (history_of vs) s.0 s.1 begins (cut.kept s.0 s.1 ne s.2) (sym s.3))
 
   back : (p : ℕ) (e : Entry) → slice_get (history_of vs') p ≡ Some e → slice_get (history_of vs) p ≡ Some e

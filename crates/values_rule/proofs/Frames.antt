@@ -134,7 +134,7 @@ module _ (good : List ℕ → Type 0) (n : ℕ) (base ws ws' : List ℕ) (vs : L
         (λ z. q.calls.old_seen other j p u o e z.1 i t (back p e at) own) (case other u k);
     old_numbers = λ other j u o k i t. ⊎_elim
         (λ z. let c = q.calls.old_numbers id j v o me (subst (λ (l : List Old). IsIn o l) m.seen.olds (subst (λ (x : View). IsIn o x.olds) (sym z.1) i)) t in
-          (subst (λ (x : View). has j x.who ≡ true) z.1 (subst (λ (l : List ℕ). has j l ≡ true) (sym m.seen.who) c.0), ap (λ (x : View). x.joined) (sym z.1) ∙ m.seen.joined ∙ c.1))
+        (subst (λ (x : View). has j x.who ≡ true) z.1 (subst (λ (l : List ℕ). has j l ≡ true) (sym m.seen.who) c.0), ap (λ (x : View). x.joined) (sym z.1) ∙ m.seen.joined ∙ c.1))
         (λ z. q.calls.old_numbers other j u o z.1 i t) (case other u k);
     callers_alone = λ other u k busy. ⊎_elim
         (λ z. let c = m.calls.alone (subst (λ (x : View). x.phase ≢ Idle) (sym z.1) busy) in (c.0, subst (λ (x : View). x.who ≡ c.0 ∷ []) z.1 c.1))
@@ -148,7 +148,7 @@ module _ (good : List ℕ → Type 0) (n : ℕ) (base ws ws' : List ℕ) (vs : L
     calls_shown = λ other j u s alone. ⊎_elim
         (λ z. subst (λ (x : View). slice_index ws' (calls_word n j) ≡ x.call) z.1 (m.calls.own j (is_mine j u z.1 s.named) (subst (λ (x : View). x.joined ≡ false) (sym z.1) alone)))
         (λ z. m.calls.others j (foreign_number other j u z.0 z.1 s.named) (h.numbers_below other j u (record { knows = z.1; named = s.named }))
-          ∙ q.calls.calls_shown other j u (record { knows = z.1; named = s.named }) alone) (case other u s.knows);
+        ∙ q.calls.calls_shown other j u (record { knows = z.1; named = s.named }) alone) (case other u s.knows);
     entries_numbered = λ other j p u e s alone at own. ⊎_elim
         (λ z. subst (λ (x : View). e.call ≤ x.call) z.1 (m.calls.numbered j p e (is_mine j u z.1 s.named) (subst (λ (x : View). x.joined ≡ false) (sym z.1) alone) (back p e at) own))
         (λ z. q.calls.entries_numbered other j p u e (record { knows = z.1; named = s.named }) alone (back p e at) own) (case other u s.knows);
@@ -223,7 +223,7 @@ module _ (good : List ℕ → Type 0) (n : ℕ) (base ws ws' : List ℕ) (vs : L
         (λ z. q.floor.open_before other j p u e (record { knows = z.1; named = s.named }) busy (back p e at) own) (case other u s.knows);
     attempts = λ other j u k single busy. subst (λ (l : List Entry). AreAttemptsLegal n base l j u.stamp u.floor (length u.seen) u.abandoned) (sym stays) (⊎_elim
         (λ z. subst (λ (x : View). AreAttemptsLegal n base (history_of vs) j x.stamp x.floor (length x.seen) x.abandoned) z.1
-          (m.floor.attempts j (ap (λ (x : View). x.who) z.1 ∙ single) (subst (λ (x : View). x.phase ≢ Idle) (sym z.1) busy)))
+        (m.floor.attempts j (ap (λ (x : View). x.who) z.1 ∙ single) (subst (λ (x : View). x.phase ≢ Idle) (sym z.1) busy)))
         (λ z. q.floor.attempts other j u z.1 single busy) (case other u k));
   }
 

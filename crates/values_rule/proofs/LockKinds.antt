@@ -115,8 +115,8 @@ load_writer_values good j k a n base ws vs id v h q me may =
 claim_asks : (v : View) (a k : ℕ) → ¬ HasClaim v k → Asks v (record (after_asking v a) { claims = k ∷ v.claims; scans = without_first k v.scans })
 claim_asks v a k free =
     let writes : (l : ℕ) → HasWriteGrant v l → HasWriteGrant (record (after_asking v a) { claims = k ∷ v.claims; scans = without_first k v.scans }) l = λ l g.
-          let other : l ≢ k = λ e. free (subst (λ (y : ℕ). HasClaim v y) e g.0) in
-          (has-join_old l k v.claims g.0, λ i lt away. pair-without_other l i k v.scans other ∙ g.1 i lt away) in
+    let other : l ≢ k = λ e. free (subst (λ (y : ℕ). HasClaim v y) e g.0) in
+    (has-join_old l k v.claims g.0, λ i lt away. pair-without_other l i k v.scans other ∙ g.1 i lt away) in
     record {
       calls = plain_calls v (record (after_asking v a) { claims = k ∷ v.claims; scans = without_first k v.scans }) refl refl refl refl refl refl refl refl refl;
       trace = refl;

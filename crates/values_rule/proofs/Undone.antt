@@ -28,7 +28,7 @@ unfolding written_back oldest
 noted_back [] s a o lt e = cc
 noted_back (note ∷ notes) s a o lt e = let long = length-written_back notes s in dite (ℕ_discrete a note.0)
     (λ q. let is : note.1 ≡ o = same_Some note.1 o (rw (eq-eqb a note.0 q) at e) in
-      subst (λ (i : ℕ). slice_get (slice_set (written_back notes s) i note.1) a ≡ Some o) q (get_set_same (written_back notes s) a note.1 (omega arith) ∙ ap (λ (x : ℕ). Some x) is))
+    subst (λ (i : ℕ). slice_get (slice_set (written_back notes s) i note.1) a ≡ Some o) q (get_set_same (written_back notes s) a note.1 (omega arith) ∙ ap (λ (x : ℕ). Some x) is))
     (λ n. get_set_other (written_back notes s) note.0 a note.1 n ∙ noted_back notes s a o lt (rw (ne_eqb a note.0 n) at e))
 
 -- and one that is not stays
@@ -53,9 +53,9 @@ settles (v ∷ vs) s a x lt agree rest =
     let long = length-written_back v.undo s in
     settles vs (written_back v.undo s) a x (omega arith) (λ id o u e. agree (suc id) o u e)
     (λ free. ⊎_elim
-      (λ (none : oldest a v.undo ≡ None). unnoted_back v.undo s a none ∙ rest (λ id u e. first_or_rest id u e none free))
-      (λ (some : (o : ℕ) × (oldest a v.undo ≡ Some o)). noted_back v.undo s a some.0 lt some.1 ∙ sym (agree zero some.0 v refl some.1))
-      (option_cases (oldest a v.undo)))
+    (λ (none : oldest a v.undo ≡ None). unnoted_back v.undo s a none ∙ rest (λ id u e. first_or_rest id u e none free))
+    (λ (some : (o : ℕ) × (oldest a v.undo ≡ Some o)). noted_back v.undo s a some.0 lt some.1 ∙ sym (agree zero some.0 v refl some.1))
+    (option_cases (oldest a v.undo)))
   where
     first_or_rest : (id : ℕ) (u : View) → Knows (v ∷ vs) id u → oldest a v.undo ≡ None → ((i : ℕ) (y : View) → Knows vs i y → oldest a y.undo ≡ None) → oldest a u.undo ≡ None
     first_or_rest zero u e none free = subst (λ (y : View). oldest a y.undo ≡ None) (some-injective v u e) none
@@ -80,11 +80,11 @@ undoing_restores good n base ws vs h q =
     let undone_long = length-undone_by vs memory in
     same_list (undone_by vs memory) now (omega arith)
     (λ a lt.
-      let within : a < length base = omega arith in
-      let x : ℕ = slice_index now a in
-      let is : slice_get now a ≡ Some x = slice_get-get_or now a 0 (omega arith) in
-      let value : slice_get memory a ≡ Some (value_at n ws a) = slice_get-get_or memory a 0 (omega arith) ∙ ap (λ (y : ℕ). Some y) (get_or-drop (value_word n 0) ws a 0 ∙ ap (λ (i : ℕ). get_or ws i 0) (shifted n a)) in
-      settles vs memory a x (omega arith) (λ id o v e t. sym is ∙ (q.undo.noted id a o v e t).2) (λ free. value ∙ (sym (q.undo.unnoted a within free) ∙ is)) ∙ sym is)
+    let within : a < length base = omega arith in
+    let x : ℕ = slice_index now a in
+    let is : slice_get now a ≡ Some x = slice_get-get_or now a 0 (omega arith) in
+    let value : slice_get memory a ≡ Some (value_at n ws a) = slice_get-get_or memory a 0 (omega arith) ∙ ap (λ (y : ℕ). Some y) (get_or-drop (value_word n 0) ws a 0 ∙ ap (λ (i : ℕ). get_or ws i 0) (shifted n a)) in
+    settles vs memory a x (omega arith) (λ id o v e t. sym is ∙ (q.undo.noted id a o v e t).2) (λ free. value ∙ (sym (q.undo.unnoted a within free) ∙ is)) ∙ sym is)
   where
     shifted : (n a : ℕ) → value_word n 0 + a ≡ value_word n a
     shifted n a = omega arith

@@ -49,10 +49,10 @@ nobody_noted : (good : List ℕ → Type 0) (n : ℕ) (base ws : List ℕ) (vs :
 nobody_noted good n base ws vs id j v h q me single a granted none other u k = dite (ℕ_discrete other id)
     (λ e. subst (λ (x : View). oldest a x.undo ≡ None) (sym (same_view vs id other v u me k e)) none)
     (λ ne. ⊎_elim (λ (t : oldest a u.undo ≡ None). t)
-      (λ (t : (y : ℕ) × (oldest a u.undo ≡ Some y)).
-        let c = q.undo.noted other a t.0 u k t.1 in
-        absurd (shut_out n base ws vs other id j (lock_of_word a) u v h (λ z. ne (sym z)) k (own n base ws vs id j v h me single).seat (inr granted) c.1))
-      (option_cases (oldest a u.undo)))
+    (λ (t : (y : ℕ) × (oldest a u.undo ≡ Some y)).
+    let c = q.undo.noted other a t.0 u k t.1 in
+    absurd (shut_out n base ws vs other id j (lock_of_word a) u v h (λ z. ne (sym z)) k (own n base ws vs id j v h me single).seat (inr granted) c.1))
+    (option_cases (oldest a u.undo)))
 
 -- what is there is not missing
 not_none : (a old : ℕ) {o : Option ℕ} → (y : ℕ) × (o ≡ Some y) → o ≡ None → ⊥
@@ -70,8 +70,8 @@ load_value_values good j a n base ws vs id v h q me may =
     let found : slice_get (after v.trace (replay base (history_of vs))) a ≡ Some x = current good n base ws vs id j v h q me may.who may.phase a within may.granted ∙ ap (λ (y : ℕ). Some y) (sym is_x) in
     let busy : is_attempt v.phase ≡ true = ap is_attempt may.phase in
     let same : (b : ℕ) → value_at n ws' b ≡ value_at n ws b = λ b. dite (ℕ_discrete b a)
-        (λ e. subst (λ (c : ℕ). value_at n ws' c ≡ value_at n ws c) (sym e) (set_here n base ws vs id j v h o a x may.word ∙ is_x))
-        (λ ne. set_there n base ws vs id j v h o a x may.word b ne) in
+    (λ e. subst (λ (c : ℕ). value_at n ws' c ≡ value_at n ws c) (sym e) (set_here n base ws vs id j v h o a x may.word ∙ is_x))
+    (λ ne. set_there n base ws vs id j v h o a x may.word b ne) in
     let s : SameCalls v w = record { seen = refl; olds = refl; who = refl; joined = refl; call = refl; floor = refl; abandoned = refl; stamp = λ t. refl; still_open = λ t. t; still_begun = λ t. t } in
     moves good n base ws ws' vs id v w h q me record {
       seen = seen_aside good n base ws vs id v h q me w i x (omega arith) s;
@@ -115,18 +115,18 @@ store_value_values good j a x n base ws vs id v h q me may =
       undo = record {
         noted = λ b y t. ⊎_elim
             (λ (none : oldest b v.undo ≡ None). dite (ℕ_discrete b a)
-              (λ e. let y_old : old ≡ y = same_Some old y (sym (oldest_first b v.undo ((a, old) ∷ []) none ∙ oldest_one b a old e) ∙ t) in
-                let free : (other : ℕ) (u : View) → Knows vs other u → oldest a u.undo ≡ None = nobody_noted good n base ws vs id j v h q me may.who a may.granted (subst (λ (c : ℕ). oldest c v.undo ≡ None) e none) in
-                subst (λ (c : ℕ). (c < length base) × HasWriteGrant v (lock_of_word c) × (slice_get (replay base (history_of vs)) c ≡ Some y)) (sym e)
-                (within, may.granted, q.undo.unnoted a within free ∙ ap (λ (z : ℕ). Some z) (stands ∙ y_old)))
-              (λ ne. absurd (let z : None ≡ Some y = sym (oldest_first b v.undo ((a, old) ∷ []) none ∙ oldest_other b a old ne) ∙ t in cc)))
+            (λ e. let y_old : old ≡ y = same_Some old y (sym (oldest_first b v.undo ((a, old) ∷ []) none ∙ oldest_one b a old e) ∙ t) in
+            let free : (other : ℕ) (u : View) → Knows vs other u → oldest a u.undo ≡ None = nobody_noted good n base ws vs id j v h q me may.who a may.granted (subst (λ (c : ℕ). oldest c v.undo ≡ None) e none) in
+            subst (λ (c : ℕ). (c < length base) × HasWriteGrant v (lock_of_word c) × (slice_get (replay base (history_of vs)) c ≡ Some y)) (sym e)
+            (within, may.granted, q.undo.unnoted a within free ∙ ap (λ (z : ℕ). Some z) (stands ∙ y_old)))
+            (λ ne. absurd (let z : None ≡ Some y = sym (oldest_first b v.undo ((a, old) ∷ []) none ∙ oldest_other b a old ne) ∙ t in cc)))
             (λ (some : (z : ℕ) × (oldest b v.undo ≡ Some z)). q.undo.noted id b y v me (some.1 ∙ (sym (oldest_more b v.undo ((a, old) ∷ []) some.0 some.1) ∙ t)))
             (option_cases (oldest b v.undo));
         unnoted = λ b lt t.
             let ne : b ≢ a = λ e. not_none b old (⊎_elim
-                (λ (none : oldest b v.undo ≡ None). (old, oldest_first b v.undo ((a, old) ∷ []) none ∙ oldest_one b a old e))
-                (λ (some : (z : ℕ) × (oldest b v.undo ≡ Some z)). (some.0, oldest_more b v.undo ((a, old) ∷ []) some.0 some.1))
-                (option_cases (oldest b v.undo))) t in
+            (λ (none : oldest b v.undo ≡ None). (old, oldest_first b v.undo ((a, old) ∷ []) none ∙ oldest_one b a old e))
+            (λ (some : (z : ℕ) × (oldest b v.undo ≡ Some z)). (some.0, oldest_more b v.undo ((a, old) ∷ []) some.0 some.1))
+            (option_cases (oldest b v.undo))) t in
             inl (sym (oldest_apart b a old v.undo ne) ∙ t, there b ne);
         foreign = λ b lt away. there b (λ e. away (subst (λ (c : ℕ). HasWriteGrant v (lock_of_word c)) (sym e) may.granted));
       };
@@ -138,9 +138,9 @@ store_value_values good j a x n base ws vs id v h q me may =
             (λ ne. writes_first v.trace (Write a x ∷ []) b (q.trace.undo_written id b y v me busy (sym (oldest_apart b a old v.undo ne) ∙ k)));
         written_noted = λ b t k. ⊎_elim
             (λ (none : oldest b v.undo ≡ None). ⊎_elim
-              (λ z. absurd (is_missing (oldest b v.undo) none (q.trace.written_noted id b v me may.phase z)))
-              (λ (e : b ≡ a). subst (λ (y : Option ℕ). IsSome y) (sym (oldest_first b v.undo ((a, old) ∷ []) none ∙ oldest_one b a old e)) refl)
-              (writes_write v.trace a x b k))
+            (λ z. absurd (is_missing (oldest b v.undo) none (q.trace.written_noted id b v me may.phase z)))
+            (λ (e : b ≡ a). subst (λ (y : Option ℕ). IsSome y) (sym (oldest_first b v.undo ((a, old) ∷ []) none ∙ oldest_one b a old e)) refl)
+            (writes_write v.trace a x b k))
             (λ (some : (z : ℕ) × (oldest b v.undo ≡ Some z)). subst (λ (y : Option ℕ). IsSome y) (sym (oldest_more b v.undo ((a, old) ∷ []) some.0 some.1)) refl)
             (option_cases (oldest b v.undo));
         last_stands = λ b y t k. dite (ℕ_discrete b a)
@@ -197,15 +197,15 @@ undo_store_values good j a old n base ws vs id v h q me may =
     let ws' : List ℕ = slice_set ws i old in
     -- the word that is undone is noted
     let some : (y : ℕ) × (oldest a v.undo ≡ Some y) = ⊎_elim
-        (λ (none : oldest a older ≡ None). (old, ap (λ (l : Notes). oldest a l) split ∙ (oldest_first a older ((a, old) ∷ []) none ∙ oldest_one a a old refl)))
-        (λ (t : (z : ℕ) × (oldest a older ≡ Some z)). (t.0, ap (λ (l : Notes). oldest a l) split ∙ oldest_more a older ((a, old) ∷ []) t.0 t.1))
-        (option_cases (oldest a older)) in
+    (λ (none : oldest a older ≡ None). (old, ap (λ (l : Notes). oldest a l) split ∙ (oldest_first a older ((a, old) ∷ []) none ∙ oldest_one a a old refl)))
+    (λ (t : (z : ℕ) × (oldest a older ≡ Some z)). (t.0, ap (λ (l : Notes). oldest a l) split ∙ oldest_more a older ((a, old) ∷ []) t.0 t.1))
+    (option_cases (oldest a older)) in
     let noted = q.undo.noted id a some.0 v me some.1 in
     let word : a < length v.base = subst (λ (l : List ℕ). a < length l) (sym (h.bases_alike id j v o.seat)) noted.0 in
     let here : value_at n ws' a ≡ old = set_here n base ws vs id j v h o a old word in
     let there : (b : ℕ) → b ≢ a → value_at n ws' b ≡ value_at n ws b = set_there n base ws vs id j v h o a old word in
     let still : (b y : ℕ) → oldest b w.undo ≡ Some y → oldest b v.undo ≡ Some y = λ b y t.
-        ap (λ (l : Notes). oldest b l) split ∙ oldest_more b older ((a, old) ∷ []) y (ap (λ (l : Notes). oldest b l) (sym less) ∙ t) in
+    ap (λ (l : Notes). oldest b l) split ∙ oldest_more b older ((a, old) ∷ []) y (ap (λ (l : Notes). oldest b l) (sym less) ∙ t) in
     let s : SameCalls v w = record { seen = refl; olds = refl; who = refl; joined = refl; call = refl; floor = refl; abandoned = refl; stamp = λ t. refl; still_open = undoing_open v.phase; still_begun = λ t. open_begun v.phase may.phase } in
     moves good n base ws ws' vs id v w h q me record {
       seen = seen_aside good n base ws vs id v h q me w i old (omega arith) s;
@@ -216,7 +216,7 @@ undo_store_values good j a old n base ws vs id v h q me may =
             let none : oldest b older ≡ None = ap (λ (l : Notes). oldest b l) (sym less) ∙ t in
             dite (ℕ_discrete b a)
             (λ e. let was : oldest b v.undo ≡ Some old = ap (λ (l : Notes). oldest b l) split ∙ (oldest_first b older ((a, old) ∷ []) none ∙ oldest_one b a old e) in
-              inr ((q.undo.noted id b old v me was).2 ∙ ap (λ (y : ℕ). Some y) (sym (ap (λ (c : ℕ). value_at n ws' c) e ∙ here))))
+            inr ((q.undo.noted id b old v me was).2 ∙ ap (λ (y : ℕ). Some y) (sym (ap (λ (c : ℕ). value_at n ws' c) e ∙ here))))
             (λ ne. inl (ap (λ (l : Notes). oldest b l) split ∙ (oldest_apart b a old older ne ∙ none), there b ne));
         foreign = λ b lt away. there b (λ e. away (subst (λ (c : ℕ). HasWriteGrant v (lock_of_word c)) (sym e) noted.1));
       };

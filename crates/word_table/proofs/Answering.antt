@@ -23,7 +23,7 @@ use Rattle.word_table.specs.declared.answer.Scanned.{Scanned}
 use Rattle.word_table.specs.declared.answer.Scanned.TheVariants as scanned
 use Rattle.word_table.specs.Calls.{MetOn, MakesSeen, with_bit, shared_of, Looked, AsksShared, SharedBy, claimed_of, AsksClaim, ClaimedBy, scanned_of, ScannedBy}
 use Rattle.word_table.specs.Kinds.{TakenIn}
-use Rattle.word_table.specs.Sound.{IsSound}
+use Rattle.locks_rule.specs.Locks.{LocksHold}
 use Rattle.word_table.proofs.Found.{StandsIn, claimant_found, reader_found}
 
 -- the view once the own bit is set, where it was not
@@ -127,14 +127,14 @@ share_bit sound v a r u (inr t) i is =
     let after : u ≡ after_meeting (after_asking m a) k (s.found - 1) = s.taken.view ∙ ap (λ (b : Bool). if b then granted else after_meeting (after_asking m a) k (s.found - 1)) named.2 in
     subst (λ (x : View). HasBit x k) (sym after) (with_bit_bit k a v)
 
-pub share_met : (good : List ℕ → Type 0) (n : ℕ) (base : List ℕ) (v : View) (a j : ℕ) (r : Shared) (u : View) → v.who ≡ j ∷ [] → SharedBy (IsSound good n base) v a r u → (i : ℕ) → r ≡ shared.Met i
-    → MetOn (IsSound good n base) (load_writer_action (number v) (lock_of_word a) a) v (with_bit (lock_of_word a) a v) u (lock_of_word a) i
-share_met good n base v a j r u single (inl s) i is = let granted = s.1 in cc
-share_met good n base v a j r u single (inr t) i is =
+pub share_met : (sound : List ℕ → List View → Type 0) (n : ℕ) (base : List ℕ) (locks : (ws : List ℕ) (vs : List View) → sound ws vs → LocksHold n base ws vs) (v : View) (a j : ℕ) (r : Shared) (u : View) → v.who ≡ j ∷ [] → SharedBy sound v a r u → (i : ℕ) → r ≡ shared.Met i
+    → MetOn sound (load_writer_action (number v) (lock_of_word a) a) v (with_bit (lock_of_word a) a v) u (lock_of_word a) i
+share_met sound n base locks v a j r u single (inl s) i is = let granted = s.1 in cc
+share_met sound n base locks v a j r u single (inr t) i is =
     let s = t.1 in let k : ℕ = lock_of_word a in let m : View = with_bit k a v in let granted : View = record (after_asking m a) { reads = k ∷ m.reads } in let x = s.taken in
     let named = shared_met (number v) s.found i r s.answer is in let next = named.0 in
-    let stands = claimant_found n base x.words x.views x.place m j k x.holds.locks x.knows (with_bit_single k a v ∙ single) (near_lock a) s.found i x.found_is next in
-    met_on (IsSound good n base) (load_writer_action (number v) k a) v m (after_asking m a) u k (s.found - 1) i j s.found x single (with_bit_meetings k a v)
+    let stands = claimant_found n base x.words x.views x.place m j k (locks x.words x.views x.holds) x.knows (with_bit_single k a v ∙ single) (near_lock a) s.found i x.found_is next in
+    met_on sound (load_writer_action (number v) k a) v m (after_asking m a) u k (s.found - 1) i j s.found x single (with_bit_meetings k a v)
     (x.view ∙ ap (λ (b : Bool). if b then granted else after_meeting (after_asking m a) k (s.found - 1)) named.2) (omega arith) (subst (λ (c : ℕ). i < c) (with_bit_seats k a v) stands.0) (λ e. named.1 (e ∙ sym (own_is v j single))) stands.1
 
 -- the view after claim's step, by whether the writer word was 0
@@ -156,14 +156,14 @@ claim_pending sound v a r u (inr t) is =
     (λ n. let other = n.2 in cc)
     (claimed_cases s.found r s.answer)
 
-pub claim_met : (good : List ℕ → Type 0) (n : ℕ) (base : List ℕ) (v : View) (a j : ℕ) (r : Claimed) (u : View) → v.who ≡ j ∷ [] → ClaimedBy (IsSound good n base) v a r u → (i : ℕ) → r ≡ claimed.Met i
-    → MetOn (IsSound good n base) (claim_writer_action (number v) (lock_of_word a) a) v v u (lock_of_word a) i
-claim_met good n base v a j r u single (inl s) i is = let pending = s.1 in cc
-claim_met good n base v a j r u single (inr t) i is =
+pub claim_met : (sound : List ℕ → List View → Type 0) (n : ℕ) (base : List ℕ) (locks : (ws : List ℕ) (vs : List View) → sound ws vs → LocksHold n base ws vs) (v : View) (a j : ℕ) (r : Claimed) (u : View) → v.who ≡ j ∷ [] → ClaimedBy sound v a r u → (i : ℕ) → r ≡ claimed.Met i
+    → MetOn sound (claim_writer_action (number v) (lock_of_word a) a) v v u (lock_of_word a) i
+claim_met sound n base locks v a j r u single (inl s) i is = let pending = s.1 in cc
+claim_met sound n base locks v a j r u single (inr t) i is =
     let s = t.1 in let k : ℕ = lock_of_word a in let x = s.taken in let next : s.found ≡ i + 1 = s.met_named i is in
-    let stands = claimant_found n base x.words x.views x.place v j k x.holds.locks x.knows single (near_lock a) s.found i x.found_is next in
+    let stands = claimant_found n base x.words x.views x.place v j k (locks x.words x.views x.holds) x.knows single (near_lock a) s.found i x.found_is next in
     let held : (s.found == 0) ≡ false = ne_eqb s.found 0 (λ z. omega arith) in
-    met_on (IsSound good n base) (claim_writer_action (number v) k a) v v (after_asking v a) u k (s.found - 1) i j s.found x single refl
+    met_on sound (claim_writer_action (number v) k a) v v (after_asking v a) u k (s.found - 1) i j s.found x single refl
     (x.view ∙ ap (λ (b : Bool). claim_result v k a s.found b) held) (omega arith) stands.0 (λ e. s.not_own (next ∙ ap (λ (y : ℕ). y + 1) (e ∙ sym (own_is v j single)))) stands.1
 
 -- what scan answers, by the bit of the row word
@@ -178,15 +178,15 @@ scan_clear sound v k i r u s is = ⊎_elim
     (λ n. let met = n.2 in cc)
     (scanned_cases k i s.found r s.answer)
 
-pub scan_met : (good : List ℕ → Type 0) (n : ℕ) (base : List ℕ) (v : View) (k i j : ℕ) (r : Scanned) (u : View) → v.who ≡ j ∷ [] → k < LOCKS → i < v.seats → i ≢ j → ScannedBy (IsSound good n base) v k i r u → (l : ℕ) → r ≡ scanned.Met l
-    → (l ≡ i) × MetOn (IsSound good n base) (scan_row_action (number v) k i) v v u k l
-scan_met good n base v k i j r u single near lt other s l is = ⊎_elim
+pub scan_met : (sound : List ℕ → List View → Type 0) (n : ℕ) (base : List ℕ) (locks : (ws : List ℕ) (vs : List View) → sound ws vs → LocksHold n base ws vs) (v : View) (k i j : ℕ) (r : Scanned) (u : View) → v.who ≡ j ∷ [] → k < LOCKS → i < v.seats → i ≢ j → ScannedBy sound v k i r u → (l : ℕ) → r ≡ scanned.Met l
+    → (l ≡ i) × MetOn sound (scan_row_action (number v) k i) v v u k l
+scan_met sound n base locks v k i j r u single near lt other s l is = ⊎_elim
     (λ z. let clear = z.2 in cc)
     (λ m. let same : l ≡ i = (s.met_set l is).0 in let x = s.taken in
-    let stands = reader_found n base x.words x.views x.place v j k x.holds.locks x.knows single near i s.found lt x.found_is m.0 in (
+    let stands = reader_found n base x.words x.views x.place v j k (locks x.words x.views x.holds) x.knows single near i s.found lt x.found_is m.0 in (
       same,
-      subst (λ (y : ℕ). MetOn (IsSound good n base) (scan_row_action (number v) k i) v v u k y) (sym same)
-          (met_on (IsSound good n base) (scan_row_action (number v) k i) v v v u k i i j s.found x single refl (x.view ∙ ap (λ (b : Bool). if b then record v { scans = (k, i) ∷ v.scans } else after_meeting v k i) m.1) refl lt other stands),
+      subst (λ (y : ℕ). MetOn sound (scan_row_action (number v) k i) v v u k y) (sym same)
+          (met_on sound (scan_row_action (number v) k i) v v v u k i i j s.found x single refl (x.view ∙ ap (λ (b : Bool). if b then record v { scans = (k, i) ∷ v.scans } else after_meeting v k i) m.1) refl lt other stands),
     ))
     (scanned_cases k i s.found r s.answer)
 

@@ -1,5 +1,5 @@
 -- The counter of entries has room for one more: there are no more entries than calls that were begun.
-use Rattle.std.proofs.Common.{◌≡◌, ℕ, zero, suc, ◌+◌, ◌*◌, ◌^◌, ◌<◌, ◌≤◌, Bool, List, [], ◌∷◌, length, slice_index, sym, ap, ◌∙◌, arith}
+use Rattle.std.proofs.Common.{◌≡◌, ℕ, zero, suc, ◌+◌, ◌*◌, ◌^◌, ◌<◌, ◌≤◌, Bool, List, [], ◌∷◌, length, slice_index, sym, ap, ◌∙◌, subst, arith}
 use Rattle.history_model.specs.declared.entry.Entry.{Entry}
 use Rattle.history_model.specs.declared.view.View.{View}
 use Rattle.history_model.specs.Counts.{calls_below}
@@ -7,7 +7,8 @@ use Rattle.history_model.specs.Table.{Knows, calls_word, history_of}
 use Rattle.values_rule.specs.Steps.{commit_call_action}
 use Rattle.values_rule.proofs.LockKinds.{own}
 use Rattle.word_table.specs.declared.limits.TheConstants.{MOST_PASSES}
-use Rattle.word_table.specs.Kinds.{Grows}
+use Rattle.word_table.specs.Kinds.{Grows, TakenIn}
+use Rattle.word_table.specs.Sound.{IsSound}
 
 calls_small : (n m : ℕ) (ws : List ℕ) → ((j : ℕ) → j < m → slice_index ws (calls_word n j) < 2 ^ 32) → calls_below n m ws ≤ m * 2 ^ 32
 unfolding calls_below
@@ -22,3 +23,9 @@ commit_grows good v j kept single few n base ws vs id h me =
     let serial = h.values.seen.serial in
     let seats = o.seats in
     omega arith
+
+-- so the number that a commit found has room for one more
+pub found_grows : (good : List ℕ → Type 0) (n : ℕ) (base : List ℕ) (v w : View) (j : ℕ) (kept : Bool) (found : ℕ) → v.who ≡ j ∷ [] → v.seats ≤ MOST_PASSES
+    → TakenIn (IsSound good n base) (commit_call_action j kept v) v found w → found + 1 < 2 ^ 64
+found_grows good n base v w j kept found single few t = let fits = commit_grows good v j kept single few n base t.words t.views t.place t.holds t.knows in
+    subst (λ (x : ℕ). x + 1 < 2 ^ 64) t.found_is fits

@@ -11,3 +11,4 @@ pub mod After
 pub mod Answering
 pub mod Staying
 pub mod RunLaws
+pub mod Committing

@@ -1,15 +1,21 @@
 -- What each call of a desk answers, and what it does to what the pass knows. A step of a call is told of in a state of
 -- the table that is sound, as `sound` says.
-use Rattle.std.specs.Prelude.{◌≡◌, ◌≢◌, ◌⊎◌, ℕ, ◌+◌, ◌-◌, ◌%◌, ◌<◌, false, List, [], ◌==◌, if◌then◌else◌}
+use Rattle.std.specs.Prelude.{◌≡◌, ◌≢◌, ◌⊎◌, ℕ, ◌+◌, ◌-◌, ◌%◌, ◌<◌, ◌≤◌, Bool, false, List, [], ◌∷◌, ◌++◌, length, slice_get, Some, ◌==◌, if◌then◌else◌}
 use Rattle.std.specs.Int.{bit_at}
 use Rattle.history_model.specs.declared.view.View.{View}
+use Rattle.history_model.specs.declared.entry.Entry.{Entry}
+use Rattle.history_model.specs.declared.view.Phase.TheVariants.{Releasing}
 use Rattle.history_model.specs.Conflicts.{IsConflict}
+use Rattle.history_model.specs.Fitting.{Fits}
+use Rattle.history_model.specs.Histories.{replay}
+use Rattle.history_model.specs.Legal.{IsPrefix}
 use Rattle.history_model.specs.Locks.{lock_of_word}
 use Rattle.history_model.specs.Sets.{has}
 use Rattle.history_model.specs.Table.{Knows}
 use Rattle.history_model.specs.Views.{number, HasBit, HasReadGrant, HasClaim, HasWriteGrant, IsGranted}
 use Rattle.locks_rule.specs.Actions.{Action}
 use Rattle.locks_rule.specs.Steps.{is_free, set_read_bit_action, load_writer_action, claim_writer_action, scan_row_action}
+use Rattle.values_rule.specs.Steps.{entry_of}
 use Rattle.word_table.specs.declared.answer.Shared.{Shared}
 use Rattle.word_table.specs.declared.answer.Shared.TheVariants as shared
 use Rattle.word_table.specs.declared.answer.Claimed.{Claimed}
@@ -114,3 +120,13 @@ pub record ScannedBy (sound : List ℕ → List View → Type 0) (v : View) (k i
   -- it met the seat exactly where the seat's bit was set in the number found
   pub met_set : (j : ℕ) → r ≡ scanned.Met j → (j ≡ i) × (bit_at found (k % 64) ≡ 1)
   pub set_met : bit_at found (k % 64) ≡ 1 → r ≡ scanned.Met i
+
+-- the call got its entry, at this place of the history from 1: behind what the pass had seen and then other seats'
+-- entries alone; and its trace is legal on the good words that these leave of the base
+pub record CommitsAt (word_count : ℕ) (good : List ℕ → Type 0) (base : List ℕ) (kept : Bool) (old new : View) (place : ℕ) : Type 0 where
+  pub history : List Entry
+  pub view : new ≡ record old { seen = history ++ entry_of kept old ∷ []; undo = []; phase = Releasing }
+  pub place_is : place ≡ length history + 1
+  pub begins : IsPrefix old.seen history
+  pub others : (q : ℕ) (e : Entry) → length old.seen ≤ q → slice_get history q ≡ Some e → e.who ≢ number old
+  pub fits : Fits word_count good old.trace (replay base history)

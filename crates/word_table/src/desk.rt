@@ -1,12 +1,19 @@
 //! The shared table, and the calls that step on its locks.
 
-ghost use Rattle.std.specs.Prelude.{◌≡◌, ◌≢◌, ◌⊎◌, ◌<◌, ◌≤◌, ℕ, [], ◌∷◌, length, IfOk, Some, slice_get};
-ghost use Rattle.history_model.specs.Fitting.{IsGood};
+ghost use Rattle.std.specs.Prelude.{◌≡◌, ◌≢◌, ◌⊎◌, ◌<◌, ◌≤◌, ℕ, [], ◌∷◌, length, IfOk, Some, slice_get, ◌++◌, ◌+◌, true, false, List};
+ghost use Rattle.history_model.specs.declared.event.Event.{Event};
+ghost use Rattle.history_model.specs.declared.event.Event.TheVariants.{Read};
+ghost use Rattle.history_model.specs.Counts.{is_attempt, is_open};
+ghost use Rattle.history_model.specs.Fitting.{IsGood, SomeFits};
+ghost use Rattle.history_model.specs.Legal.{IsLegalHistory};
 ghost use Rattle.history_model.specs.Locks.{lock_of_word};
-ghost use Rattle.history_model.specs.Views.{number, HasBit, HasReadGrant, HasClaim, IsScanned, IsGranted};
+ghost use Rattle.history_model.specs.Traces.{after, IsLegalTrace};
+ghost use Rattle.history_model.specs.Undoing.{Notes};
+ghost use Rattle.history_model.specs.Views.{number, HasBit, HasReadGrant, HasClaim, IsScanned, HasWriteGrant, IsGranted};
 ghost use Rattle.locks_rule.specs.Splits.{opening_view};
 ghost use Rattle.locks_rule.specs.Steps.{load_writer_action, claim_writer_action, scan_row_action, release_writer_action, clear_read_bit_action};
-ghost use Rattle.word_table.specs.Calls.{SharedBy, ClaimedBy, ScannedBy, MetOn, SameCall, GrantsStay, with_bit};
+ghost use Rattle.values_rule.specs.Steps.{begin_call_action, load_value_action, store_value_action, undo_store_action, commit_call_action, clear_stamp_action};
+ghost use Rattle.word_table.specs.Calls.{CommitsAt, SharedBy, ClaimedBy, ScannedBy, MetOn, SameCall, GrantsStay, with_bit};
 ghost use Rattle.word_table.specs.Desks.{DeskHolds};
 ghost use Rattle.word_table.specs.Kinds.{TakenIn};
 ghost use Rattle.word_table.specs.Sound.{opening_words};
@@ -14,7 +21,7 @@ ghost use Rattle.word_table.specs.Sound.{opening_words};
 use crate::answer::{Claimed, Scanned, Shared, claimed_by};
 use crate::deal::deal;
 use crate::layout::place_of_values;
-use crate::limits::{MOST_PASSES, MOST_WORDS};
+use crate::limits::{LAST_CALL, MOST_PASSES, MOST_WORDS};
 use crate::pass::Pass;
 use crate::rule::{DeskRule, Ground};
 use atomic_table::Table;
@@ -185,5 +192,109 @@ impl<S: Shape> Desk<S> {
         ensures gone { ¬ HasBit pass.new.view k × ¬ HasReadGrant pass.new.view k }
     {
         pass.clear_read_bit(&self.table.shared, k);
+    }
+
+    /// Begins the pass's next call, and gives its number, from 1. What the pass has seen is the call's floor.
+    pub fn begin(&self, pass: &mut Pass<S>) -> u32
+        requires desk { pass.old.table ≡ self.now.table }
+        requires phase { pass.old.view.phase ≡ Phase.Idle }
+        requires room { pass.old.view.call < LAST_CALL }
+        ensures desk { pass.new.table ≡ pass.old.table }
+        ensures number { result ≡ pass.old.view.call + 1 }
+        ensures step { pass.new.view ≡ (begin_call_action (number pass.old.view) pass.old.view).view [] 0 }
+        ensures taken { (found : ℕ) × TakenIn (DeskHolds S.word_count S.good self.now)
+            (begin_call_action (number pass.old.view) pass.old.view) pass.old.view found pass.new.view }
+        ensures fits { SomeFits (S.word_count self.now.shape) (S.good self.now.shape) pass.new.view.trace }
+    {
+        pass.begin_call(&self.table.shared)
+    }
+
+    /// Loads the value of word a, under its lock. It is what the call's own events and the committed history leave
+    /// there, since whoever would change it has to wait.
+    pub fn load(&self, pass: &mut Pass<S>, a: u64) -> u64
+        requires desk { pass.old.table ≡ self.now.table }
+        requires phase { pass.old.view.phase ≡ Phase.Running }
+        requires word { a < length pass.old.view.base }
+        requires granted { IsGranted pass.old.view (lock_of_word a) }
+        ensures desk { pass.new.table ≡ pass.old.table }
+        ensures event { pass.new.view ≡ record pass.old.view { trace = pass.old.view.trace ++ Read a result ∷ [] } }
+        ensures taken { TakenIn (DeskHolds S.word_count S.good self.now)
+            (load_value_action (number pass.old.view) a pass.old.view) pass.old.view result pass.new.view }
+        ensures fits { SomeFits (S.word_count self.now.shape) (S.good self.now.shape) pass.new.view.trace }
+    {
+        pass.load_value(&self.table.shared, a)
+    }
+
+    /// Stores a value to word a in place, under its exclusive lock. The call has just read the word, and the value that
+    /// it read is noted, so that the write can be undone.
+    pub fn store(&self, pass: &mut Pass<S>, a: u64, value: u64)
+        requires desk { pass.old.table ≡ self.now.table }
+        requires phase { pass.old.view.phase ≡ Phase.Running }
+        requires word { a < length pass.old.view.base }
+        requires granted { HasWriteGrant pass.old.view (lock_of_word a) }
+        requires read { (before : List Event) × (old : ℕ) × (pass.old.view.trace ≡ before ++ Read a old ∷ []) }
+        ensures desk { pass.new.table ≡ pass.old.table }
+        ensures step { pass.new.view ≡ (store_value_action (number pass.old.view) a value pass.old.view).view [] 0 }
+        ensures noted { (before : List Event) (old : ℕ) → pass.old.view.trace ≡ before ++ Read a old ∷ []
+            → pass.new.view.undo ≡ pass.old.view.undo ++ (a, old) ∷ [] }
+        ensures taken { (found : ℕ) × TakenIn (DeskHolds S.word_count S.good self.now)
+            (store_value_action (number pass.old.view) a value pass.old.view) pass.old.view found pass.new.view }
+    {
+        pass.store_value(&self.table.shared, a, value);
+    }
+
+    /// Writes the newest note back: word a gets the value that it had before the write. No entry with this write can
+    /// follow.
+    pub fn undo_store(&self, pass: &mut Pass<S>, a: u64, old: u64)
+        requires desk { pass.old.table ≡ self.now.table }
+        requires phase { is_open pass.old.view.phase ≡ true }
+        requires word { a < length pass.old.view.base }
+        requires newest { (older : Notes) × (pass.old.view.undo ≡ older ++ (a, old) ∷ []) }
+        ensures desk { pass.new.table ≡ pass.old.table }
+        ensures step { pass.new.view ≡ (undo_store_action (number pass.old.view) a old pass.old.view).view [] 0 }
+        ensures undone { (older : Notes) → pass.old.view.undo ≡ older ++ (a, old) ∷ [] → pass.new.view.undo ≡ older }
+        ensures taken { (found : ℕ) × TakenIn (DeskHolds S.word_count S.good self.now)
+            (undo_store_action (number pass.old.view) a old pass.old.view) pass.old.view found pass.new.view }
+    {
+        pass.undo_store(&self.table.shared, a, old);
+    }
+
+    /// Gives the call its entry in the committed history, and answers the entry's place, from 1. Where `kept` is true
+    /// the call's writes stand, and the caller owes that they leave good words; where it is false they are undone
+    /// already. The locks are released afterwards (strict two-phase locking).
+    pub fn commit(&self, pass: &mut Pass<S>, kept: bool) -> u64
+        requires desk { pass.old.table ≡ self.now.table }
+        requires phase { is_attempt pass.old.view.phase ≡ true }
+        requires runs { kept ≡ true → pass.old.view.phase ≡ Phase.Running }
+        requires leaves_good { kept ≡ true → (words : List ℕ)
+            → IsGood (S.word_count self.now.shape) (S.good self.now.shape) words
+            → IsLegalTrace pass.old.view.trace words
+            → IsGood (S.word_count self.now.shape) (S.good self.now.shape) (after pass.old.view.trace words) }
+        requires undone { kept ≡ false → pass.old.view.undo ≡ [] }
+        ensures desk { pass.new.table ≡ pass.old.table }
+        ensures entry { CommitsAt (S.word_count self.now.shape) (S.good self.now.shape) self.now.base
+            kept pass.old.view pass.new.view result }
+        ensures place { result ≡ length pass.new.view.seen }
+        ensures legal { IsLegalHistory (IsGood (S.word_count self.now.shape) (S.good self.now.shape))
+            self.now.seats self.now.base pass.new.view.seen }
+        ensures taken { (found : ℕ) × (result ≡ found + 1) × TakenIn (DeskHolds S.word_count S.good self.now)
+            (commit_call_action (number pass.old.view) kept pass.old.view) pass.old.view found pass.new.view }
+    {
+        pass.commit_call(&self.table.shared, kept) + 1
+    }
+
+    /// Ends the call, once all its locks are released. A call that ends without an entry did nothing.
+    pub fn finish_call(&self, pass: &mut Pass<S>)
+        requires desk { pass.old.table ≡ self.now.table }
+        requires phase { (is_attempt pass.old.view.phase ≡ true) ⊎ (pass.old.view.phase ≡ Phase.Releasing) }
+        requires no_bit { (k : ℕ) → ¬ HasBit pass.old.view k }
+        requires no_claim { (k : ℕ) → ¬ HasClaim pass.old.view k }
+        requires undone { pass.old.view.undo ≡ [] }
+        ensures desk { pass.new.table ≡ pass.old.table }
+        ensures step { pass.new.view ≡ (clear_stamp_action (number pass.old.view) pass.old.view).view [] 0 }
+        ensures taken { (found : ℕ) × TakenIn (DeskHolds S.word_count S.good self.now)
+            (clear_stamp_action (number pass.old.view) pass.old.view) pass.old.view found pass.new.view }
+    {
+        pass.clear_stamp(&self.table.shared);
     }
 }

@@ -40,9 +40,9 @@ pub(crate) fn place_of_writer(call: &CallCopy, lock: u32) -> usize
 }
 
 /// The word that has the number of calls that a seat began.
-pub(crate) fn place_of_calls(seat: u32) -> usize
-    requires { seat < MOST_PASSES }
-    ensures { (n : ℕ) → result ≡ calls_word n seat }
+pub(crate) fn place_of_calls(seats: u32, seat: u32) -> usize
+    requires { (seats ≤ MOST_PASSES) × (seat < seats) }
+    ensures { result ≡ calls_word seats seat }
 {
     2 + seat as usize
 }

@@ -13,11 +13,12 @@ ghost use Rattle.locks_rule.specs.Steps.{released_phase, set_read_bit_action, cl
 ghost use Rattle.history_model.specs.declared.event.Event.{Event};
 ghost use Rattle.history_model.specs.declared.event.Event.TheVariants.{Read};
 ghost use Rattle.history_model.specs.Counts.{is_attempt, is_open};
-ghost use Rattle.history_model.specs.Fitting.{IsGood};
+ghost use Rattle.history_model.specs.Fitting.{IsGood, SomeFits};
+ghost use Rattle.history_model.specs.Legal.{IsLegalHistory};
 ghost use Rattle.history_model.specs.Traces.{after, IsLegalTrace};
 ghost use Rattle.history_model.specs.Undoing.{Notes};
-ghost use Rattle.values_rule.specs.Steps.{undoing_phase, MayCommitCall, begin_call_action, load_value_action, store_value_action, undo_store_action, commit_call_action, clear_stamp_action};
-ghost use Rattle.word_table.specs.Calls.{Looked, MakesSeen, ScannedBy, with_bit};
+ghost use Rattle.values_rule.specs.Steps.{undoing_phase, begin_call_action, load_value_action, store_value_action, undo_store_action, commit_call_action, clear_stamp_action};
+ghost use Rattle.word_table.specs.Calls.{CommitsAt, Looked, MakesSeen, ScannedBy, with_bit};
 ghost use Rattle.word_table.specs.Kinds.{TakenIn};
 ghost use Rattle.word_table.specs.Least.{IsLeast};
 ghost use Rattle.word_table.specs.Sound.{GroundHolds};
@@ -444,6 +445,7 @@ impl<S: Shape> Pass<S> {
         ensures view { self.new.view ≡ (begin_call_action (number self.old.view) self.old.view).view [] 0 }
         ensures taken { (found : ℕ) × TakenIn (GroundHolds S.word_count S.good table.now.key)
             (begin_call_action (number self.old.view) self.old.view) self.old.view found self.new.view }
+        ensures fits { SomeFits (S.word_count table.now.key.shape) (S.good table.now.key.shape) self.new.view.trace }
     {
         let next = self.call.calls + 1;
         self.call.calls = next;
@@ -451,7 +453,7 @@ impl<S: Shape> Pass<S> {
         step::store(
             table,
             &mut self.seat,
-            place_of_calls(self.call.who),
+            place_of_calls(self.call.seats, self.call.who),
             u64::from(next),
             &Step::BeginCall {
                 seat: self.call.who,
@@ -469,6 +471,7 @@ impl<S: Shape> Pass<S> {
         ensures table { self.new.table ≡ self.old.table }
         ensures taken { TakenIn (GroundHolds S.word_count S.good table.now.key)
             (load_value_action (number self.old.view) a self.old.view) self.old.view result self.new.view }
+        ensures fits { SomeFits (S.word_count table.now.key.shape) (S.good table.now.key.shape) self.new.view.trace }
     {
         step::load(
             table,
@@ -545,8 +548,10 @@ impl<S: Shape> Pass<S> {
         ensures table { self.new.table ≡ self.old.table }
         ensures taken { TakenIn (GroundHolds S.word_count S.good table.now.key)
             (commit_call_action (number self.old.view) kept self.old.view) self.old.view result self.new.view }
-        ensures may { MayCommitCall (IsGood (S.word_count table.now.key.shape) (S.good table.now.key.shape))
-            (number self.old.view) kept self.old.view }
+        ensures commits { CommitsAt (S.word_count table.now.key.shape) (S.good table.now.key.shape) table.now.key.base.items
+            kept self.old.view self.new.view (result + 1) }
+        ensures legal { IsLegalHistory (IsGood (S.word_count table.now.key.shape) (S.good table.now.key.shape))
+            table.now.key.seats table.now.key.base.items self.new.view.seen }
         ensures room { result + 1 < 2 ^ 64 }
     {
         self.call.phase = Phase::Releasing;

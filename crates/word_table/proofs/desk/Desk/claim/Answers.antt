@@ -1,6 +1,5 @@
 use Rattle.std.proofs.Common.{inr}
 use Rattle.history_model.specs.Locks.{lock_of_word}
-use Rattle.history_model.specs.Fitting.{IsGood}
 use Rattle.history_model.specs.Views.{number}
 use Rattle.locks_rule.specs.Steps.{claim_writer_action}
 use Rattle.word_table.specs.Desks.{DeskHolds}
@@ -23,7 +22,7 @@ pub returns-clause-pending : goal.returns-clause-pending
 returns-clause-pending g c = claim_pending (DeskHolds g.S.Shape.word_count g.S.Shape.good c.args.self.now) c.args.pass.now.view c.args.a c.claimed_by.result c.claim_writer-found.new.self.view (returns-clause-step g c)
 
 pub returns-clause-met : goal.returns-clause-met
-returns-clause-met g c = claim_met (IsGood (g.S.Shape.word_count c.args.self.now.shape) (g.S.Shape.good c.args.self.now.shape)) c.args.self.now.seats c.args.self.now.base c.args.pass.now.view c.args.a (number c.args.pass.now.view) c.claimed_by.result c.claim_writer-found.new.self.view c.claim_writer-found.ensures.one (returns-clause-step g c)
+returns-clause-met g c = claim_met (DeskHolds g.S.Shape.word_count g.S.Shape.good c.args.self.now) c.args.self.now.seats c.args.self.now.base (λ ws vs h. h.locks) c.args.pass.now.view c.args.a (number c.args.pass.now.view) c.claimed_by.result c.claim_writer-found.new.self.view c.claim_writer-found.ensures.one (returns-clause-step g c)
 
 pub returns-clause-call : goal.returns-clause-call
 returns-clause-call g c = (claim_leaves (DeskHolds g.S.Shape.word_count g.S.Shape.good c.args.self.now) c.args.pass.now.view c.args.a c.claimed_by.result c.claim_writer-found.new.self.view (returns-clause-step g c)).call

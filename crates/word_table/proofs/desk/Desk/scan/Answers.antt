@@ -1,4 +1,3 @@
-use Rattle.history_model.specs.Fitting.{IsGood}
 use Rattle.history_model.specs.Views.{number}
 use Rattle.word_table.specs.Calls.{ScannedBy}
 use Rattle.word_table.specs.Desks.{DeskHolds}
@@ -14,7 +13,7 @@ pub returns-clause-clear : goal.returns-clause-clear
 returns-clause-clear g c = scan_clear (DeskHolds g.S.Shape.word_count g.S.Shape.good c.args.self.now) c.args.pass.now.view c.args.k c.args.other c.look_for_bit.result c.look_for_bit.new.self.view (returns-clause-step g c)
 
 pub returns-clause-met : goal.returns-clause-met
-returns-clause-met g c = scan_met (IsGood (g.S.Shape.word_count c.args.self.now.shape) (g.S.Shape.good c.args.self.now.shape)) c.args.self.now.seats c.args.self.now.base c.args.pass.now.view c.args.k c.args.other (number c.args.pass.now.view) c.look_for_bit.result c.look_for_bit.new.self.view c.look_for_bit.ensures.one c.requires.claim.0 c.requires.other.0 c.requires.other.1 (returns-clause-step g c)
+returns-clause-met g c = scan_met (DeskHolds g.S.Shape.word_count g.S.Shape.good c.args.self.now) c.args.self.now.seats c.args.self.now.base (λ ws vs h. h.locks) c.args.pass.now.view c.args.k c.args.other (number c.args.pass.now.view) c.look_for_bit.result c.look_for_bit.new.self.view c.look_for_bit.ensures.one c.requires.claim.0 c.requires.other.0 c.requires.other.1 (returns-clause-step g c)
 
 pub returns-clause-call : goal.returns-clause-call
 returns-clause-call g c = (scan_leaves (DeskHolds g.S.Shape.word_count g.S.Shape.good c.args.self.now) c.args.pass.now.view c.args.k c.args.other c.look_for_bit.result c.look_for_bit.new.self.view (returns-clause-step g c)).call

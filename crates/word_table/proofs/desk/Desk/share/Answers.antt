@@ -1,6 +1,5 @@
 use Rattle.std.proofs.Common.{inr}
 use Rattle.history_model.specs.Locks.{lock_of_word}
-use Rattle.history_model.specs.Fitting.{IsGood}
 use Rattle.history_model.specs.Views.{number}
 use Rattle.word_table.specs.Calls.{MakesSeen, Looked}
 use Rattle.word_table.specs.Desks.{DeskHolds}
@@ -23,7 +22,7 @@ pub returns-clause-granted : goal.returns-clause-granted
 returns-clause-granted g c = share_granted (DeskHolds g.S.Shape.word_count g.S.Shape.good c.args.self.now) c.args.pass.now.view c.args.a c.look.result c.look.new.self.view (returns-clause-step g c)
 
 pub returns-clause-met : goal.returns-clause-met
-returns-clause-met g c = share_met (IsGood (g.S.Shape.word_count c.args.self.now.shape) (g.S.Shape.good c.args.self.now.shape)) c.args.self.now.seats c.args.self.now.base c.args.pass.now.view c.args.a (number c.args.pass.now.view) c.look.result c.look.new.self.view (one_before c.args.pass.now.view c.make_seen.new.self.view c.args.a c.make_seen.ensures.view c.look.ensures.one) (returns-clause-step g c)
+returns-clause-met g c = share_met (DeskHolds g.S.Shape.word_count g.S.Shape.good c.args.self.now) c.args.self.now.seats c.args.self.now.base (λ ws vs h. h.locks) c.args.pass.now.view c.args.a (number c.args.pass.now.view) c.look.result c.look.new.self.view (one_before c.args.pass.now.view c.make_seen.new.self.view c.args.a c.make_seen.ensures.view c.look.ensures.one) (returns-clause-step g c)
 
 pub returns-clause-bit : goal.returns-clause-bit
 returns-clause-bit g c = share_bit (DeskHolds g.S.Shape.word_count g.S.Shape.good c.args.self.now) c.args.pass.now.view c.args.a c.look.result c.look.new.self.view (returns-clause-step g c)
