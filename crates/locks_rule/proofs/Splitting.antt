@@ -8,7 +8,7 @@ use Rattle.history_model.specs.Table.{Knows}
 use Rattle.history_model.specs.Views.{number, HasClaim}
 use Rattle.locks_rule.specs.Locks.{LocksHold, IsSeat}
 use Rattle.locks_rule.specs.Splits.{KeepsSplit, MaySplitSeat, left_by_split, given_by_split}
-use Rattle.history_model.proofs.SetLemmas.{differ, not_true, empty-has, has-nil, has-one, has-join_same, has-without, has-without_other}
+use Rattle.history_model.proofs.SetLemmas.{differ, not_true, has-nil, has-one, has-join_same, has-without, has-without_other}
 use Rattle.history_model.proofs.Changes.{Change, StepTouches, NewByCut, change_cut}
 use Rattle.history_model.proofs.Places.{same_view, put_here, added_here, added_there}
 

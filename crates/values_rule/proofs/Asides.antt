@@ -1,13 +1,10 @@
 -- What a step owes of the parts that it leaves alone. It stores x to the word i.
-use Rattle.std.proofs.Common.{◌≡◌, ◌≢◌, ℕ, ◌+◌, ◌^◌, ◌<◌, ◌≤◌, Bool, true, false, ◌⊎◌, inl, inr, ⊎_elim, List, [], ◌∷◌, length, Option, Some, None, IsSome, slice_get, slice_index, slice_set, refl, sym, ap, ◌∙◌, subst, arith, get_or-set_other}
+use Rattle.std.proofs.Common.{◌≡◌, ◌≢◌, ℕ, ◌+◌, ◌^◌, ◌<◌, ◌≤◌, Bool, true, false, ◌⊎◌, inl, inr, ⊎_elim, List, [], length, Some, None, IsSome, slice_index, slice_set, refl, sym, ap, ◌∙◌, subst, arith, get_or-set_other}
 use Rattle.history_model.specs.declared.entry.Entry.{Entry}
 use Rattle.history_model.specs.declared.entry.Abandoned.{Abandoned}
-use Rattle.history_model.specs.declared.event.Event.{Event}
-use Rattle.history_model.specs.declared.view.Old.{Old}
 use Rattle.history_model.specs.declared.view.View.{View}
-use Rattle.history_model.specs.declared.view.Phase.{Phase}
-use Rattle.history_model.specs.declared.view.Phase.TheVariants.{Idle, Running, Yielding, Withdrawing, Releasing}
-use Rattle.history_model.specs.Counts.{is_attempt, is_open, calls_sum}
+use Rattle.history_model.specs.declared.view.Phase.TheVariants.{Idle}
+use Rattle.history_model.specs.Counts.{is_attempt, is_open}
 use Rattle.history_model.specs.Histories.{replay}
 use Rattle.history_model.specs.Legal.{AreAttemptsLegal}
 use Rattle.history_model.specs.Locks.{lock_of_word}
@@ -15,12 +12,11 @@ use Rattle.history_model.specs.Sets.{has, flag}
 use Rattle.history_model.specs.Table.{Knows, history_of, serial_word, calls_word, value_word}
 use Rattle.history_model.specs.Traces.{Trace, Touches, Writes, value_after, IsLegalTrace}
 use Rattle.history_model.specs.Undoing.{Notes}
-use Rattle.history_model.specs.Views.{HasReadGrant, HasWriteGrant, IsGranted}
-use Rattle.history_model.proofs.SetLemmas.{bool_cases}
+use Rattle.history_model.specs.Views.{HasWriteGrant, IsGranted}
 use Rattle.locks_rule.specs.Locks.{LocksHold, IsSeat}
 use Rattle.values_rule.specs.Values.{value_at, oldest, ValuesHold}
 use Rattle.values_rule.proofs.Counting.{calls_below-same}
-use Rattle.values_rule.proofs.Frames.{SeenSame, CallsMove, UndoMoves, TraceMoves, FloorMoves, Moves, moves, shut_out}
+use Rattle.values_rule.proofs.Frames.{SeenSame, CallsMove, UndoMoves, TraceMoves, FloorMoves, moves}
 use Rattle.values_rule.proofs.Notes.{oldest-nil}
 
 -- what a seat knows of calls and of the history is as it was

@@ -1,25 +1,23 @@
 -- The beginning and the end of a call keep the value invariant.
-use Rattle.std.proofs.Common.{◌≡◌, ◌≢◌, ℕ, ◌+◌, ◌*◌, ◌^◌, ◌<◌, ◌≤◌, Bool, true, false, ◌⊎◌, inl, inr, ⊎_elim, List, [], ◌∷◌, length, Option, Some, None, IsSome, slice_get, slice_index, slice_set, refl, sym, ap, ◌∙◌, subst, arith, get_or-set_other, get_or-set_same}
+use Rattle.std.proofs.Common.{◌≡◌, ◌≢◌, ℕ, ◌+◌, ◌^◌, ◌<◌, true, false, inl, inr, ⊎_elim, List, [], length, Some, None, slice_get, slice_index, slice_set, refl, sym, ap, ◌∙◌, subst, arith, get_or-set_other, get_or-set_same}
 use mathlib.Core.Logic.{dite}
 use native.Mathlib.Decide.{ℕ_discrete}
-use Rattle.history_model.specs.declared.TheConstants.{LOCKS}
-use Rattle.history_model.specs.declared.entry.Entry.{Entry}
 use Rattle.history_model.specs.declared.view.View.{View}
-use Rattle.history_model.specs.declared.view.Phase.TheVariants.{Idle, Running, Releasing}
-use Rattle.history_model.specs.Counts.{is_attempt, is_open, calls_sum, calls_below}
+use Rattle.history_model.specs.declared.view.Phase.TheVariants.{Running}
+use Rattle.history_model.specs.Counts.{is_open, calls_below}
 use Rattle.history_model.specs.Histories.{replay}
 use Rattle.history_model.specs.Sets.{has, flag}
-use Rattle.history_model.specs.Table.{Knows, history_of, serial_word, calls_word, stamps_word, value_word, table_words}
+use Rattle.history_model.specs.Table.{history_of, serial_word, calls_word, stamps_word}
 use Rattle.history_model.specs.Traces.{IsLegalTrace, value_after}
-use Rattle.history_model.proofs.SetLemmas.{has-one, has-join_same, differ}
-use Rattle.locks_rule.specs.Locks.{LocksHold, IsSeat}
+use Rattle.history_model.proofs.SetLemmas.{has-one, differ}
+use Rattle.locks_rule.specs.Locks.{IsSeat}
 use Rattle.values_rule.specs.Keeping.{KeepsValues}
 use Rattle.values_rule.specs.Steps.{MayBeginCall, begin_call_action, MayClearStamp, clear_stamp_action}
-use Rattle.values_rule.specs.Values.{value_at, oldest, ValuesHold}
-use Rattle.values_rule.proofs.Asides.{SameCalls, IsAside, ended_keeps, undo_empty}
+use Rattle.values_rule.specs.Values.{oldest}
+use Rattle.values_rule.proofs.Asides.{ended_keeps, undo_empty}
 use Rattle.values_rule.proofs.Counting.{calls_below-more}
-use Rattle.values_rule.proofs.Frames.{CallsMove, TraceMoves, FloorMoves, moves}
-use Rattle.values_rule.proofs.LockKinds.{Own, own}
+use Rattle.values_rule.proofs.Frames.{TraceMoves, moves}
+use Rattle.values_rule.proofs.LockKinds.{own}
 use Rattle.values_rule.proofs.Notes.{oldest-nil}
 
 -- an attempt that did nothing yet

@@ -1,39 +1,37 @@
 -- A commit, kept or not, keeps the value invariant: the history has one legal entry more, and what it leaves is what the
 -- words are with the other seats' notes written back.
-use Rattle.std.proofs.Common.{◌≡◌, ◌≢◌, ℕ, ◌+◌, ◌*◌, ◌^◌, ◌<◌, ◌≤◌, Bool, true, false, ◌⊎◌, inl, inr, ⊎_elim, List, [], ◌∷◌, ◌++◌, length, take, Option, Some, None, IsSome, slice_get, slice_index, slice_set, refl, sym, ap, ◌∙◌, subst, arith, get_or-set_other, get_or-set_same, length-append, if◌then◌else◌}
+use Rattle.std.proofs.Common.{◌≡◌, ◌≢◌, ℕ, ◌+◌, ◌^◌, ◌<◌, ◌≤◌, Bool, true, false, ◌⊎◌, inl, inr, ⊎_elim, List, [], ◌∷◌, ◌++◌, length, Some, None, slice_get, slice_index, slice_set, refl, sym, ap, ◌∙◌, subst, arith, get_or-set_other, get_or-set_same, length-append, if◌then◌else◌}
 use Rattle.std.proofs.lemmas.List.{append_assoc, append-nil, take-append-le, take_all}
 use mathlib.Core.Logic.{dite}
 use native.Mathlib.Decide.{ℕ_discrete}
-use Rattle.history_model.specs.declared.TheConstants.{LOCKS}
 use Rattle.history_model.specs.declared.entry.Entry.{Entry}
 use Rattle.history_model.specs.declared.view.Old.{Old}
 use Rattle.history_model.specs.declared.view.View.{View}
 use Rattle.history_model.specs.declared.view.Phase.{Phase}
 use Rattle.history_model.specs.declared.view.Phase.TheVariants.{Idle, Running, Yielding, Withdrawing, Releasing}
-use Rattle.history_model.specs.Counts.{is_attempt, is_open, calls_below, calls_sum, open_count}
+use Rattle.history_model.specs.Counts.{is_attempt, is_open}
 use Rattle.history_model.specs.Histories.{replay}
 use Rattle.history_model.specs.Legal.{IsIn, IsPrefix, AreAttemptsLegal, IsLegalEntry, IsLegalHistory}
 use Rattle.history_model.specs.Locks.{lock_of_word}
 use Rattle.history_model.specs.Sets.{has, flag}
-use Rattle.history_model.specs.Table.{Knows, history_of, serial_word, calls_word, value_word, table_words}
-use Rattle.history_model.specs.Traces.{IsLegalTrace, Writes, Touches, after, value_after}
+use Rattle.history_model.specs.Table.{Knows, history_of, serial_word, calls_word, value_word}
+use Rattle.history_model.specs.Traces.{IsLegalTrace, Writes, after, value_after}
 use Rattle.history_model.specs.Undoing.{Notes}
-use Rattle.history_model.specs.Views.{number, HasWriteGrant, IsGranted}
+use Rattle.history_model.specs.Views.{number, IsGranted}
 use Rattle.history_model.proofs.EndEvents.{last_event, touched_if_written}
-use Rattle.history_model.proofs.HistoryLaws.{Agree, agree_longer, attempts_agree, attempts_wider, one_more_is_legal, replay_is_good, get_first, get_last, get_cases}
+use Rattle.history_model.proofs.HistoryLaws.{agree_longer, attempts_agree, attempts_wider, one_more_is_legal, replay_is_good, get_first, get_cases}
 use Rattle.history_model.proofs.LastEvents.{get-after-value_after, last_from_touched, unwritten_stays}
 use Rattle.history_model.proofs.Places.{same_view, put_here, put_there, put_cases}
 use Rattle.history_model.proofs.ReplayLaws.{replay_last, length-replay}
-use Rattle.history_model.proofs.SetLemmas.{differ, not_true, bool_cases, has-one, has-join_same}
+use Rattle.history_model.proofs.SetLemmas.{differ, has-join_same}
 use Rattle.history_model.proofs.TableLaws.{seen_at_most}
 use Rattle.history_model.proofs.TraceAgree.{legal_agree}
-use Rattle.history_model.proofs.TraceLaws.{length-after}
 use Rattle.locks_rule.specs.Locks.{LocksHold, IsSeat}
 use Rattle.values_rule.specs.Keeping.{KeepsValues}
 use Rattle.values_rule.specs.Steps.{MayCommitCall, entry_of, commit_call_action}
 use Rattle.values_rule.specs.Values.{value_at, oldest, SeenPrefixes, HistoryLegal, CallsCounted, UndoRestores, TraceCurrent, FloorAndAbandoned, ValuesHold}
 use Rattle.values_rule.proofs.Counting.{history_is, open_count-set, calls_below-same}
-use Rattle.values_rule.proofs.Frames.{shut_out, attempt_runs}
+use Rattle.values_rule.proofs.Frames.{shut_out}
 use Rattle.values_rule.proofs.LockKinds.{Own, own}
 use Rattle.values_rule.proofs.Notes.{oldest-nil, option_cases, is_missing}
 

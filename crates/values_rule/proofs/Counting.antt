@@ -1,5 +1,5 @@
 -- The history and the counts after one view was put in the place of another.
-use Rattle.std.proofs.Common.{◌≡◌, ◌≢◌, ℕ, zero, suc, ◌+◌, ◌<◌, ◌≤◌, Bool, true, false, ◌⊎◌, inl, inr, ⊎_elim, List, [], ◌∷◌, ◌++◌, length, nat_le, slice_index, slice_set, if◌then◌else◌, refl, sym, ap, ◌∙◌, subst, arith, get_or-set_other, get_or-set_same, length-append}
+use Rattle.std.proofs.Common.{◌≡◌, ℕ, zero, suc, ◌+◌, ◌<◌, ◌≤◌, Bool, true, false, ⊎_elim, List, [], ◌∷◌, ◌++◌, length, nat_le, slice_index, slice_set, if◌then◌else◌, refl, sym, ap, ◌∙◌, subst, arith, get_or-set_other, get_or-set_same, length-append}
 use Rattle.std.proofs.lemmas.List.{append-nil}
 use Rattle.std.proofs.lemmas.Bool.Decides.{leb_tells}
 use mathlib.Core.Option.{some-injective, some-ne-none}
@@ -10,7 +10,6 @@ use Rattle.history_model.specs.Legal.{IsPrefix}
 use Rattle.history_model.specs.Sets.{flag}
 use Rattle.history_model.specs.Table.{Knows, history_of, calls_word}
 use Rattle.history_model.proofs.TableLaws.{seen_at_most}
-use Rattle.history_model.proofs.Places.{put_here}
 
 -- a view that saw the same leaves the history
 pub history_same : (vs : List View) (id : ℕ) (v w : View) → Knows vs id v → w.seen ≡ v.seen → history_of (slice_set vs id w) ≡ history_of vs

@@ -1,23 +1,21 @@
 -- What a running attempt finds: a word that it may use stands as its own events and the history leave it.
-use Rattle.std.proofs.Common.{◌≡◌, ◌≢◌, ℕ, ◌<◌, true, false, ◌⊎◌, inl, inr, ⊎_elim, List, [], ◌∷◌, length, Option, Some, None, IsSome, slice_get, refl, sym, ap, ◌∙◌, subst, arith}
+use Rattle.std.proofs.Common.{◌≡◌, ◌≢◌, ℕ, ◌<◌, true, inr, ⊎_elim, List, [], ◌∷◌, length, Some, None, slice_get, sym, ap, ◌∙◌, subst, arith}
 use mathlib.Core.Logic.{dite}
 use native.Mathlib.Decide.{ℕ_discrete}
-use Rattle.history_model.specs.declared.entry.Entry.{Entry}
 use Rattle.history_model.specs.declared.view.View.{View}
-use Rattle.history_model.specs.declared.view.Phase.TheVariants.{Idle, Running, Releasing}
+use Rattle.history_model.specs.declared.view.Phase.TheVariants.{Running}
 use Rattle.history_model.specs.Histories.{replay}
-use Rattle.history_model.specs.Legal.{IsLegalHistory}
 use Rattle.history_model.specs.Locks.{lock_of_word}
 use Rattle.history_model.specs.Sets.{has}
 use Rattle.history_model.specs.Table.{Knows, history_of}
 use Rattle.history_model.specs.Traces.{after, value_after}
-use Rattle.history_model.specs.Views.{HasWriteGrant, IsGranted}
+use Rattle.history_model.specs.Views.{IsGranted}
 use Rattle.history_model.proofs.EndEvents.{last_event, no_event, touched_if_written}
 use Rattle.history_model.proofs.LastEvents.{get-after-value_after, last_from_touched}
 use Rattle.history_model.proofs.Places.{same_view}
 use Rattle.history_model.proofs.ReplayLaws.{length-replay}
 use Rattle.history_model.proofs.SetLemmas.{has-join_same}
-use Rattle.locks_rule.specs.Locks.{LocksHold, IsSeat}
+use Rattle.locks_rule.specs.Locks.{LocksHold}
 use Rattle.values_rule.specs.Values.{value_at, oldest, ValuesHold}
 use Rattle.values_rule.proofs.Frames.{shut_out, attempt_runs}
 use Rattle.values_rule.proofs.Notes.{option_cases, is_missing}

@@ -1,12 +1,12 @@
 -- The cut of a view in two keeps the value invariant: the new seat began no call and saw what the view saw.
-use Rattle.std.proofs.Common.{◌≡◌, ◌≢◌, ℕ, zero, suc, ◌+◌, ◌<◌, ◌≤◌, Bool, true, false, ◌⊎◌, inl, inr, ⊎_elim, List, [], ◌∷◌, ◌++◌, length, Option, Some, None, IsSome, slice_get, slice_index, slice_set, refl, sym, ap, ◌∙◌, subst, arith, length-set}
+use Rattle.std.proofs.Common.{◌≡◌, ◌≢◌, ℕ, ◌+◌, ◌<◌, ◌≤◌, true, false, ◌⊎◌, inl, inr, ⊎_elim, List, [], ◌∷◌, ◌++◌, length, Some, None, slice_get, slice_index, slice_set, refl, sym, ap, ◌∙◌, subst, arith}
 use mathlib.Core.Logic.{dite}
-use mathlib.Core.Option.{some-injective, some-ne-none}
+use mathlib.Core.Option.{some-ne-none}
 use native.Mathlib.Decide.{ℕ_discrete}
 use Rattle.history_model.specs.declared.entry.Entry.{Entry}
 use Rattle.history_model.specs.declared.view.Old.{Old}
 use Rattle.history_model.specs.declared.view.View.{View}
-use Rattle.history_model.specs.declared.view.Phase.TheVariants.{Idle, Running, Releasing}
+use Rattle.history_model.specs.declared.view.Phase.TheVariants.{Idle}
 use Rattle.history_model.specs.Counts.{is_attempt, is_open, open_count}
 use Rattle.history_model.specs.Histories.{replay}
 use Rattle.history_model.specs.Legal.{IsIn, IsPrefix, AreAttemptsLegal, IsLegalHistory}
@@ -15,13 +15,13 @@ use Rattle.history_model.specs.Table.{Knows, history_of}
 use Rattle.history_model.specs.Undoing.{Notes}
 use Rattle.history_model.specs.Views.{number}
 use Rattle.history_model.proofs.Changes.{Change, StepTouches, NewByCut, change_cut}
-use Rattle.history_model.proofs.Places.{same_view, put_here, put_there, added_here, added_there}
+use Rattle.history_model.proofs.Places.{same_view, put_here, added_there}
 use Rattle.history_model.proofs.SetLemmas.{has-one, has-without, has-join_same, has-join_old}
 use Rattle.history_model.proofs.TableLaws.{someone_saw}
 use Rattle.locks_rule.specs.Locks.{LocksHold, IsSeat}
-use Rattle.locks_rule.specs.Splits.{MaySplitSeat, left_by_split, given_by_split, opening_view}
+use Rattle.locks_rule.specs.Splits.{MaySplitSeat, left_by_split, given_by_split}
 use Rattle.values_rule.specs.Keeping.{KeepsValuesSplit}
-use Rattle.values_rule.specs.Values.{oldest, SeenPrefixes, HistoryLegal, CallsCounted, UndoRestores, TraceCurrent, FloorAndAbandoned, ValuesHold}
+use Rattle.values_rule.specs.Values.{oldest, SeenPrefixes, CallsCounted, UndoRestores, TraceCurrent, FloorAndAbandoned, ValuesHold}
 use Rattle.values_rule.proofs.Counting.{history_is, open_count-set}
 use Rattle.values_rule.proofs.Notes.{oldest-nil}
 

@@ -1,21 +1,21 @@
 -- What a step that adds no entry owes, part by part, and that it then keeps the value invariant. One seat goes from the
 -- view v to w while the words go from ws to ws'; hist is the history and now what it leaves.
-use Rattle.std.proofs.Common.{◌≡◌, ◌≢◌, ℕ, ◌+◌, ◌^◌, ◌<◌, ◌≤◌, Bool, true, false, ◌⊎◌, inl, inr, ⊎_elim, List, [], ◌∷◌, length, Option, Some, None, IsSome, slice_get, slice_index, slice_set, refl, sym, ap, ◌∙◌, subst, arith}
+use Rattle.std.proofs.Common.{◌≡◌, ◌≢◌, ℕ, ◌+◌, ◌^◌, ◌<◌, ◌≤◌, true, false, ◌⊎◌, inl, inr, ⊎_elim, List, [], ◌∷◌, length, Option, Some, None, IsSome, slice_get, slice_index, slice_set, refl, sym, ap, ◌∙◌, subst, arith}
 use mathlib.Core.Logic.{dite}
 use native.Mathlib.Decide.{ℕ_discrete}
 use Rattle.history_model.specs.declared.entry.Entry.{Entry}
 use Rattle.history_model.specs.declared.view.Old.{Old}
 use Rattle.history_model.specs.declared.view.View.{View}
 use Rattle.history_model.specs.declared.view.Phase.TheVariants.{Idle, Running, Releasing}
-use Rattle.history_model.specs.Counts.{is_attempt, is_open, calls_sum, open_count}
+use Rattle.history_model.specs.Counts.{is_attempt, is_open, calls_sum}
 use Rattle.history_model.specs.Histories.{replay}
 use Rattle.history_model.specs.Legal.{IsIn, IsPrefix, AreAttemptsLegal, IsLegalHistory}
 use Rattle.history_model.specs.Locks.{lock_of_word}
 use Rattle.history_model.specs.Sets.{has, flag}
-use Rattle.history_model.specs.Table.{Knows, history_of, serial_word, calls_word, value_word}
+use Rattle.history_model.specs.Table.{Knows, history_of, serial_word, calls_word}
 use Rattle.history_model.specs.Traces.{IsLegalTrace, Writes, Touches, value_after}
-use Rattle.history_model.specs.Views.{HasClaim, HasReadGrant, HasWriteGrant, IsGranted}
-use Rattle.history_model.proofs.SetLemmas.{differ, not_true, bool_cases, has-join_same}
+use Rattle.history_model.specs.Views.{HasWriteGrant, IsGranted}
+use Rattle.history_model.proofs.SetLemmas.{differ, not_true, has-join_same}
 use Rattle.history_model.proofs.Places.{same_view, put_here, put_there, put_cases}
 use Rattle.locks_rule.specs.Locks.{LocksHold, IsSeat}
 use Rattle.values_rule.specs.Values.{value_at, oldest, SeenPrefixes, HistoryLegal, CallsCounted, UndoRestores, TraceCurrent, FloorAndAbandoned, ValuesHold}

@@ -1,18 +1,16 @@
 -- The kinds of step on locks keep the value invariant: those that ask for a lock take none away, and a release comes
 -- with nothing to undo.
-use Rattle.std.proofs.Common.{◌≡◌, ◌≢◌, ℕ, ◌+◌, ◌*◌, ◌/◌, ◌%◌, ◌-◌, ◌<◌, ◌≤◌, Bool, true, false, ◌⊎◌, inl, inr, ⊎_elim, List, [], ◌∷◌, ◌++◌, length, slice_index, refl, sym, ap, ◌∙◌, subst, arith, ◌==◌, if◌then◌else◌}
+use Rattle.std.proofs.Common.{◌≡◌, ◌≢◌, ℕ, ◌%◌, ◌-◌, ◌<◌, Bool, true, false, inl, inr, ⊎_elim, List, [], ◌∷◌, slice_index, refl, sym, ap, ◌∙◌, subst, arith, ◌==◌, if◌then◌else◌}
 use Rattle.std.specs.Int.{bit_at}
 use Rattle.history_model.specs.declared.TheConstants.{LOCKS}
-use Rattle.history_model.specs.declared.entry.Entry.{Entry}
 use Rattle.history_model.specs.declared.view.View.{View}
 use Rattle.history_model.specs.declared.view.Phase.{Phase}
 use Rattle.history_model.specs.declared.view.Phase.TheVariants.{Idle, Running, Yielding, Withdrawing, Releasing}
 use Rattle.history_model.specs.Counts.{is_attempt, is_open}
-use Rattle.history_model.specs.Locks.{lock_of_word}
-use Rattle.history_model.specs.Sets.{has, has_pair, without_first}
+use Rattle.history_model.specs.Sets.{has, without_first}
 use Rattle.history_model.specs.Table.{Knows, history_of, row_word, writer_word}
-use Rattle.history_model.specs.Views.{HasBit, HasClaim, HasReadGrant, HasWriteGrant, IsGranted}
-use Rattle.history_model.proofs.SetLemmas.{has-join_same, has-join_old, pair-join_old, pair-without_other, differ}
+use Rattle.history_model.specs.Views.{HasClaim, HasReadGrant, HasWriteGrant, IsGranted}
+use Rattle.history_model.proofs.SetLemmas.{has-join_same, has-join_old, pair-join_old, pair-without_other}
 use Rattle.locks_rule.specs.Actions.{Action, found_by, words_after, views_after}
 use Rattle.locks_rule.specs.Locks.{LocksHold, IsSeat, AskedFor}
 use Rattle.locks_rule.specs.Steps.{after_asking, after_meeting, released_phase, is_free, MayRelease, MaySetReadBit, MayClearReadBit, MayLoadWriter, MayClaimWriter, MayScanRow, MayReleaseWriter, set_read_bit_action, clear_read_bit_action, load_writer_action, claim_writer_action, scan_row_action, release_writer_action}

@@ -1,17 +1,15 @@
 -- The kinds of step on calls, values and the history keep the lock invariant: none is on a word of a lock.
-use Rattle.std.proofs.Common.{◌≡◌, ◌≢◌, ℕ, ◌+◌, ◌*◌, ◌<◌, ◌≤◌, Bool, true, false, ◌⊎◌, inl, inr, ⊎_elim, List, [], ◌∷◌, slice_index, refl, sym, ap, ◌∙◌, subst, arith}
-use Rattle.history_model.specs.declared.TheConstants.{LOCKS}
+use Rattle.std.proofs.Common.{◌≡◌, ℕ, Bool, true, ⊎_elim, List, [], refl, sym, ◌∙◌, subst, arith}
 use Rattle.history_model.specs.declared.view.View.{View}
 use Rattle.history_model.specs.declared.view.Phase.{Phase}
 use Rattle.history_model.specs.declared.view.Phase.TheVariants.{Idle, Running, Yielding, Withdrawing, Releasing}
-use Rattle.history_model.specs.Counts.{is_attempt, is_open}
+use Rattle.history_model.specs.Counts.{is_open}
 use Rattle.history_model.specs.Sets.{has}
-use Rattle.history_model.specs.Table.{Knows, history_of, serial_word, calls_word, stamps_word, value_word}
-use Rattle.history_model.specs.Views.{HasBit, HasClaim}
+use Rattle.history_model.specs.Table.{history_of}
 use Rattle.history_model.proofs.SetLemmas.{differ, not_true, has-nil}
-use Rattle.locks_rule.specs.Actions.{Action, Keeps, found_by}
-use Rattle.locks_rule.specs.Asides.{IsLockWord, SameLocks}
-use Rattle.locks_rule.specs.Locks.{LocksHold, AskedFor}
+use Rattle.locks_rule.specs.Actions.{Keeps, found_by}
+use Rattle.locks_rule.specs.Asides.{SameLocks}
+use Rattle.locks_rule.specs.Locks.{LocksHold}
 use Rattle.locks_rule.proofs.Asides.{aside_keeps}
 use Rattle.values_rule.specs.Steps.{MayBeginCall, begin_call_action, MayLoadValue, load_value_action, MayStoreValue, store_value_action, MayUndoStore, undo_store_action, undoing_phase, MayCommitCall, commit_call_action, MayClearStamp, clear_stamp_action}
 use Rattle.values_rule.proofs.LockKinds.{own}

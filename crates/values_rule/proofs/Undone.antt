@@ -1,20 +1,18 @@
 -- The memory with all unfinished writes taken back is what the history leaves.
-use Rattle.std.proofs.Common.{◌≡◌, ◌≢◌, ℕ, zero, suc, ◌+◌, ◌-◌, ◌*◌, ◌<◌, ◌≤◌, ◌⊎◌, inl, inr, ⊎_elim, List, [], ◌∷◌, length, drop, Option, Some, None, slice_get, slice_index, slice_set, get_or, refl, sym, ap, ◌∙◌, subst, arith, eq-eqb, ne_eqb, length-drop, get_or-drop, ◌==◌}
+use Rattle.std.proofs.Common.{◌≡◌, ℕ, zero, suc, ◌+◌, ◌<◌, ⊎_elim, List, [], ◌∷◌, length, Some, None, slice_get, slice_index, slice_set, get_or, refl, sym, ap, ◌∙◌, subst, arith, eq-eqb, ne_eqb, length-drop, get_or-drop}
 use Rattle.std.proofs.lemmas.List.{length-set}
 use Rattle.std.proofs.lemmas.Option.{slice_get-get_or, same_Some}
 use mathlib.Core.Option.{some-injective}
 use mathlib.Core.Logic.{dite}
 use native.Mathlib.Decide.{ℕ_discrete}
-use Rattle.history_model.specs.declared.TheConstants.{LOCKS}
 use Rattle.history_model.specs.declared.view.View.{View}
 use Rattle.history_model.specs.Histories.{replay}
-use Rattle.history_model.specs.Table.{Knows, history_of, value_word, table_words}
+use Rattle.history_model.specs.Table.{Knows, history_of, value_word}
 use Rattle.history_model.specs.Undoing.{Notes, written_back}
 use Rattle.history_model.proofs.ReplayLaws.{length-replay}
 use Rattle.history_model.proofs.TraceLaws.{get_set_same, get_set_other}
-use Rattle.locks_rule.specs.Locks.{LocksHold}
 use Rattle.values_rule.specs.Undone.{memory_of, undone_by, UndoingRestores}
-use Rattle.values_rule.specs.Values.{value_at, oldest, ValuesHold}
+use Rattle.values_rule.specs.Values.{value_at, oldest}
 use Rattle.values_rule.proofs.Notes.{option_cases}
 
 length-written_back : (notes : Notes) (s : List ℕ) → length (written_back notes s) ≡ length s

@@ -1,10 +1,8 @@
 -- A load, a store and its undoing keep the value invariant.
-use Rattle.std.proofs.Common.{◌≡◌, ◌≢◌, ℕ, ◌+◌, ◌-◌, ◌*◌, ◌<◌, Bool, true, false, ◌⊎◌, inl, inr, ⊎_elim, List, [], ◌∷◌, ◌++◌, length, take, Option, Some, None, IsSome, unwrap_or, slice_get, slice_index, slice_set, refl, sym, ap, ◌∙◌, subst, arith, get_or-set_other, get_or-set_same}
+use Rattle.std.proofs.Common.{◌≡◌, ◌≢◌, ℕ, ◌-◌, ◌<◌, true, false, ◌⊎◌, inl, inr, ⊎_elim, List, [], ◌∷◌, ◌++◌, length, take, Option, Some, None, IsSome, unwrap_or, slice_get, slice_index, slice_set, refl, sym, ap, ◌∙◌, subst, arith, get_or-set_other, get_or-set_same}
 use mathlib.Core.Logic.{dite}
 use native.Mathlib.Decide.{ℕ_discrete}
 use Rattle.std.proofs.lemmas.Option.{same_Some}
-use Rattle.history_model.specs.declared.TheConstants.{LOCKS}
-use Rattle.history_model.specs.declared.entry.Entry.{Entry}
 use Rattle.history_model.specs.declared.event.Event.TheVariants.{Read, Write}
 use Rattle.history_model.specs.declared.view.View.{View}
 use Rattle.history_model.specs.declared.view.Phase.{Phase}
@@ -12,20 +10,20 @@ use Rattle.history_model.specs.declared.view.Phase.TheVariants.{Idle, Running, Y
 use Rattle.history_model.specs.Counts.{is_attempt, is_open}
 use Rattle.history_model.specs.Histories.{replay}
 use Rattle.history_model.specs.Locks.{lock_of_word}
-use Rattle.history_model.specs.Table.{Knows, history_of, value_word, table_words}
-use Rattle.history_model.specs.Traces.{Trace, after, Touches, Writes, value_after, IsLegalTrace}
+use Rattle.history_model.specs.Table.{Knows, history_of, value_word}
+use Rattle.history_model.specs.Traces.{Trace, after, Writes, value_after}
 use Rattle.history_model.specs.Undoing.{Notes}
 use Rattle.history_model.specs.Views.{HasWriteGrant, IsGranted}
-use Rattle.history_model.proofs.EndEvents.{touches_read, writes_read, writes_first, touches_first, touches_write, writes_write, last_write, last_read_same, last_read_other, last_write_same, last_write_other}
+use Rattle.history_model.proofs.EndEvents.{touches_read, writes_read, writes_first, touches_write, writes_write, last_write, last_read_same, last_read_other, last_write_same, last_write_other}
 use Rattle.history_model.proofs.Places.{same_view}
 use Rattle.history_model.proofs.TraceLaws.{legal_read, legal_write}
-use Rattle.locks_rule.specs.Locks.{LocksHold, IsSeat}
+use Rattle.locks_rule.specs.Locks.{LocksHold}
 use Rattle.values_rule.specs.Keeping.{KeepsValues}
 use Rattle.values_rule.specs.Steps.{MayLoadValue, load_value_action, MayStoreValue, store_value_action, known_value, MayUndoStore, undo_store_action, undoing_phase}
 use Rattle.values_rule.specs.Values.{value_at, oldest, ValuesHold}
 use Rattle.values_rule.proofs.Asides.{SameCalls, seen_aside, calls_aside, floor_aside}
-use Rattle.values_rule.proofs.Current.{current, untouched_stands}
-use Rattle.values_rule.proofs.Frames.{UndoMoves, TraceMoves, moves, shut_out}
+use Rattle.values_rule.proofs.Current.{current}
+use Rattle.values_rule.proofs.Frames.{moves, shut_out}
 use Rattle.values_rule.proofs.LockKinds.{Own, own}
 use Rattle.values_rule.proofs.Notes.{option_cases, is_missing, oldest_more, oldest_first, oldest_one, oldest_other, oldest_apart, older_is}
 

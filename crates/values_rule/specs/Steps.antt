@@ -1,7 +1,7 @@
 -- The kinds of step on calls, values and the history: when a seat may take one, and what it does. In-place writes with
 -- an undo log and the counter that orders commits are those of 2PLSF (Ramalhete, Correia, Felber, PPoPP 2023). The seat
 -- has the number j, and a is a word of the memory.
-use Rattle.std.specs.Prelude.{◌≡◌, ◌≢◌, ◌⊎◌, ℕ, ◌+◌, ◌-◌, ◌^◌, ◌<◌, Bool, true, false, List, [], ◌∷◌, ◌++◌, length, take, None, unwrap_or}
+use Rattle.std.specs.Prelude.{◌≡◌, ◌⊎◌, ℕ, ◌+◌, ◌-◌, ◌^◌, ◌<◌, Bool, true, false, List, [], ◌∷◌, ◌++◌, length, take, None, unwrap_or}
 use Rattle.history_model.specs.declared.entry.Entry.{Entry}
 use Rattle.history_model.specs.declared.event.Event.TheVariants.{Read, Write}
 use Rattle.history_model.specs.declared.view.View.{View}

@@ -1,5 +1,5 @@
 -- The memory with all unfinished writes taken back.
-use Rattle.std.specs.Prelude.{◌≡◌, ℕ, List, [], ◌∷◌, length, take, drop, slice_get}
+use Rattle.std.specs.Prelude.{◌≡◌, ℕ, List, [], ◌∷◌, drop}
 use Rattle.history_model.specs.declared.view.View.{View}
 use Rattle.history_model.specs.Histories.{replay}
 use Rattle.history_model.specs.Table.{history_of, value_word}
