@@ -3,6 +3,7 @@
 
 pub mod books;
 pub mod journal;
+pub mod laws;
 pub mod line;
 pub mod words;
 

@@ -67,6 +67,7 @@ no_callers b = record {
   names = λ k d less. absurd (omega arith);
   names_differ = no-names;
   scripts = λ k d less. absurd (omega arith);
+  some_scripts = λ k d less. absurd (omega arith);
 }
 
 -- there are as many scripts as were given

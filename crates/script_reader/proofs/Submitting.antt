@@ -67,6 +67,7 @@ callers_more books callers s h name script room space = record {
   names_differ = subst (IsDistinct bytes_eq) (sym (names-add callers s)) (add_name-distinct (map (λ c. c.name) callers) s.caller h.names_differ);
   scripts = All-from_recursion _ _ (all-add (λ c. All (IsScriptFor books) c.scripts) s (λ c all. All-push (IsScriptFor books) c.scripts s.script all script)
       (All-push (IsScriptFor books) [] s.script (λ k d less. absurd (omega arith)) script) callers (recursion_from_All _ _ h.scripts));
+  some_scripts = All-from_recursion _ _ (all-add (λ c. 1 ≤ length c.scripts) s (λ c some. omega (arith, some, length-append c.scripts (s.script ∷ []))) (omega arith) callers (recursion_from_All _ _ h.some_scripts));
 }
 
 -- what holds of each element of two lists holds of the first, and of an element behind it

@@ -71,13 +71,14 @@ callers_of submissions = map (λ name. record { name = name; scripts = scripts_b
 abbrev pub count_scripts : List Caller → ℕ
 count_scripts callers = sum_by (λ c. length c.scripts) callers
 
--- callers that the grammar can give, with scripts for the books
+-- callers that the grammar can give, each with at least one script, and all their scripts for the books
 pub record AreCallersFor (books : ClearingBooks) (callers : List Caller) : Type 0 where
   pub few : length callers ≤ MOST_CALLERS
   pub few_scripts : count_scripts callers ≤ MOST_SCRIPTS
   pub names : All (λ c. IsName c.name) callers
   pub names_differ : IsDistinct bytes_eq (map (λ c. c.name) callers)
   pub scripts : All (λ c. All (IsScriptFor books) c.scripts) callers
+  pub some_scripts : All (λ c. 1 ≤ length c.scripts) callers
 
 -- an input that the grammar can give
 pub record IsInput (input : ClearingInput) : Type 0 where

@@ -1,6 +1,20 @@
 //! What follows of texts, each law the contract of a function that does nothing.
 
-ghost use Rattle.script_reader.specs.Statements.{ClosingBooksOpen, OneInput, OneFault, ValidOrFaulty};
+ghost use Rattle.std.specs.Prelude.{◌≡◌};
+ghost use Rattle.script_reader.specs.Statements.{OneInput, OneFault, ValidOrFaulty};
+
+use crate::limits::{LONGEST_NAME, MOST_CALLERS, MOST_SCRIPTS, MOST_WORKERS};
+use crate::words::{LINE_FEED, SPACE};
+
+/// The limits of a text, in digits, and the bytes that part words and lines, which are those of ASCII.
+pub fn limits_are_those_of_the_language()
+    ensures callers { MOST_CALLERS ≡ 1_024 }
+    ensures scripts { MOST_SCRIPTS ≡ 65_536 }
+    ensures name { LONGEST_NAME ≡ 16 }
+    ensures workers { MOST_WORKERS ≡ 1 }
+    ensures space { SPACE ≡ 32 }
+    ensures line_feed { LINE_FEED ≡ 10 }
+{}
 
 /// A text is of one input at most.
 pub fn one_input()
@@ -15,9 +29,4 @@ pub fn one_fault()
 /// A text is of an input, or has a first fault, and never both.
 pub fn valid_or_faulty()
     ensures { ValidOrFaulty }
-{}
-
-/// The lines of closing books, scripts for them and the last line are a text of a new input, which opens with these books.
-pub fn closing_books_open()
-    ensures { ClosingBooksOpen }
 {}

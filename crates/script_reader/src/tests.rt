@@ -1,7 +1,10 @@
 //! Whole texts, and the first fault of others.
 
+ghost use Rattle.std.specs.Prelude.{◌≤◌};
+
 use crate::{Fault, Input, InputFault, read_front, read_input};
 use books_model::Op;
+use std::alloc::{AllocError, Global};
 use std::test::Fail;
 
 const HEADER: &str = "books 1 blocks 4 instruments 1 ring 1\n";
@@ -175,5 +178,67 @@ fn most_operations(rt: HostRuntime) -> Result<(), Fail> {
     assert_eq!(rt; input.scripts(), 1);
     text.push_str("show 1\n")?;
     assert_eq!(rt; fault_of(&rt, text.as_str()), Some((68, Fault::Limit)));
+    Ok(())
+}
+
+fn letter(n: u32) -> char {
+    (b'a' + (n % 26) as u8) as char
+}
+
+// A text with so many scripts, which so many callers give in turn. The callers have three letters each.
+fn text_of(alloc: Global, scripts: u32, callers: u32) -> Result<String, AllocError>
+    requires { 1 ≤ callers }
+{
+    let mut text = String::from_str(alloc, HEADER)?;
+    text.push_str("scripts\n")?;
+    for script in 0..scripts {
+        let caller = script % callers;
+        text.push_str("script ")?;
+        text.push(letter(caller / 676))?;
+        text.push(letter(caller / 26))?;
+        text.push(letter(caller))?;
+        text.push_str("\nend\n")?;
+    }
+    text.push_str("finish\n")?;
+    Ok(text)
+}
+
+#[test]
+fn most_scripts_and_most_callers(rt: HostRuntime) -> Result<(), Fail> {
+    // Script number k, from 0, begins in line 3 + 2 k.
+    let table = [
+        (65_536, 1, None),
+        (65_537, 1, Some((131_075, Fault::Limit))),
+        (1_024, 1_024, None),
+        (1_025, 1_025, Some((2_051, Fault::Limit))),
+    ];
+    for (scripts, callers, want) in table {
+        assert!(rt; callers >= 1);
+        let text = text_of(rt.alloc(), scripts, callers)?;
+        match read(&rt, text.as_str()) {
+            Ok(input) => {
+                assert_eq!(rt; None, want, "{scripts} {callers}");
+                assert_eq!(rt; input.scripts(), scripts);
+                assert_eq!(rt; input.callers(), callers);
+            }
+            Err(InputFault::Line { line, why }) => {
+                assert_eq!(rt; Some((line, why)), want, "{scripts} {callers}");
+            }
+            Err(InputFault::OutOfMemory) => panic!(rt; "no memory"),
+        }
+    }
+    Ok(())
+}
+
+#[test]
+fn longest_name(rt: HostRuntime) -> Result<(), Fail> {
+    let names = [
+        ("abcdefghijklmnop", None),
+        ("abcdefghijklmnopq", Some((3, Fault::Word))),
+    ];
+    for (name, want) in names {
+        let text = format!(in rt.alloc(); "{HEADER}scripts\nscript {name}\nend\nfinish\n")?;
+        assert_eq!(rt; fault_of(&rt, text.as_str()), want, "{name}");
+    }
     Ok(())
 }

@@ -9,12 +9,11 @@ use Rattle.std.proofs.lemmas.Bool.Decides.{nat_tests}
 use Rattle.books_model.specs.declared.reply.Reply.{Reply}
 use Rattle.books_model.specs.Books.{ClearingBooks}
 use Rattle.books_model.specs.Interpreter.{outcome_of}
-use Rattle.script_reader.specs.Input.{ClearingInput, IsInput, caller_at, script_at}
+use Rattle.script_reader.specs.Input.{ClearingInput, caller_at, script_at}
 use Rattle.script_reader.specs.Journal.{IsPlace}
 use Rattle.books_report.specs.declared.line.Line.{Line}
 use Rattle.books_report.specs.Output.{place_of, replies_of, books_after, text_of, IsOutput}
 use Rattle.twoplsf.specs.Day.{is_before, AreRun, HasRun, IsDay}
-use Rattle.books_model.specs.Ranges.{IsScriptFor}
 
 -- the books after one more script
 books_after-push : (input : ClearingInput) (books : ClearingBooks) (places : List (ℕ × ℕ)) (p : ℕ × ℕ)
@@ -64,10 +63,6 @@ all_before callers c i h = grind (arith, nat_tests, h)
 -- with no caller there is no place before
 none_before : (c i : ℕ) → is_before 0 0 (c, i) ≡ false
 none_before c i = grind (arith, nat_tests)
-
--- the script of a place can be given to the opening books
-pub script_of_place : (input : ClearingInput) (caller index : ℕ) → IsInput input → caller < length input.callers → index < length (caller_at input caller).scripts → IsScriptFor input.books (script_at input caller index)
-script_of_place input caller index valid within at = valid.callers.scripts caller (record { name = []; scripts = [] }) within index [] at
 
 module _ (input : ClearingInput) (caller index : ℕ) (lines : List Line) (replies : List Reply) (books : ClearingBooks) (answer : Reply) (after : ClearingBooks)
     (within : caller < length input.callers) (at : index < length (caller_at input caller).scripts) (so_far : HasRun input caller index lines replies books)

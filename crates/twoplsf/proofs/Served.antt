@@ -1,8 +1,8 @@
 -- What was printed, put together.
-use Rattle.std.proofs.Common.{◌≡◌, ◌≢◌, ◌<◌, ◌≤◌, ◌⊎◌, ◌++◌, ℕ, List, Option, Some, None, IfSome, IsSome, sym, ap, ◌∙◌, subst, inl, inr, arith, append-nil}
+use Rattle.std.proofs.Common.{◌≡◌, ◌≢◌, ◌<◌, ◌≤◌, ◌⊎◌, ◌++◌, ℕ, List, [], length, refl, Option, Some, None, IfSome, IsSome, sym, ap, ◌∙◌, subst, inl, inr, arith, append-nil}
 use Rattle.std.specs.Io.KnownBytes.{Appends, Consumes, IsAtEnd}
 use Rattle.std.proofs.lemmas.List.Elements.{All-weaker}
-use Rattle.io_ends.specs.Taken.{AppendsPrefix}
+use Rattle.io_ends.specs.Taken.{AppendsPrefix, TakesAtMost}
 use Rattle.script_reader.specs.Input.{ClearingInput}
 use Rattle.script_reader.specs.Grammar.{Spells}
 use Rattle.script_reader.specs.Command.{IsRunCommand, IsValidCommand}
@@ -27,6 +27,15 @@ pub all_read : (left now : Option (List ℕ)) (bytes : List ℕ) (P : List ℕ �
 all_read None now bytes P h end p = tt
 all_read (Some all) None bytes P h end p = absurd h
 all_read (Some all) (Some rest) bytes P h end p = subst P (sym (h ∙ ap (λ xs. bytes ++ xs) end ∙ append-nil bytes)) p
+
+-- what was read to the end and is not too much was not too much
+pub few_bytes : (left now : Option (List ℕ)) (bytes : List ℕ) (most : ℕ) (R : Type 0) → Consumes left now bytes → IsAtEnd now → length bytes ≤ most → IfSome left (λ all. most < length all → R)
+few_bytes left now bytes most R h end few = all_read left now bytes (λ all. most < length all → R) h end (λ more. absurd (omega arith))
+
+-- a source that is as it was gave nothing
+pub nothing_taken : (left : Option (List ℕ)) (most : ℕ) → TakesAtMost left left most
+nothing_taken None most = ([], tt, omega arith)
+nothing_taken (Some bytes) most = ([], refl, omega arith)
 
 -- an answer to the bytes that were read is an output for the command
 pub output_for : (words : List (List ℕ)) (workers : Option ℕ) (bytes text : List ℕ) → IsSome workers → IfSome workers (IsRunCommand words)

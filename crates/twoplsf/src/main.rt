@@ -4,13 +4,14 @@
 pub mod answer;
 pub mod command;
 pub mod day;
+pub mod laws;
 pub mod limits;
 pub mod serve;
 pub mod status;
 
 use io_ends::{OutOfMemory, StdSink, StdSource};
 use serve::serve;
-use status::Status;
+use status::{Status, ending_of};
 use std::process::ExitCode;
 use std::{env, io};
 
@@ -29,17 +30,16 @@ fn words_of(rt: &HostRuntime) -> Result<Vec<String>, OutOfMemory> {
     }
 }
 
-fn run(rt: &HostRuntime) -> Status {
-    let Ok(words) = words_of(rt) else {
-        return Status::OutOfMemory;
-    };
+/// What became of the command, unless memory was wanting for its words.
+fn run(rt: &HostRuntime) -> Result<Status, OutOfMemory> {
+    let words = words_of(rt)?;
     let mut source = StdSource::new(rt.reader());
     let mut sink = StdSink::new(io::writer(rt));
-    serve(rt.alloc(), &words, &mut source, &mut sink)
+    Ok(serve(rt.alloc(), &words, &mut source, &mut sink))
 }
 
 fn main(rt: HostRuntime) -> ExitCode {
-    ExitCode::from(run(&rt).code())
+    ExitCode::from(ending_of(run(&rt)))
 }
 
 #[cfg(test)]

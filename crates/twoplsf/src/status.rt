@@ -1,6 +1,9 @@
 //! How the program ends.
 
-ghost use Rattle.std.specs.Prelude.{◌<◌};
+ghost use Rattle.std.specs.Prelude.{◌≡◌};
+ghost use Rattle.twoplsf.specs.Ending.{ending_of, exit_status};
+
+use io_ends::OutOfMemory;
 
 /// What became of a command. The exit statuses are 0 to 7, in this order.
 #[derive(Clone, Copy, Debug, PartialEq, Eq)]
@@ -24,10 +27,21 @@ pub enum Status {
 }
 
 impl Status {
-    /// The exit status.
+    /// The exit status, from 0 to 7.
     pub fn code(self) -> u8
-        ensures { result < 8 }
+        ensures { result ≡ exit_status self }
     {
         self as u8
+    }
+}
+
+/// The exit status of the program, from what became of the command. Where memory was wanting before its words were read,
+/// the program ends as after any want of memory.
+pub fn ending_of(outcome: Result<Status, OutOfMemory>) -> u8
+    ensures { result ≡ ending_of outcome }
+{
+    match outcome {
+        Ok(status) => status.code(),
+        Err(OutOfMemory) => Status::OutOfMemory.code(),
     }
 }

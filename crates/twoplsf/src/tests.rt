@@ -1,8 +1,7 @@
 ghost use Rattle.std.specs.Prelude.{◌≤◌};
 
-use crate::limits::MOST_INPUT_BYTES;
 use crate::serve::serve;
-use crate::status::Status;
+use crate::status::{Status, ending_of};
 use io_ends::{MemSink, MemSource, OutOfMemory};
 use std::alloc::Global;
 use std::test::Fail;
@@ -247,11 +246,12 @@ fn ends_that_fail_leave_a_front(rt: HostRuntime) -> Result<(), Fail> {
 }
 
 #[test]
-fn one_byte_more_than_the_largest_input_is_refused(rt: HostRuntime) -> Result<(), Fail> {
+fn more_bytes_than_the_largest_input_are_refused(rt: HostRuntime) -> Result<(), Fail> {
     let alloc = rt.alloc();
     let rows = [
-        (MOST_INPUT_BYTES, Status::BadInput, "refused line 1 end\n"),
-        (MOST_INPUT_BYTES + 1, Status::TooLarge, "refused size\n"),
+        (8_388_608, Status::BadInput, "refused line 1 end\n"),
+        (8_388_609, Status::TooLarge, "refused size\n"),
+        (9_000_000, Status::TooLarge, "refused size\n"),
     ];
     for (count, status, taken) in rows {
         let run = served(alloc, "run 1", vec![in alloc; b'x'; count]?, GOOD)?;
@@ -259,6 +259,24 @@ fn one_byte_more_than_the_largest_input_is_refused(rt: HostRuntime) -> Result<()
         assert_eq!(rt; run.taken.as_slice(), taken.as_bytes(), "{count}");
     }
     Ok(())
+}
+
+#[test]
+fn each_status_has_its_exit_status(rt: HostRuntime) {
+    let rows = [
+        (Ok(Status::Done), 0),
+        (Ok(Status::Differs), 1),
+        (Ok(Status::BadWords), 2),
+        (Ok(Status::BadInput), 3),
+        (Ok(Status::TooLarge), 4),
+        (Ok(Status::ReadFault), 5),
+        (Ok(Status::WriteFault), 6),
+        (Ok(Status::OutOfMemory), 7),
+        (Err(OutOfMemory), 7),
+    ];
+    for (outcome, code) in rows {
+        assert_eq!(rt; ending_of(outcome), code, "{outcome:?}");
+    }
 }
 
 #[test]

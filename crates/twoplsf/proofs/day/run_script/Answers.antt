@@ -1,7 +1,8 @@
 use Rattle.std.proofs.Common.{◌∙◌, ap}
 use Rattle.books_model.specs.Interpreter.{outcome_of}
 use Rattle.script_reader.specs.Input.{script_at}
-use Rattle.twoplsf.proofs.Days.{script_of_place, ran_one}
+use Rattle.books_report.proofs.Closing.{script_of_place}
+use Rattle.twoplsf.proofs.Days.{ran_one}
 use Rattle.twoplsf.proofs.day.run_script.Goals as goal
 
 pub run_plain-requires : goal.run_plain-requires

@@ -1,4 +1,4 @@
-use Rattle.std.proofs.Common.{map, rules, ◌≡◌, ◌≤◌, ◌≢◌, ◌+◌, ◌⊎◌, ℕ, length, IsSome, IfSome, refl, subst, ◌∙◌}
+use Rattle.std.proofs.Common.{map, rules, ◌≡◌, ◌≤◌, ◌≢◌, ◌+◌, ◌⊎◌, ℕ, length, IsSome, IfSome, refl, subst, ◌∙◌, arith}
 use Rattle.std.specs.String.{string_bytes}
 use Rattle.io_ends.specs.Counts.{Rose}
 use Rattle.io_ends.specs.Taken.{count_taken}
@@ -11,7 +11,7 @@ use Rattle.twoplsf.specs.declared.limits.TheConstants.{MOST_INPUT_BYTES}
 use Rattle.twoplsf.specs.declared.status.Status.TheVariants as status
 use Rattle.twoplsf.specs.Answer.{IsOutputFor, IsRefusalOf, PrintsOutput, refused_line, refused_words, refused_size}
 use Rattle.script_reader.proofs.Deciding.{not_both, one_fault}
-use Rattle.twoplsf.proofs.Served.{all_read, output_for, valid_command, written, took_text}
+use Rattle.twoplsf.proofs.Served.{all_read, few_bytes, nothing_taken, output_for, valid_command, written, took_text}
 use Rattle.twoplsf.proofs.serve.serve.Goals as goal
 
 pub returns-in-Ok-Output-clause-headline : goal.returns-in-Ok-Output-clause-headline
@@ -39,8 +39,9 @@ returns-in-Ok-Output-clause-text g c =
     let answer = rw (c.in-Ok-Output.field-0-is, c.deref.ensures.value) at c.in-Ok-Output.ensures in
     let some : IsSome c.workers_of.result = search rules in
     let output = output_for words c.workers_of.result c.in-Ok.bytes.items c.in-Ok-Output.text.items some c.workers_of.ensures.some answer in
+    let few : length c.in-Ok.bytes.items ≤ MOST_INPUT_BYTES = omega (arith, c.in-Ok.ensures.within, c.in-Ok.bytes.ok.0) in
     took_text c.finish-in-Ok-Output.result status.Done words left now (sink.taken c.args.sink.now) (sink.taken c.finish-in-Ok-Output.new.sink) c.in-Ok-Output.text.items _
-    (c.in-Ok.ensures.end, all_read left now c.in-Ok.bytes.items (λ all. IsOutputFor words all c.in-Ok-Output.text.items) c.in-Ok.ensures.bytes c.in-Ok.ensures.end output)
+    (valid_command words c.workers_of.result some c.workers_of.ensures.some, c.in-Ok.ensures.end, all_read left now c.in-Ok.bytes.items (λ all. (length all ≤ MOST_INPUT_BYTES) × IsOutputFor words all c.in-Ok-Output.text.items) c.in-Ok.ensures.bytes c.in-Ok.ensures.end (few, output))
     (rw c.deref-in-Ok-Output.ensures.value at c.finish-in-Ok-Output.ensures)
 
 pub returns-in-Ok-Output-clause-no_input : goal.returns-in-Ok-Output-clause-no_input
@@ -51,6 +52,21 @@ returns-in-Ok-Output-clause-no_input g c valid =
     all_read (source.left c.args.source.now) (source.left c.read_all.new.source) c.in-Ok.bytes.items
     (λ all. length all ≤ MOST_INPUT_BYTES → (IsValidInput all → ⊥) → (result ≡ status.BadInput) ⊎ (result ≡ status.ReadFault) ⊎ (result ≡ status.WriteFault) ⊎ (result ≡ status.OutOfMemory))
     c.in-Ok.ensures.bytes c.in-Ok.ensures.end (λ few none. absurd (none (answer.0, answer.1)))
+
+pub returns-in-Ok-Output-clause-too_many : goal.returns-in-Ok-Output-clause-too_many
+returns-in-Ok-Output-clause-too_many g c valid =
+    let source = g.S.Source in
+    let few : length c.in-Ok.bytes.items ≤ MOST_INPUT_BYTES = omega (arith, c.in-Ok.ensures.within, c.in-Ok.bytes.ok.0) in
+    few_bytes (source.left c.args.source.now) (source.left c.read_all.new.source) c.in-Ok.bytes.items MOST_INPUT_BYTES _ c.in-Ok.ensures.bytes c.in-Ok.ensures.end few
+
+pub returns-in-Ok-Refusal-clause-too_many : goal.returns-in-Ok-Refusal-clause-too_many
+returns-in-Ok-Refusal-clause-too_many g c valid =
+    let source = g.S.Source in
+    let few : length c.in-Ok.bytes.items ≤ MOST_INPUT_BYTES = omega (arith, c.in-Ok.ensures.within, c.in-Ok.bytes.ok.0) in
+    few_bytes (source.left c.args.source.now) (source.left c.read_all.new.source) c.in-Ok.bytes.items MOST_INPUT_BYTES _ c.in-Ok.ensures.bytes c.in-Ok.ensures.end few
+
+pub returns-then-is_none-clause-taken : goal.returns-then-is_none-clause-taken
+returns-then-is_none-clause-taken g c = nothing_taken (g.S.Source.left c.args.source.now) (MOST_INPUT_BYTES + 1)
 
 pub returns-then-is_none-clause-text : goal.returns-then-is_none-clause-text
 returns-then-is_none-clause-text g c =
@@ -81,8 +97,9 @@ returns-in-Ok-Refusal-clause-text g c =
     let now = source.left c.read_all.new.source in
     let answer = rw (c.in-Ok-Refusal.field-0-is, c.deref.ensures.value) at c.in-Ok-Refusal.ensures in
     let some : IsSome c.workers_of.result = search rules in
+    let few : length c.in-Ok.bytes.items ≤ MOST_INPUT_BYTES = omega (arith, c.in-Ok.ensures.within, c.in-Ok.bytes.ok.0) in
     took_text c.finish-in-Ok-Refusal.result status.BadInput words left now (sink.taken c.args.sink.now) (sink.taken c.finish-in-Ok-Refusal.new.sink) c.in-Ok-Refusal.text.items _
-    (valid_command words c.workers_of.result some c.workers_of.ensures.some, c.in-Ok.ensures.end, all_read left now c.in-Ok.bytes.items (λ all. IsRefusalOf all c.in-Ok-Refusal.text.items) c.in-Ok.ensures.bytes c.in-Ok.ensures.end answer)
+    (valid_command words c.workers_of.result some c.workers_of.ensures.some, c.in-Ok.ensures.end, all_read left now c.in-Ok.bytes.items (λ all. (length all ≤ MOST_INPUT_BYTES) × IsRefusalOf all c.in-Ok-Refusal.text.items) c.in-Ok.ensures.bytes c.in-Ok.ensures.end (few, answer))
     (rw c.deref-in-Ok-Refusal.ensures.value at c.finish-in-Ok-Refusal.ensures)
 
 pub returns-in-Ok-Refusal-clause-bad_input : goal.returns-in-Ok-Refusal-clause-bad_input
