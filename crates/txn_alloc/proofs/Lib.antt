@@ -4,3 +4,5 @@ pub mod Traces
 pub mod Looks
 pub mod Cells
 pub mod Zeros
+pub mod Counting
+pub mod Wider

@@ -22,13 +22,23 @@ pub record IsInBlock (arena : Arena) (b a : ℕ) : Type 0 where
   pub low : block_at arena b ≤ a
   pub high : a < block_at arena b + 4
 
--- a is a head, or a word of block b
-abbrev pub IsHeadOrIn : Arena → ℕ → ℕ → Type 0
-IsHeadOrIn arena b a = IsHead arena a ⊎ IsInBlock arena b a
+-- a is the head of the list that block b hangs in while it is free: for every block the first head
+abbrev pub IsHeadFor : Arena → ℕ → ℕ → Type 0
+IsHeadFor arena b a = a ≡ arena.heads
 
--- a is a head, or the first word of one of the arena's blocks
-abbrev pub IsHeadOrFirst : Arena → ℕ → Type 0
-IsHeadOrFirst arena a = IsHead arena a ⊎ ((b : ℕ) × (b < arena.blocks) × (a ≡ block_at arena b))
+-- a is the head for block b, or the block's first word, which names the next block while it is free
+abbrev pub IsHeadOrFirst : Arena → ℕ → ℕ → Type 0
+IsHeadOrFirst arena b a = IsHeadFor arena b a ⊎ (a ≡ block_at arena b)
+
+-- the word that a take may write, by the block that it takes
+abbrev pub IsWrittenByTake : Arena → Option ℕ → ℕ → Type 0
+IsWrittenByTake arena None a = ⊥
+IsWrittenByTake arena (Some b) a = IsHeadFor arena b a
+
+-- the words that a take may read: where it takes none, heads for blocks, and else the block's own head and first word
+abbrev pub IsReadByTake : Arena → Option ℕ → ℕ → Type 0
+IsReadByTake arena None a = (b : ℕ) × IsHeadFor arena b a
+IsReadByTake arena (Some b) a = IsHeadOrFirst arena b a
 
 -- all four words of each block, and the heads, are words of the list, and no head is in a block; a place has 64 bits
 pub record IsLaidOut (arena : Arena) (words : List ℕ) : Type 0 where

@@ -1,5 +1,5 @@
 -- What the laws of free blocks say.
-use Rattle.std.specs.Prelude.{◌≡◌, ◌≢◌, ℕ, true, List, Option, length, slice_get}
+use Rattle.std.specs.Prelude.{◌≡◌, ◌≢◌, ℕ, ◌<◌, ◌≤◌, true, List, Option, length, slice_get, sum_by, count_by}
 use Rattle.std.specs.Ordering.{nat_cmp}
 use Rattle.std.specs.FinSet as set
 use Rattle.txn_alloc.specs.declared.arena.Arena.{Arena}
@@ -32,3 +32,11 @@ abbrev pub LacksGiven : Type 0
 LacksGiven =
     (arena : Arena) (b c : ℕ) (old new : List ℕ)
     → IsInOrder arena old → Gives arena b old new → c ≢ b → Lacks arena c old → Lacks arena c new
+
+-- sets of blocks below a number, of which each block below it is in exactly one, have lengths that sum to the number
+abbrev pub LengthsSum : Type 0
+LengthsSum =
+    (n : ℕ) (sets : List (set.FinSet nat_cmp))
+    → ((b : ℕ) → b < n → count_by (λ s. set.contains s b) sets ≡ 1)
+    → ((b : ℕ) → n ≤ b → count_by (λ s. set.contains s b) sets ≡ 0)
+    → sum_by (λ s. set.len s) sets ≡ n

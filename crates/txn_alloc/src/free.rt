@@ -3,7 +3,7 @@
 ghost use Rattle.std.specs.Prelude.{◌≡◌, ◌<◌, None, IfOk, IfSome, IfNone, OnOk};
 ghost use Rattle.txn_words.specs.Frames.{AppendsReads, KeepsOthers};
 ghost use Rattle.txn_words.specs.Calls.{IsReady, GoesOn, WritesOnly, InEachState, LeadsTo};
-ghost use Rattle.txn_alloc.specs.FreeLists.{IsHead, IsHeadOrIn, IsHeadOrFirst, IsInOrder, HasNone, Lacks, Takes, Gives};
+ghost use Rattle.txn_alloc.specs.FreeLists.{IsHeadOrFirst, IsWrittenByTake, IsReadByTake, IsInOrder, HasNone, Lacks, Takes, Gives};
 
 use crate::arena::{Arena, Block};
 use txn_words::{Stop, Words};
@@ -29,14 +29,14 @@ pub fn take<W: Words>(w: &mut W, arena: &Arena) -> Result<Option<Block>, Stop>
 
     ensures order { OnOk result (InEachState W.Words W.Shape.Shape w.new (IsInOrder arena.now)) }
 
-    // No word but the heads is written, so every other stays.
-    ensures frame { OnOk result (WritesOnly W.Words w.old w.new (IsHead arena.now)) }
-    ensures others { OnOk result (LeadsTo W.Words W.Shape.Shape w.old w.new (KeepsOthers (IsHead arena.now))) }
+    // No word is written but the head for the block that it takes, so every other stays. Where it takes none, no word is.
+    ensures frame { IfOk result (λ block. WritesOnly W.Words w.old w.new (IsWrittenByTake arena.now block)) }
+    ensures others { IfOk result (λ block.
+        LeadsTo W.Words W.Shape.Shape w.old w.new (KeepsOthers (IsWrittenByTake arena.now block))) }
 
-    // Where it answers None, none is.
-    ensures none_frame { IfOk result (λ block. IfNone block (WritesOnly W.Words w.old w.new (λ a. ⊥))) }
-    // It reads heads and first words of blocks alone.
-    ensures reads { OnOk result (AppendsReads (W.trace w.old) (W.trace w.new) (IsHeadOrFirst arena.now)) }
+    // It reads heads alone, and of the block that it takes the head and the first word.
+    ensures reads { IfOk result (λ block.
+        AppendsReads (W.trace w.old) (W.trace w.new) (IsReadByTake arena.now block)) }
     ensures goes_on { GoesOn W.Words w.old w.new result }
 {
     let blocks = arena.blocks;
@@ -62,11 +62,13 @@ pub fn give<W: Words>(w: &mut W, arena: &Arena, block: Block) -> Result<(), Stop
     ensures given { OnOk result (LeadsTo W.Words W.Shape.Shape w.old w.new (Gives arena.now block)) }
     ensures order { OnOk result (InEachState W.Words W.Shape.Shape w.new (IsInOrder arena.now)) }
 
-    // No word but the heads and the block's own four is written, so every other stays.
-    ensures frame { OnOk result (WritesOnly W.Words w.old w.new (IsHeadOrIn arena.now block)) }
-    ensures others { OnOk result (LeadsTo W.Words W.Shape.Shape w.old w.new (KeepsOthers (IsHeadOrIn arena.now block))) }
-    // It reads heads and first words of blocks alone.
-    ensures reads { OnOk result (AppendsReads (W.trace w.old) (W.trace w.new) (IsHeadOrFirst arena.now)) }
+    // No word but the head for the block and its first word is written, so every other stays.
+    ensures frame { OnOk result (WritesOnly W.Words w.old w.new (IsHeadOrFirst arena.now block)) }
+    ensures others { OnOk result (
+        LeadsTo W.Words W.Shape.Shape w.old w.new (KeepsOthers (IsHeadOrFirst arena.now block))) }
+
+    // Neither is another read.
+    ensures reads { OnOk result (AppendsReads (W.trace w.old) (W.trace w.new) (IsHeadOrFirst arena.now block)) }
     ensures goes_on { GoesOn W.Words w.old w.new result }
 {
     let number = block.number();

@@ -1,7 +1,10 @@
 //! What a collection above concludes, each law the contract of a function that does nothing.
 
+ghost use Rattle.std.specs.Prelude.{◌≡◌};
 ghost use Rattle.txn_words.specs.Frames.{OthersStand};
-ghost use Rattle.txn_alloc.specs.Statements.{OneFreeSet, FreeListsStand, LacksTaken, LacksGiven};
+ghost use Rattle.txn_alloc.specs.Statements.{OneFreeSet, FreeListsStand, LacksTaken, LacksGiven, LengthsSum};
+
+use crate::arena::HEADS;
 
 /// In one word list the free blocks are one set.
 pub fn one_free_set()
@@ -21,6 +24,16 @@ pub fn lacks_taken()
 /// A block that is in no list is in none after another was given back.
 pub fn lacks_given()
     ensures { LacksGiven }
+{}
+
+/// Sets of blocks that share none and together have all of an arena's blocks have as many members as it has blocks.
+pub fn lengths_sum()
+    ensures { LengthsSum }
+{}
+
+/// How many lists an arena's free blocks may hang in.
+pub fn sizes()
+    ensures { HEADS ≡ 16 }
 {}
 
 /// A word that a call did not write stands after the call: the law of the frame.

@@ -11,7 +11,8 @@ use Rattle.std.specs.FinMap as entry_map
 use Rattle.history_model.proofs.TraceLaws.{get_set_same, get_set_other}
 use Rattle.txn_words.specs.Frames.{KeepsOthers}
 use Rattle.txn_alloc.specs.declared.arena.Arena.{Arena}
-use Rattle.txn_alloc.specs.FreeLists.{block_at, IsHead, IsInBlock, IsHeadOrIn, Lacks, Gives}
+use Rattle.txn_alloc.specs.FreeLists.{block_at, IsHead, IsInBlock, Lacks, Gives}
+use Rattle.txn_alloc.proofs.Wider.{IsAnyHeadOrIn}
 use Rattle.txn_alloc.proofs.Lists.{free_kept, free_below, one_set, same_block}
 use Rattle.txn_alloc.proofs.Sets.{out_both, out_itself}
 use Rattle.txn_alloc.proofs.Cells.{value_past, value_first, value_later, value_less, has_first, has_later, has_middle, first_block, later_block, less_block, remove_same, remove_other}
@@ -218,7 +219,7 @@ module _ (map : ChainMap) (key : ℕ) (s : List ℕ) (f : Entries) (u v : Blocks
 
   -- the block is given back
   pub removed : (x y : ℕ) (t : List ℕ) → slice_get s (block_at map.arena b + 2) ≡ Some x → slice_get s (block_at map.arena b + 1) ≡ Some y
-      → Gives map.arena b (slice_set s p x) t → KeepsOthers (IsHeadOrIn map.arena b) (slice_set s p x) t → RemovesOne map key y t f u v
+      → Gives map.arena b (slice_set s p x) t → KeepsOthers (IsAnyHeadOrIn map.arena b) (slice_set s p x) t → RemovesOne map key y t f u v
   removed x y t next value gives kept =
       let r : List ℕ = slice_set s p x in
       let k : MapHolds map r (entry_map.remove f key) (set.remove u b) v = cut x next in

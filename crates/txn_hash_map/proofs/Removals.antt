@@ -11,7 +11,8 @@ use Rattle.txn_words.specs.Steps.{EndsWithWrite}
 use Rattle.txn_words.specs.Frames.{KeepsOthers, AppendsOnly}
 use Rattle.txn_words.proofs.Steps.{after_write_end, fits_write_end}
 use Rattle.txn_words.proofs.FrameLaws.{only_more, only_then, only_write}
-use Rattle.txn_alloc.specs.FreeLists.{block_at, IsHead, IsInBlock, IsHeadOrIn, FreeListsHold, Lacks, Gives}
+use Rattle.txn_alloc.specs.FreeLists.{block_at, IsHead, IsInBlock, FreeListsHold, Lacks, Gives}
+use Rattle.txn_alloc.proofs.Wider.{IsAnyHeadOrIn}
 use Rattle.txn_alloc.specs.FreeLists as lists
 use Rattle.txn_hash_map.specs.declared.map.ChainMap.{ChainMap}
 use Rattle.txn_hash_map.specs.Chains.{IsInOrder, Removes, IsOwn, Uses}
@@ -72,16 +73,16 @@ module _ (map : ChainMap) (key n : ℕ) (G : List ℕ → Type 0) (t u : Trace) 
           subst (λ z. Lacks map.arena b z) (sym (cut_state s fit)) (cut_lacks map key (after t s) o.entries o.used o.free o.holds p b ((at_start s fit).0.0) x (next_there s fit));
     }
 
-    pub removes_some : (w : Trace) → Begins v w → Leads n G v w (Gives map.arena b) → Leads n G v w (KeepsOthers (IsHeadOrIn map.arena b)) → Leads n G t w (Removes map key (Some y))
+    pub removes_some : (w : Trace) → Begins v w → Leads n G v w (Gives map.arena b) → Leads n G v w (KeepsOthers (IsAnyHeadOrIn map.arena b)) → Leads n G t w (Removes map key (Some y))
     removes_some w bw gives keeps = record {
       at = λ s fit f used free hold.
           let fit_v : Fits n G v s = fits_begins n G v w s bw fit in
           removed map key (after t s) f used free hold p b ((at_start s fit_v).0.0) x y (after w s) (next_there s fit_v) (value_there s fit_v)
           (subst (λ z. Gives map.arena b z (after w s)) (cut_state s fit_v) (gives.at s fit))
-          (subst (λ z. KeepsOthers (IsHeadOrIn map.arena b) z (after w s)) (cut_state s fit_v) (keeps.at s fit));
+          (subst (λ z. KeepsOthers (IsAnyHeadOrIn map.arena b) z (after w s)) (cut_state s fit_v) (keeps.at s fit));
     }
 
-    pub owns_removed : (w : Trace) → Begins v w → AppendsOnly v w (IsHeadOrIn map.arena b) → (s : List ℕ) → Fits n G w s → AppendsOnly t w (IsOwn map (after t s) (after w s))
+    pub owns_removed : (w : Trace) → Begins v w → AppendsOnly v w (IsAnyHeadOrIn map.arena b) → (s : List ℕ) → Fits n G w s → AppendsOnly t w (IsOwn map (after t s) (after w s))
     owns_removed w bw given s fit =
         let fit_v : Fits n G v s = fits_begins n G v w s bw fit in
         let own : ℕ → Type 0 = IsOwn map (after t s) (after w s) in
@@ -93,6 +94,6 @@ module _ (map : ChainMap) (key n : ℕ) (G : List ℕ → Type 0) (t u : Trace) 
           | inl k ↦ inr (inl k)
           | inr k ↦ inr (inr (k.0, inl (uses k.0 k.1), record { low = omega (arith, k.2); high = omega (arith, k.2) }))
         ] in
-        let step : (a : ℕ) → IsHeadOrIn map.arena b a → own a = λ a k. elim k [ inl head ↦ inl head | inr m ↦ inr (inr (b, inl (uses b used), m)) ] in
+        let step : (a : ℕ) → IsAnyHeadOrIn map.arena b a → own a = λ a k. elim k [ inl head ↦ inl head | inr m ↦ inr (inr (b, inl (uses b used), m)) ] in
         only_then own t u w (only_more (λ a. ⊥) own t u (λ a k. absurd k) l.writes)
-        (only_then own u v w (only_write own u v p x e mine) (only_more (IsHeadOrIn map.arena b) own v w step given))
+        (only_then own u v w (only_write own u v p x e mine) (only_more (IsAnyHeadOrIn map.arena b) own v w step given))

@@ -9,7 +9,8 @@ use Rattle.txn_words.specs.Steps.{EndsWithWrite}
 use Rattle.txn_words.specs.Frames.{AppendsReads}
 use Rattle.txn_words.proofs.Steps.{fits_write_end}
 use Rattle.txn_words.proofs.ReadLaws.{sees_more, sees_then, sees_write}
-use Rattle.txn_alloc.specs.FreeLists.{block_at, IsHeadOrFirst, TakesBlock, Takes}
+use Rattle.txn_alloc.specs.FreeLists.{block_at, TakesBlock, Takes}
+use Rattle.txn_alloc.proofs.Wider.{IsAnyHeadOrFirst}
 use Rattle.txn_hash_map.specs.declared.map.ChainMap.{ChainMap}
 use Rattle.txn_hash_map.specs.Chains.{IsInOrder, MapHolds, Entries, Blocks, MayRead}
 use Rattle.txn_alloc.specs.Looks.{Looks}
@@ -34,16 +35,16 @@ front_spares map key s t a b f u v hold free (inr k) o =
 module _ (map : ChainMap) (key n : ℕ) (G : List ℕ → Type 0) (t u : Trace) (order : InEach n G t (IsInOrder map)) where
   module _ (l : Looks n G t u (IsLink map) (IsMissing map key)) where
     -- no block was free
-    pub spares_none : (v : Trace) → Begins u v → AppendsReads u v (IsHeadOrFirst map.arena) → (s : List ℕ) → Fits n G v s → AppendsReads t v (MayRead map key (after t s) (after v s))
+    pub spares_none : (v : Trace) → Begins u v → AppendsReads u v (IsAnyHeadOrFirst map.arena) → (s : List ℕ) → Fits n G v s → AppendsReads t v (MayRead map key (after t s) (after v s))
     spares_none v bv names s fit =
         let fit_u : Fits n G u s = fits_begins n G u v s bv fit in
         let o : IsInOrder map (after t s) = order.at s (fits_begins n G t u s l.begins fit_u) in
         let may : ℕ → Type 0 = MayRead map key (after t s) (after v s) in
         sees_then may t u v (spares_link map key n G t u l (record { at = λ r fits. (order.at r fits).holds.map.laid }) s fit_u)
-        (sees_more (IsHeadOrFirst map.arena) may u v (λ a k. name_spares map key (after t s) a o.holds.map.laid k) names)
+        (sees_more (IsAnyHeadOrFirst map.arena) may u v (λ a k. name_spares map key (after t s) a o.holds.map.laid k) names)
 
     -- a block was taken, and put in front of its chain
-    pub spares_new : (v w : Trace) (b : ℕ) → Begins u v → Begins v w → Leads n G u v (Takes map.arena (Some b)) → AppendsReads u v (IsHeadOrFirst map.arena) → AppendsReads v w (IsBucketOrIn map b)
+    pub spares_new : (v w : Trace) (b : ℕ) → Begins u v → Begins v w → Leads n G u v (Takes map.arena (Some b)) → AppendsReads u v (IsAnyHeadOrFirst map.arena) → AppendsReads v w (IsBucketOrIn map b)
         → (s : List ℕ) → Fits n G w s → AppendsReads t w (MayRead map key (after t s) (after w s))
     spares_new v w b bv bw takes names front s fit =
         let fit_v : Fits n G v s = fits_begins n G v w s bw fit in
@@ -66,7 +67,7 @@ module _ (map : ChainMap) (key n : ℕ) (G : List ℕ → Type 0) (t u : Trace) 
 
   -- the key was taken out, and its block given back
   pub spares_removed : (v w : Trace) (p b q y r x : ℕ) → q ≡ block_at map.arena b + 1 → Looks n G t u (IsLinkOr map q) (IsRead map key p b q y r x)
-      → EndsWithWrite u v p x → Begins v w → AppendsReads v w (IsHeadOrFirst map.arena) → (s : List ℕ) → Fits n G w s → AppendsReads t w (MayRead map key (after t s) (after w s))
+      → EndsWithWrite u v p x → Begins v w → AppendsReads v w (IsAnyHeadOrFirst map.arena) → (s : List ℕ) → Fits n G w s → AppendsReads t w (MayRead map key (after t s) (after w s))
   spares_removed v w p b q y r x is_value l e bw names s fit =
       let fit_v : Fits n G v s = fits_begins n G v w s bw fit in
       let fit_u : Fits n G u s = fits_write_end n G u v p x s e fit_v in
@@ -83,4 +84,4 @@ module _ (map : ChainMap) (key n : ℕ) (G : List ℕ → Type 0) (t u : Trace) 
       ] in
       sees_then may t u w (sees_more (IsLinkOr map q) may t u step l.reads)
       (sees_then may u v w (sees_write may u v p x e mine)
-      (sees_more (IsHeadOrFirst map.arena) may v w (λ a k. name_spares map key (after t s) a o.holds.map.laid k) names))
+      (sees_more (IsAnyHeadOrFirst map.arena) may v w (λ a k. name_spares map key (after t s) a o.holds.map.laid k) names))

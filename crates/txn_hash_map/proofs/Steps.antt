@@ -2,7 +2,8 @@
 use Rattle.std.proofs.Common.{◌≡◌, ◌≢◌, ℕ, ◌+◌, ◌^◌, ◌<◌, ◌≤◌, inl, inr, List, [], ◌∷◌, ◌++◌, length, slice_get, Option, Some, None, refl, sym, ap, ◌∙◌, subst, arith, append_assoc, length-append}
 use Rattle.std.proofs.lemmas.Option.{slice_get_within, same_Some}
 use Rattle.std.specs.FinMap as entry_map
-use Rattle.txn_alloc.specs.FreeLists.{block_at, IsHeadOrFirst}
+use Rattle.txn_alloc.specs.FreeLists.{block_at}
+use Rattle.txn_alloc.proofs.Wider.{IsAnyHeadOrFirst}
 use Rattle.txn_alloc.proofs.Cells.{value_past, value_first, value_later}
 use Rattle.txn_hash_map.specs.declared.map.ChainMap.{ChainMap}
 use Rattle.txn_hash_map.specs.Chains.{Cell, HasChain, HasKeysOnce, value_of, bucket_of, IsLaid, IsHeld, IsInOrder, ChainsHold, Entries, Blocks, Finds, Uses, IsOtherValue}
@@ -156,7 +157,7 @@ module _ (map : ChainMap) (key : ℕ) (s : List ℕ) where
   link_spares a l (inr (b, lt, inr e)) o = omega (arith, o.place, e)
 
   -- what is read of the free lists is no value
-  pub name_spares : (a : ℕ) → IsLaid map s → IsHeadOrFirst map.arena a → ¬ IsOtherValue map key s a
+  pub name_spares : (a : ℕ) → IsLaid map s → IsAnyHeadOrFirst map.arena a → ¬ IsOtherValue map key s a
   name_spares a l (inl k) o =
       let lt : o.block < map.arena.blocks = uses_below o.block o.used in
       l.arena.outside o.block a lt (record { low = omega (arith, o.place); high = omega (arith, o.place) }) k

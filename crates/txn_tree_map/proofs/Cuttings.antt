@@ -7,7 +7,8 @@ use Rattle.std.specs.FinSet as set
 use Rattle.std.specs.FinMap as entry_map
 use Rattle.txn_words.specs.Frames.{KeepsOthers}
 use Rattle.txn_alloc.specs.declared.arena.Arena.{Arena}
-use Rattle.txn_alloc.specs.FreeLists.{block_at, IsHead, IsInBlock, IsHeadOrIn, FreeListsHold, Lacks, Gives}
+use Rattle.txn_alloc.specs.FreeLists.{block_at, IsHead, IsInBlock, FreeListsHold, Lacks, Gives}
+use Rattle.txn_alloc.proofs.Wider.{IsAnyHeadOrIn}
 use Rattle.txn_alloc.specs.EntryMaps.{Cell, Entries, Blocks, value_of, has_block, HoldsApart, RemovesOne}
 use Rattle.txn_alloc.proofs.Sets.{out_both, out_itself, contains-remove_other}
 use Rattle.txn_alloc.proofs.Lists.{free_kept, free_below, one_set, same_block}
@@ -215,7 +216,7 @@ module _ (map : TreeMap) (key place b value : ℕ) (s r : List ℕ) (f : Entries
   cut_lacks free holds = ap (λ z. set.contains z b) (one_set map.arena r free v holds cut_free) ∙ hold.apart b (found_used map key place b 0 s h f u hold.map)
 
   -- the block was given back
-  pub removed : (t : List ℕ) → Gives map.arena b r t → KeepsOthers (IsHeadOrIn map.arena b) r t → RemovesOne map.arena (TreeHolds map) key value t f u v
+  pub removed : (t : List ℕ) → Gives map.arena b r t → KeepsOthers (IsAnyHeadOrIn map.arena b) r t → RemovesOne map.arena (TreeHolds map) key value t f u v
   removed t gives others =
       let a : Arena = map.arena in
       let here : TreeHolds map r (entry_map.remove f key) (set.remove u b) = cut_holds in

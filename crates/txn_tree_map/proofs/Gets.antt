@@ -7,7 +7,8 @@ use Rattle.history_model.specs.Fitting.{Fits, InEach, Leads}
 use Rattle.history_model.proofs.FittingLaws.{fits_begins}
 use Rattle.txn_words.specs.Frames.{AppendsReads}
 use Rattle.txn_words.proofs.ReadLaws.{sees_more}
-use Rattle.txn_alloc.specs.FreeLists.{block_at, IsHeadOrFirst}
+use Rattle.txn_alloc.specs.FreeLists.{block_at}
+use Rattle.txn_alloc.proofs.Wider.{IsAnyHeadOrFirst}
 use Rattle.txn_alloc.specs.EntryMaps.{Entries, Blocks, Finds, Uses, IsOtherValue, MayRead}
 use Rattle.txn_alloc.specs.Looks.{Looks}
 use Rattle.txn_alloc.proofs.Looks.{looks_read, looks_wider, seen_before}
@@ -31,7 +32,7 @@ module _ (map : TreeMap) (IsKey : ℕ → Type 0) (s : List ℕ) (a : ℕ) where
   link_spares laid (inr k) o = elim (k.2) [ inl e ↦ omega (arith, e, o.place) | inr d ↦ elim d [ inl e ↦ omega (arith, e, o.place) | inr e ↦ omega (arith, e, o.place) ] ]
 
   -- nor is a head, or the first word of a block
-  pub name_spares : IsLaid map s → IsHeadOrFirst map.arena a → ¬ IsOtherValue map.arena (TreeHolds map) IsKey s a
+  pub name_spares : IsLaid map s → IsAnyHeadOrFirst map.arena a → ¬ IsOtherValue map.arena (TreeHolds map) IsKey s a
   name_spares laid (inl head) o = laid.arena.outside o.block a (uses_below map s o.block o.used) (record { low = omega (arith, o.place); high = omega (arith, o.place) }) head
   name_spares laid (inr k) o = omega (arith, k.2, o.place)
 

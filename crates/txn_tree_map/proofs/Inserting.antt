@@ -13,7 +13,8 @@ use Rattle.txn_words.proofs.FrameLaws.{only_more, only_then, only_write}
 use Rattle.txn_words.proofs.ReadLaws.{sees_more, sees_then, sees_write}
 use Rattle.txn_alloc.specs.declared.put.Put.{Put}
 use Rattle.txn_alloc.specs.declared.put.Put.TheVariants.{New, Old, Full}
-use Rattle.txn_alloc.specs.FreeLists.{block_at, IsHead, IsInBlock, IsHeadOrFirst, HasNone, TakesBlock, Takes}
+use Rattle.txn_alloc.specs.FreeLists.{block_at, IsHead, IsInBlock, HasNone, TakesBlock, Takes}
+use Rattle.txn_alloc.proofs.Wider.{IsAnyHeadOrFirst}
 use Rattle.txn_alloc.specs.EntryMaps.{Entries, Blocks, HasMapApart, HoldsApart, Uses, IsOtherValue, MayRead, IsOwn, IsValue, Inserts, InsertsOld, LacksRoom}
 use Rattle.txn_alloc.specs.Looks.{Looks}
 use Rattle.txn_alloc.proofs.Lists.{one_set}
@@ -69,12 +70,12 @@ module _ (map : TreeMap) (key x n : ℕ) (G : List ℕ → Type 0) (t u : Trace)
         let own : ℕ → Type 0 = IsOwn map.arena (TreeHolds map) (λ a. a ≡ map.root) (after t s) (after v s) in
         only_then own t u v (only_more (λ a. ⊥) own t u (λ a k. absurd k) l.writes) (only_more (IsHead map.arena) own u v (λ a k. inl k) heads)
 
-    pub spares_heads : (v : Trace) → Begins u v → AppendsReads u v (IsHeadOrFirst map.arena) → (s : List ℕ) → Fits n G v s → AppendsReads t v (MayRead map.arena (TreeHolds map) key (after t s) (after v s))
+    pub spares_heads : (v : Trace) → Begins u v → AppendsReads u v (IsAnyHeadOrFirst map.arena) → (s : List ℕ) → Fits n G v s → AppendsReads t v (MayRead map.arena (TreeHolds map) key (after t s) (after v s))
     spares_heads v b names s fit =
         let fit_u : Fits n G u s = fits_begins n G u v s b fit in
         let may : ℕ → Type 0 = MayRead map.arena (TreeHolds map) key (after t s) (after v s) in
         sees_then may t u v (spares_link map key n G t u l (record { at = λ r fits. (order.at r fits).holds.map.laid }) s fit_u)
-        (sees_more (IsHeadOrFirst map.arena) may u v (λ a k. name_spares map (λ d. d ≡ key) (after t s) a (missing_start s fit_u).is_at.laid k) names)
+        (sees_more (IsAnyHeadOrFirst map.arena) may u v (λ a k. name_spares map (λ d. d ≡ key) (after t s) a (missing_start s fit_u).is_at.laid k) names)
 
     -- a block was taken
     module _ (v : Trace) (b : ℕ) (bv : Begins u v) (takes : Leads n G u v (Takes map.arena (Some b))) (keeps : Leads n G u v (KeepsOthers (IsHead map.arena))) where
@@ -124,7 +125,7 @@ module _ (map : TreeMap) (key x n : ℕ) (G : List ℕ → Type 0) (t u : Trace)
             only_then mine t u w (only_more (λ a. ⊥) mine t u (λ a k. absurd k) l.writes)
             (only_then mine u v w (only_more (IsHead map.arena) mine u v (λ a k. inl k) heads) (only_more (IsPutOwn map key b (after v s) (after w s)) mine v w step (own s fit)))
 
-        pub spares_new : AppendsReads u v (IsHeadOrFirst map.arena) → AppendsReads v w (IsLinkOrIn map b)
+        pub spares_new : AppendsReads u v (IsAnyHeadOrFirst map.arena) → AppendsReads v w (IsLinkOrIn map b)
             → (s : List ℕ) → Fits n G w s → AppendsReads t w (MayRead map.arena (TreeHolds map) key (after t s) (after w s))
         spares_new names links s fit =
             let fit_u : Fits n G u s = fits_begins n G u v s bv (fits_v s fit) in

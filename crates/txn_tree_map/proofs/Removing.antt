@@ -10,7 +10,8 @@ use Rattle.history_model.proofs.FittingLaws.{fits_begins}
 use Rattle.txn_words.specs.Frames.{KeepsOthers, AppendsOnly, AppendsReads}
 use Rattle.txn_words.proofs.FrameLaws.{only_more, only_then}
 use Rattle.txn_words.proofs.ReadLaws.{sees_more, sees_then}
-use Rattle.txn_alloc.specs.FreeLists.{block_at, IsHead, IsInBlock, IsHeadOrIn, IsHeadOrFirst, Lacks, Gives}
+use Rattle.txn_alloc.specs.FreeLists.{block_at, IsHead, IsInBlock, Lacks, Gives}
+use Rattle.txn_alloc.proofs.Wider.{IsAnyHeadOrIn, IsAnyHeadOrFirst}
 use Rattle.txn_alloc.specs.FreeLists as lists
 use Rattle.txn_alloc.specs.EntryMaps.{HasMapApart, Uses, MayRead, IsOwn, Removes}
 use Rattle.txn_alloc.specs.Looks.{Looks}
@@ -121,13 +122,13 @@ module _ (map : TreeMap) (key place b value n : ℕ) (G : List ℕ → Type 0) (
   }
 
   module _ (w : Trace) (bw : Begins v w) where
-    pub removes_some : Leads n G v w (Gives map.arena b) → Leads n G v w (KeepsOthers (IsHeadOrIn map.arena b)) → Leads n G t w (Removes map.arena (TreeHolds map) key (Some value))
+    pub removes_some : Leads n G v w (Gives map.arena b) → Leads n G v w (KeepsOthers (IsAnyHeadOrIn map.arena b)) → Leads n G t w (Removes map.arena (TreeHolds map) key (Some value))
     removes_some gives keeps = record {
       at = λ s fit f used free hold.
           removed map key place b value (after t s) (after v s) f used free hold (cut_start s (fits_begins n G v w s bw fit)) (after w s) (gives.at s fit) (keeps.at s fit);
     }
 
-    pub owns_removed : ((s : List ℕ) → Fits n G v s → AppendsOnly u v (IsCutOwn map place b (after u s) (after v s))) → AppendsOnly v w (IsHeadOrIn map.arena b)
+    pub owns_removed : ((s : List ℕ) → Fits n G v s → AppendsOnly u v (IsCutOwn map place b (after u s) (after v s))) → AppendsOnly v w (IsAnyHeadOrIn map.arena b)
         → (s : List ℕ) → Fits n G w s → AppendsOnly t w (IsOwn map.arena (TreeHolds map) (λ a. a ≡ map.root) (after t s) (after w s))
     owns_removed own given s fit =
         let fit_v : Fits n G v s = fits_begins n G v w s bw fit in
@@ -140,12 +141,12 @@ module _ (map : TreeMap) (key place b value n : ℕ) (G : List ℕ → Type 0) (
           | inl e ↦ inr (inl e)
           | inr q ↦ inr (inr (q.0, inl (uses q.0 q.1), q.2))
         ] in
-        let second : (a : ℕ) → IsHeadOrIn map.arena b a → mine a = λ a k. elim k [ inl head ↦ inl head | inr m ↦ inr (inr (b, inl (uses b used), m)) ] in
+        let second : (a : ℕ) → IsAnyHeadOrIn map.arena b a → mine a = λ a k. elim k [ inl head ↦ inl head | inr m ↦ inr (inr (b, inl (uses b used), m)) ] in
         only_then mine t u w (only_more (λ a. ⊥) mine t u (λ a k. absurd k) l.writes)
         (only_then mine u v w (only_more (IsCutOwn map place b (after t s) (after v s)) mine u v first (subst (λ z. AppendsOnly u v (IsCutOwn map place b z (after v s))) (l.same s (fits_u s fit_v)) (own s fit_v)))
-        (only_more (IsHeadOrIn map.arena b) mine v w second given))
+        (only_more (IsAnyHeadOrIn map.arena b) mine v w second given))
 
-    pub spares_removed : AppendsReads u v (IsLinkOrValue map b) → AppendsReads v w (IsHeadOrFirst map.arena) → (s : List ℕ) → Fits n G w s → AppendsReads t w (MayRead map.arena (TreeHolds map) key (after t s) (after w s))
+    pub spares_removed : AppendsReads u v (IsLinkOrValue map b) → AppendsReads v w (IsAnyHeadOrFirst map.arena) → (s : List ℕ) → Fits n G w s → AppendsReads t w (MayRead map.arena (TreeHolds map) key (after t s) (after w s))
     spares_removed reads names s fit =
         let fit_v : Fits n G v s = fits_begins n G v w s bw fit in
         let h : IsFoundAt map key place b (after t s) = seen_before n G t u l s (fits_u s fit_v) in
@@ -153,4 +154,4 @@ module _ (map : TreeMap) (key place b value n : ℕ) (G : List ℕ → Type 0) (
         let link : (a : ℕ) → IsLink map a → may a = λ a k. link_spares map (λ d. d ≡ key) (after t s) a h.is_at.laid k in
         let step : (a : ℕ) → IsLinkOrValue map b a → may a = λ a k. elim k [ inl m ↦ link a m | inr e ↦ value_spares map (λ d. d ≡ key) (after t s) a b key (found_key map key (after t s) place b h) refl e ] in
         sees_then may t u w (sees_more (IsLink map) may t u link l.reads)
-        (sees_then may u v w (sees_more (IsLinkOrValue map b) may u v step reads) (sees_more (IsHeadOrFirst map.arena) may v w (λ a k. name_spares map (λ d. d ≡ key) (after t s) a h.is_at.laid k) names))
+        (sees_then may u v w (sees_more (IsLinkOrValue map b) may u v step reads) (sees_more (IsAnyHeadOrFirst map.arena) may v w (λ a k. name_spares map (λ d. d ≡ key) (after t s) a h.is_at.laid k) names))

@@ -1,10 +1,9 @@
-use Rattle.std.proofs.Common.{◌≡◌, ◌+◌, ◌*◌, ◌<◌, inl, inr, arith, ap, ◌∙◌}
+use Rattle.std.proofs.Common.{◌≡◌, ◌+◌, ◌*◌, ◌<◌, inl, inr, refl, arith, ap, ◌∙◌}
 use Rattle.history_model.proofs.TraceLaws.{begins_trans}
 use Rattle.txn_words.proofs.CallLaws.{each_plain, state_after}
 use Rattle.txn_words.proofs.ReadLaws.{sees_read, sees_then, sees_write}
 use Rattle.txn_words.proofs.FrameLaws.{only_read, only_write, only_then, writes_keep}
-use Rattle.txn_alloc.specs.FreeLists.{block_at, IsHeadOrIn, IsHeadOrFirst, IsInBlock, IsInOrder, Gives}
-use Rattle.txn_alloc.proofs.Lists.{first_head}
+use Rattle.txn_alloc.specs.FreeLists.{block_at, IsHeadOrFirst, IsInOrder, Gives}
 use Rattle.txn_alloc.proofs.Traces.{Lies, lies, gives_back, order_given}
 use Rattle.txn_alloc.proofs.free.give.Goals as goal
 
@@ -43,11 +42,11 @@ returns-clause-order g c =
 pub returns-clause-frame : goal.returns-clause-frame
 returns-clause-frame g c =
     let a = c.args.arena.now in
-    let is_own = IsHeadOrIn a c.args.block in
-    let in_block : IsInBlock a c.args.block (a.first + 4 * c.from.result) = record { low = omega arith; high = omega arith } in
+    let own = IsHeadOrFirst a c.args.block in
+    let is_first : a.first + 4 * c.from.result ≡ block_at a c.args.block = omega arith in
     record {
-      appended = only_then is_own _ _ _ (only_read is_own _ _ _ _ c.in_ok-head.ensures.value)
-          (only_then is_own _ _ _ (only_write is_own _ _ _ _ c.in_ok-write.ensures.value (inr in_block)) (only_write is_own _ _ _ _ c.in_ok-write-2.ensures.value (inl (first_head a))));
+      appended = only_then own _ _ _ (only_read own _ _ _ _ c.in_ok-head.ensures.value)
+          (only_then own _ _ _ (only_write own _ _ _ _ c.in_ok-write.ensures.value (inr is_first)) (only_write own _ _ _ _ c.in_ok-write-2.ensures.value (inl refl)));
     }
 
 pub returns-clause-others : goal.returns-clause-others
@@ -56,8 +55,7 @@ returns-clause-others g c = writes_keep g.W.Words g.W.Shape.Shape _ _ _ (returns
 pub returns-clause-reads : goal.returns-clause-reads
 returns-clause-reads g c =
     let a = c.args.arena.now in
-    let seen = IsHeadOrFirst a in
+    let seen = IsHeadOrFirst a c.args.block in
     let is_first : a.first + 4 * c.from.result ≡ block_at a c.args.block = omega arith in
-    sees_then seen _ _ _ (sees_read seen _ _ _ _ c.in_ok-head.ensures.value (inl (first_head a)))
-    (sees_then seen _ _ _ (sees_write seen _ _ _ _ c.in_ok-write.ensures.value (inr (c.args.block, c.requires.number, is_first)))
-    (sees_write seen _ _ _ _ c.in_ok-write-2.ensures.value (inl (first_head a))))
+    sees_then seen _ _ _ (sees_read seen _ _ _ _ c.in_ok-head.ensures.value (inl refl))
+    (sees_then seen _ _ _ (sees_write seen _ _ _ _ c.in_ok-write.ensures.value (inr is_first)) (sees_write seen _ _ _ _ c.in_ok-write-2.ensures.value (inl refl)))

@@ -1,12 +1,11 @@
-use Rattle.std.proofs.Common.{◌≡◌, ◌+◌, ◌-◌, ◌*◌, ◌<◌, None, Some, inl, inr, arith, ap, ◌∙◌}
+use Rattle.std.proofs.Common.{◌≡◌, ◌+◌, ◌-◌, ◌*◌, ◌<◌, None, Some, inl, inr, refl, arith, ap, ◌∙◌}
 use Rattle.history_model.specs.Fitting.{SomeFits}
 use Rattle.history_model.proofs.TraceLaws.{begins_trans}
 use Rattle.history_model.proofs.FittingLaws.{some_at}
 use Rattle.txn_words.proofs.CallLaws.{each_plain, leads_plain, state_after}
 use Rattle.txn_words.proofs.ReadLaws.{sees_read, sees_then, sees_write}
 use Rattle.txn_words.proofs.FrameLaws.{only_read, only_write, only_then, writes_keep}
-use Rattle.txn_alloc.specs.FreeLists.{block_at, IsHead, IsHeadOrFirst, IsInOrder, HasNone, Lacks, Takes}
-use Rattle.txn_alloc.proofs.Lists.{first_head}
+use Rattle.txn_alloc.specs.FreeLists.{block_at, IsHeadOrFirst, IsWrittenByTake, IsReadByTake, IsInOrder, HasNone, Lacks, Takes}
 use Rattle.txn_alloc.proofs.Traces.{Lies, lies, named, takes_none, found_none, takes_some, taken_from_some, order_taken, lacks_itself}
 use Rattle.txn_alloc.proofs.free.take.Goals as goal
 
@@ -29,10 +28,7 @@ returns-then-head-eq0-clause-order g c =
 
 pub returns-then-head-eq0-clause-frame : goal.returns-then-head-eq0-clause-frame
 returns-then-head-eq0-clause-frame g c =
-    record { appended = only_read (IsHead c.args.arena.now) _ _ _ _ c.in_ok-head.ensures.value }
-
-pub returns-then-head-eq0-clause-none_frame : goal.returns-then-head-eq0-clause-none_frame
-returns-then-head-eq0-clause-none_frame g c = record { appended = only_read (λ a. ⊥) _ _ _ _ c.in_ok-head.ensures.value }
+    record { appended = only_read (IsWrittenByTake c.args.arena.now None) _ _ _ _ c.in_ok-head.ensures.value }
 
 pub returns-then-head-eq0-clause-others : goal.returns-then-head-eq0-clause-others
 returns-then-head-eq0-clause-others g c = writes_keep g.W.Words g.W.Shape.Shape _ _ _ (returns-then-head-eq0-clause-frame g c)
@@ -90,10 +86,10 @@ returns-clause-lacks g c =
 
 pub returns-clause-frame : goal.returns-clause-frame
 returns-clause-frame g c =
-    let a = c.args.arena.now in
+    let own = IsWrittenByTake c.args.arena.now (Some c.of.result) in
     record {
-      appended = only_then (IsHead a) _ _ _ (only_read (IsHead a) _ _ _ _ c.in_ok-head.ensures.value)
-          (only_then (IsHead a) _ _ _ (only_read (IsHead a) _ _ _ _ c.in_ok-next.ensures.value) (only_write (IsHead a) _ _ _ _ c.in_ok-write.ensures.value (first_head a)));
+      appended = only_then own _ _ _ (only_read own _ _ _ _ c.in_ok-head.ensures.value)
+          (only_then own _ _ _ (only_read own _ _ _ _ c.in_ok-next.ensures.value) (only_write own _ _ _ _ c.in_ok-write.ensures.value refl));
     }
 
 pub returns-clause-others : goal.returns-clause-others
@@ -101,15 +97,13 @@ returns-clause-others g c = writes_keep g.W.Words g.W.Shape.Shape _ _ _ (returns
 
 pub returns-then-head-eq0-clause-reads : goal.returns-then-head-eq0-clause-reads
 returns-then-head-eq0-clause-reads g c =
-    let a = c.args.arena.now in
-    sees_read (IsHeadOrFirst a) _ _ _ _ c.in_ok-head.ensures.value (inl (first_head a))
+    sees_read (IsReadByTake c.args.arena.now None) _ _ _ _ c.in_ok-head.ensures.value (0, refl)
 
 pub returns-clause-reads : goal.returns-clause-reads
 returns-clause-reads g c =
     let a = c.args.arena.now in
-    let seen = IsHeadOrFirst a in
-    let lt : c.in_ok-head.head - 1 < a.blocks = omega arith in
-    let is_first : a.first + 4 * c.from-2.result ≡ block_at a (c.in_ok-head.head - 1) = omega arith in
-    sees_then seen _ _ _ (sees_read seen _ _ _ _ c.in_ok-head.ensures.value (inl (first_head a)))
-    (sees_then seen _ _ _ (sees_read seen _ _ _ _ c.in_ok-next.ensures.value (inr (c.in_ok-head.head - 1, lt, is_first)))
-    (sees_write seen _ _ _ _ c.in_ok-write.ensures.value (inl (first_head a))))
+    let seen = IsHeadOrFirst a c.of.result in
+    let is_first : a.first + 4 * c.from-2.result ≡ block_at a c.of.result = omega (arith, c.of.ensures) in
+    sees_then seen _ _ _ (sees_read seen _ _ _ _ c.in_ok-head.ensures.value (inl refl))
+    (sees_then seen _ _ _ (sees_read seen _ _ _ _ c.in_ok-next.ensures.value (inr is_first))
+    (sees_write seen _ _ _ _ c.in_ok-write.ensures.value (inl refl)))

@@ -7,6 +7,7 @@ use Rattle.txn_words.proofs.FrameLaws.{only_then}
 use Rattle.txn_alloc.specs.declared.put.Put.TheVariants.{New, Old, Full}
 use Rattle.txn_alloc.specs.FreeLists.{block_at, HasNone}
 use Rattle.txn_hash_map.specs.Chains.{IsInOrder, Inserts, LacksRoom}
+use Rattle.txn_alloc.proofs.Wider.{take_heads, take_keeps, take_names}
 use Rattle.txn_hash_map.proofs.Looks.{laid_block, looks_value}
 use Rattle.txn_alloc.proofs.Looks.{leads_from, each_from, leads_back}
 use Rattle.txn_hash_map.proofs.Inserts.{order_inserted, order_looks, inserts_new, owns_new, owns_none, laid_taken, lacks_room, inserts_old, owns_old, owns_value, not_new, not_old}
@@ -52,7 +53,7 @@ put_in_front-requires-clause-laid g c =
     let missing = rw c.in-None.is at c.in_ok-found.ensures.missing in
     let goes = c.in_ok-found.ensures.goes_on in
     let then = c.in_ok-block-in-None.ensures in
-    let keeps = leads_from g.W.Words g.W.Shape.Shape c.args.w.now c.find.new.w c.take.new.w _ goes.shape then.others in
+    let keeps = take_keeps m.arena c.in_ok-block-in-None.field-0 _ _ _ _ (leads_from g.W.Words g.W.Shape.Shape c.args.w.now c.find.new.w c.take.new.w _ goes.shape then.others) in
     each_from g.W.Words g.W.Shape.Shape c.args.w.now c.take.new.w _ (then.goes_on.shape ∙ goes.shape)
     (laid_taken m c.args.key c.args.value _ _ _ _ missing _ then.goes_on.begins (each_plain g.W.Words g.W.Shape.Shape _ _ c.requires.order) keeps)
 
@@ -149,7 +150,7 @@ returns-in_ok-put_in_front-in-Some-2-clause-put g c =
     record {
       at = (inserts_new m c.args.key c.args.value _ _ _ _ missing _ _ c.in-Some-2.block then.goes_on.begins c.in_ok-put_in_front-in-Some-2.ensures.goes_on.begins
           (leads_from g.W.Words g.W.Shape.Shape c.args.w.now c.find.new.w c.take.new.w _ goes.shape taken)
-          (leads_from g.W.Words g.W.Shape.Shape c.args.w.now c.find.new.w c.take.new.w _ goes.shape then.others)
+          (take_keeps m.arena c.in_ok-block-in-None.field-0 _ _ _ _ (leads_from g.W.Words g.W.Shape.Shape c.args.w.now c.find.new.w c.take.new.w _ goes.shape then.others))
           (leads_from g.W.Words g.W.Shape.Shape c.args.w.now c.take.new.w c.put_in_front.new.w _ (then.goes_on.shape ∙ goes.shape) put)).at;
     }
 
@@ -182,9 +183,9 @@ returns-in_ok-put_in_front-in-Some-2-clause-frame g c =
     record {
       at = owns_new m c.args.key c.args.value _ _ _ _ missing _ _ c.in-Some-2.block then.goes_on.begins c.in_ok-put_in_front-in-Some-2.ensures.goes_on.begins
           (leads_from g.W.Words g.W.Shape.Shape c.args.w.now c.find.new.w c.take.new.w _ goes.shape taken)
-          (leads_from g.W.Words g.W.Shape.Shape c.args.w.now c.find.new.w c.take.new.w _ goes.shape then.others)
+          (take_keeps m.arena c.in_ok-block-in-None.field-0 _ _ _ _ (leads_from g.W.Words g.W.Shape.Shape c.args.w.now c.find.new.w c.take.new.w _ goes.shape then.others))
           (leads_from g.W.Words g.W.Shape.Shape c.args.w.now c.take.new.w c.put_in_front.new.w _ (then.goes_on.shape ∙ goes.shape) put)
-          (each_plain g.W.Words g.W.Shape.Shape _ _ c.requires.order) then.frame.appended front.appended;
+          (each_plain g.W.Words g.W.Shape.Shape _ _ c.requires.order) (take_heads m.arena c.in_ok-block-in-None.field-0 _ _ then.frame.appended) front.appended;
     }
 
 pub returns-in-None-2-clause-put : goal.returns-in-None-2-clause-put
@@ -224,7 +225,7 @@ returns-in-None-2-clause-frame g c =
     let m = c.args.self.now in
     let missing = rw c.in-None.is at c.in_ok-found.ensures.missing in
     let then = c.in_ok-block-in-None.ensures in
-    record { at = λ s fit. owns_none m c.args.key c.args.value _ _ _ _ missing _ then.frame.appended s }
+    record { at = λ s fit. owns_none m c.args.key c.args.value _ _ _ _ missing _ (take_heads m.arena c.in_ok-block-in-None.field-0 _ _ then.frame.appended) s }
 
 pub returns-in_ok-put_in_front-in-Some-2-clause-old : goal.returns-in_ok-put_in_front-in-Some-2-clause-old
 returns-in_ok-put_in_front-in-Some-2-clause-old g c = λ was e. absurd (cc)
@@ -254,7 +255,7 @@ returns-in_ok-put_in_front-in-Some-2-clause-reads g c =
     let front = rw c.number.ensures at c.in_ok-put_in_front-in-Some-2.ensures.reads in
     record {
       at = spares_new m c.args.key _ _ _ _ (each_plain g.W.Words g.W.Shape.Shape _ _ c.requires.order) missing _ _ c.in-Some-2.block then.goes_on.begins c.in_ok-put_in_front-in-Some-2.ensures.goes_on.begins
-          (leads_from g.W.Words g.W.Shape.Shape c.args.w.now c.find.new.w c.take.new.w _ goes.shape taken) then.reads front;
+          (leads_from g.W.Words g.W.Shape.Shape c.args.w.now c.find.new.w c.take.new.w _ goes.shape taken) (take_names m.arena c.in_ok-block-in-None.field-0 _ _ (λ b e. rw e at then.number) then.reads) front;
     }
 
 pub returns-in-None-2-clause-reads : goal.returns-in-None-2-clause-reads
@@ -262,12 +263,12 @@ returns-in-None-2-clause-reads g c =
     let m = c.args.self.now in
     let missing = rw c.in-None.is at c.in_ok-found.ensures.missing in
     let then = c.in_ok-block-in-None.ensures in
-    record { at = spares_none m c.args.key _ _ _ _ (each_plain g.W.Words g.W.Shape.Shape _ _ c.requires.order) missing _ then.goes_on.begins then.reads }
+    record { at = spares_none m c.args.key _ _ _ _ (each_plain g.W.Words g.W.Shape.Shape _ _ c.requires.order) missing _ then.goes_on.begins (take_names m.arena c.in_ok-block-in-None.field-0 _ _ (λ b e. rw e at then.number) then.reads) }
 
 pub returns-in-None-2-clause-full_frame : goal.returns-in-None-2-clause-full_frame
 returns-in-None-2-clause-full_frame g c =
     let missing = rw c.in-None.is at c.in_ok-found.ensures.missing in
-    let still = rw c.in-None-2.is at c.in_ok-block-in-None.ensures.none_frame in
+    let still = rw c.in-None-2.is at c.in_ok-block-in-None.ensures.frame in
     λ e. record { appended = only_then (λ a. ⊥) _ _ _ missing.writes still.appended }
 
 pub returns-in_ok-write-in-Some-clause-full_frame : goal.returns-in_ok-write-in-Some-clause-full_frame

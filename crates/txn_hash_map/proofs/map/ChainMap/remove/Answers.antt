@@ -7,6 +7,7 @@ use Rattle.txn_words.proofs.FrameLaws.{only_more}
 use Rattle.txn_alloc.specs.FreeLists.{block_at}
 use Rattle.txn_hash_map.specs.Chains.{IsInOrder, Removes}
 use Rattle.txn_alloc.proofs.Looks.{looks_read}
+use Rattle.txn_alloc.proofs.Wider.{give_writes, give_keeps, give_names}
 use Rattle.txn_hash_map.proofs.Looks.{laid_block, looks_value, IsLinkOr, finds_none, spares_link}
 use Rattle.txn_alloc.proofs.Looks.{leads_from, each_from}
 use Rattle.txn_hash_map.proofs.Removals.{order_removed, place_within, order_cut, lacks_cut, removes_some, owns_removed}
@@ -133,7 +134,7 @@ returns-in_ok-give-in-Some-clause-removed g c =
     record {
       at = (removes_some m c.args.key _ _ _ _ p b q y r x is_value is_next looks _ c.in_ok-write-in-Some.ensures.value order _ c.in_ok-give-in-Some.ensures.goes_on.begins
           (leads_from g.W.Words g.W.Shape.Shape c.args.w.now c.write.new.self c.give.new.w _ same given)
-          (leads_from g.W.Words g.W.Shape.Shape c.args.w.now c.write.new.self c.give.new.w _ same kept)).at;
+          (give_keeps m.arena c.in-Some.found.block _ _ _ _ (leads_from g.W.Words g.W.Shape.Shape c.args.w.now c.write.new.self c.give.new.w _ same kept))).at;
     }
 
 pub returns-in_ok-give-in-Some-clause-order : goal.returns-in_ok-give-in-Some-clause-order
@@ -160,8 +161,8 @@ returns-in_ok-give-in-Some-clause-frame g c =
     let is_next : r ≡ block_at m.arena b + 2 = omega (arith, c.from.ensures) in
     let looks = looks_read _ _ _ (IsLinkOr m q) _ _ r x _ (looks_value m c.args.key _ _ _ _ _ p b q y found c.in_ok-value-in-Some.ensures.value) c.in_ok-next-in-Some.ensures.value (inl (inr (b, below, inr is_next))) in
     let order = each_plain g.W.Words g.W.Shape.Shape _ _ c.requires.order in
-    let given = rw c.of.ensures at c.in_ok-give-in-Some.ensures.frame in
-    record { at = owns_removed m c.args.key _ _ _ _ p b q y r x is_value is_next looks _ c.in_ok-write-in-Some.ensures.value order _ c.in_ok-give-in-Some.ensures.goes_on.begins given.appended }
+    let given = give_writes m.arena c.in-Some.found.block _ _ (let frame = rw c.of.ensures at c.in_ok-give-in-Some.ensures.frame in frame.appended) in
+    record { at = owns_removed m c.args.key _ _ _ _ p b q y r x is_value is_next looks _ c.in_ok-write-in-Some.ensures.value order _ c.in_ok-give-in-Some.ensures.goes_on.begins given }
 
 pub returns-in-None-clause-reads : goal.returns-in-None-clause-reads
 returns-in-None-clause-reads g c =
@@ -183,7 +184,7 @@ returns-in_ok-give-in-Some-clause-reads g c =
     let is_next : r ≡ block_at m.arena b + 2 = omega (arith, c.from.ensures) in
     let looks = looks_read _ _ _ (IsLinkOr m q) _ _ r x _ (looks_value m c.args.key _ _ _ _ _ p b q y found c.in_ok-value-in-Some.ensures.value) c.in_ok-next-in-Some.ensures.value (inl (inr (b, below, inr is_next))) in
     let order = each_plain g.W.Words g.W.Shape.Shape _ _ c.requires.order in
-    record { at = spares_removed m c.args.key _ _ _ _ order _ _ p b q y r x is_value looks c.in_ok-write-in-Some.ensures.value c.in_ok-give-in-Some.ensures.goes_on.begins c.in_ok-give-in-Some.ensures.reads }
+    record { at = spares_removed m c.args.key _ _ _ _ order _ _ p b q y r x is_value looks c.in_ok-write-in-Some.ensures.value c.in_ok-give-in-Some.ensures.goes_on.begins (give_names m.arena c.in-Some.found.block _ _ below (rw c.of.ensures at c.in_ok-give-in-Some.ensures.reads)) }
 
 pub returns-in_ok-give-in-Some-clause-goes_on : goal.returns-in_ok-give-in-Some-clause-goes_on
 returns-in_ok-give-in-Some-clause-goes_on g c =

@@ -10,6 +10,7 @@ use Rattle.txn_alloc.specs.FreeLists as lists
 use Rattle.txn_alloc.specs.EntryMaps.{HasMapApart, Inserts, LacksRoom}
 use Rattle.txn_alloc.proofs.Looks.{each_looked, each_from, leads_from, leads_back, within_from}
 use Rattle.txn_tree_map.specs.Trees.{TreeHolds}
+use Rattle.txn_alloc.proofs.Wider.{take_heads, take_keeps, take_names}
 use Rattle.txn_tree_map.proofs.Searching.{laid_block}
 use Rattle.txn_tree_map.proofs.Gets.{looks_value}
 use Rattle.txn_tree_map.proofs.Inserting.{order_inserted, lacks_room, owns_heads, spares_heads, can_put_each, inserts_new, owns_new, spares_new, inserts_old, owns_old, owns_value, spares_old, not_new, not_old}
@@ -52,7 +53,7 @@ put_in-requires-clause-missing g c =
     rw c.number.ensures (each_from g.W.Words g.W.Shape.Shape c.args.w.now c.take.new.w _ (then.goes_on.shape ∙ goes.shape)
     (can_put_each m c.args.key c.args.value _ _ _ _ (each_plain g.W.Words g.W.Shape.Shape _ _ c.requires.order) missing _ c.in-Some-2.block then.goes_on.begins
     (leads_from g.W.Words g.W.Shape.Shape c.args.w.now c.find.new.w c.take.new.w _ goes.shape taken)
-    (leads_from g.W.Words g.W.Shape.Shape c.args.w.now c.find.new.w c.take.new.w _ goes.shape then.others)))
+    (take_keeps m.arena c.in_ok-block-in-None.field-0 _ _ _ _ (leads_from g.W.Words g.W.Shape.Shape c.args.w.now c.find.new.w c.take.new.w _ goes.shape then.others))))
 
 pub returns-in_err-put_in-in-Some-2-clause-goes_on : goal.returns-in_err-put_in-in-Some-2-clause-goes_on
 returns-in_err-put_in-in-Some-2-clause-goes_on g c =
@@ -159,7 +160,7 @@ returns-in_ok-put_in-in-Some-2-clause-put g c =
     record {
       at = (inserts_new m c.args.key c.args.value _ _ _ _ (each_plain g.W.Words g.W.Shape.Shape _ _ c.requires.order) missing _ c.in-Some-2.block then.goes_on.begins
           (leads_from g.W.Words g.W.Shape.Shape c.args.w.now c.find.new.w c.take.new.w _ goes.shape taken)
-          (leads_from g.W.Words g.W.Shape.Shape c.args.w.now c.find.new.w c.take.new.w _ goes.shape then.others) _ c.in_ok-put_in-in-Some-2.ensures.goes_on.begins
+          (take_keeps m.arena c.in_ok-block-in-None.field-0 _ _ _ _ (leads_from g.W.Words g.W.Shape.Shape c.args.w.now c.find.new.w c.take.new.w _ goes.shape then.others)) _ c.in_ok-put_in-in-Some-2.ensures.goes_on.begins
           (leads_from g.W.Words g.W.Shape.Shape c.args.w.now c.take.new.w c.put_in.new.w _ (then.goes_on.shape ∙ goes.shape) put)).at;
     }
 
@@ -192,9 +193,9 @@ returns-in_ok-put_in-in-Some-2-clause-frame g c =
     record {
       at = owns_new m c.args.key c.args.value _ _ _ _ (each_plain g.W.Words g.W.Shape.Shape _ _ c.requires.order) missing _ c.in-Some-2.block then.goes_on.begins
           (leads_from g.W.Words g.W.Shape.Shape c.args.w.now c.find.new.w c.take.new.w _ goes.shape taken)
-          (leads_from g.W.Words g.W.Shape.Shape c.args.w.now c.find.new.w c.take.new.w _ goes.shape then.others) _ c.in_ok-put_in-in-Some-2.ensures.goes_on.begins
+          (take_keeps m.arena c.in_ok-block-in-None.field-0 _ _ _ _ (leads_from g.W.Words g.W.Shape.Shape c.args.w.now c.find.new.w c.take.new.w _ goes.shape then.others)) _ c.in_ok-put_in-in-Some-2.ensures.goes_on.begins
           (leads_from g.W.Words g.W.Shape.Shape c.args.w.now c.take.new.w c.put_in.new.w _ (then.goes_on.shape ∙ goes.shape) put)
-          then.frame.appended (within_from g.W.Words g.W.Shape.Shape c.args.w.now c.take.new.w c.put_in.new.w _ (then.goes_on.shape ∙ goes.shape) front);
+          (take_heads m.arena c.in_ok-block-in-None.field-0 _ _ then.frame.appended) (within_from g.W.Words g.W.Shape.Shape c.args.w.now c.take.new.w c.put_in.new.w _ (then.goes_on.shape ∙ goes.shape) front);
     }
 
 pub returns-in_ok-put_in-in-Some-2-clause-reads : goal.returns-in_ok-put_in-in-Some-2-clause-reads
@@ -208,7 +209,7 @@ returns-in_ok-put_in-in-Some-2-clause-reads g c =
     record {
       at = spares_new m c.args.key c.args.value _ _ _ _ (each_plain g.W.Words g.W.Shape.Shape _ _ c.requires.order) missing _ c.in-Some-2.block then.goes_on.begins
           (leads_from g.W.Words g.W.Shape.Shape c.args.w.now c.find.new.w c.take.new.w _ goes.shape taken)
-          (leads_from g.W.Words g.W.Shape.Shape c.args.w.now c.find.new.w c.take.new.w _ goes.shape then.others) _ c.in_ok-put_in-in-Some-2.ensures.goes_on.begins then.reads front;
+          (take_keeps m.arena c.in_ok-block-in-None.field-0 _ _ _ _ (leads_from g.W.Words g.W.Shape.Shape c.args.w.now c.find.new.w c.take.new.w _ goes.shape then.others)) _ c.in_ok-put_in-in-Some-2.ensures.goes_on.begins (take_names m.arena c.in_ok-block-in-None.field-0 _ _ (λ b e. rw e at then.number) then.reads) front;
     }
 
 pub returns-in_ok-put_in-in-Some-2-clause-old : goal.returns-in_ok-put_in-in-Some-2-clause-old
@@ -252,12 +253,12 @@ returns-in-None-2-clause-frame g c =
     let m = c.args.self.now in
     let missing = rw c.in-None.is at c.in_ok-found.ensures.missing in
     let then = c.in_ok-block-in-None.ensures in
-    record { at = owns_heads m c.args.key c.args.value _ _ _ _ (each_plain g.W.Words g.W.Shape.Shape _ _ c.requires.order) missing _ then.goes_on.begins then.frame.appended }
+    record { at = owns_heads m c.args.key c.args.value _ _ _ _ (each_plain g.W.Words g.W.Shape.Shape _ _ c.requires.order) missing _ then.goes_on.begins (take_heads m.arena c.in_ok-block-in-None.field-0 _ _ then.frame.appended) }
 
 pub returns-in-None-2-clause-full_frame : goal.returns-in-None-2-clause-full_frame
 returns-in-None-2-clause-full_frame g c =
     let missing = rw c.in-None.is at c.in_ok-found.ensures.missing in
-    let still = rw c.in-None-2.is at c.in_ok-block-in-None.ensures.none_frame in
+    let still = rw c.in-None-2.is at c.in_ok-block-in-None.ensures.frame in
     λ e. record { appended = only_then (λ a. ⊥) _ _ _ missing.writes still.appended }
 
 pub returns-in-None-2-clause-old : goal.returns-in-None-2-clause-old
@@ -268,7 +269,7 @@ returns-in-None-2-clause-reads g c =
     let m = c.args.self.now in
     let missing = rw c.in-None.is at c.in_ok-found.ensures.missing in
     let then = c.in_ok-block-in-None.ensures in
-    record { at = spares_heads m c.args.key c.args.value _ _ _ _ (each_plain g.W.Words g.W.Shape.Shape _ _ c.requires.order) missing _ then.goes_on.begins then.reads }
+    record { at = spares_heads m c.args.key c.args.value _ _ _ _ (each_plain g.W.Words g.W.Shape.Shape _ _ c.requires.order) missing _ then.goes_on.begins (take_names m.arena c.in_ok-block-in-None.field-0 _ _ (λ b e. rw e at then.number) then.reads) }
 
 pub returns-in_ok-write-in-Some-clause-full_frame : goal.returns-in_ok-write-in-Some-clause-full_frame
 returns-in_ok-write-in-Some-clause-full_frame g c = λ e. absurd (cc)

@@ -7,6 +7,7 @@ use Rattle.txn_alloc.proofs.Looks.{looks_each, looks_map, each_from, leads_from,
 use Rattle.txn_tree_map.specs.Trees.{TreeHolds}
 use Rattle.txn_tree_map.specs.Searches.{IsLink}
 use Rattle.txn_tree_map.specs.Joins.{CanCut}
+use Rattle.txn_alloc.proofs.Wider.{give_writes, give_keeps, give_names}
 use Rattle.txn_tree_map.proofs.Gets.{finds_none, spares_link}
 use Rattle.txn_tree_map.proofs.Removing.{order_removed, order_cut, lacks_cut, removes_some, owns_removed, spares_removed}
 use Rattle.txn_tree_map.proofs.map.TreeMap.remove.Goals as goal
@@ -103,7 +104,7 @@ returns-in_ok-give-in-Some-clause-removed g c =
       at = (removes_some m c.args.key f.place f.block c.in_ok-value-in-Some.value _ _ _ _ _ (each_plain g.W.Words g.W.Shape.Shape _ _ c.requires.order) found cut.goes_on.begins
           (leads_from g.W.Words g.W.Shape.Shape c.args.w.now c.find.new.w c.cut.new.w _ goes.shape cut.cut) _ c.in_ok-give-in-Some.ensures.goes_on.begins
           (leads_from g.W.Words g.W.Shape.Shape c.args.w.now c.cut.new.w c.give.new.w _ same given)
-          (leads_from g.W.Words g.W.Shape.Shape c.args.w.now c.cut.new.w c.give.new.w _ same kept)).at;
+          (give_keeps m.arena c.in-Some.found.block _ _ _ _ (leads_from g.W.Words g.W.Shape.Shape c.args.w.now c.cut.new.w c.give.new.w _ same kept))).at;
     }
 
 pub returns-in_ok-give-in-Some-clause-order : goal.returns-in_ok-give-in-Some-clause-order
@@ -120,11 +121,11 @@ returns-in_ok-give-in-Some-clause-frame g c =
     let goes = c.in_ok-find.ensures.goes_on in
     let cut = c.in_ok-value-in-Some.ensures in
     let found = rw c.in-Some.is at c.in_ok-find.ensures.found in
-    let given = rw c.of.ensures at c.in_ok-give-in-Some.ensures.frame in
+    let given = give_writes m.arena c.in-Some.found.block _ _ (let frame = rw c.of.ensures at c.in_ok-give-in-Some.ensures.frame in frame.appended) in
     record {
       at = owns_removed m c.args.key f.place f.block c.in_ok-value-in-Some.value _ _ _ _ _ (each_plain g.W.Words g.W.Shape.Shape _ _ c.requires.order) found cut.goes_on.begins
           (leads_from g.W.Words g.W.Shape.Shape c.args.w.now c.find.new.w c.cut.new.w _ goes.shape cut.cut) _ c.in_ok-give-in-Some.ensures.goes_on.begins
-          (within_from g.W.Words g.W.Shape.Shape c.args.w.now c.find.new.w c.cut.new.w _ goes.shape cut.frame) given.appended;
+          (within_from g.W.Words g.W.Shape.Shape c.args.w.now c.find.new.w c.cut.new.w _ goes.shape cut.frame) given;
     }
 
 pub returns-in_ok-give-in-Some-clause-reads : goal.returns-in_ok-give-in-Some-clause-reads
@@ -137,5 +138,5 @@ returns-in_ok-give-in-Some-clause-reads g c =
     record {
       at = spares_removed m c.args.key f.place f.block c.in_ok-value-in-Some.value _ _ _ _ _ (each_plain g.W.Words g.W.Shape.Shape _ _ c.requires.order) found cut.goes_on.begins
           (leads_from g.W.Words g.W.Shape.Shape c.args.w.now c.find.new.w c.cut.new.w _ goes.shape cut.cut) _ c.in_ok-give-in-Some.ensures.goes_on.begins
-          cut.reads c.in_ok-give-in-Some.ensures.reads;
+          cut.reads (let below = rw c.in-Some.is at c.in_ok-find.ensures.block in give_names m.arena c.in-Some.found.block _ _ below (rw c.of.ensures at c.in_ok-give-in-Some.ensures.reads));
     }

@@ -1,0 +1,113 @@
+-- How many blocks sets have.
+use Rattle.std.proofs.Common.{◌≡◌, ◌≢◌, ℕ, zero, suc, ◌+◌, ◌-◌, ◌*◌, ◌<◌, ◌≤◌, Bool, true, false, List, [], ◌∷◌, cond, refl, sym, ap, ◌∙◌, subst, arith, rules}
+use mathlib.Core.Bool.{true≢false}
+use mathlib.Core.Logic.{dite}
+use native.Mathlib.Decide.{ℕ_discrete}
+use Rattle.std.specs.List.{sum_by, count_by}
+use Rattle.std.specs.Ordering.{nat_cmp}
+use Rattle.std.specs.Cmp.{nat_cmp_total}
+use Rattle.std.specs.FinSet.{nat_cmp-IsAntisymmetric}
+use Rattle.std.specs.FinSet as set
+use Rattle.std.proofs.lemmas.List.Sums.{sum_by-cons}
+use Rattle.txn_alloc.proofs.Sets.{Blocks, out_empty, out_itself, contains-remove_other}
+
+-- 1 where the set has the block
+abbrev pub times_of : Blocks → ℕ → ℕ
+times_of s b = cond (set.contains s b) 1 0
+
+-- the sum of a function over the numbers below one
+abbrev pub sum_below : ℕ → (ℕ → ℕ) → ℕ
+sum_below zero f = 0
+sum_below (suc n) f = sum_below n f + f n
+
+sum_alike : (n : ℕ) (f g : ℕ → ℕ) → ((k : ℕ) → k < n → f k ≡ g k) → sum_below n f ≡ sum_below n g
+sum_alike zero f g same = refl
+sum_alike (suc n) f g same =
+    let rest : sum_below n f ≡ sum_below n g = sum_alike n f g (λ k lt. same k (omega (arith, lt))) in
+    let last : f n ≡ g n = same n (omega arith) in
+    omega (arith, rest, last)
+
+sum_const : (n c : ℕ) → sum_below n (λ k. c) ≡ n * c
+sum_const zero c = omega arith
+sum_const (suc n) c = let rest : sum_below n (λ k. c) ≡ n * c = sum_const n c in grind (arith, rest)
+
+sum_both : (n : ℕ) (f g : ℕ → ℕ) → sum_below n (λ k. f k + g k) ≡ sum_below n f + sum_below n g
+sum_both zero f g = refl
+sum_both (suc n) f g = let rest : sum_below n (λ k. f k + g k) ≡ sum_below n f + sum_below n g = sum_both n f g in omega (arith, rest)
+
+some_member : (s : Blocks) (b : ℕ) → set.contains s b ≡ true → 1 ≤ set.len s
+some_member s b h = at (set.len s) refl
+  where
+    at : (m : ℕ) → set.len s ≡ m → 1 ≤ set.len s
+    at zero e = absurd (true≢false (sym h ∙ ap (λ z. set.contains z b) (set.empty_of_len s e) ∙ out_empty b))
+    at (suc m) e = omega (arith, e)
+
+-- without its greatest member that may be
+less_outside : (n : ℕ) (s : Blocks) → ((b : ℕ) → suc n ≤ b → set.contains s b ≡ false) → (b : ℕ) → n ≤ b → set.contains (set.remove s n) b ≡ false
+less_outside n s none b le = dite (ℕ_discrete b n)
+    (λ e. ap (λ k. set.contains (set.remove s n) k) e ∙ out_itself s n)
+    (λ ne. contains-remove_other s n b ne ∙ none b (omega (arith, le, ne)))
+
+one_more : (n : ℕ) (s : Blocks) → ((b : ℕ) → suc n ≤ b → set.contains s b ≡ false) → sum_below n (times_of (set.remove s n)) ≡ set.len (set.remove s n) → sum_below (suc n) (times_of s) ≡ set.len s
+one_more n s none below = at (set.contains s n) refl
+  where
+    rest : Blocks
+    rest = set.remove s n
+
+    alike : sum_below n (times_of s) ≡ sum_below n (times_of rest)
+    alike = sum_alike n (times_of s) (times_of rest) (λ k lt. ap (λ b. cond b 1 0) (sym (contains-remove_other s n k (λ e. omega (arith, lt, e)))))
+
+    at : (m : Bool) → set.contains s n ≡ m → sum_below n (times_of s) + times_of s n ≡ set.len s
+    at true e =
+        let less : set.len rest ≡ set.len s - 1 = set.len-remove nat_cmp_total s n ∙ ap (λ b. cond b (set.len s - 1) (set.len s)) e in
+        let one : times_of s n ≡ 1 = ap (λ b. cond b 1 0) e in
+        let some : 1 ≤ set.len s = some_member s n e in
+        let same : sum_below n (times_of s) ≡ set.len rest = alike ∙ below in
+        omega (arith, same, less, one, some)
+    at false e =
+        let less : set.len rest ≡ set.len s = set.len-remove nat_cmp_total s n ∙ ap (λ b. cond b (set.len s - 1) (set.len s)) e in
+        let none_here : times_of s n ≡ 0 = ap (λ b. cond b 1 0) e in
+        let same : sum_below n (times_of s) ≡ set.len rest = alike ∙ below in
+        omega (arith, same, less, none_here)
+
+-- a set whose members are below a number has as many as the numbers below that it has
+pub len_below : (n : ℕ) (s : Blocks) → ((b : ℕ) → n ≤ b → set.contains s b ≡ false) → sum_below n (times_of s) ≡ set.len s
+len_below zero s none =
+    let same : s ≡ set.empty = set.same_set nat_cmp_total nat_cmp-IsAntisymmetric s set.empty (λ q. none q (omega arith) ∙ sym (out_empty q)) in
+    sym (ap set.len same ∙ set.len-empty nat_cmp)
+len_below (suc n) s none = one_more n s none (len_below n (set.remove s n) (less_outside n s none))
+
+-- sums of sums, the one way and the other
+sums_swap : (n : ℕ) (sets : List Blocks) → sum_below n (λ b. count_by (λ s. set.contains s b) sets) ≡ sum_by (λ s. sum_below n (times_of s)) sets
+sums_swap n [] = let zeros : sum_below n (λ b. 0) ≡ n * 0 = sum_const n 0 in omega (arith, zeros)
+sums_swap n (s ∷ sets) =
+    let parts : sum_below n (λ b. count_by (λ u. set.contains u b) (s ∷ sets)) ≡ sum_below n (λ b. times_of s b + count_by (λ u. set.contains u b) sets) =
+    sum_alike n (λ b. count_by (λ u. set.contains u b) (s ∷ sets)) (λ b. times_of s b + count_by (λ u. set.contains u b) sets) (λ k lt. sum_by-cons (λ u. times_of u k) s sets) in
+    parts ∙ sum_both n (times_of s) (λ b. count_by (λ u. set.contains u b) sets) ∙ ap (λ k. sum_below n (times_of s) + k) (sums_swap n sets)
+    ∙ sym (sum_by-cons (λ u. sum_below n (times_of u)) s sets)
+
+-- a set of which no block is counted has none
+out_of_count : (b : ℕ) (s : Blocks) (sets : List Blocks) → count_by (λ u. set.contains u b) (s ∷ sets) ≡ 0 → (set.contains s b ≡ false) × (count_by (λ u. set.contains u b) sets ≡ 0)
+out_of_count b s sets h = at (set.contains s b) refl
+  where
+    parts : count_by (λ u. set.contains u b) (s ∷ sets) ≡ times_of s b + count_by (λ u. set.contains u b) sets
+    parts = sum_by-cons (λ u. times_of u b) s sets
+
+    at : (m : Bool) → set.contains s b ≡ m → (set.contains s b ≡ false) × (count_by (λ u. set.contains u b) sets ≡ 0)
+    at true e = let one : times_of s b ≡ 1 = ap (λ k. cond k 1 0) e in absurd (omega (arith, one, parts, h))
+    at false e = (e, omega (arith, parts, h))
+
+lengths_below : (n : ℕ) (sets : List Blocks) → ((b : ℕ) → n ≤ b → count_by (λ s. set.contains s b) sets ≡ 0) → sum_by (λ s. sum_below n (times_of s)) sets ≡ sum_by (λ s. set.len s) sets
+lengths_below n [] none = refl
+lengths_below n (s ∷ sets) none =
+    sum_by-cons (λ u. sum_below n (times_of u)) s sets
+    ∙ ap (λ k. k + sum_by (λ u. sum_below n (times_of u)) sets) (len_below n s (λ b le. (out_of_count b s sets (none b le)).0))
+    ∙ ap (λ k. set.len s + k) (lengths_below n sets (λ b le. (out_of_count b s sets (none b le)).1))
+    ∙ sym (sum_by-cons (λ u. set.len u) s sets)
+
+-- sets that share no block and together have all blocks below a number have that many
+pub lengths_sum : (n : ℕ) (sets : List Blocks) → ((b : ℕ) → b < n → count_by (λ s. set.contains s b) sets ≡ 1) → ((b : ℕ) → n ≤ b → count_by (λ s. set.contains s b) sets ≡ 0)
+    → sum_by (λ s. set.len s) sets ≡ n
+lengths_sum n sets one none =
+    let ones : sum_below n (λ b. count_by (λ s. set.contains s b) sets) ≡ sum_below n (λ b. 1) = sum_alike n (λ b. count_by (λ s. set.contains s b) sets) (λ b. 1) one in
+    sym (lengths_below n sets none) ∙ sym (sums_swap n sets) ∙ ones ∙ sum_const n 1 ∙ omega arith

@@ -1,0 +1,5 @@
+use Rattle.txn_alloc.proofs.Counting.{lengths_sum}
+use Rattle.txn_alloc.proofs.laws.lengths_sum.Goals as goal
+
+pub returns : goal.returns
+returns c = lengths_sum
