@@ -3,7 +3,8 @@ use Rattle.std.specs.Prelude.{◌≡◌, ℕ, true, List, length, slice_get}
 use Rattle.std.specs.FinSet as set
 use Rattle.txn_alloc.specs.FreeLists.{IsInBlock}
 use Rattle.txn_hash_map.specs.declared.map.ChainMap.{ChainMap}
-use Rattle.txn_hash_map.specs.Chains.{Entries, Blocks, IsBucket, ChainsHold}
+use Rattle.txn_alloc.specs.EntryMaps.{Entries, Blocks}
+use Rattle.txn_hash_map.specs.Chains.{IsBucket, ChainsHold}
 
 -- in one word list the map is one: its entries, and the blocks that hold them
 abbrev pub OneMap : Type 0
