@@ -28,6 +28,11 @@ abbrev pub value_of : ℕ → List Cell → Option ℕ
 value_of key [] = None
 value_of key (c ∷ cs) = if c.key == key then Some c.value else value_of key cs
 
+-- no two cells have the same key
+abbrev pub HasKeysOnce : List Cell → Type 0
+HasKeysOnce [] = Unit {0}
+HasKeysOnce (c ∷ cs) = (value_of c.key cs ≡ None) × HasKeysOnce cs
+
 -- whether one of the cells is in block b
 abbrev pub has_block : ℕ → List Cell → Bool
 has_block b [] = false

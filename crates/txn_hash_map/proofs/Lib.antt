@@ -9,3 +9,4 @@ pub mod Cuts
 pub mod Removals
 pub mod OneMap
 pub mod Lists
+pub mod Numbers

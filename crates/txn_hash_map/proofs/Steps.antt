@@ -6,8 +6,8 @@ use Rattle.std.specs.FinMap as entry_map
 use Rattle.txn_alloc.specs.FreeLists.{block_at}
 use Rattle.txn_alloc.proofs.Cells.{value_past, value_first, value_later, has_middle}
 use Rattle.txn_hash_map.specs.declared.map.ChainMap.{ChainMap}
-use Rattle.txn_alloc.specs.EntryMaps.{Cell, value_of, has_block, Entries, Blocks, Uses, IsSeen}
-use Rattle.txn_hash_map.specs.Chains.{HasChain, HasKeysOnce, bucket_of, IsLaid, ChainsHold, chain_part}
+use Rattle.txn_alloc.specs.EntryMaps.{Cell, value_of, has_block, Entries, Blocks, Uses, IsSeen, HasKeysOnce}
+use Rattle.txn_hash_map.specs.Chains.{HasChain, bucket_of, IsLaid, ChainsHold, chain_part}
 use Rattle.txn_hash_map.specs.Searches.{place_after, IsPassed, IsFoundAt, IsMissing, IsOfChain, IsLink}
 use Rattle.txn_hash_map.proofs.Cells.{bucket_below, one_chain, chain_rest, place_after_more, place_kind, chain_short, block_below}
 

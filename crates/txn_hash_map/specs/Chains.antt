@@ -1,11 +1,11 @@
 -- A map from keys to values, as chains of blocks, one chain for each bucket.
 -- A word that names a block holds its number plus 1; 0 names none. Only `HasChain` and `ChainsHold` know how the
 -- chains go; all else speaks of the entries and of the set of blocks.
-use Rattle.std.specs.Prelude.{◌≡◌, ℕ, ◌+◌, ◌*◌, ◌/◌, ◌%◌, ◌^◌, ◌<◌, ◌≤◌, true, List, [], ◌∷◌, Some, None, length, slice_get}
+use Rattle.std.specs.Prelude.{◌≡◌, ℕ, ◌+◌, ◌*◌, ◌/◌, ◌%◌, ◌^◌, ◌<◌, ◌≤◌, true, List, [], ◌∷◌, Some, length, slice_get}
 use Rattle.std.specs.FinSet as set
 use Rattle.std.specs.FinMap as entry_map
 use Rattle.txn_alloc.specs.declared.arena.Arena.{Arena}
-use Rattle.txn_alloc.specs.EntryMaps.{Cell, Entries, Blocks, Part, value_of, has_block}
+use Rattle.txn_alloc.specs.EntryMaps.{Cell, Entries, Blocks, Part, value_of, has_block, HasKeysOnce}
 use Rattle.txn_alloc.specs.FreeLists.{block_at, IsHead, IsInBlock, IsLaidOut}
 use Rattle.txn_hash_map.specs.declared.map.ChainMap.{ChainMap}
 use Rattle.txn_hash_map.specs.declared.map.TheConstants.{BUCKETS, MULTIPLIER}
@@ -21,11 +21,6 @@ HasChain arena words place (c ∷ cs) =
     (slice_get words place ≡ Some (c.block + 1)) × (c.block < arena.blocks)
     × (slice_get words (block_at arena c.block) ≡ Some c.key) × (slice_get words (block_at arena c.block + 1) ≡ Some c.value)
     × HasChain arena words (block_at arena c.block + 2) cs
-
--- no two cells have the same key
-abbrev pub HasKeysOnce : List Cell → Type 0
-HasKeysOnce [] = Unit {0}
-HasKeysOnce (c ∷ cs) = (value_of c.key cs ≡ None) × HasKeysOnce cs
 
 -- each cell's key has this bucket
 abbrev pub HasKeysIn : ℕ → List Cell → Type 0

@@ -3,8 +3,8 @@ use Rattle.std.specs.Prelude.{slice_get, ◌≡◌, ◌≢◌, ℕ, ◌+◌, ◌
 use Rattle.txn_alloc.specs.declared.arena.Arena.{Arena}
 use Rattle.txn_alloc.specs.FreeLists.{block_at, IsInBlock}
 use Rattle.txn_hash_map.specs.declared.map.ChainMap.{ChainMap}
-use Rattle.txn_alloc.specs.EntryMaps.{Cell, value_of, has_block}
-use Rattle.txn_hash_map.specs.Chains.{HasChain, HasKeysOnce, bucket_of, IsLaid}
+use Rattle.txn_alloc.specs.EntryMaps.{Cell, value_of, has_block, HasKeysOnce}
+use Rattle.txn_hash_map.specs.Chains.{HasChain, bucket_of, IsLaid}
 
 -- the place of the word that names the cell after these, which a word at the place given heads
 abbrev pub place_after : Arena → ℕ → List Cell → ℕ

@@ -24,3 +24,4 @@ pub mod Nearest
 pub mod Summing
 pub mod Totals
 pub mod Lists
+pub mod Numbers

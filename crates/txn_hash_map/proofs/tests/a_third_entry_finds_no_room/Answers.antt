@@ -1,6 +1,6 @@
 use Rattle.std.proofs.Common.{refl, ap}
 use Rattle.txn_words.specs.Plainly.{PlainView}
-use Rattle.txn_alloc.proofs.Traces.{each_fresh}
+use Rattle.history_model.proofs.FittingLaws.{each_fresh}
 use Rattle.txn_hash_map.specs.declared.tests.TwoEntries.{TwoEntries}
 use Rattle.txn_alloc.specs.EntryMaps.{HasMapApart}
 use Rattle.txn_hash_map.specs.Chains.{chain_part}

@@ -1,7 +1,7 @@
 use Rattle.std.proofs.Common.{refl, ap}
 use Rattle.txn_words.specs.Plainly.{PlainView}
 use Rattle.txn_alloc.specs.EntryMaps.{HasMapApart}
-use Rattle.txn_alloc.proofs.Traces.{each_fresh}
+use Rattle.history_model.proofs.FittingLaws.{each_fresh}
 use Rattle.txn_tree_map.specs.declared.tests.TwoEntries.{TwoEntries}
 use Rattle.txn_tree_map.specs.Trees.{tree_part}
 use Rattle.txn_tree_map.proofs.Lists.{two, small, linked}

@@ -2,7 +2,7 @@ use Rattle.std.proofs.Common.{ap}
 use Rattle.txn_words.proofs.CallLaws.{state_after}
 use Rattle.txn_words.specs.Plainly.{PlainView}
 use Rattle.txn_alloc.specs.EntryMaps.{HasSmallSum, SumsRange}
-use Rattle.txn_alloc.proofs.Traces.{each_fresh}
+use Rattle.history_model.proofs.FittingLaws.{each_fresh}
 use Rattle.txn_tree_map.specs.declared.tests.SmallSum.{SmallSum}
 use Rattle.txn_tree_map.specs.Trees.{tree_part}
 use Rattle.txn_tree_map.proofs.Lists.{two, small, is_summed, summed, small_after}
