@@ -133,9 +133,9 @@ len_cells [] f is once =
 len_cells (c ∷ cs) f is once =
     let there : entry_map.get f c.key ≡ Some c.value = is c.key ∙ value_first c.key c cs refl in
     let rest : entry_map.len (entry_map.remove f c.key) ≡ length cs = len_cells cs (entry_map.remove f c.key)
-        (λ k. dite (ℕ_discrete k c.key)
-        (λ e. ap (λ z. entry_map.get (entry_map.remove f c.key) z) e ∙ remove_same f c.key ∙ sym once.0 ∙ ap (λ z. value_of z cs) (sym e))
-        (λ ne. remove_other f c.key k ne ∙ is k ∙ value_later k c cs (λ e. ne (sym e)))) once.1 in
+    (λ k. dite (ℕ_discrete k c.key)
+    (λ e. ap (λ z. entry_map.get (entry_map.remove f c.key) z) e ∙ remove_same f c.key ∙ sym once.0 ∙ ap (λ z. value_of z cs) (sym e))
+    (λ ne. remove_other f c.key k ne ∙ is k ∙ value_later k c cs (λ e. ne (sym e)))) once.1 in
     let less : entry_map.len (entry_map.remove f c.key) ≡ entry_map.len f - 1 = entry_map.len-remove nat_cmp_total f c.key ∙ ap (λ o. cond (is_some o) (entry_map.len f - 1) (entry_map.len f)) there in
     let some : 1 ≤ entry_map.len f = some_entry f c.key c.value there in
     omega (arith, rest, less, some)
@@ -151,10 +151,10 @@ len_blocks (c ∷ cs) u is once =
     let only : one_in c.block c + times_in c.block cs ≤ 1 = once c.block in
     let none : times_in c.block cs ≡ 0 = omega (arith, one, only) in
     let rest : set.len (set.remove u c.block) ≡ length cs = len_blocks cs (set.remove u c.block)
-        (λ b. dite (ℕ_discrete b c.block)
-        (λ e. ap (λ z. set.contains (set.remove u c.block) z) e ∙ out_itself u c.block ∙ sym (has_not c.block cs none) ∙ ap (λ z. has_block z cs) (sym e))
-        (λ ne. contains-remove_other u c.block b ne ∙ is b ∙ later_block b c cs (λ e. ne (sym e))))
-        (λ b. let k : one_in b c + times_in b cs ≤ 1 = once b in omega (arith, k)) in
+    (λ b. dite (ℕ_discrete b c.block)
+    (λ e. ap (λ z. set.contains (set.remove u c.block) z) e ∙ out_itself u c.block ∙ sym (has_not c.block cs none) ∙ ap (λ z. has_block z cs) (sym e))
+    (λ ne. contains-remove_other u c.block b ne ∙ is b ∙ later_block b c cs (λ e. ne (sym e))))
+    (λ b. let k : one_in b c + times_in b cs ≤ 1 = once b in omega (arith, k)) in
     let less : set.len (set.remove u c.block) ≡ set.len u - 1 = set.len-remove nat_cmp_total u c.block ∙ ap (λ z. cond z (set.len u - 1) (set.len u)) there in
     let some : 1 ≤ set.len u = some_member u c.block there in
     omega (arith, rest, less, some)

@@ -66,10 +66,14 @@ module _ (map : TreeMap) (n : ℕ) (G : List ℕ → Type 0) (t u : Trace) where
 -- of a range within another no more values are read
 pub range_more : (map : TreeMap) (low least high : ℕ) (s t : List ℕ) (a : ℕ) → low ≤ least → MayReadRange (tree_part map) least high s t a → MayReadRange (tree_part map) low high s t a
 range_more map low least high s t a le (inl e) = inl e
-range_more map low least high s t a le (inr k) = inr (k.0, k.1, elim (k.2) [
-  | inl e ↦ inl e
-  | inr d ↦ inr (elim d [ inl e ↦ inl e | inr q ↦ let is = q.1.1 in inr (q.0, (q.1.0, (omega (arith, le, is.0), is.1), q.1.2)) ])
-])
+range_more map low least high s t a le (inr k) = inr (
+  k.0,
+  k.1,
+  elim (k.2) [
+    | inl e ↦ inl e
+    | inr d ↦ inr (elim d [ inl e ↦ inl e | inr q ↦ let is = q.1.1 in inr (q.0, (q.1.0, (omega (arith, le, is.0), is.1), q.1.2)) ])
+  ],
+)
 
 -- one entry after another
 module _ (map : TreeMap) (low high least turns total : ℕ) (n : ℕ) (G : List ℕ → Type 0) (t u v : Trace) (l : Looks n G t u IsAnyWord (IsSummed map low high least turns total)) where

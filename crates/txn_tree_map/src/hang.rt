@@ -8,12 +8,7 @@ ghost use Rattle.txn_tree_map.specs.Changes.{AreWithin, Hangs};
 use txn_words::{Stop, Words};
 
 /// Writes a node's name into the hole, and answers the name that its inner word holds.
-pub(crate) fn hang<W: Words>(
-    w: &mut W,
-    hole: u64,
-    name: u64,
-    inner: u64,
-) -> Result<u64, Stop>
+pub(crate) fn hang<W: Words>(w: &mut W, hole: u64, name: u64, inner: u64) -> Result<u64, Stop>
     requires ready { IsReady W.Words w.old }
     requires within { InEachState W.Words W.Shape.Shape w.old (AreWithin hole inner) }
     ensures hung { IfOk result (λ rest. LeadsTo W.Words W.Shape.Shape w.old w.new (Hangs hole name inner rest)) }
