@@ -1,5 +1,5 @@
 -- How many blocks sets have.
-use Rattle.std.proofs.Common.{◌≡◌, ◌≢◌, ℕ, zero, suc, ◌+◌, ◌-◌, ◌*◌, ◌<◌, ◌≤◌, Bool, true, false, List, [], ◌∷◌, cond, refl, sym, ap, ◌∙◌, subst, arith, rules}
+use Rattle.std.proofs.Common.{◌≡◌, ◌≢◌, ℕ, zero, suc, ◌+◌, ◌-◌, ◌*◌, ◌<◌, ◌≤◌, Bool, true, false, List, [], ◌∷◌, Option, Some, None, length, slice_get, is_some, cond, refl, sym, ap, ◌∙◌, subst, arith, rules}
 use mathlib.Core.Bool.{true≢false}
 use mathlib.Core.Logic.{dite}
 use native.Mathlib.Decide.{ℕ_discrete}
@@ -9,6 +9,13 @@ use Rattle.std.specs.Cmp.{nat_cmp_total}
 use Rattle.std.specs.FinSet.{nat_cmp-IsAntisymmetric}
 use Rattle.std.specs.FinSet as set
 use Rattle.std.proofs.lemmas.List.Sums.{sum_by-cons}
+use Rattle.std.specs.List.{AllByRecursion}
+use Rattle.std.specs.FinMap as entry_map
+use Rattle.std.proofs.lemmas.Option.{same_Some}
+use Rattle.txn_alloc.specs.declared.arena.Arena.{Arena}
+use Rattle.txn_alloc.specs.FreeLists.{block_at}
+use Rattle.txn_alloc.specs.EntryMaps.{Cell, Entries, value_of, has_block, HasKeysOnce}
+use Rattle.txn_alloc.proofs.Cells.{value_first, value_later, has_first, later_block, has_not, times_in, one_in, one_here, one_there, remove_same, remove_other}
 use Rattle.txn_alloc.proofs.Sets.{Blocks, out_empty, out_itself, contains-remove_other}
 
 -- 1 where the set has the block
@@ -111,3 +118,68 @@ pub lengths_sum : (n : ℕ) (sets : List Blocks) → ((b : ℕ) → b < n → co
 lengths_sum n sets one none =
     let ones : sum_below n (λ b. count_by (λ s. set.contains s b) sets) ≡ sum_below n (λ b. 1) = sum_alike n (λ b. count_by (λ s. set.contains s b) sets) (λ b. 1) one in
     sym (lengths_below n sets none) ∙ sym (sums_swap n sets) ∙ ones ∙ sum_const n 1 ∙ omega arith
+
+-- entries that have what cells say of each key, and each key in one cell alone, are as many as the cells
+some_entry : (f : Entries) (k v : ℕ) → entry_map.get f k ≡ Some v → 1 ≤ entry_map.len f
+some_entry f k v h = at (entry_map.len f) refl
+  where
+    at : (m : ℕ) → entry_map.len f ≡ m → 1 ≤ entry_map.len f
+    at zero e = let none : entry_map.get f k ≡ None = ap (λ z. entry_map.get z k) (entry_map.empty_of_len f e) ∙ entry_map.get-empty nat_cmp k in absurd (cc)
+    at (suc m) e = omega (arith, e)
+
+pub len_cells : (cs : List Cell) (f : Entries) → ((key : ℕ) → entry_map.get f key ≡ value_of key cs) → HasKeysOnce cs → entry_map.len f ≡ length cs
+len_cells [] f is once =
+    ap entry_map.len (entry_map.same_map nat_cmp_total nat_cmp-IsAntisymmetric f entry_map.empty (λ q. is q ∙ sym (entry_map.get-empty nat_cmp q))) ∙ entry_map.len-empty nat_cmp ℕ
+len_cells (c ∷ cs) f is once =
+    let there : entry_map.get f c.key ≡ Some c.value = is c.key ∙ value_first c.key c cs refl in
+    let rest : entry_map.len (entry_map.remove f c.key) ≡ length cs = len_cells cs (entry_map.remove f c.key)
+    (λ k. dite (ℕ_discrete k c.key)
+    (λ e. ap (λ z. entry_map.get (entry_map.remove f c.key) z) e ∙ remove_same f c.key ∙ sym once.0 ∙ ap (λ z. value_of z cs) (sym e))
+    (λ ne. remove_other f c.key k ne ∙ is k ∙ value_later k c cs (λ e. ne (sym e)))) once.1 in
+    let less : entry_map.len (entry_map.remove f c.key) ≡ entry_map.len f - 1 = entry_map.len-remove nat_cmp_total f c.key ∙ ap (λ o. cond (is_some o) (entry_map.len f - 1) (entry_map.len f)) there in
+    let some : 1 ≤ entry_map.len f = some_entry f c.key c.value there in
+    omega (arith, rest, less, some)
+
+-- and so is a set of the blocks of cells that each have a block of their own
+pub len_blocks : (cs : List Cell) (u : Blocks) → ((b : ℕ) → set.contains u b ≡ has_block b cs) → ((b : ℕ) → times_in b cs ≤ 1) → set.len u ≡ length cs
+len_blocks [] u is once =
+    let same : u ≡ set.empty = set.same_set nat_cmp_total nat_cmp-IsAntisymmetric u set.empty (λ q. is q ∙ sym (out_empty q)) in
+    ap set.len same ∙ set.len-empty nat_cmp
+len_blocks (c ∷ cs) u is once =
+    let there : set.contains u c.block ≡ true = is c.block ∙ has_first c cs in
+    let one : one_in c.block c ≡ 1 = one_here c.block c refl in
+    let only : one_in c.block c + times_in c.block cs ≤ 1 = once c.block in
+    let none : times_in c.block cs ≡ 0 = omega (arith, one, only) in
+    let rest : set.len (set.remove u c.block) ≡ length cs = len_blocks cs (set.remove u c.block)
+    (λ b. dite (ℕ_discrete b c.block)
+    (λ e. ap (λ z. set.contains (set.remove u c.block) z) e ∙ out_itself u c.block ∙ sym (has_not c.block cs none) ∙ ap (λ z. has_block z cs) (sym e))
+    (λ ne. contains-remove_other u c.block b ne ∙ is b ∙ later_block b c cs (λ e. ne (sym e))))
+    (λ b. let k : one_in b c + times_in b cs ≤ 1 = once b in omega (arith, k)) in
+    let less : set.len (set.remove u c.block) ≡ set.len u - 1 = set.len-remove nat_cmp_total u c.block ∙ ap (λ z. cond z (set.len u - 1) (set.len u)) there in
+    let some : 1 ≤ set.len u = some_member u c.block there in
+    omega (arith, rest, less, some)
+
+-- cells whose blocks have their keys, each key once, have each a block of its own
+abbrev pub AreKeyed : Arena → List ℕ → List Cell → Type 0
+AreKeyed arena s cs = AllByRecursion (λ c. slice_get s (block_at arena c.block) ≡ Some c.key) cs
+
+none_keyed : (arena : Arena) (s : List ℕ) (b k : ℕ) (cs : List Cell) → slice_get s (block_at arena b) ≡ Some k → AreKeyed arena s cs → value_of k cs ≡ None → times_in b cs ≡ 0
+none_keyed arena s b k [] e keys none = refl
+none_keyed arena s b k (c ∷ cs) e keys none =
+    let other_key : c.key ≢ k = λ same. absurd (cc (value_first k c cs same)) in
+    let other : c.block ≢ b = λ same. other_key (same_Some c.key k (sym keys.0 ∙ ap (λ d. slice_get s (block_at arena d)) same ∙ e)) in
+    let rest : times_in b cs ≡ 0 = none_keyed arena s b k cs e keys.1 (sym (value_later k c cs other_key) ∙ none) in
+    let zero_here : one_in b c ≡ 0 = one_there b c other in
+    omega (arith, rest, zero_here)
+
+pub keyed_once : (arena : Arena) (s : List ℕ) (b : ℕ) (cs : List Cell) → AreKeyed arena s cs → HasKeysOnce cs → times_in b cs ≤ 1
+keyed_once arena s b [] keys once = omega arith
+keyed_once arena s b (c ∷ cs) keys once = dite (ℕ_discrete c.block b)
+    (λ same.
+    let one : one_in b c ≡ 1 = one_here b c same in
+    let rest : times_in b cs ≡ 0 = none_keyed arena s b c.key cs (ap (λ d. slice_get s (block_at arena d)) (sym same) ∙ keys.0) keys.1 once.0 in
+    omega (arith, one, rest))
+    (λ other.
+    let none : one_in b c ≡ 0 = one_there b c other in
+    let rest : times_in b cs ≤ 1 = keyed_once arena s b cs keys.1 once.1 in
+    omega (arith, none, rest))

@@ -120,11 +120,6 @@ pub lacks_given : (arena : Arena) (b c : ℕ) (x y : List ℕ) → IsInOrder are
 lacks_given arena b c x y i gives ne lacks f hold =
     ap (λ z. set.contains z c) (one_set arena y f (set.insert i.0 b) hold (gives i.0 i.1)) ∙ out_both i.0 b c ne (lacks i.0 i.1)
 
--- what holds of every good list holds in every state before the first event
-pub each_fresh : (n : ℕ) (G : List ℕ → Type 0) (t : Trace) → t ≡ [] → InEach n G t G
-unfolding after
-each_fresh n G t e = record { at = λ s fit. subst (λ u. G (after u s)) (sym e) fit.good }
-
 -- a block that is in no list is in none after a call that took another, or none
 pub each_lacks_taken : (arena : Arena) (n : ℕ) (G : List ℕ → Type 0) (t u : Trace) (o : Option ℕ) (c : ℕ) → Begins t u
     → InEach n G t (IsInOrder arena) → InEach n G t (Lacks arena c) → Leads n G t u (Takes arena o) → InEach n G u (Lacks arena c)

@@ -7,7 +7,7 @@ use Rattle.std.specs.FinMap as entry_map
 use Rattle.txn_alloc.specs.declared.arena.Arena.{Arena}
 use Rattle.txn_alloc.specs.declared.put.Put.{Put}
 use Rattle.txn_alloc.specs.declared.put.Put.TheVariants.{New, Old, Full}
-use Rattle.txn_alloc.specs.FreeLists.{block_at, IsHead, IsInBlock, FreeListsHold}
+use Rattle.txn_alloc.specs.FreeLists.{block_at, IsInBlock, IsHeadFor, FreeListsHold}
 
 -- an entry, and the block that holds it
 pub record Cell : Type 0 where
@@ -28,6 +28,11 @@ abbrev pub value_of : ℕ → List Cell → Option ℕ
 value_of key [] = None
 value_of key (c ∷ cs) = if c.key == key then Some c.value else value_of key cs
 
+-- no two cells have the same key
+abbrev pub HasKeysOnce : List Cell → Type 0
+HasKeysOnce [] = Unit {0}
+HasKeysOnce (c ∷ cs) = (value_of c.key cs ≡ None) × HasKeysOnce cs
+
 -- whether one of the cells is in block b
 abbrev pub has_block : ℕ → List Cell → Bool
 has_block b [] = false
@@ -37,18 +42,25 @@ has_block b (c ∷ cs) = if c.block == b then true else has_block b cs
 abbrev pub sum_between : ℕ → ℕ → Entries → ℕ
 sum_between low high entries = sum_by (λ e. if nat_le low e.0 && nat_le e.0 high then e.1 else 0) (entry_map.entries entries)
 
--- Holds words entries used: the words hold exactly these entries, in exactly these blocks of the arena
-module _ (arena : Arena) (Holds : List ℕ → Entries → Blocks → Type 0) where
+-- a map's part of the words: its arena; which words hold which entries, in which blocks; the map's own words outside blocks
+-- that a call for a key goes through; and the words of a block that name other blocks
+pub record Part : Type 1 where
+  pub arena : Arena
+  pub Holds : List ℕ → Entries → Blocks → Type 0
+  pub IsRoot : ℕ → ℕ → Type 0
+  pub IsName : ℕ → ℕ → Type 0
+
+module _ (part : Part) where
   -- some entries are held
   pub record HasMap (words : List ℕ) : Type 0 where
     pub entries : Entries
     pub used : Blocks
-    pub holds : Holds words entries used
+    pub holds : part.Holds words entries used
 
   -- the map and the free lists of the arena hold, and no block is both used and free
   pub record HoldsApart (words : List ℕ) (entries : Entries) (used free : Blocks) : Type 0 where
-    pub map : Holds words entries used
-    pub free_lists : FreeListsHold arena words free
+    pub map : part.Holds words entries used
+    pub free_lists : FreeListsHold part.arena words free
     pub apart : (b : ℕ) → set.contains used b ≡ true → set.contains free b ≡ false
 
   -- some entries are held, and some blocks are free
@@ -61,34 +73,58 @@ module _ (arena : Arena) (Holds : List ℕ → Entries → Blocks → Type 0) wh
   -- from state to state: nothing changes, and the answer is what the entries have at the key
   pub record Finds (key : ℕ) (answer : Option ℕ) (old new : List ℕ) : Type 0 where
     pub same : new ≡ old
-    pub found : (entries : Entries) (used : Blocks) → Holds old entries used → answer ≡ entry_map.get entries key
+    pub found : (entries : Entries) (used : Blocks) → part.Holds old entries used → answer ≡ entry_map.get entries key
 
   -- a block is used by the map
   abbrev pub Uses : List ℕ → ℕ → Type 0
-  Uses words b = (entries : Entries) × (used : Blocks) × Holds words entries used × (set.contains used b ≡ true)
+  Uses words b = (entries : Entries) × (used : Blocks) × part.Holds words entries used × (set.contains used b ≡ true)
 
-  -- a is the word of the value of a used block that has none of these keys
-  pub record IsOtherValue (IsKey : ℕ → Type 0) (words : List ℕ) (a : ℕ) : Type 0 where
-    pub block : ℕ
-    pub used : Uses words block
-    pub other : (key : ℕ) → IsKey key → slice_get words (block_at arena block) ≢ Some key
-    pub place : a ≡ block_at arena block + 1
+  -- a block is used in one of two states and not in the other: it was taken or given back between them
+  abbrev pub IsMoved : List ℕ → List ℕ → ℕ → Type 0
+  IsMoved before after b = (Uses before b × ¬ Uses after b) ⊎ (Uses after b × ¬ Uses before b)
 
-  -- a call for this key may read a word: it is the value of no other key
+  -- a is the word of the key of block b, or of the name of another block, or of its value where it has one of these keys
+  abbrev pub IsSeenIn : (ℕ → Type 0) → List ℕ → ℕ → ℕ → Type 0
+  IsSeenIn IsKey words b a =
+      (a ≡ block_at part.arena b)
+      ⊎ (part.IsName b a ⊎ ((a ≡ block_at part.arena b + 1) × ((key : ℕ) × IsKey key × (slice_get words (block_at part.arena b) ≡ Some key))))
+
+  -- what a search from a key on that asks for the values of these keys may read: the map's own words, of its own blocks alone
+  abbrev pub IsSeen : ℕ → (ℕ → Type 0) → List ℕ → ℕ → Type 0
+  IsSeen first IsKey words a = part.IsRoot first a ⊎ ((b : ℕ) × Uses words b × IsSeenIn IsKey words b a)
+
+  -- what a look for this key may read
   abbrev pub MayRead : ℕ → List ℕ → List ℕ → ℕ → Type 0
-  MayRead key before after a = ¬ IsOtherValue (λ k. k ≡ key) before a
+  MayRead key before after a = IsSeen key (λ k. k ≡ key) before a
 
-  -- a call for the keys from low to high may read a word: it is the value of no other key
+  -- what a look for the keys from low to high may read
   abbrev pub MayReadRange : ℕ → ℕ → List ℕ → List ℕ → ℕ → Type 0
-  MayReadRange low high before after a = ¬ IsOtherValue (λ k. (low ≤ k) × (k ≤ high)) before a
+  MayReadRange low high before after a = IsSeen low (λ k. (low ≤ k) × (k ≤ high)) before a
+
+  -- what an insert may read, by its answer: where a block was taken, its head and its words too; where none was free, heads too
+  abbrev pub MayReadToInsert : ℕ → Put → List ℕ → List ℕ → ℕ → Type 0
+  MayReadToInsert key New before after a =
+      MayRead key before after a ⊎ ((b : ℕ) × IsMoved before after b × (IsHeadFor part.arena b a ⊎ IsInBlock part.arena b a))
+  MayReadToInsert key (Old was) before after a = MayRead key before after a
+  MayReadToInsert key Full before after a = MayRead key before after a ⊎ ((b : ℕ) × IsHeadFor part.arena b a)
+
+  -- what a removal may read, by its answer: where a block was given back, its head too
+  abbrev pub MayReadToRemove : ℕ → Option ℕ → List ℕ → List ℕ → ℕ → Type 0
+  MayReadToRemove key None before after a = MayRead key before after a
+  MayReadToRemove key (Some was) before after a =
+      MayRead key before after a ⊎ ((b : ℕ) × IsMoved before after b × IsHeadFor part.arena b a)
 
   -- a is the word of the key's value, in a block that the map uses before
   abbrev pub IsValue : ℕ → List ℕ → List ℕ → ℕ → Type 0
-  IsValue key before after a = (b : ℕ) × Uses before b × (slice_get before (block_at arena b) ≡ Some key) × (a ≡ block_at arena b + 1)
+  IsValue key before after a =
+      (b : ℕ) × Uses before b × (slice_get before (block_at part.arena b) ≡ Some key) × (a ≡ block_at part.arena b + 1)
 
-  -- a is a head of the arena, one of the map's own words outside blocks, or in a block that the map uses before or after
-  abbrev pub IsOwn : (ℕ → Type 0) → List ℕ → List ℕ → ℕ → Type 0
-  IsOwn IsRoot before after a = IsHead arena a ⊎ (IsRoot a ⊎ ((b : ℕ) × (Uses before b ⊎ Uses after b) × IsInBlock arena b a))
+  -- what a call for the key may write: the map's own words outside blocks, its blocks before and after, and the head for a block
+  -- that was taken or given back
+  abbrev pub IsOwn : ℕ → List ℕ → List ℕ → ℕ → Type 0
+  IsOwn key before after a =
+      part.IsRoot key a
+      ⊎ (((b : ℕ) × (Uses before b ⊎ Uses after b) × IsInBlock part.arena b a) ⊎ ((b : ℕ) × IsMoved before after b × IsHeadFor part.arena b a))
 
   -- the key was absent, and is there with the value, in a block that was free
   pub record InsertsNew (key value : ℕ) (new : List ℕ) (entries : Entries) (used free : Blocks) : Type 0 where
@@ -127,8 +163,8 @@ module _ (arena : Arena) (Holds : List ℕ → Entries → Blocks → Type 0) wh
   -- from state to state: nothing changes, and the total is the sum of the values of the keys from low to high
   pub record SumsRange (low high total : ℕ) (old new : List ℕ) : Type 0 where
     pub same : new ≡ old
-    pub sum : (entries : Entries) (used : Blocks) → Holds old entries used → total ≡ sum_between low high entries
+    pub sum : (entries : Entries) (used : Blocks) → part.Holds old entries used → total ≡ sum_between low high entries
 
   -- the sum of all values fits a word
   abbrev pub HasSmallSum : List ℕ → Type 0
-  HasSmallSum words = (entries : Entries) (used : Blocks) → Holds words entries used → sum_by (λ e. e.1) (entry_map.entries entries) < 2 ^ 64
+  HasSmallSum words = (entries : Entries) (used : Blocks) → part.Holds words entries used → sum_by (λ e. e.1) (entry_map.entries entries) < 2 ^ 64

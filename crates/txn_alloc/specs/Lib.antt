@@ -1,4 +1,3 @@
 pub mod FreeLists
 pub mod Statements
 pub mod EntryMaps
-pub mod Looks

@@ -1,7 +1,6 @@
 //! What a collection above concludes, each law the contract of a function that does nothing.
 
 ghost use Rattle.std.specs.Prelude.{◌≡◌};
-ghost use Rattle.txn_words.specs.Frames.{OthersStand};
 ghost use Rattle.txn_alloc.specs.Statements.{OneFreeSet, FreeListsStand, LacksTaken, LacksGiven, LengthsSum};
 
 use crate::arena::HEADS;
@@ -34,9 +33,4 @@ pub fn lengths_sum()
 /// How many lists an arena's free blocks may hang in.
 pub fn sizes()
     ensures { HEADS ≡ 16 }
-{}
-
-/// A word that a call did not write stands after the call: the law of the frame.
-pub fn others_stand()
-    ensures { OthersStand }
 {}

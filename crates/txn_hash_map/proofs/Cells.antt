@@ -1,5 +1,5 @@
 -- Chains of cells in one word list.
-use Rattle.std.proofs.Common.{◌≡◌, ◌≢◌, ℕ, suc, ◌+◌, ◌*◌, ◌/◌, ◌%◌, ◌^◌, ◌<◌, ◌≤◌, Bool, true, false, List, [], ◌∷◌, ◌++◌, length, slice_get, Some, None, eqb, refl, sym, ap, ◌∙◌, subst, arith, rules}
+use Rattle.std.proofs.Common.{◌≡◌, ◌≢◌, ℕ, suc, ◌+◌, ◌*◌, ◌/◌, ◌%◌, ◌^◌, ◌<◌, ◌≤◌, ◌⊎◌, inl, inr, Bool, true, false, List, [], ◌∷◌, ◌++◌, length, slice_get, Some, None, eqb, refl, sym, ap, ◌∙◌, subst, arith, rules}
 use mathlib.Core.Bool.{true≢false}
 use mathlib.Core.Logic.{dite}
 use native.Mathlib.Decide.{ℕ_discrete}
@@ -9,9 +9,10 @@ use Rattle.std.proofs.lemmas.Map.Keys.{IsDistinct-cons}
 use Rattle.std.proofs.lemmas.Map.Steps.{length-le_from_distinct_below}
 use Rattle.txn_alloc.specs.declared.arena.Arena.{Arena}
 use Rattle.txn_alloc.specs.FreeLists.{block_at}
-use Rattle.txn_alloc.proofs.Cells.{value_first, value_later}
+use Rattle.txn_alloc.proofs.Cells.{value_first, value_later, has_first, has_later}
 use Rattle.txn_hash_map.specs.declared.map.TheConstants.{BUCKETS, MULTIPLIER}
-use Rattle.txn_hash_map.specs.Chains.{Cell, HasChain, HasKeysOnce, HasKeysIn, value_of, has_block, bucket_of}
+use Rattle.txn_alloc.specs.EntryMaps.{Cell, value_of, has_block, HasKeysOnce}
+use Rattle.txn_hash_map.specs.Chains.{HasChain, HasKeysIn, bucket_of}
 use Rattle.txn_hash_map.specs.Searches.{place_after}
 use Rattle.std.proofs.lemmas.Nat.{shr_below}
 
@@ -114,3 +115,12 @@ key_own i k [] h m = absurd (m refl)
 key_own i k (c ∷ cs) h m = dite (ℕ_discrete c.key k)
     (λ same. subst (λ d. bucket_of d ≡ i) same h.0)
     (λ other. key_own i k cs h.1 (λ none. m (value_later k c cs other ∙ none)))
+
+-- the place after cells is the first, or the third word of one's block
+pub place_kind : (arena : Arena) (s : List ℕ) (q : ℕ) (front rest : List Cell) → HasChain arena s q (front ++ rest)
+    → (place_after arena q front ≡ q) ⊎ ((e : ℕ) × (has_block e (front ++ rest) ≡ true) × (place_after arena q front ≡ block_at arena e + 2))
+place_kind arena s q [] rest h = inl refl
+place_kind arena s q (c ∷ front) rest h = elim (place_kind arena s (block_at arena c.block + 2) front rest h.4) [
+  | inl e ↦ inr (c.block, has_first c (front ++ rest), e)
+  | inr k ↦ inr (k.0, has_later k.0 c (front ++ rest) k.1, k.2)
+]

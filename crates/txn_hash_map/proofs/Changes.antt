@@ -16,7 +16,8 @@ use Rattle.txn_alloc.proofs.Sets.{in_here, in_there, in_or, out_less, out_itself
 use Rattle.txn_alloc.proofs.Cells.{value_first, value_later, has_first, has_later, has_middle, insert_same, insert_other}
 use Rattle.txn_hash_map.specs.declared.map.ChainMap.{ChainMap}
 use Rattle.txn_hash_map.specs.declared.map.TheConstants.{BUCKETS}
-use Rattle.txn_hash_map.specs.Chains.{Cell, HasChain, HasKeysOnce, HasKeysIn, value_of, has_block, bucket_of, IsLaid, IsBucket, ChainsHold, MapHolds, Entries, Blocks, InsertsNew}
+use Rattle.txn_alloc.specs.EntryMaps.{Cell, value_of, has_block, Entries, Blocks, HoldsApart, InsertsNew, HasKeysOnce}
+use Rattle.txn_hash_map.specs.Chains.{HasChain, HasKeysIn, bucket_of, IsLaid, IsBucket, ChainsHold, chain_part}
 use Rattle.txn_hash_map.specs.Searches.{IsFoundAt, IsMissing, IsPutInFront}
 use Rattle.txn_hash_map.proofs.Cells.{bucket_below, one_chain, block_key, block_below}
 use Rattle.txn_hash_map.proofs.Steps.{found_key, missing_value}
@@ -95,7 +96,7 @@ revalued_same arena s p b x key (c ∷ cs) h once e m =
     let not_none : value_of key cs ≢ None = block_key arena s (block_at arena c.block + 2) b key cs h.4 there e in
     value_later key d (revalued b x cs) (λ k. not_none (ap (λ j. value_of j cs) (sym k) ∙ once.0)) ∙ revalued_same arena s (block_at arena c.block + 2) b x key cs h.4 once.1 e there)
 
-module _ (map : ChainMap) (key : ℕ) (s : List ℕ) (f : Entries) (u v : Blocks) (hold : MapHolds map s f u v) where
+module _ (map : ChainMap) (key : ℕ) (s : List ℕ) (f : Entries) (u v : Blocks) (hold : HoldsApart (chain_part map) s f u v) where
   -- the block where the key was found is in the chain of its bucket
   pub found_block : (p b : ℕ) → IsFoundAt map key p b s → has_block b (hold.map.cells (bucket_of key)) ≡ true
   found_block p b m =
@@ -110,7 +111,7 @@ module _ (map : ChainMap) (key : ℕ) (s : List ℕ) (f : Entries) (u v : Blocks
   found_below p b m = let i : ℕ = bucket_of key in block_below map.arena s (map.buckets + i) b (hold.map.cells i) (hold.map.chain i (bucket_below key)) (found_block p b m)
 
   -- the value is another
-  pub inserted_old : (p b x : ℕ) → IsFoundAt map key p b s → MapHolds map (slice_set s (block_at map.arena b + 1) x) (entry_map.insert f key x) u v
+  pub inserted_old : (p b x : ℕ) → IsFoundAt map key p b s → HoldsApart (chain_part map) (slice_set s (block_at map.arena b + 1) x) (entry_map.insert f key x) u v
   inserted_old p b x m =
       let a : Arena = map.arena in
       let t : List ℕ = slice_set s (block_at a b + 1) x in
@@ -174,7 +175,7 @@ first_or d c cs m = dite (ℕ_discrete c.block d) (λ e. inl (sym e)) (λ e. inr
 hung_or : (d j i : ℕ) (c : Cell) (cells : ℕ → List Cell) → has_block d (hung j c cells i) ≡ true → (d ≡ c.block) ⊎ (has_block d (cells i) ≡ true)
 hung_or d j i c cells = hung_all (λ l cs. has_block d cs ≡ true → (d ≡ c.block) ⊎ (has_block d (cells l) ≡ true)) j c cells (first_or d c (cells j)) i (λ e m. inr m)
 
-module _ (map : ChainMap) (s : List ℕ) (f : Entries) (u v : Blocks) (hold : MapHolds map s f u v) where
+module _ (map : ChainMap) (s : List ℕ) (f : Entries) (u v : Blocks) (hold : HoldsApart (chain_part map) s f u v) where
   pub used_below : (d : ℕ) → set.contains u d ≡ true → d < map.arena.blocks
   used_below d m =
       let q = hold.map.used_in d m in
@@ -188,9 +189,9 @@ module _ (map : ChainMap) (s : List ℕ) (f : Entries) (u v : Blocks) (hold : Ma
       at true e = absurd (true≢false (sym free ∙ hold.apart b e))
 
 -- a new key, in a block that was free
-pub left_new : (map : ChainMap) (key x b : ℕ) (s r t : List ℕ) (f : Entries) (u v : Blocks) → MapHolds map s f u v → IsMissing map key s
+pub left_new : (map : ChainMap) (key x b : ℕ) (s r t : List ℕ) (f : Entries) (u v : Blocks) → HoldsApart (chain_part map) s f u v → IsMissing map key s
     → TakesBlock map.arena b s r v → KeepsOthers (IsHead map.arena) s r → IsPutInFront map key x b r t
-    → MapHolds map t (entry_map.insert f key x) (set.insert u b) (set.remove v b)
+    → HoldsApart (chain_part map) t (entry_map.insert f key x) (set.insert u b) (set.remove v b)
 left_new map key x b s r t f u v hold missing taken kept put =
     let a : Arena = map.arena in
     let j : ℕ = bucket_of key in
@@ -240,12 +241,3 @@ left_new map key x b s r t f u v hold missing taken kept put =
         | inr k ↦ out_less v b d (hold.apart d k)
       ];
     }
-
-pub inserted_new : (map : ChainMap) (key x b : ℕ) (s r t : List ℕ) (f : Entries) (u v : Blocks) → MapHolds map s f u v → IsMissing map key s
-    → TakesBlock map.arena b s r v → KeepsOthers (IsHead map.arena) s r → IsPutInFront map key x b r t → InsertsNew map key x t f u v
-inserted_new map key x b s r t f u v hold missing taken kept put = record {
-  absent = missing_value map key s f u missing hold.map;
-  block = b;
-  was_free = taken.was_free;
-  left = left_new map key x b s r t f u v hold missing taken kept put;
-}

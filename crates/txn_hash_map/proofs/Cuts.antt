@@ -18,9 +18,10 @@ use Rattle.txn_alloc.proofs.Sets.{out_both, out_itself}
 use Rattle.txn_alloc.proofs.Cells.{value_past, value_first, value_later, value_less, has_first, has_later, has_middle, first_block, later_block, less_block, remove_same, remove_other}
 use Rattle.txn_hash_map.specs.declared.map.ChainMap.{ChainMap}
 use Rattle.txn_hash_map.specs.declared.map.TheConstants.{BUCKETS}
-use Rattle.txn_hash_map.specs.Chains.{Cell, HasChain, HasKeysOnce, HasKeysIn, value_of, has_block, bucket_of, IsLaid, IsBucket, ChainsHold, MapHolds, Entries, Blocks, RemovesOne}
+use Rattle.txn_alloc.specs.EntryMaps.{Cell, value_of, has_block, Entries, Blocks, HoldsApart, RemovesOne, HasKeysOnce}
+use Rattle.txn_hash_map.specs.Chains.{HasChain, HasKeysIn, bucket_of, IsLaid, IsBucket, ChainsHold, chain_part}
 use Rattle.txn_hash_map.specs.Searches.{place_after, IsFoundAt}
-use Rattle.txn_hash_map.proofs.Cells.{bucket_below, one_chain, block_key, block_once, key_own}
+use Rattle.txn_hash_map.proofs.Cells.{bucket_below, one_chain, block_key, block_once, key_own, place_kind}
 use Rattle.txn_hash_map.proofs.Steps.{found_key, found_value, found_names}
 use Rattle.txn_hash_map.proofs.Stands.{laid_alike, chains_stand}
 use Rattle.txn_hash_map.proofs.Fronts.{bucket_is}
@@ -111,30 +112,21 @@ module _ (arena : Arena) (s : List ℕ) (p b x : ℕ) (names : slice_get s p ≡
         cut_chain (block_at arena d.block + 2) front rest c is_block at next once.1 h.4,
       )
 
--- the place after cells is the first, or the third word of one's block
-place_kind : (arena : Arena) (s : List ℕ) (q : ℕ) (front rest : List Cell) → HasChain arena s q (front ++ rest)
-    → (place_after arena q front ≡ q) ⊎ ((e : ℕ) × (has_block e (front ++ rest) ≡ true) × (place_after arena q front ≡ block_at arena e + 2))
-place_kind arena s q [] rest h = inl refl
-place_kind arena s q (c ∷ front) rest h = elim (place_kind arena s (block_at arena c.block + 2) front rest h.4) [
-  | inl e ↦ inr (c.block, has_first c (front ++ rest), e)
-  | inr k ↦ inr (k.0, has_later k.0 c (front ++ rest) k.1, k.2)
-]
-
-module _ (map : ChainMap) (key : ℕ) (s : List ℕ) (f : Entries) (u v : Blocks) (hold : MapHolds map s f u v) (p b : ℕ) (m : IsFoundAt map key p b s) where
-  -- the place is a bucket's word or in a used block
-  pub place_used : IsBucket map p ⊎ ((e : ℕ) × (set.contains u e ≡ true) × (p ≡ block_at map.arena e + 2))
+module _ (map : ChainMap) (key : ℕ) (s : List ℕ) (f : Entries) (u v : Blocks) (hold : HoldsApart (chain_part map) s f u v) (p b : ℕ) (m : IsFoundAt map key p b s) where
+  -- the place is the bucket's word or in a used block
+  pub place_used : (p ≡ map.buckets + bucket_of key) ⊎ ((e : ℕ) × (set.contains u e ≡ true) × (p ≡ block_at map.arena e + 2))
   place_used =
       let j : ℕ = bucket_of key in
       let same : hold.map.cells j ≡ m.front ++ m.cell ∷ m.rest = one_chain map.arena s (map.buckets + j) (map.buckets + j) (hold.map.cells j) (m.front ++ m.cell ∷ m.rest) refl (hold.map.chain j (bucket_below key)) m.chain in
       elim (place_kind map.arena s (map.buckets + j) m.front (m.cell ∷ m.rest) m.chain) [
-        | inl e ↦ inl (bucket_is map key p (m.at ∙ e))
+        | inl e ↦ inl (m.at ∙ e)
         | inr k ↦ inr (k.0, hold.map.in_used k.0 j (bucket_below key) (ap (λ cs. has_block k.0 cs) same ∙ k.1), m.at ∙ k.2)
       ]
 
   -- and so no word of a block but such a third one, and no head
   place_apart : (d a : ℕ) → d < map.arena.blocks → IsInBlock map.arena d a → (set.contains u d ≡ true → a ≢ block_at map.arena d + 2) → a ≢ p
   place_apart d a lt k out e = elim place_used [
-    | inl w ↦ hold.map.laid.outside d a lt k (subst (λ q. IsBucket map q) (sym e) w)
+    | inl w ↦ hold.map.laid.outside d a lt k (bucket_is map key a (e ∙ w))
     | inr w ↦
         let same : w.0 ≡ d = omega (arith, k.low, k.high, e, w.2) in
         out (ap (λ q. set.contains u q) (sym same) ∙ w.1) (e ∙ w.2 ∙ ap (λ q. block_at map.arena q + 2) same)
@@ -142,12 +134,12 @@ module _ (map : ChainMap) (key : ℕ) (s : List ℕ) (f : Entries) (u v : Blocks
 
   place_no_head : ¬ IsHead map.arena p
   place_no_head head = elim place_used [
-    | inl w ↦ hold.map.laid.no_head p w head
+    | inl w ↦ hold.map.laid.no_head p (bucket_is map key p w) head
     | inr w ↦ hold.map.laid.arena.outside w.0 p (used_below map s f u v hold w.0 w.1) (record { low = omega (arith, w.2); high = omega (arith, w.2) }) head
   ]
 
   -- the cell is out, and its block neither used nor free
-  pub cut : (x : ℕ) → slice_get s (block_at map.arena b + 2) ≡ Some x → MapHolds map (slice_set s p x) (entry_map.remove f key) (set.remove u b) v
+  pub cut : (x : ℕ) → slice_get s (block_at map.arena b + 2) ≡ Some x → HoldsApart (chain_part map) (slice_set s p x) (entry_map.remove f key) (set.remove u b) v
   cut x next =
       let a : Arena = map.arena in
       let j : ℕ = bucket_of key in
@@ -218,20 +210,15 @@ module _ (map : ChainMap) (key : ℕ) (s : List ℕ) (f : Entries) (u v : Blocks
       ap (λ z. set.contains z b) (one_set map.arena (slice_set s p x) w v free ((cut x next).free_lists)) ∙ hold.apart b (found_used map key s f u v hold p b m)
 
   -- the block is given back
-  pub removed : (x y : ℕ) (t : List ℕ) → slice_get s (block_at map.arena b + 2) ≡ Some x → slice_get s (block_at map.arena b + 1) ≡ Some y
-      → Gives map.arena b (slice_set s p x) t → KeepsOthers (IsAnyHeadOrIn map.arena b) (slice_set s p x) t → RemovesOne map key y t f u v
-  removed x y t next value gives kept =
-      let r : List ℕ = slice_set s p x in
-      let k : MapHolds map r (entry_map.remove f key) (set.remove u b) v = cut x next in
-      let l : IsLaid map r = k.map.laid in
-      let used : set.contains u b ≡ true = found_used map key s f u v hold p b m in
-      let below : b < map.arena.blocks = found_below map key s f u v hold p b m in
-      record {
-        present = found_value map key s f u p b y m value hold.map;
-        block = b;
-        was_used = used;
-        left = record {
-          map = chains_stand map r t (entry_map.remove f key) (set.remove u b) k.map kept.count
+  module _ (x y : ℕ) (t : List ℕ) (next : slice_get s (block_at map.arena b + 2) ≡ Some x) (value : slice_get s (block_at map.arena b + 1) ≡ Some y)
+      (gives : Gives map.arena b (slice_set s p x) t) (kept : KeepsOthers (IsAnyHeadOrIn map.arena b) (slice_set s p x) t) where
+    pub removed_left : HoldsApart (chain_part map) t (entry_map.remove f key) (set.remove u b) (set.insert v b)
+    removed_left =
+        let k : HoldsApart (chain_part map) (slice_set s p x) (entry_map.remove f key) (set.remove u b) v = cut x next in
+        let l : IsLaid map (slice_set s p x) = k.map.laid in
+        let below : b < map.arena.blocks = found_below map key s f u v hold p b m in
+        record {
+          map = chains_stand map (slice_set s p x) t (entry_map.remove f key) (set.remove u b) k.map kept.count
               (λ c w. kept.same c (λ o. elim o [ inl head ↦ l.no_head c w head | inr mine ↦ l.outside b c below mine w ]))
               (λ d c w q. kept.same c (λ o. elim o [
                 | inl head ↦ l.arena.outside d c (used_below map s f u v hold d (less_in u b d w)) q head
@@ -239,5 +226,7 @@ module _ (map : ChainMap) (key : ℕ) (s : List ℕ) (f : Entries) (u v : Blocks
               ]));
           free_lists = gives v k.free_lists;
           apart = λ d w. out_both v b d (less_other u b d w) (hold.apart d (less_in u b d w));
-        };
-      }
+        }
+
+    pub removed : RemovesOne (chain_part map) key y t f u v
+    removed = record { present = found_value map key s f u p b y m value hold.map; block = b; was_used = found_used map key s f u v hold p b m; left = removed_left }

@@ -89,20 +89,20 @@ module _ (map : ChainMap) (key x b n : ℕ) (G : List ℕ → Type 0) (t t1 t2 t
         subst (λ w. IsPutInFront map key x b (after t s) w) (sym r5) (put_state map key x b z (after t s) (laid.at s fit0) lt there);
   }
 
-  pub front_only : AppendsOnly t t5 (IsBucketOrIn map b)
+  pub front_only : AppendsOnly t t5 (IsBucketOrIn map key b)
   front_only =
-      let own : ℕ → Type 0 = IsBucketOrIn map b in
+      let own : ℕ → Type 0 = IsBucketOrIn map key b in
       only_then own t t1 t5 (only_read own t t1 p z e1)
       (only_then own t1 t2 t5 (only_write own t1 t2 q key e2 (inr (record { low = omega (arith, is_block); high = omega (arith, is_block) })))
       (only_then own t2 t3 t5 (only_write own t2 t3 (q + 1) x e3 (inr (record { low = omega (arith, is_block); high = omega (arith, is_block) })))
       (only_then own t3 t4 t5 (only_write own t3 t4 (q + 2) z e4 (inr (record { low = omega (arith, is_block); high = omega (arith, is_block) })))
-      (only_write own t4 t5 p y e5 (inl (bucket_is map key p is_bucket))))))
+      (only_write own t4 t5 p y e5 (inl is_bucket)))))
 
-  pub front_reads : AppendsReads t t5 (IsBucketOrIn map b)
+  pub front_reads : AppendsReads t t5 (IsBucketOrIn map key b)
   front_reads =
-      let seen : ℕ → Type 0 = IsBucketOrIn map b in
-      sees_then seen t t1 t5 (sees_read seen t t1 p z e1 (inl (bucket_is map key p is_bucket)))
+      let seen : ℕ → Type 0 = IsBucketOrIn map key b in
+      sees_then seen t t1 t5 (sees_read seen t t1 p z e1 (inl is_bucket))
       (sees_then seen t1 t2 t5 (sees_write seen t1 t2 q key e2 (inr (record { low = omega (arith, is_block); high = omega (arith, is_block) })))
       (sees_then seen t2 t3 t5 (sees_write seen t2 t3 (q + 1) x e3 (inr (record { low = omega (arith, is_block); high = omega (arith, is_block) })))
       (sees_then seen t3 t4 t5 (sees_write seen t3 t4 (q + 2) z e4 (inr (record { low = omega (arith, is_block); high = omega (arith, is_block) })))
-      (sees_write seen t4 t5 p y e5 (inl (bucket_is map key p is_bucket))))))
+      (sees_write seen t4 t5 p y e5 (inl is_bucket)))))

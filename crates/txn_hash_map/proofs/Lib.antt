@@ -8,5 +8,5 @@ pub mod Inserts
 pub mod Cuts
 pub mod Removals
 pub mod OneMap
-pub mod Spares
 pub mod Lists
+pub mod Numbers

@@ -14,7 +14,8 @@ use Rattle.txn_alloc.proofs.Zeros.{zero_there}
 use Rattle.txn_alloc.specs.FreeLists.{IsLaidOut}
 use Rattle.txn_alloc.proofs.Sets.{out_empty}
 use Rattle.txn_hash_map.specs.declared.map.ChainMap.{ChainMap}
-use Rattle.txn_hash_map.specs.Chains.{IsInOrder}
+use Rattle.txn_alloc.specs.EntryMaps.{HasMapApart}
+use Rattle.txn_hash_map.specs.Chains.{chain_part}
 
 abbrev pub two : Arena
 two = record { heads = 1; first = 277; blocks = 2 }
@@ -26,7 +27,7 @@ nothing : (k : ℕ) → entry_map.get (entry_map.empty {X = ℕ} {R = nat_cmp}) 
 nothing k = grind (gets, rules)
 
 -- a list of zeros but for the two words that link the blocks is good
-pub linked : (n : ℕ) (ws : List ℕ) → n ≡ 285 → ws ≡ replicate n 0 → IsGood 285 (IsInOrder small) (slice_set (slice_set ws 1 1) 277 2)
+pub linked : (n : ℕ) (ws : List ℕ) → n ≡ 285 → ws ≡ replicate n 0 → IsGood 285 (HasMapApart (chain_part small)) (slice_set (slice_set ws 1 1) 277 2)
 unfolding IsDistinct
 linked n ws is_n e =
     let nil : ℕ = 0 in

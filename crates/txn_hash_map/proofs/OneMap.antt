@@ -6,10 +6,11 @@ use Rattle.std.specs.FinSet as set
 use Rattle.std.specs.FinMap as entry_map
 use Rattle.txn_hash_map.specs.declared.map.ChainMap.{ChainMap}
 use Rattle.txn_hash_map.specs.declared.map.TheConstants.{BUCKETS}
-use Rattle.txn_hash_map.specs.Chains.{Entries, Blocks, ChainsHold, value_of, has_block, bucket_of}
+use Rattle.txn_alloc.specs.EntryMaps.{Entries, Blocks, value_of, has_block}
+use Rattle.txn_hash_map.specs.Chains.{ChainsHold, bucket_of}
 use Rattle.txn_hash_map.proofs.Cells.{bucket_below, one_chain}
 
-both : (a b : Bool) → (a ≡ true → b ≡ true) → (b ≡ true → a ≡ true) → a ≡ b
+pub both : (a b : Bool) → (a ≡ true → b ≡ true) → (b ≡ true → a ≡ true) → a ≡ b
 both true b f g = sym (f refl)
 both false true f g = g refl
 both false false f g = refl

@@ -1,4 +1,4 @@
--- What a removal leads to, in every fitting state at once.
+-- What a removal leads to, writes and reads, in every fitting state at once.
 use Rattle.std.proofs.Common.{◌≡◌, ℕ, ◌+◌, ◌<◌, inl, inr, true, List, length, slice_get, slice_set, Option, Some, None, sym, ap, ◌∙◌, subst, arith}
 use Rattle.std.proofs.lemmas.Option.{slice_get_within}
 use Rattle.std.specs.FinSet as set
@@ -8,34 +8,30 @@ use Rattle.history_model.specs.Fitting.{Fits, SomeFits, InEach, Leads}
 use Rattle.history_model.proofs.TraceLaws.{length-after}
 use Rattle.history_model.proofs.FittingLaws.{fits_begins}
 use Rattle.txn_words.specs.Steps.{EndsWithWrite}
-use Rattle.txn_words.specs.Frames.{KeepsOthers, AppendsOnly}
+use Rattle.txn_words.specs.Frames.{KeepsOthers, AppendsOnly, AppendsReads}
 use Rattle.txn_words.proofs.Steps.{after_write_end, fits_write_end}
 use Rattle.txn_words.proofs.FrameLaws.{only_more, only_then, only_write}
-use Rattle.txn_alloc.specs.FreeLists.{block_at, IsHead, IsInBlock, FreeListsHold, Lacks, Gives}
+use Rattle.txn_words.proofs.ReadLaws.{sees_more, sees_then, sees_write}
+use Rattle.txn_alloc.specs.FreeLists.{block_at, IsInBlock, IsHeadOrFirst, FreeListsHold, Lacks, Gives}
 use Rattle.txn_alloc.proofs.Wider.{IsAnyHeadOrIn}
 use Rattle.txn_alloc.specs.FreeLists as lists
 use Rattle.txn_hash_map.specs.declared.map.ChainMap.{ChainMap}
-use Rattle.txn_hash_map.specs.Chains.{IsInOrder, Removes, IsOwn, Uses}
-use Rattle.txn_alloc.specs.Looks.{Looks}
+use Rattle.txn_alloc.specs.EntryMaps.{HasMapApart, Removes, Uses, IsMoved, IsOwn, MayReadToRemove}
+use Rattle.txn_hash_map.specs.Chains.{chain_part}
+use Rattle.txn_words.specs.Looks.{Looks}
 use Rattle.txn_hash_map.specs.Searches.{IsFoundAt}
-use Rattle.txn_hash_map.proofs.Steps.{found_names, order_found}
-use Rattle.txn_hash_map.proofs.Looks.{IsLinkOr}
-use Rattle.txn_hash_map.proofs.Changes.{found_used}
-use Rattle.txn_hash_map.proofs.Cuts.{cut, cut_lacks, removed, place_used}
-
--- what a removal leaves is in order
-pub order_removed : (map : ChainMap) (key : ℕ) (answer : Option ℕ) (s t : List ℕ) → IsInOrder map s → Removes map key answer s t → IsInOrder map t
-order_removed map key None s t o h = order_found map key None s t o h
-order_removed map key (Some was) s t o h =
-    let k = h o.entries o.used o.free o.holds in
-    record { entries = entry_map.remove o.entries key; used = set.remove o.used k.block; free = set.insert o.free k.block; holds = k.left }
+use Rattle.txn_alloc.proofs.Parts.{moved_out}
+use Rattle.txn_hash_map.proofs.Steps.{found_names, held_used}
+use Rattle.txn_hash_map.proofs.Looks.{IsLinkOr, value_seen}
+use Rattle.txn_hash_map.proofs.Inserts.{is_one}
+use Rattle.txn_hash_map.proofs.Cuts.{cut, cut_lacks, removed, removed_left, place_used}
 
 -- found, with its value and the next name
 abbrev pub IsRead : ChainMap → ℕ → ℕ → ℕ → ℕ → ℕ → ℕ → ℕ → List ℕ → Type 0
 IsRead map key p b q y r x s = (IsFoundAt map key p b s × (slice_get s q ≡ Some y)) × (slice_get s r ≡ Some x)
 
 module _ (map : ChainMap) (key n : ℕ) (G : List ℕ → Type 0) (t u : Trace) (p b q y r x : ℕ) (is_value : q ≡ block_at map.arena b + 1) (is_next : r ≡ block_at map.arena b + 2)
-    (l : Looks n G t u (IsLinkOr map q) (IsRead map key p b q y r x)) where
+    (l : Looks n G t u (IsLinkOr map key q) (IsRead map key p b q y r x)) where
   pub place_within : SomeFits n G u → p < n
   place_within some =
       let s : List ℕ = after u some.0 in
@@ -43,11 +39,11 @@ module _ (map : ChainMap) (key n : ℕ) (G : List ℕ → Type 0) (t u : Trace) 
       let in_list : p < length s = slice_get_within s p (b + 1) (found_names map key s p b ((l.holds some.0 some.1).0.0)) in
       omega (arith, long, in_list)
 
-  module _ (v : Trace) (e : EndsWithWrite u v p x) (order : InEach n G t (IsInOrder map)) where
+  module _ (v : Trace) (e : EndsWithWrite u v p x) (order : InEach n G t (HasMapApart (chain_part map))) where
     at_start : (s : List ℕ) → Fits n G v s → IsRead map key p b q y r x (after t s)
     at_start s fit = let fit_u : Fits n G u s = fits_write_end n G u v p x s e fit in subst (λ z. IsRead map key p b q y r x z) (l.same s fit_u) (l.holds s fit_u)
 
-    order_start : (s : List ℕ) → Fits n G v s → IsInOrder map (after t s)
+    order_start : (s : List ℕ) → Fits n G v s → HasMapApart (chain_part map) (after t s)
     order_start s fit = order.at s (fits_begins n G t u s l.begins (fits_write_end n G u v p x s e fit))
 
     cut_state : (s : List ℕ) → Fits n G v s → after v s ≡ slice_set (after t s) p x
@@ -62,18 +58,18 @@ module _ (map : ChainMap) (key n : ℕ) (G : List ℕ → Type 0) (t u : Trace) 
     pub order_cut : InEach n G v (lists.IsInOrder map.arena)
     order_cut = record {
       at = λ s fit.
-          let o : IsInOrder map (after t s) = order_start s fit in
+          let o : HasMapApart (chain_part map) (after t s) = order_start s fit in
           (o.free, subst (λ z. FreeListsHold map.arena z o.free) (sym (cut_state s fit)) (cut map key (after t s) o.entries o.used o.free o.holds p b ((at_start s fit).0.0) x (next_there s fit)).free_lists);
     }
 
     pub lacks_cut : InEach n G v (Lacks map.arena b)
     lacks_cut = record {
       at = λ s fit.
-          let o : IsInOrder map (after t s) = order_start s fit in
+          let o : HasMapApart (chain_part map) (after t s) = order_start s fit in
           subst (λ z. Lacks map.arena b z) (sym (cut_state s fit)) (cut_lacks map key (after t s) o.entries o.used o.free o.holds p b ((at_start s fit).0.0) x (next_there s fit));
     }
 
-    pub removes_some : (w : Trace) → Begins v w → Leads n G v w (Gives map.arena b) → Leads n G v w (KeepsOthers (IsAnyHeadOrIn map.arena b)) → Leads n G t w (Removes map key (Some y))
+    pub removes_some : (w : Trace) → Begins v w → Leads n G v w (Gives map.arena b) → Leads n G v w (KeepsOthers (IsAnyHeadOrIn map.arena b)) → Leads n G t w (Removes (chain_part map) key (Some y))
     removes_some w bw gives keeps = record {
       at = λ s fit f used free hold.
           let fit_v : Fits n G v s = fits_begins n G v w s bw fit in
@@ -82,18 +78,52 @@ module _ (map : ChainMap) (key n : ℕ) (G : List ℕ → Type 0) (t u : Trace) 
           (subst (λ z. KeepsOthers (IsAnyHeadOrIn map.arena b) z (after w s)) (cut_state s fit_v) (keeps.at s fit));
     }
 
-    pub owns_removed : (w : Trace) → Begins v w → AppendsOnly v w (IsAnyHeadOrIn map.arena b) → (s : List ℕ) → Fits n G w s → AppendsOnly t w (IsOwn map (after t s) (after w s))
-    owns_removed w bw given s fit =
-        let fit_v : Fits n G v s = fits_begins n G v w s bw fit in
-        let own : ℕ → Type 0 = IsOwn map (after t s) (after w s) in
-        let o : IsInOrder map (after t s) = order_start s fit_v in
-        let at : IsFoundAt map key p b (after t s) = (at_start s fit_v).0.0 in
-        let uses : (d : ℕ) → set.contains o.used d ≡ true → Uses map (after t s) d = λ d k. (o.entries, o.used, o.holds.map, k) in
-        let used : set.contains o.used b ≡ true = found_used map key (after t s) o.entries o.used o.free o.holds p b at in
-        let mine : own p = elim (place_used map key (after t s) o.entries o.used o.free o.holds p b at) [
-          | inl k ↦ inr (inl k)
-          | inr k ↦ inr (inr (k.0, inl (uses k.0 k.1), record { low = omega (arith, k.2); high = omega (arith, k.2) }))
-        ] in
-        let step : (a : ℕ) → IsAnyHeadOrIn map.arena b a → own a = λ a k. elim k [ inl head ↦ inl head | inr m ↦ inr (inr (b, inl (uses b used), m)) ] in
-        only_then own t u w (only_more (λ a. ⊥) own t u (λ a k. absurd k) l.writes)
-        (only_then own u v w (only_write own u v p x e mine) (only_more (IsAnyHeadOrIn map.arena b) own v w step given))
+    module _ (w : Trace) (bw : Begins v w) (gives : Leads n G v w (Gives map.arena b)) (keeps : Leads n G v w (KeepsOthers (IsAnyHeadOrIn map.arena b))) where
+      fits_v : (s : List ℕ) → Fits n G w s → Fits n G v s
+      fits_v s fit = fits_begins n G v w s bw fit
+
+      uses_start : (s : List ℕ) → Fits n G w s → Uses (chain_part map) (after t s) b
+      uses_start s fit =
+          let o = order_start s (fits_v s fit) in
+          (o.entries, o.used, o.holds.map, held_used map key (after t s) o.entries o.used o.holds.map p b (at_start s (fits_v s fit)).0.0)
+
+      -- the block that was given back is used no more
+      moved_back : (s : List ℕ) → Fits n G w s → IsMoved (chain_part map) (after t s) (after w s) b
+      moved_back s fit =
+          let fit_v : Fits n G v s = fits_v s fit in
+          let o = order_start s fit_v in
+          moved_out (chain_part map) (is_one map) (after t s) (after w s) (entry_map.remove o.entries key) o.used b (uses_start s fit)
+          (removed_left map key (after t s) o.entries o.used o.free o.holds p b ((at_start s fit_v).0.0) x y (after w s) (next_there s fit_v) (value_there s fit_v)
+          (subst (λ z. Gives map.arena b z (after w s)) (cut_state s fit_v) (gives.at s fit))
+          (subst (λ z. KeepsOthers (IsAnyHeadOrIn map.arena b) z (after w s)) (cut_state s fit_v) (keeps.at s fit))).map
+
+      pub owns_removed : AppendsOnly v w (IsHeadOrFirst map.arena b) → (s : List ℕ) → Fits n G w s → AppendsOnly t w (IsOwn (chain_part map) key (after t s) (after w s))
+      owns_removed given s fit =
+          let fit_v : Fits n G v s = fits_v s fit in
+          let own : ℕ → Type 0 = IsOwn (chain_part map) key (after t s) (after w s) in
+          let o = order_start s fit_v in
+          let mine : own p = elim (place_used map key (after t s) o.entries o.used o.free o.holds p b ((at_start s fit_v).0.0)) [
+            | inl k ↦ inl k
+            | inr k ↦ inr (inl (k.0, inl (o.entries, o.used, o.holds.map, k.1), record { low = omega (arith, k.2); high = omega (arith, k.2) }))
+          ] in
+          let step : (a : ℕ) → IsHeadOrFirst map.arena b a → own a = λ a k. elim k [
+            | inl head ↦ inr (inr (b, moved_back s fit, head))
+            | inr e ↦ inr (inl (b, inl (uses_start s fit), record { low = omega (arith, e); high = omega (arith, e) }))
+          ] in
+          only_then own t u w (only_more (λ a. ⊥) own t u (λ a k. absurd k) l.writes)
+          (only_then own u v w (only_write own u v p x e mine) (only_more (IsHeadOrFirst map.arena b) own v w step given))
+
+      pub sees_removed : AppendsReads v w (IsHeadOrFirst map.arena b) → (s : List ℕ) → Fits n G w s → AppendsReads t w (MayReadToRemove (chain_part map) key (Some y) (after t s) (after w s))
+      sees_removed names s fit =
+          let fit_v : Fits n G v s = fits_v s fit in
+          let fit_u : Fits n G u s = fits_write_end n G u v p x s e fit_v in
+          let o = order_start s fit_v in
+          let m : IsFoundAt map key p b (after t s) = (at_start s fit_v).0.0 in
+          let may : ℕ → Type 0 = MayReadToRemove (chain_part map) key (Some y) (after t s) (after w s) in
+          let mine : may p = elim (place_used map key (after t s) o.entries o.used o.free o.holds p b m) [
+            | inl k ↦ inl (inl k)
+            | inr k ↦ inl (inr (k.0, (o.entries, o.used, o.holds.map, k.1), inr (inl k.2)))
+          ] in
+          let step : (a : ℕ) → IsHeadOrFirst map.arena b a → may a = λ a k. elim k [ inl head ↦ inr (b, moved_back s fit, head) | inr e ↦ inl (inr (b, uses_start s fit, inl e)) ] in
+          sees_then may t u w (sees_more (IsLinkOr map key q (after t s)) may t u (λ a k. inl (value_seen map key n G t u p b q (after t s) o.entries o.used is_value m o.holds.map a k)) (l.reads s fit_u))
+          (sees_then may u v w (sees_write may u v p x e mine) (sees_more (IsHeadOrFirst map.arena b) may v w step names))

@@ -6,7 +6,8 @@ use Rattle.txn_alloc.specs.FreeLists.{block_at, IsInBlock}
 use Rattle.txn_alloc.proofs.Lists.{laid_kept}
 use Rattle.txn_alloc.proofs.Cells.{has_first, has_later}
 use Rattle.txn_hash_map.specs.declared.map.ChainMap.{ChainMap}
-use Rattle.txn_hash_map.specs.Chains.{Cell, HasChain, has_block, IsLaid, IsBucket, ChainsHold, Entries, Blocks}
+use Rattle.txn_alloc.specs.EntryMaps.{Cell, has_block, Entries, Blocks}
+use Rattle.txn_hash_map.specs.Chains.{HasChain, IsLaid, IsBucket, ChainsHold}
 
 -- a chain whose words are kept has the same cells, also from another place with the same value
 pub chain_kept : (arena : Arena) (s t : List ℕ) (p q : ℕ) (cs : List Cell) → slice_get t q ≡ slice_get s p

@@ -1,14 +1,15 @@
 -- The steps of a search, in one word list.
-use Rattle.std.proofs.Common.{◌≡◌, ◌≢◌, ℕ, ◌+◌, ◌^◌, ◌<◌, ◌≤◌, inl, inr, List, [], ◌∷◌, ◌++◌, length, slice_get, Option, Some, None, refl, sym, ap, ◌∙◌, subst, arith, append_assoc, length-append}
+use Rattle.std.proofs.Common.{◌≡◌, ◌≢◌, ℕ, ◌+◌, ◌^◌, ◌<◌, ◌≤◌, inl, inr, true, List, [], ◌∷◌, ◌++◌, length, slice_get, Option, Some, None, refl, sym, ap, ◌∙◌, subst, arith, append_assoc, length-append}
 use Rattle.std.proofs.lemmas.Option.{slice_get_within, same_Some}
+use Rattle.std.specs.FinSet as set
 use Rattle.std.specs.FinMap as entry_map
 use Rattle.txn_alloc.specs.FreeLists.{block_at}
-use Rattle.txn_alloc.proofs.Wider.{IsAnyHeadOrFirst}
-use Rattle.txn_alloc.proofs.Cells.{value_past, value_first, value_later}
+use Rattle.txn_alloc.proofs.Cells.{value_past, value_first, value_later, has_middle}
 use Rattle.txn_hash_map.specs.declared.map.ChainMap.{ChainMap}
-use Rattle.txn_hash_map.specs.Chains.{Cell, HasChain, HasKeysOnce, value_of, bucket_of, IsLaid, IsHeld, IsInOrder, ChainsHold, Entries, Blocks, Finds, Uses, IsOtherValue}
-use Rattle.txn_hash_map.specs.Searches.{place_after, IsPassed, IsFoundAt, IsMissing, IsLink}
-use Rattle.txn_hash_map.proofs.Cells.{bucket_below, one_chain, chain_rest, place_after_more, chain_short, block_below}
+use Rattle.txn_alloc.specs.EntryMaps.{Cell, value_of, has_block, Entries, Blocks, Uses, IsSeen, HasKeysOnce}
+use Rattle.txn_hash_map.specs.Chains.{HasChain, bucket_of, IsLaid, ChainsHold, chain_part}
+use Rattle.txn_hash_map.specs.Searches.{place_after, IsPassed, IsFoundAt, IsMissing, IsOfChain, IsLink}
+use Rattle.txn_hash_map.proofs.Cells.{bucket_below, one_chain, chain_rest, place_after_more, place_kind, chain_short, block_below}
 
 module _ (map : ChainMap) (key : ℕ) (s : List ℕ) where
   -- the search begins at the bucket
@@ -142,41 +143,53 @@ module _ (map : ChainMap) (key : ℕ) (s : List ℕ) where
       ap (λ q. slice_get s q) m.at ∙ here.0 ∙ ap (λ d. Some (d + 1)) m.is_block
 
   -- a used block is the arena's
-  pub uses_below : (b : ℕ) → Uses map s b → b < map.arena.blocks
+  pub uses_below : (b : ℕ) → Uses (chain_part map) s b → b < map.arena.blocks
   uses_below b u =
       let h : ChainsHold map s u.0 u.1 = u.2 in
       let m = h.used_in b u.3 in
       block_below map.arena s (map.buckets + m.0) b (h.cells m.0) (h.chain m.0 m.1) m.2
 
-  -- what a search reads is no value
-  pub link_spares : (a : ℕ) → IsLaid map s → IsLink map a → ¬ IsOtherValue map key s a
-  link_spares a l (inl k) o =
-      let lt : o.block < map.arena.blocks = uses_below o.block o.used in
-      l.outside o.block a lt (record { low = omega (arith, o.place); high = omega (arith, o.place) }) k
-  link_spares a l (inr (b, lt, inl e)) o = omega (arith, o.place, e)
-  link_spares a l (inr (b, lt, inr e)) o = omega (arith, o.place, e)
+  -- the place is a word that a search reads
+  pub passed_link : (p n : ℕ) → IsPassed map key p n s → IsLink map key s p
+  passed_link p n h = elim (place_kind map.arena s (map.buckets + bucket_of key) h.front h.rest h.chain) [
+    | inl e ↦ inl (h.at ∙ e)
+    | inr k ↦ inr (k.0, λ cells chain. ap (λ cs. has_block k.0 cs) (one_chain map.arena s (map.buckets + bucket_of key) (map.buckets + bucket_of key) cells (h.front ++ h.rest) refl chain h.chain) ∙ k.1, inr (h.at ∙ k.2))
+  ]
 
-  -- what is read of the free lists is no value
-  pub name_spares : (a : ℕ) → IsLaid map s → IsAnyHeadOrFirst map.arena a → ¬ IsOtherValue map key s a
-  name_spares a l (inl k) o =
-      let lt : o.block < map.arena.blocks = uses_below o.block o.used in
-      l.arena.outside o.block a lt (record { low = omega (arith, o.place); high = omega (arith, o.place) }) k
-  name_spares a l (inr (b, lt, e)) o = omega (arith, o.place, e)
+  -- and so is the key of the block that it names
+  named_of : (p b : ℕ) (front rest : List Cell) → HasChain map.arena s (map.buckets + bucket_of key) (front ++ rest) → p ≡ place_after map.arena (map.buckets + bucket_of key) front
+      → slice_get s p ≡ Some (b + 1) → has_block b (front ++ rest) ≡ true
+  named_of p b front [] chain at e =
+      let z : b + 1 ≡ 0 = same_Some (b + 1) 0 (sym e ∙ ap (λ q. slice_get s q) at ∙ chain_rest map.arena s (map.buckets + bucket_of key) front [] chain) in absurd (omega arith)
+  named_of p b front (c ∷ cs) chain at e =
+      let here = chain_rest map.arena s (map.buckets + bucket_of key) front (c ∷ cs) chain in
+      let z : b + 1 ≡ c.block + 1 = same_Some (b + 1) (c.block + 1) (sym e ∙ ap (λ q. slice_get s q) at ∙ here.0) in
+      let same : c.block ≡ b = omega arith in
+      has_middle b front cs c same
 
-  -- the value of the key itself is no other's
-  pub value_spares : (a b : ℕ) → slice_get s (block_at map.arena b) ≡ Some key → a ≡ block_at map.arena b + 1 → ¬ IsOtherValue map key s a
-  value_spares a b e is_value o =
-      let same : o.block ≡ b = omega (arith, o.place, is_value) in
-      o.other key refl (ap (λ d. slice_get s (block_at map.arena d)) same ∙ e)
+  pub passed_key : (p n b : ℕ) → IsPassed map key p n s → slice_get s p ≡ Some (b + 1) → IsLink map key s (block_at map.arena b)
+  passed_key p n b h e =
+      inr (b, λ cells chain. ap (λ cs. has_block b cs) (one_chain map.arena s (map.buckets + bucket_of key) (map.buckets + bucket_of key) cells (h.front ++ h.rest) refl chain h.chain) ∙ named_of p b h.front h.rest h.chain h.at e, inl refl)
+
+  -- a block of the chain is used
+  pub chain_used : (f : Entries) (u : Blocks) (b : ℕ) → ChainsHold map s f u → IsOfChain map key b s → set.contains u b ≡ true
+  chain_used f u b hold k = let i : ℕ = bucket_of key in hold.in_used b i (bucket_below key) (k (hold.cells i) (hold.chain i (bucket_below key)))
+
+  -- the block where the key was found is one of the chain
+  pub found_of : (p b : ℕ) → IsFoundAt map key p b s → IsOfChain map key b s
+  found_of p b m cells chain =
+      ap (λ cs. has_block b cs) (one_chain map.arena s (map.buckets + bucket_of key) (map.buckets + bucket_of key) cells (m.front ++ m.cell ∷ m.rest) refl chain m.chain) ∙ has_middle b m.front m.rest m.cell m.is_block
+
+  pub held_used : (f : Entries) (u : Blocks) → ChainsHold map s f u → (p b : ℕ) → IsFoundAt map key p b s → set.contains u b ≡ true
+  held_used f u hold p b m = chain_used f u b hold (found_of p b m)
+
+  -- so what a search reads is the map's own
+  pub link_seen : (IsKey : ℕ → Type 0) (f : Entries) (u : Blocks) (a : ℕ) → ChainsHold map s f u → IsLink map key s a → IsSeen (chain_part map) key IsKey s a
+  link_seen IsKey f u a hold (inl e) = inl e
+  link_seen IsKey f u a hold (inr (b, of, inl e)) = inr (b, (f, u, hold, chain_used f u b hold of), inl e)
+  link_seen IsKey f u a hold (inr (b, of, inr e)) = inr (b, (f, u, hold, chain_used f u b hold of), inr (inl e))
 
   pub found_key : (p b : ℕ) → IsFoundAt map key p b s → slice_get s (block_at map.arena b) ≡ Some key
   found_key p b m =
       let here = chain_rest map.arena s (map.buckets + bucket_of key) m.front (m.cell ∷ m.rest) m.chain in
       ap (λ d. slice_get s (block_at map.arena d)) (sym m.is_block) ∙ here.2 ∙ ap (λ k. Some k) m.is_key
-
--- what a look leaves is held, and in order
-pub held_found : (map : ChainMap) (key : ℕ) (answer : Option ℕ) (x y : List ℕ) → IsHeld map x → Finds map key answer x y → IsHeld map y
-held_found map key answer x y o f = subst (λ z. IsHeld map z) (sym f.same) o
-
-pub order_found : (map : ChainMap) (key : ℕ) (answer : Option ℕ) (x y : List ℕ) → IsInOrder map x → Finds map key answer x y → IsInOrder map y
-order_found map key answer x y o f = subst (λ z. IsInOrder map z) (sym f.same) o

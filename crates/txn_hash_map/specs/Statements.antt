@@ -1,9 +1,11 @@
 -- What the laws of chained maps say.
 use Rattle.std.specs.Prelude.{◌≡◌, ℕ, true, List, length, slice_get}
 use Rattle.std.specs.FinSet as set
+use Rattle.std.specs.FinMap as entry_map
 use Rattle.txn_alloc.specs.FreeLists.{IsInBlock}
 use Rattle.txn_hash_map.specs.declared.map.ChainMap.{ChainMap}
-use Rattle.txn_hash_map.specs.Chains.{Entries, Blocks, IsBucket, ChainsHold}
+use Rattle.txn_alloc.specs.EntryMaps.{Entries, Blocks}
+use Rattle.txn_hash_map.specs.Chains.{IsBucket, ChainsHold}
 
 -- in one word list the map is one: its entries, and the blocks that hold them
 abbrev pub OneMap : Type 0
@@ -20,3 +22,8 @@ ChainsStand =
     → ((a : ℕ) → IsBucket map a → slice_get new a ≡ slice_get old a)
     → ((b a : ℕ) → set.contains used b ≡ true → IsInBlock map.arena b a → slice_get new a ≡ slice_get old a)
     → ChainsHold map new entries used
+
+-- a map uses as many blocks as it has entries
+abbrev pub AsManyBlocks : Type 0
+AsManyBlocks =
+    (map : ChainMap) (words : List ℕ) (entries : Entries) (used : Blocks) → ChainsHold map words entries used → set.len used ≡ entry_map.len entries

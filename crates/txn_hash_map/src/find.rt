@@ -2,8 +2,9 @@
 
 ghost use Rattle.std.specs.Prelude.{◌≡◌, ◌<◌, IfOk, IfSome, IfNone};
 ghost use Rattle.txn_words.specs.Calls.{IsReady, GoesOn, InEachState};
-ghost use Rattle.txn_hash_map.specs.Chains.{IsHeld, bucket_of};
-ghost use Rattle.txn_alloc.specs.Looks.{Looks};
+ghost use Rattle.txn_alloc.specs.EntryMaps.{HasMap};
+ghost use Rattle.txn_hash_map.specs.Chains.{bucket_of, chain_part};
+ghost use Rattle.txn_words.specs.Looks.{Looks};
 ghost use Rattle.txn_hash_map.specs.Searches.{IsFoundAt, IsMissing, IsLink};
 
 use crate::map::{ChainMap, MULTIPLIER};
@@ -26,11 +27,11 @@ pub(crate) fn bucket(key: u64) -> u64
 /// Looks for the key along its bucket's chain.
 pub(crate) fn find<W: Words>(w: &mut W, map: &ChainMap, key: u64) -> Result<Option<Found>, Stop>
     requires ready { IsReady W.Words w.old }
-    requires order { InEachState W.Words W.Shape.Shape w.old (IsHeld map.now) }
+    requires order { InEachState W.Words W.Shape.Shape w.old (HasMap (chain_part map.now)) }
     ensures found { IfOk result (λ answer. IfSome answer (λ f.
-        Looks (W.Shape.word_count (W.shape w.old)) (W.Shape.good (W.shape w.old)) (W.trace w.old) (W.trace w.new) (IsLink map.now) (IsFoundAt map.now key f.place f.block))) }
+        Looks (W.Shape.word_count (W.shape w.old)) (W.Shape.good (W.shape w.old)) (W.trace w.old) (W.trace w.new) (IsLink map.now key) (IsFoundAt map.now key f.place f.block))) }
     ensures missing { IfOk result (λ answer. IfNone answer
-        (Looks (W.Shape.word_count (W.shape w.old)) (W.Shape.good (W.shape w.old)) (W.trace w.old) (W.trace w.new) (IsLink map.now) (IsMissing map.now key))) }
+        (Looks (W.Shape.word_count (W.shape w.old)) (W.Shape.good (W.shape w.old)) (W.trace w.old) (W.trace w.new) (IsLink map.now key) (IsMissing map.now key))) }
     ensures block { IfOk result (λ answer. IfSome answer (λ f. f.block < map.now.arena.blocks)) }
     ensures goes_on { GoesOn W.Words w.old w.new result }
 {

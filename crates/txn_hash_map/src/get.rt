@@ -2,7 +2,8 @@
 
 ghost use Rattle.std.specs.Prelude.{IfOk, OnOk};
 ghost use Rattle.txn_words.specs.Calls.{IsReady, GoesOn, WritesOnly, InEachState, LeadsTo, ReadsWithin};
-ghost use Rattle.txn_hash_map.specs.Chains.{IsHeld, Finds, MayRead};
+ghost use Rattle.txn_alloc.specs.EntryMaps.{HasMap, Finds, MayRead};
+ghost use Rattle.txn_hash_map.specs.Chains.{chain_part};
 
 use crate::find::find;
 use crate::map::ChainMap;
@@ -12,17 +13,17 @@ impl ChainMap {
     /// The value at the key, if there is one.
     pub fn get<W: Words>(&self, w: &mut W, key: u64) -> Result<Option<u64>, Stop>
         requires ready { IsReady W.Words w.old }
-        requires order { InEachState W.Words W.Shape.Shape w.old (IsHeld self.now) }
+        requires order { InEachState W.Words W.Shape.Shape w.old (HasMap (chain_part self.now)) }
 
         // Nothing changes, and the answer is what the map has at the key.
-        ensures found { IfOk result (λ answer. LeadsTo W.Words W.Shape.Shape w.old w.new (Finds self.now key answer)) }
-        ensures order { OnOk result (InEachState W.Words W.Shape.Shape w.new (IsHeld self.now)) }
+        ensures found { IfOk result (λ answer. LeadsTo W.Words W.Shape.Shape w.old w.new (Finds (chain_part self.now) key answer)) }
+        ensures order { OnOk result (InEachState W.Words W.Shape.Shape w.new (HasMap (chain_part self.now))) }
 
         // No word is written.
         ensures frame { OnOk result (WritesOnly W.Words w.old w.new (λ a. ⊥)) }
 
-        // The value of no other key is read.
-        ensures reads { OnOk result (ReadsWithin W.Words W.Shape.Shape w.old w.new (MayRead self.now key)) }
+        // Of the map's own blocks keys and links are read, and the value of the key.
+        ensures reads { OnOk result (ReadsWithin W.Words W.Shape.Shape w.old w.new (MayRead (chain_part self.now) key)) }
         ensures goes_on { GoesOn W.Words w.old w.new result }
     {
         match find(w, self, key)? {

@@ -3,7 +3,8 @@
 ghost use Rattle.std.specs.Prelude.{◌≡◌, ℕ, IfOk, OnOk};
 ghost use Rattle.txn_words.specs.Calls.{IsReady, GoesOn, ReadsWithin, WritesOnly, WritesWithin, InEachState, LeadsTo};
 ghost use Rattle.txn_alloc.specs.declared.put.Put.TheVariants.{Full, Old};
-ghost use Rattle.txn_hash_map.specs.Chains.{IsInOrder, Inserts, LacksRoom, IsOwn, MayRead, IsValue};
+ghost use Rattle.txn_alloc.specs.EntryMaps.{HasMapApart, Inserts, LacksRoom, IsOwn, MayReadToInsert, IsValue};
+ghost use Rattle.txn_hash_map.specs.Chains.{chain_part};
 
 use crate::find::find;
 use crate::front::put_in_front;
@@ -15,32 +16,34 @@ impl ChainMap {
     /// Puts the value at the key. A key that is new gets a free block, if there is one.
     pub fn insert<W: Words>(&self, w: &mut W, key: u64, value: u64) -> Result<Put, Stop>
         requires ready { IsReady W.Words w.old }
-        requires order { InEachState W.Words W.Shape.Shape w.old (IsInOrder self.now) }
+        requires order { InEachState W.Words W.Shape.Shape w.old (HasMapApart (chain_part self.now)) }
 
         // The map has the value at the key, and else what it had.
-        ensures put { IfOk result (λ put. LeadsTo W.Words W.Shape.Shape w.old w.new (Inserts self.now key value put)) }
+        ensures put { IfOk result (λ put. LeadsTo W.Words W.Shape.Shape w.old w.new (Inserts (chain_part self.now) key value put)) }
 
         // It answers Full exactly where in every state the key is absent and no block is free.
         ensures full { IfOk result (λ put.
-            put ≡ Full → LeadsTo W.Words W.Shape.Shape w.old w.new (λ before _. LacksRoom self.now key before)) }
+            put ≡ Full → LeadsTo W.Words W.Shape.Shape w.old w.new (λ before _. LacksRoom (chain_part self.now) key before)) }
         ensures full_if { IfOk result (λ put.
-            LeadsTo W.Words W.Shape.Shape w.old w.new (λ before _. LacksRoom self.now key before) → put ≡ Full) }
+            LeadsTo W.Words W.Shape.Shape w.old w.new (λ before _. LacksRoom (chain_part self.now) key before) → put ≡ Full) }
 
-        ensures order { OnOk result (InEachState W.Words W.Shape.Shape w.new (IsInOrder self.now)) }
+        ensures order { OnOk result (InEachState W.Words W.Shape.Shape w.new (HasMapApart (chain_part self.now))) }
 
-        // No word is written but the heads, the buckets and the words of the map's blocks.
-        ensures frame { OnOk result (WritesWithin W.Words W.Shape.Shape w.old w.new (IsOwn self.now)) }
+        // No word is written but the key's bucket, the words of the map's blocks and the head for the block that it takes.
+        ensures frame { OnOk result (WritesWithin W.Words W.Shape.Shape w.old w.new (IsOwn (chain_part self.now) key)) }
 
         // Where the key was there, the word of its value alone is written.
         ensures old { IfOk result (λ put. (was : ℕ)
             → put ≡ Old was
-            → WritesWithin W.Words W.Shape.Shape w.old w.new (IsValue self.now key)) }
+            → WritesWithin W.Words W.Shape.Shape w.old w.new (IsValue (chain_part self.now) key)) }
 
         // Where there is no room, no word is written.
         ensures full_frame { IfOk result (λ put. put ≡ Full → WritesOnly W.Words w.old w.new (λ a. ⊥)) }
 
-        // The value of no other key is read.
-        ensures reads { OnOk result (ReadsWithin W.Words W.Shape.Shape w.old w.new (MayRead self.now key)) }
+        // Of the map's own blocks keys and links are read, and the value of the key; beside them, where a block is taken its
+        // head and its words, and where none is free heads.
+        ensures reads { IfOk result (λ put.
+            ReadsWithin W.Words W.Shape.Shape w.old w.new (MayReadToInsert (chain_part self.now) key put)) }
         ensures goes_on { GoesOn W.Words w.old w.new result }
     {
         match find(w, self, key)? {

@@ -29,11 +29,12 @@ mod tests {
     struct TwoEntries;
 
     impl Shape for TwoEntries {
-        ghost use Rattle.txn_hash_map.specs.Chains.{IsInOrder};
+        ghost use Rattle.txn_alloc.specs.EntryMaps.{HasMapApart};
+        ghost use Rattle.txn_hash_map.specs.Chains.{chain_part};
 
         ghost word_count = { λ _. 285 };
 
-        ghost good = { λ _ words. IsInOrder (record { buckets = 17; arena = record { heads = 1; first = 277; blocks = 2 } }) words };
+        ghost good = { λ _ words. HasMapApart (chain_part (record { buckets = 17; arena = record { heads = 1; first = 277; blocks = 2 } })) words };
     }
 
     /// The map of these words. Keys 64, 208 and 441 have one bucket, the 141st after the first.

@@ -14,7 +14,7 @@ use Rattle.txn_alloc.proofs.Sets.{out_both, out_itself, contains-remove_other}
 use Rattle.txn_alloc.proofs.Lists.{free_kept, free_below, one_set, same_block}
 use Rattle.txn_alloc.proofs.Cells.{value_less, less_block, has_not, has_times, times_in, times-append, one_in, one_here, remove_same, remove_other}
 use Rattle.txn_tree_map.specs.declared.map.TreeMap.{TreeMap}
-use Rattle.txn_tree_map.specs.Trees.{Tree, priority_of, name_of, rank_of, cells_of, IsAbove, IsRising, TreeHolds}
+use Rattle.txn_tree_map.specs.Trees.{Tree, priority_of, name_of, rank_of, cells_of, IsAbove, IsRising, TreeHolds, tree_part}
 use Rattle.txn_tree_map.specs.Trees.Tree.{Node}
 use Rattle.txn_tree_map.specs.Paths.{place_of, before_of, after_of, IsAt}
 use Rattle.txn_tree_map.specs.Searches.{IsFoundAt}
@@ -39,7 +39,7 @@ module _ (map : TreeMap) (key place b : ℕ) (s : List ℕ) (h : IsFoundAt map k
   once : (d : ℕ) → count_on d h.path + (count_in d h.left + one_in d h.cell + count_in d h.right) ≤ 1
   once = at_once map s h.path node h.is_at
 
-  below_times : (d : ℕ) → times_in d cells_below ≡ count_in d h.left + count_in d h.right
+  pub below_times : (d : ℕ) → times_in d cells_below ≡ count_in d h.left + count_in d h.right
   below_times d = omega (arith, times-append d (cells_of h.left) (cells_of h.right), times_cells d h.left, times_cells d h.right)
 
   -- the cells below the key's, and above
@@ -139,7 +139,7 @@ module _ (map : TreeMap) (key place b : ℕ) (s : List ℕ) (h : IsFoundAt map k
     cut_done = record { before = h; value_there = there; tree = j.tree; is_at = cut_at; cells = joined_cells; kept = kept }
 
 -- what is left of the map, before its block is given back
-module _ (map : TreeMap) (key place b value : ℕ) (s r : List ℕ) (f : Entries) (u v : Blocks) (hold : HoldsApart map.arena (TreeHolds map) s f u v) (c : IsCut map key place b value s r) where
+module _ (map : TreeMap) (key place b value : ℕ) (s r : List ℕ) (f : Entries) (u v : Blocks) (hold : HoldsApart (tree_part map) s f u v) (c : IsCut map key place b value s r) where
   abbrev h : IsFoundAt map key place b s
   h = c.before
 
@@ -216,21 +216,25 @@ module _ (map : TreeMap) (key place b value : ℕ) (s r : List ℕ) (f : Entries
   cut_lacks free holds = ap (λ z. set.contains z b) (one_set map.arena r free v holds cut_free) ∙ hold.apart b (found_used map key place b 0 s h f u hold.map)
 
   -- the block was given back
-  pub removed : (t : List ℕ) → Gives map.arena b r t → KeepsOthers (IsAnyHeadOrIn map.arena b) r t → RemovesOne map.arena (TreeHolds map) key value t f u v
-  removed t gives others =
+  pub removed_map : (t : List ℕ) → KeepsOthers (IsAnyHeadOrIn map.arena b) r t → TreeHolds map t (entry_map.remove f key) (set.remove u b)
+  removed_map t others =
       let a : Arena = map.arena in
       let here : TreeHolds map r (entry_map.remove f key) (set.remove u b) = cut_holds in
+      tree_stands map r t (entry_map.remove f key) (set.remove u b) here others.count
+      (others.same map.root (λ k. elim k [ inl head ↦ here.laid.no_head head | inr mine ↦ here.laid.outside b (found_below map key place b 0 s h) mine ]))
+      (λ d e k mine. others.same e (λ m. elim m [
+        | inl head ↦ here.laid.arena.outside d e (used_below map r (entry_map.remove f key) (set.remove u b) d here k) mine head
+        | inr z ↦ true≢false (sym k ∙ ap (λ q. set.contains (set.remove u b) q) (same_block a d b e mine z) ∙ out_itself u b)
+      ]))
+
+  pub removed : (t : List ℕ) → Gives map.arena b r t → KeepsOthers (IsAnyHeadOrIn map.arena b) r t → RemovesOne (tree_part map) key value t f u v
+  removed t gives others =
       record {
         present = found_value map key s f u place b value h c.value_there hold.map;
         block = b;
         was_used = found_used map key place b 0 s h f u hold.map;
         left = record {
-          map = tree_stands map r t (entry_map.remove f key) (set.remove u b) here others.count
-              (others.same map.root (λ k. elim k [ inl head ↦ here.laid.no_head head | inr mine ↦ here.laid.outside b (found_below map key place b 0 s h) mine ]))
-              (λ d e k mine. others.same e (λ m. elim m [
-                | inl head ↦ here.laid.arena.outside d e (used_below map r (entry_map.remove f key) (set.remove u b) d here k) mine head
-                | inr z ↦ true≢false (sym k ∙ ap (λ q. set.contains (set.remove u b) q) (same_block a d b e mine z) ∙ out_itself u b)
-              ]));
+          map = removed_map t others;
           free_lists = gives v cut_free;
           apart = λ d k. dite (ℕ_discrete d b)
               (λ e. absurd (true≢false (sym k ∙ ap (λ q. set.contains (set.remove u b) q) e ∙ out_itself u b)))

@@ -3,6 +3,7 @@ pub mod Trees
 pub mod Places
 pub mod Descents
 pub mod Searching
+pub mod Links
 pub mod Gets
 pub mod Priorities
 pub mod Seats
@@ -23,3 +24,4 @@ pub mod Nearest
 pub mod Summing
 pub mod Totals
 pub mod Lists
+pub mod Numbers

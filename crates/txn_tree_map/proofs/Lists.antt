@@ -16,7 +16,7 @@ use Rattle.txn_alloc.specs.FreeLists.{IsLaidOut}
 use Rattle.txn_alloc.specs.EntryMaps.{Cell, Entries, value_of, has_block, HasMap, HasMapApart, HasSmallSum, SumsRange}
 use Rattle.txn_alloc.proofs.Sets.{out_empty}
 use Rattle.txn_tree_map.specs.declared.map.TreeMap.{TreeMap}
-use Rattle.txn_tree_map.specs.Trees.{Tree, priority_of, rank_of, TreeHolds}
+use Rattle.txn_tree_map.specs.Trees.{Tree, priority_of, rank_of, TreeHolds, tree_part}
 use Rattle.txn_tree_map.specs.Trees.Tree.{Leaf, Node}
 use Rattle.txn_tree_map.proofs.Maps.{one_map}
 use Rattle.txn_tree_map.proofs.Entries.{entries_cells}
@@ -31,7 +31,7 @@ nothing : (k : ℕ) → entry_map.get (entry_map.empty {X = ℕ} {R = nat_cmp}) 
 nothing k = grind (gets, rules)
 
 -- a list of zeros but for the two words that link the blocks is good
-pub linked : (n : ℕ) (ws : List ℕ) → n ≡ 285 → ws ≡ replicate n 0 → IsGood 285 (HasMapApart two (TreeHolds small)) (slice_set (slice_set ws 1 1) 277 2)
+pub linked : (n : ℕ) (ws : List ℕ) → n ≡ 285 → ws ≡ replicate n 0 → IsGood 285 (HasMapApart (tree_part small)) (slice_set (slice_set ws 1 1) 277 2)
 unfolding IsDistinct
 linked n ws is_n e =
     let nil : ℕ = 0 in
@@ -95,7 +95,7 @@ abbrev both_entries : Entries
 both_entries = entry_map.insert (entry_map.insert entry_map.empty 7 71) 8 80
 
 abbrev pub is_summed : List ℕ → Type 0
-is_summed words = HasMap two (TreeHolds small) words × HasSmallSum two (TreeHolds small) words
+is_summed words = HasMap (tree_part small) words × HasSmallSum (tree_part small) words
 
 -- zeros but for the words of the two entries
 abbrev pub spelled_both : List ℕ → List ℕ
@@ -144,7 +144,7 @@ both_hold =
       used_are = used_both;
     }
 
-both_small : HasSmallSum two (TreeHolds small) (spelled_both zeros)
+both_small : HasSmallSum (tree_part small) (spelled_both zeros)
 unfolding both_hold
 both_small f u hold =
     let one : f ≡ both_entries = (one_map small (spelled_both zeros) f both_entries u (set.from_list (0 ∷ 1 ∷ [])) hold both_hold).0 in
@@ -157,5 +157,5 @@ summed ws e = subst (λ z. IsGood 285 is_summed (spelled_both z)) (sym e)
     (record { count = refl; good = (record { entries = both_entries; used = set.from_list (0 ∷ 1 ∷ []); holds = both_hold }, both_small) })
 
 -- a sum leaves the sum small
-pub small_after : (low high total : ℕ) (s t : List ℕ) → HasSmallSum two (TreeHolds small) s → SumsRange two (TreeHolds small) low high total s t → HasSmallSum two (TreeHolds small) t
-small_after low high total s t h k = subst (λ z. HasSmallSum two (TreeHolds small) z) (sym k.same) h
+pub small_after : (low high total : ℕ) (s t : List ℕ) → HasSmallSum (tree_part small) s → SumsRange (tree_part small) low high total s t → HasSmallSum (tree_part small) t
+small_after low high total s t h k = subst (λ z. HasSmallSum (tree_part small) z) (sym k.same) h

@@ -15,7 +15,7 @@ use Rattle.txn_alloc.proofs.Sets.{in_here, out_itself, in_or, out_less, contains
 use Rattle.txn_alloc.proofs.Lists.{free_kept, free_below, same_block}
 use Rattle.txn_alloc.proofs.Cells.{value_less, has_middle, less_block, insert_same, insert_other, times_has}
 use Rattle.txn_tree_map.specs.declared.map.TreeMap.{TreeMap}
-use Rattle.txn_tree_map.specs.Trees.{Tree, name_of, cells_of, IsRising, IsLaid, TreeHolds}
+use Rattle.txn_tree_map.specs.Trees.{Tree, name_of, cells_of, IsRising, IsLaid, TreeHolds, tree_part}
 use Rattle.txn_tree_map.specs.Trees.Tree.{Leaf, Node}
 use Rattle.txn_tree_map.specs.Paths.{Path, plug, before_of, after_of, IsAt}
 use Rattle.txn_tree_map.specs.Searches.{IsMissing}
@@ -82,7 +82,7 @@ tree_headed map s t f u h kept = tree_stands map s t f u h kept.count (kept.same
     (λ b a k mine. kept.same a (h.laid.arena.outside b a (used_below map s f u b h k) mine))
 
 -- a block that is free is not used
-pub free_unused : (map : TreeMap) (s : List ℕ) (f : Entries) (u v : Blocks) (b : ℕ) → HoldsApart map.arena (TreeHolds map) s f u v → set.contains v b ≡ true → set.contains u b ≡ false
+pub free_unused : (map : TreeMap) (s : List ℕ) (f : Entries) (u v : Blocks) (b : ℕ) → HoldsApart (tree_part map) s f u v → set.contains v b ≡ true → set.contains u b ≡ false
 free_unused map s f u v b hold free = at (set.contains u b) refl
   where
     at : (m : Bool) → set.contains u b ≡ m → set.contains u b ≡ false
@@ -90,7 +90,7 @@ free_unused map s f u v b hold free = at (set.contains u b) refl
     at true e = absurd (true≢false (sym free ∙ hold.apart b e))
 
 -- a free block was taken: it may be put into the tree
-pub can_put : (map : TreeMap) (key b : ℕ) (s r : List ℕ) (f : Entries) (u v : Blocks) → HoldsApart map.arena (TreeHolds map) s f u v → IsMissing map key s
+pub can_put : (map : TreeMap) (key b : ℕ) (s r : List ℕ) (f : Entries) (u v : Blocks) → HoldsApart (tree_part map) s f u v → IsMissing map key s
     → TakesBlock map.arena b s r v → KeepsOthers (IsHead map.arena) s r → CanPut map key b r
 can_put map key b s r f u v hold none taken kept = record {
   missing = record { path = none.path; is_at = at_headed map s r none.path Leaf none.is_at kept; low = none.low; high = none.high };
@@ -119,8 +119,8 @@ put_holds map key x b r t f u hold put =
     ∙ less_block d xs ys c (λ e. ne (sym e)) ∙ ap (λ cs. has_block d cs) (sym whole)))
 
 -- with the free lists beside it
-pub inserted_new : (map : TreeMap) (key x b : ℕ) (s r t : List ℕ) (f : Entries) (u v : Blocks) → HoldsApart map.arena (TreeHolds map) s f u v → IsMissing map key s
-    → TakesBlock map.arena b s r v → KeepsOthers (IsHead map.arena) s r → IsPut map key x b r t → InsertsNew map.arena (TreeHolds map) key x t f u v
+pub inserted_new : (map : TreeMap) (key x b : ℕ) (s r t : List ℕ) (f : Entries) (u v : Blocks) → HoldsApart (tree_part map) s f u v → IsMissing map key s
+    → TakesBlock map.arena b s r v → KeepsOthers (IsHead map.arena) s r → IsPut map key x b r t → InsertsNew (tree_part map) key x t f u v
 inserted_new map key x b s r t f u v hold none taken kept put =
     let a : Arena = map.arena in
     let h : TreeHolds map r f u = tree_headed map s r f u hold.map kept in

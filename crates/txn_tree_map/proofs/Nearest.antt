@@ -48,7 +48,7 @@ module _ (map : TreeMap) (least : ℕ) (s : List ℕ) where
     first = h.first;
   }
 
-  near_name : (best : Option Named) (p n m : ℕ) (h : IsNear map least best p n s) → slice_get s p ≡ Some m → name_of h.rest ≡ m
+  pub near_name : (best : Option Named) (p n m : ℕ) (h : IsNear map least best p n s) → slice_get s p ≡ Some m → name_of h.rest ≡ m
   near_name best p n m h e = same_Some (name_of h.rest) m (sym (at_name map s h.path h.rest h.is_at) ∙ ap (λ q. slice_get s q) (sym h.at) ∙ e)
 
   pub near_end : (best : Option Named) (p n : ℕ) → IsNear map least best p n s → slice_get s p ≡ Some 0 → IsNearest map least best s

@@ -13,8 +13,8 @@ use Rattle.txn_tree_map.specs.declared.map.TreeMap.{TreeMap}
 use Rattle.txn_tree_map.specs.Trees.{Tree, name_of, cells_of, HasNode, IsRising}
 use Rattle.txn_tree_map.specs.Trees.Tree.{Leaf, Node}
 use Rattle.txn_tree_map.specs.Paths.{place_of, before_of, after_of, IsHung, IsAt}
-use Rattle.txn_tree_map.specs.Searches.{IsSeat}
-use Rattle.txn_tree_map.specs.Changes.{IsNameIn, IsWhole, Splits, CanPut, IsRootOrIn, IsPut}
+use Rattle.txn_tree_map.specs.Searches.{IsKeyOrName, IsSeat}
+use Rattle.txn_tree_map.specs.Changes.{IsNameIn, IsWhole, Splits, CanPut, IsRootOrIn, IsPut, IsWordIn}
 use Rattle.txn_tree_map.proofs.Rising.{below_other, above_other, rising_first, rising_last, rising_put}
 use Rattle.txn_tree_map.proofs.Trees.{count_in, count_on, times_cells, node_stays, spelled_stays, hung_stays, one_tree}
 use Rattle.txn_tree_map.proofs.Places.{at_once, at_below, at_outside, at_cells, at_times}
@@ -107,6 +107,22 @@ module _ (map : TreeMap) (key value block place name : ℕ) (r : List ℕ) (can 
     ],
     name_in map block seat.rest a n,
   )
+
+  -- and so is a word of a key or of a name
+  pub word_own : (a : ℕ) → IsWordIn map block seat.rest a → (a ≡ map.root) ⊎ (IsInBlock map.arena block a ⊎ ((b : ℕ) × (has_block b cells_there ≡ true) × IsKeyOrName map b a))
+  word_own a n = elim (n.mine) [
+    | inl e ↦
+        let here : IsKeyOrName map block a = subst (λ d. IsKeyOrName map d a) e n.place in
+        inr (inl (elim here [
+          | inl z ↦ record { low = omega (arith, z); high = omega (arith, z) }
+          | inr d ↦ elim d [ inl z ↦ record { low = omega (arith, z); high = omega (arith, z) } | inr z ↦ record { low = omega (arith, z); high = omega (arith, z) } ]
+        ]))
+    | inr m ↦ inr (inr (
+      n.owner,
+      seat_has n.owner (let t : 1 ≤ times_in n.owner (cells_of seat.rest) = has_times n.owner (cells_of seat.rest) m in omega (arith, t, times_cells n.owner seat.rest)),
+      n.place,
+    ))
+  ]
 
   -- the words that are written are the root, the block's and the tree's
   pub place_own : own place

@@ -10,14 +10,16 @@ use Rattle.txn_words.proofs.Steps.{after_write_end, fits_write_end}
 use Rattle.txn_words.proofs.FrameLaws.{only_write, only_then, only_more}
 use Rattle.txn_words.proofs.ReadLaws.{sees_write, sees_then, sees_more}
 use Rattle.txn_alloc.specs.FreeLists.{block_at}
-use Rattle.txn_alloc.specs.Looks.{Looks}
-use Rattle.txn_alloc.proofs.Looks.{seen_before}
+use Rattle.txn_words.specs.Looks.{Looks}
+use Rattle.txn_words.proofs.Looks.{seen_before}
 use Rattle.txn_tree_map.specs.declared.map.TreeMap.{TreeMap}
+use Rattle.txn_tree_map.specs.Trees.Tree.{Leaf}
 use Rattle.txn_tree_map.specs.Paths.{place_of}
 use Rattle.txn_tree_map.specs.Searches.{IsLink, IsSeat}
-use Rattle.txn_tree_map.specs.Changes.{IsWhole, CanSplit, Splits, IsSplitOwn, CanPut, IsPut, IsPutOwn, IsLinkOrIn}
+use Rattle.txn_tree_map.specs.Changes.{IsWhole, CanSplit, Splits, IsSplitOwn, CanPut, IsPut, IsPutOwn, IsSplitSeen, IsPutSeen}
 use Rattle.txn_tree_map.proofs.Places.{at_within}
-use Rattle.txn_tree_map.proofs.Puts.{put_whole, put_words, put_done, name_own, place_own}
+use Rattle.txn_tree_map.proofs.Puts.{put_whole, put_words, put_done, name_own, word_own, place_own}
+use Rattle.txn_tree_map.proofs.Links.{at_link}
 
 module _ (map : TreeMap) (key value block place name : ℕ) (n : ℕ) (G : List ℕ → Type 0) (t u : Trace) (l : Looks n G t u (IsLink map) (IsSeat map key place name)) (order : InEach n G t (CanPut map key block)) where
   can_before : (s : List ℕ) → Fits n G u s → CanPut map key block (after t s)
@@ -87,12 +89,20 @@ module _ (map : TreeMap) (key value block place name : ℕ) (n : ℕ) (G : List 
           (only_then mine v w y (only_write mine v w (a + 1) value two second)
           (only_then mine w x y (only_more (IsSplitOwn map key block name (after w s) (after x s)) mine w x third (own s (fits_x s fit))) (only_write mine x y place m three last))))
 
-      pub put_reads : AppendsReads w x (IsLink map) → IsLink map place → AppendsReads t y (IsLinkOrIn map block)
-      put_reads reads link =
-          let seen : ℕ → Type 0 = IsLinkOrIn map block in
-          let in_block : (j : ℕ) → j ≤ 1 → seen (a + j) = λ j le. inr (record { low = omega (arith, is_block); high = omega (arith, is_block, le) }) in
-          let zero_on : a + 0 ≡ a = omega arith in
-          sees_then seen t u y (sees_more (IsLink map) seen t u (λ d k. inl k) l.reads)
-          (sees_then seen u v y (sees_write seen u v a key one (subst (λ z. seen z) zero_on (in_block 0 (omega arith))))
-          (sees_then seen v w y (sees_write seen v w (a + 1) value two (in_block 1 (omega arith)))
-          (sees_then seen w x y (sees_more (IsLink map) seen w x (λ d k. inl k) reads) (sees_write seen x y place m three (inl link)))))
+      pub put_seen : ((s : List ℕ) → Fits n G x s → AppendsReads w x (IsSplitSeen map key block name (after w s) (after x s)))
+          → (s : List ℕ) → Fits n G y s → AppendsReads t y (IsPutSeen map key block (after t s) (after y s))
+      put_seen reads s fit =
+          let fit_u : Fits n G u s = fits_u s (fits_w s fit) in
+          let seat : IsSeat map key place name (after t s) = seat_before s fit_u in
+          let mine : ℕ → Type 0 = IsPutSeen map key block (after t s) (after y s) in
+          let link : (d : ℕ) → IsLink map (after t s) d → mine d = λ d k can. elim k [ inl e ↦ inl e | inr q ↦ inr (inr (q.0, q.1 can.missing.path Leaf can.missing.is_at, q.2)) ] in
+          let first : mine a = λ can. inr (inl (record { low = omega (arith, is_block); high = omega (arith, is_block) })) in
+          let second : mine (a + 1) = λ can. inr (inl (record { low = omega (arith, is_block); high = omega (arith, is_block) })) in
+          let third : (d : ℕ) → IsSplitSeen map key block name (after w s) (after x s) d → mine d = λ d k can.
+          word_own map key value block place name (after t s) can seat d
+          (k seat.rest (subst (λ z. IsWhole map key block name seat.rest z) (sym (written s (fits_w s fit))) (put_whole map key value block place name (after t s) can seat))) in
+          let last : mine place = link place (subst (IsLink map (after t s)) (sym seat.at) (at_link map (after t s) seat.path seat.rest seat.is_at)) in
+          sees_then mine t u y (sees_more (IsLink map (after t s)) mine t u link (l.reads s fit_u))
+          (sees_then mine u v y (sees_write mine u v a key one first)
+          (sees_then mine v w y (sees_write mine v w (a + 1) value two second)
+          (sees_then mine w x y (sees_more (IsSplitSeen map key block name (after w s) (after x s)) mine w x third (reads s (fits_x s fit))) (sees_write mine x y place m three last))))

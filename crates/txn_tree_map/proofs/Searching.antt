@@ -10,7 +10,7 @@ use Rattle.txn_alloc.proofs.Lists.{laid_kept}
 use Rattle.txn_tree_map.specs.declared.map.TreeMap.{TreeMap}
 use Rattle.txn_tree_map.specs.Trees.{Tree, name_of, IsSpelled, IsLaid}
 use Rattle.txn_tree_map.specs.Trees.Tree.{Leaf, Node}
-use Rattle.txn_tree_map.specs.Searches.{HasTop, IsLink}
+use Rattle.txn_tree_map.specs.Searches.{HasTop}
 
 -- the block that a spelled tree's name names is one of the arena's
 pub name_below : (arena : Arena) (s : List ℕ) (tree : Tree) (b : ℕ) → name_of tree ≡ b + 1 → IsSpelled arena s tree → b < arena.blocks
@@ -39,11 +39,6 @@ module _ (map : TreeMap) (n : ℕ) (G : List ℕ → Type 0) (t : Trace) (some :
   top_below p b top =
       let h = top.at some.0 some.1 in
       name_below map.arena (after t some.0) h.0.tree b (same_Some (name_of h.0.tree) (b + 1) (sym h.0.head.0 ∙ h.1)) h.0.head.1
-
--- the words of a node that name its subtrees are links
-pub link_down : (map : TreeMap) (b : ℕ) (left : Bool) → b < map.arena.blocks → IsLink map (block_at map.arena b + (if left then 2 else 3))
-link_down map b true lt = inr (b, lt, inr (inl refl))
-link_down map b false lt = inr (b, lt, inr (inr refl))
 
 -- a list with as many words is laid out alike
 pub laid_alike : (map : TreeMap) (s t : List ℕ) → length t ≡ length s → IsLaid map s → IsLaid map t

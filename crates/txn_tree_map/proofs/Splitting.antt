@@ -6,15 +6,20 @@ use Rattle.history_model.specs.Fitting.{Fits, SomeFits, InEach, Leads}
 use Rattle.history_model.proofs.TraceLaws.{length-after}
 use Rattle.history_model.proofs.FittingLaws.{fits_begins}
 use Rattle.txn_words.specs.Steps.{EndsWithWrite}
-use Rattle.txn_words.specs.Frames.{AppendsOnly}
+use Rattle.txn_words.specs.Frames.{AppendsOnly, AppendsReads}
 use Rattle.txn_words.proofs.Steps.{after_write_end, fits_write_end}
 use Rattle.txn_words.proofs.FrameLaws.{only_write, only_then, only_more}
+use Rattle.txn_words.proofs.ReadLaws.{sees_write, sees_then, sees_more}
 use Rattle.txn_alloc.specs.FreeLists.{block_at}
-use Rattle.txn_alloc.proofs.Looks.{looks_one, seen_before, leads_back}
+use Rattle.txn_words.proofs.Looks.{looks_at, seen_before, leads_back}
 use Rattle.txn_tree_map.specs.declared.map.TreeMap.{TreeMap}
-use Rattle.txn_tree_map.specs.Changes.{Hangs, AreWithin, IsNameIn, CanSplit, IsParted, CanPart, PartsOne, Splits, IsSplitOwn}
-use Rattle.txn_tree_map.proofs.Trees.{one_tree}
-use Rattle.txn_tree_map.proofs.Partings.{parted_none, smaller_within, greater_within, smaller_own, greater_own, parted_low, parted_high, parted_other, parted_laid, parted_below, splits_end}
+use Rattle.txn_tree_map.specs.Changes.{Hangs, AreWithin, IsNameIn, CanSplit, IsParted, CanPart, PartsOne, Splits, IsSplitOwn, IsEndOrTop, IsWordIn, IsSplitSeen}
+use Rattle.txn_alloc.specs.EntryMaps.{has_block}
+use Rattle.txn_alloc.proofs.Cells.{times_has}
+use Rattle.txn_tree_map.specs.Trees.{Tree, cells_of}
+use Rattle.txn_tree_map.proofs.Trees.{count_in, one_tree}
+use Rattle.txn_tree_map.proofs.Links.{top_count}
+use Rattle.txn_tree_map.proofs.Partings.{parted_none, parted_times, smaller_within, greater_within, smaller_own, greater_own, parted_low, parted_high, parted_other, parted_laid, parted_below, splits_end}
 
 module _ (n : ℕ) (G : List ℕ → Type 0) (t : Trace) where
   pub are_within : (hole inner : ℕ) → SomeFits n G t → InEach n G t (AreWithin hole inner) → (hole < n) × (inner < n)
@@ -29,7 +34,7 @@ module _ (n : ℕ) (G : List ℕ → Type 0) (t : Trace) where
   hangs_leads u v hole name inner rest e ends = record {
     at = λ s fit.
         let fit_u : Fits n G u s = fits_write_end n G u v hole name s ends fit in
-        let look = looks_one n G t (λ a. a ≡ inner) u inner rest e refl in
+        let look = looks_at n G t u inner rest e in
         record {
           changed = after_write_end u v hole name s ends ∙ ap (λ z. slice_set z hole name) (look.same s fit_u);
           there = seen_before n G t u look s fit_u;
@@ -52,7 +57,7 @@ module _ (map : TreeMap) (key smaller greater rest : ℕ) where
     pub parts_low : k < key → Leads n G u v (Hangs smaller rest (block_at map.arena b + 3) next) → Leads n G t v (PartsOne map key smaller greater rest (block_at map.arena b + 3) greater next)
     parts_low lt hangs = record {
       at = λ s fit block name turns start h.
-          let look = looks_one n G t (λ a. a ≡ block_at map.arena b) u (block_at map.arena b) k read refl in
+          let look = looks_at n G t u (block_at map.arena b) k read in
           let there = seen_before n G t u look s (fits_begins n G u v s begins fit) in
           parted_low map key block name turns smaller greater rest start (after t s) h b k is_name there next (after v s) lt ((leads_back n G t u look v _ begins hangs).at s fit);
     }
@@ -60,11 +65,15 @@ module _ (map : TreeMap) (key smaller greater rest : ℕ) where
     pub parts_high : (k < key → ⊥) → Leads n G u v (Hangs greater rest (block_at map.arena b + 2) next) → Leads n G t v (PartsOne map key smaller greater rest smaller (block_at map.arena b + 2) next)
     parts_high le hangs = record {
       at = λ s fit block name turns start h.
-          let look = looks_one n G t (λ a. a ≡ block_at map.arena b) u (block_at map.arena b) k read refl in
+          let look = looks_at n G t u (block_at map.arena b) k read in
           let there = seen_before n G t u look s (fits_begins n G u v s begins fit) in
           let ne : k ≢ key = parted_other map key block name turns smaller greater rest start (after t s) h b k is_name there in
           parted_high map key block name turns smaller greater rest start (after t s) h b k is_name there next (after v s) (omega (arith, le, ne)) ((leads_back n G t u look v _ begins hangs).at s fit);
     }
+
+-- a name is a word of its block
+pub word_of : {map : TreeMap} {block : ℕ} {tree : Tree} {a : ℕ} → IsNameIn map block tree a → IsWordIn map block tree a
+word_of n = record { owner = n.owner; mine = n.mine; place = inr n.place }
 
 module _ (map : TreeMap) (key block name : ℕ) (n : ℕ) (G : List ℕ → Type 0) (t u : Trace) where
   -- both places are the split's own, whichever tree the name headed
@@ -76,6 +85,19 @@ module _ (map : TreeMap) (key block name : ℕ) (n : ℕ) (G : List ℕ → Type
         | inl k ↦ subst (λ z. IsNameIn map block h.tree z) (sym k) (smaller_own map key block name turns smaller greater rest old s h)
         | inr k ↦ subst (λ z. IsNameIn map block h.tree z) (sym k) (greater_own map key block name turns smaller greater rest old s h)
       ])
+
+  -- and so is what may be read beside them
+  pub ends_seen : (turns smaller greater rest : ℕ) (old s : List ℕ) → IsParted map key block name turns smaller greater rest old s → (a : ℕ) → IsEndOrTop map smaller greater rest a → IsSplitSeen map key block name old s a
+  ends_seen turns smaller greater rest old s h a (inl e) tree w = word_of (ends_own turns smaller greater rest old s h a (inl e) tree w)
+  ends_seen turns smaller greater rest old s h a (inr (inl e)) tree w = word_of (ends_own turns smaller greater rest old s h a (inr e) tree w)
+  ends_seen turns smaller greater rest old s h a (inr (inr (b, is_name, k))) tree w =
+      let same : h.tree ≡ tree = one_tree map.arena old h.tree tree (h.whole.is_name ∙ sym w.is_name) h.whole.spelled w.spelled in
+      let top : 1 ≤ count_in b h.inner = top_count h.inner b (h.is_rest ∙ is_name) in
+      record {
+        owner = b;
+        mine = inr (ap (λ z. has_block b (cells_of z)) (sym same) ∙ times_has b (cells_of h.tree) (omega (arith, top, parted_times map key block name turns smaller greater rest old s h b)));
+        place = k;
+      }
 
   -- one node more was parted
   pub parted_more : (v : Trace) (turns smaller greater rest smaller' greater' rest' : ℕ) → Begins u v → ((s : List ℕ) → Fits n G u s → IsParted map key block name turns smaller greater rest (after t s) (after u s))
@@ -89,6 +111,14 @@ module _ (map : TreeMap) (key block name : ℕ) (n : ℕ) (G : List ℕ → Type
       let fit_u : Fits n G u s = fits_begins n G u v s b fit in
       let mine : ℕ → Type 0 = IsSplitOwn map key block name (after t s) (after v s) in
       only_then mine t u v (own s fit_u) (only_more (λ a. (a ≡ smaller) ⊎ (a ≡ greater)) mine u v (ends_own turns smaller greater rest (after t s) (after u s) (h s fit_u)) frame)
+
+  pub seen_more : (v : Trace) (turns smaller greater rest : ℕ) → Begins u v → ((s : List ℕ) → Fits n G u s → IsParted map key block name turns smaller greater rest (after t s) (after u s))
+      → ((s : List ℕ) → Fits n G u s → AppendsReads t u (IsSplitSeen map key block name (after t s) (after u s))) → AppendsReads u v (IsEndOrTop map smaller greater rest)
+      → (s : List ℕ) → Fits n G v s → AppendsReads t v (IsSplitSeen map key block name (after t s) (after v s))
+  seen_more v turns smaller greater rest b h seen reads s fit =
+      let fit_u : Fits n G u s = fits_begins n G u v s b fit in
+      let mine : ℕ → Type 0 = IsSplitSeen map key block name (after t s) (after v s) in
+      sees_then mine t u v (seen s fit_u) (sees_more (IsEndOrTop map smaller greater rest) mine u v (ends_seen turns smaller greater rest (after t s) (after u s) (h s fit_u)) reads)
 
   pub ends_within : (smaller greater : ℕ) → Leads n G t u (IsParted map key block name 0 smaller greater 0) → SomeFits n G u → (smaller < n) × (greater < n)
   ends_within smaller greater parted some =
@@ -116,6 +146,12 @@ module _ (map : TreeMap) (key block name : ℕ) (n : ℕ) (G : List ℕ → Type
         let mine : ℕ → Type 0 = IsSplitOwn map key block name (after t s) (after w s) in
         let at : (a : ℕ) → (a ≡ smaller) ⊎ (a ≡ greater) → mine a = ends_own 0 smaller greater 0 (after t s) (after u s) (parted.at s (fits_u s fit)) in
         only_then mine t u w (own s (fits_u s fit)) (only_then mine u v w (only_write mine u v smaller 0 one (at smaller (inl refl))) (only_write mine v w greater 0 two (at greater (inr refl))))
+
+    pub splits_seen : ((s : List ℕ) → Fits n G u s → AppendsReads t u (IsSplitSeen map key block name (after t s) (after u s))) → (s : List ℕ) → Fits n G w s → AppendsReads t w (IsSplitSeen map key block name (after t s) (after w s))
+    splits_seen seen s fit =
+        let mine : ℕ → Type 0 = IsSplitSeen map key block name (after t s) (after w s) in
+        let at : (a : ℕ) → IsEndOrTop map smaller greater 0 a → mine a = ends_seen 0 smaller greater 0 (after t s) (after u s) (parted.at s (fits_u s fit)) in
+        sees_then mine t u w (seen s (fits_u s fit)) (sees_then mine u v w (sees_write mine u v smaller 0 one (at smaller (inl refl))) (sees_write mine v w greater 0 two (at greater (inr (inl refl)))))
 
 -- a split begins
 pub parted_start : (map : TreeMap) (key block name a : ℕ) (s : List ℕ) → block_at map.arena block ≡ a → CanSplit map key block name s → IsParted map key block name 0 (a + 2) (a + 3) name s s

@@ -10,7 +10,7 @@ use Rattle.txn_alloc.specs.EntryMaps.{Cell, Entries, Blocks, sum_between, HasSma
 use Rattle.txn_alloc.proofs.Cells.{all_append, all_last, all_map}
 use Rattle.txn_tree_map.specs.declared.map.TreeMap.{TreeMap}
 use Rattle.txn_tree_map.specs.declared.find.Named.{Named}
-use Rattle.txn_tree_map.specs.Trees.{Tree, cells_of, IsAbove, IsRising, TreeHolds}
+use Rattle.txn_tree_map.specs.Trees.{Tree, cells_of, IsAbove, IsRising, TreeHolds, tree_part}
 use Rattle.txn_tree_map.specs.Paths.{IsAt, IsBelow}
 use Rattle.txn_tree_map.specs.Sums.{IsFrom, IsNearest, sum_cells, counted, IsSummed, IsTotal, IsNext, HasNoneTo}
 use Rattle.txn_tree_map.proofs.Rising.{below_more, rising_above}
@@ -239,7 +239,7 @@ module _ (map : TreeMap) (s : List ℕ) where
         next_parts = parted_once least h.done h.rest k.lows (k.cell ∷ k.highs) (sym h.cells ∙ trees_same h.tree k.tree h.is_at k.is_at ∙ k.cells) h.below h.from k.low next_from
 
         -- what a sum of all values bounds
-        pub next_room : (f : Entries) (u : Blocks) → TreeHolds map s f u → HasSmallSum map.arena (TreeHolds map) s → total + value < 2 ^ 64
+        pub next_room : (f : Entries) (u : Blocks) → TreeHolds map s f u → HasSmallSum (tree_part map) s → total + value < 2 ^ 64
         next_room f u hold small =
             let cs : List Cell = cells_of hold.tree in
             let bound : sum_by (λ e. e.1) (entry_map.entries f) < 2 ^ 64 = small f u hold in

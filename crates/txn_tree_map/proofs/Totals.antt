@@ -8,30 +8,32 @@ use Rattle.txn_words.specs.Frames.{AppendsReads}
 use Rattle.txn_words.proofs.ReadLaws.{sees_more, sees_then}
 use Rattle.txn_alloc.specs.FreeLists.{block_at}
 use Rattle.txn_alloc.specs.EntryMaps.{HasMap, HasSmallSum, MayReadRange, SumsRange}
-use Rattle.txn_alloc.specs.Looks.{Looks}
-use Rattle.txn_alloc.proofs.Looks.{looks_map, looks_read, looks_then, looks_wider, seen_before}
+use Rattle.txn_words.specs.Looks.{Looks}
+use Rattle.txn_words.proofs.Looks.{looks_map, looks_read, looks_then, looks_wider, seen_before}
 use Rattle.txn_tree_map.specs.declared.map.TreeMap.{TreeMap}
 use Rattle.txn_tree_map.specs.declared.find.Named.{Named}
-use Rattle.txn_tree_map.specs.Trees.{IsLaid, TreeHolds}
+use Rattle.txn_tree_map.specs.Trees.{tree_part}
 use Rattle.txn_tree_map.specs.Searches.{IsLink}
 use Rattle.txn_tree_map.specs.Sums.{IsAnyWord, IsNearest, IsNext, HasNoneTo, IsSummed, IsTotal}
-use Rattle.txn_tree_map.proofs.Gets.{IsLinkOr, link_spares, value_spares}
+use Rattle.txn_tree_map.proofs.Gets.{IsLinkOr}
+use Rattle.txn_tree_map.proofs.Links.{nearest_of, tree_uses, link_seen}
 use Rattle.txn_tree_map.proofs.Summing.{nearest_below, nearest_key, nearest_from, nearest_next, nearest_past, nearest_none, next_room, total_sum}
 
 module _ (map : TreeMap) (n : ℕ) (G : List ℕ → Type 0) (t u : Trace) where
   -- the first node from a key on, and its value
   module _ (least high : ℕ) where
     pub none_from : Looks n G t u (IsLink map) (IsNearest map least None) → Looks n G t u IsAnyWord (HasNoneTo map least high)
-    none_from l = looks_map n G t IsAnyWord u (IsNearest map least None) (HasNoneTo map least high) (λ s h. nearest_none map s least high h) (looks_wider n G t u (IsLink map) IsAnyWord (IsNearest map least None) (λ a k. tt) l)
+    none_from l = looks_map n G t IsAnyWord u (IsNearest map least None) (HasNoneTo map least high) (λ s h. nearest_none map s least high h) (looks_wider n G t u (IsLink map) IsAnyWord (IsNearest map least None) (λ s h a k. tt) l)
 
     pub past_from : (node : Named) → high < node.key → Looks n G t u (IsLink map) (IsNearest map least (Some node)) → Looks n G t u IsAnyWord (HasNoneTo map least high)
     past_from node lt l = looks_map n G t IsAnyWord u (IsNearest map least (Some node)) (HasNoneTo map least high) (λ s h. nearest_past map s least node h high lt)
-        (looks_wider n G t u (IsLink map) IsAnyWord (IsNearest map least (Some node)) (λ a k. tt) l)
+        (looks_wider n G t u (IsLink map) IsAnyWord (IsNearest map least (Some node)) (λ s h a k. tt) l)
 
-    pub links_from : {P : List ℕ → Type 0} → Looks n G t u (IsLink map) P → InEach n G t (IsLaid map) → (s : List ℕ) → Fits n G u s → AppendsReads t u (MayReadRange map.arena (TreeHolds map) least high (after t s) (after u s))
-    links_from l laid s fit =
-        sees_more (IsLink map) (MayReadRange map.arena (TreeHolds map) least high (after t s) (after u s)) t u
-        (λ a k. link_spares map (λ d. (least ≤ d) × (d ≤ high)) (after t s) a (laid.at s (fits_begins n G t u s l.begins fit)) k) l.reads
+    pub links_from : {P : List ℕ → Type 0} → Looks n G t u (IsLink map) P → InEach n G t (HasMap (tree_part map)) → (s : List ℕ) → Fits n G u s → AppendsReads t u (MayReadRange (tree_part map) least high (after t s) (after u s))
+    links_from l order s fit =
+        let o = order.at s (fits_begins n G t u s l.begins fit) in
+        sees_more (IsLink map (after t s)) (MayReadRange (tree_part map) least high (after t s) (after u s)) t u
+        (λ a k. link_seen map (after t s) o.entries o.used o.holds least (λ d. (least ≤ d) × (d ≤ high)) a k) (l.reads s fit)
 
     pub node_below : (node : Named) → Looks n G t u (IsLink map) (IsNearest map least (Some node)) → SomeFits n G u → node.block < map.arena.blocks
     node_below node l some = nearest_below map (after u some.0) least node (l.holds some.0 some.1)
@@ -41,38 +43,51 @@ module _ (map : TreeMap) (n : ℕ) (G : List ℕ → Type 0) (t u : Trace) where
 
     module _ (node : Named) (v : Trace) (q x : ℕ) (is_value : q ≡ block_at map.arena node.block + 1) (l : Looks n G t u (IsLink map) (IsNearest map least (Some node))) (e : v ≡ u ++ Read q x ∷ []) where
       both_from : Looks n G t v (IsLinkOr map q) (λ s. IsNearest map least (Some node) s × (slice_get s q ≡ Some x))
-      both_from = looks_read n G t (IsLinkOr map q) u v q x (IsNearest map least (Some node)) (looks_wider n G t u (IsLink map) (IsLinkOr map q) (IsNearest map least (Some node)) (λ a k. inl k) l) e (inr refl)
+      both_from = looks_read n G t (IsLinkOr map q) u v q x (IsNearest map least (Some node)) (looks_wider n G t u (IsLink map) (IsLinkOr map q) (IsNearest map least (Some node)) (λ s h a k. inl k) l) e (λ s h. inr refl)
 
       pub next_from : Looks n G t v IsAnyWord (IsNext map least node.key x)
-      next_from = looks_map n G t IsAnyWord v _ (IsNext map least node.key x) (λ s h. nearest_next map s least node h.0 x (ap (λ z. slice_get s z) (sym is_value) ∙ h.1)) (looks_wider n G t v (IsLinkOr map q) IsAnyWord _ (λ a k. tt) both_from)
+      next_from = looks_map n G t IsAnyWord v _ (IsNext map least node.key x) (λ s h. nearest_next map s least node h.0 x (ap (λ z. slice_get s z) (sym is_value) ∙ h.1)) (looks_wider n G t v (IsLinkOr map q) IsAnyWord _ (λ s h a k. tt) both_from)
 
-      pub value_from : node.key ≤ high → (s : List ℕ) → Fits n G v s → AppendsReads t v (MayReadRange map.arena (TreeHolds map) least high (after t s) (after v s))
-      value_from le s fit =
+      pub value_from : node.key ≤ high → InEach n G t (HasMap (tree_part map)) → (s : List ℕ) → Fits n G v s → AppendsReads t v (MayReadRange (tree_part map) least high (after t s) (after v s))
+      value_from le order s fit =
           let seen = seen_before n G t v both_from s fit in
+          let o = order.at s (fits_begins n G t v s both_from.begins fit) in
           let IsKey : ℕ → Type 0 = λ d. (least ≤ d) × (d ≤ high) in
-          let step : (a : ℕ) → IsLinkOr map q a → MayReadRange map.arena (TreeHolds map) least high (after t s) (after v s) a = λ a k. elim k [
-            | inl m ↦ link_spares map IsKey (after t s) a seen.0.is_at.laid m
-            | inr d ↦ value_spares map IsKey (after t s) a node.block node.key (nearest_key map (after t s) least node seen.0) (nearest_from map (after t s) least node seen.0, le) (d ∙ is_value)
+          let step : (a : ℕ) → IsLinkOr map q (after t s) a → MayReadRange (tree_part map) least high (after t s) (after v s) a = λ a k. elim k [
+            | inl m ↦ link_seen map (after t s) o.entries o.used o.holds least IsKey a m
+            | inr d ↦ inr (
+              node.block,
+              tree_uses map (after t s) o.entries o.used o.holds node.block (nearest_of map least node (after t s) seen.0),
+              inr (inr (d ∙ is_value, (node.key, (nearest_from map (after t s) least node seen.0, le), nearest_key map (after t s) least node seen.0))),
+            )
           ] in
-          sees_more (IsLinkOr map q) (MayReadRange map.arena (TreeHolds map) least high (after t s) (after v s)) t v step both_from.reads
+          sees_more (IsLinkOr map q (after t s)) (MayReadRange (tree_part map) least high (after t s) (after v s)) t v step (both_from.reads s fit)
 
 -- of a range within another no more values are read
-pub range_more : (map : TreeMap) (low least high : ℕ) (s t : List ℕ) (a : ℕ) → low ≤ least → MayReadRange map.arena (TreeHolds map) least high s t a → MayReadRange map.arena (TreeHolds map) low high s t a
-range_more map low least high s t a le may o = may (record { block = o.block; used = o.used; other = λ key k. o.other key (omega (arith, le, k.0), k.1); place = o.place })
+pub range_more : (map : TreeMap) (low least high : ℕ) (s t : List ℕ) (a : ℕ) → low ≤ least → MayReadRange (tree_part map) least high s t a → MayReadRange (tree_part map) low high s t a
+range_more map low least high s t a le (inl e) = inl e
+range_more map low least high s t a le (inr k) = inr (
+  k.0,
+  k.1,
+  elim (k.2) [
+    | inl e ↦ inl e
+    | inr d ↦ inr (elim d [ inl e ↦ inl e | inr q ↦ let is = q.1.1 in inr (q.0, (q.1.0, (omega (arith, le, is.0), is.1), q.1.2)) ])
+  ],
+)
 
 -- one entry after another
 module _ (map : TreeMap) (low high least turns total : ℕ) (n : ℕ) (G : List ℕ → Type 0) (t u v : Trace) (l : Looks n G t u IsAnyWord (IsSummed map low high least turns total)) where
   pub reads_on : {P : List ℕ → Type 0} → Looks n G u v IsAnyWord P → low ≤ least
-      → ((s : List ℕ) → Fits n G u s → AppendsReads t u (MayReadRange map.arena (TreeHolds map) low high (after t s) (after u s)))
-      → ((s : List ℕ) → Fits n G v s → AppendsReads u v (MayReadRange map.arena (TreeHolds map) least high (after u s) (after v s)))
-      → (s : List ℕ) → Fits n G v s → AppendsReads t v (MayReadRange map.arena (TreeHolds map) low high (after t s) (after v s))
+      → ((s : List ℕ) → Fits n G u s → AppendsReads t u (MayReadRange (tree_part map) low high (after t s) (after u s)))
+      → ((s : List ℕ) → Fits n G v s → AppendsReads u v (MayReadRange (tree_part map) least high (after u s) (after v s)))
+      → (s : List ℕ) → Fits n G v s → AppendsReads t v (MayReadRange (tree_part map) low high (after t s) (after v s))
   reads_on m le first second s fit =
       let fit_u : Fits n G u s = fits_begins n G u v s m.begins fit in
-      let may : ℕ → Type 0 = MayReadRange map.arena (TreeHolds map) low high (after t s) (after v s) in
-      let more : AppendsReads u v (MayReadRange map.arena (TreeHolds map) least high (after t s) (after v s)) = subst (λ z. AppendsReads u v (MayReadRange map.arena (TreeHolds map) least high z (after v s))) (l.same s fit_u) (second s fit) in
-      sees_then may t u v (first s fit_u) (sees_more (MayReadRange map.arena (TreeHolds map) least high (after t s) (after v s)) may u v (λ a k. range_more map low least high (after t s) (after v s) a le k) more)
+      let may : ℕ → Type 0 = MayReadRange (tree_part map) low high (after t s) (after v s) in
+      let more : AppendsReads u v (MayReadRange (tree_part map) least high (after t s) (after v s)) = subst (λ z. AppendsReads u v (MayReadRange (tree_part map) least high z (after v s))) (l.same s fit_u) (second s fit) in
+      sees_then may t u v (first s fit_u) (sees_more (MayReadRange (tree_part map) least high (after t s) (after v s)) may u v (λ a k. range_more map low least high (after t s) (after v s) a le k) more)
 
-  pub room : (key value : ℕ) → Looks n G u v IsAnyWord (IsNext map least key value) → InEach n G t (HasMap map.arena (TreeHolds map)) → InEach n G t (HasSmallSum map.arena (TreeHolds map)) → SomeFits n G v → total + value < 2 ^ 64
+  pub room : (key value : ℕ) → Looks n G u v IsAnyWord (IsNext map least key value) → InEach n G t (HasMap (tree_part map)) → InEach n G t (HasSmallSum (tree_part map)) → SomeFits n G v → total + value < 2 ^ 64
   room key value m order small some =
       let s : List ℕ = some.0 in
       let both = looks_then n G t IsAnyWord u v _ (IsNext map least key value) l m in
@@ -82,7 +97,7 @@ module _ (map : TreeMap) (low high least turns total : ℕ) (n : ℕ) (G : List 
       next_room map (after t s) low high least turns total seen.0 key value seen.1 o.entries o.used o.holds (small.at s fit_t)
 
 -- the whole sum
-pub sums_range : (map : TreeMap) (low high total : ℕ) (n : ℕ) (G : List ℕ → Type 0) (t u : Trace) → Looks n G t u IsAnyWord (IsTotal map low high total) → Leads n G t u (SumsRange map.arena (TreeHolds map) low high total)
+pub sums_range : (map : TreeMap) (low high total : ℕ) (n : ℕ) (G : List ℕ → Type 0) (t u : Trace) → Looks n G t u IsAnyWord (IsTotal map low high total) → Leads n G t u (SumsRange (tree_part map) low high total)
 sums_range map low high total n G t u l = record {
   at = λ s fit. record { same = l.same s fit; sum = λ f used hold. total_sum map (after t s) low high total f used (seen_before n G t u l s fit) hold };
 }

@@ -12,7 +12,7 @@ use Rattle.txn_alloc.specs.EntryMaps.{Cell, Entries, Blocks, value_of, has_block
 use Rattle.txn_alloc.proofs.Lists.{free_kept, same_block}
 use Rattle.txn_alloc.proofs.Cells.{all_append, value_less, has_middle, less_block, insert_same, insert_other, one_in, one_here}
 use Rattle.txn_tree_map.specs.declared.map.TreeMap.{TreeMap}
-use Rattle.txn_tree_map.specs.Trees.{cells_of, IsRising, TreeHolds}
+use Rattle.txn_tree_map.specs.Trees.{cells_of, IsRising, TreeHolds, tree_part}
 use Rattle.txn_tree_map.specs.Trees.Tree.{Node}
 use Rattle.txn_tree_map.specs.Paths.{before_of, after_of, IsAt, IsBelow}
 use Rattle.txn_tree_map.specs.Searches.{IsFoundAt}
@@ -118,7 +118,7 @@ module _ (map : TreeMap) (key p b x : ℕ) (s : List ℕ) (h : IsFoundAt map key
           (λ e. has_middle d xs ys h.cell e ∙ sym (has_middle d xs ys valued e))
           (λ ne. sym (less_block d xs ys h.cell ne) ∙ less_block d xs ys valued ne)
 
-  pub inserted_old : (f : Entries) (u v : Blocks) (was : ℕ) → HoldsApart map.arena (TreeHolds map) s f u v → slice_get s (block_at map.arena b + 1) ≡ Some was → InsertsOld map.arena (TreeHolds map) key x was with_value f u v
+  pub inserted_old : (f : Entries) (u v : Blocks) (was : ℕ) → HoldsApart (tree_part map) s f u v → slice_get s (block_at map.arena b + 1) ≡ Some was → InsertsOld (tree_part map) key x was with_value f u v
   inserted_old f u v was hold there = record {
     present = found_value map key s f u p b was h there hold.map;
     left = record {

@@ -8,7 +8,7 @@ use Rattle.txn_tree_map.specs.declared.map.TreeMap.{TreeMap}
 use Rattle.txn_tree_map.specs.Trees.{Tree, priority_of, name_of, rank_of, cells_of, IsSpelled, HasTree, IsAbove, IsRising, IsHeap, IsLaid}
 use Rattle.txn_tree_map.specs.Trees.Tree.{Node}
 use Rattle.txn_tree_map.specs.Paths.{Path, place_of, before_of, after_of, IsHung, IsHigh, IsBelow, IsAt}
-use Rattle.txn_tree_map.specs.Searches.{IsLink, IsMissing}
+use Rattle.txn_tree_map.specs.Searches.{IsKeyOrName, IsMissing}
 
 -- from state to state: the word at the hole has the name, and nothing else changed; the inner word held what was answered
 pub record Hangs (hole name inner rest : ℕ) (old new : List ℕ) : Type 0 where
@@ -75,6 +75,10 @@ abbrev pub PartsOne : TreeMap → ℕ → ℕ → ℕ → ℕ → ℕ → ℕ �
 PartsOne map key smaller greater rest smaller' greater' rest' old new =
     (block name turns : ℕ) (start : List ℕ) → IsParted map key block name turns smaller greater rest start old → IsParted map key block name (turns + 1) smaller' greater' rest' start new
 
+-- a is one of the two ends, or in the block that the number names the word of the key or of a name
+abbrev pub IsEndOrTop : TreeMap → ℕ → ℕ → ℕ → ℕ → Type 0
+IsEndOrTop map smaller greater rest a = (a ≡ smaller) ⊎ ((a ≡ greater) ⊎ ((b : ℕ) × (rest ≡ b + 1) × IsKeyOrName map b a))
+
 -- some tree is parted so far
 pub record CanPart (map : TreeMap) (key smaller greater rest : ℕ) (words : List ℕ) : Type 0 where
   pub block : ℕ
@@ -104,6 +108,16 @@ pub record Splits (map : TreeMap) (key block name : ℕ) (old new : List ℕ) : 
 abbrev pub IsSplitOwn : TreeMap → ℕ → ℕ → ℕ → List ℕ → List ℕ → ℕ → Type 0
 IsSplitOwn map key block name before after a = (tree : Tree) → IsWhole map key block name tree before → IsNameIn map block tree a
 
+-- a is the word of the key or of a name in the block, or in a block of the tree
+pub record IsWordIn (map : TreeMap) (block : ℕ) (tree : Tree) (a : ℕ) : Type 0 where
+  pub owner : ℕ
+  pub mine : (owner ≡ block) ⊎ (has_block owner (cells_of tree) ≡ true)
+  pub place : IsKeyOrName map owner a
+
+-- the same of a tree that the name heads
+abbrev pub IsSplitSeen : TreeMap → ℕ → ℕ → ℕ → List ℕ → List ℕ → ℕ → Type 0
+IsSplitSeen map key block name before after a = (tree : Tree) → IsWhole map key block name tree before → IsWordIn map block tree a
+
 -- the key is in no cell, and the block is one of the arena's and in none of the tree's cells
 pub record CanPut (map : TreeMap) (key block : ℕ) (words : List ℕ) : Type 0 where
   pub missing : IsMissing map key words
@@ -129,6 +143,10 @@ pub record IsPut (map : TreeMap) (key value block : ℕ) (old new : List ℕ) : 
 abbrev pub IsPutOwn : TreeMap → ℕ → ℕ → List ℕ → List ℕ → ℕ → Type 0
 IsPutOwn map key block before after a = (can : CanPut map key block before) → IsRootOrIn map block (before_of can.missing.path ++ after_of can.missing.path) a
 
--- a link, or in the block
-abbrev pub IsLinkOrIn : TreeMap → ℕ → ℕ → Type 0
-IsLinkOrIn map block a = IsLink map a ⊎ IsInBlock map.arena block a
+-- a is the root, or in the block, or in one of the tree's blocks the word of the key or of a name
+abbrev pub IsPutSeen : TreeMap → ℕ → ℕ → List ℕ → List ℕ → ℕ → Type 0
+IsPutSeen map key block before after a =
+    (can : CanPut map key block before)
+    → (a ≡ map.root)
+    ⊎ (IsInBlock map.arena block a
+    ⊎ ((b : ℕ) × (has_block b (before_of can.missing.path ++ after_of can.missing.path) ≡ true) × IsKeyOrName map b a))

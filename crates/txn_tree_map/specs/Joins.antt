@@ -6,12 +6,21 @@ use Rattle.txn_alloc.specs.EntryMaps.{Cell, has_block}
 use Rattle.txn_tree_map.specs.declared.map.TreeMap.{TreeMap}
 use Rattle.txn_tree_map.specs.Trees.{Tree, name_of, rank_of, cells_of, IsSpelled, HasTree, IsRising, IsHeap, IsLaid}
 use Rattle.txn_tree_map.specs.Paths.{Path, place_of, before_of, after_of, IsHung, IsHigh, IsAt}
-use Rattle.txn_tree_map.specs.Searches.{IsLink, IsFoundAt}
+use Rattle.txn_tree_map.specs.Searches.{IsKeyOrName, IsFoundAt}
 
 -- a is the hole, or names a subtree in the block of one of the cells
 abbrev pub IsHoleOrName : TreeMap → ℕ → List Cell → ℕ → Type 0
 IsHoleOrName map hole cs a =
     (a ≡ hole) ⊎ ((b : ℕ) × (has_block b cs ≡ true) × ((a ≡ block_at map.arena b + 2) ⊎ (a ≡ block_at map.arena b + 3)))
+
+-- a is the hole, or in the block of one of the cells the word of the key or of a name
+abbrev pub IsHoleOrWord : TreeMap → ℕ → List Cell → ℕ → Type 0
+IsHoleOrWord map hole cs a = (a ≡ hole) ⊎ ((b : ℕ) × (has_block b cs ≡ true) × IsKeyOrName map b a)
+
+-- a is the place, or in one of the two blocks that the numbers name the word of the key or of a name
+abbrev pub IsPlaceOrTop : TreeMap → ℕ → ℕ → ℕ → ℕ → Type 0
+IsPlaceOrTop map place left right a =
+    (a ≡ place) ⊎ ((b : ℕ) × ((left ≡ b + 1) ⊎ (right ≡ b + 1)) × IsKeyOrName map b a)
 
 -- the numbers head two trees, the keys of the first all below those of the second; the hole is a word in none of their blocks
 pub record ArePair (map : TreeMap) (hole left right : ℕ) (first second : Tree) (words : List ℕ) : Type 0 where
@@ -102,6 +111,11 @@ pub record Joins (map : TreeMap) (hole left right : ℕ) (old new : List ℕ) : 
 abbrev pub IsJoinOwn : TreeMap → ℕ → ℕ → ℕ → List ℕ → List ℕ → ℕ → Type 0
 IsJoinOwn map hole left right before after a = (first second : Tree) → ArePair map hole left right first second before → IsHoleOrName map hole (cells_of first ++ cells_of second) a
 
+-- the same of a hole, and of what may be read of the two trees
+abbrev pub IsJoinSeen : TreeMap → ℕ → ℕ → ℕ → List ℕ → List ℕ → ℕ → Type 0
+IsJoinSeen map hole left right before after a =
+    (first second : Tree) → ArePair map hole left right first second before → IsHoleOrWord map hole (cells_of first ++ cells_of second) a
+
 -- the key's cell is out of the tree: where it was hangs one tree of the cells below it
 pub record IsCut (map : TreeMap) (key place block value : ℕ) (old new : List ℕ) : Type 0 where
   pub before : IsFoundAt map key place block old
@@ -124,6 +138,8 @@ Cuts map place block value old new = (key : ℕ) → IsFoundAt map key place blo
 abbrev pub IsCutOwn : TreeMap → ℕ → ℕ → List ℕ → List ℕ → ℕ → Type 0
 IsCutOwn map place block before after a = (key : ℕ) (h : IsFoundAt map key place block before) → IsHoleOrName map place (cells_of h.left ++ cells_of h.right) a
 
--- a link, or the word of the block's value
-abbrev pub IsLinkOrValue : TreeMap → ℕ → ℕ → Type 0
-IsLinkOrValue map block a = IsLink map a ⊎ (a ≡ block_at map.arena block + 1)
+-- a is a word of the block's value or of a name in it, or may be read of the two trees below it
+abbrev pub IsCutSeen : TreeMap → ℕ → ℕ → List ℕ → List ℕ → ℕ → Type 0
+IsCutSeen map place block before after a =
+    ((a ≡ block_at map.arena block + 1) ⊎ IsKeyOrName map block a)
+    ⊎ ((key : ℕ) (h : IsFoundAt map key place block before) → IsHoleOrWord map place (cells_of h.left ++ cells_of h.right) a)

@@ -1,16 +1,32 @@
 -- How far a search down the tree has come, and what it found.
-use Rattle.std.specs.Prelude.{◌≡◌, ℕ, ◌+◌, ◌^◌, ◌<◌, ◌≤◌, ◌⊎◌, List, Some, length, slice_get}
+use Rattle.std.specs.Prelude.{◌≡◌, ℕ, ◌+◌, ◌^◌, ◌<◌, ◌≤◌, ◌⊎◌, true, List, ◌++◌, Some, length, slice_get}
 use Rattle.txn_alloc.specs.FreeLists.{block_at}
-use Rattle.txn_alloc.specs.EntryMaps.{Cell}
+use Rattle.txn_alloc.specs.EntryMaps.{Cell, has_block}
 use Rattle.txn_tree_map.specs.declared.map.TreeMap.{TreeMap}
 use Rattle.txn_tree_map.specs.Trees.{Tree, priority_of, cells_of, rank_of, name_of, HasTree, IsLaid, IsAbove}
 use Rattle.txn_tree_map.specs.Trees.Tree.{Leaf, Node}
 use Rattle.txn_tree_map.specs.Paths.{Path, place_of, before_of, after_of, IsAt, IsBelow, IsHigh}
 
--- the root, or the word of a key or of a name in a block: what a search reads
-abbrev pub IsLink : TreeMap → ℕ → Type 0
-IsLink map a =
-    (a ≡ map.root) ⊎ ((b : ℕ) × (b < map.arena.blocks) × ((a ≡ block_at map.arena b) ⊎ ((a ≡ block_at map.arena b + 2) ⊎ (a ≡ block_at map.arena b + 3))))
+-- a is the word of the key of block b, or names one of its subtrees
+abbrev pub IsKeyOrName : TreeMap → ℕ → ℕ → Type 0
+IsKeyOrName map b a = (a ≡ block_at map.arena b) ⊎ ((a ≡ block_at map.arena b + 2) ⊎ (a ≡ block_at map.arena b + 3))
+
+-- block b is one of the tree's, wherever in it one stands
+abbrev pub IsOfTree : TreeMap → ℕ → List ℕ → Type 0
+IsOfTree map b words =
+    (path : Path) (tree : Tree) → IsAt map path tree words → has_block b (before_of path ++ (cells_of tree ++ after_of path)) ≡ true
+
+-- the root, or in a block of the tree the word of its key or of a name: what a search reads
+abbrev pub IsLink : TreeMap → List ℕ → ℕ → Type 0
+IsLink map words a = (a ≡ map.root) ⊎ ((b : ℕ) × IsOfTree map b words × IsKeyOrName map b a)
+
+-- a is the place
+abbrev pub IsPlace : ℕ → List ℕ → ℕ → Type 0
+IsPlace place words a = a ≡ place
+
+-- a is the place, or the word of the block's key
+abbrev pub IsPlaceOrKey : TreeMap → ℕ → ℕ → List ℕ → ℕ → Type 0
+IsPlaceOrKey map place block words a = (a ≡ place) ⊎ (a ≡ block_at map.arena block)
 
 -- the word at the place heads some tree
 pub record HasTop (map : TreeMap) (place : ℕ) (words : List ℕ) : Type 0 where

@@ -1,6 +1,7 @@
 -- What the laws of tree maps say.
 use Rattle.std.specs.Prelude.{◌≡◌, ℕ, ◌^◌, ◌<◌, true, List, length, slice_get}
 use Rattle.std.specs.FinSet as set
+use Rattle.std.specs.FinMap as entry_map
 use Rattle.txn_alloc.specs.FreeLists.{IsInBlock}
 use Rattle.txn_alloc.specs.EntryMaps.{Entries, Blocks}
 use Rattle.txn_tree_map.specs.declared.map.TreeMap.{TreeMap}
@@ -25,3 +26,8 @@ TreeStands =
 -- different keys have different priorities
 abbrev pub PrioritiesDiffer : Type 0
 PrioritiesDiffer = (key other : ℕ) → key < 2 ^ 64 → other < 2 ^ 64 → priority_of key ≡ priority_of other → key ≡ other
+
+-- a map uses as many blocks as it has entries
+abbrev pub AsManyBlocks : Type 0
+AsManyBlocks =
+    (map : TreeMap) (words : List ℕ) (entries : Entries) (used : Blocks) → TreeHolds map words entries used → set.len used ≡ entry_map.len entries

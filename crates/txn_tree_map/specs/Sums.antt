@@ -90,5 +90,5 @@ pub record HasNoneTo (map : TreeMap) (least high : ℕ) (words : List ℕ) : Typ
   pub past : IsFrom (high + 1) highs
 
 -- any word
-abbrev pub IsAnyWord : ℕ → Type 0
-IsAnyWord a = Unit {0}
+abbrev pub IsAnyWord : List ℕ → ℕ → Type 0
+IsAnyWord words a = Unit {0}

@@ -2,13 +2,13 @@
 -- (Seidel, Aragon, Randomized search trees, Algorithmica 1996), with the priorities made of the keys.
 -- A word that names a block holds its number plus 1; 0 names none. Only `IsSpelled`, `HasTree` and `TreeHolds` know how
 -- the tree goes through the blocks; all else speaks of the entries and of the set of blocks.
-use Rattle.std.specs.Prelude.{◌≡◌, ℕ, ◌+◌, ◌*◌, ◌%◌, ◌^◌, ◌<◌, ◌≤◌, List, [], ◌∷◌, ◌++◌, Some, length, slice_get}
+use Rattle.std.specs.Prelude.{◌≡◌, ℕ, ◌+◌, ◌*◌, ◌%◌, ◌^◌, ◌<◌, ◌≤◌, ◌⊎◌, List, [], ◌∷◌, ◌++◌, Some, length, slice_get}
 use Rattle.std.specs.List.{AllByRecursion}
 use Rattle.std.specs.FinSet as set
 use Rattle.std.specs.FinMap as entry_map
 use Rattle.txn_alloc.specs.declared.arena.Arena.{Arena}
 use Rattle.txn_alloc.specs.FreeLists.{block_at, IsHead, IsInBlock, IsLaidOut}
-use Rattle.txn_alloc.specs.EntryMaps.{Cell, Entries, Blocks, value_of, has_block}
+use Rattle.txn_alloc.specs.EntryMaps.{Cell, Entries, Blocks, Part, value_of, has_block}
 use Rattle.txn_tree_map.specs.declared.map.TreeMap.{TreeMap}
 use Rattle.txn_tree_map.specs.declared.map.TheConstants.{MULTIPLIER}
 
@@ -88,3 +88,12 @@ pub record TreeHolds (map : TreeMap) (words : List ℕ) (entries : Entries) (use
   pub heap : IsHeap tree
   pub entries_are : (key : ℕ) → entry_map.get entries key ≡ value_of key (cells_of tree)
   pub used_are : (b : ℕ) → set.contains used b ≡ has_block b (cells_of tree)
+
+-- the map's part of the words
+abbrev pub tree_part : TreeMap → Part
+tree_part map = record {
+  arena = map.arena;
+  Holds = TreeHolds map;
+  IsRoot = λ key a. a ≡ map.root;
+  IsName = λ b a. (a ≡ block_at map.arena b + 2) ⊎ (a ≡ block_at map.arena b + 3);
+}

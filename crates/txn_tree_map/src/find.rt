@@ -2,10 +2,10 @@
 
 ghost use Rattle.std.specs.Prelude.{◌≡◌, ◌<◌, IfOk, IfSome, IfNone, if◌then◌else◌};
 ghost use Rattle.txn_words.specs.Calls.{IsReady, GoesOn, InEachState};
-ghost use Rattle.txn_alloc.specs.Looks.{Looks};
+ghost use Rattle.txn_words.specs.Looks.{Looks};
 ghost use Rattle.txn_alloc.specs.EntryMaps.{HasMap};
-ghost use Rattle.txn_tree_map.specs.Trees.{TreeHolds};
-ghost use Rattle.txn_tree_map.specs.Searches.{HasTop, IsNamed, IsEnd, IsFoundAt, IsMissing, IsLink};
+ghost use Rattle.txn_tree_map.specs.Trees.{tree_part};
+ghost use Rattle.txn_tree_map.specs.Searches.{HasTop, IsNamed, IsEnd, IsFoundAt, IsMissing, IsLink, IsPlace, IsPlaceOrKey};
 
 use crate::map::TreeMap;
 use txn_words::{Stop, Words};
@@ -34,12 +34,11 @@ pub(crate) fn side(left: bool) -> u64
 /// The node that the word at the place names, if it names one.
 pub(crate) fn look<W: Words>(w: &mut W, map: &TreeMap, place: u64) -> Result<Option<Named>, Stop>
     requires ready { IsReady W.Words w.old }
-    requires link { IsLink map.now place }
     requires top { InEachState W.Words W.Shape.Shape w.old (HasTop map.now place) }
     ensures named { IfOk result (λ answer. IfSome answer (λ node.
-        Looks (W.Shape.word_count (W.shape w.old)) (W.Shape.good (W.shape w.old)) (W.trace w.old) (W.trace w.new) (IsLink map.now) (IsNamed map.now place node.block node.key))) }
+        Looks (W.Shape.word_count (W.shape w.old)) (W.Shape.good (W.shape w.old)) (W.trace w.old) (W.trace w.new) (IsPlaceOrKey map.now place node.block) (IsNamed map.now place node.block node.key))) }
     ensures end { IfOk result (λ answer. IfNone answer
-        (Looks (W.Shape.word_count (W.shape w.old)) (W.Shape.good (W.shape w.old)) (W.trace w.old) (W.trace w.new) (IsLink map.now) (IsEnd place))) }
+        (Looks (W.Shape.word_count (W.shape w.old)) (W.Shape.good (W.shape w.old)) (W.trace w.old) (W.trace w.new) (IsPlace place) (IsEnd place))) }
     ensures block { IfOk result (λ answer. IfSome answer (λ node. node.block < map.now.arena.blocks)) }
     ensures goes_on { GoesOn W.Words w.old w.new result }
 {
@@ -57,13 +56,12 @@ pub(crate) fn look<W: Words>(w: &mut W, map: &TreeMap, place: u64) -> Result<Opt
 /// Looks for the key, from the root downwards.
 pub(crate) fn find<W: Words>(w: &mut W, map: &TreeMap, key: u64) -> Result<Option<Found>, Stop>
     requires ready { IsReady W.Words w.old }
-    requires order { InEachState W.Words W.Shape.Shape w.old (HasMap map.now.arena (TreeHolds map.now)) }
+    requires order { InEachState W.Words W.Shape.Shape w.old (HasMap (tree_part map.now)) }
     ensures found { IfOk result (λ answer. IfSome answer (λ f.
         Looks (W.Shape.word_count (W.shape w.old)) (W.Shape.good (W.shape w.old)) (W.trace w.old) (W.trace w.new) (IsLink map.now) (IsFoundAt map.now key f.place f.block))) }
     ensures missing { IfOk result (λ answer. IfNone answer
         (Looks (W.Shape.word_count (W.shape w.old)) (W.Shape.good (W.shape w.old)) (W.trace w.old) (W.trace w.new) (IsLink map.now) (IsMissing map.now key))) }
     ensures block { IfOk result (λ answer. IfSome answer (λ f. f.block < map.now.arena.blocks)) }
-    ensures link { IfOk result (λ answer. IfSome answer (λ f. IsLink map.now f.place)) }
     ensures goes_on { GoesOn W.Words w.old w.new result }
 {
     let mut place = map.root;

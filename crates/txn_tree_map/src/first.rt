@@ -2,9 +2,9 @@
 
 ghost use Rattle.std.specs.Prelude.{◌≡◌, ◌<◌, IfOk, IfSome, Some, nat_lt, if◌then◌else◌};
 ghost use Rattle.txn_words.specs.Calls.{IsReady, GoesOn, InEachState};
-ghost use Rattle.txn_alloc.specs.Looks.{Looks};
+ghost use Rattle.txn_words.specs.Looks.{Looks};
 ghost use Rattle.txn_alloc.specs.EntryMaps.{HasMap};
-ghost use Rattle.txn_tree_map.specs.Trees.{TreeHolds};
+ghost use Rattle.txn_tree_map.specs.Trees.{tree_part};
 ghost use Rattle.txn_tree_map.specs.Searches.{IsLink};
 ghost use Rattle.txn_tree_map.specs.Sums.{IsNearest};
 
@@ -26,7 +26,7 @@ pub(crate) fn first_at<W: Words>(
     least: u64,
 ) -> Result<Option<Named>, Stop>
     requires ready { IsReady W.Words w.old }
-    requires order { InEachState W.Words W.Shape.Shape w.old (HasMap map.now.arena (TreeHolds map.now)) }
+    requires order { InEachState W.Words W.Shape.Shape w.old (HasMap (tree_part map.now)) }
     ensures nearest { IfOk result (λ answer.
         Looks (W.Shape.word_count (W.shape w.old)) (W.Shape.good (W.shape w.old)) (W.trace w.old) (W.trace w.new) (IsLink map.now) (IsNearest map.now least answer)) }
     ensures goes_on { GoesOn W.Words w.old w.new result }

@@ -1,12 +1,11 @@
 //! Putting a key and a value into the map.
 
 ghost use Rattle.std.specs.Prelude.{◌≡◌, ℕ, IfOk, OnOk};
-ghost use Rattle.txn_words.specs.Frames.{AppendsReads};
 ghost use Rattle.txn_words.specs.Calls.{IsReady, GoesOn, ReadsWithin, WritesOnly, WritesWithin, InEachState, LeadsTo};
 ghost use Rattle.txn_alloc.specs.declared.put.Put.TheVariants.{Full, Old};
-ghost use Rattle.txn_alloc.specs.EntryMaps.{HasMapApart, Inserts, LacksRoom, IsOwn, MayRead, IsValue};
-ghost use Rattle.txn_tree_map.specs.Trees.{TreeHolds};
-ghost use Rattle.txn_tree_map.specs.Changes.{CanPut, IsPut, IsPutOwn, IsLinkOrIn};
+ghost use Rattle.txn_alloc.specs.EntryMaps.{HasMapApart, Inserts, LacksRoom, IsOwn, MayReadToInsert, IsValue};
+ghost use Rattle.txn_tree_map.specs.Trees.{tree_part};
+ghost use Rattle.txn_tree_map.specs.Changes.{CanPut, IsPut, IsPutOwn, IsPutSeen};
 
 use crate::find::find;
 use crate::map::TreeMap;
@@ -27,7 +26,7 @@ pub(crate) fn put_in<W: Words>(
     requires missing { InEachState W.Words W.Shape.Shape w.old (CanPut map.now key block) }
     ensures put { OnOk result (LeadsTo W.Words W.Shape.Shape w.old w.new (IsPut map.now key value block)) }
     ensures frame { OnOk result (WritesWithin W.Words W.Shape.Shape w.old w.new (IsPutOwn map.now key block)) }
-    ensures reads { OnOk result (AppendsReads (W.trace w.old) (W.trace w.new) (IsLinkOrIn map.now block)) }
+    ensures reads { OnOk result (ReadsWithin W.Words W.Shape.Shape w.old w.new (IsPutSeen map.now key block)) }
     ensures goes_on { GoesOn W.Words w.old w.new result }
 {
     let seat = find_seat(w, map, key)?;
@@ -43,36 +42,37 @@ impl TreeMap {
     /// Puts the value at the key. A key that is new gets a free block, if there is one.
     pub fn insert<W: Words>(&self, w: &mut W, key: u64, value: u64) -> Result<Put, Stop>
         requires ready { IsReady W.Words w.old }
-        requires order { InEachState W.Words W.Shape.Shape w.old (HasMapApart self.now.arena (TreeHolds self.now)) }
+        requires order { InEachState W.Words W.Shape.Shape w.old (HasMapApart (tree_part self.now)) }
 
         // The map has the value at the key, and else what it had.
         ensures put { IfOk result (λ put.
-            LeadsTo W.Words W.Shape.Shape w.old w.new (Inserts self.now.arena (TreeHolds self.now) key value put)) }
+            LeadsTo W.Words W.Shape.Shape w.old w.new (Inserts (tree_part self.now) key value put)) }
 
         // It answers Full exactly where in every state the key is absent and no block is free.
         ensures full { IfOk result (λ put. put ≡ Full
-            → LeadsTo W.Words W.Shape.Shape w.old w.new (λ before _. LacksRoom self.now.arena (TreeHolds self.now) key before)) }
+            → LeadsTo W.Words W.Shape.Shape w.old w.new (λ before _. LacksRoom (tree_part self.now) key before)) }
         ensures full_if { IfOk result (λ put.
-            LeadsTo W.Words W.Shape.Shape w.old w.new (λ before _. LacksRoom self.now.arena (TreeHolds self.now) key before)
+            LeadsTo W.Words W.Shape.Shape w.old w.new (λ before _. LacksRoom (tree_part self.now) key before)
             → put ≡ Full) }
 
         ensures order { OnOk result (
-            InEachState W.Words W.Shape.Shape w.new (HasMapApart self.now.arena (TreeHolds self.now))) }
+            InEachState W.Words W.Shape.Shape w.new (HasMapApart (tree_part self.now))) }
 
-        // No word is written but the heads, the root and the words of the map's blocks.
+        // No word is written but the root, the words of the map's blocks and the head for the block that it takes.
         ensures frame { OnOk result (
-            WritesWithin W.Words W.Shape.Shape w.old w.new (IsOwn self.now.arena (TreeHolds self.now) (λ a. a ≡ self.now.root))) }
+            WritesWithin W.Words W.Shape.Shape w.old w.new (IsOwn (tree_part self.now) key)) }
 
         // Where the key was there, the word of its value alone is written.
         ensures old { IfOk result (λ put. (was : ℕ) → put ≡ Old was
-            → WritesWithin W.Words W.Shape.Shape w.old w.new (IsValue self.now.arena (TreeHolds self.now) key)) }
+            → WritesWithin W.Words W.Shape.Shape w.old w.new (IsValue (tree_part self.now) key)) }
 
         // Where there is no room, no word is written.
         ensures full_frame { IfOk result (λ put. put ≡ Full → WritesOnly W.Words w.old w.new (λ a. ⊥)) }
 
-        // The value of no other key is read.
-        ensures reads { OnOk result (
-            ReadsWithin W.Words W.Shape.Shape w.old w.new (MayRead self.now.arena (TreeHolds self.now) key)) }
+        // Of the map's own blocks keys and links are read, and the value of the key; beside them, where a block is taken its
+        // head and its words, and where none is free heads.
+        ensures reads { IfOk result (λ put.
+            ReadsWithin W.Words W.Shape.Shape w.old w.new (MayReadToInsert (tree_part self.now) key put)) }
         ensures goes_on { GoesOn W.Words w.old w.new result }
     {
         match find(w, self, key)? {

@@ -2,9 +2,8 @@
 
 ghost use Rattle.std.specs.Prelude.{◌≡◌, ◌≢◌, IfOk, OnOk};
 ghost use Rattle.txn_words.specs.Frames.{AppendsReads};
-ghost use Rattle.txn_words.specs.Calls.{IsReady, GoesOn, WritesOnly, WritesWithin, InEachState, LeadsTo};
-ghost use Rattle.txn_tree_map.specs.Searches.{IsLink};
-ghost use Rattle.txn_tree_map.specs.Joins.{CanJoin, CanGoOn, JoinsOne, IsGathered, Joins, IsJoinOwn};
+ghost use Rattle.txn_words.specs.Calls.{IsReady, GoesOn, WritesOnly, WritesWithin, ReadsWithin, InEachState, LeadsTo};
+ghost use Rattle.txn_tree_map.specs.Joins.{CanJoin, CanGoOn, JoinsOne, IsGathered, Joins, IsJoinOwn, IsJoinSeen, IsPlaceOrTop};
 
 use crate::hang::hang;
 use crate::map::{TreeMap, priority};
@@ -24,13 +23,12 @@ pub(crate) fn join_one<W: Words>(w: &mut W, map: &TreeMap, gap: Gap) -> Result<G
     requires ready { IsReady W.Words w.old }
     requires left { gap.left ≢ 0 }
     requires right { gap.right ≢ 0 }
-    requires place { IsLink map.now gap.place }
     requires joined { InEachState W.Words W.Shape.Shape w.old (CanGoOn map.now gap.place gap.left gap.right) }
     ensures joined { IfOk result (λ next.
         LeadsTo W.Words W.Shape.Shape w.old w.new (JoinsOne map.now gap.place gap.left gap.right next.place next.left next.right)) }
-    ensures place { IfOk result (λ next. IsLink map.now next.place) }
     ensures frame { OnOk result (WritesOnly W.Words w.old w.new (λ a. a ≡ gap.place)) }
-    ensures reads { OnOk result (AppendsReads (W.trace w.old) (W.trace w.new) (IsLink map.now)) }
+    ensures reads { OnOk result (
+        AppendsReads (W.trace w.old) (W.trace w.new) (IsPlaceOrTop map.now gap.place gap.left gap.right)) }
     ensures goes_on { GoesOn W.Words w.old w.new result }
 {
     let Gap { place, left, right } = gap;
@@ -42,14 +40,14 @@ pub(crate) fn join_one<W: Words>(w: &mut W, map: &TreeMap, gap: Gap) -> Result<G
     let left_key = w.read(left_at)?;
     let right_key = w.read(right_at)?;
     if priority(right_key) < priority(left_key) {
-        let inner = hang(w, map, place, left, left_at + 3)?;
+        let inner = hang(w, place, left, left_at + 3)?;
         return Ok(Gap {
             place: left_at + 3,
             left: inner,
             right,
         });
     }
-    let inner = hang(w, map, place, right, right_at + 2)?;
+    let inner = hang(w, place, right, right_at + 2)?;
     Ok(Gap {
         place: right_at + 2,
         left,
@@ -66,13 +64,11 @@ pub(crate) fn gather<W: Words>(
     right: u64,
 ) -> Result<Seat, Stop>
     requires ready { IsReady W.Words w.old }
-    requires link { IsLink map.now hole }
     requires pair { InEachState W.Words W.Shape.Shape w.old (CanJoin map.now hole left right) }
     ensures gathered { IfOk result (λ last.
         LeadsTo W.Words W.Shape.Shape w.old w.new (IsGathered map.now hole left right last.place last.name)) }
-    ensures place { IfOk result (λ last. IsLink map.now last.place) }
     ensures frame { OnOk result (WritesWithin W.Words W.Shape.Shape w.old w.new (IsJoinOwn map.now hole left right)) }
-    ensures reads { OnOk result (AppendsReads (W.trace w.old) (W.trace w.new) (IsLink map.now)) }
+    ensures reads { OnOk result (ReadsWithin W.Words W.Shape.Shape w.old w.new (IsJoinSeen map.now hole left right)) }
     ensures goes_on { GoesOn W.Words w.old w.new result }
 {
     let mut gap = Gap {
@@ -110,11 +106,10 @@ pub(crate) fn join<W: Words>(
     right: u64,
 ) -> Result<(), Stop>
     requires ready { IsReady W.Words w.old }
-    requires link { IsLink map.now hole }
     requires pair { InEachState W.Words W.Shape.Shape w.old (CanJoin map.now hole left right) }
     ensures joined { OnOk result (LeadsTo W.Words W.Shape.Shape w.old w.new (Joins map.now hole left right)) }
     ensures frame { OnOk result (WritesWithin W.Words W.Shape.Shape w.old w.new (IsJoinOwn map.now hole left right)) }
-    ensures reads { OnOk result (AppendsReads (W.trace w.old) (W.trace w.new) (IsLink map.now)) }
+    ensures reads { OnOk result (ReadsWithin W.Words W.Shape.Shape w.old w.new (IsJoinSeen map.now hole left right)) }
     ensures goes_on { GoesOn W.Words w.old w.new result }
 {
     let last = gather(w, map, hole, left, right)?;

@@ -1,12 +1,10 @@
 //! Taking a key out of the map.
 
-ghost use Rattle.std.specs.Prelude.{◌≡◌, ◌<◌, IfOk, OnOk};
-ghost use Rattle.txn_words.specs.Frames.{AppendsReads};
-ghost use Rattle.txn_words.specs.Calls.{IsReady, GoesOn, ReadsWithin, WritesWithin, InEachState, LeadsTo};
-ghost use Rattle.txn_alloc.specs.EntryMaps.{HasMapApart, Removes, IsOwn, MayRead};
-ghost use Rattle.txn_tree_map.specs.Trees.{TreeHolds};
-ghost use Rattle.txn_tree_map.specs.Searches.{IsLink};
-ghost use Rattle.txn_tree_map.specs.Joins.{CanCut, Cuts, IsCutOwn, IsLinkOrValue};
+ghost use Rattle.std.specs.Prelude.{◌≡◌, ◌<◌, IfOk, IfNone, OnOk};
+ghost use Rattle.txn_words.specs.Calls.{IsReady, GoesOn, ReadsWithin, WritesOnly, WritesWithin, InEachState, LeadsTo};
+ghost use Rattle.txn_alloc.specs.EntryMaps.{HasMapApart, Removes, IsOwn, MayReadToRemove};
+ghost use Rattle.txn_tree_map.specs.Trees.{tree_part};
+ghost use Rattle.txn_tree_map.specs.Joins.{CanCut, Cuts, IsCutOwn, IsCutSeen};
 
 use crate::find::{Found, find};
 use crate::join::join;
@@ -17,13 +15,13 @@ use txn_words::{Stop, Words};
 /// Takes a block out of the tree: its two subtrees, joined, hang where it hung. Answers its value.
 pub(crate) fn cut<W: Words>(w: &mut W, map: &TreeMap, found: Found) -> Result<u64, Stop>
     requires ready { IsReady W.Words w.old }
-    requires link { IsLink map.now found.place }
     requires block { found.block < map.now.arena.blocks }
     requires can { InEachState W.Words W.Shape.Shape w.old (CanCut map.now found.place found.block) }
     ensures cut { IfOk result (λ value.
         LeadsTo W.Words W.Shape.Shape w.old w.new (Cuts map.now found.place found.block value)) }
     ensures frame { OnOk result (WritesWithin W.Words W.Shape.Shape w.old w.new (IsCutOwn map.now found.place found.block)) }
-    ensures reads { OnOk result (AppendsReads (W.trace w.old) (W.trace w.new) (IsLinkOrValue map.now found.block)) }
+    ensures reads { OnOk result (
+        ReadsWithin W.Words W.Shape.Shape w.old w.new (IsCutSeen map.now found.place found.block)) }
     ensures goes_on { GoesOn W.Words w.old w.new result }
 {
     let at = map.arena.first + 4 * u64::from(found.block);
@@ -38,21 +36,24 @@ impl TreeMap {
     /// Takes the key out, and gives its block back. Answers the value that it had.
     pub fn remove<W: Words>(&self, w: &mut W, key: u64) -> Result<Option<u64>, Stop>
         requires ready { IsReady W.Words w.old }
-        requires order { InEachState W.Words W.Shape.Shape w.old (HasMapApart self.now.arena (TreeHolds self.now)) }
+        requires order { InEachState W.Words W.Shape.Shape w.old (HasMapApart (tree_part self.now)) }
 
         // The map has the key no more, and else what it had, and the key's block is free.
         ensures removed { IfOk result (λ answer.
-            LeadsTo W.Words W.Shape.Shape w.old w.new (Removes self.now.arena (TreeHolds self.now) key answer)) }
+            LeadsTo W.Words W.Shape.Shape w.old w.new (Removes (tree_part self.now) key answer)) }
         ensures order { OnOk result (
-            InEachState W.Words W.Shape.Shape w.new (HasMapApart self.now.arena (TreeHolds self.now))) }
+            InEachState W.Words W.Shape.Shape w.new (HasMapApart (tree_part self.now))) }
 
-        // No word is written but the heads, the root and the words of the map's blocks.
+        // No word is written but the root, the words of the map's blocks and the head for the block that it gives back.
         ensures frame { OnOk result (
-            WritesWithin W.Words W.Shape.Shape w.old w.new (IsOwn self.now.arena (TreeHolds self.now) (λ a. a ≡ self.now.root))) }
+            WritesWithin W.Words W.Shape.Shape w.old w.new (IsOwn (tree_part self.now) key)) }
 
-        // The value of no other key is read.
-        ensures reads { OnOk result (
-            ReadsWithin W.Words W.Shape.Shape w.old w.new (MayRead self.now.arena (TreeHolds self.now) key)) }
+        // Where the key is absent, no word is written.
+        ensures none_frame { IfOk result (λ answer. IfNone answer (WritesOnly W.Words w.old w.new (λ a. ⊥))) }
+
+        // Of the map's own blocks keys and links are read, and the value of the key; where a block is given back, its head too.
+        ensures reads { IfOk result (λ answer.
+            ReadsWithin W.Words W.Shape.Shape w.old w.new (MayReadToRemove (tree_part self.now) key answer)) }
         ensures goes_on { GoesOn W.Words w.old w.new result }
     {
         match find(w, self, key)? {

@@ -2,7 +2,7 @@
 
 ghost use Rattle.std.specs.Prelude.{IfOk};
 ghost use Rattle.txn_words.specs.Calls.{IsReady, GoesOn, InEachState};
-ghost use Rattle.txn_alloc.specs.Looks.{Looks};
+ghost use Rattle.txn_words.specs.Looks.{Looks};
 ghost use Rattle.txn_tree_map.specs.Searches.{IsMissing, IsSeat, IsLink};
 
 use crate::find::{look, side};
@@ -22,7 +22,6 @@ pub(crate) fn find_seat<W: Words>(w: &mut W, map: &TreeMap, key: u64) -> Result<
     requires missing { InEachState W.Words W.Shape.Shape w.old (IsMissing map.now key) }
     ensures seat { IfOk result (λ seat.
         Looks (W.Shape.word_count (W.shape w.old)) (W.Shape.good (W.shape w.old)) (W.trace w.old) (W.trace w.new) (IsLink map.now) (IsSeat map.now key seat.place seat.name)) }
-    ensures link { IfOk result (λ seat. IsLink map.now seat.place) }
     ensures goes_on { GoesOn W.Words w.old w.new result }
 {
     let rank = priority(key);

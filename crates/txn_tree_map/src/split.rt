@@ -2,9 +2,8 @@
 
 ghost use Rattle.std.specs.Prelude.{◌≡◌, ◌≢◌, ◌⊎◌, ◌<◌, IfOk, OnOk};
 ghost use Rattle.txn_words.specs.Frames.{AppendsReads};
-ghost use Rattle.txn_words.specs.Calls.{IsReady, GoesOn, WritesOnly, WritesWithin, InEachState, LeadsTo};
-ghost use Rattle.txn_tree_map.specs.Searches.{IsLink};
-ghost use Rattle.txn_tree_map.specs.Changes.{CanSplit, IsParted, CanPart, PartsOne, Splits, IsSplitOwn};
+ghost use Rattle.txn_words.specs.Calls.{IsReady, GoesOn, WritesOnly, WritesWithin, ReadsWithin, InEachState, LeadsTo};
+ghost use Rattle.txn_tree_map.specs.Changes.{CanSplit, IsParted, CanPart, PartsOne, Splits, IsSplitOwn, IsSplitSeen, IsEndOrTop};
 
 use crate::hang::hang;
 use crate::map::TreeMap;
@@ -28,15 +27,12 @@ pub(crate) fn part_one<W: Words>(
 ) -> Result<Ends, Stop>
     requires ready { IsReady W.Words w.old }
     requires rest { ends.rest ≢ 0 }
-    requires smaller { IsLink map.now ends.smaller }
-    requires greater { IsLink map.now ends.greater }
     requires parted { InEachState W.Words W.Shape.Shape w.old (CanPart map.now key ends.smaller ends.greater ends.rest) }
     ensures parted { IfOk result (λ next.
         LeadsTo W.Words W.Shape.Shape w.old w.new (PartsOne map.now key ends.smaller ends.greater ends.rest next.smaller next.greater next.rest)) }
-    ensures smaller { IfOk result (λ next. IsLink map.now next.smaller) }
-    ensures greater { IfOk result (λ next. IsLink map.now next.greater) }
     ensures frame { OnOk result (WritesOnly W.Words w.old w.new (λ a. (a ≡ ends.smaller) ⊎ (a ≡ ends.greater))) }
-    ensures reads { OnOk result (AppendsReads (W.trace w.old) (W.trace w.new) (IsLink map.now)) }
+    ensures reads { OnOk result (
+        AppendsReads (W.trace w.old) (W.trace w.new) (IsEndOrTop map.now ends.smaller ends.greater ends.rest)) }
     ensures goes_on { GoesOn W.Words w.old w.new result }
 {
     let Ends {
@@ -49,14 +45,14 @@ pub(crate) fn part_one<W: Words>(
     let at = map.arena.first + 4 * (rest - 1);
     let there = w.read(at)?;
     if there < key {
-        let right = hang(w, map, smaller, rest, at + 3)?;
+        let right = hang(w, smaller, rest, at + 3)?;
         return Ok(Ends {
             smaller: at + 3,
             greater,
             rest: right,
         });
     }
-    let left = hang(w, map, greater, rest, at + 2)?;
+    let left = hang(w, greater, rest, at + 2)?;
     Ok(Ends {
         smaller,
         greater: at + 2,
@@ -76,10 +72,8 @@ pub(crate) fn part<W: Words>(
     requires whole { InEachState W.Words W.Shape.Shape w.old (CanSplit map.now key block name) }
     ensures parted { IfOk result (λ ends.
         LeadsTo W.Words W.Shape.Shape w.old w.new (IsParted map.now key block name 0 ends.smaller ends.greater 0)) }
-    ensures smaller { IfOk result (λ ends. IsLink map.now ends.smaller) }
-    ensures greater { IfOk result (λ ends. IsLink map.now ends.greater) }
     ensures frame { OnOk result (WritesWithin W.Words W.Shape.Shape w.old w.new (IsSplitOwn map.now key block name)) }
-    ensures reads { OnOk result (AppendsReads (W.trace w.old) (W.trace w.new) (IsLink map.now)) }
+    ensures reads { OnOk result (ReadsWithin W.Words W.Shape.Shape w.old w.new (IsSplitSeen map.now key block name)) }
     ensures goes_on { GoesOn W.Words w.old w.new result }
 {
     let at = map.arena.first + 4 * u64::from(block);
@@ -109,7 +103,7 @@ pub(crate) fn split<W: Words>(
     requires whole { InEachState W.Words W.Shape.Shape w.old (CanSplit map.now key block name) }
     ensures split { OnOk result (LeadsTo W.Words W.Shape.Shape w.old w.new (Splits map.now key block name)) }
     ensures frame { OnOk result (WritesWithin W.Words W.Shape.Shape w.old w.new (IsSplitOwn map.now key block name)) }
-    ensures reads { OnOk result (AppendsReads (W.trace w.old) (W.trace w.new) (IsLink map.now)) }
+    ensures reads { OnOk result (ReadsWithin W.Words W.Shape.Shape w.old w.new (IsSplitSeen map.now key block name)) }
     ensures goes_on { GoesOn W.Words w.old w.new result }
 {
     let ends = part(w, map, key, block, name)?;

@@ -2,9 +2,9 @@
 
 ghost use Rattle.std.specs.Prelude.{◌≤◌, IfOk, IfSome, IfNone, OnOk};
 ghost use Rattle.txn_words.specs.Calls.{IsReady, GoesOn, ReadsWithin, WritesOnly, InEachState, LeadsTo};
-ghost use Rattle.txn_alloc.specs.Looks.{Looks};
+ghost use Rattle.txn_words.specs.Looks.{Looks};
 ghost use Rattle.txn_alloc.specs.EntryMaps.{HasMap, HasSmallSum, SumsRange, MayReadRange};
-ghost use Rattle.txn_tree_map.specs.Trees.{TreeHolds};
+ghost use Rattle.txn_tree_map.specs.Trees.{tree_part};
 ghost use Rattle.txn_tree_map.specs.Sums.{IsAnyWord, IsNext, HasNoneTo};
 
 use crate::first::first_at;
@@ -26,7 +26,7 @@ pub(crate) fn entry_from<W: Words>(
     high: u64,
 ) -> Result<Option<Entry>, Stop>
     requires ready { IsReady W.Words w.old }
-    requires order { InEachState W.Words W.Shape.Shape w.old (HasMap map.now.arena (TreeHolds map.now)) }
+    requires order { InEachState W.Words W.Shape.Shape w.old (HasMap (tree_part map.now)) }
     ensures next { IfOk result (λ answer. IfSome answer (λ entry.
         Looks (W.Shape.word_count (W.shape w.old)) (W.Shape.good (W.shape w.old)) (W.trace w.old) (W.trace w.new) IsAnyWord (IsNext map.now least entry.key entry.value))) }
     ensures none { IfOk result (λ answer. IfNone answer
@@ -34,7 +34,7 @@ pub(crate) fn entry_from<W: Words>(
     ensures low { IfOk result (λ answer. IfSome answer (λ entry. least ≤ entry.key)) }
     ensures high { IfOk result (λ answer. IfSome answer (λ entry. entry.key ≤ high)) }
     ensures reads { OnOk result (
-        ReadsWithin W.Words W.Shape.Shape w.old w.new (MayReadRange map.now.arena (TreeHolds map.now) least high)) }
+        ReadsWithin W.Words W.Shape.Shape w.old w.new (MayReadRange (tree_part map.now) least high)) }
     ensures goes_on { GoesOn W.Words w.old w.new result }
 {
     match first_at(w, map, least)? {
@@ -55,21 +55,21 @@ impl TreeMap {
     /// The sum of the values of the keys from `low` to `high`, both included: 0 where `low` is above `high`.
     pub fn sum_range<W: Words>(&self, w: &mut W, low: u64, high: u64) -> Result<u64, Stop>
         requires ready { IsReady W.Words w.old }
-        requires order { InEachState W.Words W.Shape.Shape w.old (HasMap self.now.arena (TreeHolds self.now)) }
-        requires small { InEachState W.Words W.Shape.Shape w.old (HasSmallSum self.now.arena (TreeHolds self.now)) }
+        requires order { InEachState W.Words W.Shape.Shape w.old (HasMap (tree_part self.now)) }
+        requires small { InEachState W.Words W.Shape.Shape w.old (HasSmallSum (tree_part self.now)) }
 
         // Nothing changes, and the answer is the sum.
         ensures sum { IfOk result (λ total.
-            LeadsTo W.Words W.Shape.Shape w.old w.new (SumsRange self.now.arena (TreeHolds self.now) low high total)) }
+            LeadsTo W.Words W.Shape.Shape w.old w.new (SumsRange (tree_part self.now) low high total)) }
         ensures order { OnOk result (
-            InEachState W.Words W.Shape.Shape w.new (HasMap self.now.arena (TreeHolds self.now))) }
+            InEachState W.Words W.Shape.Shape w.new (HasMap (tree_part self.now))) }
 
         // No word is written.
         ensures frame { OnOk result (WritesOnly W.Words w.old w.new (λ a. ⊥)) }
 
-        // The value of no other key is read.
+        // Of the map's own blocks keys and links are read, and the values of these keys.
         ensures reads { OnOk result (
-            ReadsWithin W.Words W.Shape.Shape w.old w.new (MayReadRange self.now.arena (TreeHolds self.now) low high)) }
+            ReadsWithin W.Words W.Shape.Shape w.old w.new (MayReadRange (tree_part self.now) low high)) }
         ensures goes_on { GoesOn W.Words w.old w.new result }
     {
         let mut total = 0;

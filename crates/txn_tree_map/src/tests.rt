@@ -12,11 +12,11 @@ struct TwoEntries;
 
 impl Shape for TwoEntries {
     ghost use Rattle.txn_alloc.specs.EntryMaps.{HasMapApart};
-    ghost use Rattle.txn_tree_map.specs.Trees.{TreeHolds};
+    ghost use Rattle.txn_tree_map.specs.Trees.{TreeHolds, tree_part};
 
     ghost word_count = { λ _. 285 };
 
-    ghost good = { λ _ words. HasMapApart (record { heads = 1; first = 277; blocks = 2 }) (TreeHolds (record { root = 0; arena = record { heads = 1; first = 277; blocks = 2 } })) words };
+    ghost good = { λ _ words. HasMapApart (tree_part (record { root = 0; arena = record { heads = 1; first = 277; blocks = 2 } })) words };
 }
 
 /// 285 words, which hold a map of at most two entries whose values have a sum of 64 bits.
@@ -25,11 +25,11 @@ struct SmallSum;
 
 impl Shape for SmallSum {
     ghost use Rattle.txn_alloc.specs.EntryMaps.{HasMap, HasSmallSum};
-    ghost use Rattle.txn_tree_map.specs.Trees.{TreeHolds};
+    ghost use Rattle.txn_tree_map.specs.Trees.{TreeHolds, tree_part};
 
     ghost word_count = { λ _. 285 };
 
-    ghost good = { λ _ words. HasMap (record { heads = 1; first = 277; blocks = 2 }) (TreeHolds (record { root = 0; arena = record { heads = 1; first = 277; blocks = 2 } })) words × HasSmallSum (record { heads = 1; first = 277; blocks = 2 }) (TreeHolds (record { root = 0; arena = record { heads = 1; first = 277; blocks = 2 } })) words };
+    ghost good = { λ _ words. HasMap (tree_part (record { root = 0; arena = record { heads = 1; first = 277; blocks = 2 } })) words × HasSmallSum (tree_part (record { root = 0; arena = record { heads = 1; first = 277; blocks = 2 } })) words };
 }
 
 /// The map of these words.

@@ -3,3 +3,4 @@ pub mod CallLaws
 pub mod Listed
 pub mod FrameLaws
 pub mod ReadLaws
+pub mod Looks

@@ -3,8 +3,8 @@ use Rattle.history_model.specs.Fitting.{SomeFits}
 use Rattle.history_model.proofs.FittingLaws.{some_at}
 use Rattle.txn_hash_map.specs.Searches.{IsPassed, IsFoundAt, IsMissing, IsLink}
 use Rattle.txn_hash_map.proofs.Steps.{bucket_fits, passed_none, passed_end, passed_more, passed_found, passed_all}
-use Rattle.txn_alloc.proofs.Looks.{looks_none, looks_read, looks_map}
-use Rattle.txn_hash_map.proofs.Looks.{looks_within, looks_names, looks_key, laid_block}
+use Rattle.txn_words.proofs.Looks.{looks_none, looks_map}
+use Rattle.txn_hash_map.proofs.Looks.{looks_within, looks_names, looks_name, looks_key, laid_block}
 use Rattle.txn_hash_map.proofs.Cells.{bucket_below}
 use Rattle.txn_hash_map.proofs.find.find.Goals as goal
 
@@ -22,8 +22,7 @@ loop-init g c =
       origin = refl;
       stop = c.requires.ready.going;
       sound = c.requires.ready.sound;
-      link = inl (record { low = omega arith; high = omega (arith, bucket_below c.args.key, c.bucket.ensures) });
-      looks = looks_none _ _ _ (IsLink m) _ (record { at = λ s fit. let o = c.requires.order.at s fit in passed_none m c.args.key _ o.entries o.used (m.buckets + c.bucket.result) (ap (λ b. m.buckets + b) c.bucket.ensures) o.holds });
+      looks = looks_none _ _ _ (IsLink m c.args.key) _ (record { at = λ s fit. let o = c.requires.order.at s fit in passed_none m c.args.key _ o.entries o.used (m.buckets + c.bucket.result) (ap (λ b. m.buckets + b) c.bucket.ensures) o.holds });
     }
 
 pub read-requires-clause-within : goal.read-requires-clause-within
@@ -31,7 +30,7 @@ read-requires-clause-within g c =
     let i = c.loop.invariant in
     let some : SomeFits (g.W.Shape.Shape.word_count (g.W.Words.shape c.args.w.now)) (g.W.Shape.Shape.good (g.W.Words.shape c.args.w.now)) (g.W.Words.trace c.loop.w) =
     some_at g.W.Shape.Shape.word_count g.W.Shape.Shape.good _ _ _ i.shape (g.met.W.Words.fits c.loop.w i.sound) in
-    let within : c.loop.place < g.W.Shape.Shape.word_count (g.W.Words.shape c.args.w.now) = looks_within _ _ _ (IsLink c.args.map.now) c.args.map.now c.args.key _ c.loop.place c.loop.counter i.looks some in
+    let within : c.loop.place < g.W.Shape.Shape.word_count (g.W.Words.shape c.args.w.now) = looks_within _ _ _ (IsLink c.args.map.now c.args.key) c.args.map.now c.args.key _ c.loop.place c.loop.counter i.looks some in
     omega (arith, within, ap g.W.Shape.Shape.word_count i.shape)
 
 pub prove-unreachable-requires : goal.prove-unreachable-requires
@@ -42,8 +41,8 @@ prove-unreachable-requires g c =
     some_at g.W.Shape.Shape.word_count g.W.Shape.Shape.good _ _ _ (c.in_ok-name.ensures.shape ∙ i.shape) (g.met.W.Words.fits c.read.new.self c.in_ok-name.ensures.sound) in
     let one_more : c.in_ok-name.name ≡ (c.in_ok-name.name - 1) + 1 = omega (arith, c.if-name-eq0.false) in
     let lt : c.in_ok-name.name - 1 < m.arena.blocks =
-    looks_names _ _ _ (IsLink m) m c.args.key _ c.loop.place c.loop.counter c.in_ok-name.name (c.in_ok-name.name - 1)
-    (looks_read _ _ _ (IsLink m) _ _ c.loop.place c.in_ok-name.name _ i.looks c.in_ok-name.ensures.value i.link) one_more some in
+    looks_names _ _ _ (IsLink m c.args.key) m c.args.key _ c.loop.place c.loop.counter c.in_ok-name.name (c.in_ok-name.name - 1)
+    (looks_name m c.args.key _ _ _ _ _ c.loop.place c.loop.counter c.in_ok-name.name i.looks c.in_ok-name.ensures.value) one_more some in
     omega (arith, lt)
 
 pub read-requires-in-loop-clause-within : goal.read-requires-in-loop-clause-within
@@ -60,8 +59,8 @@ pub returns-then-name-eq0-clause-missing : goal.returns-then-name-eq0-clause-mis
 returns-then-name-eq0-clause-missing g c =
     let m = c.args.map.now in
     let i = c.loop.invariant in
-    looks_map _ _ _ (IsLink m) _ _ (IsMissing m c.args.key) (λ s h. passed_end m c.args.key s c.loop.place c.loop.counter h.0 (h.1 ∙ ap (λ k. Some k) c.if-name-eq0.true))
-    (looks_read _ _ _ (IsLink m) _ _ c.loop.place c.in_ok-name.name _ i.looks c.in_ok-name.ensures.value i.link)
+    looks_map _ _ _ (IsLink m c.args.key) _ _ (IsMissing m c.args.key) (λ s h. passed_end m c.args.key s c.loop.place c.loop.counter h.0 (h.1 ∙ ap (λ k. Some k) c.if-name-eq0.true))
+    (looks_name m c.args.key _ _ _ _ _ c.loop.place c.loop.counter c.in_ok-name.name i.looks c.in_ok-name.ensures.value)
 
 pub returns-then-there-key-clause-found : goal.returns-then-there-key-clause-found
 returns-then-there-key-clause-found g c =
@@ -71,10 +70,10 @@ returns-then-there-key-clause-found g c =
     let one_more : c.in_ok-name.name ≡ b + 1 = omega (arith, c.if-name-eq0.false) in
     let lt : b < m.arena.blocks = omega arith in
     let is_block : m.arena.first + 4 * c.from-in-loop.result ≡ m.arena.first + 4 * b = omega arith in
-    looks_map _ _ _ (IsLink m) _ _ (IsFoundAt m c.args.key c.loop.place b)
+    looks_map _ _ _ (IsLink m c.args.key) _ _ (IsFoundAt m c.args.key c.loop.place b)
     (λ s h. passed_found m c.args.key s c.loop.place c.loop.counter b h.0 h.1 (h.2 ∙ ap (λ k. Some k) c.if-there-key.true))
-    (looks_key _ _ _ (IsLink m) m c.args.key _ _ _ c.loop.place c.loop.counter c.in_ok-name.name b _ c.in_ok-there.there i.looks c.in_ok-name.ensures.value c.in_ok-there.ensures.value
-    i.link (inr (b, lt, inl is_block)) one_more is_block)
+    (looks_key m c.args.key _ _ _ _ _ _ c.loop.place c.loop.counter c.in_ok-name.name b _ c.in_ok-there.there i.looks c.in_ok-name.ensures.value c.in_ok-there.ensures.value
+    one_more is_block)
 
 pub loop-preserved : goal.loop-preserved
 loop-preserved g c =
@@ -90,15 +89,14 @@ loop-preserved g c =
       origin = c.in_ok-there.ensures.origin ∙ c.in_ok-name.ensures.origin ∙ i.origin;
       stop = c.in_ok-there.ensures.stops;
       sound = c.in_ok-there.ensures.sound;
-      link = inr (b, lt, inr (sym is_next));
-      looks = looks_map _ _ _ (IsLink m) _ _ _
+      looks = looks_map _ _ _ (IsLink m c.args.key) _ _ _
           (λ s h. subst (λ q. IsPassed m c.args.key q (c.loop.counter + 1) s) is_next (passed_more m c.args.key s c.loop.place c.loop.counter b c.in_ok-there.there h.0 h.1 h.2 c.if-there-key.false))
-          (looks_key _ _ _ (IsLink m) m c.args.key _ _ _ c.loop.place c.loop.counter c.in_ok-name.name b _ c.in_ok-there.there i.looks c.in_ok-name.ensures.value c.in_ok-there.ensures.value
-          i.link (inr (b, lt, inl is_block)) one_more is_block);
+          (looks_key m c.args.key _ _ _ _ _ _ c.loop.place c.loop.counter c.in_ok-name.name b _ c.in_ok-there.there i.looks c.in_ok-name.ensures.value c.in_ok-there.ensures.value
+          one_more is_block);
     }
 
 pub returns-clause-missing : goal.returns-clause-missing
 returns-clause-missing g c =
     let m = c.args.map.now in
     let i = c.loop.invariant in
-    looks_map _ _ _ (IsLink m) _ _ (IsMissing m c.args.key) (λ s h. passed_all m c.args.key s c.loop.place c.loop.counter (omega (arith, c.loop-test.false)) h) i.looks
+    looks_map _ _ _ (IsLink m c.args.key) _ _ (IsMissing m c.args.key) (λ s h. passed_all m c.args.key s c.loop.place c.loop.counter (omega (arith, c.loop-test.false)) h) i.looks

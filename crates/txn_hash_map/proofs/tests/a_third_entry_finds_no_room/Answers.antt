@@ -1,8 +1,9 @@
 use Rattle.std.proofs.Common.{refl, ap}
 use Rattle.txn_words.specs.Plainly.{PlainView}
-use Rattle.txn_alloc.proofs.Traces.{each_fresh}
+use Rattle.history_model.proofs.FittingLaws.{each_fresh}
 use Rattle.txn_hash_map.specs.declared.tests.TwoEntries.{TwoEntries}
-use Rattle.txn_hash_map.specs.Chains.{IsInOrder}
+use Rattle.txn_alloc.specs.EntryMaps.{HasMapApart}
+use Rattle.txn_hash_map.specs.Chains.{chain_part}
 use Rattle.txn_hash_map.proofs.Lists.{small, linked}
 use Rattle.txn_hash_map.proofs.tests.a_third_entry_finds_no_room.Goals as goal
 
@@ -10,4 +11,4 @@ pub new-plain-requires : goal.new-plain-requires
 new-plain-requires g c = linked 285 c.in_ok-words.words.items refl (c.in_ok-words.ensures.items_if_clones_equal (λ y e. e))
 
 pub insert-requires-clause-order : goal.insert-requires-clause-order
-insert-requires-clause-order g c = record { at = (each_fresh 285 (IsInOrder small) _ (ap (λ (v : PlainView TwoEntries). v.trace) c.new-plain.ensures.view)).at }
+insert-requires-clause-order g c = record { at = (each_fresh 285 (HasMapApart (chain_part small)) _ (ap (λ (v : PlainView TwoEntries). v.trace) c.new-plain.ensures.view)).at }

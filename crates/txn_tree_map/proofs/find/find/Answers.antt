@@ -1,10 +1,10 @@
 use Rattle.std.proofs.Common.{◌≡◌, ◌+◌, ◌*◌, nat_lt, inl, refl, ◌∙◌, subst, arith, if◌then◌else◌}
 use Rattle.txn_alloc.specs.FreeLists.{block_at}
-use Rattle.txn_alloc.proofs.Looks.{looks_none, looks_map, looks_then, looks_each, looks_from}
-use Rattle.txn_tree_map.specs.Searches.{HasTop, IsPassed, IsNamed, IsEnd, IsFoundAt, IsMissing, IsLink}
+use Rattle.txn_words.proofs.Looks.{looks_none, looks_map, looks_grow, looks_each, looks_from}
+use Rattle.txn_tree_map.specs.Searches.{HasTop, IsPassed, IsNamed, IsEnd, IsFoundAt, IsMissing, IsLink, IsPlace, IsPlaceOrKey}
 use Rattle.txn_tree_map.proofs.Places.{at_tree}
 use Rattle.txn_tree_map.proofs.Descents.{passed_tree, passed_top, passed_end, passed_all, passed_found, passed_down}
-use Rattle.txn_tree_map.proofs.Searching.{link_down}
+use Rattle.txn_tree_map.proofs.Links.{passed_place, passed_near}
 use Rattle.txn_tree_map.proofs.find.find.Goals as goal
 
 pub loop-init : goal.loop-init
@@ -15,7 +15,6 @@ loop-init g c =
       origin = refl;
       stop = c.requires.ready.going;
       sound = c.requires.ready.sound;
-      link = inl refl;
       looks = looks_none _ _ _ (IsLink m) _ (record {
         at = λ s fit. let o = c.requires.order.at s fit in passed_tree m c.args.key 0 _ o.holds.tree (at_tree m _ o.entries o.used o.holds) (omega arith);
       });
@@ -33,7 +32,7 @@ returns-in-None-clause-missing g c =
     let i = c.loop.invariant in
     let end = rw c.in-None.is at c.in_ok-look.ensures.end in
     looks_map _ _ _ (IsLink m) _ _ (IsMissing m c.args.key) (λ s h. passed_end m c.args.key 0 s c.loop.place c.loop.counter h.0 h.1)
-    (looks_then _ _ _ (IsLink m) _ _ _ (IsEnd c.loop.place) i.looks (looks_from g.W.Words g.W.Shape.Shape c.args.w.now c.loop.w _ _ (IsLink m) _ i.shape end))
+    (looks_grow _ _ _ (IsLink m) _ _ (IsPlace c.loop.place) _ (IsEnd c.loop.place) (λ s p q. passed_place m c.args.key 0 s c.loop.place c.loop.counter p) i.looks (looks_from g.W.Words g.W.Shape.Shape c.args.w.now c.loop.w _ _ (IsPlace c.loop.place) _ i.shape end))
 
 pub returns-then-node-key-clause-found : goal.returns-then-node-key-clause-found
 returns-then-node-key-clause-found g c =
@@ -43,10 +42,7 @@ returns-then-node-key-clause-found g c =
     let named = rw c.in-Some.is at c.in_ok-look.ensures.named in
     looks_map _ _ _ (IsLink m) _ _ (IsFoundAt m c.args.key c.loop.place node.block)
     (λ s h. passed_found m c.args.key 0 s c.loop.place c.loop.counter node.block node.key h.0 h.1 c.if-node-key.true)
-    (looks_then _ _ _ (IsLink m) _ _ _ (IsNamed m c.loop.place node.block node.key) i.looks (looks_from g.W.Words g.W.Shape.Shape c.args.w.now c.loop.w _ _ (IsLink m) _ i.shape named))
-
-pub returns-then-node-key-clause-link : goal.returns-then-node-key-clause-link
-returns-then-node-key-clause-link g c = c.loop.invariant.link
+    (looks_grow _ _ _ (IsLink m) _ _ (IsPlaceOrKey m c.loop.place node.block) _ (IsNamed m c.loop.place node.block node.key) (λ s p q. passed_near m c.args.key 0 s c.loop.place c.loop.counter p node.block node.key q) i.looks (looks_from g.W.Words g.W.Shape.Shape c.args.w.now c.loop.w _ _ (IsPlaceOrKey m c.loop.place node.block) _ i.shape named))
 
 pub loop-preserved : goal.loop-preserved
 loop-preserved g c =
@@ -62,11 +58,10 @@ loop-preserved g c =
       origin = goes.origin ∙ i.origin;
       stop = goes.stops;
       sound = goes.sound;
-      link = subst (λ a. IsLink m a) next (link_down m node.block (nat_lt c.args.key node.key) below);
       looks = looks_map _ _ _ (IsLink m) _ _ _
           (λ s h. subst (λ a. IsPassed m c.args.key 0 a (c.loop.counter + 1) s) next
           (passed_down m c.args.key 0 s c.loop.place c.loop.counter node.block node.key h.0 h.1 c.if-node-key.false (omega arith)))
-          (looks_then _ _ _ (IsLink m) _ _ _ (IsNamed m c.loop.place node.block node.key) i.looks (looks_from g.W.Words g.W.Shape.Shape c.args.w.now c.loop.w _ _ (IsLink m) _ i.shape named));
+          (looks_grow _ _ _ (IsLink m) _ _ (IsPlaceOrKey m c.loop.place node.block) _ (IsNamed m c.loop.place node.block node.key) (λ s p q. passed_near m c.args.key 0 s c.loop.place c.loop.counter p node.block node.key q) i.looks (looks_from g.W.Words g.W.Shape.Shape c.args.w.now c.loop.w _ _ (IsPlaceOrKey m c.loop.place node.block) _ i.shape named));
     }
 
 pub returns-clause-missing : goal.returns-clause-missing

@@ -1,5 +1,5 @@
 use Rattle.std.proofs.Common.{◌≡◌, None}
-use Rattle.txn_alloc.specs.Looks.{Looks}
+use Rattle.txn_words.specs.Looks.{Looks}
 use Rattle.txn_tree_map.specs.Searches.{IsPassed, IsLink}
 use Rattle.txn_tree_map.proofs.find.find.Given as goal
 
@@ -11,6 +11,5 @@ invariant-loop g l =
       origin : words.origin l.w ≡ words.origin l.fn.w;
       stop : words.stop l.w ≡ None;
       sound : words.is_sound l.w;
-      link : IsLink l.map l.place;
       looks : Looks (g.W.Shape.Shape.word_count (words.shape l.fn.w)) (g.W.Shape.Shape.good (words.shape l.fn.w)) (words.trace l.fn.w) (words.trace l.w) (IsLink l.map) (IsPassed l.map l.key 0 l.place l.counter);
     }

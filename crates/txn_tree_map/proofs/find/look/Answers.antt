@@ -3,8 +3,8 @@ use Rattle.history_model.specs.Fitting.{SomeFits}
 use Rattle.history_model.proofs.FittingLaws.{some_at}
 use Rattle.txn_words.proofs.CallLaws.{each_plain}
 use Rattle.txn_alloc.specs.FreeLists.{block_at}
-use Rattle.txn_alloc.proofs.Looks.{looks_one, looks_map, looks_read, looks_still}
-use Rattle.txn_tree_map.specs.Searches.{HasTop, IsLink, IsNamed, IsEnd}
+use Rattle.txn_words.proofs.Looks.{looks_at, looks_map, looks_read, looks_still, looks_wider}
+use Rattle.txn_tree_map.specs.Searches.{HasTop, IsPlace, IsPlaceOrKey, IsNamed, IsEnd}
 use Rattle.txn_tree_map.proofs.Searching.{laid_block, top_within, top_below}
 use Rattle.txn_tree_map.proofs.find.look.Goals as goal
 
@@ -14,7 +14,7 @@ read-requires-clause-within g c = top_within c.args.map.now _ _ _ (g.met.W.Words
 pub returns-then-name-eq0-clause-end : goal.returns-then-name-eq0-clause-end
 returns-then-name-eq0-clause-end g c =
     let m = c.args.map.now in
-    looks_map _ _ _ (IsLink m) _ _ (IsEnd c.args.place) (λ s h. h ∙ ap (λ k. Some k) c.if-name-eq0.true) (looks_one _ _ _ (IsLink m) _ c.args.place c.in_ok-name.name c.in_ok-name.ensures.value c.requires.link)
+    looks_map _ _ _ (IsPlace c.args.place) _ _ (IsEnd c.args.place) (λ s h. h ∙ ap (λ k. Some k) c.if-name-eq0.true) (looks_at _ _ _ _ c.args.place c.in_ok-name.name c.in_ok-name.ensures.value)
 
 pub prove-unreachable-requires : goal.prove-unreachable-requires
 prove-unreachable-requires g c =
@@ -22,8 +22,8 @@ prove-unreachable-requires g c =
     let name = c.in_ok-name.name in
     let some : SomeFits (g.W.Shape.Shape.word_count (g.W.Words.shape c.args.w.now)) (g.W.Shape.Shape.good (g.W.Words.shape c.args.w.now)) (g.W.Words.trace c.read.new.self) =
     some_at g.W.Shape.Shape.word_count g.W.Shape.Shape.good _ _ _ c.in_ok-name.ensures.shape (g.met.W.Words.fits c.read.new.self c.in_ok-name.ensures.sound) in
-    let seen = looks_still _ _ _ (IsLink m) _ (λ s. slice_get s c.args.place ≡ Some name) (HasTop m c.args.place) (each_plain g.W.Words g.W.Shape.Shape _ _ c.requires.top)
-    (looks_one _ _ _ (IsLink m) _ c.args.place name c.in_ok-name.ensures.value c.requires.link) in
+    let seen = looks_still _ _ _ (IsPlace c.args.place) _ (λ s. slice_get s c.args.place ≡ Some name) (HasTop m c.args.place) (each_plain g.W.Words g.W.Shape.Shape _ _ c.requires.top)
+    (looks_at _ _ _ _ c.args.place name c.in_ok-name.ensures.value) in
     let one_more : name ≡ (name - 1) + 1 = omega (arith, c.if-name-eq0.false) in
     let lt : name - 1 < m.arena.blocks = top_below m _ _ _ some c.args.place (name - 1) (record { at = λ s fit. ((seen.holds s fit).0, (seen.holds s fit).1 ∙ ap (λ k. Some k) one_more) }) in
     omega (arith, lt)
@@ -42,5 +42,6 @@ returns-clause-named g c =
     let one_more : c.in_ok-name.name ≡ b + 1 = omega (arith, c.if-name-eq0.false) in
     let lt : b < m.arena.blocks = omega arith in
     let is_block : m.arena.first + 4 * c.from-2.result ≡ block_at m.arena b = omega arith in
-    looks_map _ _ _ (IsLink m) _ _ (IsNamed m c.args.place b c.in_ok-key.key) (λ s h. (h.0 ∙ ap (λ k. Some k) one_more, ap (λ a. slice_get s a) (sym is_block) ∙ h.1))
-    (looks_read _ _ _ (IsLink m) _ _ _ c.in_ok-key.key _ (looks_one _ _ _ (IsLink m) _ c.args.place c.in_ok-name.name c.in_ok-name.ensures.value c.requires.link) c.in_ok-key.ensures.value (inr (b, lt, inl is_block)))
+    looks_map _ _ _ (IsPlaceOrKey m c.args.place b) _ _ (IsNamed m c.args.place b c.in_ok-key.key) (λ s h. (h.0 ∙ ap (λ k. Some k) one_more, ap (λ a. slice_get s a) (sym is_block) ∙ h.1))
+    (looks_read _ _ _ (IsPlaceOrKey m c.args.place b) _ _ _ c.in_ok-key.key _
+    (looks_wider _ _ _ _ (IsPlace c.args.place) (IsPlaceOrKey m c.args.place b) _ (λ s p a k. inl k) (looks_at _ _ _ _ c.args.place c.in_ok-name.name c.in_ok-name.ensures.value)) c.in_ok-key.ensures.value (λ s p. inr is_block))

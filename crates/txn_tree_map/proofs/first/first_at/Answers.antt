@@ -1,11 +1,11 @@
 use Rattle.std.proofs.Common.{◌≡◌, ◌+◌, ◌*◌, nat_le, inl, refl, sym, ◌∙◌, subst, arith, if◌then◌else◌}
 use Rattle.txn_alloc.specs.FreeLists.{block_at}
-use Rattle.txn_alloc.proofs.Looks.{looks_none, looks_map, looks_then, looks_each, looks_from}
-use Rattle.txn_tree_map.specs.Searches.{HasTop, IsNamed, IsEnd, IsLink}
+use Rattle.txn_words.proofs.Looks.{looks_none, looks_map, looks_grow, looks_each, looks_from}
+use Rattle.txn_tree_map.specs.Searches.{HasTop, IsNamed, IsEnd, IsLink, IsPlace, IsPlaceOrKey}
 use Rattle.txn_tree_map.specs.Sums.{IsNear, IsNearest}
 use Rattle.txn_tree_map.proofs.Places.{at_tree}
 use Rattle.txn_tree_map.proofs.Nearest.{near_none, near_top, near_end, near_all, near_down}
-use Rattle.txn_tree_map.proofs.Searching.{link_down}
+use Rattle.txn_tree_map.proofs.Links.{near_place, near_near}
 use Rattle.txn_tree_map.proofs.first.first_at.Goals as goal
 
 pub loop-init : goal.loop-init
@@ -16,7 +16,6 @@ loop-init g c =
       origin = refl;
       stop = c.requires.ready.going;
       sound = c.requires.ready.sound;
-      link = inl refl;
       looks = looks_none _ _ _ (IsLink m) _ (record { at = λ s fit. let o = c.requires.order.at s fit in near_none m c.args.least _ o.holds.tree (at_tree m _ o.entries o.used o.holds) });
     }
 
@@ -32,7 +31,7 @@ returns-in-None-clause-nearest g c =
     let i = c.loop.invariant in
     let end = rw c.in-None.is at c.in_ok-look.ensures.end in
     looks_map _ _ _ (IsLink m) _ _ (IsNearest m c.args.least c.loop.best) (λ s h. near_end m c.args.least s c.loop.best c.loop.place c.loop.counter h.0 h.1)
-    (looks_then _ _ _ (IsLink m) _ _ _ (IsEnd c.loop.place) i.looks (looks_from g.W.Words g.W.Shape.Shape c.args.w.now c.loop.w _ _ (IsLink m) _ i.shape end))
+    (looks_grow _ _ _ (IsLink m) _ _ (IsPlace c.loop.place) _ (IsEnd c.loop.place) (λ s p q. near_place m c.args.least s c.loop.best c.loop.place c.loop.counter p) i.looks (looks_from g.W.Words g.W.Shape.Shape c.args.w.now c.loop.w _ _ (IsPlace c.loop.place) _ i.shape end))
 
 pub loop-preserved : goal.loop-preserved
 loop-preserved g c =
@@ -49,12 +48,11 @@ loop-preserved g c =
       origin = goes.origin ∙ i.origin;
       stop = goes.stops;
       sound = goes.sound;
-      link = subst (λ a. IsLink m a) next (link_down m node.block (nat_le least node.key) below);
       looks = looks_map _ _ _ (IsLink m) _ _ _
           (λ s h. subst (λ a. IsNear m least c.better-best.result a (c.loop.counter + 1) s) next
           (subst (λ o. IsNear m least o (block_at m.arena node.block + (if nat_le least node.key then 2 else 3)) (c.loop.counter + 1) s) (sym c.better-best.ensures)
           (near_down m least s c.loop.best c.loop.place c.loop.counter node.block node.key h.0 h.1)))
-          (looks_then _ _ _ (IsLink m) _ _ _ (IsNamed m c.loop.place node.block node.key) i.looks (looks_from g.W.Words g.W.Shape.Shape c.args.w.now c.loop.w _ _ (IsLink m) _ i.shape named));
+          (looks_grow _ _ _ (IsLink m) _ _ (IsPlaceOrKey m c.loop.place node.block) _ (IsNamed m c.loop.place node.block node.key) (λ s p q. near_near m least s c.loop.best c.loop.place c.loop.counter p node.block node.key q) i.looks (looks_from g.W.Words g.W.Shape.Shape c.args.w.now c.loop.w _ _ (IsPlaceOrKey m c.loop.place node.block) _ i.shape named));
     }
 
 pub returns-clause-nearest : goal.returns-clause-nearest

@@ -1,5 +1,5 @@
 use Rattle.std.proofs.Common.{◌≡◌, None}
-use Rattle.txn_alloc.specs.Looks.{Looks}
+use Rattle.txn_words.specs.Looks.{Looks}
 use Rattle.txn_tree_map.specs.Searches.{IsLink}
 use Rattle.txn_tree_map.specs.Sums.{IsNear}
 use Rattle.txn_tree_map.proofs.first.first_at.Given as goal
@@ -12,6 +12,5 @@ invariant-loop g l =
       origin : words.origin l.w ≡ words.origin l.fn.w;
       stop : words.stop l.w ≡ None;
       sound : words.is_sound l.w;
-      link : IsLink l.map l.place;
       looks : Looks (g.W.Shape.Shape.word_count (words.shape l.fn.w)) (g.W.Shape.Shape.good (words.shape l.fn.w)) (words.trace l.fn.w) (words.trace l.w) (IsLink l.map) (IsNear l.map l.least l.best l.place l.counter);
     }

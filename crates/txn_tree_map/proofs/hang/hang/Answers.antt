@@ -1,8 +1,7 @@
-use Rattle.std.proofs.Common.{◌≡◌, ℕ, refl, ap, arith}
+use Rattle.std.proofs.Common.{◌≡◌, ℕ, ◌⊎◌, inl, inr, refl, ap, arith}
 use Rattle.txn_words.proofs.CallLaws.{each_plain}
 use Rattle.txn_words.proofs.FrameLaws.{only_read, only_write, only_then}
 use Rattle.txn_words.proofs.ReadLaws.{sees_read, sees_write, sees_then}
-use Rattle.txn_tree_map.specs.Searches.{IsLink}
 use Rattle.txn_tree_map.proofs.Splitting.{are_within, hangs_leads}
 use Rattle.txn_tree_map.proofs.hang.hang.Goals as goal
 
@@ -25,5 +24,5 @@ returns-clause-frame g c =
 
 pub returns-clause-reads : goal.returns-clause-reads
 returns-clause-reads g c =
-    let seen = IsLink c.args.map.now in
-    sees_then seen _ _ _ (sees_read seen _ _ _ _ c.in_ok-rest.ensures.value c.requires.inner_link) (sees_write seen _ _ _ _ c.in_ok-write.ensures.value c.requires.hole_link)
+    let seen : ℕ → Type 0 = λ a. (a ≡ c.args.hole) ⊎ (a ≡ c.args.inner) in
+    sees_then seen _ _ _ (sees_read seen _ _ _ _ c.in_ok-rest.ensures.value (inr refl)) (sees_write seen _ _ _ _ c.in_ok-write.ensures.value (inl refl))

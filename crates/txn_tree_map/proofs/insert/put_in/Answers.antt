@@ -3,9 +3,9 @@ use Rattle.history_model.specs.Fitting.{SomeFits}
 use Rattle.history_model.proofs.FittingLaws.{some_at}
 use Rattle.txn_words.proofs.CallLaws.{each_plain}
 use Rattle.txn_alloc.specs.FreeLists.{block_at}
-use Rattle.txn_alloc.proofs.Looks.{each_from, leads_from, within_from}
+use Rattle.txn_words.proofs.Looks.{each_from, leads_from, within_from, reads_from}
 use Rattle.txn_tree_map.proofs.Searching.{laid_block}
-use Rattle.txn_tree_map.proofs.Putting.{seat_within, can_split, put_leads, put_own, put_reads}
+use Rattle.txn_tree_map.proofs.Putting.{seat_within, can_split, put_leads, put_own, put_seen}
 use Rattle.txn_tree_map.proofs.insert.put_in.Goals as goal
 
 pub find_seat-requires-clause-missing : goal.find_seat-requires-clause-missing
@@ -79,7 +79,10 @@ returns-clause-reads g c =
     let seat = c.in_ok-seat.seat in
     let is_block : m.arena.first + 4 * c.from.result ≡ block_at m.arena c.args.block = omega (arith, c.from.ensures) in
     let is_name : c.from-2.result + 1 ≡ c.args.block + 1 = omega (arith, c.from-2.ensures) in
-    put_reads m c.args.key c.args.value c.args.block seat.place seat.name _ _ _ _ c.in_ok-seat.ensures.seat (each_plain g.W.Words g.W.Shape.Shape _ _ c.requires.missing)
-    (m.arena.first + 4 * c.from.result) (c.from-2.result + 1) _ _ is_block c.in_ok-write.ensures.value c.in_ok-write-2.ensures.value _ _ c.in_ok-split.ensures.goes_on.begins
-    (leads_from g.W.Words g.W.Shape.Shape c.args.w.now c.write-2.new.self c.split.new.w _ (c.in_ok-write-2.ensures.shape ∙ c.in_ok-write.ensures.shape ∙ c.in_ok-seat.ensures.goes_on.shape) c.in_ok-split.ensures.split)
-    is_name c.in_ok-write-3.ensures.value c.in_ok-split.ensures.reads c.in_ok-seat.ensures.link
+    let same = c.in_ok-write-2.ensures.shape ∙ c.in_ok-write.ensures.shape ∙ c.in_ok-seat.ensures.goes_on.shape in
+    record {
+      at = put_seen m c.args.key c.args.value c.args.block seat.place seat.name _ _ _ _ c.in_ok-seat.ensures.seat (each_plain g.W.Words g.W.Shape.Shape _ _ c.requires.missing)
+          (m.arena.first + 4 * c.from.result) (c.from-2.result + 1) _ _ is_block c.in_ok-write.ensures.value c.in_ok-write-2.ensures.value _ _ c.in_ok-split.ensures.goes_on.begins
+          (leads_from g.W.Words g.W.Shape.Shape c.args.w.now c.write-2.new.self c.split.new.w _ same c.in_ok-split.ensures.split) is_name c.in_ok-write-3.ensures.value
+          (reads_from g.W.Words g.W.Shape.Shape c.args.w.now c.write-2.new.self c.split.new.w _ same c.in_ok-split.ensures.reads);
+    }

@@ -1,12 +1,11 @@
 use Rattle.std.proofs.Common.{refl, ◌∙◌, arith}
 use Rattle.history_model.proofs.TraceLaws.{begins_refl, begins_trans}
 use Rattle.txn_words.proofs.FrameLaws.{only_same}
-use Rattle.txn_words.proofs.ReadLaws.{sees_same, sees_then}
-use Rattle.txn_alloc.proofs.Looks.{each_from, leads_from}
-use Rattle.txn_tree_map.specs.Searches.{IsLink}
+use Rattle.txn_words.proofs.ReadLaws.{sees_same}
+use Rattle.txn_words.proofs.Looks.{each_from, leads_from}
 use Rattle.txn_tree_map.specs.Joins.{CanGoOn}
 use Rattle.txn_tree_map.proofs.Joinings.{joined_none, gathered_no_left, gathered_no_right, gathered_all}
-use Rattle.txn_tree_map.proofs.Joining.{joined_more, gap_own_more}
+use Rattle.txn_tree_map.proofs.Joining.{joined_more, gap_own_more, gap_seen_more}
 use Rattle.txn_tree_map.proofs.join.gather.Goals as goal
 
 pub loop-init : goal.loop-init
@@ -18,8 +17,7 @@ loop-init g c =
       stop = c.requires.ready.going;
       sound = c.requires.ready.sound;
       begins = begins_refl _;
-      place = c.requires.link;
-      reads = sees_same (IsLink m) _;
+      reads = λ s fit. sees_same _ _;
       own = λ s fit. only_same _ _;
       joined = λ s fit. let k = c.requires.pair.at s fit in joined_none m c.args.hole c.args.left c.args.right k.first k.second _ k.pair;
     }
@@ -45,8 +43,7 @@ loop-preserved g c =
       stop = one.goes_on.stops;
       sound = one.goes_on.sound;
       begins = begins_trans _ _ _ i.begins one.goes_on.begins;
-      place = one.place;
-      reads = sees_then (IsLink m) _ _ _ i.reads one.reads;
+      reads = gap_seen_more m c.args.hole c.args.left c.args.right _ _ _ _ _ c.loop.counter p.place p.left p.right one.goes_on.begins i.joined i.reads one.reads;
       own = gap_own_more m c.args.hole c.args.left c.args.right _ _ _ _ _ c.loop.counter p.place p.left p.right one.goes_on.begins i.joined i.own one.frame.appended;
       joined = joined_more m c.args.hole c.args.left c.args.right _ _ _ _ _ c.loop.counter p.place p.left p.right q.place q.left q.right one.goes_on.begins i.joined
           (leads_from g.W.Words g.W.Shape.Shape c.args.w.now c.loop.w c.join_one.new.w _ i.shape one.joined);
@@ -78,3 +75,12 @@ returns-then-gap-eq0-2-clause-frame g c = record { at = c.loop.invariant.own }
 
 pub returns-clause-frame : goal.returns-clause-frame
 returns-clause-frame g c = record { at = c.loop.invariant.own }
+
+pub returns-then-gap-eq0-clause-reads : goal.returns-then-gap-eq0-clause-reads
+returns-then-gap-eq0-clause-reads g c = record { at = c.loop.invariant.reads }
+
+pub returns-then-gap-eq0-2-clause-reads : goal.returns-then-gap-eq0-2-clause-reads
+returns-then-gap-eq0-2-clause-reads g c = record { at = c.loop.invariant.reads }
+
+pub returns-clause-reads : goal.returns-clause-reads
+returns-clause-reads g c = record { at = c.loop.invariant.reads }

@@ -2,9 +2,7 @@ use Rattle.std.proofs.Common.{ap, arith}
 use Rattle.history_model.specs.Fitting.{SomeFits}
 use Rattle.history_model.proofs.FittingLaws.{some_at}
 use Rattle.txn_words.proofs.CallLaws.{leads_plain}
-use Rattle.txn_words.proofs.ReadLaws.{sees_write, sees_then}
-use Rattle.txn_tree_map.specs.Searches.{IsLink}
-use Rattle.txn_tree_map.proofs.Joining.{last_within, joins_leads, joins_own}
+use Rattle.txn_tree_map.proofs.Joining.{last_within, joins_leads, joins_own, joins_seen}
 use Rattle.txn_tree_map.proofs.join.join.Goals as goal
 
 pub write-requires-clause-within : goal.write-requires-clause-within
@@ -30,6 +28,7 @@ returns-clause-frame g c =
 
 pub returns-clause-reads : goal.returns-clause-reads
 returns-clause-reads g c =
-    let seen = IsLink c.args.map.now in
-    let one = c.in_ok-last.ensures in
-    sees_then seen _ _ _ one.reads (sees_write seen _ _ _ _ c.in_ok-write.ensures.value one.place)
+    let p = c.in_ok-last.last in
+    record {
+      at = joins_seen c.args.map.now c.args.hole c.args.left c.args.right _ _ _ _ p.place p.name (leads_plain g.W.Words g.W.Shape.Shape _ _ _ c.in_ok-last.ensures.gathered) _ c.in_ok-write.ensures.value c.in_ok-last.ensures.reads.at;
+    }

@@ -1,11 +1,12 @@
 use Rattle.std.proofs.Common.{◌≡◌, ℕ, ◌+◌, ◌-◌, ◌<◌, ◌⊎◌, inl, inr, refl, ap, ◌∙◌, arith}
 use Rattle.txn_words.proofs.CallLaws.{each_plain}
 use Rattle.txn_words.proofs.FrameLaws.{only_read, only_then}
-use Rattle.txn_words.proofs.ReadLaws.{sees_read, sees_then}
+use Rattle.txn_words.proofs.ReadLaws.{sees_read, sees_then, sees_more}
 use Rattle.txn_alloc.specs.FreeLists.{block_at}
-use Rattle.txn_alloc.proofs.Looks.{looks_one, looks_read, each_looked, each_from, leads_from}
-use Rattle.txn_tree_map.specs.Searches.{IsLink}
-use Rattle.txn_tree_map.specs.Joins.{CanGoOn}
+use Rattle.txn_words.proofs.Looks.{looks_at, looks_read, looks_wider, each_looked, each_from, leads_from}
+use Rattle.txn_tree_map.specs.Searches.{IsPlace}
+use Rattle.txn_tree_map.specs.Sums.{IsAnyWord}
+use Rattle.txn_tree_map.specs.Joins.{CanGoOn, IsPlaceOrTop}
 use Rattle.txn_tree_map.proofs.Searching.{laid_block}
 use Rattle.txn_tree_map.proofs.Joinings.{joined_laid}
 use Rattle.txn_tree_map.proofs.Joining.{can_go_on_within, can_go_on_below, joins_left, joins_right}
@@ -54,42 +55,13 @@ read-requires-2-clause-within g c =
     (record { at = λ s fit. let h = c.requires.joined.at s fit in joined_laid m h.hole h.left h.right h.turns p.place p.left p.right h.start _ h.joined }) lt in
     omega (arith, in_list.0, ap g.W.Shape.Shape.word_count c.in_ok-left_key.ensures.shape)
 
-pub hang-requires-clause-inner_link : goal.hang-requires-clause-inner_link
-hang-requires-clause-inner_link g c =
-    let m = c.args.map.now in
-    let p = c.args.gap in
-    let lt : p.left - 1 < m.arena.blocks = omega arith in
-    inr (p.left - 1, lt, inr (inr refl))
-
-pub hang-requires-2-clause-inner_link : goal.hang-requires-2-clause-inner_link
-hang-requires-2-clause-inner_link g c =
-    let m = c.args.map.now in
-    let p = c.args.gap in
-    let lt : p.right - 1 < m.arena.blocks = omega arith in
-    inr (p.right - 1, lt, inr (inl refl))
-
-pub returns-then-priority-clause-place : goal.returns-then-priority-clause-place
-returns-then-priority-clause-place g c =
-    let m = c.args.map.now in
-    let p = c.args.gap in
-    let lt : p.left - 1 < m.arena.blocks = omega arith in
-    inr (p.left - 1, lt, inr (inr refl))
-
-pub returns-clause-place : goal.returns-clause-place
-returns-clause-place g c =
-    let m = c.args.map.now in
-    let p = c.args.gap in
-    let lt : p.right - 1 < m.arena.blocks = omega arith in
-    inr (p.right - 1, lt, inr (inl refl))
-
 pub hang-requires-clause-within : goal.hang-requires-clause-within
 hang-requires-clause-within g c =
     let m = c.args.map.now in
     let p = c.args.gap in
     let lt : p.left - 1 < m.arena.blocks = omega arith in
-    let seen : ℕ → Type 0 = λ a. (a ≡ block_at m.arena (p.left - 1)) ⊎ (a ≡ block_at m.arena (p.right - 1)) in
-    let look = looks_read _ _ _ seen _ _ (block_at m.arena (p.right - 1)) c.in_ok-right_key.right_key _
-    (looks_one _ _ _ seen _ (block_at m.arena (p.left - 1)) c.in_ok-left_key.left_key c.in_ok-left_key.ensures.value (inl refl)) c.in_ok-right_key.ensures.value (inr refl) in
+    let look = looks_read _ _ _ IsAnyWord _ _ (block_at m.arena (p.right - 1)) c.in_ok-right_key.right_key _
+    (looks_wider _ _ _ _ (IsPlace (block_at m.arena (p.left - 1))) IsAnyWord _ (λ z q a e. tt) (looks_at _ _ _ _ (block_at m.arena (p.left - 1)) c.in_ok-left_key.left_key c.in_ok-left_key.ensures.value)) c.in_ok-right_key.ensures.value (λ z q. tt) in
     let can = each_looked _ _ _ _ look (CanGoOn m p.place p.left p.right) (each_plain g.W.Words g.W.Shape.Shape _ _ c.requires.joined) in
     each_from g.W.Words g.W.Shape.Shape c.args.w.now c.read-2.new.self _ (c.in_ok-right_key.ensures.shape ∙ c.in_ok-left_key.ensures.shape)
     (record {
@@ -103,9 +75,8 @@ hang-requires-2-clause-within g c =
     let m = c.args.map.now in
     let p = c.args.gap in
     let lt : p.right - 1 < m.arena.blocks = omega arith in
-    let seen : ℕ → Type 0 = λ a. (a ≡ block_at m.arena (p.left - 1)) ⊎ (a ≡ block_at m.arena (p.right - 1)) in
-    let look = looks_read _ _ _ seen _ _ (block_at m.arena (p.right - 1)) c.in_ok-right_key.right_key _
-    (looks_one _ _ _ seen _ (block_at m.arena (p.left - 1)) c.in_ok-left_key.left_key c.in_ok-left_key.ensures.value (inl refl)) c.in_ok-right_key.ensures.value (inr refl) in
+    let look = looks_read _ _ _ IsAnyWord _ _ (block_at m.arena (p.right - 1)) c.in_ok-right_key.right_key _
+    (looks_wider _ _ _ _ (IsPlace (block_at m.arena (p.left - 1))) IsAnyWord _ (λ z q a e. tt) (looks_at _ _ _ _ (block_at m.arena (p.left - 1)) c.in_ok-left_key.left_key c.in_ok-left_key.ensures.value)) c.in_ok-right_key.ensures.value (λ z q. tt) in
     let can = each_looked _ _ _ _ look (CanGoOn m p.place p.left p.right) (each_plain g.W.Words g.W.Shape.Shape _ _ c.requires.joined) in
     each_from g.W.Words g.W.Shape.Shape c.args.w.now c.read-2.new.self _ (c.in_ok-right_key.ensures.shape ∙ c.in_ok-left_key.ensures.shape)
     (record {
@@ -156,16 +127,20 @@ pub returns-then-priority-clause-reads : goal.returns-then-priority-clause-reads
 returns-then-priority-clause-reads g c =
     let m = c.args.map.now in
     let p = c.args.gap in
-    let left_lt : p.left - 1 < m.arena.blocks = omega arith in
-    let right_lt : p.right - 1 < m.arena.blocks = omega arith in
-    sees_then (IsLink m) _ _ _ (sees_read (IsLink m) _ _ _ _ c.in_ok-left_key.ensures.value (inr (p.left - 1, left_lt, inl refl)))
-    (sees_then (IsLink m) _ _ _ (sees_read (IsLink m) _ _ _ _ c.in_ok-right_key.ensures.value (inr (p.right - 1, right_lt, inl refl))) c.in_ok-inner.ensures.reads)
+    let seen = IsPlaceOrTop m p.place p.left p.right in
+    let left_is : p.left ≡ (p.left - 1) + 1 = omega (arith, c.requires.left) in
+    let right_is : p.right ≡ (p.right - 1) + 1 = omega (arith, c.requires.right) in
+    sees_then seen _ _ _ (sees_read seen _ _ _ _ c.in_ok-left_key.ensures.value (inr (p.left - 1, inl left_is, inl refl)))
+    (sees_then seen _ _ _ (sees_read seen _ _ _ _ c.in_ok-right_key.ensures.value (inr (p.right - 1, inr right_is, inl refl)))
+    (sees_more (λ a. (a ≡ p.place) ⊎ (a ≡ block_at m.arena (p.left - 1) + 3)) seen _ _ (λ a k. elim k [ inl z ↦ inl z | inr z ↦ inr (p.left - 1, inl left_is, inr (inr z)) ]) c.in_ok-inner.ensures.reads))
 
 pub returns-clause-reads : goal.returns-clause-reads
 returns-clause-reads g c =
     let m = c.args.map.now in
     let p = c.args.gap in
-    let left_lt : p.left - 1 < m.arena.blocks = omega arith in
-    let right_lt : p.right - 1 < m.arena.blocks = omega arith in
-    sees_then (IsLink m) _ _ _ (sees_read (IsLink m) _ _ _ _ c.in_ok-left_key.ensures.value (inr (p.left - 1, left_lt, inl refl)))
-    (sees_then (IsLink m) _ _ _ (sees_read (IsLink m) _ _ _ _ c.in_ok-right_key.ensures.value (inr (p.right - 1, right_lt, inl refl))) c.in_ok-inner-2.ensures.reads)
+    let seen = IsPlaceOrTop m p.place p.left p.right in
+    let left_is : p.left ≡ (p.left - 1) + 1 = omega (arith, c.requires.left) in
+    let right_is : p.right ≡ (p.right - 1) + 1 = omega (arith, c.requires.right) in
+    sees_then seen _ _ _ (sees_read seen _ _ _ _ c.in_ok-left_key.ensures.value (inr (p.left - 1, inl left_is, inl refl)))
+    (sees_then seen _ _ _ (sees_read seen _ _ _ _ c.in_ok-right_key.ensures.value (inr (p.right - 1, inr right_is, inl refl)))
+    (sees_more (λ a. (a ≡ p.place) ⊎ (a ≡ block_at m.arena (p.right - 1) + 2)) seen _ _ (λ a k. elim k [ inl z ↦ inl z | inr z ↦ inr (p.right - 1, inr right_is, inr (inl z)) ]) c.in_ok-inner-2.ensures.reads))

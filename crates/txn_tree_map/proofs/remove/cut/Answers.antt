@@ -1,9 +1,9 @@
 use Rattle.std.proofs.Common.{◌≡◌, ◌+◌, ◌*◌, ap, ◌∙◌, arith}
 use Rattle.txn_words.proofs.CallLaws.{each_plain}
 use Rattle.txn_alloc.specs.FreeLists.{block_at}
-use Rattle.txn_alloc.proofs.Looks.{each_from, leads_from, within_from}
+use Rattle.txn_words.proofs.Looks.{each_from, leads_from, within_from, reads_from}
 use Rattle.txn_tree_map.proofs.Searching.{laid_block}
-use Rattle.txn_tree_map.proofs.Removing.{can_join, cuts_leads, cuts_own, cuts_reads}
+use Rattle.txn_tree_map.proofs.Removing.{can_join, cuts_leads, cuts_own, cuts_seen}
 use Rattle.txn_tree_map.proofs.remove.cut.Goals as goal
 
 pub read-requires-clause-within : goal.read-requires-clause-within
@@ -63,6 +63,9 @@ returns-clause-reads g c =
     let f = c.args.found in
     let a = m.arena.first + 4 * c.from.result in
     let is_block : a ≡ block_at m.arena f.block = omega (arith, c.from.ensures) in
-    cuts_reads m f.place f.block a c.in_ok-value.value c.in_ok-left.left c.in_ok-right.right
-    (g.W.Shape.Shape.word_count (g.W.Words.shape c.args.w.now)) (g.W.Shape.Shape.good (g.W.Words.shape c.args.w.now)) _ _ _ _ c.requires.block is_block
-    c.in_ok-value.ensures.value c.in_ok-left.ensures.value c.in_ok-right.ensures.value _ c.in_ok-join.ensures.goes_on.begins c.in_ok-join.ensures.reads
+    let same = c.in_ok-right.ensures.shape ∙ c.in_ok-left.ensures.shape ∙ c.in_ok-value.ensures.shape in
+    record {
+      at = cuts_seen m f.place f.block a c.in_ok-value.value c.in_ok-left.left c.in_ok-right.right _ _ _ _ _ _ c.requires.block is_block
+          c.in_ok-value.ensures.value c.in_ok-left.ensures.value c.in_ok-right.ensures.value _ c.in_ok-join.ensures.goes_on.begins
+          (reads_from g.W.Words g.W.Shape.Shape c.args.w.now c.read-3.new.self c.join.new.w _ same c.in_ok-join.ensures.reads);
+    }

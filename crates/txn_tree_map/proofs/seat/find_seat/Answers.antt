@@ -1,11 +1,11 @@
 use Rattle.std.proofs.Common.{◌≡◌, ◌+◌, ◌*◌, ◌≤◌, nat_lt, inl, refl, ◌∙◌, subst, arith, if◌then◌else◌}
 use Rattle.txn_alloc.specs.FreeLists.{block_at}
-use Rattle.txn_alloc.proofs.Looks.{looks_none, looks_map, looks_then, looks_each, looks_from}
+use Rattle.txn_words.proofs.Looks.{looks_none, looks_map, looks_grow, looks_each, looks_from}
 use Rattle.txn_tree_map.specs.Trees.{priority_of}
-use Rattle.txn_tree_map.specs.Searches.{HasTop, IsPassed, IsNamed, IsEnd, IsSeat, IsLink}
+use Rattle.txn_tree_map.specs.Searches.{HasTop, IsPassed, IsNamed, IsEnd, IsSeat, IsLink, IsPlace, IsPlaceOrKey}
 use Rattle.txn_tree_map.proofs.Descents.{passed_top, passed_down}
 use Rattle.txn_tree_map.proofs.Seats.{passed_missing, missing_other, seat_end, seat_all, seat_here}
-use Rattle.txn_tree_map.proofs.Searching.{link_down}
+use Rattle.txn_tree_map.proofs.Links.{passed_place, passed_near}
 use Rattle.txn_tree_map.proofs.seat.find_seat.Goals as goal
 
 pub loop-init : goal.loop-init
@@ -16,7 +16,6 @@ loop-init g c =
       origin = refl;
       stop = c.requires.ready.going;
       sound = c.requires.ready.sound;
-      link = inl refl;
       looks = looks_none _ _ _ (IsLink m) _ (record { at = λ s fit. (passed_missing m c.args.key _ (c.requires.missing.at s fit), c.requires.missing.at s fit) });
     }
 
@@ -32,7 +31,7 @@ returns-in-None-clause-seat g c =
     let i = c.loop.invariant in
     let end = rw c.in-None.is at c.in_ok-look.ensures.end in
     looks_map _ _ _ (IsLink m) _ _ (IsSeat m c.args.key c.loop.place 0) (λ s h. seat_end m c.args.key s c.loop.place c.loop.counter h.0.0 h.1)
-    (looks_then _ _ _ (IsLink m) _ _ _ (IsEnd c.loop.place) i.looks (looks_from g.W.Words g.W.Shape.Shape c.args.w.now c.loop.w _ _ (IsLink m) _ i.shape end))
+    (looks_grow _ _ _ (IsLink m) _ _ (IsPlace c.loop.place) _ (IsEnd c.loop.place) (λ s p q. passed_place m c.args.key (priority_of c.args.key + 1) s c.loop.place c.loop.counter p.0) i.looks (looks_from g.W.Words g.W.Shape.Shape c.args.w.now c.loop.w _ _ (IsPlace c.loop.place) _ i.shape end))
 
 pub returns-then-priority-rank-clause-seat : goal.returns-then-priority-rank-clause-seat
 returns-then-priority-rank-clause-seat g c =
@@ -45,7 +44,7 @@ returns-then-priority-rank-clause-seat g c =
     looks_map _ _ _ (IsLink m) _ _ (IsSeat m key c.loop.place (c.from-block.result + 1))
     (λ s h. subst (λ n. IsSeat m key c.loop.place n s) (omega (arith, c.from-block.ensures))
     (seat_here m key s c.loop.place c.loop.counter node.block node.key c.priority-rank.ensures.small c.priority.ensures.small h.0.1 h.0.0 h.1 le))
-    (looks_then _ _ _ (IsLink m) _ _ _ (IsNamed m c.loop.place node.block node.key) i.looks (looks_from g.W.Words g.W.Shape.Shape c.args.w.now c.loop.w _ _ (IsLink m) _ i.shape named))
+    (looks_grow _ _ _ (IsLink m) _ _ (IsPlaceOrKey m c.loop.place node.block) _ (IsNamed m c.loop.place node.block node.key) (λ s p q. passed_near m c.args.key (priority_of c.args.key + 1) s c.loop.place c.loop.counter p.0 node.block node.key q) i.looks (looks_from g.W.Words g.W.Shape.Shape c.args.w.now c.loop.w _ _ (IsPlaceOrKey m c.loop.place node.block) _ i.shape named))
 
 pub loop-preserved : goal.loop-preserved
 loop-preserved g c =
@@ -63,7 +62,6 @@ loop-preserved g c =
       origin = goes.origin ∙ i.origin;
       stop = goes.stops;
       sound = goes.sound;
-      link = subst (λ a. IsLink m a) next (link_down m node.block (nat_lt key node.key) below);
       looks = looks_map _ _ _ (IsLink m) _ _ _
           (λ s h. (
             subst (λ a. IsPassed m key (priority_of key + 1) a (c.loop.counter + 1) s) next
@@ -71,7 +69,7 @@ loop-preserved g c =
                 (missing_other m key s c.loop.place c.loop.counter node.block node.key h.0.1 h.0.0 h.1) higher),
             h.0.1,
           ))
-          (looks_then _ _ _ (IsLink m) _ _ _ (IsNamed m c.loop.place node.block node.key) i.looks (looks_from g.W.Words g.W.Shape.Shape c.args.w.now c.loop.w _ _ (IsLink m) _ i.shape named));
+          (looks_grow _ _ _ (IsLink m) _ _ (IsPlaceOrKey m c.loop.place node.block) _ (IsNamed m c.loop.place node.block node.key) (λ s p q. passed_near m c.args.key (priority_of c.args.key + 1) s c.loop.place c.loop.counter p.0 node.block node.key q) i.looks (looks_from g.W.Words g.W.Shape.Shape c.args.w.now c.loop.w _ _ (IsPlaceOrKey m c.loop.place node.block) _ i.shape named));
     }
 
 pub returns-clause-seat : goal.returns-clause-seat

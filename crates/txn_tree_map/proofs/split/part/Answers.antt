@@ -1,21 +1,18 @@
-use Rattle.std.proofs.Common.{◌≡◌, ◌+◌, ◌*◌, ◌<◌, inl, inr, refl, sym, ap, ◌∙◌, arith}
+use Rattle.std.proofs.Common.{◌≡◌, ◌+◌, ◌*◌, refl, sym, ap, ◌∙◌, arith}
 use Rattle.history_model.proofs.TraceLaws.{begins_refl, begins_trans}
 use Rattle.txn_words.proofs.FrameLaws.{only_same}
-use Rattle.txn_words.proofs.ReadLaws.{sees_same, sees_then}
+use Rattle.txn_words.proofs.ReadLaws.{sees_same}
 use Rattle.txn_alloc.specs.FreeLists.{block_at}
-use Rattle.txn_alloc.proofs.Looks.{each_from, leads_from}
-use Rattle.txn_tree_map.specs.Searches.{IsLink}
+use Rattle.txn_words.proofs.Looks.{each_from, leads_from}
 use Rattle.txn_tree_map.specs.Changes.{CanPart}
 use Rattle.txn_tree_map.proofs.Partings.{parted_end, parted_all}
-use Rattle.txn_tree_map.proofs.Splitting.{parted_start, parted_more, own_more}
+use Rattle.txn_tree_map.proofs.Splitting.{parted_start, parted_more, own_more, seen_more}
 use Rattle.txn_tree_map.proofs.split.part.Goals as goal
 
 pub loop-init : goal.loop-init
 loop-init g c =
     let m = c.args.map.now in
     let b = c.args.block in
-    let some = g.met.W.Words.fits c.args.w.now c.requires.ready.sound in
-    let below : b < m.arena.blocks = (c.requires.whole.at some.0 some.1).whole.below in
     let is_block : block_at m.arena b ≡ m.arena.first + 4 * c.from.result = omega (arith, c.from.ensures) in
     record {
       shape = refl;
@@ -23,9 +20,7 @@ loop-init g c =
       stop = c.requires.ready.going;
       sound = c.requires.ready.sound;
       begins = begins_refl _;
-      smaller = inr (b, below, inr (inl (ap (λ a. a + 2) (sym is_block))));
-      greater = inr (b, below, inr (inr (ap (λ a. a + 3) (sym is_block))));
-      reads = sees_same (IsLink m) _;
+      reads = λ s fit. sees_same _ _;
       own = λ s fit. only_same _ _;
       parted = λ s fit. parted_start m c.args.key b c.args.name (m.arena.first + 4 * c.from.result) _ is_block (c.requires.whole.at s fit);
     }
@@ -51,9 +46,7 @@ loop-preserved g c =
       stop = one.goes_on.stops;
       sound = one.goes_on.sound;
       begins = begins_trans _ _ _ i.begins one.goes_on.begins;
-      smaller = one.smaller;
-      greater = one.greater;
-      reads = sees_then (IsLink m) _ _ _ i.reads one.reads;
+      reads = seen_more m c.args.key c.args.block c.args.name _ _ _ _ _ c.loop.counter e.smaller e.greater e.rest one.goes_on.begins i.parted i.reads one.reads;
       own = own_more m c.args.key c.args.block c.args.name _ _ _ _ _ c.loop.counter e.smaller e.greater e.rest one.goes_on.begins i.parted i.own one.frame.appended;
       parted = parted_more m c.args.key c.args.block c.args.name _ _ _ _ _ c.loop.counter e.smaller e.greater e.rest f.smaller f.greater f.rest one.goes_on.begins i.parted
           (leads_from g.W.Words g.W.Shape.Shape c.args.w.now c.loop.w c.part_one.new.w _ i.shape one.parted);
@@ -76,3 +69,9 @@ returns-then-ends-eq0-clause-frame g c = record { at = c.loop.invariant.own }
 
 pub returns-clause-frame : goal.returns-clause-frame
 returns-clause-frame g c = record { at = c.loop.invariant.own }
+
+pub returns-then-ends-eq0-clause-reads : goal.returns-then-ends-eq0-clause-reads
+returns-then-ends-eq0-clause-reads g c = record { at = c.loop.invariant.reads }
+
+pub returns-clause-reads : goal.returns-clause-reads
+returns-clause-reads g c = record { at = c.loop.invariant.reads }

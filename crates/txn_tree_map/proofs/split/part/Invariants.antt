@@ -2,8 +2,7 @@ use Rattle.std.proofs.Common.{◌≡◌, ℕ, List, None}
 use Rattle.history_model.specs.Traces.{after, Begins}
 use Rattle.history_model.specs.Fitting.{Fits}
 use Rattle.txn_words.specs.Frames.{AppendsOnly, AppendsReads}
-use Rattle.txn_tree_map.specs.Searches.{IsLink}
-use Rattle.txn_tree_map.specs.Changes.{IsParted, IsSplitOwn}
+use Rattle.txn_tree_map.specs.Changes.{IsParted, IsSplitOwn, IsSplitSeen}
 use Rattle.txn_tree_map.proofs.split.part.Given as goal
 
 abbrev pub invariant-loop : goal.invariant-loop
@@ -15,9 +14,8 @@ invariant-loop g l =
       stop : words.stop l.w ≡ None;
       sound : words.is_sound l.w;
       begins : Begins (words.trace l.fn.w) (words.trace l.w);
-      smaller : IsLink l.map l.ends.smaller;
-      greater : IsLink l.map l.ends.greater;
-      reads : AppendsReads (words.trace l.fn.w) (words.trace l.w) (IsLink l.map);
+      reads : (s : List ℕ) → Fits (g.W.Shape.Shape.word_count (words.shape l.fn.w)) (g.W.Shape.Shape.good (words.shape l.fn.w)) (words.trace l.w) s
+          → AppendsReads (words.trace l.fn.w) (words.trace l.w) (IsSplitSeen l.map l.key l.block l.name (after (words.trace l.fn.w) s) (after (words.trace l.w) s));
       own : (s : List ℕ) → Fits (g.W.Shape.Shape.word_count (words.shape l.fn.w)) (g.W.Shape.Shape.good (words.shape l.fn.w)) (words.trace l.w) s
           → AppendsOnly (words.trace l.fn.w) (words.trace l.w) (IsSplitOwn l.map l.key l.block l.name (after (words.trace l.fn.w) s) (after (words.trace l.w) s));
       parted : (s : List ℕ) → Fits (g.W.Shape.Shape.word_count (words.shape l.fn.w)) (g.W.Shape.Shape.good (words.shape l.fn.w)) (words.trace l.w) s

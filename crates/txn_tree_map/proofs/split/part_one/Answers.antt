@@ -1,11 +1,10 @@
 use Rattle.std.proofs.Common.{◌≡◌, ℕ, ◌+◌, ◌-◌, ◌<◌, ◌⊎◌, inl, inr, refl, arith}
 use Rattle.txn_words.proofs.CallLaws.{each_plain}
 use Rattle.txn_words.proofs.FrameLaws.{only_read, only_then, only_more}
-use Rattle.txn_words.proofs.ReadLaws.{sees_read, sees_then}
+use Rattle.txn_words.proofs.ReadLaws.{sees_read, sees_then, sees_more}
 use Rattle.txn_alloc.specs.FreeLists.{block_at}
-use Rattle.txn_alloc.proofs.Looks.{looks_one, each_looked, each_from, leads_from}
-use Rattle.txn_tree_map.specs.Searches.{IsLink}
-use Rattle.txn_tree_map.specs.Changes.{CanPart}
+use Rattle.txn_words.proofs.Looks.{looks_at, each_looked, each_from, leads_from}
+use Rattle.txn_tree_map.specs.Changes.{CanPart, IsEndOrTop}
 use Rattle.txn_tree_map.proofs.Searching.{laid_block}
 use Rattle.txn_tree_map.proofs.Partings.{parted_laid}
 use Rattle.txn_tree_map.proofs.Splitting.{can_part_within, can_part_below, parts_low, parts_high}
@@ -46,24 +45,12 @@ overflow_add-at-2 g c =
     (record { at = λ s fit. let h = c.requires.parted.at s fit in parted_laid m c.args.key h.block h.name h.turns e.smaller e.greater e.rest h.start _ h.parted }) lt in
     omega (arith, in_list.0, in_list.1)
 
-pub hang-requires-clause-inner_link : goal.hang-requires-clause-inner_link
-hang-requires-clause-inner_link g c =
-    let e = c.args.ends in
-    let lt : e.rest - 1 < c.args.map.now.arena.blocks = omega arith in
-    inr (e.rest - 1, lt, inr (inr refl))
-
-pub hang-requires-2-clause-inner_link : goal.hang-requires-2-clause-inner_link
-hang-requires-2-clause-inner_link g c =
-    let e = c.args.ends in
-    let lt : e.rest - 1 < c.args.map.now.arena.blocks = omega arith in
-    inr (e.rest - 1, lt, inr (inl refl))
-
 pub hang-requires-clause-within : goal.hang-requires-clause-within
 hang-requires-clause-within g c =
     let m = c.args.map.now in
     let e = c.args.ends in
     let lt : e.rest - 1 < m.arena.blocks = omega arith in
-    let look = looks_one _ _ _ (λ a. a ≡ block_at m.arena (e.rest - 1)) _ (block_at m.arena (e.rest - 1)) c.in_ok-there.there c.in_ok-there.ensures.value refl in
+    let look = looks_at _ _ _ _ (block_at m.arena (e.rest - 1)) c.in_ok-there.there c.in_ok-there.ensures.value in
     let can = each_looked _ _ _ _ look (CanPart m c.args.key e.smaller e.greater e.rest) (each_plain g.W.Words g.W.Shape.Shape _ _ c.requires.parted) in
     each_from g.W.Words g.W.Shape.Shape c.args.w.now c.read.new.self _ c.in_ok-there.ensures.shape
     (record {
@@ -77,7 +64,7 @@ hang-requires-2-clause-within g c =
     let m = c.args.map.now in
     let e = c.args.ends in
     let lt : e.rest - 1 < m.arena.blocks = omega arith in
-    let look = looks_one _ _ _ (λ a. a ≡ block_at m.arena (e.rest - 1)) _ (block_at m.arena (e.rest - 1)) c.in_ok-there.there c.in_ok-there.ensures.value refl in
+    let look = looks_at _ _ _ _ (block_at m.arena (e.rest - 1)) c.in_ok-there.there c.in_ok-there.ensures.value in
     let can = each_looked _ _ _ _ look (CanPart m c.args.key e.smaller e.greater e.rest) (each_plain g.W.Words g.W.Shape.Shape _ _ c.requires.parted) in
     each_from g.W.Words g.W.Shape.Shape c.args.w.now c.read.new.self _ c.in_ok-there.ensures.shape
     (record {
@@ -106,18 +93,6 @@ returns-clause-parted g c =
           (leads_from g.W.Words g.W.Shape.Shape c.args.w.now c.read.new.self c.hang-2.new.w _ c.in_ok-there.ensures.shape c.in_ok-left.ensures.hung)).at;
     }
 
-pub returns-then-there-key-clause-smaller : goal.returns-then-there-key-clause-smaller
-returns-then-there-key-clause-smaller g c =
-    let e = c.args.ends in
-    let lt : e.rest - 1 < c.args.map.now.arena.blocks = omega arith in
-    inr (e.rest - 1, lt, inr (inr refl))
-
-pub returns-clause-greater : goal.returns-clause-greater
-returns-clause-greater g c =
-    let e = c.args.ends in
-    let lt : e.rest - 1 < c.args.map.now.arena.blocks = omega arith in
-    inr (e.rest - 1, lt, inr (inl refl))
-
 pub returns-then-there-key-clause-frame : goal.returns-then-there-key-clause-frame
 returns-then-there-key-clause-frame g c =
     let e = c.args.ends in
@@ -137,11 +112,17 @@ returns-clause-frame g c =
 pub returns-then-there-key-clause-reads : goal.returns-then-there-key-clause-reads
 returns-then-there-key-clause-reads g c =
     let m = c.args.map.now in
-    let lt : c.args.ends.rest - 1 < m.arena.blocks = omega arith in
-    sees_then (IsLink m) _ _ _ (sees_read (IsLink m) _ _ _ _ c.in_ok-there.ensures.value (inr (c.args.ends.rest - 1, lt, inl refl))) c.in_ok-right.ensures.reads
+    let e = c.args.ends in
+    let seen = IsEndOrTop m e.smaller e.greater e.rest in
+    let is_name : e.rest ≡ (e.rest - 1) + 1 = omega (arith, c.requires.rest) in
+    sees_then seen _ _ _ (sees_read seen _ _ _ _ c.in_ok-there.ensures.value (inr (inr (e.rest - 1, is_name, inl refl))))
+    (sees_more (λ a. (a ≡ e.smaller) ⊎ (a ≡ block_at m.arena (e.rest - 1) + 3)) seen _ _ (λ a k. elim k [ inl z ↦ inl z | inr z ↦ inr (inr (e.rest - 1, is_name, inr (inr z))) ]) c.in_ok-right.ensures.reads)
 
 pub returns-clause-reads : goal.returns-clause-reads
 returns-clause-reads g c =
     let m = c.args.map.now in
-    let lt : c.args.ends.rest - 1 < m.arena.blocks = omega arith in
-    sees_then (IsLink m) _ _ _ (sees_read (IsLink m) _ _ _ _ c.in_ok-there.ensures.value (inr (c.args.ends.rest - 1, lt, inl refl))) c.in_ok-left.ensures.reads
+    let e = c.args.ends in
+    let seen = IsEndOrTop m e.smaller e.greater e.rest in
+    let is_name : e.rest ≡ (e.rest - 1) + 1 = omega (arith, c.requires.rest) in
+    sees_then seen _ _ _ (sees_read seen _ _ _ _ c.in_ok-there.ensures.value (inr (inr (e.rest - 1, is_name, inl refl))))
+    (sees_more (λ a. (a ≡ e.greater) ⊎ (a ≡ block_at m.arena (e.rest - 1) + 2)) seen _ _ (λ a k. elim k [ inl z ↦ inr (inl z) | inr z ↦ inr (inr (e.rest - 1, is_name, inr (inl z))) ]) c.in_ok-left.ensures.reads)

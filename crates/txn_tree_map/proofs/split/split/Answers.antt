@@ -2,9 +2,7 @@ use Rattle.std.proofs.Common.{ap, ◌∙◌, arith}
 use Rattle.history_model.specs.Fitting.{SomeFits}
 use Rattle.history_model.proofs.FittingLaws.{some_at}
 use Rattle.txn_words.proofs.CallLaws.{leads_plain}
-use Rattle.txn_words.proofs.ReadLaws.{sees_write, sees_then}
-use Rattle.txn_tree_map.specs.Searches.{IsLink}
-use Rattle.txn_tree_map.proofs.Splitting.{splits_leads, splits_own, ends_within}
+use Rattle.txn_tree_map.proofs.Splitting.{splits_leads, splits_own, splits_seen, ends_within}
 use Rattle.txn_tree_map.proofs.split.split.Goals as goal
 
 pub write-requires-clause-within : goal.write-requires-clause-within
@@ -44,6 +42,8 @@ returns-clause-frame g c =
 
 pub returns-clause-reads : goal.returns-clause-reads
 returns-clause-reads g c =
-    let seen = IsLink c.args.map.now in
-    let one = c.in_ok-ends.ensures in
-    sees_then seen _ _ _ one.reads (sees_then seen _ _ _ (sees_write seen _ _ _ _ c.in_ok-write.ensures.value one.smaller) (sees_write seen _ _ _ _ c.in_ok-write-2.ensures.value one.greater))
+    let e = c.in_ok-ends.ends in
+    record {
+      at = splits_seen c.args.map.now c.args.key c.args.block c.args.name _ _ _ _ _ _ e.smaller e.greater c.in_ok-write.ensures.value c.in_ok-write-2.ensures.value (leads_plain g.W.Words g.W.Shape.Shape _ _ _ c.in_ok-ends.ensures.parted)
+          c.in_ok-ends.ensures.reads.at;
+    }

@@ -1,6 +1,7 @@
 use Rattle.std.proofs.Common.{◌≡◌, ◌+◌, ◌*◌, ◌<◌, ap, arith}
 use Rattle.history_model.specs.Fitting.{SomeFits}
 use Rattle.history_model.proofs.FittingLaws.{some_at}
+use Rattle.txn_words.proofs.CallLaws.{each_plain}
 use Rattle.txn_alloc.specs.FreeLists.{block_at}
 use Rattle.txn_tree_map.proofs.Searching.{laid_block}
 use Rattle.txn_tree_map.proofs.Totals.{none_from, past_from, links_from, node_below, node_from, next_from, value_from}
@@ -32,7 +33,7 @@ returns-in-None-clause-none g c =
 pub returns-in-None-clause-reads : goal.returns-in-None-clause-reads
 returns-in-None-clause-reads g c =
     let nearest = rw c.in-None.is at c.in_ok-first_at.ensures.nearest in
-    record { at = links_from c.args.map.now _ _ _ _ c.args.least c.args.high nearest (record { at = λ s fit. (c.requires.order.at s fit).holds.laid }) }
+    record { at = links_from c.args.map.now _ _ _ _ c.args.least c.args.high nearest (each_plain g.W.Words g.W.Shape.Shape _ _ c.requires.order) }
 
 pub returns-then-key-high-clause-none : goal.returns-then-key-high-clause-none
 returns-then-key-high-clause-none g c =
@@ -42,7 +43,7 @@ returns-then-key-high-clause-none g c =
 pub returns-then-key-high-clause-reads : goal.returns-then-key-high-clause-reads
 returns-then-key-high-clause-reads g c =
     let nearest = rw c.in-Some.is at c.in_ok-first_at.ensures.nearest in
-    record { at = links_from c.args.map.now _ _ _ _ c.args.least c.args.high nearest (record { at = λ s fit. (c.requires.order.at s fit).holds.laid }) }
+    record { at = links_from c.args.map.now _ _ _ _ c.args.least c.args.high nearest (each_plain g.W.Words g.W.Shape.Shape _ _ c.requires.order) }
 
 pub returns-in_ok-value-in-Some-clause-next : goal.returns-in_ok-value-in-Some-clause-next
 returns-in_ok-value-in-Some-clause-next g c =
@@ -60,7 +61,7 @@ returns-in_ok-value-in-Some-clause-reads g c =
     let q = m.arena.first + 4 * c.from.result + 1 in
     let is_value : q ≡ block_at m.arena node.block + 1 = omega (arith, c.from.ensures) in
     let nearest = rw c.in-Some.is at c.in_ok-first_at.ensures.nearest in
-    record { at = value_from m _ _ _ _ c.args.least c.args.high node _ q c.in_ok-value-in-Some.value is_value nearest c.in_ok-value-in-Some.ensures.value c.if-key-high.false }
+    record { at = value_from m _ _ _ _ c.args.least c.args.high node _ q c.in_ok-value-in-Some.value is_value nearest c.in_ok-value-in-Some.ensures.value c.if-key-high.false (each_plain g.W.Words g.W.Shape.Shape _ _ c.requires.order) }
 
 pub returns-in_ok-value-in-Some-clause-low : goal.returns-in_ok-value-in-Some-clause-low
 returns-in_ok-value-in-Some-clause-low g c =

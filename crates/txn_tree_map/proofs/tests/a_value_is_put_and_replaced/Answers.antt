@@ -1,9 +1,9 @@
 use Rattle.std.proofs.Common.{refl, ap}
 use Rattle.txn_words.specs.Plainly.{PlainView}
 use Rattle.txn_alloc.specs.EntryMaps.{HasMapApart}
-use Rattle.txn_alloc.proofs.Traces.{each_fresh}
+use Rattle.history_model.proofs.FittingLaws.{each_fresh}
 use Rattle.txn_tree_map.specs.declared.tests.TwoEntries.{TwoEntries}
-use Rattle.txn_tree_map.specs.Trees.{TreeHolds}
+use Rattle.txn_tree_map.specs.Trees.{tree_part}
 use Rattle.txn_tree_map.proofs.Lists.{two, small, linked}
 use Rattle.txn_tree_map.proofs.tests.a_value_is_put_and_replaced.Goals as goal
 
@@ -11,7 +11,7 @@ pub new-plain-requires : goal.new-plain-requires
 new-plain-requires g c = linked 285 c.in_ok-words.words.items refl (c.in_ok-words.ensures.items_if_clones_equal (λ y e. e))
 
 pub insert-requires-clause-order : goal.insert-requires-clause-order
-insert-requires-clause-order g c = record { at = (each_fresh 285 (HasMapApart two (TreeHolds small)) _ (ap (λ (v : PlainView TwoEntries). v.trace) c.new-plain.ensures.view)).at }
+insert-requires-clause-order g c = record { at = (each_fresh 285 (HasMapApart (tree_part small)) _ (ap (λ (v : PlainView TwoEntries). v.trace) c.new-plain.ensures.view)).at }
 
 pub get-requires-clause-order : goal.get-requires-clause-order
 get-requires-clause-order g c = record { at = λ s fit. let o = c.in_ok-insert-2.ensures.order.at s fit in record { entries = o.entries; used = o.used; holds = o.holds.map } }

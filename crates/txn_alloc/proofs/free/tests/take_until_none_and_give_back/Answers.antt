@@ -9,7 +9,8 @@ use Rattle.txn_alloc.specs.declared.arena.Arena.{Arena}
 use Rattle.txn_alloc.proofs.Zeros.{zero_there}
 use Rattle.txn_alloc.specs.declared.free.tests.TwoBlocks.{TwoBlocks}
 use Rattle.txn_alloc.specs.FreeLists.{IsInOrder}
-use Rattle.txn_alloc.proofs.Traces.{each_fresh, each_lacks_taken}
+use Rattle.history_model.proofs.FittingLaws.{each_fresh}
+use Rattle.txn_alloc.proofs.Traces.{each_lacks_taken}
 use Rattle.txn_alloc.proofs.free.tests.take_until_none_and_give_back.Goals as goal
 
 abbrev two : Arena

@@ -2,13 +2,15 @@ use Rattle.std.proofs.Common.{◌≡◌, ◌+◌, ◌*◌, None, Some, arith, ap
 use Rattle.history_model.specs.Fitting.{SomeFits}
 use Rattle.history_model.proofs.TraceLaws.{begins_trans}
 use Rattle.history_model.proofs.FittingLaws.{some_at}
-use Rattle.txn_words.proofs.CallLaws.{state_after}
+use Rattle.txn_words.proofs.CallLaws.{each_plain, state_after}
 use Rattle.txn_alloc.specs.FreeLists.{block_at}
-use Rattle.txn_hash_map.specs.Chains.{IsHeld, Finds}
+use Rattle.txn_alloc.specs.EntryMaps.{HasMap, Finds}
+use Rattle.txn_hash_map.specs.Chains.{chain_part}
 use Rattle.txn_hash_map.specs.Searches.{IsLink}
-use Rattle.txn_hash_map.proofs.Steps.{held_found}
-use Rattle.txn_alloc.proofs.Looks.{looks_only}
-use Rattle.txn_hash_map.proofs.Looks.{laid_block, looks_value, IsLinkOr, finds_none, finds_some, spares_link, spares_value}
+use Rattle.txn_alloc.proofs.Parts.{held_found, finds_none}
+use Rattle.txn_hash_map.proofs.Steps.{missing_value}
+use Rattle.txn_words.proofs.Looks.{looks_only}
+use Rattle.txn_hash_map.proofs.Looks.{laid_block, looks_value, IsLinkOr, finds_some, sees_link, sees_value}
 use Rattle.txn_hash_map.proofs.map.ChainMap.get.Goals as goal
 
 pub read-requires-clause-within : goal.read-requires-clause-within
@@ -25,23 +27,23 @@ read-requires-clause-within g c =
 pub returns-in-None-clause-found : goal.returns-in-None-clause-found
 returns-in-None-clause-found g c =
     let missing = rw c.in-None.is at c.in_ok-find.ensures.missing in
-    record { at = (finds_none c.args.self.now c.args.key _ _ _ _ missing).at }
+    record { at = (finds_none (chain_part c.args.self.now) c.args.key _ _ _ _ (λ s f v. missing_value c.args.self.now c.args.key s f v) missing).at }
 
 pub returns-in-None-clause-order : goal.returns-in-None-clause-order
 returns-in-None-clause-order g c =
     let m = c.args.self.now in
     let goes = c.in_ok-find.ensures.goes_on in
-    state_after g.W.Words g.W.Shape.Shape _ _ (IsHeld m) (IsHeld m) (Finds m c.args.key None) goes.shape goes.begins c.requires.order (returns-in-None-clause-found g c) (held_found m c.args.key None)
+    state_after g.W.Words g.W.Shape.Shape _ _ (HasMap (chain_part m)) (HasMap (chain_part m)) (Finds (chain_part m) c.args.key None) goes.shape goes.begins c.requires.order (returns-in-None-clause-found g c) (held_found (chain_part m) c.args.key None)
 
 pub returns-in-None-clause-frame : goal.returns-in-None-clause-frame
 returns-in-None-clause-frame g c =
     let missing = rw c.in-None.is at c.in_ok-find.ensures.missing in
-    looks_only g.W.Words g.W.Shape.Shape _ _ (IsLink c.args.self.now) _ missing
+    looks_only g.W.Words g.W.Shape.Shape _ _ (IsLink c.args.self.now c.args.key) _ missing
 
 pub returns-in-None-clause-reads : goal.returns-in-None-clause-reads
 returns-in-None-clause-reads g c =
     let missing = rw c.in-None.is at c.in_ok-find.ensures.missing in
-    record { at = spares_link c.args.self.now c.args.key _ _ _ _ missing (record { at = λ s fit. (c.requires.order.at s fit).holds.laid }) }
+    record { at = sees_link c.args.self.now c.args.key _ _ _ _ missing (each_plain g.W.Words g.W.Shape.Shape _ _ c.requires.order) }
 
 pub returns-in_ok-value-in-Some-clause-found : goal.returns-in_ok-value-in-Some-clause-found
 returns-in_ok-value-in-Some-clause-found g c =
@@ -58,15 +60,15 @@ pub returns-in_ok-value-in-Some-clause-order : goal.returns-in_ok-value-in-Some-
 returns-in_ok-value-in-Some-clause-order g c =
     let m = c.args.self.now in
     let goes = c.in_ok-find.ensures.goes_on in
-    state_after g.W.Words g.W.Shape.Shape _ _ (IsHeld m) (IsHeld m) (Finds m c.args.key (Some c.in_ok-value-in-Some.value)) (c.in_ok-value-in-Some.ensures.shape ∙ goes.shape)
-    (begins_trans _ _ _ goes.begins c.in_ok-value-in-Some.ensures.begins) c.requires.order (returns-in_ok-value-in-Some-clause-found g c) (held_found m c.args.key (Some c.in_ok-value-in-Some.value))
+    state_after g.W.Words g.W.Shape.Shape _ _ (HasMap (chain_part m)) (HasMap (chain_part m)) (Finds (chain_part m) c.args.key (Some c.in_ok-value-in-Some.value)) (c.in_ok-value-in-Some.ensures.shape ∙ goes.shape)
+    (begins_trans _ _ _ goes.begins c.in_ok-value-in-Some.ensures.begins) c.requires.order (returns-in_ok-value-in-Some-clause-found g c) (held_found (chain_part m) c.args.key (Some c.in_ok-value-in-Some.value))
 
 pub returns-in_ok-value-in-Some-clause-frame : goal.returns-in_ok-value-in-Some-clause-frame
 returns-in_ok-value-in-Some-clause-frame g c =
     let m = c.args.self.now in
     let found = rw c.in-Some.is at c.in_ok-find.ensures.found in
     let q = m.arena.first + 4 * c.from.result + 1 in
-    looks_only g.W.Words g.W.Shape.Shape _ _ (IsLinkOr m q) _
+    looks_only g.W.Words g.W.Shape.Shape _ _ (IsLinkOr m c.args.key q) _
     (looks_value m c.args.key _ _ _ _ _ c.in-Some.found.place c.in-Some.found.block q c.in_ok-value-in-Some.value found c.in_ok-value-in-Some.ensures.value)
 
 pub returns-in_ok-value-in-Some-clause-reads : goal.returns-in_ok-value-in-Some-clause-reads
@@ -76,7 +78,7 @@ returns-in_ok-value-in-Some-clause-reads g c =
     let q = m.arena.first + 4 * c.from.result + 1 in
     let is_value : q ≡ block_at m.arena c.in-Some.found.block + 1 = omega (arith, c.from.ensures) in
     record {
-      at = spares_value m c.args.key _ _ _ _ c.in-Some.found.place c.in-Some.found.block q c.in_ok-value-in-Some.value is_value
+      at = sees_value m c.args.key _ _ _ _ c.in-Some.found.place c.in-Some.found.block q c.in_ok-value-in-Some.value is_value
           (looks_value m c.args.key _ _ _ _ _ c.in-Some.found.place c.in-Some.found.block q c.in_ok-value-in-Some.value found c.in_ok-value-in-Some.ensures.value)
-          (record { at = λ s fit. (c.requires.order.at s fit).holds.laid });
+          (each_plain g.W.Words g.W.Shape.Shape _ _ c.requires.order);
     }

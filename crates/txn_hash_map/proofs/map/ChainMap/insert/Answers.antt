@@ -1,17 +1,19 @@
-use Rattle.std.proofs.Common.{◌≡◌, ◌+◌, ◌*◌, arith, rules, ap, ◌∙◌}
+use Rattle.std.proofs.Common.{◌≡◌, ◌+◌, ◌*◌, refl, arith, rules, ap, ◌∙◌}
 use Rattle.history_model.specs.Fitting.{SomeFits}
 use Rattle.history_model.proofs.TraceLaws.{begins_trans}
 use Rattle.history_model.proofs.FittingLaws.{some_at}
 use Rattle.txn_words.proofs.CallLaws.{each_plain, leads_plain, state_after}
-use Rattle.txn_words.proofs.FrameLaws.{only_then}
+use Rattle.txn_words.proofs.FrameLaws.{only_more, only_then}
 use Rattle.txn_alloc.specs.declared.put.Put.TheVariants.{New, Old, Full}
 use Rattle.txn_alloc.specs.FreeLists.{block_at, HasNone}
-use Rattle.txn_hash_map.specs.Chains.{IsInOrder, Inserts, LacksRoom}
-use Rattle.txn_alloc.proofs.Wider.{take_heads, take_keeps, take_names}
+use Rattle.txn_alloc.specs.EntryMaps.{HasMapApart, Inserts, LacksRoom}
+use Rattle.txn_hash_map.specs.Chains.{chain_part}
+use Rattle.txn_alloc.proofs.Wider.{take_keeps}
+use Rattle.txn_alloc.proofs.Parts.{order_inserted, lacks_room, not_new, not_old}
+use Rattle.txn_words.proofs.Looks.{leads_from, each_from, each_looked, leads_back}
+use Rattle.txn_hash_map.proofs.Steps.{missing_value}
 use Rattle.txn_hash_map.proofs.Looks.{laid_block, looks_value}
-use Rattle.txn_alloc.proofs.Looks.{leads_from, each_from, leads_back}
-use Rattle.txn_hash_map.proofs.Inserts.{order_inserted, order_looks, inserts_new, owns_new, owns_none, laid_taken, lacks_room, inserts_old, owns_old, owns_value, not_new, not_old}
-use Rattle.txn_hash_map.proofs.Spares.{spares_none, spares_new, spares_old}
+use Rattle.txn_hash_map.proofs.Inserts.{inserts_new, owns_new, sees_none, sees_new, laid_taken, inserts_old, owns_old, owns_value, sees_old}
 use Rattle.txn_hash_map.proofs.map.ChainMap.insert.Goals as goal
 
 pub find-requires-clause-order : goal.find-requires-clause-order
@@ -44,7 +46,7 @@ take-requires-clause-order g c =
     let m = c.args.self.now in
     let missing = rw c.in-None.is at c.in_ok-found.ensures.missing in
     let goes = c.in_ok-found.ensures.goes_on in
-    let order = order_looks m c.args.key c.args.value _ _ _ _ missing (each_plain g.W.Words g.W.Shape.Shape _ _ c.requires.order) in
+    let order = each_looked _ _ _ _ missing (HasMapApart (chain_part m)) (each_plain g.W.Words g.W.Shape.Shape _ _ c.requires.order) in
     each_from g.W.Words g.W.Shape.Shape c.args.w.now c.find.new.w _ goes.shape (record { at = λ s fit. ((order.at s fit).free, (order.at s fit).holds.free_lists) })
 
 pub put_in_front-requires-clause-laid : goal.put_in_front-requires-clause-laid
@@ -102,18 +104,18 @@ returns-in_ok-write-in-Some-clause-full_if g c =
     let begins = begins_trans _ _ _ goes.begins (begins_trans _ _ _ c.in_ok-old-in-Some.ensures.begins c.in_ok-write-in-Some.ensures.begins) in
     let some : SomeFits (g.W.Shape.Shape.word_count (g.W.Words.shape c.args.w.now)) (g.W.Shape.Shape.good (g.W.Words.shape c.args.w.now)) (g.W.Words.trace c.write.new.self) =
     some_at g.W.Shape.Shape.word_count g.W.Shape.Shape.good _ _ _ (c.in_ok-write-in-Some.ensures.shape ∙ c.in_ok-old-in-Some.ensures.shape ∙ goes.shape) (g.met.W.Words.fits c.write.new.self c.in_ok-write-in-Some.ensures.sound) in
-    λ lacks. not_old m c.args.key c.args.value _ _ _ _ (each_plain g.W.Words g.W.Shape.Shape _ _ c.requires.order) begins some
-    (leads_plain g.W.Words g.W.Shape.Shape _ _ (λ before after. LacksRoom m c.args.key before) lacks) c.in_ok-old-in-Some.old
-    (leads_plain g.W.Words g.W.Shape.Shape _ _ (Inserts m c.args.key c.args.value (Old c.in_ok-old-in-Some.old)) (returns-in_ok-write-in-Some-clause-put g c))
+    λ lacks. not_old (chain_part m) c.args.key c.args.value _ _ _ _ (each_plain g.W.Words g.W.Shape.Shape _ _ c.requires.order) begins some
+    (leads_plain g.W.Words g.W.Shape.Shape _ _ (λ before after. LacksRoom (chain_part m) c.args.key before) lacks) c.in_ok-old-in-Some.old
+    (leads_plain g.W.Words g.W.Shape.Shape _ _ (Inserts (chain_part m) c.args.key c.args.value (Old c.in_ok-old-in-Some.old)) (returns-in_ok-write-in-Some-clause-put g c))
 
 pub returns-in_ok-write-in-Some-clause-order : goal.returns-in_ok-write-in-Some-clause-order
 returns-in_ok-write-in-Some-clause-order g c =
     let m = c.args.self.now in
     let goes = c.in_ok-found.ensures.goes_on in
     let begins = begins_trans _ _ _ goes.begins (begins_trans _ _ _ c.in_ok-old-in-Some.ensures.begins c.in_ok-write-in-Some.ensures.begins) in
-    state_after g.W.Words g.W.Shape.Shape _ _ (IsInOrder m) (IsInOrder m) (Inserts m c.args.key c.args.value (Old c.in_ok-old-in-Some.old))
+    state_after g.W.Words g.W.Shape.Shape _ _ (HasMapApart (chain_part m)) (HasMapApart (chain_part m)) (Inserts (chain_part m) c.args.key c.args.value (Old c.in_ok-old-in-Some.old))
     (c.in_ok-write-in-Some.ensures.shape ∙ c.in_ok-old-in-Some.ensures.shape ∙ goes.shape) begins c.requires.order (returns-in_ok-write-in-Some-clause-put g c)
-    (order_inserted m c.args.key c.args.value (Old c.in_ok-old-in-Some.old))
+    (order_inserted (chain_part m) c.args.key c.args.value (Old c.in_ok-old-in-Some.old))
 
 pub returns-in_ok-write-in-Some-clause-frame : goal.returns-in_ok-write-in-Some-clause-frame
 returns-in_ok-write-in-Some-clause-frame g c =
@@ -148,7 +150,7 @@ returns-in_ok-put_in_front-in-Some-2-clause-put g c =
     let taken = rw c.in-Some-2.is at then.taken in
     let put = rw c.number.ensures at c.in_ok-put_in_front-in-Some-2.ensures.put in
     record {
-      at = (inserts_new m c.args.key c.args.value _ _ _ _ missing _ _ c.in-Some-2.block then.goes_on.begins c.in_ok-put_in_front-in-Some-2.ensures.goes_on.begins
+      at = (inserts_new m c.args.key c.args.value _ _ _ _ missing _ then.goes_on.begins _ c.in-Some-2.block c.in_ok-put_in_front-in-Some-2.ensures.goes_on.begins
           (leads_from g.W.Words g.W.Shape.Shape c.args.w.now c.find.new.w c.take.new.w _ goes.shape taken)
           (take_keeps m.arena c.in_ok-block-in-None.field-0 _ _ _ _ (leads_from g.W.Words g.W.Shape.Shape c.args.w.now c.find.new.w c.take.new.w _ goes.shape then.others))
           (leads_from g.W.Words g.W.Shape.Shape c.args.w.now c.take.new.w c.put_in_front.new.w _ (then.goes_on.shape ∙ goes.shape) put)).at;
@@ -160,16 +162,16 @@ returns-in_ok-put_in_front-in-Some-2-clause-full_if g c =
     let goes = returns-in_ok-put_in_front-in-Some-2-clause-goes_on g c in
     let some : SomeFits (g.W.Shape.Shape.word_count (g.W.Words.shape c.args.w.now)) (g.W.Shape.Shape.good (g.W.Words.shape c.args.w.now)) (g.W.Words.trace c.put_in_front.new.w) =
     some_at g.W.Shape.Shape.word_count g.W.Shape.Shape.good _ _ _ (goes.shape) (g.met.W.Words.fits c.put_in_front.new.w goes.sound) in
-    λ lacks. not_new m c.args.key c.args.value _ _ _ _ (each_plain g.W.Words g.W.Shape.Shape _ _ c.requires.order) goes.begins some
-    (leads_plain g.W.Words g.W.Shape.Shape _ _ (λ before after. LacksRoom m c.args.key before) lacks)
-    (leads_plain g.W.Words g.W.Shape.Shape _ _ (Inserts m c.args.key c.args.value New) (returns-in_ok-put_in_front-in-Some-2-clause-put g c))
+    λ lacks. not_new (chain_part m) c.args.key c.args.value _ _ _ _ (each_plain g.W.Words g.W.Shape.Shape _ _ c.requires.order) goes.begins some
+    (leads_plain g.W.Words g.W.Shape.Shape _ _ (λ before after. LacksRoom (chain_part m) c.args.key before) lacks)
+    (leads_plain g.W.Words g.W.Shape.Shape _ _ (Inserts (chain_part m) c.args.key c.args.value New) (returns-in_ok-put_in_front-in-Some-2-clause-put g c))
 
 pub returns-in_ok-put_in_front-in-Some-2-clause-order : goal.returns-in_ok-put_in_front-in-Some-2-clause-order
 returns-in_ok-put_in_front-in-Some-2-clause-order g c =
     let m = c.args.self.now in
     let goes = returns-in_ok-put_in_front-in-Some-2-clause-goes_on g c in
-    state_after g.W.Words g.W.Shape.Shape _ _ (IsInOrder m) (IsInOrder m) (Inserts m c.args.key c.args.value New) goes.shape goes.begins c.requires.order
-    (returns-in_ok-put_in_front-in-Some-2-clause-put g c) (order_inserted m c.args.key c.args.value New)
+    state_after g.W.Words g.W.Shape.Shape _ _ (HasMapApart (chain_part m)) (HasMapApart (chain_part m)) (Inserts (chain_part m) c.args.key c.args.value New) goes.shape goes.begins c.requires.order
+    (returns-in_ok-put_in_front-in-Some-2-clause-put g c) (order_inserted (chain_part m) c.args.key c.args.value New)
 
 pub returns-in_ok-put_in_front-in-Some-2-clause-frame : goal.returns-in_ok-put_in_front-in-Some-2-clause-frame
 returns-in_ok-put_in_front-in-Some-2-clause-frame g c =
@@ -178,14 +180,15 @@ returns-in_ok-put_in_front-in-Some-2-clause-frame g c =
     let goes = c.in_ok-found.ensures.goes_on in
     let then = c.in_ok-block-in-None.ensures in
     let taken = rw c.in-Some-2.is at then.taken in
+    let heads = rw c.in-Some-2.is at then.frame in
     let put = rw c.number.ensures at c.in_ok-put_in_front-in-Some-2.ensures.put in
     let front = rw c.number.ensures at c.in_ok-put_in_front-in-Some-2.ensures.frame in
     record {
-      at = owns_new m c.args.key c.args.value _ _ _ _ missing _ _ c.in-Some-2.block then.goes_on.begins c.in_ok-put_in_front-in-Some-2.ensures.goes_on.begins
+      at = owns_new m c.args.key c.args.value _ _ _ _ missing _ then.goes_on.begins _ c.in-Some-2.block c.in_ok-put_in_front-in-Some-2.ensures.goes_on.begins
           (leads_from g.W.Words g.W.Shape.Shape c.args.w.now c.find.new.w c.take.new.w _ goes.shape taken)
           (take_keeps m.arena c.in_ok-block-in-None.field-0 _ _ _ _ (leads_from g.W.Words g.W.Shape.Shape c.args.w.now c.find.new.w c.take.new.w _ goes.shape then.others))
           (leads_from g.W.Words g.W.Shape.Shape c.args.w.now c.take.new.w c.put_in_front.new.w _ (then.goes_on.shape ∙ goes.shape) put)
-          (each_plain g.W.Words g.W.Shape.Shape _ _ c.requires.order) (take_heads m.arena c.in_ok-block-in-None.field-0 _ _ then.frame.appended) front.appended;
+          (each_plain g.W.Words g.W.Shape.Shape _ _ c.requires.order) heads.appended front.appended;
     }
 
 pub returns-in-None-2-clause-put : goal.returns-in-None-2-clause-put
@@ -208,7 +211,7 @@ returns-in-None-2-clause-full g c =
     let then = c.in_ok-block-in-None.ensures in
     let none = rw c.in-None-2.is at then.none in
     λ e. record {
-      at = (lacks_room m c.args.key c.args.value _ _ _ _ missing _ then.goes_on.begins
+      at = (lacks_room (chain_part m) c.args.key _ _ _ _ (λ s f v. missing_value m c.args.key s f v) missing _ then.goes_on.begins
           (leads_from g.W.Words g.W.Shape.Shape c.args.w.now c.find.new.w c.take.new.w (λ before after. HasNone m.arena before) goes.shape none)).at;
     }
 
@@ -217,15 +220,17 @@ returns-in-None-2-clause-order g c =
     let m = c.args.self.now in
     let goes = c.in_ok-found.ensures.goes_on in
     let then = c.in_ok-block-in-None.ensures in
-    state_after g.W.Words g.W.Shape.Shape _ _ (IsInOrder m) (IsInOrder m) (Inserts m c.args.key c.args.value Full) (then.goes_on.shape ∙ goes.shape) (begins_trans _ _ _ goes.begins then.goes_on.begins) c.requires.order
-    (returns-in-None-2-clause-put g c) (order_inserted m c.args.key c.args.value Full)
+    state_after g.W.Words g.W.Shape.Shape _ _ (HasMapApart (chain_part m)) (HasMapApart (chain_part m)) (Inserts (chain_part m) c.args.key c.args.value Full) (then.goes_on.shape ∙ goes.shape) (begins_trans _ _ _ goes.begins then.goes_on.begins) c.requires.order
+    (returns-in-None-2-clause-put g c) (order_inserted (chain_part m) c.args.key c.args.value Full)
+
+pub returns-in-None-2-clause-full_frame : goal.returns-in-None-2-clause-full_frame
+returns-in-None-2-clause-full_frame g c =
+    let missing = rw c.in-None.is at c.in_ok-found.ensures.missing in
+    let still = rw c.in-None-2.is at c.in_ok-block-in-None.ensures.frame in
+    λ e. record { appended = only_then (λ a. ⊥) _ _ _ missing.writes still.appended }
 
 pub returns-in-None-2-clause-frame : goal.returns-in-None-2-clause-frame
-returns-in-None-2-clause-frame g c =
-    let m = c.args.self.now in
-    let missing = rw c.in-None.is at c.in_ok-found.ensures.missing in
-    let then = c.in_ok-block-in-None.ensures in
-    record { at = λ s fit. owns_none m c.args.key c.args.value _ _ _ _ missing _ (take_heads m.arena c.in_ok-block-in-None.field-0 _ _ then.frame.appended) s }
+returns-in-None-2-clause-frame g c = record { at = λ s fit. only_more (λ a. ⊥) _ _ _ (λ a k. absurd k) (returns-in-None-2-clause-full_frame g c refl).appended }
 
 pub returns-in_ok-put_in_front-in-Some-2-clause-old : goal.returns-in_ok-put_in_front-in-Some-2-clause-old
 returns-in_ok-put_in_front-in-Some-2-clause-old g c = λ was e. absurd (cc)
@@ -240,9 +245,9 @@ returns-in_ok-write-in-Some-clause-reads g c =
     let q = m.arena.first + 4 * c.from.result + 1 in
     let is_value : q ≡ block_at m.arena c.in-Some.found.block + 1 = omega (arith, c.from.ensures) in
     record {
-      at = spares_old m c.args.key _ _ _ _ (each_plain g.W.Words g.W.Shape.Shape _ _ c.requires.order) _ c.in-Some.found.place c.in-Some.found.block q c.in_ok-old-in-Some.old c.args.value is_value
+      at = sees_old m c.args.key c.args.value _ _ _ _ _ c.in-Some.found.place c.in-Some.found.block q c.in_ok-old-in-Some.old is_value
           (looks_value m c.args.key _ _ _ _ _ c.in-Some.found.place c.in-Some.found.block q c.in_ok-old-in-Some.old found c.in_ok-old-in-Some.ensures.value)
-          c.in_ok-write-in-Some.ensures.value;
+          c.in_ok-write-in-Some.ensures.value (each_plain g.W.Words g.W.Shape.Shape _ _ c.requires.order);
     }
 
 pub returns-in_ok-put_in_front-in-Some-2-clause-reads : goal.returns-in_ok-put_in_front-in-Some-2-clause-reads
@@ -252,10 +257,15 @@ returns-in_ok-put_in_front-in-Some-2-clause-reads g c =
     let goes = c.in_ok-found.ensures.goes_on in
     let then = c.in_ok-block-in-None.ensures in
     let taken = rw c.in-Some-2.is at then.taken in
+    let names = rw c.in-Some-2.is at then.reads in
+    let put = rw c.number.ensures at c.in_ok-put_in_front-in-Some-2.ensures.put in
     let front = rw c.number.ensures at c.in_ok-put_in_front-in-Some-2.ensures.reads in
     record {
-      at = spares_new m c.args.key _ _ _ _ (each_plain g.W.Words g.W.Shape.Shape _ _ c.requires.order) missing _ _ c.in-Some-2.block then.goes_on.begins c.in_ok-put_in_front-in-Some-2.ensures.goes_on.begins
-          (leads_from g.W.Words g.W.Shape.Shape c.args.w.now c.find.new.w c.take.new.w _ goes.shape taken) (take_names m.arena c.in_ok-block-in-None.field-0 _ _ (λ b e. rw e at then.number) then.reads) front;
+      at = sees_new m c.args.key c.args.value _ _ _ _ missing _ then.goes_on.begins _ c.in-Some-2.block c.in_ok-put_in_front-in-Some-2.ensures.goes_on.begins
+          (leads_from g.W.Words g.W.Shape.Shape c.args.w.now c.find.new.w c.take.new.w _ goes.shape taken)
+          (take_keeps m.arena c.in_ok-block-in-None.field-0 _ _ _ _ (leads_from g.W.Words g.W.Shape.Shape c.args.w.now c.find.new.w c.take.new.w _ goes.shape then.others))
+          (leads_from g.W.Words g.W.Shape.Shape c.args.w.now c.take.new.w c.put_in_front.new.w _ (then.goes_on.shape ∙ goes.shape) put)
+          (each_plain g.W.Words g.W.Shape.Shape _ _ c.requires.order) names front;
     }
 
 pub returns-in-None-2-clause-reads : goal.returns-in-None-2-clause-reads
@@ -263,13 +273,8 @@ returns-in-None-2-clause-reads g c =
     let m = c.args.self.now in
     let missing = rw c.in-None.is at c.in_ok-found.ensures.missing in
     let then = c.in_ok-block-in-None.ensures in
-    record { at = spares_none m c.args.key _ _ _ _ (each_plain g.W.Words g.W.Shape.Shape _ _ c.requires.order) missing _ then.goes_on.begins (take_names m.arena c.in_ok-block-in-None.field-0 _ _ (λ b e. rw e at then.number) then.reads) }
-
-pub returns-in-None-2-clause-full_frame : goal.returns-in-None-2-clause-full_frame
-returns-in-None-2-clause-full_frame g c =
-    let missing = rw c.in-None.is at c.in_ok-found.ensures.missing in
-    let still = rw c.in-None-2.is at c.in_ok-block-in-None.ensures.frame in
-    λ e. record { appended = only_then (λ a. ⊥) _ _ _ missing.writes still.appended }
+    let names = rw c.in-None-2.is at then.reads in
+    record { at = sees_none m c.args.key c.args.value _ _ _ _ missing _ then.goes_on.begins (each_plain g.W.Words g.W.Shape.Shape _ _ c.requires.order) names }
 
 pub returns-in_ok-write-in-Some-clause-full_frame : goal.returns-in_ok-write-in-Some-clause-full_frame
 returns-in_ok-write-in-Some-clause-full_frame g c = λ e. absurd (cc)

@@ -5,13 +5,15 @@ use Rattle.history_model.proofs.FittingLaws.{some_at}
 use Rattle.txn_words.proofs.CallLaws.{each_plain, state_after}
 use Rattle.txn_words.proofs.FrameLaws.{only_more}
 use Rattle.txn_alloc.specs.FreeLists.{block_at}
-use Rattle.txn_hash_map.specs.Chains.{IsInOrder, Removes}
-use Rattle.txn_alloc.proofs.Looks.{looks_read}
-use Rattle.txn_alloc.proofs.Wider.{give_writes, give_keeps, give_names}
-use Rattle.txn_hash_map.proofs.Looks.{laid_block, looks_value, IsLinkOr, finds_none, spares_link}
-use Rattle.txn_alloc.proofs.Looks.{leads_from, each_from}
-use Rattle.txn_hash_map.proofs.Removals.{order_removed, place_within, order_cut, lacks_cut, removes_some, owns_removed}
-use Rattle.txn_hash_map.proofs.Spares.{spares_removed}
+use Rattle.txn_alloc.specs.EntryMaps.{HasMapApart, Removes}
+use Rattle.txn_hash_map.specs.Chains.{chain_part}
+use Rattle.txn_alloc.proofs.Wider.{give_keeps}
+use Rattle.txn_alloc.proofs.Parts.{held, order_removed, finds_none}
+use Rattle.txn_words.proofs.Looks.{looks_read, looks_only, leads_from, each_from}
+use Rattle.txn_hash_map.specs.Searches.{IsLink}
+use Rattle.txn_hash_map.proofs.Steps.{missing_value, found_of}
+use Rattle.txn_hash_map.proofs.Looks.{IsLinkOr, laid_block, looks_value, sees_link}
+use Rattle.txn_hash_map.proofs.Removals.{place_within, order_cut, lacks_cut, removes_some, owns_removed, sees_removed}
 use Rattle.txn_hash_map.proofs.map.ChainMap.remove.Goals as goal
 
 pub find-requires-clause-order : goal.find-requires-clause-order
@@ -53,7 +55,7 @@ write-requires-clause-within g c =
     let r = m.arena.first + 4 * c.from.result + 2 in
     let is_value : q ≡ block_at m.arena b + 1 = omega (arith, c.from.ensures) in
     let is_next : r ≡ block_at m.arena b + 2 = omega (arith, c.from.ensures) in
-    let looks = looks_read _ _ _ (IsLinkOr m q) _ _ r x _ (looks_value m c.args.key _ _ _ _ _ p b q y found c.in_ok-value-in-Some.ensures.value) c.in_ok-next-in-Some.ensures.value (inl (inr (b, below, inr is_next))) in
+    let looks = looks_read _ _ _ (IsLinkOr m c.args.key q) _ _ r x _ (looks_value m c.args.key _ _ _ _ _ p b q y found c.in_ok-value-in-Some.ensures.value) c.in_ok-next-in-Some.ensures.value (λ s h. inl (inr (b, found_of m c.args.key s p b h.0, inr is_next))) in
     let order = each_plain g.W.Words g.W.Shape.Shape _ _ c.requires.order in
     let some : SomeFits (g.W.Shape.Shape.word_count (g.W.Words.shape c.args.w.now)) (g.W.Shape.Shape.good (g.W.Words.shape c.args.w.now)) (g.W.Words.trace c.read-in-Some.new.self) =
     some_at g.W.Shape.Shape.word_count g.W.Shape.Shape.good _ _ _ (c.in_ok-next-in-Some.ensures.shape ∙ c.in_ok-value-in-Some.ensures.shape ∙ goes.shape) (g.met.W.Words.fits c.read-in-Some.new.self c.in_ok-next-in-Some.ensures.sound) in
@@ -74,7 +76,7 @@ give-requires-clause-order g c =
     let r = m.arena.first + 4 * c.from.result + 2 in
     let is_value : q ≡ block_at m.arena b + 1 = omega (arith, c.from.ensures) in
     let is_next : r ≡ block_at m.arena b + 2 = omega (arith, c.from.ensures) in
-    let looks = looks_read _ _ _ (IsLinkOr m q) _ _ r x _ (looks_value m c.args.key _ _ _ _ _ p b q y found c.in_ok-value-in-Some.ensures.value) c.in_ok-next-in-Some.ensures.value (inl (inr (b, below, inr is_next))) in
+    let looks = looks_read _ _ _ (IsLinkOr m c.args.key q) _ _ r x _ (looks_value m c.args.key _ _ _ _ _ p b q y found c.in_ok-value-in-Some.ensures.value) c.in_ok-next-in-Some.ensures.value (λ s h. inl (inr (b, found_of m c.args.key s p b h.0, inr is_next))) in
     let order = each_plain g.W.Words g.W.Shape.Shape _ _ c.requires.order in
     each_from g.W.Words g.W.Shape.Shape c.args.w.now c.write.new.self _ (c.in_ok-write-in-Some.ensures.shape ∙ c.in_ok-next-in-Some.ensures.shape ∙ c.in_ok-value-in-Some.ensures.shape ∙ goes.shape) (order_cut m c.args.key _ _ _ _ p b q y r x is_value is_next looks _ c.in_ok-write-in-Some.ensures.value order)
 
@@ -92,25 +94,30 @@ give-requires-clause-lacks g c =
     let r = m.arena.first + 4 * c.from.result + 2 in
     let is_value : q ≡ block_at m.arena b + 1 = omega (arith, c.from.ensures) in
     let is_next : r ≡ block_at m.arena b + 2 = omega (arith, c.from.ensures) in
-    let looks = looks_read _ _ _ (IsLinkOr m q) _ _ r x _ (looks_value m c.args.key _ _ _ _ _ p b q y found c.in_ok-value-in-Some.ensures.value) c.in_ok-next-in-Some.ensures.value (inl (inr (b, below, inr is_next))) in
+    let looks = looks_read _ _ _ (IsLinkOr m c.args.key q) _ _ r x _ (looks_value m c.args.key _ _ _ _ _ p b q y found c.in_ok-value-in-Some.ensures.value) c.in_ok-next-in-Some.ensures.value (λ s h. inl (inr (b, found_of m c.args.key s p b h.0, inr is_next))) in
     let order = each_plain g.W.Words g.W.Shape.Shape _ _ c.requires.order in
     rw c.of.ensures (each_from g.W.Words g.W.Shape.Shape c.args.w.now c.write.new.self _ (c.in_ok-write-in-Some.ensures.shape ∙ c.in_ok-next-in-Some.ensures.shape ∙ c.in_ok-value-in-Some.ensures.shape ∙ goes.shape) (lacks_cut m c.args.key _ _ _ _ p b q y r x is_value is_next looks _ c.in_ok-write-in-Some.ensures.value order))
 
 pub returns-in-None-clause-removed : goal.returns-in-None-clause-removed
 returns-in-None-clause-removed g c =
     let missing = rw c.in-None.is at c.in_ok-find.ensures.missing in
-    record { at = (finds_none c.args.self.now c.args.key _ _ _ _ missing).at }
+    record { at = (finds_none (chain_part c.args.self.now) c.args.key _ _ _ _ (λ s f v. missing_value c.args.self.now c.args.key s f v) missing).at }
 
 pub returns-in-None-clause-order : goal.returns-in-None-clause-order
 returns-in-None-clause-order g c =
     let m = c.args.self.now in
     let goes = c.in_ok-find.ensures.goes_on in
-    state_after g.W.Words g.W.Shape.Shape _ _ (IsInOrder m) (IsInOrder m) (Removes m c.args.key None) goes.shape goes.begins c.requires.order (returns-in-None-clause-removed g c) (order_removed m c.args.key None)
+    state_after g.W.Words g.W.Shape.Shape _ _ (HasMapApart (chain_part m)) (HasMapApart (chain_part m)) (Removes (chain_part m) c.args.key None) goes.shape goes.begins c.requires.order (returns-in-None-clause-removed g c) (order_removed (chain_part m) c.args.key None)
 
 pub returns-in-None-clause-frame : goal.returns-in-None-clause-frame
 returns-in-None-clause-frame g c =
     let missing = rw c.in-None.is at c.in_ok-find.ensures.missing in
     record { at = λ s fit. only_more (λ a. ⊥) _ _ _ (λ a k. absurd k) missing.writes }
+
+pub returns-in-None-clause-none_frame : goal.returns-in-None-clause-none_frame
+returns-in-None-clause-none_frame g c =
+    let missing = rw c.in-None.is at c.in_ok-find.ensures.missing in
+    looks_only g.W.Words g.W.Shape.Shape _ _ (IsLink c.args.self.now c.args.key) _ missing
 
 pub returns-in_ok-give-in-Some-clause-removed : goal.returns-in_ok-give-in-Some-clause-removed
 returns-in_ok-give-in-Some-clause-removed g c =
@@ -126,7 +133,7 @@ returns-in_ok-give-in-Some-clause-removed g c =
     let r = m.arena.first + 4 * c.from.result + 2 in
     let is_value : q ≡ block_at m.arena b + 1 = omega (arith, c.from.ensures) in
     let is_next : r ≡ block_at m.arena b + 2 = omega (arith, c.from.ensures) in
-    let looks = looks_read _ _ _ (IsLinkOr m q) _ _ r x _ (looks_value m c.args.key _ _ _ _ _ p b q y found c.in_ok-value-in-Some.ensures.value) c.in_ok-next-in-Some.ensures.value (inl (inr (b, below, inr is_next))) in
+    let looks = looks_read _ _ _ (IsLinkOr m c.args.key q) _ _ r x _ (looks_value m c.args.key _ _ _ _ _ p b q y found c.in_ok-value-in-Some.ensures.value) c.in_ok-next-in-Some.ensures.value (λ s h. inl (inr (b, found_of m c.args.key s p b h.0, inr is_next))) in
     let order = each_plain g.W.Words g.W.Shape.Shape _ _ c.requires.order in
     let given = rw c.of.ensures at c.in_ok-give-in-Some.ensures.given in
     let kept = rw c.of.ensures at c.in_ok-give-in-Some.ensures.others in
@@ -141,9 +148,9 @@ pub returns-in_ok-give-in-Some-clause-order : goal.returns-in_ok-give-in-Some-cl
 returns-in_ok-give-in-Some-clause-order g c =
     let m = c.args.self.now in
     let goes = c.in_ok-find.ensures.goes_on in
-    state_after g.W.Words g.W.Shape.Shape _ _ (IsInOrder m) (IsInOrder m) (Removes m c.args.key (Some c.in_ok-value-in-Some.value)) (c.in_ok-give-in-Some.ensures.goes_on.shape ∙ c.in_ok-write-in-Some.ensures.shape ∙ c.in_ok-next-in-Some.ensures.shape ∙ c.in_ok-value-in-Some.ensures.shape ∙ goes.shape)
+    state_after g.W.Words g.W.Shape.Shape _ _ (HasMapApart (chain_part m)) (HasMapApart (chain_part m)) (Removes (chain_part m) c.args.key (Some c.in_ok-value-in-Some.value)) (c.in_ok-give-in-Some.ensures.goes_on.shape ∙ c.in_ok-write-in-Some.ensures.shape ∙ c.in_ok-next-in-Some.ensures.shape ∙ c.in_ok-value-in-Some.ensures.shape ∙ goes.shape)
     (begins_trans _ _ _ goes.begins (begins_trans _ _ _ c.in_ok-value-in-Some.ensures.begins (begins_trans _ _ _ c.in_ok-next-in-Some.ensures.begins (begins_trans _ _ _ c.in_ok-write-in-Some.ensures.begins c.in_ok-give-in-Some.ensures.goes_on.begins)))) c.requires.order
-    (returns-in_ok-give-in-Some-clause-removed g c) (order_removed m c.args.key (Some c.in_ok-value-in-Some.value))
+    (returns-in_ok-give-in-Some-clause-removed g c) (order_removed (chain_part m) c.args.key (Some c.in_ok-value-in-Some.value))
 
 pub returns-in_ok-give-in-Some-clause-frame : goal.returns-in_ok-give-in-Some-clause-frame
 returns-in_ok-give-in-Some-clause-frame g c =
@@ -159,19 +166,28 @@ returns-in_ok-give-in-Some-clause-frame g c =
     let r = m.arena.first + 4 * c.from.result + 2 in
     let is_value : q ≡ block_at m.arena b + 1 = omega (arith, c.from.ensures) in
     let is_next : r ≡ block_at m.arena b + 2 = omega (arith, c.from.ensures) in
-    let looks = looks_read _ _ _ (IsLinkOr m q) _ _ r x _ (looks_value m c.args.key _ _ _ _ _ p b q y found c.in_ok-value-in-Some.ensures.value) c.in_ok-next-in-Some.ensures.value (inl (inr (b, below, inr is_next))) in
+    let looks = looks_read _ _ _ (IsLinkOr m c.args.key q) _ _ r x _ (looks_value m c.args.key _ _ _ _ _ p b q y found c.in_ok-value-in-Some.ensures.value) c.in_ok-next-in-Some.ensures.value (λ s h. inl (inr (b, found_of m c.args.key s p b h.0, inr is_next))) in
     let order = each_plain g.W.Words g.W.Shape.Shape _ _ c.requires.order in
-    let given = give_writes m.arena c.in-Some.found.block _ _ (let frame = rw c.of.ensures at c.in_ok-give-in-Some.ensures.frame in frame.appended) in
-    record { at = owns_removed m c.args.key _ _ _ _ p b q y r x is_value is_next looks _ c.in_ok-write-in-Some.ensures.value order _ c.in_ok-give-in-Some.ensures.goes_on.begins given }
+    let given = rw c.of.ensures at c.in_ok-give-in-Some.ensures.given in
+    let kept = rw c.of.ensures at c.in_ok-give-in-Some.ensures.others in
+    let same = c.in_ok-write-in-Some.ensures.shape ∙ c.in_ok-next-in-Some.ensures.shape ∙ c.in_ok-value-in-Some.ensures.shape ∙ goes.shape in
+    let frame = rw c.of.ensures at c.in_ok-give-in-Some.ensures.frame in
+    record {
+      at = owns_removed m c.args.key _ _ _ _ p b q y r x is_value is_next looks _ c.in_ok-write-in-Some.ensures.value order _ c.in_ok-give-in-Some.ensures.goes_on.begins
+          (leads_from g.W.Words g.W.Shape.Shape c.args.w.now c.write.new.self c.give.new.w _ same given)
+          (give_keeps m.arena c.in-Some.found.block _ _ _ _ (leads_from g.W.Words g.W.Shape.Shape c.args.w.now c.write.new.self c.give.new.w _ same kept))
+          frame.appended;
+    }
 
 pub returns-in-None-clause-reads : goal.returns-in-None-clause-reads
 returns-in-None-clause-reads g c =
     let missing = rw c.in-None.is at c.in_ok-find.ensures.missing in
-    record { at = spares_link c.args.self.now c.args.key _ _ _ _ missing (record { at = λ s fit. (c.requires.order.at s fit).holds.map.laid }) }
+    record { at = sees_link c.args.self.now c.args.key _ _ _ _ missing (record { at = λ s fit. held (c.requires.order.at s fit) }) }
 
 pub returns-in_ok-give-in-Some-clause-reads : goal.returns-in_ok-give-in-Some-clause-reads
 returns-in_ok-give-in-Some-clause-reads g c =
     let m = c.args.self.now in
+    let goes = c.in_ok-find.ensures.goes_on in
     let found = rw c.in-Some.is at c.in_ok-find.ensures.found in
     let below = rw c.in-Some.is at c.in_ok-find.ensures.block in
     let b = c.in-Some.found.block in
@@ -182,9 +198,18 @@ returns-in_ok-give-in-Some-clause-reads g c =
     let r = m.arena.first + 4 * c.from.result + 2 in
     let is_value : q ≡ block_at m.arena b + 1 = omega (arith, c.from.ensures) in
     let is_next : r ≡ block_at m.arena b + 2 = omega (arith, c.from.ensures) in
-    let looks = looks_read _ _ _ (IsLinkOr m q) _ _ r x _ (looks_value m c.args.key _ _ _ _ _ p b q y found c.in_ok-value-in-Some.ensures.value) c.in_ok-next-in-Some.ensures.value (inl (inr (b, below, inr is_next))) in
+    let looks = looks_read _ _ _ (IsLinkOr m c.args.key q) _ _ r x _ (looks_value m c.args.key _ _ _ _ _ p b q y found c.in_ok-value-in-Some.ensures.value) c.in_ok-next-in-Some.ensures.value (λ s h. inl (inr (b, found_of m c.args.key s p b h.0, inr is_next))) in
     let order = each_plain g.W.Words g.W.Shape.Shape _ _ c.requires.order in
-    record { at = spares_removed m c.args.key _ _ _ _ order _ _ p b q y r x is_value looks c.in_ok-write-in-Some.ensures.value c.in_ok-give-in-Some.ensures.goes_on.begins (give_names m.arena c.in-Some.found.block _ _ below (rw c.of.ensures at c.in_ok-give-in-Some.ensures.reads)) }
+    let given = rw c.of.ensures at c.in_ok-give-in-Some.ensures.given in
+    let kept = rw c.of.ensures at c.in_ok-give-in-Some.ensures.others in
+    let same = c.in_ok-write-in-Some.ensures.shape ∙ c.in_ok-next-in-Some.ensures.shape ∙ c.in_ok-value-in-Some.ensures.shape ∙ goes.shape in
+    let names = rw c.of.ensures at c.in_ok-give-in-Some.ensures.reads in
+    record {
+      at = sees_removed m c.args.key _ _ _ _ p b q y r x is_value is_next looks _ c.in_ok-write-in-Some.ensures.value order _ c.in_ok-give-in-Some.ensures.goes_on.begins
+          (leads_from g.W.Words g.W.Shape.Shape c.args.w.now c.write.new.self c.give.new.w _ same given)
+          (give_keeps m.arena c.in-Some.found.block _ _ _ _ (leads_from g.W.Words g.W.Shape.Shape c.args.w.now c.write.new.self c.give.new.w _ same kept))
+          names;
+    }
 
 pub returns-in_ok-give-in-Some-clause-goes_on : goal.returns-in_ok-give-in-Some-clause-goes_on
 returns-in_ok-give-in-Some-clause-goes_on g c =

@@ -2,11 +2,13 @@ use Rattle.std.proofs.Common.{◌≡◌, ◌+◌, ◌*◌, arith, ap, ◌∙◌}
 use Rattle.txn_words.proofs.CallLaws.{each_plain}
 use Rattle.txn_alloc.specs.FreeLists.{block_at}
 use Rattle.txn_alloc.specs.EntryMaps.{HasMap}
-use Rattle.txn_alloc.proofs.Looks.{looks_only, each_looked, each_from}
-use Rattle.txn_tree_map.specs.Trees.{TreeHolds}
+use Rattle.txn_words.proofs.Looks.{looks_only, each_looked, each_from}
+use Rattle.txn_tree_map.specs.Trees.{tree_part}
 use Rattle.txn_tree_map.specs.Searches.{IsLink}
+use Rattle.txn_alloc.proofs.Parts.{finds_none}
+use Rattle.txn_tree_map.proofs.Descents.{missing_value}
 use Rattle.txn_tree_map.proofs.Searching.{laid_block}
-use Rattle.txn_tree_map.proofs.Gets.{IsLinkOr, looks_value, finds_none, finds_some, spares_link, spares_value}
+use Rattle.txn_tree_map.proofs.Gets.{IsLinkOr, looks_value, finds_some, sees_link, sees_value}
 use Rattle.txn_tree_map.proofs.map.TreeMap.get.Goals as goal
 
 pub read-requires-clause-within : goal.read-requires-clause-within
@@ -21,14 +23,14 @@ read-requires-clause-within g c =
 pub returns-in-None-clause-found : goal.returns-in-None-clause-found
 returns-in-None-clause-found g c =
     let missing = rw c.in-None.is at c.in_ok-find.ensures.missing in
-    record { at = (finds_none c.args.self.now c.args.key _ _ _ _ missing).at }
+    record { at = (finds_none (tree_part c.args.self.now) c.args.key _ _ _ _ (λ s f v. missing_value c.args.self.now c.args.key s f v) missing).at }
 
 pub returns-in-None-clause-order : goal.returns-in-None-clause-order
 returns-in-None-clause-order g c =
     let m = c.args.self.now in
     let missing = rw c.in-None.is at c.in_ok-find.ensures.missing in
     each_from g.W.Words g.W.Shape.Shape c.args.w.now _ _ c.in_ok-find.ensures.goes_on.shape
-    (each_looked _ _ _ _ missing (HasMap m.arena (TreeHolds m)) (each_plain g.W.Words g.W.Shape.Shape _ _ c.requires.order))
+    (each_looked _ _ _ _ missing (HasMap (tree_part m)) (each_plain g.W.Words g.W.Shape.Shape _ _ c.requires.order))
 
 pub returns-in-None-clause-frame : goal.returns-in-None-clause-frame
 returns-in-None-clause-frame g c =
@@ -38,7 +40,7 @@ returns-in-None-clause-frame g c =
 pub returns-in-None-clause-reads : goal.returns-in-None-clause-reads
 returns-in-None-clause-reads g c =
     let missing = rw c.in-None.is at c.in_ok-find.ensures.missing in
-    record { at = spares_link c.args.self.now c.args.key _ _ _ _ missing (record { at = λ s fit. (c.requires.order.at s fit).holds.laid }) }
+    record { at = sees_link c.args.self.now c.args.key _ _ _ _ missing (each_plain g.W.Words g.W.Shape.Shape _ _ c.requires.order) }
 
 pub returns-in_ok-value-in-Some-clause-found : goal.returns-in_ok-value-in-Some-clause-found
 returns-in_ok-value-in-Some-clause-found g c =
@@ -57,7 +59,7 @@ returns-in_ok-value-in-Some-clause-order g c =
     let found = rw c.in-Some.is at c.in_ok-find.ensures.found in
     let q = m.arena.first + 4 * c.from.result + 1 in
     each_from g.W.Words g.W.Shape.Shape c.args.w.now _ _ (c.in_ok-value-in-Some.ensures.shape ∙ c.in_ok-find.ensures.goes_on.shape)
-    (each_looked _ _ _ _ (looks_value m c.args.key _ _ _ _ _ c.in-Some.found.place c.in-Some.found.block q c.in_ok-value-in-Some.value found c.in_ok-value-in-Some.ensures.value) (HasMap m.arena (TreeHolds m))
+    (each_looked _ _ _ _ (looks_value m c.args.key _ _ _ _ _ c.in-Some.found.place c.in-Some.found.block q c.in_ok-value-in-Some.value found c.in_ok-value-in-Some.ensures.value) (HasMap (tree_part m))
     (each_plain g.W.Words g.W.Shape.Shape _ _ c.requires.order))
 
 pub returns-in_ok-value-in-Some-clause-frame : goal.returns-in_ok-value-in-Some-clause-frame
@@ -75,6 +77,6 @@ returns-in_ok-value-in-Some-clause-reads g c =
     let q = m.arena.first + 4 * c.from.result + 1 in
     let is_value : q ≡ block_at m.arena c.in-Some.found.block + 1 = omega (arith, c.from.ensures) in
     record {
-      at = spares_value m c.args.key _ _ _ _ c.in-Some.found.place c.in-Some.found.block q c.in_ok-value-in-Some.value is_value
-          (looks_value m c.args.key _ _ _ _ _ c.in-Some.found.place c.in-Some.found.block q c.in_ok-value-in-Some.value found c.in_ok-value-in-Some.ensures.value);
+      at = sees_value m c.args.key _ _ _ _ c.in-Some.found.place c.in-Some.found.block q c.in_ok-value-in-Some.value is_value
+          (looks_value m c.args.key _ _ _ _ _ c.in-Some.found.place c.in-Some.found.block q c.in_ok-value-in-Some.value found c.in_ok-value-in-Some.ensures.value) (each_plain g.W.Words g.W.Shape.Shape _ _ c.requires.order);
     }

@@ -1,19 +1,21 @@
-use Rattle.std.proofs.Common.{◌≡◌, ◌+◌, ◌*◌, arith, rules, ap, ◌∙◌}
+use Rattle.std.proofs.Common.{◌≡◌, ◌+◌, ◌*◌, refl, arith, rules, ap, ◌∙◌}
 use Rattle.history_model.specs.Fitting.{SomeFits}
 use Rattle.history_model.proofs.TraceLaws.{begins_trans}
 use Rattle.history_model.proofs.FittingLaws.{some_at}
 use Rattle.txn_words.proofs.CallLaws.{each_plain, leads_plain, state_after}
-use Rattle.txn_words.proofs.FrameLaws.{only_then}
+use Rattle.txn_words.proofs.FrameLaws.{only_more, only_then}
 use Rattle.txn_alloc.specs.declared.put.Put.TheVariants.{New, Old, Full}
 use Rattle.txn_alloc.specs.FreeLists.{block_at, HasNone}
 use Rattle.txn_alloc.specs.FreeLists as lists
 use Rattle.txn_alloc.specs.EntryMaps.{HasMapApart, Inserts, LacksRoom}
-use Rattle.txn_alloc.proofs.Looks.{each_looked, each_from, leads_from, leads_back, within_from}
-use Rattle.txn_tree_map.specs.Trees.{TreeHolds}
-use Rattle.txn_alloc.proofs.Wider.{take_heads, take_keeps, take_names}
+use Rattle.txn_words.proofs.Looks.{each_looked, each_from, leads_from, leads_back, within_from, reads_from}
+use Rattle.txn_tree_map.specs.Trees.{tree_part}
+use Rattle.txn_alloc.proofs.Wider.{take_keeps}
+use Rattle.txn_alloc.proofs.Parts.{order_inserted, lacks_room, not_new, not_old}
+use Rattle.txn_tree_map.proofs.Descents.{missing_value}
 use Rattle.txn_tree_map.proofs.Searching.{laid_block}
 use Rattle.txn_tree_map.proofs.Gets.{looks_value}
-use Rattle.txn_tree_map.proofs.Inserting.{order_inserted, lacks_room, owns_heads, spares_heads, can_put_each, inserts_new, owns_new, spares_new, inserts_old, owns_old, owns_value, spares_old, not_new, not_old}
+use Rattle.txn_tree_map.proofs.Inserting.{can_put_each, inserts_new, owns_new, sees_none, sees_new, inserts_old, owns_old, owns_value, sees_old}
 use Rattle.txn_tree_map.proofs.map.TreeMap.insert.Goals as goal
 
 pub find-requires-clause-order : goal.find-requires-clause-order
@@ -51,7 +53,7 @@ put_in-requires-clause-missing g c =
     let then = c.in_ok-block-in-None.ensures in
     let taken = rw c.in-Some-2.is at then.taken in
     rw c.number.ensures (each_from g.W.Words g.W.Shape.Shape c.args.w.now c.take.new.w _ (then.goes_on.shape ∙ goes.shape)
-    (can_put_each m c.args.key c.args.value _ _ _ _ (each_plain g.W.Words g.W.Shape.Shape _ _ c.requires.order) missing _ c.in-Some-2.block then.goes_on.begins
+    (can_put_each m c.args.key c.args.value _ _ _ _ (each_plain g.W.Words g.W.Shape.Shape _ _ c.requires.order) missing _ then.goes_on.begins c.in-Some-2.block
     (leads_from g.W.Words g.W.Shape.Shape c.args.w.now c.find.new.w c.take.new.w _ goes.shape taken)
     (take_keeps m.arena c.in_ok-block-in-None.field-0 _ _ _ _ (leads_from g.W.Words g.W.Shape.Shape c.args.w.now c.find.new.w c.take.new.w _ goes.shape then.others))))
 
@@ -100,18 +102,18 @@ returns-in_ok-write-in-Some-clause-full_if g c =
     let begins = begins_trans _ _ _ goes.begins (begins_trans _ _ _ c.in_ok-old-in-Some.ensures.begins c.in_ok-write-in-Some.ensures.begins) in
     let some : SomeFits (g.W.Shape.Shape.word_count (g.W.Words.shape c.args.w.now)) (g.W.Shape.Shape.good (g.W.Words.shape c.args.w.now)) (g.W.Words.trace c.write.new.self) =
     some_at g.W.Shape.Shape.word_count g.W.Shape.Shape.good _ _ _ (c.in_ok-write-in-Some.ensures.shape ∙ c.in_ok-old-in-Some.ensures.shape ∙ goes.shape) (g.met.W.Words.fits c.write.new.self c.in_ok-write-in-Some.ensures.sound) in
-    λ lacks. not_old m c.args.key c.args.value _ _ _ (g.W.Words.trace c.args.w.now) (each_plain g.W.Words g.W.Shape.Shape _ _ c.requires.order) _ begins some
-    (leads_plain g.W.Words g.W.Shape.Shape _ _ (λ before after. LacksRoom m.arena (TreeHolds m) c.args.key before) lacks) c.in_ok-old-in-Some.old
-    (leads_plain g.W.Words g.W.Shape.Shape _ _ (Inserts m.arena (TreeHolds m) c.args.key c.args.value (Old c.in_ok-old-in-Some.old)) (returns-in_ok-write-in-Some-clause-put g c))
+    λ lacks. not_old (tree_part m) c.args.key c.args.value _ _ _ _ (each_plain g.W.Words g.W.Shape.Shape _ _ c.requires.order) begins some
+    (leads_plain g.W.Words g.W.Shape.Shape _ _ (λ before after. LacksRoom (tree_part m) c.args.key before) lacks) c.in_ok-old-in-Some.old
+    (leads_plain g.W.Words g.W.Shape.Shape _ _ (Inserts (tree_part m) c.args.key c.args.value (Old c.in_ok-old-in-Some.old)) (returns-in_ok-write-in-Some-clause-put g c))
 
 pub returns-in_ok-write-in-Some-clause-order : goal.returns-in_ok-write-in-Some-clause-order
 returns-in_ok-write-in-Some-clause-order g c =
     let m = c.args.self.now in
     let goes = c.in_ok-found.ensures.goes_on in
     let begins = begins_trans _ _ _ goes.begins (begins_trans _ _ _ c.in_ok-old-in-Some.ensures.begins c.in_ok-write-in-Some.ensures.begins) in
-    state_after g.W.Words g.W.Shape.Shape _ _ (HasMapApart m.arena (TreeHolds m)) (HasMapApart m.arena (TreeHolds m)) (Inserts m.arena (TreeHolds m) c.args.key c.args.value (Old c.in_ok-old-in-Some.old))
+    state_after g.W.Words g.W.Shape.Shape _ _ (HasMapApart (tree_part m)) (HasMapApart (tree_part m)) (Inserts (tree_part m) c.args.key c.args.value (Old c.in_ok-old-in-Some.old))
     (c.in_ok-write-in-Some.ensures.shape ∙ c.in_ok-old-in-Some.ensures.shape ∙ goes.shape) begins c.requires.order (returns-in_ok-write-in-Some-clause-put g c)
-    (order_inserted m c.args.key c.args.value (Old c.in_ok-old-in-Some.old))
+    (order_inserted (tree_part m) c.args.key c.args.value (Old c.in_ok-old-in-Some.old))
 
 pub returns-in_ok-write-in-Some-clause-frame : goal.returns-in_ok-write-in-Some-clause-frame
 returns-in_ok-write-in-Some-clause-frame g c =
@@ -144,7 +146,7 @@ returns-in_ok-write-in-Some-clause-reads g c =
     let q = m.arena.first + 4 * c.from.result + 1 in
     let is_value : q ≡ block_at m.arena c.in-Some.found.block + 1 = omega (arith, c.from.ensures) in
     record {
-      at = spares_old m c.args.key c.args.value _ _ _ _ (each_plain g.W.Words g.W.Shape.Shape _ _ c.requires.order) _ c.in-Some.found.place c.in-Some.found.block q c.in_ok-old-in-Some.old is_value
+      at = sees_old m c.args.key c.args.value _ _ _ _ (each_plain g.W.Words g.W.Shape.Shape _ _ c.requires.order) _ c.in-Some.found.place c.in-Some.found.block q c.in_ok-old-in-Some.old is_value
           (looks_value m c.args.key _ _ _ _ _ c.in-Some.found.place c.in-Some.found.block q c.in_ok-old-in-Some.old found c.in_ok-old-in-Some.ensures.value)
           c.in_ok-write-in-Some.ensures.value;
     }
@@ -158,7 +160,7 @@ returns-in_ok-put_in-in-Some-2-clause-put g c =
     let taken = rw c.in-Some-2.is at then.taken in
     let put = rw c.number.ensures at c.in_ok-put_in-in-Some-2.ensures.put in
     record {
-      at = (inserts_new m c.args.key c.args.value _ _ _ _ (each_plain g.W.Words g.W.Shape.Shape _ _ c.requires.order) missing _ c.in-Some-2.block then.goes_on.begins
+      at = (inserts_new m c.args.key c.args.value _ _ _ _ (each_plain g.W.Words g.W.Shape.Shape _ _ c.requires.order) missing _ then.goes_on.begins c.in-Some-2.block
           (leads_from g.W.Words g.W.Shape.Shape c.args.w.now c.find.new.w c.take.new.w _ goes.shape taken)
           (take_keeps m.arena c.in_ok-block-in-None.field-0 _ _ _ _ (leads_from g.W.Words g.W.Shape.Shape c.args.w.now c.find.new.w c.take.new.w _ goes.shape then.others)) _ c.in_ok-put_in-in-Some-2.ensures.goes_on.begins
           (leads_from g.W.Words g.W.Shape.Shape c.args.w.now c.take.new.w c.put_in.new.w _ (then.goes_on.shape ∙ goes.shape) put)).at;
@@ -170,16 +172,16 @@ returns-in_ok-put_in-in-Some-2-clause-full_if g c =
     let goes = returns-in_ok-put_in-in-Some-2-clause-goes_on g c in
     let some : SomeFits (g.W.Shape.Shape.word_count (g.W.Words.shape c.args.w.now)) (g.W.Shape.Shape.good (g.W.Words.shape c.args.w.now)) (g.W.Words.trace c.put_in.new.w) =
     some_at g.W.Shape.Shape.word_count g.W.Shape.Shape.good _ _ _ (goes.shape) (g.met.W.Words.fits c.put_in.new.w goes.sound) in
-    λ lacks. not_new m c.args.key c.args.value _ _ _ (g.W.Words.trace c.args.w.now) (each_plain g.W.Words g.W.Shape.Shape _ _ c.requires.order) _ goes.begins some
-    (leads_plain g.W.Words g.W.Shape.Shape _ _ (λ before after. LacksRoom m.arena (TreeHolds m) c.args.key before) lacks)
-    (leads_plain g.W.Words g.W.Shape.Shape _ _ (Inserts m.arena (TreeHolds m) c.args.key c.args.value New) (returns-in_ok-put_in-in-Some-2-clause-put g c))
+    λ lacks. not_new (tree_part m) c.args.key c.args.value _ _ _ _ (each_plain g.W.Words g.W.Shape.Shape _ _ c.requires.order) goes.begins some
+    (leads_plain g.W.Words g.W.Shape.Shape _ _ (λ before after. LacksRoom (tree_part m) c.args.key before) lacks)
+    (leads_plain g.W.Words g.W.Shape.Shape _ _ (Inserts (tree_part m) c.args.key c.args.value New) (returns-in_ok-put_in-in-Some-2-clause-put g c))
 
 pub returns-in_ok-put_in-in-Some-2-clause-order : goal.returns-in_ok-put_in-in-Some-2-clause-order
 returns-in_ok-put_in-in-Some-2-clause-order g c =
     let m = c.args.self.now in
     let goes = returns-in_ok-put_in-in-Some-2-clause-goes_on g c in
-    state_after g.W.Words g.W.Shape.Shape _ _ (HasMapApart m.arena (TreeHolds m)) (HasMapApart m.arena (TreeHolds m)) (Inserts m.arena (TreeHolds m) c.args.key c.args.value New) goes.shape goes.begins c.requires.order
-    (returns-in_ok-put_in-in-Some-2-clause-put g c) (order_inserted m c.args.key c.args.value New)
+    state_after g.W.Words g.W.Shape.Shape _ _ (HasMapApart (tree_part m)) (HasMapApart (tree_part m)) (Inserts (tree_part m) c.args.key c.args.value New) goes.shape goes.begins c.requires.order
+    (returns-in_ok-put_in-in-Some-2-clause-put g c) (order_inserted (tree_part m) c.args.key c.args.value New)
 
 pub returns-in_ok-put_in-in-Some-2-clause-frame : goal.returns-in_ok-put_in-in-Some-2-clause-frame
 returns-in_ok-put_in-in-Some-2-clause-frame g c =
@@ -189,13 +191,14 @@ returns-in_ok-put_in-in-Some-2-clause-frame g c =
     let then = c.in_ok-block-in-None.ensures in
     let taken = rw c.in-Some-2.is at then.taken in
     let put = rw c.number.ensures at c.in_ok-put_in-in-Some-2.ensures.put in
+    let heads = rw c.in-Some-2.is at then.frame in
     let front = rw c.number.ensures at c.in_ok-put_in-in-Some-2.ensures.frame in
     record {
-      at = owns_new m c.args.key c.args.value _ _ _ _ (each_plain g.W.Words g.W.Shape.Shape _ _ c.requires.order) missing _ c.in-Some-2.block then.goes_on.begins
+      at = owns_new m c.args.key c.args.value _ _ _ _ (each_plain g.W.Words g.W.Shape.Shape _ _ c.requires.order) missing _ then.goes_on.begins c.in-Some-2.block
           (leads_from g.W.Words g.W.Shape.Shape c.args.w.now c.find.new.w c.take.new.w _ goes.shape taken)
           (take_keeps m.arena c.in_ok-block-in-None.field-0 _ _ _ _ (leads_from g.W.Words g.W.Shape.Shape c.args.w.now c.find.new.w c.take.new.w _ goes.shape then.others)) _ c.in_ok-put_in-in-Some-2.ensures.goes_on.begins
           (leads_from g.W.Words g.W.Shape.Shape c.args.w.now c.take.new.w c.put_in.new.w _ (then.goes_on.shape ∙ goes.shape) put)
-          (take_heads m.arena c.in_ok-block-in-None.field-0 _ _ then.frame.appended) (within_from g.W.Words g.W.Shape.Shape c.args.w.now c.take.new.w c.put_in.new.w _ (then.goes_on.shape ∙ goes.shape) front);
+          heads.appended (within_from g.W.Words g.W.Shape.Shape c.args.w.now c.take.new.w c.put_in.new.w _ (then.goes_on.shape ∙ goes.shape) front);
     }
 
 pub returns-in_ok-put_in-in-Some-2-clause-reads : goal.returns-in_ok-put_in-in-Some-2-clause-reads
@@ -205,11 +208,15 @@ returns-in_ok-put_in-in-Some-2-clause-reads g c =
     let goes = c.in_ok-found.ensures.goes_on in
     let then = c.in_ok-block-in-None.ensures in
     let taken = rw c.in-Some-2.is at then.taken in
+    let put = rw c.number.ensures at c.in_ok-put_in-in-Some-2.ensures.put in
+    let names = rw c.in-Some-2.is at then.reads in
     let front = rw c.number.ensures at c.in_ok-put_in-in-Some-2.ensures.reads in
     record {
-      at = spares_new m c.args.key c.args.value _ _ _ _ (each_plain g.W.Words g.W.Shape.Shape _ _ c.requires.order) missing _ c.in-Some-2.block then.goes_on.begins
+      at = sees_new m c.args.key c.args.value _ _ _ _ (each_plain g.W.Words g.W.Shape.Shape _ _ c.requires.order) missing _ then.goes_on.begins c.in-Some-2.block
           (leads_from g.W.Words g.W.Shape.Shape c.args.w.now c.find.new.w c.take.new.w _ goes.shape taken)
-          (take_keeps m.arena c.in_ok-block-in-None.field-0 _ _ _ _ (leads_from g.W.Words g.W.Shape.Shape c.args.w.now c.find.new.w c.take.new.w _ goes.shape then.others)) _ c.in_ok-put_in-in-Some-2.ensures.goes_on.begins (take_names m.arena c.in_ok-block-in-None.field-0 _ _ (λ b e. rw e at then.number) then.reads) front;
+          (take_keeps m.arena c.in_ok-block-in-None.field-0 _ _ _ _ (leads_from g.W.Words g.W.Shape.Shape c.args.w.now c.find.new.w c.take.new.w _ goes.shape then.others)) _ c.in_ok-put_in-in-Some-2.ensures.goes_on.begins
+          (leads_from g.W.Words g.W.Shape.Shape c.args.w.now c.take.new.w c.put_in.new.w _ (then.goes_on.shape ∙ goes.shape) put)
+          names (reads_from g.W.Words g.W.Shape.Shape c.args.w.now c.take.new.w c.put_in.new.w _ (then.goes_on.shape ∙ goes.shape) front);
     }
 
 pub returns-in_ok-put_in-in-Some-2-clause-old : goal.returns-in_ok-put_in-in-Some-2-clause-old
@@ -235,7 +242,7 @@ returns-in-None-2-clause-full g c =
     let then = c.in_ok-block-in-None.ensures in
     let none = rw c.in-None-2.is at then.none in
     λ e. record {
-      at = (lacks_room m c.args.key c.args.value _ _ _ _ (each_plain g.W.Words g.W.Shape.Shape _ _ c.requires.order) missing _ then.goes_on.begins
+      at = (lacks_room (tree_part m) c.args.key _ _ _ _ (λ s f v. missing_value m c.args.key s f v) missing _ then.goes_on.begins
           (leads_from g.W.Words g.W.Shape.Shape c.args.w.now c.find.new.w c.take.new.w (λ before after. HasNone m.arena before) goes.shape none)).at;
     }
 
@@ -244,22 +251,18 @@ returns-in-None-2-clause-order g c =
     let m = c.args.self.now in
     let goes = c.in_ok-found.ensures.goes_on in
     let then = c.in_ok-block-in-None.ensures in
-    state_after g.W.Words g.W.Shape.Shape _ _ (HasMapApart m.arena (TreeHolds m)) (HasMapApart m.arena (TreeHolds m)) (Inserts m.arena (TreeHolds m) c.args.key c.args.value Full) (then.goes_on.shape ∙ goes.shape)
+    state_after g.W.Words g.W.Shape.Shape _ _ (HasMapApart (tree_part m)) (HasMapApart (tree_part m)) (Inserts (tree_part m) c.args.key c.args.value Full) (then.goes_on.shape ∙ goes.shape)
     (begins_trans _ _ _ goes.begins then.goes_on.begins) c.requires.order
-    (returns-in-None-2-clause-put g c) (order_inserted m c.args.key c.args.value Full)
-
-pub returns-in-None-2-clause-frame : goal.returns-in-None-2-clause-frame
-returns-in-None-2-clause-frame g c =
-    let m = c.args.self.now in
-    let missing = rw c.in-None.is at c.in_ok-found.ensures.missing in
-    let then = c.in_ok-block-in-None.ensures in
-    record { at = owns_heads m c.args.key c.args.value _ _ _ _ (each_plain g.W.Words g.W.Shape.Shape _ _ c.requires.order) missing _ then.goes_on.begins (take_heads m.arena c.in_ok-block-in-None.field-0 _ _ then.frame.appended) }
+    (returns-in-None-2-clause-put g c) (order_inserted (tree_part m) c.args.key c.args.value Full)
 
 pub returns-in-None-2-clause-full_frame : goal.returns-in-None-2-clause-full_frame
 returns-in-None-2-clause-full_frame g c =
     let missing = rw c.in-None.is at c.in_ok-found.ensures.missing in
     let still = rw c.in-None-2.is at c.in_ok-block-in-None.ensures.frame in
     λ e. record { appended = only_then (λ a. ⊥) _ _ _ missing.writes still.appended }
+
+pub returns-in-None-2-clause-frame : goal.returns-in-None-2-clause-frame
+returns-in-None-2-clause-frame g c = record { at = λ s fit. only_more (λ a. ⊥) _ _ _ (λ a k. absurd k) (returns-in-None-2-clause-full_frame g c refl).appended }
 
 pub returns-in-None-2-clause-old : goal.returns-in-None-2-clause-old
 returns-in-None-2-clause-old g c = λ was e. absurd (cc)
@@ -269,7 +272,8 @@ returns-in-None-2-clause-reads g c =
     let m = c.args.self.now in
     let missing = rw c.in-None.is at c.in_ok-found.ensures.missing in
     let then = c.in_ok-block-in-None.ensures in
-    record { at = spares_heads m c.args.key c.args.value _ _ _ _ (each_plain g.W.Words g.W.Shape.Shape _ _ c.requires.order) missing _ then.goes_on.begins (take_names m.arena c.in_ok-block-in-None.field-0 _ _ (λ b e. rw e at then.number) then.reads) }
+    let names = rw c.in-None-2.is at then.reads in
+    record { at = sees_none m c.args.key c.args.value _ _ _ _ (each_plain g.W.Words g.W.Shape.Shape _ _ c.requires.order) missing _ then.goes_on.begins names }
 
 pub returns-in_ok-write-in-Some-clause-full_frame : goal.returns-in_ok-write-in-Some-clause-full_frame
 returns-in_ok-write-in-Some-clause-full_frame g c = λ e. absurd (cc)

@@ -3,20 +3,19 @@ use Rattle.history_model.proofs.TraceLaws.{begins_trans}
 use Rattle.txn_words.proofs.CallLaws.{each_plain, state_after}
 use Rattle.txn_words.proofs.FrameLaws.{only_more}
 use Rattle.txn_alloc.specs.EntryMaps.{HasMapApart, Removes}
-use Rattle.txn_alloc.proofs.Looks.{looks_each, looks_map, each_from, leads_from, within_from}
-use Rattle.txn_tree_map.specs.Trees.{TreeHolds}
+use Rattle.txn_words.proofs.Looks.{looks_each, looks_map, looks_only, each_from, leads_from, within_from, reads_from}
+use Rattle.txn_tree_map.specs.Trees.{tree_part}
 use Rattle.txn_tree_map.specs.Searches.{IsLink}
 use Rattle.txn_tree_map.specs.Joins.{CanCut}
-use Rattle.txn_alloc.proofs.Wider.{give_writes, give_keeps, give_names}
-use Rattle.txn_tree_map.proofs.Gets.{finds_none, spares_link}
-use Rattle.txn_tree_map.proofs.Removing.{order_removed, order_cut, lacks_cut, removes_some, owns_removed, spares_removed}
+use Rattle.txn_alloc.proofs.Wider.{give_keeps}
+use Rattle.txn_alloc.proofs.Parts.{held, order_removed, finds_none}
+use Rattle.txn_tree_map.proofs.Descents.{missing_value}
+use Rattle.txn_tree_map.proofs.Gets.{sees_link}
+use Rattle.txn_tree_map.proofs.Removing.{order_cut, lacks_cut, removes_some, owns_removed, sees_removed}
 use Rattle.txn_tree_map.proofs.map.TreeMap.remove.Goals as goal
 
 pub find-requires-clause-order : goal.find-requires-clause-order
 find-requires-clause-order g c = record { at = λ s fit. let o = c.requires.order.at s fit in record { entries = o.entries; used = o.used; holds = o.holds.map } }
-
-pub cut-requires-clause-link : goal.cut-requires-clause-link
-cut-requires-clause-link g c = rw c.in-Some.is at c.in_ok-find.ensures.link
 
 pub cut-requires-clause-block : goal.cut-requires-clause-block
 cut-requires-clause-block g c = rw c.in-Some.is at c.in_ok-find.ensures.block
@@ -58,24 +57,29 @@ give-requires-clause-lacks g c =
 pub returns-in-None-clause-removed : goal.returns-in-None-clause-removed
 returns-in-None-clause-removed g c =
     let missing = rw c.in-None.is at c.in_ok-find.ensures.missing in
-    record { at = (finds_none c.args.self.now c.args.key _ _ _ _ missing).at }
+    record { at = (finds_none (tree_part c.args.self.now) c.args.key _ _ _ _ (λ s f v. missing_value c.args.self.now c.args.key s f v) missing).at }
 
 pub returns-in-None-clause-order : goal.returns-in-None-clause-order
 returns-in-None-clause-order g c =
     let m = c.args.self.now in
     let goes = c.in_ok-find.ensures.goes_on in
-    state_after g.W.Words g.W.Shape.Shape _ _ (HasMapApart m.arena (TreeHolds m)) (HasMapApart m.arena (TreeHolds m)) (Removes m.arena (TreeHolds m) c.args.key None) goes.shape goes.begins c.requires.order
-    (returns-in-None-clause-removed g c) (order_removed m c.args.key None)
+    state_after g.W.Words g.W.Shape.Shape _ _ (HasMapApart (tree_part m)) (HasMapApart (tree_part m)) (Removes (tree_part m) c.args.key None) goes.shape goes.begins c.requires.order
+    (returns-in-None-clause-removed g c) (order_removed (tree_part m) c.args.key None)
 
 pub returns-in-None-clause-frame : goal.returns-in-None-clause-frame
 returns-in-None-clause-frame g c =
     let missing = rw c.in-None.is at c.in_ok-find.ensures.missing in
     record { at = λ s fit. only_more (λ a. ⊥) _ _ _ (λ a k. absurd k) missing.writes }
 
+pub returns-in-None-clause-none_frame : goal.returns-in-None-clause-none_frame
+returns-in-None-clause-none_frame g c =
+    let missing = rw c.in-None.is at c.in_ok-find.ensures.missing in
+    looks_only g.W.Words g.W.Shape.Shape _ _ (IsLink c.args.self.now) _ missing
+
 pub returns-in-None-clause-reads : goal.returns-in-None-clause-reads
 returns-in-None-clause-reads g c =
     let missing = rw c.in-None.is at c.in_ok-find.ensures.missing in
-    record { at = spares_link c.args.self.now c.args.key _ _ _ _ missing (record { at = λ s fit. (c.requires.order.at s fit).holds.map.laid }) }
+    record { at = sees_link c.args.self.now c.args.key _ _ _ _ missing (record { at = λ s fit. held (c.requires.order.at s fit) }) }
 
 pub returns-in_ok-give-in-Some-clause-goes_on : goal.returns-in_ok-give-in-Some-clause-goes_on
 returns-in_ok-give-in-Some-clause-goes_on g c =
@@ -111,8 +115,8 @@ pub returns-in_ok-give-in-Some-clause-order : goal.returns-in_ok-give-in-Some-cl
 returns-in_ok-give-in-Some-clause-order g c =
     let m = c.args.self.now in
     let goes = returns-in_ok-give-in-Some-clause-goes_on g c in
-    state_after g.W.Words g.W.Shape.Shape _ _ (HasMapApart m.arena (TreeHolds m)) (HasMapApart m.arena (TreeHolds m)) (Removes m.arena (TreeHolds m) c.args.key (Some c.in_ok-value-in-Some.value)) goes.shape goes.begins c.requires.order
-    (returns-in_ok-give-in-Some-clause-removed g c) (order_removed m c.args.key (Some c.in_ok-value-in-Some.value))
+    state_after g.W.Words g.W.Shape.Shape _ _ (HasMapApart (tree_part m)) (HasMapApart (tree_part m)) (Removes (tree_part m) c.args.key (Some c.in_ok-value-in-Some.value)) goes.shape goes.begins c.requires.order
+    (returns-in_ok-give-in-Some-clause-removed g c) (order_removed (tree_part m) c.args.key (Some c.in_ok-value-in-Some.value))
 
 pub returns-in_ok-give-in-Some-clause-frame : goal.returns-in_ok-give-in-Some-clause-frame
 returns-in_ok-give-in-Some-clause-frame g c =
@@ -120,12 +124,15 @@ returns-in_ok-give-in-Some-clause-frame g c =
     let f = c.in-Some.found in
     let goes = c.in_ok-find.ensures.goes_on in
     let cut = c.in_ok-value-in-Some.ensures in
+    let same = cut.goes_on.shape ∙ goes.shape in
     let found = rw c.in-Some.is at c.in_ok-find.ensures.found in
-    let given = give_writes m.arena c.in-Some.found.block _ _ (let frame = rw c.of.ensures at c.in_ok-give-in-Some.ensures.frame in frame.appended) in
+    let kept = rw c.of.ensures at c.in_ok-give-in-Some.ensures.others in
+    let frame = rw c.of.ensures at c.in_ok-give-in-Some.ensures.frame in
     record {
       at = owns_removed m c.args.key f.place f.block c.in_ok-value-in-Some.value _ _ _ _ _ (each_plain g.W.Words g.W.Shape.Shape _ _ c.requires.order) found cut.goes_on.begins
           (leads_from g.W.Words g.W.Shape.Shape c.args.w.now c.find.new.w c.cut.new.w _ goes.shape cut.cut) _ c.in_ok-give-in-Some.ensures.goes_on.begins
-          (within_from g.W.Words g.W.Shape.Shape c.args.w.now c.find.new.w c.cut.new.w _ goes.shape cut.frame) given;
+          (give_keeps m.arena f.block _ _ _ _ (leads_from g.W.Words g.W.Shape.Shape c.args.w.now c.cut.new.w c.give.new.w _ same kept))
+          (within_from g.W.Words g.W.Shape.Shape c.args.w.now c.find.new.w c.cut.new.w _ goes.shape cut.frame) frame.appended;
     }
 
 pub returns-in_ok-give-in-Some-clause-reads : goal.returns-in_ok-give-in-Some-clause-reads
@@ -134,9 +141,13 @@ returns-in_ok-give-in-Some-clause-reads g c =
     let f = c.in-Some.found in
     let goes = c.in_ok-find.ensures.goes_on in
     let cut = c.in_ok-value-in-Some.ensures in
+    let same = cut.goes_on.shape ∙ goes.shape in
     let found = rw c.in-Some.is at c.in_ok-find.ensures.found in
+    let kept = rw c.of.ensures at c.in_ok-give-in-Some.ensures.others in
+    let names = rw c.of.ensures at c.in_ok-give-in-Some.ensures.reads in
     record {
-      at = spares_removed m c.args.key f.place f.block c.in_ok-value-in-Some.value _ _ _ _ _ (each_plain g.W.Words g.W.Shape.Shape _ _ c.requires.order) found cut.goes_on.begins
+      at = sees_removed m c.args.key f.place f.block c.in_ok-value-in-Some.value _ _ _ _ _ (each_plain g.W.Words g.W.Shape.Shape _ _ c.requires.order) found cut.goes_on.begins
           (leads_from g.W.Words g.W.Shape.Shape c.args.w.now c.find.new.w c.cut.new.w _ goes.shape cut.cut) _ c.in_ok-give-in-Some.ensures.goes_on.begins
-          cut.reads (let below = rw c.in-Some.is at c.in_ok-find.ensures.block in give_names m.arena c.in-Some.found.block _ _ below (rw c.of.ensures at c.in_ok-give-in-Some.ensures.reads));
+          (give_keeps m.arena f.block _ _ _ _ (leads_from g.W.Words g.W.Shape.Shape c.args.w.now c.cut.new.w c.give.new.w _ same kept))
+          (reads_from g.W.Words g.W.Shape.Shape c.args.w.now c.find.new.w c.cut.new.w _ goes.shape cut.reads) names;
     }

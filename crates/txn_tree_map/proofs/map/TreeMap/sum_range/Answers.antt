@@ -4,8 +4,8 @@ use Rattle.history_model.proofs.FittingLaws.{some_at}
 use Rattle.txn_words.proofs.CallLaws.{each_plain}
 use Rattle.txn_words.proofs.ReadLaws.{sees_same}
 use Rattle.txn_alloc.specs.EntryMaps.{HasMap}
-use Rattle.txn_alloc.proofs.Looks.{looks_none, looks_map, looks_then, looks_only, looks_from, each_looked, each_from, reads_from}
-use Rattle.txn_tree_map.specs.Trees.{TreeHolds}
+use Rattle.txn_words.proofs.Looks.{looks_none, looks_map, looks_then, looks_only, looks_from, each_looked, each_from, reads_from}
+use Rattle.txn_tree_map.specs.Trees.{tree_part}
 use Rattle.txn_tree_map.specs.Sums.{IsAnyWord, IsTotal, IsNext, HasNoneTo}
 use Rattle.txn_tree_map.proofs.Places.{at_tree}
 use Rattle.txn_tree_map.proofs.Summing.{summed_none, summed_more, total_none, total_all, total_high}
@@ -29,7 +29,7 @@ pub entry_from-requires-clause-order : goal.entry_from-requires-clause-order
 entry_from-requires-clause-order g c =
     let m = c.args.self.now in
     let i = c.loop.invariant in
-    each_from g.W.Words g.W.Shape.Shape c.args.w.now c.loop.w _ i.shape (each_looked _ _ _ _ i.looks (HasMap m.arena (TreeHolds m)) (each_plain g.W.Words g.W.Shape.Shape _ _ c.requires.order))
+    each_from g.W.Words g.W.Shape.Shape c.args.w.now c.loop.w _ i.shape (each_looked _ _ _ _ i.looks (HasMap (tree_part m)) (each_plain g.W.Words g.W.Shape.Shape _ _ c.requires.order))
 
 pub overflow_add-total : goal.overflow_add-total
 overflow_add-total g c =
@@ -61,7 +61,7 @@ returns-in-None-clause-order g c =
     let i = c.loop.invariant in
     let none = rw c.in-None.is at c.in_ok-entry_from.ensures.none in
     each_from g.W.Words g.W.Shape.Shape c.args.w.now _ _ (c.in_ok-entry_from.ensures.goes_on.shape ∙ i.shape)
-    (each_looked _ _ _ _ (looks_then _ _ _ IsAnyWord _ _ _ (HasNoneTo m c.loop.least c.args.high) i.looks (looks_from g.W.Words g.W.Shape.Shape c.args.w.now c.loop.w _ _ IsAnyWord _ i.shape none)) (HasMap m.arena (TreeHolds m))
+    (each_looked _ _ _ _ (looks_then _ _ _ IsAnyWord _ _ _ (HasNoneTo m c.loop.least c.args.high) i.looks (looks_from g.W.Words g.W.Shape.Shape c.args.w.now c.loop.w _ _ IsAnyWord _ i.shape none)) (HasMap (tree_part m))
     (each_plain g.W.Words g.W.Shape.Shape _ _ c.requires.order))
 
 pub returns-in-None-clause-frame : goal.returns-in-None-clause-frame
@@ -103,7 +103,7 @@ returns-then-entry-high-clause-order g c =
     let e = c.in-Some.entry in
     let next = rw c.in-Some.is at c.in_ok-entry_from.ensures.next in
     each_from g.W.Words g.W.Shape.Shape c.args.w.now _ _ (c.in_ok-entry_from.ensures.goes_on.shape ∙ i.shape)
-    (each_looked _ _ _ _ (looks_then _ _ _ IsAnyWord _ _ _ (IsNext m c.loop.least e.key e.value) i.looks (looks_from g.W.Words g.W.Shape.Shape c.args.w.now c.loop.w _ _ IsAnyWord _ i.shape next)) (HasMap m.arena (TreeHolds m))
+    (each_looked _ _ _ _ (looks_then _ _ _ IsAnyWord _ _ _ (IsNext m c.loop.least e.key e.value) i.looks (looks_from g.W.Words g.W.Shape.Shape c.args.w.now c.loop.w _ _ IsAnyWord _ i.shape next)) (HasMap (tree_part m))
     (each_plain g.W.Words g.W.Shape.Shape _ _ c.requires.order))
 
 pub returns-then-entry-high-clause-frame : goal.returns-then-entry-high-clause-frame
@@ -164,7 +164,7 @@ pub returns-clause-order : goal.returns-clause-order
 returns-clause-order g c =
     let m = c.args.self.now in
     let i = c.loop.invariant in
-    each_from g.W.Words g.W.Shape.Shape c.args.w.now _ _ i.shape (each_looked _ _ _ _ i.looks (HasMap m.arena (TreeHolds m)) (each_plain g.W.Words g.W.Shape.Shape _ _ c.requires.order))
+    each_from g.W.Words g.W.Shape.Shape c.args.w.now _ _ i.shape (each_looked _ _ _ _ i.looks (HasMap (tree_part m)) (each_plain g.W.Words g.W.Shape.Shape _ _ c.requires.order))
 
 pub returns-clause-frame : goal.returns-clause-frame
 returns-clause-frame g c = looks_only g.W.Words g.W.Shape.Shape _ _ IsAnyWord _ c.loop.invariant.looks

@@ -2,9 +2,9 @@ use Rattle.std.proofs.Common.{◌≡◌, ◌≤◌, ℕ, List, None}
 use Rattle.history_model.specs.Traces.{after}
 use Rattle.history_model.specs.Fitting.{Fits}
 use Rattle.txn_words.specs.Frames.{AppendsReads}
-use Rattle.txn_alloc.specs.Looks.{Looks}
+use Rattle.txn_words.specs.Looks.{Looks}
 use Rattle.txn_alloc.specs.EntryMaps.{MayReadRange}
-use Rattle.txn_tree_map.specs.Trees.{TreeHolds}
+use Rattle.txn_tree_map.specs.Trees.{tree_part}
 use Rattle.txn_tree_map.specs.Sums.{IsAnyWord, IsSummed}
 use Rattle.txn_tree_map.proofs.map.TreeMap.sum_range.Given as goal
 
@@ -19,5 +19,5 @@ invariant-loop g l =
       from : l.low ≤ l.least;
       looks : Looks (g.W.Shape.Shape.word_count (words.shape l.fn.w)) (g.W.Shape.Shape.good (words.shape l.fn.w)) (words.trace l.fn.w) (words.trace l.w) IsAnyWord (IsSummed l.self l.low l.high l.least l.counter l.total);
       reads : (s : List ℕ) → Fits (g.W.Shape.Shape.word_count (words.shape l.fn.w)) (g.W.Shape.Shape.good (words.shape l.fn.w)) (words.trace l.w) s
-          → AppendsReads (words.trace l.fn.w) (words.trace l.w) (MayReadRange l.self.arena (TreeHolds l.self) l.low l.high (after (words.trace l.fn.w) s) (after (words.trace l.w) s));
+          → AppendsReads (words.trace l.fn.w) (words.trace l.w) (MayReadRange (tree_part l.self) l.low l.high (after (words.trace l.fn.w) s) (after (words.trace l.w) s));
     }
