@@ -1,9 +1,8 @@
 -- The counter of entries has room for one more: there are no more entries than calls that were begun.
-use Rattle.std.proofs.Common.{◌≡◌, ℕ, zero, suc, ◌+◌, ◌*◌, ◌^◌, ◌<◌, ◌≤◌, Bool, List, [], ◌∷◌, length, slice_index, sym, ap, ◌∙◌, subst, arith}
-use Rattle.history_model.specs.declared.entry.Entry.{Entry}
+use Rattle.std.proofs.Common.{◌≡◌, ℕ, zero, suc, ◌+◌, ◌*◌, ◌^◌, ◌<◌, ◌≤◌, Bool, List, [], ◌∷◌, slice_index, subst, arith}
 use Rattle.history_model.specs.declared.view.View.{View}
 use Rattle.history_model.specs.Counts.{calls_below}
-use Rattle.history_model.specs.Table.{Knows, calls_word, history_of}
+use Rattle.history_model.specs.Table.{calls_word}
 use Rattle.values_rule.specs.Steps.{commit_call_action}
 use Rattle.values_rule.proofs.LockKinds.{own}
 use Rattle.word_table.specs.declared.limits.TheConstants.{MOST_PASSES}

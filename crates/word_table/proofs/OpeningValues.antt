@@ -1,20 +1,17 @@
 -- At the start the history is empty, no call was begun, and the values are those that the memory began with.
-use Rattle.std.proofs.Common.{◌≡◌, ◌≢◌, ℕ, zero, suc, ◌+◌, ◌*◌, ◌<◌, ◌≤◌, Bool, true, false, inl, inr, List, [], ◌∷◌, ◌++◌, length, Option, Some, None, slice_get, slice_index, replicate, refl, sym, ap, ◌∙◌, subst, arith}
+use Rattle.std.proofs.Common.{◌≡◌, ℕ, ◌+◌, ◌≤◌, true, false, List, [], ◌∷◌, length, Some, None, slice_get, slice_index, refl, sym, ap, ◌∙◌, subst, arith}
 use Rattle.std.proofs.lemmas.Option.{slice_get-get_or}
-use mathlib.Core.Option.{some-injective, some-ne-none}
-use Rattle.history_model.specs.declared.TheConstants.{LOCKS}
 use Rattle.history_model.specs.declared.entry.Entry.{Entry}
 use Rattle.history_model.specs.declared.view.View.{View}
-use Rattle.history_model.specs.declared.view.Phase.TheVariants.{Idle, Running}
-use Rattle.history_model.specs.Counts.{is_attempt, is_open, open_count, calls_sum}
+use Rattle.history_model.specs.declared.view.Phase.TheVariants.{Idle}
+use Rattle.history_model.specs.Counts.{is_attempt, is_open, open_count}
 use Rattle.history_model.specs.Histories.{replay}
 use Rattle.history_model.specs.Legal.{IsPrefix}
-use Rattle.history_model.specs.Sets.{has}
 use Rattle.history_model.specs.Table.{Knows, history_of, calls_word, value_word}
 use Rattle.history_model.proofs.HistoryLaws.{replay_nothing}
-use Rattle.locks_rule.specs.Locks.{LocksHold, IsSeat}
+use Rattle.locks_rule.specs.Locks.{LocksHold}
 use Rattle.locks_rule.specs.Splits.{opening_view}
-use Rattle.values_rule.specs.Values.{value_at, oldest, ValuesHold}
+use Rattle.values_rule.specs.Values.{oldest, ValuesHold}
 use Rattle.values_rule.proofs.Notes.{oldest-nil}
 use Rattle.word_table.specs.Sound.{opening_words, numbers}
 use Rattle.word_table.proofs.Zeros.{zeros_at, past_zeros, one_view}

@@ -4,7 +4,8 @@ ghost use Rattle.std.specs.Prelude.{◌≡◌, ℕ, List, [], ◌∷◌, Some, s
 ghost use Rattle.history_model.specs.declared.view.View.{View};
 ghost use Rattle.history_model.specs.Fitting.{IsGood};
 ghost use Rattle.history_model.specs.Table.{TableState, Knows};
-ghost use Rattle.locks_rule.specs.Actions.{words_after, views_after};
+ghost use Rattle.locks_rule.specs.Actions.{Keeps, words_after, views_after};
+ghost use Rattle.locks_rule.specs.Splits.{KeepsSplit, MaySplitSeat, left_by_split, given_by_split};
 ghost use Rattle.word_table.specs.declared.step.Step.{Step};
 ghost use Rattle.word_table.specs.Kinds.{action_of, May};
 ghost use Rattle.word_table.specs.Runs.{IsOpening, IsRun, Steps};
@@ -12,6 +13,20 @@ ghost use Rattle.word_table.specs.Sound.{IsSound};
 
 use crate::limits::{MOST_PASSES, MOST_WORDS};
 use history_model::Shape;
+
+/// Every kind of step keeps the whole rule, from every state in which a seat may take it.
+pub fn every_step<S: Shape>()
+    ensures { (shape : _) (n : ℕ) (base : List ℕ) (step : Step)
+        → Keeps (IsSound (IsGood (S.word_count shape) (S.good shape)) n base)
+        (May (IsGood (S.word_count shape) (S.good shape)) step) (action_of step) }
+{}
+
+/// A view that gives up a number to a new seat keeps the whole rule.
+pub fn every_cut<S: Shape>()
+    ensures { (shape : _) (n : ℕ) (base : List ℕ) (j : ℕ)
+        → KeepsSplit (IsSound (IsGood (S.word_count shape) (S.good shape)) n base) (MaySplitSeat j)
+        left_by_split given_by_split }
+{}
 
 /// Every state of every run meets the rule: for every shape, every number of seats, every good memory to begin with,
 /// and every list of steps in any order of seats, by the same kinds of step that the calls of a desk take.

@@ -36,3 +36,5 @@ pub use rule::{DeskRule, Ground};
 
 #[cfg(test)]
 mod tests;
+#[cfg(test)]
+mod values_tests;

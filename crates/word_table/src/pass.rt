@@ -26,7 +26,10 @@ ghost use Rattle.word_table.specs.Unscanned.{IsUnscanned};
 
 use crate::answer::{Scanned, Shared, is_unclaimed, scanned_by, shared_by};
 use crate::copies::{CallCopy, LockCopy};
-use crate::layout::{PLACE_OF_SERIAL, place_of_bit, place_of_calls, place_of_own_bit, place_of_stamp, place_of_value, place_of_writer};
+use crate::layout::{
+    PLACE_OF_SERIAL, place_of_bit, place_of_calls, place_of_own_bit, place_of_stamp,
+    place_of_value, place_of_writer,
+};
 use crate::limits::{LAST_CALL, MOST_PASSES, MOST_WORDS};
 use crate::rule::TableWords;
 use crate::step::Step;

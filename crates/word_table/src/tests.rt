@@ -1,4 +1,4 @@
-//! The locks' worked rows, and two threads at one desk.
+//! The worked rows of locks and values, and two threads at one desk.
 
 ghost use Rattle.std.specs.Prelude.{◌≡◌, ◌≢◌, ◌<◌, ℕ, [], ◌∷◌, length, IfOk};
 ghost use Rattle.history_model.specs.Sets.{has};
@@ -88,6 +88,7 @@ fn unclaim_all<S: Shape>(desk: &Desk<S>, pass: &mut Pass<S>)
 #[test]
 fn a_claim_of_the_only_pass_is_an_exclusive_lock(rt: HostRuntime) -> Result<(), Fail> {
     let (desk, mut pass) = open_one(rt.alloc())?;
+    assert_eq!(rt; desk.begin(&mut pass), 1);
     assert!(rt; !pass.has_write(5));
     assert_eq!(rt; desk.claim(&mut pass, 5), Claimed::Pending);
     assert!(rt; pass.has_write(5));
@@ -105,6 +106,7 @@ fn a_claim_of_the_only_pass_is_an_exclusive_lock(rt: HostRuntime) -> Result<(), 
 #[test]
 fn scan_meets_a_reader_and_share_meets_a_writer(rt: HostRuntime) -> Result<(), Fail> {
     let (desk, mut zero, mut one) = open_two(rt.alloc())?;
+    let _ = (desk.begin(&mut zero), desk.begin(&mut one));
     assert_eq!(rt; desk.share(&mut zero, 5), Shared::Granted);
     assert!(rt; zero.has_read(5));
     let Claimed::Pending = desk.claim(&mut one, 1029) else {
@@ -120,6 +122,7 @@ fn scan_meets_a_reader_and_share_meets_a_writer(rt: HostRuntime) -> Result<(), F
     assert!(rt; one.has_write(5));
 
     let (desk, mut zero, mut one) = open_two(rt.alloc())?;
+    let _ = (desk.begin(&mut zero), desk.begin(&mut one));
     assert_eq!(rt; desk.claim(&mut one, 5), Claimed::Pending);
     assert_eq!(rt; desk.share(&mut zero, 1029), Shared::Met(1));
     assert!(rt; !zero.has_read(5));
@@ -131,8 +134,9 @@ fn scan_meets_a_reader_and_share_meets_a_writer(rt: HostRuntime) -> Result<(), F
 fn visit<S: Shape>(desk: &Desk<S>, mut pass: Pass<S>, a: u64, b: u64) -> (Shared, Shared)
     requires desk { pass.table ≡ desk.now.table }
     requires words { (a < length pass.view.base) × (b < length pass.view.base) }
-    requires fresh { (pass.view.phase ≡ Phase.Running) × (pass.view.undo ≡ []) }
+    requires fresh { (pass.view.phase ≡ Phase.Idle) × (pass.view.call ≡ 0) }
 {
+    let _ = desk.begin(&mut pass);
     let first = desk.share(&mut pass, a);
     let second = desk.share(&mut pass, b);
     unshare_all(desk, &mut pass);

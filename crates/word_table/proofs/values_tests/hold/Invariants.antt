@@ -1,0 +1,10 @@
+use Rattle.std.proofs.Common.{◌≡◌, [], length}
+use Rattle.history_model.specs.declared.view.Phase.TheVariants.{Running}
+use Rattle.word_table.proofs.values_tests.hold.Given as goal
+
+-- the call goes on, and has nothing to undo
+abbrev pub invariant-loop : goal.invariant-loop
+invariant-loop l = (l.pass.table ≡ l.desk.table) × (length l.pass.view.base ≡ 2) × (l.pass.view.phase ≡ Running) × (l.pass.view.undo ≡ [])
+
+abbrev pub invariant-loop-2 : goal.invariant-loop-2
+invariant-loop-2 l = (l.pass.table ≡ l.desk.table) × (length l.pass.view.base ≡ 2) × (l.pass.view.phase ≡ Running) × (l.pass.view.undo ≡ [])
