@@ -79,3 +79,39 @@ new-few-requires g c = zeros_good 6 c.in_ok-short.short.items refl (c.in_ok-shor
 
 pub push-requires-3-clause-order : goal.push-requires-3-clause-order
 push-requires-3-clause-order g c = record { at = (in_order_first c.new-few.result two_places 6 _ c.new-few.ensures.view).at }
+
+pub push-requires-2-clause-order : goal.push-requires-2-clause-order
+push-requires-2-clause-order g c = c.in_ok-push.ensures.order
+
+pub len-requires-clause-order : goal.len-requires-clause-order
+len-requires-clause-order g c = c.in_ok-push-2.ensures.order
+
+pub pop-requires-clause-order : goal.pop-requires-clause-order
+pop-requires-clause-order g c = c.in_ok-len.ensures.order
+
+pub pop-requires-2-clause-order : goal.pop-requires-2-clause-order
+pop-requires-2-clause-order g c = c.in_ok-pop.ensures.order
+
+pub len-requires-2-clause-order : goal.len-requires-2-clause-order
+len-requires-2-clause-order g c = c.in_ok-pop-2.ensures.order
+
+pub push-requires-4-clause-order : goal.push-requires-4-clause-order
+push-requires-4-clause-order g c = c.in_ok-push-3.ensures.order
+
+pub pop-requires-3-clause-order : goal.pop-requires-3-clause-order
+pop-requires-3-clause-order g c = c.in_ok-push-4.ensures.order
+
+pub push-requires-5-clause-order : goal.push-requires-5-clause-order
+push-requires-5-clause-order g c = c.in_ok-pop-3.ensures.order
+
+pub len-requires-3-clause-order : goal.len-requires-3-clause-order
+len-requires-3-clause-order g c = c.in_ok-push-5.ensures.order
+
+pub pop-requires-4-clause-order : goal.pop-requires-4-clause-order
+pop-requires-4-clause-order g c = c.in_ok-len-3.ensures.order
+
+pub pop-requires-5-clause-order : goal.pop-requires-5-clause-order
+pop-requires-5-clause-order g c = c.in_ok-pop-4.ensures.order
+
+pub pop-requires-6-clause-order : goal.pop-requires-6-clause-order
+pop-requires-6-clause-order g c = c.in_ok-pop-5.ensures.order
