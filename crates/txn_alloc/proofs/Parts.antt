@@ -15,6 +15,19 @@ use Rattle.txn_alloc.specs.EntryMaps.{Entries, Blocks, Part, HasMap, HoldsApart,
 use Rattle.txn_alloc.proofs.Lists.{one_set}
 use Rattle.txn_alloc.proofs.Sets.{out_empty, out_itself}
 
+-- the three answers of an insert differ
+pub new_not_old : (was : ℕ) → New ≡ Old was → ⊥
+new_not_old was e = absurd (cc)
+
+pub full_not_old : (was : ℕ) → Full ≡ Old was → ⊥
+full_not_old was e = absurd (cc)
+
+pub new_not_full : New ≡ Full → ⊥
+new_not_full e = absurd (cc)
+
+pub old_not_full : (was : ℕ) → Old was ≡ Full → ⊥
+old_not_full was e = absurd (cc)
+
 -- a map beside free lists is a map
 pub held : {part : Part} {s : List ℕ} → HasMapApart part s → HasMap part s
 held o = record { entries = o.entries; used = o.used; holds = o.holds.map }

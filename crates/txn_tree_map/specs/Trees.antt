@@ -9,12 +9,12 @@ use Rattle.std.specs.FinMap as entry_map
 use Rattle.txn_alloc.specs.declared.arena.Arena.{Arena}
 use Rattle.txn_alloc.specs.FreeLists.{block_at, IsHead, IsInBlock, IsLaidOut}
 use Rattle.txn_alloc.specs.EntryMaps.{Cell, Entries, Blocks, Part, value_of, has_block}
+use Rattle.txn_alloc.specs.Spread.{spread_of}
 use Rattle.txn_tree_map.specs.declared.map.TreeMap.{TreeMap}
-use Rattle.txn_tree_map.specs.declared.map.TheConstants.{MULTIPLIER}
 
--- the priority of a key: the low 64 bits of its product with the multiplier
+-- the priority of a key: the number that it is spread to
 unfoldable pub priority_of : ℕ → ℕ
-priority_of key = (key * MULTIPLIER) % 2 ^ 64
+priority_of key = spread_of key
 
 -- a tree of cells: none, or one between a left and a right subtree
 pub data Tree : Type 0 where

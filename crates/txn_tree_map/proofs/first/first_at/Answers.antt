@@ -42,7 +42,7 @@ loop-preserved g c =
     let goes = c.in_ok-look.ensures.goes_on in
     let named = rw c.in-Some.is at c.in_ok-look.ensures.named in
     let below = rw c.in-Some.is at c.in_ok-look.ensures.block in
-    let next : block_at m.arena node.block + (if nat_le least node.key then 2 else 3) ≡ m.arena.first + 4 * c.from.result + c.side.result = omega (arith, c.from.ensures, c.side.ensures) in
+    let next : block_at m.arena node.block + (if nat_le least node.key then 2 else 3) ≡ c.place_of.result + c.side.result = omega (arith, c.place_of.ensures, c.side.ensures) in
     record {
       shape = goes.shape ∙ i.shape;
       origin = goes.origin ∙ i.origin;
