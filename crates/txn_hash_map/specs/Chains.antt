@@ -1,7 +1,7 @@
 -- A map from keys to values, as chains of blocks, one chain for each bucket.
 -- A word that names a block holds its number plus 1; 0 names none. Only `HasChain` and `ChainsHold` know how the
 -- chains go; all else speaks of the entries and of the set of blocks.
-use Rattle.std.specs.Prelude.{◌≡◌, ℕ, ◌+◌, ◌*◌, ◌/◌, ◌%◌, ◌^◌, ◌<◌, ◌≤◌, true, List, [], ◌∷◌, Some, length, slice_get}
+use Rattle.std.specs.Prelude.{◌≡◌, ℕ, ◌+◌, ◌/◌, ◌^◌, ◌<◌, ◌≤◌, true, List, [], ◌∷◌, Some, length, slice_get}
 use Rattle.std.specs.FinSet as set
 use Rattle.std.specs.FinMap as entry_map
 use Rattle.txn_alloc.specs.declared.arena.Arena.{Arena}

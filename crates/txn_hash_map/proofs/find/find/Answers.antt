@@ -1,11 +1,10 @@
-use Rattle.std.proofs.Common.{◌≡◌, ◌+◌, ◌*◌, ◌-◌, ◌<◌, Some, inl, inr, refl, sym, ap, ◌∙◌, subst, arith}
+use Rattle.std.proofs.Common.{◌≡◌, ◌+◌, ◌*◌, ◌-◌, ◌<◌, Some, refl, ap, ◌∙◌, subst, arith}
 use Rattle.history_model.specs.Fitting.{SomeFits}
 use Rattle.history_model.proofs.FittingLaws.{some_at}
 use Rattle.txn_hash_map.specs.Searches.{IsPassed, IsFoundAt, IsMissing, IsLink}
 use Rattle.txn_hash_map.proofs.Steps.{bucket_fits, passed_none, passed_end, passed_more, passed_found, passed_all}
 use Rattle.txn_words.proofs.Looks.{looks_none, looks_map}
 use Rattle.txn_hash_map.proofs.Looks.{looks_within, looks_names, looks_name, looks_key, laid_block}
-use Rattle.txn_hash_map.proofs.Cells.{bucket_below}
 use Rattle.txn_hash_map.proofs.find.find.Goals as goal
 
 pub overflow_add-place : goal.overflow_add-place
