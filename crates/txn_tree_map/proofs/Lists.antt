@@ -58,35 +58,38 @@ linked_empty n ws is_n e =
     } in
     record {
       count = long_s;
-      good = (record {
-        entries = entry_map.empty;
-        used = set.empty;
-        free = set.from_list (0 ∷ 1 ∷ []);
-        holds = record {
-          map = record {
-            laid = record { arena = laid; root = omega (arith, long_s); no_head = λ head. omega (arith, head.low); outside = λ b lt mine. omega (arith, mine.low) };
-            tree = Leaf;
-            spelled = (rest 0 (omega (arith, is_n)) (λ k. omega (arith, k)) (λ k. omega (arith, k)), tt);
-            search = tt;
-            heap = tt;
-            entries_are = nothing;
-            used_are = out_empty;
+      good = (
+        record {
+          entries = entry_map.empty;
+          used = set.empty;
+          free = set.from_list (0 ∷ 1 ∷ []);
+          holds = record {
+            map = record {
+              laid = record { arena = laid; root = omega (arith, long_s); no_head = λ head. omega (arith, head.low); outside = λ b lt mine. omega (arith, mine.low) };
+              tree = Leaf;
+              spelled = (rest 0 (omega (arith, is_n)) (λ k. omega (arith, k)) (λ k. omega (arith, k)), tt);
+              search = tt;
+              heap = tt;
+              entries_are = nothing;
+              used_are = out_empty;
+            };
+            free_lists = record {
+              laid_out = laid;
+              order = 0 ∷ 1 ∷ [];
+              all = refl;
+              once = ((refl, tt), (tt, tt));
+              first = (
+                get_set_other t 277 1 2 (λ k. absurd (omega (arith, k))) ∙ get_set_same ws 1 1 (omega (arith, long, is_n)),
+                omega arith,
+                (get_set_same t 277 2 (omega (arith, long_t, long, is_n)), omega arith, rest 281 (omega (arith, is_n)) (λ k. omega (arith, k)) (λ k. omega (arith, k))),
+              );
+              others = λ a is lt. rest a (omega (arith, is.high, is_n)) (λ k. omega (arith, k, lt)) (λ k. omega (arith, k, is.high));
+            };
+            apart = λ b m. absurd (true≢false (sym m ∙ out_empty b));
           };
-          free_lists = record {
-            laid_out = laid;
-            order = 0 ∷ 1 ∷ [];
-            all = refl;
-            once = ((refl, tt), (tt, tt));
-            first = (
-              get_set_other t 277 1 2 (λ k. absurd (omega (arith, k))) ∙ get_set_same ws 1 1 (omega (arith, long, is_n)),
-              omega arith,
-              (get_set_same t 277 2 (omega (arith, long_t, long, is_n)), omega arith, rest 281 (omega (arith, is_n)) (λ k. omega (arith, k)) (λ k. omega (arith, k))),
-            );
-            others = λ a is lt. rest a (omega (arith, is.high, is_n)) (λ k. omega (arith, k, lt)) (λ k. omega (arith, k, is.high));
-          };
-          apart = λ b m. absurd (true≢false (sym m ∙ out_empty b));
-        };
-      }, refl);
+        },
+        refl,
+      );
     }
 
 -- so it is good

@@ -2,7 +2,7 @@
 -- (Seidel, Aragon, Randomized search trees, Algorithmica 1996), with the priorities made of the keys.
 -- A word that names a block holds its number plus 1; 0 names none. Only `IsSpelled`, `HasTree` and `TreeHolds` know how
 -- the tree goes through the blocks; all else speaks of the entries and of the set of blocks.
-use Rattle.std.specs.Prelude.{◌≡◌, ℕ, ◌+◌, ◌*◌, ◌%◌, ◌^◌, ◌<◌, ◌≤◌, ◌⊎◌, List, [], ◌∷◌, ◌++◌, Some, length, slice_get}
+use Rattle.std.specs.Prelude.{◌≡◌, ℕ, ◌+◌, ◌<◌, ◌≤◌, ◌⊎◌, List, [], ◌∷◌, ◌++◌, Some, length, slice_get}
 use Rattle.std.specs.List.{AllByRecursion}
 use Rattle.std.specs.FinSet as set
 use Rattle.std.specs.FinMap as entry_map

@@ -1,4 +1,4 @@
-use Rattle.std.proofs.Common.{◌≡◌, ◌+◌, ◌*◌, ap, ◌∙◌, arith}
+use Rattle.std.proofs.Common.{◌≡◌, ap, ◌∙◌, arith}
 use Rattle.txn_words.proofs.CallLaws.{each_plain}
 use Rattle.txn_alloc.specs.FreeLists.{block_at}
 use Rattle.txn_words.proofs.Looks.{each_from, leads_from, within_from, reads_from}

@@ -1,10 +1,10 @@
 use Rattle.std.proofs.Common.{◌≡◌, sym, refl, ap, ◌∙◌}
 use mathlib.Core.Bool.{true≢false}
-use Rattle.txn_alloc.specs.declared.put.Put.TheVariants.{New, Old, Full}
+use Rattle.txn_alloc.specs.declared.put.Put.TheVariants.{Full}
 use Rattle.std.specs.FinMap as entry_map
 use Rattle.txn_words.specs.Plainly.{PlainView}
 use Rattle.txn_words.proofs.CallLaws.{state_after}
-use Rattle.txn_alloc.specs.EntryMaps.{Entries, HasMapApart, HasSmallSum, Inserts, SumsRange}
+use Rattle.txn_alloc.specs.EntryMaps.{Entries, HasMapApart, Inserts, SumsRange}
 use Rattle.history_model.proofs.FittingLaws.{each_fresh}
 use Rattle.txn_alloc.proofs.Traces.{each_lacks_taken}
 use Rattle.txn_tree_map.specs.declared.tests.NoEntries.{NoEntries}
