@@ -1,19 +1,32 @@
 -- What maps on blocks have in common: lemmas over any map's part of the words.
-use Rattle.std.proofs.Common.{◌≡◌, ℕ, ◌+◌, ◌<◌, ◌⊎◌, inl, inr, true, List, Option, Some, None, slice_get, refl, sym, ap, ◌∙◌, subst}
+use Rattle.std.proofs.Common.{◌≡◌, ℕ, inl, inr, true, List, Option, Some, None, sym, ap, ◌∙◌, subst}
 use mathlib.Core.Bool.{true≢false}
 use Rattle.std.specs.FinSet as set
 use Rattle.std.specs.FinMap as entry_map
 use Rattle.history_model.specs.Traces.{Trace, after, Begins}
-use Rattle.history_model.specs.Fitting.{Fits, SomeFits, InEach, Leads}
+use Rattle.history_model.specs.Fitting.{SomeFits, InEach, Leads}
 use Rattle.history_model.proofs.FittingLaws.{fits_begins}
 use Rattle.txn_words.specs.Looks.{Looks}
 use Rattle.txn_words.proofs.Looks.{leads_back, seen_before}
 use Rattle.txn_alloc.specs.declared.put.Put.{Put}
 use Rattle.txn_alloc.specs.declared.put.Put.TheVariants.{New, Old, Full}
-use Rattle.txn_alloc.specs.FreeLists.{block_at, FreeListsHold, HasNone}
-use Rattle.txn_alloc.specs.EntryMaps.{Entries, Blocks, Part, HasMap, HoldsApart, HasMapApart, Finds, Uses, IsMoved, IsSeen, Inserts, LacksRoom, Removes}
+use Rattle.txn_alloc.specs.FreeLists.{HasNone}
+use Rattle.txn_alloc.specs.EntryMaps.{Entries, Blocks, Part, HasMap, HoldsApart, HasMapApart, Finds, Uses, IsMoved, Inserts, LacksRoom, Removes}
 use Rattle.txn_alloc.proofs.Lists.{one_set}
 use Rattle.txn_alloc.proofs.Sets.{out_empty, out_itself}
+
+-- the three answers of an insert differ
+pub new_not_old : (was : ℕ) → New ≡ Old was → ⊥
+new_not_old was e = absurd (cc)
+
+pub full_not_old : (was : ℕ) → Full ≡ Old was → ⊥
+full_not_old was e = absurd (cc)
+
+pub new_not_full : New ≡ Full → ⊥
+new_not_full e = absurd (cc)
+
+pub old_not_full : (was : ℕ) → Old was ≡ Full → ⊥
+old_not_full was e = absurd (cc)
 
 -- a map beside free lists is a map
 pub held : {part : Part} {s : List ℕ} → HasMapApart part s → HasMap part s

@@ -1,10 +1,10 @@
 -- What a call on the free lists keeps, said in wider words.
-use Rattle.std.proofs.Common.{◌≡◌, ℕ, ◌+◌, ◌≤◌, ◌⊎◌, inl, inr, List, Option, Some, None, sym, subst, arith}
+use Rattle.std.proofs.Common.{ℕ, ◌⊎◌, inl, inr, List, Option, Some, None, sym, subst, arith}
 use Rattle.history_model.specs.Traces.{Trace}
 use Rattle.history_model.specs.Fitting.{Leads}
 use Rattle.txn_words.specs.Frames.{KeepsOthers}
 use Rattle.txn_alloc.specs.declared.arena.Arena.{Arena}
-use Rattle.txn_alloc.specs.FreeLists.{block_at, IsHead, IsInBlock, IsHeadFor, IsHeadOrFirst, IsWrittenByTake}
+use Rattle.txn_alloc.specs.FreeLists.{IsHead, IsInBlock, IsHeadFor, IsHeadOrFirst, IsWrittenByTake}
 use Rattle.txn_alloc.proofs.Lists.{first_head}
 
 -- a is a head, or a word of block b

@@ -1,3 +1,4 @@
 pub mod FreeLists
 pub mod Statements
 pub mod EntryMaps
+pub mod Spread

@@ -1,11 +1,27 @@
 //! Where blocks lie.
 
-ghost use Rattle.std.specs.Prelude.{◌≡◌};
+ghost use Rattle.std.specs.Prelude.{◌≡◌, ◌<◌, ◌^◌};
+ghost use Rattle.txn_alloc.specs.FreeLists.{block_at};
 
 use std::marker::Model;
 
 /// How many lists an arena's free blocks may hang in. Their heads are as many words, from `Arena::heads` on.
 pub const HEADS: u64 = 16;
+
+/// How many words a block has.
+pub const BLOCK_WORDS: u64 = 4;
+
+/// How far behind a block's first word, which has the key of an entry, the word of its value stands.
+pub const VALUE: u64 = 1;
+
+/// How far behind a block's first word the name of the next block of a chain stands.
+pub const NEXT: u64 = 2;
+
+/// How far behind a block's first word the name of a node's left subtree stands.
+pub const LEFT: u64 = 2;
+
+/// How far behind a block's first word the name of a node's right subtree stands.
+pub const RIGHT: u64 = 3;
 
 /// Blocks of four words, and the heads of the lists of those that are free. Block `b` begins at `first + 4 * b`.
 #[derive(Clone, Copy, Debug, PartialEq, Eq)]
@@ -16,6 +32,16 @@ pub struct Arena {
     pub first: u64,
     /// How many blocks there are.
     pub blocks: u32,
+}
+
+impl Arena {
+    /// The first word of a block.
+    pub fn place_of(&self, block: u32) -> u64
+        requires fits { block_at self.now block < 2 ^ 64 }
+        ensures { result ≡ block_at self.now block }
+    {
+        self.first + BLOCK_WORDS * u64::from(block)
+    }
 }
 
 /// A block in hand, seen as its number.

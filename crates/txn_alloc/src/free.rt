@@ -46,7 +46,7 @@ pub fn take<W: Words>(w: &mut W, arena: &Arena) -> Result<Option<Block>, Stop>
     }
     prove!(head - 1 < u64::from(blocks));
     let number = (head - 1) as u32;
-    let next = w.read(arena.first + 4 * u64::from(number))?;
+    let next = w.read(arena.place_of(number))?;
     w.write(arena.heads, next)?;
     Ok(Some(Block::of(number)))
 }
@@ -73,7 +73,7 @@ pub fn give<W: Words>(w: &mut W, arena: &Arena, block: Block) -> Result<(), Stop
 {
     let number = block.number();
     let head = w.read(arena.heads)?;
-    w.write(arena.first + 4 * u64::from(number), head)?;
+    w.write(arena.place_of(number), head)?;
     w.write(arena.heads, u64::from(number) + 1)?;
     Ok(())
 }

@@ -3,7 +3,8 @@
 ghost use Rattle.std.specs.Prelude.{◌≡◌};
 ghost use Rattle.txn_alloc.specs.Statements.{OneFreeSet, FreeListsStand, LacksTaken, LacksGiven, LengthsSum};
 
-use crate::arena::HEADS;
+use crate::arena::{BLOCK_WORDS, HEADS, LEFT, NEXT, RIGHT, VALUE};
+use crate::spread::MULTIPLIER;
 
 /// In one word list the free blocks are one set.
 pub fn one_free_set()
@@ -30,7 +31,14 @@ pub fn lengths_sum()
     ensures { LengthsSum }
 {}
 
-/// How many lists an arena's free blocks may hang in.
+/// How many lists an arena's free blocks may hang in, how many words a block has, what stands where in it, and what a
+/// key is multiplied by.
 pub fn sizes()
-    ensures { HEADS ≡ 16 }
+    ensures heads { HEADS ≡ 16 }
+    ensures block { BLOCK_WORDS ≡ 4 }
+    ensures value { VALUE ≡ 1 }
+    ensures next { NEXT ≡ 2 }
+    ensures left { LEFT ≡ 2 }
+    ensures right { RIGHT ≡ 3 }
+    ensures multiplier { MULTIPLIER ≡ 0x9E37_79B9_7F4A_7C15 }
 {}

@@ -9,6 +9,7 @@ pub mod arena;
 pub mod free;
 pub mod laws;
 pub mod put;
+pub mod spread;
 
 pub use arena::{Arena, Block};
 pub use free::{give, take};

@@ -10,7 +10,8 @@ use Rattle.std.proofs.lemmas.Map.Steps.{length-le_from_distinct_below}
 use Rattle.txn_alloc.specs.declared.arena.Arena.{Arena}
 use Rattle.txn_alloc.specs.FreeLists.{block_at}
 use Rattle.txn_alloc.proofs.Cells.{value_first, value_later, has_first, has_later}
-use Rattle.txn_hash_map.specs.declared.map.TheConstants.{BUCKETS, MULTIPLIER}
+use Rattle.txn_alloc.specs.declared.spread.TheConstants.{MULTIPLIER}
+use Rattle.txn_hash_map.specs.declared.map.TheConstants.{BUCKETS}
 use Rattle.txn_alloc.specs.EntryMaps.{Cell, value_of, has_block, HasKeysOnce}
 use Rattle.txn_hash_map.specs.Chains.{HasChain, HasKeysIn, bucket_of}
 use Rattle.txn_hash_map.specs.Searches.{place_after}

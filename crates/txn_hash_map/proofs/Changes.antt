@@ -16,7 +16,7 @@ use Rattle.txn_alloc.proofs.Sets.{in_here, in_there, in_or, out_less, out_itself
 use Rattle.txn_alloc.proofs.Cells.{value_first, value_later, has_first, has_later, has_middle, insert_same, insert_other}
 use Rattle.txn_hash_map.specs.declared.map.ChainMap.{ChainMap}
 use Rattle.txn_hash_map.specs.declared.map.TheConstants.{BUCKETS}
-use Rattle.txn_alloc.specs.EntryMaps.{Cell, value_of, has_block, Entries, Blocks, HoldsApart, InsertsNew, HasKeysOnce}
+use Rattle.txn_alloc.specs.EntryMaps.{Cell, value_of, has_block, Entries, Blocks, HoldsApart, HasKeysOnce}
 use Rattle.txn_hash_map.specs.Chains.{HasChain, HasKeysIn, bucket_of, IsLaid, IsBucket, ChainsHold, chain_part}
 use Rattle.txn_hash_map.specs.Searches.{IsFoundAt, IsMissing, IsPutInFront}
 use Rattle.txn_hash_map.proofs.Cells.{bucket_below, one_chain, block_key, block_below}

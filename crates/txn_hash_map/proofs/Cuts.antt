@@ -15,11 +15,11 @@ use Rattle.txn_alloc.specs.FreeLists.{block_at, IsHead, IsInBlock, Lacks, Gives}
 use Rattle.txn_alloc.proofs.Wider.{IsAnyHeadOrIn}
 use Rattle.txn_alloc.proofs.Lists.{free_kept, free_below, one_set, same_block}
 use Rattle.txn_alloc.proofs.Sets.{out_both, out_itself}
-use Rattle.txn_alloc.proofs.Cells.{value_past, value_first, value_later, value_less, has_first, has_later, has_middle, first_block, later_block, less_block, remove_same, remove_other}
+use Rattle.txn_alloc.proofs.Cells.{value_past, value_first, value_later, value_less, has_middle, first_block, later_block, less_block, remove_same, remove_other}
 use Rattle.txn_hash_map.specs.declared.map.ChainMap.{ChainMap}
 use Rattle.txn_hash_map.specs.declared.map.TheConstants.{BUCKETS}
 use Rattle.txn_alloc.specs.EntryMaps.{Cell, value_of, has_block, Entries, Blocks, HoldsApart, RemovesOne, HasKeysOnce}
-use Rattle.txn_hash_map.specs.Chains.{HasChain, HasKeysIn, bucket_of, IsLaid, IsBucket, ChainsHold, chain_part}
+use Rattle.txn_hash_map.specs.Chains.{HasChain, HasKeysIn, bucket_of, IsLaid, ChainsHold, chain_part}
 use Rattle.txn_hash_map.specs.Searches.{place_after, IsFoundAt}
 use Rattle.txn_hash_map.proofs.Cells.{bucket_below, one_chain, block_key, block_once, key_own, place_kind}
 use Rattle.txn_hash_map.proofs.Steps.{found_key, found_value, found_names}

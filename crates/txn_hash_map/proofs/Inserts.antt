@@ -14,7 +14,7 @@ use Rattle.txn_words.proofs.ReadLaws.{sees_more, sees_then, sees_write}
 use Rattle.txn_words.proofs.Looks.{leads_back, each_looked, seen_before}
 use Rattle.txn_alloc.specs.declared.put.Put.TheVariants.{New, Old, Full}
 use Rattle.txn_alloc.specs.FreeLists.{block_at, IsHead, IsInBlock, IsWrittenByTake, IsReadByTake, TakesBlock, Takes}
-use Rattle.txn_alloc.specs.EntryMaps.{Entries, Blocks, HasMap, HasMapApart, HoldsApart, Inserts, Uses, IsMoved, IsOwn, IsValue, MayRead, MayReadToInsert}
+use Rattle.txn_alloc.specs.EntryMaps.{Entries, Blocks, HasMapApart, HoldsApart, Inserts, Uses, IsMoved, IsOwn, IsValue, MayRead, MayReadToInsert}
 use Rattle.txn_alloc.proofs.Sets.{in_here}
 use Rattle.txn_alloc.proofs.Parts.{IsOne, moved_in, held}
 use Rattle.txn_hash_map.specs.declared.map.ChainMap.{ChainMap}

@@ -1,5 +1,5 @@
 -- What a call that only reads learns, of every fitting state at once.
-use Rattle.std.proofs.Common.{◌≡◌, ℕ, ◌+◌, ◌^◌, ◌<◌, ◌≤◌, ◌⊎◌, List, [], ◌∷◌, ◌++◌, length, slice_get, Some, None, inl, inr, refl, sym, ap, ◌∙◌, subst, arith}
+use Rattle.std.proofs.Common.{◌≡◌, ℕ, ◌+◌, ◌^◌, ◌<◌, ◌≤◌, ◌⊎◌, List, [], ◌∷◌, ◌++◌, length, slice_get, Some, inl, inr, refl, sym, ap, ◌∙◌, subst, arith}
 use Rattle.history_model.specs.declared.event.Event.TheVariants.{Read}
 use Rattle.history_model.specs.Traces.{Trace, after}
 use Rattle.history_model.specs.Fitting.{Fits, SomeFits, InEach, Leads}
@@ -13,7 +13,7 @@ use Rattle.txn_words.proofs.Looks.{looks_map, looks_read, looks_wider, seen_befo
 use Rattle.txn_hash_map.specs.declared.map.ChainMap.{ChainMap}
 use Rattle.txn_alloc.specs.EntryMaps.{Entries, Blocks, HasMap, Finds, MayRead, IsSeen}
 use Rattle.txn_hash_map.specs.Chains.{IsLaid, ChainsHold, chain_part}
-use Rattle.txn_hash_map.specs.Searches.{IsPassed, IsLink, IsFoundAt, IsMissing}
+use Rattle.txn_hash_map.specs.Searches.{IsPassed, IsLink, IsFoundAt}
 use Rattle.txn_hash_map.proofs.Steps.{passed_within, passed_names, passed_link, passed_key, found_value, found_key, held_used, link_seen}
 
 module _ (n : ℕ) (G : List ℕ → Type 0) (t : Trace) (IsSeen : List ℕ → ℕ → Type 0) where

@@ -1,18 +1,19 @@
 -- A map from keys to values, as chains of blocks, one chain for each bucket.
 -- A word that names a block holds its number plus 1; 0 names none. Only `HasChain` and `ChainsHold` know how the
 -- chains go; all else speaks of the entries and of the set of blocks.
-use Rattle.std.specs.Prelude.{◌≡◌, ℕ, ◌+◌, ◌*◌, ◌/◌, ◌%◌, ◌^◌, ◌<◌, ◌≤◌, true, List, [], ◌∷◌, Some, length, slice_get}
+use Rattle.std.specs.Prelude.{◌≡◌, ℕ, ◌+◌, ◌/◌, ◌^◌, ◌<◌, ◌≤◌, true, List, [], ◌∷◌, Some, length, slice_get}
 use Rattle.std.specs.FinSet as set
 use Rattle.std.specs.FinMap as entry_map
 use Rattle.txn_alloc.specs.declared.arena.Arena.{Arena}
 use Rattle.txn_alloc.specs.EntryMaps.{Cell, Entries, Blocks, Part, value_of, has_block, HasKeysOnce}
 use Rattle.txn_alloc.specs.FreeLists.{block_at, IsHead, IsInBlock, IsLaidOut}
+use Rattle.txn_alloc.specs.Spread.{spread_of}
 use Rattle.txn_hash_map.specs.declared.map.ChainMap.{ChainMap}
-use Rattle.txn_hash_map.specs.declared.map.TheConstants.{BUCKETS, MULTIPLIER}
+use Rattle.txn_hash_map.specs.declared.map.TheConstants.{BUCKETS}
 
--- the bucket of a key: the top eight of the low 64 bits of its product with the multiplier
+-- the bucket of a key: the top eight of the 64 bits that it is spread to
 unfoldable pub bucket_of : ℕ → ℕ
-bucket_of key = ((key * MULTIPLIER) % 2 ^ 64) / 2 ^ 56
+bucket_of key = spread_of key / 2 ^ 56
 
 -- the chain that the word at this place heads has these cells: word 0 of each block has the key, word 1 the value, and word 2 heads the rest
 abbrev pub HasChain : Arena → List ℕ → ℕ → List Cell → Type 0

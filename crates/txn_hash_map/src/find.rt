@@ -7,7 +7,9 @@ ghost use Rattle.txn_hash_map.specs.Chains.{bucket_of, chain_part};
 ghost use Rattle.txn_words.specs.Looks.{Looks};
 ghost use Rattle.txn_hash_map.specs.Searches.{IsFoundAt, IsMissing, IsLink};
 
-use crate::map::{ChainMap, MULTIPLIER};
+use crate::map::ChainMap;
+use txn_alloc::arena::NEXT;
+use txn_alloc::spread::spread;
 use txn_words::{Stop, Words};
 
 /// Where a key was found: the place of the word that names its block, and the block.
@@ -21,7 +23,7 @@ pub(crate) struct Found {
 pub(crate) fn bucket(key: u64) -> u64
     ensures { result ≡ bucket_of key }
 {
-    key.wrapping_mul(MULTIPLIER) >> 56
+    spread(key) >> 56
 }
 
 /// Looks for the key along its bucket's chain.
@@ -44,12 +46,12 @@ pub(crate) fn find<W: Words>(w: &mut W, map: &ChainMap, key: u64) -> Result<Opti
         }
         prove!(name - 1 < u64::from(blocks));
         let block = (name - 1) as u32;
-        let at = map.arena.first + 4 * u64::from(block);
+        let at = map.arena.place_of(block);
         let there = w.read(at)?;
         if there == key {
             return Ok(Some(Found { place, block }));
         }
-        place = at + 2;
+        place = at + NEXT;
     }
     Ok(None)
 }

@@ -8,6 +8,7 @@ ghost use Rattle.txn_hash_map.specs.Searches.{IsPutInFront, IsBucketOrIn};
 
 use crate::find::bucket;
 use crate::map::ChainMap;
+use txn_alloc::arena::{NEXT, VALUE};
 use txn_words::{Stop, Words};
 
 /// Writes key and value into the block, and hangs it in front of the key's bucket's chain.
@@ -27,11 +28,11 @@ pub(crate) fn put_in_front<W: Words>(
     ensures goes_on { GoesOn W.Words w.old w.new result }
 {
     let place = map.buckets + bucket(key);
-    let at = map.arena.first + 4 * u64::from(block);
+    let at = map.arena.place_of(block);
     let next = w.read(place)?;
     w.write(at, key)?;
-    w.write(at + 1, value)?;
-    w.write(at + 2, next)?;
+    w.write(at + VALUE, value)?;
+    w.write(at + NEXT, next)?;
     w.write(place, u64::from(block) + 1)?;
     Ok(())
 }

@@ -7,6 +7,7 @@ ghost use Rattle.txn_hash_map.specs.Chains.{chain_part};
 
 use crate::find::find;
 use crate::map::ChainMap;
+use txn_alloc::arena::VALUE;
 use txn_words::{Stop, Words};
 
 impl ChainMap {
@@ -29,7 +30,7 @@ impl ChainMap {
         match find(w, self, key)? {
             None => Ok(None),
             Some(found) => {
-                let value = w.read(self.arena.first + 4 * u64::from(found.block) + 1)?;
+                let value = w.read(self.arena.place_of(found.block) + VALUE)?;
                 Ok(Some(value))
             }
         }

@@ -9,6 +9,7 @@ ghost use Rattle.txn_hash_map.specs.Chains.{chain_part};
 use crate::find::find;
 use crate::front::put_in_front;
 use crate::map::ChainMap;
+use txn_alloc::arena::VALUE;
 use txn_alloc::{Put, take};
 use txn_words::{Stop, Words};
 
@@ -48,7 +49,7 @@ impl ChainMap {
     {
         match find(w, self, key)? {
             Some(found) => {
-                let at = self.arena.first + 4 * u64::from(found.block) + 1;
+                let at = self.arena.place_of(found.block) + VALUE;
                 let old = w.read(at)?;
                 w.write(at, value)?;
                 Ok(Put::Old(old))

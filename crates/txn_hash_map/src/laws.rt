@@ -3,7 +3,7 @@
 ghost use Rattle.std.specs.Prelude.{◌≡◌};
 ghost use Rattle.txn_hash_map.specs.Statements.{OneMap, ChainsStand, AsManyBlocks};
 
-use crate::map::{BUCKETS, MULTIPLIER};
+use crate::map::BUCKETS;
 
 /// In one word list the map is one.
 pub fn one_map()
@@ -20,8 +20,7 @@ pub fn as_many_blocks()
     ensures { AsManyBlocks }
 {}
 
-/// How many buckets a map has, and what a key is multiplied by for its bucket.
+/// How many buckets a map has.
 pub fn sizes()
-    ensures buckets { BUCKETS ≡ 256 }
-    ensures multiplier { MULTIPLIER ≡ 0x9E37_79B9_7F4A_7C15 }
+    ensures { BUCKETS ≡ 256 }
 {}

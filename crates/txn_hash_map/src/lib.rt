@@ -47,8 +47,9 @@ mod tests {
         },
     };
 
+    /// All that a map of two entries answers, in one run.
     #[test]
-    fn a_third_entry_finds_no_room(rt: HostRuntime) -> Result<(), Fail> {
+    fn chain_map_on_plain_words(rt: HostRuntime) -> Result<(), Fail> {
         let mut words = vec![in rt.alloc(); 0u64; 285]?;
         words[1] = 1;
         words[277] = 2;
@@ -57,6 +58,9 @@ mod tests {
         assert_eq!(rt; MAP.insert(&mut plain, 64, 4)?, Put::Old(3));
         assert_eq!(rt; MAP.insert(&mut plain, 65, 5)?, Put::New);
         assert_eq!(rt; MAP.insert(&mut plain, 66, 6)?, Put::Full);
+        assert_eq!(rt; MAP.get(&mut plain, 64)?, Some(4));
+        assert_eq!(rt; MAP.remove(&mut plain, 64)?, Some(4));
+        assert_eq!(rt; MAP.get(&mut plain, 64)?, None);
         Ok(())
     }
 

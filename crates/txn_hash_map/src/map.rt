@@ -5,9 +5,6 @@ use txn_alloc::Arena;
 /// How many buckets a map has. Their words are as many, from `ChainMap::buckets` on.
 pub const BUCKETS: u64 = 256;
 
-/// What a key is multiplied by for its bucket: 2^64 by the golden ratio, to the nearest odd number.
-pub const MULTIPLIER: u64 = 0x9E37_79B9_7F4A_7C15;
-
 /// A map from keys to values on words. Each bucket's word heads a chain of the arena's blocks.
 #[derive(Clone, Copy, Debug, PartialEq, Eq)]
 pub struct ChainMap {

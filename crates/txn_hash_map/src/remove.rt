@@ -7,6 +7,7 @@ ghost use Rattle.txn_hash_map.specs.Chains.{chain_part};
 
 use crate::find::find;
 use crate::map::ChainMap;
+use txn_alloc::arena::{NEXT, VALUE};
 use txn_alloc::{Block, give};
 use txn_words::{Stop, Words};
 
@@ -34,9 +35,9 @@ impl ChainMap {
         match find(w, self, key)? {
             None => Ok(None),
             Some(found) => {
-                let at = self.arena.first + 4 * u64::from(found.block);
-                let value = w.read(at + 1)?;
-                let next = w.read(at + 2)?;
+                let at = self.arena.place_of(found.block);
+                let value = w.read(at + VALUE)?;
+                let next = w.read(at + NEXT)?;
                 w.write(found.place, next)?;
                 give(w, &self.arena, Block::of(found.block))?;
                 Ok(Some(value))

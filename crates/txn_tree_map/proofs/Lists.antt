@@ -1,19 +1,23 @@
 -- Word lists of tests.
 use Rattle.std.proofs.Common.{◌≡◌, ℕ, ◌<◌, ◌≤◌, List, [], ◌∷◌, length, slice_get, slice_set, Some, None, replicate, refl, sym, ap, ◌∙◌, subst, arith, rules}
-use Rattle.std.proofs.lemmas.List.{length-set, length-replicate}
+use Rattle.std.proofs.lemmas.List.{length-set, length-replicate, nil_from_length}
 use Rattle.std.specs.List.{IsDistinct, sum_by}
+use Rattle.std.specs.Cmp.{nat_cmp_total}
 use Rattle.std.specs.Ordering.{nat_cmp}
 use Rattle.std.specs.FinSet.{members}
 use Rattle.std.specs.FinSet as set
 use Rattle.std.specs.FinMap as entry_map
 use Rattle.std.specs.FinMap.{gets}
+use Rattle.std.specs.FinMap.Entries.{put}
 use mathlib.Core.Bool.{true≢false}
 use Rattle.history_model.specs.Fitting.{IsGood}
 use Rattle.history_model.proofs.TraceLaws.{get_set_same, get_set_other}
 use Rattle.txn_alloc.specs.declared.arena.Arena.{Arena}
 use Rattle.txn_alloc.proofs.Zeros.{zero_there}
 use Rattle.txn_alloc.specs.FreeLists.{IsLaidOut}
-use Rattle.txn_alloc.specs.EntryMaps.{Cell, Entries, value_of, has_block, HasMap, HasMapApart, HasSmallSum, SumsRange}
+use Rattle.txn_alloc.specs.EntryMaps.{Cell, Entries, value_of, has_block, HasMap, HasMapApart, HasSmallSum, Inserts, SumsRange}
+use Rattle.txn_alloc.specs.declared.put.Put.{Put}
+use Rattle.txn_alloc.specs.declared.put.Put.TheVariants.{New, Old, Full}
 use Rattle.txn_alloc.proofs.Sets.{out_empty}
 use Rattle.txn_tree_map.specs.declared.map.TreeMap.{TreeMap}
 use Rattle.txn_tree_map.specs.Trees.{Tree, priority_of, rank_of, TreeHolds, tree_part}
@@ -30,10 +34,14 @@ small = record { root = 0; arena = record { heads = 1; first = 277; blocks = 2 }
 nothing : (k : ℕ) → entry_map.get (entry_map.empty {X = ℕ} {R = nat_cmp}) k ≡ None
 nothing k = grind (gets, rules)
 
--- a list of zeros but for the two words that link the blocks is good
-pub linked : (n : ℕ) (ws : List ℕ) → n ≡ 285 → ws ≡ replicate n 0 → IsGood 285 (HasMapApart (tree_part small)) (slice_set (slice_set ws 1 1) 277 2)
+-- a map with these entries
+abbrev pub has_entries : Entries → List ℕ → Type 0
+has_entries entries words = (map : HasMapApart (tree_part small) words) × (map.entries ≡ entries)
+
+-- a list of zeros but for the two words that link the blocks holds the empty map
+pub linked_empty : (n : ℕ) (ws : List ℕ) → n ≡ 285 → ws ≡ replicate n 0 → IsGood 285 (has_entries entry_map.empty) (slice_set (slice_set ws 1 1) 277 2)
 unfolding IsDistinct
-linked n ws is_n e =
+linked_empty n ws is_n e =
     let nil : ℕ = 0 in
     let long : length ws ≡ n = ap length e ∙ length-replicate n nil in
     let t : List ℕ = slice_set ws 1 1 in
@@ -50,36 +58,91 @@ linked n ws is_n e =
     } in
     record {
       count = long_s;
-      good = record {
-        entries = entry_map.empty;
-        used = set.empty;
-        free = set.from_list (0 ∷ 1 ∷ []);
-        holds = record {
-          map = record {
-            laid = record { arena = laid; root = omega (arith, long_s); no_head = λ head. omega (arith, head.low); outside = λ b lt mine. omega (arith, mine.low) };
-            tree = Leaf;
-            spelled = (rest 0 (omega (arith, is_n)) (λ k. omega (arith, k)) (λ k. omega (arith, k)), tt);
-            search = tt;
-            heap = tt;
-            entries_are = nothing;
-            used_are = out_empty;
+      good = (
+        record {
+          entries = entry_map.empty;
+          used = set.empty;
+          free = set.from_list (0 ∷ 1 ∷ []);
+          holds = record {
+            map = record {
+              laid = record { arena = laid; root = omega (arith, long_s); no_head = λ head. omega (arith, head.low); outside = λ b lt mine. omega (arith, mine.low) };
+              tree = Leaf;
+              spelled = (rest 0 (omega (arith, is_n)) (λ k. omega (arith, k)) (λ k. omega (arith, k)), tt);
+              search = tt;
+              heap = tt;
+              entries_are = nothing;
+              used_are = out_empty;
+            };
+            free_lists = record {
+              laid_out = laid;
+              order = 0 ∷ 1 ∷ [];
+              all = refl;
+              once = ((refl, tt), (tt, tt));
+              first = (
+                get_set_other t 277 1 2 (λ k. absurd (omega (arith, k))) ∙ get_set_same ws 1 1 (omega (arith, long, is_n)),
+                omega arith,
+                (get_set_same t 277 2 (omega (arith, long_t, long, is_n)), omega arith, rest 281 (omega (arith, is_n)) (λ k. omega (arith, k)) (λ k. omega (arith, k))),
+              );
+              others = λ a is lt. rest a (omega (arith, is.high, is_n)) (λ k. omega (arith, k, lt)) (λ k. omega (arith, k, is.high));
+            };
+            apart = λ b m. absurd (true≢false (sym m ∙ out_empty b));
           };
-          free_lists = record {
-            laid_out = laid;
-            order = 0 ∷ 1 ∷ [];
-            all = refl;
-            once = ((refl, tt), (tt, tt));
-            first = (
-              get_set_other t 277 1 2 (λ k. absurd (omega (arith, k))) ∙ get_set_same ws 1 1 (omega (arith, long, is_n)),
-              omega arith,
-              (get_set_same t 277 2 (omega (arith, long_t, long, is_n)), omega arith, rest 281 (omega (arith, is_n)) (λ k. omega (arith, k)) (λ k. omega (arith, k))),
-            );
-            others = λ a is lt. rest a (omega (arith, is.high, is_n)) (λ k. omega (arith, k, lt)) (λ k. omega (arith, k, is.high));
-          };
-          apart = λ b m. absurd (true≢false (sym m ∙ out_empty b));
-        };
-      };
+        },
+        refl,
+      );
     }
+
+-- so it is good
+pub linked : (n : ℕ) (ws : List ℕ) → n ≡ 285 → ws ≡ replicate n 0 → IsGood 285 (HasMapApart (tree_part small)) (slice_set (slice_set ws 1 1) 277 2)
+linked n ws is_n e = let k = linked_empty n ws is_n e in record { count = k.count; good = k.good.0 }
+
+-- the entries after an insert that has room
+pub has_put : (key x : ℕ) (entries : Entries) (answer : Put) (s t : List ℕ) → (answer ≡ Full → ⊥) → has_entries entries s → Inserts (tree_part small) key x answer s t → has_entries (entry_map.insert entries key x) t
+has_put key x entries New s t ne h i =
+    let o = h.0 in
+    let k = i o.entries o.used o.free o.holds in
+    (record { entries = entry_map.insert o.entries key x; used = set.insert o.used k.block; free = set.remove o.free k.block; holds = k.left }, ap (λ z. entry_map.insert z key x) h.1)
+has_put key x entries (Old was) s t ne h i =
+    let o = h.0 in
+    let k = i o.entries o.used o.free o.holds in
+    (record { entries = entry_map.insert o.entries key x; used = o.used; free = o.free; holds = k.left }, ap (λ z. entry_map.insert z key x) h.1)
+has_put key x entries Full s t ne h i = absurd (ne refl)
+
+-- where there is none, they stay
+pub has_full : (key x : ℕ) (entries : Entries) (answer : Put) (s t : List ℕ) → answer ≡ Full → has_entries entries s → Inserts (tree_part small) key x answer s t → has_entries entries t
+has_full key x entries answer s t e h i =
+    let same : t ≡ s = subst (λ z. Inserts (tree_part small) key x z s t) e i in
+    subst (λ z. has_entries entries z) (sym same) h
+
+-- an answer that is no other
+pub is_full : (answer : Put) → (answer ≡ New → ⊥) → ((was : ℕ) → answer ≡ Old was → ⊥) → answer ≡ Full
+is_full New new old = absurd (new refl)
+is_full (Old was) new old = absurd (old was refl)
+is_full Full new old = refl
+
+-- what a sum leaves is in order
+pub order_summed : (low high total : ℕ) (s t : List ℕ) → HasMapApart (tree_part small) s → SumsRange (tree_part small) low high total s t → HasMapApart (tree_part small) t
+order_summed low high total s t h k = subst (λ z. HasMapApart (tree_part small) z) (sym k.same) h
+
+-- the entries that three inserts leave
+abbrev pub three_puts : Entries
+three_puts = entry_map.insert (entry_map.insert (entry_map.insert entry_map.empty 7 70) 7 71) 8 80
+
+none_yet : entry_map.entries (entry_map.empty {X = ℕ} {R = nat_cmp}) ≡ []
+none_yet = nil_from_length (entry_map.entries entry_map.empty) (sym (entry_map.len-entries entry_map.empty) ∙ entry_map.len-empty nat_cmp ℕ)
+
+puts_are : entry_map.entries three_puts ≡ (7, 71) ∷ (8, 80) ∷ []
+puts_are =
+    let one : Entries = entry_map.insert entry_map.empty 7 70 in
+    let two_puts : Entries = entry_map.insert one 7 71 in
+    entry_map.entries-insert nat_cmp_total two_puts 8 80 ∙ ap (λ es. put nat_cmp 8 80 es) (entry_map.entries-insert nat_cmp_total one 7 71 ∙ ap (λ es. put nat_cmp 7 71 es) (entry_map.entries-insert nat_cmp_total entry_map.empty 7 70 ∙ ap (λ es. put nat_cmp 7 70 es) none_yet))
+
+-- their sum is small
+pub has_small : (s : List ℕ) → has_entries three_puts s → HasSmallSum (tree_part small) s
+has_small s h f u hold =
+    let same : f ≡ three_puts = (one_map small s f h.0.entries u h.0.used hold h.0.holds.map).0 ∙ h.1 in
+    let sum : sum_by (λ e. e.1) (entry_map.entries f) ≡ 151 = ap (λ m. sum_by (λ e. e.1) (entry_map.entries m)) same ∙ ap (λ es. sum_by (λ e. e.1) es) puts_are in
+    omega (arith, sum)
 
 -- two entries, the greater key on top
 abbrev seven : Cell

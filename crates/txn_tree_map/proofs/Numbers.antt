@@ -1,9 +1,9 @@
 -- How many blocks a map uses.
-use Rattle.std.proofs.Common.{◌≡◌, ◌≢◌, ℕ, ◌+◌, ◌<◌, ◌≤◌, List, [], ◌∷◌, None, sym, ◌∙◌, arith}
+use Rattle.std.proofs.Common.{◌≡◌, ◌≢◌, ℕ, ◌+◌, ◌<◌, ◌≤◌, List, [], ◌∷◌, sym, ◌∙◌, arith}
 use Rattle.std.specs.FinSet as set
 use Rattle.std.specs.FinMap as entry_map
 use Rattle.txn_alloc.specs.EntryMaps.{Cell, Entries, Blocks, HasKeysOnce}
-use Rattle.txn_alloc.proofs.Cells.{all_map, value_none, times_in}
+use Rattle.txn_alloc.proofs.Cells.{all_map, value_none}
 use Rattle.txn_alloc.proofs.Counting.{len_cells, len_blocks}
 use Rattle.txn_tree_map.specs.declared.map.TreeMap.{TreeMap}
 use Rattle.txn_tree_map.specs.Trees.{cells_of, IsRising, TreeHolds}

@@ -1,7 +1,7 @@
 -- Different keys have different priorities, since the multiplier has an inverse.
 use Rattle.std.proofs.Common.{◌≡◌, ℕ, ◌+◌, ◌*◌, ◌/◌, ◌%◌, ◌^◌, ◌<◌, refl, sym, ap, ◌∙◌, arith}
 use Rattle.std.proofs.Math.Nat.{add-mul-mod_self_left, mod-add-div', mod-eq_of_lt}
-use Rattle.txn_tree_map.specs.declared.map.TheConstants.{MULTIPLIER}
+use Rattle.txn_alloc.specs.declared.spread.TheConstants.{MULTIPLIER}
 use Rattle.txn_tree_map.specs.Trees.{priority_of}
 
 -- a number below n comes back from its product with m by the inverse of m

@@ -1,5 +1,5 @@
 -- What the call that puts a new cell into the tree leads to, in every fitting state at once.
-use Rattle.std.proofs.Common.{◌≡◌, ℕ, ◌+◌, ◌<◌, ◌≤◌, List, length, slice_set, inl, inr, refl, sym, ap, ◌∙◌, subst, arith}
+use Rattle.std.proofs.Common.{◌≡◌, ℕ, ◌+◌, ◌<◌, List, length, slice_set, inl, inr, refl, sym, ap, ◌∙◌, subst, arith}
 use Rattle.history_model.specs.Traces.{Trace, after, Begins}
 use Rattle.history_model.specs.Fitting.{Fits, SomeFits, InEach, Leads}
 use Rattle.history_model.proofs.TraceLaws.{length-after}

@@ -2,19 +2,19 @@
 -- (Seidel, Aragon, Randomized search trees, Algorithmica 1996), with the priorities made of the keys.
 -- A word that names a block holds its number plus 1; 0 names none. Only `IsSpelled`, `HasTree` and `TreeHolds` know how
 -- the tree goes through the blocks; all else speaks of the entries and of the set of blocks.
-use Rattle.std.specs.Prelude.{◌≡◌, ℕ, ◌+◌, ◌*◌, ◌%◌, ◌^◌, ◌<◌, ◌≤◌, ◌⊎◌, List, [], ◌∷◌, ◌++◌, Some, length, slice_get}
+use Rattle.std.specs.Prelude.{◌≡◌, ℕ, ◌+◌, ◌<◌, ◌≤◌, ◌⊎◌, List, [], ◌∷◌, ◌++◌, Some, length, slice_get}
 use Rattle.std.specs.List.{AllByRecursion}
 use Rattle.std.specs.FinSet as set
 use Rattle.std.specs.FinMap as entry_map
 use Rattle.txn_alloc.specs.declared.arena.Arena.{Arena}
 use Rattle.txn_alloc.specs.FreeLists.{block_at, IsHead, IsInBlock, IsLaidOut}
 use Rattle.txn_alloc.specs.EntryMaps.{Cell, Entries, Blocks, Part, value_of, has_block}
+use Rattle.txn_alloc.specs.Spread.{spread_of}
 use Rattle.txn_tree_map.specs.declared.map.TreeMap.{TreeMap}
-use Rattle.txn_tree_map.specs.declared.map.TheConstants.{MULTIPLIER}
 
--- the priority of a key: the low 64 bits of its product with the multiplier
+-- the priority of a key: the number that it is spread to
 unfoldable pub priority_of : ℕ → ℕ
-priority_of key = (key * MULTIPLIER) % 2 ^ 64
+priority_of key = spread_of key
 
 -- a tree of cells: none, or one between a left and a right subtree
 pub data Tree : Type 0 where

@@ -8,6 +8,7 @@ ghost use Rattle.txn_tree_map.specs.Trees.{tree_part};
 ghost use Rattle.txn_tree_map.specs.Searches.{HasTop, IsNamed, IsEnd, IsFoundAt, IsMissing, IsLink, IsPlace, IsPlaceOrKey};
 
 use crate::map::TreeMap;
+use txn_alloc::arena::{LEFT, RIGHT};
 use txn_words::{Stop, Words};
 
 /// A node that a word names: its block and its key.
@@ -28,7 +29,7 @@ pub(crate) struct Found {
 pub(crate) fn side(left: bool) -> u64
     ensures { result ≡ (if left then 2 else 3) }
 {
-    if left { 2 } else { 3 }
+    if left { LEFT } else { RIGHT }
 }
 
 /// The node that the word at the place names, if it names one.
@@ -49,7 +50,7 @@ pub(crate) fn look<W: Words>(w: &mut W, map: &TreeMap, place: u64) -> Result<Opt
     }
     prove!(name - 1 < u64::from(blocks));
     let block = (name - 1) as u32;
-    let key = w.read(map.arena.first + 4 * u64::from(block))?;
+    let key = w.read(map.arena.place_of(block))?;
     Ok(Some(Named { block, key }))
 }
 
@@ -75,7 +76,7 @@ pub(crate) fn find<W: Words>(w: &mut W, map: &TreeMap, key: u64) -> Result<Optio
             return Ok(Some(Found { place, block }));
         }
         prove!(block < map.arena.blocks);
-        place = map.arena.first + 4 * u64::from(block) + side(key < node.key);
+        place = map.arena.place_of(block) + side(key < node.key);
     }
     Ok(None)
 }

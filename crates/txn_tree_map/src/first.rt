@@ -40,7 +40,7 @@ pub(crate) fn first_at<W: Words>(
         };
         best = better(best, node, least);
         prove!(node.block < map.arena.blocks);
-        place = map.arena.first + 4 * u64::from(node.block) + side(least <= node.key);
+        place = map.arena.place_of(node.block) + side(least <= node.key);
     }
     Ok(best)
 }

@@ -7,6 +7,7 @@ ghost use Rattle.txn_tree_map.specs.Trees.{tree_part};
 
 use crate::find::find;
 use crate::map::TreeMap;
+use txn_alloc::arena::VALUE;
 use txn_words::{Stop, Words};
 
 impl TreeMap {
@@ -32,7 +33,7 @@ impl TreeMap {
         match find(w, self, key)? {
             None => Ok(None),
             Some(found) => {
-                let value = w.read(self.arena.first + 4 * u64::from(found.block) + 1)?;
+                let value = w.read(self.arena.place_of(found.block) + VALUE)?;
                 Ok(Some(value))
             }
         }

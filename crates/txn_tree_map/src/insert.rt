@@ -11,6 +11,7 @@ use crate::find::find;
 use crate::map::TreeMap;
 use crate::seat::find_seat;
 use crate::split::split;
+use txn_alloc::arena::VALUE;
 use txn_alloc::{Put, take};
 use txn_words::{Stop, Words};
 
@@ -30,9 +31,9 @@ pub(crate) fn put_in<W: Words>(
     ensures goes_on { GoesOn W.Words w.old w.new result }
 {
     let seat = find_seat(w, map, key)?;
-    let at = map.arena.first + 4 * u64::from(block);
+    let at = map.arena.place_of(block);
     w.write(at, key)?;
-    w.write(at + 1, value)?;
+    w.write(at + VALUE, value)?;
     split(w, map, key, block, seat.name)?;
     w.write(seat.place, u64::from(block) + 1)?;
     Ok(())
@@ -77,7 +78,7 @@ impl TreeMap {
     {
         match find(w, self, key)? {
             Some(found) => {
-                let at = self.arena.first + 4 * u64::from(found.block) + 1;
+                let at = self.arena.place_of(found.block) + VALUE;
                 let old = w.read(at)?;
                 w.write(at, value)?;
                 Ok(Put::Old(old))

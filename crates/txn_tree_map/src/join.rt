@@ -8,6 +8,7 @@ ghost use Rattle.txn_tree_map.specs.Joins.{CanJoin, CanGoOn, JoinsOne, IsGathere
 use crate::hang::hang;
 use crate::map::{TreeMap, priority};
 use crate::seat::Seat;
+use txn_alloc::arena::{BLOCK_WORDS, LEFT, RIGHT};
 use txn_words::{Stop, Words};
 
 /// How far two trees are joined: the place where the next node hangs, and the names of what is to be joined still.
@@ -35,21 +36,21 @@ pub(crate) fn join_one<W: Words>(w: &mut W, map: &TreeMap, gap: Gap) -> Result<G
     let blocks = u64::from(map.arena.blocks);
     prove!(left - 1 < blocks);
     prove!(right - 1 < blocks);
-    let left_at = map.arena.first + 4 * (left - 1);
-    let right_at = map.arena.first + 4 * (right - 1);
+    let left_at = map.arena.first + BLOCK_WORDS * (left - 1);
+    let right_at = map.arena.first + BLOCK_WORDS * (right - 1);
     let left_key = w.read(left_at)?;
     let right_key = w.read(right_at)?;
     if priority(right_key) < priority(left_key) {
-        let inner = hang(w, place, left, left_at + 3)?;
+        let inner = hang(w, place, left, left_at + RIGHT)?;
         return Ok(Gap {
-            place: left_at + 3,
+            place: left_at + RIGHT,
             left: inner,
             right,
         });
     }
-    let inner = hang(w, place, right, right_at + 2)?;
+    let inner = hang(w, place, right, right_at + LEFT)?;
     Ok(Gap {
-        place: right_at + 2,
+        place: right_at + LEFT,
         left,
         right: inner,
     })

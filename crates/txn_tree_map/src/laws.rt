@@ -1,9 +1,6 @@
 //! What a collection above concludes, each law the contract of a function that does nothing.
 
-ghost use Rattle.std.specs.Prelude.{◌≡◌};
 ghost use Rattle.txn_tree_map.specs.Statements.{OneMap, TreeStands, PrioritiesDiffer, AsManyBlocks};
-
-use crate::map::MULTIPLIER;
 
 /// In one word list the map is one.
 pub fn one_map()
@@ -23,9 +20,4 @@ pub fn priorities_differ()
 /// The map uses as many blocks as it has entries.
 pub fn as_many_blocks()
     ensures { AsManyBlocks }
-{}
-
-/// What a key is multiplied by for its priority.
-pub fn sizes()
-    ensures { MULTIPLIER ≡ 0x9E37_79B9_7F4A_7C15 }
 {}

@@ -4,9 +4,7 @@ ghost use Rattle.std.specs.Prelude.{◌≡◌, ◌^◌, ◌<◌};
 ghost use Rattle.txn_tree_map.specs.Trees.{priority_of};
 
 use txn_alloc::Arena;
-
-/// What a key is multiplied by for its priority: 2^64 by the golden ratio, to the nearest odd number.
-pub const MULTIPLIER: u64 = 0x9E37_79B9_7F4A_7C15;
+use txn_alloc::spread::spread;
 
 /// A map from keys to values on words: a treap of the arena's blocks.
 #[derive(Clone, Copy, Debug, PartialEq, Eq)]
@@ -23,5 +21,5 @@ pub(crate) fn priority(key: u64) -> u64
     // A number of 64 bits, which callers' proofs know of no field of a struct.
     ensures small { key < 2 ^ 64 }
 {
-    key.wrapping_mul(MULTIPLIER)
+    spread(key)
 }

@@ -9,6 +9,7 @@ ghost use Rattle.txn_tree_map.specs.Joins.{CanCut, Cuts, IsCutOwn, IsCutSeen};
 use crate::find::{Found, find};
 use crate::join::join;
 use crate::map::TreeMap;
+use txn_alloc::arena::{LEFT, RIGHT, VALUE};
 use txn_alloc::{Block, give};
 use txn_words::{Stop, Words};
 
@@ -24,10 +25,10 @@ pub(crate) fn cut<W: Words>(w: &mut W, map: &TreeMap, found: Found) -> Result<u6
         ReadsWithin W.Words W.Shape.Shape w.old w.new (IsCutSeen map.now found.place found.block)) }
     ensures goes_on { GoesOn W.Words w.old w.new result }
 {
-    let at = map.arena.first + 4 * u64::from(found.block);
-    let value = w.read(at + 1)?;
-    let left = w.read(at + 2)?;
-    let right = w.read(at + 3)?;
+    let at = map.arena.place_of(found.block);
+    let value = w.read(at + VALUE)?;
+    let left = w.read(at + LEFT)?;
+    let right = w.read(at + RIGHT)?;
     join(w, map, found.place, left, right)?;
     Ok(value)
 }

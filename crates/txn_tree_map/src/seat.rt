@@ -31,12 +31,11 @@ pub(crate) fn find_seat<W: Words>(w: &mut W, map: &TreeMap, key: u64) -> Result<
             None => return Ok(Seat { place, name: 0 }),
             Some(node) => node,
         };
-        let block = u64::from(node.block);
         if priority(node.key) <= rank {
-            let name = block + 1;
+            let name = u64::from(node.block) + 1;
             return Ok(Seat { place, name });
         }
-        place = map.arena.first + 4 * block + side(key < node.key);
+        place = map.arena.place_of(node.block) + side(key < node.key);
     }
     Ok(Seat { place, name: 0 })
 }

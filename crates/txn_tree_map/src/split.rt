@@ -7,6 +7,7 @@ ghost use Rattle.txn_tree_map.specs.Changes.{CanSplit, IsParted, CanPart, PartsO
 
 use crate::hang::hang;
 use crate::map::TreeMap;
+use txn_alloc::arena::{BLOCK_WORDS, LEFT, RIGHT};
 use txn_words::{Stop, Words};
 
 /// How far a tree is parted: where the next part with smaller keys hangs, where the next one with greater keys
@@ -42,20 +43,20 @@ pub(crate) fn part_one<W: Words>(
     } = ends;
     let blocks = u64::from(map.arena.blocks);
     prove!(rest - 1 < blocks);
-    let at = map.arena.first + 4 * (rest - 1);
+    let at = map.arena.first + BLOCK_WORDS * (rest - 1);
     let there = w.read(at)?;
     if there < key {
-        let right = hang(w, smaller, rest, at + 3)?;
+        let right = hang(w, smaller, rest, at + RIGHT)?;
         return Ok(Ends {
-            smaller: at + 3,
+            smaller: at + RIGHT,
             greater,
             rest: right,
         });
     }
-    let left = hang(w, greater, rest, at + 2)?;
+    let left = hang(w, greater, rest, at + LEFT)?;
     Ok(Ends {
         smaller,
-        greater: at + 2,
+        greater: at + LEFT,
         rest: left,
     })
 }
@@ -76,10 +77,10 @@ pub(crate) fn part<W: Words>(
     ensures reads { OnOk result (ReadsWithin W.Words W.Shape.Shape w.old w.new (IsSplitSeen map.now key block name)) }
     ensures goes_on { GoesOn W.Words w.old w.new result }
 {
-    let at = map.arena.first + 4 * u64::from(block);
+    let at = map.arena.place_of(block);
     let mut ends = Ends {
-        smaller: at + 2,
-        greater: at + 3,
+        smaller: at + LEFT,
+        greater: at + RIGHT,
         rest: name,
     };
     for _ in 0..map.arena.blocks {

@@ -9,6 +9,7 @@ ghost use Rattle.txn_tree_map.specs.Sums.{IsAnyWord, IsNext, HasNoneTo};
 
 use crate::first::first_at;
 use crate::map::TreeMap;
+use txn_alloc::arena::VALUE;
 use txn_words::{Stop, Words};
 
 /// A key of the map, and its value.
@@ -45,7 +46,7 @@ pub(crate) fn entry_from<W: Words>(
                 return Ok(None);
             }
             prove!(node.block < map.arena.blocks);
-            let value = w.read(map.arena.first + 4 * u64::from(node.block) + 1)?;
+            let value = w.read(map.arena.place_of(node.block) + VALUE)?;
             Ok(Some(Entry { key, value }))
         }
     }

@@ -29,8 +29,8 @@ write-requires-2-clause-within g c =
 pub returns-clause-given : goal.returns-clause-given
 returns-clause-given g c =
     let a = c.args.arena.now in
-    let is_block : a.first + 4 * c.from.result ≡ a.first + 4 * c.args.block = omega arith in
-    let is_name : c.from-2.result + 1 ≡ c.args.block + 1 = omega arith in
+    let is_block : c.place_of.result ≡ a.first + 4 * c.args.block = omega (arith, c.place_of.ensures, c.number-number.ensures) in
+    let is_name : c.from.result + 1 ≡ c.args.block + 1 = omega arith in
     record { at = (gives_back a _ _ _ _ c.in_ok-head.head c.in_ok-head.ensures.value _ _ c.args.block _ _ is_block c.in_ok-write.ensures.value is_name c.in_ok-write-2.ensures.value c.requires.number (each_plain g.W.Words g.W.Shape.Shape _ _ c.requires.lacks)).at }
 
 pub returns-clause-order : goal.returns-clause-order
@@ -43,7 +43,7 @@ pub returns-clause-frame : goal.returns-clause-frame
 returns-clause-frame g c =
     let a = c.args.arena.now in
     let own = IsHeadOrFirst a c.args.block in
-    let is_first : a.first + 4 * c.from.result ≡ block_at a c.args.block = omega arith in
+    let is_first : c.place_of.result ≡ block_at a c.args.block = omega (arith, c.place_of.ensures, c.number-number.ensures) in
     record {
       appended = only_then own _ _ _ (only_read own _ _ _ _ c.in_ok-head.ensures.value)
           (only_then own _ _ _ (only_write own _ _ _ _ c.in_ok-write.ensures.value (inr is_first)) (only_write own _ _ _ _ c.in_ok-write-2.ensures.value (inl refl)));
@@ -56,6 +56,6 @@ pub returns-clause-reads : goal.returns-clause-reads
 returns-clause-reads g c =
     let a = c.args.arena.now in
     let seen = IsHeadOrFirst a c.args.block in
-    let is_first : a.first + 4 * c.from.result ≡ block_at a c.args.block = omega arith in
+    let is_first : c.place_of.result ≡ block_at a c.args.block = omega (arith, c.place_of.ensures, c.number-number.ensures) in
     sees_then seen _ _ _ (sees_read seen _ _ _ _ c.in_ok-head.ensures.value (inl refl))
     (sees_then seen _ _ _ (sees_write seen _ _ _ _ c.in_ok-write.ensures.value (inr is_first)) (sees_write seen _ _ _ _ c.in_ok-write-2.ensures.value (inl refl)))

@@ -62,7 +62,7 @@ pub returns-clause-taken : goal.returns-clause-taken
 returns-clause-taken g c =
     let a = c.args.arena.now in
     let one_more : c.in_ok-head.head ≡ c.of.result + 1 = omega (arith, c.if-head-eq0.false, c.of.ensures) in
-    let is_block : a.first + 4 * c.from-2.result ≡ a.first + 4 * c.of.result = omega (arith, c.of.ensures) in
+    let is_block : c.place_of.result ≡ a.first + 4 * c.of.result = omega (arith, c.place_of.ensures, c.of.ensures) in
     record { at = (takes_some a _ _ _ _ c.in_ok-head.head c.in_ok-head.ensures.value _ _ c.of.result _ c.in_ok-next.next one_more is_block c.in_ok-next.ensures.value c.in_ok-write.ensures.value).at }
 
 pub returns-clause-none_if : goal.returns-clause-none_if
@@ -103,7 +103,7 @@ pub returns-clause-reads : goal.returns-clause-reads
 returns-clause-reads g c =
     let a = c.args.arena.now in
     let seen = IsHeadOrFirst a c.of.result in
-    let is_first : a.first + 4 * c.from-2.result ≡ block_at a c.of.result = omega (arith, c.of.ensures) in
+    let is_first : c.place_of.result ≡ block_at a c.of.result = omega (arith, c.place_of.ensures, c.of.ensures) in
     sees_then seen _ _ _ (sees_read seen _ _ _ _ c.in_ok-head.ensures.value (inl refl))
     (sees_then seen _ _ _ (sees_read seen _ _ _ _ c.in_ok-next.ensures.value (inr is_first))
     (sees_write seen _ _ _ _ c.in_ok-write.ensures.value (inl refl)))

@@ -1,7 +1,7 @@
-use Rattle.std.proofs.Common.{refl}
+use Rattle.std.proofs.Common.{ap, ◌/◌, ◌^◌}
 use Rattle.txn_hash_map.specs.Chains.{bucket_of}
 use Rattle.txn_hash_map.proofs.find.bucket.Goals as goal
 
 pub returns : goal.returns
 unfolding bucket_of
-returns c = refl
+returns c = ap (λ n. n / 2 ^ 56) c.spread.ensures.value

@@ -1,11 +1,10 @@
-use Rattle.std.proofs.Common.{◌≡◌, ◌+◌, ◌*◌, ◌-◌, ◌<◌, Some, inl, inr, refl, sym, ap, ◌∙◌, subst, arith}
+use Rattle.std.proofs.Common.{◌≡◌, ◌+◌, ◌*◌, ◌-◌, ◌<◌, Some, refl, ap, ◌∙◌, subst, arith}
 use Rattle.history_model.specs.Fitting.{SomeFits}
 use Rattle.history_model.proofs.FittingLaws.{some_at}
 use Rattle.txn_hash_map.specs.Searches.{IsPassed, IsFoundAt, IsMissing, IsLink}
 use Rattle.txn_hash_map.proofs.Steps.{bucket_fits, passed_none, passed_end, passed_more, passed_found, passed_all}
 use Rattle.txn_words.proofs.Looks.{looks_none, looks_map}
 use Rattle.txn_hash_map.proofs.Looks.{looks_within, looks_names, looks_name, looks_key, laid_block}
-use Rattle.txn_hash_map.proofs.Cells.{bucket_below}
 use Rattle.txn_hash_map.proofs.find.find.Goals as goal
 
 pub overflow_add-place : goal.overflow_add-place
@@ -51,9 +50,10 @@ read-requires-in-loop-clause-within g c =
     let i = c.loop.invariant in
     let some : SomeFits (g.W.Shape.Shape.word_count (g.W.Words.shape c.args.w.now)) (g.W.Shape.Shape.good (g.W.Words.shape c.args.w.now)) (g.W.Words.trace c.loop.w) =
     some_at g.W.Shape.Shape.word_count g.W.Shape.Shape.good _ _ _ i.shape (g.met.W.Words.fits c.loop.w i.sound) in
-    let lt : c.from-in-loop.result < m.arena.blocks = omega arith in
-    let in_list = laid_block m _ _ _ c.from-in-loop.result (λ s fit. (i.looks.holds s fit).laid) some lt in
-    omega (arith, in_list.0, ap g.W.Shape.Shape.word_count (c.in_ok-name.ensures.shape ∙ i.shape))
+    let b = c.in_ok-name.name - 1 in
+    let lt : b < m.arena.blocks = omega arith in
+    let in_list = laid_block m _ _ _ b (λ s fit. (i.looks.holds s fit).laid) some lt in
+    omega (arith, in_list.0, c.place_of-at.ensures, ap g.W.Shape.Shape.word_count (c.in_ok-name.ensures.shape ∙ i.shape))
 
 pub returns-then-name-eq0-clause-missing : goal.returns-then-name-eq0-clause-missing
 returns-then-name-eq0-clause-missing g c =
@@ -69,7 +69,7 @@ returns-then-there-key-clause-found g c =
     let b = c.in_ok-name.name - 1 in
     let one_more : c.in_ok-name.name ≡ b + 1 = omega (arith, c.if-name-eq0.false) in
     let lt : b < m.arena.blocks = omega arith in
-    let is_block : m.arena.first + 4 * c.from-in-loop.result ≡ m.arena.first + 4 * b = omega arith in
+    let is_block : c.place_of-at.result ≡ m.arena.first + 4 * b = c.place_of-at.ensures in
     looks_map _ _ _ (IsLink m c.args.key) _ _ (IsFoundAt m c.args.key c.loop.place b)
     (λ s h. passed_found m c.args.key s c.loop.place c.loop.counter b h.0 h.1 (h.2 ∙ ap (λ k. Some k) c.if-there-key.true))
     (looks_key m c.args.key _ _ _ _ _ _ c.loop.place c.loop.counter c.in_ok-name.name b _ c.in_ok-there.there i.looks c.in_ok-name.ensures.value c.in_ok-there.ensures.value
@@ -82,8 +82,8 @@ loop-preserved g c =
     let b = c.in_ok-name.name - 1 in
     let one_more : c.in_ok-name.name ≡ b + 1 = omega (arith, c.if-name-eq0.false) in
     let lt : b < m.arena.blocks = omega arith in
-    let is_block : m.arena.first + 4 * c.from-in-loop.result ≡ m.arena.first + 4 * b = omega arith in
-    let is_next : m.arena.first + 4 * b + 2 ≡ m.arena.first + 4 * c.from-in-loop.result + 2 = omega arith in
+    let is_block : c.place_of-at.result ≡ m.arena.first + 4 * b = c.place_of-at.ensures in
+    let is_next : m.arena.first + 4 * b + 2 ≡ c.place_of-at.result + 2 = omega (arith, c.place_of-at.ensures) in
     record {
       shape = c.in_ok-there.ensures.shape ∙ c.in_ok-name.ensures.shape ∙ i.shape;
       origin = c.in_ok-there.ensures.origin ∙ c.in_ok-name.ensures.origin ∙ i.origin;

@@ -38,8 +38,8 @@ pub returns-clause-put : goal.returns-clause-put
 returns-clause-put g c =
     let m = c.args.map.now in
     let is_bucket : m.buckets + c.bucket.result ≡ m.buckets + bucket_of c.args.key = ap (λ k. m.buckets + k) c.bucket.ensures in
-    let is_block : m.arena.first + 4 * c.from.result ≡ m.arena.first + 4 * c.args.block = omega arith in
-    let is_name : c.from-2.result + 1 ≡ c.args.block + 1 = omega arith in
+    let is_block : c.place_of-at.result ≡ m.arena.first + 4 * c.args.block = c.place_of-at.ensures in
+    let is_name : c.from.result + 1 ≡ c.args.block + 1 = omega arith in
     record {
       at = (puts_front m c.args.key c.args.value c.args.block _ _ _ _ _ _ _ _ _ _ c.in_ok-next.next _ is_bucket is_block is_name
           c.in_ok-next.ensures.value c.in_ok-write.ensures.value c.in_ok-write-2.ensures.value c.in_ok-write-3.ensures.value c.in_ok-write-4.ensures.value
@@ -50,8 +50,8 @@ pub returns-clause-frame : goal.returns-clause-frame
 returns-clause-frame g c =
     let m = c.args.map.now in
     let is_bucket : m.buckets + c.bucket.result ≡ m.buckets + bucket_of c.args.key = ap (λ k. m.buckets + k) c.bucket.ensures in
-    let is_block : m.arena.first + 4 * c.from.result ≡ m.arena.first + 4 * c.args.block = omega arith in
-    let is_name : c.from-2.result + 1 ≡ c.args.block + 1 = omega arith in
+    let is_block : c.place_of-at.result ≡ m.arena.first + 4 * c.args.block = c.place_of-at.ensures in
+    let is_name : c.from.result + 1 ≡ c.args.block + 1 = omega arith in
     record {
       appended = front_only m c.args.key c.args.value c.args.block 0 (λ s. ⊥) _ _ _ _ _ _ _ _ c.in_ok-next.next _ is_bucket is_block is_name
           c.in_ok-next.ensures.value c.in_ok-write.ensures.value c.in_ok-write-2.ensures.value c.in_ok-write-3.ensures.value c.in_ok-write-4.ensures.value;
@@ -61,7 +61,7 @@ pub returns-clause-reads : goal.returns-clause-reads
 returns-clause-reads g c =
     let m = c.args.map.now in
     let is_bucket : m.buckets + c.bucket.result ≡ m.buckets + bucket_of c.args.key = ap (λ k. m.buckets + k) c.bucket.ensures in
-    let is_block : m.arena.first + 4 * c.from.result ≡ m.arena.first + 4 * c.args.block = omega arith in
-    let is_name : c.from-2.result + 1 ≡ c.args.block + 1 = omega arith in
+    let is_block : c.place_of-at.result ≡ m.arena.first + 4 * c.args.block = c.place_of-at.ensures in
+    let is_name : c.from.result + 1 ≡ c.args.block + 1 = omega arith in
     front_reads m c.args.key c.args.value c.args.block 0 (λ s. ⊥) _ _ _ _ _ _ _ _ c.in_ok-next.next _ is_bucket is_block is_name
     c.in_ok-next.ensures.value c.in_ok-write.ensures.value c.in_ok-write-2.ensures.value c.in_ok-write-3.ensures.value c.in_ok-write-4.ensures.value

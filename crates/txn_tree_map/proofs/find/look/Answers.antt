@@ -1,4 +1,4 @@
-use Rattle.std.proofs.Common.{◌≡◌, ◌+◌, ◌-◌, ◌*◌, ◌<◌, Some, inl, inr, sym, ap, ◌∙◌, arith, slice_get}
+use Rattle.std.proofs.Common.{◌≡◌, ◌+◌, ◌-◌, ◌<◌, Some, inl, inr, sym, ap, ◌∙◌, arith, slice_get}
 use Rattle.history_model.specs.Fitting.{SomeFits}
 use Rattle.history_model.proofs.FittingLaws.{some_at}
 use Rattle.txn_words.proofs.CallLaws.{each_plain}
@@ -31,9 +31,9 @@ prove-unreachable-requires g c =
 pub read-requires-2-clause-within : goal.read-requires-2-clause-within
 read-requires-2-clause-within g c =
     let m = c.args.map.now in
-    let lt : c.from-2.result < m.arena.blocks = omega arith in
-    let in_list = laid_block m _ _ _ (g.met.W.Words.fits c.args.w.now c.requires.ready.sound) c.from-2.result (record { at = λ s fit. (c.requires.top.at s fit).laid }) lt in
-    omega (arith, in_list.0, ap g.W.Shape.Shape.word_count c.in_ok-name.ensures.shape)
+    let lt : c.in_ok-name.name - 1 < m.arena.blocks = omega arith in
+    let in_list = laid_block m _ _ _ (g.met.W.Words.fits c.args.w.now c.requires.ready.sound) (c.in_ok-name.name - 1) (record { at = λ s fit. (c.requires.top.at s fit).laid }) lt in
+    omega (arith, in_list.0, c.place_of.ensures, ap g.W.Shape.Shape.word_count c.in_ok-name.ensures.shape)
 
 pub returns-clause-named : goal.returns-clause-named
 returns-clause-named g c =
@@ -41,7 +41,7 @@ returns-clause-named g c =
     let b = c.in_ok-name.name - 1 in
     let one_more : c.in_ok-name.name ≡ b + 1 = omega (arith, c.if-name-eq0.false) in
     let lt : b < m.arena.blocks = omega arith in
-    let is_block : m.arena.first + 4 * c.from-2.result ≡ block_at m.arena b = omega arith in
+    let is_block : c.place_of.result ≡ block_at m.arena b = c.place_of.ensures in
     looks_map _ _ _ (IsPlaceOrKey m c.args.place b) _ _ (IsNamed m c.args.place b c.in_ok-key.key) (λ s h. (h.0 ∙ ap (λ k. Some k) one_more, ap (λ a. slice_get s a) (sym is_block) ∙ h.1))
     (looks_read _ _ _ (IsPlaceOrKey m c.args.place b) _ _ _ c.in_ok-key.key _
     (looks_wider _ _ _ _ (IsPlace c.args.place) (IsPlaceOrKey m c.args.place b) _ (λ s p a k. inl k) (looks_at _ _ _ _ c.args.place c.in_ok-name.name c.in_ok-name.ensures.value)) c.in_ok-key.ensures.value (λ s p. inr is_block))

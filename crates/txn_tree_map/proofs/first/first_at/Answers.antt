@@ -1,4 +1,4 @@
-use Rattle.std.proofs.Common.{◌≡◌, ◌+◌, ◌*◌, nat_le, inl, refl, sym, ◌∙◌, subst, arith, if◌then◌else◌}
+use Rattle.std.proofs.Common.{◌≡◌, ◌+◌, nat_le, refl, sym, ◌∙◌, subst, arith, if◌then◌else◌}
 use Rattle.txn_alloc.specs.FreeLists.{block_at}
 use Rattle.txn_words.proofs.Looks.{looks_none, looks_map, looks_grow, looks_each, looks_from}
 use Rattle.txn_tree_map.specs.Searches.{HasTop, IsNamed, IsEnd, IsLink, IsPlace, IsPlaceOrKey}
@@ -42,7 +42,7 @@ loop-preserved g c =
     let goes = c.in_ok-look.ensures.goes_on in
     let named = rw c.in-Some.is at c.in_ok-look.ensures.named in
     let below = rw c.in-Some.is at c.in_ok-look.ensures.block in
-    let next : block_at m.arena node.block + (if nat_le least node.key then 2 else 3) ≡ m.arena.first + 4 * c.from.result + c.side.result = omega (arith, c.from.ensures, c.side.ensures) in
+    let next : block_at m.arena node.block + (if nat_le least node.key then 2 else 3) ≡ c.place_of.result + c.side.result = omega (arith, c.place_of.ensures, c.side.ensures) in
     record {
       shape = goes.shape ∙ i.shape;
       origin = goes.origin ∙ i.origin;

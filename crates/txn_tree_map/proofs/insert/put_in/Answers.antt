@@ -1,4 +1,4 @@
-use Rattle.std.proofs.Common.{◌≡◌, ◌+◌, ◌*◌, ◌<◌, ap, ◌∙◌, arith}
+use Rattle.std.proofs.Common.{◌≡◌, ◌+◌, ◌<◌, ap, ◌∙◌, arith}
 use Rattle.history_model.specs.Fitting.{SomeFits}
 use Rattle.history_model.proofs.FittingLaws.{some_at}
 use Rattle.txn_words.proofs.CallLaws.{each_plain}
@@ -17,7 +17,7 @@ write-requires-clause-within g c =
     let some = g.met.W.Words.fits c.args.w.now c.requires.ready.sound in
     let below : c.args.block < m.arena.blocks = (c.requires.missing.at some.0 some.1).below in
     let in_list = laid_block m _ _ _ some c.args.block (record { at = λ s fit. (c.requires.missing.at s fit).missing.is_at.laid }) below in
-    omega (arith, in_list.0, c.from.ensures, ap g.W.Shape.Shape.word_count c.in_ok-seat.ensures.goes_on.shape)
+    omega (arith, in_list.0, c.place_of-at.ensures, ap g.W.Shape.Shape.word_count c.in_ok-seat.ensures.goes_on.shape)
 
 pub write-requires-2-clause-within : goal.write-requires-2-clause-within
 write-requires-2-clause-within g c =
@@ -25,16 +25,16 @@ write-requires-2-clause-within g c =
     let some = g.met.W.Words.fits c.args.w.now c.requires.ready.sound in
     let below : c.args.block < m.arena.blocks = (c.requires.missing.at some.0 some.1).below in
     let in_list = laid_block m _ _ _ some c.args.block (record { at = λ s fit. (c.requires.missing.at s fit).missing.is_at.laid }) below in
-    omega (arith, in_list.0, c.from.ensures, ap g.W.Shape.Shape.word_count (c.in_ok-write.ensures.shape ∙ c.in_ok-seat.ensures.goes_on.shape))
+    omega (arith, in_list.0, c.place_of-at.ensures, ap g.W.Shape.Shape.word_count (c.in_ok-write.ensures.shape ∙ c.in_ok-seat.ensures.goes_on.shape))
 
 pub split-requires-clause-whole : goal.split-requires-clause-whole
 split-requires-clause-whole g c =
     let m = c.args.map.now in
     let seat = c.in_ok-seat.seat in
-    let is_block : m.arena.first + 4 * c.from.result ≡ block_at m.arena c.args.block = omega (arith, c.from.ensures) in
+    let is_block : c.place_of-at.result ≡ block_at m.arena c.args.block = omega (arith, c.place_of-at.ensures) in
     each_from g.W.Words g.W.Shape.Shape c.args.w.now c.write-2.new.self _ (c.in_ok-write-2.ensures.shape ∙ c.in_ok-write.ensures.shape ∙ c.in_ok-seat.ensures.goes_on.shape)
     (can_split m c.args.key c.args.value c.args.block seat.place seat.name _ _ _ _ c.in_ok-seat.ensures.seat (each_plain g.W.Words g.W.Shape.Shape _ _ c.requires.missing)
-    (m.arena.first + 4 * c.from.result) 0 _ _ is_block c.in_ok-write.ensures.value c.in_ok-write-2.ensures.value)
+    (c.place_of-at.result) 0 _ _ is_block c.in_ok-write.ensures.value c.in_ok-write-2.ensures.value)
 
 pub write-requires-3-clause-within : goal.write-requires-3-clause-within
 write-requires-3-clause-within g c =
@@ -50,11 +50,11 @@ pub returns-clause-put : goal.returns-clause-put
 returns-clause-put g c =
     let m = c.args.map.now in
     let seat = c.in_ok-seat.seat in
-    let is_block : m.arena.first + 4 * c.from.result ≡ block_at m.arena c.args.block = omega (arith, c.from.ensures) in
-    let is_name : c.from-2.result + 1 ≡ c.args.block + 1 = omega (arith, c.from-2.ensures) in
+    let is_block : c.place_of-at.result ≡ block_at m.arena c.args.block = omega (arith, c.place_of-at.ensures) in
+    let is_name : c.from.result + 1 ≡ c.args.block + 1 = omega (arith, c.from.ensures) in
     record {
       at = (put_leads m c.args.key c.args.value c.args.block seat.place seat.name _ _ _ _ c.in_ok-seat.ensures.seat (each_plain g.W.Words g.W.Shape.Shape _ _ c.requires.missing)
-          (m.arena.first + 4 * c.from.result) (c.from-2.result + 1) _ _ is_block c.in_ok-write.ensures.value c.in_ok-write-2.ensures.value _ _ c.in_ok-split.ensures.goes_on.begins
+          (c.place_of-at.result) (c.from.result + 1) _ _ is_block c.in_ok-write.ensures.value c.in_ok-write-2.ensures.value _ _ c.in_ok-split.ensures.goes_on.begins
           (leads_from g.W.Words g.W.Shape.Shape c.args.w.now c.write-2.new.self c.split.new.w _ (c.in_ok-write-2.ensures.shape ∙ c.in_ok-write.ensures.shape ∙ c.in_ok-seat.ensures.goes_on.shape) c.in_ok-split.ensures.split)
           is_name c.in_ok-write-3.ensures.value).at;
     }
@@ -63,12 +63,12 @@ pub returns-clause-frame : goal.returns-clause-frame
 returns-clause-frame g c =
     let m = c.args.map.now in
     let seat = c.in_ok-seat.seat in
-    let is_block : m.arena.first + 4 * c.from.result ≡ block_at m.arena c.args.block = omega (arith, c.from.ensures) in
-    let is_name : c.from-2.result + 1 ≡ c.args.block + 1 = omega (arith, c.from-2.ensures) in
+    let is_block : c.place_of-at.result ≡ block_at m.arena c.args.block = omega (arith, c.place_of-at.ensures) in
+    let is_name : c.from.result + 1 ≡ c.args.block + 1 = omega (arith, c.from.ensures) in
     let same = c.in_ok-write-2.ensures.shape ∙ c.in_ok-write.ensures.shape ∙ c.in_ok-seat.ensures.goes_on.shape in
     record {
       at = put_own m c.args.key c.args.value c.args.block seat.place seat.name _ _ _ _ c.in_ok-seat.ensures.seat (each_plain g.W.Words g.W.Shape.Shape _ _ c.requires.missing)
-          (m.arena.first + 4 * c.from.result) (c.from-2.result + 1) _ _ is_block c.in_ok-write.ensures.value c.in_ok-write-2.ensures.value _ _ c.in_ok-split.ensures.goes_on.begins
+          (c.place_of-at.result) (c.from.result + 1) _ _ is_block c.in_ok-write.ensures.value c.in_ok-write-2.ensures.value _ _ c.in_ok-split.ensures.goes_on.begins
           (leads_from g.W.Words g.W.Shape.Shape c.args.w.now c.write-2.new.self c.split.new.w _ same c.in_ok-split.ensures.split) is_name c.in_ok-write-3.ensures.value
           (within_from g.W.Words g.W.Shape.Shape c.args.w.now c.write-2.new.self c.split.new.w _ same c.in_ok-split.ensures.frame);
     }
@@ -77,12 +77,12 @@ pub returns-clause-reads : goal.returns-clause-reads
 returns-clause-reads g c =
     let m = c.args.map.now in
     let seat = c.in_ok-seat.seat in
-    let is_block : m.arena.first + 4 * c.from.result ≡ block_at m.arena c.args.block = omega (arith, c.from.ensures) in
-    let is_name : c.from-2.result + 1 ≡ c.args.block + 1 = omega (arith, c.from-2.ensures) in
+    let is_block : c.place_of-at.result ≡ block_at m.arena c.args.block = omega (arith, c.place_of-at.ensures) in
+    let is_name : c.from.result + 1 ≡ c.args.block + 1 = omega (arith, c.from.ensures) in
     let same = c.in_ok-write-2.ensures.shape ∙ c.in_ok-write.ensures.shape ∙ c.in_ok-seat.ensures.goes_on.shape in
     record {
       at = put_seen m c.args.key c.args.value c.args.block seat.place seat.name _ _ _ _ c.in_ok-seat.ensures.seat (each_plain g.W.Words g.W.Shape.Shape _ _ c.requires.missing)
-          (m.arena.first + 4 * c.from.result) (c.from-2.result + 1) _ _ is_block c.in_ok-write.ensures.value c.in_ok-write-2.ensures.value _ _ c.in_ok-split.ensures.goes_on.begins
+          (c.place_of-at.result) (c.from.result + 1) _ _ is_block c.in_ok-write.ensures.value c.in_ok-write-2.ensures.value _ _ c.in_ok-split.ensures.goes_on.begins
           (leads_from g.W.Words g.W.Shape.Shape c.args.w.now c.write-2.new.self c.split.new.w _ same c.in_ok-split.ensures.split) is_name c.in_ok-write-3.ensures.value
           (reads_from g.W.Words g.W.Shape.Shape c.args.w.now c.write-2.new.self c.split.new.w _ same c.in_ok-split.ensures.reads);
     }

@@ -1,7 +1,6 @@
-use Rattle.std.proofs.Common.{refl}
 use Rattle.txn_tree_map.specs.Trees.{priority_of}
 use Rattle.txn_tree_map.proofs.map.priority.Goals as goal
 
 pub returns-clause-value : goal.returns-clause-value
 unfolding priority_of
-returns-clause-value c = refl
+returns-clause-value c = c.spread.ensures.value

@@ -1,4 +1,4 @@
-use Rattle.std.proofs.Common.{◌≡◌, ◌+◌, ◌*◌, ap, ◌∙◌, arith}
+use Rattle.std.proofs.Common.{◌≡◌, ap, ◌∙◌, arith}
 use Rattle.txn_words.proofs.CallLaws.{each_plain}
 use Rattle.txn_alloc.specs.FreeLists.{block_at}
 use Rattle.txn_words.proofs.Looks.{each_from, leads_from, within_from, reads_from}
@@ -9,24 +9,24 @@ use Rattle.txn_tree_map.proofs.remove.cut.Goals as goal
 pub read-requires-clause-within : goal.read-requires-clause-within
 read-requires-clause-within g c =
     let in_list = laid_block c.args.map.now _ _ _ (g.met.W.Words.fits c.args.w.now c.requires.ready.sound) c.args.found.block (record { at = λ s fit. (c.requires.can.at s fit).found.is_at.laid }) c.requires.block in
-    omega (arith, in_list.0, c.from.ensures)
+    omega (arith, in_list.0, c.place_of-at.ensures)
 
 pub read-requires-2-clause-within : goal.read-requires-2-clause-within
 read-requires-2-clause-within g c =
     let in_list = laid_block c.args.map.now _ _ _ (g.met.W.Words.fits c.args.w.now c.requires.ready.sound) c.args.found.block (record { at = λ s fit. (c.requires.can.at s fit).found.is_at.laid }) c.requires.block in
-    omega (arith, in_list.0, c.from.ensures, ap g.W.Shape.Shape.word_count c.in_ok-value.ensures.shape)
+    omega (arith, in_list.0, c.place_of-at.ensures, ap g.W.Shape.Shape.word_count c.in_ok-value.ensures.shape)
 
 pub read-requires-3-clause-within : goal.read-requires-3-clause-within
 read-requires-3-clause-within g c =
     let in_list = laid_block c.args.map.now _ _ _ (g.met.W.Words.fits c.args.w.now c.requires.ready.sound) c.args.found.block (record { at = λ s fit. (c.requires.can.at s fit).found.is_at.laid }) c.requires.block in
-    omega (arith, in_list.0, c.from.ensures, ap g.W.Shape.Shape.word_count (c.in_ok-left.ensures.shape ∙ c.in_ok-value.ensures.shape))
+    omega (arith, in_list.0, c.place_of-at.ensures, ap g.W.Shape.Shape.word_count (c.in_ok-left.ensures.shape ∙ c.in_ok-value.ensures.shape))
 
 pub join-requires-clause-pair : goal.join-requires-clause-pair
 join-requires-clause-pair g c =
     let m = c.args.map.now in
     let f = c.args.found in
-    let a = m.arena.first + 4 * c.from.result in
-    let is_block : a ≡ block_at m.arena f.block = omega (arith, c.from.ensures) in
+    let a = c.place_of-at.result in
+    let is_block : a ≡ block_at m.arena f.block = omega (arith, c.place_of-at.ensures) in
     each_from g.W.Words g.W.Shape.Shape c.args.w.now c.read-3.new.self _ (c.in_ok-right.ensures.shape ∙ c.in_ok-left.ensures.shape ∙ c.in_ok-value.ensures.shape)
     (can_join m f.place f.block a c.in_ok-value.value c.in_ok-left.left c.in_ok-right.right _ _ _ _ _ _ c.requires.block is_block
     c.in_ok-value.ensures.value c.in_ok-left.ensures.value c.in_ok-right.ensures.value (each_plain g.W.Words g.W.Shape.Shape _ _ c.requires.can))
@@ -35,8 +35,8 @@ pub returns-clause-cut : goal.returns-clause-cut
 returns-clause-cut g c =
     let m = c.args.map.now in
     let f = c.args.found in
-    let a = m.arena.first + 4 * c.from.result in
-    let is_block : a ≡ block_at m.arena f.block = omega (arith, c.from.ensures) in
+    let a = c.place_of-at.result in
+    let is_block : a ≡ block_at m.arena f.block = omega (arith, c.place_of-at.ensures) in
     let same = c.in_ok-right.ensures.shape ∙ c.in_ok-left.ensures.shape ∙ c.in_ok-value.ensures.shape in
     record {
       at = (cuts_leads m f.place f.block a c.in_ok-value.value c.in_ok-left.left c.in_ok-right.right _ _ _ _ _ _ c.requires.block is_block
@@ -48,8 +48,8 @@ pub returns-clause-frame : goal.returns-clause-frame
 returns-clause-frame g c =
     let m = c.args.map.now in
     let f = c.args.found in
-    let a = m.arena.first + 4 * c.from.result in
-    let is_block : a ≡ block_at m.arena f.block = omega (arith, c.from.ensures) in
+    let a = c.place_of-at.result in
+    let is_block : a ≡ block_at m.arena f.block = omega (arith, c.place_of-at.ensures) in
     let same = c.in_ok-right.ensures.shape ∙ c.in_ok-left.ensures.shape ∙ c.in_ok-value.ensures.shape in
     record {
       at = cuts_own m f.place f.block a c.in_ok-value.value c.in_ok-left.left c.in_ok-right.right _ _ _ _ _ _ c.requires.block is_block
@@ -61,8 +61,8 @@ pub returns-clause-reads : goal.returns-clause-reads
 returns-clause-reads g c =
     let m = c.args.map.now in
     let f = c.args.found in
-    let a = m.arena.first + 4 * c.from.result in
-    let is_block : a ≡ block_at m.arena f.block = omega (arith, c.from.ensures) in
+    let a = c.place_of-at.result in
+    let is_block : a ≡ block_at m.arena f.block = omega (arith, c.place_of-at.ensures) in
     let same = c.in_ok-right.ensures.shape ∙ c.in_ok-left.ensures.shape ∙ c.in_ok-value.ensures.shape in
     record {
       at = cuts_seen m f.place f.block a c.in_ok-value.value c.in_ok-left.left c.in_ok-right.right _ _ _ _ _ _ c.requires.block is_block

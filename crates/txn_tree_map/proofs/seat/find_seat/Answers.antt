@@ -1,4 +1,4 @@
-use Rattle.std.proofs.Common.{◌≡◌, ◌+◌, ◌*◌, ◌≤◌, nat_lt, inl, refl, ◌∙◌, subst, arith, if◌then◌else◌}
+use Rattle.std.proofs.Common.{◌≡◌, ◌+◌, ◌≤◌, nat_lt, refl, ◌∙◌, subst, arith, if◌then◌else◌}
 use Rattle.txn_alloc.specs.FreeLists.{block_at}
 use Rattle.txn_words.proofs.Looks.{looks_none, looks_map, looks_grow, looks_each, looks_from}
 use Rattle.txn_tree_map.specs.Trees.{priority_of}
@@ -41,8 +41,8 @@ returns-then-priority-rank-clause-seat g c =
     let key = c.args.key in
     let named = rw c.in-Some.is at c.in_ok-look.ensures.named in
     let le : priority_of node.key ≤ priority_of key = omega (arith, c.if-priority-rank.true, c.priority.ensures.value, c.priority-rank.ensures.value) in
-    looks_map _ _ _ (IsLink m) _ _ (IsSeat m key c.loop.place (c.from-block.result + 1))
-    (λ s h. subst (λ n. IsSeat m key c.loop.place n s) (omega (arith, c.from-block.ensures))
+    looks_map _ _ _ (IsLink m) _ _ (IsSeat m key c.loop.place (c.from-name.result + 1))
+    (λ s h. subst (λ n. IsSeat m key c.loop.place n s) (omega (arith, c.from-name.ensures))
     (seat_here m key s c.loop.place c.loop.counter node.block node.key c.priority-rank.ensures.small c.priority.ensures.small h.0.1 h.0.0 h.1 le))
     (looks_grow _ _ _ (IsLink m) _ _ (IsPlaceOrKey m c.loop.place node.block) _ (IsNamed m c.loop.place node.block node.key) (λ s p q. passed_near m c.args.key (priority_of c.args.key + 1) s c.loop.place c.loop.counter p.0 node.block node.key q) i.looks (looks_from g.W.Words g.W.Shape.Shape c.args.w.now c.loop.w _ _ (IsPlaceOrKey m c.loop.place node.block) _ i.shape named))
 
@@ -56,7 +56,7 @@ loop-preserved g c =
     let named = rw c.in-Some.is at c.in_ok-look.ensures.named in
     let below = rw c.in-Some.is at c.in_ok-look.ensures.block in
     let higher : priority_of key + 1 ≤ priority_of node.key = omega (arith, c.if-priority-rank.false, c.priority.ensures.value, c.priority-rank.ensures.value) in
-    let next : block_at m.arena node.block + (if nat_lt key node.key then 2 else 3) ≡ m.arena.first + 4 * c.from-block.result + c.side.result = omega (arith, c.from-block.ensures, c.side.ensures) in
+    let next : block_at m.arena node.block + (if nat_lt key node.key then 2 else 3) ≡ c.place_of.result + c.side.result = omega (arith, c.place_of.ensures, c.side.ensures) in
     record {
       shape = goes.shape ∙ i.shape;
       origin = goes.origin ∙ i.origin;

@@ -1,4 +1,4 @@
-use Rattle.std.proofs.Common.{◌≡◌, ◌+◌, ◌*◌, refl, sym, ap, ◌∙◌, arith}
+use Rattle.std.proofs.Common.{◌≡◌, refl, ◌∙◌, arith}
 use Rattle.history_model.proofs.TraceLaws.{begins_refl, begins_trans}
 use Rattle.txn_words.proofs.FrameLaws.{only_same}
 use Rattle.txn_words.proofs.ReadLaws.{sees_same}
@@ -13,7 +13,7 @@ pub loop-init : goal.loop-init
 loop-init g c =
     let m = c.args.map.now in
     let b = c.args.block in
-    let is_block : block_at m.arena b ≡ m.arena.first + 4 * c.from.result = omega (arith, c.from.ensures) in
+    let is_block : block_at m.arena b ≡ c.place_of-at.result = omega (arith, c.place_of-at.ensures) in
     record {
       shape = refl;
       origin = refl;
@@ -22,7 +22,7 @@ loop-init g c =
       begins = begins_refl _;
       reads = λ s fit. sees_same _ _;
       own = λ s fit. only_same _ _;
-      parted = λ s fit. parted_start m c.args.key b c.args.name (m.arena.first + 4 * c.from.result) _ is_block (c.requires.whole.at s fit);
+      parted = λ s fit. parted_start m c.args.key b c.args.name (c.place_of-at.result) _ is_block (c.requires.whole.at s fit);
     }
 
 pub part_one-requires-clause-parted : goal.part_one-requires-clause-parted

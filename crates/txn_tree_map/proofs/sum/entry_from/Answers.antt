@@ -1,4 +1,4 @@
-use Rattle.std.proofs.Common.{◌≡◌, ◌+◌, ◌*◌, ◌<◌, ap, arith}
+use Rattle.std.proofs.Common.{◌≡◌, ◌+◌, ◌<◌, ap, arith}
 use Rattle.history_model.specs.Fitting.{SomeFits}
 use Rattle.history_model.proofs.FittingLaws.{some_at}
 use Rattle.txn_words.proofs.CallLaws.{each_plain}
@@ -23,7 +23,7 @@ read-requires-clause-within g c =
     let node = c.in-Some.node in
     let lt : node.block < m.arena.blocks = omega (arith, c.if-prove.false) in
     let in_list = laid_block m _ _ _ (g.met.W.Words.fits c.args.w.now c.requires.ready.sound) node.block (record { at = λ s fit. (c.requires.order.at s fit).holds.laid }) lt in
-    omega (arith, in_list.0, ap g.W.Shape.Shape.word_count c.in_ok-first_at.ensures.goes_on.shape, c.from.ensures)
+    omega (arith, in_list.0, ap g.W.Shape.Shape.word_count c.in_ok-first_at.ensures.goes_on.shape, c.place_of.ensures)
 
 pub returns-in-None-clause-none : goal.returns-in-None-clause-none
 returns-in-None-clause-none g c =
@@ -49,8 +49,8 @@ pub returns-in_ok-value-in-Some-clause-next : goal.returns-in_ok-value-in-Some-c
 returns-in_ok-value-in-Some-clause-next g c =
     let m = c.args.map.now in
     let node = c.in-Some.node in
-    let q = m.arena.first + 4 * c.from.result + 1 in
-    let is_value : q ≡ block_at m.arena node.block + 1 = omega (arith, c.from.ensures) in
+    let q = c.place_of.result + 1 in
+    let is_value : q ≡ block_at m.arena node.block + 1 = omega (arith, c.place_of.ensures) in
     let nearest = rw c.in-Some.is at c.in_ok-first_at.ensures.nearest in
     next_from m _ _ _ _ c.args.least c.args.high node _ q c.in_ok-value-in-Some.value is_value nearest c.in_ok-value-in-Some.ensures.value
 
@@ -58,8 +58,8 @@ pub returns-in_ok-value-in-Some-clause-reads : goal.returns-in_ok-value-in-Some-
 returns-in_ok-value-in-Some-clause-reads g c =
     let m = c.args.map.now in
     let node = c.in-Some.node in
-    let q = m.arena.first + 4 * c.from.result + 1 in
-    let is_value : q ≡ block_at m.arena node.block + 1 = omega (arith, c.from.ensures) in
+    let q = c.place_of.result + 1 in
+    let is_value : q ≡ block_at m.arena node.block + 1 = omega (arith, c.place_of.ensures) in
     let nearest = rw c.in-Some.is at c.in_ok-first_at.ensures.nearest in
     record { at = value_from m _ _ _ _ c.args.least c.args.high node _ q c.in_ok-value-in-Some.value is_value nearest c.in_ok-value-in-Some.ensures.value c.if-key-high.false (each_plain g.W.Words g.W.Shape.Shape _ _ c.requires.order) }
 

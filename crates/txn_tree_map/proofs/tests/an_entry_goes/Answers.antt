@@ -4,7 +4,7 @@ use Rattle.txn_alloc.specs.EntryMaps.{HasMapApart}
 use Rattle.history_model.proofs.FittingLaws.{each_fresh}
 use Rattle.txn_tree_map.specs.declared.tests.TwoEntries.{TwoEntries}
 use Rattle.txn_tree_map.specs.Trees.{tree_part}
-use Rattle.txn_tree_map.proofs.Lists.{two, small, linked}
+use Rattle.txn_tree_map.proofs.Lists.{small, linked}
 use Rattle.txn_tree_map.proofs.tests.an_entry_goes.Goals as goal
 
 pub new-plain-requires : goal.new-plain-requires

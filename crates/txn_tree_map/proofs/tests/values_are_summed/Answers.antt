@@ -5,7 +5,7 @@ use Rattle.txn_alloc.specs.EntryMaps.{HasSmallSum, SumsRange}
 use Rattle.history_model.proofs.FittingLaws.{each_fresh}
 use Rattle.txn_tree_map.specs.declared.tests.SmallSum.{SmallSum}
 use Rattle.txn_tree_map.specs.Trees.{tree_part}
-use Rattle.txn_tree_map.proofs.Lists.{two, small, is_summed, summed, small_after}
+use Rattle.txn_tree_map.proofs.Lists.{small, is_summed, summed, small_after}
 use Rattle.txn_tree_map.proofs.tests.values_are_summed.Goals as goal
 
 pub new-plain-requires : goal.new-plain-requires

@@ -1,4 +1,4 @@
-use Rattle.std.proofs.Common.{◌≡◌, ◌+◌, ◌*◌, None, Some, arith, ap, ◌∙◌}
+use Rattle.std.proofs.Common.{◌≡◌, ◌+◌, None, Some, arith, ap, ◌∙◌}
 use Rattle.history_model.specs.Fitting.{SomeFits}
 use Rattle.history_model.proofs.TraceLaws.{begins_trans}
 use Rattle.history_model.proofs.FittingLaws.{some_at}
@@ -22,7 +22,7 @@ read-requires-clause-within g c =
     let some : SomeFits (g.W.Shape.Shape.word_count (g.W.Words.shape c.args.w.now)) (g.W.Shape.Shape.good (g.W.Words.shape c.args.w.now)) (g.W.Words.trace c.find.new.w) =
     some_at g.W.Shape.Shape.word_count g.W.Shape.Shape.good _ _ _ goes.shape (g.met.W.Words.fits c.find.new.w goes.sound) in
     let in_list = laid_block m _ _ _ c.in-Some.found.block (λ s fit. (found.holds s fit).laid) some below in
-    omega (arith, in_list.0, ap g.W.Shape.Shape.word_count goes.shape, c.from.ensures)
+    omega (arith, in_list.0, ap g.W.Shape.Shape.word_count goes.shape, c.place_of.ensures)
 
 pub returns-in-None-clause-found : goal.returns-in-None-clause-found
 returns-in-None-clause-found g c =
@@ -49,8 +49,8 @@ pub returns-in_ok-value-in-Some-clause-found : goal.returns-in_ok-value-in-Some-
 returns-in_ok-value-in-Some-clause-found g c =
     let m = c.args.self.now in
     let found = rw c.in-Some.is at c.in_ok-find.ensures.found in
-    let q = m.arena.first + 4 * c.from.result + 1 in
-    let is_value : q ≡ block_at m.arena c.in-Some.found.block + 1 = omega (arith, c.from.ensures) in
+    let q = c.place_of.result + 1 in
+    let is_value : q ≡ block_at m.arena c.in-Some.found.block + 1 = omega (arith, c.place_of.ensures) in
     record {
       at = (finds_some m c.args.key _ _ _ _ c.in-Some.found.place c.in-Some.found.block q c.in_ok-value-in-Some.value is_value
           (looks_value m c.args.key _ _ _ _ _ c.in-Some.found.place c.in-Some.found.block q c.in_ok-value-in-Some.value found c.in_ok-value-in-Some.ensures.value)).at;
@@ -67,7 +67,7 @@ pub returns-in_ok-value-in-Some-clause-frame : goal.returns-in_ok-value-in-Some-
 returns-in_ok-value-in-Some-clause-frame g c =
     let m = c.args.self.now in
     let found = rw c.in-Some.is at c.in_ok-find.ensures.found in
-    let q = m.arena.first + 4 * c.from.result + 1 in
+    let q = c.place_of.result + 1 in
     looks_only g.W.Words g.W.Shape.Shape _ _ (IsLinkOr m c.args.key q) _
     (looks_value m c.args.key _ _ _ _ _ c.in-Some.found.place c.in-Some.found.block q c.in_ok-value-in-Some.value found c.in_ok-value-in-Some.ensures.value)
 
@@ -75,8 +75,8 @@ pub returns-in_ok-value-in-Some-clause-reads : goal.returns-in_ok-value-in-Some-
 returns-in_ok-value-in-Some-clause-reads g c =
     let m = c.args.self.now in
     let found = rw c.in-Some.is at c.in_ok-find.ensures.found in
-    let q = m.arena.first + 4 * c.from.result + 1 in
-    let is_value : q ≡ block_at m.arena c.in-Some.found.block + 1 = omega (arith, c.from.ensures) in
+    let q = c.place_of.result + 1 in
+    let is_value : q ≡ block_at m.arena c.in-Some.found.block + 1 = omega (arith, c.place_of.ensures) in
     record {
       at = sees_value m c.args.key _ _ _ _ c.in-Some.found.place c.in-Some.found.block q c.in_ok-value-in-Some.value is_value
           (looks_value m c.args.key _ _ _ _ _ c.in-Some.found.place c.in-Some.found.block q c.in_ok-value-in-Some.value found c.in_ok-value-in-Some.ensures.value)

@@ -1,4 +1,4 @@
-use Rattle.std.proofs.Common.{◌≡◌, ◌+◌, ◌*◌, refl, arith, rules, ap, ◌∙◌}
+use Rattle.std.proofs.Common.{◌≡◌, ◌+◌, refl, arith, rules, ap, ◌∙◌}
 use Rattle.history_model.specs.Fitting.{SomeFits}
 use Rattle.history_model.proofs.TraceLaws.{begins_trans}
 use Rattle.history_model.proofs.FittingLaws.{some_at}
@@ -9,7 +9,7 @@ use Rattle.txn_alloc.specs.FreeLists.{block_at, HasNone}
 use Rattle.txn_alloc.specs.EntryMaps.{HasMapApart, Inserts, LacksRoom}
 use Rattle.txn_hash_map.specs.Chains.{chain_part}
 use Rattle.txn_alloc.proofs.Wider.{take_keeps}
-use Rattle.txn_alloc.proofs.Parts.{order_inserted, lacks_room, not_new, not_old}
+use Rattle.txn_alloc.proofs.Parts.{order_inserted, lacks_room, not_new, not_old, new_not_old, full_not_old, new_not_full, old_not_full}
 use Rattle.txn_words.proofs.Looks.{leads_from, each_from, each_looked, leads_back}
 use Rattle.txn_hash_map.proofs.Steps.{missing_value}
 use Rattle.txn_hash_map.proofs.Looks.{laid_block, looks_value}
@@ -28,7 +28,7 @@ read-requires-clause-within g c =
     let some : SomeFits (g.W.Shape.Shape.word_count (g.W.Words.shape c.args.w.now)) (g.W.Shape.Shape.good (g.W.Words.shape c.args.w.now)) (g.W.Words.trace c.find.new.w) =
     some_at g.W.Shape.Shape.word_count g.W.Shape.Shape.good _ _ _ goes.shape (g.met.W.Words.fits c.find.new.w goes.sound) in
     let in_list = laid_block m _ _ _ c.in-Some.found.block (λ s fit. (found.holds s fit).laid) some below in
-    omega (arith, in_list.0, ap g.W.Shape.Shape.word_count goes.shape, c.from.ensures)
+    omega (arith, in_list.0, ap g.W.Shape.Shape.word_count goes.shape, c.place_of-at.ensures)
 
 pub write-requires-clause-within : goal.write-requires-clause-within
 write-requires-clause-within g c =
@@ -39,7 +39,7 @@ write-requires-clause-within g c =
     let some : SomeFits (g.W.Shape.Shape.word_count (g.W.Words.shape c.args.w.now)) (g.W.Shape.Shape.good (g.W.Words.shape c.args.w.now)) (g.W.Words.trace c.find.new.w) =
     some_at g.W.Shape.Shape.word_count g.W.Shape.Shape.good _ _ _ (goes.shape) (g.met.W.Words.fits c.find.new.w goes.sound) in
     let in_list = laid_block m _ _ _ c.in-Some.found.block (λ s fit. (found.holds s fit).laid) some below in
-    omega (arith, in_list.0, ap g.W.Shape.Shape.word_count goes.shape, ap g.W.Shape.Shape.word_count c.in_ok-old-in-Some.ensures.shape, c.from.ensures)
+    omega (arith, in_list.0, ap g.W.Shape.Shape.word_count goes.shape, ap g.W.Shape.Shape.word_count c.in_ok-old-in-Some.ensures.shape, c.place_of-at.ensures)
 
 pub take-requires-clause-order : goal.take-requires-clause-order
 take-requires-clause-order g c =
@@ -89,8 +89,8 @@ pub returns-in_ok-write-in-Some-clause-put : goal.returns-in_ok-write-in-Some-cl
 returns-in_ok-write-in-Some-clause-put g c =
     let m = c.args.self.now in
     let found = rw c.in-Some.is at c.in_ok-found.ensures.found in
-    let q = m.arena.first + 4 * c.from.result + 1 in
-    let is_value : q ≡ block_at m.arena c.in-Some.found.block + 1 = omega (arith, c.from.ensures) in
+    let q = c.place_of-at.result + 1 in
+    let is_value : q ≡ block_at m.arena c.in-Some.found.block + 1 = omega (arith, c.place_of-at.ensures) in
     record {
       at = (inserts_old m c.args.key c.args.value _ _ _ _ _ c.in-Some.found.place c.in-Some.found.block q c.in_ok-old-in-Some.old is_value
           (looks_value m c.args.key _ _ _ _ _ c.in-Some.found.place c.in-Some.found.block q c.in_ok-old-in-Some.old found c.in_ok-old-in-Some.ensures.value)
@@ -121,8 +121,8 @@ pub returns-in_ok-write-in-Some-clause-frame : goal.returns-in_ok-write-in-Some-
 returns-in_ok-write-in-Some-clause-frame g c =
     let m = c.args.self.now in
     let found = rw c.in-Some.is at c.in_ok-found.ensures.found in
-    let q = m.arena.first + 4 * c.from.result + 1 in
-    let is_value : q ≡ block_at m.arena c.in-Some.found.block + 1 = omega (arith, c.from.ensures) in
+    let q = c.place_of-at.result + 1 in
+    let is_value : q ≡ block_at m.arena c.in-Some.found.block + 1 = omega (arith, c.place_of-at.ensures) in
     record {
       at = owns_old m c.args.key c.args.value _ _ _ _ _ c.in-Some.found.place c.in-Some.found.block q c.in_ok-old-in-Some.old is_value
           (looks_value m c.args.key _ _ _ _ _ c.in-Some.found.place c.in-Some.found.block q c.in_ok-old-in-Some.old found c.in_ok-old-in-Some.ensures.value)
@@ -133,8 +133,8 @@ pub returns-in_ok-write-in-Some-clause-old : goal.returns-in_ok-write-in-Some-cl
 returns-in_ok-write-in-Some-clause-old g c =
     let m = c.args.self.now in
     let found = rw c.in-Some.is at c.in_ok-found.ensures.found in
-    let q = m.arena.first + 4 * c.from.result + 1 in
-    let is_value : q ≡ block_at m.arena c.in-Some.found.block + 1 = omega (arith, c.from.ensures) in
+    let q = c.place_of-at.result + 1 in
+    let is_value : q ≡ block_at m.arena c.in-Some.found.block + 1 = omega (arith, c.place_of-at.ensures) in
     λ was e. record {
       at = owns_value m c.args.key c.args.value _ _ _ _ _ c.in-Some.found.place c.in-Some.found.block q c.in_ok-old-in-Some.old is_value
           (looks_value m c.args.key _ _ _ _ _ c.in-Some.found.place c.in-Some.found.block q c.in_ok-old-in-Some.old found c.in_ok-old-in-Some.ensures.value)
@@ -233,17 +233,17 @@ pub returns-in-None-2-clause-frame : goal.returns-in-None-2-clause-frame
 returns-in-None-2-clause-frame g c = record { at = λ s fit. only_more (λ a. ⊥) _ _ _ (λ a k. absurd k) (returns-in-None-2-clause-full_frame g c refl).appended }
 
 pub returns-in_ok-put_in_front-in-Some-2-clause-old : goal.returns-in_ok-put_in_front-in-Some-2-clause-old
-returns-in_ok-put_in_front-in-Some-2-clause-old g c = λ was e. absurd (cc)
+returns-in_ok-put_in_front-in-Some-2-clause-old g c = λ was e. absurd (new_not_old was e)
 
 pub returns-in-None-2-clause-old : goal.returns-in-None-2-clause-old
-returns-in-None-2-clause-old g c = λ was e. absurd (cc)
+returns-in-None-2-clause-old g c = λ was e. absurd (full_not_old was e)
 
 pub returns-in_ok-write-in-Some-clause-reads : goal.returns-in_ok-write-in-Some-clause-reads
 returns-in_ok-write-in-Some-clause-reads g c =
     let m = c.args.self.now in
     let found = rw c.in-Some.is at c.in_ok-found.ensures.found in
-    let q = m.arena.first + 4 * c.from.result + 1 in
-    let is_value : q ≡ block_at m.arena c.in-Some.found.block + 1 = omega (arith, c.from.ensures) in
+    let q = c.place_of-at.result + 1 in
+    let is_value : q ≡ block_at m.arena c.in-Some.found.block + 1 = omega (arith, c.place_of-at.ensures) in
     record {
       at = sees_old m c.args.key c.args.value _ _ _ _ _ c.in-Some.found.place c.in-Some.found.block q c.in_ok-old-in-Some.old is_value
           (looks_value m c.args.key _ _ _ _ _ c.in-Some.found.place c.in-Some.found.block q c.in_ok-old-in-Some.old found c.in_ok-old-in-Some.ensures.value)
@@ -277,7 +277,7 @@ returns-in-None-2-clause-reads g c =
     record { at = sees_none m c.args.key c.args.value _ _ _ _ missing _ then.goes_on.begins (each_plain g.W.Words g.W.Shape.Shape _ _ c.requires.order) names }
 
 pub returns-in_ok-write-in-Some-clause-full_frame : goal.returns-in_ok-write-in-Some-clause-full_frame
-returns-in_ok-write-in-Some-clause-full_frame g c = λ e. absurd (cc)
+returns-in_ok-write-in-Some-clause-full_frame g c = λ e. absurd (old_not_full _ e)
 
 pub returns-in_ok-put_in_front-in-Some-2-clause-full_frame : goal.returns-in_ok-put_in_front-in-Some-2-clause-full_frame
-returns-in_ok-put_in_front-in-Some-2-clause-full_frame g c = λ e. absurd (cc)
+returns-in_ok-put_in_front-in-Some-2-clause-full_frame g c = λ e. absurd (new_not_full e)

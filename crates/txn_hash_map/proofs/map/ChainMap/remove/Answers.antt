@@ -1,4 +1,4 @@
-use Rattle.std.proofs.Common.{◌≡◌, ◌+◌, ◌*◌, ◌<◌, None, Some, inl, inr, arith, ap, ◌∙◌}
+use Rattle.std.proofs.Common.{◌≡◌, ◌+◌, ◌<◌, None, Some, inl, inr, arith, ap, ◌∙◌}
 use Rattle.history_model.specs.Fitting.{SomeFits}
 use Rattle.history_model.proofs.TraceLaws.{begins_trans}
 use Rattle.history_model.proofs.FittingLaws.{some_at}
@@ -28,7 +28,7 @@ read-requires-clause-within g c =
     let some : SomeFits (g.W.Shape.Shape.word_count (g.W.Words.shape c.args.w.now)) (g.W.Shape.Shape.good (g.W.Words.shape c.args.w.now)) (g.W.Words.trace c.find.new.w) =
     some_at g.W.Shape.Shape.word_count g.W.Shape.Shape.good _ _ _ (goes.shape) (g.met.W.Words.fits c.find.new.w goes.sound) in
     let in_list = laid_block m _ _ _ c.in-Some.found.block (λ s fit. (found.holds s fit).laid) some below in
-    omega (arith, in_list.0, ap g.W.Shape.Shape.word_count goes.shape, c.from.ensures)
+    omega (arith, in_list.0, ap g.W.Shape.Shape.word_count goes.shape, c.place_of-at.ensures)
 
 pub read-requires-in-Some-clause-within : goal.read-requires-in-Some-clause-within
 read-requires-in-Some-clause-within g c =
@@ -39,7 +39,7 @@ read-requires-in-Some-clause-within g c =
     let some : SomeFits (g.W.Shape.Shape.word_count (g.W.Words.shape c.args.w.now)) (g.W.Shape.Shape.good (g.W.Words.shape c.args.w.now)) (g.W.Words.trace c.find.new.w) =
     some_at g.W.Shape.Shape.word_count g.W.Shape.Shape.good _ _ _ (goes.shape) (g.met.W.Words.fits c.find.new.w goes.sound) in
     let in_list = laid_block m _ _ _ c.in-Some.found.block (λ s fit. (found.holds s fit).laid) some below in
-    omega (arith, in_list.0, ap g.W.Shape.Shape.word_count goes.shape, ap g.W.Shape.Shape.word_count c.in_ok-value-in-Some.ensures.shape, c.from.ensures)
+    omega (arith, in_list.0, ap g.W.Shape.Shape.word_count goes.shape, ap g.W.Shape.Shape.word_count c.in_ok-value-in-Some.ensures.shape, c.place_of-at.ensures)
 
 pub write-requires-clause-within : goal.write-requires-clause-within
 write-requires-clause-within g c =
@@ -51,10 +51,10 @@ write-requires-clause-within g c =
     let p = c.in-Some.found.place in
     let y = c.in_ok-value-in-Some.value in
     let x = c.in_ok-next-in-Some.next in
-    let q = m.arena.first + 4 * c.from.result + 1 in
-    let r = m.arena.first + 4 * c.from.result + 2 in
-    let is_value : q ≡ block_at m.arena b + 1 = omega (arith, c.from.ensures) in
-    let is_next : r ≡ block_at m.arena b + 2 = omega (arith, c.from.ensures) in
+    let q = c.place_of-at.result + 1 in
+    let r = c.place_of-at.result + 2 in
+    let is_value : q ≡ block_at m.arena b + 1 = omega (arith, c.place_of-at.ensures) in
+    let is_next : r ≡ block_at m.arena b + 2 = omega (arith, c.place_of-at.ensures) in
     let looks = looks_read _ _ _ (IsLinkOr m c.args.key q) _ _ r x _ (looks_value m c.args.key _ _ _ _ _ p b q y found c.in_ok-value-in-Some.ensures.value) c.in_ok-next-in-Some.ensures.value (λ s h. inl (inr (b, found_of m c.args.key s p b h.0, inr is_next))) in
     let order = each_plain g.W.Words g.W.Shape.Shape _ _ c.requires.order in
     let some : SomeFits (g.W.Shape.Shape.word_count (g.W.Words.shape c.args.w.now)) (g.W.Shape.Shape.good (g.W.Words.shape c.args.w.now)) (g.W.Words.trace c.read-in-Some.new.self) =
@@ -72,10 +72,10 @@ give-requires-clause-order g c =
     let p = c.in-Some.found.place in
     let y = c.in_ok-value-in-Some.value in
     let x = c.in_ok-next-in-Some.next in
-    let q = m.arena.first + 4 * c.from.result + 1 in
-    let r = m.arena.first + 4 * c.from.result + 2 in
-    let is_value : q ≡ block_at m.arena b + 1 = omega (arith, c.from.ensures) in
-    let is_next : r ≡ block_at m.arena b + 2 = omega (arith, c.from.ensures) in
+    let q = c.place_of-at.result + 1 in
+    let r = c.place_of-at.result + 2 in
+    let is_value : q ≡ block_at m.arena b + 1 = omega (arith, c.place_of-at.ensures) in
+    let is_next : r ≡ block_at m.arena b + 2 = omega (arith, c.place_of-at.ensures) in
     let looks = looks_read _ _ _ (IsLinkOr m c.args.key q) _ _ r x _ (looks_value m c.args.key _ _ _ _ _ p b q y found c.in_ok-value-in-Some.ensures.value) c.in_ok-next-in-Some.ensures.value (λ s h. inl (inr (b, found_of m c.args.key s p b h.0, inr is_next))) in
     let order = each_plain g.W.Words g.W.Shape.Shape _ _ c.requires.order in
     each_from g.W.Words g.W.Shape.Shape c.args.w.now c.write.new.self _ (c.in_ok-write-in-Some.ensures.shape ∙ c.in_ok-next-in-Some.ensures.shape ∙ c.in_ok-value-in-Some.ensures.shape ∙ goes.shape) (order_cut m c.args.key _ _ _ _ p b q y r x is_value is_next looks _ c.in_ok-write-in-Some.ensures.value order)
@@ -90,10 +90,10 @@ give-requires-clause-lacks g c =
     let p = c.in-Some.found.place in
     let y = c.in_ok-value-in-Some.value in
     let x = c.in_ok-next-in-Some.next in
-    let q = m.arena.first + 4 * c.from.result + 1 in
-    let r = m.arena.first + 4 * c.from.result + 2 in
-    let is_value : q ≡ block_at m.arena b + 1 = omega (arith, c.from.ensures) in
-    let is_next : r ≡ block_at m.arena b + 2 = omega (arith, c.from.ensures) in
+    let q = c.place_of-at.result + 1 in
+    let r = c.place_of-at.result + 2 in
+    let is_value : q ≡ block_at m.arena b + 1 = omega (arith, c.place_of-at.ensures) in
+    let is_next : r ≡ block_at m.arena b + 2 = omega (arith, c.place_of-at.ensures) in
     let looks = looks_read _ _ _ (IsLinkOr m c.args.key q) _ _ r x _ (looks_value m c.args.key _ _ _ _ _ p b q y found c.in_ok-value-in-Some.ensures.value) c.in_ok-next-in-Some.ensures.value (λ s h. inl (inr (b, found_of m c.args.key s p b h.0, inr is_next))) in
     let order = each_plain g.W.Words g.W.Shape.Shape _ _ c.requires.order in
     rw c.of.ensures (each_from g.W.Words g.W.Shape.Shape c.args.w.now c.write.new.self _ (c.in_ok-write-in-Some.ensures.shape ∙ c.in_ok-next-in-Some.ensures.shape ∙ c.in_ok-value-in-Some.ensures.shape ∙ goes.shape) (lacks_cut m c.args.key _ _ _ _ p b q y r x is_value is_next looks _ c.in_ok-write-in-Some.ensures.value order))
@@ -129,10 +129,10 @@ returns-in_ok-give-in-Some-clause-removed g c =
     let p = c.in-Some.found.place in
     let y = c.in_ok-value-in-Some.value in
     let x = c.in_ok-next-in-Some.next in
-    let q = m.arena.first + 4 * c.from.result + 1 in
-    let r = m.arena.first + 4 * c.from.result + 2 in
-    let is_value : q ≡ block_at m.arena b + 1 = omega (arith, c.from.ensures) in
-    let is_next : r ≡ block_at m.arena b + 2 = omega (arith, c.from.ensures) in
+    let q = c.place_of-at.result + 1 in
+    let r = c.place_of-at.result + 2 in
+    let is_value : q ≡ block_at m.arena b + 1 = omega (arith, c.place_of-at.ensures) in
+    let is_next : r ≡ block_at m.arena b + 2 = omega (arith, c.place_of-at.ensures) in
     let looks = looks_read _ _ _ (IsLinkOr m c.args.key q) _ _ r x _ (looks_value m c.args.key _ _ _ _ _ p b q y found c.in_ok-value-in-Some.ensures.value) c.in_ok-next-in-Some.ensures.value (λ s h. inl (inr (b, found_of m c.args.key s p b h.0, inr is_next))) in
     let order = each_plain g.W.Words g.W.Shape.Shape _ _ c.requires.order in
     let given = rw c.of.ensures at c.in_ok-give-in-Some.ensures.given in
@@ -162,10 +162,10 @@ returns-in_ok-give-in-Some-clause-frame g c =
     let p = c.in-Some.found.place in
     let y = c.in_ok-value-in-Some.value in
     let x = c.in_ok-next-in-Some.next in
-    let q = m.arena.first + 4 * c.from.result + 1 in
-    let r = m.arena.first + 4 * c.from.result + 2 in
-    let is_value : q ≡ block_at m.arena b + 1 = omega (arith, c.from.ensures) in
-    let is_next : r ≡ block_at m.arena b + 2 = omega (arith, c.from.ensures) in
+    let q = c.place_of-at.result + 1 in
+    let r = c.place_of-at.result + 2 in
+    let is_value : q ≡ block_at m.arena b + 1 = omega (arith, c.place_of-at.ensures) in
+    let is_next : r ≡ block_at m.arena b + 2 = omega (arith, c.place_of-at.ensures) in
     let looks = looks_read _ _ _ (IsLinkOr m c.args.key q) _ _ r x _ (looks_value m c.args.key _ _ _ _ _ p b q y found c.in_ok-value-in-Some.ensures.value) c.in_ok-next-in-Some.ensures.value (λ s h. inl (inr (b, found_of m c.args.key s p b h.0, inr is_next))) in
     let order = each_plain g.W.Words g.W.Shape.Shape _ _ c.requires.order in
     let given = rw c.of.ensures at c.in_ok-give-in-Some.ensures.given in
@@ -194,10 +194,10 @@ returns-in_ok-give-in-Some-clause-reads g c =
     let p = c.in-Some.found.place in
     let y = c.in_ok-value-in-Some.value in
     let x = c.in_ok-next-in-Some.next in
-    let q = m.arena.first + 4 * c.from.result + 1 in
-    let r = m.arena.first + 4 * c.from.result + 2 in
-    let is_value : q ≡ block_at m.arena b + 1 = omega (arith, c.from.ensures) in
-    let is_next : r ≡ block_at m.arena b + 2 = omega (arith, c.from.ensures) in
+    let q = c.place_of-at.result + 1 in
+    let r = c.place_of-at.result + 2 in
+    let is_value : q ≡ block_at m.arena b + 1 = omega (arith, c.place_of-at.ensures) in
+    let is_next : r ≡ block_at m.arena b + 2 = omega (arith, c.place_of-at.ensures) in
     let looks = looks_read _ _ _ (IsLinkOr m c.args.key q) _ _ r x _ (looks_value m c.args.key _ _ _ _ _ p b q y found c.in_ok-value-in-Some.ensures.value) c.in_ok-next-in-Some.ensures.value (λ s h. inl (inr (b, found_of m c.args.key s p b h.0, inr is_next))) in
     let order = each_plain g.W.Words g.W.Shape.Shape _ _ c.requires.order in
     let given = rw c.of.ensures at c.in_ok-give-in-Some.ensures.given in

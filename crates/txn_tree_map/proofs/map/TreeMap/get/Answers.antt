@@ -1,4 +1,4 @@
-use Rattle.std.proofs.Common.{◌≡◌, ◌+◌, ◌*◌, arith, ap, ◌∙◌}
+use Rattle.std.proofs.Common.{◌≡◌, ◌+◌, arith, ap, ◌∙◌}
 use Rattle.txn_words.proofs.CallLaws.{each_plain}
 use Rattle.txn_alloc.specs.FreeLists.{block_at}
 use Rattle.txn_alloc.specs.EntryMaps.{HasMap}
@@ -18,7 +18,7 @@ read-requires-clause-within g c =
     let below = rw c.in-Some.is at c.in_ok-find.ensures.block in
     let goes = c.in_ok-find.ensures.goes_on in
     let in_list = laid_block m _ _ _ (g.met.W.Words.fits c.args.w.now c.requires.ready.sound) c.in-Some.found.block (record { at = λ s fit. (c.requires.order.at s fit).holds.laid }) below in
-    omega (arith, in_list.0, ap g.W.Shape.Shape.word_count goes.shape, c.from.ensures)
+    omega (arith, in_list.0, ap g.W.Shape.Shape.word_count goes.shape, c.place_of.ensures)
 
 pub returns-in-None-clause-found : goal.returns-in-None-clause-found
 returns-in-None-clause-found g c =
@@ -46,8 +46,8 @@ pub returns-in_ok-value-in-Some-clause-found : goal.returns-in_ok-value-in-Some-
 returns-in_ok-value-in-Some-clause-found g c =
     let m = c.args.self.now in
     let found = rw c.in-Some.is at c.in_ok-find.ensures.found in
-    let q = m.arena.first + 4 * c.from.result + 1 in
-    let is_value : q ≡ block_at m.arena c.in-Some.found.block + 1 = omega (arith, c.from.ensures) in
+    let q = c.place_of.result + 1 in
+    let is_value : q ≡ block_at m.arena c.in-Some.found.block + 1 = omega (arith, c.place_of.ensures) in
     record {
       at = (finds_some m c.args.key _ _ _ _ c.in-Some.found.place c.in-Some.found.block q c.in_ok-value-in-Some.value is_value
           (looks_value m c.args.key _ _ _ _ _ c.in-Some.found.place c.in-Some.found.block q c.in_ok-value-in-Some.value found c.in_ok-value-in-Some.ensures.value)).at;
@@ -57,7 +57,7 @@ pub returns-in_ok-value-in-Some-clause-order : goal.returns-in_ok-value-in-Some-
 returns-in_ok-value-in-Some-clause-order g c =
     let m = c.args.self.now in
     let found = rw c.in-Some.is at c.in_ok-find.ensures.found in
-    let q = m.arena.first + 4 * c.from.result + 1 in
+    let q = c.place_of.result + 1 in
     each_from g.W.Words g.W.Shape.Shape c.args.w.now _ _ (c.in_ok-value-in-Some.ensures.shape ∙ c.in_ok-find.ensures.goes_on.shape)
     (each_looked _ _ _ _ (looks_value m c.args.key _ _ _ _ _ c.in-Some.found.place c.in-Some.found.block q c.in_ok-value-in-Some.value found c.in_ok-value-in-Some.ensures.value) (HasMap (tree_part m))
     (each_plain g.W.Words g.W.Shape.Shape _ _ c.requires.order))
@@ -66,7 +66,7 @@ pub returns-in_ok-value-in-Some-clause-frame : goal.returns-in_ok-value-in-Some-
 returns-in_ok-value-in-Some-clause-frame g c =
     let m = c.args.self.now in
     let found = rw c.in-Some.is at c.in_ok-find.ensures.found in
-    let q = m.arena.first + 4 * c.from.result + 1 in
+    let q = c.place_of.result + 1 in
     looks_only g.W.Words g.W.Shape.Shape _ _ (IsLinkOr m q) _
     (looks_value m c.args.key _ _ _ _ _ c.in-Some.found.place c.in-Some.found.block q c.in_ok-value-in-Some.value found c.in_ok-value-in-Some.ensures.value)
 
@@ -74,8 +74,8 @@ pub returns-in_ok-value-in-Some-clause-reads : goal.returns-in_ok-value-in-Some-
 returns-in_ok-value-in-Some-clause-reads g c =
     let m = c.args.self.now in
     let found = rw c.in-Some.is at c.in_ok-find.ensures.found in
-    let q = m.arena.first + 4 * c.from.result + 1 in
-    let is_value : q ≡ block_at m.arena c.in-Some.found.block + 1 = omega (arith, c.from.ensures) in
+    let q = c.place_of.result + 1 in
+    let is_value : q ≡ block_at m.arena c.in-Some.found.block + 1 = omega (arith, c.place_of.ensures) in
     record {
       at = sees_value m c.args.key _ _ _ _ c.in-Some.found.place c.in-Some.found.block q c.in_ok-value-in-Some.value is_value
           (looks_value m c.args.key _ _ _ _ _ c.in-Some.found.place c.in-Some.found.block q c.in_ok-value-in-Some.value found c.in_ok-value-in-Some.ensures.value) (each_plain g.W.Words g.W.Shape.Shape _ _ c.requires.order);

@@ -1,4 +1,4 @@
-use Rattle.std.proofs.Common.{◌≡◌, ◌+◌, ◌*◌, refl, arith, rules, ap, ◌∙◌}
+use Rattle.std.proofs.Common.{◌≡◌, ◌+◌, refl, arith, rules, ap, ◌∙◌}
 use Rattle.history_model.specs.Fitting.{SomeFits}
 use Rattle.history_model.proofs.TraceLaws.{begins_trans}
 use Rattle.history_model.proofs.FittingLaws.{some_at}
@@ -11,7 +11,7 @@ use Rattle.txn_alloc.specs.EntryMaps.{HasMapApart, Inserts, LacksRoom}
 use Rattle.txn_words.proofs.Looks.{each_looked, each_from, leads_from, leads_back, within_from, reads_from}
 use Rattle.txn_tree_map.specs.Trees.{tree_part}
 use Rattle.txn_alloc.proofs.Wider.{take_keeps}
-use Rattle.txn_alloc.proofs.Parts.{order_inserted, lacks_room, not_new, not_old}
+use Rattle.txn_alloc.proofs.Parts.{order_inserted, lacks_room, not_new, not_old, new_not_old, full_not_old, new_not_full, old_not_full}
 use Rattle.txn_tree_map.proofs.Descents.{missing_value}
 use Rattle.txn_tree_map.proofs.Searching.{laid_block}
 use Rattle.txn_tree_map.proofs.Gets.{looks_value}
@@ -27,7 +27,7 @@ read-requires-clause-within g c =
     let below = rw c.in-Some.is at c.in_ok-found.ensures.block in
     let goes = c.in_ok-found.ensures.goes_on in
     let in_list = laid_block m _ _ _ (g.met.W.Words.fits c.args.w.now c.requires.ready.sound) c.in-Some.found.block (record { at = λ s fit. (c.requires.order.at s fit).holds.map.laid }) below in
-    omega (arith, in_list.0, ap g.W.Shape.Shape.word_count goes.shape, c.from.ensures)
+    omega (arith, in_list.0, ap g.W.Shape.Shape.word_count goes.shape, c.place_of-at.ensures)
 
 pub write-requires-clause-within : goal.write-requires-clause-within
 write-requires-clause-within g c =
@@ -35,7 +35,7 @@ write-requires-clause-within g c =
     let below = rw c.in-Some.is at c.in_ok-found.ensures.block in
     let goes = c.in_ok-found.ensures.goes_on in
     let in_list = laid_block m _ _ _ (g.met.W.Words.fits c.args.w.now c.requires.ready.sound) c.in-Some.found.block (record { at = λ s fit. (c.requires.order.at s fit).holds.map.laid }) below in
-    omega (arith, in_list.0, ap g.W.Shape.Shape.word_count goes.shape, ap g.W.Shape.Shape.word_count c.in_ok-old-in-Some.ensures.shape, c.from.ensures)
+    omega (arith, in_list.0, ap g.W.Shape.Shape.word_count goes.shape, ap g.W.Shape.Shape.word_count c.in_ok-old-in-Some.ensures.shape, c.place_of-at.ensures)
 
 pub take-requires-clause-order : goal.take-requires-clause-order
 take-requires-clause-order g c =
@@ -87,8 +87,8 @@ pub returns-in_ok-write-in-Some-clause-put : goal.returns-in_ok-write-in-Some-cl
 returns-in_ok-write-in-Some-clause-put g c =
     let m = c.args.self.now in
     let found = rw c.in-Some.is at c.in_ok-found.ensures.found in
-    let q = m.arena.first + 4 * c.from.result + 1 in
-    let is_value : q ≡ block_at m.arena c.in-Some.found.block + 1 = omega (arith, c.from.ensures) in
+    let q = c.place_of-at.result + 1 in
+    let is_value : q ≡ block_at m.arena c.in-Some.found.block + 1 = omega (arith, c.place_of-at.ensures) in
     record {
       at = (inserts_old m c.args.key c.args.value _ _ _ _ (each_plain g.W.Words g.W.Shape.Shape _ _ c.requires.order) _ c.in-Some.found.place c.in-Some.found.block q c.in_ok-old-in-Some.old is_value
           (looks_value m c.args.key _ _ _ _ _ c.in-Some.found.place c.in-Some.found.block q c.in_ok-old-in-Some.old found c.in_ok-old-in-Some.ensures.value)
@@ -119,8 +119,8 @@ pub returns-in_ok-write-in-Some-clause-frame : goal.returns-in_ok-write-in-Some-
 returns-in_ok-write-in-Some-clause-frame g c =
     let m = c.args.self.now in
     let found = rw c.in-Some.is at c.in_ok-found.ensures.found in
-    let q = m.arena.first + 4 * c.from.result + 1 in
-    let is_value : q ≡ block_at m.arena c.in-Some.found.block + 1 = omega (arith, c.from.ensures) in
+    let q = c.place_of-at.result + 1 in
+    let is_value : q ≡ block_at m.arena c.in-Some.found.block + 1 = omega (arith, c.place_of-at.ensures) in
     record {
       at = owns_old m c.args.key c.args.value _ _ _ _ (each_plain g.W.Words g.W.Shape.Shape _ _ c.requires.order) _ c.in-Some.found.place c.in-Some.found.block q c.in_ok-old-in-Some.old is_value
           (looks_value m c.args.key _ _ _ _ _ c.in-Some.found.place c.in-Some.found.block q c.in_ok-old-in-Some.old found c.in_ok-old-in-Some.ensures.value)
@@ -131,8 +131,8 @@ pub returns-in_ok-write-in-Some-clause-old : goal.returns-in_ok-write-in-Some-cl
 returns-in_ok-write-in-Some-clause-old g c =
     let m = c.args.self.now in
     let found = rw c.in-Some.is at c.in_ok-found.ensures.found in
-    let q = m.arena.first + 4 * c.from.result + 1 in
-    let is_value : q ≡ block_at m.arena c.in-Some.found.block + 1 = omega (arith, c.from.ensures) in
+    let q = c.place_of-at.result + 1 in
+    let is_value : q ≡ block_at m.arena c.in-Some.found.block + 1 = omega (arith, c.place_of-at.ensures) in
     λ was e. record {
       at = owns_value m c.args.key c.args.value _ _ _ _ (each_plain g.W.Words g.W.Shape.Shape _ _ c.requires.order) _ c.in-Some.found.place c.in-Some.found.block q c.in_ok-old-in-Some.old is_value
           (looks_value m c.args.key _ _ _ _ _ c.in-Some.found.place c.in-Some.found.block q c.in_ok-old-in-Some.old found c.in_ok-old-in-Some.ensures.value)
@@ -143,8 +143,8 @@ pub returns-in_ok-write-in-Some-clause-reads : goal.returns-in_ok-write-in-Some-
 returns-in_ok-write-in-Some-clause-reads g c =
     let m = c.args.self.now in
     let found = rw c.in-Some.is at c.in_ok-found.ensures.found in
-    let q = m.arena.first + 4 * c.from.result + 1 in
-    let is_value : q ≡ block_at m.arena c.in-Some.found.block + 1 = omega (arith, c.from.ensures) in
+    let q = c.place_of-at.result + 1 in
+    let is_value : q ≡ block_at m.arena c.in-Some.found.block + 1 = omega (arith, c.place_of-at.ensures) in
     record {
       at = sees_old m c.args.key c.args.value _ _ _ _ (each_plain g.W.Words g.W.Shape.Shape _ _ c.requires.order) _ c.in-Some.found.place c.in-Some.found.block q c.in_ok-old-in-Some.old is_value
           (looks_value m c.args.key _ _ _ _ _ c.in-Some.found.place c.in-Some.found.block q c.in_ok-old-in-Some.old found c.in_ok-old-in-Some.ensures.value)
@@ -220,7 +220,7 @@ returns-in_ok-put_in-in-Some-2-clause-reads g c =
     }
 
 pub returns-in_ok-put_in-in-Some-2-clause-old : goal.returns-in_ok-put_in-in-Some-2-clause-old
-returns-in_ok-put_in-in-Some-2-clause-old g c = λ was e. absurd (cc)
+returns-in_ok-put_in-in-Some-2-clause-old g c = λ was e. absurd (new_not_old was e)
 
 pub returns-in-None-2-clause-put : goal.returns-in-None-2-clause-put
 returns-in-None-2-clause-put g c =
@@ -265,7 +265,7 @@ pub returns-in-None-2-clause-frame : goal.returns-in-None-2-clause-frame
 returns-in-None-2-clause-frame g c = record { at = λ s fit. only_more (λ a. ⊥) _ _ _ (λ a k. absurd k) (returns-in-None-2-clause-full_frame g c refl).appended }
 
 pub returns-in-None-2-clause-old : goal.returns-in-None-2-clause-old
-returns-in-None-2-clause-old g c = λ was e. absurd (cc)
+returns-in-None-2-clause-old g c = λ was e. absurd (full_not_old was e)
 
 pub returns-in-None-2-clause-reads : goal.returns-in-None-2-clause-reads
 returns-in-None-2-clause-reads g c =
@@ -276,7 +276,7 @@ returns-in-None-2-clause-reads g c =
     record { at = sees_none m c.args.key c.args.value _ _ _ _ (each_plain g.W.Words g.W.Shape.Shape _ _ c.requires.order) missing _ then.goes_on.begins names }
 
 pub returns-in_ok-write-in-Some-clause-full_frame : goal.returns-in_ok-write-in-Some-clause-full_frame
-returns-in_ok-write-in-Some-clause-full_frame g c = λ e. absurd (cc)
+returns-in_ok-write-in-Some-clause-full_frame g c = λ e. absurd (old_not_full _ e)
 
 pub returns-in_ok-put_in-in-Some-2-clause-full_frame : goal.returns-in_ok-put_in-in-Some-2-clause-full_frame
-returns-in_ok-put_in-in-Some-2-clause-full_frame g c = λ e. absurd (cc)
+returns-in_ok-put_in-in-Some-2-clause-full_frame g c = λ e. absurd (new_not_full e)
