@@ -126,63 +126,64 @@ mod tests {
     use std::test::Fail;
     use txn_words::Plain;
 
-    /// So many words, on which a ring is in order.
+    /// 285 words, which hold a ring of one place.
     #[derive(Clone, Copy)]
-    struct WithRing {
-        ring: Ring,
-        words: u64,
-    }
+    struct OnePlace;
 
-    impl Shape for WithRing {
+    impl Shape for OnePlace {
         ghost use Rattle.txn_ring.specs.Queues.{IsInOrder};
 
-        ghost word_count = { λ shape. shape.words };
+        ghost word_count = { λ _. 285 };
 
-        ghost good = { λ shape words. IsInOrder shape.ring words };
+        ghost good = { λ _ words. IsInOrder (record { at = 273; capacity = 1 }) words };
+    }
+
+    /// Six words, which are a ring of two places.
+    #[derive(Clone, Copy)]
+    struct TwoPlaces;
+
+    impl Shape for TwoPlaces {
+        ghost use Rattle.txn_ring.specs.Queues.{IsInOrder};
+
+        ghost word_count = { λ _. 6 };
+
+        ghost good = { λ _ words. IsInOrder (record { at = 0; capacity = 2 }) words };
+    }
+
+    const ONE: Ring = Ring {
+        at: 273,
+        capacity: 1,
+    };
+
+    const TWO: Ring = Ring { at: 0, capacity: 2 };
+
+    #[test]
+    fn a_ring_of_one_place_is_full_and_empty(rt: HostRuntime) -> Result<(), Fail> {
+        let mut words = vec![in rt.alloc(); 0u64; 285]?;
+        words[1] = 1;
+        words[277] = 2;
+        let mut plain = Plain::new(rt.alloc(), OnePlace, words);
+        assert!(rt; ONE.push(&mut plain, (1, 5))?);
+        assert!(rt; !ONE.push(&mut plain, (1, 6))?);
+        assert_eq!(rt; ONE.len(&mut plain)?, 1);
+        assert_eq!(rt; ONE.pop(&mut plain)?, Some((1, 5)));
+        assert_eq!(rt; ONE.pop(&mut plain)?, None);
+        assert_eq!(rt; ONE.len(&mut plain)?, 0);
+        Ok(())
     }
 
     #[test]
     fn a_queue_goes_round(rt: HostRuntime) -> Result<(), Fail> {
-        let mut long = vec![in rt.alloc(); 0u64; 285]?;
-        long[1] = 1;
-        long[277] = 2;
-        let one = Ring {
-            at: 273,
-            capacity: 1,
-        };
-        let mut words = Plain::new(
-            rt.alloc(),
-            WithRing {
-                ring: one,
-                words: 285,
-            },
-            long,
-        );
-        assert!(rt; one.push(&mut words, (1, 5))?);
-        assert!(rt; !one.push(&mut words, (1, 6))?);
-        assert_eq!(rt; one.len(&mut words)?, 1);
-        assert_eq!(rt; one.pop(&mut words)?, Some((1, 5)));
-        assert_eq!(rt; one.pop(&mut words)?, None);
-        assert_eq!(rt; one.len(&mut words)?, 0);
-
-        let short = vec![in rt.alloc(); 0u64; 6]?;
-        let two = Ring { at: 0, capacity: 2 };
-        let mut few = Plain::new(
-            rt.alloc(),
-            WithRing {
-                ring: two,
-                words: 6,
-            },
-            short,
-        );
-        assert!(rt; two.push(&mut few, (1, 2))?);
-        assert!(rt; two.push(&mut few, (3, 4))?);
-        assert_eq!(rt; two.pop(&mut few)?, Some((1, 2)));
-        assert!(rt; two.push(&mut few, (5, 6))?);
-        assert_eq!(rt; two.len(&mut few)?, 2);
-        assert_eq!(rt; two.pop(&mut few)?, Some((3, 4)));
-        assert_eq!(rt; two.pop(&mut few)?, Some((5, 6)));
-        assert_eq!(rt; two.pop(&mut few)?, None);
+        let words = vec![in rt.alloc(); 0u64; 6]?;
+        let mut plain = Plain::new(rt.alloc(), TwoPlaces, words);
+        assert!(rt; TWO.push(&mut plain, (1, 2))?);
+        assert!(rt; TWO.push(&mut plain, (3, 4))?);
+        assert_eq!(rt; TWO.pop(&mut plain)?, Some((1, 2)));
+        assert!(rt; TWO.push(&mut plain, (5, 6))?);
+        assert_eq!(rt; TWO.len(&mut plain)?, 2);
+        assert_eq!(rt; TWO.pop(&mut plain)?, Some((3, 4)));
+        assert_eq!(rt; TWO.pop(&mut plain)?, Some((5, 6)));
+        assert_eq!(rt; TWO.pop(&mut plain)?, None);
         Ok(())
     }
 }
