@@ -4,15 +4,15 @@ use Rattle.std.proofs.lemmas.List.{take-append-drop, take_at, drop-drop}
 use Rattle.std.proofs.Math.Seq.{take-add}
 use Rattle.std.specs.Io.KnownBytes.{Appends, Consumes}
 
--- what is left from a place on is the piece that was copied into the front of a buffer, and what is left after it
-pub front_and_rest : (xs piece others : List ℕ) (at n : ℕ) → piece ≡ take n (drop at xs) → at + n ≤ length xs → drop at xs ≡ take n (piece ++ others) ++ drop (at + n) xs
-front_and_rest xs piece others at n e within =
+-- what is left from a place on is the piece that was copied into the start of a buffer, and what is left after it
+pub prefix_and_rest : (xs piece others : List ℕ) (at n : ℕ) → piece ≡ take n (drop at xs) → at + n ≤ length xs → drop at xs ≡ take n (piece ++ others) ++ drop (at + n) xs
+prefix_and_rest xs piece others at n e within =
     let long : length piece ≡ n = ap length e ∙ simp (length-take, length-drop) (omega arith) in
     sym (ap (λ ys. ys ++ drop (at + n) xs) (take_at piece others n long ∙ e) ∙ ap (λ ys. take n (drop at xs) ++ ys) (sym (drop-drop n at xs)) ∙ take-append-drop n (drop at xs))
 
--- the front up to a place, and a piece from there on, are the front up to the piece's end
-pub front_and_piece : (text rest : List ℕ) (n : ℕ) → rest ≡ drop (length text - length rest) text → length rest ≤ length text → n ≤ length rest → take (length text - length rest) text ++ take n rest ≡ take (length text - length (drop n rest)) text
-front_and_piece text rest n e within short =
+-- the prefix up to a place, and a piece from there on, are the prefix up to the piece's end
+pub prefix_and_piece : (text rest : List ℕ) (n : ℕ) → rest ≡ drop (length text - length rest) text → length rest ≤ length text → n ≤ length rest → take (length text - length rest) text ++ take n rest ≡ take (length text - length (drop n rest)) text
+prefix_and_piece text rest n e within short =
     let k : ℕ = length text - length rest in
     let at : length text - length (drop n rest) ≡ k + n = simp length-drop (omega arith) in
     ap (λ ys. take k text ++ take n ys) e ∙ sym (take-add k n text) ∙ ap (λ i. take i text) (sym at)

@@ -7,6 +7,8 @@ ghost use Rattle.io_ends.specs.Taken.{TakesAtMost, count_taken};
 
 use crate::source::{Failed, Source};
 use std::alloc::{AllocError, Global};
+use std::error::Error;
+use std::fmt;
 
 /// The greatest limit that `read_all` may be given, in bytes.
 pub const GREATEST_READ_LIMIT: usize = 1_000_000_000;
@@ -24,6 +26,18 @@ pub enum ReadStop {
     /// No memory was found.
     OutOfMemory,
 }
+
+impl fmt::Display for ReadStop {
+    fn fmt<W: fmt::Write>(&self, f: &mut fmt::Formatter<W>) -> fmt::Result {
+        f.write_str(match self {
+            ReadStop::Fault => "a read failed",
+            ReadStop::TooLarge => "the source gave more bytes than the limit",
+            ReadStop::OutOfMemory => "out of memory",
+        })
+    }
+}
+
+impl Error for ReadStop {}
 
 impl From<Failed> for ReadStop {
     ghost use Rattle.std.specs.Prelude.{◌≡◌};
@@ -57,7 +71,7 @@ pub fn read_all<S: Source>(alloc: Global, source: &mut S, limit: usize) -> Resul
     ensures end { OnOk result (IsAtEnd (S.left source.new)) }
     ensures within { IfOk result (λ bytes. vec_len bytes ≤ limit) }
 
-    // When each error comes. Want of memory is free.
+    // When each error comes. Out of memory is free.
     ensures fault { IsErrOf result ReadStop.Fault → Rose (S.faults source.old) (S.faults source.new) }
     ensures too_large { IsErrOf result ReadStop.TooLarge → IfSome (count_taken (S.left source.old) (S.left source.new)) (λ n. n ≡ limit + 1) }
     ensures above_limit { count_taken (S.left source.old) (S.left source.new) ≡ Some (limit + 1)

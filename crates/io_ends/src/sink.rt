@@ -14,7 +14,7 @@ pub trait Sink {
     /// How many faults there were. It never falls, and stands still at its last value.
     ghost faults: { Self → ℕ };
 
-    /// Appends the front of the piece, and tells how many bytes it took. A failure appends nothing.
+    /// Appends a prefix of the piece, and tells how many bytes it took. A failure appends nothing.
     fn write(&mut self, piece: &[u8]) -> Result<usize, Failed>
         ensures bound { IfOk result (λ n. n ≤ length piece.now) }
         ensures some { IfOk result (λ n. 0 < length piece.now → 0 < n) }

@@ -117,7 +117,7 @@ impl<T: Write> Sink for StdSink<T> {
         ensures cause { HasCause result self.old.faults self.new.faults }
         ensures faults { self.old.faults ≤ self.new.faults }
 
-        // The writer gained exactly the front of the piece that was taken, and nothing after a failure.
+        // The writer gained exactly the prefix of the piece that was taken, and nothing after a failure.
         ensures inner { WriteAppends (T.contents self.old.inner) (T.contents self.new.inner)
             result piece.now }
         ensures counted { self.new.faults ≡ (if is_err result then next_count self.old.faults else self.old.faults) }

@@ -1,6 +1,6 @@
 use crate::{
-    Failed, MemSink, MemSource, ReadStop, Sink, StdSink, StdSource, WriteFault, read_all,
-    write_all_of,
+    Failed, MemSink, MemSource, OutOfMemory, ReadStop, Sink, StdSink, StdSource, WriteFault,
+    read_all, write_all_of,
 };
 use std::io;
 use std::io::{Read, Write};
@@ -30,7 +30,7 @@ fn reads_to_the_end_or_to_the_limit(rt: HostRuntime) -> Result<(), Fail> {
 }
 
 #[test]
-fn writes_all_or_a_front(rt: HostRuntime) -> Result<(), Fail> {
+fn writes_all_or_a_prefix(rt: HostRuntime) -> Result<(), Fail> {
     let alloc = rt.alloc();
     let cases = [
         (9, 2, 0, Ok(()), "hello"),
@@ -96,8 +96,8 @@ fn a_reader_of_std_is_read_to_its_end_or_its_error(rt: HostRuntime) -> Result<()
         match given {
             Ok(bytes) => {
                 assert_eq!(rt; Ok(()), want, "at {most}, {broken}");
-                let (front, _) = b"hello".as_slice().split_at(5 - rest.len().min(5));
-                assert_eq!(rt; bytes.as_slice(), front, "at {most}, {broken}");
+                let (prefix, _) = b"hello".as_slice().split_at(5 - rest.len().min(5));
+                assert_eq!(rt; bytes.as_slice(), prefix, "at {most}, {broken}");
             }
             Err(stop) => assert_eq!(rt; Err(stop), want, "at {most}, {broken}"),
         }
@@ -131,7 +131,7 @@ impl Write for Narrow {
 }
 
 #[test]
-fn a_writer_of_std_takes_all_or_a_front(rt: HostRuntime) -> Result<(), Fail> {
+fn a_writer_of_std_takes_all_or_a_prefix(rt: HostRuntime) -> Result<(), Fail> {
     let alloc = rt.alloc();
     let cases = [
         (9, 9, false, Ok(()), "hello"),
@@ -170,5 +170,31 @@ fn a_piece_of_no_bytes_is_written_to_any_writer(rt: HostRuntime) -> Result<(), F
     let mut sink = StdSink::new(&mut closed);
     assert_eq!(rt; sink.write(b"a"), Err(Failed));
     assert_eq!(rt; sink.write(b""), Ok(0));
+    Ok(())
+}
+
+#[test]
+fn says_what_failed(rt: HostRuntime) -> Result<(), Fail> {
+    let alloc = rt.alloc();
+    let told = [
+        (format!(in alloc; "{Failed}")?, "a read or a write failed"),
+        (format!(in alloc; "{OutOfMemory}")?, "out of memory"),
+        (format!(in alloc; "{}", ReadStop::Fault)?, "a read failed"),
+        (
+            format!(in alloc; "{}", ReadStop::TooLarge)?,
+            "the source gave more bytes than the limit",
+        ),
+        (
+            format!(in alloc; "{}", ReadStop::OutOfMemory)?,
+            "out of memory",
+        ),
+        (
+            format!(in alloc; "{WriteFault}")?,
+            "the text was not written whole",
+        ),
+    ];
+    for (text, want) in told {
+        assert_eq!(rt; text.as_str(), want);
+    }
     Ok(())
 }

@@ -7,10 +7,20 @@ ghost use Rattle.io_ends.specs.Taken.{AppendsPrefix};
 
 use crate::sink::Sink;
 use crate::source::Failed;
+use std::error::Error;
+use std::fmt;
 
 /// A text was not written whole.
 #[derive(Clone, Copy, Debug, PartialEq, Eq)]
 pub struct WriteFault;
+
+impl fmt::Display for WriteFault {
+    fn fmt<W: fmt::Write>(&self, f: &mut fmt::Formatter<W>) -> fmt::Result {
+        f.write_str("the text was not written whole")
+    }
+}
+
+impl Error for WriteFault {}
 
 impl From<Failed> for WriteFault {
     fn from(_: Failed) -> Self {

@@ -1,6 +1,6 @@
 use Rattle.std.proofs.Common.{arith, length, take, ◌-◌}
 use Rattle.std.proofs.lemmas.Grind.{common_steps}
-use Rattle.io_ends.proofs.Pieces.{front_and_piece, rest_of_rest, Appends-append}
+use Rattle.io_ends.proofs.Pieces.{prefix_and_piece, rest_of_rest, Appends-append}
 use Rattle.io_ends.proofs.writing.write_all_of.Goals as goal
 
 pub loop-rest-preserved : goal.loop-rest-preserved
@@ -14,6 +14,6 @@ loop-rest-preserved g c =
     record {
       within = grind (arith, common_steps);
       rest = rw back (rest_of_rest text rest c.in_ok-n.n kept.rest kept.within c.in_ok-n.ensures.bound);
-      written = rw (back, ← front_and_piece text rest c.in_ok-n.n kept.rest kept.within c.in_ok-n.ensures.bound) written;
+      written = rw (back, ← prefix_and_piece text rest c.in_ok-n.n kept.rest kept.within c.in_ok-n.ensures.bound) written;
       faults = omega (arith, c.in_ok-n.ensures.faults);
     }

@@ -2,7 +2,7 @@ use Rattle.std.proofs.Common.{◌≤◌, ◌≡◌, ◌-◌, length, take, drop}
 use Rattle.std.specs.Io.KnownBytes.{Appends}
 use Rattle.io_ends.proofs.writing.write_all_of.Given as goal
 
--- what was written so far is a front of the text, and the rest is what is left of it
+-- what was written so far is a prefix of the text, and the rest is what is left of it
 abbrev pub invariant-loop-rest : goal.invariant-loop-rest
 invariant-loop-rest g l =
     let sink = g.K.Sink in
