@@ -9,7 +9,8 @@ use Rattle.books_model.specs.declared.reply.Reply.TheVariants as reply
 use Rattle.script_reader.specs.declared.words.TheConstants.{SPACE}
 use Rattle.script_reader.specs.Input.{ClearingInput, caller_at}
 use Rattle.books_report.specs.declared.line.Line.{Line}
-use Rattle.books_report.specs.Words.{reply_words, value_word}
+use Rattle.books_model.specs.Words.{value_word}
+use Rattle.books_report.specs.Words.{reply_words}
 use Rattle.books_report.specs.Output.{journal_line, journal_lines, place_of}
 
 -- one more element, by its place

@@ -4,7 +4,8 @@ ghost use Rattle.std.specs.Prelude.{◌≡◌, ◌∷◌, ◌++◌, OnOk};
 ghost use Rattle.std.specs.String.{string_bytes};
 ghost use Rattle.std.specs.List.{flat_map, join_with_byte};
 ghost use Rattle.script_reader.specs.declared.words.TheConstants.{SPACE};
-ghost use Rattle.books_report.specs.Words.{decline_word, reply_words, value_word};
+ghost use Rattle.books_model.specs.Words.{decline_word, value_word};
+ghost use Rattle.books_report.specs.Words.{reply_words};
 
 use books_model::{Decline, Reply, Value, Values};
 use std::alloc::AllocError;

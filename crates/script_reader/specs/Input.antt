@@ -5,7 +5,8 @@ use Rattle.std.specs.Coded.{Coded, code_by, coded×, coded_ℕ, coded_list}
 use Rattle.std.specs.Str.{bytes_eq}
 use Rattle.books_model.specs.declared.script.Op.{Op}
 use Rattle.books_model.specs.contracts.script.Op as operation
-use Rattle.books_model.specs.Books.{ClearingBooks, books_code}
+use Rattle.books_model.specs.Books.{ClearingBooks}
+use Rattle.books_model.specs.Inner.Codes.{books_code}
 use Rattle.books_model.specs.Ranges.{AreInRange, IsScriptFor}
 use Rattle.script_reader.specs.declared.limits.TheConstants.{MOST_CALLERS, MOST_SCRIPTS, LONGEST_NAME}
 

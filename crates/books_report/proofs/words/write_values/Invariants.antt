@@ -2,7 +2,7 @@ use Rattle.std.proofs.Common.{◌≡◌, ◌∷◌, ◌++◌, take}
 use Rattle.std.specs.String.{string_bytes}
 use Rattle.std.specs.List.{flat_map}
 use Rattle.script_reader.specs.declared.words.TheConstants.{SPACE}
-use Rattle.books_report.specs.Words.{value_word}
+use Rattle.books_model.specs.Words.{value_word}
 use Rattle.books_report.proofs.words.write_values.Given as goal
 
 -- the values before this one are written
