@@ -1,7 +1,7 @@
 -- The text of replies and of journal lines, one piece after another.
 use Rattle.std.proofs.Common.{◌≡◌, ◌+◌, ◌<◌, ◌++◌, [], ◌∷◌, ℕ, List, Some, map, take, length, codes, refl, sym, ap, ◌∙◌, get_or, append_assoc, append-nil, arith, add-zero, length-take}
 use Rattle.std.specs.List.{flat_map, join_with_byte, slice_get}
-use Rattle.std.proofs.lemmas.List.{flat_map_more, take_more, map_push, length-map}
+use Rattle.std.proofs.lemmas.List.{take_more, map_push, length-map}
 use Rattle.std.proofs.lemmas.Option.{get_or_from_slice_get, slice_get_within}
 use Rattle.books_model.specs.declared.reply.Value.{Value}
 use Rattle.books_model.specs.declared.reply.Reply.{Reply}
@@ -21,14 +21,14 @@ take_next xs i x h = take_more xs i x (slice_get_within xs i x h) ∙ ap (λ y. 
 abbrev pub spaced_word : Value → List ℕ
 spaced_word v = SPACE ∷ value_word v
 
--- one more value is written
-pub value_next : (text before pushed now : List ℕ) (values : List Value) (i : ℕ) (v : Value)
-    → before ≡ text ++ flat_map spaced_word (take i values) → pushed ≡ before ++ SPACE ∷ [] → now ≡ pushed ++ value_word v → slice_get values i ≡ Some v
-    → now ≡ text ++ flat_map spaced_word (take (i + 1) values)
-value_next text before pushed now values i v written space word at =
-    word ∙ ap (λ xs. xs ++ value_word v) space ∙ append_assoc before (SPACE ∷ []) (value_word v)
-    ∙ ap (λ xs. xs ++ spaced_word v) written ∙ flat_map_more spaced_word text (take i values) v
-    ∙ ap (λ vs. text ++ flat_map spaced_word vs) (sym (take_next values i v at))
+-- one more value is written, and the others are left
+pub value_next : (whole before now : List ℕ) (values left : List Value) (v : Value)
+    → before ++ flat_map spaced_word values ≡ whole → values ≡ v ∷ left → now ≡ before ++ spaced_word v → now ++ flat_map spaced_word left ≡ whole
+value_next whole before now values left v so_far next written =
+    ap (λ text. text ++ flat_map spaced_word left) written
+    ∙ append_assoc before (spaced_word v) (flat_map spaced_word left)
+    ∙ sym (ap (λ vs. before ++ flat_map spaced_word vs) next)
+    ∙ so_far
 
 -- words joined to a first one, each with a space in front
 pub join-map : {A : Type 0} (c : ℕ) (f : A → List ℕ) (x : List ℕ) (xs : List A) → join_with_byte c (x ∷ map f xs) ≡ x ++ flat_map (λ y. c ∷ f y) xs
