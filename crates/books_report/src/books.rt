@@ -21,9 +21,8 @@ fn write_size(text: &mut String, name: &str, size: u32) -> Result<(), AllocError
 }
 
 fn write_header(text: &mut String, books: &Books) -> Result<(), AllocError>
-    ensures ok { OnOk result
+    ensures { OnOk result
         (string_bytes text.new ≡ string_bytes text.old ++ header_line books.now) }
-    ensures range { OnOk result (AreInRange books.now) }
 {
     text.push_str("books 1")?;
     write_size(text, "blocks", books.blocks())?;
@@ -123,6 +122,7 @@ fn write_calls(text: &mut String, books: &Books) -> Result<(), AllocError>
 pub fn write_books(text: &mut String, books: &Books) -> Result<(), AllocError>
     ensures { OnOk result (string_bytes text.new ≡ string_bytes text.old ++ books_lines books.now) }
 {
+    books.ranges();
     write_header(text, books)?;
     write_accounts(text, books)?;
     write_prices(text, books)?;

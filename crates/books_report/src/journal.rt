@@ -44,10 +44,11 @@ fn write_lines(
         ++ journal_lines input.now 1 (map place_of lines.now)
         (map (λ l. l.restarts) lines.now) replies.now) }
 {
-    for i in 0..lines.len() {
-        let line = lines[i];
+    let mut serial = 1;
+    for (line, reply) in lines.iter().zip(replies) {
         let name = input.name(line.caller);
-        write_line(text, i as u64 + 1, name, line, &replies[i])?;
+        write_line(text, serial, name, *line, reply)?;
+        serial += 1;
     }
     Ok(())
 }

@@ -57,7 +57,7 @@ IsAnswerTo bytes (Refusal text) = IsRefusalOf bytes text.items
 -- a text goes with a status, by the words and by what the source had left and has left now
 abbrev pub IsTextFor : Status → List (List ℕ) → Option (List ℕ) → Option (List ℕ) → List ℕ → Type 0
 IsTextFor status.Done words left now text = IsValidCommand words × IsAtEnd now × IfSome left (λ bytes. (length bytes ≤ MOST_INPUT_BYTES) × IsOutputFor words bytes text)
-IsTextFor status.BadWords words left now text = (IsValidCommand words → ⊥) × (text ≡ refused_words)
+IsTextFor status.BadWords words left now text = (¬ IsValidCommand words) × (text ≡ refused_words)
 IsTextFor status.BadInput words left now text = IsValidCommand words × IsAtEnd now × IfSome left (λ bytes. (length bytes ≤ MOST_INPUT_BYTES) × IsRefusalOf bytes text)
 IsTextFor status.TooLarge words left now text = IsValidCommand words × IfSome (count_taken left now) (λ n. n ≡ MOST_INPUT_BYTES + 1) × (text ≡ refused_size)
 IsTextFor status.Differs words left now text = ⊥

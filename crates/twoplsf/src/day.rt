@@ -2,7 +2,7 @@
 
 ghost use Rattle.std.specs.Prelude.{◌+◌, ◌<◌, length, IfOk, OnOk};
 ghost use Rattle.script_reader.specs.Input.{IsInput, caller_at};
-ghost use Rattle.twoplsf.specs.Day.{IsDay, HasRun};
+ghost use Rattle.twoplsf.specs.Inner.Day.{IsDay, HasRun};
 
 use books_model::laws::scripts_go_by_instruments;
 use books_model::{Books, Reply, run_plain};

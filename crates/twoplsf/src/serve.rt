@@ -54,10 +54,10 @@ pub fn serve<S: Source, K: Sink>(
         → sink.new ≡ sink.old }
 
     // Wrong words are refused, and then nothing is read, whatever comes of the refusal. (`bad_words` follows from `text`.)
-    ensures bad_words { result ≡ Status.BadWords → IsValidCommand (map string_bytes words.now) → ⊥ }
-    ensures words_first { (IsValidCommand (map string_bytes words.now) → ⊥)
+    ensures bad_words { result ≡ Status.BadWords → ¬ IsValidCommand (map string_bytes words.now) }
+    ensures words_first { (¬ IsValidCommand (map string_bytes words.now))
         → (result ≡ Status.BadWords) ⊎ (result ≡ Status.WriteFault) }
-    ensures words_source { (IsValidCommand (map string_bytes words.now) → ⊥)
+    ensures words_source { (¬ IsValidCommand (map string_bytes words.now))
         → source.new ≡ source.old }
 
     // Too many bytes: no more than one of them is taken, and they are refused. (`too_large` follows from `text`.)
@@ -80,17 +80,17 @@ pub fn serve<S: Source, K: Sink>(
         (λ bytes. (number : ℕ) (why : Fault) → IsFirstFault bytes number why
         → Appends (K.taken sink.old) (K.taken sink.new) (refused_line number why)) }
     ensures bad_input { result ≡ Status.BadInput
-        → IfSome (S.left source.old) (λ bytes. IsValidInput bytes → ⊥) }
+        → IfSome (S.left source.old) (λ bytes. ¬ IsValidInput bytes) }
     ensures no_input { IsValidCommand (map string_bytes words.now) → IfSome (S.left source.old)
-        (λ bytes. length bytes ≤ MOST_INPUT_BYTES → (IsValidInput bytes → ⊥)
+        (λ bytes. length bytes ≤ MOST_INPUT_BYTES → (¬ IsValidInput bytes)
         → (result ≡ Status.BadInput) ⊎ (result ≡ Status.ReadFault) ⊎ (result ≡ Status.WriteFault)
         ⊎ (result ≡ Status.OutOfMemory)) }
 
     // Completeness: where nothing is wrong and no fault comes, the command is done, or out of memory.
     ensures complete { IsValidCommand (map string_bytes words.now) → IfSome (S.left source.old)
         (λ bytes. length bytes ≤ MOST_INPUT_BYTES → IsValidInput bytes
-        → (Rose (S.faults source.old) (S.faults source.new) → ⊥)
-        → (Rose (K.faults sink.old) (K.faults sink.new) → ⊥)
+        → (¬ Rose (S.faults source.old) (S.faults source.new))
+        → (¬ Rose (K.faults sink.old) (K.faults sink.new))
         → (result ≡ Status.Done) ⊎ (result ≡ Status.OutOfMemory)) }
 
     // Faults of the outside. (`never_differs` follows from `text`.)

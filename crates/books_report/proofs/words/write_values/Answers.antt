@@ -1,4 +1,4 @@
-use Rattle.std.proofs.Common.{sym, ap, ◌∙◌, append-nil}
+use Rattle.std.proofs.Common.{◌++◌, sym, ap, ◌∙◌, append-nil}
 use Rattle.std.specs.Slice.Iter.{iter_rest}
 use Rattle.std.specs.String.{string_bytes}
 use Rattle.std.specs.List.{flat_map}
@@ -8,7 +8,7 @@ use Rattle.books_report.proofs.words.write_values.Goals as goal
 
 pub loop-value-preserved : goal.loop-value-preserved
 loop-value-preserved c =
-    value_next _ (string_bytes c.loop-value.text) _ (iter_rest c.loop-value.value-iterator) (iter_rest c.next.new.self) c.in-Some.value.now c.loop-value.invariant c.in-Some.ensures.steps c.in_ok-write_fmt.ensures.text
+    value_next _ (string_bytes c.loop-value.text) _ (iter_rest c.loop-value.value-iterator) (iter_rest c.next.new.self) c.in-Some.value.now c.loop-value.invariant c.in-Some.ensures.steps c.in_ok-write.ensures.bytes
 
 pub returns : goal.returns
 returns c =
