@@ -31,29 +31,30 @@ fn finish<K: Sink>(sink: &mut K, text: &[u8], status: Status) -> Status
 }
 
 /// Does what the words say: `run W` reads an input from the source, runs each of its scripts as one transaction, and
-/// writes the journal and the closing books to the sink. Every text is made before the first write. Faults are looked for
-/// in the order words, read, size, input; out of memory may come before any of them but words.
+/// writes the journal and the closing books to the sink. Every text is made before the first write. Faults are looked
+/// for in the order words, read, size, input; out of memory may come before any of them but words.
 pub fn serve<S: Source, K: Sink>(
     alloc: Global,
     words: &[String],
     source: &mut S,
     sink: &mut K,
 ) -> Status
-    // The serial journal theorem: what is printed is one serial history with every script once and each caller's in order;
-    // the sequential interpreter, run down it from the opening books, gives every reply and the closing books; and no
-    // script was restarted as often as there are workers. It follows from `text`.
+    // The serial journal theorem: what is printed is one serial history with every script once and each caller's in
+    // order; the sequential interpreter, run down it from the opening books, gives every reply and the closing books;
+    // and no script was restarted as often as there are workers. It follows from `text`.
     ensures headline { result ≡ Status.Done → IfSome (S.left source.old)
         (λ bytes. PrintsOutput (map string_bytes words.now) bytes
         (K.taken sink.old) (K.taken sink.new)) }
 
-    // What the sink took: exactly the text of the status, and after a write fault a prefix of the text in whose place it
-    // stands. The text says what words and bytes it is for: so a status that has one never comes with others.
+    // What the sink took: exactly the text of the status, and after a write fault a prefix of the text in whose place
+    // it stands. The text says what words and bytes it is for: so a status that has one never comes with others.
     ensures text { TookText result (map string_bytes words.now)
         (S.left source.old) (S.left source.new) (K.taken sink.old) (K.taken sink.new) }
     ensures unwritten { (result ≡ Status.ReadFault) ⊎ (result ≡ Status.OutOfMemory)
         → sink.new ≡ sink.old }
 
-    // Wrong words are refused, and then nothing is read, whatever comes of the refusal. (`bad_words` follows from `text`.)
+    // Wrong words are refused, and then nothing is read, whatever comes of the refusal. (`bad_words` follows from
+    // `text`.)
     ensures bad_words { result ≡ Status.BadWords → ¬ IsValidCommand (map string_bytes words.now) }
     ensures words_first { (¬ IsValidCommand (map string_bytes words.now))
         → (result ≡ Status.BadWords) ⊎ (result ≡ Status.WriteFault) }
@@ -74,8 +75,8 @@ pub fn serve<S: Source, K: Sink>(
         → (result ≡ Status.TooLarge) ⊎ (result ≡ Status.WriteFault)
         ⊎ (result ≡ Status.OutOfMemory) }
 
-    // Bytes that are no input: the first faulty line is refused, with the first reason that applies to it. (`first_fault`
-    // and `bad_input` follow from `text` and the laws of texts.)
+    // Bytes that are no input: the first faulty line is refused, with the first reason that applies to it.
+    // (`first_fault` and `bad_input` follow from `text` and the laws of texts.)
     ensures first_fault { result ≡ Status.BadInput → IfSome (S.left source.old)
         (λ bytes. (number : ℕ) (why : Fault) → IsFirstFault bytes number why
         → Appends (K.taken sink.old) (K.taken sink.new) (refused_line number why)) }
