@@ -11,7 +11,7 @@ use Rattle.std.specs.Cmp.{IsTotalOrder, nat_cmp_total, nat_cmp_is}
 use Rattle.std.specs.FinMap as map
 use Rattle.std.proofs.lemmas.Cmp.{ranked}
 use Rattle.std.proofs.lemmas.Map.Keys.{le_from_not_gt}
-use Rattle.books_model.specs.Keys.{is_lt-nat_cmp}
+use Rattle.books_model.proofs.Keys.{is_lt-nat_cmp}
 use Rattle.books_model.proofs.Maps.{get-lookup, entries-from_entries}
 
 -- a test that passes puts an entry first in both searches, and one that fails leaves them

@@ -1,5 +1,5 @@
 -- Changes of a map, and how they are put into it.
-use Rattle.std.proofs.Common.{◌≡◌, ℕ, Bool, true, false, cond, List, [], ◌∷◌, Option, Some, None, IsSome, is_some, ◌⊎◌, inl, inr, refl, sym, ap, subst, ◌∙◌}
+use Rattle.std.proofs.Common.{◌≡◌, ℕ, Bool, true, false, cond, List, [], ◌∷◌, Option, Some, None, IsSome, IfSome, IfNone, is_some, ◌⊎◌, inl, inr, refl, sym, ap, subst, ◌∙◌}
 use Rattle.std.specs.declared.cmp.Ordering.{Ordering}
 use Rattle.std.specs.Cmp.{IsTotalOrder, eq_by_cmp_equiv, tied_itself}
 use Rattle.std.specs.Ordering.{eq_by_cmp, is_eq}
@@ -15,7 +15,7 @@ use Rattle.std.proofs.lemmas.Map.Views.{tells_apart}
 use Rattle.books_model.proofs.Comparing.{none_of}
 use Rattle.books_model.proofs.Maps.{stays_after_insert}
 use Rattle.books_model.specs.declared.overlay.Change.{Change}
-use Rattle.books_model.specs.Changes.{set_at, changed, change_at, new_value, now_or, KnowBefore, HasRoomFor, IsRoomier}
+use Rattle.books_model.specs.Inner.Changes.{set_at, changed, change_at, new_value, now_or, KnowBefore, HasRoomFor, IsRoomier}
 
 -- a change in front of others
 now_or-cond : (b : Bool) (change : Change) (others : Option Change) (was : Option ℕ) → cond b change.now (now_or others was) ≡ now_or (cond b (Some change) others) was
@@ -46,6 +46,16 @@ module _ {K : Type 0} {R : K → K → Ordering} (o : IsTotalOrder R) where
       get-set_at (changed m es) e.0 e.1.now q
       ∙ ap (cond (eq_by_cmp R q e.0) e.1.now) (get-changed m es q)
       ∙ now_or-cond (eq_by_cmp R q e.0) e.1 (change_at R es q) (get m q)
+
+  -- a change that is found is what its key has afterwards
+  pub changed-found : (es : List (K × Change)) (q : K) (found : Option Change) → found ≡ change_at R es q → IfSome found (λ change. (m : FinMap R ℕ) → get (changed m es) q ≡ change.now)
+  changed-found es q None is = tt
+  changed-found es q (Some change) is = λ m. get-changed m es q ∙ ap (λ x. now_or x (get m q)) (sym is)
+
+  -- a key for which none is found has afterwards what it had
+  pub changed-missed : (es : List (K × Change)) (q : K) (found : Option Change) → found ≡ change_at R es q → IfNone found ((m : FinMap R ℕ) → get (changed m es) q ≡ get m q)
+  changed-missed es q None is = λ m. get-changed m es q ∙ ap (λ x. now_or x (get m q)) (sym is)
+  changed-missed es q (Some change) is = tt
 
   -- the change at the first key is the first one
   pub change_at_first : (e : K × Change) (es : List (K × Change)) → change_at R (e ∷ es) e.0 ≡ Some e.1

@@ -8,10 +8,10 @@ use Rattle.std.proofs.lemmas.List.{length-drop}
 use Rattle.std.proofs.lemmas.Map.Lookups.{exact_unsigned}
 use Rattle.std.proofs.lemmas.Map.Views.{tells_apart}
 use Rattle.books_model.specs.declared.limits.TheConstants.{GREATEST_PRICE, GREATEST_QUANTITY}
-use Rattle.books_model.specs.Books.{ClearingBooks, position_cmp, used, put_price, put_quantity}
+use Rattle.books_model.specs.Books.{ClearingBooks, position_cmp, used, put_cash, put_price, put_quantity}
 use Rattle.books_model.specs.Ranges.{AreInRange, IsWithin, IsCall, IsInstrumentOf}
 use Rattle.books_model.specs.Interpreter.{holds_any, is_full, put_position}
-use Rattle.books_model.specs.Draft.{set_account, set_position, set_price}
+use Rattle.books_model.specs.Inner.Draft.{set_account, set_position, set_price}
 use Rattle.books_model.proofs.Comparing.{below_most}
 use Rattle.books_model.proofs.Maps.{positions_total, exact_positions}
 use Rattle.books_model.proofs.InRange.{put_price-in_range, put_quantity-in_range, used_after_price, used_after_position}
@@ -135,6 +135,16 @@ taken-in_range books h = record {
   queue = omega (arith, length-drop 1 books.calls, h.queue);
   blocks_used = h.blocks_used;
 }
+
+-- an account's cash leaves that of another
+pub put_cash-apart : (books : ClearingBooks) (a b cash : ℕ) → a ≢ b → map.get (put_cash books a cash).accounts b ≡ map.get books.accounts b
+put_cash-apart books a b cash apart = map.get-insert nat_cmp_total books.accounts a cash b ∙ ap (λ t. cond t (Some cash) (map.get books.accounts b)) test
+  where
+    test : eq_by_cmp nat_cmp b a ≡ false
+    test = elim (eq_by_cmp nat_cmp b a) as (λ t. eq_by_cmp nat_cmp b a ≡ t → t ≡ false) [
+      | true ↦ λ at. absurd (apart (sym (tells_apart exact_unsigned b a at)))
+      | false ↦ λ _. refl
+    ] refl
 
 -- a trade of the seller leaves what the buyer holds
 pub put_position-apart : (books : ClearingBooks) (a b i quantity : ℕ) → a ≢ b → map.get (put_position books b i quantity).positions (a, i) ≡ map.get books.positions (a, i)

@@ -11,8 +11,8 @@ use Rattle.std.proofs.lemmas.Bool.{cases_lt}
 use Rattle.std.proofs.lemmas.List.Sums.{sum_by-cons}
 use Rattle.std.proofs.lemmas.Map.Lookups.{CmpEqualImpliesEq}
 use Rattle.std.proofs.lemmas.Map.Views.{tells_apart}
-use Rattle.books_model.specs.Keys.{below_first, below_rest, sorted_first, sorted_rest, below_less}
-use Rattle.books_model.specs.Changes.{set_at}
+use Rattle.books_model.proofs.Keys.{below_first, below_rest, sorted_first, sorted_rest, below_less}
+use Rattle.books_model.specs.Inner.Changes.{set_at}
 
 -- a property of all entries, at another function that is the same at them
 pub AllByRecursion-weaker : {X : Type 0} (P Q : X → Type 0) → ((x : X) → P x → Q x) → (xs : List X) → AllByRecursion P xs → AllByRecursion Q xs

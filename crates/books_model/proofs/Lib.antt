@@ -1,3 +1,4 @@
+pub mod Keys
 pub mod Comparing
 pub mod Maps
 pub mod InRange

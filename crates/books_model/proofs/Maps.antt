@@ -14,7 +14,7 @@ use Rattle.std.proofs.lemmas.Map.Keys.{sorted_head, sorted_tail}
 use Rattle.std.proofs.lemmas.Map.Lookups.{CmpEqualImpliesEq}
 use Rattle.std.proofs.lemmas.Map.Views.{tells_apart}
 use Rattle.std.proofs.lemmas.Option.{same_Some}
-pub use Rattle.books_model.specs.Keys.{positions_total, exact_positions}
+pub use Rattle.books_model.specs.Inner.Keys.{positions_total, exact_positions}
 
 module _ {K X : Type 0} (R : K → K → Ordering) where
   -- the two searches of entries find the same

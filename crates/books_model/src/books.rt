@@ -29,21 +29,38 @@ pub struct Books {
 
 impl Model for Books {
     ghost use Rattle.std.specs.FinMap as map;
-    ghost use Rattle.books_model.specs.Books.{ClearingBooks, books_code};
+    ghost use Rattle.books_model.specs.Books.{ClearingBooks};
+    ghost use Rattle.books_model.specs.Inner.Codes.{books_code};
     ghost use Rattle.books_model.specs.Ranges.{AreInRange};
 
     ghost Value = { ClearingBooks };
 
     ghost coded = { books_code };
 
-    ghost view = { λ b. record { blocks = b.blocks; instruments = b.instruments; ring = b.ring; accounts = map.from_entries b.accounts.entries; positions = map.from_entries b.positions.entries; prices = map.from_entries b.prices.entries; calls = b.calls.items } };
+    ghost view = { λ b. record {
+      blocks = b.blocks;
+      instruments = b.instruments;
+      ring = b.ring;
+      accounts = map.from_entries b.accounts.entries;
+      positions = map.from_entries b.positions.entries;
+      prices = map.from_entries b.prices.entries;
+      calls = b.calls.items;
+    } };
 
-    ghost invariant = { λ b. AreInRange (record { blocks = b.blocks; instruments = b.instruments; ring = b.ring; accounts = map.from_entries b.accounts.entries; positions = map.from_entries b.positions.entries; prices = map.from_entries b.prices.entries; calls = b.calls.items }) };
+    ghost invariant = { λ b. AreInRange (record {
+      blocks = b.blocks;
+      instruments = b.instruments;
+      ring = b.ring;
+      accounts = map.from_entries b.accounts.entries;
+      positions = map.from_entries b.positions.entries;
+      prices = map.from_entries b.prices.entries;
+      calls = b.calls.items;
+    }) };
 }
 
 impl Books {
     ghost use Rattle.books_model.specs.Books.{empty_books, position_cmp, put_call, put_cash, put_price, put_quantity, used};
-    ghost use Rattle.books_model.specs.Changes.{AreChangesOf, changed_books};
+    ghost use Rattle.books_model.specs.Inner.Changes.{AreChangesOf, changed_books};
     ghost use Rattle.books_model.specs.Interpreter.{cash_between};
     ghost use Rattle.books_model.specs.Ranges.{AreInRange, IsWithin, IsAccountNumber, IsCall, IsInstrumentOf};
 
@@ -65,10 +82,16 @@ impl Books {
         }
     }
 
+    /// What holds of all books. It does nothing.
+    pub fn ranges(&self)
+        ensures { AreInRange self.now }
+    {
+        let _ = &self.blocks;
+    }
+
     /// How many accounts, positions and prices there may be together.
     pub fn blocks(&self) -> u32
         ensures value { result ≡ self.now.blocks }
-        // What holds of all books.
         ensures range { AreInRange self.now }
     {
         self.blocks
@@ -89,24 +112,24 @@ impl Books {
     }
 
     /// The cash of an account.
-    pub fn cash(&self, a: u32) -> Option<u64>
-        ensures { result ≡ map.get self.now.accounts a }
+    pub fn cash(&self, account: u32) -> Option<u64>
+        ensures { result ≡ map.get self.now.accounts account }
     {
-        self.accounts.get(&a).copied()
+        self.accounts.get(&account).copied()
     }
 
     /// How much an account holds of an instrument.
-    pub fn position(&self, a: u32, i: u32) -> Option<u64>
-        ensures { result ≡ map.get self.now.positions (a, i) }
+    pub fn position(&self, account: u32, instrument: u32) -> Option<u64>
+        ensures { result ≡ map.get self.now.positions (account, instrument) }
     {
-        self.positions.get(&(a, i)).copied()
+        self.positions.get(&(account, instrument)).copied()
     }
 
     /// The price of an instrument.
-    pub fn price(&self, i: u32) -> Option<u64>
-        ensures { result ≡ map.get self.now.prices i }
+    pub fn price(&self, instrument: u32) -> Option<u64>
+        ensures { result ≡ map.get self.now.prices instrument }
     {
-        self.prices.get(&i).copied()
+        self.prices.get(&instrument).copied()
     }
 
     /// How many margin calls are queued.
@@ -117,11 +140,11 @@ impl Books {
     }
 
     /// The margin call at a place of the queue, from 0 at the front: its account and its shortfall.
-    pub fn call_at(&self, n: u32) -> (u32, u64)
-        requires { n < length self.now.calls }
-        ensures { slice_get self.now.calls n ≡ Some result }
+    pub fn call_at(&self, index: u32) -> (u32, u64)
+        requires { index < length self.now.calls }
+        ensures { slice_get self.now.calls index ≡ Some result }
     {
-        self.calls[n as usize]
+        self.calls[index as usize]
     }
 
     /// How many accounts, positions and prices there are together.
@@ -147,57 +170,62 @@ impl Books {
     }
 
     /// Adds an account.
-    pub fn add_account(&mut self, a: u32, cash: u64) -> Result<(), OutOfMemory>
-        requires account { IsAccountNumber a }
+    pub fn add_account(&mut self, account: u32, cash: u64) -> Result<(), OutOfMemory>
+        requires account { IsAccountNumber account }
         requires cash { cash ≤ GREATEST_CASH }
-        requires absent { map.get self.old.accounts a ≡ None }
+        requires absent { map.get self.old.accounts account ≡ None }
         requires room { used self.old < self.old.blocks }
-        ensures ok { OnOk result (self.new ≡ put_cash self.old a cash) }
+        ensures ok { OnOk result (self.new ≡ put_cash self.old account cash) }
         ensures err { OnErr result (self.new ≡ self.old) }
     {
-        self.accounts.insert(a, cash)?;
+        self.accounts.insert(account, cash)?;
         Ok(())
     }
 
     /// Gives an instrument a price.
-    pub fn add_price(&mut self, i: u32, p: u64) -> Result<(), OutOfMemory>
-        requires instrument { IsInstrumentOf self.old i }
-        requires price { IsWithin 1 GREATEST_PRICE p }
-        requires absent { map.get self.old.prices i ≡ None }
+    pub fn add_price(&mut self, instrument: u32, price: u64) -> Result<(), OutOfMemory>
+        requires instrument { IsInstrumentOf self.old instrument }
+        requires price { IsWithin 1 GREATEST_PRICE price }
+        requires absent { map.get self.old.prices instrument ≡ None }
         requires room { used self.old < self.old.blocks }
-        ensures ok { OnOk result (self.new ≡ put_price self.old i p) }
+        ensures ok { OnOk result (self.new ≡ put_price self.old instrument price) }
         ensures err { OnErr result (self.new ≡ self.old) }
     {
-        self.prices.insert(i, p)?;
+        self.prices.insert(instrument, price)?;
         Ok(())
     }
 
     /// Adds a position: a quantity that an account holds of an instrument.
-    pub fn add_position(&mut self, a: u32, i: u32, q: u64) -> Result<(), OutOfMemory>
-        requires account { IsSome (map.get self.old.accounts a) }
-        requires price { IsSome (map.get self.old.prices i) }
-        requires quantity { IsWithin 1 GREATEST_QUANTITY q }
-        requires absent { map.get self.old.positions (a, i) ≡ None }
+    pub fn add_position(
+        &mut self,
+        account: u32,
+        instrument: u32,
+        quantity: u64,
+    ) -> Result<(), OutOfMemory>
+        requires account { IsSome (map.get self.old.accounts account) }
+        requires price { IsSome (map.get self.old.prices instrument) }
+        requires quantity { IsWithin 1 GREATEST_QUANTITY quantity }
+        requires absent { map.get self.old.positions (account, instrument) ≡ None }
         requires room { used self.old < self.old.blocks }
-        ensures ok { OnOk result (self.new ≡ put_quantity self.old a i q) }
+        ensures ok { OnOk result (self.new ≡ put_quantity self.old account instrument quantity) }
         ensures err { OnErr result (self.new ≡ self.old) }
     {
-        self.positions.insert((a, i), q)?;
+        self.positions.insert((account, instrument), quantity)?;
         Ok(())
     }
 
     /// Adds a margin call at the back of the queue: an account, which need not be there, and its shortfall.
-    pub fn add_call(&mut self, a: u32, d: u64) -> Result<(), OutOfMemory>
-        requires call { IsCall (a, d) }
+    pub fn add_call(&mut self, account: u32, shortfall: u64) -> Result<(), OutOfMemory>
+        requires call { IsCall (account, shortfall) }
         requires room { length self.old.calls < self.old.ring }
-        ensures ok { OnOk result (self.new ≡ put_call self.old a d) }
+        ensures ok { OnOk result (self.new ≡ put_call self.old account shortfall) }
         ensures err { OnErr result (self.new ≡ self.old) }
     {
-        self.calls.push_back((a, d))?;
+        self.calls.push_back((account, shortfall))?;
         Ok(())
     }
 
-    /// Puts in the changes of a script. Where memory is wanting the books are as before.
+    /// Puts in the changes of a script. Out of memory, the books are as before.
     pub(crate) fn put_in(&mut self, changes: &Changes) -> Result<(), OutOfMemory>
         requires changes { AreChangesOf self.old changes.now }
         requires range { AreInRange (changed_books self.old changes.now) }
@@ -205,7 +233,7 @@ impl Books {
         ensures err { OnErr result (self.new ≡ self.old) }
     {
         self.calls.reserve(changes.added.len())?;
-        if let Err(wanting) = make_all_room(
+        if let Err(error) = make_all_room(
             &mut self.accounts,
             &mut self.positions,
             &mut self.prices,
@@ -214,7 +242,7 @@ impl Books {
             take_back(&mut self.accounts, &changes.accounts);
             take_back(&mut self.positions, &changes.positions);
             take_back(&mut self.prices, &changes.prices);
-            return Err(wanting);
+            return Err(error);
         }
         settle(&mut self.accounts, &changes.accounts);
         settle(&mut self.positions, &changes.positions);
@@ -225,53 +253,61 @@ impl Books {
     }
 
     /// The cash of all accounts from one number to another, both included.
-    pub(crate) fn cash_between(&self, a: u32, b: u32) -> u64
-        requires { a ≤ b }
-        ensures { result ≡ cash_between self.now a b }
+    pub(crate) fn cash_between(&self, low: u32, high: u32) -> u64
+        requires { low ≤ high }
+        ensures { result ≡ cash_between self.now low high }
     {
         let mut total = 0;
-        for (_, cash) in self.accounts.range((Included(a), Included(b))) {
+        for (_, cash) in self.accounts.range((Included(low), Included(high))) {
             total += *cash;
         }
         total
     }
 
     /// The account with the least number above the given one, and its cash. A walk over all accounts begins with 0.
-    pub fn account_after(&self, a: u32) -> Option<(u32, u64)>
-        ensures first { result ≡ find (λ e. nat_lt a e.0) (map.entries self.now.accounts) }
-        ensures least { IfSome result (λ e. (a < e.0) × (map.get self.now.accounts e.0 ≡ Some e.1)
-            × ((k : ℕ) → a < k → IsSome (map.get self.now.accounts k) → e.0 ≤ k)) }
-        ensures none { IfNone result ((k : ℕ) → IsSome (map.get self.now.accounts k) → k ≤ a) }
+    pub fn account_after(&self, account: u32) -> Option<(u32, u64)>
+        ensures first { result ≡ find (λ e. nat_lt account e.0) (map.entries self.now.accounts) }
+        ensures least { IfSome result (λ e. (account < e.0)
+            × (map.get self.now.accounts e.0 ≡ Some e.1)
+            × ((k : ℕ) → account < k → IsSome (map.get self.now.accounts k) → e.0 ≤ k)) }
+        ensures none { IfNone result
+            ((k : ℕ) → IsSome (map.get self.now.accounts k) → k ≤ account) }
     {
-        let (number, cash) = self.accounts.range((Excluded(a), Unbounded)).next()?;
+        let (number, cash) = self.accounts.range((Excluded(account), Unbounded)).next()?;
         Some((*number, *cash))
     }
 
     /// The instrument with a price that has the least number above the given one, and its price. A walk over all prices
     /// begins with 0.
-    pub fn price_after(&self, i: u32) -> Option<(u32, u64)>
-        ensures first { result ≡ find (λ e. nat_lt i e.0) (map.entries self.now.prices) }
-        ensures least { IfSome result (λ e. (i < e.0) × (map.get self.now.prices e.0 ≡ Some e.1)
-            × ((k : ℕ) → i < k → IsSome (map.get self.now.prices k) → e.0 ≤ k)) }
-        ensures none { IfNone result ((k : ℕ) → IsSome (map.get self.now.prices k) → k ≤ i) }
+    pub fn price_after(&self, instrument: u32) -> Option<(u32, u64)>
+        ensures first { result ≡ find (λ e. nat_lt instrument e.0) (map.entries self.now.prices) }
+        ensures least { IfSome result (λ e. (instrument < e.0)
+            × (map.get self.now.prices e.0 ≡ Some e.1)
+            × ((k : ℕ) → instrument < k → IsSome (map.get self.now.prices k) → e.0 ≤ k)) }
+        ensures none { IfNone result
+            ((k : ℕ) → IsSome (map.get self.now.prices k) → k ≤ instrument) }
     {
-        let (number, price) = self.prices.range((Excluded(i), Unbounded)).next()?;
+        let (number, price) = self.prices.range((Excluded(instrument), Unbounded)).next()?;
         Some((*number, *price))
     }
 
     /// The least position above the given one, by account and then by instrument, and its quantity. A walk over all
     /// positions begins with 0 and 0.
-    pub fn position_after(&self, a: u32, i: u32) -> Option<(u32, u32, u64)>
+    pub fn position_after(&self, account: u32, instrument: u32) -> Option<(u32, u32, u64)>
         ensures first { result ≡ option_map (λ e. (e.0.0, e.0.1, e.1))
-            (find (λ e. is_lt (position_cmp (a, i) e.0)) (map.entries self.now.positions)) }
-        ensures least { IfSome result (λ e. IsLtBy position_cmp (a, i) (e.0, e.1)
+            (find (λ e. is_lt (position_cmp (account, instrument) e.0))
+            (map.entries self.now.positions)) }
+        ensures least { IfSome result (λ e. IsLtBy position_cmp (account, instrument) (e.0, e.1)
             × (map.get self.now.positions (e.0, e.1) ≡ Some e.2)
-            × ((k : ℕ × ℕ) → IsLtBy position_cmp (a, i) k → IsSome (map.get self.now.positions k)
-            → IsLeBy position_cmp (e.0, e.1) k)) }
+            × ((k : ℕ × ℕ) → IsLtBy position_cmp (account, instrument) k
+            → IsSome (map.get self.now.positions k) → IsLeBy position_cmp (e.0, e.1) k)) }
         ensures none { IfNone result ((k : ℕ × ℕ) → IsSome (map.get self.now.positions k)
-            → IsLeBy position_cmp k (a, i)) }
+            → IsLeBy position_cmp k (account, instrument)) }
     {
-        let (key, quantity) = self.positions.range((Excluded((a, i)), Unbounded)).next()?;
+        let (key, quantity) = self
+            .positions
+            .range((Excluded((account, instrument)), Unbounded))
+            .next()?;
         Some((key.0, key.1, *quantity))
     }
 }

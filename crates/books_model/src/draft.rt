@@ -2,13 +2,13 @@
 
 ghost use Rattle.std.specs.Prelude.{◌≡◌, ℕ, ◌+◌, ◌<◌, ◌≤◌, ◌^◌, ◌==◌, false, Some, None, IsSome, IfSome, OnOk, is_some, if◌then◌else◌, drop, length, slice_get};
 ghost use Rattle.std.specs.FinMap as map;
-ghost use Rattle.books_model.specs.Changes.{before_between, now_between};
+ghost use Rattle.books_model.specs.Inner.Changes.{before_between, now_between};
 
 use crate::books::Books;
 use crate::limits::{
     GREATEST_CASH, GREATEST_PRICE, GREATEST_QUANTITY, GREATEST_SHORTFALL, MOST_BLOCKS,
 };
-use crate::overlay::{Change, Changes, note_change, value_after};
+use crate::overlay::{Change, Changes, change_of, note_change};
 use crate::reply::{Decline, Value};
 use io_ends::OutOfMemory;
 use std::alloc::Global;
@@ -27,6 +27,14 @@ pub(crate) enum Outcome {
     FindsNoBlock,
 }
 
+/// One side of a trade: an account, its cash, and what it holds of the instrument.
+#[derive(Clone, Copy)]
+pub(crate) struct Side {
+    pub(crate) account: u32,
+    pub(crate) cash: u64,
+    pub(crate) held: Option<u64>,
+}
+
 /// The changes of a script so far, beside the books that they are for.
 #[derive(Drop)]
 pub(crate) struct Draft<'a> {
@@ -37,22 +45,25 @@ pub(crate) struct Draft<'a> {
 }
 
 impl<'a> Model for Draft<'a> {
-    ghost use Rattle.books_model.specs.Changes.{changed_books};
-    ghost use Rattle.books_model.specs.Draft.{Drafted, drafted_code, IsDraftOf};
+    ghost use Rattle.books_model.specs.Inner.Changes.{changed_books};
+    ghost use Rattle.books_model.specs.Inner.Draft.{Drafted, drafted_code, IsDraftOf};
 
     ghost Value = { Drafted };
 
     ghost coded = { drafted_code };
 
-    ghost view = { λ d. record { before = d.books.now; after = changed_books d.books.now d.changes } };
+    ghost view = { λ d. record {
+      before = d.books.now;
+      after = changed_books d.books.now d.changes;
+    } };
 
     ghost invariant = { λ d. IsDraftOf d.books.now d.changes d.used };
 }
 
 impl<'a> Draft<'a> {
     ghost use Rattle.books_model.specs.Books.{HaveSameSizes, put_call, put_cash, put_price, used};
-    ghost use Rattle.books_model.specs.Changes.{AreChangesOf, changed_books};
-    ghost use Rattle.books_model.specs.Draft.{set_account, set_position, set_price};
+    ghost use Rattle.books_model.specs.Inner.Changes.{AreChangesOf, changed_books};
+    ghost use Rattle.books_model.specs.Inner.Draft.{set_account, set_position, set_price};
     ghost use Rattle.books_model.specs.Interpreter.{cash_between, holds_any, is_full, put_position, worth_of};
     ghost use Rattle.books_model.specs.Ranges.{AreInRange, IsCall, IsInstrumentOf, IsWithin};
 
@@ -61,8 +72,7 @@ impl<'a> Draft<'a> {
         ensures before { result.before ≡ books.now }
         ensures after { result.after ≡ books.now }
     {
-        // What holds of all books.
-        let _ = books.blocks();
+        books.ranges();
         Draft {
             books,
             changes: Changes {
@@ -85,141 +95,172 @@ impl<'a> Draft<'a> {
         self.changes
     }
 
+    /// What holds of all drafts. It does nothing.
+    pub(crate) fn ranges(&self)
+        ensures range { AreInRange self.now.after }
+        ensures sizes { HaveSameSizes self.now.before self.now.after }
+    {
+        let _ = &self.books;
+    }
+
     /// The cash of an account after the changes.
-    pub(crate) fn cash(&self, a: u32) -> Option<u64>
-        ensures value { result ≡ map.get self.now.after.accounts a }
+    pub(crate) fn cash(&self, account: u32) -> Option<u64>
+        ensures value { result ≡ map.get self.now.after.accounts account }
         ensures range { IfSome result (λ cash. cash ≤ GREATEST_CASH) }
     {
-        value_after(&self.changes.accounts, a, self.books.cash(a))
+        match change_of(&self.changes.accounts, account) {
+            Some(change) => change.now,
+            None => self.books.cash(account),
+        }
     }
 
     /// How much an account holds of an instrument after the changes.
-    pub(crate) fn quantity(&self, a: u32, i: u32) -> Option<u64>
-        ensures value { result ≡ map.get self.now.after.positions (a, i) }
+    pub(crate) fn quantity(&self, account: u32, instrument: u32) -> Option<u64>
+        ensures value { result ≡ map.get self.now.after.positions (account, instrument) }
         ensures range { IfSome result (λ quantity. IsWithin 1 GREATEST_QUANTITY quantity) }
     {
-        value_after(&self.changes.positions, (a, i), self.books.position(a, i))
+        match change_of(&self.changes.positions, (account, instrument)) {
+            Some(change) => change.now,
+            None => self.books.position(account, instrument),
+        }
     }
 
     /// The price of an instrument after the changes.
-    pub(crate) fn price(&self, i: u32) -> Option<u64>
-        ensures value { result ≡ map.get self.now.after.prices i }
+    pub(crate) fn price(&self, instrument: u32) -> Option<u64>
+        ensures value { result ≡ map.get self.now.after.prices instrument }
         ensures range { IfSome result (λ price. IsWithin 1 GREATEST_PRICE price) }
     {
-        value_after(&self.changes.prices, i, self.books.price(i))
+        match change_of(&self.changes.prices, instrument) {
+            Some(change) => change.now,
+            None => self.books.price(instrument),
+        }
     }
 
     /// Whether no block is left.
     pub(crate) fn is_full(&self) -> bool
         ensures value { result ≡ is_full self.now.after }
         ensures range { AreInRange self.now.after }
-        ensures sizes { HaveSameSizes self.now.before self.now.after }
     {
         self.used == self.books.blocks()
     }
 
-    /// Gives an account cash, or takes it out.
-    pub(crate) fn change_account(&mut self, a: u32, now: Option<u64>) -> Result<(), OutOfMemory>
-        requires { AreInRange (set_account self.old.after a now) }
-        ensures ok { OnOk result (self.new.after ≡ set_account self.old.after a now) }
-        ensures before { self.new.before ≡ self.old.before }
-    {
-        let was = self.cash(a);
-        note_change(&mut self.changes.accounts, a, self.books.cash(a), now)?;
-        self.used = count_after(self.used, was, now);
-        Ok(())
-    }
-
-    /// Gives an account a position, or takes it out.
-    pub(crate) fn change_position(
+    /// Gives an account other cash than it had, or takes it out.
+    pub(crate) fn change_account(
         &mut self,
-        a: u32,
-        i: u32,
+        account: u32,
+        was: Option<u64>,
         now: Option<u64>,
     ) -> Result<(), OutOfMemory>
-        requires { AreInRange (set_position self.old.after a i now) }
-        ensures ok { OnOk result (self.new.after ≡ set_position self.old.after a i now) }
+        requires was { map.get self.old.after.accounts account ≡ was }
+        requires range { AreInRange (set_account self.old.after account now) }
+        ensures ok { OnOk result (self.new.after ≡ set_account self.old.after account now) }
         ensures before { self.new.before ≡ self.old.before }
     {
-        let was = self.quantity(a, i);
-        note_change(
-            &mut self.changes.positions,
-            (a, i),
-            self.books.position(a, i),
-            now,
-        )?;
+        note_change(&mut self.changes.accounts, account, was, now)?;
         self.used = count_after(self.used, was, now);
         Ok(())
     }
 
-    /// Gives an instrument a price.
-    pub(crate) fn change_price(&mut self, i: u32, price: u64) -> Result<(), OutOfMemory>
-        requires { AreInRange (set_price self.old.after i (Some price)) }
-        ensures ok { OnOk result (self.new.after ≡ set_price self.old.after i (Some price)) }
+    /// Gives an account another position than it had, or takes it out.
+    pub(crate) fn change_position(
+        &mut self,
+        account: u32,
+        instrument: u32,
+        was: Option<u64>,
+        now: Option<u64>,
+    ) -> Result<(), OutOfMemory>
+        requires was { map.get self.old.after.positions (account, instrument) ≡ was }
+        requires range { AreInRange (set_position self.old.after account instrument now) }
+        ensures ok { OnOk result
+            (self.new.after ≡ set_position self.old.after account instrument now) }
         ensures before { self.new.before ≡ self.old.before }
     {
-        let was = self.price(i);
-        note_change(
-            &mut self.changes.prices,
-            i,
-            self.books.price(i),
-            Some(price),
-        )?;
+        note_change(&mut self.changes.positions, (account, instrument), was, now)?;
+        self.used = count_after(self.used, was, now);
+        Ok(())
+    }
+
+    /// Gives an instrument another price than it had.
+    pub(crate) fn change_price(
+        &mut self,
+        instrument: u32,
+        was: Option<u64>,
+        price: u64,
+    ) -> Result<(), OutOfMemory>
+        requires was { map.get self.old.after.prices instrument ≡ was }
+        requires range { AreInRange (set_price self.old.after instrument (Some price)) }
+        ensures ok { OnOk result
+            (self.new.after ≡ set_price self.old.after instrument (Some price)) }
+        ensures before { self.new.before ≡ self.old.before }
+    {
+        note_change(&mut self.changes.prices, instrument, was, Some(price))?;
         self.used = count_after(self.used, was, Some(price));
         Ok(())
     }
 
-    /// Gives an account other cash.
-    pub(crate) fn set_cash(&mut self, a: u32, cash: u64) -> Result<(), OutOfMemory>
-        requires account { IsSome (map.get self.old.after.accounts a) }
+    /// Gives an account other cash than it had.
+    pub(crate) fn set_cash(&mut self, account: u32, was: u64, cash: u64) -> Result<(), OutOfMemory>
+        requires was { map.get self.old.after.accounts account ≡ Some was }
         requires range { cash ≤ GREATEST_CASH }
-        ensures ok { OnOk result (self.new.after ≡ put_cash self.old.after a cash) }
+        ensures ok { OnOk result (self.new.after ≡ put_cash self.old.after account cash) }
         ensures before { self.new.before ≡ self.old.before }
     {
-        // What holds of all drafts.
-        let _ = self.is_full();
-        self.change_account(a, Some(cash))
+        self.ranges();
+        self.change_account(account, Some(was), Some(cash))
     }
 
-    /// Takes out an account that holds nothing.
-    pub(crate) fn remove_account(&mut self, a: u32) -> Result<(), OutOfMemory>
-        requires { holds_any self.old.after a ≡ false }
-        ensures ok { OnOk result (self.new.after ≡ record self.old.after { accounts = map.remove self.old.after.accounts a }) }
+    /// Takes out an account that had this cash and holds nothing.
+    pub(crate) fn remove_account(&mut self, account: u32, was: u64) -> Result<(), OutOfMemory>
+        requires was { map.get self.old.after.accounts account ≡ Some was }
+        requires nothing { holds_any self.old.after account ≡ false }
+        ensures ok { OnOk result (self.new.after
+            ≡ record self.old.after { accounts = map.remove self.old.after.accounts account }) }
         ensures before { self.new.before ≡ self.old.before }
     {
-        // What holds of all drafts.
-        let _ = self.is_full();
-        self.change_account(a, None)
+        self.ranges();
+        self.change_account(account, Some(was), None)
     }
 
     /// Gives an instrument a price, for which there is a block where it has none.
-    pub(crate) fn put_price(&mut self, i: u32, price: u64) -> Result<(), OutOfMemory>
-        requires instrument { IsInstrumentOf self.old.before i }
+    pub(crate) fn put_price(
+        &mut self,
+        instrument: u32,
+        was: Option<u64>,
+        price: u64,
+    ) -> Result<(), OutOfMemory>
+        requires was { map.get self.old.after.prices instrument ≡ was }
+        requires instrument { IsInstrumentOf self.old.before instrument }
         requires range { IsWithin 1 GREATEST_PRICE price }
-        requires room { map.get self.old.after.prices i ≡ None → used self.old.after < self.old.after.blocks }
-        ensures ok { OnOk result (self.new.after ≡ put_price self.old.after i price) }
+        requires room { was ≡ None → used self.old.after < self.old.after.blocks }
+        ensures ok { OnOk result (self.new.after ≡ put_price self.old.after instrument price) }
         ensures before { self.new.before ≡ self.old.before }
     {
-        // What holds of all drafts.
-        let _ = self.is_full();
-        self.change_price(i, price)
+        self.ranges();
+        self.change_price(instrument, was, price)
     }
 
     /// Gives an account other holdings of an instrument: no position where they are 0.
-    pub(crate) fn set_quantity(&mut self, a: u32, i: u32, quantity: u64) -> Result<(), OutOfMemory>
-        requires account { IsSome (map.get self.old.after.accounts a) }
-        requires price { IsSome (map.get self.old.after.prices i) }
+    pub(crate) fn set_quantity(
+        &mut self,
+        account: u32,
+        instrument: u32,
+        was: Option<u64>,
+        quantity: u64,
+    ) -> Result<(), OutOfMemory>
+        requires was { map.get self.old.after.positions (account, instrument) ≡ was }
+        requires account { IsSome (map.get self.old.after.accounts account) }
+        requires price { IsSome (map.get self.old.after.prices instrument) }
         requires range { quantity ≤ GREATEST_QUANTITY }
-        requires room { map.get self.old.after.positions (a, i) ≡ None → used self.old.after < self.old.after.blocks }
-        ensures ok { OnOk result (self.new.after ≡ put_position self.old.after a i quantity) }
+        requires room { was ≡ None → used self.old.after < self.old.after.blocks }
+        ensures ok { OnOk result
+            (self.new.after ≡ put_position self.old.after account instrument quantity) }
         ensures before { self.new.before ≡ self.old.before }
     {
-        // What holds of all drafts.
-        let _ = self.is_full();
+        self.ranges();
         if quantity == 0 {
-            return self.change_position(a, i, None);
+            return self.change_position(account, instrument, was, None);
         }
-        self.change_position(a, i, Some(quantity))
+        self.change_position(account, instrument, was, Some(quantity))
     }
 
     /// The front of the queue of margin calls after the changes.
@@ -237,7 +278,8 @@ impl<'a> Draft<'a> {
     /// Takes the front of the queue.
     pub(crate) fn take_front(&mut self)
         requires { 0 < length self.old.after.calls }
-        ensures after { self.new.after ≡ record self.old.after { calls = drop 1 self.old.after.calls } }
+        ensures after { self.new.after
+            ≡ record self.old.after { calls = drop 1 self.old.after.calls } }
         ensures before { self.new.before ≡ self.old.before }
     {
         let queued = self.books.calls() as usize + self.changes.added.len();
@@ -255,22 +297,22 @@ impl<'a> Draft<'a> {
     }
 
     /// Queues a margin call.
-    pub(crate) fn queue_call(&mut self, a: u32, shortfall: u64) -> Result<(), OutOfMemory>
-        requires call { IsCall (a, shortfall) }
+    pub(crate) fn queue_call(&mut self, account: u32, shortfall: u64) -> Result<(), OutOfMemory>
+        requires call { IsCall (account, shortfall) }
         requires room { length self.old.after.calls < self.old.after.ring }
-        ensures ok { OnOk result (self.new.after ≡ put_call self.old.after a shortfall) }
+        ensures ok { OnOk result (self.new.after ≡ put_call self.old.after account shortfall) }
         ensures before { self.new.before ≡ self.old.before }
     {
-        self.changes.added.push((a, shortfall))?;
+        self.changes.added.push((account, shortfall))?;
         Ok(())
     }
 
     /// Whether an account holds a position.
-    pub(crate) fn holds_any(&self, a: u32) -> bool
-        ensures { result ≡ holds_any self.now.after a }
+    pub(crate) fn holds_any(&self, account: u32) -> bool
+        ensures { result ≡ holds_any self.now.after account }
     {
-        for i in 1..self.books.instruments() + 1 {
-            if self.quantity(a, i).is_some() {
+        for instrument in 1..self.books.instruments() + 1 {
+            if self.quantity(account, instrument).is_some() {
                 return true;
             }
         }
@@ -278,40 +320,42 @@ impl<'a> Draft<'a> {
     }
 
     /// What an account's positions are worth.
-    pub(crate) fn worth(&self, a: u32) -> u64
-        ensures value { result ≡ worth_of self.now.after a }
+    pub(crate) fn worth(&self, account: u32) -> u64
+        ensures value { result ≡ worth_of self.now.after account }
         ensures range { result ≤ GREATEST_SHORTFALL }
     {
         let mut total = 0;
-        for i in 1..self.books.instruments() + 1 {
-            total += self.quantity(a, i).unwrap_or(0) * self.price(i).unwrap_or(0);
+        for instrument in 1..self.books.instruments() + 1 {
+            let quantity = self.quantity(account, instrument).unwrap_or(0);
+            let price = self.price(instrument).unwrap_or(0);
+            total += quantity * price;
         }
         total
     }
 
     /// The cash of all accounts from one number to another, both included.
-    pub(crate) fn cash_between(&self, a: u32, b: u32) -> u64
-        ensures { result ≡ cash_between self.now.after a b }
+    pub(crate) fn cash_between(&self, low: u32, high: u32) -> u64
+        ensures { result ≡ cash_between self.now.after low high }
     {
-        if a > b {
+        if low > high {
             return 0;
         }
-        let (before, now) = changed_between(&self.changes.accounts, a, b);
-        self.books.cash_between(a, b) - before + now
+        let (before, now) = changed_between(&self.changes.accounts, low, high);
+        self.books.cash_between(low, high) - before + now
     }
 }
 
 // What accounts from one number to another had before changes, and have after them, as far as they are changed.
-fn changed_between(changes: &BTreeMap<u32, Change>, a: u32, b: u32) -> (u64, u64)
-    requires forward { a ≤ b }
-    requires before { before_between changes.now.entries a b < 2 ^ 64 }
-    requires now { now_between changes.now.entries a b < 2 ^ 64 }
-    ensures before { result.0 ≡ before_between changes.now.entries a b }
-    ensures now { result.1 ≡ now_between changes.now.entries a b }
+fn changed_between(changes: &BTreeMap<u32, Change>, low: u32, high: u32) -> (u64, u64)
+    requires forward { low ≤ high }
+    requires before { before_between changes.now.entries low high < 2 ^ 64 }
+    requires now { now_between changes.now.entries low high < 2 ^ 64 }
+    ensures before { result.0 ≡ before_between changes.now.entries low high }
+    ensures now { result.1 ≡ now_between changes.now.entries low high }
 {
     let mut before = 0;
     let mut now = 0;
-    for (_, change) in changes.range((Included(a), Included(b))) {
+    for (_, change) in changes.range((Included(low), Included(high))) {
         before += change.before.unwrap_or(0);
         now += change.now.unwrap_or(0);
     }

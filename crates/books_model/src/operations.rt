@@ -1,9 +1,9 @@
 //! The operations of scripts, each on a draft.
 
-ghost use Rattle.std.specs.Prelude.{◌≡◌, ◌+◌, ◌-◌, ◌≤◌, ◌≢◌, IsSome, IfOk};
+ghost use Rattle.std.specs.Prelude.{◌≡◌, ◌+◌, ◌-◌, ◌≤◌, ◌≢◌, None, IsSome, IfSome, IfNone, IfOk, unwrap_or};
 ghost use Rattle.std.specs.FinMap as map;
 
-use crate::draft::{Draft, Outcome};
+use crate::draft::{Draft, Outcome, Side};
 use crate::limits::{
     GREATEST_AMOUNT, GREATEST_CASH, GREATEST_PRICE, GREATEST_QUANTITY, GREATEST_RATE,
 };
@@ -12,10 +12,10 @@ use crate::script::Op;
 use io_ends::OutOfMemory;
 
 impl<'a> Draft<'a> {
-    ghost use Rattle.books_model.specs.Books.{cash_of, position_of};
     ghost use Rattle.books_model.specs.Interpreter.{put_position, step_of, trade_of};
     ghost use Rattle.books_model.specs.Ranges.{IsAccountNumber, IsInstrumentOf, IsOperationFor, IsWithin};
-    ghost use Rattle.books_model.specs.Steps.{step_with};
+    ghost use Rattle.books_model.specs.Inner.Draft.{IsSideOf};
+    ghost use Rattle.books_model.specs.Inner.Steps.{step_with};
 
     /// One operation.
     pub(crate) fn run(&mut self, op: Op) -> Result<Outcome, OutOfMemory>
@@ -25,210 +25,239 @@ impl<'a> Draft<'a> {
         ensures before { self.new.before ≡ self.old.before }
     {
         match op {
-            Op::OpenAccount(a) => self.open(a),
-            Op::Close(a) => self.close(a),
-            Op::Deposit(a, x) => self.deposit(a, x),
-            Op::Withdraw(a, x) => self.withdraw(a, x),
-            Op::Move(a, b, x) => self.move_cash(a, b, x),
-            Op::Price(i, p) => self.set_price(i, p),
-            Op::Trade(a, b, i, q) => self.trade(a, b, i, q),
-            Op::Margin(a, m) => self.margin(a, m),
+            Op::OpenAccount(account) => self.open(account),
+            Op::Close(account) => self.close(account),
+            Op::Deposit(account, amount) => self.deposit(account, amount),
+            Op::Withdraw(account, amount) => self.withdraw(account, amount),
+            Op::Move(payer, payee, amount) => self.move_cash(payer, payee, amount),
+            Op::Price(instrument, price) => self.set_price(instrument, price),
+            Op::Trade(buyer, seller, instrument, quantity) => {
+                self.trade(buyer, seller, instrument, quantity)
+            },
+            Op::Margin(account, rate) => self.margin(account, rate),
             Op::Next => Ok(self.next()),
-            Op::Show(a) => Ok(self.show(a)),
-            Op::Sum(a, b) => Ok(self.sum(a, b)),
+            Op::Show(account) => Ok(self.show(account)),
+            Op::Sum(low, high) => Ok(self.sum(low, high)),
         }
     }
 
-    fn open(&mut self, a: u32) -> Result<Outcome, OutOfMemory>
-        requires { IsAccountNumber a }
-        ensures step { IfOk result (λ outcome. step_of (Op.OpenAccount a) self.old.after
+    fn open(&mut self, account: u32) -> Result<Outcome, OutOfMemory>
+        requires { IsAccountNumber account }
+        ensures step { IfOk result (λ outcome. step_of (Op.OpenAccount account) self.old.after
             ≡ step_with outcome self.new.after) }
         ensures before { self.new.before ≡ self.old.before }
     {
-        if self.cash(a).is_some() {
+        if self.cash(account).is_some() {
             return Ok(Outcome::Declines(Decline::Exists));
         }
         if self.is_full() {
             return Ok(Outcome::FindsNoBlock);
         }
-        self.change_account(a, Some(0))?;
+        self.change_account(account, None, Some(0))?;
         Ok(Outcome::Gives(Value::Done))
     }
 
-    fn close(&mut self, a: u32) -> Result<Outcome, OutOfMemory>
-        ensures step { IfOk result (λ outcome. step_of (Op.Close a) self.old.after
+    fn close(&mut self, account: u32) -> Result<Outcome, OutOfMemory>
+        ensures step { IfOk result (λ outcome. step_of (Op.Close account) self.old.after
             ≡ step_with outcome self.new.after) }
         ensures before { self.new.before ≡ self.old.before }
     {
-        let Some(cash) = self.cash(a) else {
+        let Some(cash) = self.cash(account) else {
             return Ok(Outcome::Declines(Decline::Absent));
         };
         if cash != 0 {
             return Ok(Outcome::Declines(Decline::Cash));
         }
-        if self.holds_any(a) {
+        if self.holds_any(account) {
             return Ok(Outcome::Declines(Decline::Held));
         }
-        self.remove_account(a)?;
+        self.remove_account(account, cash)?;
         Ok(Outcome::Gives(Value::Done))
     }
 
-    fn deposit(&mut self, a: u32, x: u64) -> Result<Outcome, OutOfMemory>
-        requires { x ≤ GREATEST_AMOUNT }
-        ensures step { IfOk result (λ outcome. step_of (Op.Deposit a x) self.old.after
+    fn deposit(&mut self, account: u32, amount: u64) -> Result<Outcome, OutOfMemory>
+        requires { amount ≤ GREATEST_AMOUNT }
+        ensures step { IfOk result (λ outcome. step_of (Op.Deposit account amount) self.old.after
             ≡ step_with outcome self.new.after) }
         ensures before { self.new.before ≡ self.old.before }
     {
-        let Some(cash) = self.cash(a) else {
+        let Some(cash) = self.cash(account) else {
             return Ok(Outcome::Declines(Decline::Absent));
         };
-        if cash + x > GREATEST_CASH {
+        if cash + amount > GREATEST_CASH {
             return Ok(Outcome::Declines(Decline::Limit));
         }
-        self.set_cash(a, cash + x)?;
+        self.set_cash(account, cash, cash + amount)?;
         Ok(Outcome::Gives(Value::Done))
     }
 
-    fn withdraw(&mut self, a: u32, x: u64) -> Result<Outcome, OutOfMemory>
-        ensures step { IfOk result (λ outcome. step_of (Op.Withdraw a x) self.old.after
+    fn withdraw(&mut self, account: u32, amount: u64) -> Result<Outcome, OutOfMemory>
+        ensures step { IfOk result (λ outcome. step_of (Op.Withdraw account amount) self.old.after
             ≡ step_with outcome self.new.after) }
         ensures before { self.new.before ≡ self.old.before }
     {
-        let Some(cash) = self.cash(a) else {
+        let Some(cash) = self.cash(account) else {
             return Ok(Outcome::Declines(Decline::Absent));
         };
-        if cash < x {
+        if cash < amount {
             return Ok(Outcome::Declines(Decline::Cash));
         }
-        self.set_cash(a, cash - x)?;
+        self.set_cash(account, cash, cash - amount)?;
         Ok(Outcome::Gives(Value::Done))
     }
 
-    fn move_cash(&mut self, a: u32, b: u32, x: u64) -> Result<Outcome, OutOfMemory>
-        requires { x ≤ GREATEST_AMOUNT }
-        ensures step { IfOk result (λ outcome. step_of (Op.Move a b x) self.old.after
+    fn move_cash(&mut self, payer: u32, payee: u32, amount: u64) -> Result<Outcome, OutOfMemory>
+        requires { amount ≤ GREATEST_AMOUNT }
+        ensures step { IfOk result (λ outcome. step_of (Op.Move payer payee amount) self.old.after
             ≡ step_with outcome self.new.after) }
         ensures before { self.new.before ≡ self.old.before }
     {
-        if a == b {
+        if payer == payee {
             return Ok(Outcome::Declines(Decline::Same));
         }
-        let Some(from) = self.cash(a) else {
+        let Some(has) = self.cash(payer) else {
             return Ok(Outcome::Declines(Decline::Absent));
         };
-        let Some(to) = self.cash(b) else {
+        let Some(gets) = self.cash(payee) else {
             return Ok(Outcome::Declines(Decline::Absent));
         };
-        if from < x {
+        if has < amount {
             return Ok(Outcome::Declines(Decline::Cash));
         }
-        if to + x > GREATEST_CASH {
+        if gets + amount > GREATEST_CASH {
             return Ok(Outcome::Declines(Decline::Limit));
         }
-        self.set_cash(a, from - x)?;
-        self.set_cash(b, to + x)?;
+        self.set_cash(payer, has, has - amount)?;
+        self.set_cash(payee, gets, gets + amount)?;
         Ok(Outcome::Gives(Value::Done))
     }
 
-    fn set_price(&mut self, i: u32, p: u64) -> Result<Outcome, OutOfMemory>
-        requires instrument { IsInstrumentOf self.old.before i }
-        requires price { IsWithin 1 GREATEST_PRICE p }
-        ensures step { IfOk result (λ outcome. step_of (Op.Price i p) self.old.after
+    fn set_price(&mut self, instrument: u32, price: u64) -> Result<Outcome, OutOfMemory>
+        requires instrument { IsInstrumentOf self.old.before instrument }
+        requires price { IsWithin 1 GREATEST_PRICE price }
+        ensures step { IfOk result (λ outcome. step_of (Op.Price instrument price) self.old.after
             ≡ step_with outcome self.new.after) }
         ensures before { self.new.before ≡ self.old.before }
     {
-        if self.price(i).is_none() && self.is_full() {
+        let was = self.price(instrument);
+        if was.is_none() && self.is_full() {
             return Ok(Outcome::FindsNoBlock);
         }
-        self.put_price(i, p)?;
+        self.put_price(instrument, was, price)?;
         Ok(Outcome::Gives(Value::Done))
     }
 
-    fn trade(&mut self, a: u32, b: u32, i: u32, q: u64) -> Result<Outcome, OutOfMemory>
-        requires { IsWithin 1 GREATEST_QUANTITY q }
-        ensures step { IfOk result (λ outcome. step_of (Op.Trade a b i q) self.old.after
+    fn trade(
+        &mut self,
+        buyer: u32,
+        seller: u32,
+        instrument: u32,
+        quantity: u64,
+    ) -> Result<Outcome, OutOfMemory>
+        requires { IsWithin 1 GREATEST_QUANTITY quantity }
+        ensures step { IfOk result (λ outcome.
+            step_of (Op.Trade buyer seller instrument quantity) self.old.after
             ≡ step_with outcome self.new.after) }
         ensures before { self.new.before ≡ self.old.before }
     {
-        if a == b {
+        if buyer == seller {
             return Ok(Outcome::Declines(Decline::Same));
         }
-        let Some(pays) = self.cash(a) else {
+        let Some(buys) = self.side(buyer, instrument) else {
             return Ok(Outcome::Declines(Decline::Absent));
         };
-        let Some(gets) = self.cash(b) else {
+        let Some(sells) = self.side(seller, instrument) else {
             return Ok(Outcome::Declines(Decline::Absent));
         };
-        let Some(price) = self.price(i) else {
+        let Some(price) = self.price(instrument) else {
             return Ok(Outcome::Declines(Decline::Price));
         };
-        if self.quantity(b, i).unwrap_or(0) < q {
+        if sells.held.unwrap_or(0) < quantity {
             return Ok(Outcome::Declines(Decline::Quantity));
         }
-        let cost = q * price;
-        if pays < cost {
+        let cost = quantity * price;
+        if buys.cash < cost {
             return Ok(Outcome::Declines(Decline::Cash));
         }
-        if gets + cost > GREATEST_CASH || self.quantity(a, i).unwrap_or(0) + q > GREATEST_QUANTITY {
+        if sells.cash + cost > GREATEST_CASH
+            || buys.held.unwrap_or(0) + quantity > GREATEST_QUANTITY
+        {
             return Ok(Outcome::Declines(Decline::Limit));
         }
-        self.exchange(a, b, i, q, cost)
+        self.exchange(buys, sells, instrument, quantity, cost)
     }
 
-    // A trade that is not declined. The seller's position is lowered first, which may leave a block for the buyer's.
+    // One side of a trade, where its account is there.
+    fn side(&self, account: u32, instrument: u32) -> Option<Side>
+        ensures account { IfSome result (λ side. side.account ≡ account) }
+        ensures side { IfSome result (IsSideOf self.now.after instrument) }
+        ensures none { IfNone result (map.get self.now.after.accounts account ≡ None) }
+    {
+        let cash = self.cash(account)?;
+        let held = self.quantity(account, instrument);
+        Some(Side {
+            account,
+            cash,
+            held,
+        })
+    }
+
+    // A trade that is not declined, from what was found of both accounts. The seller's position is lowered first, which
+    // may leave a block for the buyer's.
     fn exchange(
         &mut self,
-        a: u32,
-        b: u32,
-        i: u32,
-        q: u64,
+        buys: Side,
+        sells: Side,
+        instrument: u32,
+        quantity: u64,
         cost: u64,
     ) -> Result<Outcome, OutOfMemory>
-        requires apart { a ≢ b }
-        requires buyer { IsSome (map.get self.old.after.accounts a) }
-        requires seller { IsSome (map.get self.old.after.accounts b) }
-        requires price { IsSome (map.get self.old.after.prices i) }
-        requires sells { q ≤ position_of self.old.after b i }
-        requires some { 1 ≤ q }
-        requires pays { cost ≤ cash_of self.old.after a }
-        requires gets { cash_of self.old.after b + cost ≤ GREATEST_CASH }
-        requires holds { position_of self.old.after a i + q ≤ GREATEST_QUANTITY }
-        ensures step { IfOk result (λ outcome. trade_of self.old.after (put_position self.old.after b i (position_of self.old.after b i - q)) a b i q cost
+        requires apart { buys.account ≢ sells.account }
+        requires buyer { IsSideOf self.old.after instrument buys }
+        requires seller { IsSideOf self.old.after instrument sells }
+        requires price { IsSome (map.get self.old.after.prices instrument) }
+        requires some { 1 ≤ quantity }
+        requires sells { quantity ≤ unwrap_or sells.held 0 }
+        requires pays { cost ≤ buys.cash }
+        requires gets { sells.cash + cost ≤ GREATEST_CASH }
+        requires holds { unwrap_or buys.held 0 + quantity ≤ GREATEST_QUANTITY }
+        ensures step { IfOk result (λ outcome. trade_of self.old.after
+            (put_position self.old.after sells.account instrument
+            (unwrap_or sells.held 0 - quantity))
+            buys.account sells.account instrument quantity cost
             ≡ step_with outcome self.new.after) }
         ensures before { self.new.before ≡ self.old.before }
     {
-        let pays = self.cash(a).unwrap_or(0);
-        let gets = self.cash(b).unwrap_or(0);
-        let bought = self.quantity(a, i);
-        let sold = self.quantity(b, i).unwrap_or(0);
-        self.set_quantity(b, i, sold - q)?;
-        if bought.is_none() && self.is_full() {
+        let left = sells.held.unwrap_or(0) - quantity;
+        self.set_quantity(sells.account, instrument, sells.held, left)?;
+        if buys.held.is_none() && self.is_full() {
             return Ok(Outcome::FindsNoBlock);
         }
-        self.set_quantity(a, i, bought.unwrap_or(0) + q)?;
-        self.set_cash(a, pays - cost)?;
-        self.set_cash(b, gets + cost)?;
+        let more = buys.held.unwrap_or(0) + quantity;
+        self.set_quantity(buys.account, instrument, buys.held, more)?;
+        self.set_cash(buys.account, buys.cash, buys.cash - cost)?;
+        self.set_cash(sells.account, sells.cash, sells.cash + cost)?;
         Ok(Outcome::Gives(Value::Done))
     }
 
-    fn margin(&mut self, a: u32, m: u64) -> Result<Outcome, OutOfMemory>
-        requires account { IsAccountNumber a }
-        requires rate { m ≤ GREATEST_RATE }
-        ensures step { IfOk result (λ outcome. step_of (Op.Margin a m) self.old.after
+    fn margin(&mut self, account: u32, rate: u64) -> Result<Outcome, OutOfMemory>
+        requires account { IsAccountNumber account }
+        requires rate { rate ≤ GREATEST_RATE }
+        ensures step { IfOk result (λ outcome. step_of (Op.Margin account rate) self.old.after
             ≡ step_with outcome self.new.after) }
         ensures before { self.new.before ≡ self.old.before }
     {
-        let Some(cash) = self.cash(a) else {
+        let Some(cash) = self.cash(account) else {
             return Ok(Outcome::Declines(Decline::Absent));
         };
-        let shortfall = (self.worth(a) * m / 100).saturating_sub(cash);
+        let shortfall = (self.worth(account) * rate / 100).saturating_sub(cash);
         if shortfall == 0 {
             return Ok(Outcome::Gives(Value::Number(0)));
         }
         if self.is_queue_full() {
             return Ok(Outcome::Declines(Decline::Queue));
         }
-        self.queue_call(a, shortfall)?;
+        self.queue_call(account, shortfall)?;
         Ok(Outcome::Gives(Value::Number(shortfall)))
     }
 
@@ -243,18 +272,18 @@ impl<'a> Draft<'a> {
         Outcome::Gives(Value::Call(account, shortfall))
     }
 
-    fn show(&self, a: u32) -> Outcome
-        ensures { step_of (Op.Show a) self.now.after ≡ step_with result self.now.after }
+    fn show(&self, account: u32) -> Outcome
+        ensures { step_of (Op.Show account) self.now.after ≡ step_with result self.now.after }
     {
-        match self.cash(a) {
+        match self.cash(account) {
             Some(cash) => Outcome::Gives(Value::Number(cash)),
             None => Outcome::Declines(Decline::Absent),
         }
     }
 
-    fn sum(&self, a: u32, b: u32) -> Outcome
-        ensures { step_of (Op.Sum a b) self.now.after ≡ step_with result self.now.after }
+    fn sum(&self, low: u32, high: u32) -> Outcome
+        ensures { step_of (Op.Sum low high) self.now.after ≡ step_with result self.now.after }
     {
-        Outcome::Gives(Value::Number(self.cash_between(a, b)))
+        Outcome::Gives(Value::Number(self.cash_between(low, high)))
     }
 }

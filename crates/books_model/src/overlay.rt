@@ -1,12 +1,12 @@
 //! Changes of maps and of a queue, gathered beside them, and how they are put in.
 
-ghost use Rattle.std.specs.Prelude.{◌≡◌, ℕ, ◌≤◌, ◌+◌, ◌++◌, IsSome, OnOk, OnErr, drop, length};
+ghost use Rattle.std.specs.Prelude.{◌≡◌, ℕ, ◌≤◌, ◌+◌, ◌++◌, IsSome, IfSome, IfNone, OnOk, OnErr, drop, length};
 ghost use Rattle.std.specs.BTreeMap.{IsOrdered};
 ghost use Rattle.std.specs.FinMap as map;
 ghost use Rattle.std.specs.Ordering.{nat_cmp};
 ghost use Rattle.std.specs.VecDeque.{deque_capacity, deque_len};
 ghost use Rattle.books_model.specs.Books.{position_cmp};
-ghost use Rattle.books_model.specs.Changes.{HasRoomFor, IsRoomier, KnowBefore, changed, new_value as value_of_new, set_at};
+ghost use Rattle.books_model.specs.Inner.Changes.{HasRoomFor, IsRoomier, KnowBefore, changed, new_value as value_of_new, set_at};
 
 use io_ends::OutOfMemory;
 use std::collections::{BTreeMap, VecDeque};
@@ -40,39 +40,50 @@ impl Key for u32 {
 }
 
 impl Key for (u32, u32) {
-    ghost use Rattle.books_model.specs.Keys.{exact_positions};
+    ghost use Rattle.books_model.specs.Inner.Keys.{exact_positions};
 
     ghost exact = { exact_positions };
 }
 
-/// What a key has after changes, from what it had before them.
-pub(crate) fn value_after<K: Key>(
-    changes: &BTreeMap<K, Change>,
-    key: K,
-    before: Option<u64>,
-) -> Option<u64>
-    ensures { (m : map.FinMap K.cmp ℕ) → map.get m key ≡ before → result ≡ map.get (changed m changes.now.entries) key }
+/// The change of a key, if it was changed.
+pub(crate) fn change_of<K: Key>(changes: &BTreeMap<K, Change>, key: K) -> Option<Change>
+    ensures changed { IfSome result (λ change. (m : map.FinMap K.cmp ℕ)
+        → map.get (changed m changes.now.entries) key ≡ change.now) }
+    ensures same { IfNone result ((m : map.FinMap K.cmp ℕ)
+        → map.get (changed m changes.now.entries) key ≡ map.get m key) }
+    ensures before { IfSome result (λ change. (m : map.FinMap K.cmp ℕ)
+        → KnowBefore m changes.now.entries → change.before ≡ map.get m key) }
 {
-    match changes.get(&key) {
-        Some(change) => change.now,
-        None => before,
+    changes.get(&key).copied()
+}
+
+// What a key had before all changes, from what it has after them.
+fn value_before<K: Key>(changes: &BTreeMap<K, Change>, key: K, was: Option<u64>) -> Option<u64>
+    ensures { (m : map.FinMap K.cmp ℕ) → map.get (changed m changes.now.entries) key ≡ was
+        → KnowBefore m changes.now.entries → result ≡ map.get m key }
+{
+    match change_of(changes, key) {
+        Some(change) => change.before,
+        None => was,
     }
 }
 
-/// Adds a change of a key, from what it had before all changes.
+/// Adds a change of a key, from what it has after the changes so far.
 pub(crate) fn note_change<K: Key>(
     changes: &mut BTreeMap<K, Change>,
     key: K,
-    before: Option<u64>,
+    was: Option<u64>,
     now: Option<u64>,
 ) -> Result<(), OutOfMemory>
     ensures ok { OnOk result ((m : map.FinMap K.cmp ℕ)
         → changed m changes.new.entries ≡ set_at (changed m changes.old.entries) key now) }
-    ensures known { OnOk result ((m : map.FinMap K.cmp ℕ) → map.get m key ≡ before
+    ensures known { OnOk result ((m : map.FinMap K.cmp ℕ)
+        → map.get (changed m changes.old.entries) key ≡ was
         → KnowBefore m changes.old.entries → KnowBefore m changes.new.entries) }
     ensures err { OnErr result (changes.new.entries ≡ changes.old.entries) }
     ensures ordered { IsOrdered K.cmp changes.new }
 {
+    let before = value_before(changes, key, was);
     changes.insert(key, Change { before, now })?;
     Ok(())
 }
@@ -93,8 +104,11 @@ pub(crate) fn make_room<K: Key>(
     changes: &BTreeMap<K, Change>,
 ) -> Result<(), OutOfMemory>
     requires { KnowBefore (map.from_entries {R = K.cmp} values.old.entries) changes.now.entries }
-    ensures roomier { IsRoomier changes.now.entries (map.from_entries {R = K.cmp} values.old.entries) (map.from_entries {R = K.cmp} values.new.entries) }
-    ensures ok { OnOk result (HasRoomFor (map.from_entries {R = K.cmp} values.new.entries) changes.now.entries) }
+    ensures roomier { IsRoomier changes.now.entries
+        (map.from_entries {R = K.cmp} values.old.entries)
+        (map.from_entries {R = K.cmp} values.new.entries) }
+    ensures ok { OnOk result
+        (HasRoomFor (map.from_entries {R = K.cmp} values.new.entries) changes.now.entries) }
 {
     for (key, change) in changes {
         if let Some(value) = new_value(*change) {
@@ -153,18 +167,28 @@ pub(crate) fn make_all_room(
     prices: &mut BTreeMap<u32, u64>,
     changes: &Changes,
 ) -> Result<(), OutOfMemory>
-    requires accounts { KnowBefore (map.from_entries {R = nat_cmp} accounts.old.entries) changes.now.accounts.entries }
-    requires positions { KnowBefore (map.from_entries {R = position_cmp} positions.old.entries) changes.now.positions.entries }
-    requires prices { KnowBefore (map.from_entries {R = nat_cmp} prices.old.entries) changes.now.prices.entries }
+    requires accounts { KnowBefore
+        (map.from_entries {R = nat_cmp} accounts.old.entries) changes.now.accounts.entries }
+    requires positions { KnowBefore
+        (map.from_entries {R = position_cmp} positions.old.entries) changes.now.positions.entries }
+    requires prices { KnowBefore
+        (map.from_entries {R = nat_cmp} prices.old.entries) changes.now.prices.entries }
     ensures accounts { IsRoomier changes.now.accounts.entries
-        (map.from_entries {R = nat_cmp} accounts.old.entries) (map.from_entries {R = nat_cmp} accounts.new.entries) }
+        (map.from_entries {R = nat_cmp} accounts.old.entries)
+        (map.from_entries {R = nat_cmp} accounts.new.entries) }
     ensures positions { IsRoomier changes.now.positions.entries
-        (map.from_entries {R = position_cmp} positions.old.entries) (map.from_entries {R = position_cmp} positions.new.entries) }
+        (map.from_entries {R = position_cmp} positions.old.entries)
+        (map.from_entries {R = position_cmp} positions.new.entries) }
     ensures prices { IsRoomier changes.now.prices.entries
-        (map.from_entries {R = nat_cmp} prices.old.entries) (map.from_entries {R = nat_cmp} prices.new.entries) }
-    ensures ok { OnOk result (HasRoomFor (map.from_entries {R = nat_cmp} accounts.new.entries) changes.now.accounts.entries
-        × HasRoomFor (map.from_entries {R = position_cmp} positions.new.entries) changes.now.positions.entries
-        × HasRoomFor (map.from_entries {R = nat_cmp} prices.new.entries) changes.now.prices.entries) }
+        (map.from_entries {R = nat_cmp} prices.old.entries)
+        (map.from_entries {R = nat_cmp} prices.new.entries) }
+    ensures ok { OnOk result
+        (HasRoomFor (map.from_entries {R = nat_cmp} accounts.new.entries)
+        changes.now.accounts.entries
+        × HasRoomFor (map.from_entries {R = position_cmp} positions.new.entries)
+        changes.now.positions.entries
+        × HasRoomFor (map.from_entries {R = nat_cmp} prices.new.entries)
+        changes.now.prices.entries) }
 {
     make_room(accounts, &changes.accounts)?;
     make_room(positions, &changes.positions)?;

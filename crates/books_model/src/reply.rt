@@ -1,10 +1,12 @@
 //! What a script replies.
 
-ghost use Rattle.std.specs.Prelude.{◌≡◌, ◌<◌, [], ◌∷◌, ◌++◌, length, Some, OnOk, OnErr, slice_get};
+ghost use Rattle.std.specs.Prelude.{◌≡◌, ◌<◌, ◌↔◌, [], ◌∷◌, ◌++◌, length, IsTrue, Some, OnOk, OnErr, slice_get};
+ghost use Rattle.std.specs.Slice.Iter.{iter_rest};
 
 use io_ends::OutOfMemory;
 use std::alloc::Global;
 use std::marker::Model;
+use std::{fmt, slice};
 
 /// Why an operation is declined.
 #[derive(Clone, Copy, Debug, PartialEq, Eq)]
@@ -29,6 +31,27 @@ pub enum Decline {
     Queue,
 }
 
+impl fmt::Display for Decline {
+    ghost use Rattle.std.specs.Prelude.{Some};
+    ghost use Rattle.books_model.specs.Words.{decline_word};
+
+    ghost output = { λ why. Some (decline_word why) };
+
+    fn fmt<W: fmt::Write>(&self, f: &mut fmt::Formatter<W>) -> fmt::Result {
+        match self {
+            Decline::Exists => write!(f, "exists"),
+            Decline::Absent => write!(f, "absent"),
+            Decline::Cash => write!(f, "cash"),
+            Decline::Held => write!(f, "held"),
+            Decline::Limit => write!(f, "limit"),
+            Decline::Same => write!(f, "same"),
+            Decline::Price => write!(f, "price"),
+            Decline::Quantity => write!(f, "quantity"),
+            Decline::Queue => write!(f, "queue"),
+        }
+    }
+}
+
 /// What an operation tells.
 #[derive(Clone, Copy, Debug, PartialEq, Eq)]
 pub enum Value {
@@ -40,6 +63,22 @@ pub enum Value {
     Call(u32, u64),
     /// No margin call was queued.
     Nothing,
+}
+
+impl fmt::Display for Value {
+    ghost use Rattle.std.specs.Prelude.{Some};
+    ghost use Rattle.books_model.specs.Words.{value_word};
+
+    ghost output = { λ value. Some (value_word value) };
+
+    fn fmt<W: fmt::Write>(&self, f: &mut fmt::Formatter<W>) -> fmt::Result {
+        match self {
+            Value::Done => write!(f, "ok"),
+            Value::Number(n) => write!(f, "{n}"),
+            Value::Call(account, shortfall) => write!(f, "{account}:{shortfall}"),
+            Value::Nothing => write!(f, "none"),
+        }
+    }
 }
 
 /// The values of operations, in order.
@@ -68,11 +107,11 @@ impl Values {
     }
 
     /// Adds a value at the end.
-    pub fn push(&mut self, v: Value) -> Result<(), OutOfMemory>
-        ensures ok { OnOk result (self.new ≡ self.old ++ v ∷ []) }
+    pub fn push(&mut self, value: Value) -> Result<(), OutOfMemory>
+        ensures ok { OnOk result (self.new ≡ self.old ++ value ∷ []) }
         ensures err { OnErr result (self.new ≡ self.old) }
     {
-        self.values.push(v)?;
+        self.values.push(value)?;
         Ok(())
     }
 
@@ -83,12 +122,38 @@ impl Values {
         self.values.len()
     }
 
-    /// The value at a place, from 0.
-    pub fn at(&self, i: usize) -> Value
-        requires { i < length self.now }
-        ensures { slice_get self.now i ≡ Some result }
+    /// Whether there is no value.
+    pub fn is_empty(&self) -> bool
+        ensures { IsTrue result ↔ (self.now ≡ []) }
     {
-        self.values[i]
+        self.values.is_empty()
+    }
+
+    /// The values in order.
+    pub fn iter(&self) -> slice::Iter<'_, Value>
+        ensures { iter_rest result ≡ self.now }
+    {
+        self.values.iter()
+    }
+
+    /// The value at a place, from 0.
+    pub fn at(&self, index: usize) -> Value
+        requires { index < length self.now }
+        ensures { slice_get self.now index ≡ Some result }
+    {
+        self.values[index]
+    }
+}
+
+impl<'a> IntoIterator for &'a Values {
+    type Item = &'a Value;
+
+    type IntoIter = slice::Iter<'a, Value>;
+
+    ghost into_iter_gives = { λ values it. iter_rest it ≡ values.now };
+
+    fn into_iter(self) -> Self::IntoIter {
+        self.iter()
     }
 }
 

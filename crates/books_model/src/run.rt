@@ -4,7 +4,7 @@ ghost use Rattle.std.specs.Prelude.{◌≡◌, IfOk, OnOk, OnErr};
 ghost use Rattle.books_model.specs.Books.{HaveSameSizes};
 ghost use Rattle.books_model.specs.Ranges.{IsScriptFor};
 ghost use Rattle.books_model.specs.Interpreter.{outcome_of, run_from};
-ghost use Rattle.books_model.specs.Steps.{run_with};
+ghost use Rattle.books_model.specs.Inner.Steps.{run_with};
 
 use crate::books::Books;
 use crate::draft::{Draft, Outcome};
@@ -13,8 +13,8 @@ use crate::script::Script;
 use io_ends::OutOfMemory;
 use std::alloc::Global;
 
-/// Runs a script. Its changes are gathered beside the books and put in at its end, so that a refusal and want of memory
-/// leave the books as they were.
+/// Runs a script. Its changes are gathered beside the books and put in at its end, so that the books are as they were
+/// after a refusal, and out of memory.
 pub fn run_plain(alloc: Global, script: &Script, books: &mut Books) -> Result<Reply, OutOfMemory>
     requires range { IsScriptFor books.old script.now }
     ensures reply { IfOk result (λ reply. reply ≡ (outcome_of script.now books.old).0) }
@@ -35,17 +35,19 @@ pub fn run_plain(alloc: Global, script: &Script, books: &mut Books) -> Result<Re
 // Runs the operations in order, up to the first that is refused.
 fn run_all(alloc: Global, script: &Script, draft: &mut Draft<'_>) -> Result<Reply, OutOfMemory>
     requires range { IsScriptFor draft.old.before script.now }
-    ensures run { IfOk result (λ reply. run_from 1 script.now draft.old.after ≡ run_with reply draft.new.after) }
+    ensures run { IfOk result (λ reply. run_from 1 script.now draft.old.after
+        ≡ run_with reply draft.new.after) }
     ensures before { draft.new.before ≡ draft.old.before }
 {
     let mut values = Values::new(alloc);
-    for place in 0..script.len() {
-        let number = place as u32 + 1;
-        match draft.run(script.at(place))? {
+    let mut number = 1;
+    for operation in script {
+        match draft.run(*operation)? {
             Outcome::Gives(value) => values.push(value)?,
             Outcome::Declines(why) => return Ok(Reply::Declined(number, why)),
             Outcome::FindsNoBlock => return Ok(Reply::Full(number)),
         }
+        number += 1;
     }
     Ok(Reply::Done(values))
 }

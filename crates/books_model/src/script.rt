@@ -1,10 +1,12 @@
 //! Scripts: lists of operations on clearing books.
 
-ghost use Rattle.std.specs.Prelude.{◌≡◌, ◌<◌, [], ◌∷◌, ◌++◌, length, Some, OnOk, OnErr, slice_get};
+ghost use Rattle.std.specs.Prelude.{◌≡◌, ◌<◌, ◌↔◌, [], ◌∷◌, ◌++◌, length, IsTrue, Some, OnOk, OnErr, slice_get};
+ghost use Rattle.std.specs.Slice.Iter.{iter_rest};
 
 use io_ends::OutOfMemory;
 use std::alloc::Global;
 use std::marker::Model;
+use std::slice;
 
 /// An operation. Accounts and instruments go by their numbers, amounts and prices are whole units of cash.
 #[derive(Clone, Copy, Debug, PartialEq, Eq)]
@@ -74,11 +76,37 @@ impl Script {
         self.operations.len()
     }
 
-    /// The operation at a place, from 0.
-    pub fn at(&self, i: usize) -> Op
-        requires { i < length self.now }
-        ensures { slice_get self.now i ≡ Some result }
+    /// Whether it has no operation.
+    pub fn is_empty(&self) -> bool
+        ensures { IsTrue result ↔ (self.now ≡ []) }
     {
-        self.operations[i]
+        self.operations.is_empty()
+    }
+
+    /// The operations in order.
+    pub fn iter(&self) -> slice::Iter<'_, Op>
+        ensures { iter_rest result ≡ self.now }
+    {
+        self.operations.iter()
+    }
+
+    /// The operation at a place, from 0.
+    pub fn at(&self, index: usize) -> Op
+        requires { index < length self.now }
+        ensures { slice_get self.now index ≡ Some result }
+    {
+        self.operations[index]
+    }
+}
+
+impl<'a> IntoIterator for &'a Script {
+    type Item = &'a Op;
+
+    type IntoIter = slice::Iter<'a, Op>;
+
+    ghost into_iter_gives = { λ script it. iter_rest it ≡ script.now };
+
+    fn into_iter(self) -> Self::IntoIter {
+        self.iter()
     }
 }

@@ -37,38 +37,48 @@ fn books_of(
     Ok(books)
 }
 
-fn add_price(rt: &impl Abort, books: &mut Books, i: u32, p: u64) -> Result<(), OutOfMemory> {
-    assert!(rt; i > 0 && i <= books.instruments());
-    assert!(rt; p > 0 && p <= GREATEST_PRICE);
-    assert!(rt; books.price(i).is_none());
+fn add_price(
+    rt: &impl Abort,
+    books: &mut Books,
+    instrument: u32,
+    price: u64,
+) -> Result<(), OutOfMemory> {
+    assert!(rt; instrument > 0 && instrument <= books.instruments());
+    assert!(rt; price > 0 && price <= GREATEST_PRICE);
+    assert!(rt; books.price(instrument).is_none());
     assert!(rt; books.used() < books.blocks());
-    books.add_price(i, p)
+    books.add_price(instrument, price)
 }
 
 fn add_position(
     rt: &impl Abort,
     books: &mut Books,
-    a: u32,
-    i: u32,
-    q: u64,
+    account: u32,
+    instrument: u32,
+    quantity: u64,
 ) -> Result<(), OutOfMemory> {
-    assert!(rt; books.cash(a).is_some() && books.price(i).is_some());
-    assert!(rt; q > 0 && q <= GREATEST_QUANTITY);
-    assert!(rt; books.position(a, i).is_none());
+    assert!(rt; books.cash(account).is_some() && books.price(instrument).is_some());
+    assert!(rt; quantity > 0 && quantity <= GREATEST_QUANTITY);
+    assert!(rt; books.position(account, instrument).is_none());
     assert!(rt; books.used() < books.blocks());
-    books.add_position(a, i, q)
+    books.add_position(account, instrument, quantity)
 }
 
-fn add_call(rt: &impl Abort, books: &mut Books, a: u32, d: u64) -> Result<(), OutOfMemory> {
-    assert!(rt; a > 0 && d > 0 && d <= GREATEST_SHORTFALL);
+fn add_call(
+    rt: &impl Abort,
+    books: &mut Books,
+    account: u32,
+    shortfall: u64,
+) -> Result<(), OutOfMemory> {
+    assert!(rt; account > 0 && shortfall > 0 && shortfall <= GREATEST_SHORTFALL);
     assert!(rt; books.calls() < books.ring());
-    books.add_call(a, d)
+    books.add_call(account, shortfall)
 }
 
-fn is_amount(x: u64) -> bool
-    ensures { OnTrue result (IsWithin 1 GREATEST_AMOUNT x) }
+fn is_amount(amount: u64) -> bool
+    ensures { OnTrue result (IsWithin 1 GREATEST_AMOUNT amount) }
 {
-    x > 0 && x <= GREATEST_AMOUNT
+    amount > 0 && amount <= GREATEST_AMOUNT
 }
 
 // Whether the numbers of an operation are in their ranges.

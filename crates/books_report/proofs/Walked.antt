@@ -7,7 +7,8 @@ use Rattle.std.specs.Option.{option_map}
 use Rattle.std.specs.FinMap as map
 use Rattle.books_model.specs.Books.{ClearingBooks, position_cmp}
 use Rattle.books_model.specs.Ranges.{AreInRange}
-use Rattle.books_model.specs.Keys.{is_lt-nat_cmp, positions_total}
+use Rattle.books_model.specs.Inner.Keys.{positions_total}
+use Rattle.books_model.proofs.Keys.{is_lt-nat_cmp}
 use Rattle.books_report.proofs.Walks.{up_to, none_up_to, below_found}
 
 -- no account is up to 0

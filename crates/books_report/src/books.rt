@@ -13,14 +13,16 @@ use io_ends::OutOfMemory;
 use std::alloc::{AllocError, Global};
 
 fn write_size(text: &mut String, name: &str, size: u32) -> Result<(), AllocError>
-    ensures { OnOk result (string_bytes text.new ≡ string_bytes text.old ++ SPACE ∷ (name.now ++ SPACE ∷ number size)) }
+    ensures { OnOk result
+        (string_bytes text.new
+        ≡ string_bytes text.old ++ SPACE ∷ (name.now ++ SPACE ∷ number size)) }
 {
     write!(text, " {name} {size}")
 }
 
 fn write_header(text: &mut String, books: &Books) -> Result<(), AllocError>
-    ensures ok { OnOk result (string_bytes text.new ≡ string_bytes text.old ++ header_line books.now) }
-    ensures range { OnOk result (AreInRange books.now) }
+    ensures { OnOk result
+        (string_bytes text.new ≡ string_bytes text.old ++ header_line books.now) }
 {
     text.push_str("books 1")?;
     write_size(text, "blocks", books.blocks())?;
@@ -30,14 +32,17 @@ fn write_header(text: &mut String, books: &Books) -> Result<(), AllocError>
 }
 
 fn write_account(text: &mut String, account: u32, cash: u64) -> Result<(), AllocError>
-    ensures { OnOk result (string_bytes text.new ≡ string_bytes text.old ++ account_line (account, cash)) }
+    ensures { OnOk result
+        (string_bytes text.new ≡ string_bytes text.old ++ account_line (account, cash)) }
 {
     write!(text, "account {account} {cash}\n")
 }
 
 fn write_accounts(text: &mut String, books: &Books) -> Result<(), AllocError>
     requires { AreInRange books.now }
-    ensures { OnOk result (string_bytes text.new ≡ string_bytes text.old ++ flat_map account_line (entries books.now.accounts)) }
+    ensures { OnOk result
+        (string_bytes text.new
+        ≡ string_bytes text.old ++ flat_map account_line (entries books.now.accounts)) }
 {
     let mut last = 0;
     while let Some((account, cash)) = books.account_after(last) {
@@ -48,14 +53,17 @@ fn write_accounts(text: &mut String, books: &Books) -> Result<(), AllocError>
 }
 
 fn write_price(text: &mut String, instrument: u32, price: u64) -> Result<(), AllocError>
-    ensures { OnOk result (string_bytes text.new ≡ string_bytes text.old ++ price_line (instrument, price)) }
+    ensures { OnOk result
+        (string_bytes text.new ≡ string_bytes text.old ++ price_line (instrument, price)) }
 {
     write!(text, "price {instrument} {price}\n")
 }
 
 fn write_prices(text: &mut String, books: &Books) -> Result<(), AllocError>
     requires { AreInRange books.now }
-    ensures { OnOk result (string_bytes text.new ≡ string_bytes text.old ++ flat_map price_line (entries books.now.prices)) }
+    ensures { OnOk result
+        (string_bytes text.new
+        ≡ string_bytes text.old ++ flat_map price_line (entries books.now.prices)) }
 {
     let mut last = 0;
     while let Some((instrument, price)) = books.price_after(last) {
@@ -71,14 +79,18 @@ fn write_position(
     instrument: u32,
     quantity: u64,
 ) -> Result<(), AllocError>
-    ensures { OnOk result (string_bytes text.new ≡ string_bytes text.old ++ position_line ((account, instrument), quantity)) }
+    ensures { OnOk result
+        (string_bytes text.new
+        ≡ string_bytes text.old ++ position_line ((account, instrument), quantity)) }
 {
     write!(text, "position {account} {instrument} {quantity}\n")
 }
 
 fn write_positions(text: &mut String, books: &Books) -> Result<(), AllocError>
     requires { AreInRange books.now }
-    ensures { OnOk result (string_bytes text.new ≡ string_bytes text.old ++ flat_map position_line (entries books.now.positions)) }
+    ensures { OnOk result
+        (string_bytes text.new
+        ≡ string_bytes text.old ++ flat_map position_line (entries books.now.positions)) }
 {
     let mut last = (0, 0);
     while let Some((account, instrument, quantity)) = books.position_after(last.0, last.1) {
@@ -89,13 +101,15 @@ fn write_positions(text: &mut String, books: &Books) -> Result<(), AllocError>
 }
 
 fn write_call(text: &mut String, account: u32, shortfall: u64) -> Result<(), AllocError>
-    ensures { OnOk result (string_bytes text.new ≡ string_bytes text.old ++ call_line (account, shortfall)) }
+    ensures { OnOk result
+        (string_bytes text.new ≡ string_bytes text.old ++ call_line (account, shortfall)) }
 {
     write!(text, "call {account} {shortfall}\n")
 }
 
 fn write_calls(text: &mut String, books: &Books) -> Result<(), AllocError>
-    ensures { OnOk result (string_bytes text.new ≡ string_bytes text.old ++ flat_map call_line books.now.calls) }
+    ensures { OnOk result
+        (string_bytes text.new ≡ string_bytes text.old ++ flat_map call_line books.now.calls) }
 {
     for place in 0..books.calls() {
         let (account, shortfall) = books.call_at(place);
@@ -108,6 +122,7 @@ fn write_calls(text: &mut String, books: &Books) -> Result<(), AllocError>
 pub fn write_books(text: &mut String, books: &Books) -> Result<(), AllocError>
     ensures { OnOk result (string_bytes text.new ≡ string_bytes text.old ++ books_lines books.now) }
 {
+    books.ranges();
     write_header(text, books)?;
     write_accounts(text, books)?;
     write_prices(text, books)?;

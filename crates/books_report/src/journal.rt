@@ -20,7 +20,10 @@ fn write_line(
     line: Line,
     reply: &Reply,
 ) -> Result<(), AllocError>
-    ensures { OnOk result (string_bytes text.new ≡ string_bytes text.old ++ journal_line serial name.now line.index line.restarts reply.now) }
+    ensures { OnOk result
+        (string_bytes text.new
+        ≡ string_bytes text.old
+        ++ journal_line serial name.now line.index line.restarts reply.now) }
 {
     let index = u64::from(line.index) + 1;
     let restarts = line.restarts;
@@ -38,12 +41,14 @@ fn write_lines(
     requires beside { length lines.now ≡ length replies.now }
     requires places { All (λ l. IsPlace input.now (place_of l)) lines.now }
     ensures { OnOk result (string_bytes text.new ≡ string_bytes text.old
-        ++ journal_lines input.now 1 (map place_of lines.now) (map (λ l. l.restarts) lines.now) replies.now) }
+        ++ journal_lines input.now 1 (map place_of lines.now)
+        (map (λ l. l.restarts) lines.now) replies.now) }
 {
-    for i in 0..lines.len() {
-        let line = lines[i];
+    let mut serial = 1;
+    for (line, reply) in lines.iter().zip(replies) {
         let name = input.name(line.caller);
-        write_line(text, i as u64 + 1, name, line, &replies[i])?;
+        write_line(text, serial, name, *line, reply)?;
+        serial += 1;
     }
     Ok(())
 }
@@ -59,7 +64,8 @@ pub fn journal_text(
     requires beside { length lines.now ≡ length replies.now }
     requires places { All (λ l. IsPlace input.now (place_of l)) lines.now }
     ensures { IfOk result (λ text. text.items
-        ≡ text_of input.now (map place_of lines.now) (map (λ l. l.restarts) lines.now) replies.now closing.now) }
+        ≡ text_of input.now (map place_of lines.now)
+        (map (λ l. l.restarts) lines.now) replies.now closing.now) }
 {
     let mut text = String::from_str(alloc, "journal\n")?;
     write_lines(&mut text, input, lines, replies)?;

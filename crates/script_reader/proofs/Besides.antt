@@ -2,7 +2,8 @@
 use Rattle.std.proofs.Common.{◌≡◌, ℕ, suc, zero, ◌<◌, List, [], ◌∷◌, map, length, slice_get, slice_index_or, Some, refl, ap, arith}
 use Rattle.std.proofs.lemmas.Option.{same_Some, none-some}
 use Rattle.books_model.specs.declared.script.Op.{Op}
-use Rattle.script_reader.specs.Input.{Caller, beside}
+use Rattle.script_reader.specs.Input.{Caller}
+use Rattle.script_reader.specs.Inner.Callers.{beside}
 
 module _ {K V : Type 0} (bytes : K → List ℕ) (view : V → List (List Op)) where
   -- the name of a caller is that of its key

@@ -15,7 +15,8 @@ use Rattle.books_model.specs.Books.{ClearingBooks, position_cmp}
 use Rattle.books_model.specs.Ranges.{AreInRange, IsCall}
 use Rattle.books_model.proofs.Maps.{positions_total}
 use Rattle.script_reader.specs.Lines.{AreWords}
-use Rattle.script_reader.specs.Text.{header_words, account_words, price_words, position_words, call_words, books_words}
+use Rattle.script_reader.specs.Text.{header_words, account_words, price_words, position_words, call_words}
+use Rattle.script_reader.specs.Inner.LinesAsWords.{books_words}
 use Rattle.script_reader.specs.Forms.{Words}
 use Rattle.script_reader.specs.Faults.{first_reason, header_fault, AreFaultless}
 use Rattle.script_reader.specs.declared.fault.Fault.TheVariants as fault

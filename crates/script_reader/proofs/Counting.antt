@@ -10,9 +10,10 @@ use Rattle.books_model.specs.Ranges.{AreInRange}
 use Rattle.script_reader.specs.declared.words.TheConstants.{LINE_FEED}
 use Rattle.script_reader.specs.declared.fault.Fault.{Fault}
 use Rattle.script_reader.specs.declared.fault.Fault.TheVariants as fault
-use Rattle.script_reader.specs.Text.{line, finish_line, books_words, account_words, price_words, position_words, call_words, operation_words}
+use Rattle.script_reader.specs.Text.{line, finish_line, account_words, price_words, position_words, call_words, operation_words}
+use Rattle.script_reader.specs.Inner.LinesAsWords.{books_words, submission_words, lines_so_far}
 use Rattle.script_reader.specs.Input.{ClearingInput, Submission, AreCallersFor, callers_of}
-use Rattle.script_reader.specs.Grammar.{Spells, submission_words, lines_so_far}
+use Rattle.script_reader.specs.Grammar.{Spells}
 use Rattle.script_reader.specs.Forms.{Words, is_only, begins, value_at, are_numbers, are_in_range, ranges_of, form_of, books_forms}
 use Rattle.script_reader.specs.Faults.{StartsFaulty, IsFaultyBehind, fault_of, books_fault, inside_fault, outside_fault, is_inside, is_late, is_low, is_given, takes_block, size_at}
 use Rattle.script_reader.proofs.Submitting.{IsGoodScript, scripts_are_good}

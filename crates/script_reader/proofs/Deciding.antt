@@ -10,7 +10,8 @@ use Rattle.script_reader.specs.declared.fault.Fault.TheVariants as fault
 use Rattle.script_reader.specs.Lines.{AreWords}
 use Rattle.script_reader.specs.Text.{line, finish_line}
 use Rattle.script_reader.specs.Input.{ClearingInput, AreCallersFor, callers_of}
-use Rattle.script_reader.specs.Grammar.{Spells, IsValidInput, lines_so_far}
+use Rattle.script_reader.specs.Grammar.{Spells, IsValidInput}
+use Rattle.script_reader.specs.Inner.LinesAsWords.{lines_so_far}
 use Rattle.script_reader.specs.Forms.{Words, is_only}
 use Rattle.script_reader.specs.Faults.{AreFaultless, IsFrontFault, IsFirstFault, fault_of}
 use Rattle.script_reader.specs.Statements.{HasFault}

@@ -17,7 +17,8 @@ use Rattle.std.specs.Str.{bytes_eq}
 use Rattle.std.proofs.lemmas.Slice.Eq.{bytes_eq-Decides}
 use Rattle.script_reader.specs.Lines.{word_at}
 use Rattle.script_reader.specs.Number.{is_number}
-use Rattle.script_reader.specs.Text.{number, header_words, account_words, price_words, position_words, call_words, books_words}
+use Rattle.script_reader.specs.Text.{number, header_words, account_words, price_words, position_words, call_words}
+use Rattle.script_reader.specs.Inner.LinesAsWords.{books_words}
 use Rattle.std.specs.Option.{is_none}
 use Rattle.script_reader.specs.Forms.{Words, books_forms, begins, form_of, ranges_of, value_of, value_at, are_numbers, are_in_range}
 use Rattle.script_reader.specs.declared.fault.Fault.TheVariants as fault

@@ -9,10 +9,11 @@ use Rattle.books_model.specs.Ranges.{AreInRange}
 use Rattle.script_reader.specs.declared.words.TheConstants.{SPACE, LINE_FEED}
 use Rattle.script_reader.specs.declared.fault.Fault.{Fault}
 use Rattle.script_reader.specs.Lines.{IsFreeOf, AreWords}
-use Rattle.script_reader.specs.Text.{line, books_words, books_lines, scripts_line, finish_line}
+use Rattle.script_reader.specs.Text.{line, books_lines, scripts_line, finish_line}
+use Rattle.script_reader.specs.Inner.LinesAsWords.{books_words, lines_so_far}
 use Rattle.script_reader.specs.Input.{Caller}
-use Rattle.script_reader.specs.Grammar.{submission_lines, input_text, lines_so_far}
-use Rattle.script_reader.specs.Scripts.{IsReadOf, HasFront}
+use Rattle.script_reader.specs.Grammar.{submission_lines, input_text}
+use Rattle.script_reader.specs.Inner.Scripts.{IsReadOf, HasFront}
 use Rattle.script_reader.specs.Forms.{Words}
 use Rattle.script_reader.specs.Faults.{AreFaultless, IsFaultyBehind}
 use Rattle.script_reader.proofs.Cutting.{join-free}

@@ -10,10 +10,11 @@ use Rattle.script_reader.specs.declared.limits.TheConstants.{MOST_CALLERS, MOST_
 use Rattle.script_reader.specs.declared.fault.Fault.{Fault}
 use Rattle.script_reader.specs.declared.fault.Fault.TheVariants as fault
 use Rattle.script_reader.specs.Lines.{word_at}
-use Rattle.script_reader.specs.Text.{line, books_words, operation_lines, end_line, finish_line}
+use Rattle.script_reader.specs.Text.{line, operation_lines, end_line, finish_line}
+use Rattle.script_reader.specs.Inner.LinesAsWords.{books_words, submission_words, lines_so_far, lines_inside}
 use Rattle.script_reader.specs.Input.{Submission, AreCallersFor, callers_of, count_scripts, IsName}
-use Rattle.script_reader.specs.Callers.{is_caller}
-use Rattle.script_reader.specs.Grammar.{submission_words, submission_lines, lines_so_far, lines_inside}
+use Rattle.script_reader.specs.Inner.Callers.{is_caller}
+use Rattle.script_reader.specs.Grammar.{submission_lines}
 use Rattle.script_reader.specs.Forms.{Words, is_only, is_script_line}
 use Rattle.script_reader.specs.Faults.{first_reason, IsFaultyBehind, fault_of}
 use Rattle.script_reader.proofs.Scripted.{ended, outside_fault_is, is_beyond_at}

@@ -1,13 +1,14 @@
 -- Callers that are gathered one script at a time.
-use Rattle.std.proofs.Common.{◌≡◌, ℕ, suc, zero, ◌+◌, ◌<◌, ◌≤◌, Bool, true, false, not, cond, ◌||◌, List, [], ◌∷◌, ◌++◌, map, length, set, slice_index_or, if◌then◌else◌, refl, sym, ap, ◌∙◌, length-append, arith}
-use Rattle.std.specs.List.{list_any, position_or_len}
+use Rattle.std.proofs.Common.{◌≡◌, ℕ, suc, zero, ◌+◌, ◌<◌, ◌≤◌, Bool, true, false, not, cond, ◌||◌, List, [], ◌∷◌, ◌++◌, map, length, set, slice_index_or, if◌then◌else◌, nat_lt, Some, None, refl, sym, ap, ◌∙◌, length-append, arith}
+use Rattle.std.specs.List.{list_any, position, position_or_len}
 use Rattle.std.specs.Str.{bytes_eq}
 use Rattle.std.proofs.lemmas.List.{map-append, length-map}
+use Rattle.std.proofs.lemmas.Option.{same_Some}
 use Rattle.std.proofs.lemmas.List.Sums.{sum_by-cons}
 use Rattle.books_model.specs.declared.script.Op.{Op}
-use Rattle.script_reader.specs.Input.{Caller, Submission, beside, count_scripts, add_name}
-use Rattle.script_reader.specs.Placed.{put_script}
-use Rattle.script_reader.specs.Callers.{add_submission, is_caller}
+use Rattle.script_reader.specs.Input.{Caller, Submission, count_scripts, add_name}
+use Rattle.script_reader.specs.Inner.Callers.{beside, add_submission, is_caller}
+use Rattle.script_reader.specs.Inner.Placed.{put_script}
 
 -- a store has as many callers as names
 pub length-beside : (names : List (List ℕ)) (scripts : List (List (List Op))) → length names ≡ length scripts → length (beside names scripts) ≡ length names
@@ -95,6 +96,18 @@ pub any-map : {K : Type 0} (bytes : K → List ℕ) (name : List ℕ) (keys : Li
 any-map bytes name [] = refl
 any-map bytes name (k ∷ keys) = ap (λ b. bytes_eq name (bytes k) || b) (any-map bytes name keys)
 
+-- the place at which a test is passed first is the place that is counted
+pub position-found : {K : Type 0} (test : K → Bool) (keys : List K) (place : ℕ) → position test keys ≡ Some place → position_or_len test keys ≡ place
+position-found test keys place = by (nat_lt (position_or_len test keys) (length keys))
+  where
+    by : (b : Bool) → cond b (Some (position_or_len test keys)) None ≡ Some place → position_or_len test keys ≡ place
+    by true found = same_Some (position_or_len test keys) place found
+    by false found = absurd (cc)
+
+-- a name that is known is not added
+pub name-known : (names : List (List ℕ)) (name : List ℕ) → list_any (bytes_eq name) names ≡ true → names ≡ add_name names name
+name-known names name known = sym (ap (λ b. if b then names else names ++ name ∷ []) known)
+
 -- a new key is a new name
 pub keys-add : {K : Type 0} (bytes : K → List ℕ) (keys : List K) (key : K)
     → map bytes (if list_any (λ k. bytes_eq (bytes key) (bytes k)) keys then keys else keys ++ key ∷ []) ≡ add_name (map bytes keys) (bytes key)
@@ -117,17 +130,13 @@ module _ {K V : Type 0} (bytes : K → List ℕ) (view : V → List (List Op)) (
   pub has_caller : (name : List ℕ) → is_caller name (beside (map bytes keys) (map view xs)) ≡ list_any (λ k. bytes_eq name (bytes k)) keys
   has_caller name = is_caller-beside name (map bytes keys) (map view xs) even_views ∙ sym (any-map bytes name keys)
 
-  module _ (keys' : List K) (xs' : List V) (key : K) (name : List ℕ) (script : List Op) (place : ℕ) (named : bytes key ≡ name)
-      (inserted : keys' ≡ (if list_any (λ k. bytes_eq (bytes key) (bytes k)) keys then keys else keys ++ key ∷ []))
-      (at : place ≡ position_or_len (λ k. bytes_eq (bytes key) (bytes k)) keys)
+  module _ (keys' : List K) (xs' : List V) (name : List ℕ) (script : List Op) (place : ℕ)
+      (names_after : map bytes keys' ≡ add_name (map bytes keys) name)
+      (at : place ≡ position_or_len (bytes_eq name) (map bytes keys))
       (put : map view xs' ≡ put_script (map view xs) place script) where
-    -- the names after the insertion
-    names_after : map bytes keys' ≡ add_name (map bytes keys) name
-    names_after = ap (map bytes) inserted ∙ keys-add bytes keys key ∙ ap (add_name (map bytes keys)) named
-
     -- the scripts after one more was put
     scripts_after : map view xs' ≡ put_script (map view xs) (position_or_len (bytes_eq name) (map bytes keys)) script
-    scripts_after = put ∙ ap (λ p. put_script (map view xs) p script) (at ∙ position-map bytes (bytes key) keys ∙ ap (λ n. position_or_len (bytes_eq n) (map bytes keys)) named)
+    scripts_after = put ∙ ap (λ p. put_script (map view xs) p script) at
 
     -- an insertion and a script that is put at the name's place add a script of the caller
     pub store-add : beside (map bytes keys') (map view xs') ≡ add_submission (beside (map bytes keys) (map view xs)) (record { caller = name; script = script })

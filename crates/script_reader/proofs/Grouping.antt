@@ -11,7 +11,7 @@ use Rattle.std.proofs.lemmas.Map.Keys.{IsDistinct-head, IsDistinct-tail, IsDisti
 use Rattle.std.proofs.lemmas.Slice.Eq.{bytes_eq-Decides}
 use Rattle.books_model.specs.declared.script.Op.{Op}
 use Rattle.script_reader.specs.Input.{Caller, Submission, add_name, first_seen, scripts_by, callers_of}
-use Rattle.script_reader.specs.Callers.{add_submission}
+use Rattle.script_reader.specs.Inner.Callers.{add_submission}
 
 -- equal bytes are equal texts, and texts that are equal to one another are equal to the same others
 laws : IsEquivalence bytes_eq

@@ -9,9 +9,10 @@ use Rattle.books_model.specs.Books.{ClearingBooks}
 use Rattle.books_model.specs.Ranges.{AreInRange, IsOperationFor}
 use Rattle.books_model.specs.declared.script.Op.{Op}
 use Rattle.books_model.specs.declared.script.Op.TheVariants as op
-use Rattle.script_reader.specs.Text.{line, number, header_words, account_words, price_words, position_words, call_words, books_words, operation_words, finish_line}
+use Rattle.script_reader.specs.Text.{line, number, header_words, account_words, price_words, position_words, call_words, operation_words, finish_line}
+use Rattle.script_reader.specs.Inner.LinesAsWords.{books_words, submission_words, lines_so_far}
 use Rattle.script_reader.specs.Input.{ClearingInput, Submission, AreCallersFor, callers_of}
-use Rattle.script_reader.specs.Grammar.{Spells, submission_words, lines_so_far}
+use Rattle.script_reader.specs.Grammar.{Spells}
 use Rattle.script_reader.specs.Lines.{word_at}
 use Rattle.script_reader.specs.Forms.{Words, begins, is_only, value_of, value_at}
 use Rattle.script_reader.proofs.Numerals.{value_of_number}

@@ -8,9 +8,10 @@ use Rattle.std.specs.FinMap as finmap
 use Rattle.books_model.specs.Books.{ClearingBooks}
 use Rattle.script_reader.specs.declared.fault.Fault.{Fault}
 use Rattle.script_reader.specs.Lines.{AreWords}
-use Rattle.script_reader.specs.Text.{line, header_line, account_words, account_line, price_words, price_line, position_words, position_line, call_words, call_line, books_words, books_lines, operation_words, operation_lines, scripts_line, end_line, finish_line}
+use Rattle.script_reader.specs.Text.{line, header_line, account_words, account_line, price_words, price_line, position_words, position_line, call_words, call_line, books_lines, operation_words, operation_lines, scripts_line, end_line, finish_line}
+use Rattle.script_reader.specs.Inner.LinesAsWords.{books_words, submission_words, lines_so_far}
 use Rattle.script_reader.specs.Input.{Submission}
-use Rattle.script_reader.specs.Grammar.{submission_words, submission_lines, lines_so_far, input_text}
+use Rattle.script_reader.specs.Grammar.{submission_lines, input_text}
 use Rattle.script_reader.specs.Forms.{Words, is_only}
 use Rattle.script_reader.specs.Faults.{AreFaultless, StartsFaulty, fault_of}
 use Rattle.script_reader.proofs.Cutting.{line_once, no_line, word_from_test}

@@ -15,10 +15,10 @@ use Rattle.books_model.specs.declared.script.Op.TheVariants as op
 use Rattle.script_reader.specs.declared.limits.TheConstants.{MOST_CALLERS, MOST_SCRIPTS}
 use Rattle.script_reader.specs.declared.fault.Fault.TheVariants as fault
 use Rattle.script_reader.specs.Lines.{word_at}
-use Rattle.script_reader.specs.Text.{operation_words, books_words}
+use Rattle.script_reader.specs.Text.{operation_words}
+use Rattle.script_reader.specs.Inner.LinesAsWords.{books_words, submission_words, lines_so_far, lines_inside}
 use Rattle.script_reader.specs.Input.{Submission, AreCallersFor, callers_of, first_seen, count_scripts, scripts_by, is_name, IsName}
-use Rattle.script_reader.specs.Callers.{is_caller}
-use Rattle.script_reader.specs.Grammar.{submission_words, lines_so_far, lines_inside}
+use Rattle.script_reader.specs.Inner.Callers.{is_caller}
 use Rattle.script_reader.specs.Forms.{Words, script_forms, form_of, ranges_of, is_only, is_script_line, value_of, are_numbers, are_in_range}
 use Rattle.script_reader.specs.Faults.{AreFaultless, fault_of}
 use Rattle.script_reader.proofs.Conditions.{both, passed, neither, any_last}

@@ -8,10 +8,10 @@ use Rattle.books_model.specs.Books.{ClearingBooks, put_cash, put_price, put_quan
 use Rattle.books_model.specs.Ranges.{AreInRange, IsWithin, IsAccountNumber, IsInstrumentOf, IsCall}
 use Rattle.script_reader.specs.declared.fault.Fault.{Fault}
 use Rattle.script_reader.specs.declared.fault.Fault.TheVariants as fault
-use Rattle.script_reader.specs.Text.{books_words}
+use Rattle.script_reader.specs.Inner.LinesAsWords.{books_words}
 use Rattle.script_reader.specs.Forms.{Words, Form, form, books_forms, begins, form_of, ranges_of, value_at, are_numbers, are_in_range}
 use Rattle.script_reader.specs.Faults.{first_reason, kind_of, key_of, takes_block, fault_of}
-use Rattle.script_reader.specs.Rows.{HasNumbers}
+use Rattle.script_reader.specs.Inner.Rows.{HasNumbers}
 use Rattle.script_reader.proofs.Conditions.{any_fixed, is_some_list}
 use Rattle.script_reader.proofs.Printed.{books_fault_is, fault_at, is_late_in, is_low_in}
 use Rattle.script_reader.proofs.Scripted.{in_books}

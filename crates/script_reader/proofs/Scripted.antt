@@ -15,7 +15,7 @@ use Rattle.script_reader.specs.declared.fault.Fault.TheVariants as fault
 use Rattle.script_reader.specs.Lines.{word_at}
 use Rattle.script_reader.specs.Text.{account_words, price_words, position_words, call_words, operation_words}
 use Rattle.script_reader.specs.Input.{Submission, first_seen}
-use Rattle.script_reader.specs.Grammar.{submission_words}
+use Rattle.script_reader.specs.Inner.LinesAsWords.{submission_words}
 use Rattle.script_reader.specs.Forms.{Words, script_forms, begins, is_only, form_of, ranges_of, is_script_line, are_numbers, are_in_range}
 use Rattle.script_reader.specs.Faults.{first_reason, is_inside, operations_before, callers_before, outside_fault, inside_fault, books_fault, fault_of}
 use Rattle.script_reader.proofs.Numerals.{value_of_number}

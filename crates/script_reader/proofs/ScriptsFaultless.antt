@@ -15,9 +15,9 @@ use Rattle.books_model.specs.declared.script.Op.TheVariants as op
 use Rattle.script_reader.specs.declared.limits.TheConstants.{MOST_CALLERS, MOST_SCRIPTS}
 use Rattle.script_reader.specs.declared.fault.Fault.TheVariants as fault
 use Rattle.script_reader.specs.Lines.{AreWords}
-use Rattle.script_reader.specs.Text.{operation_words, books_words}
+use Rattle.script_reader.specs.Text.{operation_words}
+use Rattle.script_reader.specs.Inner.LinesAsWords.{books_words, submission_words, lines_so_far, lines_inside}
 use Rattle.script_reader.specs.Input.{Submission, AreCallersFor, add_name, callers_of, first_seen, count_scripts}
-use Rattle.script_reader.specs.Grammar.{submission_words, lines_so_far, lines_inside}
 use Rattle.script_reader.specs.Forms.{Words, is_only}
 use Rattle.script_reader.specs.Faults.{first_reason, AreFaultless}
 use Rattle.script_reader.proofs.Cutting.{word_from_test}

@@ -13,7 +13,7 @@ use Rattle.script_reader.specs.declared.limits.TheConstants.{MOST_CALLERS, MOST_
 use Rattle.script_reader.specs.declared.words.TheConstants.{SPACE, LINE_FEED}
 use Rattle.script_reader.specs.Lines.{IsFreeOf, AreWords}
 use Rattle.script_reader.specs.Input.{Caller, Submission, AreCallersFor, count_scripts, add_name, callers_of, IsName}
-use Rattle.script_reader.specs.Callers.{add_submission, is_caller}
+use Rattle.script_reader.specs.Inner.Callers.{add_submission, is_caller}
 use Rattle.script_reader.proofs.Cutting.{word_from_test}
 use Rattle.script_reader.proofs.Conditions.{both}
 use Rattle.script_reader.proofs.Gathering.{choice-cons, any-map, count-add}

@@ -1,26 +1,13 @@
 -- The grammar of inputs, as the text that an input has. Each number and each space has one spelling, so a text is that of one input at most.
-use Rattle.std.specs.Prelude.{◌≡◌, ℕ, List, [], ◌∷◌, ◌++◌, codes, map}
+use Rattle.std.specs.Prelude.{◌≡◌, ℕ, List, [], ◌∷◌, ◌++◌, codes}
 use Rattle.std.specs.List.{flat_map}
-use Rattle.books_model.specs.declared.script.Op.{Op}
 use Rattle.books_model.specs.Books.{ClearingBooks}
-use Rattle.script_reader.specs.Text.{line, books_words, books_lines, operation_words, operation_lines, scripts_line, end_line, finish_line}
+use Rattle.script_reader.specs.Text.{line, books_lines, operation_lines, scripts_line, end_line, finish_line}
 use Rattle.script_reader.specs.Input.{ClearingInput, Submission, IsInput, callers_of}
 
 -- the line `script CALLER`, the operations, and the line `end`
 abbrev pub submission_lines : Submission → List ℕ
 submission_lines s = line (codes "script" ∷ s.caller ∷ []) ++ operation_lines s.script ++ end_line
-
--- the lines of a script, as their words
-abbrev pub submission_words : Submission → List (List (List ℕ))
-submission_words s = (codes "script" ∷ s.caller ∷ []) ∷ (map operation_words s.script ++ (codes "end" ∷ []) ∷ [])
-
--- the lines of books, and of the scripts behind them so far
-abbrev pub lines_so_far : ClearingBooks → List Submission → List (List (List ℕ))
-lines_so_far books submissions = books_words books ++ ((codes "scripts" ∷ []) ∷ flat_map submission_words submissions)
-
--- these lines, and those of a script that has not ended
-abbrev pub lines_inside : ClearingBooks → List Submission → List ℕ → List Op → List (List (List ℕ))
-lines_inside books submissions name script = lines_so_far books submissions ++ ((codes "script" ∷ name ∷ []) ∷ map operation_words script)
 
 -- the text of books and of scripts in the order in which they are given
 abbrev pub input_text : ClearingBooks → List Submission → List ℕ

@@ -1,11 +1,9 @@
 -- An input: opening books, and callers with their scripts.
-use Rattle.std.specs.Prelude.{◌≡◌, ℕ, ◌≤◌, Bool, true, ◌&&◌, nat_le, List, [], ◌∷◌, ◌++◌, map, filter, fold, length, sum_by, All, if◌then◌else◌, refl, slice_index_or}
+use Rattle.std.specs.Prelude.{◌≡◌, ℕ, ◌≤◌, Bool, true, ◌&&◌, nat_le, List, [], ◌∷◌, ◌++◌, map, filter, fold, length, sum_by, All, if◌then◌else◌, slice_index_or}
 use Rattle.std.specs.List.{list_any, list_all, IsDistinct}
-use Rattle.std.specs.Coded.{Coded, code_by, coded×, coded_ℕ, coded_list}
 use Rattle.std.specs.Str.{bytes_eq}
 use Rattle.books_model.specs.declared.script.Op.{Op}
-use Rattle.books_model.specs.contracts.script.Op as operation
-use Rattle.books_model.specs.Books.{ClearingBooks, books_code}
+use Rattle.books_model.specs.Books.{ClearingBooks}
 use Rattle.books_model.specs.Ranges.{AreInRange, IsScriptFor}
 use Rattle.script_reader.specs.declared.limits.TheConstants.{MOST_CALLERS, MOST_SCRIPTS, LONGEST_NAME}
 
@@ -19,13 +17,6 @@ pub record ClearingInput : Type 0 where
   pub books : ClearingBooks
   pub callers : List Caller
 
--- an input is stored as its books and, for each caller, the pair of its parts
-abbrev pub caller_code : Coded Caller
-caller_code = code_by (List ℕ × List (List Op)) (coded× (coded_list coded_ℕ) (coded_list (coded_list operation.the_row.coded))) (λ c. (c.name, c.scripts)) (λ p. record { name = p.0; scripts = p.1 }) (λ _. refl)
-
-abbrev pub input_code : Coded ClearingInput
-input_code = code_by (ClearingBooks × List Caller) (coded× books_code (coded_list caller_code)) (λ i. (i.books, i.callers)) (λ p. record { books = p.0; callers = p.1 }) (λ _. refl)
-
 -- the caller with a number, from 0
 abbrev pub caller_at : ClearingInput → ℕ → Caller
 caller_at input c = slice_index_or input.callers c (record { name = []; scripts = [] })
@@ -33,12 +24,6 @@ caller_at input c = slice_index_or input.callers c (record { name = []; scripts 
 -- a script of a caller, both from 0
 abbrev pub script_at : ClearingInput → ℕ → ℕ → List Op
 script_at input c i = slice_index_or (caller_at input c).scripts i []
-
--- names beside scripts, as callers
-abbrev pub beside : List (List ℕ) → List (List (List Op)) → List Caller
-beside [] scripts = []
-beside (name ∷ names) [] = []
-beside (name ∷ names) (scripts ∷ others) = record { name = name; scripts = scripts } ∷ beside names others
 
 -- a script as it stands in a text, with the name of its caller
 pub record Submission : Type 0 where

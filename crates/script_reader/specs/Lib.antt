@@ -5,10 +5,8 @@ pub mod Input
 pub mod Grammar
 pub mod Forms
 pub mod Faults
-pub mod Rows
-pub mod Placed
-pub mod Callers
-pub mod Scripts
+pub mod FaultWords
 pub mod Journal
 pub mod Command
 pub mod Statements
+pub mod Inner

@@ -3,7 +3,6 @@ use Rattle.std.specs.Prelude.{ℕ, List, [], ◌∷◌, ◌++◌, codes}
 use Rattle.std.specs.List.{join_with_byte, flat_map}
 use Rattle.std.specs.Fmt.{decimal}
 use Rattle.std.specs.FinMap as map
-use Rattle.std.specs.Prelude.{map as map_list}
 use Rattle.books_model.specs.declared.script.Op.{Op}
 use Rattle.books_model.specs.declared.script.Op.TheVariants as op
 use Rattle.books_model.specs.Books.{ClearingBooks}
@@ -13,7 +12,7 @@ use Rattle.script_reader.specs.declared.words.TheConstants.{SPACE, LINE_FEED}
 abbrev pub number : ℕ → List ℕ
 number n = decimal n
 
--- words parted by exactly one space, and the line feed that ends the line
+-- words separated by exactly one space, and the line feed that ends the line
 abbrev pub line : List (List ℕ) → List ℕ
 line words = join_with_byte SPACE words ++ LINE_FEED ∷ []
 
@@ -66,15 +65,6 @@ books_lines books =
     ++ flat_map price_line (map.entries books.prices)
     ++ flat_map position_line (map.entries books.positions)
     ++ flat_map call_line books.calls
-
--- the lines of books, as their words
-abbrev pub books_words : ClearingBooks → List (List (List ℕ))
-books_words books =
-    header_words books
-    ∷ (map_list account_words (map.entries books.accounts)
-    ++ (map_list price_words (map.entries books.prices)
-    ++ (map_list position_words (map.entries books.positions)
-    ++ map_list call_words books.calls)))
 
 -- the words of an operation
 abbrev pub operation_words : Op → List (List ℕ)

@@ -5,7 +5,8 @@ ghost use Rattle.std.specs.FinMap as map;
 ghost use Rattle.std.specs.List.{flat_map, list_any};
 ghost use Rattle.books_model.specs.Ranges.{AreInRange};
 ghost use Rattle.script_reader.specs.declared.fault.Fault.{Fault as AnyFault};
-ghost use Rattle.script_reader.specs.Text.{line, books_words};
+ghost use Rattle.script_reader.specs.Text.{line};
+ghost use Rattle.script_reader.specs.Inner.LinesAsWords.{books_words};
 ghost use Rattle.script_reader.specs.Forms.{begins, is_only, is_header, value_at};
 ghost use Rattle.script_reader.specs.Faults.{header_fault, fault_of, IsFaultyBehind};
 
@@ -21,8 +22,11 @@ use std::alloc::Global;
 // The books of the next lines, and the line that begins the scripts.
 pub(crate) fn books_of(alloc: Global, lines: &mut Lines<'_>) -> Result<Books, Refusal>
     ensures range { IfOk result (λ books. AreInRange books) }
-    ensures text { IfOk result (λ books. lines.old ≡ flat_map line (books_words books) ++ (line (codes "scripts" ∷ []) ++ lines.new)) }
-    ensures fault { (why : AnyFault) → result ≡ Err (Refusal.LineFault why) → IsFaultyBehind [] lines.old lines.new why }
+    ensures text { IfOk result
+        (λ books. lines.old
+        ≡ flat_map line (books_words books) ++ (line (codes "scripts" ∷ []) ++ lines.new)) }
+    ensures fault { (why : AnyFault) → result ≡ Err (Refusal.LineFault why)
+        → IsFaultyBehind [] lines.old lines.new why }
 {
     let words = lines.words(alloc)?;
     let books = header_of(alloc, &words)?;
@@ -32,12 +36,14 @@ pub(crate) fn books_of(alloc: Global, lines: &mut Lines<'_>) -> Result<Books, Re
 // The books with what the next lines give, up to the line that begins the scripts.
 fn filled(alloc: Global, lines: &mut Lines<'_>, mut books: Books) -> Result<Books, Refusal>
     ensures range { IfOk result (λ found. AreInRange found) }
-    ensures text { IfOk result (λ found. flat_map line (books_words books) ++ lines.old ≡ flat_map line (books_words found) ++ (line (codes "scripts" ∷ []) ++ lines.new)) }
-    ensures fault { (why : AnyFault) → result ≡ Err (Refusal.LineFault why) → IsFaultyBehind (books_words books) lines.old lines.new why }
+    ensures text { IfOk result
+        (λ found. flat_map line (books_words books) ++ lines.old
+        ≡ flat_map line (books_words found) ++ (line (codes "scripts" ∷ []) ++ lines.new)) }
+    ensures fault { (why : AnyFault) → result ≡ Err (Refusal.LineFault why)
+        → IsFaultyBehind (books_words books) lines.old lines.new why }
 {
     loop {
-        // What holds of all books.
-        let _ = books.blocks();
+        books.ranges();
         let words = lines.words(alloc)?;
         if words.is_only(b"scripts") {
             return Ok(books);
@@ -58,7 +64,9 @@ fn header_of(alloc: Global, words: &Words<'_>) -> Result<Books, Fault>
 
 // The blocks, the instruments and the ring of a header.
 fn sizes_of(words: &Words<'_>) -> Result<(u32, u32, u32), Fault>
-    ensures found { IfOk result (λ sizes. (sizes.0 ≡ value_at words.now 3) × (sizes.1 ≡ value_at words.now 5) × (sizes.2 ≡ value_at words.now 7)) }
+    ensures found { IfOk result
+        (λ sizes. (sizes.0 ≡ value_at words.now 3) × (sizes.1 ≡ value_at words.now 5)
+        × (sizes.2 ≡ value_at words.now 7)) }
     ensures fine { OnOk result (header_fault words.now ≡ None) }
     ensures err { IfErr result (λ why. header_fault words.now ≡ Some why) }
 {
@@ -91,10 +99,10 @@ fn is_header(words: &Words<'_>) -> bool
 fn add_line(books: &mut Books, words: &Words<'_>) -> Result<(), Refusal>
     requires { is_only (codes "scripts") words.now ≡ false }
     ensures added { OnOk result (books_words books.new ≡ books_words books.old ++ words.now ∷ []) }
-    ensures fault { (why : AnyFault) → result ≡ Err (Refusal.LineFault why) → fault_of (books_words books.old) words.now ≡ Some why }
+    ensures fault { (why : AnyFault) → result ≡ Err (Refusal.LineFault why)
+        → fault_of (books_words books.old) words.now ≡ Some why }
 {
-    // What holds of all books.
-    let _ = books.blocks();
+    books.ranges();
     if words.is_row(b"account", 3) {
         return add_account(books, words);
     }
@@ -113,16 +121,14 @@ fn add_line(books: &mut Books, words: &Words<'_>) -> Result<(), Refusal>
 fn has_prices(books: &Books) -> bool
     ensures { result ≡ list_any (λ _. true) (map.entries books.now.prices) }
 {
-    // What holds of all books.
-    let _ = books.blocks();
+    books.ranges();
     books.price_after(0).is_some()
 }
 
 fn has_positions(books: &Books) -> bool
     ensures { result ≡ list_any (λ _. true) (map.entries books.now.positions) }
 {
-    // What holds of all books.
-    let _ = books.blocks();
+    books.ranges();
     books.position_after(0, 0).is_some()
 }
 
@@ -134,7 +140,9 @@ fn has_calls(books: &Books) -> bool
 
 // Whether there is a line of a kind behind that of prices.
 fn is_past_prices(books: &Books) -> bool
-    ensures { result ≡ (list_any (λ _. true) (map.entries books.now.positions) || list_any (λ _. true) books.now.calls) }
+    ensures { result
+        ≡ (list_any (λ _. true) (map.entries books.now.positions)
+        || list_any (λ _. true) books.now.calls) }
 {
     has_positions(books) || has_calls(books)
 }
@@ -142,13 +150,17 @@ fn is_past_prices(books: &Books) -> bool
 // Whether there is a line of a kind behind that of accounts.
 fn is_past_accounts(books: &Books) -> bool
     ensures { result ≡ (list_any (λ _. true) (map.entries books.now.prices)
-        || (list_any (λ _. true) (map.entries books.now.positions) || list_any (λ _. true) books.now.calls)) }
+        || (list_any (λ _. true) (map.entries books.now.positions)
+        || list_any (λ _. true) books.now.calls)) }
 {
     has_prices(books) || is_past_prices(books)
 }
 
 fn is_full(books: &Books) -> bool
-    ensures { result ≡ nat_le books.now.blocks (length (map.entries books.now.accounts) + length (map.entries books.now.prices) + length (map.entries books.now.positions)) }
+    ensures { result
+        ≡ nat_le books.now.blocks
+        (length (map.entries books.now.accounts) + length (map.entries books.now.prices)
+        + length (map.entries books.now.positions)) }
 {
     books.used() >= books.blocks()
 }
@@ -160,8 +172,7 @@ fn account_of(books: &Books, words: &Words<'_>) -> Result<(u32, u64), Fault>
     ensures found { IfOk result (λ n. (n.0 ≡ value_at words.now 1) × (n.1 ≡ value_at words.now 2)) }
     ensures err { IfErr result (λ why. fault_of (books_words books.now) words.now ≡ Some why) }
 {
-    // What holds of all books.
-    let _ = books.blocks();
+    books.ranges();
     if is_past_accounts(books) {
         return Err(Fault::Order);
     }
@@ -179,10 +190,10 @@ fn account_of(books: &Books, words: &Words<'_>) -> Result<(u32, u64), Fault>
 fn add_account(books: &mut Books, words: &Words<'_>) -> Result<(), Refusal>
     requires { (begins (codes "account") words.now && length words.now == 3) ≡ true }
     ensures added { OnOk result (books_words books.new ≡ books_words books.old ++ words.now ∷ []) }
-    ensures fault { (why : AnyFault) → result ≡ Err (Refusal.LineFault why) → fault_of (books_words books.old) words.now ≡ Some why }
+    ensures fault { (why : AnyFault) → result ≡ Err (Refusal.LineFault why)
+        → fault_of (books_words books.old) words.now ≡ Some why }
 {
-    // What holds of all books.
-    let _ = books.blocks();
+    books.ranges();
     let (account, cash) = account_of(books, words)?;
     books.add_account(account, cash)?;
     Ok(())
@@ -195,8 +206,7 @@ fn price_of(books: &Books, words: &Words<'_>) -> Result<(u32, u64), Fault>
     ensures found { IfOk result (λ n. (n.0 ≡ value_at words.now 1) × (n.1 ≡ value_at words.now 2)) }
     ensures err { IfErr result (λ why. fault_of (books_words books.now) words.now ≡ Some why) }
 {
-    // What holds of all books.
-    let _ = books.blocks();
+    books.ranges();
     if is_past_prices(books) {
         return Err(Fault::Order);
     }
@@ -215,10 +225,10 @@ fn price_of(books: &Books, words: &Words<'_>) -> Result<(u32, u64), Fault>
 fn add_price(books: &mut Books, words: &Words<'_>) -> Result<(), Refusal>
     requires { (begins (codes "price") words.now && length words.now == 3) ≡ true }
     ensures added { OnOk result (books_words books.new ≡ books_words books.old ++ words.now ∷ []) }
-    ensures fault { (why : AnyFault) → result ≡ Err (Refusal.LineFault why) → fault_of (books_words books.old) words.now ≡ Some why }
+    ensures fault { (why : AnyFault) → result ≡ Err (Refusal.LineFault why)
+        → fault_of (books_words books.old) words.now ≡ Some why }
 {
-    // What holds of all books.
-    let _ = books.blocks();
+    books.ranges();
     let (instrument, price) = price_of(books, words)?;
     books.add_price(instrument, price)?;
     Ok(())
@@ -228,11 +238,12 @@ fn add_price(books: &mut Books, words: &Words<'_>) -> Result<(), Refusal>
 fn position_of(books: &Books, words: &Words<'_>) -> Result<(u32, u32, u64), Fault>
     requires { (begins (codes "position") words.now && length words.now == 4) ≡ true }
     ensures fine { OnOk result (fault_of (books_words books.now) words.now ≡ None) }
-    ensures found { IfOk result (λ n. (n.0 ≡ value_at words.now 1) × (n.1 ≡ value_at words.now 2) × (n.2 ≡ value_at words.now 3)) }
+    ensures found { IfOk result
+        (λ n. (n.0 ≡ value_at words.now 1) × (n.1 ≡ value_at words.now 2)
+        × (n.2 ≡ value_at words.now 3)) }
     ensures err { IfErr result (λ why. fault_of (books_words books.now) words.now ≡ Some why) }
 {
-    // What holds of all books.
-    let _ = books.blocks();
+    books.ranges();
     if has_calls(books) {
         return Err(Fault::Order);
     }
@@ -258,10 +269,10 @@ fn position_of(books: &Books, words: &Words<'_>) -> Result<(u32, u32, u64), Faul
 fn add_position(books: &mut Books, words: &Words<'_>) -> Result<(), Refusal>
     requires { (begins (codes "position") words.now && length words.now == 4) ≡ true }
     ensures added { OnOk result (books_words books.new ≡ books_words books.old ++ words.now ∷ []) }
-    ensures fault { (why : AnyFault) → result ≡ Err (Refusal.LineFault why) → fault_of (books_words books.old) words.now ≡ Some why }
+    ensures fault { (why : AnyFault) → result ≡ Err (Refusal.LineFault why)
+        → fault_of (books_words books.old) words.now ≡ Some why }
 {
-    // What holds of all books.
-    let _ = books.blocks();
+    books.ranges();
     let (account, instrument, quantity) = position_of(books, words)?;
     books.add_position(account, instrument, quantity)?;
     Ok(())
@@ -274,8 +285,7 @@ fn call_of(books: &Books, words: &Words<'_>) -> Result<(u32, u64), Fault>
     ensures found { IfOk result (λ n. (n.0 ≡ value_at words.now 1) × (n.1 ≡ value_at words.now 2)) }
     ensures err { IfErr result (λ why. fault_of (books_words books.now) words.now ≡ Some why) }
 {
-    // What holds of all books.
-    let _ = books.blocks();
+    books.ranges();
     let (account, shortfall) = words.two_numbers(ACCOUNTS, SHORTFALLS)?;
     if books.calls() >= books.ring() {
         return Err(Fault::Limit);
@@ -286,10 +296,10 @@ fn call_of(books: &Books, words: &Words<'_>) -> Result<(u32, u64), Fault>
 fn add_call(books: &mut Books, words: &Words<'_>) -> Result<(), Refusal>
     requires { (begins (codes "call") words.now && length words.now == 3) ≡ true }
     ensures added { OnOk result (books_words books.new ≡ books_words books.old ++ words.now ∷ []) }
-    ensures fault { (why : AnyFault) → result ≡ Err (Refusal.LineFault why) → fault_of (books_words books.old) words.now ≡ Some why }
+    ensures fault { (why : AnyFault) → result ≡ Err (Refusal.LineFault why)
+        → fault_of (books_words books.old) words.now ≡ Some why }
 {
-    // What holds of all books.
-    let _ = books.blocks();
+    books.ranges();
     let (account, shortfall) = call_of(books, words)?;
     books.add_call(account, shortfall)?;
     Ok(())

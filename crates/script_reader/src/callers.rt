@@ -1,9 +1,12 @@
 //! Callers in the order in which they are first seen, each with its scripts in their order.
 
-ghost use Rattle.std.specs.Prelude.{◌≡◌, ◌<◌, ◌&&◌, ◌||◌, not, nat_le, [], length, OnOk};
+ghost use Rattle.std.specs.Prelude.{◌≡◌, ◌<◌, ◌&&◌, ◌||◌, not, nat_le, [], length, IfOk, OnOk};
 ghost use Rattle.std.specs.Prelude.{map};
-ghost use Rattle.script_reader.specs.Input.{Caller, count_scripts};
-ghost use Rattle.script_reader.specs.Placed.{put_script};
+ghost use Rattle.std.specs.List.{position_or_len};
+ghost use Rattle.std.specs.Str.{bytes_eq};
+ghost use Rattle.std.specs.String.{string_bytes};
+ghost use Rattle.script_reader.specs.Input.{Caller, add_name, count_scripts};
+ghost use Rattle.script_reader.specs.Inner.Placed.{put_script};
 
 use crate::limits::{MOST_CALLERS, MOST_SCRIPTS};
 use books_model::Script;
@@ -20,7 +23,7 @@ pub(crate) struct Callers {
 }
 
 impl Callers {
-    ghost use Rattle.script_reader.specs.Callers.{callers_in, IsEven, add_submission, is_caller};
+    ghost use Rattle.script_reader.specs.Inner.Callers.{callers_in, IsEven, add_submission, is_caller};
 
     // No callers.
     pub(crate) fn new(alloc: Global) -> Callers
@@ -37,7 +40,10 @@ impl Callers {
     // Whether a script of the name would be one too many, or its caller.
     pub(crate) fn is_full_for(&self, name: &str) -> bool
         requires { IsEven self.now }
-        ensures { result ≡ (nat_le MOST_SCRIPTS (count_scripts (callers_in self.now)) || (not (is_caller name.now (callers_in self.now)) && nat_le MOST_CALLERS (length (callers_in self.now)))) }
+        ensures { result
+            ≡ (nat_le MOST_SCRIPTS (count_scripts (callers_in self.now))
+            || (not (is_caller name.now (callers_in self.now))
+            && nat_le MOST_CALLERS (length (callers_in self.now)))) }
     {
         self.count >= MOST_SCRIPTS
             || (!self.names.contains(name) && self.names.len() >= MOST_CALLERS)
@@ -52,14 +58,31 @@ impl Callers {
     ) -> Result<(), OutOfMemory>
         requires even { IsEven self.old }
         requires room { count_scripts (callers_in self.old) < MOST_SCRIPTS }
-        ensures added { OnOk result (callers_in self.new ≡ add_submission (callers_in self.old) (record { caller = name.now; script = script })) }
+        ensures added { OnOk result
+            (callers_in self.new
+            ≡ add_submission (callers_in self.old)
+            (record { caller = name.now; script = script })) }
         ensures even { OnOk result (IsEven self.new) }
     {
-        let (place, _) = self.names.insert_full(String::from_str(alloc, name)?)?;
+        let place = place_of(alloc, &mut self.names, name)?;
         put(alloc, &mut self.scripts, place, script)?;
         self.count += 1;
         Ok(())
     }
+}
+
+// The place of a name, behind the others where it is new. A name that is known takes no memory.
+fn place_of(alloc: Global, names: &mut IndexSet<String>, name: &str) -> Result<usize, OutOfMemory>
+    ensures names { OnOk result
+        (map string_bytes names.new.keys ≡ add_name (map string_bytes names.old.keys) name.now) }
+    ensures place { IfOk result (λ place. place
+        ≡ position_or_len (bytes_eq name.now) (map string_bytes names.old.keys)) }
+{
+    if let Some(place) = names.get_index_of(name) {
+        return Ok(place);
+    }
+    let (place, _) = names.insert_full(String::from_str(alloc, name)?)?;
+    Ok(place)
 }
 
 // Puts a script behind those at a place, or as the first one at a new place behind all.
@@ -69,7 +92,9 @@ fn put(
     place: usize,
     script: Script,
 ) -> Result<(), OutOfMemory>
-    ensures { OnOk result (map (λ v. v.items) scripts.new.items ≡ put_script (map (λ v. v.items) scripts.old.items) place script) }
+    ensures { OnOk result
+        (map (λ v. v.items) scripts.new.items
+        ≡ put_script (map (λ v. v.items) scripts.old.items) place script) }
 {
     if place < scripts.len() {
         scripts[place].push(script)?;

@@ -1,7 +1,9 @@
 //! Why a text is refused.
 
 use io_ends::OutOfMemory;
-use std::alloc::{AllocError, AllocFailed};
+use std::alloc::AllocError;
+use std::error::Error;
+use std::fmt;
 
 /// What is wrong with a line.
 #[derive(Clone, Copy, Debug, PartialEq, Eq)]
@@ -26,6 +28,29 @@ pub enum Fault {
     End,
 }
 
+impl fmt::Display for Fault {
+    ghost use Rattle.std.specs.Prelude.{Some};
+    ghost use Rattle.script_reader.specs.FaultWords.{fault_word};
+
+    ghost output = { λ why. Some (fault_word why) };
+
+    fn fmt<W: fmt::Write>(&self, f: &mut fmt::Formatter<W>) -> fmt::Result {
+        match self {
+            Fault::Header => write!(f, "header"),
+            Fault::Number => write!(f, "number"),
+            Fault::Word => write!(f, "word"),
+            Fault::Order => write!(f, "order"),
+            Fault::Limit => write!(f, "limit"),
+            Fault::Account => write!(f, "account"),
+            Fault::Price => write!(f, "price"),
+            Fault::Blocks => write!(f, "blocks"),
+            Fault::End => write!(f, "end"),
+        }
+    }
+}
+
+impl Error for Fault {}
+
 /// Why no input was read.
 #[derive(Clone, Copy, Debug, PartialEq, Eq)]
 pub enum InputFault {
@@ -35,38 +60,16 @@ pub enum InputFault {
     OutOfMemory,
 }
 
-impl From<OutOfMemory> for InputFault {
-    ghost use Rattle.std.specs.Prelude.{◌≡◌};
-    ghost use Rattle.script_reader.specs.declared.fault.InputFault.TheVariants as input_fault;
-
-    ghost from_gives = { λ _ fault. fault ≡ input_fault.OutOfMemory };
-
-    fn from(_error: OutOfMemory) -> InputFault {
-        InputFault::OutOfMemory
+impl fmt::Display for InputFault {
+    fn fmt<W: fmt::Write>(&self, f: &mut fmt::Formatter<W>) -> fmt::Result {
+        match self {
+            InputFault::Line { line, why } => write!(f, "line {line} {why}"),
+            InputFault::OutOfMemory => write!(f, "out of memory"),
+        }
     }
 }
 
-impl From<AllocError> for InputFault {
-    ghost use Rattle.std.specs.Prelude.{◌≡◌};
-    ghost use Rattle.script_reader.specs.declared.fault.InputFault.TheVariants as input_fault;
-
-    ghost from_gives = { λ _ fault. fault ≡ input_fault.OutOfMemory };
-
-    fn from(_error: AllocError) -> InputFault {
-        InputFault::OutOfMemory
-    }
-}
-
-impl<T: Drop> From<AllocFailed<T>> for InputFault {
-    ghost use Rattle.std.specs.Prelude.{◌≡◌};
-    ghost use Rattle.script_reader.specs.declared.fault.InputFault.TheVariants as input_fault;
-
-    ghost from_gives = { λ _ fault. fault ≡ input_fault.OutOfMemory };
-
-    fn from(_error: AllocFailed<T>) -> InputFault {
-        InputFault::OutOfMemory
-    }
-}
+impl Error for InputFault {}
 
 // Why a part of a text was not read. The number of the line is added where the whole text is read.
 #[derive(Clone, Copy, Debug, PartialEq, Eq)]

@@ -1,4 +1,4 @@
-//! A whole text, or its front.
+//! A whole text, or a prefix of it.
 
 ghost use Rattle.std.specs.Prelude.{◌≡◌, ◌≢◌, ◌⊎◌, ℕ, ◌+◌, ◌≤◌, ◌<◌, ◌^◌, ◌==◌, ◌++◌, [], List, IfOk, MatchResult, Err, length, take, count_by};
 ghost use Rattle.std.specs.List.{flat_map};
@@ -6,7 +6,7 @@ ghost use Rattle.script_reader.specs.declared.fault.Fault.{Fault as AnyFault};
 ghost use Rattle.script_reader.specs.declared.words.TheConstants.{LINE_FEED};
 ghost use Rattle.script_reader.specs.Input.{ClearingInput};
 ghost use Rattle.script_reader.specs.Grammar.{Spells};
-ghost use Rattle.script_reader.specs.Scripts.{HasFront};
+ghost use Rattle.script_reader.specs.Inner.Scripts.{HasFront};
 ghost use Rattle.script_reader.specs.Faults.{IsFaultyBehind, IsFrontFault, IsFirstFault};
 
 use crate::books::books_of;
@@ -23,9 +23,11 @@ pub fn read_input(alloc: Global, bytes: &[u8]) -> Result<Input, InputFault>
     ensures ok { IfOk result (λ input. Spells bytes.now input) }
     ensures read { (input : ClearingInput) → Spells bytes.now input
         → MatchResult result (λ found. found ≡ input) (λ fault. fault ≡ InputFault.OutOfMemory) }
-    ensures refused { (number : ℕ) (why : AnyFault) → result ≡ Err (InputFault.Line number why) → IsFirstFault bytes.now number why }
+    ensures refused { (number : ℕ) (why : AnyFault) → result ≡ Err (InputFault.Line number why)
+        → IsFirstFault bytes.now number why }
     ensures faulty { (number : ℕ) (why : AnyFault) → IsFirstFault bytes.now number why
-        → MatchResult result (λ _. ⊥) (λ fault. (fault ≡ InputFault.Line number why) ⊎ (fault ≡ InputFault.OutOfMemory)) }
+        → MatchResult result (λ _. ⊥)
+        (λ fault. (fault ≡ InputFault.Line number why) ⊎ (fault ≡ InputFault.OutOfMemory)) }
 {
     let (input, end) = read_front(alloc, bytes)?;
     if end < bytes.len() {
@@ -40,12 +42,17 @@ pub fn read_input(alloc: Global, bytes: &[u8]) -> Result<Input, InputFault>
 /// Reads opening books and scripts, up to the line feed after `finish`, and tells where the rest of the bytes begins.
 /// The fault of a text that is refused is the first before that.
 pub fn read_front(alloc: Global, bytes: &[u8]) -> Result<(Input, usize), InputFault>
-    ensures ok { IfOk result (λ front. (front.1 ≤ length bytes.now) × Spells (take front.1 bytes.now) front.0) }
-    ensures read { (input : ClearingInput) (end : ℕ) → end ≤ length bytes.now → Spells (take end bytes.now) input
-        → MatchResult result (λ front. (front.0 ≡ input) × (front.1 ≡ end)) (λ fault. fault ≡ InputFault.OutOfMemory) }
-    ensures refused { (number : ℕ) (why : AnyFault) → result ≡ Err (InputFault.Line number why) → IsFrontFault bytes.now number why }
+    ensures ok { IfOk result
+        (λ front. (front.1 ≤ length bytes.now) × Spells (take front.1 bytes.now) front.0) }
+    ensures read { (input : ClearingInput) (end : ℕ) → end ≤ length bytes.now
+        → Spells (take end bytes.now) input
+        → MatchResult result (λ front. (front.0 ≡ input) × (front.1 ≡ end))
+        (λ fault. fault ≡ InputFault.OutOfMemory) }
+    ensures refused { (number : ℕ) (why : AnyFault) → result ≡ Err (InputFault.Line number why)
+        → IsFrontFault bytes.now number why }
     ensures faulty { (number : ℕ) (why : AnyFault) → IsFrontFault bytes.now number why
-        → MatchResult result (λ _. ⊥) (λ fault. (fault ≡ InputFault.Line number why) ⊎ (fault ≡ InputFault.OutOfMemory)) }
+        → MatchResult result (λ _. ⊥)
+        (λ fault. (fault ≡ InputFault.Line number why) ⊎ (fault ≡ InputFault.OutOfMemory)) }
 {
     let mut lines = Lines::new(bytes);
     match input_of(alloc, &mut lines) {
@@ -62,7 +69,8 @@ pub fn read_front(alloc: Global, bytes: &[u8]) -> Result<(Input, usize), InputFa
 // The input of the next lines, up to the last one.
 fn input_of(alloc: Global, lines: &mut Lines<'_>) -> Result<Input, Refusal>
     ensures found { IfOk result (λ input. HasFront input lines.old lines.new) }
-    ensures fault { (why : AnyFault) → result ≡ Err (Refusal.LineFault why) → IsFaultyBehind [] lines.old lines.new why }
+    ensures fault { (why : AnyFault) → result ≡ Err (Refusal.LineFault why)
+        → IsFaultyBehind [] lines.old lines.new why }
 {
     let books = books_of(alloc, lines)?;
     let callers = scripts_of(alloc, lines, &books)?;

@@ -4,35 +4,33 @@ ghost use Rattle.std.specs.Prelude.{◌≡◌, ◌<◌, length};
 
 use crate::callers::Callers;
 use books_model::{Books, Script};
-use indexmap::IndexSet;
 use std::marker::Model;
 
 /// Opening books, and callers in the order in which they were first seen, each with its scripts in their order.
 #[derive(Drop)]
 pub struct Input {
     books: Books,
-    names: IndexSet<String>,
-    scripts: Vec<Vec<Script>>,
-    count: u32,
+    callers: Callers,
 }
 
 impl Model for Input {
-    ghost use Rattle.std.specs.Prelude.{◌≡◌, length, map};
-    ghost use Rattle.std.specs.String.{string_bytes};
-    ghost use Rattle.script_reader.specs.Input.{ClearingInput, input_code, beside, count_scripts, IsInput};
+    ghost use Rattle.script_reader.specs.Input.{ClearingInput, IsInput};
+    ghost use Rattle.script_reader.specs.Inner.Codes.{input_code};
+    ghost use Rattle.script_reader.specs.Inner.Callers.{callers_in, IsEven};
 
     ghost Value = { ClearingInput };
 
     ghost coded = { input_code };
 
-    ghost view = { λ i. record { books = i.books; callers = beside (map string_bytes i.names.keys) (map (λ v. v.items) i.scripts.items) } };
+    ghost view = { λ i. record { books = i.books; callers = callers_in i.callers } };
 
-    ghost invariant = { λ i. IsInput (record { books = i.books; callers = beside (map string_bytes i.names.keys) (map (λ v. v.items) i.scripts.items) }) × (length i.names.keys ≡ length i.scripts.items) × (i.count ≡ count_scripts (beside (map string_bytes i.names.keys) (map (λ v. v.items) i.scripts.items))) };
+    ghost invariant = { λ i. IsInput (record { books = i.books; callers = callers_in i.callers })
+        × IsEven i.callers };
 }
 
 impl Input {
     ghost use Rattle.script_reader.specs.Input.{IsInput, caller_at, script_at, count_scripts};
-    ghost use Rattle.script_reader.specs.Callers.{callers_in, IsEven};
+    ghost use Rattle.script_reader.specs.Inner.Callers.{callers_in, IsEven};
 
     // The input of books and of callers that were gathered.
     pub(crate) fn new(books: Books, callers: Callers) -> Input
@@ -40,12 +38,7 @@ impl Input {
         requires even { IsEven callers }
         ensures { result ≡ record { books = books; callers = callers_in callers } }
     {
-        Input {
-            books,
-            names: callers.names,
-            scripts: callers.scripts,
-            count: callers.count as u32,
-        }
+        Input { books, callers }
     }
 
     /// The opening books.
@@ -61,38 +54,38 @@ impl Input {
         // What holds of all inputs.
         ensures valid { IsInput self.now }
     {
-        self.names.len() as u32
+        self.callers.names.len() as u32
     }
 
     /// The name of a caller, by its number from 0.
-    pub fn name(&self, c: u32) -> &str
-        requires { c < length self.now.callers }
-        ensures { result.now ≡ (caller_at self.now c).name }
+    pub fn name(&self, caller: u32) -> &str
+        requires { caller < length self.now.callers }
+        ensures { result.now ≡ (caller_at self.now caller).name }
     {
-        self.names[c as usize].as_str()
+        self.callers.names[caller as usize].as_str()
     }
 
     /// How many scripts a caller has, by its number from 0.
-    pub fn scripts_of(&self, c: u32) -> u32
-        requires { c < length self.now.callers }
-        ensures { result ≡ length (caller_at self.now c).scripts }
+    pub fn scripts_of(&self, caller: u32) -> u32
+        requires { caller < length self.now.callers }
+        ensures { result ≡ length (caller_at self.now caller).scripts }
     {
-        self.scripts[c as usize].len() as u32
+        self.callers.scripts[caller as usize].len() as u32
     }
 
     /// A script of a caller, both by their numbers from 0.
-    pub fn script(&self, c: u32, i: u32) -> &Script
-        requires caller { c < length self.now.callers }
-        requires index { i < length (caller_at self.now c).scripts }
-        ensures { result.now ≡ script_at self.now c i }
+    pub fn script(&self, caller: u32, index: u32) -> &Script
+        requires caller { caller < length self.now.callers }
+        requires index { index < length (caller_at self.now caller).scripts }
+        ensures { result.now ≡ script_at self.now caller index }
     {
-        &self.scripts[c as usize][i as usize]
+        &self.callers.scripts[caller as usize][index as usize]
     }
 
     /// How many scripts there are of all callers.
     pub fn scripts(&self) -> u32
         ensures { result ≡ count_scripts self.now.callers }
     {
-        self.count
+        self.callers.count as u32
     }
 }

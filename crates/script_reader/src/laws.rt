@@ -6,7 +6,7 @@ ghost use Rattle.script_reader.specs.Statements.{OneInput, OneFault, ValidOrFaul
 use crate::limits::{LONGEST_NAME, MOST_CALLERS, MOST_SCRIPTS, MOST_WORKERS};
 use crate::words::{LINE_FEED, SPACE};
 
-/// The limits of a text, in digits, and the bytes that part words and lines, which are those of ASCII.
+/// The limits of a text, in digits, and the bytes that separate words and lines, which are those of ASCII.
 pub fn limits_are_those_of_the_language()
     ensures callers { MOST_CALLERS ≡ 1_024 }
     ensures scripts { MOST_SCRIPTS ≡ 65_536 }

@@ -42,7 +42,8 @@ impl<'a> Lines<'a> {
 
     // The next line, without its line feed. Where no line feed is left, nothing changes.
     fn next(&mut self) -> Option<&'a [u8]>
-        ensures found { IfSome result (λ line. (self.old ≡ line.now ++ LINE_FEED ∷ self.new) × IsFreeOf LINE_FEED line.now) }
+        ensures found { IfSome result
+            (λ line. (self.old ≡ line.now ++ LINE_FEED ∷ self.new) × IsFreeOf LINE_FEED line.now) }
         ensures end { IfNone result (IsFreeOf LINE_FEED self.old × (self.new ≡ self.old)) }
     {
         let end = line_end(self.left)?;
@@ -53,8 +54,10 @@ impl<'a> Lines<'a> {
 
     // The words of the next line. Where no whole line is left, nothing changes.
     pub(crate) fn words(&mut self, alloc: Global) -> Result<Words<'a>, Refusal>
-        ensures found { IfOk result (λ words. AreWords words × (self.old ≡ text_of words ++ self.new)) }
-        ensures end { (why : AnyFault) → result ≡ Err (Refusal.LineFault why) → (why ≡ Fault.End) × IsFreeOf LINE_FEED self.old × (self.new ≡ self.old) }
+        ensures found { IfOk result
+            (λ words. AreWords words × (self.old ≡ text_of words ++ self.new)) }
+        ensures end { (why : AnyFault) → result ≡ Err (Refusal.LineFault why)
+            → (why ≡ Fault.End) × IsFreeOf LINE_FEED self.old × (self.new ≡ self.old) }
     {
         let Some(line) = self.next() else {
             return Err(Refusal::LineFault(Fault::End));

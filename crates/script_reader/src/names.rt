@@ -38,7 +38,8 @@ fn are_letters(word: &[u8]) -> bool
 
 // The caller's name of a line that begins a script.
 pub(crate) fn caller_of<'a>(words: &Words<'a>) -> Result<&'a str, Fault>
-    ensures found { IfOk result (λ name. (words.now ≡ codes "script" ∷ name.now ∷ []) × IsName name.now) }
+    ensures found { IfOk result
+        (λ name. (words.now ≡ codes "script" ∷ name.now ∷ []) × IsName name.now) }
     ensures none { IfErr result (λ why. (why ≡ Fault.Word) × (is_script_line words.now ≡ false)) }
 {
     if !words.is_row(b"script", 2) {

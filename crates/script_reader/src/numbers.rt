@@ -51,12 +51,12 @@ fn value_of(word: &[u8]) -> u64
 }
 
 // A number that is in its range.
-pub(crate) fn within(n: u64, low: u64, high: u64) -> Result<u64, Fault>
-    ensures range { OkIff result (IsWithin low high n) n }
+pub(crate) fn within(number: u64, low: u64, high: u64) -> Result<u64, Fault>
+    ensures range { OkIff result (IsWithin low high number) number }
     ensures err { IfErr result (λ why. why ≡ Fault.Limit) }
 {
-    if low <= n && n <= high {
-        Ok(n)
+    if low <= number && number <= high {
+        Ok(number)
     } else {
         Err(Fault::Limit)
     }

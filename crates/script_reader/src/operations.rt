@@ -4,7 +4,7 @@ ghost use Rattle.std.specs.Prelude.{◌≡◌, Some, false, IfOk, IfErr, codes};
 ghost use Rattle.books_model.specs.Ranges.{IsOperationFor};
 ghost use Rattle.script_reader.specs.Text.{operation_words};
 ghost use Rattle.script_reader.specs.Forms.{script_forms, is_only};
-ghost use Rattle.script_reader.specs.Rows.{row_fault};
+ghost use Rattle.script_reader.specs.Inner.Rows.{row_fault};
 
 use crate::fault::Fault;
 use crate::rows::{ACCOUNTS, AMOUNTS, PRICES, QUANTITIES, RATES, instruments_of};
@@ -14,11 +14,12 @@ use books_model::{Books, Op};
 // The operation of a line in a script for the books. The line is not the one that ends the script.
 pub(crate) fn operation_of(words: &Words<'_>, books: &Books) -> Result<Op, Fault>
     requires { is_only (codes "end") words.now ≡ false }
-    ensures found { IfOk result (λ op. IsOperationFor books.now op × (words.now ≡ operation_words op)) }
-    ensures err { IfErr result (λ why. row_fault (script_forms books.now.instruments) words.now ≡ Some why) }
+    ensures found { IfOk result
+        (λ op. IsOperationFor books.now op × (words.now ≡ operation_words op)) }
+    ensures err { IfErr result
+        (λ why. row_fault (script_forms books.now.instruments) words.now ≡ Some why) }
 {
-    // What holds of all books.
-    let _ = books.blocks();
+    books.ranges();
     let instruments = instruments_of(books);
     if words.is_row(b"open", 2) {
         let account = words.one_number(ACCOUNTS)?;

@@ -2,7 +2,7 @@
 
 ghost use Rattle.std.specs.Prelude.{◌≡◌, ◌<◌, [], ◌∷◌, length, Some, IfOk, IfErr};
 ghost use Rattle.script_reader.specs.Forms.{value_at};
-ghost use Rattle.script_reader.specs.Rows.{HasNumbers, numbers_fault};
+ghost use Rattle.script_reader.specs.Inner.Rows.{HasNumbers, numbers_fault};
 
 use crate::fault::Fault;
 use crate::numbers::within;
@@ -41,7 +41,8 @@ impl<'a> Words<'a> {
     pub(crate) fn one_number(&self, first: (u64, u64)) -> Result<u64, Fault>
         requires two { length self.now ≡ 2 }
         requires exact { first.1 < u64.MAX }
-        ensures found { IfOk result (λ n. HasNumbers self.now (first ∷ []) × (n ≡ value_at self.now 1)) }
+        ensures found { IfOk result
+            (λ n. HasNumbers self.now (first ∷ []) × (n ≡ value_at self.now 1)) }
         ensures err { IfErr result (λ why. numbers_fault self.now (first ∷ []) ≡ Some why) }
     {
         let n = self.number(1)?;
@@ -56,8 +57,11 @@ impl<'a> Words<'a> {
     ) -> Result<(u64, u64), Fault>
         requires three { length self.now ≡ 3 }
         requires exact { (first.1 < u64.MAX) × (second.1 < u64.MAX) }
-        ensures found { IfOk result (λ n. HasNumbers self.now (first ∷ second ∷ []) × (n.0 ≡ value_at self.now 1) × (n.1 ≡ value_at self.now 2)) }
-        ensures err { IfErr result (λ why. numbers_fault self.now (first ∷ second ∷ []) ≡ Some why) }
+        ensures found { IfOk result
+            (λ n. HasNumbers self.now (first ∷ second ∷ []) × (n.0 ≡ value_at self.now 1)
+            × (n.1 ≡ value_at self.now 2)) }
+        ensures err { IfErr result
+            (λ why. numbers_fault self.now (first ∷ second ∷ []) ≡ Some why) }
     {
         let a = self.number(1)?;
         let b = self.number(2)?;
@@ -74,8 +78,10 @@ impl<'a> Words<'a> {
         requires four { length self.now ≡ 4 }
         requires exact { (first.1 < u64.MAX) × (second.1 < u64.MAX) × (third.1 < u64.MAX) }
         ensures found { IfOk result (λ n. HasNumbers self.now (first ∷ second ∷ third ∷ [])
-            × (n.0 ≡ value_at self.now 1) × (n.1 ≡ value_at self.now 2) × (n.2 ≡ value_at self.now 3)) }
-        ensures err { IfErr result (λ why. numbers_fault self.now (first ∷ second ∷ third ∷ []) ≡ Some why) }
+            × (n.0 ≡ value_at self.now 1) × (n.1 ≡ value_at self.now 2)
+            × (n.2 ≡ value_at self.now 3)) }
+        ensures err { IfErr result
+            (λ why. numbers_fault self.now (first ∷ second ∷ third ∷ []) ≡ Some why) }
     {
         let a = self.number(1)?;
         let b = self.number(2)?;
@@ -96,10 +102,13 @@ impl<'a> Words<'a> {
         fourth: (u64, u64),
     ) -> Result<(u64, u64, u64, u64), Fault>
         requires five { length self.now ≡ 5 }
-        requires exact { (first.1 < u64.MAX) × (second.1 < u64.MAX) × (third.1 < u64.MAX) × (fourth.1 < u64.MAX) }
+        requires exact { (first.1 < u64.MAX) × (second.1 < u64.MAX) × (third.1 < u64.MAX)
+            × (fourth.1 < u64.MAX) }
         ensures found { IfOk result (λ n. HasNumbers self.now (first ∷ second ∷ third ∷ fourth ∷ [])
-            × (n.0 ≡ value_at self.now 1) × (n.1 ≡ value_at self.now 2) × (n.2 ≡ value_at self.now 3) × (n.3 ≡ value_at self.now 4)) }
-        ensures err { IfErr result (λ why. numbers_fault self.now (first ∷ second ∷ third ∷ fourth ∷ []) ≡ Some why) }
+            × (n.0 ≡ value_at self.now 1) × (n.1 ≡ value_at self.now 2)
+            × (n.2 ≡ value_at self.now 3) × (n.3 ≡ value_at self.now 4)) }
+        ensures err { IfErr result
+            (λ why. numbers_fault self.now (first ∷ second ∷ third ∷ fourth ∷ []) ≡ Some why) }
     {
         let a = self.number(1)?;
         let b = self.number(2)?;

@@ -7,10 +7,10 @@ ghost use Rattle.books_model.specs.Ranges.{IsScriptFor, AreInRange};
 ghost use Rattle.script_reader.specs.declared.fault.Fault.{Fault as AnyFault};
 ghost use Rattle.script_reader.specs.Text.{line, operation_lines, end_line};
 ghost use Rattle.script_reader.specs.Input.{Submission};
-ghost use Rattle.script_reader.specs.Grammar.{lines_so_far, lines_inside};
-ghost use Rattle.script_reader.specs.Callers.{callers_in, IsEven};
+ghost use Rattle.script_reader.specs.Inner.LinesAsWords.{lines_so_far, lines_inside};
+ghost use Rattle.script_reader.specs.Inner.Callers.{callers_in, IsEven};
 ghost use Rattle.script_reader.specs.Faults.{IsFaultyBehind};
-ghost use Rattle.script_reader.specs.Scripts.{IsReadOf};
+ghost use Rattle.script_reader.specs.Inner.Scripts.{IsReadOf};
 
 use crate::callers::Callers;
 use crate::fault::{Fault, Refusal};
@@ -25,12 +25,13 @@ use std::alloc::Global;
 // before it, nor on its caller.
 fn script_of(alloc: Global, lines: &mut Lines<'_>, books: &Books) -> Result<Script, Refusal>
     ensures range { IfOk result (λ script. IsScriptFor books.now script) }
-    ensures text { IfOk result (λ script. lines.old ≡ operation_lines script ++ (end_line ++ lines.new)) }
+    ensures text { IfOk result
+        (λ script. lines.old ≡ operation_lines script ++ (end_line ++ lines.new)) }
     ensures fault { (why : AnyFault) → result ≡ Err (Refusal.LineFault why)
-        → (subs : List Submission) (name : List ℕ) → IsFaultyBehind (lines_inside books.now subs name []) lines.old lines.new why }
+        → (subs : List Submission) (name : List ℕ)
+        → IsFaultyBehind (lines_inside books.now subs name []) lines.old lines.new why }
 {
-    // What holds of all books.
-    let _ = books.blocks();
+    books.ranges();
     let mut script = Script::new(alloc);
     loop {
         let words = lines.words(alloc)?;
@@ -52,11 +53,12 @@ pub(crate) fn scripts_of(
     books: &Books,
 ) -> Result<Callers, Refusal>
     ensures even { IfOk result (λ callers. IsEven callers) }
-    ensures found { IfOk result (λ callers. IsReadOf books.now (callers_in callers) lines.old lines.new) }
-    ensures fault { (why : AnyFault) → result ≡ Err (Refusal.LineFault why) → IsFaultyBehind (lines_so_far books.now []) lines.old lines.new why }
+    ensures found { IfOk result
+        (λ callers. IsReadOf books.now (callers_in callers) lines.old lines.new) }
+    ensures fault { (why : AnyFault) → result ≡ Err (Refusal.LineFault why)
+        → IsFaultyBehind (lines_so_far books.now []) lines.old lines.new why }
 {
-    // What holds of all books.
-    let _ = books.blocks();
+    books.ranges();
     let mut callers = Callers::new(alloc);
     loop {
         let words = lines.words(alloc)?;

@@ -13,7 +13,7 @@ use io_ends::OutOfMemory;
 use std::alloc::{AllocError, Global};
 use std::marker::Model;
 
-/// What parts two words.
+/// What separates two words.
 pub const SPACE: u8 = b' ';
 
 /// What ends a line.
@@ -50,19 +50,19 @@ impl<'a> Words<'a> {
     }
 
     // The word at a place, from 0.
-    pub(crate) fn at(&self, i: usize) -> &'a [u8]
-        requires { i < length self.now }
-        ensures { result.now ≡ word_at self.now i }
+    pub(crate) fn at(&self, index: usize) -> &'a [u8]
+        requires { index < length self.now }
+        ensures { result.now ≡ word_at self.now index }
     {
-        self.words[i]
+        self.words[index]
     }
 
     // Whether the word at a place is the given one.
-    pub(crate) fn is(&self, i: usize, word: &[u8]) -> bool
-        requires { i < length self.now }
-        ensures { result ≡ bytes_eq (word_at self.now i) word.now }
+    pub(crate) fn is(&self, index: usize, word: &[u8]) -> bool
+        requires { index < length self.now }
+        ensures { result ≡ bytes_eq (word_at self.now index) word.now }
     {
-        self.at(i) == word
+        self.at(index) == word
     }
 
     // Whether the line has the given first word, and so many words.
@@ -81,18 +81,22 @@ impl<'a> Words<'a> {
     }
 
     // The number that the word at a place is, or the greatest `u64` where it is greater.
-    pub(crate) fn number(&self, i: usize) -> Result<u64, Fault>
-        requires { i < length self.now }
-        ensures found { IfOk result (λ n. (is_number (word_at self.now i) ≡ true) × (n ≡ min (value_at self.now i) u64.MAX)) }
-        ensures err { IfErr result (λ why. (why ≡ Fault.Number) × (is_number (word_at self.now i) ≡ false)) }
+    pub(crate) fn number(&self, index: usize) -> Result<u64, Fault>
+        requires { index < length self.now }
+        ensures found { IfOk result
+            (λ n. (is_number (word_at self.now index) ≡ true)
+            × (n ≡ min (value_at self.now index) u64.MAX)) }
+        ensures err { IfErr result
+            (λ why. (why ≡ Fault.Number) × (is_number (word_at self.now index) ≡ false)) }
     {
-        numeral(self.at(i)).ok_or(Fault::Number)
+        numeral(self.at(index)).ok_or(Fault::Number)
     }
 }
 
 // The parts of a line between spaces.
 fn parts(alloc: Global, line: &[u8]) -> Result<Vec<&[u8]>, AllocError>
-    ensures { IfOk result (λ words. map (λ s. s.now) words.items ≡ slice_split (λ b. b == SPACE) line.now) }
+    ensures { IfOk result
+        (λ words. map (λ s. s.now) words.items ≡ slice_split (λ b. b == SPACE) line.now) }
 {
     line.split(|b| *b == SPACE).collect(alloc)
 }

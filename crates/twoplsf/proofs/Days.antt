@@ -13,7 +13,7 @@ use Rattle.script_reader.specs.Input.{ClearingInput, caller_at, script_at}
 use Rattle.script_reader.specs.Journal.{IsPlace}
 use Rattle.books_report.specs.declared.line.Line.{Line}
 use Rattle.books_report.specs.Output.{place_of, replies_of, books_after, text_of, IsOutput}
-use Rattle.twoplsf.specs.Day.{is_before, AreRun, HasRun, IsDay}
+use Rattle.twoplsf.specs.Inner.Day.{is_before, AreRun, HasRun, IsDay}
 
 -- the books after one more script
 books_after-push : (input : ClearingInput) (books : ClearingBooks) (places : List (ℕ × ℕ)) (p : ℕ × ℕ)

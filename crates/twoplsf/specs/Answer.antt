@@ -3,8 +3,8 @@ use Rattle.std.specs.Prelude.{◌≡◌, ℕ, ◌+◌, ◌≤◌, List, [], ◌�
 use Rattle.std.specs.Io.KnownBytes.{Appends, IsAtEnd}
 use Rattle.io_ends.specs.Taken.{AppendsPrefix, count_taken}
 use Rattle.script_reader.specs.declared.fault.Fault.{Fault}
-use Rattle.script_reader.specs.declared.fault.Fault.TheVariants as fault
 use Rattle.script_reader.specs.Text.{line, number}
+use Rattle.script_reader.specs.FaultWords.{fault_word}
 use Rattle.script_reader.specs.Input.{ClearingInput}
 use Rattle.script_reader.specs.Grammar.{Spells}
 use Rattle.script_reader.specs.Faults.{IsFirstFault}
@@ -38,18 +38,6 @@ refused_words = line (codes "refused" ∷ codes "words" ∷ [])
 abbrev pub refused_size : List ℕ
 refused_size = line (codes "refused" ∷ codes "size" ∷ [])
 
--- the word of what is wrong with a line
-abbrev pub fault_word : Fault → List ℕ
-fault_word fault.Header = codes "header"
-fault_word fault.Number = codes "number"
-fault_word fault.Word = codes "word"
-fault_word fault.Order = codes "order"
-fault_word fault.Limit = codes "limit"
-fault_word fault.Account = codes "account"
-fault_word fault.Price = codes "price"
-fault_word fault.Blocks = codes "blocks"
-fault_word fault.End = codes "end"
-
 -- what is printed for bytes that are no input
 abbrev pub refused_line : ℕ → Fault → List ℕ
 refused_line l why = line (codes "refused" ∷ codes "line" ∷ number l ∷ fault_word why ∷ [])
@@ -69,7 +57,7 @@ IsAnswerTo bytes (Refusal text) = IsRefusalOf bytes text.items
 -- a text goes with a status, by the words and by what the source had left and has left now
 abbrev pub IsTextFor : Status → List (List ℕ) → Option (List ℕ) → Option (List ℕ) → List ℕ → Type 0
 IsTextFor status.Done words left now text = IsValidCommand words × IsAtEnd now × IfSome left (λ bytes. (length bytes ≤ MOST_INPUT_BYTES) × IsOutputFor words bytes text)
-IsTextFor status.BadWords words left now text = (IsValidCommand words → ⊥) × (text ≡ refused_words)
+IsTextFor status.BadWords words left now text = (¬ IsValidCommand words) × (text ≡ refused_words)
 IsTextFor status.BadInput words left now text = IsValidCommand words × IsAtEnd now × IfSome left (λ bytes. (length bytes ≤ MOST_INPUT_BYTES) × IsRefusalOf bytes text)
 IsTextFor status.TooLarge words left now text = IsValidCommand words × IfSome (count_taken left now) (λ n. n ≡ MOST_INPUT_BYTES + 1) × (text ≡ refused_size)
 IsTextFor status.Differs words left now text = ⊥
@@ -77,7 +65,7 @@ IsTextFor status.ReadFault words left now text = ⊥
 IsTextFor status.WriteFault words left now text = ⊥
 IsTextFor status.OutOfMemory words left now text = ⊥
 
--- the sink took a whole text that goes with the status; after a write fault a front of one that goes with another; and nothing is said of it after a read fault and want of memory
+-- the sink took a whole text that goes with the status; after a write fault a prefix of one that goes with another; and nothing is said of it after a read fault and out of memory
 abbrev pub TookText : Status → List (List ℕ) → Option (List ℕ) → Option (List ℕ) → Option (List ℕ) → Option (List ℕ) → Type 0
 TookText status.Done words left now before after = (text : List ℕ) × IsTextFor status.Done words left now text × Appends before after text
 TookText status.BadWords words left now before after = (text : List ℕ) × IsTextFor status.BadWords words left now text × Appends before after text

@@ -15,7 +15,7 @@ exit_status status.ReadFault = 5
 exit_status status.WriteFault = 6
 exit_status status.OutOfMemory = 7
 
--- the exit status of the program: that of the command, or of want of memory where its words were not read
+-- the exit status of the program: that of the command, or that of out of memory where there was none for its words
 abbrev pub ending_of : Result Status OutOfMemory → ℕ
 ending_of (Ok is) = exit_status is
-ending_of (Err wanting) = exit_status status.OutOfMemory
+ending_of (Err error) = exit_status status.OutOfMemory

@@ -1,3 +1,3 @@
 pub mod Answer
-pub mod Day
 pub mod Ending
+pub mod Inner

@@ -2,7 +2,7 @@
 
 ghost use Rattle.std.specs.Prelude.{◌≡◌, IfOk};
 ghost use Rattle.books_report.specs.Output.{IsOutput};
-ghost use Rattle.twoplsf.specs.Answer.{IsAnswerTo, fault_word, refused_line};
+ghost use Rattle.twoplsf.specs.Answer.{IsAnswerTo, refused_line};
 
 use crate::day::run_day;
 use books_report::journal_text;
@@ -19,26 +19,9 @@ pub enum Answer {
     Refusal(Vec<u8>),
 }
 
-fn word_of(why: Fault) -> &'static str
-    ensures { result.now ≡ fault_word why }
-{
-    match why {
-        Fault::Header => "header",
-        Fault::Number => "number",
-        Fault::Word => "word",
-        Fault::Order => "order",
-        Fault::Limit => "limit",
-        Fault::Account => "account",
-        Fault::Price => "price",
-        Fault::Blocks => "blocks",
-        Fault::End => "end",
-    }
-}
-
 fn refusal_of(alloc: Global, line: u32, why: Fault) -> Result<Vec<u8>, OutOfMemory>
     ensures { IfOk result (λ text. text.items ≡ refused_line line why) }
 {
-    let why = word_of(why);
     let mut text = String::from_str(alloc, "refused line ")?;
     write!(text, "{line} {why}")?;
     text.push_str("\n")?;

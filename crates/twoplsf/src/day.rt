@@ -2,7 +2,7 @@
 
 ghost use Rattle.std.specs.Prelude.{◌+◌, ◌<◌, length, IfOk, OnOk};
 ghost use Rattle.script_reader.specs.Input.{IsInput, caller_at};
-ghost use Rattle.twoplsf.specs.Day.{IsDay, HasRun};
+ghost use Rattle.twoplsf.specs.Inner.Day.{IsDay, HasRun};
 
 use books_model::laws::scripts_go_by_instruments;
 use books_model::{Books, Reply, run_plain};
@@ -29,8 +29,11 @@ fn run_script(
     requires caller { caller < length input.now.callers }
     requires index { index < length (caller_at input.now caller).scripts }
     requires valid { IsInput input.now }
-    requires so_far { HasRun input.now caller index day.old.lines.items day.old.replies.items day.old.books }
-    ensures { OnOk result (HasRun input.now caller (index + 1) day.new.lines.items day.new.replies.items day.new.books) }
+    requires so_far { HasRun input.now caller index
+        day.old.lines.items day.old.replies.items day.old.books }
+    ensures { OnOk result
+        (HasRun input.now caller (index + 1)
+        day.new.lines.items day.new.replies.items day.new.books) }
 {
     // A script for the opening books is one for these.
     scripts_go_by_instruments();
@@ -47,8 +50,11 @@ fn run_script(
 fn run_caller(alloc: Global, input: &Input, caller: u32, day: &mut Day) -> Result<(), OutOfMemory>
     requires caller { caller < length input.now.callers }
     requires valid { IsInput input.now }
-    requires so_far { HasRun input.now caller 0 day.old.lines.items day.old.replies.items day.old.books }
-    ensures { OnOk result (HasRun input.now (caller + 1) 0 day.new.lines.items day.new.replies.items day.new.books) }
+    requires so_far { HasRun input.now caller 0
+        day.old.lines.items day.old.replies.items day.old.books }
+    ensures { OnOk result
+        (HasRun input.now (caller + 1) 0
+        day.new.lines.items day.new.replies.items day.new.books) }
 {
     for index in 0..input.scripts_of(caller) {
         run_script(alloc, input, caller, index, day)?;

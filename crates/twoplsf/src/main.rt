@@ -30,7 +30,7 @@ fn words_of(rt: &HostRuntime) -> Result<Vec<String>, OutOfMemory> {
     }
 }
 
-/// What became of the command, unless memory was wanting for its words.
+/// What became of the command, unless there was no memory for its words.
 fn run(rt: &HostRuntime) -> Result<Status, OutOfMemory> {
     let words = words_of(rt)?;
     let mut source = StdSource::new(rt.reader());

@@ -35,8 +35,8 @@ impl Status {
     }
 }
 
-/// The exit status of the program, from what became of the command. Where memory was wanting before its words were read,
-/// the program ends as after any want of memory.
+/// The exit status of the program, from what became of the command. Where there was no memory for its words, the
+/// program ends as whenever it is out of memory.
 pub fn ending_of(outcome: Result<Status, OutOfMemory>) -> u8
     ensures { result ≡ ending_of outcome }
 {

@@ -2,7 +2,7 @@ use Rattle.std.proofs.Common.{◌≡◌, ◌+◌, ℕ, unwrap_or, ap, ◌∙◌,
 use Rattle.std.specs.List.{sum_by}
 use Rattle.std.proofs.lemmas.List.Sums.{sum_by-cons}
 use Rattle.books_model.specs.declared.overlay.Change.{Change}
-use Rattle.books_model.specs.Changes.{before_between, now_between}
+use Rattle.books_model.specs.Inner.Changes.{before_between, now_between}
 use Rattle.books_model.proofs.Sums.{sum_between}
 use Rattle.books_model.proofs.draft.changed_between.Goals as goal
 use Rattle.books_model.proofs.draft.changed_between.Goals.{In-Some}
@@ -19,8 +19,8 @@ pub loop-change-init : goal.loop-change-init
 loop-change-init c =
     let range = c.range-change-items in
     let items = c.into_iter-change-iterator.ensures.into_iter_gives ∙ range.ensures.between tt in
-    let before : sum_by {X = ℕ × Change} (λ e. unwrap_or e.1.before 0) c.into_iter-change-iterator.result ≡ before_between c.args.changes.now.entries c.args.a c.args.b = ap (sum_by (λ (e : ℕ × Change). unwrap_or e.1.before 0)) items ∙ sum_between (λ e. unwrap_or e.1.before 0) c.args.a c.args.b c.args.changes.now.entries in
-    let now : sum_by {X = ℕ × Change} (λ e. unwrap_or e.1.now 0) c.into_iter-change-iterator.result ≡ now_between c.args.changes.now.entries c.args.a c.args.b = ap (sum_by (λ (e : ℕ × Change). unwrap_or e.1.now 0)) items ∙ sum_between (λ e. unwrap_or e.1.now 0) c.args.a c.args.b c.args.changes.now.entries in
+    let before : sum_by {X = ℕ × Change} (λ e. unwrap_or e.1.before 0) c.into_iter-change-iterator.result ≡ before_between c.args.changes.now.entries c.args.low c.args.high = ap (sum_by (λ (e : ℕ × Change). unwrap_or e.1.before 0)) items ∙ sum_between (λ e. unwrap_or e.1.before 0) c.args.low c.args.high c.args.changes.now.entries in
+    let now : sum_by {X = ℕ × Change} (λ e. unwrap_or e.1.now 0) c.into_iter-change-iterator.result ≡ now_between c.args.changes.now.entries c.args.low c.args.high = ap (sum_by (λ (e : ℕ × Change). unwrap_or e.1.now 0)) items ∙ sum_between (λ e. unwrap_or e.1.now 0) c.args.low c.args.high c.args.changes.now.entries in
     record {
       before = omega (arith, before);
       now = omega (arith, now);

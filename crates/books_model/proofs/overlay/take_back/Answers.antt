@@ -3,7 +3,7 @@ use Rattle.std.specs.FinMap as map
 use Rattle.std.specs.Map.{keys_of}
 use Rattle.std.specs.List.Sorted.{IsStrictlySortedBy}
 use Rattle.std.proofs.lemmas.Map.Keys.{sorted_tail}
-use Rattle.books_model.specs.Changes.{KnowBefore, IsRoomier}
+use Rattle.books_model.specs.Inner.Changes.{KnowBefore, IsRoomier}
 use Rattle.books_model.specs.declared.overlay.Change.{Change}
 use Rattle.books_model.proofs.Maps.{from_entries-removed}
 use Rattle.books_model.proofs.Changes.{KnowBefore-further, change_at_first, roomier-taken, roomier-left, roomier-none}

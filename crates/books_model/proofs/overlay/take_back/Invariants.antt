@@ -2,7 +2,7 @@ use Rattle.std.proofs.Common.{ℕ}
 use Rattle.std.specs.FinMap as map
 use Rattle.std.specs.Map.{keys_of}
 use Rattle.std.specs.List.Sorted.{IsStrictlySortedBy}
-use Rattle.books_model.specs.Changes.{KnowBefore, IsRoomier}
+use Rattle.books_model.specs.Inner.Changes.{KnowBefore, IsRoomier}
 use Rattle.books_model.proofs.overlay.take_back.Given as goal
 
 -- room is left for the changes that are left alone

@@ -1,9 +1,19 @@
-use Rattle.std.proofs.Common.{◌≡◌, ◌++◌, take, map}
+use Rattle.std.proofs.Common.{◌≡◌, ◌+◌, ◌++◌, length, map, All}
+use Rattle.std.specs.Iterator.Adapters.{zip_first, zip_second}
+use Rattle.std.specs.Slice.Iter.{iter_rest}
 use Rattle.std.specs.String.{string_bytes}
+use Rattle.script_reader.specs.Journal.{IsPlace}
 use Rattle.books_report.specs.Output.{journal_lines, place_of}
+use Rattle.books_report.proofs.Journals.{restarts_of}
 use Rattle.books_report.proofs.journal.write_lines.Given as goal
 
--- the lines before this one are written
-abbrev pub invariant-loop-i : goal.invariant-loop-i
-invariant-loop-i l =
-    string_bytes l.text ≡ string_bytes l.fn.text ++ journal_lines l.input 1 (map place_of (take l.i l.lines)) (map (λ x. x.restarts) (take l.i l.lines)) (take l.i l.replies)
+-- the text so far and the lines that are left are the whole
+abbrev pub invariant-loop-line : goal.invariant-loop-line
+invariant-loop-line l = record {
+  left : l.serial + length (iter_rest (zip_first l.line-iterator)) ≡ length l.lines + 1;
+  beside : length (iter_rest (zip_first l.line-iterator)) ≡ length (iter_rest (zip_second l.line-iterator));
+  places : All (λ x. IsPlace l.input (place_of x)) (iter_rest (zip_first l.line-iterator));
+  text : string_bytes l.text
+      ++ journal_lines l.input l.serial (map place_of (iter_rest (zip_first l.line-iterator))) (map restarts_of (iter_rest (zip_first l.line-iterator))) (iter_rest (zip_second l.line-iterator))
+      ≡ string_bytes l.fn.text ++ journal_lines l.input 1 (map place_of l.lines) (map restarts_of l.lines) l.replies;
+}

@@ -1,9 +1,17 @@
+use Rattle.std.proofs.Common.{◌++◌, sym, ap, ◌∙◌, append-nil}
+use Rattle.std.specs.Slice.Iter.{iter_rest}
 use Rattle.std.specs.String.{string_bytes}
-use Rattle.books_report.proofs.Journals.{value_next}
+use Rattle.std.specs.List.{flat_map}
+use Rattle.std.proofs.lemmas.List.{nil_from_length}
+use Rattle.books_report.proofs.Journals.{spaced_word, value_next}
 use Rattle.books_report.proofs.words.write_values.Goals as goal
 
-pub loop-i-preserved : goal.loop-i-preserved
-unfolding lib.Utf8.encode
-loop-i-preserved c =
-    value_next (string_bytes c.args.text.now) (string_bytes c.loop-i.text) (string_bytes c.push.new.self) (string_bytes c.write_value.new.text) c.args.values.now c.loop-i.i c.at.result
-    c.loop-i.invariant c.in_ok-push.ensures.bytes c.in_ok-write_value.ensures c.at.ensures
+pub loop-value-preserved : goal.loop-value-preserved
+loop-value-preserved c =
+    value_next _ (string_bytes c.loop-value.text) _ (iter_rest c.loop-value.value-iterator) (iter_rest c.next.new.self) c.in-Some.value.now c.loop-value.invariant c.in-Some.ensures.steps c.in_ok-write.ensures.bytes
+
+pub returns : goal.returns
+returns c =
+    sym (append-nil _)
+    ∙ sym (ap (λ values. string_bytes c.loop-value.text ++ flat_map spaced_word values) (nil_from_length _ c.in-None.ensures.steps.0))
+    ∙ c.loop-value.invariant

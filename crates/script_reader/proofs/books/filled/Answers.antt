@@ -5,7 +5,8 @@ use Rattle.std.proofs.lemmas.Result.{err_from_is_err_and}
 use Rattle.books_model.specs.Books.{ClearingBooks}
 use Rattle.books_model.specs.Ranges.{AreInRange}
 use Rattle.script_reader.specs.declared.fault.Refusal.TheVariants as refusal
-use Rattle.script_reader.specs.Text.{line, books_words}
+use Rattle.script_reader.specs.Text.{line}
+use Rattle.script_reader.specs.Inner.LinesAsWords.{books_words}
 use Rattle.script_reader.specs.Forms.{Words}
 use Rattle.script_reader.specs.Faults.{AreFaultless, fault_of}
 use Rattle.script_reader.proofs.LineKinds.{only_word}
@@ -31,7 +32,7 @@ pub returns-in_err-words-clause-fault : goal.returns-in_err-words-clause-fault
 returns-in_err-words-clause-fault c why e =
     let p = err_from_is_err_and c.from_residual.result c.from_residual.ensures.1 in
     let same : c.in_err-words.field-0.0 ≡ refusal.LineFault why = cc (p.1, p.2, e) in
-    behind_more (books_words c.args.books) c.loop-books.invariant.more c.args.lines.now c.loop-books.lines c.words.new.self why (read_so_far c.loop-books.books c.args.books c.loop-books.invariant.more c.blocks-in-loop-books.ensures.range c.loop-books.invariant.whole) c.loop-books.invariant.text
+    behind_more (books_words c.args.books) c.loop-books.invariant.more c.args.lines.now c.loop-books.lines c.words.new.self why (read_so_far c.loop-books.books c.args.books c.loop-books.invariant.more c.ranges-in-loop-books.ensures c.loop-books.invariant.whole) c.loop-books.invariant.text
     (behind_end (books_words c.args.books ++ c.loop-books.invariant.more) c.loop-books.lines c.words.new.self why (c.words.ensures.end why (c.in_err-words.was ∙ ap Err same)))
 
 pub returns-then-is_only-clause-text : goal.returns-then-is_only-clause-text
@@ -46,6 +47,6 @@ pub returns-in_err-add_line-clause-fault : goal.returns-in_err-add_line-clause-f
 returns-in_err-add_line-clause-fault c why e =
     let p = err_from_is_err_and c.from_residual-in_err-add_line.result c.from_residual-in_err-add_line.ensures.1 in
     let same : c.in_err-add_line.field-0.0 ≡ refusal.LineFault why = cc (p.1, p.2, e) in
-    behind_more (books_words c.args.books) c.loop-books.invariant.more c.args.lines.now c.loop-books.lines c.words.new.self why (read_so_far c.loop-books.books c.args.books c.loop-books.invariant.more c.blocks-in-loop-books.ensures.range c.loop-books.invariant.whole) c.loop-books.invariant.text
+    behind_more (books_words c.args.books) c.loop-books.invariant.more c.args.lines.now c.loop-books.lines c.words.new.self why (read_so_far c.loop-books.books c.args.books c.loop-books.invariant.more c.ranges-in-loop-books.ensures c.loop-books.invariant.whole) c.loop-books.invariant.text
     (behind_line (books_words c.args.books ++ c.loop-books.invariant.more) c.loop-books.lines c.words.new.self c.in_ok-words.words why c.in_ok-words.ensures.found.0 c.in_ok-words.ensures.found.1
     (ap (λ b. fault_of b c.in_ok-words.words) (sym c.loop-books.invariant.whole) ∙ c.add_line.ensures.fault why (c.in_err-add_line.was ∙ ap Err same)))

@@ -1,6 +1,7 @@
 use Rattle.std.proofs.Common.{◌≡◌, ◌++◌, List, length}
 use Rattle.std.specs.List.{flat_map}
-use Rattle.script_reader.specs.Text.{line, books_words}
+use Rattle.script_reader.specs.Text.{line}
+use Rattle.script_reader.specs.Inner.LinesAsWords.{books_words}
 use Rattle.script_reader.specs.Forms.{Words}
 use Rattle.script_reader.proofs.books.filled.Given as goal
 

@@ -1,7 +1,7 @@
 use Rattle.std.proofs.Common.{ap, sym, subst, ◌∙◌}
 use Rattle.books_model.specs.Books.{empty_books}
 use Rattle.books_model.specs.Ranges.{IsWithin}
-use Rattle.script_reader.specs.Text.{books_words}
+use Rattle.script_reader.specs.Inner.LinesAsWords.{books_words}
 use Rattle.script_reader.proofs.Extending.{header_adds}
 use Rattle.script_reader.proofs.books.header_of.Goals as goal
 

@@ -7,7 +7,7 @@ use Rattle.std.specs.List.{count_by}
 use Rattle.script_reader.specs.declared.words.TheConstants.{LINE_FEED}
 use Rattle.script_reader.specs.Input.{ClearingInput}
 use Rattle.script_reader.specs.Grammar.{Spells}
-use Rattle.script_reader.specs.Scripts.{HasFront}
+use Rattle.script_reader.specs.Inner.Scripts.{HasFront}
 use Rattle.script_reader.specs.Faults.{IsFaultyBehind, IsFrontFault}
 use Rattle.script_reader.proofs.Counting.{Told, told, feeds}
 use Rattle.script_reader.proofs.Deciding.{front_not_both, fronts_once, one_fault}

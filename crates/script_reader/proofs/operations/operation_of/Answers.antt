@@ -1,5 +1,5 @@
 use Rattle.std.proofs.Common.{lit<, ◌∷◌, [], codes, sym, subst, ◌∙◌, arith}
-use Rattle.script_reader.specs.Rows.{HasNumbers}
+use Rattle.script_reader.specs.Inner.Rows.{HasNumbers}
 use Rattle.script_reader.proofs.BooksFaultless.{instruments_fit}
 use Rattle.script_reader.proofs.LineKinds.{only_word}
 use Rattle.script_reader.proofs.Operating.{row_one, row_two, row_three, row_four}
@@ -24,19 +24,19 @@ pub overflow_cast-result-then-is_row-5-2 : goal.overflow_cast-result-then-is_row
 overflow_cast-result-then-is_row-5-2 c = let read = row_three (codes "move") c.args.words.now (1, 4294967295) (1, 4294967295) (1, 1000000000000000) c.in_ok-from.from c.in_ok-from.to c.in_ok-from.amount (sym c.is_row-5.ensures ∙ c.if-is_row-5.true) (lit< tt) (lit< tt) (lit< tt) c.in_ok-from.ensures.found.0 c.in_ok-from.ensures.found.1 c.in_ok-from.ensures.found.2 c.in_ok-from.ensures.found.3 in omega (arith, read.0.1.1)
 
 pub returns-then-is_row-6-clause-found : goal.returns-then-is_row-6-clause-found
-returns-then-is_row-6-clause-found c = row_two (codes "price") c.args.words.now (1, c.args.books.now.instruments) (1, 1000000000) c.in_ok-instrument.instrument c.in_ok-instrument.price (sym c.is_row-6.ensures ∙ c.if-is_row-6.true) (instruments_fit c.args.books.now c.blocks-2.ensures.range) (lit< tt) (subst (λ r. HasNumbers c.args.words.now (r ∷ (1, 1000000000) ∷ [])) c.instruments_of-instruments.ensures.number c.in_ok-instrument.ensures.found.0) c.in_ok-instrument.ensures.found.1 c.in_ok-instrument.ensures.found.2
+returns-then-is_row-6-clause-found c = row_two (codes "price") c.args.words.now (1, c.args.books.now.instruments) (1, 1000000000) c.in_ok-instrument.instrument c.in_ok-instrument.price (sym c.is_row-6.ensures ∙ c.if-is_row-6.true) (instruments_fit c.args.books.now c.ranges-2.ensures) (lit< tt) (subst (λ r. HasNumbers c.args.words.now (r ∷ (1, 1000000000) ∷ [])) c.instruments_of-instruments.ensures.number c.in_ok-instrument.ensures.found.0) c.in_ok-instrument.ensures.found.1 c.in_ok-instrument.ensures.found.2
 
 pub returns-then-is_row-7-clause-found : goal.returns-then-is_row-7-clause-found
-returns-then-is_row-7-clause-found c = row_four (codes "trade") c.args.words.now (1, 4294967295) (1, 4294967295) (1, c.args.books.now.instruments) (1, 1000000) c.in_ok-buyer.buyer c.in_ok-buyer.seller c.in_ok-buyer.instrument c.in_ok-buyer.quantity (sym c.is_row-7.ensures ∙ c.if-is_row-7.true) (lit< tt) (lit< tt) (instruments_fit c.args.books.now c.blocks-2.ensures.range) (lit< tt) (subst (λ r. HasNumbers c.args.words.now ((1, 4294967295) ∷ (1, 4294967295) ∷ r ∷ (1, 1000000) ∷ [])) c.instruments_of-instruments.ensures.number c.in_ok-buyer.ensures.found.0) c.in_ok-buyer.ensures.found.1 c.in_ok-buyer.ensures.found.2 c.in_ok-buyer.ensures.found.3 c.in_ok-buyer.ensures.found.4
+returns-then-is_row-7-clause-found c = row_four (codes "trade") c.args.words.now (1, 4294967295) (1, 4294967295) (1, c.args.books.now.instruments) (1, 1000000) c.in_ok-buyer.buyer c.in_ok-buyer.seller c.in_ok-buyer.instrument c.in_ok-buyer.quantity (sym c.is_row-7.ensures ∙ c.if-is_row-7.true) (lit< tt) (lit< tt) (instruments_fit c.args.books.now c.ranges-2.ensures) (lit< tt) (subst (λ r. HasNumbers c.args.words.now ((1, 4294967295) ∷ (1, 4294967295) ∷ r ∷ (1, 1000000) ∷ [])) c.instruments_of-instruments.ensures.number c.in_ok-buyer.ensures.found.0) c.in_ok-buyer.ensures.found.1 c.in_ok-buyer.ensures.found.2 c.in_ok-buyer.ensures.found.3 c.in_ok-buyer.ensures.found.4
 
 pub overflow_cast-result-then-is_row-7 : goal.overflow_cast-result-then-is_row-7
-overflow_cast-result-then-is_row-7 c = let read = row_four (codes "trade") c.args.words.now (1, 4294967295) (1, 4294967295) (1, c.args.books.now.instruments) (1, 1000000) c.in_ok-buyer.buyer c.in_ok-buyer.seller c.in_ok-buyer.instrument c.in_ok-buyer.quantity (sym c.is_row-7.ensures ∙ c.if-is_row-7.true) (lit< tt) (lit< tt) (instruments_fit c.args.books.now c.blocks-2.ensures.range) (lit< tt) (subst (λ r. HasNumbers c.args.words.now ((1, 4294967295) ∷ (1, 4294967295) ∷ r ∷ (1, 1000000) ∷ [])) c.instruments_of-instruments.ensures.number c.in_ok-buyer.ensures.found.0) c.in_ok-buyer.ensures.found.1 c.in_ok-buyer.ensures.found.2 c.in_ok-buyer.ensures.found.3 c.in_ok-buyer.ensures.found.4 in omega (arith, read.0.0.1)
+overflow_cast-result-then-is_row-7 c = let read = row_four (codes "trade") c.args.words.now (1, 4294967295) (1, 4294967295) (1, c.args.books.now.instruments) (1, 1000000) c.in_ok-buyer.buyer c.in_ok-buyer.seller c.in_ok-buyer.instrument c.in_ok-buyer.quantity (sym c.is_row-7.ensures ∙ c.if-is_row-7.true) (lit< tt) (lit< tt) (instruments_fit c.args.books.now c.ranges-2.ensures) (lit< tt) (subst (λ r. HasNumbers c.args.words.now ((1, 4294967295) ∷ (1, 4294967295) ∷ r ∷ (1, 1000000) ∷ [])) c.instruments_of-instruments.ensures.number c.in_ok-buyer.ensures.found.0) c.in_ok-buyer.ensures.found.1 c.in_ok-buyer.ensures.found.2 c.in_ok-buyer.ensures.found.3 c.in_ok-buyer.ensures.found.4 in omega (arith, read.0.0.1)
 
 pub overflow_cast-result-then-is_row-7-2 : goal.overflow_cast-result-then-is_row-7-2
-overflow_cast-result-then-is_row-7-2 c = let read = row_four (codes "trade") c.args.words.now (1, 4294967295) (1, 4294967295) (1, c.args.books.now.instruments) (1, 1000000) c.in_ok-buyer.buyer c.in_ok-buyer.seller c.in_ok-buyer.instrument c.in_ok-buyer.quantity (sym c.is_row-7.ensures ∙ c.if-is_row-7.true) (lit< tt) (lit< tt) (instruments_fit c.args.books.now c.blocks-2.ensures.range) (lit< tt) (subst (λ r. HasNumbers c.args.words.now ((1, 4294967295) ∷ (1, 4294967295) ∷ r ∷ (1, 1000000) ∷ [])) c.instruments_of-instruments.ensures.number c.in_ok-buyer.ensures.found.0) c.in_ok-buyer.ensures.found.1 c.in_ok-buyer.ensures.found.2 c.in_ok-buyer.ensures.found.3 c.in_ok-buyer.ensures.found.4 in omega (arith, read.0.1.1)
+overflow_cast-result-then-is_row-7-2 c = let read = row_four (codes "trade") c.args.words.now (1, 4294967295) (1, 4294967295) (1, c.args.books.now.instruments) (1, 1000000) c.in_ok-buyer.buyer c.in_ok-buyer.seller c.in_ok-buyer.instrument c.in_ok-buyer.quantity (sym c.is_row-7.ensures ∙ c.if-is_row-7.true) (lit< tt) (lit< tt) (instruments_fit c.args.books.now c.ranges-2.ensures) (lit< tt) (subst (λ r. HasNumbers c.args.words.now ((1, 4294967295) ∷ (1, 4294967295) ∷ r ∷ (1, 1000000) ∷ [])) c.instruments_of-instruments.ensures.number c.in_ok-buyer.ensures.found.0) c.in_ok-buyer.ensures.found.1 c.in_ok-buyer.ensures.found.2 c.in_ok-buyer.ensures.found.3 c.in_ok-buyer.ensures.found.4 in omega (arith, read.0.1.1)
 
 pub overflow_cast-result-then-is_row-7-3 : goal.overflow_cast-result-then-is_row-7-3
-overflow_cast-result-then-is_row-7-3 c = let read = row_four (codes "trade") c.args.words.now (1, 4294967295) (1, 4294967295) (1, c.args.books.now.instruments) (1, 1000000) c.in_ok-buyer.buyer c.in_ok-buyer.seller c.in_ok-buyer.instrument c.in_ok-buyer.quantity (sym c.is_row-7.ensures ∙ c.if-is_row-7.true) (lit< tt) (lit< tt) (instruments_fit c.args.books.now c.blocks-2.ensures.range) (lit< tt) (subst (λ r. HasNumbers c.args.words.now ((1, 4294967295) ∷ (1, 4294967295) ∷ r ∷ (1, 1000000) ∷ [])) c.instruments_of-instruments.ensures.number c.in_ok-buyer.ensures.found.0) c.in_ok-buyer.ensures.found.1 c.in_ok-buyer.ensures.found.2 c.in_ok-buyer.ensures.found.3 c.in_ok-buyer.ensures.found.4 in omega (arith, read.0.2.1, c.blocks-2.ensures.range.instruments.1)
+overflow_cast-result-then-is_row-7-3 c = let read = row_four (codes "trade") c.args.words.now (1, 4294967295) (1, 4294967295) (1, c.args.books.now.instruments) (1, 1000000) c.in_ok-buyer.buyer c.in_ok-buyer.seller c.in_ok-buyer.instrument c.in_ok-buyer.quantity (sym c.is_row-7.ensures ∙ c.if-is_row-7.true) (lit< tt) (lit< tt) (instruments_fit c.args.books.now c.ranges-2.ensures) (lit< tt) (subst (λ r. HasNumbers c.args.words.now ((1, 4294967295) ∷ (1, 4294967295) ∷ r ∷ (1, 1000000) ∷ [])) c.instruments_of-instruments.ensures.number c.in_ok-buyer.ensures.found.0) c.in_ok-buyer.ensures.found.1 c.in_ok-buyer.ensures.found.2 c.in_ok-buyer.ensures.found.3 c.in_ok-buyer.ensures.found.4 in omega (arith, read.0.2.1, c.ranges-2.ensures.instruments.1)
 
 pub returns-then-is_row-8-clause-found : goal.returns-then-is_row-8-clause-found
 returns-then-is_row-8-clause-found c = row_two (codes "margin") c.args.words.now (1, 4294967295) (1, 100) c.in_ok-account-5.account c.in_ok-account-5.rate (sym c.is_row-8.ensures ∙ c.if-is_row-8.true) (lit< tt) (lit< tt) c.in_ok-account-5.ensures.found.0 c.in_ok-account-5.ensures.found.1 c.in_ok-account-5.ensures.found.2

@@ -13,7 +13,7 @@ use Rattle.script_reader.specs.declared.fault.Fault.TheVariants as fault
 use Rattle.script_reader.specs.declared.fault.Refusal.TheVariants as refusal
 use Rattle.script_reader.specs.Text.{line, operation_words, operation_lines}
 use Rattle.script_reader.specs.Input.{Submission}
-use Rattle.script_reader.specs.Grammar.{lines_so_far, lines_inside}
+use Rattle.script_reader.specs.Inner.LinesAsWords.{lines_so_far, lines_inside}
 use Rattle.script_reader.specs.Forms.{Words}
 use Rattle.script_reader.specs.Faults.{IsFaultyBehind, fault_of}
 use Rattle.script_reader.proofs.LineKinds.{only_word}
@@ -43,7 +43,7 @@ pub returns-in_err-words-clause-fault : goal.returns-in_err-words-clause-fault
 returns-in_err-words-clause-fault c why e subs name =
     let p = err_from_is_err_and c.from_residual.result c.from_residual.ensures.1 in
     let same : c.in_err-words.field-0.0 ≡ refusal.LineFault why = cc (p.1, p.2, e) in
-    behind_operations c.args.books.now c.blocks-2.ensures.range c.loop-script.script c.args.lines.now c.loop-script.lines c.words.new.self why c.loop-script.invariant.range c.loop-script.invariant.text subs name
+    behind_operations c.args.books.now c.ranges-2.ensures c.loop-script.script c.args.lines.now c.loop-script.lines c.words.new.self why c.loop-script.invariant.range c.loop-script.invariant.text subs name
     (behind_end (lines_inside c.args.books.now subs name c.loop-script.script) c.loop-script.lines c.words.new.self why (c.words.ensures.end why (c.in_err-words.was ∙ ap Err same)))
 
 pub returns-then-is_only-clause-text : goal.returns-then-is_only-clause-text
@@ -58,19 +58,19 @@ returns-in_err-operation-clause-fault c why e subs name =
     let p = err_from_is_err_and c.from_residual-in_err-operation.result c.from_residual-in_err-operation.ensures.1 in
     let same : c.in_err-operation.field-0.0 ≡ why = cc (p.1, p.2, e) in
     let faulty = row_first _ _ _ _ why (c.in_err-operation.ensures.err ∙ ap Some same) in
-    behind_operations c.args.books.now c.blocks-2.ensures.range c.loop-script.script c.args.lines.now c.loop-script.lines c.words.new.self why c.loop-script.invariant.range c.loop-script.invariant.text subs name
+    behind_operations c.args.books.now c.ranges-2.ensures c.loop-script.script c.args.lines.now c.loop-script.lines c.words.new.self why c.loop-script.invariant.range c.loop-script.invariant.text subs name
     (behind_line (lines_inside c.args.books.now subs name c.loop-script.script) c.loop-script.lines c.words.new.self c.in_ok-words.words why c.in_ok-words.ensures.found.0 c.in_ok-words.ensures.found.1
-    (behind_operation c.args.books.now c.blocks-2.ensures.range c.loop-script.script c.loop-script.lines c.words.new.self c.in_ok-words.words why subs name faulty))
+    (behind_operation c.args.books.now c.ranges-2.ensures c.loop-script.script c.loop-script.lines c.words.new.self c.in_ok-words.words why subs name faulty))
 
 pub returns-then-len-ge-MOST_OPERATIONS-clause-fault : goal.returns-then-len-ge-MOST_OPERATIONS-clause-fault
 returns-then-len-ge-MOST_OPERATIONS-clause-fault c why e subs name =
     let same : fault.Limit ≡ why = cc in
     let found = c.in_ok-operation.ensures.found in
-    let full = operation_fault c.args.books.now (instruments_fit c.args.books.now c.blocks-2.ensures.range) c.loop-script.script true (le-leb MOST_OPERATIONS (length c.loop-script.script) (omega (arith, c.len.ensures, c.if-len-ge-MOST_OPERATIONS.true))) c.in_ok-operation.operation found.0 in
+    let full = operation_fault c.args.books.now (instruments_fit c.args.books.now c.ranges-2.ensures) c.loop-script.script true (le-leb MOST_OPERATIONS (length c.loop-script.script) (omega (arith, c.len.ensures, c.if-len-ge-MOST_OPERATIONS.true))) c.in_ok-operation.operation found.0 in
     let faulty = ap (inside_at c.args.books.now.instruments c.loop-script.script) found.1 ∙ full ∙ ap Some same in
-    behind_operations c.args.books.now c.blocks-2.ensures.range c.loop-script.script c.args.lines.now c.loop-script.lines c.words.new.self why c.loop-script.invariant.range c.loop-script.invariant.text subs name
+    behind_operations c.args.books.now c.ranges-2.ensures c.loop-script.script c.args.lines.now c.loop-script.lines c.words.new.self why c.loop-script.invariant.range c.loop-script.invariant.text subs name
     (behind_line (lines_inside c.args.books.now subs name c.loop-script.script) c.loop-script.lines c.words.new.self c.in_ok-words.words why c.in_ok-words.ensures.found.0 c.in_ok-words.ensures.found.1
-    (behind_operation c.args.books.now c.blocks-2.ensures.range c.loop-script.script c.loop-script.lines c.words.new.self c.in_ok-words.words why subs name faulty))
+    (behind_operation c.args.books.now c.ranges-2.ensures c.loop-script.script c.loop-script.lines c.words.new.self c.in_ok-words.words why subs name faulty))
 
 pub loop-script-preserved : goal.loop-script-preserved
 loop-script-preserved c =

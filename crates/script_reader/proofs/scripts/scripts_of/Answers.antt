@@ -6,8 +6,8 @@ use Rattle.script_reader.specs.declared.fault.Fault.TheVariants as fault
 use Rattle.script_reader.specs.declared.fault.Refusal.TheVariants as refusal
 use Rattle.script_reader.specs.Text.{operation_lines, end_line}
 use Rattle.script_reader.specs.Input.{Submission, AreCallersFor, callers_of, count_scripts}
-use Rattle.script_reader.specs.Grammar.{lines_so_far}
-use Rattle.script_reader.specs.Callers.{is_caller, add_submission}
+use Rattle.script_reader.specs.Inner.LinesAsWords.{lines_so_far}
+use Rattle.script_reader.specs.Inner.Callers.{is_caller, add_submission}
 use Rattle.script_reader.proofs.Conditions.{neither}
 use Rattle.script_reader.proofs.Grouping.{callers_of-push}
 use Rattle.script_reader.proofs.Submitting.{callers_more}
@@ -25,7 +25,7 @@ returns-in_err-words-clause-fault c why e =
     let v = c.loop-callers.invariant in
     let p = err_from_is_err_and c.from_residual.result c.from_residual.ensures.1 in
     let same : c.in_err-words.field-0.0 ≡ refusal.LineFault why = cc (p.1, p.2, e) in
-    behind_scripts c.args.books.now c.blocks-2.ensures.range v.subs c.args.lines.now c.loop-callers.lines c.words.new.self why v.valid v.text
+    behind_scripts c.args.books.now c.ranges-2.ensures v.subs c.args.lines.now c.loop-callers.lines c.words.new.self why v.valid v.text
     (behind_end (lines_so_far c.args.books.now v.subs) c.loop-callers.lines c.words.new.self why (c.words.ensures.end why (c.in_err-words.was ∙ ap Err same)))
 
 pub returns-then-is_only-clause-found : goal.returns-then-is_only-clause-found
@@ -44,7 +44,7 @@ returns-in_err-name-clause-fault c why e =
     let p = err_from_is_err_and c.from_residual-in_err-name.result c.from_residual-in_err-name.ensures.1 in
     let same : c.in_err-name.field-0.0 ≡ why = cc (p.1, p.2, e) in
     let none = c.in_err-name.ensures.none in
-    behind_scripts c.args.books.now c.blocks-2.ensures.range v.subs c.args.lines.now c.loop-callers.lines c.words.new.self why v.valid v.text
+    behind_scripts c.args.books.now c.ranges-2.ensures v.subs c.args.lines.now c.loop-callers.lines c.words.new.self why v.valid v.text
     (behind_line (lines_so_far c.args.books.now v.subs) c.loop-callers.lines c.words.new.self c.in_ok-words.words why c.in_ok-words.ensures.found.0 c.in_ok-words.ensures.found.1
     (outside_word c.args.books.now v.subs c.in_ok-words.words (sym c.is_only.ensures ∙ c.if-is_only.false) none.1 ∙ ap Some (sym none.0 ∙ same)))
 
@@ -54,7 +54,7 @@ returns-then-is_full_for-clause-fault c why e =
     let same : fault.Limit ≡ why = cc in
     let found = c.in_ok-name.ensures.found in
     let beyond = sym (beyond_is v.subs c.in_ok-name.name.now) ∙ sym (ap (λ l. nat_le MOST_SCRIPTS (count_scripts l) || (not (is_caller c.in_ok-name.name.now l) && nat_le MOST_CALLERS (length l))) v.made) ∙ sym c.is_full_for.ensures ∙ c.if-is_full_for.true in
-    behind_scripts c.args.books.now c.blocks-2.ensures.range v.subs c.args.lines.now c.loop-callers.lines c.words.new.self why v.valid v.text
+    behind_scripts c.args.books.now c.ranges-2.ensures v.subs c.args.lines.now c.loop-callers.lines c.words.new.self why v.valid v.text
     (behind_line (lines_so_far c.args.books.now v.subs) c.loop-callers.lines c.words.new.self c.in_ok-words.words why c.in_ok-words.ensures.found.0 c.in_ok-words.ensures.found.1
     (outside_limit c.args.books.now v.subs c.in_ok-name.name.now c.in_ok-words.words found.0 found.1 beyond ∙ ap Some same))
 
@@ -65,7 +65,7 @@ returns-in_err-script-clause-fault c why e =
     let same : c.in_err-script.field-0.0 ≡ refusal.LineFault why = cc (p.1, p.2, e) in
     let found = c.in_ok-name.ensures.found in
     let room = sym (beyond_is v.subs c.in_ok-name.name.now) ∙ sym (ap (λ l. nat_le MOST_SCRIPTS (count_scripts l) || (not (is_caller c.in_ok-name.name.now l) && nat_le MOST_CALLERS (length l))) v.made) ∙ sym c.is_full_for.ensures ∙ c.if-is_full_for.false in
-    behind_scripts c.args.books.now c.blocks-2.ensures.range v.subs c.args.lines.now c.loop-callers.lines c.script_of.new.lines why v.valid v.text
+    behind_scripts c.args.books.now c.ranges-2.ensures v.subs c.args.lines.now c.loop-callers.lines c.script_of.new.lines why v.valid v.text
     (behind_script c.args.books.now v.subs c.in_ok-name.name.now c.in_ok-words.words c.loop-callers.lines c.words.new.self c.script_of.new.lines why found.0 found.1 room c.in_ok-words.ensures.found.1
     (c.script_of.ensures.fault why (c.in_err-script.was ∙ ap Err same) v.subs c.in_ok-name.name.now))
 

@@ -2,8 +2,8 @@ use Rattle.std.proofs.Common.{◌≡◌, ◌++◌, List, length}
 use Rattle.std.specs.List.{flat_map}
 use Rattle.script_reader.specs.Text.{line}
 use Rattle.script_reader.specs.Input.{Submission, AreCallersFor, callers_of}
-use Rattle.script_reader.specs.Grammar.{submission_words}
-use Rattle.script_reader.specs.Callers.{callers_in, IsEven}
+use Rattle.script_reader.specs.Inner.LinesAsWords.{submission_words}
+use Rattle.script_reader.specs.Inner.Callers.{callers_in, IsEven}
 use Rattle.script_reader.proofs.scripts.scripts_of.Given as goal
 
 abbrev pub invariant-loop-callers : goal.invariant-loop-callers

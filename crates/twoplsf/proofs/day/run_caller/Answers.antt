@@ -1,6 +1,6 @@
 use Rattle.std.proofs.Common.{◌≡◌, length, subst, arith}
 use Rattle.script_reader.specs.Input.{caller_at}
-use Rattle.twoplsf.specs.Day.{HasRun}
+use Rattle.twoplsf.specs.Inner.Day.{HasRun}
 use Rattle.twoplsf.proofs.Days.{ran_caller}
 use Rattle.twoplsf.proofs.day.run_caller.Goals as goal
 

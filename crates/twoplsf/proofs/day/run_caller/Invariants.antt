@@ -1,4 +1,4 @@
-use Rattle.twoplsf.specs.Day.{HasRun}
+use Rattle.twoplsf.specs.Inner.Day.{HasRun}
 use Rattle.twoplsf.proofs.day.run_caller.Given as goal
 
 -- the caller's scripts before this index were run

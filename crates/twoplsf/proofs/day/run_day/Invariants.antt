@@ -1,4 +1,4 @@
-use Rattle.twoplsf.specs.Day.{HasRun}
+use Rattle.twoplsf.specs.Inner.Day.{HasRun}
 use Rattle.twoplsf.proofs.day.run_day.Given as goal
 
 -- all scripts of the callers before this one were run

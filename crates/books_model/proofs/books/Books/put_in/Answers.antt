@@ -5,7 +5,7 @@ use Rattle.std.specs.FinMap as map
 use Rattle.std.proofs.lemmas.Map.Lookups.{exact_unsigned}
 use Rattle.books_model.specs.Books.{ClearingBooks, position_cmp}
 use Rattle.books_model.specs.Ranges.{AreInRange}
-use Rattle.books_model.specs.Changes.{AreChangesOf, changed, changed_books}
+use Rattle.books_model.specs.Inner.Changes.{AreChangesOf, changed, changed_books}
 use Rattle.books_model.specs.contracts.books.Books.{the_view}
 use Rattle.books_model.proofs.Maps.{positions_total, exact_positions}
 use Rattle.books_model.proofs.Changes.{changed-roomier}
@@ -25,7 +25,7 @@ same_parts books a a' p p' r r' c c' e f g h = λ i. with_parts books (e i) (f i
 known : (c : After-make_all_room) → AreChangesOf (the_view c.self.inside) c.args.changes.now
 known c = subst (λ b. AreChangesOf b c.args.changes.now) (sym c.self.view_is) c.requires.changes
 
--- where memory is wanting all is as before
+-- out of memory, all is as before
 back : (c : After-take_back-in-Err-2) → the_view (record c.self.inside { accounts = c.take_back.new.values; positions = c.take_back-in-Err.new.values; prices = c.take_back-in-Err-2.new.values; calls = c.reserve.new.self }) ≡ the_view c.self.inside
 back c =
     let books = the_view c.self.inside in

@@ -1,7 +1,7 @@
 use Rattle.std.proofs.Common.{◌≡◌, ◌+◌, ◌<◌, ◌≤◌, ℕ, refl, ap, arith}
 use Rattle.books_model.specs.Books.{ClearingBooks}
 use Rattle.books_model.specs.Interpreter.{cash_between}
-use Rattle.books_model.specs.Changes.{changed_books, before_between, now_between}
+use Rattle.books_model.specs.Inner.Changes.{changed_books, before_between, now_between}
 use Rattle.books_model.proofs.Sums.{before_between-le, cash_changed, cash-fits, none_between}
 use Rattle.books_model.proofs.draft.Draft.cash_between.Goals as goal
 use Rattle.books_model.proofs.draft.Draft.cash_between.Goals.{After-self}
@@ -12,29 +12,29 @@ so_far c = changed_books c.self.inside.books.now c.self.inside.changes
 
 -- what the changed accounts had
 abbrev had : After-self → ℕ
-had c = before_between c.self.inside.changes.accounts.entries c.args.a c.args.b
+had c = before_between c.self.inside.changes.accounts.entries c.args.low c.args.high
 
 -- what they have
 abbrev have : After-self → ℕ
-have c = now_between c.self.inside.changes.accounts.entries c.args.a c.args.b
+have c = now_between c.self.inside.changes.accounts.entries c.args.low c.args.high
 
 -- what the changed accounts had is a part of the whole
-part : (c : After-self) → had c ≤ cash_between c.self.inside.books.now c.args.a c.args.b
-part c = before_between-le c.self.inside.books.now (so_far c) c.self.inside.changes.accounts.entries refl c.self.invariant.known.ordered c.self.invariant.known.accounts c.args.a c.args.b
+part : (c : After-self) → had c ≤ cash_between c.self.inside.books.now c.args.low c.args.high
+part c = before_between-le c.self.inside.books.now (so_far c) c.self.inside.changes.accounts.entries refl c.self.invariant.known.ordered c.self.invariant.known.accounts c.args.low c.args.high
 
 -- the cash after the changes
-whole : (c : After-self) → cash_between (so_far c) c.args.a c.args.b + had c ≡ cash_between c.self.inside.books.now c.args.a c.args.b + have c
-whole c = cash_changed c.self.inside.books.now (so_far c) c.self.inside.changes.accounts.entries refl c.self.invariant.known.ordered c.self.invariant.known.accounts c.args.a c.args.b
+whole : (c : After-self) → cash_between (so_far c) c.args.low c.args.high + had c ≡ cash_between c.self.inside.books.now c.args.low c.args.high + have c
+whole c = cash_changed c.self.inside.books.now (so_far c) c.self.inside.changes.accounts.entries refl c.self.invariant.known.ordered c.self.invariant.known.accounts c.args.low c.args.high
 
 -- it fits
-fits : (c : After-self) → cash_between (so_far c) c.args.a c.args.b < 18446744073709551616
-fits c = cash-fits (so_far c) c.args.a c.args.b c.self.invariant.after
+fits : (c : After-self) → cash_between (so_far c) c.args.low c.args.high < 18446744073709551616
+fits c = cash-fits (so_far c) c.args.low c.args.high c.self.invariant.after
 
-pub returns-then-a-b : goal.returns-then-a-b
-returns-then-a-b c = none_between c.args.self.now.after c.args.a c.args.b (omega arith)
+pub returns-then-low-high : goal.returns-then-low-high
+returns-then-low-high c = none_between c.args.self.now.after c.args.low c.args.high (omega arith)
 
 pub changed_between-before-requires-clause-before : goal.changed_between-before-requires-clause-before
-changed_between-before-requires-clause-before c = omega (arith, part c, cash-fits c.self.inside.books.now c.args.a c.args.b c.self.invariant.before)
+changed_between-before-requires-clause-before c = omega (arith, part c, cash-fits c.self.inside.books.now c.args.low c.args.high c.self.invariant.before)
 
 pub changed_between-before-requires-clause-now : goal.changed_between-before-requires-clause-now
 changed_between-before-requires-clause-now c = omega (arith, part c, whole c, fits c)
@@ -50,5 +50,5 @@ overflow_add-result c =
 pub returns : goal.returns
 returns c =
     let at = (goal.at.returns c).After-self in
-    let view : cash_between (so_far at) c.args.a c.args.b ≡ cash_between c.args.self.now.after c.args.a c.args.b = ap (λ d. cash_between d.after c.args.a c.args.b) c.self.view_is in
+    let view : cash_between (so_far at) c.args.low c.args.high ≡ cash_between c.args.self.now.after c.args.low c.args.high = ap (λ d. cash_between d.after c.args.low c.args.high) c.self.view_is in
     omega (arith, part at, whole at, fits at, c.changed_between-before.ensures.before, c.changed_between-before.ensures.now, c.cash_between.ensures, view)

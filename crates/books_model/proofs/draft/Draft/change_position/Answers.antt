@@ -2,8 +2,8 @@ use Rattle.std.proofs.Common.{◌≡◌, ◌<◌, IsSome, sym, ap, subst, ◌∙
 use Rattle.std.specs.FinMap as map
 use Rattle.books_model.specs.Books.{ClearingBooks, used}
 use Rattle.books_model.specs.Ranges.{AreInRange}
-use Rattle.books_model.specs.Changes.{changed_books}
-use Rattle.books_model.specs.Draft.{set_position}
+use Rattle.books_model.specs.Inner.Changes.{changed_books}
+use Rattle.books_model.specs.Inner.Draft.{set_position}
 use Rattle.books_model.proofs.Drafts.{used_position, position_is_used, counted}
 use Rattle.books_model.proofs.draft.Draft.change_position.Goals as goal
 use Rattle.books_model.proofs.draft.Draft.change_position.Goals.{In_ok-note_change}
@@ -13,20 +13,20 @@ abbrev so_far : In_ok-note_change → ClearingBooks
 so_far c = changed_books c.self.inside.books.now c.self.inside.changes
 
 -- what was there in them
-was_there : (c : In_ok-note_change) → c.quantity-was.result ≡ map.get (so_far c).positions (c.args.a, c.args.i)
-was_there c = c.quantity-was.ensures.value ∙ ap (λ d. map.get d.after.positions (c.args.a, c.args.i)) (sym c.self.view_is)
+was_there : (c : In_ok-note_change) → c.args.was ≡ map.get (so_far c).positions (c.args.account, c.args.instrument)
+was_there c = sym c.requires.was ∙ ap (λ d. map.get d.after.positions (c.args.account, c.args.instrument)) (sym c.self.view_is)
 
 -- the books after one more change
-after : (c : In_ok-note_change) → changed_books c.self.inside.books.now (record c.self.inside.changes { positions = c.note_change.new.changes }) ≡ set_position (so_far c) c.args.a c.args.i c.args.now
+after : (c : In_ok-note_change) → changed_books c.self.inside.books.now (record c.self.inside.changes { positions = c.note_change.new.changes }) ≡ set_position (so_far c) c.args.account c.args.instrument c.args.now
 after c = ap (λ m. record (so_far c) { positions = m }) (c.in_ok-note_change.ensures.ok c.self.inside.books.now.positions)
 
 pub count_after-self-inside-requires-clause-least : goal.count_after-self-inside-requires-clause-least
-count_after-self-inside-requires-clause-least c = λ there. subst (λ n. 0 < n) (sym c.self.invariant.counted) (position_is_used (so_far c) c.args.a c.args.i (subst IsSome (was_there c) there))
+count_after-self-inside-requires-clause-least c = λ there. subst (λ n. 0 < n) (sym c.self.invariant.counted) (position_is_used (so_far c) c.args.account c.args.instrument (subst IsSome (was_there c) there))
 
 pub invariant_of-self-2 : goal.invariant_of-self-2
 invariant_of-self-2 c =
     let books = c.self.inside.books.now in
-    let known = c.in_ok-note_change.ensures.known books.positions (sym c.position.ensures) c.self.invariant.known.positions in
+    let known = c.in_ok-note_change.ensures.known books.positions (sym (was_there (goal.at.invariant_of-self-2 c).In_ok-note_change)) c.self.invariant.known.positions in
     record {
       before = c.self.invariant.before;
       known = record {
@@ -36,9 +36,9 @@ invariant_of-self-2 c =
         prices = c.self.invariant.known.prices;
         taken = c.self.invariant.known.taken;
       };
-      counted = counted c.count_after-self-inside.result c.self.inside.used _ (used (so_far (goal.at.invariant_of-self-2 c).In_ok-note_change)) c.quantity-was.result _ c.args.now (was_there (goal.at.invariant_of-self-2 c).In_ok-note_change) c.self.invariant.counted c.count_after-self-inside.ensures (used_position (so_far (goal.at.invariant_of-self-2 c).In_ok-note_change) c.args.a c.args.i c.args.now) ∙ ap used (sym (after (goal.at.invariant_of-self-2 c).In_ok-note_change));
-      after = subst AreInRange (sym (after (goal.at.invariant_of-self-2 c).In_ok-note_change ∙ ap (λ d. set_position d.after (goal.at.invariant_of-self-2 c).In_ok-note_change.args.a c.args.i c.args.now) c.self.view_is)) c.requires;
+      counted = counted c.count_after-self-inside.result c.self.inside.used _ (used (so_far (goal.at.invariant_of-self-2 c).In_ok-note_change)) c.args.was _ c.args.now (was_there (goal.at.invariant_of-self-2 c).In_ok-note_change) c.self.invariant.counted c.count_after-self-inside.ensures (used_position (so_far (goal.at.invariant_of-self-2 c).In_ok-note_change) c.args.account c.args.instrument c.args.now) ∙ ap used (sym (after (goal.at.invariant_of-self-2 c).In_ok-note_change));
+      after = subst AreInRange (sym (after (goal.at.invariant_of-self-2 c).In_ok-note_change ∙ ap (λ d. set_position d.after (goal.at.invariant_of-self-2 c).In_ok-note_change.args.account c.args.instrument c.args.now) c.self.view_is)) c.requires.range;
     }
 
 pub returns-clause-ok : goal.returns-clause-ok
-returns-clause-ok c = after (goal.at.returns-clause-ok c).In_ok-note_change ∙ ap (λ d. set_position d.after (goal.at.returns-clause-ok c).In_ok-note_change.args.a c.args.i c.args.now) c.self.view_is
+returns-clause-ok c = after (goal.at.returns-clause-ok c).In_ok-note_change ∙ ap (λ d. set_position d.after (goal.at.returns-clause-ok c).In_ok-note_change.args.account c.args.instrument c.args.now) c.self.view_is

@@ -7,19 +7,19 @@ use Rattle.books_model.proofs.Sums.{holds_nothing, holds_one}
 use Rattle.books_model.proofs.draft.Draft.holds_any.Goals as goal
 
 pub returns-then-is_some : goal.returns-then-is_some
-returns-then-is_some c = holds_one c.args.self.now.after c.args.a c.loop-i.i c.quantity.result c.quantity.ensures.value (sym c.is_some.ensures ∙ c.if-is_some.true)
+returns-then-is_some c = holds_one c.args.self.now.after c.args.account c.loop-instrument.instrument c.quantity.result c.quantity.ensures.value (sym c.is_some.ensures ∙ c.if-is_some.true)
 
-pub loop-i-preserved : goal.loop-i-preserved
-loop-i-preserved c = λ j from below. elim (cases_lt j c.loop-i.i) [
-  | inl before ↦ c.loop-i.invariant j from before
+pub loop-instrument-preserved : goal.loop-instrument-preserved
+loop-instrument-preserved c = λ j from below. elim (cases_lt j c.loop-instrument.instrument) [
+  | inl before ↦ c.loop-instrument.invariant j from before
   | inr past ↦
-      let here : c.loop-i.i ≡ j = omega arith in
+      let here : c.loop-instrument.instrument ≡ j = omega arith in
       let none = sym c.quantity.ensures.value ∙ none_of c.quantity.result (sym c.is_some.ensures ∙ c.if-is_some.false) in
-      subst (λ i. map.get c.args.self.now.after.positions (c.args.a, i) ≡ None) here none
+      subst (λ i. map.get c.args.self.now.after.positions (c.args.account, i) ≡ None) here none
 ]
 
 pub returns : goal.returns
 returns c =
     let in_range = subst (λ d. AreInRange d.after) c.self.view_is c.self.invariant.after in
     let instruments = ap (λ d. d.after.instruments) c.self.view_is in
-    sym (holds_nothing c.args.self.now.after c.args.a in_range (λ j from below. c.loop-i.invariant j from (omega (arith, c.loop-i-test.false, c.instruments-i-end.ensures, instruments))))
+    sym (holds_nothing c.args.self.now.after c.args.account in_range (λ j from below. c.loop-instrument.invariant j from (omega (arith, c.loop-instrument-test.false, c.instruments-instrument-end.ensures, instruments))))

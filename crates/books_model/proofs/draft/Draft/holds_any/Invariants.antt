@@ -3,5 +3,5 @@ use Rattle.std.specs.FinMap as map
 use Rattle.books_model.proofs.draft.Draft.holds_any.Given as goal
 
 -- the account has no position in the instruments so far
-abbrev pub invariant-loop-i : goal.invariant-loop-i
-invariant-loop-i l = (j : ℕ) → 1 ≤ j → j < l.i → map.get l.self.after.positions (l.a, j) ≡ None
+abbrev pub invariant-loop-instrument : goal.invariant-loop-instrument
+invariant-loop-instrument l = (j : ℕ) → 1 ≤ j → j < l.instrument → map.get l.self.after.positions (l.account, j) ≡ None

@@ -2,7 +2,7 @@ use Rattle.std.proofs.Common.{◌≡◌, ◌<◌, ◌+◌, ◌++◌, length, dro
 use Rattle.std.proofs.lemmas.List.{length-drop}
 use Rattle.books_model.specs.Books.{ClearingBooks}
 use Rattle.books_model.specs.Ranges.{AreInRange}
-use Rattle.books_model.specs.Changes.{changed_books}
+use Rattle.books_model.specs.Inner.Changes.{changed_books}
 use Rattle.books_model.proofs.Queues.{drop-next}
 use Rattle.books_model.proofs.Drafts.{taken-in_range}
 use Rattle.books_model.proofs.draft.Draft.take_front.Goals as goal

@@ -1,7 +1,7 @@
 use Rattle.std.proofs.Common.{◌≡◌, ◌||◌, ◌&&◌, not, true, false, nat_le, sym, ap, ◌∙◌, arith, length}
 use Rattle.std.specs.String.{string_bytes}
 use Rattle.std.proofs.lemmas.Bool.{lt-leb}
-use Rattle.script_reader.specs.Callers.{callers_in, is_caller}
+use Rattle.script_reader.specs.Inner.Callers.{callers_in, is_caller}
 use Rattle.script_reader.proofs.Gathering.{count_callers, has_caller}
 use Rattle.script_reader.proofs.callers.Callers.is_full_for.Goals as goal
 

@@ -3,8 +3,15 @@ use Rattle.std.specs.Prelude.{◌≡◌, ℕ, Bool, List, [], ◌∷◌, ◌++�
 use Rattle.std.specs.List.{list_any}
 use Rattle.std.specs.Str.{bytes_eq}
 use Rattle.std.specs.String.{string_bytes}
+use Rattle.books_model.specs.declared.script.Op.{Op}
 use Rattle.script_reader.specs.declared.callers.Callers.{Callers}
-use Rattle.script_reader.specs.Input.{Caller, Submission, beside, count_scripts}
+use Rattle.script_reader.specs.Input.{Caller, Submission, count_scripts}
+
+-- names beside scripts, as callers
+abbrev pub beside : List (List ℕ) → List (List (List Op)) → List Caller
+beside [] scripts = []
+beside (name ∷ names) [] = []
+beside (name ∷ names) (scripts ∷ others) = record { name = name; scripts = scripts } ∷ beside names others
 
 -- the callers that are gathered
 abbrev pub callers_in : Callers → List Caller

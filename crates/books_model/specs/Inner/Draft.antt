@@ -1,10 +1,14 @@
 -- The books before a script, and as its operations so far leave them.
-use Rattle.std.specs.Prelude.{◌≡◌, ℕ, Option, refl}
+use Rattle.std.specs.Prelude.{◌≡◌, ℕ, ◌≤◌, Option, Some, refl, unwrap_or}
 use Rattle.std.specs.Coded.{Coded, code_by, coded×}
+use Rattle.std.specs.FinMap as map
+use Rattle.books_model.specs.declared.draft.Side.{Side}
+use Rattle.books_model.specs.declared.limits.TheConstants.{GREATEST_CASH, GREATEST_QUANTITY}
 use Rattle.books_model.specs.declared.overlay.Changes.{Changes}
-use Rattle.books_model.specs.Books.{ClearingBooks, books_code, used}
+use Rattle.books_model.specs.Books.{ClearingBooks, used}
 use Rattle.books_model.specs.Ranges.{AreInRange}
-use Rattle.books_model.specs.Changes.{set_at, changed_books, AreChangesOf}
+use Rattle.books_model.specs.Inner.Codes.{books_code}
+use Rattle.books_model.specs.Inner.Changes.{set_at, changed_books, AreChangesOf}
 
 -- the books before a script, and as its operations so far leave them
 pub record Drafted : Type 0 where
@@ -21,6 +25,13 @@ pub record IsDraftOf (books : ClearingBooks) (c : Changes) (count : ℕ) : Type 
   pub known : AreChangesOf books c
   pub counted : count ≡ used (changed_books books c)
   pub after : AreInRange (changed_books books c)
+
+-- the account of a side of a trade is there, with this cash, and holds this much of the instrument; both are in range
+pub record IsSideOf (books : ClearingBooks) (instrument : ℕ) (side : Side) : Type 0 where
+  pub cash : map.get books.accounts side.account ≡ Some side.cash
+  pub held : map.get books.positions (side.account, instrument) ≡ side.held
+  pub cash_range : side.cash ≤ GREATEST_CASH
+  pub held_range : unwrap_or side.held 0 ≤ GREATEST_QUANTITY
 
 -- the account has this cash, or is not there
 abbrev pub set_account : ClearingBooks → ℕ → Option ℕ → ClearingBooks

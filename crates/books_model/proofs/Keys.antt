@@ -1,23 +1,11 @@
--- The keys of maps: those that compare alike are one, and in a list in order each is below those behind it.
+-- Keys in order: in a list in order each is below those behind it.
 use Rattle.std.specs.Prelude.{◌≡◌, ℕ, Bool, true, false, cond, nat_lt, ◌==◌, ◌&&◌, T, List, [], ◌∷◌, refl}
 use Rattle.std.proofs.Common.{sym, subst}
 use Rattle.std.specs.declared.cmp.Ordering.{Ordering}
 use Rattle.std.specs.declared.cmp.Ordering.TheVariants.{Less, Equal, Greater}
-use Rattle.std.specs.Cmp.{IsTotalOrder, nat_cmp_total}
+use Rattle.std.specs.Cmp.{IsTotalOrder}
 use Rattle.std.specs.Ordering.{nat_cmp, is_lt}
-use Rattle.std.specs.FinMap.{IsAntisymmetric, nat_cmp-IsAntisymmetric}
 use Rattle.std.specs.FinMap.Entries.{below_all, is_sorted}
-use Rattle.std.proofs.lemmas.Cmp.{on_total, then_total}
-use Rattle.std.proofs.lemmas.Map.Lookups.{exact_pairs}
-use Rattle.books_model.specs.Books.{position_cmp}
-
--- the order of positions is total
-pub positions_total : IsTotalOrder position_cmp
-positions_total = then_total (on_total (λ p. p.0) nat_cmp_total) (on_total (λ p. p.1) nat_cmp_total)
-
--- positions that compare alike are one
-pub exact_positions : IsAntisymmetric position_cmp
-exact_positions = exact_pairs nat_cmp nat_cmp nat_cmp-IsAntisymmetric nat_cmp-IsAntisymmetric
 
 first_of : (a b : Bool) → T (a && b) → T a
 first_of true b h = tt

@@ -1,0 +1,7 @@
+-- What only the contracts of private functions and the proofs cite.
+pub mod Codes
+pub mod LinesAsWords
+pub mod Rows
+pub mod Placed
+pub mod Callers
+pub mod Scripts

@@ -1,0 +1,2 @@
+-- What only the contracts of inner functions and the proofs cite.
+pub mod Day
