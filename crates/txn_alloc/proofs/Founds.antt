@@ -55,6 +55,12 @@ module _ (part : Part) (key n : ℕ) (G : List ℕ → Type 0) (t u : Trace) {Is
       sees_then may t u v (sees_more (MayRead part key (after t s) (after u s)) may t u (λ a k. inl k) (sees_near l (each_held part n G t order) s fit_u))
       (sees_more (IsReadByTake part.arena None) may u v (λ a k. inr k) heads)
 
+-- the key was found, and its value is near too
+module _ (part : Part) (key b q : ℕ) {IsNear : List ℕ → ℕ → Type 0} {IsFound : List ℕ → Type 0} (own : IsOwnNear part key IsNear) (block : IsKeysBlock part key b IsFound) (is_value : q ≡ block_at part.arena b + 1) where
+  pub value_seen : (s : List ℕ) (f : Entries) (v : Blocks) → IsFound s → part.Holds s f v → (a : ℕ) → IsNearOr IsNear q s a → IsSeen part key (λ k. k ≡ key) s a
+  value_seen s f v m hold a (inl k) = own s f v hold a k
+  value_seen s f v m hold a (inr e) = inr (b, (f, v, hold, block.used s f v m hold), inr (inr (e ∙ is_value, (key, refl, block.key_there s m))))
+
 -- the key was found, and its value read
 module _ (part : Part) (key n : ℕ) (G : List ℕ → Type 0) (t u : Trace) {IsNear : List ℕ → ℕ → Type 0} {IsFound : List ℕ → Type 0} (b q was : ℕ) (is_value : q ≡ block_at part.arena b + 1)
     (block : IsKeysBlock part key b IsFound) (l : Looks n G t u (IsNearOr IsNear q) (λ s. IsFound s × (slice_get s q ≡ Some was))) where
@@ -68,14 +74,10 @@ module _ (part : Part) (key n : ℕ) (G : List ℕ → Type 0) (t u : Trace) {Is
         };
   }
 
-  pub value_seen : IsOwnNear part key IsNear → (s : List ℕ) (f : Entries) (v : Blocks) → IsFound s → part.Holds s f v → (a : ℕ) → IsNearOr IsNear q s a → IsSeen part key (λ k. k ≡ key) s a
-  value_seen own s f v m hold a (inl k) = own s f v hold a k
-  value_seen own s f v m hold a (inr e) = inr (b, (f, v, hold, block.used s f v m hold), inr (inr (e ∙ is_value, (key, refl, block.key_there s m))))
-
   pub sees_value : IsOwnNear part key IsNear → InEach n G t (HasMap part) → (s : List ℕ) → Fits n G u s → AppendsReads t u (MayRead part key (after t s) (after u s))
   sees_value own order s fit =
       let o = order.at s (fits_begins n G t u s l.begins fit) in
-      sees_more (IsNearOr IsNear q (after t s)) (MayRead part key (after t s) (after u s)) t u (value_seen own (after t s) o.entries o.used (seen_before n G t u l s fit).0 o.holds) (l.reads s fit)
+      sees_more (IsNearOr IsNear q (after t s)) (MayRead part key (after t s) (after u s)) t u (value_seen part key b q own block is_value (after t s) o.entries o.used (seen_before n G t u l s fit).0 o.holds) (l.reads s fit)
 
   -- and then written
   module _ (order : InEach n G t (HasMapApart part)) (v : Trace) (x : ℕ) (e : EndsWithWrite u v q x) where
@@ -121,7 +123,7 @@ module _ (part : Part) (key n : ℕ) (G : List ℕ → Type 0) (t u : Trace) {Is
         let may : ℕ → Type 0 = MayRead part key (after t s) (after v s) in
         let o : HasMapApart part (after t s) = order_start s fit in
         sees_then may t u v (sees_value own (each_held part n G t order) s (fits_u s fit))
-        (sees_write may u v q x e (value_seen own (after t s) o.entries o.used (found_start s fit) o.holds.map q (inr refl)))
+        (sees_write may u v q x e (value_seen part key b q own block is_value (after t s) o.entries o.used (found_start s fit) o.holds.map q (inr refl)))
 
 -- a new key is in, in block b, which was free
 pub record InsertsIn (part : Part) (key x b : ℕ) (new : List ℕ) (f : Entries) (used free : Blocks) : Type 0 where
