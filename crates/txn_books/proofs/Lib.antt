@@ -1,0 +1,5 @@
+pub mod Keyed
+pub mod Chained
+pub mod Apart
+pub mod Changes
+pub mod Whole
