@@ -46,7 +46,7 @@ module _ (old new : List ℕ) (books : ClearingBooks) (in_hand : List ℕ) (part
   places : ℕ → ℕ
   places d = times_of parts.tree_used d + times_of parts.chain_used d + times_of parts.free d
 
-  at_once : (d : ℕ) → d < books.blocks → times_of parts.tree_used d + times_of parts.chain_used d + times_of parts.free d + count_by (λ c. c == d) in_hand ≡ 1
+  pub at_once : (d : ℕ) → d < books.blocks → times_of parts.tree_used d + times_of parts.chain_used d + times_of parts.free d + count_by (λ c. c == d) in_hand ≡ 1
   at_once d lt = let one = parts.parted d lt in let three = three_among d parts.tree_used parts.chain_used parts.free in omega (arith, one, three)
 
   -- a change of the tree

@@ -3,3 +3,5 @@ pub mod Chained
 pub mod Apart
 pub mod Changes
 pub mod Whole
+pub mod Parts
+pub mod Empty

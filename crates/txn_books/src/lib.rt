@@ -10,3 +10,6 @@ pub mod layout;
 pub mod shape;
 
 pub use shape::BooksShape;
+
+#[cfg(test)]
+mod tests;

@@ -11,7 +11,7 @@ use Rattle.std.specs.FinMap.{gets}
 use Rattle.std.specs.FinMap.Entries.{put}
 use mathlib.Core.Bool.{true≢false}
 use Rattle.history_model.specs.Fitting.{IsGood}
-use Rattle.txn_alloc.proofs.TwoBlocks.{with_links}
+use Rattle.txn_alloc.proofs.TwoBlocks.{with_links, AreLinked}
 use Rattle.txn_alloc.proofs.TwoBlocks as blocks
 use Rattle.txn_alloc.specs.EntryMaps.{Cell, Entries, value_of, has_block, HasMap, HasMapApart, HasSmallSum, Inserts, SumsRange}
 use Rattle.txn_alloc.specs.declared.put.Put.{Put}
@@ -30,31 +30,32 @@ small = record { root = 0; arena = record { heads = 1; first = 277; blocks = 2 }
 abbrev pub has_entries : Entries → List ℕ → Type 0
 has_entries entries words = (map : HasMapApart (tree_part small) words) × (map.entries ≡ entries)
 
+-- no entry is held where all other words are 0
+pub none_held : (words : List ℕ) → AreLinked words → TreeHolds small words entry_map.empty set.empty
+none_held words are =
+    let count = are.count in
+    record {
+      laid = record { arena = are.laid_out; root = omega (arith, count); no_head = λ head. omega (arith, head.low); outside = λ b lt mine. omega (arith, mine.low) };
+      tree = Leaf;
+      spelled = (are.zeros 0 (omega arith) (λ k. absurd (omega (arith, k))) (λ k. absurd (omega (arith, k))), tt);
+      search = tt;
+      heap = tt;
+      entries_are = λ key. entry_map.get-empty nat_cmp key;
+      used_are = out_empty;
+    }
+
 -- a list of zeros but for the two words that link the blocks holds the empty map
 pub linked_empty : (n : ℕ) (ws : List ℕ) → n ≡ 285 → ws ≡ replicate n 0 → IsGood 285 (has_entries entry_map.empty) (with_links ws)
 linked_empty n ws is_n e =
-    let words = blocks.linked n ws is_n e in
-    let count = words.count in
+    let are = blocks.linked n ws is_n e in
     record {
-      count = count;
+      count = are.count;
       good = (
         record {
           entries = entry_map.empty;
           used = set.empty;
           free = set.from_list (0 ∷ 1 ∷ []);
-          holds = record {
-            map = record {
-              laid = record { arena = words.laid_out; root = omega (arith, count); no_head = λ head. omega (arith, head.low); outside = λ b lt mine. omega (arith, mine.low) };
-              tree = Leaf;
-              spelled = (words.zeros 0 (omega arith) (λ k. absurd (omega (arith, k))) (λ k. absurd (omega (arith, k))), tt);
-              search = tt;
-              heap = tt;
-              entries_are = λ key. entry_map.get-empty nat_cmp key;
-              used_are = out_empty;
-            };
-            free_lists = words.free_lists;
-            apart = λ b m. absurd (true≢false (sym m ∙ out_empty b));
-          };
+          holds = record { map = none_held (with_links ws) are; free_lists = are.free_lists; apart = λ b m. absurd (true≢false (sym m ∙ out_empty b)) };
         },
         refl,
       );
