@@ -1,9 +1,11 @@
 -- The parts of books lie apart, and a block is in one of them alone.
-use Rattle.std.proofs.Common.{◌≡◌, ◌≢◌, ℕ, ◌+◌, ◌⊎◌, inl, inr, true, false, cond, List, [], ◌∷◌, ap, arith}
+use Rattle.std.proofs.Common.{◌≡◌, ◌≢◌, ℕ, ◌+◌, ◌≤◌, ◌⊎◌, inl, inr, Bool, true, false, cond, List, [], ◌∷◌, refl, sym, ap, ◌∙◌, arith}
 use Rattle.std.specs.FinSet as set
+use Rattle.txn_alloc.specs.declared.arena.Arena.{Arena}
 use Rattle.txn_alloc.specs.FreeLists.{IsHead, IsInBlock}
 use Rattle.txn_alloc.specs.EntryMaps.{Entries, Blocks, Part, IsOwn}
 use Rattle.txn_alloc.proofs.Counting.{times_of}
+use Rattle.txn_alloc.proofs.Lists.{same_block}
 use Rattle.txn_alloc.proofs.Parts.{IsOne, used_of}
 use Rattle.txn_alloc.proofs.Wider.{head_is}
 use Rattle.txn_hash_map.specs.Chains.{IsBucket}
@@ -63,3 +65,26 @@ not_own part one key old new f g u v before after a root head out (inl k) = root
 not_own part one key old new f g u v before after a root head out (inr (inl k)) =
     out k.0 (elim (k.1) [ inl w ↦ inl (used_of part one old f u k.0 before w) | inr w ↦ inr (used_of part one new g v k.0 after w) ]) k.2
 not_own part one key old new f g u v before after a root head out (inr (inr k)) = head (head_is part.arena k.0 a k.2)
+
+-- a block of one set is in no block that another part used before, or uses after a change in which its blocks and the free ones stayed as many
+pub other_out : (arena : Arena) (theirs before free after now : Blocks) (d a e : ℕ) → set.contains theirs d ≡ true → times_of theirs d + times_of before d + times_of free d ≤ 1
+    → times_of after d + times_of now d ≡ times_of before d + times_of free d → IsInBlock arena d a → (set.contains before e ≡ true) ⊎ (set.contains after e ≡ true) → ¬ IsInBlock arena e a
+other_out arena theirs before free after now d a e k once many mine uses other =
+    let same : e ≡ d = same_block arena e d a other mine in
+    let one : times_of theirs d ≡ 1 = member_one theirs d k in
+    elim uses [
+      | inl w ↦ let here : times_of before d ≡ 1 = member_one before d (ap (λ z. set.contains before z) (sym same) ∙ w) in omega (arith, one, once, here)
+      | inr w ↦ let here : times_of after d ≡ 1 = member_one after d (ap (λ z. set.contains after z) (sym same) ∙ w) in omega (arith, one, once, here, many)
+    ]
+
+-- a set of which a block is no member
+out_of : (s : Blocks) (b : ℕ) → times_of s b ≡ 0 → set.contains s b ≡ false
+out_of s b none = at (set.contains s b) refl
+  where
+    at : (m : Bool) → set.contains s b ≡ m → set.contains s b ≡ false
+    at false e = e
+    at true e = let one : times_of s b ≡ 1 = member_one s b e in absurd (omega (arith, none, one))
+
+-- a block of one set is in no other
+pub out_other : (s other : Blocks) (b : ℕ) → set.contains s b ≡ true → times_of s b + times_of other b ≤ 1 → set.contains other b ≡ false
+out_other s other b k once = let one : times_of s b ≡ 1 = member_one s b k in out_of other b (omega (arith, one, once))

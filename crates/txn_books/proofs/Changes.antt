@@ -1,16 +1,15 @@
 -- A change of one part leaves the others.
-use Rattle.std.proofs.Common.{◌≡◌, ◌≢◌, ℕ, ◌+◌, ◌<◌, ◌⊎◌, inl, inr, true, List, [], ◌∷◌, ◌==◌, slice_get, sym, ap, ◌∙◌, arith}
+use Rattle.std.proofs.Common.{◌≡◌, ◌≢◌, ℕ, ◌+◌, ◌<◌, ◌⊎◌, true, List, [], ◌∷◌, ◌==◌, slice_get, arith}
 use Rattle.std.specs.Ordering.{nat_cmp}
 use Rattle.std.specs.List.{count_by}
 use Rattle.std.specs.FinSet as set
 use Rattle.std.specs.FinMap as entry_map
 use Rattle.books_model.specs.Books.{ClearingBooks, position_cmp}
 use Rattle.txn_words.specs.Frames.{KeepsOthers}
-use Rattle.txn_alloc.specs.declared.arena.Arena.{Arena}
 use Rattle.txn_alloc.specs.FreeLists.{IsHead, IsInBlock, FreeListsHold}
 use Rattle.txn_alloc.specs.EntryMaps.{Entries, Blocks, IsOwn}
 use Rattle.txn_alloc.proofs.Counting.{times_of}
-use Rattle.txn_alloc.proofs.Lists.{same_block, free_kept}
+use Rattle.txn_alloc.proofs.Lists.{free_kept}
 use Rattle.txn_tree_map.specs.Trees.{TreeHolds, tree_part}
 use Rattle.txn_tree_map.proofs.Maps.{tree_stands}
 use Rattle.txn_tree_map.proofs.Gets.{used_below}
@@ -23,10 +22,9 @@ use Rattle.txn_hash_map.proofs.Inserts as chains
 use Rattle.txn_ring.specs.Queues.{QueueHolds}
 use Rattle.txn_ring.specs.Queues as ring
 use Rattle.txn_ring.proofs.Items.{queue_stands}
-use Rattle.txn_books.specs.declared.shape.BooksShape.{BooksShape}
 use Rattle.txn_books.specs.Layout.{shape_of, arena_of, tree_of, chains_of, queue_of, chained}
 use Rattle.txn_books.specs.Standing.{times_among, HasParts}
-use Rattle.txn_books.proofs.Apart.{member_one, two_among, three_among, bucket_apart, ring_apart, block_apart, head_apart, root_apart, not_own}
+use Rattle.txn_books.proofs.Apart.{other_out, two_among, three_among, bucket_apart, ring_apart, block_apart, head_apart, root_apart, not_own}
 
 -- the blocks of a part are the arena's
 pub tree_below : (words : List ℕ) (books : ClearingBooks) (in_hand : List ℕ) (parts : HasParts words books in_hand) (d : ℕ) → set.contains parts.tree_used d ≡ true → d < books.blocks
@@ -36,16 +34,6 @@ pub chain_below : (words : List ℕ) (books : ClearingBooks) (in_hand : List ℕ
 chain_below words books in_hand parts d k = uses_below (chains_of (shape_of books)) 0 words d (chained books, parts.chain_used, parts.chains, k)
 
 module _ (old new : List ℕ) (books : ClearingBooks) (in_hand : List ℕ) (parts : HasParts old books in_hand) where
-  shape : BooksShape
-  shape = shape_of books
-
-  arena : Arena
-  arena = arena_of (shape_of books)
-
-  -- in how many places block d is
-  places : ℕ → ℕ
-  places d = times_of parts.tree_used d + times_of parts.chain_used d + times_of parts.free d
-
   pub at_once : (d : ℕ) → d < books.blocks → times_of parts.tree_used d + times_of parts.chain_used d + times_of parts.free d + count_by (λ c. c == d) in_hand ≡ 1
   at_once d lt = let one = parts.parted d lt in let three = three_among d parts.tree_used parts.chain_used parts.free in omega (arith, one, three)
 
@@ -58,15 +46,9 @@ module _ (old new : List ℕ) (books : ClearingBooks) (in_hand : List ℕ) (part
 
     -- no block of the chains is the tree's, before or after
     chain_out : (d a e : ℕ) → set.contains parts.chain_used d ≡ true → IsInBlock (arena_of (shape_of books)) d a → (set.contains parts.tree_used e ≡ true) ⊎ (set.contains after e ≡ true) → ¬ IsInBlock (arena_of (shape_of books)) e a
-    chain_out d a e k mine uses other =
-        let same : e ≡ d = same_block (arena_of (shape_of books)) e d a other mine in
-        let one : times_of parts.chain_used d ≡ 1 = member_one parts.chain_used d k in
+    chain_out d a e k mine =
         let once = at_once d (chain_below old books in_hand parts d k) in
-        let many = counts d in
-        elim uses [
-          | inl w ↦ let here : times_of parts.tree_used d ≡ 1 = member_one parts.tree_used d (ap (λ z. set.contains parts.tree_used z) (sym same) ∙ w) in omega (arith, one, once, here)
-          | inr w ↦ let here : times_of after d ≡ 1 = member_one after d (ap (λ z. set.contains after z) (sym same) ∙ w) in omega (arith, one, once, here, many)
-        ]
+        other_out (arena_of (shape_of books)) parts.chain_used parts.tree_used parts.free after free d a e k (omega (arith, once)) (counts d) mine
 
     stays : (a : ℕ) → a ≢ (tree_of (shape_of books)).root → ¬ IsHead (arena_of (shape_of books)) a → ((d : ℕ) → (set.contains parts.tree_used d ≡ true) ⊎ (set.contains after d ≡ true) → ¬ IsInBlock (arena_of (shape_of books)) d a)
         → slice_get new a ≡ slice_get old a
@@ -98,15 +80,9 @@ module _ (old new : List ℕ) (books : ClearingBooks) (in_hand : List ℕ) (part
 
     -- no block of the tree is the chains', before or after
     tree_out : (d a e : ℕ) → set.contains parts.tree_used d ≡ true → IsInBlock (arena_of (shape_of books)) d a → (set.contains parts.chain_used e ≡ true) ⊎ (set.contains after e ≡ true) → ¬ IsInBlock (arena_of (shape_of books)) e a
-    tree_out d a e k mine uses other =
-        let same : e ≡ d = same_block (arena_of (shape_of books)) e d a other mine in
-        let one : times_of parts.tree_used d ≡ 1 = member_one parts.tree_used d k in
+    tree_out d a e k mine =
         let once = at_once d (tree_below old books in_hand parts d k) in
-        let many = counts_chain d in
-        elim uses [
-          | inl w ↦ let here : times_of parts.chain_used d ≡ 1 = member_one parts.chain_used d (ap (λ z. set.contains parts.chain_used z) (sym same) ∙ w) in omega (arith, one, once, here)
-          | inr w ↦ let here : times_of after d ≡ 1 = member_one after d (ap (λ z. set.contains after z) (sym same) ∙ w) in omega (arith, one, once, here, many)
-        ]
+        other_out (arena_of (shape_of books)) parts.tree_used parts.chain_used parts.free after free d a e k (omega (arith, once)) (counts_chain d) mine
 
     stay : (a : ℕ) → ¬ IsBucket (chains_of (shape_of books)) a → ¬ IsHead (arena_of (shape_of books)) a → ((d : ℕ) → (set.contains parts.chain_used d ≡ true) ⊎ (set.contains after d ≡ true) → ¬ IsInBlock (arena_of (shape_of books)) d a)
         → slice_get new a ≡ slice_get old a

@@ -21,16 +21,8 @@ use Rattle.txn_hash_map.specs.Chains.{chain_part}
 use Rattle.txn_books.specs.declared.shape.BooksShape.{BooksShape}
 use Rattle.txn_books.specs.Layout.{shape_of, words_of, tree_of, chains_of, chained}
 use Rattle.txn_books.specs.Standing.{times_among, HasParts, IsGoodFor}
-use Rattle.txn_books.proofs.Apart.{member_one, out_none, two_among}
+use Rattle.txn_books.proofs.Apart.{member_one, out_none, two_among, out_other}
 use Rattle.txn_books.proofs.Changes.{at_once, tree_below, chain_below, tree_change}
-
--- a set of which a block is no member
-out_of : (s : Blocks) (b : ℕ) → times_of s b ≡ 0 → set.contains s b ≡ false
-out_of s b none = at (set.contains s b) refl
-  where
-    at : (m : Bool) → set.contains s b ≡ m → set.contains s b ≡ false
-    at false e = e
-    at true e = let one : times_of s b ≡ 1 = member_one s b e in absurd (omega (arith, none, one))
 
 module _ (words : List ℕ) (books : ClearingBooks) (in_hand : List ℕ) (parts : HasParts words books in_hand) where
   -- neither the tree nor the chains use a free block
@@ -38,20 +30,14 @@ module _ (words : List ℕ) (books : ClearingBooks) (in_hand : List ℕ) (parts 
   tree_free = record {
     map = parts.accounts;
     free_lists = parts.free_lists;
-    apart = λ b k.
-        let once = at_once words words books in_hand parts b (tree_below words books in_hand parts b k) in
-        let one : times_of parts.tree_used b ≡ 1 = member_one parts.tree_used b k in
-        out_of parts.free b (omega (arith, once, one));
+    apart = λ b k. let once = at_once words words books in_hand parts b (tree_below words books in_hand parts b k) in out_other parts.tree_used parts.free b k (omega (arith, once));
   }
 
   pub chains_free : HoldsApart (chain_part (chains_of (shape_of books))) words (chained books) parts.chain_used parts.free
   chains_free = record {
     map = parts.chains;
     free_lists = parts.free_lists;
-    apart = λ b k.
-        let once = at_once words words books in_hand parts b (chain_below words books in_hand parts b k) in
-        let one : times_of parts.chain_used b ≡ 1 = member_one parts.chain_used b k in
-        out_of parts.free b (omega (arith, once, one));
+    apart = λ b k. let once = at_once words words books in_hand parts b (chain_below words books in_hand parts b k) in out_other parts.chain_used parts.free b k (omega (arith, once));
   }
 
 abbrev times_by : Bool → ℕ
