@@ -1,5 +1,5 @@
 -- How many blocks sets have.
-use Rattle.std.proofs.Common.{◌≡◌, ◌≢◌, ℕ, zero, suc, ◌+◌, ◌-◌, ◌*◌, ◌<◌, ◌≤◌, Bool, true, false, List, [], ◌∷◌, Some, None, length, slice_get, is_some, cond, refl, sym, ap, ◌∙◌, arith}
+use Rattle.std.proofs.Common.{◌≡◌, ◌≢◌, ℕ, zero, suc, ◌+◌, ◌-◌, ◌*◌, ◌<◌, ◌≤◌, Bool, true, false, List, [], ◌∷◌, Some, None, length, slice_get, is_some, cond, eqb, refl, sym, ap, ◌∙◌, subst, arith, rules}
 use mathlib.Core.Bool.{true≢false}
 use mathlib.Core.Logic.{dite}
 use native.Mathlib.Decide.{ℕ_discrete}
@@ -9,7 +9,9 @@ use Rattle.std.specs.Cmp.{nat_cmp_total}
 use Rattle.std.specs.FinSet.{nat_cmp-IsAntisymmetric}
 use Rattle.std.specs.FinSet as set
 use Rattle.std.proofs.lemmas.List.Sums.{sum_by-cons}
-use Rattle.std.specs.List.{AllByRecursion}
+use Rattle.std.specs.List.{AllByRecursion, IsDistinct, list_any}
+use Rattle.std.proofs.lemmas.Map.Keys.{IsDistinct-cons}
+use Rattle.std.proofs.lemmas.Map.Steps.{length-le_from_distinct_below}
 use Rattle.std.specs.FinMap as entry_map
 use Rattle.std.proofs.lemmas.Option.{same_Some}
 use Rattle.txn_alloc.specs.declared.arena.Arena.{Arena}
@@ -183,3 +185,50 @@ keyed_once arena s b (c ∷ cs) keys once = dite (ℕ_discrete c.block b)
     let none : one_in b c ≡ 0 = one_there b c other in
     let rest : times_in b cs ≤ 1 = keyed_once arena s b cs keys.1 once.1 in
     omega (arith, none, rest))
+
+-- a block that stands among cells is one of theirs
+pub times_all : (P : ℕ → Type 0) (b : ℕ) (cs : List Cell) → AllByRecursion (λ c. P c.block) cs → 1 ≤ times_in b cs → P b
+times_all P b [] all h = absurd (omega (arith, h))
+times_all P b (c ∷ cs) all h = dite (ℕ_discrete c.block b)
+    (λ same. subst P same all.0)
+    (λ other. let none : one_in b c ≡ 0 = one_there b c other in times_all P b cs all.1 (omega (arith, none, h)))
+
+-- the numbers of the blocks of cells
+numbers_of : List Cell → List ℕ
+numbers_of [] = []
+numbers_of (c ∷ cs) = c.block ∷ numbers_of cs
+
+all_differ : (b : ℕ) (cs : List Cell) → times_in b cs ≡ 0 → AllByRecursion (λ y. eqb b y ≡ false) (numbers_of cs)
+unfolding numbers_of
+all_differ b [] h = tt
+all_differ b (c ∷ cs) h = dite (ℕ_discrete c.block b)
+    (λ same. let one : one_in b c ≡ 1 = one_here b c same in absurd (omega (arith, one, h)))
+    (λ other. (grind (rules, other), all_differ b cs (let none : one_in b c ≡ 0 = one_there b c other in omega (arith, none, h))))
+
+numbers_differ : (cs : List Cell) → ((b : ℕ) → times_in b cs ≤ 1) → IsDistinct eqb (numbers_of cs)
+unfolding numbers_of IsDistinct
+numbers_differ [] once = tt
+numbers_differ (c ∷ cs) once =
+    let one : one_in c.block c ≡ 1 = one_here c.block c refl in
+    let none : times_in c.block cs ≡ 0 = let k : one_in c.block c + times_in c.block cs ≤ 1 = once c.block in omega (arith, one, k) in
+    IsDistinct-cons eqb c.block (numbers_of cs) (all_differ c.block cs none)
+    (numbers_differ cs (λ b. let k : one_in b c + times_in b cs ≤ 1 = once b in omega (arith, k)))
+
+any_number : (b : ℕ) (cs : List Cell) → list_any (eqb b) (numbers_of cs) ≡ true → 1 ≤ times_in b cs
+unfolding numbers_of
+any_number b [] h = cc
+any_number b (c ∷ cs) h = dite (ℕ_discrete c.block b)
+    (λ same. let one : one_in b c ≡ 1 = one_here b c same in omega (arith, one))
+    (λ other. let rest : 1 ≤ times_in b cs = any_number b cs (grind (rules, other, h)) in omega (arith, rest))
+
+length-numbers_of : (cs : List Cell) → length (numbers_of cs) ≡ length cs
+unfolding numbers_of
+length-numbers_of [] = refl
+length-numbers_of (c ∷ cs) = ap suc (length-numbers_of cs)
+
+-- so cells that each have a block of their own, all below a number, are no more than that
+pub length_below : (n : ℕ) (cs : List Cell) → ((b : ℕ) → times_in b cs ≤ 1) → AllByRecursion (λ c. c.block < n) cs → length cs ≤ n
+length_below n cs once below =
+    let short : length (numbers_of cs) ≤ n =
+    length-le_from_distinct_below (numbers_of cs) n (numbers_differ cs once) (λ q m. times_all (λ d. d < n) q cs below (any_number q cs m)) in
+    omega (arith, short, length-numbers_of cs)

@@ -6,3 +6,5 @@ pub mod Zeros
 pub mod Counting
 pub mod Wider
 pub mod Parts
+pub mod Founds
+pub mod TwoBlocks

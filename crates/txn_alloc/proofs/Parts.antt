@@ -1,5 +1,5 @@
 -- What maps on blocks have in common: lemmas over any map's part of the words.
-use Rattle.std.proofs.Common.{◌≡◌, ℕ, inl, inr, true, List, Option, Some, None, sym, ap, ◌∙◌, subst}
+use Rattle.std.proofs.Common.{◌≡◌, ℕ, inl, inr, Bool, true, false, List, Option, Some, None, refl, sym, ap, ◌∙◌, subst}
 use mathlib.Core.Bool.{true≢false}
 use Rattle.std.specs.FinSet as set
 use Rattle.std.specs.FinMap as entry_map
@@ -31,6 +31,17 @@ old_not_full was e = absurd (cc)
 -- a map beside free lists is a map
 pub held : {part : Part} {s : List ℕ} → HasMapApart part s → HasMap part s
 held o = record { entries = o.entries; used = o.used; holds = o.holds.map }
+
+pub each_held : (part : Part) (n : ℕ) (G : List ℕ → Type 0) (t : Trace) → InEach n G t (HasMapApart part) → InEach n G t (HasMap part)
+each_held part n G t order = record { at = λ s fit. held (order.at s fit) }
+
+-- a block that is free is not used
+pub free_unused : (part : Part) (s : List ℕ) (f : Entries) (u v : Blocks) (b : ℕ) → HoldsApart part s f u v → set.contains v b ≡ true → set.contains u b ≡ false
+free_unused part s f u v b hold free = at (set.contains u b) refl
+  where
+    at : (m : Bool) → set.contains u b ≡ m → set.contains u b ≡ false
+    at false e = e
+    at true e = absurd (true≢false (sym free ∙ hold.apart b e))
 
 -- what a look leaves is held, and in order
 pub held_found : (part : Part) (key : ℕ) (answer : Option ℕ) (x y : List ℕ) → HasMap part x → Finds part key answer x y → HasMap part y

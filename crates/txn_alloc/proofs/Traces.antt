@@ -20,6 +20,15 @@ pub record Lies (arena : Arena) (n : ℕ) : Type 0 where
   pub block : (b : ℕ) → b < arena.blocks → block_at arena b < n
   pub small : n ≤ 2 ^ 64
 
+-- a block of an arena that is laid out so in every state
+pub laid_block : (arena : Arena) (n : ℕ) (G : List ℕ → Type 0) (t : Trace) → SomeFits n G t → (b : ℕ) → InEach n G t (IsLaidOut arena) → b < arena.blocks → (block_at arena b + 4 ≤ n) × (n ≤ 2 ^ 64)
+laid_block arena n G t some b laid lt =
+    let s : List ℕ = after t some.0 in
+    let l : IsLaidOut arena s = laid.at some.0 some.1 in
+    let long : length s ≡ n = length-after t some.0 ∙ some.1.count in
+    let k : block_at arena b + 4 ≤ length s = l.blocks b lt in
+    (omega (arith, long, k), omega (arith, long, l.places))
+
 module _ (arena : Arena) (n : ℕ) (G : List ℕ → Type 0) (t : Trace) where
   pub lies : InEach n G t (IsInOrder arena) → SomeFits n G t → Lies arena n
   lies order some =

@@ -6,11 +6,13 @@
 #![tactic(auto)]
 
 pub mod arena;
+pub mod found;
 pub mod free;
 pub mod laws;
 pub mod put;
 pub mod spread;
 
 pub use arena::{Arena, Block};
+pub use found::Found;
 pub use free::{give, take};
 pub use put::Put;

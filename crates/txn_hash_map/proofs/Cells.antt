@@ -1,15 +1,14 @@
 -- Chains of cells in one word list.
-use Rattle.std.proofs.Common.{◌≡◌, ◌≢◌, ℕ, suc, ◌+◌, ◌*◌, ◌/◌, ◌%◌, ◌^◌, ◌<◌, ◌≤◌, ◌⊎◌, inl, inr, Bool, true, false, List, [], ◌∷◌, ◌++◌, length, slice_get, Some, None, eqb, refl, sym, ap, ◌∙◌, subst, arith, rules}
+use Rattle.std.proofs.Common.{◌≡◌, ◌≢◌, ℕ, ◌+◌, ◌*◌, ◌/◌, ◌%◌, ◌^◌, ◌<◌, ◌≤◌, ◌⊎◌, inl, inr, true, false, List, [], ◌∷◌, ◌++◌, length, slice_get, Some, None, refl, sym, ap, ◌∙◌, subst, arith, rules}
 use mathlib.Core.Bool.{true≢false}
 use mathlib.Core.Logic.{dite}
 use native.Mathlib.Decide.{ℕ_discrete}
-use Rattle.std.specs.List.{IsDistinct, list_any, AllByRecursion}
+use Rattle.std.specs.List.{AllByRecursion}
 use Rattle.std.proofs.lemmas.Option.{same_Some}
-use Rattle.std.proofs.lemmas.Map.Keys.{IsDistinct-cons}
-use Rattle.std.proofs.lemmas.Map.Steps.{length-le_from_distinct_below}
 use Rattle.txn_alloc.specs.declared.arena.Arena.{Arena}
 use Rattle.txn_alloc.specs.FreeLists.{block_at}
-use Rattle.txn_alloc.proofs.Cells.{value_first, value_later, has_first, has_later}
+use Rattle.txn_alloc.proofs.Cells.{value_first, value_later, has_first, has_later, has_not, one_in, one_here, times_in}
+use Rattle.txn_alloc.proofs.Counting.{AreKeyed, keyed_once, length_below}
 use Rattle.txn_alloc.specs.declared.spread.TheConstants.{MULTIPLIER}
 use Rattle.txn_hash_map.specs.declared.map.TheConstants.{BUCKETS}
 use Rattle.txn_alloc.specs.EntryMaps.{Cell, value_of, has_block, HasKeysOnce}
@@ -62,14 +61,6 @@ block_key arena s p b k (c ∷ cs) h m e = dite (ℕ_discrete c.block b)
     let rest : value_of k cs ≢ None = block_key arena s (block_at arena c.block + 2) b k cs h.4 there e in
     λ none. dite (ℕ_discrete c.key k) (λ is_key. absurd (cc (value_first k c cs is_key))) (λ is_other. rest (sym (value_later k c cs is_other) ∙ none)))
 
--- a cell's block is in none of the others
-pub block_once : (arena : Arena) (s : List ℕ) (p : ℕ) (c : Cell) (cs : List Cell) → HasChain arena s p (c ∷ cs) → HasKeysOnce (c ∷ cs) → has_block c.block cs ≡ false
-block_once arena s p c cs h once = at (has_block c.block cs) refl
-  where
-    at : (m : Bool) → has_block c.block cs ≡ m → has_block c.block cs ≡ false
-    at false e = e
-    at true e = absurd (block_key arena s (block_at arena c.block + 2) c.block c.key cs h.4 e h.2 once.0)
-
 -- a chain's blocks are the arena's
 pub block_below : (arena : Arena) (s : List ℕ) (p b : ℕ) (cs : List Cell) → HasChain arena s p cs → has_block b cs ≡ true → b < arena.blocks
 block_below arena s p b [] h m = absurd (true≢false (sym m))
@@ -77,38 +68,26 @@ block_below arena s p b (c ∷ cs) h m = dite (ℕ_discrete c.block b)
     (λ same. subst (λ (d : ℕ). d < arena.blocks) same h.1)
     (λ other. block_below arena s (block_at arena c.block + 2) b cs h.4 (let there : has_block b cs ≡ true = grind rules in there))
 
--- the blocks of cells
-pub blocks_of : List Cell → List ℕ
-blocks_of [] = []
-blocks_of (c ∷ cs) = c.block ∷ blocks_of cs
+-- and each of its cells is in one of them
+chain_blocks : (arena : Arena) (s : List ℕ) (p : ℕ) (cs : List Cell) → HasChain arena s p cs → AllByRecursion (λ c. c.block < arena.blocks) cs
+chain_blocks arena s p [] h = tt
+chain_blocks arena s p (c ∷ cs) h = (h.1, chain_blocks arena s (block_at arena c.block + 2) cs h.4)
 
-any_block : (b : ℕ) (cs : List Cell) → list_any (eqb b) (blocks_of cs) ≡ has_block b cs
-unfolding blocks_of
-any_block b [] = refl
-any_block b (c ∷ cs) = grind (rules, any_block b cs)
+-- each cell of a chain has its key in its block
+pub chain_keyed : (arena : Arena) (s : List ℕ) (p : ℕ) (cs : List Cell) → HasChain arena s p cs → AreKeyed arena s cs
+chain_keyed arena s p [] h = tt
+chain_keyed arena s p (c ∷ cs) h = (h.2, chain_keyed arena s (block_at arena c.block + 2) cs h.4)
 
-all_differ : (b : ℕ) (cs : List Cell) → has_block b cs ≡ false → AllByRecursion (λ y. eqb b y ≡ false) (blocks_of cs)
-unfolding blocks_of
-all_differ b [] h = tt
-all_differ b (c ∷ cs) h = (grind (rules, h), all_differ b cs (grind (rules, h)))
+-- so a cell's block is in none of the others
+pub block_once : (arena : Arena) (s : List ℕ) (p : ℕ) (c : Cell) (cs : List Cell) → HasChain arena s p (c ∷ cs) → HasKeysOnce (c ∷ cs) → has_block c.block cs ≡ false
+block_once arena s p c cs h once =
+    let one : one_in c.block c ≡ 1 = one_here c.block c refl in
+    let k : one_in c.block c + times_in c.block cs ≤ 1 = keyed_once arena s c.block (c ∷ cs) (chain_keyed arena s p (c ∷ cs) h) once in
+    has_not c.block cs (omega (arith, one, k))
 
-blocks_differ : (arena : Arena) (s : List ℕ) (p : ℕ) (cs : List Cell) → HasChain arena s p cs → HasKeysOnce cs → IsDistinct eqb (blocks_of cs)
-unfolding blocks_of IsDistinct
-blocks_differ arena s p [] h once = tt
-blocks_differ arena s p (c ∷ cs) h once =
-    IsDistinct-cons eqb c.block (blocks_of cs) (all_differ c.block cs (block_once arena s p c cs h once)) (blocks_differ arena s (block_at arena c.block + 2) cs h.4 once.1)
-
-length-blocks_of : (cs : List Cell) → length (blocks_of cs) ≡ length cs
-unfolding blocks_of
-length-blocks_of [] = refl
-length-blocks_of (c ∷ cs) = ap suc (length-blocks_of cs)
-
--- so a chain is no longer than the arena has blocks
+-- and a chain is no longer than the arena has blocks
 pub chain_short : (arena : Arena) (s : List ℕ) (p : ℕ) (cs : List Cell) → HasChain arena s p cs → HasKeysOnce cs → length cs ≤ arena.blocks
-chain_short arena s p cs h once =
-    let short : length (blocks_of cs) ≤ arena.blocks =
-    length-le_from_distinct_below (blocks_of cs) arena.blocks (blocks_differ arena s p cs h once) (λ q m. block_below arena s p q cs h (sym (any_block q cs) ∙ m)) in
-    omega (arith, short, length-blocks_of cs)
+chain_short arena s p cs h once = length_below arena.blocks cs (λ b. keyed_once arena s b cs (chain_keyed arena s p cs h) once) (chain_blocks arena s p cs h)
 
 -- a key of these cells has their bucket
 pub key_own : (i k : ℕ) (cs : List Cell) → HasKeysIn i cs → value_of k cs ≢ None → bucket_of k ≡ i

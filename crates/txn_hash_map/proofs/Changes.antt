@@ -1,5 +1,5 @@
 -- What an insert leaves.
-use Rattle.std.proofs.Common.{◌≡◌, ◌≢◌, ℕ, ◌+◌, ◌<◌, ◌≤◌, ◌⊎◌, inl, inr, Bool, true, false, List, [], ◌∷◌, ◌++◌, length, slice_get, slice_set, Some, None, eqb, cond, refl, sym, ap, ◌∙◌, subst, arith, rules}
+use Rattle.std.proofs.Common.{◌≡◌, ◌≢◌, ℕ, ◌+◌, ◌<◌, ◌≤◌, ◌⊎◌, inl, inr, true, false, List, [], ◌∷◌, ◌++◌, length, slice_get, slice_set, Some, None, eqb, cond, refl, sym, ap, ◌∙◌, subst, arith, rules}
 use mathlib.Core.Bool.{true≢false}
 use mathlib.Core.Logic.{dite}
 use native.Mathlib.Decide.{ℕ_discrete}
@@ -14,6 +14,7 @@ use Rattle.txn_alloc.specs.FreeLists.{block_at, IsHead, IsInBlock, TakesBlock}
 use Rattle.txn_alloc.proofs.Lists.{free_kept, free_below, same_block}
 use Rattle.txn_alloc.proofs.Sets.{in_here, in_there, in_or, out_less, out_itself}
 use Rattle.txn_alloc.proofs.Cells.{value_first, value_later, has_first, has_later, has_middle, insert_same, insert_other}
+use Rattle.txn_alloc.proofs.Parts.{free_unused}
 use Rattle.txn_hash_map.specs.declared.map.ChainMap.{ChainMap}
 use Rattle.txn_hash_map.specs.declared.map.TheConstants.{BUCKETS}
 use Rattle.txn_alloc.specs.EntryMaps.{Cell, value_of, has_block, Entries, Blocks, HoldsApart, HasKeysOnce}
@@ -181,13 +182,6 @@ module _ (map : ChainMap) (s : List ℕ) (f : Entries) (u v : Blocks) (hold : Ho
       let q = hold.map.used_in d m in
       block_below map.arena s (map.buckets + q.0) d (hold.map.cells q.0) (hold.map.chain q.0 q.1) q.2
 
-  pub free_unused : (b : ℕ) → set.contains v b ≡ true → set.contains u b ≡ false
-  free_unused b free = at (set.contains u b) refl
-    where
-      at : (m : Bool) → set.contains u b ≡ m → set.contains u b ≡ false
-      at false e = e
-      at true e = absurd (true≢false (sym free ∙ hold.apart b e))
-
 -- a new key, in a block that was free
 pub left_new : (map : ChainMap) (key x b : ℕ) (s r t : List ℕ) (f : Entries) (u v : Blocks) → HoldsApart (chain_part map) s f u v → IsMissing map key s
     → TakesBlock map.arena b s r v → KeepsOthers (IsHead map.arena) s r → IsPutInFront map key x b r t
@@ -199,7 +193,7 @@ left_new map key x b s r t f u v hold missing taken kept put =
     let h : ChainsHold map r f u = chains_stand map s r f u hold.map kept.count (λ c k. kept.same c (l.no_head c k)) (λ d c m k. kept.same c (l.arena.outside d c (used_below map s f u v hold d m) k)) in
     let absent : entry_map.get f key ≡ None = missing_value map key s f u missing hold.map in
     let below : b < a.blocks = free_below a s v b hold.free_lists taken.was_free in
-    let unused : set.contains u b ≡ false = free_unused map s f u v hold b taken.was_free in
+    let unused : set.contains u b ≡ false = free_unused (chain_part map) s f u v b hold taken.was_free in
     let c : Cell = record { block = b; key = key; value = x } in
     let bucket : (i : ℕ) → i < BUCKETS → IsBucket map (map.buckets + i) = λ i lt. record { low = omega arith; high = omega (arith, lt) } in
     let here : IsBucket map (map.buckets + j) = bucket j (bucket_below key) in

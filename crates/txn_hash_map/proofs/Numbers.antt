@@ -6,7 +6,6 @@ use native.Mathlib.Decide.{ℕ_discrete}
 use Rattle.std.specs.List.{AllByRecursion}
 use Rattle.std.specs.FinSet as set
 use Rattle.std.specs.FinMap as entry_map
-use Rattle.txn_alloc.specs.declared.arena.Arena.{Arena}
 use Rattle.txn_alloc.specs.FreeLists.{block_at}
 use Rattle.txn_alloc.specs.EntryMaps.{Cell, Entries, Blocks, value_of, has_block, HasKeysOnce}
 use Rattle.txn_alloc.proofs.Cells.{all_append, all_map, value_first, value_later, value_past, first_block, later_block, has_later}
@@ -14,7 +13,7 @@ use Rattle.txn_alloc.proofs.Counting.{AreKeyed, len_cells, len_blocks, keyed_onc
 use Rattle.txn_hash_map.specs.declared.map.ChainMap.{ChainMap}
 use Rattle.txn_hash_map.specs.declared.map.TheConstants.{BUCKETS}
 use Rattle.txn_hash_map.specs.Chains.{HasChain, HasKeysIn, bucket_of, ChainsHold}
-use Rattle.txn_hash_map.proofs.Cells.{bucket_below, key_own}
+use Rattle.txn_hash_map.proofs.Cells.{bucket_below, key_own, chain_keyed}
 use Rattle.txn_hash_map.proofs.OneMap.{both}
 
 -- the cells of the buckets below a number
@@ -47,11 +46,6 @@ has_either b (c ∷ xs) ys h = dite (ℕ_discrete c.block b)
 once_append : (xs ys : List Cell) → HasKeysOnce xs → HasKeysOnce ys → AllByRecursion (λ c. value_of c.key ys ≡ None) xs → HasKeysOnce (xs ++ ys)
 once_append [] ys h k apart = k
 once_append (c ∷ xs) ys h k apart = (value_past c.key xs ys h.0 ∙ apart.0, once_append xs ys h.1 k apart.1)
-
--- each cell of a chain has its key in its block
-chain_keyed : (arena : Arena) (s : List ℕ) (p : ℕ) (cs : List Cell) → HasChain arena s p cs → AreKeyed arena s cs
-chain_keyed arena s p [] h = tt
-chain_keyed arena s p (c ∷ cs) h = (h.2, chain_keyed arena s (block_at arena c.block + 2) cs h.4)
 
 own_buckets : (n i : ℕ) (cs : List Cell) → i < n → HasKeysIn i cs → AllByRecursion (λ c. bucket_of c.key < n) cs
 own_buckets n i [] lt h = tt

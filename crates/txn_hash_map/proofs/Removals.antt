@@ -18,10 +18,11 @@ use Rattle.txn_hash_map.specs.declared.map.ChainMap.{ChainMap}
 use Rattle.txn_alloc.specs.EntryMaps.{HasMapApart, Removes, Uses, IsMoved, IsOwn, MayReadToRemove}
 use Rattle.txn_hash_map.specs.Chains.{chain_part}
 use Rattle.txn_words.specs.Looks.{Looks}
-use Rattle.txn_hash_map.specs.Searches.{IsFoundAt}
+use Rattle.txn_hash_map.specs.Searches.{IsFoundAt, IsLink}
 use Rattle.txn_alloc.proofs.Parts.{moved_out}
 use Rattle.txn_hash_map.proofs.Steps.{found_names, held_used}
-use Rattle.txn_hash_map.proofs.Looks.{IsLinkOr, value_seen}
+use Rattle.txn_alloc.proofs.Founds.{IsNearOr, value_seen, given_own, given_seen}
+use Rattle.txn_hash_map.proofs.Looks.{near_own, keys_block}
 use Rattle.txn_hash_map.proofs.Inserts.{is_one}
 use Rattle.txn_hash_map.proofs.Cuts.{cut, cut_lacks, removed, removed_left, place_used}
 
@@ -30,7 +31,7 @@ abbrev pub IsRead : ChainMap → ℕ → ℕ → ℕ → ℕ → ℕ → ℕ →
 IsRead map key p b q y r x s = (IsFoundAt map key p b s × (slice_get s q ≡ Some y)) × (slice_get s r ≡ Some x)
 
 module _ (map : ChainMap) (key n : ℕ) (G : List ℕ → Type 0) (t u : Trace) (p b q y r x : ℕ) (is_value : q ≡ block_at map.arena b + 1) (is_next : r ≡ block_at map.arena b + 2)
-    (l : Looks n G t u (IsLinkOr map key q) (IsRead map key p b q y r x)) where
+    (l : Looks n G t u (IsNearOr (IsLink map key) q) (IsRead map key p b q y r x)) where
   pub place_within : SomeFits n G u → p < n
   place_within some =
       let s : List ℕ = after u some.0 in
@@ -105,12 +106,8 @@ module _ (map : ChainMap) (key n : ℕ) (G : List ℕ → Type 0) (t u : Trace) 
             | inl k ↦ inl k
             | inr k ↦ inr (inl (k.0, inl (o.entries, o.used, o.holds.map, k.1), record { low = omega (arith, k.2); high = omega (arith, k.2) }))
           ] in
-          let step : (a : ℕ) → IsHeadOrFirst map.arena b a → own a = λ a k. elim k [
-            | inl head ↦ inr (inr (b, moved_back s fit, head))
-            | inr e ↦ inr (inl (b, inl (uses_start s fit), record { low = omega (arith, e); high = omega (arith, e) }))
-          ] in
           only_then own t u w (only_more (λ a. ⊥) own t u (λ a k. absurd k) l.writes)
-          (only_then own u v w (only_write own u v p x e mine) (only_more (IsHeadOrFirst map.arena b) own v w step given))
+          (only_then own u v w (only_write own u v p x e mine) (only_more (IsHeadOrFirst map.arena b) own v w (given_own (chain_part map) key y b (after t s) (after w s) (uses_start s fit) (moved_back s fit)) given))
 
       pub sees_removed : AppendsReads v w (IsHeadOrFirst map.arena b) → (s : List ℕ) → Fits n G w s → AppendsReads t w (MayReadToRemove (chain_part map) key (Some y) (after t s) (after w s))
       sees_removed names s fit =
@@ -123,6 +120,5 @@ module _ (map : ChainMap) (key n : ℕ) (G : List ℕ → Type 0) (t u : Trace) 
             | inl k ↦ inl (inl k)
             | inr k ↦ inl (inr (k.0, (o.entries, o.used, o.holds.map, k.1), inr (inl k.2)))
           ] in
-          let step : (a : ℕ) → IsHeadOrFirst map.arena b a → may a = λ a k. elim k [ inl head ↦ inr (b, moved_back s fit, head) | inr e ↦ inl (inr (b, uses_start s fit, inl e)) ] in
-          sees_then may t u w (sees_more (IsLinkOr map key q (after t s)) may t u (λ a k. inl (value_seen map key n G t u p b q (after t s) o.entries o.used is_value m o.holds.map a k)) (l.reads s fit_u))
-          (sees_then may u v w (sees_write may u v p x e mine) (sees_more (IsHeadOrFirst map.arena b) may v w step names))
+          sees_then may t u w (sees_more (IsNearOr (IsLink map key) q (after t s)) may t u (λ a k. inl (value_seen (chain_part map) key b q (near_own map key) (keys_block map key p b) is_value (after t s) o.entries o.used m o.holds.map a k)) (l.reads s fit_u))
+          (sees_then may u v w (sees_write may u v p x e mine) (sees_more (IsHeadOrFirst map.arena b) may v w (given_seen (chain_part map) key y b (after t s) (after w s) (uses_start s fit) (moved_back s fit)) names))

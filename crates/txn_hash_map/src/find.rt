@@ -8,16 +8,10 @@ ghost use Rattle.txn_words.specs.Looks.{Looks};
 ghost use Rattle.txn_hash_map.specs.Searches.{IsFoundAt, IsMissing, IsLink};
 
 use crate::map::ChainMap;
+use txn_alloc::Found;
 use txn_alloc::arena::NEXT;
 use txn_alloc::spread::spread;
 use txn_words::{Stop, Words};
-
-/// Where a key was found: the place of the word that names its block, and the block.
-#[derive(Clone, Copy)]
-pub(crate) struct Found {
-    pub place: u64,
-    pub block: u32,
-}
 
 /// The bucket of a key.
 pub(crate) fn bucket(key: u64) -> u64

@@ -12,7 +12,8 @@ use Rattle.txn_tree_map.specs.Trees.Tree.{Leaf, Node}
 use Rattle.txn_tree_map.specs.Paths.{Step, plug, place_of, before_of, after_of, IsHung, IsHigh}
 use Rattle.txn_tree_map.specs.Changes.{Hangs}
 use Rattle.txn_tree_map.specs.Joins.{IsHoleOrName, ArePair, IsJoined, IsGathered, Joins}
-use Rattle.txn_tree_map.proofs.Rising.{rising_once, rising_first, rising_last, rising_above, length_below}
+use Rattle.txn_alloc.proofs.Counting.{length_below}
+use Rattle.txn_tree_map.proofs.Rising.{rising_once, rising_first, rising_last, rising_above}
 use Rattle.txn_tree_map.proofs.Trees.{count_in, count_on, times_cells, cells_plug, all_tree, spelled_stays, hung_plug}
 use Rattle.txn_tree_map.proofs.Places.{high_plug, high_whole}
 use Rattle.txn_tree_map.proofs.Descents.{IsNode, node_named, leaf_named, leaf_short, step_down}

@@ -1,6 +1,7 @@
 -- The words that a search reads are the root and words of the tree's own blocks.
-use Rattle.std.proofs.Common.{◌≡◌, ℕ, ◌+◌, ◌≤◌, inl, inr, List, [], ◌++◌, Option, Some, refl, sym, ap, ◌∙◌, subst, arith}
+use Rattle.std.proofs.Common.{◌≡◌, ℕ, ◌+◌, ◌≤◌, inl, inr, true, List, [], ◌++◌, Option, Some, refl, sym, ap, ◌∙◌, subst, arith}
 use Rattle.std.proofs.lemmas.List.{append-nil}
+use Rattle.std.specs.FinSet as set
 use Rattle.txn_alloc.specs.FreeLists.{block_at}
 use Rattle.txn_alloc.specs.EntryMaps.{Entries, Blocks, Uses, IsSeen, has_block}
 use Rattle.txn_alloc.proofs.Cells.{one_in, one_here, times_has, has_middle}
@@ -73,8 +74,11 @@ nearest_of map least node s h other_path other n =
 
 -- a block of the tree is used
 module _ (map : TreeMap) (s : List ℕ) (f : Entries) (u : Blocks) (hold : TreeHolds map s f u) where
+  pub tree_used : (b : ℕ) → IsOfTree map b s → set.contains u b ≡ true
+  tree_used b of = at_used map s [] hold.tree (at_tree map s f u hold) f u hold b ∙ of [] hold.tree (at_tree map s f u hold)
+
   pub tree_uses : (b : ℕ) → IsOfTree map b s → Uses (tree_part map) s b
-  tree_uses b of = (f, u, hold, at_used map s [] hold.tree (at_tree map s f u hold) f u hold b ∙ of [] hold.tree (at_tree map s f u hold))
+  tree_uses b of = (f, u, hold, tree_used b of)
 
   -- so what a search reads is the map's own
   pub word_seen : (first : ℕ) (IsKey : ℕ → Type 0) (b a : ℕ) → IsOfTree map b s → IsKeyOrName map b a → IsSeen (tree_part map) first IsKey s a

@@ -1,7 +1,7 @@
 -- Word lists of tests.
-use Rattle.std.proofs.Common.{◌≡◌, ℕ, ◌<◌, ◌≤◌, List, [], ◌∷◌, length, slice_get, slice_set, Some, None, replicate, refl, sym, ap, ◌∙◌, subst, arith, rules}
-use Rattle.std.proofs.lemmas.List.{length-set, length-replicate, nil_from_length}
-use Rattle.std.specs.List.{IsDistinct, sum_by}
+use Rattle.std.proofs.Common.{◌≡◌, ℕ, ◌≤◌, List, [], ◌∷◌, length, slice_set, replicate, refl, sym, ap, ◌∙◌, subst, arith, rules}
+use Rattle.std.proofs.lemmas.List.{nil_from_length}
+use Rattle.std.specs.List.{sum_by}
 use Rattle.std.specs.Cmp.{nat_cmp_total}
 use Rattle.std.specs.Ordering.{nat_cmp}
 use Rattle.std.specs.FinSet.{members}
@@ -11,10 +11,8 @@ use Rattle.std.specs.FinMap.{gets}
 use Rattle.std.specs.FinMap.Entries.{put}
 use mathlib.Core.Bool.{true≢false}
 use Rattle.history_model.specs.Fitting.{IsGood}
-use Rattle.history_model.proofs.TraceLaws.{get_set_same, get_set_other}
-use Rattle.txn_alloc.specs.declared.arena.Arena.{Arena}
-use Rattle.txn_alloc.proofs.Zeros.{zero_there}
-use Rattle.txn_alloc.specs.FreeLists.{IsLaidOut}
+use Rattle.txn_alloc.proofs.TwoBlocks.{with_links, AreLinked}
+use Rattle.txn_alloc.proofs.TwoBlocks as blocks
 use Rattle.txn_alloc.specs.EntryMaps.{Cell, Entries, value_of, has_block, HasMap, HasMapApart, HasSmallSum, Inserts, SumsRange}
 use Rattle.txn_alloc.specs.declared.put.Put.{Put}
 use Rattle.txn_alloc.specs.declared.put.Put.TheVariants.{New, Old, Full}
@@ -25,75 +23,46 @@ use Rattle.txn_tree_map.specs.Trees.Tree.{Leaf, Node}
 use Rattle.txn_tree_map.proofs.Maps.{one_map}
 use Rattle.txn_tree_map.proofs.Entries.{entries_cells}
 
-abbrev pub two : Arena
-two = record { heads = 1; first = 277; blocks = 2 }
-
 abbrev pub small : TreeMap
 small = record { root = 0; arena = record { heads = 1; first = 277; blocks = 2 } }
-
-nothing : (k : ℕ) → entry_map.get (entry_map.empty {X = ℕ} {R = nat_cmp}) k ≡ None
-nothing k = grind (gets, rules)
 
 -- a map with these entries
 abbrev pub has_entries : Entries → List ℕ → Type 0
 has_entries entries words = (map : HasMapApart (tree_part small) words) × (map.entries ≡ entries)
 
--- a list of zeros but for the two words that link the blocks holds the empty map
-pub linked_empty : (n : ℕ) (ws : List ℕ) → n ≡ 285 → ws ≡ replicate n 0 → IsGood 285 (has_entries entry_map.empty) (slice_set (slice_set ws 1 1) 277 2)
-unfolding IsDistinct
-linked_empty n ws is_n e =
-    let nil : ℕ = 0 in
-    let long : length ws ≡ n = ap length e ∙ length-replicate n nil in
-    let t : List ℕ = slice_set ws 1 1 in
-    let s : List ℕ = slice_set t 277 2 in
-    let long_t : length t ≡ length ws = length-set ws 1 1 in
-    let long_s : length s ≡ 285 = length-set t 277 2 ∙ long_t ∙ long ∙ is_n in
-    let rest : (i : ℕ) → i < n → (i ≡ 1 → ⊥) → (i ≡ 277 → ⊥) → slice_get s i ≡ Some 0 =
-    λ i lt one last. get_set_other t 277 i 2 last ∙ get_set_other ws 1 i 1 one ∙ zero_there n i ws e lt in
-    let laid : IsLaidOut two s = record {
-      places = omega (arith, long_s);
-      blocks = λ b lt. omega (arith, long_s, lt);
-      heads = omega (arith, long_s);
-      outside = λ b a lt in_block head. omega (arith, in_block.low, head.high);
-    } in
+-- no entry is held where all other words are 0
+pub none_held : (words : List ℕ) → AreLinked words → TreeHolds small words entry_map.empty set.empty
+none_held words are =
+    let count = are.count in
     record {
-      count = long_s;
+      laid = record { arena = are.laid_out; root = omega (arith, count); no_head = λ head. omega (arith, head.low); outside = λ b lt mine. omega (arith, mine.low) };
+      tree = Leaf;
+      spelled = (are.zeros 0 (omega arith) (λ k. absurd (omega (arith, k))) (λ k. absurd (omega (arith, k))), tt);
+      search = tt;
+      heap = tt;
+      entries_are = λ key. entry_map.get-empty nat_cmp key;
+      used_are = out_empty;
+    }
+
+-- a list of zeros but for the two words that link the blocks holds the empty map
+pub linked_empty : (n : ℕ) (ws : List ℕ) → n ≡ 285 → ws ≡ replicate n 0 → IsGood 285 (has_entries entry_map.empty) (with_links ws)
+linked_empty n ws is_n e =
+    let are = blocks.linked n ws is_n e in
+    record {
+      count = are.count;
       good = (
         record {
           entries = entry_map.empty;
           used = set.empty;
           free = set.from_list (0 ∷ 1 ∷ []);
-          holds = record {
-            map = record {
-              laid = record { arena = laid; root = omega (arith, long_s); no_head = λ head. omega (arith, head.low); outside = λ b lt mine. omega (arith, mine.low) };
-              tree = Leaf;
-              spelled = (rest 0 (omega (arith, is_n)) (λ k. omega (arith, k)) (λ k. omega (arith, k)), tt);
-              search = tt;
-              heap = tt;
-              entries_are = nothing;
-              used_are = out_empty;
-            };
-            free_lists = record {
-              laid_out = laid;
-              order = 0 ∷ 1 ∷ [];
-              all = refl;
-              once = ((refl, tt), (tt, tt));
-              first = (
-                get_set_other t 277 1 2 (λ k. absurd (omega (arith, k))) ∙ get_set_same ws 1 1 (omega (arith, long, is_n)),
-                omega arith,
-                (get_set_same t 277 2 (omega (arith, long_t, long, is_n)), omega arith, rest 281 (omega (arith, is_n)) (λ k. omega (arith, k)) (λ k. omega (arith, k))),
-              );
-              others = λ a is lt. rest a (omega (arith, is.high, is_n)) (λ k. omega (arith, k, lt)) (λ k. omega (arith, k, is.high));
-            };
-            apart = λ b m. absurd (true≢false (sym m ∙ out_empty b));
-          };
+          holds = record { map = none_held (with_links ws) are; free_lists = are.free_lists; apart = λ b m. absurd (true≢false (sym m ∙ out_empty b)) };
         },
         refl,
       );
     }
 
 -- so it is good
-pub linked : (n : ℕ) (ws : List ℕ) → n ≡ 285 → ws ≡ replicate n 0 → IsGood 285 (HasMapApart (tree_part small)) (slice_set (slice_set ws 1 1) 277 2)
+pub linked : (n : ℕ) (ws : List ℕ) → n ≡ 285 → ws ≡ replicate n 0 → IsGood 285 (HasMapApart (tree_part small)) (with_links ws)
 linked n ws is_n e = let k = linked_empty n ws is_n e in record { count = k.count; good = k.good.0 }
 
 -- the entries after an insert that has room

@@ -1,5 +1,5 @@
 -- The map as a whole: it is one, it stands while its words stay, and what it is after a change at a place.
-use Rattle.std.proofs.Common.{◌≡◌, ℕ, ◌+◌, ◌<◌, ◌≤◌, Bool, true, false, List, [], ◌∷◌, ◌++◌, length, slice_get, inl, inr, refl, sym, ap, ◌∙◌, subst, arith}
+use Rattle.std.proofs.Common.{◌≡◌, ℕ, ◌+◌, ◌<◌, ◌≤◌, true, List, [], ◌∷◌, ◌++◌, length, slice_get, inl, inr, refl, sym, ap, ◌∙◌, subst, arith}
 use mathlib.Core.Bool.{true≢false}
 use mathlib.Core.Logic.{dite}
 use native.Mathlib.Decide.{ℕ_discrete}
@@ -10,10 +10,12 @@ use Rattle.std.specs.FinMap as entry_map
 use Rattle.txn_words.specs.Frames.{KeepsOthers}
 use Rattle.txn_alloc.specs.declared.arena.Arena.{Arena}
 use Rattle.txn_alloc.specs.FreeLists.{IsHead, IsInBlock, TakesBlock}
-use Rattle.txn_alloc.specs.EntryMaps.{Cell, Entries, Blocks, value_of, has_block, HoldsApart, InsertsNew}
+use Rattle.txn_alloc.specs.EntryMaps.{Cell, Entries, Blocks, value_of, has_block, HoldsApart}
 use Rattle.txn_alloc.proofs.Sets.{in_here, out_itself, in_or, out_less, contains-insert_other}
 use Rattle.txn_alloc.proofs.Lists.{free_kept, free_below, same_block}
 use Rattle.txn_alloc.proofs.Cells.{value_less, has_middle, less_block, insert_same, insert_other, times_has}
+use Rattle.txn_alloc.proofs.Parts.{free_unused}
+use Rattle.txn_alloc.proofs.Founds.{InsertsIn}
 use Rattle.txn_tree_map.specs.declared.map.TreeMap.{TreeMap}
 use Rattle.txn_tree_map.specs.Trees.{Tree, name_of, cells_of, IsRising, IsLaid, TreeHolds, tree_part}
 use Rattle.txn_tree_map.specs.Trees.Tree.{Leaf, Node}
@@ -81,21 +83,13 @@ pub tree_headed : (map : TreeMap) (s t : List ℕ) (f : Entries) (u : Blocks) �
 tree_headed map s t f u h kept = tree_stands map s t f u h kept.count (kept.same map.root h.laid.no_head)
     (λ b a k mine. kept.same a (h.laid.arena.outside b a (used_below map s f u b h k) mine))
 
--- a block that is free is not used
-pub free_unused : (map : TreeMap) (s : List ℕ) (f : Entries) (u v : Blocks) (b : ℕ) → HoldsApart (tree_part map) s f u v → set.contains v b ≡ true → set.contains u b ≡ false
-free_unused map s f u v b hold free = at (set.contains u b) refl
-  where
-    at : (m : Bool) → set.contains u b ≡ m → set.contains u b ≡ false
-    at false e = e
-    at true e = absurd (true≢false (sym free ∙ hold.apart b e))
-
 -- a free block was taken: it may be put into the tree
 pub can_put : (map : TreeMap) (key b : ℕ) (s r : List ℕ) (f : Entries) (u v : Blocks) → HoldsApart (tree_part map) s f u v → IsMissing map key s
     → TakesBlock map.arena b s r v → KeepsOthers (IsHead map.arena) s r → CanPut map key b r
 can_put map key b s r f u v hold none taken kept = record {
   missing = record { path = none.path; is_at = at_headed map s r none.path Leaf none.is_at kept; low = none.low; high = none.high };
   below = free_below map.arena s v b hold.free_lists taken.was_free;
-  apart = sym (at_used map s none.path Leaf none.is_at f u hold.map b) ∙ free_unused map s f u v b hold taken.was_free;
+  apart = sym (at_used map s none.path Leaf none.is_at f u hold.map b) ∙ free_unused (tree_part map) s f u v b hold taken.was_free;
 }
 
 -- the map with a cell more
@@ -120,7 +114,7 @@ put_holds map key x b r t f u hold put =
 
 -- with the free lists beside it
 pub inserted_new : (map : TreeMap) (key x b : ℕ) (s r t : List ℕ) (f : Entries) (u v : Blocks) → HoldsApart (tree_part map) s f u v → IsMissing map key s
-    → TakesBlock map.arena b s r v → KeepsOthers (IsHead map.arena) s r → IsPut map key x b r t → InsertsNew (tree_part map) key x t f u v
+    → TakesBlock map.arena b s r v → KeepsOthers (IsHead map.arena) s r → IsPut map key x b r t → InsertsIn (tree_part map) key x b t f u v
 inserted_new map key x b s r t f u v hold none taken kept put =
     let a : Arena = map.arena in
     let h : TreeHolds map r f u = tree_headed map s r f u hold.map kept in
@@ -129,7 +123,6 @@ inserted_new map key x b s r t f u v hold none taken kept put =
     let used : (d : ℕ) → has_block d (before_of here.path ++ after_of here.path) ≡ true → set.contains u d ≡ true = λ d k. at_used map r here.path Leaf here.is_at f u h d ∙ k in
     record {
       absent = missing_value map key s f u none hold.map;
-      block = b;
       was_free = taken.was_free;
       left = record {
         map = put_holds map key x b r t f u h put;

@@ -1,19 +1,14 @@
 -- How many blocks a map uses.
-use Rattle.std.proofs.Common.{◌≡◌, ◌≢◌, ℕ, ◌+◌, ◌<◌, ◌≤◌, List, [], ◌∷◌, sym, ◌∙◌, arith}
+use Rattle.std.proofs.Common.{◌≡◌, ℕ, ◌+◌, ◌≤◌, List, [], sym, ◌∙◌, arith}
 use Rattle.std.specs.FinSet as set
 use Rattle.std.specs.FinMap as entry_map
-use Rattle.txn_alloc.specs.EntryMaps.{Cell, Entries, Blocks, HasKeysOnce}
-use Rattle.txn_alloc.proofs.Cells.{all_map, value_none}
+use Rattle.txn_alloc.specs.EntryMaps.{Entries, Blocks}
 use Rattle.txn_alloc.proofs.Counting.{len_cells, len_blocks}
 use Rattle.txn_tree_map.specs.declared.map.TreeMap.{TreeMap}
-use Rattle.txn_tree_map.specs.Trees.{cells_of, IsRising, TreeHolds}
+use Rattle.txn_tree_map.specs.Trees.{cells_of, TreeHolds}
+use Rattle.txn_tree_map.proofs.Rising.{rising_keys}
 use Rattle.txn_tree_map.proofs.Trees.{count_in, times_cells}
 use Rattle.txn_tree_map.proofs.Places.{at_tree, at_once}
-
--- keys that rise stand once
-rising_keys : (cs : List Cell) → IsRising cs → HasKeysOnce cs
-rising_keys [] h = tt
-rising_keys (c ∷ cs) h = (value_none c.key cs (all_map (λ d. c.key < d.key) (λ d. d.key ≢ c.key) cs (λ d lt e. absurd (omega (arith, lt, e))) h.0), rising_keys cs h.1)
 
 pub as_many_blocks : (map : TreeMap) (s : List ℕ) (f : Entries) (u : Blocks) → TreeHolds map s f u → set.len u ≡ entry_map.len f
 as_many_blocks map s f u h =

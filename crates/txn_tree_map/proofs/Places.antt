@@ -13,7 +13,8 @@ use Rattle.txn_tree_map.specs.declared.map.TreeMap.{TreeMap}
 use Rattle.txn_tree_map.specs.Trees.{Tree, priority_of, name_of, rank_of, cells_of, HasNode, IsSpelled, IsRising, IsHeap, TreeHolds}
 use Rattle.txn_tree_map.specs.Trees.Tree.{Leaf, Node}
 use Rattle.txn_tree_map.specs.Paths.{Step, Path, whole_of, plug, place_of, before_of, after_of, IsHung, IsHigh, IsAt}
-use Rattle.txn_tree_map.proofs.Rising.{rising_once, times_all, length_below}
+use Rattle.txn_alloc.proofs.Counting.{times_all, length_below}
+use Rattle.txn_tree_map.proofs.Rising.{rising_once}
 use Rattle.txn_tree_map.proofs.Trees.{count_in, count_on, times_cells, cells_step, cells_plug, count_plug, all_tree, all_before, all_after, spelled_whole, name_whole, hung_plug, one_tree}
 
 pub priority_small : (key : ℕ) → priority_of key < 2 ^ 64

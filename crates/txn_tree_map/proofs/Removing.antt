@@ -13,6 +13,7 @@ use Rattle.txn_words.proofs.ReadLaws.{sees_more, sees_then}
 use Rattle.txn_alloc.specs.FreeLists.{block_at, IsInBlock, IsHeadOrFirst, Lacks, Gives}
 use Rattle.txn_alloc.proofs.Wider.{IsAnyHeadOrIn}
 use Rattle.txn_alloc.proofs.Parts.{moved_out}
+use Rattle.txn_alloc.proofs.Founds.{given_own, given_seen}
 use Rattle.txn_alloc.proofs.Cells.{times_in, has_times}
 use Rattle.txn_alloc.specs.FreeLists as lists
 use Rattle.txn_alloc.specs.EntryMaps.{HasMapApart, Uses, IsMoved, IsOwn, MayReadToRemove, Removes}
@@ -168,14 +169,10 @@ module _ (map : TreeMap) (key place b value n : ℕ) (G : List ℕ → Type 0) (
             | inl e ↦ inl e
             | inr q ↦ inr (inl (q.0, inl (uses_start s fit q.0 q.1), q.2))
           ] in
-          let second : (a : ℕ) → IsHeadOrFirst map.arena b a → mine a = λ a k. elim k [
-            | inl head ↦ inr (inr (b, moved_back s fit, head))
-            | inr e ↦ inr (inl (b, inl (used_b s fit), record { low = omega (arith, e); high = omega (arith, e) }))
-          ] in
           let fit_u : Fits n G u s = fits_u s (fits_v s fit) in
           only_then mine t u w (only_more (λ a. ⊥) mine t u (λ a k. absurd k) l.writes)
           (only_then mine u v w (only_more (IsCutOwn map place b (after t s) (after v s)) mine u v first (subst (λ z. AppendsOnly u v (IsCutOwn map place b z (after v s))) (l.same s fit_u) (own s (fits_v s fit))))
-          (only_more (IsHeadOrFirst map.arena b) mine v w second given))
+          (only_more (IsHeadOrFirst map.arena b) mine v w (given_own (tree_part map) key value b (after t s) (after w s) (used_b s fit) (moved_back s fit)) given))
 
       pub sees_removed : ((s : List ℕ) → Fits n G v s → AppendsReads u v (IsCutSeen map place b (after u s) (after v s))) → AppendsReads v w (IsHeadOrFirst map.arena b)
           → (s : List ℕ) → Fits n G w s → AppendsReads t w (MayReadToRemove (tree_part map) key (Some value) (after t s) (after w s))
@@ -199,8 +196,7 @@ module _ (map : TreeMap) (key place b value n : ℕ) (G : List ℕ → Type 0) (
             ]
             | inr f ↦ below a (f key h)
           ] in
-          let name : (a : ℕ) → IsHeadOrFirst map.arena b a → may a = λ a k. elim k [ inl head ↦ inr (b, moved_back s fit, head) | inr e ↦ inl (inr (b, used, inl e)) ] in
           let fit_u : Fits n G u s = fits_u s (fits_v s fit) in
           sees_then may t u w (sees_more (IsLink map (after t s)) may t u link (l.reads s fit_u))
           (sees_then may u v w (sees_more (IsCutSeen map place b (after t s) (after v s)) may u v step (subst (λ z. AppendsReads u v (IsCutSeen map place b z (after v s))) (l.same s fit_u) (seen s (fits_v s fit))))
-          (sees_more (IsHeadOrFirst map.arena b) may v w name names))
+          (sees_more (IsHeadOrFirst map.arena b) may v w (given_seen (tree_part map) key value b (after t s) (after w s) used (moved_back s fit)) names))

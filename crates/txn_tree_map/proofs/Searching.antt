@@ -1,11 +1,10 @@
 -- What a search learns of every fitting state at once.
-use Rattle.std.proofs.Common.{◌≡◌, ℕ, ◌+◌, ◌^◌, ◌<◌, ◌≤◌, List, length, slice_get, Some, sym, ◌∙◌, arith}
+use Rattle.std.proofs.Common.{◌≡◌, ℕ, ◌+◌, ◌<◌, List, length, slice_get, Some, sym, ◌∙◌, arith}
 use Rattle.std.proofs.lemmas.Option.{slice_get_within, same_Some}
 use Rattle.history_model.specs.Traces.{Trace, after}
 use Rattle.history_model.specs.Fitting.{SomeFits, InEach}
 use Rattle.history_model.proofs.TraceLaws.{length-after}
 use Rattle.txn_alloc.specs.declared.arena.Arena.{Arena}
-use Rattle.txn_alloc.specs.FreeLists.{block_at}
 use Rattle.txn_alloc.proofs.Lists.{laid_kept}
 use Rattle.txn_tree_map.specs.declared.map.TreeMap.{TreeMap}
 use Rattle.txn_tree_map.specs.Trees.{Tree, name_of, IsSpelled, IsLaid}
@@ -18,15 +17,6 @@ name_below arena s Leaf b e h = absurd (omega (arith, e))
 name_below arena s (Node left c right) b e h = omega (arith, e, h.0.below)
 
 module _ (map : TreeMap) (n : ℕ) (G : List ℕ → Type 0) (t : Trace) (some : SomeFits n G t) where
-  -- the root and the arena's blocks are words
-  pub laid_block : (b : ℕ) → InEach n G t (IsLaid map) → b < map.arena.blocks → (block_at map.arena b + 4 ≤ n) × (n ≤ 2 ^ 64)
-  laid_block b laid lt =
-      let s : List ℕ = after t some.0 in
-      let l : IsLaid map s = laid.at some.0 some.1 in
-      let long : length s ≡ n = length-after t some.0 ∙ some.1.count in
-      let k : block_at map.arena b + 4 ≤ length s = l.arena.blocks b lt in
-      (omega (arith, long, k), omega (arith, long, l.arena.places))
-
   pub top_within : (p : ℕ) → InEach n G t (HasTop map p) → p < n
   top_within p top =
       let s : List ℕ = after t some.0 in

@@ -1,5 +1,5 @@
 -- What a sum over keys learns and reads, in every fitting state at once.
-use Rattle.std.proofs.Common.{◌≡◌, ℕ, ◌+◌, ◌^◌, ◌<◌, ◌≤◌, List, [], ◌∷◌, ◌++◌, slice_get, Some, None, inl, inr, refl, sym, ap, ◌∙◌, subst, arith}
+use Rattle.std.proofs.Common.{◌≡◌, ℕ, ◌+◌, ◌^◌, ◌<◌, ◌≤◌, List, [], ◌∷◌, ◌++◌, slice_get, Some, None, inl, inr, sym, ap, ◌∙◌, subst, arith}
 use Rattle.history_model.specs.declared.event.Event.TheVariants.{Read}
 use Rattle.history_model.specs.Traces.{Trace, after}
 use Rattle.history_model.specs.Fitting.{Fits, SomeFits, InEach, Leads}
@@ -9,13 +9,13 @@ use Rattle.txn_words.proofs.ReadLaws.{sees_more, sees_then}
 use Rattle.txn_alloc.specs.FreeLists.{block_at}
 use Rattle.txn_alloc.specs.EntryMaps.{HasMap, HasSmallSum, MayReadRange, SumsRange}
 use Rattle.txn_words.specs.Looks.{Looks}
-use Rattle.txn_words.proofs.Looks.{looks_map, looks_read, looks_then, looks_wider, seen_before}
+use Rattle.txn_words.proofs.Looks.{looks_map, looks_then, looks_wider, seen_before}
 use Rattle.txn_tree_map.specs.declared.map.TreeMap.{TreeMap}
 use Rattle.txn_tree_map.specs.declared.find.Named.{Named}
 use Rattle.txn_tree_map.specs.Trees.{tree_part}
 use Rattle.txn_tree_map.specs.Searches.{IsLink}
 use Rattle.txn_tree_map.specs.Sums.{IsAnyWord, IsNearest, IsNext, HasNoneTo, IsSummed, IsTotal}
-use Rattle.txn_tree_map.proofs.Gets.{IsLinkOr}
+use Rattle.txn_alloc.proofs.Founds.{IsNearOr, looks_value}
 use Rattle.txn_tree_map.proofs.Links.{nearest_of, tree_uses, link_seen}
 use Rattle.txn_tree_map.proofs.Summing.{nearest_below, nearest_key, nearest_from, nearest_next, nearest_past, nearest_none, next_room, total_sum}
 
@@ -42,18 +42,18 @@ module _ (map : TreeMap) (n : ℕ) (G : List ℕ → Type 0) (t u : Trace) where
     node_from node l some = nearest_from map (after u some.0) least node (l.holds some.0 some.1)
 
     module _ (node : Named) (v : Trace) (q x : ℕ) (is_value : q ≡ block_at map.arena node.block + 1) (l : Looks n G t u (IsLink map) (IsNearest map least (Some node))) (e : v ≡ u ++ Read q x ∷ []) where
-      both_from : Looks n G t v (IsLinkOr map q) (λ s. IsNearest map least (Some node) s × (slice_get s q ≡ Some x))
-      both_from = looks_read n G t (IsLinkOr map q) u v q x (IsNearest map least (Some node)) (looks_wider n G t u (IsLink map) (IsLinkOr map q) (IsNearest map least (Some node)) (λ s h a k. inl k) l) e (λ s h. inr refl)
+      both_from : Looks n G t v (IsNearOr (IsLink map) q) (λ s. IsNearest map least (Some node) s × (slice_get s q ≡ Some x))
+      both_from = looks_value n G t u l v q x e
 
       pub next_from : Looks n G t v IsAnyWord (IsNext map least node.key x)
-      next_from = looks_map n G t IsAnyWord v _ (IsNext map least node.key x) (λ s h. nearest_next map s least node h.0 x (ap (λ z. slice_get s z) (sym is_value) ∙ h.1)) (looks_wider n G t v (IsLinkOr map q) IsAnyWord _ (λ s h a k. tt) both_from)
+      next_from = looks_map n G t IsAnyWord v _ (IsNext map least node.key x) (λ s h. nearest_next map s least node h.0 x (ap (λ z. slice_get s z) (sym is_value) ∙ h.1)) (looks_wider n G t v (IsNearOr (IsLink map) q) IsAnyWord _ (λ s h a k. tt) both_from)
 
       pub value_from : node.key ≤ high → InEach n G t (HasMap (tree_part map)) → (s : List ℕ) → Fits n G v s → AppendsReads t v (MayReadRange (tree_part map) least high (after t s) (after v s))
       value_from le order s fit =
           let seen = seen_before n G t v both_from s fit in
           let o = order.at s (fits_begins n G t v s both_from.begins fit) in
           let IsKey : ℕ → Type 0 = λ d. (least ≤ d) × (d ≤ high) in
-          let step : (a : ℕ) → IsLinkOr map q (after t s) a → MayReadRange (tree_part map) least high (after t s) (after v s) a = λ a k. elim k [
+          let step : (a : ℕ) → IsNearOr (IsLink map) q (after t s) a → MayReadRange (tree_part map) least high (after t s) (after v s) a = λ a k. elim k [
             | inl m ↦ link_seen map (after t s) o.entries o.used o.holds least IsKey a m
             | inr d ↦ inr (
               node.block,
@@ -61,7 +61,7 @@ module _ (map : TreeMap) (n : ℕ) (G : List ℕ → Type 0) (t u : Trace) where
               inr (inr (d ∙ is_value, (node.key, (nearest_from map (after t s) least node seen.0, le), nearest_key map (after t s) least node seen.0))),
             )
           ] in
-          sees_more (IsLinkOr map q (after t s)) (MayReadRange (tree_part map) least high (after t s) (after v s)) t v step (both_from.reads s fit)
+          sees_more (IsNearOr (IsLink map) q (after t s)) (MayReadRange (tree_part map) least high (after t s) (after v s)) t v step (both_from.reads s fit)
 
 -- of a range within another no more values are read
 pub range_more : (map : TreeMap) (low least high : ℕ) (s t : List ℕ) (a : ℕ) → low ≤ least → MayReadRange (tree_part map) least high s t a → MayReadRange (tree_part map) low high s t a

@@ -1,5 +1,5 @@
 -- Another value at a key that was found.
-use Rattle.std.proofs.Common.{◌≡◌, ◌≢◌, ℕ, ◌+◌, ◌<◌, ◌≤◌, true, List, [], ◌∷◌, ◌++◌, length, slice_get, slice_set, Some, refl, sym, ap, ◌∙◌, subst, arith}
+use Rattle.std.proofs.Common.{◌≡◌, ◌≢◌, ℕ, ◌+◌, ◌<◌, ◌≤◌, true, List, [], ◌∷◌, ◌++◌, length, slice_get, slice_set, refl, sym, ap, ◌∙◌, subst, arith}
 use mathlib.Core.Bool.{true≢false}
 use mathlib.Core.Logic.{dite}
 use native.Mathlib.Decide.{ℕ_discrete}
@@ -8,7 +8,7 @@ use Rattle.std.specs.FinSet as set
 use Rattle.std.specs.FinMap as entry_map
 use Rattle.history_model.proofs.TraceLaws.{get_set_same, get_set_other}
 use Rattle.txn_alloc.specs.FreeLists.{block_at, IsInBlock}
-use Rattle.txn_alloc.specs.EntryMaps.{Cell, Entries, Blocks, value_of, has_block, HoldsApart, InsertsOld}
+use Rattle.txn_alloc.specs.EntryMaps.{Cell, Entries, Blocks, value_of, has_block, HoldsApart}
 use Rattle.txn_alloc.proofs.Lists.{free_kept, same_block}
 use Rattle.txn_alloc.proofs.Cells.{all_append, value_less, has_middle, less_block, insert_same, insert_other, one_in, one_here}
 use Rattle.txn_tree_map.specs.declared.map.TreeMap.{TreeMap}
@@ -19,7 +19,7 @@ use Rattle.txn_tree_map.specs.Searches.{IsFoundAt}
 use Rattle.txn_tree_map.proofs.Rising.{rising_cut, rising_put, rising_below, rising_above, value_there}
 use Rattle.txn_tree_map.proofs.Trees.{count_in, count_on, spelled_stays, hung_stays}
 use Rattle.txn_tree_map.proofs.Places.{at_once, at_below, at_value, at_used}
-use Rattle.txn_tree_map.proofs.Descents.{NodeOrder, node_order, around_node, found_value}
+use Rattle.txn_tree_map.proofs.Descents.{NodeOrder, node_order, around_node}
 use Rattle.txn_tree_map.proofs.Searching.{laid_alike}
 use Rattle.txn_tree_map.proofs.Maps.{holds_at}
 
@@ -118,14 +118,11 @@ module _ (map : TreeMap) (key p b x : ℕ) (s : List ℕ) (h : IsFoundAt map key
           (λ e. has_middle d xs ys h.cell e ∙ sym (has_middle d xs ys valued e))
           (λ ne. sym (less_block d xs ys h.cell ne) ∙ less_block d xs ys valued ne)
 
-  pub inserted_old : (f : Entries) (u v : Blocks) (was : ℕ) → HoldsApart (tree_part map) s f u v → slice_get s (block_at map.arena b + 1) ≡ Some was → InsertsOld (tree_part map) key x was with_value f u v
-  inserted_old f u v was hold there = record {
-    present = found_value map key s f u p b was h there hold.map;
-    left = record {
-      map = valued_holds f u hold.map;
-      free_lists = free_kept map.arena s with_value v hold.free_lists (length-set s (block_at map.arena b + 1) x)
-          (λ c head. value_in c (λ m. h.is_at.laid.arena.outside b c found_below m head))
-          (λ d c free mine. other_block d c (λ e. true≢false (sym free ∙ ap (λ z. set.contains v z) e ∙ hold.apart b (found_used f u hold.map))) mine);
-      apart = hold.apart;
-    };
+  pub inserted_old : (f : Entries) (u v : Blocks) → HoldsApart (tree_part map) s f u v → HoldsApart (tree_part map) with_value (entry_map.insert f key x) u v
+  inserted_old f u v hold = record {
+    map = valued_holds f u hold.map;
+    free_lists = free_kept map.arena s with_value v hold.free_lists (length-set s (block_at map.arena b + 1) x)
+        (λ c head. value_in c (λ m. h.is_at.laid.arena.outside b c found_below m head))
+        (λ d c free mine. other_block d c (λ e. true≢false (sym free ∙ ap (λ z. set.contains v z) e ∙ hold.apart b (found_used f u hold.map))) mine);
+    apart = hold.apart;
   }

@@ -8,6 +8,7 @@ ghost use Rattle.txn_tree_map.specs.Trees.{tree_part};
 ghost use Rattle.txn_tree_map.specs.Searches.{HasTop, IsNamed, IsEnd, IsFoundAt, IsMissing, IsLink, IsPlace, IsPlaceOrKey};
 
 use crate::map::TreeMap;
+use txn_alloc::Found;
 use txn_alloc::arena::{LEFT, RIGHT};
 use txn_words::{Stop, Words};
 
@@ -16,13 +17,6 @@ use txn_words::{Stop, Words};
 pub(crate) struct Named {
     pub block: u32,
     pub key: u64,
-}
-
-/// Where a key was found: the place of the word that names its block, and the block.
-#[derive(Clone, Copy)]
-pub(crate) struct Found {
-    pub place: u64,
-    pub block: u32,
 }
 
 /// How far behind the first word of a block the word stands that names its left subtree, or its right one.

@@ -6,11 +6,11 @@ ghost use Rattle.txn_alloc.specs.EntryMaps.{HasMapApart, Removes, IsOwn, MayRead
 ghost use Rattle.txn_tree_map.specs.Trees.{tree_part};
 ghost use Rattle.txn_tree_map.specs.Joins.{CanCut, Cuts, IsCutOwn, IsCutSeen};
 
-use crate::find::{Found, find};
+use crate::find::find;
 use crate::join::join;
 use crate::map::TreeMap;
 use txn_alloc::arena::{LEFT, RIGHT, VALUE};
-use txn_alloc::{Block, give};
+use txn_alloc::{Block, Found, give};
 use txn_words::{Stop, Words};
 
 /// Takes a block out of the tree: its two subtrees, joined, hang where it hung. Answers its value.

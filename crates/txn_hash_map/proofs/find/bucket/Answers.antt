@@ -4,4 +4,4 @@ use Rattle.txn_hash_map.proofs.find.bucket.Goals as goal
 
 pub returns : goal.returns
 unfolding bucket_of
-returns c = ap (λ n. n / 2 ^ 56) c.spread.ensures.value
+returns c = ap (λ n. n / 2 ^ 56) c.spread.ensures

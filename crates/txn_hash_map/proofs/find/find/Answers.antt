@@ -4,7 +4,8 @@ use Rattle.history_model.proofs.FittingLaws.{some_at}
 use Rattle.txn_hash_map.specs.Searches.{IsPassed, IsFoundAt, IsMissing, IsLink}
 use Rattle.txn_hash_map.proofs.Steps.{bucket_fits, passed_none, passed_end, passed_more, passed_found, passed_all}
 use Rattle.txn_words.proofs.Looks.{looks_none, looks_map}
-use Rattle.txn_hash_map.proofs.Looks.{looks_within, looks_names, looks_name, looks_key, laid_block}
+use Rattle.txn_alloc.proofs.Traces.{laid_block}
+use Rattle.txn_hash_map.proofs.Looks.{looks_within, looks_names, looks_name, looks_key}
 use Rattle.txn_hash_map.proofs.find.find.Goals as goal
 
 pub overflow_add-place : goal.overflow_add-place
@@ -52,7 +53,7 @@ read-requires-in-loop-clause-within g c =
     some_at g.W.Shape.Shape.word_count g.W.Shape.Shape.good _ _ _ i.shape (g.met.W.Words.fits c.loop.w i.sound) in
     let b = c.in_ok-name.name - 1 in
     let lt : b < m.arena.blocks = omega arith in
-    let in_list = laid_block m _ _ _ b (λ s fit. (i.looks.holds s fit).laid) some lt in
+    let in_list = laid_block m.arena _ _ _ some b (record { at = λ s fit. (i.looks.holds s fit).laid.arena }) lt in
     omega (arith, in_list.0, c.place_of-at.ensures, ap g.W.Shape.Shape.word_count (c.in_ok-name.ensures.shape ∙ i.shape))
 
 pub returns-then-name-eq0-clause-missing : goal.returns-then-name-eq0-clause-missing

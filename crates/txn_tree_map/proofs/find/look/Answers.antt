@@ -5,7 +5,8 @@ use Rattle.txn_words.proofs.CallLaws.{each_plain}
 use Rattle.txn_alloc.specs.FreeLists.{block_at}
 use Rattle.txn_words.proofs.Looks.{looks_at, looks_map, looks_read, looks_still, looks_wider}
 use Rattle.txn_tree_map.specs.Searches.{HasTop, IsPlace, IsPlaceOrKey, IsNamed, IsEnd}
-use Rattle.txn_tree_map.proofs.Searching.{laid_block, top_within, top_below}
+use Rattle.txn_alloc.proofs.Traces.{laid_block}
+use Rattle.txn_tree_map.proofs.Searching.{top_within, top_below}
 use Rattle.txn_tree_map.proofs.find.look.Goals as goal
 
 pub read-requires-clause-within : goal.read-requires-clause-within
@@ -32,7 +33,7 @@ pub read-requires-2-clause-within : goal.read-requires-2-clause-within
 read-requires-2-clause-within g c =
     let m = c.args.map.now in
     let lt : c.in_ok-name.name - 1 < m.arena.blocks = omega arith in
-    let in_list = laid_block m _ _ _ (g.met.W.Words.fits c.args.w.now c.requires.ready.sound) (c.in_ok-name.name - 1) (record { at = λ s fit. (c.requires.top.at s fit).laid }) lt in
+    let in_list = laid_block m.arena _ _ _ (g.met.W.Words.fits c.args.w.now c.requires.ready.sound) (c.in_ok-name.name - 1) (record { at = λ s fit. (c.requires.top.at s fit).laid.arena }) lt in
     omega (arith, in_list.0, c.place_of.ensures, ap g.W.Shape.Shape.word_count c.in_ok-name.ensures.shape)
 
 pub returns-clause-named : goal.returns-clause-named

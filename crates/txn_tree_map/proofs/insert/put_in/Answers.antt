@@ -4,7 +4,7 @@ use Rattle.history_model.proofs.FittingLaws.{some_at}
 use Rattle.txn_words.proofs.CallLaws.{each_plain}
 use Rattle.txn_alloc.specs.FreeLists.{block_at}
 use Rattle.txn_words.proofs.Looks.{each_from, leads_from, within_from, reads_from}
-use Rattle.txn_tree_map.proofs.Searching.{laid_block}
+use Rattle.txn_alloc.proofs.Traces.{laid_block}
 use Rattle.txn_tree_map.proofs.Putting.{seat_within, can_split, put_leads, put_own, put_seen}
 use Rattle.txn_tree_map.proofs.insert.put_in.Goals as goal
 
@@ -16,7 +16,7 @@ write-requires-clause-within g c =
     let m = c.args.map.now in
     let some = g.met.W.Words.fits c.args.w.now c.requires.ready.sound in
     let below : c.args.block < m.arena.blocks = (c.requires.missing.at some.0 some.1).below in
-    let in_list = laid_block m _ _ _ some c.args.block (record { at = λ s fit. (c.requires.missing.at s fit).missing.is_at.laid }) below in
+    let in_list = laid_block m.arena _ _ _ some c.args.block (record { at = λ s fit. (c.requires.missing.at s fit).missing.is_at.laid.arena }) below in
     omega (arith, in_list.0, c.place_of-at.ensures, ap g.W.Shape.Shape.word_count c.in_ok-seat.ensures.goes_on.shape)
 
 pub write-requires-2-clause-within : goal.write-requires-2-clause-within
@@ -24,7 +24,7 @@ write-requires-2-clause-within g c =
     let m = c.args.map.now in
     let some = g.met.W.Words.fits c.args.w.now c.requires.ready.sound in
     let below : c.args.block < m.arena.blocks = (c.requires.missing.at some.0 some.1).below in
-    let in_list = laid_block m _ _ _ some c.args.block (record { at = λ s fit. (c.requires.missing.at s fit).missing.is_at.laid }) below in
+    let in_list = laid_block m.arena _ _ _ some c.args.block (record { at = λ s fit. (c.requires.missing.at s fit).missing.is_at.laid.arena }) below in
     omega (arith, in_list.0, c.place_of-at.ensures, ap g.W.Shape.Shape.word_count (c.in_ok-write.ensures.shape ∙ c.in_ok-seat.ensures.goes_on.shape))
 
 pub split-requires-clause-whole : goal.split-requires-clause-whole

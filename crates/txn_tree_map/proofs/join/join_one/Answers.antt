@@ -7,7 +7,7 @@ use Rattle.txn_words.proofs.Looks.{looks_at, looks_read, looks_wider, each_looke
 use Rattle.txn_tree_map.specs.Searches.{IsPlace}
 use Rattle.txn_tree_map.specs.Sums.{IsAnyWord}
 use Rattle.txn_tree_map.specs.Joins.{CanGoOn, IsPlaceOrTop}
-use Rattle.txn_tree_map.proofs.Searching.{laid_block}
+use Rattle.txn_alloc.proofs.Traces.{laid_block}
 use Rattle.txn_tree_map.proofs.Joinings.{joined_laid}
 use Rattle.txn_tree_map.proofs.Joining.{can_go_on_within, can_go_on_below, joins_left, joins_right}
 use Rattle.txn_tree_map.proofs.join.join_one.Goals as goal
@@ -33,8 +33,8 @@ overflow_add-right_at g c =
     let m = c.args.map.now in
     let p = c.args.gap in
     let lt : p.right - 1 < m.arena.blocks = omega arith in
-    let in_list = laid_block m _ _ _ (g.met.W.Words.fits c.args.w.now c.requires.ready.sound) (p.right - 1)
-    (record { at = λ s fit. let h = c.requires.joined.at s fit in joined_laid m h.hole h.left h.right h.turns p.place p.left p.right h.start _ h.joined }) lt in
+    let in_list = laid_block m.arena _ _ _ (g.met.W.Words.fits c.args.w.now c.requires.ready.sound) (p.right - 1)
+    (record { at = λ s fit. let h = c.requires.joined.at s fit in (joined_laid m h.hole h.left h.right h.turns p.place p.left p.right h.start _ h.joined).arena }) lt in
     omega (arith, in_list.0, in_list.1)
 
 pub read-requires-clause-within : goal.read-requires-clause-within
@@ -42,8 +42,8 @@ read-requires-clause-within g c =
     let m = c.args.map.now in
     let p = c.args.gap in
     let lt : p.left - 1 < m.arena.blocks = omega arith in
-    let in_list = laid_block m _ _ _ (g.met.W.Words.fits c.args.w.now c.requires.ready.sound) (p.left - 1)
-    (record { at = λ s fit. let h = c.requires.joined.at s fit in joined_laid m h.hole h.left h.right h.turns p.place p.left p.right h.start _ h.joined }) lt in
+    let in_list = laid_block m.arena _ _ _ (g.met.W.Words.fits c.args.w.now c.requires.ready.sound) (p.left - 1)
+    (record { at = λ s fit. let h = c.requires.joined.at s fit in (joined_laid m h.hole h.left h.right h.turns p.place p.left p.right h.start _ h.joined).arena }) lt in
     omega (arith, in_list.0)
 
 pub read-requires-2-clause-within : goal.read-requires-2-clause-within
@@ -51,8 +51,8 @@ read-requires-2-clause-within g c =
     let m = c.args.map.now in
     let p = c.args.gap in
     let lt : p.right - 1 < m.arena.blocks = omega arith in
-    let in_list = laid_block m _ _ _ (g.met.W.Words.fits c.args.w.now c.requires.ready.sound) (p.right - 1)
-    (record { at = λ s fit. let h = c.requires.joined.at s fit in joined_laid m h.hole h.left h.right h.turns p.place p.left p.right h.start _ h.joined }) lt in
+    let in_list = laid_block m.arena _ _ _ (g.met.W.Words.fits c.args.w.now c.requires.ready.sound) (p.right - 1)
+    (record { at = λ s fit. let h = c.requires.joined.at s fit in (joined_laid m h.hole h.left h.right h.turns p.place p.left p.right h.start _ h.joined).arena }) lt in
     omega (arith, in_list.0, ap g.W.Shape.Shape.word_count c.in_ok-left_key.ensures.shape)
 
 pub hang-requires-clause-within : goal.hang-requires-clause-within

@@ -3,4 +3,4 @@ use Rattle.txn_tree_map.proofs.map.priority.Goals as goal
 
 pub returns-clause-value : goal.returns-clause-value
 unfolding priority_of
-returns-clause-value c = c.spread.ensures.value
+returns-clause-value c = c.spread.ensures

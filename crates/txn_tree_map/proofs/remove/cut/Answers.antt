@@ -2,23 +2,23 @@ use Rattle.std.proofs.Common.{◌≡◌, ap, ◌∙◌, arith}
 use Rattle.txn_words.proofs.CallLaws.{each_plain}
 use Rattle.txn_alloc.specs.FreeLists.{block_at}
 use Rattle.txn_words.proofs.Looks.{each_from, leads_from, within_from, reads_from}
-use Rattle.txn_tree_map.proofs.Searching.{laid_block}
+use Rattle.txn_alloc.proofs.Traces.{laid_block}
 use Rattle.txn_tree_map.proofs.Removing.{can_join, cuts_leads, cuts_own, cuts_seen}
 use Rattle.txn_tree_map.proofs.remove.cut.Goals as goal
 
 pub read-requires-clause-within : goal.read-requires-clause-within
 read-requires-clause-within g c =
-    let in_list = laid_block c.args.map.now _ _ _ (g.met.W.Words.fits c.args.w.now c.requires.ready.sound) c.args.found.block (record { at = λ s fit. (c.requires.can.at s fit).found.is_at.laid }) c.requires.block in
+    let in_list = laid_block c.args.map.now.arena _ _ _ (g.met.W.Words.fits c.args.w.now c.requires.ready.sound) c.args.found.block (record { at = λ s fit. (c.requires.can.at s fit).found.is_at.laid.arena }) c.requires.block in
     omega (arith, in_list.0, c.place_of-at.ensures)
 
 pub read-requires-2-clause-within : goal.read-requires-2-clause-within
 read-requires-2-clause-within g c =
-    let in_list = laid_block c.args.map.now _ _ _ (g.met.W.Words.fits c.args.w.now c.requires.ready.sound) c.args.found.block (record { at = λ s fit. (c.requires.can.at s fit).found.is_at.laid }) c.requires.block in
+    let in_list = laid_block c.args.map.now.arena _ _ _ (g.met.W.Words.fits c.args.w.now c.requires.ready.sound) c.args.found.block (record { at = λ s fit. (c.requires.can.at s fit).found.is_at.laid.arena }) c.requires.block in
     omega (arith, in_list.0, c.place_of-at.ensures, ap g.W.Shape.Shape.word_count c.in_ok-value.ensures.shape)
 
 pub read-requires-3-clause-within : goal.read-requires-3-clause-within
 read-requires-3-clause-within g c =
-    let in_list = laid_block c.args.map.now _ _ _ (g.met.W.Words.fits c.args.w.now c.requires.ready.sound) c.args.found.block (record { at = λ s fit. (c.requires.can.at s fit).found.is_at.laid }) c.requires.block in
+    let in_list = laid_block c.args.map.now.arena _ _ _ (g.met.W.Words.fits c.args.w.now c.requires.ready.sound) c.args.found.block (record { at = λ s fit. (c.requires.can.at s fit).found.is_at.laid.arena }) c.requires.block in
     omega (arith, in_list.0, c.place_of-at.ensures, ap g.W.Shape.Shape.word_count (c.in_ok-left.ensures.shape ∙ c.in_ok-value.ensures.shape))
 
 pub join-requires-clause-pair : goal.join-requires-clause-pair

@@ -5,7 +5,7 @@ use Rattle.txn_words.proofs.ReadLaws.{sees_read, sees_then, sees_more}
 use Rattle.txn_alloc.specs.FreeLists.{block_at}
 use Rattle.txn_words.proofs.Looks.{looks_at, each_looked, each_from, leads_from}
 use Rattle.txn_tree_map.specs.Changes.{CanPart, IsEndOrTop}
-use Rattle.txn_tree_map.proofs.Searching.{laid_block}
+use Rattle.txn_alloc.proofs.Traces.{laid_block}
 use Rattle.txn_tree_map.proofs.Partings.{parted_laid}
 use Rattle.txn_tree_map.proofs.Splitting.{can_part_within, can_part_below, parts_low, parts_high}
 use Rattle.txn_tree_map.proofs.split.part_one.Goals as goal
@@ -23,8 +23,8 @@ read-requires-clause-within g c =
     let m = c.args.map.now in
     let e = c.args.ends in
     let lt : e.rest - 1 < m.arena.blocks = omega arith in
-    let in_list = laid_block m _ _ _ (g.met.W.Words.fits c.args.w.now c.requires.ready.sound) (e.rest - 1)
-    (record { at = λ s fit. let h = c.requires.parted.at s fit in parted_laid m c.args.key h.block h.name h.turns e.smaller e.greater e.rest h.start _ h.parted }) lt in
+    let in_list = laid_block m.arena _ _ _ (g.met.W.Words.fits c.args.w.now c.requires.ready.sound) (e.rest - 1)
+    (record { at = λ s fit. let h = c.requires.parted.at s fit in (parted_laid m c.args.key h.block h.name h.turns e.smaller e.greater e.rest h.start _ h.parted).arena }) lt in
     omega (arith, in_list.0)
 
 pub overflow_add-at-then-there-key : goal.overflow_add-at-then-there-key
@@ -32,8 +32,8 @@ overflow_add-at-then-there-key g c =
     let m = c.args.map.now in
     let e = c.args.ends in
     let lt : e.rest - 1 < m.arena.blocks = omega arith in
-    let in_list = laid_block m _ _ _ (g.met.W.Words.fits c.args.w.now c.requires.ready.sound) (e.rest - 1)
-    (record { at = λ s fit. let h = c.requires.parted.at s fit in parted_laid m c.args.key h.block h.name h.turns e.smaller e.greater e.rest h.start _ h.parted }) lt in
+    let in_list = laid_block m.arena _ _ _ (g.met.W.Words.fits c.args.w.now c.requires.ready.sound) (e.rest - 1)
+    (record { at = λ s fit. let h = c.requires.parted.at s fit in (parted_laid m c.args.key h.block h.name h.turns e.smaller e.greater e.rest h.start _ h.parted).arena }) lt in
     omega (arith, in_list.0, in_list.1)
 
 pub overflow_add-at-2 : goal.overflow_add-at-2
@@ -41,8 +41,8 @@ overflow_add-at-2 g c =
     let m = c.args.map.now in
     let e = c.args.ends in
     let lt : e.rest - 1 < m.arena.blocks = omega arith in
-    let in_list = laid_block m _ _ _ (g.met.W.Words.fits c.args.w.now c.requires.ready.sound) (e.rest - 1)
-    (record { at = λ s fit. let h = c.requires.parted.at s fit in parted_laid m c.args.key h.block h.name h.turns e.smaller e.greater e.rest h.start _ h.parted }) lt in
+    let in_list = laid_block m.arena _ _ _ (g.met.W.Words.fits c.args.w.now c.requires.ready.sound) (e.rest - 1)
+    (record { at = λ s fit. let h = c.requires.parted.at s fit in (parted_laid m c.args.key h.block h.name h.turns e.smaller e.greater e.rest h.start _ h.parted).arena }) lt in
     omega (arith, in_list.0, in_list.1)
 
 pub hang-requires-clause-within : goal.hang-requires-clause-within

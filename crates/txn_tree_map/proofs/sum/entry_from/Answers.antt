@@ -3,7 +3,7 @@ use Rattle.history_model.specs.Fitting.{SomeFits}
 use Rattle.history_model.proofs.FittingLaws.{some_at}
 use Rattle.txn_words.proofs.CallLaws.{each_plain}
 use Rattle.txn_alloc.specs.FreeLists.{block_at}
-use Rattle.txn_tree_map.proofs.Searching.{laid_block}
+use Rattle.txn_alloc.proofs.Traces.{laid_block}
 use Rattle.txn_tree_map.proofs.Totals.{none_from, past_from, links_from, node_below, node_from, next_from, value_from}
 use Rattle.txn_tree_map.proofs.sum.entry_from.Goals as goal
 
@@ -22,7 +22,7 @@ read-requires-clause-within g c =
     let m = c.args.map.now in
     let node = c.in-Some.node in
     let lt : node.block < m.arena.blocks = omega (arith, c.if-prove.false) in
-    let in_list = laid_block m _ _ _ (g.met.W.Words.fits c.args.w.now c.requires.ready.sound) node.block (record { at = λ s fit. (c.requires.order.at s fit).holds.laid }) lt in
+    let in_list = laid_block m.arena _ _ _ (g.met.W.Words.fits c.args.w.now c.requires.ready.sound) node.block (record { at = λ s fit. (c.requires.order.at s fit).holds.laid.arena }) lt in
     omega (arith, in_list.0, ap g.W.Shape.Shape.word_count c.in_ok-first_at.ensures.goes_on.shape, c.place_of.ensures)
 
 pub returns-in-None-clause-none : goal.returns-in-None-clause-none

@@ -9,7 +9,8 @@ use Rattle.history_model.proofs.FittingLaws.{each_fresh}
 use Rattle.txn_alloc.proofs.Traces.{each_lacks_taken}
 use Rattle.txn_tree_map.specs.declared.tests.NoEntries.{NoEntries}
 use Rattle.txn_tree_map.specs.Trees.{tree_part}
-use Rattle.txn_tree_map.proofs.Lists.{two, small, has_entries, linked_empty, has_put, has_full, is_full, order_summed, three_puts, has_small}
+use Rattle.txn_alloc.proofs.TwoBlocks.{two}
+use Rattle.txn_tree_map.proofs.Lists.{small, has_entries, linked_empty, has_put, has_full, is_full, order_summed, three_puts, has_small}
 use Rattle.txn_tree_map.proofs.tests.tree_map_and_blocks_on_plain_words.Goals as goal
 
 pub new-plain-requires : goal.new-plain-requires

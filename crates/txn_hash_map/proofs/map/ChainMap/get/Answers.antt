@@ -10,7 +10,9 @@ use Rattle.txn_hash_map.specs.Searches.{IsLink}
 use Rattle.txn_alloc.proofs.Parts.{held_found, finds_none}
 use Rattle.txn_hash_map.proofs.Steps.{missing_value}
 use Rattle.txn_words.proofs.Looks.{looks_only}
-use Rattle.txn_hash_map.proofs.Looks.{laid_block, looks_value, IsLinkOr, finds_some, sees_link, sees_value}
+use Rattle.txn_alloc.proofs.Traces.{laid_block}
+use Rattle.txn_alloc.proofs.Founds.{looks_value, IsNearOr, finds_some, sees_near, sees_value}
+use Rattle.txn_hash_map.proofs.Looks.{near_own, keys_block}
 use Rattle.txn_hash_map.proofs.map.ChainMap.get.Goals as goal
 
 pub read-requires-clause-within : goal.read-requires-clause-within
@@ -21,7 +23,7 @@ read-requires-clause-within g c =
     let goes = c.in_ok-find.ensures.goes_on in
     let some : SomeFits (g.W.Shape.Shape.word_count (g.W.Words.shape c.args.w.now)) (g.W.Shape.Shape.good (g.W.Words.shape c.args.w.now)) (g.W.Words.trace c.find.new.w) =
     some_at g.W.Shape.Shape.word_count g.W.Shape.Shape.good _ _ _ goes.shape (g.met.W.Words.fits c.find.new.w goes.sound) in
-    let in_list = laid_block m _ _ _ c.in-Some.found.block (λ s fit. (found.holds s fit).laid) some below in
+    let in_list = laid_block m.arena _ _ _ some c.in-Some.found.block (record { at = λ s fit. (found.holds s fit).laid.arena }) below in
     omega (arith, in_list.0, ap g.W.Shape.Shape.word_count goes.shape, c.place_of.ensures)
 
 pub returns-in-None-clause-found : goal.returns-in-None-clause-found
@@ -43,7 +45,7 @@ returns-in-None-clause-frame g c =
 pub returns-in-None-clause-reads : goal.returns-in-None-clause-reads
 returns-in-None-clause-reads g c =
     let missing = rw c.in-None.is at c.in_ok-find.ensures.missing in
-    record { at = sees_link c.args.self.now c.args.key _ _ _ _ missing (each_plain g.W.Words g.W.Shape.Shape _ _ c.requires.order) }
+    record { at = sees_near (chain_part c.args.self.now) c.args.key _ _ _ _ (near_own c.args.self.now c.args.key) missing (each_plain g.W.Words g.W.Shape.Shape _ _ c.requires.order) }
 
 pub returns-in_ok-value-in-Some-clause-found : goal.returns-in_ok-value-in-Some-clause-found
 returns-in_ok-value-in-Some-clause-found g c =
@@ -52,8 +54,8 @@ returns-in_ok-value-in-Some-clause-found g c =
     let q = c.place_of.result + 1 in
     let is_value : q ≡ block_at m.arena c.in-Some.found.block + 1 = omega (arith, c.place_of.ensures) in
     record {
-      at = (finds_some m c.args.key _ _ _ _ c.in-Some.found.place c.in-Some.found.block q c.in_ok-value-in-Some.value is_value
-          (looks_value m c.args.key _ _ _ _ _ c.in-Some.found.place c.in-Some.found.block q c.in_ok-value-in-Some.value found c.in_ok-value-in-Some.ensures.value)).at;
+      at = (finds_some (chain_part m) c.args.key _ _ _ _ c.in-Some.found.block q c.in_ok-value-in-Some.value is_value (keys_block m c.args.key c.in-Some.found.place c.in-Some.found.block)
+          (looks_value _ _ _ _ found _ q c.in_ok-value-in-Some.value c.in_ok-value-in-Some.ensures.value)).at;
     }
 
 pub returns-in_ok-value-in-Some-clause-order : goal.returns-in_ok-value-in-Some-clause-order
@@ -68,8 +70,8 @@ returns-in_ok-value-in-Some-clause-frame g c =
     let m = c.args.self.now in
     let found = rw c.in-Some.is at c.in_ok-find.ensures.found in
     let q = c.place_of.result + 1 in
-    looks_only g.W.Words g.W.Shape.Shape _ _ (IsLinkOr m c.args.key q) _
-    (looks_value m c.args.key _ _ _ _ _ c.in-Some.found.place c.in-Some.found.block q c.in_ok-value-in-Some.value found c.in_ok-value-in-Some.ensures.value)
+    looks_only g.W.Words g.W.Shape.Shape _ _ (IsNearOr (IsLink m c.args.key) q) _
+    (looks_value _ _ _ _ found _ q c.in_ok-value-in-Some.value c.in_ok-value-in-Some.ensures.value)
 
 pub returns-in_ok-value-in-Some-clause-reads : goal.returns-in_ok-value-in-Some-clause-reads
 returns-in_ok-value-in-Some-clause-reads g c =
@@ -78,7 +80,7 @@ returns-in_ok-value-in-Some-clause-reads g c =
     let q = c.place_of.result + 1 in
     let is_value : q ≡ block_at m.arena c.in-Some.found.block + 1 = omega (arith, c.place_of.ensures) in
     record {
-      at = sees_value m c.args.key _ _ _ _ c.in-Some.found.place c.in-Some.found.block q c.in_ok-value-in-Some.value is_value
-          (looks_value m c.args.key _ _ _ _ _ c.in-Some.found.place c.in-Some.found.block q c.in_ok-value-in-Some.value found c.in_ok-value-in-Some.ensures.value)
+      at = sees_value (chain_part m) c.args.key _ _ _ _ c.in-Some.found.block q c.in_ok-value-in-Some.value is_value (keys_block m c.args.key c.in-Some.found.place c.in-Some.found.block)
+          (looks_value _ _ _ _ found _ q c.in_ok-value-in-Some.value c.in_ok-value-in-Some.ensures.value) (near_own m c.args.key)
           (each_plain g.W.Words g.W.Shape.Shape _ _ c.requires.order);
     }

@@ -12,8 +12,11 @@ use Rattle.txn_alloc.proofs.Wider.{take_keeps}
 use Rattle.txn_alloc.proofs.Parts.{order_inserted, lacks_room, not_new, not_old, new_not_old, full_not_old, new_not_full, old_not_full}
 use Rattle.txn_words.proofs.Looks.{leads_from, each_from, each_looked, leads_back}
 use Rattle.txn_hash_map.proofs.Steps.{missing_value}
-use Rattle.txn_hash_map.proofs.Looks.{laid_block, looks_value}
-use Rattle.txn_hash_map.proofs.Inserts.{inserts_new, owns_new, sees_none, sees_new, laid_taken, inserts_old, owns_old, owns_value, sees_old}
+use Rattle.txn_alloc.proofs.Traces.{laid_block}
+use Rattle.txn_alloc.proofs.Founds.{looks_value, inserts_old, owns_old, owns_value, sees_old, sees_none}
+use Rattle.txn_hash_map.proofs.Looks.{near_own, keys_block}
+use Rattle.txn_hash_map.proofs.Changes.{inserted_old}
+use Rattle.txn_hash_map.proofs.Inserts.{inserts_new, owns_new, sees_new, laid_taken}
 use Rattle.txn_hash_map.proofs.map.ChainMap.insert.Goals as goal
 
 pub find-requires-clause-order : goal.find-requires-clause-order
@@ -27,7 +30,7 @@ read-requires-clause-within g c =
     let goes = c.in_ok-found.ensures.goes_on in
     let some : SomeFits (g.W.Shape.Shape.word_count (g.W.Words.shape c.args.w.now)) (g.W.Shape.Shape.good (g.W.Words.shape c.args.w.now)) (g.W.Words.trace c.find.new.w) =
     some_at g.W.Shape.Shape.word_count g.W.Shape.Shape.good _ _ _ goes.shape (g.met.W.Words.fits c.find.new.w goes.sound) in
-    let in_list = laid_block m _ _ _ c.in-Some.found.block (λ s fit. (found.holds s fit).laid) some below in
+    let in_list = laid_block m.arena _ _ _ some c.in-Some.found.block (record { at = λ s fit. (found.holds s fit).laid.arena }) below in
     omega (arith, in_list.0, ap g.W.Shape.Shape.word_count goes.shape, c.place_of-at.ensures)
 
 pub write-requires-clause-within : goal.write-requires-clause-within
@@ -38,7 +41,7 @@ write-requires-clause-within g c =
     let goes = c.in_ok-found.ensures.goes_on in
     let some : SomeFits (g.W.Shape.Shape.word_count (g.W.Words.shape c.args.w.now)) (g.W.Shape.Shape.good (g.W.Words.shape c.args.w.now)) (g.W.Words.trace c.find.new.w) =
     some_at g.W.Shape.Shape.word_count g.W.Shape.Shape.good _ _ _ (goes.shape) (g.met.W.Words.fits c.find.new.w goes.sound) in
-    let in_list = laid_block m _ _ _ c.in-Some.found.block (λ s fit. (found.holds s fit).laid) some below in
+    let in_list = laid_block m.arena _ _ _ some c.in-Some.found.block (record { at = λ s fit. (found.holds s fit).laid.arena }) below in
     omega (arith, in_list.0, ap g.W.Shape.Shape.word_count goes.shape, ap g.W.Shape.Shape.word_count c.in_ok-old-in-Some.ensures.shape, c.place_of-at.ensures)
 
 pub take-requires-clause-order : goal.take-requires-clause-order
@@ -57,7 +60,7 @@ put_in_front-requires-clause-laid g c =
     let then = c.in_ok-block-in-None.ensures in
     let keeps = take_keeps m.arena c.in_ok-block-in-None.field-0 _ _ _ _ (leads_from g.W.Words g.W.Shape.Shape c.args.w.now c.find.new.w c.take.new.w _ goes.shape then.others) in
     each_from g.W.Words g.W.Shape.Shape c.args.w.now c.take.new.w _ (then.goes_on.shape ∙ goes.shape)
-    (laid_taken m c.args.key c.args.value _ _ _ _ missing _ then.goes_on.begins (each_plain g.W.Words g.W.Shape.Shape _ _ c.requires.order) keeps)
+    (laid_taken m c.args.key c.args.value _ _ _ _ (each_plain g.W.Words g.W.Shape.Shape _ _ c.requires.order) missing _ then.goes_on.begins keeps)
 
 pub returns-in_err-put_in_front-in-Some-2-clause-goes_on : goal.returns-in_err-put_in_front-in-Some-2-clause-goes_on
 returns-in_err-put_in_front-in-Some-2-clause-goes_on g c =
@@ -92,9 +95,10 @@ returns-in_ok-write-in-Some-clause-put g c =
     let q = c.place_of-at.result + 1 in
     let is_value : q ≡ block_at m.arena c.in-Some.found.block + 1 = omega (arith, c.place_of-at.ensures) in
     record {
-      at = (inserts_old m c.args.key c.args.value _ _ _ _ _ c.in-Some.found.place c.in-Some.found.block q c.in_ok-old-in-Some.old is_value
-          (looks_value m c.args.key _ _ _ _ _ c.in-Some.found.place c.in-Some.found.block q c.in_ok-old-in-Some.old found c.in_ok-old-in-Some.ensures.value)
-          c.in_ok-write-in-Some.ensures.value).at;
+      at = (inserts_old (chain_part m) c.args.key _ _ _ _ c.in-Some.found.block q c.in_ok-old-in-Some.old is_value (keys_block m c.args.key c.in-Some.found.place c.in-Some.found.block)
+          (looks_value _ _ _ _ found _ q c.in_ok-old-in-Some.old c.in_ok-old-in-Some.ensures.value) (each_plain g.W.Words g.W.Shape.Shape _ _ c.requires.order) _ c.args.value
+          c.in_ok-write-in-Some.ensures.value
+          (λ s f used free hold h. inserted_old m c.args.key s f used free hold c.in-Some.found.place c.in-Some.found.block c.args.value h)).at;
     }
 
 pub returns-in_ok-write-in-Some-clause-full_if : goal.returns-in_ok-write-in-Some-clause-full_if
@@ -124,9 +128,9 @@ returns-in_ok-write-in-Some-clause-frame g c =
     let q = c.place_of-at.result + 1 in
     let is_value : q ≡ block_at m.arena c.in-Some.found.block + 1 = omega (arith, c.place_of-at.ensures) in
     record {
-      at = owns_old m c.args.key c.args.value _ _ _ _ _ c.in-Some.found.place c.in-Some.found.block q c.in_ok-old-in-Some.old is_value
-          (looks_value m c.args.key _ _ _ _ _ c.in-Some.found.place c.in-Some.found.block q c.in_ok-old-in-Some.old found c.in_ok-old-in-Some.ensures.value)
-          c.in_ok-write-in-Some.ensures.value (each_plain g.W.Words g.W.Shape.Shape _ _ c.requires.order);
+      at = owns_old (chain_part m) c.args.key _ _ _ _ c.in-Some.found.block q c.in_ok-old-in-Some.old is_value (keys_block m c.args.key c.in-Some.found.place c.in-Some.found.block)
+          (looks_value _ _ _ _ found _ q c.in_ok-old-in-Some.old c.in_ok-old-in-Some.ensures.value) (each_plain g.W.Words g.W.Shape.Shape _ _ c.requires.order) _ c.args.value
+          c.in_ok-write-in-Some.ensures.value;
     }
 
 pub returns-in_ok-write-in-Some-clause-old : goal.returns-in_ok-write-in-Some-clause-old
@@ -136,9 +140,9 @@ returns-in_ok-write-in-Some-clause-old g c =
     let q = c.place_of-at.result + 1 in
     let is_value : q ≡ block_at m.arena c.in-Some.found.block + 1 = omega (arith, c.place_of-at.ensures) in
     λ was e. record {
-      at = owns_value m c.args.key c.args.value _ _ _ _ _ c.in-Some.found.place c.in-Some.found.block q c.in_ok-old-in-Some.old is_value
-          (looks_value m c.args.key _ _ _ _ _ c.in-Some.found.place c.in-Some.found.block q c.in_ok-old-in-Some.old found c.in_ok-old-in-Some.ensures.value)
-          c.in_ok-write-in-Some.ensures.value (each_plain g.W.Words g.W.Shape.Shape _ _ c.requires.order);
+      at = owns_value (chain_part m) c.args.key _ _ _ _ c.in-Some.found.block q c.in_ok-old-in-Some.old is_value (keys_block m c.args.key c.in-Some.found.place c.in-Some.found.block)
+          (looks_value _ _ _ _ found _ q c.in_ok-old-in-Some.old c.in_ok-old-in-Some.ensures.value) (each_plain g.W.Words g.W.Shape.Shape _ _ c.requires.order) _ c.args.value
+          c.in_ok-write-in-Some.ensures.value;
     }
 
 pub returns-in_ok-put_in_front-in-Some-2-clause-put : goal.returns-in_ok-put_in_front-in-Some-2-clause-put
@@ -150,7 +154,7 @@ returns-in_ok-put_in_front-in-Some-2-clause-put g c =
     let taken = rw c.in-Some-2.is at then.taken in
     let put = rw c.number.ensures at c.in_ok-put_in_front-in-Some-2.ensures.put in
     record {
-      at = (inserts_new m c.args.key c.args.value _ _ _ _ missing _ then.goes_on.begins _ c.in-Some-2.block c.in_ok-put_in_front-in-Some-2.ensures.goes_on.begins
+      at = (inserts_new m c.args.key c.args.value _ _ _ _ (each_plain g.W.Words g.W.Shape.Shape _ _ c.requires.order) missing _ then.goes_on.begins _ c.in-Some-2.block c.in_ok-put_in_front-in-Some-2.ensures.goes_on.begins
           (leads_from g.W.Words g.W.Shape.Shape c.args.w.now c.find.new.w c.take.new.w _ goes.shape taken)
           (take_keeps m.arena c.in_ok-block-in-None.field-0 _ _ _ _ (leads_from g.W.Words g.W.Shape.Shape c.args.w.now c.find.new.w c.take.new.w _ goes.shape then.others))
           (leads_from g.W.Words g.W.Shape.Shape c.args.w.now c.take.new.w c.put_in_front.new.w _ (then.goes_on.shape ∙ goes.shape) put)).at;
@@ -184,11 +188,11 @@ returns-in_ok-put_in_front-in-Some-2-clause-frame g c =
     let put = rw c.number.ensures at c.in_ok-put_in_front-in-Some-2.ensures.put in
     let front = rw c.number.ensures at c.in_ok-put_in_front-in-Some-2.ensures.frame in
     record {
-      at = owns_new m c.args.key c.args.value _ _ _ _ missing _ then.goes_on.begins _ c.in-Some-2.block c.in_ok-put_in_front-in-Some-2.ensures.goes_on.begins
+      at = owns_new m c.args.key c.args.value _ _ _ _ (each_plain g.W.Words g.W.Shape.Shape _ _ c.requires.order) missing _ then.goes_on.begins _ c.in-Some-2.block c.in_ok-put_in_front-in-Some-2.ensures.goes_on.begins
           (leads_from g.W.Words g.W.Shape.Shape c.args.w.now c.find.new.w c.take.new.w _ goes.shape taken)
           (take_keeps m.arena c.in_ok-block-in-None.field-0 _ _ _ _ (leads_from g.W.Words g.W.Shape.Shape c.args.w.now c.find.new.w c.take.new.w _ goes.shape then.others))
           (leads_from g.W.Words g.W.Shape.Shape c.args.w.now c.take.new.w c.put_in_front.new.w _ (then.goes_on.shape ∙ goes.shape) put)
-          (each_plain g.W.Words g.W.Shape.Shape _ _ c.requires.order) heads.appended front.appended;
+          heads.appended front.appended;
     }
 
 pub returns-in-None-2-clause-put : goal.returns-in-None-2-clause-put
@@ -245,9 +249,9 @@ returns-in_ok-write-in-Some-clause-reads g c =
     let q = c.place_of-at.result + 1 in
     let is_value : q ≡ block_at m.arena c.in-Some.found.block + 1 = omega (arith, c.place_of-at.ensures) in
     record {
-      at = sees_old m c.args.key c.args.value _ _ _ _ _ c.in-Some.found.place c.in-Some.found.block q c.in_ok-old-in-Some.old is_value
-          (looks_value m c.args.key _ _ _ _ _ c.in-Some.found.place c.in-Some.found.block q c.in_ok-old-in-Some.old found c.in_ok-old-in-Some.ensures.value)
-          c.in_ok-write-in-Some.ensures.value (each_plain g.W.Words g.W.Shape.Shape _ _ c.requires.order);
+      at = sees_old (chain_part m) c.args.key _ _ _ _ c.in-Some.found.block q c.in_ok-old-in-Some.old is_value (keys_block m c.args.key c.in-Some.found.place c.in-Some.found.block)
+          (looks_value _ _ _ _ found _ q c.in_ok-old-in-Some.old c.in_ok-old-in-Some.ensures.value) (each_plain g.W.Words g.W.Shape.Shape _ _ c.requires.order) _ c.args.value
+          c.in_ok-write-in-Some.ensures.value (near_own m c.args.key);
     }
 
 pub returns-in_ok-put_in_front-in-Some-2-clause-reads : goal.returns-in_ok-put_in_front-in-Some-2-clause-reads
@@ -261,11 +265,11 @@ returns-in_ok-put_in_front-in-Some-2-clause-reads g c =
     let put = rw c.number.ensures at c.in_ok-put_in_front-in-Some-2.ensures.put in
     let front = rw c.number.ensures at c.in_ok-put_in_front-in-Some-2.ensures.reads in
     record {
-      at = sees_new m c.args.key c.args.value _ _ _ _ missing _ then.goes_on.begins _ c.in-Some-2.block c.in_ok-put_in_front-in-Some-2.ensures.goes_on.begins
+      at = sees_new m c.args.key c.args.value _ _ _ _ (each_plain g.W.Words g.W.Shape.Shape _ _ c.requires.order) missing _ then.goes_on.begins _ c.in-Some-2.block c.in_ok-put_in_front-in-Some-2.ensures.goes_on.begins
           (leads_from g.W.Words g.W.Shape.Shape c.args.w.now c.find.new.w c.take.new.w _ goes.shape taken)
           (take_keeps m.arena c.in_ok-block-in-None.field-0 _ _ _ _ (leads_from g.W.Words g.W.Shape.Shape c.args.w.now c.find.new.w c.take.new.w _ goes.shape then.others))
           (leads_from g.W.Words g.W.Shape.Shape c.args.w.now c.take.new.w c.put_in_front.new.w _ (then.goes_on.shape ∙ goes.shape) put)
-          (each_plain g.W.Words g.W.Shape.Shape _ _ c.requires.order) names front;
+          names front;
     }
 
 pub returns-in-None-2-clause-reads : goal.returns-in-None-2-clause-reads
@@ -274,7 +278,7 @@ returns-in-None-2-clause-reads g c =
     let missing = rw c.in-None.is at c.in_ok-found.ensures.missing in
     let then = c.in_ok-block-in-None.ensures in
     let names = rw c.in-None-2.is at then.reads in
-    record { at = sees_none m c.args.key c.args.value _ _ _ _ missing _ then.goes_on.begins (each_plain g.W.Words g.W.Shape.Shape _ _ c.requires.order) names }
+    record { at = sees_none (chain_part m) c.args.key _ _ _ _ (near_own m c.args.key) missing (each_plain g.W.Words g.W.Shape.Shape _ _ c.requires.order) _ then.goes_on.begins names }
 
 pub returns-in_ok-write-in-Some-clause-full_frame : goal.returns-in_ok-write-in-Some-clause-full_frame
 returns-in_ok-write-in-Some-clause-full_frame g c = λ e. absurd (old_not_full _ e)

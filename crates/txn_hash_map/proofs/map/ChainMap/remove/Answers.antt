@@ -12,7 +12,9 @@ use Rattle.txn_alloc.proofs.Parts.{held, order_removed, finds_none}
 use Rattle.txn_words.proofs.Looks.{looks_read, looks_only, leads_from, each_from}
 use Rattle.txn_hash_map.specs.Searches.{IsLink}
 use Rattle.txn_hash_map.proofs.Steps.{missing_value, found_of}
-use Rattle.txn_hash_map.proofs.Looks.{IsLinkOr, laid_block, looks_value, sees_link}
+use Rattle.txn_alloc.proofs.Traces.{laid_block}
+use Rattle.txn_alloc.proofs.Founds.{IsNearOr, looks_value, sees_near}
+use Rattle.txn_hash_map.proofs.Looks.{near_own}
 use Rattle.txn_hash_map.proofs.Removals.{place_within, order_cut, lacks_cut, removes_some, owns_removed, sees_removed}
 use Rattle.txn_hash_map.proofs.map.ChainMap.remove.Goals as goal
 
@@ -27,7 +29,7 @@ read-requires-clause-within g c =
     let below = rw c.in-Some.is at c.in_ok-find.ensures.block in
     let some : SomeFits (g.W.Shape.Shape.word_count (g.W.Words.shape c.args.w.now)) (g.W.Shape.Shape.good (g.W.Words.shape c.args.w.now)) (g.W.Words.trace c.find.new.w) =
     some_at g.W.Shape.Shape.word_count g.W.Shape.Shape.good _ _ _ (goes.shape) (g.met.W.Words.fits c.find.new.w goes.sound) in
-    let in_list = laid_block m _ _ _ c.in-Some.found.block (λ s fit. (found.holds s fit).laid) some below in
+    let in_list = laid_block m.arena _ _ _ some c.in-Some.found.block (record { at = λ s fit. (found.holds s fit).laid.arena }) below in
     omega (arith, in_list.0, ap g.W.Shape.Shape.word_count goes.shape, c.place_of-at.ensures)
 
 pub read-requires-in-Some-clause-within : goal.read-requires-in-Some-clause-within
@@ -38,7 +40,7 @@ read-requires-in-Some-clause-within g c =
     let below = rw c.in-Some.is at c.in_ok-find.ensures.block in
     let some : SomeFits (g.W.Shape.Shape.word_count (g.W.Words.shape c.args.w.now)) (g.W.Shape.Shape.good (g.W.Words.shape c.args.w.now)) (g.W.Words.trace c.find.new.w) =
     some_at g.W.Shape.Shape.word_count g.W.Shape.Shape.good _ _ _ (goes.shape) (g.met.W.Words.fits c.find.new.w goes.sound) in
-    let in_list = laid_block m _ _ _ c.in-Some.found.block (λ s fit. (found.holds s fit).laid) some below in
+    let in_list = laid_block m.arena _ _ _ some c.in-Some.found.block (record { at = λ s fit. (found.holds s fit).laid.arena }) below in
     omega (arith, in_list.0, ap g.W.Shape.Shape.word_count goes.shape, ap g.W.Shape.Shape.word_count c.in_ok-value-in-Some.ensures.shape, c.place_of-at.ensures)
 
 pub write-requires-clause-within : goal.write-requires-clause-within
@@ -55,7 +57,7 @@ write-requires-clause-within g c =
     let r = c.place_of-at.result + 2 in
     let is_value : q ≡ block_at m.arena b + 1 = omega (arith, c.place_of-at.ensures) in
     let is_next : r ≡ block_at m.arena b + 2 = omega (arith, c.place_of-at.ensures) in
-    let looks = looks_read _ _ _ (IsLinkOr m c.args.key q) _ _ r x _ (looks_value m c.args.key _ _ _ _ _ p b q y found c.in_ok-value-in-Some.ensures.value) c.in_ok-next-in-Some.ensures.value (λ s h. inl (inr (b, found_of m c.args.key s p b h.0, inr is_next))) in
+    let looks = looks_read _ _ _ (IsNearOr (IsLink m c.args.key) q) _ _ r x _ (looks_value _ _ _ _ found _ q y c.in_ok-value-in-Some.ensures.value) c.in_ok-next-in-Some.ensures.value (λ s h. inl (inr (b, found_of m c.args.key s p b h.0, inr is_next))) in
     let order = each_plain g.W.Words g.W.Shape.Shape _ _ c.requires.order in
     let some : SomeFits (g.W.Shape.Shape.word_count (g.W.Words.shape c.args.w.now)) (g.W.Shape.Shape.good (g.W.Words.shape c.args.w.now)) (g.W.Words.trace c.read-in-Some.new.self) =
     some_at g.W.Shape.Shape.word_count g.W.Shape.Shape.good _ _ _ (c.in_ok-next-in-Some.ensures.shape ∙ c.in_ok-value-in-Some.ensures.shape ∙ goes.shape) (g.met.W.Words.fits c.read-in-Some.new.self c.in_ok-next-in-Some.ensures.sound) in
@@ -76,7 +78,7 @@ give-requires-clause-order g c =
     let r = c.place_of-at.result + 2 in
     let is_value : q ≡ block_at m.arena b + 1 = omega (arith, c.place_of-at.ensures) in
     let is_next : r ≡ block_at m.arena b + 2 = omega (arith, c.place_of-at.ensures) in
-    let looks = looks_read _ _ _ (IsLinkOr m c.args.key q) _ _ r x _ (looks_value m c.args.key _ _ _ _ _ p b q y found c.in_ok-value-in-Some.ensures.value) c.in_ok-next-in-Some.ensures.value (λ s h. inl (inr (b, found_of m c.args.key s p b h.0, inr is_next))) in
+    let looks = looks_read _ _ _ (IsNearOr (IsLink m c.args.key) q) _ _ r x _ (looks_value _ _ _ _ found _ q y c.in_ok-value-in-Some.ensures.value) c.in_ok-next-in-Some.ensures.value (λ s h. inl (inr (b, found_of m c.args.key s p b h.0, inr is_next))) in
     let order = each_plain g.W.Words g.W.Shape.Shape _ _ c.requires.order in
     each_from g.W.Words g.W.Shape.Shape c.args.w.now c.write.new.self _ (c.in_ok-write-in-Some.ensures.shape ∙ c.in_ok-next-in-Some.ensures.shape ∙ c.in_ok-value-in-Some.ensures.shape ∙ goes.shape) (order_cut m c.args.key _ _ _ _ p b q y r x is_value is_next looks _ c.in_ok-write-in-Some.ensures.value order)
 
@@ -94,7 +96,7 @@ give-requires-clause-lacks g c =
     let r = c.place_of-at.result + 2 in
     let is_value : q ≡ block_at m.arena b + 1 = omega (arith, c.place_of-at.ensures) in
     let is_next : r ≡ block_at m.arena b + 2 = omega (arith, c.place_of-at.ensures) in
-    let looks = looks_read _ _ _ (IsLinkOr m c.args.key q) _ _ r x _ (looks_value m c.args.key _ _ _ _ _ p b q y found c.in_ok-value-in-Some.ensures.value) c.in_ok-next-in-Some.ensures.value (λ s h. inl (inr (b, found_of m c.args.key s p b h.0, inr is_next))) in
+    let looks = looks_read _ _ _ (IsNearOr (IsLink m c.args.key) q) _ _ r x _ (looks_value _ _ _ _ found _ q y c.in_ok-value-in-Some.ensures.value) c.in_ok-next-in-Some.ensures.value (λ s h. inl (inr (b, found_of m c.args.key s p b h.0, inr is_next))) in
     let order = each_plain g.W.Words g.W.Shape.Shape _ _ c.requires.order in
     rw c.of.ensures (each_from g.W.Words g.W.Shape.Shape c.args.w.now c.write.new.self _ (c.in_ok-write-in-Some.ensures.shape ∙ c.in_ok-next-in-Some.ensures.shape ∙ c.in_ok-value-in-Some.ensures.shape ∙ goes.shape) (lacks_cut m c.args.key _ _ _ _ p b q y r x is_value is_next looks _ c.in_ok-write-in-Some.ensures.value order))
 
@@ -133,7 +135,7 @@ returns-in_ok-give-in-Some-clause-removed g c =
     let r = c.place_of-at.result + 2 in
     let is_value : q ≡ block_at m.arena b + 1 = omega (arith, c.place_of-at.ensures) in
     let is_next : r ≡ block_at m.arena b + 2 = omega (arith, c.place_of-at.ensures) in
-    let looks = looks_read _ _ _ (IsLinkOr m c.args.key q) _ _ r x _ (looks_value m c.args.key _ _ _ _ _ p b q y found c.in_ok-value-in-Some.ensures.value) c.in_ok-next-in-Some.ensures.value (λ s h. inl (inr (b, found_of m c.args.key s p b h.0, inr is_next))) in
+    let looks = looks_read _ _ _ (IsNearOr (IsLink m c.args.key) q) _ _ r x _ (looks_value _ _ _ _ found _ q y c.in_ok-value-in-Some.ensures.value) c.in_ok-next-in-Some.ensures.value (λ s h. inl (inr (b, found_of m c.args.key s p b h.0, inr is_next))) in
     let order = each_plain g.W.Words g.W.Shape.Shape _ _ c.requires.order in
     let given = rw c.of.ensures at c.in_ok-give-in-Some.ensures.given in
     let kept = rw c.of.ensures at c.in_ok-give-in-Some.ensures.others in
@@ -166,7 +168,7 @@ returns-in_ok-give-in-Some-clause-frame g c =
     let r = c.place_of-at.result + 2 in
     let is_value : q ≡ block_at m.arena b + 1 = omega (arith, c.place_of-at.ensures) in
     let is_next : r ≡ block_at m.arena b + 2 = omega (arith, c.place_of-at.ensures) in
-    let looks = looks_read _ _ _ (IsLinkOr m c.args.key q) _ _ r x _ (looks_value m c.args.key _ _ _ _ _ p b q y found c.in_ok-value-in-Some.ensures.value) c.in_ok-next-in-Some.ensures.value (λ s h. inl (inr (b, found_of m c.args.key s p b h.0, inr is_next))) in
+    let looks = looks_read _ _ _ (IsNearOr (IsLink m c.args.key) q) _ _ r x _ (looks_value _ _ _ _ found _ q y c.in_ok-value-in-Some.ensures.value) c.in_ok-next-in-Some.ensures.value (λ s h. inl (inr (b, found_of m c.args.key s p b h.0, inr is_next))) in
     let order = each_plain g.W.Words g.W.Shape.Shape _ _ c.requires.order in
     let given = rw c.of.ensures at c.in_ok-give-in-Some.ensures.given in
     let kept = rw c.of.ensures at c.in_ok-give-in-Some.ensures.others in
@@ -182,7 +184,7 @@ returns-in_ok-give-in-Some-clause-frame g c =
 pub returns-in-None-clause-reads : goal.returns-in-None-clause-reads
 returns-in-None-clause-reads g c =
     let missing = rw c.in-None.is at c.in_ok-find.ensures.missing in
-    record { at = sees_link c.args.self.now c.args.key _ _ _ _ missing (record { at = λ s fit. held (c.requires.order.at s fit) }) }
+    record { at = sees_near (chain_part c.args.self.now) c.args.key _ _ _ _ (near_own c.args.self.now c.args.key) missing (record { at = λ s fit. held (c.requires.order.at s fit) }) }
 
 pub returns-in_ok-give-in-Some-clause-reads : goal.returns-in_ok-give-in-Some-clause-reads
 returns-in_ok-give-in-Some-clause-reads g c =
@@ -198,7 +200,7 @@ returns-in_ok-give-in-Some-clause-reads g c =
     let r = c.place_of-at.result + 2 in
     let is_value : q ≡ block_at m.arena b + 1 = omega (arith, c.place_of-at.ensures) in
     let is_next : r ≡ block_at m.arena b + 2 = omega (arith, c.place_of-at.ensures) in
-    let looks = looks_read _ _ _ (IsLinkOr m c.args.key q) _ _ r x _ (looks_value m c.args.key _ _ _ _ _ p b q y found c.in_ok-value-in-Some.ensures.value) c.in_ok-next-in-Some.ensures.value (λ s h. inl (inr (b, found_of m c.args.key s p b h.0, inr is_next))) in
+    let looks = looks_read _ _ _ (IsNearOr (IsLink m c.args.key) q) _ _ r x _ (looks_value _ _ _ _ found _ q y c.in_ok-value-in-Some.ensures.value) c.in_ok-next-in-Some.ensures.value (λ s h. inl (inr (b, found_of m c.args.key s p b h.0, inr is_next))) in
     let order = each_plain g.W.Words g.W.Shape.Shape _ _ c.requires.order in
     let given = rw c.of.ensures at c.in_ok-give-in-Some.ensures.given in
     let kept = rw c.of.ensures at c.in_ok-give-in-Some.ensures.others in

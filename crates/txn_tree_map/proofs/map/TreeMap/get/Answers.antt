@@ -7,8 +7,9 @@ use Rattle.txn_tree_map.specs.Trees.{tree_part}
 use Rattle.txn_tree_map.specs.Searches.{IsLink}
 use Rattle.txn_alloc.proofs.Parts.{finds_none}
 use Rattle.txn_tree_map.proofs.Descents.{missing_value}
-use Rattle.txn_tree_map.proofs.Searching.{laid_block}
-use Rattle.txn_tree_map.proofs.Gets.{IsLinkOr, looks_value, finds_some, sees_link, sees_value}
+use Rattle.txn_alloc.proofs.Traces.{laid_block}
+use Rattle.txn_alloc.proofs.Founds.{IsNearOr, looks_value, finds_some, sees_near, sees_value}
+use Rattle.txn_tree_map.proofs.Gets.{near_own, keys_block}
 use Rattle.txn_tree_map.proofs.map.TreeMap.get.Goals as goal
 
 pub read-requires-clause-within : goal.read-requires-clause-within
@@ -17,7 +18,7 @@ read-requires-clause-within g c =
     let found = rw c.in-Some.is at c.in_ok-find.ensures.found in
     let below = rw c.in-Some.is at c.in_ok-find.ensures.block in
     let goes = c.in_ok-find.ensures.goes_on in
-    let in_list = laid_block m _ _ _ (g.met.W.Words.fits c.args.w.now c.requires.ready.sound) c.in-Some.found.block (record { at = λ s fit. (c.requires.order.at s fit).holds.laid }) below in
+    let in_list = laid_block m.arena _ _ _ (g.met.W.Words.fits c.args.w.now c.requires.ready.sound) c.in-Some.found.block (record { at = λ s fit. (c.requires.order.at s fit).holds.laid.arena }) below in
     omega (arith, in_list.0, ap g.W.Shape.Shape.word_count goes.shape, c.place_of.ensures)
 
 pub returns-in-None-clause-found : goal.returns-in-None-clause-found
@@ -40,7 +41,7 @@ returns-in-None-clause-frame g c =
 pub returns-in-None-clause-reads : goal.returns-in-None-clause-reads
 returns-in-None-clause-reads g c =
     let missing = rw c.in-None.is at c.in_ok-find.ensures.missing in
-    record { at = sees_link c.args.self.now c.args.key _ _ _ _ missing (each_plain g.W.Words g.W.Shape.Shape _ _ c.requires.order) }
+    record { at = sees_near (tree_part c.args.self.now) c.args.key _ _ _ _ (near_own c.args.self.now c.args.key) missing (each_plain g.W.Words g.W.Shape.Shape _ _ c.requires.order) }
 
 pub returns-in_ok-value-in-Some-clause-found : goal.returns-in_ok-value-in-Some-clause-found
 returns-in_ok-value-in-Some-clause-found g c =
@@ -49,8 +50,8 @@ returns-in_ok-value-in-Some-clause-found g c =
     let q = c.place_of.result + 1 in
     let is_value : q ≡ block_at m.arena c.in-Some.found.block + 1 = omega (arith, c.place_of.ensures) in
     record {
-      at = (finds_some m c.args.key _ _ _ _ c.in-Some.found.place c.in-Some.found.block q c.in_ok-value-in-Some.value is_value
-          (looks_value m c.args.key _ _ _ _ _ c.in-Some.found.place c.in-Some.found.block q c.in_ok-value-in-Some.value found c.in_ok-value-in-Some.ensures.value)).at;
+      at = (finds_some (tree_part m) c.args.key _ _ _ _ c.in-Some.found.block q c.in_ok-value-in-Some.value is_value (keys_block m c.args.key c.in-Some.found.place c.in-Some.found.block)
+          (looks_value _ _ _ _ found _ q c.in_ok-value-in-Some.value c.in_ok-value-in-Some.ensures.value)).at;
     }
 
 pub returns-in_ok-value-in-Some-clause-order : goal.returns-in_ok-value-in-Some-clause-order
@@ -59,7 +60,7 @@ returns-in_ok-value-in-Some-clause-order g c =
     let found = rw c.in-Some.is at c.in_ok-find.ensures.found in
     let q = c.place_of.result + 1 in
     each_from g.W.Words g.W.Shape.Shape c.args.w.now _ _ (c.in_ok-value-in-Some.ensures.shape ∙ c.in_ok-find.ensures.goes_on.shape)
-    (each_looked _ _ _ _ (looks_value m c.args.key _ _ _ _ _ c.in-Some.found.place c.in-Some.found.block q c.in_ok-value-in-Some.value found c.in_ok-value-in-Some.ensures.value) (HasMap (tree_part m))
+    (each_looked _ _ _ _ (looks_value _ _ _ _ found _ q c.in_ok-value-in-Some.value c.in_ok-value-in-Some.ensures.value) (HasMap (tree_part m))
     (each_plain g.W.Words g.W.Shape.Shape _ _ c.requires.order))
 
 pub returns-in_ok-value-in-Some-clause-frame : goal.returns-in_ok-value-in-Some-clause-frame
@@ -67,8 +68,8 @@ returns-in_ok-value-in-Some-clause-frame g c =
     let m = c.args.self.now in
     let found = rw c.in-Some.is at c.in_ok-find.ensures.found in
     let q = c.place_of.result + 1 in
-    looks_only g.W.Words g.W.Shape.Shape _ _ (IsLinkOr m q) _
-    (looks_value m c.args.key _ _ _ _ _ c.in-Some.found.place c.in-Some.found.block q c.in_ok-value-in-Some.value found c.in_ok-value-in-Some.ensures.value)
+    looks_only g.W.Words g.W.Shape.Shape _ _ (IsNearOr (IsLink m) q) _
+    (looks_value _ _ _ _ found _ q c.in_ok-value-in-Some.value c.in_ok-value-in-Some.ensures.value)
 
 pub returns-in_ok-value-in-Some-clause-reads : goal.returns-in_ok-value-in-Some-clause-reads
 returns-in_ok-value-in-Some-clause-reads g c =
@@ -77,6 +78,6 @@ returns-in_ok-value-in-Some-clause-reads g c =
     let q = c.place_of.result + 1 in
     let is_value : q ≡ block_at m.arena c.in-Some.found.block + 1 = omega (arith, c.place_of.ensures) in
     record {
-      at = sees_value m c.args.key _ _ _ _ c.in-Some.found.place c.in-Some.found.block q c.in_ok-value-in-Some.value is_value
-          (looks_value m c.args.key _ _ _ _ _ c.in-Some.found.place c.in-Some.found.block q c.in_ok-value-in-Some.value found c.in_ok-value-in-Some.ensures.value) (each_plain g.W.Words g.W.Shape.Shape _ _ c.requires.order);
+      at = sees_value (tree_part m) c.args.key _ _ _ _ c.in-Some.found.block q c.in_ok-value-in-Some.value is_value (keys_block m c.args.key c.in-Some.found.place c.in-Some.found.block)
+          (looks_value _ _ _ _ found _ q c.in_ok-value-in-Some.value c.in_ok-value-in-Some.ensures.value) (near_own m c.args.key) (each_plain g.W.Words g.W.Shape.Shape _ _ c.requires.order);
     }

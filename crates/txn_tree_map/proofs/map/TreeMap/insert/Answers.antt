@@ -13,9 +13,11 @@ use Rattle.txn_tree_map.specs.Trees.{tree_part}
 use Rattle.txn_alloc.proofs.Wider.{take_keeps}
 use Rattle.txn_alloc.proofs.Parts.{order_inserted, lacks_room, not_new, not_old, new_not_old, full_not_old, new_not_full, old_not_full}
 use Rattle.txn_tree_map.proofs.Descents.{missing_value}
-use Rattle.txn_tree_map.proofs.Searching.{laid_block}
-use Rattle.txn_tree_map.proofs.Gets.{looks_value}
-use Rattle.txn_tree_map.proofs.Inserting.{can_put_each, inserts_new, owns_new, sees_none, sees_new, inserts_old, owns_old, owns_value, sees_old}
+use Rattle.txn_alloc.proofs.Traces.{laid_block}
+use Rattle.txn_alloc.proofs.Founds.{looks_value, inserts_old, owns_old, owns_value, sees_old, sees_none}
+use Rattle.txn_tree_map.proofs.Gets.{near_own, keys_block}
+use Rattle.txn_tree_map.proofs.Values.{inserted_old}
+use Rattle.txn_tree_map.proofs.Inserting.{can_put_each, inserts_new, owns_new, sees_new}
 use Rattle.txn_tree_map.proofs.map.TreeMap.insert.Goals as goal
 
 pub find-requires-clause-order : goal.find-requires-clause-order
@@ -26,7 +28,7 @@ read-requires-clause-within g c =
     let m = c.args.self.now in
     let below = rw c.in-Some.is at c.in_ok-found.ensures.block in
     let goes = c.in_ok-found.ensures.goes_on in
-    let in_list = laid_block m _ _ _ (g.met.W.Words.fits c.args.w.now c.requires.ready.sound) c.in-Some.found.block (record { at = λ s fit. (c.requires.order.at s fit).holds.map.laid }) below in
+    let in_list = laid_block m.arena _ _ _ (g.met.W.Words.fits c.args.w.now c.requires.ready.sound) c.in-Some.found.block (record { at = λ s fit. (c.requires.order.at s fit).holds.map.laid.arena }) below in
     omega (arith, in_list.0, ap g.W.Shape.Shape.word_count goes.shape, c.place_of-at.ensures)
 
 pub write-requires-clause-within : goal.write-requires-clause-within
@@ -34,7 +36,7 @@ write-requires-clause-within g c =
     let m = c.args.self.now in
     let below = rw c.in-Some.is at c.in_ok-found.ensures.block in
     let goes = c.in_ok-found.ensures.goes_on in
-    let in_list = laid_block m _ _ _ (g.met.W.Words.fits c.args.w.now c.requires.ready.sound) c.in-Some.found.block (record { at = λ s fit. (c.requires.order.at s fit).holds.map.laid }) below in
+    let in_list = laid_block m.arena _ _ _ (g.met.W.Words.fits c.args.w.now c.requires.ready.sound) c.in-Some.found.block (record { at = λ s fit. (c.requires.order.at s fit).holds.map.laid.arena }) below in
     omega (arith, in_list.0, ap g.W.Shape.Shape.word_count goes.shape, ap g.W.Shape.Shape.word_count c.in_ok-old-in-Some.ensures.shape, c.place_of-at.ensures)
 
 pub take-requires-clause-order : goal.take-requires-clause-order
@@ -90,9 +92,10 @@ returns-in_ok-write-in-Some-clause-put g c =
     let q = c.place_of-at.result + 1 in
     let is_value : q ≡ block_at m.arena c.in-Some.found.block + 1 = omega (arith, c.place_of-at.ensures) in
     record {
-      at = (inserts_old m c.args.key c.args.value _ _ _ _ (each_plain g.W.Words g.W.Shape.Shape _ _ c.requires.order) _ c.in-Some.found.place c.in-Some.found.block q c.in_ok-old-in-Some.old is_value
-          (looks_value m c.args.key _ _ _ _ _ c.in-Some.found.place c.in-Some.found.block q c.in_ok-old-in-Some.old found c.in_ok-old-in-Some.ensures.value)
-          c.in_ok-write-in-Some.ensures.value).at;
+      at = (inserts_old (tree_part m) c.args.key _ _ _ _ c.in-Some.found.block q c.in_ok-old-in-Some.old is_value (keys_block m c.args.key c.in-Some.found.place c.in-Some.found.block)
+          (looks_value _ _ _ _ found _ q c.in_ok-old-in-Some.old c.in_ok-old-in-Some.ensures.value) (each_plain g.W.Words g.W.Shape.Shape _ _ c.requires.order) _ c.args.value
+          c.in_ok-write-in-Some.ensures.value
+          (λ s f used free hold h. inserted_old m c.args.key c.in-Some.found.place c.in-Some.found.block c.args.value s h f used free hold)).at;
     }
 
 pub returns-in_ok-write-in-Some-clause-full_if : goal.returns-in_ok-write-in-Some-clause-full_if
@@ -122,8 +125,8 @@ returns-in_ok-write-in-Some-clause-frame g c =
     let q = c.place_of-at.result + 1 in
     let is_value : q ≡ block_at m.arena c.in-Some.found.block + 1 = omega (arith, c.place_of-at.ensures) in
     record {
-      at = owns_old m c.args.key c.args.value _ _ _ _ (each_plain g.W.Words g.W.Shape.Shape _ _ c.requires.order) _ c.in-Some.found.place c.in-Some.found.block q c.in_ok-old-in-Some.old is_value
-          (looks_value m c.args.key _ _ _ _ _ c.in-Some.found.place c.in-Some.found.block q c.in_ok-old-in-Some.old found c.in_ok-old-in-Some.ensures.value)
+      at = owns_old (tree_part m) c.args.key _ _ _ _ c.in-Some.found.block q c.in_ok-old-in-Some.old is_value (keys_block m c.args.key c.in-Some.found.place c.in-Some.found.block)
+          (looks_value _ _ _ _ found _ q c.in_ok-old-in-Some.old c.in_ok-old-in-Some.ensures.value) (each_plain g.W.Words g.W.Shape.Shape _ _ c.requires.order) _ c.args.value
           c.in_ok-write-in-Some.ensures.value;
     }
 
@@ -134,8 +137,8 @@ returns-in_ok-write-in-Some-clause-old g c =
     let q = c.place_of-at.result + 1 in
     let is_value : q ≡ block_at m.arena c.in-Some.found.block + 1 = omega (arith, c.place_of-at.ensures) in
     λ was e. record {
-      at = owns_value m c.args.key c.args.value _ _ _ _ (each_plain g.W.Words g.W.Shape.Shape _ _ c.requires.order) _ c.in-Some.found.place c.in-Some.found.block q c.in_ok-old-in-Some.old is_value
-          (looks_value m c.args.key _ _ _ _ _ c.in-Some.found.place c.in-Some.found.block q c.in_ok-old-in-Some.old found c.in_ok-old-in-Some.ensures.value)
+      at = owns_value (tree_part m) c.args.key _ _ _ _ c.in-Some.found.block q c.in_ok-old-in-Some.old is_value (keys_block m c.args.key c.in-Some.found.place c.in-Some.found.block)
+          (looks_value _ _ _ _ found _ q c.in_ok-old-in-Some.old c.in_ok-old-in-Some.ensures.value) (each_plain g.W.Words g.W.Shape.Shape _ _ c.requires.order) _ c.args.value
           c.in_ok-write-in-Some.ensures.value;
     }
 
@@ -146,9 +149,9 @@ returns-in_ok-write-in-Some-clause-reads g c =
     let q = c.place_of-at.result + 1 in
     let is_value : q ≡ block_at m.arena c.in-Some.found.block + 1 = omega (arith, c.place_of-at.ensures) in
     record {
-      at = sees_old m c.args.key c.args.value _ _ _ _ (each_plain g.W.Words g.W.Shape.Shape _ _ c.requires.order) _ c.in-Some.found.place c.in-Some.found.block q c.in_ok-old-in-Some.old is_value
-          (looks_value m c.args.key _ _ _ _ _ c.in-Some.found.place c.in-Some.found.block q c.in_ok-old-in-Some.old found c.in_ok-old-in-Some.ensures.value)
-          c.in_ok-write-in-Some.ensures.value;
+      at = sees_old (tree_part m) c.args.key _ _ _ _ c.in-Some.found.block q c.in_ok-old-in-Some.old is_value (keys_block m c.args.key c.in-Some.found.place c.in-Some.found.block)
+          (looks_value _ _ _ _ found _ q c.in_ok-old-in-Some.old c.in_ok-old-in-Some.ensures.value) (each_plain g.W.Words g.W.Shape.Shape _ _ c.requires.order) _ c.args.value
+          c.in_ok-write-in-Some.ensures.value (near_own m c.args.key);
     }
 
 pub returns-in_ok-put_in-in-Some-2-clause-put : goal.returns-in_ok-put_in-in-Some-2-clause-put
@@ -273,7 +276,7 @@ returns-in-None-2-clause-reads g c =
     let missing = rw c.in-None.is at c.in_ok-found.ensures.missing in
     let then = c.in_ok-block-in-None.ensures in
     let names = rw c.in-None-2.is at then.reads in
-    record { at = sees_none m c.args.key c.args.value _ _ _ _ (each_plain g.W.Words g.W.Shape.Shape _ _ c.requires.order) missing _ then.goes_on.begins names }
+    record { at = sees_none (tree_part m) c.args.key _ _ _ _ (near_own m c.args.key) missing (each_plain g.W.Words g.W.Shape.Shape _ _ c.requires.order) _ then.goes_on.begins names }
 
 pub returns-in_ok-write-in-Some-clause-full_frame : goal.returns-in_ok-write-in-Some-clause-full_frame
 returns-in_ok-write-in-Some-clause-full_frame g c = λ e. absurd (old_not_full _ e)

@@ -10,7 +10,8 @@ use Rattle.txn_tree_map.specs.Joins.{CanCut}
 use Rattle.txn_alloc.proofs.Wider.{give_keeps}
 use Rattle.txn_alloc.proofs.Parts.{held, order_removed, finds_none}
 use Rattle.txn_tree_map.proofs.Descents.{missing_value}
-use Rattle.txn_tree_map.proofs.Gets.{sees_link}
+use Rattle.txn_alloc.proofs.Founds.{sees_near}
+use Rattle.txn_tree_map.proofs.Gets.{near_own}
 use Rattle.txn_tree_map.proofs.Removing.{order_cut, lacks_cut, removes_some, owns_removed, sees_removed}
 use Rattle.txn_tree_map.proofs.map.TreeMap.remove.Goals as goal
 
@@ -79,7 +80,7 @@ returns-in-None-clause-none_frame g c =
 pub returns-in-None-clause-reads : goal.returns-in-None-clause-reads
 returns-in-None-clause-reads g c =
     let missing = rw c.in-None.is at c.in_ok-find.ensures.missing in
-    record { at = sees_link c.args.self.now c.args.key _ _ _ _ missing (record { at = λ s fit. held (c.requires.order.at s fit) }) }
+    record { at = sees_near (tree_part c.args.self.now) c.args.key _ _ _ _ (near_own c.args.self.now c.args.key) missing (record { at = λ s fit. held (c.requires.order.at s fit) }) }
 
 pub returns-in_ok-give-in-Some-clause-goes_on : goal.returns-in_ok-give-in-Some-clause-goes_on
 returns-in_ok-give-in-Some-clause-goes_on g c =

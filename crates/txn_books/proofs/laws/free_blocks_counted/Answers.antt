@@ -1,0 +1,5 @@
+use Rattle.txn_books.proofs.Whole.{counted}
+use Rattle.txn_books.proofs.laws.free_blocks_counted.Goals as goal
+
+pub returns : goal.returns
+returns c = counted

@@ -1,0 +1,15 @@
+//! Clearing books on words: one list of words holds the tree of accounts, the chains of positions and prices, the
+//! queue of margin calls and the free blocks.
+//!
+//! `BooksShape` has the sizes of books, and its methods say where each part lies. Which word lists stand for which
+//! books is `Stands` in `specs/Standing`; `laws` has what an operation on the words concludes when it changes one part.
+#![tactic(auto)]
+
+pub mod laws;
+pub mod layout;
+pub mod shape;
+
+pub use shape::BooksShape;
+
+#[cfg(test)]
+mod tests;
