@@ -3,5 +3,7 @@ pub mod Frame
 pub mod Own
 pub mod Readers
 pub mod Writers
+pub mod Rearranging
 pub mod Splitting
+pub mod Joining
 pub mod Asides
