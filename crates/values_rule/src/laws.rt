@@ -9,9 +9,10 @@
 ghost use Rattle.std.specs.Prelude.{ℕ, List, Bool};
 ghost use Rattle.locks_rule.specs.Actions.{Keeps};
 ghost use Rattle.locks_rule.specs.Locks.{LocksHold};
+ghost use Rattle.locks_rule.specs.Joins.{MayTakeNote, left_by_note, note_of, MayMeetNote, after_note, MayJoinSeats, after_joining};
 ghost use Rattle.locks_rule.specs.Splits.{MaySplitSeat, left_by_split, given_by_split};
 ghost use Rattle.locks_rule.specs.Steps.{MaySetReadBit, MayClearReadBit, MayLoadWriter, MayClaimWriter, MayScanRow, MayReleaseWriter, set_read_bit_action, clear_read_bit_action, load_writer_action, claim_writer_action, scan_row_action, release_writer_action};
-ghost use Rattle.values_rule.specs.Keeping.{KeepsValues, KeepsValuesSplit};
+ghost use Rattle.values_rule.specs.Keeping.{KeepsValues, KeepsValuesSplit, KeepsValuesJoin};
 ghost use Rattle.values_rule.specs.Steps.{MayBeginCall, MayLoadValue, MayStoreValue, MayUndoStore, MayCommitCall, MayClearStamp, begin_call_action, load_value_action, store_value_action, undo_store_action, commit_call_action, clear_stamp_action};
 ghost use Rattle.values_rule.specs.Undone.{UndoingRestores};
 
@@ -97,6 +98,21 @@ pub fn release_writer<S: Shape>()
 /// A view that gives up its first number to a new seat keeps the value invariant.
 pub fn split_seat<S: Shape>()
     ensures { (shape : _) (j : ℕ) → KeepsValuesSplit (S.good shape) (MaySplitSeat j) left_by_split given_by_split }
+{}
+
+/// A view that gives off a note keeps the value invariant: the note has seen what the view has.
+pub fn take_note<S: Shape>()
+    ensures { (shape : _) → KeepsValuesSplit (S.good shape) MayTakeNote left_by_note note_of }
+{}
+
+/// A view that takes in a note keeps the value invariant: the longer of two beginnings of one history is one, too.
+pub fn meet_note<S: Shape>()
+    ensures { (shape : _) → KeepsValuesJoin (S.good shape) MayMeetNote after_note }
+{}
+
+/// A view that takes in another with its numbers keeps the value invariant.
+pub fn join_seats<S: Shape>()
+    ensures { (shape : _) → KeepsValuesJoin (S.good shape) MayJoinSeats after_joining }
 {}
 
 /// In every state that both invariants allow, the memory with all unfinished writes taken back is what the history
