@@ -15,5 +15,6 @@ pub mod Members
 pub mod Rearranging
 pub mod Cuts
 pub mod Joins
+pub mod Looks
 -- the memory with all unfinished writes taken back
 pub mod Undone

@@ -11,7 +11,7 @@ use Rattle.locks_rule.specs.Actions.{Keeps, found_by}
 use Rattle.locks_rule.specs.Asides.{SameLocks}
 use Rattle.locks_rule.specs.Locks.{LocksHold}
 use Rattle.locks_rule.proofs.Asides.{aside_keeps}
-use Rattle.values_rule.specs.Steps.{MayBeginCall, begin_call_action, MayLoadValue, load_value_action, MayStoreValue, store_value_action, MayUndoStore, undo_store_action, undoing_phase, MayCommitCall, commit_call_action, MayClearStamp, clear_stamp_action}
+use Rattle.values_rule.specs.Steps.{MayBeginCall, begin_call_action, MayLoadValue, load_value_action, MayStoreValue, store_value_action, MayUndoStore, undo_store_action, undoing_phase, MayCommitCall, commit_call_action, MayClearStamp, clear_stamp_action, MayLoadSerial, load_serial_action}
 use Rattle.values_rule.proofs.LockKinds.{own}
 
 -- a step after which the seat has the same locks, in another phase than Idle
@@ -94,4 +94,19 @@ clear_stamp_locks n base j ws vs id v h me may =
       asked = λ k t a. a;
       met = λ i t. t;
       idle = λ k e. (not_true (has k v.bits) (may.no_bit k), not_true (has k v.claims) (may.no_claim k));
+    }
+
+pub load_serial_locks : (n : ℕ) (base : List ℕ) → Keeps (LocksHold n base) MayLoadSerial load_serial_action
+load_serial_locks n base ws vs id v h me may =
+    aside_keeps n base id ws vs v (load_serial_action v) h me (λ t. let low = t.0 in omega arith) record {
+      base = refl;
+      seats = refl;
+      who = refl;
+      bits = refl;
+      reads = refl;
+      claims = refl;
+      scans = refl;
+      asked = λ k t a. a;
+      met = λ i t. t;
+      idle = λ k e. h.idle_holds_nothing id k v me may.phase;
     }

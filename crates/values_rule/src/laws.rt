@@ -13,7 +13,7 @@ ghost use Rattle.locks_rule.specs.Joins.{MayTakeNote, left_by_note, note_of, May
 ghost use Rattle.locks_rule.specs.Splits.{MaySplitSeat, left_by_split, given_by_split};
 ghost use Rattle.locks_rule.specs.Steps.{MaySetReadBit, MayClearReadBit, MayLoadWriter, MayClaimWriter, MayScanRow, MayReleaseWriter, set_read_bit_action, clear_read_bit_action, load_writer_action, claim_writer_action, scan_row_action, release_writer_action};
 ghost use Rattle.values_rule.specs.Keeping.{KeepsValues, KeepsValuesSplit, KeepsValuesJoin};
-ghost use Rattle.values_rule.specs.Steps.{MayBeginCall, MayLoadValue, MayStoreValue, MayUndoStore, MayCommitCall, MayClearStamp, begin_call_action, load_value_action, store_value_action, undo_store_action, commit_call_action, clear_stamp_action};
+ghost use Rattle.values_rule.specs.Steps.{MayBeginCall, MayLoadValue, MayStoreValue, MayUndoStore, MayCommitCall, MayClearStamp, MayLoadSerial, begin_call_action, load_value_action, store_value_action, undo_store_action, commit_call_action, clear_stamp_action, load_serial_action};
 ghost use Rattle.values_rule.specs.Undone.{UndoingRestores};
 
 use history_model::Shape;
@@ -61,6 +61,12 @@ pub fn clear_stamp<S: Shape>()
     ensures locks { (n : ℕ) (base : List ℕ) (j : ℕ)
         → Keeps (LocksHold n base) (MayClearStamp j) (clear_stamp_action j) }
     ensures values { (shape : _) (j : ℕ) → KeepsValues (S.good shape) (MayClearStamp j) (clear_stamp_action j) }
+{}
+
+/// A seat that loads the counter of entries between calls keeps both invariants: it has seen the whole history.
+pub fn load_serial<S: Shape>()
+    ensures locks { (n : ℕ) (base : List ℕ) → Keeps (LocksHold n base) MayLoadSerial load_serial_action }
+    ensures values { (shape : _) → KeepsValues (S.good shape) MayLoadSerial load_serial_action }
 {}
 
 /// A seat that sets its read bit keeps the value invariant.
