@@ -5,6 +5,7 @@ pub mod Growing
 pub mod Zeros
 pub mod OpeningValues
 pub mod Opening
+pub mod Joining
 pub mod Passes
 pub mod Found
 pub mod After

@@ -15,8 +15,9 @@ use Rattle.history_model.specs.Table.{Knows, clock_word, stamps_word, row_word, 
 use Rattle.locks_rule.specs.Locks.{LocksHold, IsSeat}
 use Rattle.locks_rule.specs.Splits.{opening_view, left_by_split, given_by_split, MaySplitSeat, KeepsSplit}
 use Rattle.history_model.proofs.SetLemmas.{differ, not_true, has-nil, pair-nil, has-join, has-join_same, has-join_old, without-absent}
-use Rattle.locks_rule.proofs.Splitting.{split_seat_keeps}
-use Rattle.values_rule.proofs.Cuts.{split_seat_values}
+use Rattle.locks_rule.specs.Joins.{MayTakeNote, left_by_note, note_of}
+use Rattle.locks_rule.proofs.Splitting.{split_seat_keeps, take_note_keeps}
+use Rattle.values_rule.proofs.Cuts.{split_seat_values, take_note_values}
 use Rattle.word_table.specs.declared.limits.TheConstants.{MOST_PASSES, MOST_WORDS}
 use Rattle.word_table.specs.declared.copies.CallCopy.{CallCopy}
 use Rattle.word_table.specs.declared.copies.LockCopy.{LockCopy}
@@ -75,6 +76,14 @@ module _ (good : List ℕ → Type 0) (n : ℕ) (base : List ℕ) where
   split_kept j ws vs id v h known may = record {
     locks = split_seat_keeps n base j ws vs id v h.locks known may;
     values = split_seat_values good j n base ws vs id v h.locks h.values known may;
+    clock_is_zero = h.clock_is_zero;
+    stamps_are_zero = h.stamps_are_zero;
+  }
+
+  pub note_kept : KeepsSplit (IsSound good n base) MayTakeNote left_by_note note_of
+  note_kept ws vs id v h known may = record {
+    locks = take_note_keeps n base ws vs id v h.locks known may;
+    values = take_note_values good n base ws vs id v h.locks h.values known may;
     clock_is_zero = h.clock_is_zero;
     stamps_are_zero = h.stamps_are_zero;
   }

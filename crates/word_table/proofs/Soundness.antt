@@ -14,10 +14,11 @@ use Rattle.values_rule.specs.Keeping.{KeepsValues}
 use Rattle.values_rule.proofs.CallKinds.{begin_call_values, clear_stamp_values}
 use Rattle.values_rule.proofs.Commits.{commit_call_values}
 use Rattle.values_rule.proofs.LockKinds.{own, set_read_bit_values, clear_read_bit_values, load_writer_values, claim_writer_values, scan_row_values, release_writer_values}
-use Rattle.values_rule.proofs.LocksStand.{begin_call_locks, load_value_locks, store_value_locks, undo_store_locks, commit_call_locks, clear_stamp_locks}
+use Rattle.values_rule.proofs.LocksStand.{begin_call_locks, load_value_locks, store_value_locks, undo_store_locks, commit_call_locks, clear_stamp_locks, load_serial_locks}
+use Rattle.values_rule.proofs.Looks.{load_serial_values}
 use Rattle.values_rule.proofs.ValueKinds.{load_value_values, store_value_values, undo_store_values}
 use Rattle.word_table.specs.declared.step.Step.{Step}
-use Rattle.word_table.specs.declared.step.Step.TheVariants.{SetReadBit, ClearReadBit, LoadWriter, ClaimWriter, ScanRow, ReleaseWriter, BeginCall, LoadValue, StoreValue, UndoStore, CommitCall, ClearStamp}
+use Rattle.word_table.specs.declared.step.Step.TheVariants.{SetReadBit, ClearReadBit, LoadWriter, ClaimWriter, ScanRow, ReleaseWriter, BeginCall, LoadValue, StoreValue, UndoStore, CommitCall, ClearStamp, LoadSerial}
 use Rattle.word_table.specs.Kinds.{action_of, May, Stores, Grows, Took}
 use Rattle.word_table.specs.Sound.{IsSound}
 
@@ -34,6 +35,7 @@ locks_kept good n base (StoreValue j a x) = store_value_locks n base j a x
 locks_kept good n base (UndoStore j a old) = undo_store_locks n base j a old
 locks_kept good n base (CommitCall j kept) = commit_call_locks good n base j kept
 locks_kept good n base (ClearStamp j) = clear_stamp_locks n base j
+locks_kept good n base LoadSerial = load_serial_locks n base
 
 values_kept : (good : List ℕ → Type 0) (st : Step) → KeepsValues good (May good st) (action_of st)
 values_kept good (SetReadBit j k a) = set_read_bit_values good j k a
@@ -48,6 +50,7 @@ values_kept good (StoreValue j a x) = store_value_values good j a x
 values_kept good (UndoStore j a old) = undo_store_values good j a old
 values_kept good (CommitCall j kept) = commit_call_values good j kept
 values_kept good (ClearStamp j) = clear_stamp_values good j
+values_kept good LoadSerial = load_serial_values good
 
 -- the clock or a seat's timestamp
 record IsStampWord (n i : ℕ) : Type 0 where
@@ -75,6 +78,7 @@ unstamped good n base (StoreValue j a x) ws vs id v h me may = let o = own n bas
 unstamped good n base (UndoStore j a old) ws vs id v h me may = let o = own n base ws vs id j v h me may.who in inl (behind n (value_word v.seats a) (omega (arith, o.seats)))
 unstamped good n base (CommitCall j kept) ws vs id v h me may = inl (λ i s e. ⊎_elim (λ (t : i ≡ clock_word). omega arith) (λ (t : (2 + n ≤ i) × (i < 2 + 2 * n)). let z = t.0 in omega arith) s.at)
 unstamped good n base (ClearStamp j) ws vs id v h me may = inr (λ w. refl)
+unstamped good n base LoadSerial ws vs id v h me may = inl (λ i s e. ⊎_elim (λ (t : i ≡ clock_word). omega arith) (λ (t : (2 + n ≤ i) × (i < 2 + 2 * n)). let z = t.0 in omega arith) s.at)
 
 -- a word that is 0 stays 0 while another is stored to, or 0 to any
 zero_stays : (ws : List ℕ) (at i : ℕ) → slice_index ws i ≡ 0 → slice_index (slice_set ws at 0) i ≡ 0

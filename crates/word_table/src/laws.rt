@@ -5,6 +5,7 @@ ghost use Rattle.history_model.specs.declared.view.View.{View};
 ghost use Rattle.history_model.specs.Fitting.{IsGood};
 ghost use Rattle.history_model.specs.Table.{TableState, Knows};
 ghost use Rattle.locks_rule.specs.Actions.{Keeps, words_after, views_after};
+ghost use Rattle.locks_rule.specs.Joins.{KeepsJoin, MayTakeNote, left_by_note, note_of, MayMeetNote, after_note, MayJoinSeats, after_joining};
 ghost use Rattle.locks_rule.specs.Splits.{KeepsSplit, MaySplitSeat, left_by_split, given_by_split};
 ghost use Rattle.word_table.specs.declared.step.Step.{Step};
 ghost use Rattle.word_table.specs.Kinds.{action_of, May};
@@ -21,15 +22,27 @@ pub fn every_step<S: Shape>()
         (May (IsGood (S.word_count shape) (S.good shape)) step) (action_of step) }
 {}
 
-/// A view that gives up a number to a new seat keeps the whole rule.
+/// A view that is cut keeps the whole rule: one that gives up a number to a new seat, and one that gives off a note.
 pub fn every_cut<S: Shape>()
-    ensures { (shape : _) (n : ℕ) (base : List ℕ) (j : ℕ)
+    ensures seats { (shape : _) (n : ℕ) (base : List ℕ) (j : ℕ)
         → KeepsSplit (IsSound (IsGood (S.word_count shape) (S.good shape)) n base) (MaySplitSeat j)
         left_by_split given_by_split }
+    ensures notes { (shape : _) (n : ℕ) (base : List ℕ)
+        → KeepsSplit (IsSound (IsGood (S.word_count shape) (S.good shape)) n base) MayTakeNote
+        left_by_note note_of }
+{}
+
+/// Two views that are joined keep the whole rule: one that takes in a note, and one that takes in another's numbers.
+pub fn every_join<S: Shape>()
+    ensures notes { (shape : _) (n : ℕ) (base : List ℕ)
+        → KeepsJoin (IsSound (IsGood (S.word_count shape) (S.good shape)) n base) MayMeetNote after_note }
+    ensures seats { (shape : _) (n : ℕ) (base : List ℕ)
+        → KeepsJoin (IsSound (IsGood (S.word_count shape) (S.good shape)) n base) MayJoinSeats after_joining }
 {}
 
 /// Every state of every run meets the rule: for every shape, every number of seats, every good memory to begin with,
-/// and every list of steps in any order of seats, by the same kinds of step that the calls of a desk take.
+/// and every list of steps in any order of seats, cuts and joins of seats among them, by the same kinds of step that the
+/// calls of a desk take.
 pub fn every_run<S: Shape>()
     ensures { (shape : _) (n : ℕ) (base : List ℕ) (run : List TableState)
         → IsGood (S.word_count shape) (S.good shape) base

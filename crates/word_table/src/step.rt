@@ -46,6 +46,8 @@ pub enum Step {
     CommitCall { seat: u32, kept: bool },
     /// 0 is stored to the own STAMPS word, and the call ends.
     ClearStamp { seat: u32 },
+    /// The counter of entries is loaded between calls: all that was committed is seen.
+    LoadSerial,
 }
 
 /// The kind of a step, and the rule that a step of it tells of. A call picks both for its proof.
