@@ -11,5 +11,7 @@ pub mod Found
 pub mod After
 pub mod Answering
 pub mod Staying
+pub mod Noting
+pub mod Gathering
 pub mod RunLaws
 pub mod Committing

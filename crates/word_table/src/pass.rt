@@ -8,16 +8,17 @@ ghost use Rattle.history_model.specs.Locks.{lock_of_word};
 ghost use Rattle.history_model.specs.Sets.{has};
 ghost use Rattle.history_model.specs.Table.{table_words};
 ghost use Rattle.history_model.specs.Views.{number, HasBit, HasReadGrant, HasClaim, IsScanned, HasWriteGrant, IsGranted};
+ghost use Rattle.locks_rule.specs.Joins.{after_told};
 ghost use Rattle.locks_rule.specs.Splits.{opening_view};
 ghost use Rattle.locks_rule.specs.Steps.{released_phase, set_read_bit_action, clear_read_bit_action, load_writer_action, claim_writer_action, scan_row_action, release_writer_action};
 ghost use Rattle.history_model.specs.declared.event.Event.{Event};
 ghost use Rattle.history_model.specs.declared.event.Event.TheVariants.{Read};
 ghost use Rattle.history_model.specs.Counts.{is_attempt, is_open};
 ghost use Rattle.history_model.specs.Fitting.{IsGood, SomeFits};
-ghost use Rattle.history_model.specs.Legal.{IsLegalHistory};
+ghost use Rattle.history_model.specs.Legal.{IsLegalHistory, IsPrefix};
 ghost use Rattle.history_model.specs.Traces.{after, IsLegalTrace};
 ghost use Rattle.history_model.specs.Undoing.{Notes};
-ghost use Rattle.values_rule.specs.Steps.{undoing_phase, begin_call_action, load_value_action, store_value_action, undo_store_action, commit_call_action, clear_stamp_action};
+ghost use Rattle.values_rule.specs.Steps.{undoing_phase, begin_call_action, load_value_action, store_value_action, undo_store_action, commit_call_action, clear_stamp_action, load_serial_action};
 ghost use Rattle.word_table.specs.Calls.{CommitsAt, Looked, MakesSeen, ScannedBy, with_bit};
 ghost use Rattle.word_table.specs.Kinds.{TakenIn};
 ghost use Rattle.word_table.specs.Least.{IsLeast};
@@ -31,6 +32,7 @@ use crate::layout::{
     place_of_value, place_of_writer,
 };
 use crate::limits::{LAST_CALL, MOST_PASSES, MOST_WORDS};
+use crate::notes::{GivesNote, MeetsNote, Note};
 use crate::rule::TableWords;
 use crate::step::Step;
 use crate::{bits, step};
@@ -110,6 +112,15 @@ impl<S: Shape> Pass<S> {
             locks,
             shape: PhantomData,
         }
+    }
+
+    // The seat alone.
+    pub(crate) fn into_seat(self) -> Seat<(), View>
+        ensures table { result.table_id ≡ self.table }
+        ensures seat { result.me ≡ (self.view, []) }
+        ensures named { has (number self.view) self.view.who ≡ true }
+    {
+        self.seat
     }
 
     /// The seat's number, from 0.
@@ -591,5 +602,39 @@ impl<S: Shape> Pass<S> {
                 seat: self.call.who,
             },
         );
+    }
+
+    // The load of the counter of entries with which the seat gives off a note.
+    pub(crate) fn take_note(&mut self, table: &TableWords<S>) -> Note<S>
+        requires table { self.old.table ≡ table.now.table_id }
+        requires phase { self.old.view.phase ≡ Phase.Idle }
+        ensures pass { self.new ≡ self.old }
+        ensures table { result.table ≡ table.now.table_id }
+        ensures seen { result.seen ≡ self.old.view.seen }
+    {
+        let seat = table.split_seat::<GivesNote>(&mut self.seat);
+        Note {
+            seat,
+            shape: PhantomData,
+        }
+    }
+
+    // Takes in the note, and looks at the counter of entries then, so that both lists are known to be prefixes of one.
+    pub(crate) fn meet_note(&mut self, table: &TableWords<S>, note: Note<S>)
+        requires table { self.old.table ≡ table.now.table_id }
+        requires note { note.table ≡ table.now.table_id }
+        requires phase { self.old.view.phase ≡ Phase.Idle }
+        ensures table { self.new.table ≡ self.old.table }
+        ensures rest { self.new.view ≡ record self.old.view { seen = self.new.view.seen; olds = []; met = [] } }
+        ensures taken { (found : ℕ) × TakenIn (GroundHolds S.word_count S.good table.now.key)
+            (load_serial_action (after_told self.old.view note.seen)) (after_told self.old.view note.seen) found self.new.view }
+        ensures kept { IsPrefix self.old.view.seen self.new.view.seen }
+        ensures told { IsPrefix note.seen self.new.view.seen }
+        ensures legal { IsLegalHistory (IsGood (S.word_count table.now.key.shape) (S.good table.now.key.shape))
+            table.now.key.seats table.now.key.base.items self.new.view.seen }
+    {
+        let Note { seat, shape: _ } = note;
+        table.join_seat::<MeetsNote>(&mut self.seat, seat);
+        step::load(table, &mut self.seat, PLACE_OF_SERIAL, &Step::LoadSerial);
     }
 }
