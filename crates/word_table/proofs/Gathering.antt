@@ -1,7 +1,7 @@
 -- All passes of a table come together: the last seat has all numbers, and what it knows says what the table left.
 use Rattle.std.proofs.Common.{◌≡◌, ◌≢◌, ℕ, zero, suc, ◌+◌, ◌-◌, ◌<◌, ◌≤◌, true, false, ◌⊎◌, inl, inr, ⊎_elim, List, [], ◌∷◌, ◌++◌, length, drop, Some, slice_get, slice_index, slice_set, refl, sym, ap, ◌∙◌, subst, arith, length-append, length-drop, length-set}
 use Rattle.std.proofs.lemmas.List.{append-nil, ext_get_or, get_or-drop, get_or-set_same, get_or-set_other}
-use Rattle.std.proofs.lemmas.Option.{slice_get_within, slice_get-get_or}
+use Rattle.std.proofs.lemmas.Option.{slice_get_within, same_Some}
 use mathlib.Core.Option.{some, some-injective, some-ne-none}
 use mathlib.Core.Logic.{dite}
 use native.Mathlib.Decide.{ℕ_discrete}
@@ -13,6 +13,7 @@ use Rattle.history_model.specs.declared.view.Old.{Old}
 use Rattle.history_model.specs.declared.view.View.{View}
 use Rattle.history_model.specs.declared.view.Phase.{Phase}
 use Rattle.history_model.specs.declared.view.Phase.TheVariants.{Idle, Running, Yielding, Withdrawing, Releasing}
+use Rattle.history_model.specs.Fitting.{IsGood}
 use Rattle.history_model.specs.Histories.{replay}
 use Rattle.history_model.specs.Legal.{IsIn, IsPrefix, IsLegalHistory}
 use Rattle.history_model.specs.Sets.{has}
@@ -23,6 +24,7 @@ use Rattle.history_model.proofs.Places.{same_view, put_cases}
 use Rattle.history_model.proofs.SetLemmas.{has-join_same}
 use Rattle.locks_rule.specs.Joins.{old_of, after_joining, spent_view}
 use Rattle.locks_rule.specs.Locks.{IsSeat}
+use Rattle.locks_rule.specs.Splits.{opening_view}
 use Rattle.locks_rule.proofs.Joining.{has-append_first, has-append_second}
 use Rattle.values_rule.specs.Undone.{memory_of, undone_by}
 use Rattle.values_rule.proofs.Counting.{no_more}
@@ -30,6 +32,7 @@ use Rattle.values_rule.proofs.Members.{in_first, in_second, in_join, none_in}
 use Rattle.values_rule.proofs.Undone.{undoing_restores}
 use Rattle.word_table.specs.Closing.{AreAllPasses, AreOwnersAmong}
 use Rattle.word_table.specs.Copies.{PassView}
+use Rattle.word_table.specs.Desks.{DeskView}
 use Rattle.word_table.specs.Gathering.{HasTaken, IsGathered}
 use Rattle.word_table.specs.Sound.{IsSound}
 use Rattle.word_table.proofs.Joining.{join_kept}
@@ -229,3 +232,53 @@ some_pass table n passes all least none = let p = all.all 0 least in none_in p.0
 
 pub seat_view : (me : Me (Unit {0}) View) (v : View) → me ≡ (v, []) → (me.0 ≡ v) × (me.1 ≡ [])
 seat_view me v e = (ap (λ (m : Me (Unit {0}) View). m.0) e, ap (λ (m : Me (Unit {0}) View). m.1) e)
+
+-- what closing came to
+pub record IsClosed (good : List ℕ → Type 0) (n : ℕ) (base : List ℕ) (passes : List PassView) (entries : List Entry) (words : List ℕ) : Type 0 where
+  pub legal : IsLegalHistory good n base entries
+  pub words_are : words ≡ replay base entries
+  pub seen : (pass : PassView) → IsIn pass passes → IsPrefix pass.view.seen entries
+  pub longest : (pass : PassView) × IsIn pass passes × (pass.view.seen ≡ entries)
+  pub owners : AreOwnersAmong passes entries
+
+pub is_closed : (good : List ℕ → Type 0) (n : ℕ) (base ws : List ℕ) (xs : List (Unit {0})) (id : ℕ) (me : Me (Unit {0}) View) (table of : TableId) (passes left : List PassView) (x : PassView) (first : ℕ) (words : List ℕ)
+    → AreAllPasses table n passes → passes ≡ left ++ x ∷ [] → IsGathered table (left ++ x ∷ []) [] of me → Final (Seen (Holds good n base) id me.0) ws xs → 1 ≤ n → first ≡ value_word n 0 → words ≡ drop first ws
+    → IsClosed good n base passes me.0.seen words
+is_closed good n base ws xs id me table of passes left x first words all e gathered f least at copied =
+    let g : IsGathered table passes [] of me = subst (λ (l : List PassView). IsGathered table l [] of me) (sym e) gathered in record {
+      legal = closed_legal good n base ws xs id me table of passes all g f;
+      words_are = copied ∙ (ap (λ (k : ℕ). drop k ws) at ∙ closed_words good n base ws xs id me table of passes all g f);
+      seen = closed_seen good n base ws xs id me table of passes all g f;
+      longest = closed_longest good n base ws xs id me table of passes all g f least;
+      owners = closed_owners good n base ws xs id me table of passes all g f;
+    }
+
+-- the same, of the desk that has the table
+pub desk_closed : {S : Type 0} (word_count : S → ℕ) (good : S → List ℕ → Type 0) (desk seen : DeskView S) (passes : List PassView) (entries now : List Entry) (words : List ℕ) → desk ≡ seen → now ≡ entries
+    → IsClosed (IsGood (word_count desk.shape) (good desk.shape)) desk.seats desk.base passes entries words → IsClosed (IsGood (word_count seen.shape) (good seen.shape)) seen.seats seen.base passes now words
+desk_closed {S} word_count good desk seen passes entries now words is e h =
+    subst (λ (d : DeskView S). IsClosed (IsGood (word_count d.shape) (good d.shape)) d.seats d.base passes now words) is
+    (subst (λ (l : List Entry). IsClosed (IsGood (word_count desk.shape) (good desk.shape)) desk.seats desk.base passes l words) (sym e) h)
+
+pub all_of_desk : {S : Type 0} (desk seen : DeskView S) (passes : List PassView) → desk ≡ seen → AreAllPasses seen.table seen.seats passes → AreAllPasses desk.table desk.seats passes
+all_of_desk {S} desk seen passes is all = subst (λ (d : DeskView S). AreAllPasses d.table d.seats passes) (sym is) all
+
+-- passes that were just dealt out are all passes
+pub fresh_passes : (base : List ℕ) (n : ℕ) (table : TableId) (passes : List PassView) → length passes ≡ n
+    → ((j : ℕ) → j < n → slice_get passes j ≡ Some (record { table = table; view = opening_view base n (j ∷ []) [] })) → AreAllPasses table n passes
+fresh_passes base n table passes count each = record {
+  of_table = λ p t. ap (λ (x : PassView). x.table) (is p t);
+  idle = λ p t. ap (λ (x : PassView). x.view.phase) (is p t);
+  all = λ j lt. (record { table = table; view = opening_view base n (j ∷ []) [] }, (j, each j lt), refl);
+}
+  where
+    is : (p : PassView) (t : IsIn p passes) → p ≡ record { table = table; view = opening_view base n (t.0 ∷ []) [] }
+    is p t = let lt = slice_get_within passes t.0 p t.1 in same_Some p (record { table = table; view = opening_view base n (t.0 ∷ []) [] }) (sym t.1 ∙ each t.0 (omega arith))
+
+-- the last of all passes may have gone on
+pub last_went_on : (table : TableId) (n : ℕ) (left : List PassView) (x y : PassView) → AreAllPasses table n (left ++ x ∷ []) → y.table ≡ table → y.view.phase ≡ Idle → y.view.who ≡ x.view.who → AreAllPasses table n (left ++ y ∷ [])
+last_went_on table n left x y all et ep ew = record {
+  of_table = λ p t. ⊎_elim (λ s. all.of_table p (in_first left (x ∷ []) p s)) (λ e. subst (λ (z : PassView). z.table ≡ table) e et) (in_last left y p t);
+  idle = λ p t. ⊎_elim (λ s. all.idle p (in_first left (x ∷ []) p s)) (λ e. subst (λ (z : PassView). z.view.phase ≡ Idle) e ep) (in_last left y p t);
+  all = λ j lt. let p = all.all j lt in ⊎_elim (λ s. (p.0, in_first left (y ∷ []) p.0 s, p.2)) (λ e. (y, in_second left (y ∷ []) y (0, refl), ew ∙ (ap (λ (z : PassView). z.view.who) e ∙ p.2))) (in_last left x p.0 p.1);
+}

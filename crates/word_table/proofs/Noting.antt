@@ -3,9 +3,10 @@ use Rattle.std.proofs.Common.{◌≡◌, ◌≢◌, ℕ, zero, suc, ⊎_elim, Li
 use Rattle.atomic_table.specs.Table.{State, Splits, Joins}
 use Rattle.atomic_table.specs.Seated.{TableId}
 use Rattle.history_model.specs.declared.entry.Entry.{Entry}
+use Rattle.history_model.specs.declared.view.Old.{Old}
 use Rattle.history_model.specs.declared.view.View.{View}
 use Rattle.history_model.specs.declared.view.Phase.TheVariants.{Idle}
-use Rattle.history_model.specs.Legal.{IsPrefix, IsLegalHistory}
+use Rattle.history_model.specs.Legal.{IsIn, IsPrefix, IsLegalHistory}
 use Rattle.history_model.specs.Table.{history_of}
 use Rattle.history_model.proofs.Places.{put_cases}
 use Rattle.locks_rule.specs.Joins.{left_by_note, note_of, old_of, after_told, after_note, spent_view}
@@ -30,31 +31,29 @@ module _ (good : List ℕ → Type 0) (n : ℕ) (base : List ℕ) where
       (⊎_elim (λ t. absurd (apart t.0)) (λ t. t.1) (put_cases s.views id other (after_note v w) w at))
       (record { phase = phase; note_phase = note_phase; unnumbered = unnumbered })
 
-  -- a look at the counter of entries after a view was told a history
-  module _ (v new : View) (told : List Entry) (found : ℕ) (t : TakenIn (IsSound good n base) (load_serial_action (after_told v told)) (after_told v told) found new) where
+  -- a look at the counter of entries
+  module _ (v new : View) (found : ℕ) (t : TakenIn (IsSound good n base) (load_serial_action v) v found new) where
     sees : new.seen ≡ history_of t.views
     sees = ap (λ (x : View). x.seen) t.view
 
-    pub keeps_seen : IsPrefix v.seen new.seen
-    keeps_seen = subst (λ (l : List Entry). IsPrefix v.seen l) (sym sees)
-        (t.holds.values.seen.olds_begin t.place (after_told v told) (old_of v.seen []) t.knows (in_second v.olds (old_of v.seen [] ∷ old_of told [] ∷ []) (old_of v.seen []) (0, refl)))
-
-    pub sees_told : IsPrefix told new.seen
-    sees_told = subst (λ (l : List Entry). IsPrefix told l) (sym sees)
-        (t.holds.values.seen.olds_begin t.place (after_told v told) (old_of told []) t.knows (in_second v.olds (old_of v.seen [] ∷ old_of told [] ∷ []) (old_of told []) (1, refl)))
+    sees_olds : (o : Old) → IsIn o v.olds → IsPrefix o.seen new.seen
+    sees_olds o i = subst (λ (l : List Entry). IsPrefix o.seen l) (sym sees) (t.holds.values.seen.olds_begin t.place v o t.knows i)
 
     pub sees_legal : IsLegalHistory good n base new.seen
     sees_legal = subst (λ (l : List Entry). IsLegalHistory good n base l) (sym sees) t.holds.values.history.legal
 
--- what a step tells of the seats, it tells of the pass and the note that have them
-pub told_in : (sound : List ℕ → List View → Type 0) (v w joined new : View) (table of : TableId) (pass : PassView) (note : NoteView) (found : ℕ)
-    → record { table = table; view = v } ≡ pass → record { table = of; seen = w.seen } ≡ note → joined ≡ after_note v w
-    → TakenIn sound (load_serial_action joined) joined found new
-    → TakenIn sound (load_serial_action (after_told pass.view note.seen)) (after_told pass.view note.seen) found new
-told_in sound v w joined new table of pass note found e f is t =
-    subst (λ (x : NoteView). TakenIn sound (load_serial_action (after_told pass.view x.seen)) (after_told pass.view x.seen) found new) f
-    (subst (λ (x : PassView). TakenIn sound (load_serial_action (after_told x.view w.seen)) (after_told x.view w.seen) found new) e
-    (subst (λ (x : View). TakenIn sound (load_serial_action x) x found new) is t))
+  -- after a view was told a history, that and what it had seen are prefixes of what it sees
+  module _ (v new : View) (told : List Entry) (found : ℕ) (t : TakenIn (IsSound good n base) (load_serial_action (after_told v told)) (after_told v told) found new) where
+    pub keeps_seen : IsPrefix v.seen new.seen
+    keeps_seen = sees_olds (after_told v told) new found t (old_of v.seen []) (in_second v.olds (old_of v.seen [] ∷ old_of told [] ∷ []) (old_of v.seen []) (0, refl))
+
+    pub sees_told : IsPrefix told new.seen
+    sees_told = sees_olds (after_told v told) new found t (old_of told []) (in_second v.olds (old_of v.seen [] ∷ old_of told [] ∷ []) (old_of told []) (1, refl))
+
+-- what the join does to the seats, it does to the pass and the note that have them
+pub told_by : (v w joined : View) (table of : TableId) (pass : PassView) (note : NoteView) → record { table = table; view = v } ≡ pass → record { table = of; seen = w.seen } ≡ note
+    → joined ≡ after_note v w → joined ≡ after_told pass.view note.seen
+told_by v w joined table of pass note e f is = subst (λ (x : NoteView). joined ≡ after_told pass.view x.seen) f (subst (λ (x : PassView). joined ≡ after_told x.view w.seen) e is)
 
 -- the phase of a pass is that of its seat's view
 pub seat_phase : (v : View) (table : TableId) (pass : PassView) → record { table = table; view = v } ≡ pass → pass.view.phase ≡ Idle → v.phase ≡ Idle

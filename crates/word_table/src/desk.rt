@@ -93,6 +93,7 @@ impl<S: Shape> Desk<S> {
         ensures count { IfOk result (λ made. length made.1.items ≡ n) }
         ensures passes { IfOk result (λ made. (j : ℕ) → j < n
             → slice_get made.1.items j ≡ Some (record { table = made.0.table; view = opening_view base.items n (j ∷ []) [] })) }
+        ensures all { IfOk result (λ made. AreAllPasses made.0.table made.0.seats made.1.items) }
     {
         let words = lay(alloc, &base, n)?;
         let ground = Ground {
@@ -343,13 +344,41 @@ impl<S: Shape> Desk<S> {
         pass.meet_note(&self.table.shared, note);
     }
 
+    // How many words the memory has.
+    fn memory_words(&self) -> usize
+        ensures { result ≡ length self.now.base }
+    {
+        self.table.word_count() - place_of_values(self.seats)
+    }
+
+    // Brings all passes together and takes the words out, into room that was taken before.
+    fn close_into(self, mut words: Vec<u64>, mut passes: Vec<Pass<S>>) -> Closed<S>
+        requires room { length words.items ≡ length self.base }
+        requires all { AreAllPasses self.table self.seats passes.items }
+        ensures desk { (result.base ≡ self.base) × (result.seats ≡ self.seats) × (result.shape ≡ self.shape) }
+        ensures legal { IsLegalHistory (IsGood (S.word_count self.shape) (S.good self.shape))
+            self.seats self.base result.history }
+        ensures words { result.words ≡ replay self.base result.history }
+        ensures seen { (pass : PassView) → IsIn pass passes.items → IsPrefix pass.view.seen result.history }
+        ensures longest { (pass : PassView) × IsIn pass passes.items × (pass.view.seen ≡ result.history) }
+        ensures owners { AreOwnersAmong passes.items result.history }
+    {
+        let Desk { table, seats } = self;
+        let Some(last_pass) = passes.pop() else {
+            unreachable!()
+        };
+        let seat = gather(&table.shared, last_pass, passes);
+        let made = Snapshot::of(&table.shared);
+        let last = Snapshot::of(&seat);
+        let closed = table.close_with(seat);
+        copy_words(&closed, place_of_values(seats), &mut words);
+        closed.free();
+        Closed { words, made, last }
+    }
+
     /// Closes the table, with all its passes. The words that it leaves are what the history leaves of the words that it
     /// began with. Memory is taken first, and where there is none, nothing was done.
-    pub fn close(
-        self,
-        alloc: Global,
-        mut passes: Vec<Pass<S>>,
-    ) -> Result<Closed<S>, CloseRefused<S>>
+    pub fn close(self, alloc: Global, passes: Vec<Pass<S>>) -> Result<Closed<S>, CloseRefused<S>>
         requires all { AreAllPasses self.table self.seats passes.items }
         ensures desk { IfOk result (λ closed. (closed.base ≡ self.base) × (closed.seats ≡ self.seats)
             × (closed.shape ≡ self.shape)) }
@@ -363,23 +392,9 @@ impl<S: Shape> Desk<S> {
         ensures owners { IfOk result (λ closed. AreOwnersAmong passes.items closed.history) }
         ensures refused { IfErr result (λ refused. (refused.desk ≡ self) × (refused.passes ≡ passes)) }
     {
-        let Desk { table, seats } = self;
-        let first = place_of_values(seats);
-        let Ok(mut words) = room_for(alloc, table.word_count() - first) else {
-            return Err(CloseRefused {
-                desk: Desk { table, seats },
-                passes,
-            });
-        };
-        let Some(last_pass) = passes.pop() else {
-            unreachable!()
-        };
-        let seat = gather(&table.shared, last_pass, passes);
-        let made = Snapshot::of(&table.shared);
-        let last = Snapshot::of(&seat);
-        let closed = table.close_with(seat);
-        copy_words(&closed, first, &mut words);
-        closed.free();
-        Ok(Closed { words, made, last })
+        match room_for(alloc, self.memory_words()) {
+            Ok(words) => Ok(self.close_into(words, passes)),
+            Err(OutOfMemory) => Err(CloseRefused { desk: self, passes }),
+        }
     }
 }

@@ -15,7 +15,7 @@ ghost use Rattle.history_model.specs.declared.event.Event.{Event};
 ghost use Rattle.history_model.specs.declared.event.Event.TheVariants.{Read};
 ghost use Rattle.history_model.specs.Counts.{is_attempt, is_open};
 ghost use Rattle.history_model.specs.Fitting.{IsGood, SomeFits};
-ghost use Rattle.history_model.specs.Legal.{IsLegalHistory, IsPrefix};
+ghost use Rattle.history_model.specs.Legal.{IsLegalHistory};
 ghost use Rattle.history_model.specs.Traces.{after, IsLegalTrace};
 ghost use Rattle.history_model.specs.Undoing.{Notes};
 ghost use Rattle.values_rule.specs.Steps.{undoing_phase, begin_call_action, load_value_action, store_value_action, undo_store_action, commit_call_action, clear_stamp_action, load_serial_action};
@@ -619,6 +619,32 @@ impl<S: Shape> Pass<S> {
         }
     }
 
+    // The load of the counter of entries with which the seat takes in the note.
+    pub(crate) fn join_note(&mut self, table: &TableWords<S>, note: Note<S>)
+        requires table { self.old.table ≡ table.now.table_id }
+        requires note { note.table ≡ table.now.table_id }
+        requires phase { self.old.view.phase ≡ Phase.Idle }
+        ensures table { self.new.table ≡ self.old.table }
+        ensures view { self.new.view ≡ after_told self.old.view note.seen }
+    {
+        let Note { seat, shape: _ } = note;
+        table.join_seat::<MeetsNote>(&mut self.seat, seat);
+    }
+
+    // The load of the counter of entries with which the seat sees all of them.
+    pub(crate) fn load_serial(&mut self, table: &TableWords<S>)
+        requires table { self.old.table ≡ table.now.table_id }
+        requires phase { self.old.view.phase ≡ Phase.Idle }
+        ensures table { self.new.table ≡ self.old.table }
+        ensures view { self.new.view ≡ record self.old.view { seen = self.new.view.seen; olds = [] } }
+        ensures taken { (found : ℕ) × TakenIn (GroundHolds S.word_count S.good table.now.key)
+            (load_serial_action self.old.view) self.old.view found self.new.view }
+        ensures legal { IsLegalHistory (IsGood (S.word_count table.now.key.shape) (S.good table.now.key.shape))
+            table.now.key.seats table.now.key.base.items self.new.view.seen }
+    {
+        step::load(table, &mut self.seat, PLACE_OF_SERIAL, &Step::LoadSerial);
+    }
+
     // Takes in the note, and looks at the counter of entries then, so that both lists are known to be prefixes of one.
     pub(crate) fn meet_note(&mut self, table: &TableWords<S>, note: Note<S>)
         requires table { self.old.table ≡ table.now.table_id }
@@ -628,13 +654,10 @@ impl<S: Shape> Pass<S> {
         ensures rest { self.new.view ≡ record self.old.view { seen = self.new.view.seen; olds = []; met = [] } }
         ensures taken { (found : ℕ) × TakenIn (GroundHolds S.word_count S.good table.now.key)
             (load_serial_action (after_told self.old.view note.seen)) (after_told self.old.view note.seen) found self.new.view }
-        ensures kept { IsPrefix self.old.view.seen self.new.view.seen }
-        ensures told { IsPrefix note.seen self.new.view.seen }
         ensures legal { IsLegalHistory (IsGood (S.word_count table.now.key.shape) (S.good table.now.key.shape))
             table.now.key.seats table.now.key.base.items self.new.view.seen }
     {
-        let Note { seat, shape: _ } = note;
-        table.join_seat::<MeetsNote>(&mut self.seat, seat);
-        step::load(table, &mut self.seat, PLACE_OF_SERIAL, &Step::LoadSerial);
+        self.join_note(table, note);
+        self.load_serial(table);
     }
 }
