@@ -1,5 +1,5 @@
 -- All passes of a table come together: the last seat has all numbers, and what it knows says what the table left.
-use Rattle.std.proofs.Common.{◌≡◌, ◌≢◌, ℕ, zero, suc, ◌+◌, ◌-◌, ◌<◌, ◌≤◌, true, false, ◌⊎◌, inl, inr, ⊎_elim, List, [], ◌∷◌, ◌++◌, length, drop, Some, slice_get, slice_index, slice_set, refl, sym, ap, ◌∙◌, subst, arith, length-append, length-drop, length-set}
+use Rattle.std.proofs.Common.{◌≡◌, ◌≢◌, ℕ, zero, suc, ◌+◌, ◌<◌, ◌≤◌, true, false, ◌⊎◌, inl, inr, ⊎_elim, List, [], ◌∷◌, ◌++◌, length, drop, Some, slice_get, slice_index, slice_set, refl, sym, ap, ◌∙◌, subst, arith, length-drop}
 use Rattle.std.proofs.lemmas.List.{append-nil, ext_get_or, get_or-drop, get_or-set_same, get_or-set_other}
 use Rattle.std.proofs.lemmas.Option.{slice_get_within, same_Some}
 use mathlib.Core.Option.{some, some-injective, some-ne-none}
@@ -9,7 +9,6 @@ use lib.ListN.{get_elem?}
 use Rattle.atomic_table.specs.Table.{State, Me, Joins, Final, Seen}
 use Rattle.atomic_table.specs.Seated.{TableId}
 use Rattle.history_model.specs.declared.entry.Entry.{Entry}
-use Rattle.history_model.specs.declared.view.Old.{Old}
 use Rattle.history_model.specs.declared.view.View.{View}
 use Rattle.history_model.specs.declared.view.Phase.{Phase}
 use Rattle.history_model.specs.declared.view.Phase.TheVariants.{Idle, Running, Yielding, Withdrawing, Releasing}
@@ -17,7 +16,7 @@ use Rattle.history_model.specs.Fitting.{IsGood}
 use Rattle.history_model.specs.Histories.{replay}
 use Rattle.history_model.specs.Legal.{IsIn, IsPrefix, IsLegalHistory}
 use Rattle.history_model.specs.Sets.{has}
-use Rattle.history_model.specs.Table.{Knows, history_of, value_word, table_words}
+use Rattle.history_model.specs.Table.{Knows, history_of, value_word}
 use Rattle.history_model.specs.Undoing.{Notes, written_back}
 use Rattle.history_model.specs.Views.{number}
 use Rattle.history_model.proofs.Places.{same_view, put_cases}

@@ -60,8 +60,8 @@ impl<S: Shape> Model for Desk<S> {
     ghost use Rattle.std.specs.Prelude.{◌≡◌, ◌≤◌, length};
     ghost use Rattle.history_model.specs.Table.{table_words};
     ghost use Rattle.word_table.specs.Closing.{AreAllPasses, AreOwnersAmong};
-ghost use Rattle.word_table.specs.Copies.{PassView};
-ghost use Rattle.word_table.specs.Desks.{DeskView};
+    ghost use Rattle.word_table.specs.Copies.{PassView};
+    ghost use Rattle.word_table.specs.Desks.{DeskView};
 
     ghost Value = { DeskView S };
 

@@ -1,6 +1,5 @@
 //! Notes: what one pass has seen, to be told to another.
 
-
 use atomic_table::{Join, Seat, Split};
 use history_model::View;
 use std::marker::{Model, PhantomData};

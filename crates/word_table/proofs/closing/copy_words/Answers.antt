@@ -1,5 +1,5 @@
-use Rattle.std.proofs.Common.{◌≡◌, ◌<◌, ◌≤◌, ◌+◌, ℕ, List, length, refl, sym, ap, arith, subst, ◌∙◌, length-set}
-use Rattle.std.specs.Slots.{slots_items, slots_len, slots_counts}
+use Rattle.std.proofs.Common.{◌≡◌, ℕ, length, refl, arith, subst, ◌∙◌, length-set}
+use Rattle.std.specs.Slots.{slots_items, slots_counts}
 use Rattle.word_table.proofs.Gathering.{AreCopied, copied_more, all_copied}
 use Rattle.word_table.proofs.closing.copy_words.Goals as goal
 

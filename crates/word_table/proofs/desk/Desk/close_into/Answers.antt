@@ -1,10 +1,7 @@
-use Rattle.std.proofs.Common.{◌≡◌, ◌≤◌, ℕ, List, [], ◌∷◌, ◌++◌, refl, sym, ap, ◌∙◌, subst, arith}
+use Rattle.std.proofs.Common.{ℕ, ap, ◌∙◌, arith}
 use Rattle.std.specs.Slots.{slots_items}
-use Rattle.atomic_table.specs.Table.{Me}
-use Rattle.history_model.specs.declared.view.View.{View}
 use Rattle.history_model.specs.Fitting.{IsGood}
 use Rattle.history_model.specs.Table.{value_word}
-use Rattle.word_table.specs.Desks.{DeskView}
 use Rattle.word_table.proofs.Gathering.{IsClosed, is_closed, desk_closed, all_of_desk}
 use Rattle.word_table.proofs.desk.Desk.close_into.Given.{Over}
 use Rattle.word_table.proofs.desk.Desk.close_into.Goals as goal

@@ -1,4 +1,4 @@
-use Rattle.std.proofs.Common.{◌≡◌, ℕ, sym, ap, subst, ◌∙◌}
+use Rattle.std.proofs.Common.{ℕ, sym, ap, subst, ◌∙◌}
 use Rattle.word_table.specs.Closing.{AreAllPasses}
 use Rattle.history_model.specs.Fitting.{IsGood}
 use Rattle.word_table.proofs.Opening.{opening_sound}
