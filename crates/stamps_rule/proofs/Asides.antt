@@ -231,29 +231,29 @@ module _ (n : ℕ) (base ws : List ℕ) (vs : List View) (id : ℕ) (v : View) (
             (λ c busy t. absurd (busy b.rests));
       }
 
-pub aside_keeps : (n : ℕ) (base : List ℕ) (id : ℕ) (words : List ℕ) (views : List View) (v : View) (action : Action)
+pub aside_keeps : (n : ℕ) (base words : List ℕ) (views : List View) (id : ℕ) (v : View) (action : Action)
     → LocksHold n base words views → StampsHold n words views → Knows views id v → ¬ IsStampWord n action.at
     → SameStamps v (action.view (history_of views) (found_by action words))
     → StampsHold n (words_after action words) (views_after action id words views)
-aside_keeps n base id ws vs v action h q me away s =
+aside_keeps n base ws vs id v action h q me away s =
     let x : ℕ = action.writes (found_by action ws) in
     stands_aside n base ws vs id v h q me (action.view (history_of vs) (found_by action ws)) action.at x (words_apart n ws action.at x away) s
 
-pub opens_keeps : (n : ℕ) (base : List ℕ) (id j : ℕ) (words : List ℕ) (views : List View) (v : View) (action : Action)
+pub opens_keeps : (n : ℕ) (base words : List ℕ) (views : List View) (id j : ℕ) (v : View) (action : Action)
     → LocksHold n base words views → StampsHold n words views → Knows views id v → StoresCall n j words action
     → BeginsCall j v (action.view (history_of views) (found_by action words))
     → StampsHold n (words_after action words) (views_after action id words views)
-opens_keeps n base id j ws vs v action h q me stores b =
+opens_keeps n base ws vs id j v action h q me stores b =
     let x : ℕ = action.writes (found_by action ws) in
     let w : View = action.view (history_of vs) (found_by action ws) in
     subst (λ (i : ℕ). StampsHold n (slice_set ws i x) (slice_set vs id w)) (sym stores.place)
     (begins n base ws vs id v h q me w j x (subst (λ (i : ℕ). x ≡ slice_index ws i + 1) stores.place stores.more) b)
 
-pub ends_keeps : (n : ℕ) (base : List ℕ) (id j : ℕ) (words : List ℕ) (views : List View) (v : View) (action : Action)
+pub ends_keeps : (n : ℕ) (base words : List ℕ) (views : List View) (id j : ℕ) (v : View) (action : Action)
     → LocksHold n base words views → StampsHold n words views → Knows views id v → StoresNoStamp n j words action
     → EndsCall j v (action.view (history_of views) (found_by action words))
     → StampsHold n (words_after action words) (views_after action id words views)
-ends_keeps n base id j ws vs v action h q me stores b =
+ends_keeps n base ws vs id j v action h q me stores b =
     let x : ℕ = action.writes (found_by action ws) in
     let w : View = action.view (history_of vs) (found_by action ws) in
     subst (λ (i : ℕ). StampsHold n (slice_set ws i x) (slice_set vs id w)) (sym stores.place)

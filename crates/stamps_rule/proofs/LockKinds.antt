@@ -68,7 +68,7 @@ writer_away n m k e t = let high = t.1 in omega arith
 pub set_read_bit_stamps : (j k a : ℕ) → KeepsStamps (MaySetReadBit j k a) (set_read_bit_action j k a)
 set_read_bit_stamps j k a n base ws vs id v h q me may =
     let o = own n base ws vs id j v h me may.who in
-    aside_keeps n base id ws vs v (set_read_bit_action j k a v) h q me (row_away n v.seats j k o.seats)
+    aside_keeps n base ws vs id v (set_read_bit_action j k a v) h q me (row_away n v.seats j k o.seats)
     (asks v (record (after_asking v a) { bits = k ∷ v.bits }) refl refl refl refl refl refl refl refl refl may.no_cause)
 
 pub load_writer_stamps : (j k a : ℕ) → KeepsStamps (MayLoadWriter j k a) (load_writer_action j k a)
@@ -77,7 +77,7 @@ load_writer_stamps j k a n base ws vs id v h q me may =
     let w : ℕ = slice_index ws (writer_word v.seats k) in
     let granted : View = record (after_asking v a) { reads = k ∷ v.reads } in
     let met : View = after_meeting (after_asking v a) k (w - 1) in
-    aside_keeps n base id ws vs v (load_writer_action j k a v) h q me (writer_away n v.seats k o.seats)
+    aside_keeps n base ws vs id v (load_writer_action j k a v) h q me (writer_away n v.seats k o.seats)
     (picked (SameStamps v) (is_free j w) granted met
     (asks v granted refl refl refl refl refl refl refl refl refl may.no_cause)
     (meets v met k (w - 1) refl refl refl refl refl refl refl refl refl may.no_cause))
@@ -88,7 +88,7 @@ claim_writer_stamps j k a n base ws vs id v h q me may =
     let w : ℕ = slice_index ws (writer_word v.seats k) in
     let won : View = record (after_asking v a) { claims = k ∷ v.claims; scans = without_first k v.scans } in
     let met : View = after_meeting (after_asking v a) k (w - 1) in
-    aside_keeps n base id ws vs v (claim_writer_action j k a v) h q me (writer_away n v.seats k o.seats)
+    aside_keeps n base ws vs id v (claim_writer_action j k a v) h q me (writer_away n v.seats k o.seats)
     (picked (SameStamps v) (w == 0) won met
     (asks v won refl refl refl refl refl refl refl refl refl may.no_cause)
     (meets v met k (w - 1) refl refl refl refl refl refl refl refl refl may.no_cause))
@@ -99,7 +99,7 @@ scan_row_stamps j k i n base ws vs id v h q me may =
     let w : ℕ = slice_index ws (row_word v.seats i k) in
     let scanned : View = record v { scans = (k, i) ∷ v.scans } in
     let met : View = after_meeting v k i in
-    aside_keeps n base id ws vs v (scan_row_action j k i v) h q me (row_away n v.seats i k o.seats)
+    aside_keeps n base ws vs id v (scan_row_action j k i v) h q me (row_away n v.seats i k o.seats)
     (picked (SameStamps v) (bit_at w (k % 64) == 0) scanned met
     (asks v scanned refl refl refl refl refl refl refl refl refl may.no_cause)
     (meets v met k i refl refl refl refl refl refl refl refl refl may.no_cause))
@@ -137,12 +137,12 @@ pub clear_read_bit_stamps : (j k : ℕ) → KeepsStamps (MayClearReadBit j k) (c
 clear_read_bit_stamps j k n base ws vs id v h q me may =
     let o = own n base ws vs id j v h me may.who in
     let w : View = (clear_read_bit_action j k v).view (history_of vs) (found_by (clear_read_bit_action j k v) ws) in
-    aside_keeps n base id ws vs v (clear_read_bit_action j k v) h q me (row_away n v.seats j k o.seats)
+    aside_keeps n base ws vs id v (clear_read_bit_action j k v) h q me (row_away n v.seats j k o.seats)
     (releases v w may.release refl refl refl refl refl refl refl refl refl)
 
 pub release_writer_stamps : (j k : ℕ) → KeepsStamps (MayReleaseWriter j k) (release_writer_action j k)
 release_writer_stamps j k n base ws vs id v h q me may =
     let o = own n base ws vs id j v h me may.who in
     let w : View = (release_writer_action j k v).view (history_of vs) (found_by (release_writer_action j k v) ws) in
-    aside_keeps n base id ws vs v (release_writer_action j k v) h q me (writer_away n v.seats k o.seats)
+    aside_keeps n base ws vs id v (release_writer_action j k v) h q me (writer_away n v.seats k o.seats)
     (releases v w may.release refl refl refl refl refl refl refl refl refl)

@@ -1,7 +1,7 @@
--- The kinds of step on timestamps: when a seat may take one, and what it does. The conflict clock, of which a call draws
--- a timestamp only once it met another, is that of 2PLSF (Ramalhete, Correia, Felber, PPoPP 2023); that the later of two
--- calls gives way and keeps its timestamp is from wait-die (Rosenkrantz, Stearns, Lewis, TODS 1978). The seat has the
--- number j, and i is another seat.
+-- The kinds of step on timestamps: when a seat may take one, and what it does. The conflict clock, of which a call
+-- draws a timestamp only once it met another, is that of 2PLSF (Ramalhete, Correia, Felber, PPoPP 2023); that the later
+-- of two calls gives way and keeps its timestamp is from wait-die (Rosenkrantz, Stearns, Lewis, TODS 1978). The seat has
+-- the number j, and i is another seat.
 use Rattle.std.specs.Prelude.{◌≡◌, ◌≢◌, ℕ, ◌+◌, ◌<◌, true, false, ◌&&◌, List, [], ◌∷◌, ◌++◌, length, Option, Some, None, nat_lt, ◌==◌, if◌then◌else◌}
 use Rattle.history_model.specs.declared.entry.Abandoned.{Abandoned}
 use Rattle.history_model.specs.declared.entry.Entry.{Entry}
@@ -54,7 +54,8 @@ pub record MayJudgeStamp (j i : ℕ) (v : View) : Type 0 where
 
 -- what seat i, which shows the number shown, is to a call with this timestamp
 abbrev pub judged : ℕ → ℕ → ℕ → Option Cause
-judged i shown stamp = if nat_lt 0 shown && nat_lt shown stamp then Some (record { seat = i; stamp = shown }) else None
+judged i shown stamp =
+    if nat_lt 0 shown && nat_lt shown stamp then Some (record { seat = i; stamp = shown }) else None
 
 abbrev pub judge_stamp_action : ℕ → ℕ → View → Action
 judge_stamp_action j i v = record {

@@ -45,15 +45,18 @@ pub fn judge_stamp()
 pub fn load_serial_at_yield()
     ensures locks { (n : ℕ) (base : List ℕ) (j : ℕ)
         → Keeps (LocksHold n base) (MayLoadSerialAtYield j) (load_serial_at_yield_action j) }
-    ensures stamps { (j : ℕ) → KeepsStamps (MayLoadSerialAtYield j) (load_serial_at_yield_action j) }
+    ensures stamps { (j : ℕ)
+        → KeepsStamps (MayLoadSerialAtYield j) (load_serial_at_yield_action j) }
 {}
 
 /// A seat that looks whether its cause is gone keeps both invariants. Where it is, that seat's later timestamps are
 /// later than the own.
 pub fn load_cause_stamp()
     ensures locks { (n : ℕ) (base : List ℕ) (j i stamp : ℕ)
-        → Keeps (LocksHold n base) (MayLoadCauseStamp j i stamp) (load_cause_stamp_action j i stamp) }
-    ensures stamps { (j i stamp : ℕ) → KeepsStamps (MayLoadCauseStamp j i stamp) (load_cause_stamp_action j i stamp) }
+        → Keeps (LocksHold n base) (MayLoadCauseStamp j i stamp)
+        (load_cause_stamp_action j i stamp) }
+    ensures stamps { (j i stamp : ℕ)
+        → KeepsStamps (MayLoadCauseStamp j i stamp) (load_cause_stamp_action j i stamp) }
 {}
 
 /// The timestamp invariant holds of a table as it begins, where the lock invariant does.
@@ -70,8 +73,9 @@ pub fn split_seat()
 /// A step of any kind keeps the timestamp invariant where its word is not the clock, of no calls and of no timestamp,
 /// and the seat then knows the same of timestamps.
 pub fn aside()
-    ensures { (n : ℕ) (base : List ℕ) (id : ℕ) (words : List ℕ) (views : List View) (v : View) (action : Action)
-        → LocksHold n base words views → StampsHold n words views → Knows views id v → ¬ IsStampWord n action.at
+    ensures { (n : ℕ) (base words : List ℕ) (views : List View) (id : ℕ) (v : View) (action : Action)
+        → LocksHold n base words views → StampsHold n words views → Knows views id v
+        → ¬ IsStampWord n action.at
         → SameStamps v (action.view (history_of views) (found_by action words))
         → StampsHold n (words_after action words) (views_after action id words views) }
 {}
@@ -79,8 +83,9 @@ pub fn aside()
 /// A step of any kind with which a call begins keeps the timestamp invariant: there is one call more, so the clock
 /// leaves a timestamp for it.
 pub fn opens()
-    ensures { (n : ℕ) (base : List ℕ) (id j : ℕ) (words : List ℕ) (views : List View) (v : View) (action : Action)
-        → LocksHold n base words views → StampsHold n words views → Knows views id v → StoresCall n j words action
+    ensures { (n : ℕ) (base words : List ℕ) (views : List View) (id j : ℕ) (v : View) (action : Action)
+        → LocksHold n base words views → StampsHold n words views → Knows views id v
+        → StoresCall n j words action
         → BeginsCall j v (action.view (history_of views) (found_by action words))
         → StampsHold n (words_after action words) (views_after action id words views) }
 {}
@@ -88,8 +93,9 @@ pub fn opens()
 /// A step of any kind with which a call and its timestamp end keeps the timestamp invariant: whoever waits for this
 /// seat has its cause gone.
 pub fn ends()
-    ensures { (n : ℕ) (base : List ℕ) (id j : ℕ) (words : List ℕ) (views : List View) (v : View) (action : Action)
-        → LocksHold n base words views → StampsHold n words views → Knows views id v → StoresNoStamp n j words action
+    ensures { (n : ℕ) (base words : List ℕ) (views : List View) (id j : ℕ) (v : View) (action : Action)
+        → LocksHold n base words views → StampsHold n words views → Knows views id v
+        → StoresNoStamp n j words action
         → EndsCall j v (action.view (history_of views) (found_by action words))
         → StampsHold n (words_after action words) (views_after action id words views) }
 {}
@@ -128,6 +134,6 @@ pub fn release_writer()
 /// seats, each time to another seat that it had met.
 pub fn restart_bound()
     ensures { (n : ℕ) (base words : List ℕ) (views : List View) (id j : ℕ) (v : View)
-        → LocksHold n base words views → StampsHold n words views → Knows views id v → v.who ≡ j ∷ []
-        → AreRestartsBounded n j v }
+        → LocksHold n base words views → StampsHold n words views → Knows views id v
+        → v.who ≡ j ∷ [] → AreRestartsBounded n j v }
 {}
