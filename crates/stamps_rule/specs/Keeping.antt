@@ -1,0 +1,21 @@
+-- What it means that a kind of step keeps the timestamp invariant.
+use Rattle.std.specs.Prelude.{ℕ, List, [], ◌∷◌, ◌++◌, slice_set}
+use Rattle.history_model.specs.declared.view.View.{View}
+use Rattle.history_model.specs.Table.{Knows}
+use Rattle.locks_rule.specs.Actions.{Action, words_after, views_after}
+use Rattle.locks_rule.specs.Locks.{LocksHold}
+use Rattle.stamps_rule.specs.Stamps.{StampsHold}
+
+-- a step of a seat that may take it keeps the timestamp invariant in every state in which the lock invariant holds too
+abbrev pub KeepsStamps : (View → Type 0) → (View → Action) → Type 0
+KeepsStamps may action =
+    (n : ℕ) (base words : List ℕ) (views : List View) (id : ℕ) (v : View)
+    → LocksHold n base words views → StampsHold n words views → Knows views id v → may v
+    → StampsHold n (words_after (action v) words) (views_after (action v) id words views)
+
+-- a cut of a view that may be cut keeps it too
+abbrev pub KeepsStampsSplit : (View → Type 0) → (View → View) → (View → View) → Type 0
+KeepsStampsSplit may left given =
+    (n : ℕ) (base words : List ℕ) (views : List View) (id : ℕ) (v : View)
+    → LocksHold n base words views → StampsHold n words views → Knows views id v → may v
+    → StampsHold n words (slice_set views id (left v) ++ given v ∷ [])
