@@ -12,6 +12,7 @@ pub mod StampKinds
 -- views that change without a step, and the table as it begins
 pub mod Rests
 pub mod Cuts
+pub mod Joins
 pub mod Opening
 -- the restart bound
 pub mod Bounds

@@ -1,20 +1,23 @@
--- Views that rest: where views change without a step of a call, as by a cut, and all new ones are between calls, the
--- timestamp invariant stays.
-use Rattle.std.proofs.Common.{◌≡◌, ◌≢◌, ℕ, ◌<◌, ◌≤◌, Bool, true, false, ◌⊎◌, inl, inr, ⊎_elim, List, [], ◌∷◌, Some, None, if◌then◌else◌, slice_index, sym, ap, ◌∙◌, arith}
+-- Views that rest: where views change without a step of a call, as by a cut or a join, and all new ones are between calls,
+-- the timestamp invariant stays.
+use Rattle.std.proofs.Common.{◌≡◌, ◌≢◌, ℕ, ◌<◌, ◌≤◌, Bool, true, false, ◌⊎◌, inl, inr, ⊎_elim, List, [], ◌∷◌, Option, Some, None, if◌then◌else◌, slice_index, refl, sym, ap, ◌∙◌, arith}
+use Rattle.history_model.specs.declared.entry.Entry.{Entry}
 use Rattle.history_model.specs.declared.event.Cause.{Cause}
 use Rattle.history_model.specs.declared.view.View.{View}
 use Rattle.history_model.specs.declared.view.Phase.{Phase}
-use Rattle.history_model.specs.declared.view.Phase.TheVariants.{Idle}
+use Rattle.history_model.specs.declared.view.Phase.TheVariants.{Idle, Running}
 use Rattle.history_model.specs.Legal.{IsIn}
 use Rattle.history_model.specs.Sets.{has}
 use Rattle.history_model.specs.Table.{Knows, stamps_word}
 use Rattle.history_model.proofs.Changes.{Change}
-use Rattle.history_model.proofs.SetLemmas.{differ}
+use Rattle.history_model.proofs.SetLemmas.{differ, not_true, has-nil}
+use Rattle.locks_rule.specs.Splits.{opening_view}
 use Rattle.stamps_rule.specs.Causes.{is_yielding, past_causes, newest, causes_of, pending_of}
 use Rattle.stamps_rule.specs.Stamps.{unstamped_count, AreSeatsDistinct, WasMet, StampsHold}
 use Rattle.stamps_rule.proofs.Asides.{no_due, after_none}
+use Rattle.stamps_rule.proofs.CauseLists.{nothing_in, distinct_none}
 
--- a view between calls
+-- a view between calls, by what is known of it alone
 pub record Rests (n : ℕ) (ws : List ℕ) (u : View) : Type 0 where
   pub shown : (j : ℕ) → has j u.who ≡ true → slice_index ws (stamps_word n j) ≡ 0
   pub phase : u.phase ≡ Idle
@@ -26,6 +29,45 @@ pub record Rests (n : ℕ) (ws : List ℕ) (u : View) : Type 0 where
   pub were_met : (c : Cause) → IsIn c (causes_of u) → WasMet u c.seat
   pub met_were_met : (j : ℕ) → has j u.met ≡ true → WasMet u j
   pub dealers : (i j : ℕ) → has i u.who ≡ true → has j u.who ≡ true → i ≢ j → u.joined ≡ false → causes_of u ≡ []
+
+-- nothing is due to a view between calls
+nothing_due : (o : Option Cause) → ((c : Cause) → o ≡ Some c → ⊥) → o ≡ None
+nothing_due None none = refl
+nothing_due (Some c) none = absurd (none c refl)
+
+-- where the timestamp invariant holds, a view between calls rests
+pub idle_rests : (n : ℕ) (ws : List ℕ) (vs : List View) (id : ℕ) (v : View) → StampsHold n ws vs → Knows vs id v → v.phase ≡ Idle → Rests n ws v
+idle_rests n ws vs id v q me idle =
+    let none : v.stamp ≡ 0 = q.shown.idle_unstamped id v me idle in
+    let unshown : v.announced ≡ false = not_true v.announced (λ t. let some = q.shown.announced_stamped id v me t in omega arith) in
+    record {
+      shown = λ j t. q.shown.words_show id j v (record { knows = me; named = t }) ∙ ap (λ (b : Bool). if b then v.stamp else 0) unshown;
+      phase = idle;
+      stamp = none;
+      announced = unshown;
+      due = nothing_due v.due (λ c t. let z : Idle ≡ Running = sym idle ∙ q.grounds.due_is_running id v c me t in cc);
+      distinct = q.seats.distinct id v me;
+      elsewhere = λ j c single t. q.grounds.elsewhere id j v c me single t;
+      were_met = λ c t. q.grounds.were_met id v c me t;
+      met_were_met = λ j t. q.grounds.met_were_met id j v me t;
+      dealers = λ i j ti tj ne un. q.grounds.dealers_causeless id i j v (record { knows = me; named = ti }) (record { knows = me; named = tj }) ne un;
+    }
+
+-- and so does a view that did nothing yet, whose numbers show no timestamp
+pub opening_rests : (n : ℕ) (ws base : List ℕ) (seats : ℕ) (who : List ℕ) (seen : List Entry) → ((j : ℕ) → has j who ≡ true → slice_index ws (stamps_word n j) ≡ 0)
+    → Rests n ws (opening_view base seats who seen)
+opening_rests n ws base seats who seen shown = record {
+  shown = shown;
+  phase = refl;
+  stamp = refl;
+  announced = refl;
+  due = refl;
+  distinct = distinct_none;
+  elsewhere = λ j c single t. absurd (nothing_in [] c refl t);
+  were_met = λ c t. absurd (nothing_in [] c refl t);
+  met_were_met = λ j t. absurd (differ (has j []) t (has-nil j));
+  dealers = λ i j ti tj ne un. refl;
+}
 
 module _ (n : ℕ) (ws : List ℕ) (vs vs' : List View) (Touched : ℕ → Type 0) (IsNew : ℕ → View → Type 0) (q : StampsHold n ws vs) (change : Change vs vs' Touched IsNew)
     (rest : (other : ℕ) (u : View) → IsNew other u → Rests n ws u) (fewer : unstamped_count vs' ≤ unstamped_count vs) where

@@ -10,11 +10,12 @@ ghost use Rattle.std.specs.Prelude.{◌≡◌, ℕ, List, [], ◌∷◌};
 ghost use Rattle.history_model.specs.declared.view.View.{View};
 ghost use Rattle.history_model.specs.Table.{Knows, history_of};
 ghost use Rattle.locks_rule.specs.Actions.{Action, Keeps, found_by, words_after, views_after};
+ghost use Rattle.locks_rule.specs.Joins.{MayTakeNote, left_by_note, note_of, MayMeetNote, after_note, MayJoinSeats, after_joining};
 ghost use Rattle.locks_rule.specs.Locks.{LocksHold};
 ghost use Rattle.locks_rule.specs.Splits.{MaySplitSeat, left_by_split, given_by_split};
 ghost use Rattle.locks_rule.specs.Steps.{MaySetReadBit, MayClearReadBit, MayLoadWriter, MayClaimWriter, MayScanRow, MayReleaseWriter, set_read_bit_action, clear_read_bit_action, load_writer_action, claim_writer_action, scan_row_action, release_writer_action};
 ghost use Rattle.stamps_rule.specs.Asides.{IsStampWord, SameStamps, BeginsCall, StoresCall, EndsCall, StoresNoStamp};
-ghost use Rattle.stamps_rule.specs.Keeping.{KeepsStamps, KeepsStampsSplit};
+ghost use Rattle.stamps_rule.specs.Keeping.{KeepsStamps, KeepsStampsSplit, KeepsStampsJoin};
 ghost use Rattle.stamps_rule.specs.Opening.{IsClockUnused};
 ghost use Rattle.stamps_rule.specs.Stamps.{StampsHold, AreRestartsBounded};
 ghost use Rattle.stamps_rule.specs.Steps.{MayDrawStamp, MayAnnounceStamp, MayJudgeStamp, MayLoadSerialAtYield, MayLoadCauseStamp, draw_stamp_action, announce_stamp_action, judge_stamp_action, load_serial_at_yield_action, load_cause_stamp_action};
@@ -68,6 +69,21 @@ pub fn opening()
 /// A view that gives up its first number to a new seat keeps the timestamp invariant.
 pub fn split_seat()
     ensures { (j : ℕ) → KeepsStampsSplit (MaySplitSeat j) left_by_split given_by_split }
+{}
+
+/// A view between calls that gives off a note keeps the timestamp invariant: a note has no number and no timestamp.
+pub fn take_note()
+    ensures { KeepsStampsSplit MayTakeNote left_by_note note_of }
+{}
+
+/// A view that takes in a note keeps the timestamp invariant: both are between calls.
+pub fn meet_note()
+    ensures { KeepsStampsJoin MayMeetNote after_note }
+{}
+
+/// A view that takes in another with its numbers keeps the timestamp invariant: none of them shows a timestamp.
+pub fn join_seats()
+    ensures { KeepsStampsJoin MayJoinSeats after_joining }
 {}
 
 /// A step of any kind keeps the timestamp invariant where its word is not the clock, of no calls and of no timestamp,

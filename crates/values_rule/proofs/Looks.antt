@@ -1,10 +1,9 @@
 -- A look at the counter of entries keeps the value invariant: the seat has seen the whole history, and keeps its numbers.
-use Rattle.std.proofs.Common.{◌≡◌, ℕ, ◌+◌, ◌≤◌, true, inl, inr, ⊎_elim, List, [], length, Some, slice_get, slice_index, slice_set, refl, sym, ap, ◌∙◌, subst, arith}
+use Rattle.std.proofs.Common.{◌≡◌, ℕ, true, inl, inr, ⊎_elim, List, [], slice_index, slice_set, refl, sym, ap, ◌∙◌, subst, arith}
 use Rattle.std.proofs.lemmas.List.{append-nil, set-get_or}
 use Rattle.std.proofs.lemmas.Option.{slice_get_within}
 use mathlib.Core.Logic.{dite}
 use native.Mathlib.Decide.{ℕ_discrete}
-use Rattle.history_model.specs.declared.entry.Entry.{Entry}
 use Rattle.history_model.specs.declared.view.View.{View}
 use Rattle.history_model.specs.Counts.{is_open}
 use Rattle.history_model.specs.Legal.{IsPrefix}
