@@ -9,16 +9,12 @@ use Rattle.history_model.specs.Counts.{is_open, calls_below, open_count}
 use Rattle.history_model.specs.Legal.{IsPrefix}
 use Rattle.history_model.specs.Sets.{flag}
 use Rattle.history_model.specs.Table.{Knows, history_of, calls_word}
-use Rattle.history_model.proofs.TableLaws.{seen_at_most}
+use Rattle.history_model.proofs.TableLaws.{seen_at_most, someone_saw}
 
--- a view that saw the same leaves the history
-pub history_same : (vs : List View) (id : ℕ) (v w : View) → Knows vs id v → w.seen ≡ v.seen → history_of (slice_set vs id w) ≡ history_of vs
-unfolding history_of
-history_same [] id v w e same = absurd (some-ne-none v (sym e))
-history_same (x ∷ xs) zero v w e same =
-    let is : w.seen ≡ x.seen = same ∙ ap (λ (y : View). y.seen) (sym (some-injective x v e)) in
-    ap (λ (l : List Entry). if nat_le (length (history_of xs)) (length l) then l else history_of xs) is
-history_same (x ∷ xs) (suc id) v w e same = ap (λ (l : List Entry). if nat_le (length l) (length x.seen) then x.seen else l) (history_same xs id v w e same)
+-- some view has seen the whole history, where there is a view
+pub saw_all : (vs : List View) (id : ℕ) (v : View) → Knows vs id v → (other : ℕ) × (u : View) × Knows vs other u × (history_of vs ≡ u.seen)
+saw_all [] id v e = absurd (some-ne-none v (sym e))
+saw_all (x ∷ xs) id v e = someone_saw x xs
 
 -- a prefix that is as long as the whole is the whole
 pub no_more : (xs ys : List Entry) → IsPrefix xs ys → length ys ≤ length xs → xs ≡ ys

@@ -20,9 +20,9 @@ use Rattle.locks_rule.specs.Locks.{IsSeat}
 use Rattle.locks_rule.specs.Splits.{MaySplitSeat, left_by_split, given_by_split}
 use Rattle.values_rule.specs.Keeping.{KeepsValuesSplit}
 use Rattle.values_rule.specs.Values.{ValuesHold}
-use Rattle.values_rule.proofs.Counting.{history_is, open_count-set}
+use Rattle.values_rule.proofs.Counting.{saw_all, history_is, open_count-set}
 use Rattle.values_rule.proofs.Members.{none_in}
-use Rattle.values_rule.proofs.Rearranging.{saw_all, IsResting, Rearranges, rearranged}
+use Rattle.values_rule.proofs.Rearranging.{IsResting, Rearranges, rearranged}
 
 open_count-added : (vs : List View) (w : View) → open_count (vs ++ w ∷ []) ≡ open_count vs + flag (is_open w.phase)
 unfolding open_count
