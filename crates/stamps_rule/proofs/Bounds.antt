@@ -1,17 +1,17 @@
 -- The restart bound, by the pigeonhole principle: the causes of a call are different seats, and none is its own.
 use Rattle.std.proofs.Common.{◌≡◌, ◌≢◌, ℕ, zero, suc, ◌<◌, ◌≤◌, List, [], ◌∷◌, map, length, take, Some, slice_get, refl, sym, ap, ◌∙◌, subst, arith}
-use Rattle.std.proofs.lemmas.Option.{slice_get_within, same_Some}
+use Rattle.std.proofs.lemmas.Option.{same_Some}
 use Rattle.history_model.specs.declared.entry.Abandoned.{Abandoned}
 use Rattle.history_model.specs.declared.view.View.{View}
 use Rattle.history_model.specs.Histories.{replay}
 use Rattle.history_model.specs.Legal.{IsIn, AreAttemptsLegal}
 use Rattle.history_model.specs.Table.{Knows}
 use Rattle.history_model.specs.Traces.{IsLegalTrace}
-use Rattle.history_model.proofs.HistoryLaws.{get_first, attempts_are_few}
+use Rattle.history_model.proofs.HistoryLaws.{attempts_are_few}
 use Rattle.locks_rule.specs.Locks.{LocksHold}
-use Rattle.stamps_rule.specs.Causes.{cause_of, past_causes, listed, causes_of}
+use Rattle.locks_rule.proofs.Own.{own}
 use Rattle.stamps_rule.specs.Stamps.{StampsHold, AreRestartsBounded}
-use Rattle.stamps_rule.proofs.Own.{own}
+use Rattle.stamps_rule.proofs.CauseLists.{attempt_cause}
 
 -- attempts that did nothing, and gave way to the same seats
 bare : Abandoned → Abandoned
@@ -56,15 +56,6 @@ few n j xs lt elsewhere apart =
           apart p q f.0 g.0 f.1 g.1 (sym (ap (λ (x : Abandoned). x.cause.seat) f.2 ∙ bare_seat f.0) ∙ (same ∙ (ap (λ (x : Abandoned). x.cause.seat) g.2 ∙ bare_seat g.0)));
     } in
     let fewer = attempts_are_few n [] [] j 2 0 0 (map bare xs) lt legal in omega (arith, fewer, length-bare xs)
-
--- the cause of an attempt that gave way is one of the call's
-cause_at : (xs : List Abandoned) (x : Abandoned) (i : ℕ) → slice_get xs i ≡ Some x → slice_get (map cause_of xs) i ≡ Some x.cause
-cause_at [] x i e = absurd (cc)
-cause_at (y ∷ xs) x zero e = ap (λ (z : Abandoned). Some z.cause) (same_Some y x e)
-cause_at (y ∷ xs) x (suc i) e = cause_at xs x i e
-
-attempt_cause : (v : View) (x : Abandoned) (i : ℕ) → slice_get v.abandoned i ≡ Some x → slice_get (causes_of v) i ≡ Some x.cause
-attempt_cause v x i e = let at = cause_at v.abandoned x i e in get_first (past_causes v) (listed v.due) i (slice_get_within (past_causes v) i x.cause at) ∙ at
 
 pub restarts_bounded : (n : ℕ) (base words : List ℕ) (views : List View) (id j : ℕ) (v : View) → LocksHold n base words views → StampsHold n words views → Knows views id v → v.who ≡ j ∷ [] → AreRestartsBounded n j v
 restarts_bounded n base ws vs id j v h q me single =

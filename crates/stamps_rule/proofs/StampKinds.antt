@@ -7,28 +7,22 @@ use native.Mathlib.Decide.{ℕ_discrete}
 use Rattle.history_model.specs.declared.entry.Entry.{Entry}
 use Rattle.history_model.specs.declared.event.Cause.{Cause}
 use Rattle.history_model.specs.declared.view.View.{View}
-use Rattle.history_model.specs.declared.view.Phase.TheVariants.{Idle, Running, Yielding}
 use Rattle.history_model.specs.Legal.{IsIn}
 use Rattle.history_model.specs.Sets.{has, without, flag}
 use Rattle.history_model.specs.Table.{Knows, history_of, serial_word, clock_word, calls_word, stamps_word}
 use Rattle.history_model.proofs.SetLemmas.{bool_cases, differ, not_true, has-without}
 use Rattle.locks_rule.specs.Locks.{LocksHold, IsSeat}
+use Rattle.locks_rule.proofs.Counting.{calls_below-same}
+use Rattle.locks_rule.proofs.Own.{own}
 use Rattle.stamps_rule.specs.Causes.{past_causes, newest, older, listed, causes_of, pending_of, waited_of}
 use Rattle.stamps_rule.specs.Keeping.{KeepsStamps}
 use Rattle.stamps_rule.specs.Stamps.{is_idle, is_unstamped, shown_stamp, Shows, GoesAfter, AreSeatsDistinct, WasMet, StampsHold}
 use Rattle.stamps_rule.specs.Steps.{MayDrawStamp, MayAnnounceStamp, MayJudgeStamp, MayLoadSerialAtYield, MayLoadCauseStamp, draw_stamp_action, announce_stamp_action, judge_stamp_action, load_serial_at_yield_action, load_cause_stamp_action, judged, attempt_of, after_giving_way, after_waiting, after_restarting}
 use Rattle.stamps_rule.proofs.Asides.{words_unchanged, notes_same, no_due, stamps_kept, all_kept, causes_kept, causes_empty, waited_kept, earlier_kept, stands_aside}
 use Rattle.stamps_rule.proofs.CauseLists.{newest_added, older_added, newest_last, past_added, in_added, pending_running, waited_running, pending_yielding, waited_yielding, causes_past, empty_list, distinct_added}
-use Rattle.stamps_rule.proofs.Counting.{calls_below-same, unstamped_stamped, unstamped_running}
+use Rattle.stamps_rule.proofs.Counting.{unstamped_stamped, unstamped_running}
 use Rattle.stamps_rule.proofs.Frames.{moves}
-use Rattle.stamps_rule.proofs.LocksStand.{yielded}
-use Rattle.stamps_rule.proofs.Own.{own}
-
-runs : (v : View) → v.phase ≡ Running → v.phase ≢ Idle
-runs v e idle = let z : Running ≡ Idle = sym e ∙ idle in cc
-
-yields : (v : View) → v.phase ≡ Yielding → v.phase ≢ Idle
-yields v e idle = let z : Yielding ≡ Idle = sym e ∙ idle in cc
+use Rattle.stamps_rule.proofs.LocksStand.{runs, yields, yielded}
 
 hidden : (v : View) → v.announced ≡ false → shown_stamp v ≡ 0
 hidden v e = ap (λ (b : Bool). if b then v.stamp else 0) e

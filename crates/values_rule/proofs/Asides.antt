@@ -21,9 +21,9 @@ use Rattle.history_model.proofs.SetLemmas.{differ, has-join_same}
 use Rattle.history_model.proofs.TableLaws.{seen_at_most}
 use Rattle.locks_rule.specs.Actions.{Action, found_by, words_after, views_after}
 use Rattle.locks_rule.specs.Locks.{LocksHold, IsSeat}
+use Rattle.locks_rule.proofs.Counting.{calls_below-same}
 use Rattle.values_rule.specs.Asides.{IsAside, IsLoad, GoesOn, SameCalls, SameValues, IsNewCause, GivesWay, Restarts}
 use Rattle.values_rule.specs.Values.{value_at, oldest, ValuesHold}
-use Rattle.values_rule.proofs.Counting.{calls_below-same}
 use Rattle.values_rule.proofs.Frames.{SeenMoves, CallsMove, UndoMoves, TraceMoves, FloorMoves, attempt_runs, moves}
 use Rattle.values_rule.proofs.Notes.{oldest-nil}
 

@@ -9,13 +9,13 @@ use Rattle.history_model.specs.Sets.{has, flag}
 use Rattle.history_model.specs.Table.{history_of, serial_word, calls_word, stamps_word, value_word}
 use Rattle.history_model.proofs.SetLemmas.{has-one, differ}
 use Rattle.locks_rule.specs.Locks.{IsSeat}
+use Rattle.locks_rule.proofs.Counting.{calls_below-more}
+use Rattle.locks_rule.proofs.Own.{own}
 use Rattle.values_rule.specs.Asides.{IsAside}
 use Rattle.values_rule.specs.Keeping.{KeepsValues}
 use Rattle.values_rule.specs.Steps.{MayBeginCall, begin_call_action, MayClearStamp, clear_stamp_action}
 use Rattle.values_rule.proofs.Asides.{words_apart, seen_aside, undo_empty, fresh_trace, values_ended}
-use Rattle.values_rule.proofs.Counting.{calls_below-more}
 use Rattle.values_rule.proofs.Frames.{moves}
-use Rattle.values_rule.proofs.LockKinds.{own}
 
 pub begin_call_values : (good : List ℕ → Type 0) (j : ℕ) → KeepsValues good (MayBeginCall j) (begin_call_action j)
 begin_call_values good j n base ws vs id v h q me may =

@@ -1,34 +1,25 @@
 -- The kinds of step on locks keep the value invariant: those that ask for a lock take none away, and a release comes
 -- with nothing to undo.
-use Rattle.std.proofs.Common.{◌≡◌, ◌≢◌, ℕ, ◌%◌, ◌-◌, ◌<◌, Bool, true, false, inl, inr, ⊎_elim, List, [], ◌∷◌, slice_index, refl, sym, ap, ◌∙◌, subst, arith, ◌==◌, if◌then◌else◌}
+use Rattle.std.proofs.Common.{◌≡◌, ◌≢◌, ℕ, ◌%◌, ◌-◌, ◌<◌, true, false, inl, inr, ⊎_elim, List, [], ◌∷◌, slice_index, refl, sym, ap, ◌∙◌, subst, arith, ◌==◌}
 use Rattle.std.specs.Int.{bit_at}
 use Rattle.history_model.specs.declared.TheConstants.{LOCKS}
 use Rattle.history_model.specs.declared.view.View.{View}
 use Rattle.history_model.specs.declared.view.Phase.{Phase}
 use Rattle.history_model.specs.declared.view.Phase.TheVariants.{Idle, Running, Yielding, Withdrawing, Releasing}
 use Rattle.history_model.specs.Counts.{is_attempt, is_open}
-use Rattle.history_model.specs.Sets.{has, without_first}
+use Rattle.history_model.specs.Sets.{without_first}
 use Rattle.history_model.specs.Table.{Knows, history_of, row_word, writer_word}
 use Rattle.history_model.specs.Views.{HasClaim, HasReadGrant, HasWriteGrant}
-use Rattle.history_model.proofs.SetLemmas.{has-join_same, has-join_old, pair-join_old, pair-without_other}
+use Rattle.history_model.proofs.SetLemmas.{has-join_old, pair-join_old, pair-without_other}
 use Rattle.locks_rule.specs.Actions.{found_by, words_after}
-use Rattle.locks_rule.specs.Locks.{LocksHold, IsSeat, AskedFor}
+use Rattle.locks_rule.specs.Locks.{AskedFor}
 use Rattle.locks_rule.specs.Steps.{after_asking, after_meeting, released_phase, is_free, MayRelease, MaySetReadBit, MayClearReadBit, MayLoadWriter, MayClaimWriter, MayScanRow, MayReleaseWriter, set_read_bit_action, clear_read_bit_action, load_writer_action, claim_writer_action, scan_row_action, release_writer_action}
+use Rattle.locks_rule.proofs.Asides.{picked}
+use Rattle.locks_rule.proofs.Own.{own}
 use Rattle.values_rule.specs.Asides.{IsAside, SameCalls, SameValues}
 use Rattle.values_rule.specs.Keeping.{KeepsValues}
 use Rattle.values_rule.specs.Values.{ValuesHold}
 use Rattle.values_rule.proofs.Asides.{words_apart, aside_keeps, values_ended}
-
--- the seat of a view with one number
-pub record Own (n : ℕ) (vs : List View) (id j : ℕ) (v : View) : Type 0 where
-  pub seat : IsSeat vs id v j
-  pub seats : v.seats ≡ n
-  pub below : j < n
-
-pub own : (n : ℕ) (base ws : List ℕ) (vs : List View) (id j : ℕ) (v : View) → LocksHold n base ws vs → Knows vs id v → v.who ≡ j ∷ [] → Own n vs id j v
-own n base ws vs id j v h me single =
-    let seat : IsSeat vs id v j = record { knows = me; named = subst (λ (l : List ℕ). has j l ≡ true) (sym single) (has-join_same j []) } in
-    record { seat = seat; seats = h.seats_alike id j v seat; below = h.numbers_below id j v seat }
 
 asked_below : (v : View) (k : ℕ) → AskedFor v k → k < LOCKS
 asked_below v k a = let e : a.0 % LOCKS ≡ k = a.2 in omega arith
@@ -38,11 +29,6 @@ row_aside n m j k e below near = record { serial = omega arith; calls = inr (ome
 
 writer_aside : (n m k : ℕ) → m ≡ n → k < LOCKS → IsAside n (writer_word m k)
 writer_aside n m k e near = record { serial = omega arith; calls = inr (omega arith); values = omega arith }
-
--- what either of two views has, the one that a test picks has
-picked : (P : View → Type 0) (b : Bool) (x y : View) → P x → P y → P (if b then x else y)
-picked P true x y p q = p
-picked P false x y p q = q
 
 plain_calls : (v w : View) → w.seen ≡ v.seen → w.olds ≡ v.olds → w.who ≡ v.who → w.joined ≡ v.joined → w.call ≡ v.call → w.floor ≡ v.floor → w.abandoned ≡ v.abandoned → w.stamp ≡ v.stamp → w.phase ≡ v.phase → SameCalls v w
 plain_calls v w seen olds who joined call floor abandoned stamp phase = record {

@@ -18,6 +18,7 @@ use Rattle.history_model.proofs.EndEvents.{touches_read, writes_read, writes_fir
 use Rattle.history_model.proofs.Places.{same_view}
 use Rattle.history_model.proofs.TraceLaws.{legal_read, legal_write}
 use Rattle.locks_rule.specs.Locks.{LocksHold}
+use Rattle.locks_rule.proofs.Own.{Own, own}
 use Rattle.values_rule.specs.Asides.{SameCalls}
 use Rattle.values_rule.specs.Keeping.{KeepsValues}
 use Rattle.values_rule.specs.Steps.{MayLoadValue, load_value_action, MayStoreValue, store_value_action, known_value, MayUndoStore, undo_store_action, undoing_phase}
@@ -25,7 +26,6 @@ use Rattle.values_rule.specs.Values.{value_at, oldest, ValuesHold}
 use Rattle.values_rule.proofs.Asides.{seen_aside, calls_aside, floor_aside}
 use Rattle.values_rule.proofs.Current.{current}
 use Rattle.values_rule.proofs.Frames.{moves, shut_out}
-use Rattle.values_rule.proofs.LockKinds.{Own, own}
 use Rattle.values_rule.proofs.Notes.{option_cases, is_missing, oldest_more, oldest_first, oldest_one, oldest_other, oldest_apart, older_is}
 
 -- where a word of the memory stands, and what a store to it does to the others
