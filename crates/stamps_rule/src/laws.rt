@@ -89,7 +89,8 @@ pub fn join_seats()
 /// A step of any kind keeps the timestamp invariant where its word is not the clock, of no calls and of no timestamp,
 /// and the seat then knows the same of timestamps.
 pub fn aside()
-    ensures { (n : ℕ) (base words : List ℕ) (views : List View) (id : ℕ) (v : View) (action : Action)
+    ensures { (n : ℕ) (base words : List ℕ) (views : List View) (id : ℕ) (v : View)
+        (action : Action)
         → LocksHold n base words views → StampsHold n words views → Knows views id v
         → ¬ IsStampWord n action.at
         → SameStamps v (action.view (history_of views) (found_by action words))
@@ -99,7 +100,8 @@ pub fn aside()
 /// A step of any kind with which a call begins keeps the timestamp invariant: there is one call more, so the clock
 /// leaves a timestamp for it.
 pub fn opens()
-    ensures { (n : ℕ) (base words : List ℕ) (views : List View) (id j : ℕ) (v : View) (action : Action)
+    ensures { (n : ℕ) (base words : List ℕ) (views : List View) (id j : ℕ) (v : View)
+        (action : Action)
         → LocksHold n base words views → StampsHold n words views → Knows views id v
         → StoresCall n j words action
         → BeginsCall j v (action.view (history_of views) (found_by action words))
@@ -109,7 +111,8 @@ pub fn opens()
 /// A step of any kind with which a call and its timestamp end keeps the timestamp invariant: whoever waits for this
 /// seat has its cause gone.
 pub fn ends()
-    ensures { (n : ℕ) (base words : List ℕ) (views : List View) (id j : ℕ) (v : View) (action : Action)
+    ensures { (n : ℕ) (base words : List ℕ) (views : List View) (id j : ℕ) (v : View)
+        (action : Action)
         → LocksHold n base words views → StampsHold n words views → Knows views id v
         → StoresNoStamp n j words action
         → EndsCall j v (action.view (history_of views) (found_by action words))

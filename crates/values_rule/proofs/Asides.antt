@@ -1,4 +1,5 @@
--- What a step owes of the parts that it leaves alone, and the steps that leave values alone. The words go from ws to ws'.
+-- What a step owes of the parts that it leaves alone, and the steps that leave values alone. The words go from ws to
+-- ws'.
 use Rattle.std.proofs.Common.{◌≡◌, ◌≢◌, ℕ, ◌+◌, ◌^◌, ◌<◌, ◌≤◌, Bool, true, false, ◌⊎◌, inl, inr, ⊎_elim, List, [], ◌∷◌, ◌++◌, length, take, Some, None, IsSome, slice_get, slice_index, slice_set, refl, sym, ap, ◌∙◌, subst, arith, get_or-set_other}
 use Rattle.std.proofs.lemmas.List.{append-nil, take_all, set-get_or}
 use Rattle.history_model.specs.declared.entry.Entry.{Entry}

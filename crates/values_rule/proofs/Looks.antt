@@ -1,4 +1,5 @@
--- A look at the counter of entries keeps the value invariant: the seat has seen the whole history, and keeps its numbers.
+-- A look at the counter of entries keeps the value invariant: the seat has seen the whole history, and keeps its
+-- numbers.
 use Rattle.std.proofs.Common.{ℕ, List, [], slice_index, slice_set, refl}
 use Rattle.history_model.specs.declared.view.View.{View}
 use Rattle.history_model.specs.Table.{history_of, serial_word}

@@ -50,7 +50,7 @@ pub record SameValues (v w : View) : Type 0 where
   pub grants : (k : ℕ) → IsGranted v k → IsGranted w k
   pub writes : (k : ℕ) → HasWriteGrant v k → HasWriteGrant w k
 
--- a cause to which a call of v may give way: another seat with an earlier timestamp, to which no attempt gave way before
+-- a cause to which a call may give way: another seat with an earlier timestamp, to which no attempt gave way before
 pub record IsNewCause (n : ℕ) (v : View) (cause : Cause) : Type 0 where
   pub elsewhere : (cause.seat < n) × (has cause.seat v.who ≡ false)
   pub earlier : (0 < cause.stamp) × (cause.stamp < v.stamp)

@@ -130,31 +130,40 @@ pub fn join_seats<S: Shape>()
 /// value, and the seat then knows the same of calls and values, and has all locks that it had. A call may have got its
 /// timestamp.
 pub fn aside<S: Shape>()
-    ensures { (shape : _) (n : ℕ) (base words : List ℕ) (views : List View) (id : ℕ) (v : View) (action : Action)
-        → LocksHold n base words views → ValuesHold (S.good shape) n base words views → Knows views id v
+    ensures { (shape : _) (n : ℕ) (base words : List ℕ) (views : List View) (id : ℕ) (v : View)
+        (action : Action)
+        → LocksHold n base words views → ValuesHold (S.good shape) n base words views
+        → Knows views id v
         → IsAside n action.at
         → SameValues v (action.view (history_of views) (found_by action words))
-        → ValuesHold (S.good shape) n base (words_after action words) (views_after action id words views) }
+        → ValuesHold (S.good shape) n base (words_after action words)
+        (views_after action id words views) }
 {}
 
 /// A load of any kind with which an attempt gives way keeps the value invariant: what the attempt read is legal on the
 /// whole history.
 pub fn gives_way<S: Shape>()
-    ensures { (shape : _) (n : ℕ) (base words : List ℕ) (views : List View) (id : ℕ) (v : View) (cause : Cause)
-        (action : Action)
-        → LocksHold n base words views → ValuesHold (S.good shape) n base words views → Knows views id v
+    ensures { (shape : _) (n : ℕ) (base words : List ℕ) (views : List View) (id : ℕ) (v : View)
+        (cause : Cause) (action : Action)
+        → LocksHold n base words views → ValuesHold (S.good shape) n base words views
+        → Knows views id v
         → IsLoad words action → IsNewCause n v cause
-        → GivesWay cause (history_of views) v (action.view (history_of views) (found_by action words))
-        → ValuesHold (S.good shape) n base (words_after action words) (views_after action id words views) }
+        → GivesWay cause (history_of views) v
+        (action.view (history_of views) (found_by action words))
+        → ValuesHold (S.good shape) n base (words_after action words)
+        (views_after action id words views) }
 {}
 
 /// A load of any kind with which a call makes another attempt keeps the value invariant.
 pub fn restarts<S: Shape>()
-    ensures { (shape : _) (n : ℕ) (base words : List ℕ) (views : List View) (id : ℕ) (v : View) (action : Action)
-        → LocksHold n base words views → ValuesHold (S.good shape) n base words views → Knows views id v
+    ensures { (shape : _) (n : ℕ) (base words : List ℕ) (views : List View) (id : ℕ) (v : View)
+        (action : Action)
+        → LocksHold n base words views → ValuesHold (S.good shape) n base words views
+        → Knows views id v
         → IsLoad words action
         → Restarts v (action.view (history_of views) (found_by action words))
-        → ValuesHold (S.good shape) n base (words_after action words) (views_after action id words views) }
+        → ValuesHold (S.good shape) n base (words_after action words)
+        (views_after action id words views) }
 {}
 
 /// In every state that both invariants allow, the memory with all unfinished writes taken back is what the history
