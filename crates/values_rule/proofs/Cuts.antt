@@ -1,6 +1,6 @@
 -- The cut of a view in two keeps the value invariant: a new seat began no call, a note has no number, and both saw what the
 -- view saw.
-use Rattle.std.proofs.Common.{◌≡◌, ◌≢◌, ℕ, ◌+◌, ◌<◌, ◌≤◌, true, false, ◌⊎◌, inl, inr, ⊎_elim, List, [], ◌∷◌, ◌++◌, length, Some, slice_get, slice_index, slice_set, refl, sym, ap, ◌∙◌, subst, arith}
+use Rattle.std.proofs.Common.{◌≡◌, ℕ, ◌+◌, ◌<◌, ◌≤◌, true, false, inl, inr, ⊎_elim, List, [], ◌∷◌, ◌++◌, length, slice_index, slice_set, refl, sym, ap, ◌∙◌, subst, arith}
 use mathlib.Core.Logic.{dite}
 use native.Mathlib.Decide.{ℕ_discrete}
 use Rattle.history_model.specs.declared.entry.Entry.{Entry}
@@ -16,13 +16,13 @@ use Rattle.history_model.proofs.Changes.{Change, StepTouches, NewByCut, change_c
 use Rattle.history_model.proofs.Places.{same_view, put_here, added_there}
 use Rattle.history_model.proofs.SetLemmas.{differ, has-nil, has-one, has-without, has-join_same, has-join_old}
 use Rattle.locks_rule.specs.Joins.{MayTakeNote, left_by_note, note_of}
-use Rattle.locks_rule.specs.Locks.{LocksHold, IsSeat}
+use Rattle.locks_rule.specs.Locks.{IsSeat}
 use Rattle.locks_rule.specs.Splits.{MaySplitSeat, left_by_split, given_by_split}
 use Rattle.values_rule.specs.Keeping.{KeepsValuesSplit}
 use Rattle.values_rule.specs.Values.{ValuesHold}
-use Rattle.values_rule.proofs.Counting.{history_is, open_count-set}
+use Rattle.values_rule.proofs.Counting.{saw_all, history_is, open_count-set}
 use Rattle.values_rule.proofs.Members.{none_in}
-use Rattle.values_rule.proofs.Rearranging.{saw_all, IsResting, Rearranges, rearranged}
+use Rattle.values_rule.proofs.Rearranging.{IsResting, Rearranges, rearranged}
 
 open_count-added : (vs : List View) (w : View) → open_count (vs ++ w ∷ []) ≡ open_count vs + flag (is_open w.phase)
 unfolding open_count

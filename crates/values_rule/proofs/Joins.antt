@@ -1,6 +1,6 @@
 -- The join of two views keeps the value invariant: what each had seen is a beginning of the one history, and so is the
 -- longer of the two.
-use Rattle.std.proofs.Common.{◌≡◌, ◌≢◌, ℕ, suc, ◌+◌, ◌<◌, ◌≤◌, true, false, ◌⊎◌, inl, inr, ⊎_elim, List, [], ◌∷◌, ◌++◌, length, nat_le, Some, slice_get, slice_index, slice_set, if◌then◌else◌, refl, sym, ap, ◌∙◌, subst, arith, length-append}
+use Rattle.std.proofs.Common.{◌≡◌, ◌≢◌, ℕ, ◌<◌, ◌≤◌, true, false, ◌⊎◌, inl, inr, ⊎_elim, List, [], length, slice_set, if◌then◌else◌, refl, sym, ap, ◌∙◌, subst, arith}
 use Rattle.std.proofs.lemmas.Bool.Decides.{leb_tells}
 use mathlib.Core.Logic.{dite}
 use native.Mathlib.Decide.{ℕ_discrete}
@@ -8,21 +8,21 @@ use Rattle.history_model.specs.declared.entry.Entry.{Entry}
 use Rattle.history_model.specs.declared.view.Old.{Old}
 use Rattle.history_model.specs.declared.view.View.{View}
 use Rattle.history_model.specs.declared.view.Phase.TheVariants.{Idle}
-use Rattle.history_model.specs.Counts.{is_open, open_count}
-use Rattle.history_model.specs.Legal.{IsIn, IsPrefix}
+use Rattle.history_model.specs.Counts.{is_open}
+use Rattle.history_model.specs.Legal.{IsPrefix}
 use Rattle.history_model.specs.Sets.{has, flag}
 use Rattle.history_model.specs.Table.{Knows, history_of}
 use Rattle.history_model.proofs.Changes.{Change, JoinTouches, NewByJoin, change_join}
 use Rattle.history_model.proofs.Places.{same_view, put_here, put_there}
-use Rattle.history_model.proofs.SetLemmas.{differ, has-nil, has-join_same}
+use Rattle.history_model.proofs.SetLemmas.{differ, has-nil}
 use Rattle.locks_rule.specs.Joins.{longer, old_of, MayMeetNote, after_note, MayJoinSeats, after_joining, spent_view, views_joined}
-use Rattle.locks_rule.specs.Locks.{LocksHold, IsSeat}
-use Rattle.locks_rule.proofs.Joining.{is_either, has-append, has-append_first, has-append_second}
+use Rattle.locks_rule.specs.Locks.{IsSeat}
+use Rattle.locks_rule.proofs.Joining.{is_either, not_one, has-append, has-append_first, has-append_second}
 use Rattle.values_rule.specs.Keeping.{KeepsValuesJoin}
 use Rattle.values_rule.specs.Values.{ValuesHold}
-use Rattle.values_rule.proofs.Counting.{history_is, no_more, open_count-set}
+use Rattle.values_rule.proofs.Counting.{saw_all, history_is, no_more, open_count-set}
 use Rattle.values_rule.proofs.Members.{none_in, in_two}
-use Rattle.values_rule.proofs.Rearranging.{saw_all, IsResting, Rearranges, rearranged}
+use Rattle.values_rule.proofs.Rearranging.{IsResting, Rearranges, rearranged}
 
 -- the longer of two lists is one of them, and as long as each
 longer_cases : (xs ys : List Entry) (P : List Entry → Type 0) → P xs → P ys → P (longer xs ys)
@@ -91,12 +91,6 @@ module _ (good : List ℕ → Type 0) (n : ℕ) (base : List ℕ) (ws : List ℕ
       unnumbered : (j : ℕ) (o : Old) → (old_of v.seen [] ≡ o) ⊎ (old_of w.seen [] ≡ o) → has j o.numbers ≡ true → ⊥
       unnumbered j o s named = differ (has j o.numbers) named (⊎_elim (λ e. ap (λ (x : Old). has j x.numbers) (sym e) ∙ has-nil j) (λ e. ap (λ (x : Old). has j x.numbers) (sym e) ∙ has-nil j) s)
 
-  -- two lists with a number each have two numbers
-  not_one : (xs ys : List ℕ) (a b j : ℕ) → has a xs ≡ true → has b ys ≡ true → xs ++ ys ≡ j ∷ [] → ⊥
-  not_one [] ys a b j s t e = differ (has a []) s (has-nil a)
-  not_one (x ∷ xs) [] a b j s t e = differ (has b []) t (has-nil b)
-  not_one (x ∷ xs) (y ∷ ys) a b j s t e = let z : length ((x ∷ xs) ++ y ∷ ys) ≡ 1 = ap (λ (l : List ℕ). length l) e in let all = length-append (x ∷ xs) (y ∷ ys) in omega arith
-
   seats_resting : MayJoinSeats v w → IsResting n ws (history_of vs) (after_joining v w)
   seats_resting may = record {
     phase = phase;
@@ -113,12 +107,15 @@ module _ (good : List ℕ → Type 0) (n : ℕ) (base : List ℕ) (ws : List ℕ
         (λ z. subst (λ (x : Old). p < length x.seen) z (q.calls.own_seen id j p v e (mine j (subst (λ (x : Old). has j x.numbers ≡ true) (sym z) named)) at own))
         (λ z. subst (λ (x : Old). p < length x.seen) z (q.calls.own_seen joined j p w e (theirs j (subst (λ (x : Old). has j x.numbers ≡ true) (sym z) named)) at own)) s)
         (in_two v.olds (old_of v.seen v.who) (old_of w.seen w.who) o t);
-    old_numbers = λ j o t named. (⊎_elim
-        (λ s. has-append_first j v.who w.who (q.calls.old_numbers id j v o me s named).0)
-        (λ s. ⊎_elim
-        (λ z. has-append_first j v.who w.who (subst (λ (x : Old). has j x.numbers ≡ true) (sym z) named))
-        (λ z. has-append_second j v.who w.who (subst (λ (x : Old). has j x.numbers ≡ true) (sym z) named)) s)
-        (in_two v.olds (old_of v.seen v.who) (old_of w.seen w.who) o t), refl);
+    old_numbers = λ j o t named. (
+      ⊎_elim
+          (λ s. has-append_first j v.who w.who (q.calls.old_numbers id j v o me s named).0)
+          (λ s. ⊎_elim
+          (λ z. has-append_first j v.who w.who (subst (λ (x : Old). has j x.numbers ≡ true) (sym z) named))
+          (λ z. has-append_second j v.who w.who (subst (λ (x : Old). has j x.numbers ≡ true) (sym z) named)) s)
+          (in_two v.olds (old_of v.seen v.who) (old_of w.seen w.who) o t),
+      refl,
+    );
     alone = λ j single. absurd (not_one v.who w.who may.named.0 may.other_named.0 j may.named.1 may.other_named.1 single);
     fresh = λ i j a b apart un. absurd (let z : true ≡ false = un in cc);
     shown = λ j named un. absurd (let z : true ≡ false = un in cc);

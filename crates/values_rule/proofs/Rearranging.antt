@@ -1,7 +1,6 @@
 -- Views are cut and joined between calls: the history and the words stay, and the new views saw beginnings of the history.
 -- This keeps the value invariant.
-use Rattle.std.proofs.Common.{◌≡◌, ◌≢◌, ℕ, ◌+◌, ◌≤◌, ◌<◌, true, false, ◌⊎◌, inl, inr, ⊎_elim, List, [], ◌∷◌, length, Some, None, slice_get, slice_index, refl, sym, ap, ◌∙◌, subst, arith}
-use mathlib.Core.Option.{some-ne-none}
+use Rattle.std.proofs.Common.{◌≡◌, ◌≢◌, ℕ, ◌≤◌, ◌<◌, true, false, ◌⊎◌, inl, inr, ⊎_elim, List, [], ◌∷◌, length, Some, None, slice_get, slice_index, sym, ap, ◌∙◌, subst, arith}
 use Rattle.history_model.specs.declared.entry.Entry.{Entry}
 use Rattle.history_model.specs.declared.view.Old.{Old}
 use Rattle.history_model.specs.declared.view.View.{View}
@@ -13,14 +12,8 @@ use Rattle.history_model.specs.Sets.{has}
 use Rattle.history_model.specs.Table.{Knows, history_of, calls_word}
 use Rattle.history_model.specs.Undoing.{Notes}
 use Rattle.history_model.proofs.Changes.{Change}
-use Rattle.history_model.proofs.TableLaws.{someone_saw}
 use Rattle.values_rule.specs.Values.{oldest, SeenPrefixes, CallsCounted, UndoRestores, TraceCurrent, FloorAndAbandoned, ValuesHold}
 use Rattle.values_rule.proofs.Notes.{oldest-nil}
-
--- some view has seen the whole history, where there is a view
-pub saw_all : (vs : List View) (id : ℕ) (v : View) → Knows vs id v → (other : ℕ) × (u : View) × Knows vs other u × (history_of vs ≡ u.seen)
-saw_all [] id v e = absurd (some-ne-none v (sym e))
-saw_all (x ∷ xs) id v e = someone_saw x xs
 
 -- a view that is new: it is between calls, where h is the history
 pub record IsResting (n : ℕ) (ws : List ℕ) (h : List Entry) (y : View) : Type 0 where
