@@ -16,13 +16,13 @@ use Rattle.history_model.proofs.Places.{put_here}
 use Rattle.locks_rule.specs.Actions.{words_after, views_after, found_by}
 use Rattle.values_rule.specs.Steps.{MayBeginCall, MayLoadValue, MayCommitCall, begin_call_action, load_value_action, store_value_action, known_value, commit_call_action}
 use Rattle.values_rule.specs.Values.{ValuesHold}
-use Rattle.values_rule.proofs.LockKinds.{own}
+use Rattle.locks_rule.proofs.Own.{own}
 use Rattle.word_table.specs.declared.step.Step.{Step}
 use Rattle.word_table.specs.declared.step.Step.TheVariants.{BeginCall, LoadValue, CommitCall}
 use Rattle.word_table.specs.Calls.{CommitsAt}
 use Rattle.word_table.specs.Kinds.{action_of, May, TakenIn}
 use Rattle.word_table.specs.Sound.{IsSound}
-use Rattle.word_table.proofs.Soundness.{sound_kept}
+use Rattle.word_table.proofs.KeptKinds.{sound_kept}
 
 -- the words that the history leaves fit the trace of an attempt
 fits_now : (count : ℕ) (good : List ℕ → Type 0) (n : ℕ) (base ws : List ℕ) (vs : List View) (id : ℕ) (v : View) → ValuesHold (IsGood count good) n base ws vs → Knows vs id v → is_attempt v.phase ≡ true

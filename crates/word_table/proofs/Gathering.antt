@@ -34,7 +34,7 @@ use Rattle.word_table.specs.Copies.{PassView}
 use Rattle.word_table.specs.Desks.{DeskView}
 use Rattle.word_table.specs.Gathering.{HasTaken, IsGathered}
 use Rattle.word_table.specs.Sound.{IsSound}
-use Rattle.word_table.proofs.Joining.{join_kept}
+use Rattle.word_table.proofs.KeptChanges.{join_seats_sound}
 
 module _ (good : List ℕ → Type 0) (n : ℕ) (base : List ℕ) where
   abbrev Holds : State (Unit {0}) View → Type 0
@@ -42,7 +42,7 @@ module _ (good : List ℕ → Type 0) (n : ℕ) (base : List ℕ) where
 
   pub joins_at : (id other : ℕ) (v w : View) → v.phase ≡ Idle → w.phase ≡ Idle → (j : ℕ) × (has j v.who ≡ true) → (j : ℕ) × (has j w.who ≡ true)
       → Joins Holds id v other w (after_joining v w) spent_view
-  joins_at id other v w phase other_phase named other_named s h known apart at = join_kept good n base s.words s.views id other v w h apart known
+  joins_at id other v w phase other_phase named other_named s h known apart at = join_seats_sound good n base s.words s.views id other v w h apart known
       (⊎_elim (λ t. absurd (apart t.0)) (λ t. t.1) (put_cases s.views id other (after_joining v w) w at))
       (record { phase = phase; other_phase = other_phase; named = named; other_named = other_named })
 

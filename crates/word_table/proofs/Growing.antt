@@ -4,7 +4,7 @@ use Rattle.history_model.specs.declared.view.View.{View}
 use Rattle.history_model.specs.Counts.{calls_below}
 use Rattle.history_model.specs.Table.{calls_word}
 use Rattle.values_rule.specs.Steps.{commit_call_action}
-use Rattle.values_rule.proofs.LockKinds.{own}
+use Rattle.locks_rule.proofs.Own.{own}
 use Rattle.word_table.specs.declared.limits.TheConstants.{MOST_PASSES}
 use Rattle.word_table.specs.Kinds.{Grows, TakenIn}
 use Rattle.word_table.specs.Sound.{IsSound}

@@ -1,11 +1,14 @@
 pub mod Rows
 pub mod Taken
+pub mod ClockPairs
+pub mod ValuePairs
+pub mod KeptKinds
+pub mod KeptChanges
 pub mod Soundness
 pub mod Growing
 pub mod Zeros
 pub mod OpeningValues
 pub mod Opening
-pub mod Joining
 pub mod Passes
 pub mod Found
 pub mod After

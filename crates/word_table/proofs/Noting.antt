@@ -16,18 +16,17 @@ use Rattle.word_table.specs.Copies.{PassView}
 use Rattle.word_table.specs.Kinds.{TakenIn}
 use Rattle.word_table.specs.Notes.{NoteView}
 use Rattle.word_table.specs.Sound.{IsSound}
-use Rattle.word_table.proofs.Joining.{meet_kept}
-use Rattle.word_table.proofs.Opening.{note_kept}
+use Rattle.word_table.proofs.KeptChanges.{take_note_sound, meet_note_sound}
 
 module _ (good : List ℕ → Type 0) (n : ℕ) (base : List ℕ) where
   abbrev Holds : State (Unit {0}) View → Type 0
   Holds s = IsSound good n base s.words s.views
 
   pub gives_at : (id : ℕ) (v : View) → v.phase ≡ Idle → Splits Holds id v (left_by_note v) (note_of v)
-  gives_at id v phase s h known = note_kept good n base s.words s.views id v h known (record { phase = phase })
+  gives_at id v phase s h known = take_note_sound good n base s.words s.views id v h known (record { phase = phase })
 
   pub meets_at : (id other : ℕ) (v w : View) → v.phase ≡ Idle → w.phase ≡ Idle → w.who ≡ [] → Joins Holds id v other w (after_note v w) spent_view
-  meets_at id other v w phase note_phase unnumbered s h known apart at = meet_kept good n base s.words s.views id other v w h apart known
+  meets_at id other v w phase note_phase unnumbered s h known apart at = meet_note_sound good n base s.words s.views id other v w h apart known
       (⊎_elim (λ t. absurd (apart t.0)) (λ t. t.1) (put_cases s.views id other (after_note v w) w at))
       (record { phase = phase; note_phase = note_phase; unnumbered = unnumbered })
 

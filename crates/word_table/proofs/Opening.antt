@@ -15,14 +15,14 @@ use Rattle.history_model.specs.Table.{Knows, clock_word, stamps_word, row_word, 
 use Rattle.locks_rule.specs.Locks.{LocksHold, IsSeat}
 use Rattle.locks_rule.specs.Splits.{opening_view, left_by_split, given_by_split, MaySplitSeat, KeepsSplit}
 use Rattle.history_model.proofs.SetLemmas.{differ, not_true, has-nil, pair-nil, has-join, has-join_same, has-join_old, without-absent}
-use Rattle.locks_rule.specs.Joins.{MayTakeNote, left_by_note, note_of}
-use Rattle.locks_rule.proofs.Splitting.{split_seat_keeps, take_note_keeps}
-use Rattle.values_rule.proofs.Cuts.{split_seat_values, take_note_values}
 use Rattle.word_table.specs.declared.limits.TheConstants.{MOST_PASSES, MOST_WORDS}
 use Rattle.word_table.specs.declared.copies.CallCopy.{CallCopy}
 use Rattle.word_table.specs.declared.copies.LockCopy.{LockCopy}
 use Rattle.word_table.specs.Copies.{Shows, ShowsOthers, ShowsPairs, IsCopy, PassView}
 use Rattle.word_table.specs.Sound.{IsSound, opening_words, numbers}
+use Rattle.stamps_rule.specs.Opening.{IsUnused}
+use Rattle.stamps_rule.proofs.Opening.{opening_holds}
+use Rattle.word_table.proofs.KeptChanges.{split_seat_sound}
 use Rattle.word_table.proofs.OpeningValues.{opening_values}
 use Rattle.word_table.proofs.Zeros.{zeros_at, zeros_long, one_view}
 
@@ -68,28 +68,16 @@ module _ (good : List ℕ → Type 0) (n : ℕ) (base : List ℕ) where
   opening_sound ws e fine = subst (λ (l : List ℕ). IsSound good n base l (opening_view base n (numbers 0 n) [] ∷ [])) (sym e) record {
     locks = opening_locks n base;
     values = opening_values good n base fine (opening_locks n base);
-    clock_is_zero = zeros_at (value_word n 0) base clock_word (omega arith);
-    stamps_are_zero = λ j lt. zeros_at (value_word n 0) base (stamps_word n j) (omega arith);
-  }
-
-  pub split_kept : (j : ℕ) → KeepsSplit (IsSound good n base) (MaySplitSeat j) left_by_split given_by_split
-  split_kept j ws vs id v h known may = record {
-    locks = split_seat_keeps n base j ws vs id v h.locks known may;
-    values = split_seat_values good j n base ws vs id v h.locks h.values known may;
-    clock_is_zero = h.clock_is_zero;
-    stamps_are_zero = h.stamps_are_zero;
-  }
-
-  pub note_kept : KeepsSplit (IsSound good n base) MayTakeNote left_by_note note_of
-  note_kept ws vs id v h known may = record {
-    locks = take_note_keeps n base ws vs id v h.locks known may;
-    values = take_note_values good n base ws vs id v h.locks h.values known may;
-    clock_is_zero = h.clock_is_zero;
-    stamps_are_zero = h.stamps_are_zero;
+    stamps = opening_holds n base (opening_words n base) (opening_view base n (numbers 0 n) [] ∷ []) (opening_locks n base) record {
+      clock = zeros_at (value_word n 0) base clock_word (omega arith);
+      stamps = λ j lt. zeros_at (value_word n 0) base (stamps_word n j) (omega arith);
+      unused = λ id v knows. subst (λ (x : View). IsUnused x) (one_view (opening_view base n (numbers 0 n) []) id v knows).1
+          (record { phase = refl; unstamped = refl; unannounced = refl; no_cause = refl; no_attempt = refl; none_met = refl });
+    };
   }
 
   split_sound : (id j : ℕ) (v : View) → MaySplitSeat j v → Splits (λ (s : State (Unit {0}) View). IsSound good n base s.words s.views) id v (left_by_split v) (given_by_split v)
-  split_sound id j v may s h known = split_kept j s.words s.views id v h known may
+  split_sound id j v may s h known = split_seat_sound good n base j s.words s.views id v h known may
 
 -- a view with what the seat has taken, which is nothing
 abbrev with_none : View → Me (Unit {0}) View

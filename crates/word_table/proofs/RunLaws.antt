@@ -10,9 +10,9 @@ use Rattle.word_table.specs.declared.step.Step.{Step}
 use Rattle.word_table.specs.Kinds.{action_of, May}
 use Rattle.word_table.specs.Runs.{TakesStep, CutsSeat, TakesNote, Joins, Steps, IsOpening, IsRun}
 use Rattle.word_table.specs.Sound.{IsSound, opening_words, numbers}
-use Rattle.word_table.proofs.Opening.{opening_sound, split_kept, note_kept}
-use Rattle.word_table.proofs.Joining.{meet_kept, join_kept}
-use Rattle.word_table.proofs.Soundness.{sound_kept}
+use Rattle.word_table.proofs.KeptChanges.{split_seat_sound, take_note_sound, meet_note_sound, join_seats_sound}
+use Rattle.word_table.proofs.KeptKinds.{sound_kept}
+use Rattle.word_table.proofs.Opening.{opening_sound}
 
 abbrev there : Option TableState → Bool
 there None = false
@@ -42,10 +42,10 @@ module _ (good : List ℕ → Type 0) (n : ℕ) (base : List ℕ) where
   steps_kept s t h = ⊎_elim
       (λ (x : TakesStep good s t). as_sound (words_after (action_of x.step x.view) s.words) t.words (views_after (action_of x.step x.view) x.place s.words s.views) t.views x.words_are x.views_are (sound_kept good n base x.step s.words s.views x.place x.view h x.knows x.may))
       (λ y. ⊎_elim
-      (λ (x : CutsSeat s t). as_sound s.words t.words (slice_set s.views x.place (left_by_split x.view) ++ given_by_split x.view ∷ []) t.views x.words_are x.views_are (split_kept good n base x.number s.words s.views x.place x.view h x.knows x.may))
+      (λ (x : CutsSeat s t). as_sound s.words t.words (slice_set s.views x.place (left_by_split x.view) ++ given_by_split x.view ∷ []) t.views x.words_are x.views_are (split_seat_sound good n base x.number s.words s.views x.place x.view h x.knows x.may))
       (λ z. ⊎_elim
-      (λ (x : TakesNote s t). as_sound s.words t.words (slice_set s.views x.place (left_by_note x.view) ++ note_of x.view ∷ []) t.views x.words_are x.views_are (note_kept good n base s.words s.views x.place x.view h x.knows x.may))
-      (λ w. ⊎_elim (joined_kept s t MayMeetNote after_note (meet_kept good n base) h) (joined_kept s t MayJoinSeats after_joining (join_kept good n base) h) w) z) y)
+      (λ (x : TakesNote s t). as_sound s.words t.words (slice_set s.views x.place (left_by_note x.view) ++ note_of x.view ∷ []) t.views x.words_are x.views_are (take_note_sound good n base s.words s.views x.place x.view h x.knows x.may))
+      (λ w. ⊎_elim (joined_kept s t MayMeetNote after_note (meet_note_sound good n base) h) (joined_kept s t MayJoinSeats after_joining (join_seats_sound good n base) h) w) z) y)
 
   pub run_sound : (run : List TableState) → good base → IsRun good n base run → (p : ℕ) (s : TableState) → slice_get run p ≡ Some s → IsSound good n base s.words s.views
   run_sound run fine r zero s at = let o = r.first s at in

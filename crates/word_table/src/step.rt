@@ -48,6 +48,16 @@ pub enum Step {
     ClearStamp { seat: u32 },
     /// The counter of entries is loaded between calls: all that was committed is seen.
     LoadSerial,
+    /// The clock goes up by 1, and the call has a timestamp.
+    DrawStamp { seat: u32 },
+    /// The timestamp is stored to the own STAMPS word.
+    AnnounceStamp { seat: u32 },
+    /// The timestamp of a seat that the call met is loaded.
+    JudgeStamp { seat: u32, other: u32 },
+    /// The counter of entries is loaded, and the attempt gives way to the cause that is due.
+    LoadSerialAtYield { seat: u32 },
+    /// The timestamp of the attempt's cause is loaded, which showed this one.
+    LoadCauseStamp { seat: u32, other: u32, stamp: u64 },
 }
 
 /// The kind of a step, and the rule that a step of it tells of. A call picks both for its proof.
