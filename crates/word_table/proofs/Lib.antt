@@ -16,5 +16,6 @@ pub mod Answering
 pub mod Staying
 pub mod Noting
 pub mod Gathering
+pub mod Judging
 pub mod RunLaws
 pub mod Committing

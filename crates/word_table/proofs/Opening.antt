@@ -141,9 +141,9 @@ shows_none = record {
   near = λ k t. absurd (differ (has k []) t (has-nil k));
 }
 
-pub opening_copy : (base : List ℕ) (call : CallCopy) (locks : LockCopy) (table : TableId) (me : Me (Unit {0}) View) → me ≡ (opening_view base call.seats (call.who ∷ []) [], []) → call.phase ≡ Idle → call.calls ≡ 0 → ShowsOthers call.others call.seats call.who → call.row ≡ row_word call.seats call.who 0 → call.writers ≡ writer_word call.seats 0 → call.who < call.seats → call.seats ≤ MOST_PASSES
+pub opening_copy : (base : List ℕ) (call : CallCopy) (locks : LockCopy) (table : TableId) (me : Me (Unit {0}) View) → me ≡ (opening_view base call.seats (call.who ∷ []) [], []) → call.phase ≡ Idle → call.calls ≡ 0 → call.stamp ≡ 0 → call.announced ≡ false → ShowsOthers call.others call.seats call.who → call.row ≡ row_word call.seats call.who 0 → call.writers ≡ writer_word call.seats 0 → call.who < call.seats → call.seats ≤ MOST_PASSES
     → length base ≤ MOST_WORDS → table.words ≡ table_words call.seats (length base) → locks.bits ≡ zeros 16 → locks.reads ≡ zeros 16 → locks.claims ≡ zeros 16 → locks.scans.items ≡ replicate LOCKS 0 → IsCopy call locks table me
-opening_copy base call locks table me em idle fresh others row writers below few short long eb er ec es = subst (λ (m : Me (Unit {0}) View). IsCopy call locks table m) (sym em) record {
+opening_copy base call locks table me em idle fresh unstamped unannounced others row writers below few short long eb er ec es = subst (λ (m : Me (Unit {0}) View). IsCopy call locks table m) (sym em) record {
   slots = refl;
   no_cause = refl;
   others_are = others;
@@ -153,7 +153,7 @@ opening_copy base call locks table me em idle fresh others row writers below few
   few = few;
   short = short;
   long = long;
-  call_is = record { seats_are = refl; who_is = refl; phase_is = sym idle; calls_are = sym fresh };
+  call_is = record { seats_are = refl; who_is = refl; phase_is = sym idle; calls_are = sym fresh; stamp_is = sym unstamped; announced_is = sym unannounced };
   locks_are = record {
     bits_are = subst (λ (row : List ℕ). Shows row []) (sym eb) shows_none;
     reads_are = subst (λ (row : List ℕ). Shows row []) (sym er) shows_none;

@@ -1,6 +1,6 @@
 //! The shared table, and the calls that step on its locks.
 
-ghost use Rattle.std.specs.Prelude.{◌≡◌, ◌≢◌, ◌⊎◌, ◌<◌, ◌≤◌, ℕ, [], ◌∷◌, length, IfOk, IfErr, Some, slice_get, ◌++◌, ◌+◌, true, false, List};
+ghost use Rattle.std.specs.Prelude.{◌≡◌, ◌≢◌, ◌⊎◌, ◌<◌, ◌≤◌, ℕ, [], ◌∷◌, length, IfOk, IfErr, Some, slice_get, ◌++◌, ◌+◌, ◌==◌, not, true, false, List};
 ghost use Rattle.history_model.specs.declared.entry.Entry.{Entry};
 ghost use Rattle.history_model.specs.declared.event.Event.{Event};
 ghost use Rattle.history_model.specs.declared.event.Event.TheVariants.{Read};
@@ -16,14 +16,18 @@ ghost use Rattle.locks_rule.specs.Joins.{after_told};
 ghost use Rattle.locks_rule.specs.Splits.{opening_view};
 ghost use Rattle.locks_rule.specs.Steps.{load_writer_action, claim_writer_action, scan_row_action, release_writer_action, clear_read_bit_action};
 ghost use Rattle.values_rule.specs.Steps.{begin_call_action, load_value_action, store_value_action, undo_store_action, commit_call_action, clear_stamp_action, load_serial_action};
-ghost use Rattle.word_table.specs.Calls.{CommitsAt, SharedBy, ClaimedBy, ScannedBy, MetOn, SameCall, GrantsStay, with_bit};
+ghost use Rattle.stamps_rule.specs.Causes.{newest, past_causes};
+ghost use Rattle.stamps_rule.specs.Stamps.{AreRestartsBounded};
+ghost use Rattle.stamps_rule.specs.Steps.{draw_stamp_action, announce_stamp_action, load_cause_stamp_action};
+ghost use Rattle.history_model.specs.Sets.{has, without};
+ghost use Rattle.word_table.specs.Calls.{CommitsAt, JudgedBy, GaveWay, SharedBy, ClaimedBy, ScannedBy, MetOn, SameCall, GrantsStay, with_bit};
 ghost use Rattle.word_table.specs.Closing.{AreAllPasses, AreOwnersAmong};
 ghost use Rattle.word_table.specs.Copies.{PassView};
 ghost use Rattle.word_table.specs.Desks.{DeskHolds};
 ghost use Rattle.word_table.specs.Kinds.{TakenIn};
 ghost use Rattle.word_table.specs.Sound.{opening_words};
 
-use crate::answer::{Claimed, Scanned, Shared, claimed_by};
+use crate::answer::{Claimed, Judged, Scanned, Shared, claimed_by};
 use crate::closing::{CloseRefused, Closed, copy_words, gather, room_for};
 use crate::deal::deal;
 use crate::layout::place_of_values;
@@ -289,6 +293,7 @@ impl<S: Shape> Desk<S> {
         ensures entry { CommitsAt (S.word_count self.now.shape) (S.good self.now.shape) self.now.base
             kept pass.old.view pass.new.view result }
         ensures place { result ≡ length pass.new.view.seen }
+        ensures bounded { AreRestartsBounded self.now.seats (number pass.old.view) pass.old.view }
         ensures behind { (told : List Entry) → IsPrefix told pass.old.view.seen
             → IsPrefix told pass.new.view.seen × (length told < result) }
         ensures legal { IsLegalHistory (IsGood (S.word_count self.now.shape) (S.good self.now.shape))
@@ -308,10 +313,84 @@ impl<S: Shape> Desk<S> {
         requires undone { pass.old.view.undo ≡ [] }
         ensures desk { pass.new.table ≡ pass.old.table }
         ensures step { pass.new.view ≡ (clear_stamp_action (number pass.old.view) pass.old.view).view [] 0 }
+        ensures bounded { AreRestartsBounded self.now.seats (number pass.old.view) pass.old.view }
         ensures taken { (found : ℕ) × TakenIn (DeskHolds S.word_count S.good self.now)
             (clear_stamp_action (number pass.old.view) pass.old.view) pass.old.view found pass.new.view }
     {
         pass.clear_stamp(&self.table.shared);
+    }
+
+    /// Draws the call's timestamp from the clock. A call draws one once it met another, and keeps it while it lasts.
+    pub fn draw(&self, pass: &mut Pass<S>) -> u64
+        requires desk { pass.old.table ≡ self.now.table }
+        requires phase { pass.old.view.phase ≡ Phase.Running }
+        requires unjudged { pass.old.view.met ≢ [] }
+        requires unstamped { pass.old.view.stamp ≡ 0 }
+        ensures desk { pass.new.table ≡ pass.old.table }
+        ensures step { pass.new.view ≡ record pass.old.view { stamp = result } }
+        ensures taken { (found : ℕ) × (result ≡ found + 1) × TakenIn (DeskHolds S.word_count S.good self.now)
+            (draw_stamp_action (number pass.old.view) pass.old.view) pass.old.view found pass.new.view }
+    {
+        pass.draw_stamp(&self.table.shared)
+    }
+
+    /// Shows the call's timestamp to the other seats.
+    pub fn announce(&self, pass: &mut Pass<S>)
+        requires desk { pass.old.table ≡ self.now.table }
+        requires phase { pass.old.view.phase ≡ Phase.Running }
+        requires stamped { 0 < pass.old.view.stamp }
+        requires unannounced { pass.old.view.announced ≡ false }
+        ensures desk { pass.new.table ≡ pass.old.table }
+        ensures step { pass.new.view ≡ (announce_stamp_action (number pass.old.view) pass.old.view).view [] 0 }
+        ensures taken { (found : ℕ) × TakenIn (DeskHolds S.word_count S.good self.now)
+            (announce_stamp_action (number pass.old.view) pass.old.view) pass.old.view found pass.new.view }
+    {
+        pass.announce_stamp(&self.table.shared);
+    }
+
+    /// Looks at the timestamp of a seat that the call met. The attempt gives way exactly where that is above 0 and
+    /// below the call's own. It is abandoned then, and what it read is legal on the history as far as it goes.
+    pub fn judge(&self, pass: &mut Pass<S>, other: u32) -> Judged
+        requires desk { pass.old.table ≡ self.now.table }
+        requires phase { pass.old.view.phase ≡ Phase.Running }
+        requires announced { pass.old.view.announced ≡ true }
+        requires other { other < pass.old.view.seats }
+        requires met { has other pass.old.view.met ≡ true }
+        ensures desk { pass.new.table ≡ pass.old.table }
+        ensures step { JudgedBy (DeskHolds S.word_count S.good self.now) pass.old.view other result pass.new.view }
+        ensures waits { result ≡ Judged.Wait
+            → pass.new.view ≡ record pass.old.view { met = without other pass.old.view.met } }
+        ensures yields { (stamp : ℕ) → result ≡ Judged.Yield stamp
+            → (0 < stamp) × (stamp < pass.old.view.stamp)
+            × GaveWay (IsGood (S.word_count self.now.shape) (S.good self.now.shape)) self.now.seats self.now.base
+            (record { seat = other; stamp = stamp }) pass.old.view pass.new.view }
+        ensures bounded { AreRestartsBounded self.now.seats (number pass.old.view) pass.new.view }
+    {
+        pass.judge_stamp(&self.table.shared, other)
+    }
+
+    /// Whether the cause to which the attempt gave way is gone: its seat shows another timestamp than this. Then the
+    /// call makes a new attempt, with the timestamp that it has.
+    pub fn gone(&self, pass: &mut Pass<S>, other: u32, stamp: u64) -> bool
+        requires desk { pass.old.table ≡ self.now.table }
+        requires phase { pass.old.view.phase ≡ Phase.Yielding }
+        requires other { other < pass.old.view.seats }
+        requires cause { newest (past_causes pass.old.view) ≡ Some (record { seat = other; stamp = stamp }) }
+        requires no_bit { (k : ℕ) → ¬ HasBit pass.old.view k }
+        requires no_claim { (k : ℕ) → ¬ HasClaim pass.old.view k }
+        requires undone { pass.old.view.undo ≡ [] }
+        ensures desk { pass.new.table ≡ pass.old.table }
+        ensures step { (found : ℕ) × (result ≡ not (found == stamp))
+            × TakenIn (DeskHolds S.word_count S.good self.now)
+            (load_cause_stamp_action (number pass.old.view) other stamp pass.old.view)
+            pass.old.view found pass.new.view }
+        ensures restarts { result ≡ true → pass.new.view ≡ record pass.old.view { phase = Phase.Running; trace = [] } }
+        ensures waits { result ≡ false → pass.new.view ≡ record pass.old.view { waits = pass.old.view.waits + 1 } }
+        ensures fits { result ≡ true
+            → SomeFits (S.word_count self.now.shape) (S.good self.now.shape) pass.new.view.trace }
+    {
+        let shown = pass.load_cause_stamp(&self.table.shared, other, stamp);
+        shown != stamp
     }
 
     /// A note of what the pass has seen, for another pass to meet.

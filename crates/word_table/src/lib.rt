@@ -29,7 +29,7 @@ pub mod pass;
 pub mod rule;
 pub mod step;
 
-pub use answer::{Claimed, Scanned, Shared};
+pub use answer::{Claimed, Judged, Scanned, Shared};
 pub use closing::{CloseRefused, Closed};
 pub use desk::Desk;
 pub use history_model::Phase;

@@ -2,7 +2,7 @@
 //!
 //! An operation is proved here once, for every kind of step that fits it. Which kind it is exists in the proof alone.
 
-ghost use Rattle.std.specs.Prelude.{List, ◌≡◌, ◌<◌, ◌==◌, ◌+◌, ℕ, [], if◌then◌else◌};
+ghost use Rattle.std.specs.Prelude.{List, ◌≡◌, ◌<◌, ◌==◌, ◌+◌, ◌^◌, ℕ, [], if◌then◌else◌};
 ghost use Rattle.history_model.specs.declared.entry.Entry.{Entry};
 ghost use Rattle.history_model.specs.declared.view.View.{View};
 ghost use Rattle.locks_rule.specs.Actions.{Action};
@@ -249,6 +249,7 @@ pub(crate) fn add<S: Shape>(
     requires room { Grows (IsGood (S.word_count table.now.key.shape) (S.good table.now.key.shape)) (action_of step.now seat.old.me.0) seat.old.me.0 }
     ensures seat { seat.new.table_id ≡ seat.old.table_id }
     ensures took { Took (GroundHolds S.word_count S.good table.now.key) (action_of step.now seat.old.me.0) seat.old.me seat.new.me result }
+    ensures fits { result + 1 < 2 ^ 64 }
 {
     add_by::<S, Brand>(table, seat, word, step)
 }
