@@ -17,4 +17,5 @@ pub mod Staying
 pub mod Noting
 pub mod Gathering
 pub mod RunLaws
+pub mod Meetings
 pub mod Committing
