@@ -18,4 +18,5 @@ pub mod Noting
 pub mod Gathering
 pub mod Judging
 pub mod RunLaws
+pub mod Meetings
 pub mod Committing

@@ -9,3 +9,4 @@ pub mod Gathering
 pub mod Unscanned
 pub mod Calls
 pub mod Runs
+pub mod Meetings

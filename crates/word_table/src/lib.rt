@@ -41,6 +41,8 @@ pub use rule::{DeskRule, Ground};
 #[cfg(test)]
 mod closing_tests;
 #[cfg(test)]
+mod laws_tests;
+#[cfg(test)]
 mod tests;
 #[cfg(test)]
 mod values_tests;
