@@ -31,7 +31,7 @@ fn close_pair(
 #[test]
 fn what_a_note_has_seen_comes_before(rt: HostRuntime) -> Result<(), Fail> {
     let alloc = rt.alloc();
-    let (desk, mut zero, mut one) = open_pair(alloc, 3)?;
+    let (desk, mut zero, mut one) = open_pair(alloc, 3, 4)?;
     let Some(first) = add(&desk, &mut zero, 6) else {
         panic!(rt; "the first call has its entry")
     };
@@ -50,7 +50,7 @@ fn what_a_note_has_seen_comes_before(rt: HostRuntime) -> Result<(), Fail> {
 #[test]
 fn a_desk_where_nothing_was_done_leaves_its_words(rt: HostRuntime) -> Result<(), Fail> {
     let alloc = rt.alloc();
-    let (desk, zero, one) = open_pair(alloc, 3)?;
+    let (desk, zero, one) = open_pair(alloc, 3, 4)?;
     let words = close_pair(alloc, desk, zero, one)?;
     assert_eq!(rt; words.as_slice(), [3, 4].as_slice());
     Ok(())

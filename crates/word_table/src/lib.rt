@@ -39,6 +39,8 @@ pub use pass::Pass;
 pub use rule::{DeskRule, Ground};
 
 #[cfg(test)]
+mod clock_tests;
+#[cfg(test)]
 mod closing_tests;
 #[cfg(test)]
 mod laws_tests;
