@@ -1,5 +1,5 @@
 -- In every state of every run: who meets whom, and what holds of each call.
-use Rattle.std.proofs.Common.{◌≡◌, ◌≢◌, ⊎_elim, ℕ, ◌+◌, ◌-◌, ◌%◌, ◌<◌, Bool, true, false, List, [], ◌∷◌, ◌++◌, length, Option, Some, None, slice_index, refl, sym, ap, ◌∙◌, subst, arith, eq-eqb, ne_eqb, ◌==◌, if◌then◌else◌}
+use Rattle.std.proofs.Common.{◌≡◌, ◌≢◌, ⊎_elim, ℕ, ◌+◌, ◌-◌, ◌%◌, ◌<◌, ◌≤◌, Bool, true, false, List, [], ◌∷◌, ◌++◌, length, Option, Some, None, slice_index, refl, sym, ap, ◌∙◌, subst, arith, eq-eqb, ne_eqb, ◌==◌, if◌then◌else◌}
 use Rattle.std.proofs.lemmas.List.{append_cancel_left, length_push}
 use Rattle.std.specs.Int.{bit_at}
 use mathlib.Core.Logic.{dite}
@@ -31,17 +31,18 @@ use Rattle.word_table.proofs.RunLaws.{run_sound}
 abbrev InConflict : List View → ℕ → View → ℕ → ℕ → Type 0
 InConflict vs place new k i = AskedFor new k × StandsElsewhere vs place k i
 
--- a step after which the meetings are as they were meets nobody
-nobody : (v w : View) (k i : ℕ) → w.meetings ≡ v.meetings → ¬ Meets v w k i
-nobody v w k i same m =
-    let long : length v.meetings ≡ length (v.meetings ++ (k, i) ∷ []) = ap (λ (l : List (ℕ × ℕ)). length l) (sym same ∙ m.1) in
+-- a step after which there are no more meetings meets nobody
+no_more : (v w : View) (k i : ℕ) → length w.meetings ≤ length v.meetings → ¬ Meets v w k i
+no_more v w k i few m =
+    let long : length w.meetings ≡ length (v.meetings ++ (k, i) ∷ []) = ap (λ (l : List (ℕ × ℕ)). length l) m.1 in
     let more : length (v.meetings ++ (k, i) ∷ []) ≡ length v.meetings + 1 = length_push v.meetings (k, i) in omega arith
 
--- nor does one after which there are none
+-- where they are as they were, or none
+nobody : (v w : View) (k i : ℕ) → w.meetings ≡ v.meetings → ¬ Meets v w k i
+nobody v w k i same = let long : length w.meetings ≡ length v.meetings = ap (λ (l : List (ℕ × ℕ)). length l) same in no_more v w k i (omega arith)
+
 nobody_yet : (v w : View) (k i : ℕ) → w.meetings ≡ [] → ¬ Meets v w k i
-nobody_yet v w k i none m =
-    let long : 0 ≡ length (v.meetings ++ (k, i) ∷ []) = ap (λ (l : List (ℕ × ℕ)). length l) (sym none ∙ m.1) in
-    let more : length (v.meetings ++ (k, i) ∷ []) ≡ length v.meetings + 1 = length_push v.meetings (k, i) in omega arith
+nobody_yet v w k i none = let long : length w.meetings ≡ 0 = ap (λ (l : List (ℕ × ℕ)). length l) none in no_more v w k i (omega arith)
 
 -- one after which one meeting more is noted meets this seat on this lock
 this_one : (v m : View) (l x k i : ℕ) → m.meetings ≡ v.meetings → Meets v (after_meeting m l x) k i → (l ≡ k) × (x ≡ i)
