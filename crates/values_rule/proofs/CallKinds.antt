@@ -1,36 +1,21 @@
 -- The beginning and the end of a call keep the value invariant.
-use Rattle.std.proofs.Common.{◌≡◌, ◌≢◌, ℕ, ◌+◌, ◌^◌, ◌<◌, true, false, inl, inr, ⊎_elim, List, [], length, Some, None, slice_get, slice_index, slice_set, refl, sym, ap, ◌∙◌, subst, arith, get_or-set_other, get_or-set_same}
+use Rattle.std.proofs.Common.{◌≡◌, ◌≢◌, ℕ, ◌+◌, ◌^◌, ◌<◌, true, false, inl, inr, List, [], length, slice_index, slice_set, refl, sym, ap, ◌∙◌, subst, arith, get_or-set_other, get_or-set_same}
 use mathlib.Core.Logic.{dite}
 use native.Mathlib.Decide.{ℕ_discrete}
 use Rattle.history_model.specs.declared.view.View.{View}
-use Rattle.history_model.specs.declared.view.Phase.TheVariants.{Running}
 use Rattle.history_model.specs.Counts.{is_open, calls_below}
 use Rattle.history_model.specs.Histories.{replay}
 use Rattle.history_model.specs.Sets.{has, flag}
-use Rattle.history_model.specs.Table.{history_of, serial_word, calls_word, stamps_word}
-use Rattle.history_model.specs.Traces.{IsLegalTrace, value_after}
+use Rattle.history_model.specs.Table.{history_of, serial_word, calls_word, stamps_word, value_word}
 use Rattle.history_model.proofs.SetLemmas.{has-one, differ}
 use Rattle.locks_rule.specs.Locks.{IsSeat}
+use Rattle.locks_rule.proofs.Counting.{calls_below-more}
+use Rattle.locks_rule.proofs.Own.{own}
+use Rattle.values_rule.specs.Asides.{IsAside}
 use Rattle.values_rule.specs.Keeping.{KeepsValues}
 use Rattle.values_rule.specs.Steps.{MayBeginCall, begin_call_action, MayClearStamp, clear_stamp_action}
-use Rattle.values_rule.specs.Values.{oldest}
-use Rattle.values_rule.proofs.Asides.{ended_keeps, undo_empty}
-use Rattle.values_rule.proofs.Counting.{calls_below-more}
-use Rattle.values_rule.proofs.Frames.{TraceMoves, moves}
-use Rattle.values_rule.proofs.LockKinds.{own}
-use Rattle.values_rule.proofs.Notes.{oldest-nil}
-
--- an attempt that did nothing yet
-fresh_trace : (n : ℕ) (base now ws' : List ℕ) (w : View) → w.trace ≡ [] → w.undo ≡ [] → w.phase ≡ Running → TraceMoves n base now ws' w
-unfolding IsLegalTrace value_after
-fresh_trace n base now ws' w trace undo runs = record {
-  granted = λ a busy t. absurd (let z = ap (λ (l : _). slice_get l t.0) trace in ⊎_elim (λ e. cc) (λ e. cc) t.2);
-  legal = λ busy. rw trace tt;
-  undo_written = λ a o busy t. absurd (let z : None ≡ Some o = sym (oldest-nil a) ∙ (ap (λ (l : List (ℕ × ℕ)). oldest a l) (sym undo) ∙ t) in cc);
-  written_noted = λ a is t. absurd (let z = ap (λ (l : _). slice_get l t.0) trace in cc (t.2));
-  last_stands = λ a x is t. absurd (let z : None ≡ Some x = (rw trace at t) in cc);
-  rested = λ t. undo;
-}
+use Rattle.values_rule.proofs.Asides.{words_apart, seen_aside, undo_empty, fresh_trace, values_ended}
+use Rattle.values_rule.proofs.Frames.{moves}
 
 pub begin_call_values : (good : List ℕ → Type 0) (j : ℕ) → KeepsValues good (MayBeginCall j) (begin_call_action j)
 begin_call_values good j n base ws vs id v h q me may =
@@ -47,7 +32,7 @@ begin_call_values good j n base ws vs id v h q me may =
     let here : slice_index (slice_set ws i x) (calls_word n j) ≡ x = get_or-set_same ws i x 0 long in
     let there : (l : ℕ) → l ≢ j → slice_index (slice_set ws i x) (calls_word n l) ≡ slice_index ws (calls_word n l) = λ l ne. get_or-set_other ws i (calls_word n l) x 0 (λ e. ne (omega arith)) in
     moves good n base ws (slice_set ws i x) vs id v w h q me record {
-      seen = record { serial = get_or-set_other ws i serial_word x 0 (λ e. omega arith); seen = refl; olds = refl; who = refl; joined = refl };
+      seen = seen_aside good n base ws vs id v h q me w (slice_set ws i x) (get_or-set_other ws i serial_word x 0 (λ e. omega arith)) refl refl refl refl;
       calls = record {
         alone = λ busy. (j, may.who);
         fresh = λ l k t r ne un. absurd (ne (one l t ∙ sym (one k r)));
@@ -61,7 +46,7 @@ begin_call_values good j n base ws vs id v h q me may =
             let before : flag (is_open v.phase) ≡ 0 = ap (λ p. flag (is_open p)) may.phase in
             omega (arith, sums, shown, before);
       };
-      undo = undo_empty good n base ws vs id v h q me w i x (omega (arith, o.seats, o.below)) none refl;
+      undo = undo_empty good n base ws vs id v h q me w (slice_set ws i x) (λ a. get_or-set_other ws i (value_word n a) x 0 (λ e. omega (arith, o.seats, o.below))) none refl;
       trace = fresh_trace n base (replay base (history_of vs)) (slice_set ws i x) w refl refl refl;
       floor = record {
         floor_seen = omega arith;
@@ -78,17 +63,13 @@ pub clear_stamp_values : (good : List ℕ → Type 0) (j : ℕ) → KeepsValues 
 clear_stamp_values good j n base ws vs id v h q me may =
     let o = own n base ws vs id j v h me may.who in
     let w : View = (clear_stamp_action j v).view (history_of vs) (slice_index ws (stamps_word v.seats j)) in
-    ended_keeps good n base ws vs id v h q me w (stamps_word v.seats j) 0
-    record { serial = omega arith; calls = inr (omega (arith, o.seats)); values = omega (arith, o.seats, o.below) }
+    let i : ℕ = stamps_word v.seats j in
+    let aside : IsAside n i = record { serial = omega arith; calls = inr (omega (arith, o.seats)); values = omega (arith, o.seats, o.below) } in
+    values_ended good n base ws vs id v h q me w (slice_set ws i 0) (words_apart n ws i 0 aside)
     record {
+      goes_on = record { who = refl; joined = refl; call = refl; floor = refl; still_open = λ t. absurd (cc t); still_begun = λ busy. absurd (busy refl) };
       seen = refl;
       olds = refl;
-      who = refl;
-      joined = refl;
-      call = refl;
-      floor = refl;
       abandoned = refl;
       stamp = λ busy. absurd (busy refl);
-      still_open = λ t. absurd (cc t);
-      still_begun = λ busy. absurd (busy refl);
     } refl may.undone may.undone

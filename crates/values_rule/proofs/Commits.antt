@@ -27,12 +27,13 @@ use Rattle.history_model.proofs.SetLemmas.{differ, has-join_same}
 use Rattle.history_model.proofs.TableLaws.{seen_at_most}
 use Rattle.history_model.proofs.TraceAgree.{legal_agree}
 use Rattle.locks_rule.specs.Locks.{LocksHold, IsSeat}
+use Rattle.locks_rule.proofs.Counting.{calls_below-same}
+use Rattle.locks_rule.proofs.Own.{Own, own}
 use Rattle.values_rule.specs.Keeping.{KeepsValues}
 use Rattle.values_rule.specs.Steps.{MayCommitCall, entry_of, commit_call_action}
 use Rattle.values_rule.specs.Values.{value_at, oldest, SeenPrefixes, HistoryLegal, CallsCounted, UndoRestores, TraceCurrent, FloorAndAbandoned, ValuesHold}
-use Rattle.values_rule.proofs.Counting.{history_is, open_count-set, calls_below-same}
+use Rattle.values_rule.proofs.Counting.{history_is, open_count-set}
 use Rattle.values_rule.proofs.Frames.{shut_out}
-use Rattle.values_rule.proofs.LockKinds.{Own, own}
 use Rattle.values_rule.proofs.Notes.{oldest-nil, option_cases, is_missing}
 
 attempt_open : (p : Phase) → is_attempt p ≡ true → is_open p ≡ true

@@ -1,24 +1,20 @@
 -- The history and the counts after one view was put in the place of another.
-use Rattle.std.proofs.Common.{◌≡◌, ℕ, zero, suc, ◌+◌, ◌<◌, ◌≤◌, Bool, true, false, ⊎_elim, List, [], ◌∷◌, ◌++◌, length, nat_le, slice_index, slice_set, if◌then◌else◌, refl, sym, ap, ◌∙◌, subst, arith, get_or-set_other, get_or-set_same, length-append}
+use Rattle.std.proofs.Common.{◌≡◌, ℕ, zero, suc, ◌+◌, ◌≤◌, Bool, ⊎_elim, List, [], ◌∷◌, ◌++◌, length, slice_set, if◌then◌else◌, refl, sym, ap, ◌∙◌, subst, arith, length-append}
 use Rattle.std.proofs.lemmas.List.{append-nil}
 use Rattle.std.proofs.lemmas.Bool.Decides.{leb_tells}
 use mathlib.Core.Option.{some-injective, some-ne-none}
 use Rattle.history_model.specs.declared.entry.Entry.{Entry}
 use Rattle.history_model.specs.declared.view.View.{View}
-use Rattle.history_model.specs.Counts.{is_open, calls_below, open_count}
+use Rattle.history_model.specs.Counts.{is_open, open_count}
 use Rattle.history_model.specs.Legal.{IsPrefix}
 use Rattle.history_model.specs.Sets.{flag}
-use Rattle.history_model.specs.Table.{Knows, history_of, calls_word}
-use Rattle.history_model.proofs.TableLaws.{seen_at_most}
+use Rattle.history_model.specs.Table.{Knows, history_of}
+use Rattle.history_model.proofs.TableLaws.{seen_at_most, someone_saw}
 
--- a view that saw the same leaves the history
-pub history_same : (vs : List View) (id : ℕ) (v w : View) → Knows vs id v → w.seen ≡ v.seen → history_of (slice_set vs id w) ≡ history_of vs
-unfolding history_of
-history_same [] id v w e same = absurd (some-ne-none v (sym e))
-history_same (x ∷ xs) zero v w e same =
-    let is : w.seen ≡ x.seen = same ∙ ap (λ (y : View). y.seen) (sym (some-injective x v e)) in
-    ap (λ (l : List Entry). if nat_le (length (history_of xs)) (length l) then l else history_of xs) is
-history_same (x ∷ xs) (suc id) v w e same = ap (λ (l : List Entry). if nat_le (length l) (length x.seen) then x.seen else l) (history_same xs id v w e same)
+-- some view has seen the whole history, where there is a view
+pub saw_all : (vs : List View) (id : ℕ) (v : View) → Knows vs id v → (other : ℕ) × (u : View) × Knows vs other u × (history_of vs ≡ u.seen)
+saw_all [] id v e = absurd (some-ne-none v (sym e))
+saw_all (x ∷ xs) id v e = someone_saw x xs
 
 -- a prefix that is as long as the whole is the whole
 pub no_more : (xs ys : List Entry) → IsPrefix xs ys → length ys ≤ length xs → xs ≡ ys
@@ -48,24 +44,3 @@ unfolding open_count
 open_count-set [] id v w e = absurd (some-ne-none v (sym e))
 open_count-set (x ∷ xs) zero v w e = let same : flag (is_open x.phase) ≡ flag (is_open v.phase) = ap (λ (y : View). flag (is_open y.phase)) (some-injective x v e) in omega arith
 open_count-set (x ∷ xs) (suc id) v w e = let rest = open_count-set xs id v w e in omega arith
-
--- the calls that were begun: where no CALLS word changed, and where one did
-pub calls_below-same : (n m : ℕ) (ws ws' : List ℕ) → ((j : ℕ) → j < m → slice_index ws' (calls_word n j) ≡ slice_index ws (calls_word n j)) → calls_below n m ws' ≡ calls_below n m ws
-unfolding calls_below
-calls_below-same n zero ws ws' same = refl
-calls_below-same n (suc m) ws ws' same = let rest = calls_below-same n m ws ws' (λ j lt. same j (omega arith)) in let here = same m (omega arith) in omega arith
-
-pub calls_below-more : (n m j x : ℕ) (ws : List ℕ) → j < m → calls_word n j < length ws → calls_below n m (slice_set ws (calls_word n j) x) + slice_index ws (calls_word n j) ≡ calls_below n m ws + x
-unfolding calls_below
-calls_below-more n zero j x ws lt long = absurd (omega arith)
-calls_below-more n (suc m) j x ws lt long = ⊎_elim
-    (λ (t : (nat_le m j ≡ true) × (m ≤ j)). let le = t.1 in
-    let is : m ≡ j = omega arith in
-    let below = calls_below-same n m ws (slice_set ws (calls_word n j) x) (λ i near. get_or-set_other ws (calls_word n j) (calls_word n i) x 0 (λ e. omega arith)) in
-    let here : slice_index (slice_set ws (calls_word n j) x) (calls_word n m) ≡ x = subst (λ (i : ℕ). slice_index (slice_set ws (calls_word n j) x) (calls_word n i) ≡ x) (sym is) (get_or-set_same ws (calls_word n j) x 0 long) in
-    let there : slice_index ws (calls_word n m) ≡ slice_index ws (calls_word n j) = ap (λ (i : ℕ). slice_index ws (calls_word n i)) is in
-    omega arith)
-    (λ (t : (nat_le m j ≡ false) × (j < m)). let rest = calls_below-more n m j x ws t.1 long in
-    let here : slice_index (slice_set ws (calls_word n j) x) (calls_word n m) ≡ slice_index ws (calls_word n m) = get_or-set_other ws (calls_word n j) (calls_word n m) x 0 (λ e. let near = t.1 in omega arith) in
-    omega arith)
-    (leb_tells m j)

@@ -20,13 +20,14 @@ use Rattle.history_model.proofs.Places.{same_view, put_here, put_there, put_case
 use Rattle.locks_rule.specs.Locks.{LocksHold, IsSeat}
 use Rattle.values_rule.specs.Values.{value_at, oldest, SeenPrefixes, HistoryLegal, CallsCounted, UndoRestores, TraceCurrent, FloorAndAbandoned, ValuesHold}
 use Rattle.history_model.proofs.LastEvents.{touched_by_last}
-use Rattle.values_rule.proofs.Counting.{history_same, open_count-set}
+use Rattle.values_rule.proofs.Counting.{saw_all, no_more, history_is, open_count-set}
 
--- the same was seen
-pub record SeenSame (ws ws' : List ℕ) (v w : View) : Type 0 where
+-- what was seen: no less, and no list of another's more
+pub record SeenMoves (hist : List Entry) (ws ws' : List ℕ) (v w : View) : Type 0 where
   pub serial : slice_index ws' serial_word ≡ slice_index ws serial_word
-  pub seen : w.seen ≡ v.seen
-  pub olds : w.olds ≡ v.olds
+  pub begins : IsPrefix w.seen hist
+  pub grows : length v.seen ≤ length w.seen
+  pub olds : (o : Old) → IsIn o w.olds → IsIn o v.olds
   pub who : w.who ≡ v.who
   pub joined : w.joined ≡ v.joined
 
@@ -64,7 +65,7 @@ pub record FloorMoves (n : ℕ) (base : List ℕ) (hist : List Entry) (w : View)
   pub attempts : (j : ℕ) → w.who ≡ j ∷ [] → w.phase ≢ Idle → AreAttemptsLegal n base hist j w.stamp w.floor (length w.seen) w.abandoned
 
 pub record Moves (n : ℕ) (base : List ℕ) (hist : List Entry) (ws ws' : List ℕ) (v w : View) : Type 0 where
-  pub seen : SeenSame ws ws' v w
+  pub seen : SeenMoves hist ws ws' v w
   pub calls : CallsMove n hist ws ws' v w
   pub undo : UndoMoves n base (replay base hist) ws ws' v w
   pub trace : TraceMoves n base (replay base hist) ws' w
@@ -94,8 +95,14 @@ module _ (good : List ℕ → Type 0) (n : ℕ) (base ws ws' : List ℕ) (vs : L
   case : (other : ℕ) (u : View) → Knows (slice_set vs id w) other u → ((other ≡ id) × (w ≡ u)) ⊎ ((other ≢ id) × Knows vs other u)
   case other u e = put_cases vs id other w u e
 
+  begins : (other : ℕ) (u : View) → Knows (slice_set vs id w) other u → IsPrefix u.seen (history_of vs)
+  begins other u e = ⊎_elim (λ t. subst (λ (x : View). IsPrefix x.seen (history_of vs)) t.1 m.seen.begins) (λ t. q.seen.seen_begin other u t.1) (case other u e)
+
   stays : history_of (slice_set vs id w) ≡ history_of vs
-  stays = history_same vs id v w me m.seen.seen
+  stays = let s = saw_all vs id v me in dite (ℕ_discrete s.0 id)
+      (λ e. history_is (slice_set vs id w) (history_of vs) id w begins (put_here vs id v w me) (no_more w.seen (history_of vs) m.seen.begins
+      (let whole : length (history_of vs) ≡ length v.seen = ap (λ (l : List Entry). length l) s.3 ∙ ap (λ (x : View). length x.seen) (same_view vs id s.0 v s.1 me s.2 e) in let grows = m.seen.grows in omega arith)))
+      (λ ne. history_is (slice_set vs id w) (history_of vs) s.0 s.1 begins (put_there vs id s.0 w s.1 ne s.2) (sym s.3))
 
   -- an entry of the history now is one of the history before
   back : (p : ℕ) (e : Entry) → slice_get (history_of (slice_set vs id w)) p ≡ Some e → slice_get (history_of vs) p ≡ Some e
@@ -113,11 +120,9 @@ module _ (good : List ℕ → Type 0) (n : ℕ) (base ws ws' : List ℕ) (vs : L
   seen_part : SeenPrefixes ws' (slice_set vs id w)
   seen_part = record {
     serial = m.seen.serial ∙ q.seen.serial ∙ ap (λ (l : List Entry). length l) (sym stays);
-    seen_begin = λ other u e. subst (λ (l : List Entry). IsPrefix u.seen l) (sym stays) (⊎_elim
-        (λ t. subst (λ (x : View). IsPrefix x.seen (history_of vs)) t.1 (subst (λ (l : List Entry). IsPrefix l (history_of vs)) (sym m.seen.seen) (q.seen.seen_begin id v me)))
-        (λ t. q.seen.seen_begin other u t.1) (case other u e));
+    seen_begin = λ other u e. subst (λ (l : List Entry). IsPrefix u.seen l) (sym stays) (begins other u e);
     olds_begin = λ other u o e i. subst (λ (l : List Entry). IsPrefix o.seen l) (sym stays) (⊎_elim
-        (λ t. q.seen.olds_begin id v o me (subst (λ (l : List Old). IsIn o l) m.seen.olds (subst (λ (x : View). IsIn o x.olds) (sym t.1) i)))
+        (λ t. q.seen.olds_begin id v o me (m.seen.olds o (subst (λ (x : View). IsIn o x.olds) (sym t.1) i)))
         (λ t. q.seen.olds_begin other u o t.1 i) (case other u e));
   }
 
@@ -127,13 +132,13 @@ module _ (good : List ℕ → Type 0) (n : ℕ) (base ws ws' : List ℕ) (vs : L
   calls_part : CallsCounted n ws' (slice_set vs id w)
   calls_part = record {
     own_seen = λ other j p u e s at own. ⊎_elim
-        (λ t. subst (λ (x : View). p < length x.seen) t.1 (subst (λ (l : List Entry). p < length l) (sym m.seen.seen) (q.calls.own_seen id j p v e (record { knows = me; named = was_mine j u t.1 s.named }) (back p e at) own)))
+        (λ t. subst (λ (x : View). p < length x.seen) t.1 (let lt = q.calls.own_seen id j p v e (record { knows = me; named = was_mine j u t.1 s.named }) (back p e at) own in let grows = m.seen.grows in omega arith))
         (λ t. q.calls.own_seen other j p u e (record { knows = t.1; named = s.named }) (back p e at) own) (case other u s.knows);
     old_seen = λ other j p u o e k i t at own. ⊎_elim
-        (λ z. q.calls.old_seen id j p v o e me (subst (λ (l : List Old). IsIn o l) m.seen.olds (subst (λ (x : View). IsIn o x.olds) (sym z.1) i)) t (back p e at) own)
+        (λ z. q.calls.old_seen id j p v o e me (m.seen.olds o (subst (λ (x : View). IsIn o x.olds) (sym z.1) i)) t (back p e at) own)
         (λ z. q.calls.old_seen other j p u o e z.1 i t (back p e at) own) (case other u k);
     old_numbers = λ other j u o k i t. ⊎_elim
-        (λ z. let c = q.calls.old_numbers id j v o me (subst (λ (l : List Old). IsIn o l) m.seen.olds (subst (λ (x : View). IsIn o x.olds) (sym z.1) i)) t in
+        (λ z. let c = q.calls.old_numbers id j v o me (m.seen.olds o (subst (λ (x : View). IsIn o x.olds) (sym z.1) i)) t in
         (subst (λ (x : View). has j x.who ≡ true) z.1 (subst (λ (l : List ℕ). has j l ≡ true) (sym m.seen.who) c.0), ap (λ (x : View). x.joined) (sym z.1) ∙ m.seen.joined ∙ c.1))
         (λ z. q.calls.old_numbers other j u o z.1 i t) (case other u k);
     callers_alone = λ other u k busy. ⊎_elim

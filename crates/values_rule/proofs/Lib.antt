@@ -11,6 +11,10 @@ pub mod Current
 pub mod ValueKinds
 pub mod Commits
 pub mod LocksStand
+pub mod Members
+pub mod Rearranging
 pub mod Cuts
+pub mod Joins
+pub mod Looks
 -- the memory with all unfinished writes taken back
 pub mod Undone

@@ -1,6 +1,5 @@
 -- The kinds of step on calls, values and the history keep the lock invariant: none is on a word of a lock.
-use Rattle.std.proofs.Common.{◌≡◌, ℕ, Bool, true, ⊎_elim, List, [], refl, sym, ◌∙◌, subst, arith}
-use Rattle.history_model.specs.declared.view.View.{View}
+use Rattle.std.proofs.Common.{◌≡◌, ℕ, Bool, true, ⊎_elim, List, [], refl, sym, ◌∙◌, arith}
 use Rattle.history_model.specs.declared.view.Phase.{Phase}
 use Rattle.history_model.specs.declared.view.Phase.TheVariants.{Idle, Running, Yielding, Withdrawing, Releasing}
 use Rattle.history_model.specs.Counts.{is_open}
@@ -8,27 +7,10 @@ use Rattle.history_model.specs.Sets.{has}
 use Rattle.history_model.specs.Table.{history_of}
 use Rattle.history_model.proofs.SetLemmas.{differ, not_true, has-nil}
 use Rattle.locks_rule.specs.Actions.{Keeps, found_by}
-use Rattle.locks_rule.specs.Asides.{SameLocks}
 use Rattle.locks_rule.specs.Locks.{LocksHold}
-use Rattle.locks_rule.proofs.Asides.{aside_keeps}
-use Rattle.values_rule.specs.Steps.{MayBeginCall, begin_call_action, MayLoadValue, load_value_action, MayStoreValue, store_value_action, MayUndoStore, undo_store_action, undoing_phase, MayCommitCall, commit_call_action, MayClearStamp, clear_stamp_action}
-use Rattle.values_rule.proofs.LockKinds.{own}
-
--- a step after which the seat has the same locks, in another phase than Idle
-same_locks : (v w : View) → w.base ≡ v.base → w.seats ≡ v.seats → w.who ≡ v.who → w.bits ≡ v.bits → w.reads ≡ v.reads → w.claims ≡ v.claims → w.scans ≡ v.scans → w.asked ≡ v.asked → w.met ≡ v.met
-    → (w.phase ≡ Idle → ⊥) → SameLocks v w
-same_locks v w base seats who bits reads claims scans asked met busy = record {
-  base = base;
-  seats = seats;
-  who = who;
-  bits = bits;
-  reads = reads;
-  claims = claims;
-  scans = scans;
-  asked = λ k t a. (a.0, subst (λ (l : List ℕ). has a.0 l ≡ true) (sym asked) a.1, a.2);
-  met = λ j t. subst (λ (l : List ℕ). has j l ≡ true) met t;
-  idle = λ k e. absurd (busy e);
-}
+use Rattle.locks_rule.proofs.Own.{own}
+use Rattle.locks_rule.proofs.Asides.{aside_keeps, same_locks}
+use Rattle.values_rule.specs.Steps.{MayBeginCall, begin_call_action, MayLoadValue, load_value_action, MayStoreValue, store_value_action, MayUndoStore, undo_store_action, undoing_phase, MayCommitCall, commit_call_action, MayClearStamp, clear_stamp_action, MayLoadSerial, load_serial_action}
 
 pub begin_call_locks : (n : ℕ) (base : List ℕ) (j : ℕ) → Keeps (LocksHold n base) (MayBeginCall j) (begin_call_action j)
 begin_call_locks n base j ws vs id v h me may =
@@ -50,14 +32,14 @@ pub load_value_locks : (n : ℕ) (base : List ℕ) (j a : ℕ) → Keeps (LocksH
 load_value_locks n base j a ws vs id v h me may =
     let o = own n base ws vs id j v h me may.who in
     aside_keeps n base id ws vs v (load_value_action j a v) h me (λ t. let high = t.1 in omega (arith, o.seats))
-    (same_locks v ((load_value_action j a v).view (history_of vs) (found_by (load_value_action j a v) ws)) refl refl refl refl refl refl refl refl refl
+    (same_locks v ((load_value_action j a v).view (history_of vs) (found_by (load_value_action j a v) ws)) refl refl refl refl refl refl refl refl (λ i t. t)
     (λ e. let z : Running ≡ Idle = sym may.phase ∙ e in cc))
 
 pub store_value_locks : (n : ℕ) (base : List ℕ) (j a x : ℕ) → Keeps (LocksHold n base) (MayStoreValue j a) (store_value_action j a x)
 store_value_locks n base j a x ws vs id v h me may =
     let o = own n base ws vs id j v h me may.who in
     aside_keeps n base id ws vs v (store_value_action j a x v) h me (λ t. let high = t.1 in omega (arith, o.seats))
-    (same_locks v ((store_value_action j a x v).view (history_of vs) (found_by (store_value_action j a x v) ws)) refl refl refl refl refl refl refl refl refl
+    (same_locks v ((store_value_action j a x v).view (history_of vs) (found_by (store_value_action j a x v) ws)) refl refl refl refl refl refl refl refl (λ i t. t)
     (λ e. let z : Running ≡ Idle = sym may.phase ∙ e in cc))
 
 undoing_idle : (p : Phase) → is_open p ≡ true → undoing_phase p ≡ Idle → ⊥
@@ -71,13 +53,13 @@ pub undo_store_locks : (n : ℕ) (base : List ℕ) (j a old : ℕ) → Keeps (Lo
 undo_store_locks n base j a old ws vs id v h me may =
     let o = own n base ws vs id j v h me may.who in
     aside_keeps n base id ws vs v (undo_store_action j a old v) h me (λ t. let high = t.1 in omega (arith, o.seats))
-    (same_locks v ((undo_store_action j a old v).view (history_of vs) (found_by (undo_store_action j a old v) ws)) refl refl refl refl refl refl refl refl refl
+    (same_locks v ((undo_store_action j a old v).view (history_of vs) (found_by (undo_store_action j a old v) ws)) refl refl refl refl refl refl refl refl (λ i t. t)
     (λ e. undoing_idle v.phase may.phase e))
 
 pub commit_call_locks : (good : List ℕ → Type 0) (n : ℕ) (base : List ℕ) (j : ℕ) (kept : Bool) → Keeps (LocksHold n base) (MayCommitCall good j kept) (commit_call_action j kept)
 commit_call_locks good n base j kept ws vs id v h me may =
     aside_keeps n base id ws vs v (commit_call_action j kept v) h me (λ t. let low = t.0 in omega arith)
-    (same_locks v ((commit_call_action j kept v).view (history_of vs) (found_by (commit_call_action j kept v) ws)) refl refl refl refl refl refl refl refl refl
+    (same_locks v ((commit_call_action j kept v).view (history_of vs) (found_by (commit_call_action j kept v) ws)) refl refl refl refl refl refl refl refl (λ i t. t)
     (λ e. let z : Releasing ≡ Idle = e in cc))
 
 pub clear_stamp_locks : (n : ℕ) (base : List ℕ) (j : ℕ) → Keeps (LocksHold n base) (MayClearStamp j) (clear_stamp_action j)
@@ -94,4 +76,19 @@ clear_stamp_locks n base j ws vs id v h me may =
       asked = λ k t a. a;
       met = λ i t. t;
       idle = λ k e. (not_true (has k v.bits) (may.no_bit k), not_true (has k v.claims) (may.no_claim k));
+    }
+
+pub load_serial_locks : (n : ℕ) (base : List ℕ) → Keeps (LocksHold n base) MayLoadSerial load_serial_action
+load_serial_locks n base ws vs id v h me may =
+    aside_keeps n base id ws vs v (load_serial_action v) h me (λ t. let low = t.0 in omega arith) record {
+      base = refl;
+      seats = refl;
+      who = refl;
+      bits = refl;
+      reads = refl;
+      claims = refl;
+      scans = refl;
+      asked = λ k t a. a;
+      met = λ i t. t;
+      idle = λ k e. h.idle_holds_nothing id k v me may.phase;
     }

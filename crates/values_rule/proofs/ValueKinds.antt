@@ -10,7 +10,7 @@ use Rattle.history_model.specs.declared.view.Phase.TheVariants.{Idle, Running, Y
 use Rattle.history_model.specs.Counts.{is_attempt, is_open}
 use Rattle.history_model.specs.Histories.{replay}
 use Rattle.history_model.specs.Locks.{lock_of_word}
-use Rattle.history_model.specs.Table.{Knows, history_of, value_word}
+use Rattle.history_model.specs.Table.{Knows, history_of, serial_word, calls_word, value_word}
 use Rattle.history_model.specs.Traces.{Trace, after, Writes, value_after}
 use Rattle.history_model.specs.Undoing.{Notes}
 use Rattle.history_model.specs.Views.{HasWriteGrant, IsGranted}
@@ -18,13 +18,14 @@ use Rattle.history_model.proofs.EndEvents.{touches_read, writes_read, writes_fir
 use Rattle.history_model.proofs.Places.{same_view}
 use Rattle.history_model.proofs.TraceLaws.{legal_read, legal_write}
 use Rattle.locks_rule.specs.Locks.{LocksHold}
+use Rattle.locks_rule.proofs.Own.{Own, own}
+use Rattle.values_rule.specs.Asides.{SameCalls}
 use Rattle.values_rule.specs.Keeping.{KeepsValues}
 use Rattle.values_rule.specs.Steps.{MayLoadValue, load_value_action, MayStoreValue, store_value_action, known_value, MayUndoStore, undo_store_action, undoing_phase}
 use Rattle.values_rule.specs.Values.{value_at, oldest, ValuesHold}
-use Rattle.values_rule.proofs.Asides.{SameCalls, seen_aside, calls_aside, floor_aside}
+use Rattle.values_rule.proofs.Asides.{seen_aside, calls_aside, floor_aside}
 use Rattle.values_rule.proofs.Current.{current}
 use Rattle.values_rule.proofs.Frames.{moves, shut_out}
-use Rattle.values_rule.proofs.LockKinds.{Own, own}
 use Rattle.values_rule.proofs.Notes.{option_cases, is_missing, oldest_more, oldest_first, oldest_one, oldest_other, oldest_apart, older_is}
 
 -- where a word of the memory stands, and what a store to it does to the others
@@ -70,10 +71,10 @@ load_value_values good j a n base ws vs id v h q me may =
     let same : (b : ℕ) → value_at n ws' b ≡ value_at n ws b = λ b. dite (ℕ_discrete b a)
     (λ e. subst (λ (c : ℕ). value_at n ws' c ≡ value_at n ws c) (sym e) (set_here n base ws vs id j v h o a x may.word ∙ is_x))
     (λ ne. set_there n base ws vs id j v h o a x may.word b ne) in
-    let s : SameCalls v w = record { seen = refl; olds = refl; who = refl; joined = refl; call = refl; floor = refl; abandoned = refl; stamp = λ t. refl; still_open = λ t. t; still_begun = λ t. t } in
+    let s : SameCalls v w = record { goes_on = record { who = refl; joined = refl; call = refl; floor = refl; still_open = λ t. t; still_begun = λ t. t }; seen = refl; olds = refl; abandoned = refl; stamp = λ t. omega arith } in
     moves good n base ws ws' vs id v w h q me record {
-      seen = seen_aside good n base ws vs id v h q me w i x (omega arith) s;
-      calls = calls_aside good n base ws vs id v h q me w i x (inr (omega (arith, o.seats))) s;
+      seen = seen_aside good n base ws vs id v h q me w ws' (get_or-set_other ws i serial_word x 0 (λ e. omega arith)) refl refl refl refl;
+      calls = calls_aside good n base ws vs id v h q me w ws' (λ b lt. get_or-set_other ws i (calls_word n b) x 0 (λ e. omega (arith, o.seats))) s.goes_on;
       undo = record {
         noted = λ b y t. q.undo.noted id b y v me t;
         unnoted = λ b lt t. inl (t, same b);
@@ -89,7 +90,7 @@ load_value_values good j a n base ws vs id v h q me may =
             (λ ne. q.trace.last_stands id b y v me may.phase (sym (last_read_other v.trace a x b ne) ∙ k));
         rested = λ t. q.trace.rested id v me t;
       };
-      floor = floor_aside good n base ws vs id v h q me w i x s;
+      floor = floor_aside good n base ws vs id v h q me w ws' s;
     }
 
 pub store_value_values : (good : List ℕ → Type 0) (j a x : ℕ) → KeepsValues good (MayStoreValue j a) (store_value_action j a x)
@@ -106,10 +107,10 @@ store_value_values good j a x n base ws vs id v h q me may =
     let last : value_after v.trace a None ≡ Some may.read.1 = ap (λ (t : Trace). value_after t a None) may.read.2 ∙ last_read_same may.read.0 a may.read.1 a refl in
     let is_old : old ≡ may.read.1 = ap (λ (y : Option ℕ). unwrap_or y 0) last in
     let stands : value_at n ws a ≡ old = q.trace.last_stands id a may.read.1 v me may.phase last ∙ sym is_old in
-    let s : SameCalls v w = record { seen = refl; olds = refl; who = refl; joined = refl; call = refl; floor = refl; abandoned = refl; stamp = λ t. refl; still_open = λ t. t; still_begun = λ t. t } in
+    let s : SameCalls v w = record { goes_on = record { who = refl; joined = refl; call = refl; floor = refl; still_open = λ t. t; still_begun = λ t. t }; seen = refl; olds = refl; abandoned = refl; stamp = λ t. omega arith } in
     moves good n base ws ws' vs id v w h q me record {
-      seen = seen_aside good n base ws vs id v h q me w i x (omega arith) s;
-      calls = calls_aside good n base ws vs id v h q me w i x (inr (omega (arith, o.seats))) s;
+      seen = seen_aside good n base ws vs id v h q me w ws' (get_or-set_other ws i serial_word x 0 (λ e. omega arith)) refl refl refl refl;
+      calls = calls_aside good n base ws vs id v h q me w ws' (λ b lt. get_or-set_other ws i (calls_word n b) x 0 (λ e. omega (arith, o.seats))) s.goes_on;
       undo = record {
         noted = λ b y t. ⊎_elim
             (λ (none : oldest b v.undo ≡ None). dite (ℕ_discrete b a)
@@ -146,7 +147,7 @@ store_value_values good j a x n base ws vs id v h q me may =
             (λ ne. there b ne ∙ q.trace.last_stands id b y v me may.phase (sym (last_write_other v.trace a x b ne) ∙ k));
         rested = λ t. absurd (⊎_elim (λ e. let z : Running ≡ Idle = sym may.phase ∙ e in cc) (λ e. let z : Running ≡ Releasing = sym may.phase ∙ e in cc) t);
       };
-      floor = floor_aside good n base ws vs id v h q me w i x s;
+      floor = floor_aside good n base ws vs id v h q me w ws' s;
     }
 
 -- the phase as a write is undone
@@ -204,10 +205,10 @@ undo_store_values good j a old n base ws vs id v h q me may =
     let there : (b : ℕ) → b ≢ a → value_at n ws' b ≡ value_at n ws b = set_there n base ws vs id j v h o a old word in
     let still : (b y : ℕ) → oldest b w.undo ≡ Some y → oldest b v.undo ≡ Some y = λ b y t.
     ap (λ (l : Notes). oldest b l) split ∙ oldest_more b older ((a, old) ∷ []) y (ap (λ (l : Notes). oldest b l) (sym less) ∙ t) in
-    let s : SameCalls v w = record { seen = refl; olds = refl; who = refl; joined = refl; call = refl; floor = refl; abandoned = refl; stamp = λ t. refl; still_open = undoing_open v.phase; still_begun = λ t. open_begun v.phase may.phase } in
+    let s : SameCalls v w = record { goes_on = record { who = refl; joined = refl; call = refl; floor = refl; still_open = undoing_open v.phase; still_begun = λ t. open_begun v.phase may.phase }; seen = refl; olds = refl; abandoned = refl; stamp = λ t. omega arith } in
     moves good n base ws ws' vs id v w h q me record {
-      seen = seen_aside good n base ws vs id v h q me w i old (omega arith) s;
-      calls = calls_aside good n base ws vs id v h q me w i old (inr (omega (arith, o.seats))) s;
+      seen = seen_aside good n base ws vs id v h q me w ws' (get_or-set_other ws i serial_word old 0 (λ e. omega arith)) refl refl refl refl;
+      calls = calls_aside good n base ws vs id v h q me w ws' (λ b lt. get_or-set_other ws i (calls_word n b) old 0 (λ e. omega (arith, o.seats))) s.goes_on;
       undo = record {
         noted = λ b y t. q.undo.noted id b y v me (still b y t);
         unnoted = λ b lt t.
@@ -226,5 +227,5 @@ undo_store_values good j a old n base ws vs id v h q me may =
         last_stands = λ b y t k. absurd (undoing_runs v.phase t);
         rested = λ t. absurd (undoing_rests v.phase may.phase t);
       };
-      floor = floor_aside good n base ws vs id v h q me w i old s;
+      floor = floor_aside good n base ws vs id v h q me w ws' s;
     }

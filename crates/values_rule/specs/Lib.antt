@@ -1,4 +1,5 @@
 pub mod Steps
 pub mod Values
 pub mod Keeping
+pub mod Asides
 pub mod Undone

@@ -141,3 +141,15 @@ clear_stamp_action j v = record {
   writes = λ w. 0;
   view = λ h w. record v { phase = Idle; stamp = 0; announced = false };
 }
+
+-- between calls the counter of entries is loaded: the seat has seen the whole history then, and all that it took in lies
+-- in it
+pub record MayLoadSerial (v : View) : Type 0 where
+  pub phase : v.phase ≡ Idle
+
+abbrev pub load_serial_action : View → Action
+load_serial_action v = record {
+  at = serial_word;
+  writes = λ w. w;
+  view = λ h w. record v { seen = h; olds = [] };
+}

@@ -7,13 +7,19 @@
 //! each kind of step has a law here that says so of every state in which the lock invariant holds too.
 
 ghost use Rattle.std.specs.Prelude.{ℕ, List, Bool};
-ghost use Rattle.locks_rule.specs.Actions.{Keeps};
+ghost use Rattle.history_model.specs.declared.event.Cause.{Cause};
+ghost use Rattle.history_model.specs.declared.view.View.{View};
+ghost use Rattle.history_model.specs.Table.{Knows, history_of};
+ghost use Rattle.locks_rule.specs.Actions.{Action, Keeps, found_by, words_after, views_after};
 ghost use Rattle.locks_rule.specs.Locks.{LocksHold};
+ghost use Rattle.locks_rule.specs.Joins.{MayTakeNote, left_by_note, note_of, MayMeetNote, after_note, MayJoinSeats, after_joining};
 ghost use Rattle.locks_rule.specs.Splits.{MaySplitSeat, left_by_split, given_by_split};
 ghost use Rattle.locks_rule.specs.Steps.{MaySetReadBit, MayClearReadBit, MayLoadWriter, MayClaimWriter, MayScanRow, MayReleaseWriter, set_read_bit_action, clear_read_bit_action, load_writer_action, claim_writer_action, scan_row_action, release_writer_action};
-ghost use Rattle.values_rule.specs.Keeping.{KeepsValues, KeepsValuesSplit};
-ghost use Rattle.values_rule.specs.Steps.{MayBeginCall, MayLoadValue, MayStoreValue, MayUndoStore, MayCommitCall, MayClearStamp, begin_call_action, load_value_action, store_value_action, undo_store_action, commit_call_action, clear_stamp_action};
+ghost use Rattle.values_rule.specs.Asides.{IsAside, IsLoad, SameValues, IsNewCause, GivesWay, Restarts};
+ghost use Rattle.values_rule.specs.Keeping.{KeepsValues, KeepsValuesSplit, KeepsValuesJoin};
+ghost use Rattle.values_rule.specs.Steps.{MayBeginCall, MayLoadValue, MayStoreValue, MayUndoStore, MayCommitCall, MayClearStamp, MayLoadSerial, begin_call_action, load_value_action, store_value_action, undo_store_action, commit_call_action, clear_stamp_action, load_serial_action};
 ghost use Rattle.values_rule.specs.Undone.{UndoingRestores};
+ghost use Rattle.values_rule.specs.Values.{ValuesHold};
 
 use history_model::Shape;
 
@@ -62,6 +68,12 @@ pub fn clear_stamp<S: Shape>()
     ensures values { (shape : _) (j : ℕ) → KeepsValues (S.good shape) (MayClearStamp j) (clear_stamp_action j) }
 {}
 
+/// A seat that loads the counter of entries between calls keeps both invariants: it has seen the whole history.
+pub fn load_serial<S: Shape>()
+    ensures locks { (n : ℕ) (base : List ℕ) → Keeps (LocksHold n base) MayLoadSerial load_serial_action }
+    ensures values { (shape : _) → KeepsValues (S.good shape) MayLoadSerial load_serial_action }
+{}
+
 /// A seat that sets its read bit keeps the value invariant.
 pub fn set_read_bit<S: Shape>()
     ensures { (shape : _) (j k a : ℕ) → KeepsValues (S.good shape) (MaySetReadBit j k a) (set_read_bit_action j k a) }
@@ -97,6 +109,61 @@ pub fn release_writer<S: Shape>()
 /// A view that gives up its first number to a new seat keeps the value invariant.
 pub fn split_seat<S: Shape>()
     ensures { (shape : _) (j : ℕ) → KeepsValuesSplit (S.good shape) (MaySplitSeat j) left_by_split given_by_split }
+{}
+
+/// A view that gives off a note keeps the value invariant: the note has seen what the view has.
+pub fn take_note<S: Shape>()
+    ensures { (shape : _) → KeepsValuesSplit (S.good shape) MayTakeNote left_by_note note_of }
+{}
+
+/// A view that takes in a note keeps the value invariant: the longer of two beginnings of one history is one, too.
+pub fn meet_note<S: Shape>()
+    ensures { (shape : _) → KeepsValuesJoin (S.good shape) MayMeetNote after_note }
+{}
+
+/// A view that takes in another with its numbers keeps the value invariant.
+pub fn join_seats<S: Shape>()
+    ensures { (shape : _) → KeepsValuesJoin (S.good shape) MayJoinSeats after_joining }
+{}
+
+/// A step of any kind keeps the value invariant where its word is not the counter of entries, of no calls and of no
+/// value, and the seat then knows the same of calls and values, and has all locks that it had. A call may have got its
+/// timestamp.
+pub fn aside<S: Shape>()
+    ensures { (shape : _) (n : ℕ) (base words : List ℕ) (views : List View) (id : ℕ) (v : View)
+        (action : Action)
+        → LocksHold n base words views → ValuesHold (S.good shape) n base words views
+        → Knows views id v
+        → IsAside n action.at
+        → SameValues v (action.view (history_of views) (found_by action words))
+        → ValuesHold (S.good shape) n base (words_after action words)
+        (views_after action id words views) }
+{}
+
+/// A load of any kind with which an attempt gives way keeps the value invariant: what the attempt read is legal on the
+/// whole history.
+pub fn gives_way<S: Shape>()
+    ensures { (shape : _) (n : ℕ) (base words : List ℕ) (views : List View) (id : ℕ) (v : View)
+        (cause : Cause) (action : Action)
+        → LocksHold n base words views → ValuesHold (S.good shape) n base words views
+        → Knows views id v
+        → IsLoad words action → IsNewCause n v cause
+        → GivesWay cause (history_of views) v
+        (action.view (history_of views) (found_by action words))
+        → ValuesHold (S.good shape) n base (words_after action words)
+        (views_after action id words views) }
+{}
+
+/// A load of any kind with which a call makes another attempt keeps the value invariant.
+pub fn restarts<S: Shape>()
+    ensures { (shape : _) (n : ℕ) (base words : List ℕ) (views : List View) (id : ℕ) (v : View)
+        (action : Action)
+        → LocksHold n base words views → ValuesHold (S.good shape) n base words views
+        → Knows views id v
+        → IsLoad words action
+        → Restarts v (action.view (history_of views) (found_by action words))
+        → ValuesHold (S.good shape) n base (words_after action words)
+        (views_after action id words views) }
 {}
 
 /// In every state that both invariants allow, the memory with all unfinished writes taken back is what the history

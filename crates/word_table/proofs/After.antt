@@ -22,15 +22,17 @@ pub record SameSeat (v w : View) : Type 0 where
   pub who : w.who ≡ v.who
   pub due : w.due ≡ v.due
   pub call : w.call ≡ v.call
+  pub stamp : w.stamp ≡ v.stamp
+  pub announced : w.announced ≡ v.announced
 
-pub steady : (v w : View) → w.base ≡ v.base → w.seats ≡ v.seats → w.who ≡ v.who → w.due ≡ v.due → w.call ≡ v.call → SameSeat v w
-steady v w eb es ew ed ec = record { base = eb; seats = es; who = ew; due = ed; call = ec }
+pub steady : (v w : View) → w.base ≡ v.base → w.seats ≡ v.seats → w.who ≡ v.who → w.due ≡ v.due → w.call ≡ v.call → w.stamp ≡ v.stamp → w.announced ≡ v.announced → SameSeat v w
+steady v w eb es ew ed ec et ea = record { base = eb; seats = es; who = ew; due = ed; call = ec; stamp = et; announced = ea }
 
 -- a pass's copies after a step of its seat, from the seat, from the number of calls and from the copy of its locks
 pub copy_called : {call : CallCopy} {locks : LockCopy} {table : TableId} {me : Me (Unit {0}) View} → IsCopy call locks table me → (phase : Phase) (calls : ℕ) (locks' : LockCopy) (table' : TableId) (me' : Me (Unit {0}) View) (w : View)
-    → table' ≡ table → me'.0 ≡ w → me'.1 ≡ me.1 → w.base ≡ me.0.base → w.seats ≡ me.0.seats → w.who ≡ me.0.who → w.due ≡ me.0.due → w.call ≡ calls → w.phase ≡ phase → IsLockCopy locks' w
+    → table' ≡ table → me'.0 ≡ w → me'.1 ≡ me.1 → w.base ≡ me.0.base → w.seats ≡ me.0.seats → w.who ≡ me.0.who → w.due ≡ me.0.due → w.call ≡ calls → w.stamp ≡ me.0.stamp → w.announced ≡ me.0.announced → w.phase ≡ phase → IsLockCopy locks' w
     → IsCopy (record call { phase = phase; calls = calls }) locks' table' me'
-copy_called {call} {locks} {table} {me} i phase calls locks' table' me' w et ew es eb en eo ed ec ep copy =
+copy_called {call} {locks} {table} {me} i phase calls locks' table' me' w et ew es eb en eo ed ec ez ea ep copy =
     subst (λ (t : TableId). IsCopy (record call { phase = phase; calls = calls }) locks' t me') (sym et) record {
       slots = es ∙ i.slots;
       no_cause = ap (λ (x : View). x.due) ew ∙ (ed ∙ i.no_cause);
@@ -46,6 +48,8 @@ copy_called {call} {locks} {table} {me} i phase calls locks' table' me' w et ew 
         who_is = ap (λ (x : View). x.who) ew ∙ (eo ∙ i.call_is.who_is);
         phase_is = ap (λ (x : View). x.phase) ew ∙ ep;
         calls_are = ap (λ (x : View). x.call) ew ∙ ec;
+        stamp_is = ap (λ (x : View). x.stamp) ew ∙ (ez ∙ i.call_is.stamp_is);
+        announced_is = ap (λ (x : View). x.announced) ew ∙ (ea ∙ i.call_is.announced_is);
       };
       locks_are = subst (λ (x : View). IsLockCopy locks' x) (sym ew) copy;
     }
@@ -54,7 +58,7 @@ copy_called {call} {locks} {table} {me} i phase calls locks' table' me' w et ew 
 pub copy_after : {call : CallCopy} {locks : LockCopy} {table : TableId} {me : Me (Unit {0}) View} → IsCopy call locks table me → (phase : Phase) (locks' : LockCopy) (table' : TableId) (me' : Me (Unit {0}) View) (w : View)
     → table' ≡ table → me'.0 ≡ w → me'.1 ≡ me.1 → SameSeat me.0 w → w.phase ≡ phase → IsLockCopy locks' w → IsCopy (record call { phase = phase }) locks' table' me'
 copy_after {call} {locks} {table} {me} i phase locks' table' me' w et ew es same ep copy =
-    copy_called i phase call.calls locks' table' me' w et ew es same.base same.seats same.who same.due (same.call ∙ i.call_is.calls_are) ep copy
+    copy_called i phase call.calls locks' table' me' w et ew es same.base same.seats same.who same.due (same.call ∙ i.call_is.calls_are) same.stamp same.announced ep copy
 
 -- the same after a store, which tells the view as a whole
 pub copy_stored : {call : CallCopy} {locks : LockCopy} {table : TableId} {me : Me (Unit {0}) View} → IsCopy call locks table me → (phase : Phase) (locks' : LockCopy) (table' : TableId) (me' : Me (Unit {0}) View) (w : View)
@@ -69,7 +73,7 @@ lock_copy copy v sb sr sc ss = record { bits_are = sb; reads_are = sr; claims_ar
 -- after a look at a writer word, by whether it was granted
 pub load_same : (j k a : ℕ) (v : View) (w : ℕ) → SameSeat v ((load_writer_action j k a v).view [] w)
 load_same j k a v w = let granted : View = record (after_asking v a) { reads = k ∷ v.reads } in let met : View = after_meeting (after_asking v a) k (w - 1) in
-    elim (is_free j w) as (λ (b : Bool). SameSeat v (if b then granted else met)) [ true ↦ steady v granted refl refl refl refl refl | false ↦ steady v met refl refl refl refl refl ]
+    elim (is_free j w) as (λ (b : Bool). SameSeat v (if b then granted else met)) [ true ↦ steady v granted refl refl refl refl refl refl refl | false ↦ steady v met refl refl refl refl refl refl refl ]
 
 pub load_phase : (j k a : ℕ) (v : View) (w : ℕ) → ((load_writer_action j k a v).view [] w).phase ≡ v.phase
 load_phase j k a v w = let granted : View = record (after_asking v a) { reads = k ∷ v.reads } in let met : View = after_meeting (after_asking v a) k (w - 1) in
@@ -86,7 +90,7 @@ load_copy copy j k a v w sb sr sc ss = let granted : View = record (after_asking
 -- after a claim, by whether the writer word was 0
 pub claim_same : (j k a : ℕ) (v : View) (w : ℕ) → SameSeat v ((claim_writer_action j k a v).view [] w)
 claim_same j k a v w = let won : View = record (after_asking v a) { claims = k ∷ v.claims; scans = without_first k v.scans } in let met : View = after_meeting (after_asking v a) k (w - 1) in
-    elim (w == 0) as (λ (b : Bool). SameSeat v (if b then won else met)) [ true ↦ steady v won refl refl refl refl refl | false ↦ steady v met refl refl refl refl refl ]
+    elim (w == 0) as (λ (b : Bool). SameSeat v (if b then won else met)) [ true ↦ steady v won refl refl refl refl refl refl refl | false ↦ steady v met refl refl refl refl refl refl refl ]
 
 pub claim_phase : (j k a : ℕ) (v : View) (w : ℕ) → ((claim_writer_action j k a v).view [] w).phase ≡ v.phase
 claim_phase j k a v w = let won : View = record (after_asking v a) { claims = k ∷ v.claims; scans = without_first k v.scans } in let met : View = after_meeting (after_asking v a) k (w - 1) in
@@ -103,7 +107,7 @@ claim_copy copy j k a v w sb sr sc ss = let won : View = record (after_asking v 
 -- after a scan, by whether the bit was clear
 pub scan_same : (j k i : ℕ) (v : View) (w : ℕ) → SameSeat v ((scan_row_action j k i v).view [] w)
 scan_same j k i v w = let clear : View = record v { scans = (k, i) ∷ v.scans } in
-    elim (bit_at w (k % 64) == 0) as (λ (b : Bool). SameSeat v (if b then clear else after_meeting v k i)) [ true ↦ steady v clear refl refl refl refl refl | false ↦ steady v (after_meeting v k i) refl refl refl refl refl ]
+    elim (bit_at w (k % 64) == 0) as (λ (b : Bool). SameSeat v (if b then clear else after_meeting v k i)) [ true ↦ steady v clear refl refl refl refl refl refl refl | false ↦ steady v (after_meeting v k i) refl refl refl refl refl refl refl ]
 
 pub scan_phase : (j k i : ℕ) (v : View) (w : ℕ) → ((scan_row_action j k i v).view [] w).phase ≡ v.phase
 scan_phase j k i v w = let clear : View = record v { scans = (k, i) ∷ v.scans } in

@@ -1,5 +1,5 @@
 -- What a call on values tells beside its step: that some good words fit the trace, and what a commit came to.
-use Rattle.std.proofs.Common.{◌≡◌, ℕ, ◌+◌, ◌<◌, ◌≤◌, Bool, true, List, [], ◌∷◌, ◌++◌, length, Option, Some, None, unwrap_or, refl, sym, ap, ◌∙◌, subst, arith}
+use Rattle.std.proofs.Common.{◌≢◌, ◌==◌, if◌then◌else◌, ne_eqb, ◌≡◌, ℕ, ◌+◌, ◌<◌, ◌≤◌, Bool, true, List, [], ◌∷◌, ◌++◌, length, Option, Some, None, unwrap_or, refl, sym, ap, ◌∙◌, subst, arith}
 use Rattle.history_model.specs.declared.entry.Entry.{Entry}
 use Rattle.history_model.specs.declared.event.Event.TheVariants.{Read}
 use Rattle.history_model.specs.declared.view.View.{View}
@@ -16,13 +16,14 @@ use Rattle.history_model.proofs.Places.{put_here}
 use Rattle.locks_rule.specs.Actions.{words_after, views_after, found_by}
 use Rattle.values_rule.specs.Steps.{MayBeginCall, MayLoadValue, MayCommitCall, begin_call_action, load_value_action, store_value_action, known_value, commit_call_action}
 use Rattle.values_rule.specs.Values.{ValuesHold}
-use Rattle.values_rule.proofs.LockKinds.{own}
+use Rattle.stamps_rule.specs.Steps.{MayLoadCauseStamp, load_cause_stamp_action, after_waiting, after_restarting}
+use Rattle.locks_rule.proofs.Own.{own}
 use Rattle.word_table.specs.declared.step.Step.{Step}
-use Rattle.word_table.specs.declared.step.Step.TheVariants.{BeginCall, LoadValue, CommitCall}
+use Rattle.word_table.specs.declared.step.Step.TheVariants.{BeginCall, LoadValue, CommitCall, LoadCauseStamp}
 use Rattle.word_table.specs.Calls.{CommitsAt}
 use Rattle.word_table.specs.Kinds.{action_of, May, TakenIn}
 use Rattle.word_table.specs.Sound.{IsSound}
-use Rattle.word_table.proofs.Soundness.{sound_kept}
+use Rattle.word_table.proofs.KeptKinds.{sound_kept}
 
 -- the words that the history leaves fit the trace of an attempt
 fits_now : (count : ℕ) (good : List ℕ → Type 0) (n : ℕ) (base ws : List ℕ) (vs : List View) (id : ℕ) (v : View) → ValuesHold (IsGood count good) n base ws vs → Knows vs id v → is_attempt v.phase ≡ true
@@ -75,6 +76,12 @@ load_fits count good n base a v w found t may = fits_after count good n base (Lo
 
 pub begin_fits : (count : ℕ) (good : List ℕ → Type 0) (n : ℕ) (base : List ℕ) (v w : View) (found : ℕ) → TakenIn (IsSound (IsGood count good) n base) (begin_call_action (number v) v) v found w → MayBeginCall (number v) v → SomeFits count good w.trace
 begin_fits count good n base v w found t may = fits_after count good n base (BeginCall (number v)) v w found t may (ap (λ (x : View). is_attempt x.phase) t.view)
+
+-- a call whose cause is gone makes a new attempt
+pub restart_fits : (count : ℕ) (good : List ℕ → Type 0) (n : ℕ) (base : List ℕ) (i stamp : ℕ) (v w : View) (found : ℕ) → TakenIn (IsSound (IsGood count good) n base) (load_cause_stamp_action (number v) i stamp v) v found w → MayLoadCauseStamp (number v) i stamp v
+    → found ≢ stamp → SomeFits count good w.trace
+restart_fits count good n base i stamp v w found t may ne = fits_after count good n base (LoadCauseStamp (number v) i stamp) v w found t may
+    (ap (λ (x : View). is_attempt x.phase) (t.view ∙ ap (λ (b : Bool). if b then after_waiting v else after_restarting v) (ne_eqb found stamp ne)))
 
 -- what a store notes is the value that was read last
 pub noted_old : (j a x : ℕ) (v w : View) (before : Trace) (old : ℕ) → w ≡ (store_value_action j a x v).view [] 0 → v.trace ≡ before ++ Read a old ∷ [] → w.undo ≡ v.undo ++ (a, old) ∷ []

@@ -1,12 +1,14 @@
--- The counter of entries has room for one more: there are no more entries than calls that were begun.
+-- The counter of entries has room for one more, and so has the clock: there are no more entries, and no more timestamps,
+-- than calls that were begun.
 use Rattle.std.proofs.Common.{◌≡◌, ℕ, zero, suc, ◌+◌, ◌*◌, ◌^◌, ◌<◌, ◌≤◌, Bool, List, [], ◌∷◌, slice_index, subst, arith}
 use Rattle.history_model.specs.declared.view.View.{View}
 use Rattle.history_model.specs.Counts.{calls_below}
 use Rattle.history_model.specs.Table.{calls_word}
 use Rattle.values_rule.specs.Steps.{commit_call_action}
-use Rattle.values_rule.proofs.LockKinds.{own}
+use Rattle.stamps_rule.specs.Steps.{draw_stamp_action}
+use Rattle.locks_rule.proofs.Own.{own}
 use Rattle.word_table.specs.declared.limits.TheConstants.{MOST_PASSES}
-use Rattle.word_table.specs.Kinds.{Grows, TakenIn}
+use Rattle.word_table.specs.Kinds.{Grows}
 use Rattle.word_table.specs.Sound.{IsSound}
 
 calls_small : (n m : ℕ) (ws : List ℕ) → ((j : ℕ) → j < m → slice_index ws (calls_word n j) < 2 ^ 32) → calls_below n m ws ≤ m * 2 ^ 32
@@ -23,8 +25,11 @@ commit_grows good v j kept single few n base ws vs id h me =
     let seats = o.seats in
     omega arith
 
--- so the number that a commit found has room for one more
-pub found_grows : (good : List ℕ → Type 0) (n : ℕ) (base : List ℕ) (v w : View) (j : ℕ) (kept : Bool) (found : ℕ) → v.who ≡ j ∷ [] → v.seats ≤ MOST_PASSES
-    → TakenIn (IsSound good n base) (commit_call_action j kept v) v found w → found + 1 < 2 ^ 64
-found_grows good n base v w j kept found single few t = let fits = commit_grows good v j kept single few n base t.words t.views t.place t.holds t.knows in
-    subst (λ (x : ℕ). x + 1 < 2 ^ 64) t.found_is fits
+-- and so has the clock: there are no more timestamps than calls
+pub draw_grows : (good : List ℕ → Type 0) (v : View) (j : ℕ) → v.who ≡ j ∷ [] → v.seats ≤ MOST_PASSES → Grows good (draw_stamp_action j v) v
+draw_grows good v j single few n base ws vs id h me =
+    let o = own n base ws vs id j v h.locks me single in
+    let small = calls_small n n ws (λ i lt. h.values.calls.calls_fit i lt) in
+    let counted = h.stamps.drawn.counted in
+    let seats = o.seats in
+    omega arith

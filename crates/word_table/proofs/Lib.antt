@@ -1,5 +1,9 @@
 pub mod Rows
 pub mod Taken
+pub mod ClockPairs
+pub mod ValuePairs
+pub mod KeptKinds
+pub mod KeptChanges
 pub mod Soundness
 pub mod Growing
 pub mod Zeros
@@ -10,5 +14,9 @@ pub mod Found
 pub mod After
 pub mod Answering
 pub mod Staying
+pub mod Noting
+pub mod Gathering
+pub mod Judging
 pub mod RunLaws
+pub mod Meetings
 pub mod Committing

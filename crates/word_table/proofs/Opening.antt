@@ -15,13 +15,14 @@ use Rattle.history_model.specs.Table.{Knows, clock_word, stamps_word, row_word, 
 use Rattle.locks_rule.specs.Locks.{LocksHold, IsSeat}
 use Rattle.locks_rule.specs.Splits.{opening_view, left_by_split, given_by_split, MaySplitSeat, KeepsSplit}
 use Rattle.history_model.proofs.SetLemmas.{differ, not_true, has-nil, pair-nil, has-join, has-join_same, has-join_old, without-absent}
-use Rattle.locks_rule.proofs.Splitting.{split_seat_keeps}
-use Rattle.values_rule.proofs.Cuts.{split_seat_values}
 use Rattle.word_table.specs.declared.limits.TheConstants.{MOST_PASSES, MOST_WORDS}
 use Rattle.word_table.specs.declared.copies.CallCopy.{CallCopy}
 use Rattle.word_table.specs.declared.copies.LockCopy.{LockCopy}
 use Rattle.word_table.specs.Copies.{Shows, ShowsOthers, ShowsPairs, IsCopy, PassView}
 use Rattle.word_table.specs.Sound.{IsSound, opening_words, numbers}
+use Rattle.stamps_rule.specs.Opening.{IsUnused}
+use Rattle.stamps_rule.proofs.Opening.{opening_holds}
+use Rattle.word_table.proofs.KeptChanges.{split_seat_sound}
 use Rattle.word_table.proofs.OpeningValues.{opening_values}
 use Rattle.word_table.proofs.Zeros.{zeros_at, zeros_long, one_view}
 
@@ -67,20 +68,16 @@ module _ (good : List ℕ → Type 0) (n : ℕ) (base : List ℕ) where
   opening_sound ws e fine = subst (λ (l : List ℕ). IsSound good n base l (opening_view base n (numbers 0 n) [] ∷ [])) (sym e) record {
     locks = opening_locks n base;
     values = opening_values good n base fine (opening_locks n base);
-    clock_is_zero = zeros_at (value_word n 0) base clock_word (omega arith);
-    stamps_are_zero = λ j lt. zeros_at (value_word n 0) base (stamps_word n j) (omega arith);
-  }
-
-  pub split_kept : (j : ℕ) → KeepsSplit (IsSound good n base) (MaySplitSeat j) left_by_split given_by_split
-  split_kept j ws vs id v h known may = record {
-    locks = split_seat_keeps n base j ws vs id v h.locks known may;
-    values = split_seat_values good j n base ws vs id v h.locks h.values known may;
-    clock_is_zero = h.clock_is_zero;
-    stamps_are_zero = h.stamps_are_zero;
+    stamps = opening_holds n base (opening_words n base) (opening_view base n (numbers 0 n) [] ∷ []) (opening_locks n base) record {
+      clock = zeros_at (value_word n 0) base clock_word (omega arith);
+      stamps = λ j lt. zeros_at (value_word n 0) base (stamps_word n j) (omega arith);
+      unused = λ id v knows. subst (λ (x : View). IsUnused x) (one_view (opening_view base n (numbers 0 n) []) id v knows).1
+          (record { phase = refl; unstamped = refl; unannounced = refl; no_cause = refl; no_attempt = refl; none_met = refl });
+    };
   }
 
   split_sound : (id j : ℕ) (v : View) → MaySplitSeat j v → Splits (λ (s : State (Unit {0}) View). IsSound good n base s.words s.views) id v (left_by_split v) (given_by_split v)
-  split_sound id j v may s h known = split_kept j s.words s.views id v h known may
+  split_sound id j v may s h known = split_seat_sound good n base j s.words s.views id v h known may
 
 -- a view with what the seat has taken, which is nothing
 abbrev with_none : View → Me (Unit {0}) View
@@ -144,9 +141,9 @@ shows_none = record {
   near = λ k t. absurd (differ (has k []) t (has-nil k));
 }
 
-pub opening_copy : (base : List ℕ) (call : CallCopy) (locks : LockCopy) (table : TableId) (me : Me (Unit {0}) View) → me ≡ (opening_view base call.seats (call.who ∷ []) [], []) → call.phase ≡ Idle → call.calls ≡ 0 → ShowsOthers call.others call.seats call.who → call.row ≡ row_word call.seats call.who 0 → call.writers ≡ writer_word call.seats 0 → call.who < call.seats → call.seats ≤ MOST_PASSES
+pub opening_copy : (base : List ℕ) (call : CallCopy) (locks : LockCopy) (table : TableId) (me : Me (Unit {0}) View) → me ≡ (opening_view base call.seats (call.who ∷ []) [], []) → call.phase ≡ Idle → call.calls ≡ 0 → call.stamp ≡ 0 → call.announced ≡ false → ShowsOthers call.others call.seats call.who → call.row ≡ row_word call.seats call.who 0 → call.writers ≡ writer_word call.seats 0 → call.who < call.seats → call.seats ≤ MOST_PASSES
     → length base ≤ MOST_WORDS → table.words ≡ table_words call.seats (length base) → locks.bits ≡ zeros 16 → locks.reads ≡ zeros 16 → locks.claims ≡ zeros 16 → locks.scans.items ≡ replicate LOCKS 0 → IsCopy call locks table me
-opening_copy base call locks table me em idle fresh others row writers below few short long eb er ec es = subst (λ (m : Me (Unit {0}) View). IsCopy call locks table m) (sym em) record {
+opening_copy base call locks table me em idle fresh unstamped unannounced others row writers below few short long eb er ec es = subst (λ (m : Me (Unit {0}) View). IsCopy call locks table m) (sym em) record {
   slots = refl;
   no_cause = refl;
   others_are = others;
@@ -156,7 +153,7 @@ opening_copy base call locks table me em idle fresh others row writers below few
   few = few;
   short = short;
   long = long;
-  call_is = record { seats_are = refl; who_is = refl; phase_is = sym idle; calls_are = sym fresh };
+  call_is = record { seats_are = refl; who_is = refl; phase_is = sym idle; calls_are = sym fresh; stamp_is = sym unstamped; announced_is = sym unannounced };
   locks_are = record {
     bits_are = subst (λ (row : List ℕ). Shows row []) (sym eb) shows_none;
     reads_are = subst (λ (row : List ℕ). Shows row []) (sym er) shows_none;

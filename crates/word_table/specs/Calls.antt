@@ -1,27 +1,31 @@
 -- What each call of a desk answers, and what it does to what the pass knows. A step of a call is told of in a state of
 -- the table that is sound, as `sound` says.
-use Rattle.std.specs.Prelude.{◌≡◌, ◌≢◌, ◌⊎◌, ℕ, ◌+◌, ◌-◌, ◌%◌, ◌<◌, ◌≤◌, Bool, false, List, [], ◌∷◌, ◌++◌, length, slice_get, Some, ◌==◌, if◌then◌else◌}
+use Rattle.std.specs.Prelude.{◌≡◌, ◌≢◌, ◌⊎◌, ℕ, ◌+◌, ◌-◌, ◌%◌, ◌<◌, ◌≤◌, Bool, false, ◌&&◌, nat_lt, List, [], ◌∷◌, ◌++◌, length, slice_get, Some, ◌==◌, if◌then◌else◌}
 use Rattle.std.specs.Int.{bit_at}
 use Rattle.history_model.specs.declared.view.View.{View}
 use Rattle.history_model.specs.declared.entry.Entry.{Entry}
+use Rattle.history_model.specs.declared.event.Cause.{Cause}
 use Rattle.history_model.specs.declared.view.Phase.TheVariants.{Releasing}
 use Rattle.history_model.specs.Conflicts.{IsConflict}
 use Rattle.history_model.specs.Fitting.{Fits}
 use Rattle.history_model.specs.Histories.{replay}
-use Rattle.history_model.specs.Legal.{IsPrefix}
+use Rattle.history_model.specs.Legal.{IsPrefix, AreAttemptsLegal, IsLegalHistory}
 use Rattle.history_model.specs.Locks.{lock_of_word}
-use Rattle.history_model.specs.Sets.{has}
+use Rattle.history_model.specs.Sets.{has, without}
 use Rattle.history_model.specs.Table.{Knows}
 use Rattle.history_model.specs.Views.{number, HasBit, HasReadGrant, HasClaim, HasWriteGrant, IsGranted}
 use Rattle.locks_rule.specs.Actions.{Action}
 use Rattle.locks_rule.specs.Steps.{is_free, set_read_bit_action, load_writer_action, claim_writer_action, scan_row_action}
 use Rattle.values_rule.specs.Steps.{entry_of}
+use Rattle.stamps_rule.specs.Steps.{judge_stamp_action, load_serial_at_yield_action, load_cause_stamp_action, after_giving_way}
 use Rattle.word_table.specs.declared.answer.Shared.{Shared}
 use Rattle.word_table.specs.declared.answer.Shared.TheVariants as shared
 use Rattle.word_table.specs.declared.answer.Claimed.{Claimed}
 use Rattle.word_table.specs.declared.answer.Claimed.TheVariants as claimed
 use Rattle.word_table.specs.declared.answer.Scanned.{Scanned}
 use Rattle.word_table.specs.declared.answer.Scanned.TheVariants as scanned
+use Rattle.word_table.specs.declared.answer.Judged.{Judged}
+use Rattle.word_table.specs.declared.answer.Judged.TheVariants as judged
 use Rattle.word_table.specs.Kinds.{TakenIn}
 
 -- the call that began with the view old met another seat, i, on lock k: by a step that it took from the view asking, in
@@ -130,3 +134,27 @@ pub record CommitsAt (word_count : ℕ) (good : List ℕ → Type 0) (base : Lis
   pub begins : IsPrefix old.seen history
   pub others : (q : ℕ) (e : Entry) → length old.seen ≤ q → slice_get history q ≡ Some e → e.who ≢ number old
   pub fits : Fits word_count good old.trace (replay base history)
+
+-- what judge answers to a call with the timestamp own where the other seat shows this one
+abbrev pub judged_of : ℕ → ℕ → Judged
+judged_of shown own = if nat_lt 0 shown && nat_lt shown own then judged.Yield shown else judged.Wait
+
+-- judge loaded the timestamp of seat i, and where it gives way the counter of entries then
+pub record JudgedBy (sound : List ℕ → List View → Type 0) (v : View) (i : ℕ) (r : Judged) (w : View) : Type 0 where
+  pub found : ℕ
+  pub between : View
+  pub taken : TakenIn sound (judge_stamp_action (number v) i v) v found between
+  pub answer : r ≡ judged_of found v.stamp
+  pub waits : r ≡ judged.Wait → w ≡ between
+  pub yields : (stamp : ℕ) → r ≡ judged.Yield stamp
+      → (seen : ℕ) × TakenIn sound (load_serial_at_yield_action (number v) between) between seen w
+
+-- the attempt gave way to this cause: what it read is legal on the history, and so was what the call's attempts before
+-- it read on earlier states of the same history, none of them before the call's floor
+pub record GaveWay (good : List ℕ → Type 0) (n : ℕ) (base : List ℕ) (cause : Cause) (old new : View) : Type 0 where
+  pub history : List Entry
+  pub view : new ≡ after_giving_way cause history (record old { met = without cause.seat old.met })
+  pub begins : IsPrefix old.seen history
+  pub others : (q : ℕ) (e : Entry) → length old.seen ≤ q → slice_get history q ≡ Some e → e.who ≢ number old
+  pub legal : IsLegalHistory good n base history
+  pub opaque : AreAttemptsLegal n base history (number old) old.stamp old.floor (length history) new.abandoned

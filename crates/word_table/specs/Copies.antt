@@ -46,6 +46,8 @@ pub record IsCallCopy (copy : CallCopy) (v : View) : Type 0 where
   pub who_is : v.who ≡ copy.who ∷ []
   pub phase_is : v.phase ≡ copy.phase
   pub calls_are : v.call ≡ copy.calls
+  pub stamp_is : v.stamp ≡ copy.stamp
+  pub announced_is : v.announced ≡ copy.announced
 
 -- what a pass keeps is a copy of what its seat knows
 pub record IsCopy (call : CallCopy) (locks : LockCopy) (table : TableId) (me : Me (Unit {0}) View) : Type 0 where

@@ -6,9 +6,10 @@ use Rattle.history_model.specs.Table.{Knows, history_of}
 use Rattle.locks_rule.specs.Actions.{Action, found_by}
 use Rattle.locks_rule.specs.Locks.{LocksHold}
 use Rattle.locks_rule.specs.Steps.{MaySetReadBit, MayClearReadBit, MayLoadWriter, MayClaimWriter, MayScanRow, MayReleaseWriter, set_read_bit_action, clear_read_bit_action, load_writer_action, claim_writer_action, scan_row_action, release_writer_action}
-use Rattle.values_rule.specs.Steps.{MayBeginCall, MayLoadValue, MayStoreValue, MayUndoStore, MayCommitCall, MayClearStamp, begin_call_action, load_value_action, store_value_action, undo_store_action, commit_call_action, clear_stamp_action}
+use Rattle.values_rule.specs.Steps.{MayBeginCall, MayLoadValue, MayStoreValue, MayUndoStore, MayCommitCall, MayClearStamp, MayLoadSerial, begin_call_action, load_value_action, store_value_action, undo_store_action, commit_call_action, clear_stamp_action, load_serial_action}
+use Rattle.stamps_rule.specs.Steps.{MayDrawStamp, MayAnnounceStamp, MayJudgeStamp, MayLoadSerialAtYield, MayLoadCauseStamp, draw_stamp_action, announce_stamp_action, judge_stamp_action, load_serial_at_yield_action, load_cause_stamp_action}
 use Rattle.word_table.specs.declared.step.Step.{Step}
-use Rattle.word_table.specs.declared.step.Step.TheVariants.{SetReadBit, ClearReadBit, LoadWriter, ClaimWriter, ScanRow, ReleaseWriter, BeginCall, LoadValue, StoreValue, UndoStore, CommitCall, ClearStamp}
+use Rattle.word_table.specs.declared.step.Step.TheVariants.{SetReadBit, ClearReadBit, LoadWriter, ClaimWriter, ScanRow, ReleaseWriter, BeginCall, LoadValue, StoreValue, UndoStore, CommitCall, ClearStamp, LoadSerial, DrawStamp, AnnounceStamp, JudgeStamp, LoadSerialAtYield, LoadCauseStamp}
 use Rattle.word_table.specs.Sound.{IsSound}
 
 -- what the step does, where the seat knows v
@@ -25,6 +26,12 @@ action_of (StoreValue j a x) v = store_value_action j a x v
 action_of (UndoStore j a old) v = undo_store_action j a old v
 action_of (CommitCall j kept) v = commit_call_action j kept v
 action_of (ClearStamp j) v = clear_stamp_action j v
+action_of LoadSerial v = load_serial_action v
+action_of (DrawStamp j) v = draw_stamp_action j v
+action_of (AnnounceStamp j) v = announce_stamp_action j v
+action_of (JudgeStamp j i) v = judge_stamp_action j i v
+action_of (LoadSerialAtYield j) v = load_serial_at_yield_action j v
+action_of (LoadCauseStamp j i stamp) v = load_cause_stamp_action j i stamp v
 
 -- a seat that knows v may take the step, where these are the good lists of words
 abbrev pub May : (List ℕ → Type 0) → Step → View → Type 0
@@ -40,6 +47,12 @@ May good (StoreValue j a x) v = MayStoreValue j a v
 May good (UndoStore j a old) v = MayUndoStore j a old v
 May good (CommitCall j kept) v = MayCommitCall good j kept v
 May good (ClearStamp j) v = MayClearStamp j v
+May good LoadSerial v = MayLoadSerial v
+May good (DrawStamp j) v = MayDrawStamp j v
+May good (AnnounceStamp j) v = MayAnnounceStamp j v
+May good (JudgeStamp j i) v = MayJudgeStamp j i v
+May good (LoadSerialAtYield j) v = MayLoadSerialAtYield j v
+May good (LoadCauseStamp j i stamp) v = MayLoadCauseStamp j i stamp v
 
 -- the number is what the step writes, whatever the table is when a seat that knows v takes it
 abbrev pub Stores : Action → View → ℕ → Type 0

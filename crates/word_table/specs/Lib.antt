@@ -3,6 +3,10 @@ pub mod Copies
 pub mod Sound
 pub mod Kinds
 pub mod Desks
+pub mod Notes
+pub mod Closing
+pub mod Gathering
 pub mod Unscanned
 pub mod Calls
 pub mod Runs
+pub mod Meetings

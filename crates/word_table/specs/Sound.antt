@@ -1,19 +1,18 @@
 -- What holds of a table between any two steps, and how it begins.
-use Rattle.std.specs.Prelude.{◌≡◌, ℕ, zero, suc, ◌<◌, List, [], ◌∷◌, ◌++◌, replicate, slice_index}
+use Rattle.std.specs.Prelude.{ℕ, zero, suc, List, [], ◌∷◌, ◌++◌, replicate}
 use Rattle.history_model.specs.declared.view.View.{View}
 use Rattle.history_model.specs.Fitting.{IsGood}
-use Rattle.history_model.specs.Table.{clock_word, stamps_word, value_word}
+use Rattle.history_model.specs.Table.{value_word}
 use Rattle.locks_rule.specs.Locks.{LocksHold}
 use Rattle.values_rule.specs.Values.{ValuesHold}
+use Rattle.stamps_rule.specs.Stamps.{StampsHold}
 use Rattle.word_table.specs.declared.rule.Ground.{Ground}
 
 -- for n seats and the words base that the memory began with, of which some lists are good
 pub record IsSound (good : List ℕ → Type 0) (n : ℕ) (base words : List ℕ) (views : List View) : Type 0 where
   pub locks : LocksHold n base words views
   pub values : ValuesHold good n base words views
-  -- so far no seat has a timestamp
-  pub clock_is_zero : slice_index words clock_word ≡ 0
-  pub stamps_are_zero : (j : ℕ) → j < n → slice_index words (stamps_word n j) ≡ 0
+  pub stamps : StampsHold n words views
 
 -- the same, for a table that was made with this ground; word_count and good are those of its shape
 abbrev pub GroundHolds : {S : Type 0} → (S → ℕ) → (S → List ℕ → Type 0) → Ground S → List ℕ → List View → Type 0

@@ -2,7 +2,7 @@
 
 ghost use Rattle.std.specs.Prelude.{◌≡◌, ◌≤◌, ◌<◌};
 ghost use Rattle.locks_rule.specs.Steps.{is_free};
-ghost use Rattle.word_table.specs.Calls.{shared_of, claimed_of, scanned_of};
+ghost use Rattle.word_table.specs.Calls.{shared_of, claimed_of, scanned_of, judged_of};
 
 use crate::limits::MOST_PASSES;
 use history_model::LOCKS;
@@ -32,6 +32,15 @@ pub enum Scanned {
     Clear,
     /// The seat has its read bit set.
     Met(u32),
+}
+
+/// What a call that met another seat does about it.
+#[derive(Clone, Copy, Debug, PartialEq, Eq)]
+pub enum Judged {
+    /// The other seat shows this timestamp, which is earlier: the attempt gives way to it.
+    Yield(u64),
+    /// The other seat shows a later timestamp or none: the call asks for its lock again.
+    Wait,
 }
 
 /// No seat but `who` claims a lock whose writer word was found to be this.
@@ -74,5 +83,16 @@ pub(crate) fn scanned_by(found: u64, lock: u32, seat: u32) -> Scanned
         Scanned::Clear
     } else {
         Scanned::Met(seat)
+    }
+}
+
+/// What a call with the timestamp `own` does about a seat that shows this one.
+pub(crate) fn judged_by(shown: u64, own: u64) -> Judged
+    ensures { result ≡ judged_of shown own }
+{
+    if shown > 0 && shown < own {
+        Judged::Yield(shown)
+    } else {
+        Judged::Wait
     }
 }

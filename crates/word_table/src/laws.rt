@@ -5,9 +5,11 @@ ghost use Rattle.history_model.specs.declared.view.View.{View};
 ghost use Rattle.history_model.specs.Fitting.{IsGood};
 ghost use Rattle.history_model.specs.Table.{TableState, Knows};
 ghost use Rattle.locks_rule.specs.Actions.{Keeps, words_after, views_after};
+ghost use Rattle.locks_rule.specs.Joins.{KeepsJoin, MayTakeNote, left_by_note, note_of, MayMeetNote, after_note, MayJoinSeats, after_joining};
 ghost use Rattle.locks_rule.specs.Splits.{KeepsSplit, MaySplitSeat, left_by_split, given_by_split};
 ghost use Rattle.word_table.specs.declared.step.Step.{Step};
 ghost use Rattle.word_table.specs.Kinds.{action_of, May};
+ghost use Rattle.word_table.specs.Meetings.{MeetsInConflict, NeverMeetsApart, RestartsFew, ReadsOneState};
 ghost use Rattle.word_table.specs.Runs.{IsOpening, IsRun, Steps};
 ghost use Rattle.word_table.specs.Sound.{IsSound};
 
@@ -21,21 +23,54 @@ pub fn every_step<S: Shape>()
         (May (IsGood (S.word_count shape) (S.good shape)) step) (action_of step) }
 {}
 
-/// A view that gives up a number to a new seat keeps the whole rule.
+/// A view that is cut keeps the whole rule: one that gives up a number to a new seat, and one that gives off a note.
 pub fn every_cut<S: Shape>()
-    ensures { (shape : _) (n : ℕ) (base : List ℕ) (j : ℕ)
+    ensures seats { (shape : _) (n : ℕ) (base : List ℕ) (j : ℕ)
         → KeepsSplit (IsSound (IsGood (S.word_count shape) (S.good shape)) n base) (MaySplitSeat j)
         left_by_split given_by_split }
+    ensures notes { (shape : _) (n : ℕ) (base : List ℕ)
+        → KeepsSplit (IsSound (IsGood (S.word_count shape) (S.good shape)) n base) MayTakeNote
+        left_by_note note_of }
+{}
+
+/// Two views that are joined keep the whole rule: one that takes in a note, and one that takes in another's numbers.
+pub fn every_join<S: Shape>()
+    ensures notes { (shape : _) (n : ℕ) (base : List ℕ)
+        → KeepsJoin (IsSound (IsGood (S.word_count shape) (S.good shape)) n base) MayMeetNote after_note }
+    ensures seats { (shape : _) (n : ℕ) (base : List ℕ)
+        → KeepsJoin (IsSound (IsGood (S.word_count shape) (S.good shape)) n base) MayJoinSeats after_joining }
 {}
 
 /// Every state of every run meets the rule: for every shape, every number of seats, every good memory to begin with,
-/// and every list of steps in any order of seats, by the same kinds of step that the calls of a desk take.
+/// and every list of steps in any order of seats. The steps are those that the calls of a desk are made of: all kinds
+/// of `Step`, the cut of a view into seats or into a note, and the join of two, of a view and a note or of two seats.
 pub fn every_run<S: Shape>()
     ensures { (shape : _) (n : ℕ) (base : List ℕ) (run : List TableState)
         → IsGood (S.word_count shape) (S.good shape) base
         → IsRun (IsGood (S.word_count shape) (S.good shape)) n base run
         → (p : ℕ) (state : TableState) → slice_get run p ≡ Some state
         → IsSound (IsGood (S.word_count shape) (S.good shape)) n base state.words state.views }
+{}
+
+/// Of each meeting, in every state of every run: by whatever step a call meets another on a lock, both asked for a
+/// word of this lock, and the other's read bit or claim stands on it (`conflict`). So calls whose words share no lock
+/// never meet (`apart`).
+pub fn every_meeting<S: Shape>()
+    ensures conflict { (shape : _) (n : ℕ) (base : List ℕ)
+        → MeetsInConflict (IsGood (S.word_count shape) (S.good shape)) n base }
+    ensures apart { (shape : _) (n : ℕ) (base : List ℕ)
+        → NeverMeetsApart (IsGood (S.word_count shape) (S.good shape)) n base }
+{}
+
+/// Of each call, in every state of every run: it gave way less often than there are seats, each time to another seat,
+/// which it had met, and never twice to the same (`restarts`). And until it ends, what each of its attempts that gave
+/// way had read is what some part of the committed history leaves, of which all that its seat had seen as the call
+/// began is a part (`opacity`).
+pub fn every_call<S: Shape>()
+    ensures restarts { (shape : _) (n : ℕ) (base : List ℕ)
+        → RestartsFew (IsGood (S.word_count shape) (S.good shape)) n base }
+    ensures opacity { (shape : _) (n : ℕ) (base : List ℕ)
+        → ReadsOneState (IsGood (S.word_count shape) (S.good shape)) n base }
 {}
 
 /// The opening alone is a run.

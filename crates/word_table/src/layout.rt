@@ -10,6 +10,9 @@ use history_model::LOCKS;
 /// The word that counts the entries of the history.
 pub(crate) const PLACE_OF_SERIAL: usize = 0;
 
+/// The word that has the last timestamp that was drawn.
+pub(crate) const PLACE_OF_CLOCK: usize = 1;
+
 /// The word that has a seat's read bit for a lock.
 pub(crate) fn place_of_bit(seats: u32, seat: u32, lock: u32) -> usize
     requires seats { (seats ≤ MOST_PASSES) × (seat < seats) }

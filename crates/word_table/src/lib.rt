@@ -17,23 +17,33 @@
 
 pub mod answer;
 mod bits;
+pub mod closing;
 mod copies;
 mod deal;
 pub mod desk;
 pub mod laws;
 mod layout;
 pub mod limits;
+pub mod notes;
 pub mod pass;
 pub mod rule;
 pub mod step;
 
-pub use answer::{Claimed, Scanned, Shared};
+pub use answer::{Claimed, Judged, Scanned, Shared};
+pub use closing::{CloseRefused, Closed};
 pub use desk::Desk;
 pub use history_model::Phase;
 pub use limits::{LAST_CALL, MOST_PASSES, MOST_WORDS};
+pub use notes::Note;
 pub use pass::Pass;
 pub use rule::{DeskRule, Ground};
 
+#[cfg(test)]
+mod clock_tests;
+#[cfg(test)]
+mod closing_tests;
+#[cfg(test)]
+mod laws_tests;
 #[cfg(test)]
 mod tests;
 #[cfg(test)]

@@ -3,11 +3,12 @@
 //! The copies have a fixed size, which `Desk::new` makes. The rest of what a pass knows is its view, which exists in
 //! contracts alone.
 
-ghost use Rattle.std.specs.Prelude.{◌≡◌, ◌≢◌, ◌⊎◌, ◌↔◌, ◌<◌, ◌≤◌, ◌+◌, ℕ, true, false, IsTrue, IfSome, IsNone, length, [], ◌∷◌, None, replicate, ◌++◌, ◌^◌, List, ◌-◌};
+ghost use Rattle.std.specs.Prelude.{◌≡◌, ◌≢◌, ◌⊎◌, ◌↔◌, ◌<◌, ◌≤◌, ◌+◌, ℕ, true, false, IsTrue, IfSome, IsNone, length, [], ◌∷◌, None, Some, replicate, ◌++◌, ◌^◌, List, ◌-◌, ◌==◌, if◌then◌else◌};
 ghost use Rattle.history_model.specs.Locks.{lock_of_word};
 ghost use Rattle.history_model.specs.Sets.{has};
 ghost use Rattle.history_model.specs.Table.{table_words};
 ghost use Rattle.history_model.specs.Views.{number, HasBit, HasReadGrant, HasClaim, IsScanned, HasWriteGrant, IsGranted};
+ghost use Rattle.locks_rule.specs.Joins.{after_told};
 ghost use Rattle.locks_rule.specs.Splits.{opening_view};
 ghost use Rattle.locks_rule.specs.Steps.{released_phase, set_read_bit_action, clear_read_bit_action, load_writer_action, claim_writer_action, scan_row_action, release_writer_action};
 ghost use Rattle.history_model.specs.declared.event.Event.{Event};
@@ -17,20 +18,24 @@ ghost use Rattle.history_model.specs.Fitting.{IsGood, SomeFits};
 ghost use Rattle.history_model.specs.Legal.{IsLegalHistory};
 ghost use Rattle.history_model.specs.Traces.{after, IsLegalTrace};
 ghost use Rattle.history_model.specs.Undoing.{Notes};
-ghost use Rattle.values_rule.specs.Steps.{undoing_phase, begin_call_action, load_value_action, store_value_action, undo_store_action, commit_call_action, clear_stamp_action};
-ghost use Rattle.word_table.specs.Calls.{CommitsAt, Looked, MakesSeen, ScannedBy, with_bit};
+ghost use Rattle.values_rule.specs.Steps.{undoing_phase, begin_call_action, load_value_action, store_value_action, undo_store_action, commit_call_action, clear_stamp_action, load_serial_action};
+ghost use Rattle.stamps_rule.specs.Causes.{newest, past_causes};
+ghost use Rattle.stamps_rule.specs.Stamps.{AreRestartsBounded};
+ghost use Rattle.stamps_rule.specs.Steps.{draw_stamp_action, announce_stamp_action, load_cause_stamp_action};
+ghost use Rattle.word_table.specs.Calls.{CommitsAt, JudgedBy, Looked, MakesSeen, ScannedBy, with_bit};
 ghost use Rattle.word_table.specs.Kinds.{TakenIn};
 ghost use Rattle.word_table.specs.Least.{IsLeast};
 ghost use Rattle.word_table.specs.Sound.{GroundHolds};
 ghost use Rattle.word_table.specs.Unscanned.{IsUnscanned};
 
-use crate::answer::{Scanned, Shared, is_unclaimed, scanned_by, shared_by};
+use crate::answer::{Judged, Scanned, Shared, is_unclaimed, judged_by, scanned_by, shared_by};
 use crate::copies::{CallCopy, LockCopy};
 use crate::layout::{
-    PLACE_OF_SERIAL, place_of_bit, place_of_calls, place_of_own_bit, place_of_stamp,
+    PLACE_OF_CLOCK, PLACE_OF_SERIAL, place_of_bit, place_of_calls, place_of_own_bit, place_of_stamp,
     place_of_value, place_of_writer,
 };
 use crate::limits::{LAST_CALL, MOST_PASSES, MOST_WORDS};
+use crate::notes::{GivesNote, MeetsNote, Note};
 use crate::rule::TableWords;
 use crate::step::Step;
 use crate::{bits, step};
@@ -57,6 +62,17 @@ fn after_undo(phase: Phase) -> Phase
         Phase::Yielding => Phase::Yielding,
         Phase::Idle => Phase::Idle,
         Phase::Releasing => Phase::Releasing,
+    }
+}
+
+// The phase once the timestamp of the cause was looked at.
+fn phase_after_look(shown: u64, stamp: u64) -> Phase
+    ensures { result ≡ (if shown == stamp then Phase.Yielding else Phase.Running) }
+{
+    if shown == stamp {
+        Phase::Yielding
+    } else {
+        Phase::Running
     }
 }
 
@@ -97,6 +113,8 @@ impl<S: Shape> Pass<S> {
             writers: 2 + 18 * seats,
             calls: 0,
             phase: Phase::Idle,
+            stamp: 0,
+            announced: false,
         };
         let locks = LockCopy {
             bits: [0; 16],
@@ -110,6 +128,15 @@ impl<S: Shape> Pass<S> {
             locks,
             shape: PhantomData,
         }
+    }
+
+    // The seat alone.
+    pub(crate) fn into_seat(self) -> Seat<(), View>
+        ensures table { result.table_id ≡ self.table }
+        ensures seat { result.me ≡ (self.view, []) }
+        ensures named { has (number self.view) self.view.who ≡ true }
+    {
+        self.seat
     }
 
     /// The seat's number, from 0.
@@ -126,6 +153,20 @@ impl<S: Shape> Pass<S> {
         ensures { result ≡ self.now.view.phase }
     {
         self.call.phase
+    }
+
+    /// The call's timestamp, 0 where none was drawn. A smaller one is earlier.
+    pub fn stamp(&self) -> u64
+        ensures { result ≡ self.now.view.stamp }
+    {
+        self.call.stamp
+    }
+
+    /// Whether the timestamp stands in the table, where others see it.
+    pub fn announced(&self) -> bool
+        ensures { result ≡ self.now.view.announced }
+    {
+        self.call.announced
     }
 
     /// How many calls the pass may still begin.
@@ -556,6 +597,7 @@ impl<S: Shape> Pass<S> {
         ensures legal { IsLegalHistory (IsGood (S.word_count table.now.key.shape) (S.good table.now.key.shape))
             table.now.key.seats table.now.key.base.items self.new.view.seen }
         ensures room { result + 1 < 2 ^ 64 }
+        ensures bounded { AreRestartsBounded table.now.key.seats (number self.old.view) self.old.view }
     {
         self.call.phase = Phase::Releasing;
         step::add(
@@ -580,8 +622,11 @@ impl<S: Shape> Pass<S> {
         ensures view { self.new.view ≡ (clear_stamp_action (number self.old.view) self.old.view).view [] 0 }
         ensures taken { (found : ℕ) × TakenIn (GroundHolds S.word_count S.good table.now.key)
             (clear_stamp_action (number self.old.view) self.old.view) self.old.view found self.new.view }
+        ensures bounded { AreRestartsBounded table.now.key.seats (number self.old.view) self.old.view }
     {
         self.call.phase = Phase::Idle;
+        self.call.stamp = 0;
+        self.call.announced = false;
         step::store(
             table,
             &mut self.seat,
@@ -591,5 +636,175 @@ impl<S: Shape> Pass<S> {
                 seat: self.call.who,
             },
         );
+    }
+
+    // The load of the counter of entries with which the seat gives off a note.
+    pub(crate) fn take_note(&mut self, table: &TableWords<S>) -> Note<S>
+        requires table { self.old.table ≡ table.now.table_id }
+        requires phase { self.old.view.phase ≡ Phase.Idle }
+        ensures pass { self.new ≡ self.old }
+        ensures table { result.table ≡ table.now.table_id }
+        ensures seen { result.seen ≡ self.old.view.seen }
+    {
+        let seat = table.split_seat::<GivesNote>(&mut self.seat);
+        Note {
+            seat,
+            shape: PhantomData,
+        }
+    }
+
+    // The load of the counter of entries with which the seat takes in the note.
+    pub(crate) fn join_note(&mut self, table: &TableWords<S>, note: Note<S>)
+        requires table { self.old.table ≡ table.now.table_id }
+        requires note { note.table ≡ table.now.table_id }
+        requires phase { self.old.view.phase ≡ Phase.Idle }
+        ensures table { self.new.table ≡ self.old.table }
+        ensures view { self.new.view ≡ after_told self.old.view note.seen }
+    {
+        let Note { seat, shape: _ } = note;
+        table.join_seat::<MeetsNote>(&mut self.seat, seat);
+    }
+
+    // The load of the counter of entries with which the seat sees all of them.
+    pub(crate) fn load_serial(&mut self, table: &TableWords<S>)
+        requires table { self.old.table ≡ table.now.table_id }
+        requires phase { self.old.view.phase ≡ Phase.Idle }
+        ensures table { self.new.table ≡ self.old.table }
+        ensures view { self.new.view ≡ record self.old.view { seen = self.new.view.seen; olds = [] } }
+        ensures taken { (found : ℕ) × TakenIn (GroundHolds S.word_count S.good table.now.key)
+            (load_serial_action self.old.view) self.old.view found self.new.view }
+        ensures legal { IsLegalHistory (IsGood (S.word_count table.now.key.shape) (S.good table.now.key.shape))
+            table.now.key.seats table.now.key.base.items self.new.view.seen }
+    {
+        step::load(table, &mut self.seat, PLACE_OF_SERIAL, &Step::LoadSerial);
+    }
+
+    // Takes in the note, and looks at the counter of entries then, so that both lists are known to be prefixes of one.
+    pub(crate) fn meet_note(&mut self, table: &TableWords<S>, note: Note<S>)
+        requires table { self.old.table ≡ table.now.table_id }
+        requires note { note.table ≡ table.now.table_id }
+        requires phase { self.old.view.phase ≡ Phase.Idle }
+        ensures table { self.new.table ≡ self.old.table }
+        ensures rest { self.new.view ≡ record self.old.view { seen = self.new.view.seen; olds = []; met = [] } }
+        ensures taken { (found : ℕ) × TakenIn (GroundHolds S.word_count S.good table.now.key)
+            (load_serial_action (after_told self.old.view note.seen)) (after_told self.old.view note.seen) found self.new.view }
+        ensures legal { IsLegalHistory (IsGood (S.word_count table.now.key.shape) (S.good table.now.key.shape))
+            table.now.key.seats table.now.key.base.items self.new.view.seen }
+    {
+        self.join_note(table, note);
+        self.load_serial(table);
+    }
+
+    // The fetch-and-add of 1 on the clock. It gives the timestamp.
+    pub(crate) fn draw_stamp(&mut self, table: &TableWords<S>) -> u64
+        requires table { self.old.table ≡ table.now.table_id }
+        requires phase { self.old.view.phase ≡ Phase.Running }
+        requires unjudged { self.old.view.met ≢ [] }
+        requires unstamped { self.old.view.stamp ≡ 0 }
+        ensures table { self.new.table ≡ self.old.table }
+        ensures view { self.new.view ≡ record self.old.view { stamp = result } }
+        ensures taken { (found : ℕ) × (result ≡ found + 1) × TakenIn (GroundHolds S.word_count S.good table.now.key)
+            (draw_stamp_action (number self.old.view) self.old.view) self.old.view found self.new.view }
+    {
+        let found = step::add(
+            table,
+            &mut self.seat,
+            PLACE_OF_CLOCK,
+            &Step::DrawStamp {
+                seat: self.call.who,
+            },
+        );
+        self.call.stamp = found + 1;
+        self.call.stamp
+    }
+
+    // The store of the timestamp to the own STAMPS word.
+    pub(crate) fn announce_stamp(&mut self, table: &TableWords<S>)
+        requires table { self.old.table ≡ table.now.table_id }
+        requires phase { self.old.view.phase ≡ Phase.Running }
+        requires stamped { 0 < self.old.view.stamp }
+        requires unannounced { self.old.view.announced ≡ false }
+        ensures table { self.new.table ≡ self.old.table }
+        ensures view { self.new.view ≡ (announce_stamp_action (number self.old.view) self.old.view).view [] 0 }
+        ensures taken { (found : ℕ) × TakenIn (GroundHolds S.word_count S.good table.now.key)
+            (announce_stamp_action (number self.old.view) self.old.view) self.old.view found self.new.view }
+    {
+        self.call.announced = true;
+        step::store(
+            table,
+            &mut self.seat,
+            place_of_stamp(self.call.seats, self.call.who),
+            self.call.stamp,
+            &Step::AnnounceStamp {
+                seat: self.call.who,
+            },
+        );
+    }
+
+    // The load of the timestamp of a seat that the call met, and where that is an earlier one the load of the counter
+    // of entries, at which the attempt gives way.
+    pub(crate) fn judge_stamp(&mut self, table: &TableWords<S>, other: u32) -> Judged
+        requires table { self.old.table ≡ table.now.table_id }
+        requires phase { self.old.view.phase ≡ Phase.Running }
+        requires announced { self.old.view.announced ≡ true }
+        requires other { other < self.old.view.seats }
+        requires met { has other self.old.view.met ≡ true }
+        ensures table { self.new.table ≡ self.old.table }
+        ensures judged { JudgedBy (GroundHolds S.word_count S.good table.now.key) self.old.view other result self.new.view }
+        ensures one { self.old.view.who ≡ number self.old.view ∷ [] }
+        ensures no_cause { self.old.view.due ≡ None }
+    {
+        let shown = step::load(
+            table,
+            &mut self.seat,
+            place_of_stamp(self.call.seats, other),
+            &Step::JudgeStamp {
+                seat: self.call.who,
+                other,
+            },
+        );
+        let judged = judged_by(shown, self.call.stamp);
+        let Judged::Yield(_) = judged else {
+            return judged;
+        };
+        step::load(
+            table,
+            &mut self.seat,
+            PLACE_OF_SERIAL,
+            &Step::LoadSerialAtYield {
+                seat: self.call.who,
+            },
+        );
+        self.call.phase = Phase::Yielding;
+        judged
+    }
+
+    // The load of the timestamp of the attempt's cause. It gives the number found.
+    pub(crate) fn load_cause_stamp(&mut self, table: &TableWords<S>, other: u32, stamp: u64) -> u64
+        requires table { self.old.table ≡ table.now.table_id }
+        requires phase { self.old.view.phase ≡ Phase.Yielding }
+        requires other { other < self.old.view.seats }
+        requires cause { newest (past_causes self.old.view) ≡ Some (record { seat = other; stamp = stamp }) }
+        requires no_bit { (k : ℕ) → ¬ HasBit self.old.view k }
+        requires no_claim { (k : ℕ) → ¬ HasClaim self.old.view k }
+        requires undone { self.old.view.undo ≡ [] }
+        ensures table { self.new.table ≡ self.old.table }
+        ensures taken { TakenIn (GroundHolds S.word_count S.good table.now.key)
+            (load_cause_stamp_action (number self.old.view) other stamp self.old.view) self.old.view result self.new.view }
+        ensures fits { result ≢ stamp → SomeFits (S.word_count table.now.key.shape) (S.good table.now.key.shape) self.new.view.trace }
+    {
+        let shown = step::load(
+            table,
+            &mut self.seat,
+            place_of_stamp(self.call.seats, other),
+            &Step::LoadCauseStamp {
+                seat: self.call.who,
+                other,
+                stamp,
+            },
+        );
+        let after_look = phase_after_look(shown, stamp);
+        self.call.phase = after_look;
+        shown
     }
 }

@@ -2,7 +2,7 @@
 //!
 //! An operation is proved here once, for every kind of step that fits it. Which kind it is exists in the proof alone.
 
-ghost use Rattle.std.specs.Prelude.{List, ◌≡◌, ◌<◌, ◌==◌, ◌+◌, ℕ, [], if◌then◌else◌};
+ghost use Rattle.std.specs.Prelude.{List, ◌≡◌, ◌<◌, ◌==◌, ◌+◌, ◌^◌, ℕ, [], if◌then◌else◌};
 ghost use Rattle.history_model.specs.declared.entry.Entry.{Entry};
 ghost use Rattle.history_model.specs.declared.view.View.{View};
 ghost use Rattle.locks_rule.specs.Actions.{Action};
@@ -46,6 +46,18 @@ pub enum Step {
     CommitCall { seat: u32, kept: bool },
     /// 0 is stored to the own STAMPS word, and the call ends.
     ClearStamp { seat: u32 },
+    /// The counter of entries is loaded between calls: all that was committed is seen.
+    LoadSerial,
+    /// The clock goes up by 1, and the call has a timestamp.
+    DrawStamp { seat: u32 },
+    /// The timestamp is stored to the own STAMPS word.
+    AnnounceStamp { seat: u32 },
+    /// The timestamp of a seat that the call met is loaded.
+    JudgeStamp { seat: u32, other: u32 },
+    /// The counter of entries is loaded, and the attempt gives way to the cause that is due.
+    LoadSerialAtYield { seat: u32 },
+    /// The timestamp of the attempt's cause is loaded, which showed this one.
+    LoadCauseStamp { seat: u32, other: u32, stamp: u64 },
 }
 
 /// The kind of a step, and the rule that a step of it tells of. A call picks both for its proof.
@@ -237,6 +249,7 @@ pub(crate) fn add<S: Shape>(
     requires room { Grows (IsGood (S.word_count table.now.key.shape) (S.good table.now.key.shape)) (action_of step.now seat.old.me.0) seat.old.me.0 }
     ensures seat { seat.new.table_id ≡ seat.old.table_id }
     ensures took { Took (GroundHolds S.word_count S.good table.now.key) (action_of step.now seat.old.me.0) seat.old.me seat.new.me result }
+    ensures fits { result + 1 < 2 ^ 64 }
 {
     add_by::<S, Brand>(table, seat, word, step)
 }

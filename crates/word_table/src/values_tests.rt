@@ -14,7 +14,7 @@ use std::thread::Threads;
 
 /// Any two words are good.
 #[derive(Clone, Copy)]
-struct Pair;
+pub(crate) struct Pair;
 
 impl Shape for Pair {
     ghost use Rattle.std.specs.Prelude.{⊤};
@@ -24,13 +24,18 @@ impl Shape for Pair {
     ghost good = { λ _ _. ⊤ };
 }
 
-// A desk of two words, the second of them 4, with two passes.
-fn open_pair(alloc: Global, first: u64) -> Result<(Desk<Pair>, Pass<Pair>, Pass<Pair>), OutOfMemory>
+// A desk of two words with two passes.
+pub(crate) fn open_pair(
+    alloc: Global,
+    first: u64,
+    second: u64,
+) -> Result<(Desk<Pair>, Pass<Pair>, Pass<Pair>), OutOfMemory>
     ensures words { IfOk result (λ opened. length opened.0.base ≡ 2) }
+    ensures seats { IfOk result (λ opened. opened.0.seats ≡ 2) }
     ensures zero { IfOk result (λ opened. opened.1 ≡ record { table = opened.0.table; view = opening_view opened.0.base 2 (0 ∷ []) [] }) }
     ensures one { IfOk result (λ opened. opened.2 ≡ record { table = opened.0.table; view = opening_view opened.0.base 2 (1 ∷ []) [] }) }
 {
-    let base = vec![in alloc; first, 4]?;
+    let base = vec![in alloc; first, second]?;
     let (desk, mut passes) = Desk::new(alloc, Pair, base, 2)?;
     let (Some(one), Some(zero)) = (passes.pop(), passes.pop()) else {
         unreachable!()
@@ -38,38 +43,42 @@ fn open_pair(alloc: Global, first: u64) -> Result<(Desk<Pair>, Pass<Pair>, Pass<
     Ok((desk, zero, one))
 }
 
-// Asks for the exclusive lock of word 0 until it is held.
-fn hold(desk: &Desk<Pair>, pass: &mut Pass<Pair>) -> bool
+// Asks for the exclusive lock of word a until it is held.
+pub(crate) fn hold(desk: &Desk<Pair>, pass: &mut Pass<Pair>, a: u32) -> bool
+    requires word { a < 2 }
     requires desk { pass.old.table ≡ desk.now.table }
     requires words { length pass.old.view.base ≡ 2 }
     requires fresh { (pass.old.view.phase ≡ Phase.Running) × (pass.old.view.undo ≡ []) }
     ensures desk { (pass.new.table ≡ desk.now.table) × (length pass.new.view.base ≡ 2) }
     ensures fresh { (pass.new.view.phase ≡ Phase.Running) × (pass.new.view.undo ≡ []) }
-    ensures held { IsTrue result → HasWriteGrant pass.new.view 0 }
+    ensures number { pass.new.view.who ≡ pass.old.view.who }
+    ensures held { IsTrue result → HasWriteGrant pass.new.view a }
+    ensures attempts { (pass.new.view.abandoned ≡ pass.old.view.abandoned) × (pass.new.view.trace ≡ pass.old.view.trace) }
 {
     for _ in 0..u64::MAX {
-        if let Claimed::Pending = desk.claim(pass, 0) {
+        if let Claimed::Pending = desk.claim(pass, u64::from(a)) {
             break;
         }
     }
     for _ in 0..u64::MAX {
-        let Some(other) = pass.unscanned(0) else {
+        let Some(other) = pass.unscanned(a) else {
             break;
         };
         if other == pass.who() {
             break;
         }
-        let _ = desk.scan(pass, 0, other);
+        let _ = desk.scan(pass, a, other);
     }
-    pass.has_write(0)
+    pass.has_write(a)
 }
 
 // Ends the call, where no lock is left.
-fn finish(desk: &Desk<Pair>, pass: &mut Pass<Pair>) -> bool
+pub(crate) fn finish(desk: &Desk<Pair>, pass: &mut Pass<Pair>) -> bool
     requires desk { (pass.old.table ≡ desk.now.table) × (length pass.old.view.base ≡ 2) }
     requires ended { (pass.old.view.phase ≡ Phase.Releasing) × (pass.old.view.undo ≡ []) }
     ensures desk { (pass.new.table ≡ desk.now.table) × (length pass.new.view.base ≡ 2) }
     ensures idle { IsTrue result → pass.new.view.phase ≡ Phase.Idle }
+    ensures number { pass.new.view.who ≡ pass.old.view.who }
 {
     if pass.next_claim().is_some() {
         return false;
@@ -81,22 +90,23 @@ fn finish(desk: &Desk<Pair>, pass: &mut Pass<Pair>) -> bool
     true
 }
 
-// Adds one to word 0, as a call of its own: the value before, and the entry's place.
-fn add_one(desk: &Desk<Pair>, pass: &mut Pass<Pair>) -> Option<(u64, u64)>
+// Adds to word 0, as a call of its own: the value before, and the entry's place.
+pub(crate) fn add(desk: &Desk<Pair>, pass: &mut Pass<Pair>, amount: u64) -> Option<(u64, u64)>
     requires desk { (pass.old.table ≡ desk.now.table) × (length pass.old.view.base ≡ 2) }
     requires idle { pass.old.view.phase ≡ Phase.Idle }
     ensures desk { (pass.new.table ≡ desk.now.table) × (length pass.new.view.base ≡ 2) }
     ensures idle { OnSome result (pass.new.view.phase ≡ Phase.Idle) }
+    ensures number { pass.new.view.who ≡ pass.old.view.who }
 {
     if pass.calls_left() == 0 {
         return None;
     }
     let _ = desk.begin(pass);
-    if !hold(desk, pass) {
+    if !hold(desk, pass, 0) {
         return None;
     }
     let value = desk.load(pass, 0);
-    desk.store(pass, 0, value.wrapping_add(1));
+    desk.store(pass, 0, value.wrapping_add(amount));
     let place = desk.commit(pass, true);
     desk.unclaim(pass, 0);
     if !finish(desk, pass) {
@@ -111,12 +121,13 @@ fn undo_one(desk: &Desk<Pair>, pass: &mut Pass<Pair>) -> Option<u64>
     requires idle { pass.old.view.phase ≡ Phase.Idle }
     ensures desk { (pass.new.table ≡ desk.now.table) × (length pass.new.view.base ≡ 2) }
     ensures idle { OnSome result (pass.new.view.phase ≡ Phase.Idle) }
+    ensures number { pass.new.view.who ≡ pass.old.view.who }
 {
     if pass.calls_left() == 0 {
         return None;
     }
     let _ = desk.begin(pass);
-    if !hold(desk, pass) {
+    if !hold(desk, pass, 0) {
         return None;
     }
     let value = desk.load(pass, 0);
@@ -130,12 +141,13 @@ fn undo_one(desk: &Desk<Pair>, pass: &mut Pass<Pair>) -> Option<u64>
 }
 
 // Reads word 0 under its shared lock, as a call of its own: the value, and the entry's place.
-fn read_one(desk: &Desk<Pair>, pass: &mut Pass<Pair>) -> Option<(u64, u64)>
+pub(crate) fn read_one(desk: &Desk<Pair>, pass: &mut Pass<Pair>) -> Option<(u64, u64)>
     requires desk { (pass.old.table ≡ desk.now.table) × (length pass.old.view.base ≡ 2) }
     requires idle { pass.old.view.phase ≡ Phase.Idle }
     requires undo { pass.old.view.undo ≡ [] }
     ensures desk { (pass.new.table ≡ desk.now.table) × (length pass.new.view.base ≡ 2) }
     ensures idle { OnSome result (pass.new.view.phase ≡ Phase.Idle) }
+    ensures number { pass.new.view.who ≡ pass.old.view.who }
 {
     if pass.calls_left() == 0 {
         return None;
@@ -158,8 +170,8 @@ fn read_one(desk: &Desk<Pair>, pass: &mut Pass<Pair>) -> Option<(u64, u64)>
 
 #[test]
 fn a_commit_is_seen_and_an_undone_write_is_not(rt: HostRuntime) -> Result<(), Fail> {
-    let (desk, mut zero, mut one) = open_pair(rt.alloc(), 3)?;
-    let Some(first) = add_one(&desk, &mut zero) else {
+    let (desk, mut zero, mut one) = open_pair(rt.alloc(), 3, 4)?;
+    let Some(first) = add(&desk, &mut zero, 1) else {
         panic!(rt; "the first call has its entry")
     };
     assert_eq!(rt; first, (3, 1));
@@ -171,7 +183,7 @@ fn a_commit_is_seen_and_an_undone_write_is_not(rt: HostRuntime) -> Result<(), Fa
         panic!(rt; "the third call is given up")
     };
     assert_eq!(rt; undone, 4);
-    let Some(last) = add_one(&desk, &mut one) else {
+    let Some(last) = add(&desk, &mut one, 1) else {
         panic!(rt; "the fourth call has its entry")
     };
     assert_eq!(rt; last, (4, 3));
@@ -185,7 +197,7 @@ fn count(alloc: Global, desk: &Desk<Pair>, mut pass: Pass<Pair>) -> Result<Vec<u
 {
     let mut values = Vec::with_capacity(alloc, 100)?;
     for _ in 0..100 {
-        let Some((value, _)) = add_one(desk, &mut pass) else {
+        let Some((value, _)) = add(desk, &mut pass, 1) else {
             break;
         };
         values.push(value)?;
@@ -218,7 +230,7 @@ fn count_together<R: Threads + Sync>(
 
 #[test]
 fn two_threads_count_each_number_once(rt: HostRuntime) -> Result<(), Fail> {
-    let (desk, zero, one) = open_pair(rt.alloc(), 0)?;
+    let (desk, zero, one) = open_pair(rt.alloc(), 0, 4)?;
     let (first, second) = count_together(&rt, rt.alloc(), &desk, zero, one);
     let mut values = first?;
     values.extend_from_slice(second?.as_slice())?;

@@ -5,18 +5,15 @@ use Rattle.values_rule.specs.Steps.{commit_call_action}
 use Rattle.word_table.specs.Sound.{IsSound}
 use Rattle.word_table.proofs.Committing.{commits_at, commit_legal}
 use Rattle.word_table.proofs.Taken.{taken_in, own_number, still_none}
-use Rattle.word_table.proofs.Growing.{commit_grows, found_grows}
+use Rattle.word_table.proofs.Growing.{commit_grows}
+use Rattle.history_model.specs.Views.{number}
+use Rattle.stamps_rule.proofs.Bounds.{restarts_bounded}
 use Rattle.word_table.proofs.pass.Pass.commit_call.Goals as goal
 
 pub add-requires-clause-room : goal.add-requires-clause-room
 add-requires-clause-room g c = let i = c.self.invariant in
     let few : c.self.inside.seat.me.0.seats ≤ MOST_PASSES = omega (arith, i.call_is.seats_are, i.few) in
     commit_grows (IsGood (g.S.Shape.word_count c.args.table.now.key.shape) (g.S.Shape.good c.args.table.now.key.shape)) c.self.inside.seat.me.0 c.self.inside.call.who c.args.kept i.call_is.who_is few
-
-pub returns-clause-room : goal.returns-clause-room
-returns-clause-room g c = let i = c.self.invariant in
-    let few : c.self.inside.seat.me.0.seats ≤ MOST_PASSES = omega (arith, i.call_is.seats_are, i.few) in
-    found_grows (IsGood (g.S.Shape.word_count c.args.table.now.key.shape) (g.S.Shape.good c.args.table.now.key.shape)) c.args.table.now.key.seats c.args.table.now.key.base.items c.self.inside.seat.me.0 c.add.new.seat.me.0 c.self.inside.call.who c.args.kept c.add.result i.call_is.who_is few c.add.ensures.took.0
 
 pub returns-clause-taken : goal.returns-clause-taken
 returns-clause-taken g c = let p = c.self.inside in
@@ -43,3 +40,8 @@ returns-clause-legal g c = let p = c.self.inside in let i = c.self.invariant in
       undone = c.requires.undone;
       no_cause = still_none p.seat.me.0 p.seat.table_id c.args.self.now c.self.view_is i.no_cause;
     }
+
+pub returns-clause-bounded : goal.returns-clause-bounded
+returns-clause-bounded g c = let p = c.self.inside in let t = (returns-clause-taken g c) in
+    restarts_bounded c.args.table.now.key.seats c.args.table.now.key.base.items t.words t.views t.place (number c.args.self.now.view) c.args.self.now.view t.holds.locks t.holds.stamps t.knows
+    (own_number p.call.who p.seat.me.0 p.seat.table_id c.args.self.now c.self.view_is c.self.invariant.call_is.who_is)

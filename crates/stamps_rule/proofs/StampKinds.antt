@@ -1,0 +1,282 @@
+-- The kinds of step on timestamps keep the timestamp invariant.
+use Rattle.std.proofs.Common.{◌≡◌, ◌≢◌, ℕ, suc, ◌+◌, ◌<◌, ◌≤◌, Bool, true, false, ◌&&◌, ◌⊎◌, inl, inr, ⊎_elim, List, [], ◌∷◌, ◌++◌, length, Option, Some, None, nat_lt, if◌then◌else◌, slice_index, slice_set, refl, sym, ap, ◌∙◌, subst, arith, eq-eqb, ne_eqb, get_or-set_other, get_or-set_same}
+use Rattle.std.proofs.lemmas.Bool.Decides.{leb_tells}
+use Rattle.std.proofs.lemmas.Option.{same_Some}
+use mathlib.Core.Logic.{dite}
+use native.Mathlib.Decide.{ℕ_discrete}
+use Rattle.history_model.specs.declared.entry.Entry.{Entry}
+use Rattle.history_model.specs.declared.event.Cause.{Cause}
+use Rattle.history_model.specs.declared.view.View.{View}
+use Rattle.history_model.specs.Legal.{IsIn}
+use Rattle.history_model.specs.Sets.{has, without, flag}
+use Rattle.history_model.specs.Table.{Knows, history_of, serial_word, clock_word, calls_word, stamps_word}
+use Rattle.history_model.proofs.SetLemmas.{bool_cases, differ, not_true, has-without}
+use Rattle.locks_rule.specs.Locks.{LocksHold, IsSeat}
+use Rattle.locks_rule.proofs.Counting.{calls_below-same}
+use Rattle.locks_rule.proofs.Own.{own}
+use Rattle.stamps_rule.specs.Causes.{past_causes, newest, older, listed, causes_of, pending_of, waited_of}
+use Rattle.stamps_rule.specs.Keeping.{KeepsStamps}
+use Rattle.stamps_rule.specs.Stamps.{is_idle, is_unstamped, shown_stamp, Shows, GoesAfter, AreSeatsDistinct, WasMet, StampsHold}
+use Rattle.stamps_rule.specs.Steps.{MayDrawStamp, MayAnnounceStamp, MayJudgeStamp, MayLoadSerialAtYield, MayLoadCauseStamp, draw_stamp_action, announce_stamp_action, judge_stamp_action, load_serial_at_yield_action, load_cause_stamp_action, judged, attempt_of, after_giving_way, after_waiting, after_restarting}
+use Rattle.stamps_rule.proofs.Asides.{words_unchanged, notes_same, no_due, stamps_kept, all_kept, causes_kept, causes_empty, waited_kept, earlier_kept, stands_aside}
+use Rattle.stamps_rule.proofs.CauseLists.{newest_added, older_added, newest_last, past_added, in_added, pending_running, waited_running, pending_yielding, waited_yielding, causes_past, empty_list, distinct_added}
+use Rattle.stamps_rule.proofs.Counting.{unstamped_stamped, unstamped_running}
+use Rattle.stamps_rule.proofs.Frames.{moves}
+use Rattle.stamps_rule.proofs.LocksStand.{runs, yields, yielded}
+
+hidden : (v : View) → v.announced ≡ false → shown_stamp v ≡ 0
+hidden v e = ap (λ (b : Bool). if b then v.stamp else 0) e
+
+-- who shows a number above 0 has this timestamp, and announced it
+shows : (u : View) (x : ℕ) → x ≡ shown_stamp u → 0 < x → Shows u x
+shows u x e some = ⊎_elim
+    (λ (t : u.announced ≡ true). (sym (e ∙ ap (λ (b : Bool). if b then u.stamp else 0) t), t))
+    (λ (t : u.announced ≡ false). let z = e ∙ hidden u t in absurd (omega arith))
+    (bool_cases u.announced)
+
+pub draw_stamp_stamps : (j : ℕ) → KeepsStamps (MayDrawStamp j) (draw_stamp_action j)
+draw_stamp_stamps j n base ws vs id v h q me may =
+    let o = own n base ws vs id j v h me may.who in
+    let x : ℕ = slice_index ws clock_word + 1 in
+    let w : View = record v { stamp = x } in
+    let ws' : List ℕ = slice_set ws clock_word x in
+    let here : slice_index ws' clock_word ≡ x = get_or-set_same ws clock_word x 0 (let count = h.word_count in omega arith) in
+    let unshown : v.announced ≡ false = not_true v.announced (λ t. let some = q.shown.announced_stamped id v me t in let none = may.unstamped in omega arith) in
+    let none : causes_of w ≡ [] = empty_list (causes_of v) (λ c t. let e = (q.grounds.earlier id v c me (runs v may.phase) t).1 in let zero = may.unstamped in omega arith) in
+    moves n base ws ws' vs id v w h q me record {
+      who = refl;
+      stamps = record {
+        own_word = λ l t. let seat : IsSeat vs id v l = record { knows = me; named = t } in
+            get_or-set_other ws clock_word (stamps_word n l) x 0 (λ e. omega arith) ∙ (q.shown.words_show id l v seat ∙ (hidden v unshown ∙ sym (hidden w unshown)));
+        other_word = λ l away lt. get_or-set_other ws clock_word (stamps_word n l) x 0 (λ e. omega arith);
+        idle = λ e. absurd (runs v may.phase e);
+        announced = λ t. omega arith;
+        grows = omega arith;
+        goes_on = inr (inr (omega arith, omega arith));
+        counted =
+            let sums = calls_below-same n n ws ws' (λ l lt. get_or-set_other ws clock_word (calls_word n l) x 0 (λ e. omega arith)) in
+            let before = unstamped_running v may.phase may.unstamped in
+            let after = unstamped_stamped w (omega arith) in
+            omega arith;
+      };
+      causes = causes_empty n base ws vs id v h q me w none (λ l t. q.grounds.met_were_met id l v me t) (λ c t. absurd (no_due v c may.no_cause t)) (λ busy. (j, may.who));
+    }
+
+pub announce_stamp_stamps : (j : ℕ) → KeepsStamps (MayAnnounceStamp j) (announce_stamp_action j)
+announce_stamp_stamps j n base ws vs id v h q me may =
+    let o = own n base ws vs id j v h me may.who in
+    let i : ℕ = stamps_word v.seats j in
+    let w : View = record v { announced = true } in
+    let ws' : List ℕ = slice_set ws i v.stamp in
+    let place : i ≡ stamps_word n j = ap (λ (m : ℕ). stamps_word m j) o.seats in
+    let here : slice_index ws' (stamps_word n j) ≡ v.stamp = subst (λ (k : ℕ). slice_index ws' k ≡ v.stamp) place (get_or-set_same ws i v.stamp 0 (let count = h.word_count in let below = o.below in omega arith)) in
+    moves n base ws ws' vs id v w h q me record {
+      who = refl;
+      stamps = record {
+        own_word = λ l t. subst (λ (k : ℕ). slice_index ws' (stamps_word n k) ≡ v.stamp) (sym (o.is l t)) here;
+        other_word = λ l away lt. get_or-set_other ws i (stamps_word n l) v.stamp 0 (λ e. o.away l away (omega arith));
+        idle = λ e. absurd (runs v may.phase e);
+        announced = λ t. may.stamped;
+        grows = let same = get_or-set_other ws i clock_word v.stamp 0 (λ e. omega arith) in omega arith;
+        goes_on = inr (inl (refl, λ t. refl));
+        counted =
+            let same = get_or-set_other ws i clock_word v.stamp 0 (λ e. omega arith) in
+            let sums = calls_below-same n n ws ws' (λ l lt. get_or-set_other ws i (calls_word n l) v.stamp 0 (λ e. omega arith)) in
+            let flags : flag (is_unstamped w) ≡ flag (is_unstamped v) = refl in
+            omega arith;
+      };
+      causes = all_kept n base ws vs id v h q me w record {
+        who = refl;
+        joined = refl;
+        causes = refl;
+        busy = λ busy. busy;
+        running = λ c t. absurd (no_due v c may.no_cause t);
+        notes = notes_same v w refl refl;
+      } refl refl refl;
+    }
+
+-- a seat that showed a number is a cause, or is none
+judged_cases : (i shown stamp : ℕ) → (judged i shown stamp ≡ None) ⊎ ((judged i shown stamp ≡ Some (record { seat = i; stamp = shown })) × (0 < shown) × (shown < stamp))
+judged_cases i shown stamp =
+    let found : Option Cause = Some (record { seat = i; stamp = shown }) in
+    ⊎_elim
+    (λ (a : (nat_lt 0 shown ≡ true) × (1 ≤ shown)). ⊎_elim
+    (λ (b : (nat_lt shown stamp ≡ true) × (suc shown ≤ stamp)). let low = a.1 in let high = b.1 in
+    inr (ap (λ (t : Bool). if t && nat_lt shown stamp then found else None) a.0 ∙ ap (λ (t : Bool). if t then found else None) b.0, omega arith, omega arith))
+    (λ (b : (nat_lt shown stamp ≡ false) × (stamp < suc shown)). inl (ap (λ (t : Bool). if t && nat_lt shown stamp then found else None) a.0 ∙ ap (λ (t : Bool). if t then found else None) b.0))
+    (leb_tells (suc shown) stamp))
+    (λ (a : (nat_lt 0 shown ≡ false) × (shown < 1)). inl (ap (λ (t : Bool). if t && nat_lt shown stamp then found else None) a.0))
+    (leb_tells 1 shown)
+
+module _ (n : ℕ) (base ws : List ℕ) (vs : List View) (id j i : ℕ) (v : View) (h : LocksHold n base ws vs) (q : StampsHold n ws vs) (me : Knows vs id v) (may : MayJudgeStamp j i v) where
+  abbrev found : ℕ
+  found = slice_index ws (stamps_word v.seats i)
+
+  abbrev the_cause : Cause
+  the_cause = record { seat = i; stamp = found }
+
+  abbrev finds : View
+  finds = record v { met = without i v.met; due = Some the_cause }
+
+  abbrev passes : View
+  passes = record v { met = without i v.met; due = None }
+
+  other_seat : (i < n) × (has i v.who ≡ false)
+  other_seat = h.met_are_others id i v me may.met
+
+  -- what the word found shows of the seat that was met
+  shown_there : (other : ℕ) (u : View) → IsSeat vs other u i → found ≡ shown_stamp u
+  shown_there other u s = ap (λ (m : ℕ). slice_index ws (stamps_word m i)) (own n base ws vs id j v h me may.who).seats ∙ q.shown.words_show other i u s
+
+  met_before : (l : ℕ) → has l (without i v.met) ≡ true → has l v.met ≡ true
+  met_before l t = (has-without l i v.met t).1
+
+  -- the seat was not waited for before
+  not_waited : 0 < found → found < v.stamp → (d : Cause) → IsIn d (past_causes v) → d.seat ≢ i
+  not_waited some earlier d t e =
+      let p = h.numbers_placed i other_seat.0 in
+      let s = shows p.1 found (shown_there p.0 p.1 p.2) some in
+      let a = q.waited.waited_out id p.0 v p.1 d me (subst (λ (l : List Cause). IsIn d l) (sym (waited_running v may.phase)) t) (subst (λ (l : ℕ). IsSeat vs p.0 p.1 l) (sym e) p.2) in
+      let has_stamp = s.0 in
+      ⊎_elim (λ (z : p.1.stamp ≡ 0). omega arith) (λ (z : v.stamp < p.1.stamp). omega arith) a
+
+  was_cause : (d : Cause) → IsIn d (past_causes v) → IsIn d (causes_of v)
+  was_cause d t = subst (λ (l : List Cause). IsIn d l) (sym (causes_past v may.no_cause)) t
+
+  cause_cases : (d : Cause) → IsIn d (causes_of finds) → IsIn d (past_causes v) ⊎ (the_cause ≡ d)
+  cause_cases d t = in_added (past_causes v) the_cause d t
+
+  judge_finds : 0 < found → found < v.stamp → StampsHold n (slice_set ws (stamps_word v.seats i) found) (slice_set vs id finds)
+  judge_finds some earlier = moves n base ws (slice_set ws (stamps_word v.seats i) found) vs id v finds h q me record {
+    who = refl;
+    stamps = stamps_kept n base ws vs id v h q me finds (slice_set ws (stamps_word v.seats i) found) (words_unchanged n ws (stamps_word v.seats i)) refl refl refl;
+    causes = record {
+      waited = waited_kept n base ws vs id v h q me finds refl refl;
+      pending = λ other u d s ne t.
+          let is : the_cause ≡ d = same_Some the_cause d (sym (pending_running finds may.phase) ∙ t) in
+          subst (λ (c : Cause). Shows u c.stamp ⊎ GoesAfter u v.stamp) is (inl (shows u found (shown_there other u (subst (λ (c : Cause). IsSeat vs other u c.seat) (sym is) s)) some));
+      distinct = distinct_added (past_causes v) the_cause (subst (λ (l : List Cause). AreSeatsDistinct l) (causes_past v may.no_cause) (q.seats.distinct id v me)) (not_waited some earlier);
+      earlier = λ d busy t. ⊎_elim
+          (λ z. q.grounds.earlier id v d me (runs v may.phase) (was_cause d z))
+          (λ z. subst (λ (c : Cause). (0 < c.stamp) × (c.stamp < v.stamp)) z (some, earlier)) (cause_cases d t);
+      elsewhere = λ l d single t. ⊎_elim
+          (λ z. q.grounds.elsewhere id l v d me single (was_cause d z))
+          (λ z. subst (λ (c : Cause). (c.seat < n) × (c.seat ≢ l)) z
+          (other_seat.0, λ e. differ (has i v.who) (subst (λ (k : ℕ). has k v.who ≡ true) (sym e) (own n base ws vs id l v h me single).seat.named) other_seat.1)) (cause_cases d t);
+      were_met = λ d t. ⊎_elim
+          (λ z. q.grounds.were_met id v d me (was_cause d z))
+          (λ z. subst (λ (c : Cause). WasMet v c.seat) z (q.grounds.met_were_met id i v me may.met)) (cause_cases d t);
+      met_were_met = λ l t. q.grounds.met_were_met id l v me (met_before l t);
+      running = λ d t. may.phase;
+      alone = λ busy. (j, may.who);
+      dealers = λ a b ta tb ne un. let o = own n base ws vs id j v h me may.who in absurd (ne (o.is a ta ∙ sym (o.is b tb)));
+    };
+  }
+
+  judge_passes : StampsHold n (slice_set ws (stamps_word v.seats i) found) (slice_set vs id passes)
+  judge_passes = stands_aside n base ws vs id v h q me passes (stamps_word v.seats i) found (words_unchanged n ws (stamps_word v.seats i)) record {
+    who = refl;
+    joined = refl;
+    stamp = refl;
+    announced = refl;
+    due = sym may.no_cause;
+    no_cause = may.no_cause;
+    abandoned = refl;
+    idle = refl;
+    yielding = refl;
+    notes = record { met = λ l t. inl (met_before l t); meetings = λ k l t. t };
+  }
+
+  judge_keeps : StampsHold n (slice_set ws (stamps_word v.seats i) found) (slice_set vs id (record v { met = without i v.met; due = judged i found v.stamp }))
+  judge_keeps = ⊎_elim
+      (λ t. subst (λ (due : Option Cause). StampsHold n (slice_set ws (stamps_word v.seats i) found) (slice_set vs id (record v { met = without i v.met; due = due }))) (sym t) judge_passes)
+      (λ t. subst (λ (due : Option Cause). StampsHold n (slice_set ws (stamps_word v.seats i) found) (slice_set vs id (record v { met = without i v.met; due = due }))) (sym t.0) (judge_finds t.1 t.2))
+      (judged_cases i found v.stamp)
+
+pub judge_stamp_stamps : (j i : ℕ) → KeepsStamps (MayJudgeStamp j i) (judge_stamp_action j i)
+judge_stamp_stamps j i n base ws vs id v h q me may = judge_keeps n base ws vs id j i v h q me may
+
+pub load_serial_at_yield_stamps : (j : ℕ) → KeepsStamps (MayLoadSerialAtYield j) (load_serial_at_yield_action j)
+load_serial_at_yield_stamps j n base ws vs id v h q me may =
+    let c : Cause = may.cause.0 in
+    let history : List Entry = history_of vs in
+    let w : View = after_giving_way c history v in
+    let ws' : List ℕ = slice_set ws serial_word (slice_index ws serial_word) in
+    let past : past_causes w ≡ past_causes v ++ c ∷ [] = past_added v.abandoned (attempt_of c (length history) v) in
+    let causes : causes_of w ≡ causes_of v = causes_past w refl ∙ (past ∙ ap (λ (o : Option Cause). past_causes v ++ listed o) (sym may.cause.1)) in
+    let pending : pending_of w ≡ pending_of v = ap newest past ∙ (newest_added (past_causes v) c ∙ sym (pending_running v may.phase ∙ may.cause.1)) in
+    let waited : waited_of w ≡ waited_of v = ap older past ∙ (older_added (past_causes v) c ∙ sym (waited_running v may.phase)) in
+    yielded (λ (u : View). StampsHold n ws' (slice_set vs id u)) v c may.cause.1 history
+    (moves n base ws ws' vs id v w h q me record {
+      who = refl;
+      stamps = stamps_kept n base ws vs id v h q me w ws' (words_unchanged n ws serial_word) refl refl (sym (ap is_idle may.phase));
+      causes = all_kept n base ws vs id v h q me w record {
+        who = refl;
+        joined = refl;
+        causes = causes;
+        busy = λ busy. runs v may.phase;
+        running = λ d t. absurd (no_due w d refl t);
+        notes = notes_same v w refl refl;
+      } refl pending waited;
+    })
+
+-- the cause is still there
+waits_on : (n : ℕ) (base ws : List ℕ) (vs : List View) (id i : ℕ) (v : View) → LocksHold n base ws vs → StampsHold n ws vs → Knows vs id v → v.due ≡ None
+    → StampsHold n (slice_set ws i (slice_index ws i)) (slice_set vs id (after_waiting v))
+waits_on n base ws vs id i v h q me none = stands_aside n base ws vs id v h q me (after_waiting v) i (slice_index ws i) (words_unchanged n ws i) record {
+  who = refl;
+  joined = refl;
+  stamp = refl;
+  announced = refl;
+  due = refl;
+  no_cause = none;
+  abandoned = refl;
+  idle = refl;
+  yielding = refl;
+  notes = notes_same v (after_waiting v) refl refl;
+}
+
+-- the cause is gone
+restarts : (n : ℕ) (base ws : List ℕ) (vs : List View) (id j i stamp : ℕ) (v : View) → LocksHold n base ws vs → StampsHold n ws vs → Knows vs id v → MayLoadCauseStamp j i stamp v
+    → slice_index ws (stamps_word v.seats i) ≢ stamp
+    → StampsHold n (slice_set ws (stamps_word v.seats i) (slice_index ws (stamps_word v.seats i))) (slice_set vs id (after_restarting v))
+restarts n base ws vs id j i stamp v h q me may other_stamp =
+    let o = own n base ws vs id j v h me may.who in
+    let c : Cause = record { seat = i; stamp = stamp } in
+    let w : View = after_restarting v in
+    let at : ℕ = stamps_word v.seats i in
+    let ws' : List ℕ = slice_set ws at (slice_index ws at) in
+    let place : slice_index ws at ≡ slice_index ws (stamps_word n i) = ap (λ (m : ℕ). slice_index ws (stamps_word m i)) o.seats in
+    let pending : pending_of v ≡ Some c = pending_yielding v may.phase ∙ may.last in
+    -- the seat no longer shows that timestamp
+    let after : (other : ℕ) (u : View) → IsSeat vs other u i → GoesAfter u v.stamp = λ other u s. ⊎_elim
+    (λ (t : Shows u stamp). absurd (other_stamp (place ∙ (q.shown.words_show other i u s ∙ (ap (λ (b : Bool). if b then u.stamp else 0) t.1 ∙ t.0)))))
+    (λ (t : GoesAfter u v.stamp). t)
+    (q.pending.stands id other v u c me pending s) in
+    moves n base ws ws' vs id v w h q me record {
+      who = refl;
+      stamps = stamps_kept n base ws vs id v h q me w ws' (words_unchanged n ws at) refl refl (sym (ap is_idle may.phase));
+      causes = causes_kept n base ws vs id v h q me w record {
+        who = refl;
+        joined = refl;
+        causes = refl;
+        busy = λ busy. yields v may.phase;
+        running = λ d t. refl;
+        notes = notes_same v w refl refl;
+      }
+          (λ other u d s ne t. ⊎_elim
+          (λ old. q.waited.waited_out id other v u d me (subst (λ (l : List Cause). IsIn d l) (sym (waited_yielding v may.phase)) old) s)
+          (λ is. after other u (subst (λ (e : Cause). IsSeat vs other u e.seat) (sym is) s))
+          (in_added (older (past_causes v)) c d (subst (λ (l : List Cause). IsIn d l) (newest_last (past_causes v) c may.last) t)))
+          (λ other u d s ne t. absurd (no_due v d may.no_cause t))
+          (earlier_kept n base ws vs id v h q me w refl refl (λ busy. yields v may.phase));
+    }
+
+pub load_cause_stamp_stamps : (j i stamp : ℕ) → KeepsStamps (MayLoadCauseStamp j i stamp) (load_cause_stamp_action j i stamp)
+load_cause_stamp_stamps j i stamp n base ws vs id v h q me may =
+    let at : ℕ = stamps_word v.seats i in
+    let x : ℕ = slice_index ws at in
+    let P : Bool → Type 0 = λ b. StampsHold n (slice_set ws at x) (slice_set vs id (if b then after_waiting v else after_restarting v)) in
+    dite (ℕ_discrete x stamp)
+    (λ e. subst P (sym (eq-eqb x stamp e)) (waits_on n base ws vs id at v h q me may.no_cause))
+    (λ ne. subst P (sym (ne_eqb x stamp ne)) (restarts n base ws vs id j i stamp v h q me may ne))

@@ -1,0 +1,73 @@
+-- What holds in every state of every run: of who meets whom, and of each call.
+use Rattle.std.specs.Prelude.{◌≡◌, ◌≢◌, ℕ, true, List, [], ◌∷◌, length, Some, slice_get}
+use Rattle.history_model.specs.declared.view.View.{View}
+use Rattle.history_model.specs.declared.view.Phase.TheVariants.{Idle}
+use Rattle.history_model.specs.Conflicts.{Meets, IsAt}
+use Rattle.history_model.specs.Legal.{IsPrefix, AreAttemptsLegal}
+use Rattle.history_model.specs.Locks.{lock_of_word}
+use Rattle.history_model.specs.Sets.{has}
+use Rattle.history_model.specs.Table.{TableState, Knows, history_of}
+use Rattle.locks_rule.specs.Actions.{found_by}
+use Rattle.locks_rule.specs.Locks.{AskedFor, IsSeat}
+use Rattle.stamps_rule.specs.Stamps.{AreRestartsBounded}
+use Rattle.word_table.specs.declared.step.Step.{Step}
+use Rattle.word_table.specs.Kinds.{action_of, May}
+use Rattle.word_table.specs.Runs.{IsRun}
+
+-- a state of some run of n seats that begins with the words base
+pub record IsReached (good : List ℕ → Type 0) (n : ℕ) (base : List ℕ) (state : TableState) : Type 0 where
+  pub base_good : good base
+  pub run : List TableState
+  pub runs : IsRun good n base run
+  pub at : ℕ
+  pub stands : slice_get run at ≡ Some state
+
+-- what a seat that knows the view knows once it took the step in this state
+abbrev pub view_after : Step → View → TableState → View
+view_after step view state = (action_of step view).view (history_of state.views) (found_by (action_of step view) state.words)
+
+-- in this state the seat at this place, which knows old, may take the step, and knows new then
+pub record MayReach (good : List ℕ → Type 0) (state : TableState) (place : ℕ) (step : Step) (old new : View) : Type 0 where
+  pub knows : Knows state.views place old
+  pub may : May good step old
+  pub reached : new ≡ view_after step old state
+
+-- seat i stands on lock k, and is not the one at this place
+pub record StandsElsewhere (views : List View) (place k i : ℕ) : Type 0 where
+  pub other : ℕ
+  pub view : View
+  pub elsewhere : other ≢ place
+  pub knows : Knows views other view
+  pub stands : IsAt view k i
+
+-- who meets a seat on a lock is in conflict with it: both asked for a word of this lock, and who is met stands on it
+abbrev pub MeetsInConflict : (List ℕ → Type 0) → ℕ → List ℕ → Type 0
+MeetsInConflict good n base =
+    (state : TableState) (place : ℕ) (step : Step) (old new : View) (k i : ℕ)
+    → IsReached good n base state → MayReach good state place step old new → Meets old new k i
+    → AskedFor new k × StandsElsewhere state.views place k i
+
+-- no word that the one call asked for has the lock of a word that the other asked for
+abbrev pub AsksApart : View → View → Type 0
+AsksApart v u = (a b : ℕ) → has a v.asked ≡ true → has b u.asked ≡ true → lock_of_word a ≢ lock_of_word b
+
+-- calls whose words share no lock never meet
+abbrev pub NeverMeetsApart : (List ℕ → Type 0) → ℕ → List ℕ → Type 0
+NeverMeetsApart good n base =
+    (state : TableState) (place : ℕ) (step : Step) (old new : View) (other : ℕ) (u : View) (k i : ℕ)
+    → IsReached good n base state → MayReach good state place step old new → IsSeat state.views other u i → AsksApart new u
+    → ¬ Meets old new k i
+
+-- each call restarts less often than there are seats
+abbrev pub RestartsFew : (List ℕ → Type 0) → ℕ → List ℕ → Type 0
+RestartsFew good n base =
+    (state : TableState) (place j : ℕ) (view : View)
+    → IsReached good n base state → Knows state.views place view → view.who ≡ j ∷ [] → AreRestartsBounded n j view
+
+-- each attempt of a call that gave way read one state of the committed history, of which the seat has seen a beginning
+abbrev pub ReadsOneState : (List ℕ → Type 0) → ℕ → List ℕ → Type 0
+ReadsOneState good n base =
+    (state : TableState) (place j : ℕ) (view : View)
+    → IsReached good n base state → Knows state.views place view → view.who ≡ j ∷ [] → view.phase ≢ Idle
+    → AreAttemptsLegal n base (history_of state.views) j view.stamp view.floor (length view.seen) view.abandoned
+    × IsPrefix view.seen (history_of state.views)
