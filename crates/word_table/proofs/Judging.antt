@@ -16,9 +16,11 @@ use Rattle.history_model.proofs.SetLemmas.{has-join_same}
 use Rattle.locks_rule.specs.Actions.{Action, found_by, words_after, views_after}
 use Rattle.locks_rule.specs.Locks.{IsSeat}
 use Rattle.values_rule.proofs.Counting.{history_is}
+use Rattle.stamps_rule.specs.Causes.{newest, past_causes}
 use Rattle.stamps_rule.specs.Stamps.{AreRestartsBounded}
 use Rattle.stamps_rule.proofs.Bounds.{restarts_bounded}
-use Rattle.stamps_rule.specs.Steps.{MayJudgeStamp, MayLoadSerialAtYield, judge_stamp_action, load_serial_at_yield_action, judged, after_yielding, after_giving_way}
+use Rattle.stamps_rule.proofs.CauseLists.{past_added, newest_added}
+use Rattle.stamps_rule.specs.Steps.{MayJudgeStamp, MayLoadSerialAtYield, judge_stamp_action, load_serial_at_yield_action, judged, attempt_of, after_yielding, after_giving_way}
 use Rattle.word_table.specs.declared.answer.Judged.{Judged}
 use Rattle.word_table.specs.declared.answer.Judged.TheVariants as answer
 use Rattle.word_table.specs.declared.step.Step.TheVariants.{JudgeStamp, LoadSerialAtYield}
@@ -43,9 +45,12 @@ yield_same a b e = cc
 -- where it gives way, the cause is what was shown, and that is earlier
 pub yield_due : (i shown own stamp : ℕ) → judged_of shown own ≡ answer.Yield stamp → (judged i shown own ≡ Some (record { seat = i; stamp = stamp })) × (shown ≡ stamp) × (0 < stamp) × (stamp < own)
 yield_due i shown own stamp e = ⊎_elim
-    (λ t. let is : shown ≡ stamp = yield_same shown stamp (sym (ap (λ (b : Bool). if b then answer.Yield shown else answer.Wait) t.0) ∙ e) in
-    (ap (λ (b : Bool). if b then Some (record { seat = i; stamp = shown }) else None) t.0 ∙ ap (λ (x : ℕ). Some (record { seat = i; stamp = x })) is,
-    is, subst (λ (x : ℕ). 0 < x) is t.1, subst (λ (x : ℕ). x < own) is t.2))
+    (λ t. let is : shown ≡ stamp = yield_same shown stamp (sym (ap (λ (b : Bool). if b then answer.Yield shown else answer.Wait) t.0) ∙ e) in (
+      ap (λ (b : Bool). if b then Some (record { seat = i; stamp = shown }) else None) t.0 ∙ ap (λ (x : ℕ). Some (record { seat = i; stamp = x })) is,
+      is,
+      subst (λ (x : ℕ). 0 < x) is t.1,
+      subst (λ (x : ℕ). x < own) is t.2,
+    ))
     (λ t. absurd (let z : answer.Wait ≡ answer.Yield stamp = sym (ap (λ (b : Bool). if b then answer.Yield shown else answer.Wait) t.0) ∙ e in cc))
     (shown_cases shown own)
 
@@ -159,17 +164,25 @@ module _ (good : List ℕ → Type 0) (n : ℕ) (base : List ℕ) (v : View) (i 
         (after_second.values.floor.attempts then.place (number v) w knows_second alone busy))
 
     pub judged_yields : (0 < stamp) × (stamp < v.stamp) × GaveWay good n base (record { seat = i; stamp = stamp }) v w
-    judged_yields = (due.2, due.3, record {
-      history = history_of then.views;
-      view = gave_way;
-      begins = subst (λ (l : List Entry). IsPrefix l (history_of then.views)) same_seen (then.holds.values.seen.seen_begin then.place d.between then.knows);
-      others = λ p x le at same. late p (length v.seen) le (subst (λ (l : List Entry). p < length l) same_seen (then.holds.values.calls.own_seen then.place (number v) p d.between x seat at same));
-      legal = then.holds.values.history.legal;
-      opaque = opaque;
-    })
+    judged_yields = (
+      due.2,
+      due.3,
+      record {
+        history = history_of then.views;
+        view = gave_way;
+        begins = subst (λ (l : List Entry). IsPrefix l (history_of then.views)) same_seen (then.holds.values.seen.seen_begin then.place d.between then.knows);
+        others = λ p x le at same. late p (length v.seen) le (subst (λ (l : List Entry). p < length l) same_seen (then.holds.values.calls.own_seen then.place (number v) p d.between x seat at same));
+        legal = then.holds.values.history.legal;
+        opaque = opaque;
+      },
+    )
       where
         late : (a b : ℕ) → b ≤ a → a < b → ⊥
         late a b le lt = omega arith
+
+    -- the cause is the newest
+    pub judged_cause : newest (past_causes w) ≡ Some (record { seat = i; stamp = stamp })
+    judged_cause = ap (λ (x : View). newest (past_causes x)) gave_way ∙ (ap (λ (l : List Cause). newest l) (past_added v.abandoned (attempt_of cause (length (history_of then.views)) v)) ∙ newest_added (past_causes v) cause)
 
     bounded_yield : AreRestartsBounded n (number v) w
     bounded_yield = restarts_bounded n base (words_after second then.words) views' then.place (number v) w after_second.locks after_second.stamps knows_second alone

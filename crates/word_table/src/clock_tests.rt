@@ -14,6 +14,15 @@ use io_ends::OutOfMemory;
 use std::alloc::Global;
 use std::test::Fail;
 
+// What one turn of asking for a word came to.
+#[derive(Drop)]
+enum Turn {
+    Claimed,
+    Waits,
+    // Gives way to the seat that showed this timestamp.
+    Yields(u32, u64),
+}
+
 // Draws a timestamp, where the call has none, and shows it, where it does not yet.
 fn show_stamp(desk: &Desk<Pair>, pass: &mut Pass<Pair>)
     requires desk { pass.old.table ≡ desk.now.table }
@@ -44,26 +53,29 @@ fn draw_once(desk: &Desk<Pair>, pass: &mut Pass<Pair>)
     let _ = desk.draw(pass);
 }
 
-// Claims word a. Where that meets a seat, it judges it: the seat, and what came of it.
-fn claim_or_judge(desk: &Desk<Pair>, pass: &mut Pass<Pair>, a: u64) -> Option<(u32, Judged)>
+// Claims word a, and judges the seat that it meets.
+fn claim_or_judge(desk: &Desk<Pair>, pass: &mut Pass<Pair>, a: u64) -> Turn
     requires desk { pass.old.table ≡ desk.now.table }
     requires words { (a < 2) × (length pass.old.view.base ≡ 2) }
     requires fresh { (pass.old.view.phase ≡ Phase.Running) × (pass.old.view.undo ≡ []) }
     ensures desk { (pass.new.table ≡ desk.now.table) × (length pass.new.view.base ≡ 2) }
     ensures undone { pass.new.view.undo ≡ [] }
     ensures who { pass.new.view.who ≡ pass.old.view.who }
-    ensures waits { (other : ℕ) → result ≡ Some (other, Judged.Wait)
+    ensures waits { result ≡ Turn.Waits
         → (pass.new.view.phase ≡ Phase.Running) × (pass.new.view.abandoned ≡ pass.old.view.abandoned) }
-    ensures yields { (other stamp : ℕ) → result ≡ Some (other, Judged.Yield stamp)
+    ensures yields { (other stamp : ℕ) → result ≡ Turn.Yields other stamp
         → (pass.new.view.phase ≡ Phase.Yielding) × (other < pass.new.view.seats)
         × (newest (past_causes pass.new.view) ≡ Some (record { seat = other; stamp = stamp }))
         × (length pass.new.view.abandoned ≡ length pass.old.view.abandoned + 1) }
 {
     let Claimed::Met(other) = desk.claim(pass, a) else {
-        return None;
+        return Turn::Claimed;
     };
     show_stamp(desk, pass);
-    Some((other, desk.judge(pass, other)))
+    match desk.judge(pass, other) {
+        Judged::Wait => Turn::Waits,
+        Judged::Yield(stamp) => Turn::Yields(other, stamp),
+    }
 }
 
 // Gives up a claim of an attempt that gives way, and tells whether that was the last lock.
@@ -154,10 +166,10 @@ fn want_each_others(
     if !hold(desk, one, 1) {
         return None;
     }
-    let (_, Judged::Wait) = claim_or_judge(desk, zero, 1)? else {
+    let Turn::Waits = claim_or_judge(desk, zero, 1) else {
         return None;
     };
-    let (other, Judged::Yield(stamp)) = claim_or_judge(desk, one, 0)? else {
+    let Turn::Yields(other, stamp) = claim_or_judge(desk, one, 0) else {
         return None;
     };
     Some((other, stamp))
@@ -202,5 +214,122 @@ fn the_later_call_gives_way_and_the_earlier_waits(rt: HostRuntime) -> Result<(),
     };
     assert_eq!(rt; places, (1, 2));
     assert_eq!(rt; one.stamp(), 2);
+    Ok(())
+}
+
+// A desk of two words with three passes.
+fn open_three(
+    alloc: Global,
+) -> Result<(Desk<Pair>, Pass<Pair>, Pass<Pair>, Pass<Pair>), OutOfMemory>
+    ensures words { IfOk result (λ opened. length opened.0.base ≡ 2) }
+    ensures zero { IfOk result (λ opened. opened.1 ≡ record { table = opened.0.table; view = opening_view opened.0.base 3 (0 ∷ []) [] }) }
+    ensures one { IfOk result (λ opened. opened.2 ≡ record { table = opened.0.table; view = opening_view opened.0.base 3 (1 ∷ []) [] }) }
+    ensures two { IfOk result (λ opened. opened.3 ≡ record { table = opened.0.table; view = opening_view opened.0.base 3 (2 ∷ []) [] }) }
+{
+    let base = vec![in alloc; 0u64, 0]?;
+    let (desk, mut passes) = Desk::new(alloc, Pair, base, 3)?;
+    let (Some(two), Some(one), Some(zero)) = (passes.pop(), passes.pop(), passes.pop()) else {
+        unreachable!()
+    };
+    Ok((desk, zero, one, two))
+}
+
+// Two calls meet a third, which holds word 0, and so have earlier timestamps.
+fn meet_third(
+    desk: &Desk<Pair>,
+    zero: &mut Pass<Pair>,
+    one: &mut Pass<Pair>,
+    two: &mut Pass<Pair>,
+) -> bool
+    requires words { length desk.now.base ≡ 2 }
+    requires zero { zero.old ≡ record { table = desk.now.table; view = opening_view desk.now.base 3 (0 ∷ []) [] } }
+    requires one { one.old ≡ record { table = desk.now.table; view = opening_view desk.now.base 3 (1 ∷ []) [] } }
+    requires two { two.old ≡ record { table = desk.now.table; view = opening_view desk.now.base 3 (2 ∷ []) [] } }
+    ensures zero { (zero.new.table ≡ desk.now.table) × (length zero.new.view.base ≡ 2) }
+    ensures one { (one.new.table ≡ desk.now.table) × (length one.new.view.base ≡ 2) }
+    ensures two { (two.new.table ≡ desk.now.table) × (length two.new.view.base ≡ 2) }
+    ensures run { IsTrue result → (zero.new.view.phase ≡ Phase.Running) × (one.new.view.phase ≡ Phase.Running) × (two.new.view.phase ≡ Phase.Running) }
+    ensures undone { (zero.new.view.undo ≡ []) × (one.new.view.undo ≡ []) × (two.new.view.undo ≡ []) }
+    ensures fresh { two.new.view.abandoned ≡ [] }
+{
+    let _ = desk.begin(zero);
+    let _ = desk.begin(one);
+    let _ = desk.begin(two);
+    if !hold(desk, two, 0) {
+        return false;
+    }
+    let Turn::Waits = claim_or_judge(desk, zero, 0) else {
+        return false;
+    };
+    matches!(claim_or_judge(desk, one, 0), Turn::Waits)
+}
+
+// The first call holds word 1. The third wants it, gives way and releases all, and waits until the first is gone.
+fn give_way_to(
+    desk: &Desk<Pair>,
+    first: &mut Pass<Pair>,
+    third: &mut Pass<Pair>,
+) -> Option<(u32, u64)>
+    requires first { (first.old.table ≡ desk.now.table) × (length first.old.view.base ≡ 2) }
+    requires third { (third.old.table ≡ desk.now.table) × (length third.old.view.base ≡ 2) }
+    requires run { (first.old.view.phase ≡ Phase.Running) × (third.old.view.phase ≡ Phase.Running) }
+    requires undone { (first.old.view.undo ≡ []) × (third.old.view.undo ≡ []) }
+    ensures third { (third.new.table ≡ desk.now.table) × (length third.new.view.base ≡ 2) }
+    ensures run { OnSome result (third.new.view.phase ≡ Phase.Yielding) }
+    ensures undone { third.new.view.undo ≡ [] }
+    ensures cause { IfSome result (λ cause. (cause.0 < third.new.view.seats)
+        × (newest (past_causes third.new.view) ≡ Some (record { seat = cause.0; stamp = cause.1 }))) }
+    ensures free { OnSome result (((k : ℕ) → ¬ HasClaim third.new.view k) × ((k : ℕ) → ¬ HasBit third.new.view k)) }
+    ensures more { OnSome result (length third.new.view.abandoned ≡ length third.old.view.abandoned + 1) }
+{
+    if !hold(desk, first, 1) {
+        return None;
+    }
+    let Turn::Yields(other, stamp) = claim_or_judge(desk, third, 1) else {
+        return None;
+    };
+    if !release(desk, third) {
+        return None;
+    }
+    take_and_end(desk, first, 1)?;
+    Some((other, stamp))
+}
+
+// The third call gives way to the first, and then to the second, and then has its entry: the causes and the place.
+fn give_way_twice(
+    desk: &Desk<Pair>,
+    zero: &mut Pass<Pair>,
+    one: &mut Pass<Pair>,
+    two: &mut Pass<Pair>,
+) -> Option<((u32, u64), (u32, u64), u64)>
+    requires zero { (zero.old.table ≡ desk.now.table) × (length zero.old.view.base ≡ 2) }
+    requires one { (one.old.table ≡ desk.now.table) × (length one.old.view.base ≡ 2) }
+    requires two { (two.old.table ≡ desk.now.table) × (length two.old.view.base ≡ 2) }
+    requires run { (zero.old.view.phase ≡ Phase.Running) × (one.old.view.phase ≡ Phase.Running) × (two.old.view.phase ≡ Phase.Running) }
+    requires undone { (zero.old.view.undo ≡ []) × (one.old.view.undo ≡ []) × (two.old.view.undo ≡ []) }
+    requires fresh { two.old.view.abandoned ≡ [] }
+    ensures entry { OnSome result ((earlier : List Entry) × (entry : Entry)
+        × (two.new.view.seen ≡ earlier ++ entry ∷ []) × (length entry.abandoned ≡ 2)) }
+{
+    let first = give_way_to(desk, zero, two)?;
+    if !desk.gone(two, first.0, first.1) {
+        return None;
+    }
+    let second = give_way_to(desk, one, two)?;
+    let place = commit_again(desk, two, second.0, second.1, 2)?;
+    Some((first, second, place))
+}
+
+#[test]
+fn a_call_restarts_once_less_than_there_are_passes(rt: HostRuntime) -> Result<(), Fail> {
+    let (desk, mut zero, mut one, mut two) = open_three(rt.alloc())?;
+    if !meet_third(&desk, &mut zero, &mut one, &mut two) {
+        panic!(rt; "two calls wait for the third")
+    }
+    let Some(ended) = give_way_twice(&desk, &mut zero, &mut one, &mut two) else {
+        panic!(rt; "the third call has its entry")
+    };
+    assert_eq!(rt; ended, ((0, 1), (1, 2), 3));
+    assert_eq!(rt; two.stamp(), 3);
     Ok(())
 }

@@ -364,6 +364,8 @@ impl<S: Shape> Desk<S> {
             → (0 < stamp) × (stamp < pass.old.view.stamp)
             × GaveWay (IsGood (S.word_count self.now.shape) (S.good self.now.shape)) self.now.seats self.now.base
             (record { seat = other; stamp = stamp }) pass.old.view pass.new.view }
+        ensures cause { (stamp : ℕ) → result ≡ Judged.Yield stamp
+            → newest (past_causes pass.new.view) ≡ Some (record { seat = other; stamp = stamp }) }
         ensures bounded { AreRestartsBounded self.now.seats (number pass.old.view) pass.new.view }
     {
         pass.judge_stamp(&self.table.shared, other)

@@ -31,8 +31,8 @@ ghost use Rattle.word_table.specs.Unscanned.{IsUnscanned};
 use crate::answer::{Judged, Scanned, Shared, is_unclaimed, judged_by, scanned_by, shared_by};
 use crate::copies::{CallCopy, LockCopy};
 use crate::layout::{
-    PLACE_OF_CLOCK, PLACE_OF_SERIAL, place_of_bit, place_of_calls, place_of_own_bit, place_of_stamp,
-    place_of_value, place_of_writer,
+    PLACE_OF_CLOCK, PLACE_OF_SERIAL, place_of_bit, place_of_calls, place_of_own_bit,
+    place_of_stamp, place_of_value, place_of_writer,
 };
 use crate::limits::{LAST_CALL, MOST_PASSES, MOST_WORDS};
 use crate::notes::{GivesNote, MeetsNote, Note};
@@ -715,7 +715,7 @@ impl<S: Shape> Pass<S> {
             },
         );
         self.call.stamp = found + 1;
-        self.call.stamp
+        found + 1
     }
 
     // The store of the timestamp to the own STAMPS word.
@@ -730,10 +730,11 @@ impl<S: Shape> Pass<S> {
             (announce_stamp_action (number self.old.view) self.old.view) self.old.view found self.new.view }
     {
         self.call.announced = true;
+        let own_word = place_of_stamp(self.call.seats, self.call.who);
         step::store(
             table,
             &mut self.seat,
-            place_of_stamp(self.call.seats, self.call.who),
+            own_word,
             self.call.stamp,
             &Step::AnnounceStamp {
                 seat: self.call.who,

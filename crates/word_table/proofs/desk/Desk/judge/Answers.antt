@@ -5,7 +5,7 @@ use Rattle.stamps_rule.specs.Stamps.{AreRestartsBounded}
 use Rattle.stamps_rule.specs.Steps.{MayJudgeStamp}
 use Rattle.word_table.specs.Calls.{GaveWay}
 use Rattle.word_table.specs.Desks.{DeskView}
-use Rattle.word_table.proofs.Judging.{judged_yields, judged_bounded}
+use Rattle.word_table.proofs.Judging.{judged_yields, judged_bounded, judged_cause}
 use Rattle.word_table.proofs.desk.Desk.judge.Given.{Over}
 use Rattle.word_table.proofs.desk.Desk.judge.Goals as goal
 
@@ -22,3 +22,7 @@ pub returns-clause-bounded : goal.returns-clause-bounded
 returns-clause-bounded g c = let t = c.self.inside.table.shared in let v = c.args.pass.now.view in
     subst (λ (d : DeskView _). AreRestartsBounded d.seats (number v) c.judge_stamp.new.self.view) c.self.view_is
     (judged_bounded (IsGood (g.S.Shape.word_count t.key.shape) (g.S.Shape.good t.key.shape)) t.key.seats t.key.base.items v c.args.other c.judge_stamp.result c.judge_stamp.new.self.view c.judge_stamp.ensures.judged (may g c))
+
+pub returns-clause-cause : goal.returns-clause-cause
+returns-clause-cause g c stamp e = let t = c.self.inside.table.shared in
+    judged_cause (IsGood (g.S.Shape.word_count t.key.shape) (g.S.Shape.good t.key.shape)) t.key.seats t.key.base.items c.args.pass.now.view c.args.other c.judge_stamp.result c.judge_stamp.new.self.view c.judge_stamp.ensures.judged (may g c) stamp e
