@@ -1,6 +1,6 @@
 -- The counter of entries has room for one more, and so has the clock: there are no more entries, and no more timestamps,
 -- than calls that were begun.
-use Rattle.std.proofs.Common.{◌≡◌, ℕ, zero, suc, ◌+◌, ◌*◌, ◌^◌, ◌<◌, ◌≤◌, Bool, List, [], ◌∷◌, slice_index, subst, arith}
+use Rattle.std.proofs.Common.{◌≡◌, ℕ, zero, suc, ◌*◌, ◌^◌, ◌<◌, ◌≤◌, Bool, List, [], ◌∷◌, slice_index, arith}
 use Rattle.history_model.specs.declared.view.View.{View}
 use Rattle.history_model.specs.Counts.{calls_below}
 use Rattle.history_model.specs.Table.{calls_word}
@@ -9,7 +9,6 @@ use Rattle.stamps_rule.specs.Steps.{draw_stamp_action}
 use Rattle.locks_rule.proofs.Own.{own}
 use Rattle.word_table.specs.declared.limits.TheConstants.{MOST_PASSES}
 use Rattle.word_table.specs.Kinds.{Grows}
-use Rattle.word_table.specs.Sound.{IsSound}
 
 calls_small : (n m : ℕ) (ws : List ℕ) → ((j : ℕ) → j < m → slice_index ws (calls_word n j) < 2 ^ 32) → calls_below n m ws ≤ m * 2 ^ 32
 unfolding calls_below

@@ -1,13 +1,12 @@
 -- Each atomic operation may be any kind of step that fits it.
-use Rattle.std.proofs.Common.{◌≡◌, ◌≢◌, ℕ, zero, suc, ◌+◌, ◌*◌, ◌≤◌, ◌⊎◌, inl, inr, ⊎_elim, ◌%◌, ◌^◌, ◌<◌, Bool, true, false, List, [], ◌∷◌, slice_index, slice_set, refl, sym, ap, ◌∙◌, subst, arith, get_or-set_other, ◌==◌, if◌then◌else◌}
+use Rattle.std.proofs.Common.{◌≡◌, ℕ, ◌+◌, ◌%◌, ◌^◌, ◌<◌, Bool, true, false, List, [], slice_index, slice_set, refl, sym, ap, ◌∙◌, subst, ◌==◌, if◌then◌else◌}
 use Rattle.std.proofs.Math.Nat.{mod-eq_of_lt}
 use prog.Atomic.{either}
 use Rattle.atomic_table.specs.Table.{State, Me, Act, keeps, Allows}
 use Rattle.history_model.specs.declared.entry.Entry.{Entry}
 use Rattle.history_model.specs.declared.view.View.{View}
-use Rattle.history_model.specs.Table.{Knows, history_of, clock_word, stamps_word, row_word, writer_word, value_word}
-use Rattle.locks_rule.specs.Actions.{Action, Keeps, found_by, words_after, views_after}
-use Rattle.locks_rule.specs.Locks.{LocksHold}
+use Rattle.history_model.specs.Table.{Knows, history_of}
+use Rattle.locks_rule.specs.Actions.{Action, found_by, views_after}
 use Rattle.word_table.specs.declared.step.Step.{Step}
 use Rattle.word_table.specs.Kinds.{action_of, May, Stores, Grows, Took}
 use Rattle.word_table.specs.Sound.{IsSound}

@@ -17,7 +17,7 @@ use Rattle.history_model.specs.Views.{number, HasBit, HasReadGrant, HasClaim, Ha
 use Rattle.locks_rule.specs.Actions.{Action}
 use Rattle.locks_rule.specs.Steps.{is_free, set_read_bit_action, load_writer_action, claim_writer_action, scan_row_action}
 use Rattle.values_rule.specs.Steps.{entry_of}
-use Rattle.stamps_rule.specs.Steps.{judge_stamp_action, load_serial_at_yield_action, load_cause_stamp_action, after_giving_way}
+use Rattle.stamps_rule.specs.Steps.{judge_stamp_action, load_serial_at_yield_action, after_giving_way}
 use Rattle.word_table.specs.declared.answer.Shared.{Shared}
 use Rattle.word_table.specs.declared.answer.Shared.TheVariants as shared
 use Rattle.word_table.specs.declared.answer.Claimed.{Claimed}

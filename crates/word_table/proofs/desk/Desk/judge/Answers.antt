@@ -1,4 +1,4 @@
-use Rattle.std.proofs.Common.{◌≡◌, ◌<◌, ℕ, subst}
+use Rattle.std.proofs.Common.{◌<◌, subst}
 use Rattle.history_model.specs.Fitting.{IsGood}
 use Rattle.history_model.specs.Views.{number}
 use Rattle.stamps_rule.specs.Stamps.{AreRestartsBounded}

@@ -1,9 +1,6 @@
-use Rattle.std.proofs.Common.{◌≡◌, ℕ, refl, sym, ap, subst, ◌∙◌}
-use Rattle.history_model.specs.Fitting.{IsGood}
-use Rattle.stamps_rule.specs.Steps.{judge_stamp_action, load_serial_at_yield_action}
+use Rattle.std.proofs.Common.{ℕ, sym, ap, ◌∙◌}
 use Rattle.word_table.specs.Calls.{judged_of}
 use Rattle.word_table.specs.Copies.{PassView}
-use Rattle.word_table.specs.Sound.{IsSound}
 use Rattle.word_table.proofs.Judging.{may_yield}
 use Rattle.word_table.proofs.Taken.{own_number, still_none}
 use Rattle.word_table.proofs.pass.Pass.judge_stamp.Goals as goal
