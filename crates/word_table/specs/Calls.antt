@@ -145,6 +145,9 @@ pub record JudgedBy (sound : List ℕ → List View → Type 0) (v : View) (i : 
   pub between : View
   pub taken : TakenIn sound (judge_stamp_action (number v) i v) v found between
   pub answer : r ≡ judged_of found v.stamp
+  -- it gives way exactly where the timestamp found is above 0 and below the call's own
+  pub yield_earlier : (stamp : ℕ) → r ≡ judged.Yield stamp → (found ≡ stamp) × (0 < stamp) × (stamp < v.stamp)
+  pub earlier_yield : 0 < found → found < v.stamp → r ≡ judged.Yield found
   pub waits : r ≡ judged.Wait → w ≡ between
   pub yields : (stamp : ℕ) → r ≡ judged.Yield stamp
       → (seen : ℕ) × TakenIn sound (load_serial_at_yield_action (number v) between) between seen w
