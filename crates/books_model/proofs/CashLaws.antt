@@ -9,8 +9,9 @@ use Rattle.std.proofs.lemmas.Map.Views.{tells_apart}
 use Rattle.books_model.specs.declared.limits.TheConstants.{GREATEST_CASH, GREATEST_QUANTITY}
 use Rattle.books_model.specs.declared.script.Op.TheVariants as op
 use Rattle.books_model.specs.declared.reply.Value.{Value}
+use Rattle.books_model.specs.declared.reply.Value.TheVariants as value
 use Rattle.books_model.specs.Books.{ClearingBooks, cash_of, position_of, price_of, put_cash}
-use Rattle.books_model.specs.Interpreter.{is_account, is_full, put_position, step_of, trade_of}
+use Rattle.books_model.specs.Interpreter.{is_account, is_full, put_position, step_of}
 use Rattle.books_model.specs.Laws.{all_cash, all_held}
 use Rattle.books_model.proofs.Comparing.{enough, not_apart}
 use Rattle.books_model.proofs.Maps.{positions_total, exact_positions}
@@ -58,16 +59,22 @@ moved books a b x = choice _ (a == b) _ _ (λ _. declines _ _) (λ apart. choice
 
 -- what holds of each trade that is done, from what is tested before it
 pub traded : (C : Value → ClearingBooks → Type 0) (books : ClearingBooks) (a b i q : ℕ)
-    → ((a == b) ≡ false → q ≤ position_of books b i → WhereDone C (trade_of books (put_position books b i (position_of books b i - q)) a b i q (q * price_of books i)))
+    → ((a == b) ≡ false → q ≤ position_of books b i → q * price_of books i ≤ cash_of books a
+    → C value.Done (put_cash (put_cash (put_position (put_position books b i (position_of books b i - q)) a i (position_of books a i + q)) a (cash_of books a - q * price_of books i)) b (cash_of books b + q * price_of books i)))
     → WhereDone C (step_of (op.Trade a b i q) books)
-traded C books a b i q h = choice C (a == b) _ _ (λ _. declines _ _) (λ apart. choice C (not (is_account books a && is_account books b)) _ _ (λ _. declines _ _) (λ _. choice C (not (map.contains_key books.prices i)) _ _ (λ _. declines _ _) (λ _. choice C (nat_lt (position_of books b i) q) _ _ (λ _. declines _ _) (λ test. h apart (enough (position_of books b i) q test)))))
+traded C books a b i q h =
+    choice C (a == b) _ _ (λ _. declines _ _) (λ apart. choice C (not (is_account books a && is_account books b)) _ _ (λ _. declines _ _) (λ _.
+    choice C (not (map.contains_key books.prices i)) _ _ (λ _. declines _ _) (λ _. choice C (nat_lt (position_of books b i) q) _ _ (λ _. declines _ _) (λ sells.
+    choice C (nat_lt (cash_of books a) (q * price_of books i)) _ _ (λ _. declines _ _) (λ pays.
+    choice C (nat_lt GREATEST_CASH (cash_of books b + q * price_of books i) || nat_lt GREATEST_QUANTITY (position_of books a i + q)) _ _ (λ _. declines _ _) (λ _.
+    choice C (not (map.contains_key books.positions (a, i)) && is_full (put_position books b i (position_of books b i - q))) _ _ (λ _. finds_no_block _) (λ _.
+    gives _ _ _ (h apart (enough (position_of books b i) q sells) (enough (cash_of books a) (q * price_of books i) pays)))))))))
 
 -- a trade keeps all cash
 pub traded_cash : (books : ClearingBooks) (a b i q : ℕ) → WhereDone (λ _ after. all_cash after ≡ all_cash books) (step_of (op.Trade a b i q) books)
-traded_cash books a b i q = traded _ books a b i q (λ apart _.
-    let cost = q * price_of books i in
+traded_cash books a b i q = traded _ books a b i q (λ apart _ pays.
     let exchanged = put_position (put_position books b i (position_of books b i - q)) a i (position_of books a i + q) in
-    choice _ (nat_lt (cash_of books a) (q * price_of books i)) _ _ (λ _. declines _ _) (λ test. choice _ (nat_lt GREATEST_CASH (cash_of books b + q * price_of books i) || nat_lt GREATEST_QUANTITY (position_of books a i + q)) _ _ (λ _. declines _ _) (λ _. choice _ (not (map.contains_key books.positions (a, i)) && is_full (put_position books b i (position_of books b i - q))) _ _ (λ _. finds_no_block _) (λ _. gives _ _ _ (given exchanged a b cost apart (enough (cash_of books a) cost test))))))
+    given exchanged a b (q * price_of books i) apart pays)
 
 -- what is held of an instrument, where one account holds another quantity
 all_held-put_position : (books : ClearingBooks) (a i quantity j : ℕ) → all_held (put_position books a i quantity) j + cond (i == j) (position_of books a i) 0 ≡ all_held books j + cond (i == j) quantity 0
@@ -92,12 +99,12 @@ all_held-put_position books a i quantity j =
 
 -- a trade keeps what is held of each instrument
 pub traded_quantities : (books : ClearingBooks) (a b i q j : ℕ) → WhereDone (λ _ after. all_held after j ≡ all_held books j) (step_of (op.Trade a b i q) books)
-traded_quantities books a b i q j = traded _ books a b i q (λ apart fits.
+traded_quantities books a b i q j = traded _ books a b i q (λ apart fits _.
     let lowered = put_position books b i (position_of books b i - q) in
     let sold = all_held-put_position books b i (position_of books b i - q) j in
     let bought = all_held-put_position lowered a i (position_of books a i + q) j in
     let same : position_of lowered a i ≡ position_of books a i = ap (λ x. unwrap_or x 0) (put_position-apart books a b i (position_of books b i - q) (λ e. not_apart a b e apart)) in
-    choice _ (nat_lt (cash_of books a) (q * price_of books i)) _ _ (λ _. declines _ _) (λ _. choice _ (nat_lt GREATEST_CASH (cash_of books b + q * price_of books i) || nat_lt GREATEST_QUANTITY (position_of books a i + q)) _ _ (λ _. declines _ _) (λ _. choice _ (not (map.contains_key books.positions (a, i)) && is_full (put_position books b i (position_of books b i - q))) _ _ (λ _. finds_no_block _) (λ _. gives _ _ _ (in_all (i == j) (position_of books a i) (position_of books b i) q (all_held books j) (all_held lowered j) _ fits sold (ap (λ n. all_held (put_position lowered a i (position_of books a i + q)) j + cond (i == j) n 0) (sym same) ∙ bought))))))
+    in_all (i == j) (position_of books a i) (position_of books b i) q (all_held books j) (all_held lowered j) _ fits sold (ap (λ n. all_held (put_position lowered a i (position_of books a i + q)) j + cond (i == j) n 0) (sym same) ∙ bought))
   where
     in_all : (t : Bool) (pa pb q before lowered after : ℕ) → q ≤ pb → lowered + cond t pb 0 ≡ before + cond t (pb - q) 0 → after + cond t pa 0 ≡ lowered + cond t (pa + q) 0 → after ≡ before
     in_all true pa pb q before lowered after fits sold bought = omega arith

@@ -1,13 +1,13 @@
 -- Margin calls are taken in the order in which they were queued.
-use Rattle.std.proofs.Common.{◌≡◌, ℕ, ◌+◌, ◌-◌, ◌*◌, cond, not, ◌&&◌, ◌||◌, ◌==◌, nat_lt, List, [], ◌∷◌, ◌++◌, length, refl, sym, ap, ◌∙◌, append-nil, append_assoc}
+use Rattle.std.proofs.Common.{◌≡◌, ℕ, ◌+◌, cond, not, ◌&&◌, ◌==◌, nat_lt, List, [], ◌∷◌, ◌++◌, length, refl, sym, ap, ◌∙◌, append-nil, append_assoc}
 use Rattle.std.specs.List.{flat_map}
 use Rattle.std.specs.FinMap as map
-use Rattle.books_model.specs.declared.limits.TheConstants.{GREATEST_CASH, GREATEST_QUANTITY}
+use Rattle.books_model.specs.declared.limits.TheConstants.{GREATEST_CASH}
 use Rattle.books_model.specs.declared.script.Op.{Op}
 use Rattle.books_model.specs.declared.script.Op.TheVariants as op
 use Rattle.books_model.specs.declared.reply.Value.{Value}
-use Rattle.books_model.specs.Books.{ClearingBooks, cash_of, position_of, price_of}
-use Rattle.books_model.specs.Interpreter.{holds_any, is_account, is_full, margin_of, next_of, put_position, shortfall_of, run_from, step_of}
+use Rattle.books_model.specs.Books.{ClearingBooks, cash_of}
+use Rattle.books_model.specs.Interpreter.{holds_any, is_account, is_full, margin_of, next_of, shortfall_of, run_from, step_of}
 use Rattle.books_model.specs.Laws.{queued_by, queued, taken_by}
 use Rattle.books_model.proofs.CashLaws.{traded}
 use Rattle.books_model.proofs.Outcomes.{WhereDone, WhereEnds, choice, gives, declines, finds_no_block, step_first}
@@ -24,8 +24,8 @@ next_in_order books (call ∷ calls) is = gives _ _ _ (append-nil books.calls �
 -- a shortfall joins the back
 margin_in_order : (books : ClearingBooks) (a m shortfall : ℕ) → WhereDone (InOrder (op.Margin a m) books) (margin_of books a shortfall)
 margin_in_order books a m shortfall =
-    choice _ (shortfall == 0) _ _ (λ _. gives _ _ _ (append-nil books.calls)) (λ some. choice _ (length books.calls == books.ring) _ _ (λ _. declines _ _) (λ _.
-    gives _ _ _ (ap (λ t. books.calls ++ cond t [] ((a, shortfall) ∷ [])) some)))
+    choice _ (shortfall == 0) _ _ (λ _. gives _ _ _ (append-nil books.calls)) (λ some.
+    gives _ _ _ (ap (λ t. books.calls ++ cond t [] ((a, shortfall) ∷ [])) some))
 
 -- each operation keeps the order
 step_in_order : (o : Op) (books : ClearingBooks) → WhereDone (InOrder o books) (step_of o books)
@@ -40,11 +40,10 @@ step_in_order (op.Move a b x) books =
     choice _ (a == b) _ _ (λ _. declines _ _) (λ _. choice _ (not (is_account books a && is_account books b)) _ _ (λ _. declines _ _) (λ _.
     choice _ (nat_lt (cash_of books a) x) _ _ (λ _. declines _ _) (λ _. choice _ (nat_lt GREATEST_CASH (cash_of books b + x)) _ _ (λ _. declines _ _) (λ _. gives _ _ _ (append-nil books.calls)))))
 step_in_order (op.Price i p) books = choice _ (not (map.contains_key books.prices i) && is_full books) _ _ (λ _. finds_no_block _) (λ _. gives _ _ _ (append-nil books.calls))
-step_in_order (op.Trade a b i q) books = traded _ books a b i q (λ _ _.
-    choice _ (nat_lt (cash_of books a) (q * price_of books i)) _ _ (λ _. declines _ _) (λ _.
-    choice _ (nat_lt GREATEST_CASH (cash_of books b + q * price_of books i) || nat_lt GREATEST_QUANTITY (position_of books a i + q)) _ _ (λ _. declines _ _) (λ _.
-    choice _ (not (map.contains_key books.positions (a, i)) && is_full (put_position books b i (position_of books b i - q))) _ _ (λ _. finds_no_block _) (λ _. gives _ _ _ (append-nil books.calls)))))
-step_in_order (op.Margin a m) books = choice _ (not (is_account books a)) _ _ (λ _. declines _ _) (λ _. margin_in_order books a m (shortfall_of books a m))
+step_in_order (op.Trade a b i q) books = traded _ books a b i q (λ _ _ _. append-nil books.calls)
+step_in_order (op.Margin a m) books =
+    choice _ (not (is_account books a)) _ _ (λ _. declines _ _) (λ _.
+    choice _ (not (shortfall_of books a m == 0) && (length books.calls == books.ring)) _ _ (λ _. declines _ _) (λ _. margin_in_order books a m (shortfall_of books a m)))
 step_in_order op.Next books = next_in_order books books.calls refl
 step_in_order (op.Show a) books = choice _ (not (is_account books a)) _ _ (λ _. declines _ _) (λ _. gives _ _ _ (append-nil books.calls))
 step_in_order (op.Sum a b) books = gives _ _ _ (append-nil books.calls)

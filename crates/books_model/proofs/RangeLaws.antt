@@ -51,22 +51,21 @@ positioned books a i quantity h account price fits room = elim (quantity == 0) a
 
 -- books stay in range after a trade
 exchanged : (books : ClearingBooks) (a b i q : ℕ) → AreInRange books → 1 ≤ q → (a == b) ≡ false → IsSome (map.get books.accounts a) → IsSome (map.get books.accounts b) → IsSome (map.get books.prices i) → q ≤ position_of books b i
+    → (nat_lt GREATEST_CASH (cash_of books b + q * price_of books i) || nat_lt GREATEST_QUANTITY (position_of books a i + q)) ≡ false
     → WhereDone (λ _ after. Stays books after) (trade_of books (put_position books b i (position_of books b i - q)) a b i q (q * price_of books i))
-exchanged books a b i q h some apart buyer seller price sells =
+exchanged books a b i q h some apart buyer seller price sells limit =
     let cost = q * price_of books i in
     let lowered = put_position books b i (position_of books b i - q) in
     let fits = held_most books b i h in
     let low : AreInRange lowered = positioned books b i (position_of books b i - q) h seller price (omega (arith, fits)) (λ none. let zero : position_of books b i ≡ 0 = ap (λ x. unwrap_or x 0) none in absurd (omega (arith, zero, sells, some))) in
     let same = put_position-apart books a b i (position_of books b i - q) (λ e. not_apart a b e apart) in
-    choice _ (nat_lt (cash_of books a) cost) _ _ (λ _. declines _ _) (λ pays.
-    choice _ (nat_lt GREATEST_CASH (cash_of books b + cost) || nat_lt GREATEST_QUANTITY (position_of books a i + q)) _ _ (λ _. declines _ _) (λ limit.
     choice _ (not (map.contains_key books.positions (a, i)) && is_full lowered) _ _ (λ _. finds_no_block _) (λ block.
     let most = or_parts (nat_lt GREATEST_CASH (cash_of books b + cost)) (nat_lt GREATEST_QUANTITY (position_of books a i + q)) limit in
     let both : AreInRange (put_position lowered a i (position_of books a i + q)) =
     positioned lowered a i (position_of books a i + q) low buyer price (enough GREATEST_QUANTITY (position_of books a i + q) most.1) (λ none. room_left lowered low (full (map.get books.positions (a, i)) (is_full lowered) (sym same ∙ none) block)) in
     let paid = change-in_range (put_position lowered a i (position_of books a i + q)) a (cash_of books a - cost) both buyer (omega (arith, cash_most books a h)) in
     let taken = change-in_range (put_cash (put_position lowered a i (position_of books a i + q)) a (cash_of books a - cost)) b (cash_of books b + cost) paid (stays_after_insert nat_cmp_total books.accounts a b (cash_of books a - cost) seller) (enough GREATEST_CASH (cash_of books b + cost) most.0) in
-    gives _ _ _ (taken, refl))))
+    gives _ _ _ (taken, refl))
   where
     or_parts : (s t : Bool) → (s || t) ≡ false → (s ≡ false) × (t ≡ false)
     or_parts true t e = absurd (cc)
@@ -100,11 +99,11 @@ next_stays books [] is h = gives _ _ _ (h, refl)
 next_stays books (call ∷ calls) is h = gives _ _ _ (subst AreInRange (ap (λ cs. record books { calls = drop 1 cs }) is) (taken-in_range books h), refl)
 
 -- a margin call is queued, or none
-margin_stays : (books : ClearingBooks) (a shortfall : ℕ) → AreInRange books → IsAccountNumber a → shortfall ≤ GREATEST_SHORTFALL → WhereDone (λ _ after. Stays books after) (margin_of books a shortfall)
-margin_stays books a shortfall h number most =
+margin_stays : (books : ClearingBooks) (a shortfall : ℕ) → AreInRange books → IsAccountNumber a → shortfall ≤ GREATEST_SHORTFALL → (not (shortfall == 0) && (length books.calls == books.ring)) ≡ false → WhereDone (λ _ after. Stays books after) (margin_of books a shortfall)
+margin_stays books a shortfall h number most test =
     choice _ (shortfall == 0) _ _ (λ _. gives _ _ _ (h, refl)) (λ some.
-    choice _ (length books.calls == books.ring) _ _ (λ _. declines _ _) (λ room.
-    gives _ _ _ (put_call-in_range books a shortfall h (number, (at_least_one shortfall some, most)) (below_most (length books.calls) books.ring h.queue room), refl)))
+    let room : (length books.calls == books.ring) ≡ false = ap (λ t. not t && (length books.calls == books.ring)) (sym some) ∙ test in
+    gives _ _ _ (put_call-in_range books a shortfall h (number, (at_least_one shortfall some, most)) (below_most (length books.calls) books.ring h.queue room), refl))
 
 -- books in range stay so after each step
 step_stays : (o : Op) (books : ClearingBooks) → AreInRange books → IsOperationFor books o → WhereDone (λ _ after. Stays books after) (step_of o books)
@@ -133,9 +132,14 @@ step_stays (op.Price i p) books h within =
 step_stays (op.Trade a b i q) books h within =
     choice _ (a == b) _ _ (λ _. declines _ _) (λ apart. choice _ (not (is_account books a && is_account books b)) _ _ (λ _. declines _ _) (λ there.
     choice _ (not (map.contains_key books.prices i)) _ _ (λ _. declines _ _) (λ priced. choice _ (nat_lt (position_of books b i) q) _ _ (λ _. declines _ _) (λ sells.
+    choice _ (nat_lt (cash_of books a) (q * price_of books i)) _ _ (λ _. declines _ _) (λ _.
+    choice _ (nat_lt GREATEST_CASH (cash_of books b + q * price_of books i) || nat_lt GREATEST_QUANTITY (position_of books a i + q)) _ _ (λ _. declines _ _) (λ limit.
     let both = and_parts (is_account books a) (is_account books b) (is_true (is_account books a && is_account books b) there) in
-    exchanged books a b i q h within.3.0 apart both.0 both.1 (is_true (map.contains_key books.prices i) priced) (enough (position_of books b i) q sells)))))
-step_stays (op.Margin a m) books h within = choice _ (not (is_account books a)) _ _ (λ _. declines _ _) (λ _. margin_stays books a (shortfall_of books a m) h within.0 (shortfall_most books a m h within.1.1))
+    exchanged books a b i q h within.3.0 apart both.0 both.1 (is_true (map.contains_key books.prices i) priced) (enough (position_of books b i) q sells) limit))))))
+step_stays (op.Margin a m) books h within =
+    choice _ (not (is_account books a)) _ _ (λ _. declines _ _) (λ _.
+    choice _ (not (shortfall_of books a m == 0) && (length books.calls == books.ring)) _ _ (λ _. declines _ _) (λ room.
+    margin_stays books a (shortfall_of books a m) h within.0 (shortfall_most books a m h within.1.1) room))
 step_stays op.Next books h within = next_stays books books.calls refl h
 step_stays (op.Show a) books h within = choice _ (not (is_account books a)) _ _ (λ _. declines _ _) (λ _. gives _ _ _ (h, refl))
 step_stays (op.Sum a b) books h within = gives _ _ _ (h, refl)

@@ -1,12 +1,12 @@
 -- No script changes the sizes of books.
-use Rattle.std.proofs.Common.{ℕ, ◌+◌, ◌-◌, ◌*◌, not, ◌&&◌, ◌||◌, ◌==◌, nat_lt, List, [], ◌∷◌, length, refl, ◌∙◌}
+use Rattle.std.proofs.Common.{ℕ, ◌+◌, not, ◌&&◌, ◌==◌, nat_lt, List, [], ◌∷◌, length, refl, ◌∙◌}
 use Rattle.std.specs.FinMap as map
-use Rattle.books_model.specs.declared.limits.TheConstants.{GREATEST_CASH, GREATEST_QUANTITY}
+use Rattle.books_model.specs.declared.limits.TheConstants.{GREATEST_CASH}
 use Rattle.books_model.specs.declared.script.Op.{Op}
 use Rattle.books_model.specs.declared.script.Op.TheVariants as op
 use Rattle.books_model.specs.declared.reply.Value.{Value}
-use Rattle.books_model.specs.Books.{ClearingBooks, HaveSameSizes, cash_of, position_of, price_of}
-use Rattle.books_model.specs.Interpreter.{holds_any, is_account, is_full, next_of, put_position, shortfall_of, run_from, step_of}
+use Rattle.books_model.specs.Books.{ClearingBooks, HaveSameSizes, cash_of}
+use Rattle.books_model.specs.Interpreter.{holds_any, is_account, is_full, next_of, shortfall_of, run_from, step_of}
 use Rattle.books_model.proofs.CashLaws.{traded}
 use Rattle.books_model.proofs.Outcomes.{WhereDone, WhereEnds, choice, gives, declines, finds_no_block, step_first}
 
@@ -46,15 +46,11 @@ step_keeps (op.Move a b x) books =
     choice _ (nat_lt GREATEST_CASH (cash_of books b + x)) _ _ (λ _. declines _ _) (λ _. gives _ _ _ (record { blocks = refl; instruments = refl; ring = refl })))))
 step_keeps (op.Price i p) books =
     choice _ (not (map.contains_key books.prices i) && is_full books) _ _ (λ _. finds_no_block _) (λ _. gives _ _ _ (record { blocks = refl; instruments = refl; ring = refl }))
-step_keeps (op.Trade a b i q) books = traded _ books a b i q (λ _ _.
-    choice _ (nat_lt (cash_of books a) (q * price_of books i)) _ _ (λ _. declines _ _) (λ _.
-    choice _ (nat_lt GREATEST_CASH (cash_of books b + q * price_of books i) || nat_lt GREATEST_QUANTITY (position_of books a i + q)) _ _ (λ _. declines _ _) (λ _.
-    choice _ (not (map.contains_key books.positions (a, i)) && is_full (put_position books b i (position_of books b i - q))) _ _ (λ _. finds_no_block _) (λ _.
-    gives _ _ _ (record { blocks = refl; instruments = refl; ring = refl })))))
+step_keeps (op.Trade a b i q) books = traded _ books a b i q (λ _ _ _. record { blocks = refl; instruments = refl; ring = refl })
 step_keeps (op.Margin a m) books =
     choice _ (not (is_account books a)) _ _ (λ _. declines _ _) (λ _.
-    choice _ (shortfall_of books a m == 0) _ _ (λ _. gives _ _ _ (same_sizes books)) (λ _.
-    choice _ (length books.calls == books.ring) _ _ (λ _. declines _ _) (λ _. gives _ _ _ (record { blocks = refl; instruments = refl; ring = refl }))))
+    choice _ (not (shortfall_of books a m == 0) && (length books.calls == books.ring)) _ _ (λ _. declines _ _) (λ _.
+    choice _ (shortfall_of books a m == 0) _ _ (λ _. gives _ _ _ (same_sizes books)) (λ _. gives _ _ _ (record { blocks = refl; instruments = refl; ring = refl }))))
 step_keeps op.Next books = next_keeps books books.calls
 step_keeps (op.Show a) books = choice _ (not (is_account books a)) _ _ (λ _. declines _ _) (λ _. gives _ _ _ (same_sizes books))
 step_keeps (op.Sum a b) books = gives _ _ _ (same_sizes books)

@@ -48,67 +48,76 @@ pub data Step : Type 0 where
   Declines : Decline → Step
   FindsNoBlock : Step
 
--- a trade, from what the buyer pays and the books in which the seller's position is lowered
+-- declined for the first reason of a list that applies, or else this step
+abbrev pub declines_first : List (Bool × Decline) → Step → Step
+declines_first [] otherwise = otherwise
+declines_first (reason ∷ reasons) otherwise = if reason.0 then Declines reason.1 else declines_first reasons otherwise
+
+-- a trade that is not declined, from what the buyer pays and the books in which the seller's position is lowered
 abbrev pub trade_of : ClearingBooks → ClearingBooks → ℕ → ℕ → ℕ → ℕ → ℕ → Step
 trade_of books lowered a b i q cost =
-    if nat_lt (cash_of books a) cost then Declines decline.Cash
-    else (if nat_lt GREATEST_CASH (cash_of books b + cost) || nat_lt GREATEST_QUANTITY (position_of books a i + q) then Declines decline.Limit
-    else (if not (map.contains_key books.positions (a, i)) && is_full lowered then FindsNoBlock
-    else Gives value.Done (put_cash (put_cash (put_position lowered a i (position_of books a i + q)) a (cash_of books a - cost)) b (cash_of books b + cost))))
+    if not (map.contains_key books.positions (a, i)) && is_full lowered then FindsNoBlock
+    else Gives value.Done (put_cash (put_cash (put_position lowered a i (position_of books a i + q)) a (cash_of books a - cost)) b (cash_of books b + cost))
 
 -- a margin call for the shortfall, where there is one
 abbrev pub margin_of : ClearingBooks → ℕ → ℕ → Step
 margin_of books a shortfall =
     if shortfall == 0 then Gives (value.Number 0) books
-    else (if length books.calls == books.ring then Declines decline.Queue
-    else Gives (value.Number shortfall) (record books { calls = books.calls ++ (a, shortfall) ∷ [] }))
+    else Gives (value.Number shortfall) (record books { calls = books.calls ++ (a, shortfall) ∷ [] })
 
 -- the queue's front is taken
 abbrev pub next_of : ClearingBooks → List (ℕ × ℕ) → Step
 next_of books [] = Gives value.Nothing books
 next_of books (call ∷ calls) = Gives (value.Call call.0 call.1) (record books { calls = calls })
 
--- One operation. The reasons to refuse it are tried in the order in which they stand.
+-- One operation. The first of its reasons to decline that applies counts; a missing block is looked for after them.
 abbrev pub step_of : Op → ClearingBooks → Step
-step_of (op.OpenAccount a) books =
-    if is_account books a then Declines decline.Exists
-    else (if is_full books then FindsNoBlock
+step_of (op.OpenAccount a) books = declines_first ((is_account books a, decline.Exists) ∷ []) (
+    if is_full books then FindsNoBlock
     else Gives value.Done (put_cash books a 0))
-step_of (op.Close a) books =
-    if not (is_account books a) then Declines decline.Absent
-    else (if not (cash_of books a == 0) then Declines decline.Cash
-    else (if holds_any books a then Declines decline.Held
-    else Gives value.Done (record books { accounts = map.remove books.accounts a })))
-step_of (op.Deposit a x) books =
-    if not (is_account books a) then Declines decline.Absent
-    else (if nat_lt GREATEST_CASH (cash_of books a + x) then Declines decline.Limit
-    else Gives value.Done (put_cash books a (cash_of books a + x)))
-step_of (op.Withdraw a x) books =
-    if not (is_account books a) then Declines decline.Absent
-    else (if nat_lt (cash_of books a) x then Declines decline.Cash
-    else Gives value.Done (put_cash books a (cash_of books a - x)))
-step_of (op.Move a b x) books =
-    if a == b then Declines decline.Same
-    else (if not (is_account books a && is_account books b) then Declines decline.Absent
-    else (if nat_lt (cash_of books a) x then Declines decline.Cash
-    else (if nat_lt GREATEST_CASH (cash_of books b + x) then Declines decline.Limit
-    else Gives value.Done (put_cash (put_cash books a (cash_of books a - x)) b (cash_of books b + x)))))
+step_of (op.Close a) books = declines_first (
+    (not (is_account books a), decline.Absent)
+    ∷ (not (cash_of books a == 0), decline.Cash)
+    ∷ (holds_any books a, decline.Held)
+    ∷ []
+    ) (Gives value.Done (record books { accounts = map.remove books.accounts a }))
+step_of (op.Deposit a x) books = declines_first (
+    (not (is_account books a), decline.Absent)
+    ∷ (nat_lt GREATEST_CASH (cash_of books a + x), decline.Limit)
+    ∷ []
+    ) (Gives value.Done (put_cash books a (cash_of books a + x)))
+step_of (op.Withdraw a x) books = declines_first (
+    (not (is_account books a), decline.Absent)
+    ∷ (nat_lt (cash_of books a) x, decline.Cash)
+    ∷ []
+    ) (Gives value.Done (put_cash books a (cash_of books a - x)))
+step_of (op.Move a b x) books = declines_first (
+    (a == b, decline.Same)
+    ∷ (not (is_account books a && is_account books b), decline.Absent)
+    ∷ (nat_lt (cash_of books a) x, decline.Cash)
+    ∷ (nat_lt GREATEST_CASH (cash_of books b + x), decline.Limit)
+    ∷ []
+    ) (Gives value.Done (put_cash (put_cash books a (cash_of books a - x)) b (cash_of books b + x)))
 step_of (op.Price i p) books =
     if not (map.contains_key books.prices i) && is_full books then FindsNoBlock
     else Gives value.Done (record books { prices = map.insert books.prices i p })
-step_of (op.Trade a b i q) books =
-    if a == b then Declines decline.Same
-    else (if not (is_account books a && is_account books b) then Declines decline.Absent
-    else (if not (map.contains_key books.prices i) then Declines decline.Price
-    else (if nat_lt (position_of books b i) q then Declines decline.Quantity
-    else trade_of books (put_position books b i (position_of books b i - q)) a b i q (q * price_of books i))))
-step_of (op.Margin a m) books =
-    if not (is_account books a) then Declines decline.Absent
-    else margin_of books a (shortfall_of books a m)
+step_of (op.Trade a b i q) books = declines_first (
+    (a == b, decline.Same)
+    ∷ (not (is_account books a && is_account books b), decline.Absent)
+    ∷ (not (map.contains_key books.prices i), decline.Price)
+    ∷ (nat_lt (position_of books b i) q, decline.Quantity)
+    ∷ (nat_lt (cash_of books a) (q * price_of books i), decline.Cash)
+    ∷ (nat_lt GREATEST_CASH (cash_of books b + q * price_of books i) || nat_lt GREATEST_QUANTITY (position_of books a i + q), decline.Limit)
+    ∷ []
+    ) (trade_of books (put_position books b i (position_of books b i - q)) a b i q (q * price_of books i))
+step_of (op.Margin a m) books = declines_first (
+    (not (is_account books a), decline.Absent)
+    ∷ (not (shortfall_of books a m == 0) && (length books.calls == books.ring), decline.Queue)
+    ∷ []
+    ) (margin_of books a (shortfall_of books a m))
 step_of op.Next books = next_of books books.calls
-step_of (op.Show a) books =
-    if not (is_account books a) then Declines decline.Absent
-    else Gives (value.Number (cash_of books a)) books
+step_of (op.Show a) books = declines_first ((not (is_account books a), decline.Absent) ∷ []) (
+    Gives (value.Number (cash_of books a)) books)
 step_of (op.Sum a b) books = Gives (value.Number (cash_between books a b)) books
 
 -- how operations end: with a value for each and the books after them, or at the first that is refused
