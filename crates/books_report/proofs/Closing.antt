@@ -3,12 +3,11 @@ use Rattle.std.proofs.Common.{◌≡◌, ℕ, ◌<◌, List, [], ◌∷◌, leng
 use Rattle.std.specs.List.{All, AllByRecursion}
 use Rattle.std.proofs.lemmas.List.Elements.{All-weaker, recursion_from_All}
 use Rattle.books_model.specs.Books.{ClearingBooks}
-use Rattle.books_model.specs.Interpreter.{outcome_of}
 use Rattle.books_model.specs.Laws.{BooksStayInRange, ScriptsKeepSizes, ScriptsGoByInstruments}
 use Rattle.books_model.specs.Ranges.{AreInRange, IsScriptFor}
 use Rattle.script_reader.specs.Input.{Caller, ClearingInput, AreCallersFor, IsInput, caller_at, callers_of, script_at}
-use Rattle.script_reader.specs.Journal.{IsPlace}
-use Rattle.books_report.specs.Output.{books_after}
+use Rattle.script_reader.specs.Journal.{Place, IsPlace}
+use Rattle.books_report.specs.Output.{books_left, books_after}
 use Rattle.books_report.specs.Statements.{ClosingBooksOpen}
 
 -- the script of a place can be given to the opening books
@@ -17,13 +16,13 @@ script_of_place input caller index valid within at = valid.callers.scripts calle
 
 module _ (in_range : BooksStayInRange) (keep_sizes : ScriptsKeepSizes) (by_instruments : ScriptsGoByInstruments) where
   -- scripts of places leave books in range, with as many instruments
-  along : (input : ClearingInput) → IsInput input → (order : List (ℕ × ℕ)) → AllByRecursion (IsPlace input) order → (books : ClearingBooks) → AreInRange books → books.instruments ≡ input.books.instruments
+  along : (input : ClearingInput) → IsInput input → (order : List Place) → AllByRecursion (IsPlace input) order → (books : ClearingBooks) → AreInRange books → books.instruments ≡ input.books.instruments
       → AreInRange (books_after input books order) × ((books_after input books order).instruments ≡ input.books.instruments)
   along input valid [] each books range same = (range, same)
   along input valid (p ∷ order) each books range same =
-      let script = script_at input p.0 p.1 in
-      let fits : IsScriptFor books script = by_instruments script input.books books same (script_of_place input p.0 p.1 valid each.0.0 each.0.1) in
-      along input valid order each.1 (outcome_of script books).1 (in_range script books range fits) ((keep_sizes script books).instruments ∙ same)
+      let script = script_at input p.caller p.index in
+      let fits : IsScriptFor books script = by_instruments script input.books books same (script_of_place input p.caller p.index valid each.0.0 each.0.1) in
+      along input valid order each.1 (books_left input books p) (in_range script books range fits) ((keep_sizes script books).instruments ∙ same)
 
   -- callers with scripts for books are such for others with as many instruments
   callers_for : (books others : ClearingBooks) → others.instruments ≡ books.instruments → (callers : List Caller) → AreCallersFor books callers → AreCallersFor others callers

@@ -1,9 +1,10 @@
 //! The text of a journal and of closing books.
 
-ghost use Rattle.std.specs.Prelude.{◌≡◌, ◌+◌, ◌<◌, ◌++◌, length, map, All, IfOk, OnOk};
+ghost use Rattle.std.specs.Prelude.{◌≡◌, ◌++◌, length, All, IfOk, OnOk};
 ghost use Rattle.std.specs.String.{string_bytes};
 ghost use Rattle.script_reader.specs.Journal.{IsPlace};
-ghost use Rattle.books_report.specs.Output.{journal_line, journal_lines, place_of, text_of};
+ghost use Rattle.books_report.specs.Output.{journal_line, journal_lines, text_of};
+ghost use Rattle.books_report.specs.Lines.{place_of, ran_of, scripts_of};
 
 use crate::books::write_books;
 use crate::line::Line;
@@ -23,7 +24,7 @@ fn write_line(
     ensures { OnOk result
         (string_bytes text.new
         ≡ string_bytes text.old
-        ++ journal_line serial name.now line.index line.restarts reply.now) }
+        ++ journal_line serial name.now (ran_of line reply.now)) }
 {
     let index = u64::from(line.index) + 1;
     let restarts = line.restarts;
@@ -41,8 +42,7 @@ fn write_lines(
     requires beside { length lines.now ≡ length replies.now }
     requires places { All (λ l. IsPlace input.now (place_of l)) lines.now }
     ensures { OnOk result (string_bytes text.new ≡ string_bytes text.old
-        ++ journal_lines input.now 1 (map place_of lines.now)
-        (map (λ l. l.restarts) lines.now) replies.now) }
+        ++ journal_lines input.now 1 (scripts_of lines.now replies.now)) }
 {
     let mut serial = 1;
     for (line, reply) in lines.iter().zip(replies) {
@@ -64,8 +64,7 @@ pub fn journal_text(
     requires beside { length lines.now ≡ length replies.now }
     requires places { All (λ l. IsPlace input.now (place_of l)) lines.now }
     ensures { IfOk result (λ text. text.items
-        ≡ text_of input.now (map place_of lines.now)
-        (map (λ l. l.restarts) lines.now) replies.now closing.now) }
+        ≡ text_of input.now (scripts_of lines.now replies.now) closing.now) }
 {
     let mut text = String::from_str(alloc, "journal\n")?;
     write_lines(&mut text, input, lines, replies)?;

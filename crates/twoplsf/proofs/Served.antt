@@ -14,11 +14,10 @@ use Rattle.twoplsf.specs.Answer.{IsOutputFor, IsTextFor, TookText}
 -- an output with every number of restarts below 1 has them below any number of workers
 more_workers : (input : ClearingInput) (w : ℕ) (text : List ℕ) → 1 ≤ w → IsOutput input 1 text → IsOutput input w text
 more_workers input w text some h = record {
-  order = h.order;
-  restarts = h.restarts;
-  beside = h.beside;
+  scripts = h.scripts;
   journal = h.journal;
-  below = All-weaker (λ n. n < 1) (λ n. n < w) (λ n e. omega arith) h.restarts h.below;
+  below = All-weaker (λ ran. ran.restarts < 1) (λ ran. ran.restarts < w) (λ ran e. omega arith) h.scripts h.below;
+  replies = h.replies;
   text_is = h.text_is;
 }
 

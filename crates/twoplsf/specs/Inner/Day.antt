@@ -3,13 +3,14 @@ use Rattle.std.specs.Prelude.{◌≡◌, ℕ, ◌<◌, ◌&&◌, ◌||◌, ◌==
 use Rattle.books_model.specs.declared.reply.Reply.{Reply}
 use Rattle.books_model.specs.Books.{ClearingBooks}
 use Rattle.script_reader.specs.Input.{ClearingInput}
-use Rattle.script_reader.specs.Journal.{IsPlace, IsJournal}
+use Rattle.script_reader.specs.Journal.{Place, IsPlace, IsJournal}
 use Rattle.books_report.specs.declared.line.Line.{Line}
-use Rattle.books_report.specs.Output.{place_of, replies_of, books_after}
+use Rattle.books_report.specs.Output.{replies_of, books_after}
+use Rattle.books_report.specs.Lines.{place_of}
 
 -- a place is one of the callers before this one, or of this one's scripts before the index
-abbrev pub is_before : ℕ → ℕ → ℕ × ℕ → Bool
-is_before caller index place = nat_lt place.0 caller || (place.0 == caller && nat_lt place.1 index)
+abbrev pub is_before : ℕ → ℕ → Place → Bool
+is_before caller index place = nat_lt place.caller caller || (place.caller == caller && nat_lt place.index index)
 
 -- the scripts of the lines were run in their order, with these replies, and left these books; none was restarted
 pub record AreRun (input : ClearingInput) (lines : List Line) (replies : List Reply) (books : ClearingBooks) : Type 0 where
@@ -22,8 +23,9 @@ pub record HasRun (input : ClearingInput) (caller index : ℕ) (lines : List Lin
   pub run : AreRun input lines replies books
   pub only : All (IsPlace input) (map place_of lines)
   pub before : All (λ p. is_before caller index p ≡ true) (map place_of lines)
-  pub once : (c i : ℕ) → IsPlace input (c, i) → count_by (λ p. p.0 == c && p.1 == i) (map place_of lines) ≡ (if is_before caller index (c, i) then 1 else 0)
-  pub rising : AllPairs (λ p q. p.0 ≡ q.0 → p.1 < q.1) (map place_of lines)
+  pub once : (place : Place) → IsPlace input place → count_by (λ p. p.caller == place.caller && p.index == place.index) (map place_of lines)
+      ≡ (if is_before caller index place then 1 else 0)
+  pub rising : AllPairs (λ p q. p.caller ≡ q.caller → p.index < q.index) (map place_of lines)
   pub instruments : books.instruments ≡ input.books.instruments
 
 -- every script was run, in an order that a journal may have

@@ -6,7 +6,7 @@ use Rattle.std.proofs.lemmas.List.Elements.{All-drop}
 use Rattle.script_reader.specs.Journal.{IsPlace}
 use Rattle.books_model.specs.declared.reply.Reply.{Reply}
 use Rattle.books_report.specs.declared.line.Line.{Line}
-use Rattle.books_report.specs.Output.{place_of}
+use Rattle.books_report.specs.Lines.{place_of}
 use Rattle.books_report.proofs.Journals.{line_next}
 use Rattle.books_report.proofs.journal.write_lines.Goals as goal
 

@@ -1,6 +1,6 @@
 use Rattle.std.proofs.Common.{◌≡◌, length, All}
 use Rattle.script_reader.specs.Journal.{IsPlace}
-use Rattle.books_report.specs.Output.{place_of}
+use Rattle.books_report.specs.Lines.{place_of}
 use Rattle.books_report.proofs.tests.journal_of.Given as goal
 
 -- a line for each reply so far, each of a script of the input

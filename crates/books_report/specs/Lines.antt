@@ -1,0 +1,19 @@
+-- What the code's lines and replies say of the scripts that were run.
+use Rattle.std.specs.Prelude.{List, map}
+use Rattle.std.specs.List.{zip}
+use Rattle.books_model.specs.declared.reply.Reply.{Reply}
+use Rattle.script_reader.specs.Journal.{Place}
+use Rattle.books_report.specs.Output.{Ran}
+use Rattle.books_report.specs.declared.line.Line.{Line}
+
+-- the place of the script that a line is about
+abbrev pub place_of : Line → Place
+place_of l = record { caller = l.caller; index = l.index }
+
+-- a line and its reply
+abbrev pub ran_of : Line → Reply → Ran
+ran_of l answer = record { place = place_of l; restarts = l.restarts; reply = answer }
+
+-- lines, each with the reply that stands beside it
+abbrev pub scripts_of : List Line → List Reply → List Ran
+scripts_of lines replies = map (λ pair. ran_of pair.0 pair.1) (zip lines replies)
