@@ -53,6 +53,10 @@ abbrev pub books_after : ClearingInput → ClearingBooks → List Place → Clea
 books_after input books [] = books
 books_after input books (place ∷ places) = books_after input (books_left input books place) places
 
+-- the text for scripts that were run in this order: their journal, and the books that they leave
+abbrev pub output_of : ClearingInput → List Ran → List ℕ
+output_of input scripts = text_of input scripts (books_after input input.books (places_of scripts))
+
 -- the text is an output of the input: the journal of its scripts, run in some order in which each stands once and each
 -- caller's in rising index, with each number of restarts below the limit and each reply that of the interpreter, run
 -- down the order from the opening books; and then the books that it leaves
@@ -61,4 +65,4 @@ pub record IsOutput (input : ClearingInput) (limit : ℕ) (text : List ℕ) : Ty
   pub journal : IsJournal input (places_of scripts)
   pub below : All (λ ran. ran.restarts < limit) scripts
   pub replies : map (λ ran. ran.reply) scripts ≡ replies_of input input.books (places_of scripts)
-  pub text_is : text ≡ text_of input scripts (books_after input input.books (places_of scripts))
+  pub text_is : text ≡ output_of input scripts
