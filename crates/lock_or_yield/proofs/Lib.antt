@@ -1,2 +1,4 @@
 pub mod Steps
+pub mod Scanning
+pub mod Claiming
 pub mod Turning

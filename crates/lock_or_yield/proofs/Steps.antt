@@ -1,5 +1,5 @@
 -- What share leaves of what a pass knows.
-use Rattle.std.proofs.Common.{◌≡◌, ◌≢◌, ℕ, ◌-◌, Bool, true, false, ◌⊎◌, inl, inr, List, [], ◌∷◌, ◌++◌, refl, sym, ap, ◌∙◌, subst, if◌then◌else◌}
+use Rattle.std.proofs.Common.{◌≡◌, ℕ, ◌-◌, Bool, true, false, ◌⊎◌, inl, inr, List, [], ◌∷◌, refl, sym, ap, ◌∙◌, subst, if◌then◌else◌}
 use Rattle.history_model.specs.declared.view.View.{View}
 use Rattle.history_model.specs.Locks.{lock_of_word}
 use Rattle.history_model.specs.Sets.{has}
@@ -8,7 +8,7 @@ use Rattle.history_model.proofs.SetLemmas.{has-join_old, has-join_other, has-joi
 use Rattle.locks_rule.specs.Steps.{is_free, set_read_bit_action, load_writer_action, after_asking, after_meeting}
 use Rattle.word_table.specs.declared.answer.Shared.{Shared}
 use Rattle.word_table.specs.declared.answer.Shared.TheVariants as shared
-use Rattle.word_table.specs.Calls.{with_bit, shared_of, SharedBy}
+use Rattle.word_table.specs.Calls.{SharedBy}
 use Rattle.word_table.proofs.Answering.{with_bit_cases}
 use Rattle.lock_or_yield.specs.Asking.{GainsAtMost, AsksToRead}
 

@@ -2,6 +2,7 @@
 use Rattle.std.specs.Prelude.{◌≡◌, ◌≢◌, ℕ, ◌<◌, true, List, [], ◌∷◌, ◌++◌, Some}
 use Rattle.history_model.specs.declared.event.Cause.{Cause}
 use Rattle.history_model.specs.declared.view.View.{View}
+use Rattle.history_model.specs.Locks.{lock_of_word}
 use Rattle.history_model.specs.Sets.{has_pair}
 use Rattle.history_model.specs.Views.{number}
 use Rattle.locks_rule.specs.Actions.{Action}
@@ -9,10 +10,10 @@ use Rattle.locks_rule.specs.Steps.{scan_row_action}
 use Rattle.stamps_rule.specs.Causes.{newest, past_causes}
 use Rattle.word_table.specs.declared.answer.Judged.{Judged}
 use Rattle.word_table.specs.declared.answer.Judged.TheVariants as judged
-use Rattle.word_table.specs.Calls.{GaveWay, GrantsStay, JudgedBy, MetOn}
+use Rattle.word_table.specs.Calls.{GaveWay, GrantsStay, JudgedBy, MetOn, SameCall}
 use Rattle.lock_or_yield.specs.declared.turn.Tried.{Tried}
 use Rattle.lock_or_yield.specs.declared.turn.Tried.TheVariants as tried
-use Rattle.lock_or_yield.specs.Asking.{with_locks}
+use Rattle.lock_or_yield.specs.Asking.{AsksToWrite, GainsAtMost, with_locks}
 
 -- what a turn comes to that met seat j, where judge answers this of it
 abbrev pub tried_of : ℕ → Judged → Tried
@@ -28,15 +29,19 @@ pub record JudgesMet (sound : List ℕ → List View → Type 0) (met : View) (j
   pub judges : JudgedBy sound shown j answer new
   pub comes_to : r ≡ tried_of j answer
 
--- by one of its steps on lock k the turn met a seat, which it judged
-pub record MeetsAndJudges (sound : List ℕ → List View → Type 0) (old : View) (k : ℕ) (r : Tried) (new : View) : Type 0 where
-  pub seat : ℕ
+-- by one of its steps on lock k the turn met seat j, and knew met then
+pub record MeetsOn (sound : List ℕ → List View → Type 0) (old : View) (k j : ℕ) (met : View) : Type 0 where
   pub action : View → Action
   pub before : View
   pub locks : before ≡ with_locks before old
   pub asking : View
+  pub meets : MetOn sound action before asking met k j
+
+-- the turn met a seat on lock k, which it judged
+pub record MeetsAndJudges (sound : List ℕ → List View → Type 0) (old : View) (k : ℕ) (r : Tried) (new : View) : Type 0 where
+  pub seat : ℕ
   pub met : View
-  pub meets : MetOn sound action before asking met k seat
+  pub meets : MeetsOn sound old k seat met
   pub judges : JudgesMet sound met seat r new
 
 -- a call that met a seat and need not give way to it goes on
@@ -64,3 +69,17 @@ pub record ScansUpTo (sound : List ℕ → List View → Type 0) (k j : ℕ) (ol
   pub clear : ScansClear k old before
   pub meets : MetOn sound (scan_row_action (number before) k j) before before new k j
   pub view : new ≡ record before { met = j ∷ before.met; meetings = before.meetings ++ (k, j) ∷ [] }
+
+-- the lock of word a was claimed, or tried to, and seats were scanned for the claim
+pub record ClaimsAndScans (a : ℕ) (old new : View) : Type 0 where
+  pub call : SameCall old new
+  pub writes : AsksToWrite (lock_of_word a) old new
+  pub asked : GainsAtMost a old.asked new.asked
+  pub grants : GrantsStay old new
+
+-- by that seat j was met
+pub record MeetsSeat (sound : List ℕ → List View → Type 0) (k j : ℕ) (old new : View) : Type 0 where
+  pub seat : j < old.seats
+  pub met : new.met ≡ j ∷ old.met
+  pub meetings : new.meetings ≡ old.meetings ++ (k, j) ∷ []
+  pub meets : MeetsOn sound old k j new

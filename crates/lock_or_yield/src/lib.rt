@@ -8,4 +8,4 @@
 
 pub mod turn;
 
-pub use turn::{Tried, try_read};
+pub use turn::{Tried, try_read, try_write};

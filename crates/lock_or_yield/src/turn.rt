@@ -9,9 +9,9 @@ ghost use Rattle.stamps_rule.specs.Stamps.{AreRestartsBounded};
 ghost use Rattle.word_table.specs.Calls.{GrantsStay};
 ghost use Rattle.word_table.specs.Desks.{DeskHolds};
 ghost use Rattle.lock_or_yield.specs.Asking.{Asks, AsksToRead, AsksToWrite, GivesWay, GoesOn, MeetsNobody};
-ghost use Rattle.lock_or_yield.specs.Turns.{JudgedToWait, JudgedToYield, JudgesMet, MeetsAndJudges};
+ghost use Rattle.lock_or_yield.specs.Turns.{ClaimsAndScans, JudgedToWait, JudgedToYield, JudgesMet, MeetsAndJudges, MeetsSeat, ScansClear, ScansUpTo};
 
-use history_model::{Cause, Phase, Shape, lock_of};
+use history_model::{Cause, LOCKS, Phase, Shape, lock_of};
 use word_table::{Claimed, Desk, Judged, Pass, Scanned, Shared};
 
 /// What one turn of asking for a lock came to.
@@ -75,7 +75,7 @@ fn judge_met<S: Shape>(desk: &Desk<S>, pass: &mut Pass<S>, other: u32) -> Tried
     }
 }
 
-/// One turn of asking for the lock of word a, to read it.
+/// One turn of asking for the lock of word a, to read it. The read bit stays set where the turn waits.
 pub fn try_read<S: Shape>(desk: &Desk<S>, pass: &mut Pass<S>, a: u64) -> Tried
     requires desk { pass.old.table ≡ desk.now.table }
     requires phase { pass.old.view.phase ≡ Phase.Running }
@@ -101,5 +101,74 @@ pub fn try_read<S: Shape>(desk: &Desk<S>, pass: &mut Pass<S>, a: u64) -> Tried
     match desk.share(pass, a) {
         Shared::Granted => Tried::Granted,
         Shared::Met(other) => judge_met(desk, pass, other),
+    }
+}
+
+// Scans the seats that were not yet found clear for the own claim on lock k, up to the first that is met.
+fn scan_rest<S: Shape>(desk: &Desk<S>, pass: &mut Pass<S>, k: u32) -> Option<u32>
+    requires desk { pass.old.table ≡ desk.now.table }
+    requires phase { pass.old.view.phase ≡ Phase.Running }
+    requires claim { (k < LOCKS) × HasClaim pass.old.view k }
+    ensures desk { pass.new.table ≡ pass.old.table }
+    ensures clear { IsNone result → ScansClear k pass.old.view pass.new.view × HasWriteGrant pass.new.view k }
+    ensures met { IfSome result (λ j. ScansUpTo (DeskHolds S.word_count S.good desk.now) k j pass.old.view pass.new.view) }
+    ensures held { HasWriteGrant pass.old.view k → IsNone result × (pass.new.view ≡ pass.old.view) }
+{
+    // The pass has one number, so no seat that is left is its own.
+    let _own = pass.who();
+    while let Some(other) = pass.unscanned(k) {
+        if let Scanned::Met(seat) = desk.scan(pass, k, other) {
+            return Some(seat);
+        }
+    }
+    None
+}
+
+// Claims the lock of word a and scans the other seats for it, up to the first that is met.
+fn claim_and_scan<S: Shape>(desk: &Desk<S>, pass: &mut Pass<S>, a: u64) -> Option<u32>
+    requires desk { pass.old.table ≡ desk.now.table }
+    requires phase { pass.old.view.phase ≡ Phase.Running }
+    requires word { a < length pass.old.view.base }
+    ensures desk { pass.new.table ≡ pass.old.table }
+    ensures asks { ClaimsAndScans a pass.old.view pass.new.view }
+    ensures granted { IsNone result → HasWriteGrant pass.new.view (lock_of_word a)
+        × (pass.new.view.met ≡ pass.old.view.met) × (pass.new.view.meetings ≡ pass.old.view.meetings) }
+    ensures met { IfSome result (λ j. MeetsSeat (DeskHolds S.word_count S.good desk.now) (lock_of_word a) j
+        pass.old.view pass.new.view) }
+    ensures held { HasWriteGrant pass.old.view (lock_of_word a) → IsNone result × (pass.new.view ≡ pass.old.view) }
+{
+    match desk.claim(pass, a) {
+        Claimed::Pending => scan_rest(desk, pass, lock_of(a)),
+        Claimed::Met(seat) => Some(seat),
+    }
+}
+
+/// One turn of asking for the lock of word a, to write it. The lock is claimed, and the other seats are scanned for
+/// it, up to the first that is met. A claim stays where the turn waits, and the next turn goes on from there.
+pub fn try_write<S: Shape>(desk: &Desk<S>, pass: &mut Pass<S>, a: u64) -> Tried
+    requires desk { pass.old.table ≡ desk.now.table }
+    requires phase { pass.old.view.phase ≡ Phase.Running }
+    requires word { a < length pass.old.view.base }
+    requires judged { pass.old.view.met ≡ [] }
+    ensures desk { pass.new.table ≡ pass.old.table }
+    ensures asks { Asks a pass.old.view pass.new.view }
+    ensures writes { AsksToWrite (lock_of_word a) pass.old.view pass.new.view }
+    ensures judged { pass.new.view.met ≡ [] }
+    ensures granted { result ≡ Tried.Granted
+        → HasWriteGrant pass.new.view (lock_of_word a) × MeetsNobody pass.old.view pass.new.view }
+    ensures waits { (j : ℕ) → result ≡ Tried.Wait j
+        → GoesOn ((lock_of_word a, j) ∷ []) pass.old.view pass.new.view }
+    ensures yields { (cause : Cause) → result ≡ Tried.Yield cause
+        → GivesWay (IsGood (S.word_count desk.now.shape) (S.good desk.now.shape)) desk.now.seats desk.now.base
+        ((lock_of_word a, cause.seat) ∷ []) cause pass.old.view pass.new.view }
+    ensures met { (result ≡ Tried.Granted) ⊎ MeetsAndJudges (DeskHolds S.word_count S.good desk.now)
+        pass.old.view (lock_of_word a) result pass.new.view }
+    ensures held { HasWriteGrant pass.old.view (lock_of_word a)
+        → (result ≡ Tried.Granted) × (pass.new.view ≡ pass.old.view) }
+    ensures bounded { (result ≡ Tried.Granted) ⊎ AreRestartsBounded desk.now.seats (number pass.old.view) pass.new.view }
+{
+    match claim_and_scan(desk, pass, a) {
+        None => Tried::Granted,
+        Some(other) => judge_met(desk, pass, other),
     }
 }

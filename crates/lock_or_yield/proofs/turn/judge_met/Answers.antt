@@ -1,12 +1,11 @@
-use Rattle.std.proofs.Common.{◌≡◌, ◌<◌, ℕ, List, [], ◌∷◌, true, Some, refl, sym, ap, ◌∙◌, subst}
+use Rattle.std.proofs.Common.{◌≡◌, ℕ, List, [], refl, sym, ap, ◌∙◌, subst}
 use Rattle.history_model.specs.declared.event.Cause.{Cause}
 use Rattle.history_model.specs.declared.view.View.{View}
 use Rattle.history_model.specs.Fitting.{IsGood}
-use Rattle.history_model.specs.Sets.{has, without}
+use Rattle.history_model.specs.Sets.{has}
 use Rattle.history_model.proofs.SetLemmas.{has-join_same}
-use Rattle.lock_or_yield.specs.declared.turn.Tried.TheVariants as tried
-use Rattle.lock_or_yield.specs.Turns.{JudgedToWait, JudgedToYield}
-use Rattle.lock_or_yield.proofs.Turning.{without_one, wait_same, yield_same, settled_to_wait, settled_to_yield}
+use Rattle.lock_or_yield.specs.Turns.{JudgedToYield}
+use Rattle.lock_or_yield.proofs.Turning.{wait_same, yield_same, settled_to_wait, settled_to_yield}
 use Rattle.lock_or_yield.proofs.turn.judge_met.Goals as goal
 
 -- the seat that was met is still to be judged

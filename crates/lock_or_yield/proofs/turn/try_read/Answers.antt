@@ -1,4 +1,4 @@
-use Rattle.std.proofs.Common.{◌≡◌, ◌<◌, ℕ, inr, List, [], ◌∷◌, refl, sym, ap, ◌∙◌, subst, arith}
+use Rattle.std.proofs.Common.{◌≡◌, ℕ, inr, List, ◌∷◌, refl, ap, ◌∙◌, arith}
 use Rattle.history_model.specs.declared.view.View.{View}
 use Rattle.history_model.specs.Fitting.{IsGood}
 use Rattle.history_model.specs.Locks.{lock_of_word}
@@ -14,9 +14,7 @@ use Rattle.lock_or_yield.proofs.turn.try_read.Goals as goal
 
 -- the seat that was met is one of the table's
 pub judge_met-requires-clause-other : goal.judge_met-requires-clause-other
-judge_met-requires-clause-other g c =
-    let seat = (c.in-Met.ensures.met c.in-Met.other refl).seat in
-    let same : c.share.new.pass.view.seats ≡ c.args.pass.now.view.seats = ap (λ (v : View). v.seats) c.in-Met.ensures.call in omega arith
+judge_met-requires-clause-other g c = subst (λ (n : ℕ). c.in-Met.other < n) (sym (ap (λ (v : View). v.seats) c.in-Met.ensures.call)) (c.in-Met.ensures.met c.in-Met.other refl).seat
 
 pub judge_met-requires-clause-met : goal.judge_met-requires-clause-met
 judge_met-requires-clause-met g c =
@@ -69,11 +67,13 @@ returns-in-Met-clause-yields g c = (turn g c).yields
 pub returns-in-Met-clause-met : goal.returns-in-Met-clause-met
 returns-in-Met-clause-met g c = let v = c.args.pass.now.view in let k : ℕ = lock_of_word c.args.a in inr record {
   seat = c.in-Met.other;
-  action = load_writer_action (number v) k c.args.a;
-  before = v;
-  locks = refl;
-  asking = with_bit k c.args.a v;
   met = c.share.new.pass.view;
-  meets = c.in-Met.ensures.met c.in-Met.other refl;
+  meets = record {
+    action = load_writer_action (number v) k c.args.a;
+    before = v;
+    locks = refl;
+    asking = with_bit k c.args.a v;
+    meets = c.in-Met.ensures.met c.in-Met.other refl;
+  };
   judges = c.judge_met.ensures.judged;
 }
