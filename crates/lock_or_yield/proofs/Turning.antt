@@ -146,9 +146,9 @@ waited good n base a i old met new none has asked grants w =
     }
 
 yielded : (good : List ℕ → Type 0) (n : ℕ) (base : List ℕ) (a : ℕ) (cause : Cause) (old met new : View)
-    → old.met ≡ [] → HasMet (lock_of_word a) cause.seat old met → GainsAtMost a old.asked met.asked → GrantsStay old met
+    → old.met ≡ [] → cause.seat < old.seats → HasMet (lock_of_word a) cause.seat old met → GainsAtMost a old.asked met.asked → GrantsStay old met
     → JudgedToYield good n base cause met new → Turned good n base a old met (tried.Yield cause) new
-yielded good n base a cause old met new none has asked grants w =
+yielded good n base a cause old met new none seat has asked grants w =
     let k : ℕ = lock_of_word a in let i : ℕ = cause.seat in let h = w.gave_way in
     let locks : with_locks new old ≡ with_locks met old = ap (λ (v : View). with_locks v old) h.view in
     let view : new ≡ after_giving_way cause h.history (record (with_locks new old) { meetings = old.meetings ++ (k, i) ∷ []; stamp = new.stamp; announced = true }) =
@@ -172,6 +172,7 @@ yielded good n base a cause old met new none has asked grants w =
       yields = λ other e. subst (λ (x : Cause). GivesWay good n base ((k, x.seat) ∷ []) x old new) (yield_same cause other e) record {
         gave_way = subst (λ (v : View). GaveWay good n base cause (record v { met = i ∷ []; meetings = old.meetings ++ (k, i) ∷ []; stamp = new.stamp; announced = true }) new) (sym locks)
             (subst (λ (v : View). GaveWay good n base cause (record v { stamp = new.stamp; announced = true }) new) has h);
+        seat = subst (λ (m : ℕ). cause.seat < m) (sym (ap (λ (v : View). v.seats) view)) seat;
         earlier = w.earlier;
         last = w.last;
       };
@@ -179,15 +180,15 @@ yielded good n base a cause old met new none has asked grants w =
 
 -- what judge answers decides
 pub turned : (good : List ℕ → Type 0) (n : ℕ) (base : List ℕ) (a i : ℕ) (answer : Judged) (old met : View) (r : Tried) (new : View)
-    → old.met ≡ [] → HasMet (lock_of_word a) i old met → GainsAtMost a old.asked met.asked → GrantsStay old met
+    → old.met ≡ [] → i < old.seats → HasMet (lock_of_word a) i old met → GainsAtMost a old.asked met.asked → GrantsStay old met
     → r ≡ tried_of i answer
     → ((j : ℕ) → r ≡ tried.Wait j → (j ≡ i) × JudgedToWait met new)
     → ((cause : Cause) → r ≡ tried.Yield cause → (cause.seat ≡ i) × JudgedToYield good n base cause met new)
     → Turned good n base a old met r new
-turned good n base a i judged.Wait old met r new none has asked grants e waits yields =
+turned good n base a i judged.Wait old met r new none seat has asked grants e waits yields =
     subst (λ (x : Tried). Turned good n base a old met x new) (sym e) (waited good n base a i old met new none has asked grants (waits i e).1)
-turned good n base a i (judged.Yield stamp) old met r new none has asked grants e waits yields =
-    subst (λ (x : Tried). Turned good n base a old met x new) (sym e) (yielded good n base a (record { seat = i; stamp = stamp }) old met new none has asked grants (yields (record { seat = i; stamp = stamp }) e).1)
+turned good n base a i (judged.Yield stamp) old met r new none seat has asked grants e waits yields =
+    subst (λ (x : Tried). Turned good n base a old met x new) (sym e) (yielded good n base a (record { seat = i; stamp = stamp }) old met new none seat has asked grants (yields (record { seat = i; stamp = stamp }) e).1)
 
 -- the timestamp was drawn, where there was none, and shown
 shown_view : (met drawn shown : View) → drawn ≡ record met { stamp = drawn.stamp } → shown ≡ record drawn { announced = true } → shown ≡ record met { stamp = shown.stamp; announced = true }
@@ -222,11 +223,11 @@ settled_to_yield good n base cause met drawn shown new draws kept shows low high
 
 -- a read that met somebody
 pub read_turned : (sound : List ℕ → List View → Type 0) (good : List ℕ → Type 0) (n : ℕ) (base : List ℕ) (a i : ℕ) (old met : View) (r : Tried) (new : View)
-    → old.met ≡ [] → SharedBy sound old a (shared.Met i) met → SameCall old met → GrantsStay old met → met.meetings ≡ old.meetings ++ (lock_of_word a, i) ∷ []
+    → old.met ≡ [] → i < old.seats → SharedBy sound old a (shared.Met i) met → SameCall old met → GrantsStay old met → met.meetings ≡ old.meetings ++ (lock_of_word a, i) ∷ []
     → JudgesMet sound met i r new
     → ((j : ℕ) → r ≡ tried.Wait j → (j ≡ i) × JudgedToWait met new)
     → ((cause : Cause) → r ≡ tried.Yield cause → (cause.seat ≡ i) × JudgedToYield good n base cause met new)
     → Turned good n base a old met r new
-read_turned sound good n base a i old met r new none shares call grants meetings judges waits yields =
+read_turned sound good n base a i old met r new none seat shares call grants meetings judges waits yields =
     let left = share_leaves sound old a (shared.Met i) met shares in
-    turned good n base a i judges.answer old met r new none (somebody_met (lock_of_word a) i old met call (left.somebody i refl) meetings none) left.asked grants judges.comes_to waits yields
+    turned good n base a i judges.answer old met r new none seat (somebody_met (lock_of_word a) i old met call (left.somebody i refl) meetings none) left.asked grants judges.comes_to waits yields

@@ -78,5 +78,6 @@ pub record GoesOn (met : List (ℕ × ℕ)) (old new : View) : Type 0 where
 pub record GivesWay (good : List ℕ → Type 0) (n : ℕ) (base : List ℕ) (met : List (ℕ × ℕ)) (cause : Cause) (old new : View) : Type 0 where
   pub gave_way : GaveWay good n base cause
       (record (with_locks new old) { meetings = old.meetings ++ met; met = cause.seat ∷ []; stamp = new.stamp; announced = true }) new
+  pub seat : cause.seat < new.seats
   pub earlier : (0 < cause.stamp) × (cause.stamp < new.stamp)
   pub last : newest (past_causes new) ≡ Some cause

@@ -9,3 +9,6 @@
 pub mod turn;
 
 pub use turn::{Tried, try_read, try_write};
+
+#[cfg(test)]
+mod turn_tests;

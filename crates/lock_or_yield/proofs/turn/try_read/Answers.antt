@@ -1,4 +1,4 @@
-use Rattle.std.proofs.Common.{◌≡◌, ℕ, inr, List, ◌∷◌, refl, ap, ◌∙◌, arith}
+use Rattle.std.proofs.Common.{◌<◌, ℕ, inr, List, ◌∷◌, refl, sym, ap, ◌∙◌, subst}
 use Rattle.history_model.specs.declared.view.View.{View}
 use Rattle.history_model.specs.Fitting.{IsGood}
 use Rattle.history_model.specs.Locks.{lock_of_word}
@@ -42,7 +42,7 @@ returns-in-Granted-clause-granted g c e =
 
 turn : (g : Over) (c : goal.After-judge_met g) → Turned (IsGood (g.S.Shape.word_count c.args.desk.now.shape) (g.S.Shape.good c.args.desk.now.shape)) c.args.desk.now.seats c.args.desk.now.base c.args.a c.args.pass.now.view c.share.new.pass.view c.judge_met.result c.judge_met.new.pass.view
 turn g c = read_turned (DeskHolds g.S.Shape.word_count g.S.Shape.good c.args.desk.now) (IsGood (g.S.Shape.word_count c.args.desk.now.shape) (g.S.Shape.good c.args.desk.now.shape)) c.args.desk.now.seats c.args.desk.now.base c.args.a c.in-Met.other c.args.pass.now.view c.share.new.pass.view c.judge_met.result c.judge_met.new.pass.view
-    c.requires.judged c.in-Met.ensures.step c.in-Met.ensures.call c.in-Met.ensures.grants (c.in-Met.ensures.met c.in-Met.other refl).conflict.0.1 c.judge_met.ensures.judged c.judge_met.ensures.waits c.judge_met.ensures.yields
+    c.requires.judged (c.in-Met.ensures.met c.in-Met.other refl).seat c.in-Met.ensures.step c.in-Met.ensures.call c.in-Met.ensures.grants (c.in-Met.ensures.met c.in-Met.other refl).conflict.0.1 c.judge_met.ensures.judged c.judge_met.ensures.waits c.judge_met.ensures.yields
 
 pub returns-in-Met-clause-asks : goal.returns-in-Met-clause-asks
 returns-in-Met-clause-asks g c = (turn g c).asks

@@ -24,7 +24,7 @@ returns-in-None-clause-granted g c e = let n = c.in-None.ensures.granted refl in
 turn : (g : Over) (c : goal.After-judge_met g) → Turned (IsGood (g.S.Shape.word_count c.args.desk.now.shape) (g.S.Shape.good c.args.desk.now.shape)) c.args.desk.now.seats c.args.desk.now.base c.args.a c.args.pass.now.view c.claim_and_scan.new.pass.view c.judge_met.result c.judge_met.new.pass.view
 turn g c = let a = c.claim_and_scan.ensures.asks in let m = c.in-Some.ensures.met in
     turned (IsGood (g.S.Shape.word_count c.args.desk.now.shape) (g.S.Shape.good c.args.desk.now.shape)) c.args.desk.now.seats c.args.desk.now.base c.args.a c.in-Some.other c.judge_met.ensures.judged.answer c.args.pass.now.view c.claim_and_scan.new.pass.view c.judge_met.result c.judge_met.new.pass.view
-    c.requires.judged (somebody_met (lock_of_word c.args.a) c.in-Some.other c.args.pass.now.view c.claim_and_scan.new.pass.view a.call m.met m.meetings c.requires.judged) a.asked a.grants c.judge_met.ensures.judged.comes_to c.judge_met.ensures.waits c.judge_met.ensures.yields
+    c.requires.judged m.seat (somebody_met (lock_of_word c.args.a) c.in-Some.other c.args.pass.now.view c.claim_and_scan.new.pass.view a.call m.met m.meetings c.requires.judged) a.asked a.grants c.judge_met.ensures.judged.comes_to c.judge_met.ensures.waits c.judge_met.ensures.yields
 
 pub returns-in-Some-clause-asks : goal.returns-in-Some-clause-asks
 returns-in-Some-clause-asks g c = (turn g c).asks
