@@ -8,7 +8,6 @@ use Rattle.history_model.specs.Sets.{has, has_pair}
 use Rattle.history_model.specs.Views.{number, HasWriteGrant}
 use Rattle.history_model.proofs.SetLemmas.{differ, has-join_same, pair-join_same, pair-join_other}
 use Rattle.locks_rule.specs.Steps.{after_meeting}
-use Rattle.word_table.specs.declared.answer.Scanned.{Scanned}
 use Rattle.word_table.specs.declared.answer.Scanned.TheVariants as scanned
 use Rattle.word_table.specs.Calls.{GrantsStay, ScannedBy}
 use Rattle.word_table.specs.Unscanned.{IsUnscanned}
@@ -51,12 +50,12 @@ scan_met sound v k i j u s =
     (met.0, s.taken.view ∙ (ap (λ (x : ℕ). if x == 0 then clear else after_meeting v k i) met.1 ∙ ap (λ (x : ℕ). after_meeting v k x) (sym met.0)))
 
 -- a seat that was not met is found clear
-pub scan_clear : (sound : List ℕ → List View → Type 0) (v : View) (k i : ℕ) (r : Scanned) (u : View) → ScannedBy sound v k i r u → ((j : ℕ) → r ≡ scanned.Met j → ⊥) → u ≡ record v { scans = (k, i) ∷ v.scans }
-scan_clear sound v k i r u s nobody =
+pub scan_clear : (sound : List ℕ → List View → Type 0) (v : View) (k i : ℕ) (u : View) → ScannedBy sound v k i scanned.Clear u → u ≡ record v { scans = (k, i) ∷ v.scans }
+scan_clear sound v k i u s =
     let clear : View = record v { scans = (k, i) ∷ v.scans } in
-    s.taken.view ∙ (elim (bit_at s.found (k % 64) == 0) as (λ (b : Bool). r ≡ (if b then scanned.Clear else scanned.Met i) → (if b then clear else after_meeting v k i) ≡ clear) [
+    s.taken.view ∙ (elim (bit_at s.found (k % 64) == 0) as (λ (b : Bool). scanned.Clear ≡ (if b then scanned.Clear else scanned.Met i) → (if b then clear else after_meeting v k i) ≡ clear) [
       | true ↦ λ e. refl
-      | false ↦ λ e. absurd (nobody i e)
+      | false ↦ λ e. absurd cc
     ] s.answer)
 
 pub clear_none : (k : ℕ) (v : View) → ScansClear k v v

@@ -117,8 +117,9 @@ fn scan_rest<S: Shape>(desk: &Desk<S>, pass: &mut Pass<S>, k: u32) -> Option<u32
     // The pass has one number, so no seat that is left is its own.
     let _own = pass.who();
     while let Some(other) = pass.unscanned(k) {
-        if let Scanned::Met(seat) = desk.scan(pass, k, other) {
-            return Some(seat);
+        match desk.scan(pass, k, other) {
+            Scanned::Clear => {}
+            Scanned::Met(seat) => return Some(seat),
         }
     }
     None

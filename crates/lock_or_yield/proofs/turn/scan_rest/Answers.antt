@@ -26,11 +26,11 @@ returns-in-Met-clause-held g c held = absurd (left_not_held c.args.pass.now.view
 
 pub loop-other-smaller : goal.loop-other-smaller
 loop-other-smaller g c = fewer_left c.args.k c.in-Some.other c.loop-other.pass.view c.scan.new.pass.view c.in-Some.ensures.least.0
-    (scan_clear (DeskHolds g.S.Shape.word_count g.S.Shape.good c.args.desk.now) c.loop-other.pass.view c.args.k c.in-Some.other c.scan.result c.scan.new.pass.view c.scan.ensures.step c.in_default-scan.not-Met)
+    (scan_clear (DeskHolds g.S.Shape.word_count g.S.Shape.good c.args.desk.now) c.loop-other.pass.view c.args.k c.in-Some.other c.scan.new.pass.view c.in-Clear.ensures.step)
 
 pub loop-other-preserved : goal.loop-other-preserved
 loop-other-preserved g c = let v = c.loop-other.pass.view in let inv = c.loop-other.invariant in
-    let e : c.scan.new.pass.view ≡ _ = scan_clear (DeskHolds g.S.Shape.word_count g.S.Shape.good c.args.desk.now) v c.args.k c.in-Some.other c.scan.result c.scan.new.pass.view c.scan.ensures.step c.in_default-scan.not-Met in (
+    let e : c.scan.new.pass.view ≡ _ = scan_clear (DeskHolds g.S.Shape.word_count g.S.Shape.good c.args.desk.now) v c.args.k c.in-Some.other c.scan.new.pass.view c.in-Clear.ensures.step in (
       c.scan.ensures.desk ∙ inv.0,
       ap (λ (x : View). x.phase) e ∙ inv.1,
       ap (λ (x : View). has c.args.k x.claims) e ∙ inv.2,
