@@ -38,7 +38,7 @@ somebody_met k i old new same met meetings none = same
     ∙ ap (λ (l : List (ℕ × ℕ)). record (with_locks new old) { met = i ∷ []; meetings = l }) meetings)
 
 -- old with all that Asks lets change as in new
-abbrev changed : View → View → View
+abbrev pub changed : View → View → View
 changed old new = record old {
   seen = new.seen;
   phase = new.phase;
@@ -54,7 +54,7 @@ changed old new = record old {
   abandoned = new.abandoned;
 }
 
-rest_of : (old new x : View) → new ≡ x → x ≡ changed old x → new ≡ changed old new
+pub rest_of : (old new x : View) → new ≡ x → x ≡ changed old x → new ≡ changed old new
 rest_of old new x e r = e ∙ (r ∙ ap (λ (y : View). changed old y) (sym e))
 
 longer : (l : List (ℕ × ℕ)) (p : ℕ × ℕ) → l ++ p ∷ [] ≢ l
@@ -66,7 +66,7 @@ gains_meeting k i l = ((k, i) ∷ [], refl, λ x j is. only k i (x, j) is.0 is.1
   only k i p zero e = let pair : (k, i) ≡ p = cc in sym (ap (λ (q : ℕ × ℕ). q.0) pair)
   only k i p (suc n) e = absurd cc
 
-gains_nothing : (k : ℕ) (l : List (ℕ × ℕ)) → GainsOn k l l
+pub gains_nothing : (k : ℕ) (l : List (ℕ × ℕ)) → GainsOn k l l
 gains_nothing k l = ([], sym (append-nil l), λ x j is. absurd (none (x, j) is)) where
   none : (p : ℕ × ℕ) → IsIn p [] → ⊥
   none p is = let e = is.1 in cc

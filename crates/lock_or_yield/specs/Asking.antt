@@ -81,3 +81,7 @@ pub record GivesWay (good : List ℕ → Type 0) (n : ℕ) (base : List ℕ) (me
   pub seat : cause.seat < new.seats
   pub earlier : (0 < cause.stamp) × (cause.stamp < new.stamp)
   pub last : newest (past_causes new) ≡ Some cause
+
+-- the call goes on, whomever it met while it asked
+abbrev pub WentOn : View → View → Type 0
+WentOn old new = new ≡ record (with_locks new old) { meetings = new.meetings; stamp = new.stamp; announced = new.announced }

@@ -13,9 +13,9 @@ use std::alloc::Global;
 use std::test::Fail;
 use word_table::{Desk, Pass};
 
-// Any two words are good.
+/// Any two words are good.
 #[derive(Clone, Copy)]
-struct Pair;
+pub(crate) struct Pair;
 
 impl Shape for Pair {
     ghost use Rattle.std.specs.Prelude.{⊤};
@@ -26,7 +26,7 @@ impl Shape for Pair {
 }
 
 // A desk of two words with two passes.
-fn open_pair(alloc: Global) -> Result<(Desk<Pair>, Pass<Pair>, Pass<Pair>), OutOfMemory>
+pub(crate) fn open_pair(alloc: Global) -> Result<(Desk<Pair>, Pass<Pair>, Pass<Pair>), OutOfMemory>
     ensures words { IfOk result (λ opened. length opened.0.base ≡ 2) }
     ensures zero { IfOk result (λ opened. opened.1 ≡ record { table = opened.0.table; view = opening_view opened.0.base 2 (0 ∷ []) [] }) }
     ensures one { IfOk result (λ opened. opened.2 ≡ record { table = opened.0.table; view = opening_view opened.0.base 2 (1 ∷ []) [] }) }
