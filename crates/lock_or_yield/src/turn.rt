@@ -60,11 +60,13 @@ fn judge_met<S: Shape>(desk: &Desk<S>, pass: &mut Pass<S>, other: u32) -> Tried
     requires other { other < pass.old.view.seats }
     requires met { pass.old.view.met ≡ other ∷ [] }
     ensures desk { pass.new.table ≡ pass.old.table }
-    ensures judged { JudgesMet (DeskHolds S.word_count S.good desk.now) pass.old.view other result pass.new.view }
-    ensures waits { (j : ℕ) → result ≡ Tried.Wait j → (j ≡ other) × JudgedToWait pass.old.view pass.new.view }
+    ensures judged { JudgesMet (DeskHolds S.word_count S.good desk.now)
+        pass.old.view other result pass.new.view }
+    ensures waits { (j : ℕ) → result ≡ Tried.Wait j
+        → (j ≡ other) × JudgedToWait pass.old.view pass.new.view }
     ensures yields { (cause : Cause) → result ≡ Tried.Yield cause → (cause.seat ≡ other)
-        × JudgedToYield (IsGood (S.word_count desk.now.shape) (S.good desk.now.shape)) desk.now.seats desk.now.base
-        cause pass.old.view pass.new.view }
+        × JudgedToYield (IsGood (S.word_count desk.now.shape) (S.good desk.now.shape))
+        desk.now.seats desk.now.base cause pass.old.view pass.new.view }
     ensures bounded { AreRestartsBounded desk.now.seats (number pass.old.view) pass.new.view }
 {
     draw_once(desk, pass);
@@ -90,13 +92,15 @@ pub fn try_read<S: Shape>(desk: &Desk<S>, pass: &mut Pass<S>, a: u64) -> Tried
     ensures waits { (j : ℕ) → result ≡ Tried.Wait j
         → GoesOn ((lock_of_word a, j) ∷ []) pass.old.view pass.new.view }
     ensures yields { (cause : Cause) → result ≡ Tried.Yield cause
-        → GivesWay (IsGood (S.word_count desk.now.shape) (S.good desk.now.shape)) desk.now.seats desk.now.base
-        ((lock_of_word a, cause.seat) ∷ []) cause pass.old.view pass.new.view }
+        → GivesWay (IsGood (S.word_count desk.now.shape) (S.good desk.now.shape))
+        desk.now.seats desk.now.base ((lock_of_word a, cause.seat) ∷ []) cause
+        pass.old.view pass.new.view }
     ensures met { (result ≡ Tried.Granted) ⊎ MeetsAndJudges (DeskHolds S.word_count S.good desk.now)
         pass.old.view (lock_of_word a) result pass.new.view }
     ensures held { IsGranted pass.old.view (lock_of_word a)
         → (result ≡ Tried.Granted) × (pass.new.view ≡ pass.old.view) }
-    ensures bounded { (result ≡ Tried.Granted) ⊎ AreRestartsBounded desk.now.seats (number pass.old.view) pass.new.view }
+    ensures bounded { (result ≡ Tried.Granted)
+        ⊎ AreRestartsBounded desk.now.seats (number pass.old.view) pass.new.view }
 {
     match desk.share(pass, a) {
         Shared::Granted => Tried::Granted,
@@ -110,8 +114,10 @@ fn scan_rest<S: Shape>(desk: &Desk<S>, pass: &mut Pass<S>, k: u32) -> Option<u32
     requires phase { pass.old.view.phase ≡ Phase.Running }
     requires claim { (k < LOCKS) × HasClaim pass.old.view k }
     ensures desk { pass.new.table ≡ pass.old.table }
-    ensures clear { IsNone result → ScansClear k pass.old.view pass.new.view × HasWriteGrant pass.new.view k }
-    ensures met { IfSome result (λ j. ScansUpTo (DeskHolds S.word_count S.good desk.now) k j pass.old.view pass.new.view) }
+    ensures clear { IsNone result
+        → ScansClear k pass.old.view pass.new.view × HasWriteGrant pass.new.view k }
+    ensures met { IfSome result (λ j. ScansUpTo (DeskHolds S.word_count S.good desk.now) k j
+        pass.old.view pass.new.view) }
     ensures held { HasWriteGrant pass.old.view k → IsNone result × (pass.new.view ≡ pass.old.view) }
 {
     // The pass has one number, so no seat that is left is its own.
@@ -133,10 +139,12 @@ fn claim_and_scan<S: Shape>(desk: &Desk<S>, pass: &mut Pass<S>, a: u64) -> Optio
     ensures desk { pass.new.table ≡ pass.old.table }
     ensures asks { ClaimsAndScans a pass.old.view pass.new.view }
     ensures granted { IsNone result → HasWriteGrant pass.new.view (lock_of_word a)
-        × (pass.new.view.met ≡ pass.old.view.met) × (pass.new.view.meetings ≡ pass.old.view.meetings) }
-    ensures met { IfSome result (λ j. MeetsSeat (DeskHolds S.word_count S.good desk.now) (lock_of_word a) j
-        pass.old.view pass.new.view) }
-    ensures held { HasWriteGrant pass.old.view (lock_of_word a) → IsNone result × (pass.new.view ≡ pass.old.view) }
+        × (pass.new.view.met ≡ pass.old.view.met)
+        × (pass.new.view.meetings ≡ pass.old.view.meetings) }
+    ensures met { IfSome result (λ j. MeetsSeat (DeskHolds S.word_count S.good desk.now)
+        (lock_of_word a) j pass.old.view pass.new.view) }
+    ensures held { HasWriteGrant pass.old.view (lock_of_word a)
+        → IsNone result × (pass.new.view ≡ pass.old.view) }
 {
     match desk.claim(pass, a) {
         Claimed::Pending => scan_rest(desk, pass, lock_of(a)),
@@ -160,13 +168,15 @@ pub fn try_write<S: Shape>(desk: &Desk<S>, pass: &mut Pass<S>, a: u64) -> Tried
     ensures waits { (j : ℕ) → result ≡ Tried.Wait j
         → GoesOn ((lock_of_word a, j) ∷ []) pass.old.view pass.new.view }
     ensures yields { (cause : Cause) → result ≡ Tried.Yield cause
-        → GivesWay (IsGood (S.word_count desk.now.shape) (S.good desk.now.shape)) desk.now.seats desk.now.base
-        ((lock_of_word a, cause.seat) ∷ []) cause pass.old.view pass.new.view }
+        → GivesWay (IsGood (S.word_count desk.now.shape) (S.good desk.now.shape))
+        desk.now.seats desk.now.base ((lock_of_word a, cause.seat) ∷ []) cause
+        pass.old.view pass.new.view }
     ensures met { (result ≡ Tried.Granted) ⊎ MeetsAndJudges (DeskHolds S.word_count S.good desk.now)
         pass.old.view (lock_of_word a) result pass.new.view }
     ensures held { HasWriteGrant pass.old.view (lock_of_word a)
         → (result ≡ Tried.Granted) × (pass.new.view ≡ pass.old.view) }
-    ensures bounded { (result ≡ Tried.Granted) ⊎ AreRestartsBounded desk.now.seats (number pass.old.view) pass.new.view }
+    ensures bounded { (result ≡ Tried.Granted)
+        ⊎ AreRestartsBounded desk.now.seats (number pass.old.view) pass.new.view }
 {
     match claim_and_scan(desk, pass, a) {
         None => Tried::Granted,

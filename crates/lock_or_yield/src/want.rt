@@ -38,9 +38,11 @@ pub fn want_read<R: Wait, S: Shape>(rt: &R, desk: &Desk<S>, pass: &mut Pass<S>, 
     ensures granted { result ≡ Got.Granted
         → IsGranted pass.new.view (lock_of_word a) × WentOn pass.old.view pass.new.view }
     ensures yields { (cause : Cause) → result ≡ Got.Yield cause → (waited : List (ℕ × ℕ))
-        × GivesWay (IsGood (S.word_count desk.now.shape) (S.good desk.now.shape)) desk.now.seats desk.now.base
-        (waited ++ (lock_of_word a, cause.seat) ∷ []) cause pass.old.view pass.new.view }
-    ensures met { (cause : Cause) → result ≡ Got.Yield cause → (before : View) × WentOn pass.old.view before
+        × GivesWay (IsGood (S.word_count desk.now.shape) (S.good desk.now.shape))
+        desk.now.seats desk.now.base (waited ++ (lock_of_word a, cause.seat) ∷ [])
+        cause pass.old.view pass.new.view }
+    ensures met { (cause : Cause) → result ≡ Got.Yield cause
+        → (before : View) × WentOn pass.old.view before
         × MeetsAndJudges (DeskHolds S.word_count S.good desk.now)
         before (lock_of_word a) (Tried.Yield cause) pass.new.view }
 {
@@ -69,9 +71,11 @@ pub fn want_write<R: Wait, S: Shape>(rt: &R, desk: &Desk<S>, pass: &mut Pass<S>,
     ensures granted { result ≡ Got.Granted
         → HasWriteGrant pass.new.view (lock_of_word a) × WentOn pass.old.view pass.new.view }
     ensures yields { (cause : Cause) → result ≡ Got.Yield cause → (waited : List (ℕ × ℕ))
-        × GivesWay (IsGood (S.word_count desk.now.shape) (S.good desk.now.shape)) desk.now.seats desk.now.base
-        (waited ++ (lock_of_word a, cause.seat) ∷ []) cause pass.old.view pass.new.view }
-    ensures met { (cause : Cause) → result ≡ Got.Yield cause → (before : View) × WentOn pass.old.view before
+        × GivesWay (IsGood (S.word_count desk.now.shape) (S.good desk.now.shape))
+        desk.now.seats desk.now.base (waited ++ (lock_of_word a, cause.seat) ∷ [])
+        cause pass.old.view pass.new.view }
+    ensures met { (cause : Cause) → result ≡ Got.Yield cause
+        → (before : View) × WentOn pass.old.view before
         × MeetsAndJudges (DeskHolds S.word_count S.good desk.now)
         before (lock_of_word a) (Tried.Yield cause) pass.new.view }
 {
