@@ -12,7 +12,7 @@ use Rattle.word_table.specs.Calls.{GrantsStay, GaveWay}
 abbrev pub GainsAtMost : ℕ → List ℕ → List ℕ → Type 0
 GainsAtMost a old new = (b : ℕ) → (has b old ≡ true → has b new ≡ true) × (has b new ≡ true → (b ≡ a) ⊎ (has b old ≡ true))
 
--- the list of meetings gained such on lock k alone
+-- all meetings that the list gained are on lock k
 abbrev pub GainsOn : ℕ → List (ℕ × ℕ) → List (ℕ × ℕ) → Type 0
 GainsOn k old new = (more : List (ℕ × ℕ)) × (new ≡ old ++ more) × ((l j : ℕ) → IsIn (l, j) more → l ≡ k)
 
