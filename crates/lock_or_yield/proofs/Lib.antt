@@ -1,0 +1,5 @@
+pub mod Steps
+pub mod Scanning
+pub mod Claiming
+pub mod Turning
+pub mod Wanting

@@ -1,0 +1,85 @@
+-- What one turn of asking for a lock does: where it meets a seat, it judges that seat, and answers what this came to.
+use Rattle.std.specs.Prelude.{◌≡◌, ◌≢◌, ℕ, ◌<◌, true, List, [], ◌∷◌, ◌++◌, Some}
+use Rattle.history_model.specs.declared.event.Cause.{Cause}
+use Rattle.history_model.specs.declared.view.View.{View}
+use Rattle.history_model.specs.Locks.{lock_of_word}
+use Rattle.history_model.specs.Sets.{has_pair}
+use Rattle.history_model.specs.Views.{number}
+use Rattle.locks_rule.specs.Actions.{Action}
+use Rattle.locks_rule.specs.Steps.{scan_row_action}
+use Rattle.stamps_rule.specs.Causes.{newest, past_causes}
+use Rattle.word_table.specs.declared.answer.Judged.{Judged}
+use Rattle.word_table.specs.declared.answer.Judged.TheVariants as judged
+use Rattle.word_table.specs.Calls.{GaveWay, GrantsStay, JudgedBy, MetOn, SameCall}
+use Rattle.lock_or_yield.specs.declared.turn.Tried.{Tried}
+use Rattle.lock_or_yield.specs.declared.turn.Tried.TheVariants as tried
+use Rattle.lock_or_yield.specs.Asking.{AsksToWrite, GainsAtMost, with_locks}
+
+-- what a turn comes to that met seat j, where judge answers this of it
+abbrev pub tried_of : ℕ → Judged → Tried
+tried_of j judged.Wait = tried.Wait j
+tried_of j (judged.Yield stamp) = tried.Yield (record { seat = j; stamp = stamp })
+
+-- the call, which met seat j, showed its timestamp and judged that seat
+pub record JudgesMet (sound : List ℕ → List View → Type 0) (met : View) (j : ℕ) (r : Tried) (new : View) : Type 0 where
+  pub shown : View
+  pub shows : shown ≡ record met { stamp = shown.stamp; announced = true }
+  pub kept : 0 < met.stamp → shown.stamp ≡ met.stamp
+  pub answer : Judged
+  pub judges : JudgedBy sound shown j answer new
+  pub comes_to : r ≡ tried_of j answer
+
+-- by one of its steps on lock k the turn met seat j, and knew met then
+pub record MeetsOn (sound : List ℕ → List View → Type 0) (old : View) (k j : ℕ) (met : View) : Type 0 where
+  pub action : View → Action
+  pub before : View
+  pub locks : before ≡ with_locks before old
+  pub asking : View
+  pub meets : MetOn sound action before asking met k j
+
+-- the turn met a seat on lock k, which it judged
+pub record MeetsAndJudges (sound : List ℕ → List View → Type 0) (old : View) (k : ℕ) (r : Tried) (new : View) : Type 0 where
+  pub seat : ℕ
+  pub met : View
+  pub meets : MeetsOn sound old k seat met
+  pub judges : JudgesMet sound met seat r new
+
+-- a call that met a seat and need not give way to it goes on
+pub record JudgedToWait (met new : View) : Type 0 where
+  pub view : new ≡ record met { met = []; stamp = new.stamp; announced = true }
+  pub stamped : 0 < new.stamp
+  pub kept : 0 < met.stamp → new.stamp ≡ met.stamp
+
+-- the attempt of a call that met a seat gives way to this cause
+pub record JudgedToYield (good : List ℕ → Type 0) (n : ℕ) (base : List ℕ) (cause : Cause) (met new : View) : Type 0 where
+  pub gave_way : GaveWay good n base cause (record met { stamp = new.stamp; announced = true }) new
+  pub earlier : (0 < cause.stamp) × (cause.stamp < new.stamp)
+  pub last : newest (past_causes new) ≡ Some cause
+  pub kept : 0 < met.stamp → new.stamp ≡ met.stamp
+
+-- seats were scanned for the claim on lock k, and none was met
+pub record ScansClear (k : ℕ) (old new : View) : Type 0 where
+  pub view : new ≡ record old { scans = new.scans }
+  pub scans : (l j : ℕ) → l ≢ k → has_pair l j new.scans ≡ has_pair l j old.scans
+  pub grants : GrantsStay old new
+
+-- seats were scanned for the claim on lock k, up to seat j, which was met
+pub record ScansUpTo (sound : List ℕ → List View → Type 0) (k j : ℕ) (old new : View) : Type 0 where
+  pub before : View
+  pub clear : ScansClear k old before
+  pub meets : MetOn sound (scan_row_action (number before) k j) before before new k j
+  pub view : new ≡ record before { met = j ∷ before.met; meetings = before.meetings ++ (k, j) ∷ [] }
+
+-- the lock of word a was claimed, or tried to, and seats were scanned for the claim
+pub record ClaimsAndScans (a : ℕ) (old new : View) : Type 0 where
+  pub call : SameCall old new
+  pub writes : AsksToWrite (lock_of_word a) old new
+  pub asked : GainsAtMost a old.asked new.asked
+  pub grants : GrantsStay old new
+
+-- by that seat j was met
+pub record MeetsSeat (sound : List ℕ → List View → Type 0) (k j : ℕ) (old new : View) : Type 0 where
+  pub seat : j < old.seats
+  pub met : new.met ≡ j ∷ old.met
+  pub meetings : new.meetings ≡ old.meetings ++ (k, j) ∷ []
+  pub meets : MeetsOn sound old k j new
