@@ -12,7 +12,7 @@ use Rattle.std.specs.FinMap.{nat_cmp-IsAntisymmetric}
 use Rattle.std.proofs.lemmas.List.Sums.{sum_by-cons, sum_by-append}
 use Rattle.books_model.specs.Books.{ClearingBooks, used}
 use Rattle.books_model.specs.Ranges.{AreInRange}
-use Rattle.books_model.specs.Keys.{positions_total, exact_positions}
+use Rattle.books_model.specs.Inner.Keys.{positions_total, exact_positions}
 use Rattle.txn_alloc.specs.EntryMaps.{Blocks}
 use Rattle.txn_alloc.proofs.Counting.{times_of, lengths_sum}
 use Rattle.txn_alloc.proofs.Lists.{free_below}
