@@ -5,6 +5,8 @@ use Rattle.history_model.specs.declared.event.Cause.{Cause}
 use Rattle.history_model.specs.declared.view.View.{View}
 use Rattle.history_model.specs.Legal.{IsIn}
 use Rattle.history_model.specs.Locks.{lock_of_word}
+use Rattle.history_model.specs.Views.{number}
+use Rattle.stamps_rule.specs.Stamps.{AreRestartsBounded}
 use Rattle.word_table.specs.Calls.{GaveWay}
 use Rattle.lock_or_yield.specs.declared.turn.Tried.TheVariants as tried
 use Rattle.lock_or_yield.specs.declared.want.Got.TheVariants as got
@@ -106,6 +108,10 @@ gives_way_more good n base k met cause old mid new f m s = (
     last = s.last;
   },
 )
+
+-- the restart bound, of a call that went on before
+pub bounded_more : (n : ℕ) (old mid new : View) → WentOn old mid → AreRestartsBounded n (number mid) new → AreRestartsBounded n (number old) new
+bounded_more n old mid new f h = subst (λ (j : ℕ). AreRestartsBounded n j new) (ap number f) h
 
 pub yield_is : (x y : Cause) → got.Yield x ≡ got.Yield y → x ≡ y
 yield_is x y e = cc

@@ -4,7 +4,8 @@ ghost use Rattle.std.specs.Prelude.{◌≡◌, ◌<◌, ℕ, [], ◌∷◌, ◌+
 ghost use Rattle.history_model.specs.Fitting.{IsGood};
 ghost use Rattle.history_model.specs.declared.view.View.{View};
 ghost use Rattle.history_model.specs.Locks.{lock_of_word};
-ghost use Rattle.history_model.specs.Views.{HasWriteGrant, IsGranted};
+ghost use Rattle.history_model.specs.Views.{number, HasWriteGrant, IsGranted};
+ghost use Rattle.stamps_rule.specs.Stamps.{AreRestartsBounded};
 ghost use Rattle.word_table.specs.Desks.{DeskHolds};
 ghost use Rattle.lock_or_yield.specs.Asking.{Asks, AsksToRead, AsksToWrite, GivesWay, WentOn};
 ghost use Rattle.lock_or_yield.specs.Turns.{MeetsAndJudges};
@@ -45,6 +46,8 @@ pub fn want_read<R: Wait, S: Shape>(rt: &R, desk: &Desk<S>, pass: &mut Pass<S>, 
         → (before : View) × WentOn pass.old.view before
         × MeetsAndJudges (DeskHolds S.word_count S.good desk.now)
         before (lock_of_word a) (Tried.Yield cause) pass.new.view }
+    ensures bounded { (cause : Cause) → result ≡ Got.Yield cause
+        → AreRestartsBounded desk.now.seats (number pass.old.view) pass.new.view }
 {
     let backoff = Backoff::new();
     for _ in rt.forever() {
@@ -78,6 +81,8 @@ pub fn want_write<R: Wait, S: Shape>(rt: &R, desk: &Desk<S>, pass: &mut Pass<S>,
         → (before : View) × WentOn pass.old.view before
         × MeetsAndJudges (DeskHolds S.word_count S.good desk.now)
         before (lock_of_word a) (Tried.Yield cause) pass.new.view }
+    ensures bounded { (cause : Cause) → result ≡ Got.Yield cause
+        → AreRestartsBounded desk.now.seats (number pass.old.view) pass.new.view }
 {
     let backoff = Backoff::new();
     for _ in rt.forever() {

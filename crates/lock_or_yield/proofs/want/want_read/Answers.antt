@@ -3,11 +3,13 @@ use Rattle.history_model.specs.declared.event.Cause.{Cause}
 use Rattle.history_model.specs.declared.view.View.{View}
 use Rattle.history_model.specs.Fitting.{IsGood}
 use Rattle.history_model.specs.Locks.{lock_of_word}
+use Rattle.history_model.specs.Views.{number}
+use Rattle.stamps_rule.specs.Stamps.{AreRestartsBounded}
 use Rattle.word_table.specs.Desks.{DeskHolds}
 use Rattle.lock_or_yield.specs.declared.turn.Tried.TheVariants as tried
 use Rattle.lock_or_yield.specs.Asking.{GivesWay, WentOn}
 use Rattle.lock_or_yield.specs.Turns.{MeetsAndJudges}
-use Rattle.lock_or_yield.proofs.Wanting.{asks_none, reads_none, asks_more, reads_more, went_nobody, went_on, gives_way_more, yield_is, not_granted}
+use Rattle.lock_or_yield.proofs.Wanting.{asks_none, reads_none, asks_more, reads_more, went_nobody, went_on, gives_way_more, bounded_more, yield_is, not_granted}
 use Rattle.lock_or_yield.proofs.want.want_read.Goals as goal
 
 pub loop-init : goal.loop-init
@@ -55,3 +57,7 @@ returns-in-Yield-clause-met g c cause e = let sound = DeskHolds g.S.Shape.word_c
   subst (λ (x : Cause). MeetsAndJudges sound c.loop.pass.view (lock_of_word c.args.a) (tried.Yield x) c.try_read.new.pass.view) (yield_is c.in-Yield.cause cause e)
       (⊎_elim (λ (z : tried.Yield c.in-Yield.cause ≡ tried.Granted). absurd (not_granted c.in-Yield.cause z)) (λ (m : MeetsAndJudges sound c.loop.pass.view (lock_of_word c.args.a) (tried.Yield c.in-Yield.cause) c.try_read.new.pass.view). m) c.in-Yield.ensures.met),
 )
+
+pub returns-in-Yield-clause-bounded : goal.returns-in-Yield-clause-bounded
+returns-in-Yield-clause-bounded g c cause e = bounded_more c.args.desk.now.seats c.args.pass.now.view c.loop.pass.view c.try_read.new.pass.view c.loop.invariant.6
+    (⊎_elim (λ (z : tried.Yield c.in-Yield.cause ≡ tried.Granted). absurd (not_granted c.in-Yield.cause z)) (λ (h : AreRestartsBounded c.args.desk.now.seats (number c.loop.pass.view) c.try_read.new.pass.view). h) c.in-Yield.ensures.bounded)
