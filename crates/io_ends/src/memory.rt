@@ -25,7 +25,13 @@ impl Model for MemSource {
 
     ghost Value = { MemorySource };
 
-    ghost view = { λ s. record { left = drop s.at s.bytes.items; most = s.most; fails = s.fails.items; reads = s.reads; faults = s.faults } };
+    ghost view = { λ s. record {
+      left = drop s.at s.bytes.items;
+      most = s.most;
+      fails = s.fails.items;
+      reads = s.reads;
+      faults = s.faults;
+    } };
 
     ghost invariant = { λ s. (s.at ≤ vec_len s.bytes) × (1 ≤ s.most) };
 }
@@ -34,7 +40,13 @@ impl MemSource {
     /// A source that gives at most `most` bytes a call. The calls whose numbers, from 1, are in `fails` fail.
     pub fn new(bytes: Vec<u8>, most: usize, fails: Vec<u64>) -> MemSource
         requires { 1 ≤ most }
-        ensures { result ≡ record { left = bytes.items; most = most; fails = fails.items; reads = 0; faults = 0 } }
+        ensures { result ≡ record {
+          left = bytes.items;
+          most = most;
+          fails = fails.items;
+          reads = 0;
+          faults = 0;
+        } }
     {
         MemSource {
             bytes,
@@ -62,15 +74,18 @@ impl Source for MemSource {
     fn read(&mut self, buf: &mut [u8]) -> Result<usize, Failed>
         ensures bound { IfOk result (λ n. n ≤ length buf.new) }
         ensures bytes { ReadConsumes (Some self.old.left) (Some self.new.left) result buf.new }
-        ensures end { IfSome (Some self.old.left) (λ bytes. IfOk result (λ n. 0 < length buf.old → ((n ≡ 0) ↔ (bytes ≡ [])))) }
+        ensures end { IfSome (Some self.old.left) (λ bytes. IfOk result (λ n.
+            0 < length buf.old → ((n ≡ 0) ↔ (bytes ≡ [])))) }
         ensures cause { HasCause result self.old.faults self.new.faults }
         ensures faults { self.old.faults ≤ self.new.faults }
         ensures reads { self.new.reads ≡ next_count self.old.reads }
 
         ensures fails { IsErr result ↔ Contains self.old.fails (next_count self.old.reads) }
-        ensures given { IfOk result (λ n. n ≡ min (min (length buf.old) self.old.most) (length self.old.left)) }
+        ensures given { IfOk result (λ n.
+            n ≡ min (min (length buf.old) self.old.most) (length self.old.left)) }
         ensures told { (self.new.most ≡ self.old.most) × (self.new.fails ≡ self.old.fails) }
-        ensures counted { self.new.faults ≡ (if is_err result then next_count self.old.faults else self.old.faults) }
+        ensures counted { self.new.faults
+            ≡ (if is_err result then next_count self.old.faults else self.old.faults) }
     {
         self.reads = self.reads.saturating_add(1);
         if self.fails.contains(&self.reads) {
@@ -103,9 +118,17 @@ impl Model for MemSink {
 
     ghost Value = { MemorySink };
 
-    ghost view = { λ s. record { taken = s.taken.items; room = s.room; most = s.most; fails = s.fails.items; writes = s.writes; faults = s.faults } };
+    ghost view = { λ s. record {
+      taken = s.taken.items;
+      room = s.room;
+      most = s.most;
+      fails = s.fails.items;
+      writes = s.writes;
+      faults = s.faults;
+    } };
 
-    ghost invariant = { λ s. (vec_len s.taken ≤ s.room) × (s.room ≤ vec_capacity s.taken) × (1 ≤ s.most) };
+    ghost invariant = { λ s.
+        (vec_len s.taken ≤ s.room) × (s.room ≤ vec_capacity s.taken) × (1 ≤ s.most) };
 }
 
 impl MemSink {
@@ -118,7 +141,14 @@ impl MemSink {
         fails: Vec<u64>,
     ) -> Result<MemSink, OutOfMemory>
         requires { 1 ≤ most }
-        ensures { IfOk result (λ sink. sink ≡ record { taken = []; room = room; most = most; fails = fails.items; writes = 0; faults = 0 }) }
+        ensures { IfOk result (λ sink. sink ≡ record {
+          taken = [];
+          room = room;
+          most = most;
+          fails = fails.items;
+          writes = 0;
+          faults = 0;
+        }) }
     {
         Ok(MemSink {
             taken: Vec::with_capacity(alloc, room)?,
@@ -156,10 +186,17 @@ impl Sink for MemSink {
         ensures cause { HasCause result self.old.faults self.new.faults }
         ensures faults { self.old.faults ≤ self.new.faults }
 
-        ensures fails { IsErr result ↔ ((length self.old.taken ≡ self.old.room) ⊎ Contains self.old.fails (next_count self.old.writes)) }
-        ensures given { IfOk result (λ n. n ≡ min (min (length piece.now) self.old.most) (self.old.room - length self.old.taken)) }
-        ensures told { (self.new.room ≡ self.old.room) × (self.new.most ≡ self.old.most) × (self.new.fails ≡ self.old.fails) }
-        ensures counted { (self.new.writes ≡ next_count self.old.writes) × (self.new.faults ≡ (if is_err result then next_count self.old.faults else self.old.faults)) }
+        ensures fails { IsErr result
+            ↔ ((length self.old.taken ≡ self.old.room)
+            ⊎ Contains self.old.fails (next_count self.old.writes)) }
+        ensures given { IfOk result (λ n.
+            n ≡ min (min (length piece.now) self.old.most)
+            (self.old.room - length self.old.taken)) }
+        ensures told { (self.new.room ≡ self.old.room) × (self.new.most ≡ self.old.most)
+            × (self.new.fails ≡ self.old.fails) }
+        ensures counted { (self.new.writes ≡ next_count self.old.writes)
+            × (self.new.faults
+            ≡ (if is_err result then next_count self.old.faults else self.old.faults)) }
     {
         self.writes = self.writes.saturating_add(1);
         let free = self.room - self.taken.len();

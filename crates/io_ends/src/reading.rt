@@ -67,13 +67,16 @@ pub fn read_all<S: Source>(alloc: Global, source: &mut S, limit: usize) -> Resul
     requires { limit ≤ GREATEST_READ_LIMIT }
 
     // What `Ok` gives: all that was left, where it is told, and never more than the limit.
-    ensures bytes { IfOk result (λ bytes. Consumes (S.left source.old) (S.left source.new) bytes.items) }
+    ensures bytes { IfOk result (λ bytes.
+        Consumes (S.left source.old) (S.left source.new) bytes.items) }
     ensures end { OnOk result (IsAtEnd (S.left source.new)) }
     ensures within { IfOk result (λ bytes. vec_len bytes ≤ limit) }
 
     // When each error comes. Out of memory is free.
-    ensures fault { IsErrOf result ReadStop.Fault → Rose (S.faults source.old) (S.faults source.new) }
-    ensures too_large { IsErrOf result ReadStop.TooLarge → IfSome (count_taken (S.left source.old) (S.left source.new)) (λ n. n ≡ limit + 1) }
+    ensures fault { IsErrOf result ReadStop.Fault
+        → Rose (S.faults source.old) (S.faults source.new) }
+    ensures too_large { IsErrOf result ReadStop.TooLarge
+        → IfSome (count_taken (S.left source.old) (S.left source.new)) (λ n. n ≡ limit + 1) }
     ensures above_limit { count_taken (S.left source.old) (S.left source.new) ≡ Some (limit + 1)
         → IsErrOf result ReadStop.TooLarge ⊎ IsErrOf result ReadStop.OutOfMemory }
 

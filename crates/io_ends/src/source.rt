@@ -35,7 +35,8 @@ pub trait Source {
     fn read(&mut self, buf: &mut [u8]) -> Result<usize, Failed>
         ensures bound { IfOk result (λ n. n ≤ length buf.new) }
         ensures bytes { ReadConsumes (left self.old) (left self.new) result buf.new }
-        ensures end { IfSome (left self.old) (λ bytes. IfOk result (λ n. 0 < length buf.old → ((n ≡ 0) ↔ (bytes ≡ [])))) }
+        ensures end { IfSome (left self.old) (λ bytes. IfOk result (λ n.
+            0 < length buf.old → ((n ≡ 0) ↔ (bytes ≡ [])))) }
         ensures cause { HasCause result (faults self.old) (faults self.new) }
         ensures faults { faults self.old ≤ faults self.new }
         ensures reads { reads self.new ≡ next_count (reads self.old) };

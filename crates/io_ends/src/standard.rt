@@ -61,7 +61,8 @@ impl<T: Read> Source for StdSource<T> {
         // none were given although there was room.
         ensures inner { ReadConsumes (T.remaining self.old.inner) (T.remaining self.new.inner)
             result buf.new }
-        ensures counted { self.new.faults ≡ (if is_err result then next_count self.old.faults else self.old.faults) }
+        ensures counted { self.new.faults
+            ≡ (if is_err result then next_count self.old.faults else self.old.faults) }
     {
         self.reads = self.reads.saturating_add(1);
         match self.inner.read(buf) {
@@ -120,7 +121,8 @@ impl<T: Write> Sink for StdSink<T> {
         // The writer gained exactly the prefix of the piece that was taken, and nothing after a failure.
         ensures inner { WriteAppends (T.contents self.old.inner) (T.contents self.new.inner)
             result piece.now }
-        ensures counted { self.new.faults ≡ (if is_err result then next_count self.old.faults else self.old.faults) }
+        ensures counted { self.new.faults
+            ≡ (if is_err result then next_count self.old.faults else self.old.faults) }
     {
         match self.inner.write(piece) {
             Ok(n) if n > 0 || piece.is_empty() => Ok(n),
