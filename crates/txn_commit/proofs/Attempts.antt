@@ -1,0 +1,225 @@
+-- An attempt between two of its calls: what asking for a lock, a load, a store and a halt leave of it.
+use Rattle.std.proofs.Common.{◌≡◌, ◌≢◌, ℕ, zero, suc, ◌+◌, ◌<◌, ◌≤◌, List, [], ◌∷◌, ◌++◌, length, All, true, false, Option, Some, None, Result, Ok, Err, IsOk, OnOk, OnErr, is_err, slice_index, refl, sym, ap, ◌∙◌, subst, arith, length-append}
+use Rattle.std.proofs.lemmas.List.Elements.{All-append}
+use Rattle.history_model.specs.declared.entry.Entry.{Entry}
+use Rattle.history_model.specs.declared.entry.Abandoned.{Abandoned}
+use Rattle.history_model.specs.declared.event.Cause.{Cause}
+use Rattle.history_model.specs.declared.event.Event.TheVariants.{Read, Write}
+use Rattle.history_model.specs.declared.view.View.{View}
+use Rattle.history_model.specs.Fitting.{SomeFits}
+use Rattle.history_model.specs.Traces.{Trace}
+use Rattle.history_model.specs.Undoing.{Notes}
+use Rattle.history_model.specs.Views.{number}
+use Rattle.history_model.proofs.FittingLaws.{fits_write}
+use Rattle.stamps_rule.specs.Stamps.{AreRestartsBounded}
+use Rattle.values_rule.specs.Steps.{store_value_action}
+use Rattle.undo_log.specs.Room.{Room}
+use Rattle.word_table.specs.Copies.{PassView}
+use Rattle.word_table.specs.Desks.{DeskView}
+use Rattle.lock_or_yield.specs.Asking.{Asks, GivesWay, WentOn}
+use Rattle.txn_commit.specs.declared.attempt.Asked.TheVariants as asked
+use Rattle.txn_commit.specs.declared.attempt.Halt.{Halt}
+use Rattle.txn_commit.specs.declared.attempt.Halt.TheVariants as halt
+use Rattle.txn_commit.specs.declared.attempt.TheConstants.{UNDO_ROOM}
+use Rattle.txn_commit.specs.Attempts.{GaveWayTo, IsSound, Runs, SameCall, stop_of}
+use Rattle.txn_commit.specs.Transactions.{GainsOthers}
+use Rattle.txn_commit.proofs.Others.{gains_history, gains_more, gains_none}
+
+-- an attempt that gave way, and what the pass then had seen
+pub gave_way_to : (good : List ℕ → Type 0) (n : ℕ) (base : List ℕ) (met : List (ℕ × ℕ)) (cause : Cause) (old new : View)
+    → GivesWay good n base met cause old new → AreRestartsBounded n (number old) new → GaveWayTo n cause old new
+gave_way_to good n base met cause old new g bounded = record {
+  phase = ap (λ (v : View). v.phase) g.gave_way.view;
+  abandoned = (_, ap (λ (v : View). v.abandoned) g.gave_way.view);
+  last = g.last;
+  seat = g.seat;
+  bounded = subst (λ (j : ℕ). AreRestartsBounded n j new) (ap number (sym g.gave_way.view)) bounded;
+}
+
+pub saw_others : (good : List ℕ → Type 0) (n : ℕ) (base : List ℕ) (met : List (ℕ × ℕ)) (cause : Cause) (old new : View)
+    → GivesWay good n base met cause old new → GainsOthers (number old) old.seen new.seen
+saw_others good n base met cause old new g = subst (λ (h : List Entry). GainsOthers (number old) old.seen h) (ap (λ (v : View). v.seen) (sym g.gave_way.view))
+    (gains_history (number old) old.seen g.gave_way.history g.gave_way.begins g.gave_way.others)
+
+pub same_cause : (a b : Cause) → asked.Yield a ≡ asked.Yield b → a ≡ b
+same_cause a b e = cc
+
+-- the attempt ran when it gave way
+gave_way_since : (n : ℕ) (cause : Cause) (began old new : View) → Runs began old → GaveWayTo n cause old new → GaveWayTo n cause began new
+gave_way_since n cause began old new r g = record {
+  phase = g.phase;
+  abandoned = (g.abandoned.0, g.abandoned.1 ∙ ap (λ (l : List Abandoned). l ++ g.abandoned.0 ∷ []) r.abandoned);
+  last = g.last;
+  seat = g.seat;
+  bounded = g.bounded;
+}
+
+-- the call goes on
+pub same_call : (began old new : View) → SameCall began old → SameCall old new → SameCall began new
+same_call began old new f s = record {
+  seat = record { who = s.seat.who ∙ f.seat.who; base = s.seat.base ∙ f.seat.base; seats = s.seat.seats ∙ f.seat.seats };
+  call = s.call ∙ f.call;
+  floor = s.floor ∙ f.floor;
+  stamp = λ h. s.stamp (subst (λ (x : ℕ). 0 < x) (sym (f.stamp h)) h) ∙ f.stamp h;
+  seen = gains_more (number began) began.seen old.seen new.seen f.seen
+      (subst (λ (j : ℕ). GainsOthers j old.seen new.seen) (ap (λ (l : List ℕ). slice_index l 0) f.seat.who) s.seen);
+}
+
+asks_same_call : (a : ℕ) (old new : View) → Asks a old new → GainsOthers (number old) old.seen new.seen → SameCall old new
+asks_same_call a old new asks gains = record {
+  seat = record { who = ap (λ (v : View). v.who) asks.rest; base = ap (λ (v : View). v.base) asks.rest; seats = ap (λ (v : View). v.seats) asks.rest };
+  call = ap (λ (v : View). v.call) asks.rest;
+  floor = ap (λ (v : View). v.floor) asks.rest;
+  stamp = asks.stamped;
+  seen = gains;
+}
+
+-- what a refused note says, and what a note that was made says
+pub of_refused : {A E P : Type 0} (r : Result A E) → is_err r ≡ true → OnErr r P → P
+of_refused (Ok x) e h = absurd (cc)
+of_refused (Err x) e h = h
+
+pub of_made : {A E P : Type 0} (r : Result A E) → is_err r ≡ false → OnOk r P → P
+of_made (Ok x) e h = h
+of_made (Err x) e h = absurd (cc)
+
+pub refused_when_full : {A E : Type 0} (r : Result A E) (spare : ℕ) → is_err r ≡ true → (0 < spare → IsOk r) → spare ≡ 0
+refused_when_full (Ok x) spare e h = absurd (cc)
+refused_when_full (Err x) zero e h = refl
+refused_when_full (Err x) (suc n) e h = let b = h (omega arith) in absurd (cc)
+
+-- the job was answered no stop
+pub not_halted : (h : Option Halt) → stop_of h ≡ None → h ≡ None
+not_halted None e = refl
+not_halted (Some (halt.Yield cause)) e = absurd (cc)
+not_halted (Some halt.Memory) e = absurd (cc)
+
+pub held_not_yield : (cause : Cause) → asked.Held ≢ asked.Yield cause
+held_not_yield cause e = cc
+
+pub granted_not_yield : (cause : Cause) → asked.Granted ≢ asked.Yield cause
+granted_not_yield cause e = cc
+
+saw_same : (who : ℕ) (old new : List Entry) → new ≡ old → GainsOthers who old new
+saw_same who old new e = subst (λ (l : List Entry). GainsOthers who old l) (sym e) (gains_none who old)
+
+runs_on : (began old new : View) → Runs began old → new.phase ≡ old.phase → new.abandoned ≡ old.abandoned → Runs began new
+runs_on began old new r phase abandoned = record { phase = phase ∙ r.phase; abandoned = abandoned ∙ r.abandoned }
+
+-- the events and notes of a view, and nothing else, are these
+abbrev pub with_events : Trace → Notes → View → View
+with_events trace notes v = record v { trace = trace; undo = notes }
+
+events_same_call : (trace : Trace) (notes : Notes) (old new : View) → new ≡ with_events trace notes old → SameCall old new
+events_same_call trace notes old new e = record {
+  seat = record { who = ap (λ (v : View). v.who) e; base = ap (λ (v : View). v.base) e; seats = ap (λ (v : View). v.seats) e };
+  call = ap (λ (v : View). v.call) e;
+  floor = ap (λ (v : View). v.floor) e;
+  stamp = λ h. ap (λ (v : View). v.stamp) e;
+  seen = saw_same (number old) old.seen new.seen (ap (λ (v : View). v.seen) e);
+}
+
+one_within : (a was n : ℕ) → a < n → All (λ (note : ℕ × ℕ). note.0 < n) ((a, was) ∷ [])
+one_within a was n lt zero d near = lt
+one_within a was n lt (suc k) d near = absurd (omega arith)
+
+module _ {S : Type 0} (word_count : S → ℕ) (good : S → List ℕ → Type 0) (desk : DeskView S) (began : PassView) where
+  -- the attempt asked for a lock and gave way
+  pub yields_sound : (a : ℕ) (old new : PassView) (log : Room) (cause : Cause) → IsSound word_count good desk began old log None
+      → new.table ≡ old.table → Asks a old.view new.view → new.view.met ≡ []
+      → GaveWayTo desk.seats cause old.view new.view → GainsOthers (number old.view) old.view.seen new.view.seen
+      → IsSound word_count good desk began new log (Some (halt.Yield cause))
+  yields_sound a old new log cause s table asks judged gave gains = record {
+    table = table ∙ s.table;
+    words = ap (λ (v : View). length v.base) asks.rest ∙ s.words;
+    call = same_call began.view old.view new.view s.call (asks_same_call a old.view new.view asks gains);
+    stands = gave_way_since desk.seats cause began.view old.view new.view s.stands gave;
+    judged = judged;
+    log_is = s.log_is ∙ ap (λ (v : View). v.undo) (sym asks.rest);
+    within = s.within;
+    room = s.room;
+    memory = λ e. absurd (cc);
+    fits = subst (λ (t : Trace). SomeFits (word_count desk.shape) (good desk.shape) t) (ap (λ (v : View). v.trace) (sym asks.rest)) s.fits;
+  }
+
+  -- the attempt asked for a lock and goes on
+  pub asks_sound : (a : ℕ) (old new : PassView) (log : Room) → IsSound word_count good desk began old log None
+      → new.table ≡ old.table → Asks a old.view new.view → new.view.met ≡ [] → WentOn old.view new.view
+      → IsSound word_count good desk began new log None
+  asks_sound a old new log s table asks judged went = record {
+    table = table ∙ s.table;
+    words = ap (λ (v : View). length v.base) asks.rest ∙ s.words;
+    call = same_call began.view old.view new.view s.call
+        (asks_same_call a old.view new.view asks (saw_same (number old.view) old.view.seen new.view.seen (ap (λ (v : View). v.seen) went)));
+    stands = runs_on began.view old.view new.view s.stands (ap (λ (v : View). v.phase) went) (ap (λ (v : View). v.abandoned) went);
+    judged = judged;
+    log_is = s.log_is ∙ ap (λ (v : View). v.undo) (sym asks.rest);
+    within = s.within;
+    room = s.room;
+    memory = λ e. absurd (cc);
+    fits = subst (λ (t : Trace). SomeFits (word_count desk.shape) (good desk.shape) t) (ap (λ (v : View). v.trace) (sym asks.rest)) s.fits;
+  }
+
+  -- the attempt did something to words
+  pub events_sound : (trace : Trace) (notes : Notes) (old new : PassView) (log later : Room) → IsSound word_count good desk began old log None
+      → new.table ≡ old.table → new.view ≡ with_events trace notes old.view → later.list ≡ notes
+      → All (λ note. note.0 < word_count desk.shape) later.list → UNDO_ROOM ≤ later.spare + length later.list
+      → SomeFits (word_count desk.shape) (good desk.shape) trace → IsSound word_count good desk began new later None
+  events_sound trace notes old new log later s table e list within room fits = record {
+    table = table ∙ s.table;
+    words = ap (λ (v : View). length v.base) e ∙ s.words;
+    call = same_call began.view old.view new.view s.call (events_same_call trace notes old.view new.view e);
+    stands = runs_on began.view old.view new.view s.stands (ap (λ (v : View). v.phase) e) (ap (λ (v : View). v.abandoned) e);
+    judged = ap (λ (v : View). v.met) e ∙ s.judged;
+    log_is = list ∙ ap (λ (v : View). v.undo) (sym e);
+    within = within;
+    room = room;
+    memory = λ h. absurd (cc);
+    fits = subst (λ (t : Trace). SomeFits (word_count desk.shape) (good desk.shape) t) (ap (λ (v : View). v.trace) (sym e)) fits;
+  }
+
+  -- the attempt found no memory
+  pub memory_sound : (pass : PassView) (log : Room) → IsSound word_count good desk began pass log None → UNDO_ROOM ≤ length log.list
+      → IsSound word_count good desk began pass log (Some halt.Memory)
+  memory_sound pass log s full = record {
+    table = s.table;
+    words = s.words;
+    call = s.call;
+    stands = s.stands;
+    judged = s.judged;
+    log_is = s.log_is;
+    within = s.within;
+    room = s.room;
+    memory = λ e. full;
+    fits = s.fits;
+  }
+
+  -- a word was loaded
+  pub load_sound : (a x : ℕ) (old new : PassView) (log : Room) → IsSound word_count good desk began old log None
+      → new.table ≡ old.table → new.view ≡ record old.view { trace = old.view.trace ++ Read a x ∷ [] }
+      → SomeFits (word_count desk.shape) (good desk.shape) new.view.trace → IsSound word_count good desk began new log None
+  load_sound a x old new log s table e fits = events_sound (old.view.trace ++ Read a x ∷ []) old.view.undo old new log log s table e s.log_is s.within s.room
+      (subst (λ (t : Trace). SomeFits (word_count desk.shape) (good desk.shape) t) (ap (λ (v : View). v.trace) e) fits)
+
+  -- a word that was just loaded was noted and stored
+  pub store_sound : (a x was : ℕ) (before : Trace) (old new : PassView) (log later : Room) → IsSound word_count good desk began old log None → a < word_count desk.shape
+      → old.view.trace ≡ before ++ Read a was ∷ []
+      → new.table ≡ old.table → new.view ≡ (store_value_action (number old.view) a x old.view).view [] 0
+      → new.view.undo ≡ old.view.undo ++ (a, was) ∷ []
+      → later.list ≡ log.list ++ (a, was) ∷ [] → log.spare ≤ later.spare + 1 → IsSound word_count good desk began new later None
+  store_sound a x was before old new log later s within last table step noted list spare =
+      events_sound (old.view.trace ++ Write a x ∷ []) (old.view.undo ++ (a, was) ∷ []) old new log later s table
+      (step ∙ ap (λ (n : Notes). with_events (old.view.trace ++ Write a x ∷ []) n old.view) (sym (ap (λ (v : View). v.undo) step) ∙ noted))
+      (list ∙ ap (λ (l : Notes). l ++ (a, was) ∷ []) s.log_is)
+      (subst (λ (l : Notes). All (λ note. note.0 < word_count desk.shape) l) (sym list) (All-append (λ note. note.0 < word_count desk.shape) log.list ((a, was) ∷ []) s.within (one_within a was (word_count desk.shape) within)))
+      (let long : length later.list ≡ length log.list + 1 = ap (λ (l : Notes). length l) list ∙ length-append log.list ((a, was) ∷ []) in let room = s.room in omega arith)
+      (s.fits.0, fits_write (word_count desk.shape) (good desk.shape) old.view.trace s.fits.0 a x s.fits.1)
+
+  -- the lock was asked for and is held, and the word was loaded
+  pub held_sound : (a x : ℕ) (old mid new : PassView) (log : Room) (halted : Option Halt) → stop_of halted ≡ None → IsSound word_count good desk began old log halted
+      → mid.table ≡ old.table → Asks a old.view mid.view → mid.view.met ≡ [] → WentOn old.view mid.view
+      → new.table ≡ mid.table → new.view ≡ record mid.view { trace = mid.view.trace ++ Read a x ∷ [] }
+      → SomeFits (word_count desk.shape) (good desk.shape) new.view.trace → IsSound word_count good desk began new log None
+  held_sound a x old mid new log halted going s table asks judged went same event fits =
+      let none = subst (λ (h : Option Halt). IsSound word_count good desk began old log h) (not_halted halted going) s in
+      load_sound a x mid new log (asks_sound a old mid log none table asks judged went) same event fits

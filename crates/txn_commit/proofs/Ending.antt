@@ -1,0 +1,145 @@
+-- How a transaction begins and ends.
+use Rattle.std.proofs.Common.{◌≡◌, ℕ, ◌+◌, ◌<◌, ◌≤◌, Bool, true, List, [], ◌∷◌, ◌++◌, length, length-append, slice_index, All, Option, None, Some, refl, sym, ap, ◌∙◌, subst, arith}
+use Rattle.history_model.specs.declared.entry.Abandoned.{Abandoned}
+use Rattle.history_model.specs.declared.entry.Entry.{Entry}
+use Rattle.history_model.specs.declared.view.View.{View}
+use Rattle.history_model.specs.declared.event.Cause.{Cause}
+use Rattle.history_model.specs.Fitting.{Fits, SomeFits}
+use Rattle.history_model.specs.Histories.{replay}
+use Rattle.history_model.specs.Traces.{Trace, after}
+use Rattle.history_model.specs.Sets.{has}
+use Rattle.history_model.specs.Views.{number}
+use Rattle.history_model.proofs.SetLemmas.{has-join_same}
+use Rattle.locks_rule.specs.Actions.{Action}
+use Rattle.stamps_rule.specs.Stamps.{AreRestartsBounded}
+use Rattle.values_rule.specs.Steps.{begin_call_action, clear_stamp_action, entry_of}
+use Rattle.undo_log.specs.Room.{Room}
+use Rattle.word_table.specs.Calls.{CommitsAt}
+use Rattle.word_table.specs.Copies.{PassView}
+use Rattle.word_table.specs.Desks.{DeskHolds, DeskView}
+use Rattle.word_table.specs.Kinds.{TakenIn}
+use Rattle.txn_commit.specs.declared.attempt.TheConstants.{UNDO_ROOM}
+use Rattle.txn_commit.specs.declared.transaction.Receipt.{Receipt}
+use Rattle.txn_commit.specs.declared.attempt.Halt.{Halt}
+use Rattle.txn_commit.specs.declared.attempt.Halt.TheVariants as halt
+use Rattle.txn_commit.specs.Attempts.{GaveWayTo, IsSound, Runs, SameCall, StandsAs}
+use Rattle.txn_commit.specs.Inner.Releasing.{Releases, Undoes}
+use Rattle.txn_commit.specs.Transactions.{EndsWithoutEntry, GainsOthers, GetsEntry, HoldsNothing}
+use Rattle.txn_commit.proofs.Attempts.{same_call}
+use Rattle.txn_commit.proofs.Others.{gains_history, gains_more, gains_none}
+
+-- a call that is over has as few attempts that gave way as before
+pub ends_bounded : (n j : ℕ) (old new : View) → AreRestartsBounded n (number old) old → new ≡ (clear_stamp_action j old).view [] 0 → AreRestartsBounded n (number new) new
+ends_bounded n j old new b e = subst (λ (v : View). AreRestartsBounded n (number v) v) (sym e) (record {
+  few = b.few;
+  elsewhere = b.elsewhere;
+  distinct = b.distinct;
+  met = b.met;
+  earlier = λ x is running. absurd (running refl);
+})
+
+named : (v : View) (j : ℕ) → v.who ≡ j ∷ [] → has j v.who ≡ true
+named v j e = subst (λ (l : List ℕ). has j l ≡ true) (sym e) (has-join_same j [])
+
+module _ {S : Type 0} (word_count : S → ℕ) (good : S → List ℕ → Type 0) (desk : DeskView S) (action : Action) (old : View) (found : ℕ) (new : View) where
+  -- who took a step at the table has a seat there
+  pub some_seats : (j : ℕ) → TakenIn (DeskHolds word_count good desk) action old found new → old.who ≡ j ∷ [] → 0 < desk.seats
+  some_seats j t one = let below : j < desk.seats = t.holds.locks.numbers_below t.place j old (record { knows = t.knows; named = named old j one }) in omega arith
+
+  -- and knows as many words as the desk's shape says
+  pub words_counted : (j : ℕ) → TakenIn (DeskHolds word_count good desk) action old found new → old.who ≡ j ∷ [] → length old.base ≡ word_count desk.shape
+  words_counted j t one = ap (λ (l : List ℕ). length l) (t.holds.locks.bases_alike t.place j old (record { knows = t.knows; named = named old j one })) ∙ t.holds.values.history.base_good.count
+
+none_within : (n : ℕ) → All (λ (note : ℕ × ℕ). note.0 < n) []
+none_within n k d lt = absurd (omega arith)
+
+-- a call was begun, and has done nothing yet
+pub begins_sound : {S : Type 0} (word_count : S → ℕ) (good : S → List ℕ → Type 0) (desk : DeskView S) (old : View) (began new : PassView) (log : Room)
+    → began ≡ new → new.table ≡ desk.table → length old.base ≡ word_count desk.shape → new.view ≡ (begin_call_action (number old) old).view [] 0
+    → log.list ≡ [] → UNDO_ROOM ≤ log.spare → SomeFits (word_count desk.shape) (good desk.shape) new.view.trace
+    → IsSound word_count good desk began new log None
+begins_sound word_count good desk old began new log same table words step empty room fits = record {
+  table = table;
+  words = ap (λ (v : View). length v.base) step ∙ words;
+  call = subst (λ (p : PassView). SameCall p.view new.view) (sym same) (record {
+    seat = record { who = refl; base = refl; seats = refl };
+    call = refl;
+    floor = refl;
+    stamp = λ h. refl;
+    seen = gains_none (number new.view) new.view.seen;
+  });
+  stands = record { phase = ap (λ (v : View). v.phase) step; abandoned = ap (λ (p : PassView). p.view.abandoned) (sym same) };
+  judged = ap (λ (v : View). v.met) step;
+  log_is = empty ∙ ap (λ (v : View). v.undo) (sym step);
+  within = subst (λ (l : List (ℕ × ℕ)). All (λ note. note.0 < word_count desk.shape) l) (sym empty) (none_within (word_count desk.shape));
+  room = let none : length log.list ≡ 0 = ap (λ (l : List (ℕ × ℕ)). length l) empty in omega arith;
+  memory = λ e. absurd (cc);
+  fits = fits;
+}
+
+-- a call ended without an entry: its locks were released, and it is over
+pub ends_without : (n j : ℕ) (old began given_up released new : View) → began ≡ (begin_call_action (number old) old).view [] 0
+    → GainsOthers (number began) began.seen given_up.seen → given_up.call ≡ old.call + 1 → Releases given_up released
+    → HoldsNothing released → AreRestartsBounded n (number released) released → new ≡ (clear_stamp_action j released).view [] 0 → EndsWithoutEntry n old new
+ends_without n j old began given_up released new begin gains call rel nothing bounded clear = record {
+  seen = subst (λ (l : List Entry). GainsOthers (number old) old.seen l) (sym (ap (λ (v : View). v.seen) clear ∙ ap (λ (v : View). v.seen) rel.rest))
+      (subst (λ (v : View). GainsOthers (number v) v.seen given_up.seen) begin gains);
+  call = ap (λ (v : View). v.call) clear ∙ (ap (λ (v : View). v.call) rel.rest ∙ call);
+  nothing = subst (λ (v : View). HoldsNothing v) (sym clear) (record { no_bit = nothing.no_bit; no_claim = nothing.no_claim });
+  bounded = ends_bounded n j released new bounded clear;
+}
+
+-- an attempt was committed
+pub gets_entry : {A : Type 0} (word_count : ℕ) (good : List ℕ → Type 0) (base : List ℕ) (means : List ℕ → Bool → A → List ℕ → Type 0) (kept : Bool) (call : ℕ) (first old new : View) (receipt : Receipt A)
+    → SameCall first old → first.floor ≡ length first.seen → first.call ≡ call
+    → CommitsAt word_count good base kept old new receipt.serial → receipt.call ≡ call → length old.abandoned ≡ receipt.restarts
+    → ((s : List ℕ) → Fits word_count good old.trace s → means s kept receipt.answer (after old.trace s))
+    → GetsEntry base means (number first) call first.seen new.seen receipt
+gets_entry word_count good base means kept call first old new receipt same floor number_is commits call_is restarts meaning =
+    let who : number old ≡ number first = ap (λ (l : List ℕ). slice_index l 0) same.seat.who in
+    let more = gains_history (number old) old.seen commits.history commits.begins commits.others in
+    let all = gains_more (number first) first.seen old.seen commits.history same.seen (subst (λ (j : ℕ). GainsOthers j old.seen commits.history) who more) in
+    let seen : new.seen ≡ commits.history ++ entry_of kept old ∷ [] = ap (λ (v : View). v.seen) commits.view in record {
+      others = all.others;
+      entry = entry_of kept old;
+      seen = seen ∙ ap (λ (h : List Entry). h ++ entry_of kept old ∷ []) all.seen;
+      by_others = all.by_others;
+      made_by = who;
+      call_is = (same.call ∙ number_is, call_is);
+      floor_is = same.floor ∙ floor;
+      serial_is = commits.place_is ∙ sym (ap (λ (h : List Entry). length h) seen ∙ length-append commits.history (entry_of kept old ∷ []));
+      restarts_are = sym restarts;
+      meaning = subst (λ (h : List Entry). means (replay base h) kept receipt.answer (after old.trace (replay base h))) all.seen (meaning (replay base commits.history) commits.fits);
+    }
+
+-- an attempt was undone
+pub undone_others : (first old new : View) → SameCall first old → Undoes old new → GainsOthers (number first) first.seen new.seen
+undone_others first old new same undone = subst (λ (l : List Entry). GainsOthers (number first) first.seen l) (sym (ap (λ (v : View). v.seen) undone.some.rest)) same.seen
+
+-- an attempt gave way, and the call makes another
+pub one_more : (n m : ℕ) (cause : Cause) (first began old new : View) → began ≡ first → length first.abandoned ≡ m → GaveWayTo n cause began old → new.abandoned ≡ old.abandoned
+    → (length new.abandoned ≡ m + 1) × (length new.abandoned < n)
+one_more n m cause first began old new same count gave kept =
+    let long : length old.abandoned ≡ length began.abandoned + 1 = ap (λ (l : List Abandoned). length l) gave.abandoned.1 ∙ length-append began.abandoned (gave.abandoned.0 ∷ []) in
+    let still : length new.abandoned ≡ length old.abandoned = ap (λ (l : List Abandoned). length l) kept in
+    let before : length began.abandoned ≡ length first.abandoned = ap (λ (v : View). length v.abandoned) same in
+    let few = gave.bounded.few in
+    (omega (arith, long, still, before, count), omega (arith, still, few))
+
+-- a job ran on the attempt that began here
+pub ran_on : (first : View) (kept began pass : PassView) (old : View) → SameCall first pass.view → kept ≡ began → began ≡ pass → SameCall kept.view old → SameCall first old
+ran_on first kept began pass old before same fresh ran = same_call first pass.view old before (subst (λ (p : PassView). SameCall p.view old) (same ∙ fresh) ran)
+
+pub still_runs : (n : ℕ) (halted : Option Halt) (began now : View) → halted ≡ None → StandsAs n halted began now → Runs began now
+still_runs n halted began now e = subst (λ (h : Option Halt). StandsAs n h began now → Runs began now) (sym e) (λ r. r)
+
+pub gave_way : (n : ℕ) (halted : Option Halt) (cause : Cause) (began now : View) → halted ≡ Some (halt.Yield cause) → StandsAs n halted began now → GaveWayTo n cause began now
+gave_way n halted cause began now e = subst (λ (h : Option Halt). StandsAs n h began now → GaveWayTo n cause began now) (sym e) (λ r. r)
+
+-- what a job means, of the shape of the desk, and by its parts
+pub meant : {A S : Type 0} (means : List ℕ → Bool → A → List ℕ → Type 0) (word_count : S → ℕ) (good : S → List ℕ → Type 0) (shape own : S) (trace : Trace) (k kept : Bool) (a answer : A)
+    → shape ≡ own → kept ≡ k → answer ≡ a
+    → ((s : List ℕ) → Fits (word_count own) (good own) trace s → means s k a (after trace s))
+    → (s : List ℕ) → Fits (word_count shape) (good shape) trace s → means s kept answer (after trace s)
+meant means word_count good shape own trace k kept a answer e f h meaning s fits =
+    subst (λ x. means s kept x (after trace s)) (sym h) (subst (λ (b : Bool). means s b a (after trace s)) (sym f) (meaning s (subst (λ x. Fits (word_count x) (good x) trace s) e fits)))

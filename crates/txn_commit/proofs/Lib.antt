@@ -1,0 +1,8 @@
+-- entries that others made
+pub mod Others
+-- giving up locks and undoing writes
+pub mod Releasing
+-- an attempt between two of its calls
+pub mod Attempts
+-- how a transaction begins and ends
+pub mod Ending

@@ -1,0 +1,72 @@
+-- What holds of an attempt as long as a job has it.
+use Rattle.std.specs.Prelude.{◌≡◌, ℕ, ◌+◌, ◌<◌, ◌≤◌, List, [], ◌∷◌, ◌++◌, length, All, Option, Some, None}
+use Rattle.history_model.specs.declared.entry.Abandoned.{Abandoned}
+use Rattle.history_model.specs.declared.event.Cause.{Cause}
+use Rattle.history_model.specs.declared.view.View.{View}
+use Rattle.history_model.specs.declared.view.Phase.TheVariants.{Running, Yielding}
+use Rattle.history_model.specs.Fitting.{SomeFits}
+use Rattle.history_model.specs.Views.{number}
+use Rattle.stamps_rule.specs.Causes.{newest, past_causes}
+use Rattle.stamps_rule.specs.Stamps.{AreRestartsBounded}
+use Rattle.txn_words.specs.declared.words.Stop.{Stop}
+use Rattle.txn_words.specs.declared.words.Stop.TheVariants as stop
+use Rattle.undo_log.specs.Room.{Room}
+use Rattle.word_table.specs.Copies.{PassView}
+use Rattle.word_table.specs.Desks.{DeskView}
+use Rattle.txn_commit.specs.declared.attempt.Halt.{Halt}
+use Rattle.txn_commit.specs.declared.attempt.Halt.TheVariants as halt
+use Rattle.txn_commit.specs.declared.attempt.Start.{Start}
+use Rattle.txn_commit.specs.declared.attempt.TheConstants.{UNDO_ROOM}
+use Rattle.txn_commit.specs.Transactions.{GainsOthers, SameSeat}
+
+-- the stop that the job is answered
+abbrev pub stop_of : Option Halt → Option Stop
+stop_of None = None
+stop_of (Some (halt.Yield cause)) = Some stop.Yield
+stop_of (Some halt.Memory) = Some stop.Memory
+
+-- what an attempt of this pass over this desk began from
+abbrev pub start_of : {S : Type 0} → DeskView S → ℕ → PassView → Start S
+start_of desk name began = record { desk = desk; name = name; pass = began }
+
+-- the call is the same, and has the timestamp that it had, if it had one; the pass saw more entries of others alone
+pub record SameCall (began now : View) : Type 0 where
+  pub seat : SameSeat began now
+  pub call : now.call ≡ began.call
+  pub floor : now.floor ≡ began.floor
+  pub stamp : 0 < began.stamp → now.stamp ≡ began.stamp
+  pub seen : GainsOthers (number began) began.seen now.seen
+
+-- the attempt reads and writes
+pub record Runs (began now : View) : Type 0 where
+  pub phase : now.phase ≡ Running
+  pub abandoned : now.abandoned ≡ began.abandoned
+
+-- the attempt gave way to this cause, and is one more that was abandoned
+pub record GaveWayTo (n : ℕ) (cause : Cause) (began now : View) : Type 0 where
+  pub phase : now.phase ≡ Yielding
+  pub abandoned : (attempt : Abandoned) × (now.abandoned ≡ began.abandoned ++ attempt ∷ [])
+  pub last : newest (past_causes now) ≡ Some cause
+  pub seat : cause.seat < now.seats
+  pub bounded : AreRestartsBounded n (number now) now
+
+-- the attempt gave way exactly where it halted for a cause
+abbrev pub StandsAs : ℕ → Option Halt → View → View → Type 0
+StandsAs n None began now = Runs began now
+StandsAs n (Some (halt.Yield cause)) began now = GaveWayTo n cause began now
+StandsAs n (Some halt.Memory) began now = Runs began now
+
+-- an attempt over this desk and pass, with this undo log; word_count and good are those of the shape
+pub record IsSound {S : Type 0} (word_count : S → ℕ) (good : S → List ℕ → Type 0) (desk : DeskView S) (began pass : PassView) (log : Room) (halted : Option Halt) : Type 0 where
+  pub table : pass.table ≡ desk.table
+  pub words : length pass.view.base ≡ word_count desk.shape
+  pub call : SameCall began.view pass.view
+  pub stands : StandsAs desk.seats halted began.view pass.view
+  pub judged : pass.view.met ≡ []
+  -- the log has the notes of all writes, and room for so many
+  pub log_is : log.list ≡ pass.view.undo
+  pub within : All (λ note. note.0 < word_count desk.shape) log.list
+  pub room : UNDO_ROOM ≤ log.spare + length log.list
+  -- no memory was found only where that room was full
+  pub memory : halted ≡ Some halt.Memory → UNDO_ROOM ≤ length log.list
+  pub fits : SomeFits (word_count desk.shape) (good desk.shape) pass.view.trace

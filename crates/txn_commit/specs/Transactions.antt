@@ -1,0 +1,53 @@
+-- What a transaction comes to: one entry of the history, or none where there was no memory.
+use Rattle.std.specs.Prelude.{◌≡◌, ◌≢◌, ℕ, ◌+◌, Bool, List, [], ◌∷◌, ◌++◌, length}
+use Rattle.history_model.specs.declared.entry.Entry.{Entry}
+use Rattle.history_model.specs.declared.view.View.{View}
+use Rattle.history_model.specs.Histories.{replay}
+use Rattle.history_model.specs.Legal.{IsIn}
+use Rattle.history_model.specs.Traces.{after}
+use Rattle.history_model.specs.Views.{number, HasBit, HasClaim}
+use Rattle.stamps_rule.specs.Stamps.{AreRestartsBounded}
+use Rattle.txn_commit.specs.declared.transaction.Receipt.{Receipt}
+
+-- no entry of the list is by this seat
+abbrev pub AreByOthers : ℕ → List Entry → Type 0
+AreByOthers who entries = (e : Entry) → IsIn e entries → e.who ≢ who
+
+-- more entries were seen, all of them by others than this seat
+pub record GainsOthers (who : ℕ) (old new : List Entry) : Type 0 where
+  pub others : List Entry
+  pub seen : new ≡ old ++ others
+  pub by_others : AreByOthers who others
+
+-- a call of this seat got one entry, behind what the seat had seen and then entries of others alone; and of the words
+-- that all these leave of the base, the job's meaning holds: whether its writes are kept, its answer, and what its trace
+-- leaves
+pub record GetsEntry {A : Type 0} (base : List ℕ) (means : List ℕ → Bool → A → List ℕ → Type 0) (who call : ℕ) (old new : List Entry) (receipt : Receipt A) : Type 0 where
+  pub others : List Entry
+  pub entry : Entry
+  pub seen : new ≡ (old ++ others) ++ entry ∷ []
+  pub by_others : AreByOthers who others
+  pub made_by : entry.who ≡ who
+  pub call_is : (entry.call ≡ call) × (receipt.call ≡ call)
+  pub floor_is : entry.floor ≡ length old
+  pub serial_is : receipt.serial ≡ length new
+  pub restarts_are : receipt.restarts ≡ length entry.abandoned
+  pub meaning : means (replay base (old ++ others)) entry.kept receipt.answer (after entry.trace (replay base (old ++ others)))
+
+-- the seat and its table are the same
+pub record SameSeat (old new : View) : Type 0 where
+  pub who : new.who ≡ old.who
+  pub base : new.base ≡ old.base
+  pub seats : new.seats ≡ old.seats
+
+-- no lock is held, and none is asked for
+pub record HoldsNothing (v : View) : Type 0 where
+  pub no_bit : (k : ℕ) → ¬ HasBit v k
+  pub no_claim : (k : ℕ) → ¬ HasClaim v k
+
+-- a call was made that has no entry; its attempts that gave way were as few as ever
+pub record EndsWithoutEntry (n : ℕ) (old new : View) : Type 0 where
+  pub seen : GainsOthers (number old) old.seen new.seen
+  pub call : new.call ≡ old.call + 1
+  pub nothing : HoldsNothing new
+  pub bounded : AreRestartsBounded n (number new) new

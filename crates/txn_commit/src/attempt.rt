@@ -1,0 +1,244 @@
+//! One attempt of a transaction, as the words that its job reads and writes.
+
+ghost use Rattle.std.specs.Prelude.{◌≡◌, ◌≢◌, ◌<◌, [], length};
+ghost use Rattle.history_model.specs.Locks.{lock_of_word};
+ghost use Rattle.history_model.specs.Views.{number, HasWriteGrant, IsGranted};
+ghost use Rattle.lock_or_yield.specs.Asking.{Asks, WentOn};
+ghost use Rattle.txn_commit.specs.Attempts.{GaveWayTo};
+ghost use Rattle.txn_commit.specs.Transactions.{GainsOthers};
+
+use history_model::{Cause, Phase, Shape, lock_of};
+use lock_or_yield::{Got, want_read, want_write};
+use std::snapshot::Snapshot;
+use std::sync::Wait;
+use txn_words::{Stop, Words};
+use undo_log::UndoLog;
+use word_table::{Desk, Pass};
+use worker_gate::{Gate, Point, Stage};
+
+/// How many writes an attempt notes without memory.
+pub const UNDO_ROOM: usize = 1024;
+
+/// Why an attempt cannot go on.
+#[derive(Clone, Copy, Debug, PartialEq, Eq)]
+pub enum Halt {
+    /// It gives way to this cause.
+    Yield(Cause),
+    /// There was no memory to note a write.
+    Memory,
+}
+
+/// What an attempt began from: the table, the name of the pass, and the pass as it was. No value of it is ever made.
+pub struct Start<S: Shape> {
+    pub desk: Desk<S>,
+    pub name: u64,
+    pub pass: Pass<S>,
+}
+
+// Whose call it is.
+#[derive(Clone, Copy)]
+pub(crate) struct Caller {
+    pub(crate) seat: u32,
+    pub(crate) call: u32,
+    pub(crate) tag: u64,
+}
+
+impl Caller {
+    // Where the call is.
+    fn at(self, stage: Stage) -> Point {
+        Point {
+            seat: self.seat,
+            call: self.call,
+            tag: self.tag,
+            stage,
+        }
+    }
+}
+
+/// The words of a table as one attempt of a transaction sees them.
+///
+/// A read waits until the word's lock is held for reading, and a write until it is held for writing and the old value
+/// is noted. Either may give way to an earlier call instead. `transact` alone makes it, and sets it back between two
+/// attempts of one call.
+#[derive(Drop)]
+pub struct Attempt<'a, S: Shape, G: Gate, R: Wait> {
+    pub(crate) rt: &'a R,
+    pub(crate) desk: &'a Desk<S>,
+    pub(crate) pass: &'a mut Pass<S>,
+    pub(crate) gate: &'a G,
+    pub(crate) caller: Caller,
+    pub(crate) undo: UndoLog,
+    pub(crate) halt: Option<Halt>,
+    pub(crate) began: Snapshot<Pass<S>>,
+}
+
+// What asking for the lock of a word came to.
+enum Asked {
+    // It was held before.
+    Held,
+    // It is held by now.
+    Granted,
+    // The attempt gives way to this cause.
+    Yield(Cause),
+}
+
+// Asks for the lock of word a, to read it, where it is not held.
+fn ask_to_read<R: Wait, S: Shape>(rt: &R, desk: &Desk<S>, pass: &mut Pass<S>, a: u64) -> Asked
+    requires desk { pass.old.table ≡ desk.now.table }
+    requires phase { pass.old.view.phase ≡ Phase.Running }
+    requires word { a < length pass.old.view.base }
+    requires judged { pass.old.view.met ≡ [] }
+    ensures desk { pass.new.table ≡ pass.old.table }
+    ensures asks { Asks a pass.old.view pass.new.view }
+    ensures claims { pass.new.view.claims ≡ pass.old.view.claims }
+    ensures judged { pass.new.view.met ≡ [] }
+    ensures yields { (cause : Cause) → result ≡ Asked.Yield cause
+        → GaveWayTo desk.now.seats cause pass.old.view pass.new.view
+        × GainsOthers (number pass.old.view) pass.old.view.seen pass.new.view.seen }
+    ensures goes_on { ((cause : Cause) → result ≢ Asked.Yield cause)
+        → IsGranted pass.new.view (lock_of_word a) × WentOn pass.old.view pass.new.view }
+{
+    let lock = lock_of(a);
+    if pass.has_read(lock) || pass.has_write(lock) {
+        return Asked::Held;
+    }
+    match want_read(rt, desk, pass, a) {
+        Got::Granted => Asked::Granted,
+        Got::Yield(cause) => Asked::Yield(cause),
+    }
+}
+
+// Asks for the lock of word a, to write it, where it is not held so.
+fn ask_to_write<R: Wait, S: Shape>(rt: &R, desk: &Desk<S>, pass: &mut Pass<S>, a: u64) -> Asked
+    requires desk { pass.old.table ≡ desk.now.table }
+    requires phase { pass.old.view.phase ≡ Phase.Running }
+    requires word { a < length pass.old.view.base }
+    requires judged { pass.old.view.met ≡ [] }
+    ensures desk { pass.new.table ≡ pass.old.table }
+    ensures asks { Asks a pass.old.view pass.new.view }
+    ensures judged { pass.new.view.met ≡ [] }
+    ensures yields { (cause : Cause) → result ≡ Asked.Yield cause
+        → GaveWayTo desk.now.seats cause pass.old.view pass.new.view
+        × GainsOthers (number pass.old.view) pass.old.view.seen pass.new.view.seen }
+    ensures goes_on { ((cause : Cause) → result ≢ Asked.Yield cause)
+        → HasWriteGrant pass.new.view (lock_of_word a) × WentOn pass.old.view pass.new.view }
+{
+    if pass.has_write(lock_of(a)) {
+        return Asked::Held;
+    }
+    match want_write(rt, desk, pass, a) {
+        Got::Granted => Asked::Granted,
+        Got::Yield(cause) => Asked::Yield(cause),
+    }
+}
+
+// Tells the gate how far the transaction has come.
+pub(crate) fn tell<S: Shape, G: Gate, R: Wait>(attempt: &Attempt<S, G, R>, stage: Stage) {
+    attempt.gate.at(attempt.rt, attempt.caller.at(stage));
+}
+
+impl<'a, S: Shape, G: Gate, R: Wait> Words for Attempt<'a, S, G, R> {
+    ghost use Rattle.std.specs.Prelude.{◌≡◌, ◌≢◌, ◌<◌, ◌++◌, ◌∷◌, [], None, Err, IfOk, OnOk};
+    ghost use Rattle.history_model.specs.declared.event.Event.TheVariants.{Read};
+    ghost use Rattle.history_model.specs.Traces.{Begins};
+    ghost use Rattle.lock_or_yield.specs.Asking.{GainsAtMost};
+    ghost use Rattle.txn_words.specs.declared.words.Stop.TheVariants.{Memory};
+    ghost use Rattle.txn_words.specs.Steps.{EndsWithWrite, stop_after};
+    ghost use Rattle.txn_commit.specs.Attempts.{IsSound, start_of, stop_of};
+
+    type Shape = S;
+
+    type Origin = Start<S>;
+
+    ghost shape = { λ a. a.desk.now.shape };
+
+    ghost origin = { λ a. start_of a.desk.now a.pass.ghost_name a.began.value };
+
+    ghost trace = { λ a. a.pass.now.view.trace };
+
+    ghost stop = { λ a. stop_of a.halt };
+
+    ghost is_sound = { λ a. IsSound S.word_count S.good a.desk.now a.began.value a.pass.now a.undo a.halt };
+
+    /// The word at place `a`, under its lock. It never finds no memory, and asks for that lock alone.
+    fn read(&mut self, a: u64) -> Result<u64, Stop>
+        requires within { a < S.word_count self.old.desk.now.shape }
+        requires going { stop_of self.old.halt ≡ None }
+        requires sound { IsSound S.word_count S.good self.old.desk.now self.old.began.value
+            self.old.pass.now self.old.undo self.old.halt }
+        ensures value { IfOk result (λ v.
+            self.new.pass.now.view.trace ≡ self.old.pass.now.view.trace ++ Read a v ∷ []) }
+        ensures begins { Begins self.old.pass.now.view.trace self.new.pass.now.view.trace }
+        ensures stops { stop_of self.new.halt ≡ stop_after result }
+        ensures shape { self.new.desk.now.shape ≡ self.old.desk.now.shape }
+        ensures origin { start_of self.new.desk.now self.new.pass.ghost_name self.new.began.value
+            ≡ start_of self.old.desk.now self.old.pass.ghost_name self.old.began.value }
+        ensures sound { IsSound S.word_count S.good self.new.desk.now self.new.began.value
+            self.new.pass.now self.new.undo self.new.halt }
+
+        ensures memory { result ≢ Err Memory }
+        ensures asked { GainsAtMost a self.old.pass.now.view.asked self.new.pass.now.view.asked }
+        ensures claims { self.new.pass.now.view.claims ≡ self.old.pass.now.view.claims }
+    {
+        match ask_to_read(self.rt, self.desk, self.pass, a) {
+            Asked::Held => {}
+            Asked::Granted => {
+                let stage = Stage::Granted {
+                    word: a,
+                    write: false,
+                };
+                self.gate.at(self.rt, self.caller.at(stage));
+            }
+            Asked::Yield(cause) => {
+                self.halt = Some(Halt::Yield(cause));
+                return Err(Stop::Yield);
+            }
+        }
+        Ok(self.desk.load(self.pass, a))
+    }
+
+    /// Puts `v` into the word at place `a`, under its exclusive lock, once its old value is noted. It finds no memory
+    /// only where the undo log has no spare room, which it has for the first 1,024 writes, and asks for that lock
+    /// alone.
+    fn write(&mut self, a: u64, v: u64) -> Result<(), Stop>
+        requires within { a < S.word_count self.old.desk.now.shape }
+        requires going { stop_of self.old.halt ≡ None }
+        requires sound { IsSound S.word_count S.good self.old.desk.now self.old.began.value
+            self.old.pass.now self.old.undo self.old.halt }
+        ensures value { OnOk result (EndsWithWrite self.old.pass.now.view.trace self.new.pass.now.view.trace a v) }
+        ensures begins { Begins self.old.pass.now.view.trace self.new.pass.now.view.trace }
+        ensures stops { stop_of self.new.halt ≡ stop_after result }
+        ensures shape { self.new.desk.now.shape ≡ self.old.desk.now.shape }
+        ensures origin { start_of self.new.desk.now self.new.pass.ghost_name self.new.began.value
+            ≡ start_of self.old.desk.now self.old.pass.ghost_name self.old.began.value }
+        ensures sound { IsSound S.word_count S.good self.new.desk.now self.new.began.value
+            self.new.pass.now self.new.undo self.new.halt }
+
+        ensures memory { 0 < self.old.undo.spare → result ≢ Err Memory }
+        ensures asked { GainsAtMost a self.old.pass.now.view.asked self.new.pass.now.view.asked }
+    {
+        match ask_to_write(self.rt, self.desk, self.pass, a) {
+            Asked::Held => {}
+            Asked::Granted => {
+                let stage = Stage::Granted {
+                    word: a,
+                    write: true,
+                };
+                self.gate.at(self.rt, self.caller.at(stage));
+            }
+            Asked::Yield(cause) => {
+                self.halt = Some(Halt::Yield(cause));
+                return Err(Stop::Yield);
+            }
+        }
+        let old = self.desk.load(self.pass, a);
+        if self.undo.note(a, old).is_err() {
+            self.halt = Some(Halt::Memory);
+            return Err(Stop::Memory);
+        }
+        self.desk.store(self.pass, a, v);
+        Ok(())
+    }
+
+    ghost fits = { λ a h. h.fits };
+}
