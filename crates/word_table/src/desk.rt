@@ -110,6 +110,13 @@ impl<S: Shape> Desk<S> {
         Ok((Desk { table, seats: n }, passes))
     }
 
+    /// How many seats share the table: one for each pass that it was made with.
+    pub fn seats(&self) -> u32
+        ensures { result ≡ self.now.seats }
+    {
+        self.seats
+    }
+
     /// Asks for the lock of word a, to read it. A lock that is held already takes no step. Else the own read bit is
     /// set, if it is not, and only then the writer word is looked at: a writer that claims the lock later scans for
     /// the bit, so one of the two sees the other.
