@@ -91,8 +91,7 @@ impl Books {
 
     /// How many accounts, positions and prices there may be together.
     pub fn blocks(&self) -> u32
-        ensures value { result ≡ self.now.blocks }
-        ensures range { AreInRange self.now }
+        ensures { result ≡ self.now.blocks }
     {
         self.blocks
     }

@@ -11,6 +11,7 @@ use Rattle.word_table.specs.Calls.{GaveWay}
 use Rattle.lock_or_yield.specs.declared.turn.Tried.TheVariants as tried
 use Rattle.lock_or_yield.specs.declared.want.Got.TheVariants as got
 use Rattle.lock_or_yield.specs.Asking.{GainsOn, Asks, AsksToRead, AsksToWrite, with_locks, MeetsNobody, GoesOn, GivesWay, WentOn}
+use Rattle.lock_or_yield.specs.Turns.{MeetsAndJudges}
 use Rattle.lock_or_yield.proofs.Steps.{gains_none, gains_twice}
 use Rattle.lock_or_yield.proofs.Turning.{changed, rest_of, gains_nothing}
 
@@ -96,7 +97,7 @@ went_nobody old mid new f e = went old mid new (with_locks new mid) f e refl
 pub went_on : (met : List (ℕ × ℕ)) (old mid new : View) → WentOn old mid → GoesOn met mid new → WentOn old new
 went_on met old mid new f s = went old mid new (record (with_locks new mid) { meetings = mid.meetings ++ met; stamp = new.stamp; announced = true }) f s.view refl
 
-pub gives_way_more : (good : List ℕ → Type 0) (n : ℕ) (base : List ℕ) (k : ℕ) (met : List (ℕ × ℕ)) (cause : Cause) (old mid new : View) → WentOn old mid → GainsOn k old.meetings mid.meetings → GivesWay good n base met cause mid new
+gives_way_more : (good : List ℕ → Type 0) (n : ℕ) (base : List ℕ) (k : ℕ) (met : List (ℕ × ℕ)) (cause : Cause) (old mid new : View) → WentOn old mid → GainsOn k old.meetings mid.meetings → GivesWay good n base met cause mid new
     → (waited : List (ℕ × ℕ)) × GivesWay good n base (waited ++ met) cause old new
 gives_way_more good n base k met cause old mid new f m s = (
   m.0,
@@ -109,12 +110,26 @@ gives_way_more good n base k met cause old mid new f m s = (
   },
 )
 
--- the restart bound, of a call that went on before
-pub bounded_more : (n : ℕ) (old mid new : View) → WentOn old mid → AreRestartsBounded n (number mid) new → AreRestartsBounded n (number old) new
-bounded_more n old mid new f h = subst (λ (j : ℕ). AreRestartsBounded n j new) (ap number f) h
-
-pub yield_is : (x y : Cause) → got.Yield x ≡ got.Yield y → x ≡ y
+yield_is : (x y : Cause) → got.Yield x ≡ got.Yield y → x ≡ y
 yield_is x y e = cc
 
-pub not_granted : (x : Cause) → tried.Yield x ≡ tried.Granted → ⊥
-not_granted x e = cc
+-- a turn that gave way was not granted
+gave_way : (x : Cause) (P : Type 0) → (tried.Yield x ≡ tried.Granted) ⊎ P → P
+gave_way x P h = ⊎_elim (λ e. absurd cc) (λ p. p) h
+
+-- the turns went on from the view old to mid, and the last of them gave way at new, to the cause x
+module _ (old mid new : View) (x : Cause) (on : WentOn old mid) where
+  pub turns_yield : (good : List ℕ → Type 0) (n : ℕ) (base : List ℕ) (k : ℕ) (cause : Cause) → got.Yield x ≡ got.Yield cause → GainsOn k old.meetings mid.meetings → GivesWay good n base ((k, x.seat) ∷ []) x mid new
+      → (waited : List (ℕ × ℕ)) × GivesWay good n base (waited ++ (k, cause.seat) ∷ []) cause old new
+  turns_yield good n base k cause e more gives =
+      subst (λ (y : Cause). (waited : List (ℕ × ℕ)) × GivesWay good n base (waited ++ (k, y.seat) ∷ []) y old new) (yield_is x cause e)
+      (gives_way_more good n base k ((k, x.seat) ∷ []) x old mid new on more gives)
+
+  pub turns_met : (sound : List ℕ → List View → Type 0) (k : ℕ) (cause : Cause) → got.Yield x ≡ got.Yield cause → (tried.Yield x ≡ tried.Granted) ⊎ MeetsAndJudges sound mid k (tried.Yield x) new
+      → (before : View) × WentOn old before × MeetsAndJudges sound before k (tried.Yield cause) new
+  turns_met sound k cause e met =
+      (mid, on, subst (λ (y : Cause). MeetsAndJudges sound mid k (tried.Yield y) new) (yield_is x cause e) (gave_way x (MeetsAndJudges sound mid k (tried.Yield x) new) met))
+
+  -- the restart bound, of a call that went on before
+  pub turns_bounded : (n : ℕ) → (tried.Yield x ≡ tried.Granted) ⊎ AreRestartsBounded n (number mid) new → AreRestartsBounded n (number old) new
+  turns_bounded n h = subst (λ (j : ℕ). AreRestartsBounded n j new) (ap number on) (gave_way x (AreRestartsBounded n (number mid) new) h)

@@ -19,7 +19,10 @@ line words = join_with_byte SPACE words ++ LINE_FEED ∷ []
 -- the words of the header
 abbrev pub header_words : ClearingBooks → List (List ℕ)
 header_words books =
-    codes "books" ∷ codes "1" ∷ codes "blocks" ∷ number books.blocks ∷ codes "instruments" ∷ number books.instruments ∷ codes "ring" ∷ number books.ring ∷ []
+    codes "books" ∷ codes "1"
+    ∷ codes "blocks" ∷ number books.blocks
+    ∷ codes "instruments" ∷ number books.instruments
+    ∷ codes "ring" ∷ number books.ring ∷ []
 
 -- the first line: sizes of books
 abbrev pub header_line : ClearingBooks → List ℕ
@@ -27,31 +30,32 @@ header_line books = line (header_words books)
 
 -- the words of an account
 abbrev pub account_words : ℕ × ℕ → List (List ℕ)
-account_words e = codes "account" ∷ number e.0 ∷ number e.1 ∷ []
+account_words (account, cash) = codes "account" ∷ number account ∷ number cash ∷ []
 
 -- an account and its cash
 abbrev pub account_line : ℕ × ℕ → List ℕ
-account_line e = line (account_words e)
+account_line account = line (account_words account)
 
 -- the words of a price
 abbrev pub price_words : ℕ × ℕ → List (List ℕ)
-price_words e = codes "price" ∷ number e.0 ∷ number e.1 ∷ []
+price_words (instrument, price) = codes "price" ∷ number instrument ∷ number price ∷ []
 
 -- an instrument and its price
 abbrev pub price_line : ℕ × ℕ → List ℕ
-price_line e = line (price_words e)
+price_line price = line (price_words price)
 
 -- the words of a position
 abbrev pub position_words : (ℕ × ℕ) × ℕ → List (List ℕ)
-position_words e = codes "position" ∷ number e.0.0 ∷ number e.0.1 ∷ number e.1 ∷ []
+position_words ((account, instrument), quantity) =
+    codes "position" ∷ number account ∷ number instrument ∷ number quantity ∷ []
 
 -- an account, an instrument and the quantity that is held
 abbrev pub position_line : (ℕ × ℕ) × ℕ → List ℕ
-position_line e = line (position_words e)
+position_line position = line (position_words position)
 
 -- the words of a margin call
 abbrev pub call_words : ℕ × ℕ → List (List ℕ)
-call_words call = codes "call" ∷ number call.0 ∷ number call.1 ∷ []
+call_words (account, shortfall) = codes "call" ∷ number account ∷ number shortfall ∷ []
 
 -- a margin call: an account and its shortfall
 abbrev pub call_line : ℕ × ℕ → List ℕ
@@ -74,7 +78,8 @@ operation_words (op.Deposit a x) = codes "deposit" ∷ number a ∷ number x ∷
 operation_words (op.Withdraw a x) = codes "withdraw" ∷ number a ∷ number x ∷ []
 operation_words (op.Move a b x) = codes "move" ∷ number a ∷ number b ∷ number x ∷ []
 operation_words (op.Price i p) = codes "price" ∷ number i ∷ number p ∷ []
-operation_words (op.Trade a b i q) = codes "trade" ∷ number a ∷ number b ∷ number i ∷ number q ∷ []
+operation_words (op.Trade a b i q) =
+    codes "trade" ∷ number a ∷ number b ∷ number i ∷ number q ∷ []
 operation_words (op.Margin a m) = codes "margin" ∷ number a ∷ number m ∷ []
 operation_words op.Next = codes "next" ∷ []
 operation_words (op.Show a) = codes "show" ∷ number a ∷ []

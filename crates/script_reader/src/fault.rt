@@ -61,6 +61,11 @@ pub enum InputFault {
 }
 
 impl fmt::Display for InputFault {
+    ghost use Rattle.std.specs.Prelude.{Some};
+    ghost use Rattle.script_reader.specs.FaultWords.{input_fault_words};
+
+    ghost output = { λ why. Some (input_fault_words why) };
+
     fn fmt<W: fmt::Write>(&self, f: &mut fmt::Formatter<W>) -> fmt::Result {
         match self {
             InputFault::Line { line, why } => write!(f, "line {line} {why}"),

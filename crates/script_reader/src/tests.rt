@@ -75,6 +75,20 @@ fn fault_of(rt: &HostRuntime, text: &str) -> Option<(u32, Fault)> {
 }
 
 #[test]
+fn words_of_a_refusal(rt: HostRuntime) -> Result<(), Fail> {
+    let fault = InputFault::Line {
+        line: 3,
+        why: Fault::Word,
+    };
+    assert_eq!(rt; format!(in rt.alloc(); "{fault}")?.as_str(), "line 3 word");
+    assert_eq!(rt;
+        format!(in rt.alloc(); "{}", InputFault::OutOfMemory)?.as_str(),
+        "out of memory"
+    );
+    Ok(())
+}
+
+#[test]
 fn first_faults(rt: HostRuntime) {
     let table = [
         ("", 1, Fault::End),

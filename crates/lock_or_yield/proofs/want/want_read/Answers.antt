@@ -1,15 +1,10 @@
-use Rattle.std.proofs.Common.{◌≡◌, ℕ, ⊎_elim, List, [], ◌∷◌, ◌++◌, refl, ap, ◌∙◌, subst}
-use Rattle.history_model.specs.declared.event.Cause.{Cause}
+use Rattle.std.proofs.Common.{[], ◌∷◌, refl, ap, ◌∙◌}
 use Rattle.history_model.specs.declared.view.View.{View}
 use Rattle.history_model.specs.Fitting.{IsGood}
 use Rattle.history_model.specs.Locks.{lock_of_word}
-use Rattle.history_model.specs.Views.{number}
-use Rattle.stamps_rule.specs.Stamps.{AreRestartsBounded}
 use Rattle.word_table.specs.Desks.{DeskHolds}
-use Rattle.lock_or_yield.specs.declared.turn.Tried.TheVariants as tried
-use Rattle.lock_or_yield.specs.Asking.{GivesWay, WentOn}
-use Rattle.lock_or_yield.specs.Turns.{MeetsAndJudges}
-use Rattle.lock_or_yield.proofs.Wanting.{asks_none, reads_none, asks_more, reads_more, went_nobody, went_on, gives_way_more, bounded_more, yield_is, not_granted}
+use Rattle.lock_or_yield.specs.Asking.{WentOn}
+use Rattle.lock_or_yield.proofs.Wanting.{asks_none, reads_none, asks_more, reads_more, went_nobody, went_on, turns_yield, turns_met, turns_bounded}
 use Rattle.lock_or_yield.proofs.want.want_read.Goals as goal
 
 pub loop-init : goal.loop-init
@@ -44,20 +39,12 @@ pub returns-in-Yield-clause-reads : goal.returns-in-Yield-clause-reads
 returns-in-Yield-clause-reads g c = reads_more (lock_of_word c.args.a) c.args.pass.now.view c.loop.pass.view c.try_read.new.pass.view c.loop.invariant.5 c.in-Yield.ensures.reads
 
 pub returns-in-Yield-clause-yields : goal.returns-in-Yield-clause-yields
-returns-in-Yield-clause-yields g c cause e = let k : ℕ = lock_of_word c.args.a in
-    let good = IsGood (g.S.Shape.word_count c.args.desk.now.shape) (g.S.Shape.good c.args.desk.now.shape) in
-    subst (λ (x : Cause). (waited : List (ℕ × ℕ)) × GivesWay good c.args.desk.now.seats c.args.desk.now.base (waited ++ (k, x.seat) ∷ []) x c.args.pass.now.view c.try_read.new.pass.view) (yield_is c.in-Yield.cause cause e)
-    (gives_way_more good c.args.desk.now.seats c.args.desk.now.base k ((k, c.in-Yield.cause.seat) ∷ []) c.in-Yield.cause c.args.pass.now.view c.loop.pass.view c.try_read.new.pass.view c.loop.invariant.6 c.loop.invariant.4.meetings (c.in-Yield.ensures.yields c.in-Yield.cause refl))
+returns-in-Yield-clause-yields g c cause e = let i = c.loop.invariant in let made = c.args.desk.now in
+    turns_yield c.args.pass.now.view c.loop.pass.view c.try_read.new.pass.view c.in-Yield.cause i.6 (IsGood (g.S.Shape.word_count made.shape) (g.S.Shape.good made.shape)) made.seats made.base (lock_of_word c.args.a) cause e i.4.meetings (c.in-Yield.ensures.yields c.in-Yield.cause refl)
 
--- the last turn gave way
 pub returns-in-Yield-clause-met : goal.returns-in-Yield-clause-met
-returns-in-Yield-clause-met g c cause e = let sound = DeskHolds g.S.Shape.word_count g.S.Shape.good c.args.desk.now in (
-  c.loop.pass.view,
-  c.loop.invariant.6,
-  subst (λ (x : Cause). MeetsAndJudges sound c.loop.pass.view (lock_of_word c.args.a) (tried.Yield x) c.try_read.new.pass.view) (yield_is c.in-Yield.cause cause e)
-      (⊎_elim (λ (z : tried.Yield c.in-Yield.cause ≡ tried.Granted). absurd (not_granted c.in-Yield.cause z)) (λ (m : MeetsAndJudges sound c.loop.pass.view (lock_of_word c.args.a) (tried.Yield c.in-Yield.cause) c.try_read.new.pass.view). m) c.in-Yield.ensures.met),
-)
+returns-in-Yield-clause-met g c cause e =
+    turns_met c.args.pass.now.view c.loop.pass.view c.try_read.new.pass.view c.in-Yield.cause c.loop.invariant.6 (DeskHolds g.S.Shape.word_count g.S.Shape.good c.args.desk.now) (lock_of_word c.args.a) cause e c.in-Yield.ensures.met
 
 pub returns-in-Yield-clause-bounded : goal.returns-in-Yield-clause-bounded
-returns-in-Yield-clause-bounded g c cause e = bounded_more c.args.desk.now.seats c.args.pass.now.view c.loop.pass.view c.try_read.new.pass.view c.loop.invariant.6
-    (⊎_elim (λ (z : tried.Yield c.in-Yield.cause ≡ tried.Granted). absurd (not_granted c.in-Yield.cause z)) (λ (h : AreRestartsBounded c.args.desk.now.seats (number c.loop.pass.view) c.try_read.new.pass.view). h) c.in-Yield.ensures.bounded)
+returns-in-Yield-clause-bounded g c cause e = turns_bounded c.args.pass.now.view c.loop.pass.view c.try_read.new.pass.view c.in-Yield.cause c.loop.invariant.6 c.args.desk.now.seats c.in-Yield.ensures.bounded
