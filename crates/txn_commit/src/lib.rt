@@ -15,3 +15,5 @@ pub use transaction::{Receipt, transact};
 
 #[cfg(test)]
 mod tests;
+#[cfg(test)]
+mod thread_tests;

@@ -1,31 +1,5 @@
-use Rattle.std.proofs.Common.{◌≡◌, ℕ, zero, suc, ◌<◌, ⊎_elim, List, [], ◌∷◌, refl, sym, subst, arith}
-use Rattle.history_model.specs.declared.view.Phase.TheVariants.{Idle}
-use Rattle.history_model.specs.Legal.{IsIn}
-use Rattle.values_rule.proofs.Members.{in_join, none_in}
-use Rattle.word_table.specs.Closing.{AreAllPasses}
-use Rattle.word_table.specs.Copies.{PassView}
-use Rattle.word_table.specs.Desks.{DeskView}
+use Rattle.lock_or_yield.proofs.TwoPasses.{closes_two}
 use Rattle.lock_or_yield.proofs.thread_tests.close_pair.Goals as goal
 
--- a fact of both passes is one of each
-each : (P : PassView → Type 0) (a b : PassView) → P a → P b → (p : PassView) → IsIn p (a ∷ b ∷ []) → P p
-each P a b x y p t = ⊎_elim (λ e. subst P e x) (λ s. ⊎_elim (λ e. subst P e y) (λ n. absurd (none_in p n)) (in_join b [] p s)) (in_join a (b ∷ []) p t)
-
-two_passes : {S : Type 0} (desk : DeskView S) (a b : PassView) → (a.table ≡ desk.table) × (a.view.who ≡ 0 ∷ []) × (a.view.phase ≡ Idle) → (b.table ≡ desk.table) × (b.view.who ≡ 1 ∷ []) × (b.view.phase ≡ Idle) → AreAllPasses desk.table 2 (a ∷ b ∷ [])
-two_passes desk a b x y = record {
-  of_table = each (λ p. p.table ≡ desk.table) a b x.0 y.0;
-  idle = each (λ p. p.view.phase ≡ Idle) a b x.2 y.2;
-  all = at;
-}
-  where
-    at : (j : ℕ) → j < 2 → (p : PassView) × IsIn p (a ∷ b ∷ []) × (p.view.who ≡ j ∷ [])
-    at zero lt = (a, (0, refl), x.1)
-    at (suc zero) lt = (b, (1, refl), y.1)
-    at (suc (suc j)) lt = absurd (omega arith)
-
 pub close-requires : goal.close-requires
-close-requires c = record {
-  all = subst (λ (l : List PassView). AreAllPasses c.args.desk.table c.args.desk.seats l) (sym c.in_ok-passes.ensures.items)
-      (subst (λ (n : ℕ). AreAllPasses c.args.desk.table n (c.args.zero ∷ c.args.one ∷ [])) (sym c.requires.seats)
-      (two_passes c.args.desk c.args.zero c.args.one c.requires.zero c.requires.one));
-}
+close-requires c = record { all = closes_two c.args.desk c.in_ok-passes.passes.items c.args.zero c.args.one c.requires.seats c.in_ok-passes.ensures.items c.requires.zero c.requires.one }
