@@ -5,3 +5,9 @@ pub mod Changes
 pub mod Whole
 pub mod Parts
 pub mod Empty
+pub mod Adding
+pub mod Walked
+pub mod Visited
+pub mod Filling
+pub mod Queued
+pub mod Stages

@@ -7,8 +7,11 @@
 
 pub mod laws;
 pub mod layout;
+mod listing;
+pub mod read;
 pub mod shape;
 
+pub use read::read_books;
 pub use shape::BooksShape;
 
 #[cfg(test)]
