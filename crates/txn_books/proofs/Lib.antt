@@ -4,10 +4,12 @@ pub mod Apart
 pub mod Changes
 pub mod Whole
 pub mod Parts
-pub mod Empty
 pub mod Adding
 pub mod Walked
 pub mod Visited
 pub mod Filling
 pub mod Queued
 pub mod Stages
+pub mod Laid
+pub mod Emptied
+pub mod Empty

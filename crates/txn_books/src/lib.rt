@@ -6,11 +6,13 @@
 #![tactic(auto)]
 
 pub mod laws;
+pub mod lay;
 pub mod layout;
 mod listing;
 pub mod read;
 pub mod shape;
 
+pub use lay::{empty_words, lay_free};
 pub use read::read_books;
 pub use shape::BooksShape;
 
