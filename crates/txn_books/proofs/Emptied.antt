@@ -68,7 +68,7 @@ blocks_lie shape words blocks ring long = record {
   outside = λ b a lt mine head. omega (arith, mine.low, head.high);
 }
 
-no_entries : {K : Type 0} (R : K → K → Ordering) → entry_map.entries (entry_map.empty {X = ℕ} {R = R}) ≡ []
+pub no_entries : {K : Type 0} (R : K → K → Ordering) → entry_map.entries (entry_map.empty {X = ℕ} {R = R}) ≡ []
 no_entries R = nil_from_length (entry_map.entries entry_map.empty) (sym (entry_map.len-entries entry_map.empty) ∙ entry_map.len-empty R ℕ)
 
 -- the chains hold nothing

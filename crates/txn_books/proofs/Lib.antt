@@ -13,3 +13,4 @@ pub mod Stages
 pub mod Laid
 pub mod Emptied
 pub mod Empty
+pub mod ByHand
