@@ -5,3 +5,6 @@ pub mod Changes
 pub mod Whole
 pub mod Parts
 pub mod Empty
+pub mod States
+pub mod Calls
+pub mod Accounts

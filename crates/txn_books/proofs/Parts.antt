@@ -12,7 +12,7 @@ use Rattle.txn_words.specs.Frames.{KeepsOthers, AppendsOnly}
 use Rattle.txn_words.proofs.FrameLaws.{only_keeps}
 use Rattle.txn_alloc.specs.declared.put.Put.{Put}
 use Rattle.txn_alloc.specs.declared.put.Put.TheVariants.{New, Old, Full}
-use Rattle.txn_alloc.specs.EntryMaps.{Blocks, HoldsApart, HasMapApart, IsOwn, Inserts}
+use Rattle.txn_alloc.specs.EntryMaps.{Blocks, HoldsApart, HasMapApart, IsOwn, InsertsNew, InsertsOld, Inserts, RemovesOne}
 use Rattle.txn_alloc.proofs.Counting.{times_of}
 use Rattle.txn_alloc.proofs.Parts.{free_unused}
 use Rattle.txn_alloc.proofs.Sets.{in_here, out_itself, contains-insert_other, contains-remove_other}
@@ -44,7 +44,7 @@ abbrev times_by : Bool → ℕ
 times_by m = cond m 1 0
 
 -- a block that goes from one set to another is in as many as before
-moved_among : (used free : Blocks) (c : ℕ) → set.contains used c ≡ false → set.contains free c ≡ true → (b : ℕ) → times_among b (set.insert used c ∷ set.remove free c ∷ []) ≡ times_among b (used ∷ free ∷ [])
+pub moved_among : (used free : Blocks) (c : ℕ) → set.contains used c ≡ false → set.contains free c ≡ true → (b : ℕ) → times_among b (set.insert used c ∷ set.remove free c ∷ []) ≡ times_among b (used ∷ free ∷ [])
 moved_among used free c out member b = dite (ℕ_discrete b c)
     (λ e. subst (λ z. times_among z (set.insert used c ∷ set.remove free c ∷ []) ≡ times_among z (used ∷ free ∷ [])) (sym e) (
     let in_new : times_of (set.insert used c) c ≡ 1 = member_one (set.insert used c) c (in_here used c) in
@@ -56,6 +56,12 @@ moved_among used free c out member b = dite (ℕ_discrete b c)
     let here : times_of (set.insert used c) b ≡ times_of used b = ap (λ m. times_by m) (contains-insert_other used c b ne) in
     let there : times_of (set.remove free c) b ≡ times_of free b = ap (λ m. times_by m) (contains-remove_other free c b ne) in
     omega (arith, here, there, two_among b (set.insert used c) (set.remove free c), two_among b used free))
+
+-- and one that goes back too
+pub back_among : (used free : Blocks) (c : ℕ) → set.contains used c ≡ true → set.contains free c ≡ false → (b : ℕ) → times_among b (set.remove used c ∷ set.insert free c ∷ []) ≡ times_among b (used ∷ free ∷ [])
+back_among used free c member out b =
+    let moved = moved_among free used c out member b in
+    omega (arith, moved, two_among b (set.remove used c) (set.insert free c), two_among b (set.insert free c) (set.remove used c), two_among b used free, two_among b free used)
 
 -- words that hold the parts of some books of these sizes
 abbrev pub HasSomeParts : BooksShape → List ℕ → Type 0
@@ -74,24 +80,32 @@ some_chains shape words some = subst (λ z. HasMapApart (chain_part (chains_of z
 
 -- an insert into the tree leaves books with one account more, or with other cash, or as they were
 module _ (old new : List ℕ) (books : ClearingBooks) (in_hand : List ℕ) (parts : HasParts old books in_hand) (key x : ℕ) where
+  pub tree_new : InsertsNew (tree_part (tree_of (shape_of books))) key x new books.accounts parts.tree_used parts.free → KeepsOthers (IsOwn (tree_part (tree_of (shape_of books))) key old new) old new
+      → HasParts new (record books { accounts = entry_map.insert books.accounts key x }) in_hand
+  tree_new k kept =
+      let out = free_unused (tree_part (tree_of (shape_of books))) old books.accounts parts.tree_used parts.free k.block (tree_free old books in_hand parts) k.was_free in
+      tree_change old new books in_hand parts (entry_map.insert books.accounts key x) (set.insert parts.tree_used k.block) (set.remove parts.free k.block) key k.left.map k.left.free_lists
+      (moved_among parts.tree_used parts.free k.block out k.was_free) kept
+
+  pub tree_old : (was : ℕ) → InsertsOld (tree_part (tree_of (shape_of books))) key x was new books.accounts parts.tree_used parts.free → KeepsOthers (IsOwn (tree_part (tree_of (shape_of books))) key old new) old new
+      → HasParts new (record books { accounts = entry_map.insert books.accounts key x }) in_hand
+  tree_old was k kept = tree_change old new books in_hand parts (entry_map.insert books.accounts key x) parts.tree_used parts.free key k.left.map k.left.free_lists (λ b. refl) kept
+
   pub tree_inserted : (put : Put) → Inserts (tree_part (tree_of (shape_of books))) key x put old new → KeepsOthers (IsOwn (tree_part (tree_of (shape_of books))) key old new) old new
       → (after : ClearingBooks) × (shape_of after ≡ shape_of books) × HasParts new after in_hand
   tree_inserted New inserts kept =
-      let hold = tree_free old books in_hand parts in
-      let k = inserts books.accounts parts.tree_used parts.free hold in
-      let out = free_unused (tree_part (tree_of (shape_of books))) old books.accounts parts.tree_used parts.free k.block hold k.was_free in (
-        record books { accounts = entry_map.insert books.accounts key x },
-        refl,
-        tree_change old new books in_hand parts (entry_map.insert books.accounts key x) (set.insert parts.tree_used k.block) (set.remove parts.free k.block) key k.left.map k.left.free_lists
-            (moved_among parts.tree_used parts.free k.block out k.was_free) kept,
-      )
+      (record books { accounts = entry_map.insert books.accounts key x }, refl, tree_new (inserts books.accounts parts.tree_used parts.free (tree_free old books in_hand parts)) kept)
   tree_inserted (Old was) inserts kept =
-      let k = inserts books.accounts parts.tree_used parts.free (tree_free old books in_hand parts) in (
-        record books { accounts = entry_map.insert books.accounts key x },
-        refl,
-        tree_change old new books in_hand parts (entry_map.insert books.accounts key x) parts.tree_used parts.free key k.left.map k.left.free_lists (λ b. refl) kept,
-      )
+      (record books { accounts = entry_map.insert books.accounts key x }, refl, tree_old was (inserts books.accounts parts.tree_used parts.free (tree_free old books in_hand parts)) kept)
   tree_inserted Full inserts kept = (books, refl, subst (λ z. HasParts z books in_hand) (sym inserts) parts)
+
+-- a removal from the tree leaves books with one account less
+pub tree_cut : (old new : List ℕ) (books : ClearingBooks) (in_hand : List ℕ) (parts : HasParts old books in_hand) (key was : ℕ) → RemovesOne (tree_part (tree_of (shape_of books))) key was new books.accounts parts.tree_used parts.free
+    → KeepsOthers (IsOwn (tree_part (tree_of (shape_of books))) key old new) old new → HasParts new (record books { accounts = entry_map.remove books.accounts key }) in_hand
+tree_cut old new books in_hand parts key was k kept =
+    let out = (tree_free old books in_hand parts).apart k.block k.was_used in
+    tree_change old new books in_hand parts (entry_map.remove books.accounts key) (set.remove parts.tree_used k.block) (set.insert parts.free k.block) key k.left.map k.left.free_lists
+    (back_among parts.tree_used parts.free k.block k.was_used out) kept
 
 pub some_inserted : (shape : BooksShape) (old new : List ℕ) (key x : ℕ) (put : Put) → HasSomeParts shape old → Inserts (tree_part (tree_of shape)) key x put old new → KeepsOthers (IsOwn (tree_part (tree_of shape)) key old new) old new
     → HasSomeParts shape new

@@ -1,3 +1,5 @@
 pub mod Layout
 pub mod Standing
 pub mod Statements
+pub mod Access
+pub mod Inner
