@@ -8,3 +8,4 @@ pub mod Empty
 pub mod States
 pub mod Calls
 pub mod Accounts
+pub mod MarginCalls

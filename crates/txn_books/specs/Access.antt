@@ -21,3 +21,8 @@ Changes shape change old new = (books : ClearingBooks) → Stands shape old book
 pub record ChangesWithRoom (shape : BooksShape) (lacks_room : ClearingBooks → Bool) (change : ClearingBooks → ClearingBooks) (had_room : Bool) (old new : List ℕ) : Type 0 where
   pub answer : (books : ClearingBooks) → Stands shape old books → had_room ≡ not (lacks_room books)
   pub left : (books : ClearingBooks) → Stands shape old books → Stands shape new (if had_room then change books else books)
+
+-- from state to state: the answer is what the books say, and they change so
+pub record TellsAndChanges {A : Type 0} (shape : BooksShape) (says : ClearingBooks → A) (change : ClearingBooks → ClearingBooks) (answer : A) (old new : List ℕ) : Type 0 where
+  pub told : (books : ClearingBooks) → Stands shape old books → answer ≡ says books
+  pub left : (books : ClearingBooks) → Stands shape old books → Stands shape new (change books)

@@ -8,6 +8,7 @@
 pub mod cash;
 pub mod laws;
 pub mod layout;
+pub mod queue;
 mod room;
 pub mod shape;
 
