@@ -1,5 +1,6 @@
 pub mod Keyed
 pub mod Chained
+pub mod ChainedChanges
 pub mod Apart
 pub mod Changes
 pub mod Whole
