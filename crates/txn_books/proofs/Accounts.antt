@@ -1,11 +1,9 @@
 -- What calls on the tree of accounts say of books.
-use Rattle.std.proofs.Common.{◌≡◌, ℕ, ◌*◌, ◌^◌, ◌<◌, ◌≤◌, Bool, true, false, not, ◌==◌, Option, Some, None, IsSome, IfSome, List, [], length, cond, refl, sym, ap, ◌∙◌, subst, arith}
+use Rattle.std.proofs.Common.{◌≡◌, ℕ, ◌*◌, ◌^◌, ◌<◌, ◌≤◌, true, false, not, ◌==◌, Option, Some, None, IsSome, IfSome, List, [], length, refl, sym, ◌∙◌, subst, arith}
 use Rattle.std.specs.Cmp.{nat_cmp_total}
-use Rattle.std.specs.Ordering.{nat_cmp, eq_by_cmp}
 use Rattle.std.specs.List.{sum_by}
 use Rattle.std.specs.FinMap as map
 use Rattle.std.proofs.lemmas.Map.Lookups.{exact_unsigned}
-use Rattle.std.proofs.lemmas.Map.Views.{tells_apart}
 use Rattle.books_model.proofs.Entries.{All-entries, sum_by-most}
 use Rattle.books_model.proofs.Drafts.{closed-in_range}
 use Rattle.txn_tree_map.proofs.Maps.{one_map}
@@ -26,6 +24,7 @@ use Rattle.txn_books.specs.Layout.{shape_of, tree_of}
 use Rattle.txn_books.specs.Standing.{Stands, IsGoodFor}
 use Rattle.txn_books.specs.Access.{OfBooks, Tells, Changes, ChangesWithRoom}
 use Rattle.txn_books.specs.Inner.Rooms.{had_room}
+use Rattle.txn_books.proofs.ChainedChanges.{remove_absent}
 use Rattle.txn_books.proofs.Parts.{good_parts, some_tree, tree_free, tree_new, tree_old, tree_cut}
 use Rattle.txn_books.proofs.States.{tree_apart, has_room, no_room}
 use Rattle.txn_books.proofs.Calls.{IsPut, IsCut}
@@ -128,20 +127,12 @@ account_set shape a v fits (Old was) x y there put = λ books stand. account_old
 account_set shape a v fits Full x y there put = λ books stand.
     is_there (map.get books.accounts a) (there books stand) (put.full refl books.accounts stand.parts.tree_used stand.parts.free (tree_apart shape x books stand)).0
 
--- a map from which an absent key is taken is the same
-remove_absent : (m : map.FinMap nat_cmp ℕ) (k : ℕ) → map.get m k ≡ None → map.remove m k ≡ m
-remove_absent m k none = map.same_map nat_cmp_total map.nat_cmp-IsAntisymmetric (map.remove m k) m (λ q. at q (eq_by_cmp nat_cmp q k) refl)
-  where
-    at : (q : ℕ) (b : Bool) → eq_by_cmp nat_cmp q k ≡ b → map.get (map.remove m k) q ≡ map.get m q
-    at q false e = map.get-remove nat_cmp_total m k q ∙ ap (λ b. cond b None (map.get m q)) e
-    at q true e = map.get-remove nat_cmp_total m k q ∙ ap (λ b. cond b None (map.get m q)) e ∙ sym (ap (map.get m) (tells_apart exact_unsigned q k e) ∙ none)
-
 -- what a removal of an account that holds nothing did
 pub account_removed : (shape : BooksShape) (a : ℕ) (answer : Option ℕ) (x y : List ℕ) → OfBooks shape (λ books. holds_any books a ≡ false) x → IsCut (tree_part (tree_of shape)) a answer x y
     → Changes shape (λ books. record books { accounts = map.remove books.accounts a }) x y
 account_removed shape a None x y nothing cut = λ books stand.
     let none : map.get books.accounts a ≡ None = sym (cut.removes.found books.accounts stand.parts.tree_used (tree_apart shape x books stand).map) in
-    subst (λ m. Stands shape y (record books { accounts = m })) (sym (remove_absent books.accounts a none)) (subst (λ z. Stands shape z books) (sym cut.removes.same) stand)
+    subst (λ m. Stands shape y (record books { accounts = m })) (sym (remove_absent nat_cmp_total map.nat_cmp-IsAntisymmetric books.accounts a none)) (subst (λ z. Stands shape z books) (sym cut.removes.same) stand)
 account_removed shape a (Some was) x y nothing cut = λ books stand.
     let k = (subst (λ z. Removes (tree_part (tree_of z)) a (Some was) x y) (sym stand.sizes) cut.removes) books.accounts stand.parts.tree_used stand.parts.free (tree_free x books [] stand.parts) in
     record {

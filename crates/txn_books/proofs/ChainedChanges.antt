@@ -1,11 +1,11 @@
 -- A price or a position that is put or taken out, in what the chains hold.
-use Rattle.std.proofs.Common.{◌≡◌, ◌≢◌, ℕ, ◌+◌, ◌-◌, ◌*◌, ◌/◌, ◌%◌, ◌<◌, ◌≤◌, Bool, true, false, cond, inl, inr, Option, Some, None, refl, sym, ap, ◌∙◌, arith}
+use Rattle.std.proofs.Common.{◌≡◌, ◌≢◌, ℕ, ◌+◌, ◌/◌, ◌%◌, ◌<◌, ◌≤◌, Bool, true, false, cond, inl, inr, Some, None, refl, sym, ap, ◌∙◌, arith}
 use mathlib.Core.Logic.{dite}
 use native.Mathlib.Decide.{ℕ_discrete}
 use Rattle.std.proofs.lemmas.Bool.{cases_lt}
 use Rattle.std.specs.Cmp.{IsTotalOrder, nat_cmp_total, tied_itself}
 use Rattle.std.specs.declared.cmp.Ordering.{Ordering}
-use Rattle.std.specs.Ordering.{nat_cmp, eq_by_cmp, is_eq}
+use Rattle.std.specs.Ordering.{eq_by_cmp, is_eq}
 use Rattle.std.specs.FinMap as entry_map
 use Rattle.std.specs.FinMap.{nat_cmp-IsAntisymmetric}
 use Rattle.std.proofs.lemmas.Map.Lookups.{CmpEqualImpliesEq}
@@ -39,6 +39,14 @@ module _ {K : Type 0} {R : K → K → Ordering} (total : IsTotalOrder R) (exact
 
   pub out_there : (q : K) → q ≢ k → entry_map.get (entry_map.remove m k) q ≡ entry_map.get m q
   out_there q ne = entry_map.get-remove total m k q ∙ ap (λ b. cond b None (entry_map.get m q)) (apart q ne)
+
+-- a map from which an absent key is taken is the same
+pub remove_absent : {K : Type 0} {R : K → K → Ordering} → IsTotalOrder R → CmpEqualImpliesEq R → (m : entry_map.FinMap R ℕ) (k : K) → entry_map.get m k ≡ None → entry_map.remove m k ≡ m
+remove_absent {K} {R} total exact m k none = entry_map.same_map total exact (entry_map.remove m k) m (λ q. at q (eq_by_cmp R q k) refl)
+  where
+    at : (q : K) (b : Bool) → eq_by_cmp R q k ≡ b → entry_map.get (entry_map.remove m k) q ≡ entry_map.get m q
+    at q false e = entry_map.get-remove total m k q ∙ ap (λ b. cond b None (entry_map.get m q)) e
+    at q true e = entry_map.get-remove total m k q ∙ ap (λ b. cond b None (entry_map.get m q)) e ∙ sym (ap (entry_map.get m) (tells_apart exact q k e) ∙ none)
 
 -- entries that say of each price and each position what the books say are what the chains hold
 module _ (books : ClearingBooks) (range : AreInRange books) (f : Entries)

@@ -10,3 +10,5 @@ pub mod States
 pub mod Calls
 pub mod Accounts
 pub mod MarginCalls
+pub mod Holdings
+pub mod Looking

@@ -2,9 +2,10 @@
 use Rattle.std.proofs.Common.{◌≡◌, ℕ, Bool, true, false, cond, List, [], ◌∷◌, refl, sym, ap, ◌∙◌, subst, arith}
 use mathlib.Core.Logic.{dite}
 use native.Mathlib.Decide.{ℕ_discrete}
+use Rattle.std.specs.Ordering.{nat_cmp}
 use Rattle.std.specs.FinSet as set
 use Rattle.std.specs.FinMap as entry_map
-use Rattle.books_model.specs.Books.{ClearingBooks}
+use Rattle.books_model.specs.Books.{ClearingBooks, position_cmp}
 use Rattle.history_model.specs.Traces.{Trace, after, Begins}
 use Rattle.history_model.specs.Fitting.{Fits, InEach, Leads}
 use Rattle.history_model.proofs.FittingLaws.{fits_begins, each_fresh}
@@ -17,12 +18,12 @@ use Rattle.txn_alloc.proofs.Counting.{times_of}
 use Rattle.txn_alloc.proofs.Parts.{free_unused}
 use Rattle.txn_alloc.proofs.Sets.{in_here, out_itself, contains-insert_other, contains-remove_other}
 use Rattle.txn_tree_map.specs.Trees.{tree_part}
-use Rattle.txn_hash_map.specs.Chains.{chain_part}
+use Rattle.txn_hash_map.specs.Chains.{ChainsHold, chain_part}
 use Rattle.txn_books.specs.declared.shape.BooksShape.{BooksShape}
 use Rattle.txn_books.specs.Layout.{shape_of, words_of, tree_of, chains_of, chained}
 use Rattle.txn_books.specs.Standing.{times_among, HasParts, IsGoodFor}
 use Rattle.txn_books.proofs.Apart.{member_one, out_none, two_among, out_other}
-use Rattle.txn_books.proofs.Changes.{at_once, tree_below, chain_below, tree_change}
+use Rattle.txn_books.proofs.Changes.{at_once, tree_below, chain_below, tree_change, chain_change}
 
 module _ (words : List ℕ) (books : ClearingBooks) (in_hand : List ℕ) (parts : HasParts words books in_hand) where
   -- neither the tree nor the chains use a free block
@@ -106,6 +107,29 @@ tree_cut old new books in_hand parts key was k kept =
     let out = (tree_free old books in_hand parts).apart k.block k.was_used in
     tree_change old new books in_hand parts (entry_map.remove books.accounts key) (set.remove parts.tree_used k.block) (set.insert parts.free k.block) key k.left.map k.left.free_lists
     (back_among parts.tree_used parts.free k.block k.was_used out) kept
+
+-- a call on the chains leaves books with other positions and prices, those that the chains then hold
+module _ (old new : List ℕ) (books : ClearingBooks) (in_hand : List ℕ) (parts : HasParts old books in_hand) (positions : entry_map.FinMap position_cmp ℕ) (prices : entry_map.FinMap nat_cmp ℕ) (key : ℕ)
+    (kept : KeepsOthers (IsOwn (chain_part (chains_of (shape_of books))) key old new) old new) where
+  pub chain_new : (x : ℕ) → InsertsNew (chain_part (chains_of (shape_of books))) key x new (chained books) parts.chain_used parts.free
+      → entry_map.insert (chained books) key x ≡ chained (record books { positions = positions; prices = prices }) → HasParts new (record books { positions = positions; prices = prices }) in_hand
+  chain_new x k e =
+      let out = free_unused (chain_part (chains_of (shape_of books))) old (chained books) parts.chain_used parts.free k.block (chains_free old books in_hand parts) k.was_free in
+      chain_change old new books in_hand parts positions prices (set.insert parts.chain_used k.block) (set.remove parts.free k.block) key
+      (subst (λ f. ChainsHold (chains_of (shape_of books)) new f (set.insert parts.chain_used k.block)) e k.left.map) k.left.free_lists (moved_among parts.chain_used parts.free k.block out k.was_free) kept
+
+  pub chain_old : (x was : ℕ) → InsertsOld (chain_part (chains_of (shape_of books))) key x was new (chained books) parts.chain_used parts.free
+      → entry_map.insert (chained books) key x ≡ chained (record books { positions = positions; prices = prices }) → HasParts new (record books { positions = positions; prices = prices }) in_hand
+  chain_old x was k e =
+      chain_change old new books in_hand parts positions prices parts.chain_used parts.free key
+      (subst (λ f. ChainsHold (chains_of (shape_of books)) new f parts.chain_used) e k.left.map) k.left.free_lists (λ b. refl) kept
+
+  pub chain_cut : (was : ℕ) → RemovesOne (chain_part (chains_of (shape_of books))) key was new (chained books) parts.chain_used parts.free
+      → entry_map.remove (chained books) key ≡ chained (record books { positions = positions; prices = prices }) → HasParts new (record books { positions = positions; prices = prices }) in_hand
+  chain_cut was k e =
+      let out = (chains_free old books in_hand parts).apart k.block k.was_used in
+      chain_change old new books in_hand parts positions prices (set.remove parts.chain_used k.block) (set.insert parts.free k.block) key
+      (subst (λ f. ChainsHold (chains_of (shape_of books)) new f (set.remove parts.chain_used k.block)) e k.left.map) k.left.free_lists (back_among parts.chain_used parts.free k.block k.was_used out) kept
 
 pub some_inserted : (shape : BooksShape) (old new : List ℕ) (key x : ℕ) (put : Put) → HasSomeParts shape old → Inserts (tree_part (tree_of shape)) key x put old new → KeepsOthers (IsOwn (tree_part (tree_of shape)) key old new) old new
     → HasSomeParts shape new

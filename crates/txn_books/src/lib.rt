@@ -8,6 +8,8 @@
 pub mod cash;
 pub mod laws;
 pub mod layout;
+pub mod price;
+pub mod quantity;
 pub mod queue;
 mod room;
 pub mod shape;
