@@ -1,5 +1,6 @@
 pub mod Keyed
 pub mod Chained
+pub mod ChainedChanges
 pub mod Apart
 pub mod Changes
 pub mod Whole
@@ -14,3 +15,9 @@ pub mod Laid
 pub mod Emptied
 pub mod Empty
 pub mod ByHand
+pub mod States
+pub mod Calls
+pub mod Accounts
+pub mod MarginCalls
+pub mod Holdings
+pub mod Looking
