@@ -1,12 +1,12 @@
 -- Books to which one entry after another is added.
-use Rattle.std.proofs.Common.{◌≡◌, ℕ, suc, get_or, drop, ◌+◌, ◌/◌, ◌%◌, ◌<◌, ◌≤◌, true, false, cond, List, [], ◌∷◌, length, map, filter, not, Some, None, IsSome, refl, sym, ap, ◌∙◌, subst, arith, rules}
+use Rattle.std.proofs.Common.{◌≡◌, ℕ, suc, get_or, drop, ◌+◌, ◌/◌, ◌%◌, ◌<◌, ◌≤◌, true, false, cond, List, [], ◌∷◌, length, map, filter, not, Option, Some, None, IsSome, refl, sym, ap, ◌∙◌, subst, arith, rules}
 use Rattle.std.proofs.Math.Seq.{drop-cons}
 use Rattle.std.specs.Cmp.{nat_cmp_total}
 use Rattle.std.specs.FinMap.{nat_cmp-IsAntisymmetric}
 use Rattle.std.specs.FinMap as entry_map
 use Rattle.books_model.specs.declared.limits.TheConstants.{MOST_INSTRUMENTS, GREATEST_CASH, GREATEST_PRICE, GREATEST_QUANTITY}
 use Rattle.books_model.specs.Books.{ClearingBooks, used, put_cash, put_price, put_quantity}
-use Rattle.books_model.specs.Ranges.{IsWithin, IsAccountNumber, IsInstrumentOf}
+use Rattle.books_model.specs.Ranges.{AreInRange, IsWithin, IsAccountNumber, IsInstrumentOf}
 use Rattle.books_model.specs.Inner.Keys.{positions_total, exact_positions}
 use Rattle.txn_books.specs.Inner.Reading.{AddsUp, is_price_key, prices_in, positions_in, AddsAccounts, AddsPrices, AddsPositions}
 use Rattle.txn_books.proofs.Adding.{adds_first, adds_length}
@@ -23,6 +23,52 @@ price_below key is = grind (arith, rules, is)
 
 pub price_above : (key : ℕ) → is_price_key key ≡ false → MOST_INSTRUMENTS ≤ key
 price_above key is = grind (arith, rules, is)
+
+-- a price that is the next to be put in is new, in range and has room
+pub record NewPrice (i price : ℕ) (books : ClearingBooks) : Type 0 where
+  pub number : IsInstrumentOf books i
+  pub price_range : IsWithin 1 GREATEST_PRICE price
+  pub absent : entry_map.get books.prices i ≡ None
+  pub room : used books < books.blocks
+
+pub new_price : (i price : ℕ) (rest : List (ℕ × ℕ)) (books after : ClearingBooks) → AddsUp books.prices ((i, price) ∷ rest) after.prices → after ≡ record books { prices = after.prices } → AreInRange after → NewPrice i price books
+new_price i price rest books after adds same range =
+    let there = range.prices i price (adds_first nat_cmp_total nat_cmp-IsAntisymmetric (i, price) rest books.prices after.prices adds) in
+    let long : entry_map.len books.prices + length ((i, price) ∷ rest) ≡ entry_map.len after.prices = adds_length nat_cmp_total nat_cmp-IsAntisymmetric ((i, price) ∷ rest) books.prices after.prices adds in
+    let uses : used after ≡ used (record books { prices = after.prices }) = ap (λ b. used b) same in
+    let blocks : after.blocks ≡ books.blocks = ap (λ (b : ClearingBooks). b.blocks) same in
+    let instruments : after.instruments ≡ books.instruments = ap (λ (b : ClearingBooks). b.instruments) same in
+    record { number = (there.0.0, omega (arith, there.0.1, instruments)); price_range = there.1; absent = adds.0; room = omega (arith, long, uses, blocks, range.blocks_used) }
+
+some_in : (o : Option ℕ) → IsSome o → (x : ℕ) × (o ≡ Some x)
+some_in None h = absurd (cc)
+some_in (Some x) h = (x, refl)
+
+-- and so is a position, whose account and price are there
+pub record NewPosition (a i quantity : ℕ) (books : ClearingBooks) : Type 0 where
+  pub owner : IsSome (entry_map.get books.accounts a)
+  pub number : IsAccountNumber a
+  pub price : IsSome (entry_map.get books.prices i)
+  pub quantity_range : IsWithin 1 GREATEST_QUANTITY quantity
+  pub absent : entry_map.get books.positions (a, i) ≡ None
+  pub room : used books < books.blocks
+
+pub new_position : (a i quantity : ℕ) (rest : List ((ℕ × ℕ) × ℕ)) (books after : ClearingBooks) → AddsUp books.positions (((a, i), quantity) ∷ rest) after.positions → after ≡ record books { positions = after.positions } → AreInRange after
+    → NewPosition a i quantity books
+new_position a i quantity rest books after adds same range =
+    let there = range.positions a i quantity (adds_first positions_total exact_positions ((a, i), quantity) rest books.positions after.positions adds) in
+    let long : entry_map.len books.positions + length (((a, i), quantity) ∷ rest) ≡ entry_map.len after.positions = adds_length positions_total exact_positions (((a, i), quantity) ∷ rest) books.positions after.positions adds in
+    let uses : used after ≡ used (record books { positions = after.positions }) = ap (λ b. used b) same in
+    let blocks : after.blocks ≡ books.blocks = ap (λ (b : ClearingBooks). b.blocks) same in
+    let some = some_in (entry_map.get after.accounts a) there.0 in
+    record {
+      owner = subst (λ m. IsSome (entry_map.get m a)) (ap (λ (b : ClearingBooks). b.accounts) same) there.0;
+      number = (range.accounts a some.0 some.1).0;
+      price = subst (λ m. IsSome (entry_map.get m i)) (ap (λ (b : ClearingBooks). b.prices) same) there.1;
+      quantity_range = there.2;
+      absent = adds.0;
+      room = omega (arith, long, uses, blocks, range.blocks_used);
+    }
 
 module _ (e : ℕ × ℕ) (es : List (ℕ × ℕ)) (books after : ClearingBooks) where
   -- the next account is new, in range and has room
@@ -59,19 +105,8 @@ module _ (e : ℕ × ℕ) (es : List (ℕ × ℕ)) (books after : ClearingBooks)
   price_next is h =
       let adds : AddsUp books.prices ((e.0 + 1, e.1) ∷ prices_in es) after.prices =
       subst (λ b. AddsUp books.prices (map (λ d. (d.0 + 1, d.1)) (cond b (e ∷ filter (λ d. is_price_key d.0) es) (filter (λ d. is_price_key d.0) es))) after.prices) is h.adds in
-      let there = h.range.prices (e.0 + 1) e.1 (adds_first nat_cmp_total nat_cmp-IsAntisymmetric (e.0 + 1, e.1) (prices_in es) books.prices after.prices adds) in
-      let long : entry_map.len books.prices + length ((e.0 + 1, e.1) ∷ prices_in es) ≡ entry_map.len after.prices =
-      adds_length nat_cmp_total nat_cmp-IsAntisymmetric ((e.0 + 1, e.1) ∷ prices_in es) books.prices after.prices adds in
-      let uses : used after ≡ used (record books { prices = after.prices }) = ap (λ b. used b) h.same in
-      let blocks : after.blocks ≡ books.blocks = ap (λ (b : ClearingBooks). b.blocks) h.same in
-      let instruments : after.instruments ≡ books.instruments = ap (λ (b : ClearingBooks). b.instruments) h.same in
-      record {
-        number = (there.0.0, omega (arith, there.0.1, instruments));
-        price = there.1;
-        absent = adds.0;
-        room = omega (arith, long, uses, blocks, h.range.blocks_used);
-        rest = record { adds = adds.1; same = h.same; range = h.range };
-      }
+      let k = new_price (e.0 + 1) e.1 (prices_in es) books after adds h.same h.range in
+      record { number = k.number; price = k.price_range; absent = k.absent; room = k.room; rest = record { adds = adds.1; same = h.same; range = h.range } }
 
   pub price_skip : is_price_key e.0 ≡ false → AddsPrices (e ∷ es) books after → AddsPrices es books after
   price_skip is h = record {
@@ -101,29 +136,12 @@ module _ (e : ℕ × ℕ) (es : List (ℕ × ℕ)) (books after : ClearingBooks)
   positions_of b is h =
       subst (λ b. AddsUp books.positions (map (λ d. ((d.0 / MOST_INSTRUMENTS, d.0 % MOST_INSTRUMENTS + 1), d.1)) (cond b (e ∷ filter (λ d. not (is_price_key d.0)) es) (filter (λ d. not (is_price_key d.0)) es))) after.positions) is h.adds
 
-  some_in : (o : _) → IsSome o → (x : ℕ) × (o ≡ Some x)
-  some_in None h = absurd (cc)
-  some_in (Some x) h = (x, refl)
-
   pub position_next : is_price_key e.0 ≡ false → AddsPositions (e ∷ es) books after → NextPosition
   position_next is h =
       let place : ℕ × ℕ = (account, instrument) in
       let adds : AddsUp books.positions ((place, e.1) ∷ positions_in es) after.positions = positions_of true (ap not is) h in
-      let there = h.range.positions account instrument e.1 (adds_first positions_total exact_positions (place, e.1) (positions_in es) books.positions after.positions adds) in
-      let long : entry_map.len books.positions + length ((place, e.1) ∷ positions_in es) ≡ entry_map.len after.positions =
-      adds_length positions_total exact_positions ((place, e.1) ∷ positions_in es) books.positions after.positions adds in
-      let uses : used after ≡ used (record books { positions = after.positions }) = ap (λ b. used b) h.same in
-      let blocks : after.blocks ≡ books.blocks = ap (λ (b : ClearingBooks). b.blocks) h.same in
-      let some = some_in (entry_map.get after.accounts account) there.0 in
-      record {
-        owner = subst (λ m. IsSome (entry_map.get m account)) (ap (λ (b : ClearingBooks). b.accounts) h.same) there.0;
-        number = (h.range.accounts account some.0 some.1).0;
-        price = subst (λ m. IsSome (entry_map.get m instrument)) (ap (λ (b : ClearingBooks). b.prices) h.same) there.1;
-        quantity = there.2;
-        absent = adds.0;
-        room = omega (arith, long, uses, blocks, h.range.blocks_used);
-        rest = record { adds = adds.1; same = h.same; range = h.range };
-      }
+      let k = new_position account instrument e.1 (positions_in es) books after adds h.same h.range in
+      record { owner = k.owner; number = k.number; price = k.price; quantity = k.quantity_range; absent = k.absent; room = k.room; rest = record { adds = adds.1; same = h.same; range = h.range } }
 
   pub position_skip : is_price_key e.0 ≡ true → AddsPositions (e ∷ es) books after → AddsPositions es books after
   position_skip is h = record { adds = positions_of false (ap not is) h; same = h.same; range = h.range }

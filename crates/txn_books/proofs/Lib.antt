@@ -21,3 +21,7 @@ pub mod Accounts
 pub mod MarginCalls
 pub mod Holdings
 pub mod Looking
+pub mod Built
+pub mod Walking
+pub mod Growing
+pub mod Relaid

@@ -20,7 +20,7 @@ use Rattle.txn_books.specs.declared.shape.BooksShape.{BooksShape}
 use Rattle.txn_books.specs.Layout.{tree_of, chains_of, queue_of, price_key_of, position_key_of, chained}
 use Rattle.txn_books.specs.Standing.{Stands}
 use Rattle.txn_books.specs.Statements.{IsInstrument}
-use Rattle.txn_books.specs.Inner.Reading.{AddsUp, is_price_key, prices_in, positions_in, AddsAccounts, AddsPrices, AddsPositions, AddsCalls}
+use Rattle.txn_books.specs.Inner.Reading.{AddsUp, is_price_key, prices_in, positions_in, AddsAccounts, AddsPrices, AddsPositions, AddsCalls, nothing_yet, with_accounts, with_prices, with_positions}
 use Rattle.txn_books.proofs.Adding.{put_same, put_other}
 use Rattle.txn_books.proofs.Chained.{IsPlace, price_in, position_in, get_price, get_position}
 use Rattle.txn_books.proofs.Filling.{price_below, price_above}
@@ -159,20 +159,8 @@ module _ (whole : ClearingBooks) (range : AreInRange whole) where
   all_positions_add es adds = positions_add es entry_map.empty entry_map.empty
       (λ a i one is. entry_map.get-empty position_cmp (a, i) ∙ sym (entry_map.get-empty nat_cmp (position_key_of a i)), λ p x there. absurd (none-some x (sym (entry_map.get-empty position_cmp p) ∙ there))) adds
 
-  -- the stages
-  abbrev pub nothing_yet : ClearingBooks
-  nothing_yet = empty_books whole.blocks whole.instruments whole.ring
-
-  abbrev pub with_accounts : ClearingBooks
-  with_accounts = record nothing_yet { accounts = whole.accounts }
-
-  abbrev pub with_prices : ClearingBooks
-  with_prices = record with_accounts { prices = whole.prices }
-
-  abbrev pub with_positions : ClearingBooks
-  with_positions = record with_prices { positions = whole.positions }
-
-  accounts_range : AreInRange with_accounts
+  -- the stages are in range
+  pub accounts_range : AreInRange (with_accounts whole)
   accounts_range = record {
     blocks = range.blocks;
     instruments = range.instruments;
@@ -185,7 +173,7 @@ module _ (whole : ClearingBooks) (range : AreInRange whole) where
     blocks_used = omega (arith, range.blocks_used, entry_map.len-empty nat_cmp ℕ, entry_map.len-empty position_cmp ℕ);
   }
 
-  prices_range : AreInRange with_prices
+  pub prices_range : AreInRange (with_prices whole)
   prices_range = record {
     blocks = range.blocks;
     instruments = range.instruments;
@@ -198,7 +186,7 @@ module _ (whole : ClearingBooks) (range : AreInRange whole) where
     blocks_used = omega (arith, range.blocks_used, entry_map.len-empty position_cmp ℕ);
   }
 
-  positions_range : AreInRange with_positions
+  pub positions_range : AreInRange (with_positions whole)
   positions_range = record {
     blocks = range.blocks;
     instruments = range.instruments;
@@ -211,13 +199,13 @@ module _ (whole : ClearingBooks) (range : AreInRange whole) where
     blocks_used = range.blocks_used;
   }
 
-  pub accounts_stage : (es : List (ℕ × ℕ)) → AddsUp entry_map.empty es whole.accounts → AddsAccounts es nothing_yet with_accounts
+  pub accounts_stage : (es : List (ℕ × ℕ)) → AddsUp entry_map.empty es whole.accounts → AddsAccounts es (nothing_yet whole) (with_accounts whole)
   accounts_stage es adds = record { adds = adds; same = refl; range = accounts_range }
 
-  pub prices_stage : (es : List (ℕ × ℕ)) → AddsUp entry_map.empty es (chained whole) → AddsPrices es with_accounts with_prices
+  pub prices_stage : (es : List (ℕ × ℕ)) → AddsUp entry_map.empty es (chained whole) → AddsPrices es (with_accounts whole) (with_prices whole)
   prices_stage es adds = record { adds = all_prices_add es adds; same = refl; range = prices_range }
 
-  pub positions_stage : (es : List (ℕ × ℕ)) → AddsUp entry_map.empty es (chained whole) → AddsPositions es with_prices with_positions
+  pub positions_stage : (es : List (ℕ × ℕ)) → AddsUp entry_map.empty es (chained whole) → AddsPositions es (with_prices whole) (with_positions whole)
   positions_stage es adds = record { adds = all_positions_add es adds; same = refl; range = positions_range }
 
 -- the stages of the books that words stand for
@@ -236,19 +224,19 @@ module _ (shape : BooksShape) (words : List ℕ) (whole : ClearingBooks) (stands
 
   module _ (books : ClearingBooks) (listed : List (ℕ × ℕ)) where
     pub first_stage : books ≡ empty_books shape.blocks shape.instruments shape.ring → ((entries : Entries) (used : Blocks) → TreeHolds (tree_of shape) words entries used → AddsUp entry_map.empty listed entries)
-        → AddsAccounts listed books (with_accounts whole stands.range)
+        → AddsAccounts listed books (with_accounts whole)
     first_stage e adds =
-        subst (λ b. AddsAccounts listed b (with_accounts whole stands.range)) (ap (λ (z : BooksShape). empty_books z.blocks z.instruments z.ring) stands.sizes ∙ sym e)
+        subst (λ b. AddsAccounts listed b (with_accounts whole)) (ap (λ (z : BooksShape). empty_books z.blocks z.instruments z.ring) stands.sizes ∙ sym e)
         (accounts_stage whole stands.range listed (adds whole.accounts stands.parts.tree_used tree_is))
 
     module _ (adds : (entries : Entries) (used : Blocks) → ChainsHold (chains_of shape) words entries used → AddsUp entry_map.empty listed entries) where
-      pub second_stage : books ≡ with_accounts whole stands.range → AddsPrices listed books (with_prices whole stands.range)
-      second_stage e = subst (λ b. AddsPrices listed b (with_prices whole stands.range)) (sym e) (prices_stage whole stands.range listed (adds (chained whole) stands.parts.chain_used chains_are))
+      pub second_stage : books ≡ with_accounts whole → AddsPrices listed books (with_prices whole)
+      second_stage e = subst (λ b. AddsPrices listed b (with_prices whole)) (sym e) (prices_stage whole stands.range listed (adds (chained whole) stands.parts.chain_used chains_are))
 
-      pub third_stage : books ≡ with_prices whole stands.range → AddsPositions listed books (with_positions whole stands.range)
-      third_stage e = subst (λ b. AddsPositions listed b (with_positions whole stands.range)) (sym e) (positions_stage whole stands.range listed (adds (chained whole) stands.parts.chain_used chains_are))
+      pub third_stage : books ≡ with_prices whole → AddsPositions listed books (with_positions whole)
+      third_stage e = subst (λ b. AddsPositions listed b (with_positions whole)) (sym e) (positions_stage whole stands.range listed (adds (chained whole) stands.parts.chain_used chains_are))
 
-  pub last_stage : (books : ClearingBooks) → books ≡ with_positions whole stands.range → AddsCalls (queue_of shape) words books whole
+  pub last_stage : (books : ClearingBooks) → books ≡ with_positions whole → AddsCalls (queue_of shape) words books whole
   last_stage books e = subst (λ b. AddsCalls (queue_of shape) words b whole) (sym e) (record {
     queue = subst (λ z. QueueHolds (queue_of z) words whole.calls) stands.sizes stands.parts.queue;
     none = refl;

@@ -74,6 +74,7 @@ pub fn empty_words(alloc: Global, shape: &BooksShape) -> Result<Vec<u64>, OutOfM
     requires blocks { IsWithin 1 MOST_BLOCKS shape.now.blocks }
     requires instruments { IsWithin 1 MOST_INSTRUMENTS shape.now.instruments }
     requires ring { IsWithin 1 MOST_RING shape.now.ring }
+    ensures count { IfOk result (λ words. length words.items ≡ words_of shape.now) }
     ensures stands { IfOk result (λ words. Stands shape.now words.items
         (empty_books shape.now.blocks shape.now.instruments shape.now.ring)) }
 

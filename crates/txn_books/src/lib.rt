@@ -5,6 +5,7 @@
 //! books is `Stands` in `specs/Standing`; `laws` has what an operation on the words concludes when it changes one part.
 #![tactic(auto)]
 
+pub mod building;
 pub mod cash;
 pub mod laws;
 pub mod lay;
@@ -17,6 +18,7 @@ pub mod read;
 mod room;
 pub mod shape;
 
+pub use building::build;
 pub use lay::{empty_words, lay_free};
 pub use read::read_books;
 pub use shape::BooksShape;

@@ -3,7 +3,7 @@ use Rattle.std.specs.Prelude.{◌≡◌, ℕ, ◌+◌, ◌/◌, ◌%◌, Bool, L
 use Rattle.std.specs.declared.cmp.Ordering.{Ordering}
 use Rattle.std.specs.FinMap as entry_map
 use Rattle.books_model.specs.declared.limits.TheConstants.{MOST_INSTRUMENTS}
-use Rattle.books_model.specs.Books.{ClearingBooks}
+use Rattle.books_model.specs.Books.{ClearingBooks, empty_books}
 use Rattle.books_model.specs.Ranges.{AreInRange}
 use Rattle.txn_alloc.specs.EntryMaps.{Cell}
 use Rattle.txn_ring.specs.declared.ring.Ring.{Ring}
@@ -54,3 +54,16 @@ pub record AddsCalls (ring : Ring) (words : List ℕ) (books after : ClearingBoo
   pub none : books.calls ≡ []
   pub same : after ≡ record books { calls = after.calls }
   pub range : AreInRange after
+
+-- the books of these sizes with nothing in them yet, then with the accounts of these, with their prices, and with their positions
+abbrev pub nothing_yet : ClearingBooks → ClearingBooks
+nothing_yet books = empty_books books.blocks books.instruments books.ring
+
+abbrev pub with_accounts : ClearingBooks → ClearingBooks
+with_accounts books = record (nothing_yet books) { accounts = books.accounts }
+
+abbrev pub with_prices : ClearingBooks → ClearingBooks
+with_prices books = record (with_accounts books) { prices = books.prices }
+
+abbrev pub with_positions : ClearingBooks → ClearingBooks
+with_positions books = record (with_prices books) { positions = books.positions }

@@ -1,5 +1,6 @@
-use Rattle.std.proofs.Common.{◌≡◌, ◌++◌, length, take, drop, replicate, sym, ap, ◌∙◌, subst, arith}
+use Rattle.std.proofs.Common.{◌≡◌, ℕ, ◌++◌, length, take, drop, replicate, sym, ap, ◌∙◌, subst, arith}
 use Rattle.std.proofs.Math.Seq.{take-append_seam}
+use Rattle.std.proofs.lemmas.List.{length-replicate}
 use Rattle.std.specs.FinSet as set
 use Rattle.books_model.specs.Books.{empty_books}
 use Rattle.txn_words.specs.Frames.{KeepsOthers}
@@ -28,6 +29,12 @@ zeros c = c.deref_mut.ensures.value ∙ c.in_ok-words.ensures.items_if_clones_eq
 
 order : (c : After-lay_free) → c.deref.result.now ≡ all_blocks c.args.shape.now
 order c = c.deref.ensures.value ∙ c.in_ok-order.ensures
+
+pub returns-clause-count : goal.returns-clause-count
+returns-clause-count c =
+    let d = (goal.at.returns-clause-count c).After-lay_free in
+    let nil : ℕ = 0 in
+    ap length (kept d) ∙ c.lay_free.ensures.others.count ∙ ap length (zeros d) ∙ length-replicate (words_of c.args.shape.now) nil
 
 pub returns-clause-stands : goal.returns-clause-stands
 returns-clause-stands c =
