@@ -1,24 +1,22 @@
 -- Empty books, for which the words of tests stand.
-use Rattle.std.proofs.Common.{◌≡◌, ℕ, ◌<◌, true, List, [], ◌∷◌, ◌++◌, map, Option, Some, None, replicate, refl, sym, ap, ◌∙◌, arith, rules}
+use Rattle.std.proofs.Common.{◌≡◌, ℕ, ◌<◌, true, List, [], ◌∷◌, replicate, refl, arith, rules}
 use mathlib.Core.Logic.{dite}
 use native.Mathlib.Decide.{ℕ_discrete}
-use Rattle.std.specs.declared.cmp.Ordering.{Ordering}
 use Rattle.std.specs.Ordering.{nat_cmp}
 use Rattle.std.specs.FinSet as set
 use Rattle.std.specs.FinSet.{members}
-use Rattle.std.specs.FinMap as entry_map
-use Rattle.std.proofs.lemmas.List.{nil_from_length}
 use Rattle.history_model.specs.Fitting.{IsGood}
-use Rattle.books_model.specs.Books.{ClearingBooks, position_cmp, empty_books}
-use Rattle.books_model.specs.Ranges.{AreInRange}
+use Rattle.books_model.specs.Books.{ClearingBooks, empty_books}
+use Rattle.books_model.proofs.InRange.{empty_books-in_range}
 use Rattle.txn_alloc.proofs.Counting.{times_of}
 use Rattle.txn_alloc.proofs.Sets.{out_empty}
 use Rattle.txn_alloc.proofs.TwoBlocks.{with_links, AreLinked, linked}
 use Rattle.txn_tree_map.proofs.Lists as trees
 use Rattle.txn_hash_map.proofs.Lists as chains
 use Rattle.txn_books.specs.declared.shape.BooksShape.{BooksShape}
-use Rattle.txn_books.specs.Layout.{chained, price_key_of, position_key_of}
+use Rattle.txn_books.specs.Layout.{chained}
 use Rattle.txn_books.specs.Standing.{HasParts, IsGoodFor}
+use Rattle.txn_books.proofs.Emptied.{none_chained}
 use Rattle.txn_books.proofs.Apart.{member_one, out_none, three_among}
 
 abbrev pub small : BooksShape
@@ -26,32 +24,6 @@ small = record { blocks = 2; instruments = 1; ring = 1 }
 
 abbrev pub nothing : ClearingBooks
 nothing = empty_books 2 1 1
-
-no_entries : {K : Type 0} (R : K → K → Ordering) → entry_map.entries (entry_map.empty {X = ℕ} {R = R}) ≡ []
-no_entries R = nil_from_length (entry_map.entries entry_map.empty) (sym (entry_map.len-entries entry_map.empty) ∙ entry_map.len-empty R ℕ)
-
--- the chains hold nothing
-none_chained : (key : ℕ) → entry_map.get (chained nothing) key ≡ None
-none_chained key =
-    ap (λ es. entry_map.get (entry_map.from_sorted {R = nat_cmp} (map (λ e. (price_key_of e.0, e.1)) es ++ map (λ e. (position_key_of e.0.0 e.0.1, e.1)) (entry_map.entries nothing.positions))) key) (no_entries nat_cmp)
-    ∙ ap (λ es. entry_map.get (entry_map.from_sorted {R = nat_cmp} (map (λ e. (position_key_of e.0.0 e.0.1, e.1)) es)) key) (no_entries position_cmp)
-    ∙ entry_map.get-from_sorted nat_cmp [] key tt
-
-never : {A : Type 0} (o : Option ℕ) (x : ℕ) → o ≡ None → o ≡ Some x → A
-never o x none e = let no : None ≡ Some x = sym none ∙ e in absurd (cc)
-
-in_range : AreInRange nothing
-in_range = record {
-  blocks = (omega arith, omega arith);
-  instruments = (omega arith, omega arith);
-  ring = (omega arith, omega arith);
-  accounts = λ a cash e. never (entry_map.get nothing.accounts a) cash (entry_map.get-empty nat_cmp a) e;
-  prices = λ i price e. never (entry_map.get nothing.prices i) price (entry_map.get-empty nat_cmp i) e;
-  positions = λ a i quantity e. never (entry_map.get nothing.positions (a, i)) quantity (entry_map.get-empty position_cmp (a, i)) e;
-  calls = λ k d lt. absurd (omega (arith, lt));
-  queue = omega arith;
-  blocks_used = omega (arith, entry_map.len-empty nat_cmp ℕ, entry_map.len-empty position_cmp ℕ);
-}
 
 both_free : (b : ℕ) → b < 2 → set.contains (set.from_list {R = nat_cmp} (0 ∷ 1 ∷ [])) b ≡ true
 both_free b lt = dite (ℕ_discrete b 0)
@@ -66,7 +38,7 @@ parts words are =
       chain_used = set.empty;
       free = set.from_list (0 ∷ 1 ∷ []);
       accounts = trees.none_held words are;
-      chains = chains.none_held words (chained nothing) none_chained are;
+      chains = chains.none_held words (chained nothing) (none_chained 2 1 1) are;
       queue = record {
         laid_out = record { places = omega (arith, count); whole = omega (arith, count) };
         front = 0;
@@ -88,4 +60,4 @@ parts words are =
 pub stands : (n : ℕ) (ws : List ℕ) → n ≡ 285 → ws ≡ replicate n 0 → IsGood 285 (IsGoodFor small) (with_links ws)
 stands n ws is_n e =
     let are = linked n ws is_n e in
-    record { count = are.count; good = (nothing, record { sizes = refl; range = in_range; parts = parts (with_links ws) are }) }
+    record { count = are.count; good = (nothing, record { sizes = refl; range = empty_books-in_range 2 1 1 (omega arith, omega arith) (omega arith, omega arith) (omega arith, omega arith); parts = parts (with_links ws) are }) }

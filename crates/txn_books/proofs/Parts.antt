@@ -2,9 +2,10 @@
 use Rattle.std.proofs.Common.{◌≡◌, ℕ, Bool, true, false, cond, List, [], ◌∷◌, refl, sym, ap, ◌∙◌, subst, arith}
 use mathlib.Core.Logic.{dite}
 use native.Mathlib.Decide.{ℕ_discrete}
+use Rattle.std.specs.Ordering.{nat_cmp}
 use Rattle.std.specs.FinSet as set
 use Rattle.std.specs.FinMap as entry_map
-use Rattle.books_model.specs.Books.{ClearingBooks}
+use Rattle.books_model.specs.Books.{ClearingBooks, position_cmp}
 use Rattle.history_model.specs.Traces.{Trace, after, Begins}
 use Rattle.history_model.specs.Fitting.{Fits, InEach, Leads}
 use Rattle.history_model.proofs.FittingLaws.{fits_begins, each_fresh}
@@ -12,17 +13,17 @@ use Rattle.txn_words.specs.Frames.{KeepsOthers, AppendsOnly}
 use Rattle.txn_words.proofs.FrameLaws.{only_keeps}
 use Rattle.txn_alloc.specs.declared.put.Put.{Put}
 use Rattle.txn_alloc.specs.declared.put.Put.TheVariants.{New, Old, Full}
-use Rattle.txn_alloc.specs.EntryMaps.{Blocks, HoldsApart, HasMapApart, IsOwn, Inserts}
+use Rattle.txn_alloc.specs.EntryMaps.{Blocks, HoldsApart, HasMapApart, IsOwn, InsertsNew, InsertsOld, Inserts, RemovesOne}
 use Rattle.txn_alloc.proofs.Counting.{times_of}
 use Rattle.txn_alloc.proofs.Parts.{free_unused}
 use Rattle.txn_alloc.proofs.Sets.{in_here, out_itself, contains-insert_other, contains-remove_other}
 use Rattle.txn_tree_map.specs.Trees.{tree_part}
-use Rattle.txn_hash_map.specs.Chains.{chain_part}
+use Rattle.txn_hash_map.specs.Chains.{ChainsHold, chain_part}
 use Rattle.txn_books.specs.declared.shape.BooksShape.{BooksShape}
 use Rattle.txn_books.specs.Layout.{shape_of, words_of, tree_of, chains_of, chained}
 use Rattle.txn_books.specs.Standing.{times_among, HasParts, IsGoodFor}
 use Rattle.txn_books.proofs.Apart.{member_one, out_none, two_among, out_other}
-use Rattle.txn_books.proofs.Changes.{at_once, tree_below, chain_below, tree_change}
+use Rattle.txn_books.proofs.Changes.{at_once, tree_below, chain_below, tree_change, chain_change}
 
 module _ (words : List ℕ) (books : ClearingBooks) (in_hand : List ℕ) (parts : HasParts words books in_hand) where
   -- neither the tree nor the chains use a free block
@@ -44,7 +45,7 @@ abbrev times_by : Bool → ℕ
 times_by m = cond m 1 0
 
 -- a block that goes from one set to another is in as many as before
-moved_among : (used free : Blocks) (c : ℕ) → set.contains used c ≡ false → set.contains free c ≡ true → (b : ℕ) → times_among b (set.insert used c ∷ set.remove free c ∷ []) ≡ times_among b (used ∷ free ∷ [])
+pub moved_among : (used free : Blocks) (c : ℕ) → set.contains used c ≡ false → set.contains free c ≡ true → (b : ℕ) → times_among b (set.insert used c ∷ set.remove free c ∷ []) ≡ times_among b (used ∷ free ∷ [])
 moved_among used free c out member b = dite (ℕ_discrete b c)
     (λ e. subst (λ z. times_among z (set.insert used c ∷ set.remove free c ∷ []) ≡ times_among z (used ∷ free ∷ [])) (sym e) (
     let in_new : times_of (set.insert used c) c ≡ 1 = member_one (set.insert used c) c (in_here used c) in
@@ -56,6 +57,12 @@ moved_among used free c out member b = dite (ℕ_discrete b c)
     let here : times_of (set.insert used c) b ≡ times_of used b = ap (λ m. times_by m) (contains-insert_other used c b ne) in
     let there : times_of (set.remove free c) b ≡ times_of free b = ap (λ m. times_by m) (contains-remove_other free c b ne) in
     omega (arith, here, there, two_among b (set.insert used c) (set.remove free c), two_among b used free))
+
+-- and one that goes back too
+pub back_among : (used free : Blocks) (c : ℕ) → set.contains used c ≡ true → set.contains free c ≡ false → (b : ℕ) → times_among b (set.remove used c ∷ set.insert free c ∷ []) ≡ times_among b (used ∷ free ∷ [])
+back_among used free c member out b =
+    let moved = moved_among free used c out member b in
+    omega (arith, moved, two_among b (set.remove used c) (set.insert free c), two_among b (set.insert free c) (set.remove used c), two_among b used free, two_among b free used)
 
 -- words that hold the parts of some books of these sizes
 abbrev pub HasSomeParts : BooksShape → List ℕ → Type 0
@@ -74,24 +81,55 @@ some_chains shape words some = subst (λ z. HasMapApart (chain_part (chains_of z
 
 -- an insert into the tree leaves books with one account more, or with other cash, or as they were
 module _ (old new : List ℕ) (books : ClearingBooks) (in_hand : List ℕ) (parts : HasParts old books in_hand) (key x : ℕ) where
+  pub tree_new : InsertsNew (tree_part (tree_of (shape_of books))) key x new books.accounts parts.tree_used parts.free → KeepsOthers (IsOwn (tree_part (tree_of (shape_of books))) key old new) old new
+      → HasParts new (record books { accounts = entry_map.insert books.accounts key x }) in_hand
+  tree_new k kept =
+      let out = free_unused (tree_part (tree_of (shape_of books))) old books.accounts parts.tree_used parts.free k.block (tree_free old books in_hand parts) k.was_free in
+      tree_change old new books in_hand parts (entry_map.insert books.accounts key x) (set.insert parts.tree_used k.block) (set.remove parts.free k.block) key k.left.map k.left.free_lists
+      (moved_among parts.tree_used parts.free k.block out k.was_free) kept
+
+  pub tree_old : (was : ℕ) → InsertsOld (tree_part (tree_of (shape_of books))) key x was new books.accounts parts.tree_used parts.free → KeepsOthers (IsOwn (tree_part (tree_of (shape_of books))) key old new) old new
+      → HasParts new (record books { accounts = entry_map.insert books.accounts key x }) in_hand
+  tree_old was k kept = tree_change old new books in_hand parts (entry_map.insert books.accounts key x) parts.tree_used parts.free key k.left.map k.left.free_lists (λ b. refl) kept
+
   pub tree_inserted : (put : Put) → Inserts (tree_part (tree_of (shape_of books))) key x put old new → KeepsOthers (IsOwn (tree_part (tree_of (shape_of books))) key old new) old new
       → (after : ClearingBooks) × (shape_of after ≡ shape_of books) × HasParts new after in_hand
   tree_inserted New inserts kept =
-      let hold = tree_free old books in_hand parts in
-      let k = inserts books.accounts parts.tree_used parts.free hold in
-      let out = free_unused (tree_part (tree_of (shape_of books))) old books.accounts parts.tree_used parts.free k.block hold k.was_free in (
-        record books { accounts = entry_map.insert books.accounts key x },
-        refl,
-        tree_change old new books in_hand parts (entry_map.insert books.accounts key x) (set.insert parts.tree_used k.block) (set.remove parts.free k.block) key k.left.map k.left.free_lists
-            (moved_among parts.tree_used parts.free k.block out k.was_free) kept,
-      )
+      (record books { accounts = entry_map.insert books.accounts key x }, refl, tree_new (inserts books.accounts parts.tree_used parts.free (tree_free old books in_hand parts)) kept)
   tree_inserted (Old was) inserts kept =
-      let k = inserts books.accounts parts.tree_used parts.free (tree_free old books in_hand parts) in (
-        record books { accounts = entry_map.insert books.accounts key x },
-        refl,
-        tree_change old new books in_hand parts (entry_map.insert books.accounts key x) parts.tree_used parts.free key k.left.map k.left.free_lists (λ b. refl) kept,
-      )
+      (record books { accounts = entry_map.insert books.accounts key x }, refl, tree_old was (inserts books.accounts parts.tree_used parts.free (tree_free old books in_hand parts)) kept)
   tree_inserted Full inserts kept = (books, refl, subst (λ z. HasParts z books in_hand) (sym inserts) parts)
+
+-- a removal from the tree leaves books with one account less
+pub tree_cut : (old new : List ℕ) (books : ClearingBooks) (in_hand : List ℕ) (parts : HasParts old books in_hand) (key was : ℕ) → RemovesOne (tree_part (tree_of (shape_of books))) key was new books.accounts parts.tree_used parts.free
+    → KeepsOthers (IsOwn (tree_part (tree_of (shape_of books))) key old new) old new → HasParts new (record books { accounts = entry_map.remove books.accounts key }) in_hand
+tree_cut old new books in_hand parts key was k kept =
+    let out = (tree_free old books in_hand parts).apart k.block k.was_used in
+    tree_change old new books in_hand parts (entry_map.remove books.accounts key) (set.remove parts.tree_used k.block) (set.insert parts.free k.block) key k.left.map k.left.free_lists
+    (back_among parts.tree_used parts.free k.block k.was_used out) kept
+
+-- a call on the chains leaves books with other positions and prices, those that the chains then hold
+module _ (old new : List ℕ) (books : ClearingBooks) (in_hand : List ℕ) (parts : HasParts old books in_hand) (positions : entry_map.FinMap position_cmp ℕ) (prices : entry_map.FinMap nat_cmp ℕ) (key : ℕ)
+    (kept : KeepsOthers (IsOwn (chain_part (chains_of (shape_of books))) key old new) old new) where
+  pub chain_new : (x : ℕ) → InsertsNew (chain_part (chains_of (shape_of books))) key x new (chained books) parts.chain_used parts.free
+      → entry_map.insert (chained books) key x ≡ chained (record books { positions = positions; prices = prices }) → HasParts new (record books { positions = positions; prices = prices }) in_hand
+  chain_new x k e =
+      let out = free_unused (chain_part (chains_of (shape_of books))) old (chained books) parts.chain_used parts.free k.block (chains_free old books in_hand parts) k.was_free in
+      chain_change old new books in_hand parts positions prices (set.insert parts.chain_used k.block) (set.remove parts.free k.block) key
+      (subst (λ f. ChainsHold (chains_of (shape_of books)) new f (set.insert parts.chain_used k.block)) e k.left.map) k.left.free_lists (moved_among parts.chain_used parts.free k.block out k.was_free) kept
+
+  pub chain_old : (x was : ℕ) → InsertsOld (chain_part (chains_of (shape_of books))) key x was new (chained books) parts.chain_used parts.free
+      → entry_map.insert (chained books) key x ≡ chained (record books { positions = positions; prices = prices }) → HasParts new (record books { positions = positions; prices = prices }) in_hand
+  chain_old x was k e =
+      chain_change old new books in_hand parts positions prices parts.chain_used parts.free key
+      (subst (λ f. ChainsHold (chains_of (shape_of books)) new f parts.chain_used) e k.left.map) k.left.free_lists (λ b. refl) kept
+
+  pub chain_cut : (was : ℕ) → RemovesOne (chain_part (chains_of (shape_of books))) key was new (chained books) parts.chain_used parts.free
+      → entry_map.remove (chained books) key ≡ chained (record books { positions = positions; prices = prices }) → HasParts new (record books { positions = positions; prices = prices }) in_hand
+  chain_cut was k e =
+      let out = (chains_free old books in_hand parts).apart k.block k.was_used in
+      chain_change old new books in_hand parts positions prices (set.remove parts.chain_used k.block) (set.insert parts.free k.block) key
+      (subst (λ f. ChainsHold (chains_of (shape_of books)) new f (set.remove parts.chain_used k.block)) e k.left.map) k.left.free_lists (back_among parts.chain_used parts.free k.block k.was_used out) kept
 
 pub some_inserted : (shape : BooksShape) (old new : List ℕ) (key x : ℕ) (put : Put) → HasSomeParts shape old → Inserts (tree_part (tree_of shape)) key x put old new → KeepsOthers (IsOwn (tree_part (tree_of shape)) key old new) old new
     → HasSomeParts shape new

@@ -1,3 +1,6 @@
 pub mod Layout
 pub mod Standing
 pub mod Statements
+pub mod Access
+pub mod Laying
+pub mod Inner

@@ -1,14 +1,26 @@
-//! Clearing books on words: one list of words holds the tree of accounts, the chains of positions and prices, the
+//! Clearing books on words: one list of words holds the tree of accounts, the chains of prices and positions, the
 //! queue of margin calls and the free blocks.
 //!
 //! `BooksShape` has the sizes of books, and its methods say where each part lies. Which word lists stand for which
 //! books is `Stands` in `specs/Standing`; `laws` has what an operation on the words concludes when it changes one part.
 #![tactic(auto)]
 
+pub mod building;
+pub mod cash;
 pub mod laws;
+pub mod lay;
 pub mod layout;
+mod listing;
+pub mod price;
+pub mod quantity;
+pub mod queue;
+pub mod read;
+mod room;
 pub mod shape;
 
+pub use building::build;
+pub use lay::{empty_words, lay_free};
+pub use read::read_books;
 pub use shape::BooksShape;
 
 #[cfg(test)]

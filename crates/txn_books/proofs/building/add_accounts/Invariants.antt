@@ -1,0 +1,18 @@
+use Rattle.std.proofs.Common.{length}
+use Rattle.std.specs.Ordering.{nat_cmp}
+use Rattle.std.specs.FinMap as entry_map
+use Rattle.txn_alloc.specs.EntryMaps.{Entries}
+use Rattle.txn_books.specs.Inner.Reading.{AddsUp, nothing_yet}
+use Rattle.txn_books.specs.Inner.Building.{IsBuilt, above}
+use Rattle.txn_books.proofs.building.add_accounts.Given as goal
+
+-- the accounts up to the last one are in, and those above it make the rest
+abbrev pub invariant-loop-account : goal.invariant-loop-account
+invariant-loop-account l = record {
+  done : Entries;
+  built : IsBuilt l.shape l.words.items (record (nothing_yet l.books) { accounts = done });
+  left : AddsUp done (above nat_cmp l.last (entry_map.entries l.books.accounts)) l.books.accounts;
+}
+
+abbrev pub decreases-loop-account : goal.decreases-loop-account
+decreases-loop-account l = length (above nat_cmp l.last (entry_map.entries l.books.accounts))

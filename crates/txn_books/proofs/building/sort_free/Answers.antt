@@ -1,0 +1,53 @@
+use Rattle.std.proofs.Common.{◌≡◌, ◌++◌, length, take, drop, sym, ap, ◌∙◌, subst, arith}
+use Rattle.std.proofs.Math.Seq.{take-append_seam}
+use Rattle.std.proofs.lemmas.List.Sorted.{IsNonDecreasingBy-from_sort}
+use Rattle.std.proofs.lemmas.Map.Keys.{IsStrictlyIncreasing-from_distinct}
+use Rattle.txn_alloc.specs.FreeLists.{HasList}
+use Rattle.txn_books.specs.Layout.{arena_of}
+use Rattle.txn_books.specs.Laying.{HasRisingList}
+use Rattle.txn_books.specs.Inner.Building.{IsBuilt}
+use Rattle.txn_books.proofs.Relaid.{free_held, sorted_once, sorted_below, relaid_built}
+use Rattle.txn_books.proofs.building.sort_free.Goals as goal
+use Rattle.txn_books.proofs.building.sort_free.Goals.{In_ok-order, In_ok-sort, After-lay_free}
+
+pub free_blocks-requires : goal.free_blocks-requires
+free_blocks-requires c = rw (c.deref.ensures.value, c.arena-arena.ensures) (c.requires.1.stands.parts.free, free_held c.args.shape.now c.args.words.items c.requires.0 c.requires.1)
+
+-- the list that was gone through
+list : (c : In_ok-order) → HasList (arena_of c.args.shape.now) c.args.words.items (arena_of c.args.shape.now).heads c.in_ok-order.order.items
+list c = rw (c.deref.ensures.value, c.arena-arena.ensures) at c.in_ok-order.ensures
+
+pub lay_free-requires-clause-below : goal.lay_free-requires-clause-below
+lay_free-requires-clause-below c =
+    rw (c.deref-2.ensures.value, c.arena-arena.ensures)
+    (sorted_below c.args.shape.now c.args.words.items c.requires.0 c.requires.1 c.in_ok-order.order.items c.sort.new.self.items (list (goal.at.lay_free-requires-clause-below c).In_ok-order) c.in_ok-sort.ensures.permutation)
+
+pub lay_free-requires-clause-once : goal.lay_free-requires-clause-once
+lay_free-requires-clause-once c =
+    rw c.deref-2.ensures.value
+    (sorted_once c.args.shape.now c.args.words.items c.requires.0 c.requires.1 c.in_ok-order.order.items c.sort.new.self.items (list (goal.at.lay_free-requires-clause-once c).In_ok-order) c.in_ok-sort.ensures.permutation)
+
+-- the words that were laid
+kept : (c : After-lay_free) → take c.args.words.len (c.lay_free.new.words ++ drop (length c.lay_free.new.words) c.args.words.items) ≡ c.lay_free.new.words
+kept c =
+    let long : c.args.words.len ≡ length c.lay_free.new.words = omega (arith, c.deref_mut.ensures.len, c.lay_free.ensures.others.count) in
+    ap (λ n. take n (c.lay_free.new.words ++ drop (length c.lay_free.new.words) c.args.words.items)) long ∙ take-append_seam c.lay_free.new.words _
+
+pub returns-clause-built : goal.returns-clause-built
+returns-clause-built c books built =
+    let shape = c.args.shape.now in
+    let free = rw (c.arena-arena.ensures, c.deref-2.ensures.value) at c.lay_free.ensures.free in
+    let others = rw (c.arena-arena.ensures, c.deref-2.ensures.value, c.deref_mut.ensures.value) at c.lay_free.ensures.others in
+    subst (λ ws. IsBuilt shape ws books) (sym (kept (goal.at.returns-clause-built c).After-lay_free))
+    (relaid_built shape c.args.words.items books built c.in_ok-order.order.items c.sort.new.self.items (list (goal.at.returns-clause-built c).In_ok-order) c.in_ok-sort.ensures.permutation c.lay_free.new.words free others)
+
+pub returns-clause-rising : goal.returns-clause-rising
+returns-clause-rising c =
+    let shape = c.args.shape.now in
+    let laid = rw (c.arena-arena.ensures, c.deref-2.ensures.value) at c.lay_free.ensures.list in
+    subst (λ ws. HasRisingList (arena_of shape) ws) (sym (kept (goal.at.returns-clause-rising c).After-lay_free)) (record {
+      order = c.sort.new.self.items;
+      list = laid;
+      rises = IsStrictlyIncreasing-from_distinct c.sort.new.self.items (IsNonDecreasingBy-from_sort (λ x. x) c.sort.new.self.items c.in_ok-sort.ensures.sorted)
+          (sorted_once shape c.args.words.items c.requires.0 c.requires.1 c.in_ok-order.order.items c.sort.new.self.items (list (goal.at.returns-clause-rising c).In_ok-order) c.in_ok-sort.ensures.permutation);
+    })

@@ -1,0 +1,21 @@
+use Rattle.std.proofs.Common.{◌≡◌, ◌+◌, ◌*◌, ◌≤◌, None}
+use Rattle.history_model.specs.Traces.{Begins}
+use Rattle.books_model.proofs.Sums.{worth_below}
+use Rattle.txn_words.specs.Calls.{LeadsTo}
+use Rattle.txn_books.proofs.Looking.{Saw}
+use Rattle.txn_books.proofs.quantity.worth.Given as goal
+
+-- the total is the worth of the positions so far, each at most a million at a thousand million
+abbrev pub invariant-loop-instrument : goal.invariant-loop-instrument
+invariant-loop-instrument g l =
+    let words = g.W.Words in
+    record {
+      shape : words.shape l.w ≡ words.shape l.fn.w;
+      origin : words.origin l.w ≡ words.origin l.fn.w;
+      begins : Begins (words.trace l.fn.w) (words.trace l.w);
+      stop : words.stop l.w ≡ None;
+      sound : words.is_sound l.w;
+      from : 1 ≤ l.instrument;
+      worth : LeadsTo words g.W.Shape.Shape l.fn.w l.w (Saw l.shape (λ books. l.total ≡ worth_below books l.account l.instrument));
+      most : l.total + 1000000000000000 ≤ l.instrument * 1000000000000000;
+    }

@@ -1,0 +1,24 @@
+use Rattle.std.proofs.lemmas.Result.{IfOk-weaker}
+use Rattle.txn_books.specs.Layout.{queue_of}
+use Rattle.txn_books.proofs.Calls.{IsPushed, ok_both, leads_less, leads_pushed, room_stands}
+use Rattle.txn_books.proofs.MarginCalls.{queue_there, call_queued}
+use Rattle.txn_books.proofs.queue.queue_call.Goals as goal
+
+pub push-requires-clause-order : goal.push-requires-clause-order
+push-requires-clause-order g c = rw c.queue.ensures (record { at = λ s fit. queue_there c.args.shape.now _ (c.requires.stands.at s fit) })
+
+pub returns-clause-queued : goal.returns-clause-queued
+returns-clause-queued g c =
+    let shape = c.args.shape.now in
+    let pushed = rw c.from.ensures at rw c.queue.ensures at c.push.ensures.pushed in
+    let full = rw c.queue.ensures at c.push.ensures.full in
+    let others = rw c.queue.ensures at c.push.ensures.others in
+    IfOk-weaker c.push.result _ _
+    (λ answer did. leads_less g.W.Words g.W.Shape.Shape _ _ (IsPushed (queue_of shape) (c.args.account, c.args.shortfall) answer) _ (call_queued shape c.args.account c.args.shortfall c.requires.call answer)
+    (leads_pushed g.W.Words g.W.Shape.Shape _ _ (queue_of shape) (c.args.account, c.args.shortfall) answer did.0 did.1.0 did.1.1))
+    (ok_both _ _ c.push.result pushed (ok_both _ _ c.push.result full others))
+
+pub returns-clause-stands : goal.returns-clause-stands
+returns-clause-stands g c =
+    let goes = c.push.ensures.goes_on in
+    IfOk-weaker c.push.result _ _ (λ answer. room_stands g.W.Words g.W.Shape.Shape c.args.shape.now _ _ goes.shape goes.begins c.requires.stands _ _ answer) (returns-clause-queued g c)

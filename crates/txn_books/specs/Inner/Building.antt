@@ -1,0 +1,17 @@
+-- What the calls inside a building of words say.
+use Rattle.std.specs.Prelude.{◌≡◌, ℕ, List, length, filter}
+use Rattle.std.specs.declared.cmp.Ordering.{Ordering}
+use Rattle.std.specs.Ordering.{is_lt}
+use Rattle.books_model.specs.Books.{ClearingBooks}
+use Rattle.txn_books.specs.declared.shape.BooksShape.{BooksShape}
+use Rattle.txn_books.specs.Layout.{words_of}
+use Rattle.txn_books.specs.Standing.{Stands}
+
+-- as many words as books of these sizes take, and they stand for these books
+pub record IsBuilt (shape : BooksShape) (words : List ℕ) (books : ClearingBooks) : Type 0 where
+  pub count : length words ≡ words_of shape
+  pub stands : Stands shape words books
+
+-- the entries of a map whose keys are above this one
+abbrev pub above : {K : Type 0} → (K → K → Ordering) → K → List (K × ℕ) → List (K × ℕ)
+above R k es = filter (λ e. is_lt (R k e.0)) es

@@ -1,0 +1,279 @@
+//! Building words that stand for books: one entry after another, by the calls of the collections, beginning with the
+//! words of empty books.
+
+ghost use Rattle.std.specs.Prelude.{◌≡◌, ℕ, ◌<◌, ◌≤◌, None, IsSome, IfOk, length};
+ghost use Rattle.std.specs.FinMap as map;
+ghost use Rattle.books_model.specs.declared.limits.TheConstants.{GREATEST_CASH, GREATEST_PRICE, GREATEST_QUANTITY};
+ghost use Rattle.books_model.specs.Books.{ClearingBooks, used, put_cash, put_price, put_quantity, put_call};
+ghost use Rattle.books_model.specs.Ranges.{IsWithin, IsAccountNumber, IsCall};
+ghost use Rattle.txn_alloc.specs.FreeLists.{HasList, IsInOrder};
+ghost use Rattle.txn_books.specs.Layout.{shape_of, words_of, arena_of};
+ghost use Rattle.txn_books.specs.Standing.{Stands};
+ghost use Rattle.txn_books.specs.Laying.{HasRisingList};
+ghost use Rattle.txn_books.specs.Inner.Building.{IsBuilt};
+ghost use Rattle.txn_books.specs.Inner.Reading.{nothing_yet, with_accounts, with_prices, with_positions};
+
+use crate::lay::{empty_words, lay_free};
+use crate::layout::position_key;
+use crate::price::put_price;
+use crate::queue::queue_call;
+use crate::shape::BooksShape;
+use books_model::Books;
+use io_ends::OutOfMemory;
+use std::alloc::Global;
+use txn_alloc::Arena;
+use txn_words::Plain;
+
+/// Puts in an account that is new, with its cash.
+fn add_account(
+    alloc: Global,
+    shape: &BooksShape,
+    words: Vec<u64>,
+    account: u32,
+    cash: u64,
+) -> Result<Vec<u64>, OutOfMemory>
+    requires books { (books : ClearingBooks) × IsBuilt shape.now words.items books
+        × (map.get books.accounts account ≡ None) × (used books < books.blocks) }
+    requires account { IsAccountNumber account }
+    requires cash { cash ≤ GREATEST_CASH }
+    ensures { IfOk result (λ left. (books : ClearingBooks) → IsBuilt shape.now words.items books
+        → IsBuilt shape.now left.items (put_cash books account cash)) }
+{
+    let mut plain = Plain::new(alloc, *shape, words);
+    match shape.tree().insert(&mut plain, u64::from(account), cash) {
+        Ok(_) => Ok(plain.into_words()),
+        Err(_) => Err(OutOfMemory),
+    }
+}
+
+/// Puts in a price.
+fn add_price(
+    alloc: Global,
+    shape: &BooksShape,
+    words: Vec<u64>,
+    instrument: u32,
+    price: u64,
+) -> Result<Vec<u64>, OutOfMemory>
+    requires books { (books : ClearingBooks) × IsBuilt shape.now words.items books
+        × (used books < books.blocks) }
+    requires instrument { IsWithin 1 shape.now.instruments instrument }
+    requires price { IsWithin 1 GREATEST_PRICE price }
+    ensures { IfOk result (λ left. (books : ClearingBooks) → IsBuilt shape.now words.items books
+        → IsBuilt shape.now left.items (put_price books instrument price)) }
+{
+    let mut plain = Plain::new(alloc, *shape, words);
+    match put_price(&mut plain, shape, instrument, price) {
+        Ok(_) => Ok(plain.into_words()),
+        Err(_) => Err(OutOfMemory),
+    }
+}
+
+/// Puts in a position of an account and an instrument that are there.
+fn add_position(
+    alloc: Global,
+    shape: &BooksShape,
+    words: Vec<u64>,
+    account: u32,
+    instrument: u32,
+    quantity: u64,
+) -> Result<Vec<u64>, OutOfMemory>
+    requires books { (books : ClearingBooks) × IsBuilt shape.now words.items books
+        × IsSome (map.get books.accounts account) × IsSome (map.get books.prices instrument)
+        × (used books < books.blocks) }
+    requires quantity { IsWithin 1 GREATEST_QUANTITY quantity }
+    ensures { IfOk result (λ left. (books : ClearingBooks) → IsBuilt shape.now words.items books
+        → IsBuilt shape.now left.items (put_quantity books account instrument quantity)) }
+{
+    let mut plain = Plain::new(alloc, *shape, words);
+    let key = position_key(account, instrument);
+    match shape.chains().insert(&mut plain, key, quantity) {
+        Ok(_) => Ok(plain.into_words()),
+        Err(_) => Err(OutOfMemory),
+    }
+}
+
+/// Puts in a margin call behind the others.
+fn add_call(
+    alloc: Global,
+    shape: &BooksShape,
+    words: Vec<u64>,
+    account: u32,
+    shortfall: u64,
+) -> Result<Vec<u64>, OutOfMemory>
+    requires books { (books : ClearingBooks) × IsBuilt shape.now words.items books
+        × (length books.calls < books.ring) }
+    requires call { IsCall (account, shortfall) }
+    ensures { IfOk result (λ left. (books : ClearingBooks) → IsBuilt shape.now words.items books
+        → IsBuilt shape.now left.items (put_call books account shortfall)) }
+{
+    let mut plain = Plain::new(alloc, *shape, words);
+    match queue_call(&mut plain, shape, account, shortfall) {
+        Ok(_) => Ok(plain.into_words()),
+        Err(_) => Err(OutOfMemory),
+    }
+}
+
+/// Puts in all accounts.
+fn add_accounts(
+    alloc: Global,
+    shape: &BooksShape,
+    words: Vec<u64>,
+    books: &Books,
+) -> Result<Vec<u64>, OutOfMemory>
+    requires shape { shape.now ≡ shape_of books.now }
+    requires nothing { IsBuilt shape.now words.items (nothing_yet books.now) }
+    ensures { IfOk result (λ left. IsBuilt shape.now left.items (with_accounts books.now)) }
+{
+    books.ranges();
+    let mut words = words;
+    let mut last = 0;
+    while let Some((account, cash)) = books.account_after(last) {
+        words = add_account(alloc, shape, words, account, cash)?;
+        last = account;
+    }
+    Ok(words)
+}
+
+/// Puts in all prices.
+fn add_prices(
+    alloc: Global,
+    shape: &BooksShape,
+    words: Vec<u64>,
+    books: &Books,
+) -> Result<Vec<u64>, OutOfMemory>
+    requires shape { shape.now ≡ shape_of books.now }
+    requires accounts { IsBuilt shape.now words.items (with_accounts books.now) }
+    ensures { IfOk result (λ left. IsBuilt shape.now left.items (with_prices books.now)) }
+{
+    books.ranges();
+    let mut words = words;
+    let mut last = 0;
+    while let Some((instrument, price)) = books.price_after(last) {
+        words = add_price(alloc, shape, words, instrument, price)?;
+        last = instrument;
+    }
+    Ok(words)
+}
+
+/// Puts in all positions.
+fn add_positions(
+    alloc: Global,
+    shape: &BooksShape,
+    words: Vec<u64>,
+    books: &Books,
+) -> Result<Vec<u64>, OutOfMemory>
+    requires shape { shape.now ≡ shape_of books.now }
+    requires prices { IsBuilt shape.now words.items (with_prices books.now) }
+    ensures { IfOk result (λ left. IsBuilt shape.now left.items (with_positions books.now)) }
+{
+    books.ranges();
+    let mut words = words;
+    let mut last = (0, 0);
+    while let Some((account, instrument, quantity)) = books.position_after(last.0, last.1) {
+        words = add_position(alloc, shape, words, account, instrument, quantity)?;
+        last = (account, instrument);
+    }
+    Ok(words)
+}
+
+/// Puts in all margin calls, front first.
+fn add_calls(
+    alloc: Global,
+    shape: &BooksShape,
+    words: Vec<u64>,
+    books: &Books,
+) -> Result<Vec<u64>, OutOfMemory>
+    requires shape { shape.now ≡ shape_of books.now }
+    requires positions { IsBuilt shape.now words.items (with_positions books.now) }
+    ensures { IfOk result (λ left. IsBuilt shape.now left.items books.now) }
+{
+    books.ranges();
+    let mut words = words;
+    for index in 0..books.calls() {
+        let (account, shortfall) = books.call_at(index);
+        words = add_call(alloc, shape, words, account, shortfall)?;
+    }
+    Ok(words)
+}
+
+/// The free blocks, as their list goes through them.
+fn free_blocks(alloc: Global, arena: &Arena, words: &[u64]) -> Result<Vec<u32>, OutOfMemory>
+    requires { IsInOrder arena.now words.now }
+    ensures { IfOk result (λ order. HasList arena.now words.now arena.now.heads order.items) }
+{
+    let mut order = Vec::new(alloc);
+    let mut name = words[arena.heads as usize];
+    while name != 0 {
+        prove!(name <= u64::from(arena.blocks));
+        let block = (name - 1) as u32;
+        order.push(block)?;
+        name = words[arena.place_of(block) as usize];
+    }
+    Ok(order)
+}
+
+/// Lists the free blocks by rising number.
+fn sort_free(alloc: Global, shape: &BooksShape, words: Vec<u64>) -> Result<Vec<u64>, OutOfMemory>
+    requires { (books : ClearingBooks) × IsBuilt shape.now words.items books }
+    ensures built { IfOk result (λ left. (books : ClearingBooks) → IsBuilt shape.now words.items books
+        → IsBuilt shape.now left.items books) }
+    ensures rising { IfOk result (λ left. HasRisingList (arena_of shape.now) left.items) }
+{
+    let arena = shape.arena();
+    let mut order = free_blocks(alloc, &arena, &words)?;
+    order.sort()?;
+    let mut words = words;
+    lay_free(&mut words, &arena, &order);
+    Ok(words)
+}
+
+/// Words that stand for the books. The free blocks are listed by rising number.
+pub fn build(alloc: Global, books: &Books) -> Result<Vec<u64>, OutOfMemory>
+    ensures count { IfOk result (λ words. length words.items ≡ words_of (shape_of books.now)) }
+    ensures stands { IfOk result (λ words. Stands (shape_of books.now) words.items books.now) }
+    ensures rising { IfOk result (λ words. HasRisingList (arena_of (shape_of books.now)) words.items) }
+{
+    books.ranges();
+    let shape = BooksShape {
+        blocks: books.blocks(),
+        instruments: books.instruments(),
+        ring: books.ring(),
+    };
+    let words = empty_words(alloc, &shape)?;
+    let words = add_accounts(alloc, &shape, words, books)?;
+    let words = add_prices(alloc, &shape, words, books)?;
+    let words = add_positions(alloc, &shape, words, books)?;
+    let words = add_calls(alloc, &shape, words, books)?;
+    sort_free(alloc, &shape, words)
+}
+
+#[cfg(test)]
+mod tests {
+    use super::*;
+    use crate::read::read_books;
+    use std::test::Fail;
+
+    /// Two blocks, one instrument, and a queue of one margin call.
+    const SHAPE: BooksShape = BooksShape {
+        blocks: 2,
+        instruments: 1,
+        ring: 1,
+    };
+
+    /// The account takes the first block, and the list of the free ones begins with the second.
+    #[test]
+    fn what_is_built_is_read(rt: HostRuntime) -> Result<(), Fail> {
+        let mut books = Books::new(rt.alloc(), 2, 1, 1);
+        books.add_account(7, 70)?;
+        let words = build(rt.alloc(), &books)?;
+        assert_eq!(rt; words.len(), 285);
+        assert_eq!(rt; words[0], 1);
+        assert_eq!(rt; words[1], 2);
+        assert_eq!(rt; words[277], 7);
+        assert_eq!(rt; words[278], 70);
+        let again = read_books(rt.alloc(), &SHAPE, &words)?;
+        assert_eq!(rt; again.cash(7), Some(70));
+        assert_eq!(rt; again.used(), 1);
+        Ok(())
+    }
+}
