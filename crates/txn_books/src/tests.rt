@@ -1,7 +1,11 @@
 //! Empty books in a plain list, and calls on two of their parts.
 
 use crate::BooksShape;
+use crate::cash::{cash, open_account};
 use crate::layout::{position_key, price_key};
+use crate::price::{price, put_price};
+use crate::quantity::set_quantity;
+use crate::queue::{queue_call, take_front};
 use std::test::Fail;
 use txn_alloc::Put;
 use txn_words::Plain;
@@ -28,5 +32,41 @@ fn tree_and_chains_share_the_blocks(rt: HostRuntime) -> Result<(), Fail> {
         chains.insert(&mut plain, position_key(7, 1), 3)?,
         Put::Full
     );
+    Ok(())
+}
+
+/// A queue of one call has no room for a second, and gives the first back.
+#[test]
+fn a_margin_call_is_queued_and_taken(rt: HostRuntime) -> Result<(), Fail> {
+    let mut words = vec![in rt.alloc(); 0u64; 285]?;
+    words[1] = 1;
+    words[277] = 2;
+    let mut plain = Plain::new(rt.alloc(), SHAPE, words);
+    assert_eq!(rt; queue_call(&mut plain, &SHAPE, 7, 5)?, true);
+    assert_eq!(rt; queue_call(&mut plain, &SHAPE, 8, 1)?, false);
+    assert_eq!(rt; take_front(&mut plain, &SHAPE)?, Some((7, 5)));
+    Ok(())
+}
+
+/// An account and a price take the two blocks, and a position finds none.
+#[test]
+fn a_position_finds_no_block(rt: HostRuntime) -> Result<(), Fail> {
+    let mut words = vec![in rt.alloc(); 0u64; 285]?;
+    words[1] = 1;
+    words[277] = 2;
+    let mut plain = Plain::new(rt.alloc(), SHAPE, words);
+    assert_eq!(rt; put_price(&mut plain, &SHAPE, 1, 5)?, true);
+    let None = cash(&mut plain, &SHAPE, 7)? else {
+        panic!(rt; "the account is there already");
+    };
+    assert_eq!(rt; open_account(&mut plain, &SHAPE, 7)?, true);
+    let Some(held) = cash(&mut plain, &SHAPE, 7)? else {
+        panic!(rt; "the account is not there");
+    };
+    let Some(each) = price(&mut plain, &SHAPE, 1)? else {
+        panic!(rt; "the instrument has no price");
+    };
+    assert_eq!(rt; (held, each), (0, 5));
+    assert_eq!(rt; set_quantity(&mut plain, &SHAPE, 7, 1, 3)?, false);
     Ok(())
 }
