@@ -1,5 +1,5 @@
 -- What calls on the tree of accounts say of books.
-use Rattle.std.proofs.Common.{◌≡◌, ℕ, ◌*◌, ◌^◌, ◌<◌, ◌≤◌, true, false, not, ◌==◌, Option, Some, None, IsSome, IfSome, List, [], length, refl, sym, ◌∙◌, subst, arith}
+use Rattle.std.proofs.Common.{◌≡◌, ℕ, ◌*◌, ◌^◌, ◌<◌, ◌≤◌, false, Option, Some, None, IsSome, IfSome, List, [], length, refl, sym, ◌∙◌, subst, arith}
 use Rattle.std.specs.Cmp.{nat_cmp_total}
 use Rattle.std.specs.List.{sum_by}
 use Rattle.std.specs.FinMap as map
@@ -7,7 +7,6 @@ use Rattle.std.proofs.lemmas.Map.Lookups.{exact_unsigned}
 use Rattle.books_model.proofs.Entries.{All-entries, sum_by-most}
 use Rattle.books_model.proofs.Drafts.{closed-in_range}
 use Rattle.txn_tree_map.proofs.Maps.{one_map}
-use Rattle.std.proofs.lemmas.Bool.Decides.{nat_tests}
 use Rattle.books_model.specs.declared.limits.TheConstants.{GREATEST_CASH}
 use Rattle.books_model.specs.Books.{ClearingBooks, used, put_cash}
 use Rattle.books_model.specs.Interpreter.{is_full, holds_any, cash_between}
@@ -26,7 +25,7 @@ use Rattle.txn_books.specs.Access.{OfBooks, Tells, Changes, ChangesWithRoom}
 use Rattle.txn_books.specs.Inner.Rooms.{had_room}
 use Rattle.txn_books.proofs.ChainedChanges.{remove_absent}
 use Rattle.txn_books.proofs.Parts.{good_parts, some_tree, tree_free, tree_new, tree_old, tree_cut}
-use Rattle.txn_books.proofs.States.{tree_apart, has_room, no_room}
+use Rattle.txn_books.proofs.States.{tree_apart, has_room, no_room, is_below, is_at}
 use Rattle.txn_books.proofs.Calls.{IsPut, IsCut}
 
 -- all cash of books in range fits a word
@@ -59,13 +58,6 @@ module _ (shape : BooksShape) where
   tree_small x good = λ entries used holds.
       let same : good.0.accounts ≡ entries = (one_map (tree_of shape) x good.0.accounts entries good.1.parts.tree_used used (tree_apart shape x good.0 good.1).map holds).0 in
       subst (λ f. sum_by (λ e. e.1) (map.entries f) < 2 ^ 64) same (all_cash_fits good.0 good.1.range)
-
--- the answer of an insert, as that of books that had room or not
-not_full : (used blocks : ℕ) → used < blocks → true ≡ not (used == blocks)
-not_full used blocks lt = grind (arith, nat_tests, lt)
-
-full : (used blocks : ℕ) → used ≡ blocks → false ≡ not (used == blocks)
-full used blocks e = grind (arith, nat_tests, e)
 
 module _ (shape : BooksShape) (x y : List ℕ) (books : ClearingBooks) (stand : Stands shape x books) (a : ℕ) (keeps : KeepsOthers (IsOwn (tree_part (tree_of shape)) a x y) x y) where
   kept : KeepsOthers (IsOwn (tree_part (tree_of (shape_of books))) a x y) x y
@@ -106,10 +98,10 @@ module _ (shape : BooksShape) (a : ℕ) (number : IsAccountNumber a) where
   pub account_opened : (put : Put) (x y : List ℕ) → OfBooks shape (λ books. map.get books.accounts a ≡ None) x → IsPut (tree_part (tree_of shape)) a 0 put x y → ChangesWithRoom shape is_full (λ books. put_cash books a 0) (had_room put) x y
   account_opened New x y absent put =
       let each : (books : ClearingBooks) → Stands shape x books → (used books < books.blocks) × Stands shape y (put_cash books a 0) = λ books stand. account_new shape x y books stand a put.keeps 0 number (omega arith) put.inserts in
-      record { answer = λ books stand. not_full (used books) books.blocks (each books stand).0; left = λ books stand. (each books stand).1 }
+      record { answer = λ books stand. is_below (used books) books.blocks (each books stand).0; left = λ books stand. (each books stand).1 }
   account_opened (Old was) x y absent put = record { answer = λ books stand. not_there shape a 0 was x y absent put.inserts books stand; left = λ books stand. not_there shape a 0 was x y absent put.inserts books stand }
   account_opened Full x y absent put = record {
-    answer = λ books stand. full (used books) books.blocks (no_room x books stand.parts stand.range (put.full refl books.accounts stand.parts.tree_used stand.parts.free (tree_apart shape x books stand)).1);
+    answer = λ books stand. is_at (used books) books.blocks (no_room x books stand.parts stand.range (put.full refl books.accounts stand.parts.tree_used stand.parts.free (tree_apart shape x books stand)).1);
     left = λ books stand. subst (λ z. Stands shape z books) (sym put.inserts) stand;
   }
 

@@ -4,13 +4,13 @@ use Rattle.history_model.specs.declared.shape.Shape.{Ghosts as Shapes}
 use Rattle.history_model.specs.Traces.{Begins}
 use Rattle.txn_words.specs.declared.words.Words.{Ghosts as AnyWords}
 use Rattle.txn_words.specs.Calls.{InEachState, LeadsTo}
-use Rattle.txn_words.proofs.CallLaws.{state_after, leads_then}
+use Rattle.txn_words.proofs.CallLaws.{state_after, state_at, leads_then}
 use Rattle.books_model.specs.Books.{ClearingBooks}
 use Rattle.books_model.specs.Ranges.{AreInRange}
 use Rattle.txn_books.specs.declared.shape.BooksShape.{BooksShape}
 use Rattle.txn_books.specs.Layout.{shape_of}
 use Rattle.txn_books.specs.Standing.{Stands, IsGoodFor}
-use Rattle.txn_books.specs.Access.{Tells}
+use Rattle.txn_books.specs.Access.{OfBooks, Tells}
 use Rattle.txn_books.proofs.Calls.{leads_less}
 
 -- books of the shape's sizes, in range
@@ -49,3 +49,14 @@ module _ {W S O : Type 0} (words : AnyWords W S O) (shapes : Shapes S) (shape : 
   pub saw_stands : (u v : W) (P : ClearingBooks → Type 0) → words.shape v ≡ words.shape u → Begins (words.trace u) (words.trace v) → InEachState words shapes u (IsGoodFor shape) → LeadsTo words shapes u v (Saw shape P)
       → InEachState words shapes v (IsGoodFor shape)
   saw_stands u v P e begins stand looks = state_after words shapes u v (IsGoodFor shape) (IsGoodFor shape) (Saw shape P) e begins stand looks (λ x y good k. subst (IsGoodFor shape) (sym k.same) good)
+
+  -- after a look the books say what was told
+  pub each_says : {A : Type 0} (v w : W) (says : ClearingBooks → A) (answer : A) → words.shape w ≡ words.shape v → LeadsTo words shapes v w (Tells shape says answer) → InEachState words shapes w (OfBooks shape (λ books. answer ≡ says books))
+  each_says v w says answer e tells = state_at words shapes v w (OfBooks shape (λ books. answer ≡ says books)) e
+      (record { at = λ s fit books stand. let t = tells.at s fit in t.told books (subst (λ z. Stands shape z books) t.same stand) })
+
+  -- and what was known of them before it
+  pub still_says : {A : Type 0} (v w : W) (says : ClearingBooks → A) (answer : A) (P : ClearingBooks → Type 0) → words.shape w ≡ words.shape v → Begins (words.trace v) (words.trace w) → LeadsTo words shapes v w (Tells shape says answer)
+      → InEachState words shapes v (OfBooks shape P) → InEachState words shapes w (OfBooks shape P)
+  still_says v w says answer P e begins tells known = state_after words shapes v w (OfBooks shape P) (OfBooks shape P) (Tells shape says answer) e begins known tells
+      (λ x y h t books stand. h books (subst (λ z. Stands shape z books) t.same stand))

@@ -1,6 +1,5 @@
 -- What calls on the queue say of books.
-use Rattle.std.proofs.Common.{◌≡◌, ℕ, ◌<◌, Bool, true, false, not, ◌==◌, List, [], ◌∷◌, ◌++◌, length, drop, get_or, slice_get, Some, None, refl, sym, ap, ◌∙◌, subst, arith, length-append}
-use Rattle.std.proofs.lemmas.Bool.Decides.{nat_tests}
+use Rattle.std.proofs.Common.{◌≡◌, ℕ, ◌<◌, Bool, true, false, ◌==◌, List, [], ◌∷◌, ◌++◌, length, drop, get_or, slice_get, Some, None, refl, sym, ap, ◌∙◌, subst, arith, length-append}
 use Rattle.books_model.specs.Books.{ClearingBooks, put_call}
 use Rattle.books_model.specs.Ranges.{AreInRange, IsCall}
 use Rattle.books_model.proofs.InRange.{put_call-in_range}
@@ -13,14 +12,8 @@ use Rattle.txn_books.specs.Layout.{queue_of}
 use Rattle.txn_books.specs.Standing.{Stands, IsGoodFor}
 use Rattle.txn_books.specs.Access.{ChangesWithRoom, TellsAndChanges}
 use Rattle.txn_books.proofs.Changes.{queue_change}
-use Rattle.txn_books.proofs.States.{queue_held}
+use Rattle.txn_books.proofs.States.{queue_held, is_below, is_at}
 use Rattle.txn_books.proofs.Calls.{IsPushed, IsPopped}
-
-below_full : (n most : ℕ) → n < most → true ≡ not (n == most)
-below_full n most lt = grind (arith, nat_tests, lt)
-
-at_full : (n most : ℕ) → n ≡ most → false ≡ not (n == most)
-at_full n most e = grind (arith, nat_tests, e)
 
 module _ (shape : BooksShape) where
   pub queue_there : (x : List ℕ) → IsGoodFor shape x → IsInOrder (queue_of shape) x
@@ -42,7 +35,7 @@ module _ (shape : BooksShape) where
       let room : (books : ClearingBooks) → Stands shape x books → length books.calls < books.ring = λ books stand.
       omega (arith, (held books stand).room, length-append books.calls ((a, shortfall) ∷ []), ap (λ z. z.ring) stand.sizes) in
       record {
-        answer = λ books stand. below_full (length books.calls) books.ring (room books stand);
+        answer = λ books stand. is_below (length books.calls) books.ring (room books stand);
         left = λ books stand. stands_with x y books stand (books.calls ++ (a, shortfall) ∷ []) (held books stand) pushed.keeps (put_call-in_range books a shortfall stand.range call (room books stand));
       }
   call_queued a shortfall call false x y pushed =
@@ -50,7 +43,7 @@ module _ (shape : BooksShape) where
       record {
         answer = λ books stand.
             let same : is_full.0 ≡ books.calls = one_queue (queue_of shape) x is_full.0 books.calls is_full.1 (queue_held shape x books stand) in
-            at_full (length books.calls) books.ring (sym (ap length same) ∙ is_full.2 ∙ sym (ap (λ z. z.ring) stand.sizes));
+            is_at (length books.calls) books.ring (sym (ap length same) ∙ is_full.2 ∙ sym (ap (λ z. z.ring) stand.sizes));
         left = λ books stand. subst (λ z. Stands shape z books) (sym pushed.pushes) stand;
       }
 

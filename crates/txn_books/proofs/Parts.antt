@@ -138,11 +138,12 @@ some_inserted shape old new key x put some inserts kept =
     let k = tree_inserted old new some.0 [] some.2 key x put (subst (λ z. Inserts (tree_part (tree_of z)) key x put old new) back inserts) (subst (λ z. KeepsOthers (IsOwn (tree_part (tree_of z)) key old new) old new) back kept) in
     (k.0, k.1 ∙ some.1, k.2)
 
--- words at which nothing was done yet hold the parts of some books
+-- words at which nothing was done yet stand for some books, and hold their parts
+pub fresh_books : (shape other : BooksShape) (t : Trace) → shape ≡ other → t ≡ [] → InEach (words_of shape) (IsGoodFor shape) t (IsGoodFor other)
+fresh_books shape other t e is = record { at = λ s fit. subst (λ z. IsGoodFor z (after t s)) e ((each_fresh (words_of shape) (IsGoodFor shape) t is).at s fit) }
+
 pub fresh_parts : (shape other : BooksShape) (t : Trace) → shape ≡ other → t ≡ [] → InEach (words_of shape) (IsGoodFor shape) t (HasSomeParts other)
-fresh_parts shape other t e is = record {
-  at = λ s fit. good_parts other (after t s) (subst (λ z. IsGoodFor z (after t s)) e ((each_fresh (words_of shape) (IsGoodFor shape) t is).at s fit));
-}
+fresh_parts shape other t e is = record { at = λ s fit. good_parts other (after t s) ((fresh_books shape other t e is).at s fit) }
 
 -- after an insert into the tree each state holds the parts of some books
 pub each_inserted : (shape : BooksShape) (n : ℕ) (G : List ℕ → Type 0) (t u : Trace) (key x : ℕ) (put : Put) → Begins t u → InEach n G t (HasSomeParts shape)

@@ -1,6 +1,7 @@
 -- What words that stand for books say of each part, at the shape's sizes, and whether a block is left.
-use Rattle.std.proofs.Common.{◌≡◌, ℕ, zero, suc, ◌<◌, ◌≤◌, true, List, [], refl, sym, ap, ◌∙◌, subst, arith}
+use Rattle.std.proofs.Common.{◌≡◌, ℕ, zero, suc, ◌<◌, ◌≤◌, true, false, not, ◌==◌, List, [], refl, sym, ap, ◌∙◌, subst, arith}
 use mathlib.Core.Bool.{true≢false}
+use Rattle.std.proofs.lemmas.Bool.Decides.{nat_tests}
 use Rattle.std.specs.Ordering.{nat_cmp}
 use Rattle.std.specs.FinSet as set
 use Rattle.books_model.specs.Books.{ClearingBooks, used}
@@ -42,3 +43,10 @@ module _ (words : List ℕ) (books : ClearingBooks) (parts : HasParts words book
   -- and where none is free there is no room
   pub no_room : parts.free ≡ set.empty → used books ≡ books.blocks
   no_room none = omega (arith, counted words books [] parts range, ap set.len none ∙ set.len-empty nat_cmp)
+
+-- the test whether a count is at its most, where it is below, and where it is there
+pub is_below : (n most : ℕ) → n < most → true ≡ not (n == most)
+is_below n most lt = grind (arith, nat_tests, lt)
+
+pub is_at : (n most : ℕ) → n ≡ most → false ≡ not (n == most)
+is_at n most e = grind (arith, nat_tests, e)

@@ -19,7 +19,8 @@ pub record Tells {A : Type 0} (shape : BooksShape) (says : ClearingBooks → A) 
 abbrev pub Changes : BooksShape → (ClearingBooks → ClearingBooks) → List ℕ → List ℕ → Type 0
 Changes shape change old new = (books : ClearingBooks) → Stands shape old books → Stands shape new (change books)
 
--- from state to state: the books change so unless they lack the room for it, and then they stay; the answer says whether they have it
+-- from state to state: the books change so unless they lack the room for it, and then they stay what they were;
+-- the answer says whether they have it
 pub record ChangesWithRoom (shape : BooksShape) (lacks_room : ClearingBooks → Bool) (change : ClearingBooks → ClearingBooks) (had_room : Bool) (old new : List ℕ) : Type 0 where
   pub answer : (books : ClearingBooks) → Stands shape old books → had_room ≡ not (lacks_room books)
   pub left : (books : ClearingBooks) → Stands shape old books → Stands shape new (if had_room then change books else books)

@@ -3,6 +3,9 @@
 //!
 //! `BooksShape` has the sizes of books, and its methods say where each part lies. Which word lists stand for which
 //! books is `Stands` in `specs/Standing`; `laws` has what an operation on the words concludes when it changes one part.
+//!
+//! `cash`, `price`, `quantity` and `queue` have a call for each thing that an operation looks up or changes. Their
+//! contracts say by `specs/Access` what it answers and does, whatever books the words stand for.
 #![tactic(auto)]
 
 pub mod building;
