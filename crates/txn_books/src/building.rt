@@ -1,5 +1,8 @@
 //! Building words that stand for books: one entry after another, by the calls of the collections, beginning with the
 //! words of empty books.
+//!
+//! Each entry is put in over a `Plain` of its own, so no trace grows. It is new, and there is room for it, as the
+//! contract of its call asks; so the answer is known, and the words stop only where no memory is left for the trace.
 
 ghost use Rattle.std.specs.Prelude.{◌≡◌, ℕ, ◌<◌, ◌≤◌, None, IsSome, IfOk, length};
 ghost use Rattle.std.specs.FinMap as map;
