@@ -10,32 +10,22 @@ use Rattle.std.specs.FinMap as entry_map
 use Rattle.std.proofs.lemmas.Map.Lookups.{CmpEqualImpliesEq}
 use Rattle.std.proofs.lemmas.Map.Views.{tells_apart}
 use Rattle.books_model.proofs.Maps.{len_after_insert}
+use Rattle.txn_books.proofs.ChainedChanges.{put_here, put_there}
 use Rattle.txn_alloc.specs.EntryMaps.{Cell, Entries, value_of, HasKeysOnce}
 use Rattle.txn_alloc.proofs.Cells.{value_first, value_later, insert_same, insert_other}
 use Rattle.txn_books.specs.Inner.Reading.{AddsUp, entries_in}
 
 module _ {K : Type 0} {R : K → K → Ordering} (o : IsTotalOrder R) (exact : CmpEqualImpliesEq R) where
-  -- what stands at a key after an insert
-  pub put_same : (f : entry_map.FinMap R ℕ) (k : K) (v : ℕ) → entry_map.get (entry_map.insert f k v) k ≡ Some v
-  put_same f k v = entry_map.get-insert o f k v k ∙ ap (λ r. cond (is_eq r) (Some v) (entry_map.get f k)) (tied_itself o k)
-
-  pub put_other : (f : entry_map.FinMap R ℕ) (k q : K) (v : ℕ) → q ≢ k → entry_map.get (entry_map.insert f k v) q ≡ entry_map.get f q
-  put_other f k q v ne = entry_map.get-insert o f k v q ∙ at (eq_by_cmp R q k) refl
-    where
-      at : (b : Bool) → eq_by_cmp R q k ≡ b → cond (eq_by_cmp R q k) (Some v) (entry_map.get f q) ≡ entry_map.get f q
-      at true e = absurd (ne (tells_apart exact q k e))
-      at false e = ap (λ b. cond b (Some v) (entry_map.get f q)) e
-
   -- what was there stays
   pub adds_keep : (es : List (K × ℕ)) (f g : entry_map.FinMap R ℕ) (k : K) (v : ℕ) → AddsUp f es g → entry_map.get f k ≡ Some v → entry_map.get g k ≡ Some v
   adds_keep [] f g k v a h = ap (λ m. entry_map.get m k) (sym a) ∙ h
   adds_keep (e ∷ es) f g k v a h =
       let ne : k ≢ e.0 = λ same. let none : entry_map.get f k ≡ None = ap (entry_map.get f) same ∙ a.0 in absurd (cc) in
-      adds_keep es (entry_map.insert f e.0 e.1) g k v a.1 (put_other f e.0 k e.1 ne ∙ h)
+      adds_keep es (entry_map.insert f e.0 e.1) g k v a.1 (put_there o exact f e.0 e.1 k ne ∙ h)
 
   -- and each entry is there then
   pub adds_first : (e : K × ℕ) (es : List (K × ℕ)) (f g : entry_map.FinMap R ℕ) → AddsUp f (e ∷ es) g → entry_map.get g e.0 ≡ Some e.1
-  adds_first e es f g a = adds_keep es (entry_map.insert f e.0 e.1) g e.0 e.1 a.1 (put_same f e.0 e.1)
+  adds_first e es f g a = adds_keep es (entry_map.insert f e.0 e.1) g e.0 e.1 a.1 (put_here o exact f e.0 e.1)
 
   -- there are as many more as were put in
   pub adds_length : (es : List (K × ℕ)) (f g : entry_map.FinMap R ℕ) → AddsUp f es g → entry_map.len f + length es ≡ entry_map.len g

@@ -32,7 +32,7 @@ use Rattle.txn_books.specs.Layout.{arena_of, tree_of, chains_of, queue_of, price
 use Rattle.txn_books.specs.Standing.{IsGoodFor}
 use Rattle.txn_books.proofs.Keyed.{find_none}
 use Rattle.txn_books.proofs.Apart.{three_among}
-use Rattle.txn_books.proofs.Adding.{put_same}
+use Rattle.txn_books.proofs.ChainedChanges.{put_here}
 use Rattle.txn_books.proofs.Emptied.{no_entries, all_once}
 
 abbrev pub hand_shape : BooksShape
@@ -311,8 +311,8 @@ hand_range =
     let account_range = put_cash-in_range (empty_books 4 1 2) 7 70 empty_range (omega arith, omega arith) (omega arith) (omega (arith, one, nat_none, pair_none)) in
     let price_range = put_price-in_range with_account 1 5 account_range (omega arith, omega arith) (omega arith, omega arith) (omega (arith, one, two, nat_none, pair_none)) in
     let position_range = put_quantity-in_range with_price 7 1 3 price_range
-    (subst IsSome (sym (put_same nat_cmp_total nat_cmp-IsAntisymmetric entry_map.empty 7 70)) refl)
-    (subst IsSome (sym (put_same nat_cmp_total nat_cmp-IsAntisymmetric entry_map.empty 1 5)) refl)
+    (subst IsSome (sym (put_here nat_cmp_total nat_cmp-IsAntisymmetric entry_map.empty 7 70)) refl)
+    (subst IsSome (sym (put_here nat_cmp_total nat_cmp-IsAntisymmetric entry_map.empty 1 5)) refl)
     (omega arith, omega arith) (omega (arith, one, two, three, nat_none, pair_none)) in
     put_call-in_range (put_call with_position 7 9) 8 4
     (put_call-in_range with_position 7 9 position_range ((omega arith, omega arith), (omega arith, omega arith)) (omega arith))

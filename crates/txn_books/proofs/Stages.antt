@@ -21,7 +21,7 @@ use Rattle.txn_books.specs.Layout.{tree_of, chains_of, queue_of, price_key_of, p
 use Rattle.txn_books.specs.Standing.{Stands}
 use Rattle.txn_books.specs.Statements.{IsInstrument}
 use Rattle.txn_books.specs.Inner.Reading.{AddsUp, is_price_key, prices_in, positions_in, AddsAccounts, AddsPrices, AddsPositions, AddsCalls, nothing_yet, with_accounts, with_prices, with_positions}
-use Rattle.txn_books.proofs.Adding.{put_same, put_other}
+use Rattle.txn_books.proofs.ChainedChanges.{put_here, put_there}
 use Rattle.txn_books.proofs.Chained.{IsPlace, price_in, position_in, get_price, get_position}
 use Rattle.txn_books.proofs.Filling.{price_below, price_above}
 
@@ -39,10 +39,10 @@ module _ (whole : ClearingBooks) (range : AreInRange whole) where
   prices_put : (key x : ℕ) (have : Entries) (prices : entry_map.FinMap nat_cmp ℕ) → key < MOST_INSTRUMENTS → AlikePrices have prices → AlikePrices (entry_map.insert have key x) (entry_map.insert prices (key + 1) x)
   prices_put key x have prices lt h = (
     λ i is. dite (ℕ_discrete i (key + 1))
-        (λ e. ap (λ j. entry_map.get (entry_map.insert prices (key + 1) x) j) e ∙ put_same nat_cmp_total nat_cmp-IsAntisymmetric prices (key + 1) x
-        ∙ sym (ap (λ k. entry_map.get (entry_map.insert have key x) k) (let k : price_key_of i ≡ key = omega (arith, e) in k) ∙ put_same nat_cmp_total nat_cmp-IsAntisymmetric have key x))
-        (λ ne. put_other nat_cmp_total nat_cmp-IsAntisymmetric prices (key + 1) i x ne ∙ h.0 i is
-        ∙ sym (put_other nat_cmp_total nat_cmp-IsAntisymmetric have key (price_key_of i) x (λ e. ne (omega (arith, e, is.0))))),
+        (λ e. ap (λ j. entry_map.get (entry_map.insert prices (key + 1) x) j) e ∙ put_here nat_cmp_total nat_cmp-IsAntisymmetric prices (key + 1) x
+        ∙ sym (ap (λ k. entry_map.get (entry_map.insert have key x) k) (let k : price_key_of i ≡ key = omega (arith, e) in k) ∙ put_here nat_cmp_total nat_cmp-IsAntisymmetric have key x))
+        (λ ne. put_there nat_cmp_total nat_cmp-IsAntisymmetric prices (key + 1) x i ne ∙ h.0 i is
+        ∙ sym (put_there nat_cmp_total nat_cmp-IsAntisymmetric have key x (price_key_of i) (λ e. ne (omega (arith, e, is.0))))),
     λ i y there. elim (found_after_insert nat_cmp_total nat_cmp-IsAntisymmetric prices (key + 1) i x y there) [
       | inl new ↦ let same : i ≡ key + 1 = new.0 in (omega (arith, same), omega (arith, same, lt))
       | inr old ↦ h.1 i y old
@@ -51,7 +51,7 @@ module _ (whole : ClearingBooks) (range : AreInRange whole) where
 
   prices_past : (key x : ℕ) (have : Entries) (prices : entry_map.FinMap nat_cmp ℕ) → MOST_INSTRUMENTS ≤ key → AlikePrices have prices → AlikePrices (entry_map.insert have key x) prices
   prices_past key x have prices le h = (
-    λ i is. h.0 i is ∙ sym (put_other nat_cmp_total nat_cmp-IsAntisymmetric have key (price_key_of i) x (λ e. omega (arith, e, le, is.0, is.1))),
+    λ i is. h.0 i is ∙ sym (put_there nat_cmp_total nat_cmp-IsAntisymmetric have key x (price_key_of i) (λ e. omega (arith, e, le, is.0, is.1))),
     h.1,
   )
 
@@ -101,16 +101,15 @@ module _ (whole : ClearingBooks) (range : AreInRange whole) where
         let account : a ≡ key / MOST_INSTRUMENTS = omega (arith, e, is.0, is.1) in
         let instrument : i ≡ key % MOST_INSTRUMENTS + 1 = omega (arith, e, is.0, is.1) in
         let place : (a, i) ≡ place_of key = λ j. (account j, instrument j) in
-        ap (entry_map.get (entry_map.insert positions (place_of key) x)) place ∙ put_same positions_total exact_positions positions (place_of key) x
-        ∙ sym (ap (entry_map.get (entry_map.insert have key x)) e ∙ put_same nat_cmp_total nat_cmp-IsAntisymmetric have key x))
+        ap (entry_map.get (entry_map.insert positions (place_of key) x)) place ∙ put_here positions_total exact_positions positions (place_of key) x
+        ∙ sym (ap (entry_map.get (entry_map.insert have key x)) e ∙ put_here nat_cmp_total nat_cmp-IsAntisymmetric have key x))
         (λ ne.
-        put_other positions_total exact_positions positions (place_of key) (a, i) x
-        (λ e.
+        put_there positions_total exact_positions positions (place_of key) x (a, i) (λ e.
         let account : a ≡ key / MOST_INSTRUMENTS = ap (λ (p : ℕ × ℕ). p.0) e in
         let instrument : i ≡ key % MOST_INSTRUMENTS + 1 = ap (λ (p : ℕ × ℕ). p.1) e in
         ne (omega (arith, account, instrument)))
         ∙ h.0 a i one is
-        ∙ sym (put_other nat_cmp_total nat_cmp-IsAntisymmetric have key (position_key_of a i) x ne)),
+        ∙ sym (put_there nat_cmp_total nat_cmp-IsAntisymmetric have key x (position_key_of a i) ne)),
     λ p y there. elim (found_after_insert positions_total exact_positions positions (place_of key) p x y there) [
       | inl new ↦ subst IsPlace (sym new.0) (is_place key le)
       | inr old ↦ h.1 p y old
@@ -119,7 +118,7 @@ module _ (whole : ClearingBooks) (range : AreInRange whole) where
 
   positions_before : (key x : ℕ) (have : Entries) (positions : entry_map.FinMap position_cmp ℕ) → key < MOST_INSTRUMENTS → AlikePositions have positions → AlikePositions (entry_map.insert have key x) positions
   positions_before key x have positions lt h = (
-    λ a i one is. h.0 a i one is ∙ sym (put_other nat_cmp_total nat_cmp-IsAntisymmetric have key (position_key_of a i) x (λ e. omega (arith, e, lt, one))),
+    λ a i one is. h.0 a i one is ∙ sym (put_there nat_cmp_total nat_cmp-IsAntisymmetric have key x (position_key_of a i) (λ e. omega (arith, e, lt, one))),
     h.1,
   )
 

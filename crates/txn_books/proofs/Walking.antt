@@ -15,7 +15,8 @@ use Rattle.books_model.proofs.Keys.{below_first, below_rest, sorted_first, sorte
 use Rattle.books_model.proofs.Entries.{All-entries}
 use Rattle.txn_books.specs.Inner.Reading.{AddsUp}
 use Rattle.txn_books.specs.Inner.Building.{above}
-use Rattle.txn_books.proofs.Adding.{or_else, put_same, put_other}
+use Rattle.txn_books.proofs.Adding.{or_else}
+use Rattle.txn_books.proofs.ChainedChanges.{put_here, put_there}
 
 module _ {K : Type 0} {R : K → K → Ordering} (o : IsTotalOrder R) where
   all_above : (k : K) (es : List (K × ℕ)) → T (below_all R k es) → above R k es ≡ es
@@ -91,16 +92,16 @@ module _ {K : Type 0} {R : K → K → Ordering} (o : IsTotalOrder R) where
 
         at : (k : K) (b : Bool) → eq_by_cmp R k e.0 ≡ b → sorted.find R k es ≢ None → entry_map.get (entry_map.insert f e.0 e.1) k ≡ None
         at k true b some = absurd (some (none k (tells_apart exact k e.0 b)))
-        at k false b some = put_other o exact f e.0 k e.1 (differs k b) ∙ new k (λ gone. some (sym (ap (λ z. cond z (Some e.1) (sorted.find R k es)) b) ∙ gone))
+        at k false b some = put_there o exact f e.0 e.1 k (differs k b) ∙ new k (λ gone. some (sym (ap (λ z. cond z (Some e.1) (sorted.find R k es)) b) ∙ gone))
 
         both : (k : K) (b : Bool) → eq_by_cmp R k e.0 ≡ b → entry_map.get g k ≡ or_else (sorted.find R k es) (entry_map.get (entry_map.insert f e.0 e.1) k)
         both k true b =
             let same : k ≡ e.0 = tells_apart exact k e.0 b in
             is k ∙ ap (λ z. or_else (cond z (Some e.1) (sorted.find R k es)) (entry_map.get f k)) b
-            ∙ sym (ap (λ p. or_else p (entry_map.get (entry_map.insert f e.0 e.1) k)) (none k same) ∙ ap (entry_map.get (entry_map.insert f e.0 e.1)) same ∙ put_same o exact f e.0 e.1)
+            ∙ sym (ap (λ p. or_else p (entry_map.get (entry_map.insert f e.0 e.1) k)) (none k same) ∙ ap (entry_map.get (entry_map.insert f e.0 e.1)) same ∙ put_here o exact f e.0 e.1)
         both k false b =
             is k ∙ ap (λ z. or_else (cond z (Some e.1) (sorted.find R k es)) (entry_map.get f k)) b
-            ∙ ap (λ p. or_else (sorted.find R k es) p) (sym (put_other o exact f e.0 k e.1 (differs k b)))
+            ∙ ap (λ p. or_else (sorted.find R k es) p) (sym (put_there o exact f e.0 e.1 k (differs k b)))
 
     or_empty : (p : Option ℕ) (q : Option ℕ) → q ≡ None → p ≡ or_else p q
     or_empty None q e = sym e
