@@ -106,6 +106,10 @@ saw_same who old new e = subst (λ (l : List Entry). GainsOthers who old l) (sym
 runs_on : (began old new : View) → Runs began old → new.phase ≡ old.phase → new.abandoned ≡ old.abandoned → Runs began new
 runs_on began old new r phase abandoned = record { phase = phase ∙ r.phase; abandoned = abandoned ∙ r.abandoned }
 
+-- a load's event is the trace's last
+pub loaded_last : (a x : ℕ) (old new : View) → new ≡ record old { trace = old.trace ++ Read a x ∷ [] } → new.trace ≡ old.trace ++ Read a x ∷ []
+loaded_last a x old new e = ap (λ (v : View). v.trace) e
+
 -- the events and notes of a view, and nothing else, are these
 abbrev pub with_events : Trace → Notes → View → View
 with_events trace notes v = record v { trace = trace; undo = notes }

@@ -22,7 +22,7 @@ use Rattle.txn_commit.specs.declared.attempt.TheConstants.{UNDO_ROOM}
 use Rattle.txn_commit.specs.declared.transaction.Receipt.{Receipt}
 use Rattle.txn_commit.specs.declared.attempt.Halt.{Halt}
 use Rattle.txn_commit.specs.declared.attempt.Halt.TheVariants as halt
-use Rattle.txn_commit.specs.Attempts.{GaveWayTo, IsSound, Runs, SameCall, StandsAs}
+use Rattle.txn_commit.specs.Attempts.{GaveWayTo, IsSound, Runs, SameCall, StandsAs, start_of}
 use Rattle.txn_commit.specs.Inner.Releasing.{Releases, Undoes}
 use Rattle.txn_commit.specs.Transactions.{EndsWithoutEntry, GainsOthers, GetsEntry, HoldsNothing}
 use Rattle.txn_commit.proofs.Attempts.{same_call}
@@ -125,6 +125,13 @@ one_more n m cause first began old new same count gave kept =
     let before : length began.abandoned ≡ length first.abandoned = ap (λ (v : View). length v.abandoned) same in
     let few = gave.bounded.few in
     (omega (arith, long, still, before, count), omega (arith, still, few))
+
+-- two attempts that began from the same
+pub same_desk : {S : Type 0} (d e : DeskView S) (m n : ℕ) (p q : PassView) → start_of d m p ≡ start_of e n q → d ≡ e
+same_desk d e m n p q s = ap (λ o. o.desk) s
+
+pub same_pass : {S : Type 0} (d e : DeskView S) (m n : ℕ) (p q : PassView) → start_of d m p ≡ start_of e n q → p ≡ q
+same_pass d e m n p q s = ap (λ o. o.pass) s
 
 -- a job ran on the attempt that began here
 pub ran_on : (first : View) (kept began pass : PassView) (old : View) → SameCall first pass.view → kept ≡ began → began ≡ pass → SameCall kept.view old → SameCall first old

@@ -70,6 +70,9 @@ claims_without v new j k l e h = (has-without l k v.claims (subst (λ (w : View)
 pub bit_cleared : (v new : View) (j k : ℕ) → new ≡ (clear_read_bit_action j k v).view [] 0 → Releases v new
 bit_cleared v new j k e = subst (λ (w : View). Releases v w) (sym e) (record { rest = refl; phase = inr refl })
 
+pub claims_stay : (v new : View) (j k : ℕ) → new ≡ (clear_read_bit_action j k v).view [] 0 → new.claims ≡ v.claims
+claims_stay v new j k e = ap (λ (w : View). w.claims) e
+
 pub bits_without : (v new : View) (j k l : ℕ) → new ≡ (clear_read_bit_action j k v).view [] 0 → HasBit new l → HasBit v l
 bits_without v new j k l e h = (has-without l k v.bits (subst (λ (w : View). HasBit w l) e h)).1
 

@@ -3,6 +3,7 @@
 ghost use Rattle.std.specs.Prelude.{◌≡◌, ◌<◌, [], ◌∷◌, IfOk};
 ghost use Rattle.history_model.specs.declared.view.Phase.TheVariants.{Idle};
 ghost use Rattle.locks_rule.specs.Splits.{opening_view};
+ghost use Rattle.std.specs.Thread.{IsSync};
 
 use crate::tests::close_two;
 use crate::transact;
@@ -148,7 +149,10 @@ fn open_pair(alloc: Global) -> Result<(Desk<Pair>, Pass<Pair>, Pass<Pair>), OutO
     Ok((desk, zero, one))
 }
 
-// Two threads, each with a pass that makes so many calls, in crossed orders: the passes, and the most restarts of each.
+// A pass, and the most restarts that one of its calls had.
+type Ended = (Pass<Pair>, Result<u32, OutOfMemory>);
+
+// Two threads, each with a pass that makes so many calls, in crossed orders.
 fn cross<R: Threads + Wait + Sync, G: Gate>(
     rt: &R,
     alloc: Global,
@@ -157,38 +161,135 @@ fn cross<R: Threads + Wait + Sync, G: Gate>(
     one: Pass<Pair>,
     calls: u16,
     gate: &G,
-) -> (
-    (Pass<Pair>, Result<u32, OutOfMemory>),
-    (Pass<Pair>, Result<u32, OutOfMemory>),
-)
-    requires zero { (zero.table ≡ desk.now.table) × (zero.view.phase ≡ Idle) × (zero.view.call ≡ 0)
-        × (zero.view.who ≡ 0 ∷ []) }
-    requires one { (one.table ≡ desk.now.table) × (one.view.phase ≡ Idle) × (one.view.call ≡ 0)
-        × (one.view.who ≡ 1 ∷ []) }
+) -> (Ended, Ended)
+    requires zero { (zero.table ≡ desk.now.table) × (zero.view.phase ≡ Idle) × (zero.view.call ≡ 0) }
+    requires one { (one.table ≡ desk.now.table) × (one.view.phase ≡ Idle) × (one.view.call ≡ 0) }
     ensures zero { (result.0.0.table ≡ desk.now.table) × (result.0.0.view.phase ≡ Idle)
-        × (result.0.0.view.who ≡ 0 ∷ []) }
+        × (result.0.0.view.who ≡ zero.view.who) }
     ensures one { (result.1.0.table ≡ desk.now.table) × (result.1.0.view.phase ≡ Idle)
-        × (result.1.0.view.who ≡ 1 ∷ []) }
+        × (result.1.0.view.who ≡ one.view.who) }
     ensures few { 0 < desk.now.seats → IfOk result.0.1 (λ most. most < desk.now.seats)
         × IfOk result.1.1 (λ most. most < desk.now.seats) }
 {
     thread::join(
         rt,
-        move || -> (Pass<Pair>, Result<u32, OutOfMemory>)
-            requires { (zero.table ≡ desk.now.table) × (zero.view.phase ≡ Idle) × (zero.view.call ≡ 0)
-                × (zero.view.who ≡ 0 ∷ []) }
+        move || -> Ended
+            requires { (zero.table ≡ desk.now.table) × (zero.view.phase ≡ Idle) × (zero.view.call ≡ 0) }
             ensures { (result.0.table ≡ desk.entry.now.table) × (result.0.view.phase ≡ Idle)
-                × (result.0.view.who ≡ 0 ∷ [])
+                × (result.0.view.who ≡ zero.view.who)
                 × (0 < desk.entry.now.seats → IfOk result.1 (λ most. most < desk.entry.now.seats)) }
         { add_all(rt, alloc, desk, zero, AddToBoth::LeftFirst, calls, gate) },
-        move || -> (Pass<Pair>, Result<u32, OutOfMemory>)
-            requires { (one.table ≡ desk.now.table) × (one.view.phase ≡ Idle) × (one.view.call ≡ 0)
-                × (one.view.who ≡ 1 ∷ []) }
+        move || -> Ended
+            requires { (one.table ≡ desk.now.table) × (one.view.phase ≡ Idle) × (one.view.call ≡ 0) }
             ensures { (result.0.table ≡ desk.entry.now.table) × (result.0.view.phase ≡ Idle)
-                × (result.0.view.who ≡ 1 ∷ [])
+                × (result.0.view.who ≡ one.view.who)
                 × (0 < desk.entry.now.seats → IfOk result.1 (λ most. most < desk.entry.now.seats)) }
         { add_all(rt, alloc, desk, one, AddToBoth::RightFirst, calls, gate) },
     )
+}
+
+// Four threads, each with a pass that makes so many calls, every second in the other order.
+fn cross_twice<R: Threads + Wait + Sync>(
+    rt: &R,
+    alloc: Global,
+    desk: &Desk<Pair>,
+    zero: Pass<Pair>,
+    one: Pass<Pair>,
+    two: Pass<Pair>,
+    three: Pass<Pair>,
+    calls: u16,
+) -> ((Ended, Ended), (Ended, Ended))
+    requires zero { (zero.table ≡ desk.now.table) × (zero.view.phase ≡ Idle) × (zero.view.call ≡ 0) }
+    requires one { (one.table ≡ desk.now.table) × (one.view.phase ≡ Idle) × (one.view.call ≡ 0) }
+    requires two { (two.table ≡ desk.now.table) × (two.view.phase ≡ Idle) × (two.view.call ≡ 0) }
+    requires three { (three.table ≡ desk.now.table) × (three.view.phase ≡ Idle) × (three.view.call ≡ 0) }
+    ensures zero { (result.0.0.0.table ≡ desk.now.table) × (result.0.0.0.view.phase ≡ Idle)
+        × (result.0.0.0.view.who ≡ zero.view.who) }
+    ensures one { (result.0.1.0.table ≡ desk.now.table) × (result.0.1.0.view.phase ≡ Idle)
+        × (result.0.1.0.view.who ≡ one.view.who) }
+    ensures two { (result.1.0.0.table ≡ desk.now.table) × (result.1.0.0.view.phase ≡ Idle)
+        × (result.1.0.0.view.who ≡ two.view.who) }
+    ensures three { (result.1.1.0.table ≡ desk.now.table) × (result.1.1.0.view.phase ≡ Idle)
+        × (result.1.1.0.view.who ≡ three.view.who) }
+{
+    thread::join(
+        rt,
+        move || -> (Ended, Ended)
+            requires { IsSync R.row
+                × (zero.table ≡ desk.now.table) × (zero.view.phase ≡ Idle) × (zero.view.call ≡ 0)
+                × (one.table ≡ desk.now.table) × (one.view.phase ≡ Idle) × (one.view.call ≡ 0) }
+            ensures { (result.0.0.table ≡ desk.entry.now.table) × (result.0.0.view.phase ≡ Idle)
+                × (result.0.0.view.who ≡ zero.view.who)
+                × (result.1.0.table ≡ desk.entry.now.table) × (result.1.0.view.phase ≡ Idle)
+                × (result.1.0.view.who ≡ one.view.who) }
+        { cross(rt, alloc, desk, zero, one, calls, &OpenGate) },
+        move || -> (Ended, Ended)
+            requires { IsSync R.row
+                × (two.table ≡ desk.now.table) × (two.view.phase ≡ Idle) × (two.view.call ≡ 0)
+                × (three.table ≡ desk.now.table) × (three.view.phase ≡ Idle) × (three.view.call ≡ 0) }
+            ensures { (result.0.0.table ≡ desk.entry.now.table) × (result.0.0.view.phase ≡ Idle)
+                × (result.0.0.view.who ≡ two.view.who)
+                × (result.1.0.table ≡ desk.entry.now.table) × (result.1.0.view.phase ≡ Idle)
+                × (result.1.0.view.who ≡ three.view.who) }
+        { cross(rt, alloc, desk, two, three, calls, &OpenGate) },
+    )
+}
+
+// A desk with two words, both 0, and four passes.
+fn open_four(
+    alloc: Global,
+) -> Result<(Desk<Pair>, Pass<Pair>, Pass<Pair>, Pass<Pair>, Pass<Pair>), OutOfMemory>
+    ensures seats { IfOk result (λ opened. opened.0.seats ≡ 4) }
+    ensures zero { IfOk result (λ opened. opened.1 ≡ record {
+      table = opened.0.table;
+      view = opening_view opened.0.base 4 (0 ∷ []) [];
+    }) }
+    ensures one { IfOk result (λ opened. opened.2 ≡ record {
+      table = opened.0.table;
+      view = opening_view opened.0.base 4 (1 ∷ []) [];
+    }) }
+    ensures two { IfOk result (λ opened. opened.3 ≡ record {
+      table = opened.0.table;
+      view = opening_view opened.0.base 4 (2 ∷ []) [];
+    }) }
+    ensures three { IfOk result (λ opened. opened.4 ≡ record {
+      table = opened.0.table;
+      view = opening_view opened.0.base 4 (3 ∷ []) [];
+    }) }
+{
+    let base = vec![in alloc; 0u64; 2]?;
+    let (desk, mut passes) = Desk::new(alloc, Pair, base, 4)?;
+    let (Some(three), Some(two), Some(one), Some(zero)) = (
+        passes.pop(),
+        passes.pop(),
+        passes.pop(),
+        passes.pop(),
+    ) else {
+        unreachable!()
+    };
+    Ok((desk, zero, one, two, three))
+}
+
+// The words that a desk with these four passes leaves.
+fn close_four(
+    alloc: Global,
+    desk: Desk<Pair>,
+    zero: Pass<Pair>,
+    one: Pass<Pair>,
+    two: Pass<Pair>,
+    three: Pass<Pair>,
+) -> Result<Vec<u64>, OutOfMemory>
+    requires seats { desk.seats ≡ 4 }
+    requires zero { (zero.table ≡ desk.table) × (zero.view.who ≡ 0 ∷ []) × (zero.view.phase ≡ Idle) }
+    requires one { (one.table ≡ desk.table) × (one.view.who ≡ 1 ∷ []) × (one.view.phase ≡ Idle) }
+    requires two { (two.table ≡ desk.table) × (two.view.who ≡ 2 ∷ []) × (two.view.phase ≡ Idle) }
+    requires three { (three.table ≡ desk.table) × (three.view.who ≡ 3 ∷ []) × (three.view.phase ≡ Idle) }
+{
+    let passes = vec![in alloc; zero, one, two, three]?;
+    match desk.close(alloc, passes) {
+        Ok(closed) => Ok(closed.words().to_vec(alloc)?),
+        Err(_) => Err(OutOfMemory),
+    }
 }
 
 #[test]
@@ -205,11 +306,21 @@ fn of_two_calls_that_cross_one_gives_way_once(rt: HostRuntime) -> Result<(), Fai
 }
 
 #[test]
-fn two_threads_that_cross_ten_thousand_times_lose_no_write(rt: HostRuntime) -> Result<(), Fail> {
-    let (desk, zero, one) = open_pair(rt.alloc())?;
-    let ((zero, left), (one, right)) = cross(&rt, rt.alloc(), &desk, zero, one, 10_000, &OpenGate);
-    assert!(rt; left? < 2 && right? < 2);
-    let words = close_two(rt.alloc(), desk, zero, one)?;
-    assert_eq!(rt; words.as_slice(), [20_000, 20_000].as_slice());
+fn four_threads_add_ten_thousand_times(rt: HostRuntime) -> Result<(), Fail> {
+    let (desk, zero, one, two, three) = open_four(rt.alloc())?;
+    let (((zero, first), (one, second)), ((two, third), (three, fourth))) = cross_twice(
+        &rt,
+        rt.alloc(),
+        &desk,
+        zero,
+        one,
+        two,
+        three,
+        2_500,
+    );
+    let most = first?.max(second?).max(third?).max(fourth?);
+    assert!(rt; most < 4);
+    let words = close_four(rt.alloc(), desk, zero, one, two, three)?;
+    assert_eq!(rt; words.as_slice(), [10_000, 10_000].as_slice());
     Ok(())
 }

@@ -1,7 +1,6 @@
-use Rattle.std.proofs.Common.{ap, ◌∙◌}
-use Rattle.history_model.specs.declared.view.View.{View}
+use Rattle.std.proofs.Common.{◌∙◌}
 use Rattle.history_model.specs.Views.{number, HasBit}
-use Rattle.txn_commit.proofs.Releasing.{at_next, near_next, least_from, least_below, releases_more, bit_cleared, bits_without, still_undone, still_begun}
+use Rattle.txn_commit.proofs.Releasing.{at_next, near_next, least_from, least_below, claims_stay, releases_more, bit_cleared, bits_without, still_undone, still_begun}
 use Rattle.txn_commit.proofs.release.release_bits.Goals as goal
 
 pub unshare-requires-clause-bit : goal.unshare-requires-clause-bit
@@ -13,7 +12,7 @@ loop-next-preserved g c = let inv = c.loop-next.invariant in let old = c.loop-ne
     let step = bit_cleared old new (number old) c.in-Some.lock c.unshare.ensures.step in record {
       table = c.unshare.ensures.desk ∙ inv.table;
       released = releases_more c.args.pass.now.view old new inv.released step;
-      claims = ap (λ (v : View). v.claims) c.unshare.ensures.step ∙ inv.claims;
+      claims = claims_stay old new (number old) c.in-Some.lock c.unshare.ensures.step ∙ inv.claims;
       undone = still_undone old new step inv.undone;
       begun = still_begun old new step inv.begun;
       near = c.next_bit_from-next.ensures.lock;

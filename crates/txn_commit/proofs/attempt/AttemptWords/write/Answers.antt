@@ -1,10 +1,9 @@
-use Rattle.std.proofs.Common.{◌≡◌, Option, Some, refl, sym, ap, ◌∙◌, subst, arith}
-use Rattle.history_model.specs.declared.view.View.{View}
+use Rattle.std.proofs.Common.{◌≡◌, Option, Some, refl, sym, ◌∙◌, subst, arith}
 use Rattle.undo_log.specs.Room.{Room}
 use Rattle.txn_commit.specs.declared.attempt.Halt.{Halt}
 use Rattle.txn_commit.specs.declared.attempt.Halt.TheVariants as halt
 use Rattle.txn_commit.specs.Attempts.{IsSound}
-use Rattle.txn_commit.proofs.Attempts.{not_halted, of_refused, of_made, refused_when_full, yields_sound, held_sound, memory_sound, store_sound, held_not_yield, granted_not_yield}
+use Rattle.txn_commit.proofs.Attempts.{loaded_last, not_halted, of_refused, of_made, refused_when_full, yields_sound, held_sound, memory_sound, store_sound, held_not_yield, granted_not_yield}
 use Rattle.txn_commit.proofs.attempt.AttemptWords.write.Goals.{in-Held, in-Granted}
 use Rattle.txn_commit.proofs.attempt.AttemptWords.write.Goals as goal
 
@@ -32,7 +31,7 @@ returns-clause-sound g c =
     let held = held_sound g.S.Shape.word_count g.S.Shape.good c.args.self.now.desk.now c.args.self.now.began.value c.args.a c.load-old.result c.args.self.now.pass.now c.ask_to_write.new.pass c.load-old.new.pass c.args.self.now.undo c.args.self.now.halt
     c.requires.going c.requires.sound c.ask_to_write.ensures.desk c.ask_to_write.ensures.asks c.ask_to_write.ensures.judged goes_on.1 c.load-old.ensures.desk c.load-old.ensures.event c.load-old.ensures.fits in
     let made = sym c.if-is_err.ensures.value in
-    let last = ap (λ (v : View). v.trace) c.load-old.ensures.event in
+    let last = loaded_last c.args.a c.load-old.result c.ask_to_write.new.pass.view c.load-old.new.pass.view c.load-old.ensures.event in
     subst (λ (h : Option Halt). IsSound g.S.Shape.word_count g.S.Shape.good c.args.self.now.desk.now c.args.self.now.began.value c.store.new.pass c.note.new.self h) (sym (not_halted c.args.self.now.halt c.requires.going))
     (store_sound g.S.Shape.word_count g.S.Shape.good c.args.self.now.desk.now c.args.self.now.began.value c.args.a c.args.v c.load-old.result c.ask_to_write.new.pass.view.trace c.load-old.new.pass c.store.new.pass c.args.self.now.undo c.note.new.self
     held c.requires.within last c.store.ensures.desk c.store.ensures.step (c.store.ensures.noted c.ask_to_write.new.pass.view.trace c.load-old.result last)
