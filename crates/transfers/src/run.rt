@@ -79,7 +79,8 @@ fn run_lists<R: Threads + Wait + Sync>(
     requires fresh { All (IsFresh desk.now) passes.old }
     requires count { length passes.old ≡ length lists.now }
     requires room { All (λ list. vec_len list ≤ LAST_CALL) lists.now }
-    ensures all { (seats : ℕ) → AreAllPasses desk.now.table seats passes.old → AreAllPasses desk.now.table seats passes.new }
+    ensures all { (seats : ℕ) → AreAllPasses desk.now.table seats passes.old
+        → AreAllPasses desk.now.table seats passes.new }
 {
     let wanting = AtomicBool::new(false);
     thread::for_each_mut(
@@ -87,8 +88,8 @@ fn run_lists<R: Threads + Wait + Sync>(
         passes,
         passes.len(),
         &|place: usize, pass: &mut Pass<Vault>|
-            requires { (desk.now.shape ≡ vault) × IsFresh desk.now pass.now × (place < length lists.now)
-                × All (λ list. vec_len list ≤ LAST_CALL) lists.now }
+            requires { (desk.now.shape ≡ vault) × IsFresh desk.now pass.now
+                × (place < length lists.now) × All (λ list. vec_len list ≤ LAST_CALL) lists.now }
             ensures { IsNext pass.entry.now pass.exit.now }
         {
             if run_list(rt, alloc, desk, vault, lists[place].as_slice(), pass).is_err() {
@@ -107,7 +108,8 @@ fn close(
 ) -> Result<Vec<u64>, OutOfMemory>
     requires good { IsGood desk.shape.words (HasSum desk.shape.total) desk.base }
     requires all { AreAllPasses desk.table desk.seats passes.items }
-    ensures good { IfOk result (λ left. IsGood desk.shape.words (HasSum desk.shape.total) left.items) }
+    ensures good { IfOk result (λ left.
+        IsGood desk.shape.words (HasSum desk.shape.total) left.items) }
 {
     match desk.close(alloc, passes) {
         Ok(closed) => Ok(Vec::from_slice(alloc, closed.words())?),
