@@ -1,0 +1,4 @@
+pub mod Sums
+pub mod Transferring
+pub mod Passing
+pub mod Leaving
