@@ -1,0 +1,4 @@
+pub mod Sums
+pub mod Steps
+pub mod Takes
+pub mod Finishing

@@ -1,0 +1,3 @@
+-- What only the contracts of private functions and the proofs cite.
+pub mod Claims
+pub mod Ends
