@@ -21,6 +21,8 @@ pub mod Accounts
 pub mod MarginCalls
 pub mod Holdings
 pub mod Looking
+pub mod Turning
+pub mod Operating
 pub mod Built
 pub mod Walking
 pub mod Growing

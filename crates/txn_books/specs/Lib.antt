@@ -3,4 +3,5 @@ pub mod Standing
 pub mod Statements
 pub mod Access
 pub mod Laying
+pub mod Operating
 pub mod Inner

@@ -14,6 +14,7 @@ pub mod laws;
 pub mod lay;
 pub mod layout;
 mod listing;
+pub mod operations;
 pub mod price;
 pub mod quantity;
 pub mod queue;

@@ -1,0 +1,20 @@
+-- What an operation on words that stand for books comes to.
+use Rattle.std.specs.Prelude.{◌≡◌, ℕ, List}
+use Rattle.books_model.specs.declared.script.Op.{Op}
+use Rattle.books_model.specs.Books.{ClearingBooks}
+use Rattle.books_model.specs.Interpreter.{Step, Gives, Declines, FindsNoBlock, step_of}
+use Rattle.txn_books.specs.declared.shape.BooksShape.{BooksShape}
+use Rattle.txn_books.specs.declared.operations.Outcome.{Outcome}
+use Rattle.txn_books.specs.declared.operations.Outcome.TheVariants as outcome
+use Rattle.txn_books.specs.Standing.{Stands}
+
+-- the interpreter's step with this outcome, and these books after it where it gives a value
+abbrev pub step_with : Outcome → ClearingBooks → Step
+step_with (outcome.Gives v) after = Gives v after
+step_with (outcome.Declines why) after = Declines why
+step_with outcome.FindsNoBlock after = FindsNoBlock
+
+-- from state to state: the outcome is the interpreter's, and the words then stand for the books that its step leaves;
+-- where it is declined or finds no block, for some books of which nothing is said
+pub record Steps (shape : BooksShape) (op : Op) (outcome : Outcome) (old new : List ℕ) : Type 0 where
+  pub comes : (books : ClearingBooks) → Stands shape old books → (after : ClearingBooks) × (step_of op books ≡ step_with outcome after) × Stands shape new after
