@@ -9,7 +9,8 @@ pub record SourceView : Type 0 where
   pub callers : ℕ
   pub workers : ℕ
 
--- a taker: its source's table and callers, the numbers that it drew from the claim word, and whether it was answered none
+-- a taker: its source's table and callers, the numbers that it drew from the claim word, in order, and whether it was
+-- answered none
 pub record TakerView : Type 0 where
   pub table : TableId
   pub callers : ℕ
@@ -41,4 +42,5 @@ pub record IsDone (source : SourceView) (taker : TakerView) : Type 0 where
 -- what all ends took together, and what is left over, is each caller once
 abbrev pub IsEachOnce : ℕ → List TakerView → List ℕ → Type 0
 IsEachOnce callers takers left =
-    (x : ℕ) → sum_by (λ (taker : TakerView). had taker x) takers + times x left ≡ once_below x callers
+    (x : ℕ)
+    → sum_by (λ (taker : TakerView). had taker x) takers + times x left ≡ once_below x callers

@@ -31,7 +31,8 @@ impl Model for Source {
       workers = s.table.shared.key.workers;
     } };
 
-    ghost invariant = { λ s. (s.table.shared.table_id.words ≡ 1) × (s.table.shared.table_id.slots ≡ 0) × (1 ≤ s.table.shared.key.workers) };
+    ghost invariant = { λ s. (s.table.shared.table_id.words ≡ 1)
+        × (s.table.shared.table_id.slots ≡ 0) × (1 ≤ s.table.shared.key.workers) };
 }
 
 // A taker for each worker, of a seat that has the draws of all. The last one is that seat's.
@@ -43,9 +44,11 @@ fn deal(
     workers: u32,
 ) -> Result<Vec<Taker>, OutOfMemory>
     requires workers { 1 ≤ workers }
-    requires table { (seat.table_id ≡ word.now.table_id) × (0 < word.now.table_id.words) }
+    requires table { seat.table_id ≡ word.now.table_id }
+    requires words { 0 < word.now.table_id.words }
     requires seat { seat.me ≡ (claims [] (draws_of callers workers), []) }
-    ensures { IfOk result (λ takers. takers.items ≡ replicate workers (opening_taker word.now.table_id callers)) }
+    ensures { IfOk result (λ takers.
+        takers.items ≡ replicate workers (opening_taker word.now.table_id callers)) }
 {
     let mut takers = Vec::new(alloc);
     for _worker in 0..workers - 1 {
@@ -65,8 +68,10 @@ impl Source {
     ) -> Result<(Source, Vec<Taker>), OutOfMemory>
         requires workers { 1 ≤ workers }
         requires draws { draws_of callers workers ≤ MOST_DRAWS }
-        ensures source { IfOk result (λ made. (made.0.callers ≡ callers) × (made.0.workers ≡ workers)) }
-        ensures takers { IfOk result (λ made. made.1.items ≡ replicate workers (opening_taker made.0.table callers)) }
+        ensures source { IfOk result (λ made.
+            (made.0.callers ≡ callers) × (made.0.workers ≡ workers)) }
+        ensures takers { IfOk result (λ made.
+            made.1.items ≡ replicate workers (opening_taker made.0.table callers)) }
     {
         let (table, seat) = Table::of_words(alloc, &[0], &Counts { callers, workers })?;
         let takers = deal(alloc, &table.shared, seat, callers, workers)?;
@@ -84,7 +89,8 @@ impl Source {
     // Ends the table, with the seat that has all draws.
     fn settle(self, seat: Seat<(), Claims>)
         requires seat { (seat.table_id ≡ self.table) × (seat.me.1 ≡ []) }
-        requires all { seat.me.0.left + length seat.me.0.drawn ≡ draws_of self.callers self.workers }
+        requires all { seat.me.0.left + length seat.me.0.drawn
+            ≡ draws_of self.callers self.workers }
         ensures { (x : ℕ) → times x seat.me.0.drawn ≡ once_below x (length seat.me.0.drawn) }
     {
         let Source { table } = self;

@@ -56,7 +56,8 @@ impl Join<Claims> for TakesIn {
 
 /// The next number: a fetch-and-add of 1.
 pub(crate) fn draw(word: &ClaimWord, seat: &mut Seat<(), Claims>) -> u64
-    requires table { (seat.old.table_id ≡ word.now.table_id) × (0 < word.now.table_id.words) }
+    requires table { seat.old.table_id ≡ word.now.table_id }
+    requires words { 0 < word.now.table_id.words }
     requires draws { 0 < seat.old.me.0.left }
     ensures table { seat.new.table_id ≡ seat.old.table_id }
     ensures drew { Draws seat.old.me result seat.new.me }
@@ -66,10 +67,13 @@ pub(crate) fn draw(word: &ClaimWord, seat: &mut Seat<(), Claims>) -> u64
 
 fn split_by<P: Part>(word: &ClaimWord, seat: &mut Seat<(), Claims>, draws: u64) -> Seat<(), Claims>
     requires part { P.draws ≡ draws }
-    requires table { (seat.old.table_id ≡ word.now.table_id) × (0 < word.now.table_id.words) }
+    requires table { seat.old.table_id ≡ word.now.table_id }
+    requires words { 0 < word.now.table_id.words }
     requires enough { draws ≤ seat.old.me.0.left }
-    ensures table { (seat.new.table_id ≡ seat.old.table_id) × (result.table_id ≡ seat.old.table_id) }
-    ensures left { seat.new.me ≡ (claims seat.old.me.0.drawn (seat.old.me.0.left - draws), seat.old.me.1) }
+    ensures table { (seat.new.table_id ≡ seat.old.table_id)
+        × (result.table_id ≡ seat.old.table_id) }
+    ensures left { seat.new.me
+        ≡ (claims seat.old.me.0.drawn (seat.old.me.0.left - draws), seat.old.me.1) }
     ensures given { result.me ≡ (claims [] draws, []) }
 {
     word.split_seat::<GivesDraws<P>>(seat)
@@ -77,10 +81,13 @@ fn split_by<P: Part>(word: &ClaimWord, seat: &mut Seat<(), Claims>, draws: u64) 
 
 /// A new seat, to which this one gives so many of its draws.
 pub(crate) fn split(word: &ClaimWord, seat: &mut Seat<(), Claims>, draws: u64) -> Seat<(), Claims>
-    requires table { (seat.old.table_id ≡ word.now.table_id) × (0 < word.now.table_id.words) }
+    requires table { seat.old.table_id ≡ word.now.table_id }
+    requires words { 0 < word.now.table_id.words }
     requires enough { draws ≤ seat.old.me.0.left }
-    ensures table { (seat.new.table_id ≡ seat.old.table_id) × (result.table_id ≡ seat.old.table_id) }
-    ensures left { seat.new.me ≡ (claims seat.old.me.0.drawn (seat.old.me.0.left - draws), seat.old.me.1) }
+    ensures table { (seat.new.table_id ≡ seat.old.table_id)
+        × (result.table_id ≡ seat.old.table_id) }
+    ensures left { seat.new.me
+        ≡ (claims seat.old.me.0.drawn (seat.old.me.0.left - draws), seat.old.me.1) }
     ensures given { result.me ≡ (claims [] draws, []) }
 {
     split_by::<Brand>(word, seat, draws)
@@ -88,11 +95,18 @@ pub(crate) fn split(word: &ClaimWord, seat: &mut Seat<(), Claims>, draws: u64) -
 
 /// The seat takes in another, with what it drew and its draws.
 pub(crate) fn join(word: &ClaimWord, seat: &mut Seat<(), Claims>, other: Seat<(), Claims>)
-    requires table { (seat.old.table_id ≡ word.now.table_id) × (other.table_id ≡ word.now.table_id) }
+    requires table { (seat.old.table_id ≡ word.now.table_id)
+        × (other.table_id ≡ word.now.table_id) }
     requires words { 0 < word.now.table_id.words }
     requires other { other.me.1 ≡ [] }
     ensures table { seat.new.table_id ≡ seat.old.table_id }
-    ensures both { seat.new.me ≡ (claims (seat.old.me.0.drawn ++ other.me.0.drawn) (seat.old.me.0.left + other.me.0.left), seat.old.me.1) }
+    ensures both { seat.new.me
+        ≡ (
+          claims
+              (seat.old.me.0.drawn ++ other.me.0.drawn)
+              (seat.old.me.0.left + other.me.0.left),
+          seat.old.me.1,
+        ) }
 {
     word.join_seat::<TakesIn>(seat, other);
 }

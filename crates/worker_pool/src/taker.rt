@@ -55,7 +55,8 @@ impl Taker {
     pub fn next(&mut self, source: &Source) -> Option<u32>
         requires source { self.old.table ≡ source.now.table }
         requires open { self.old.over ≡ false }
-        ensures source { (self.new.table ≡ self.old.table) × (self.new.callers ≡ self.old.callers) }
+        ensures source { (self.new.table ≡ self.old.table)
+            × (self.new.callers ≡ self.old.callers) }
         ensures caller { IfSome result (λ c. c < self.old.callers) }
         ensures taken { IfSome result (λ c. taken self.new ≡ taken self.old ++ c ∷ []) }
         ensures had { IfSome result (λ c. HadOneMore (had self.old) (had self.new) c) }

@@ -18,7 +18,7 @@ pub record ClaimsHold (draws : ℕ) (words : List ℕ) (views : List Claims) : T
   pub all_draws : sum_by (λ (v : Claims). v.left) views + slice_index words 0 ≡ draws
   pub few : draws ≤ MOST_DRAWS
 
--- a seat drew the number n, by one of its draws: it had not drawn it before, nor so many numbers as n has below it and 1
+-- a seat drew the number n, by one of its draws: it had not drawn it before, and no more numbers than are below it
 pub record Draws (me : Me (Unit {0}) Claims) (n : ℕ) (after : Me (Unit {0}) Claims) : Type 0 where
   pub seat : after ≡ (claims (me.0.drawn ++ n ∷ []) (me.0.left - 1), me.1)
   pub not_before : times n me.0.drawn ≡ 0

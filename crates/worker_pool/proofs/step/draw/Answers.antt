@@ -4,7 +4,7 @@ use Rattle.worker_pool.proofs.step.draw.Goals as goal
 
 pub fetch_add-requires : goal.fetch_add-requires
 fetch_add-requires c = (
-  c.requires.table.0,
-  c.requires.table.1,
+  c.requires.table,
+  c.requires.words,
   draw_allowed (draws_of c.args.word.now.key.callers c.args.word.now.key.workers) c.args.word.now.table_id.slots c.args.seat.now.id c.args.seat.now.me c.requires.draws,
 )
