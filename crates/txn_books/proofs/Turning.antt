@@ -16,7 +16,7 @@ use Rattle.txn_books.specs.Standing.{Stands, IsGoodFor}
 use Rattle.txn_books.specs.Access.{OfBooks, Tells, Changes, ChangesWithRoom, TellsAndChanges}
 use Rattle.txn_books.specs.Operating.{step_with, Steps}
 use Rattle.txn_books.proofs.Calls.{leads_less}
-use Rattle.txn_books.proofs.Looking.{IsSized, Saw, saw_first, saw_told, saw_then}
+use Rattle.txn_books.proofs.Looking.{IsSized, Saw, saw_first, saw_told, saw_then, told_saw}
 use Rattle.txn_books.proofs.Whole.{one_books}
 
 -- from state to state: whatever books the words stood for, they stand for some that R leads to
@@ -39,6 +39,10 @@ module _ {W S O : Type 0} (words : AnyWords W S O) (shapes : Shapes S) (shape : 
   -- before any call
   pub unlooked : (v : W) → Looked v v (λ _. Unit {0})
   unlooked v = record { kept = refl; begins = begins_refl _; saw = saw_first words shapes shape v _ (λ books sized. tt) }
+
+  -- what is known before any call
+  pub known : (v : W) (P : ClearingBooks → Type 0) → InEachState words shapes v (OfBooks shape P) → Looked v v P
+  known v P each = record { kept = refl; begins = begins_refl _; saw = record { at = λ s fit. record { same = refl; saw = each.at s fit } } }
 
 module _ {W S O A : Type 0} {words : AnyWords W S O} {shapes : Shapes S} {shape : BooksShape} {v w : W} {r : Result A Stop} (goes : GoesOn words v w r) where
   -- the first look
@@ -101,6 +105,20 @@ module _ {W S O : Type 0} {words : AnyWords W S O} {shapes : Shapes S} {shape : 
   pub of_taking : {A : Type 0} {says : ClearingBooks → A} {change : ClearingBooks → ClearingBooks} {answer : A} → LeadsTo words shapes v w (TellsAndChanges shape says change answer)
       → LeadsTo words shapes v w (Turns shape (λ books after. (answer ≡ says books) × (after ≡ change books)))
   of_taking {change = change} h = leads_less words shapes v w _ _ (λ x y c. record { at = λ books stand. (change books, c.left books stand, (c.told books stand, refl)) }) h
+
+  -- what looks tell together
+  pub tells : {A : Type 0} {says : ClearingBooks → A} {answer : A} {P : ClearingBooks → Type 0} → Looked words shapes shape v w P → ((books : ClearingBooks) → IsSized shape books → P books → answer ≡ says books)
+      → LeadsTo words shapes v w (Tells shape says answer)
+  tells {says = says} {answer = answer} {P = P} h means = told_saw words shapes shape v w says answer P means h.saw
+
+  -- less of what changes did
+  pub turned_less : {R T : ClearingBooks → ClearingBooks → Type 0} → Turned words shapes shape v w R → ((books after : ClearingBooks) → IsSized shape books → R books after → T books after) → Turned words shapes shape v w T
+  turned_less h less = record {
+    kept = h.kept;
+    begins = h.begins;
+    turns = leads_less words shapes v w _ _
+        (λ x y k. record { at = λ books stand. let last = k.at books stand in (last.0, last.1, less books last.0 (stand.sizes, stand.range) last.2) }) h.turns;
+  }
 
   -- an operation that only looked
   pub answers : {op : Op} {outcome : Outcome} {P : ClearingBooks → Type 0} → Looked words shapes shape v w P → ((books : ClearingBooks) → IsSized shape books → P books → step_of op books ≡ step_with outcome books)

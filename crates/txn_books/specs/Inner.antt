@@ -1,3 +1,4 @@
 pub mod Reading
 pub mod Rooms
 pub mod Building
+pub mod Trading

@@ -1,12 +1,17 @@
 -- What an operation on words that stand for books comes to.
 use Rattle.std.specs.Prelude.{◌≡◌, ℕ, List}
 use Rattle.books_model.specs.declared.script.Op.{Op}
-use Rattle.books_model.specs.Books.{ClearingBooks}
+use Rattle.books_model.specs.Books.{ClearingBooks, empty_books}
+use Rattle.books_model.specs.Ranges.{IsOperationFor}
 use Rattle.books_model.specs.Interpreter.{Step, Gives, Declines, FindsNoBlock, step_of}
 use Rattle.txn_books.specs.declared.shape.BooksShape.{BooksShape}
 use Rattle.txn_books.specs.declared.operations.Outcome.{Outcome}
 use Rattle.txn_books.specs.declared.operations.Outcome.TheVariants as outcome
 use Rattle.txn_books.specs.Standing.{Stands}
+
+-- the numbers of an operation are in their ranges, for books of these sizes
+abbrev pub IsOperationIn : BooksShape → Op → Type 0
+IsOperationIn shape op = IsOperationFor (empty_books shape.blocks shape.instruments shape.ring) op
 
 -- the interpreter's step with this outcome, and these books after it where it gives a value
 abbrev pub step_with : Outcome → ClearingBooks → Step

@@ -5,7 +5,8 @@
 //! books is `Stands` in `specs/Standing`; `laws` has what an operation on the words concludes when it changes one part.
 //!
 //! `cash`, `price`, `quantity` and `queue` have a call for each thing that an operation looks up or changes. Their
-//! contracts say by `specs/Access` what it answers and does, whatever books the words stand for.
+//! contracts say by `specs/Access` what it answers and does, whatever books the words stand for. `operations` has the
+//! operations of scripts, and `specs/Operating` says what they come to.
 #![tactic(auto)]
 
 pub mod building;
@@ -21,9 +22,11 @@ pub mod queue;
 pub mod read;
 mod room;
 pub mod shape;
+mod trading;
 
 pub use building::build;
 pub use lay::{empty_words, lay_free};
+pub use operations::{Outcome, run_operation};
 pub use read::read_books;
 pub use shape::BooksShape;
 

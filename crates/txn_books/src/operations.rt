@@ -4,20 +4,21 @@
 //! that is declined, or finds no block, may have changed books before it answers; whoever runs it undoes that.
 
 ghost use Rattle.std.specs.Prelude.{◌≤◌, IfOk, OnOk};
-ghost use Rattle.books_model.specs.declared.limits.TheConstants.{GREATEST_AMOUNT, GREATEST_PRICE, GREATEST_RATE};
+ghost use Rattle.books_model.specs.declared.limits.TheConstants.{GREATEST_AMOUNT, GREATEST_PRICE, GREATEST_QUANTITY, GREATEST_RATE};
 ghost use Rattle.books_model.specs.declared.script.Op.{Op};
 ghost use Rattle.books_model.specs.Ranges.{IsAccountNumber, IsWithin};
 ghost use Rattle.txn_words.specs.Calls.{IsReady, GoesOn, InEachState, LeadsTo};
 ghost use Rattle.txn_books.specs.Standing.{IsGoodFor};
-ghost use Rattle.txn_books.specs.Operating.{Steps};
+ghost use Rattle.txn_books.specs.Operating.{IsOperationIn, Steps};
 
 use crate::cash::{cash, cash_between, open_account, remove_account, set_cash};
-use crate::price::put_price;
+use crate::price::{price, put_price};
 use crate::quantity::{holds_any, worth};
 use crate::queue::{queue_call, take_front};
 use crate::shape::BooksShape;
-use books_model::limits::GREATEST_CASH;
-use books_model::{Decline, Value};
+use crate::trading::{Side, exchange, side_at};
+use books_model::limits::{GREATEST_CASH, GREATEST_QUANTITY};
+use books_model::{Decline, Op, Value};
 use txn_words::{Stop, Words};
 
 /// What one operation comes to.
@@ -29,6 +30,33 @@ pub enum Outcome {
     Declines(Decline),
     /// It finds no block.
     FindsNoBlock,
+}
+
+/// One operation of a script.
+pub fn run_operation<W: Words>(w: &mut W, shape: &BooksShape, op: Op) -> Result<Outcome, Stop>
+    requires ready { IsReady W.Words w.old }
+    requires stands { InEachState W.Words W.Shape.Shape w.old (IsGoodFor shape.now) }
+    requires range { IsOperationIn shape.now op }
+    ensures step { IfOk result (λ outcome. LeadsTo W.Words W.Shape.Shape w.old w.new
+        (Steps shape.now op outcome)) }
+    ensures stands { OnOk result (InEachState W.Words W.Shape.Shape w.new (IsGoodFor shape.now)) }
+    ensures goes_on { GoesOn W.Words w.old w.new result }
+{
+    match op {
+        Op::OpenAccount(account) => open(w, shape, account),
+        Op::Close(account) => close(w, shape, account),
+        Op::Deposit(account, amount) => deposit(w, shape, account, amount),
+        Op::Withdraw(account, amount) => withdraw(w, shape, account, amount),
+        Op::Move(payer, payee, amount) => move_cash(w, shape, payer, payee, amount),
+        Op::Price(instrument, price) => set_price(w, shape, instrument, price),
+        Op::Trade(buyer, seller, instrument, quantity) => {
+            trade(w, shape, buyer, seller, instrument, quantity)
+        },
+        Op::Margin(account, rate) => margin(w, shape, account, rate),
+        Op::Next => next(w, shape),
+        Op::Show(account) => show(w, shape, account),
+        Op::Sum(low, high) => sum(w, shape, low, high),
+    }
 }
 
 /// Opens an account without cash.
@@ -175,6 +203,64 @@ pub fn set_price<W: Words>(
     ensures goes_on { GoesOn W.Words w.old w.new result }
 {
     if !put_price(w, shape, instrument, price)? {
+        return Ok(Outcome::FindsNoBlock);
+    }
+    Ok(Outcome::Gives(Value::Done))
+}
+
+/// The first account buys from the second, of the instrument, the quantity, at its price.
+pub fn trade<W: Words>(
+    w: &mut W,
+    shape: &BooksShape,
+    buyer: u32,
+    seller: u32,
+    instrument: u32,
+    amount: u64,
+) -> Result<Outcome, Stop>
+    requires ready { IsReady W.Words w.old }
+    requires stands { InEachState W.Words W.Shape.Shape w.old (IsGoodFor shape.now) }
+    requires buyer { IsAccountNumber buyer }
+    requires seller { IsAccountNumber seller }
+    requires instrument { IsWithin 1 shape.now.instruments instrument }
+    requires amount { IsWithin 1 GREATEST_QUANTITY amount }
+    ensures step { IfOk result (λ outcome. LeadsTo W.Words W.Shape.Shape w.old w.new
+        (Steps shape.now (Op.Trade buyer seller instrument amount) outcome)) }
+    ensures stands { OnOk result (InEachState W.Words W.Shape.Shape w.new (IsGoodFor shape.now)) }
+    ensures goes_on { GoesOn W.Words w.old w.new result }
+{
+    if buyer == seller {
+        return Ok(Outcome::Declines(Decline::Same));
+    }
+    let Some(buys) = side_at(w, shape, buyer, instrument)? else {
+        return Ok(Outcome::Declines(Decline::Absent));
+    };
+    let Some(sells) = side_at(w, shape, seller, instrument)? else {
+        return Ok(Outcome::Declines(Decline::Absent));
+    };
+    let Some(price) = price(w, shape, instrument)? else {
+        return Ok(Outcome::Declines(Decline::Price));
+    };
+    if sells.held < amount {
+        return Ok(Outcome::Declines(Decline::Quantity));
+    }
+    let cost = amount * price;
+    if buys.cash < cost {
+        return Ok(Outcome::Declines(Decline::Cash));
+    }
+    if sells.cash + cost > GREATEST_CASH || buys.held + amount > GREATEST_QUANTITY {
+        return Ok(Outcome::Declines(Decline::Limit));
+    }
+    let bought = Side {
+        account: buyer,
+        cash: buys.cash - cost,
+        held: buys.held + amount,
+    };
+    let sold = Side {
+        account: seller,
+        cash: sells.cash + cost,
+        held: sells.held - amount,
+    };
+    if !exchange(w, shape, instrument, bought, sold)? {
         return Ok(Outcome::FindsNoBlock);
     }
     Ok(Outcome::Gives(Value::Done))
