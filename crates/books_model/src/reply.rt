@@ -1,6 +1,6 @@
 //! What a script replies.
 
-ghost use Rattle.std.specs.Prelude.{◌≡◌, ◌<◌, ◌↔◌, [], ◌∷◌, ◌++◌, length, IsTrue, Some, OnOk, OnErr, slice_get};
+ghost use Rattle.std.specs.Prelude.{◌≡◌, ◌<◌, ◌↔◌, [], ◌∷◌, ◌++◌, length, IsTrue, Some, IfOk, OnOk, OnErr, slice_get};
 ghost use Rattle.std.specs.Slice.Iter.{iter_rest};
 
 use io_ends::OutOfMemory;
@@ -143,6 +143,15 @@ impl Values {
     {
         self.values[index]
     }
+
+    /// Equal values.
+    pub fn copy(&self) -> Result<Values, OutOfMemory>
+        ensures { IfOk result (λ copy. copy ≡ self.now) }
+    {
+        Ok(Values {
+            values: self.values.clone()?,
+        })
+    }
 }
 
 impl<'a> IntoIterator for &'a Values {
@@ -166,4 +175,17 @@ pub enum Reply {
     Declined(u32, Decline),
     /// The operation with this number found no block, and the script changed nothing.
     Full(u32),
+}
+
+impl Reply {
+    /// An equal reply.
+    pub fn copy(&self, alloc: Global) -> Result<Reply, OutOfMemory>
+        ensures { IfOk result (λ copy. copy ≡ self.now) }
+    {
+        match self {
+            Reply::Done(values) => Ok(Reply::Done(values.copy()?)),
+            Reply::Declined(number, why) => Ok(Reply::Declined(*number, *why)),
+            Reply::Full(number) => Ok(Reply::Full(*number)),
+        }
+    }
 }

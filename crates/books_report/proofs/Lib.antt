@@ -2,3 +2,14 @@ pub mod Walks
 pub mod Walked
 pub mod Journals
 pub mod Closing
+pub mod Classes
+pub mod Turns
+pub mod Rows
+pub mod Comparing
+pub mod Histories
+pub mod Wrong
+pub mod Deciding
+pub mod Cuts
+pub mod Audits
+pub mod InCommon
+pub mod Found

@@ -1,4 +1,6 @@
 pub mod Words
 pub mod Output
 pub mod Lines
+pub mod Checking
 pub mod Statements
+pub mod Inner

@@ -14,7 +14,7 @@ use io_ends::OutOfMemory;
 use script_reader::Input;
 use std::alloc::{AllocError, Global};
 
-fn write_line(
+pub(crate) fn write_line(
     text: &mut String,
     serial: u64,
     name: &str,

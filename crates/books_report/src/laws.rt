@@ -1,7 +1,9 @@
-//! What follows of outputs, a law that is the contract of a function that does nothing.
+//! What follows of outputs, each law the contract of a function that does nothing.
 
-ghost use Rattle.books_report.specs.Statements.{ClosingBooksOpen};
+ghost use Rattle.std.specs.Prelude.{◌≡◌};
+ghost use Rattle.books_report.specs.Statements.{ClosingBooksOpen, OneWrongLine, OutputOrWrong};
 
+use crate::limits::RESTARTS_BELOW;
 use books_model::laws::{books_stay_in_range, scripts_go_by_instruments, scripts_keep_sizes};
 
 /// The closing books of an output open a new input: their lines, `scripts`, any scripts that the opening books could be
@@ -14,3 +16,18 @@ pub fn closing_books_open()
     scripts_keep_sizes();
     scripts_go_by_instruments();
 }
+
+/// A text is an output of an input or has a first wrong line, and never both.
+pub fn output_or_wrong()
+    ensures { OutputOrWrong }
+{}
+
+/// A text has one first wrong line at most.
+pub fn one_wrong_line()
+    ensures { OneWrongLine }
+{}
+
+/// The limit of restarts in a journal, in digits.
+pub fn restarts_are_below_sixteen()
+    ensures { RESTARTS_BELOW ≡ 16 }
+{}

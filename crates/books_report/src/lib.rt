@@ -2,14 +2,19 @@
 #![tactic(auto)]
 
 pub mod books;
+pub mod check;
 pub mod journal;
 pub mod laws;
+pub mod limits;
 pub mod line;
 pub mod words;
 
 pub use books::books_text;
+pub use check::{Checked, check_text};
 pub use journal::journal_text;
 pub use line::Line;
 
+#[cfg(test)]
+mod checks;
 #[cfg(test)]
 mod tests;

@@ -1,6 +1,13 @@
 -- Callers by their numbers.
-use Rattle.std.proofs.Common.{◌≡◌, ℕ, suc, zero, ◌<◌, List, [], ◌∷◌, map, length, slice_get, slice_index_or, Some, refl, ap, arith}
+use Rattle.std.proofs.Common.{◌≡◌, ℕ, suc, zero, ◌<◌, ◌≤◌, List, [], ◌∷◌, map, length, slice_get, slice_index_or, Some, None, refl, sym, ap, ◌∙◌, true≢false, arith}
+use Rattle.std.specs.List.{position, position_or_len}
+use Rattle.std.specs.Str.{bytes_eq}
+use Rattle.std.proofs.lemmas.List.{get_or-map, length-map}
+use Rattle.std.proofs.lemmas.List.Quantifiers.{position-Some}
+use Rattle.std.proofs.lemmas.List.Sums.{fails_before_first}
+use Rattle.std.proofs.lemmas.Grind.{common_steps}
 use Rattle.std.proofs.lemmas.Option.{same_Some, none-some}
+use Rattle.std.proofs.lemmas.Slice.Eq.{bytes_eq-Decides}
 use Rattle.books_model.specs.declared.script.Op.{Op}
 use Rattle.script_reader.specs.Input.{Caller}
 use Rattle.script_reader.specs.Inner.Callers.{beside}
@@ -26,3 +33,46 @@ pub same_at : {A : Type 0} (xs : List A) (i : ℕ) (d e : A) → i < length xs �
 same_at [] i d e less = absurd (omega arith)
 same_at (x ∷ xs) zero d e less = refl
 same_at (x ∷ xs) (suc i) d e less = same_at xs i d e (omega arith)
+
+-- the names of callers
+names_beside : (names : List (List ℕ)) (scripts : List (List (List Op))) → length names ≡ length scripts → map (λ c. c.name) (beside names scripts) ≡ names
+names_beside [] scripts even = refl
+names_beside (n ∷ names) [] even = absurd (omega arith)
+names_beside (n ∷ names) (x ∷ scripts) even = ap (λ l. n ∷ l) (names_beside names scripts (omega arith))
+
+module _ {K V : Type 0} (bytes : K → List ℕ) (view : V → List (List Op)) (keys : List K) (xs : List V) (even : length keys ≡ length xs) (name : List ℕ) where
+  names_are : map (λ (c : Caller). c.name) (beside (map bytes keys) (map view xs)) ≡ map bytes keys
+  names_are = names_beside (map bytes keys) (map view xs) (length-map keys bytes ∙ even ∙ sym (length-map xs view))
+
+  -- there are as many as keys
+  as_many : length (beside (map bytes keys) (map view xs)) ≡ length keys
+  as_many = sym (length-map (beside (map bytes keys) (map view xs)) (λ (c : Caller). c.name)) ∙ ap length names_are ∙ length-map keys bytes
+
+  -- the name at a place is that of the key
+  name_at : (i : ℕ) (d : Caller) (k : K) → i < length keys → (slice_index_or (beside (map bytes keys) (map view xs)) i d).name ≡ bytes (slice_index_or keys i k)
+  name_at i d k less =
+      sym (get_or-map (λ (c : Caller). c.name) (beside (map bytes keys) (map view xs)) i d [] (omega (arith, as_many, less)))
+      ∙ ap (λ l. slice_index_or l i []) names_are ∙ get_or-map bytes keys i k [] less
+
+  -- where a name is found, the caller has it
+  pub named_where_found : (i : ℕ) (d : Caller) → position (λ k. bytes_eq name (bytes k)) keys ≡ Some i → (i < length (beside (map bytes keys) (map view xs))) × ((slice_index_or (beside (map bytes keys) (map view xs)) i d).name ≡ name)
+  named_where_found i d found = by keys refl found
+    where
+      by : (ks : List K) → ks ≡ keys → position (λ k. bytes_eq name (bytes k)) ks ≡ Some i → (i < length (beside (map bytes keys) (map view xs))) × ((slice_index_or (beside (map bytes keys) (map view xs)) i d).name ≡ name)
+      by [] e nothing = absurd (none-some _ nothing)
+      by (k ∷ ks) e here =
+          let at = position-Some (λ k. bytes_eq name (bytes k)) keys i k found in
+          (omega (arith, at.0, as_many), name_at i d k at.0 ∙ sym ((bytes_eq-Decides name (bytes (slice_index_or keys i k))).0 at.1))
+
+  -- where none is found, no caller has it
+  pub no_caller_named : position (λ k. bytes_eq name (bytes k)) keys ≡ None → (i : ℕ) (d : Caller) → i < length (beside (map bytes keys) (map view xs)) → (slice_index_or (beside (map bytes keys) (map view xs)) i d).name ≡ name → ⊥
+  no_caller_named found i d less same = by keys refl
+    where
+      past : length keys ≤ position_or_len (λ k. bytes_eq name (bytes k)) keys
+      past = grind (arith, common_steps)
+
+      by : (ks : List K) → ks ≡ keys → ⊥
+      by [] e = omega (arith, as_many, less, ap length e)
+      by (k ∷ ks) e =
+          let within : i < length keys = omega (arith, as_many, less) in
+          true≢false (sym ((bytes_eq-Decides name (bytes (slice_index_or keys i k))).1 (sym same ∙ name_at i d k within)) ∙ fails_before_first (λ k. bytes_eq name (bytes k)) keys i k (omega (arith, within, past)))

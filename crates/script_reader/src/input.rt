@@ -1,6 +1,6 @@
 //! What a text gives: opening books, and callers with their scripts.
 
-ghost use Rattle.std.specs.Prelude.{◌≡◌, ◌<◌, length};
+ghost use Rattle.std.specs.Prelude.{◌≡◌, ◌≢◌, ℕ, ◌<◌, length, IfSome, IfNone};
 
 use crate::callers::Callers;
 use books_model::{Books, Script};
@@ -63,6 +63,19 @@ impl Input {
         ensures { result.now ≡ (caller_at self.now caller).name }
     {
         self.callers.names[caller as usize].as_str()
+    }
+
+    /// The number of the caller with a name, from 0.
+    pub fn caller_named(&self, name: &str) -> Option<u32>
+        ensures found { IfSome result (λ caller. (caller < length self.now.callers)
+            × ((caller_at self.now caller).name ≡ name.now)) }
+        ensures none { IfNone result ((caller : ℕ) → caller < length self.now.callers
+            → (caller_at self.now caller).name ≢ name.now) }
+    {
+        match self.callers.names.get_index_of(name) {
+            Some(place) => Some(place as u32),
+            None => None,
+        }
     }
 
     /// How many scripts a caller has, by its number from 0.

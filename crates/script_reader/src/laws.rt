@@ -11,7 +11,7 @@ pub fn limits_are_those_of_the_language()
     ensures callers { MOST_CALLERS ≡ 1_024 }
     ensures scripts { MOST_SCRIPTS ≡ 65_536 }
     ensures name { LONGEST_NAME ≡ 16 }
-    ensures workers { MOST_WORKERS ≡ 1 }
+    ensures workers { MOST_WORKERS ≡ 16 }
     ensures space { SPACE ≡ 32 }
     ensures line_feed { LINE_FEED ≡ 10 }
 {}

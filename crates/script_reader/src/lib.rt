@@ -10,7 +10,7 @@ pub mod laws;
 pub mod limits;
 mod lines;
 mod names;
-mod numbers;
+pub mod numbers;
 mod operations;
 mod rows;
 mod scripts;
@@ -19,6 +19,7 @@ pub mod words;
 pub use fault::{Fault, InputFault};
 pub use front::{read_front, read_input};
 pub use input::Input;
+pub use numbers::numeral;
 
 #[cfg(test)]
 mod tests;

@@ -9,5 +9,5 @@ pub const MOST_SCRIPTS: usize = 65_536;
 /// The most letters of a caller's name.
 pub const LONGEST_NAME: usize = 16;
 
-/// The most workers. One, until scripts are run by threads.
-pub const MOST_WORKERS: u32 = 1;
+/// The most workers.
+pub const MOST_WORKERS: u32 = 16;

@@ -12,8 +12,9 @@ ghost use Rattle.script_reader.specs.Number.{IsNumber, is_number};
 
 use crate::fault::Fault;
 
-// The number that a word is, or the greatest `u64` where it is greater. None where the word is no number.
-pub(crate) fn numeral(word: &[u8]) -> Option<u64>
+/// The number that a word is, or the greatest `u64` where it is greater. None where the word is no number: decimal digits
+/// with no zero in front.
+pub fn numeral(word: &[u8]) -> Option<u64>
     ensures { SomeIff result (IsNumber word.now) (min (digits_value 10 word.now) u64.MAX) }
 {
     if is_number(word) {

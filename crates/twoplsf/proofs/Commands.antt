@@ -1,11 +1,13 @@
 -- Command lines of two words.
-use Rattle.std.proofs.Common.{◌≡◌, ℕ, true, false, List, [], ◌∷◌, map, length, get_or, codes, refl, sym, ap, ◌∙◌, subst, arith, eqb}
-use Rattle.std.specs.Fmt.{digits}
-use Rattle.std.specs.Cmp.Lexicographic.{pointwise}
+use Rattle.std.proofs.Common.{◌≡◌, ◌<◌, ℕ, min, List, [], ◌∷◌, map, length, get_or, codes, refl, sym, ap, ◌∙◌, subst, arith, Option, Some}
+use Rattle.std.specs.Option.{SomeIff}
+use Rattle.std.specs.Str.Parse.{digits_value}
 use Rattle.books_model.specs.Ranges.{IsWithin}
+use Rattle.script_reader.specs.Number.{IsNumber}
 use Rattle.script_reader.specs.Text.{number}
 use Rattle.script_reader.specs.declared.limits.TheConstants.{MOST_WORKERS}
-use Rattle.script_reader.specs.Command.{IsRunCommand, IsValidCommand}
+use Rattle.script_reader.specs.Command.{IsRun, IsRunCommand}
+use Rattle.script_reader.proofs.Numerals.{number_is_read, read_is}
 
 -- two elements are the whole of a list of length 2
 two_of : {A : Type 0} (f : A → List ℕ) (xs : List A) (x y : A) → length xs ≡ 2 → x ≡ get_or xs 0 x → y ≡ get_or xs 1 y → map f xs ≡ f x ∷ f y ∷ []
@@ -14,24 +16,34 @@ two_of f (a ∷ []) x y two first second = absurd (omega arith)
 two_of f (a ∷ b ∷ []) x y two first second = rw (sym first, sym second) refl
 two_of f (a ∷ b ∷ c ∷ xs) x y two first second = absurd (omega arith)
 
-number_one : number 1 ≡ codes "1"
-unfolding digits
-number_one = refl
+-- one element is the whole of a list of length 1
+pub one_of : {A : Type 0} (f : A → List ℕ) (xs : List A) (x : A) → length xs ≡ 1 → x ≡ get_or xs 0 x → map f xs ≡ f x ∷ []
+one_of f [] x one first = absurd (omega arith)
+one_of f (a ∷ []) x one first = rw (sym first) refl
+one_of f (a ∷ b ∷ xs) x one first = absurd (omega arith)
 
--- the only number of workers so far
-only_one : (w : ℕ) → IsWithin 1 MOST_WORKERS w → number w ≡ codes "1"
-only_one w h = let one : w ≡ 1 = omega (arith, h.0, h.1) in ap number one ∙ number_one
+number_of : (r : Option ℕ) (word : List ℕ) (w : ℕ) → SomeIff r (IsNumber word) (min (digits_value 10 word) 18446744073709551615) → r ≡ Some w → w < 18446744073709551615 → word ≡ number w
+number_of r word w reads is few = by_some (subst (λ o. SomeIff o (IsNumber word) (min (digits_value 10 word) 18446744073709551615)) is reads)
+  where
+    by_some : IsNumber word × (w ≡ min (digits_value 10 word) 18446744073709551615) → word ≡ number w
+    by_some h = read_is word w (h.0, sym h.1) few
 
-module _ {A : Type 0} (f : A → List ℕ) (words : List A) (run workers : A) (two : length words ≡ 2) (first : run ≡ get_or words 0 run) (second : workers ≡ get_or words 1 workers) where
-  -- `run` and `1` are a command for one worker
-  pub is_command : f run ≡ codes "run" → f workers ≡ codes "1" → IsRunCommand (map f words) 1
-  is_command h k = record { words_are = two_of f words run workers two first second ∙ ap (λ x. x ∷ f workers ∷ []) h ∙ ap (λ y. codes "run" ∷ y ∷ []) (k ∙ sym number_one); range = (omega arith, omega arith) }
+module _ {A : Type 0} (f : A → List ℕ) (words : List A) (run workers : A) (two : length words ≡ 2) (first : run ≡ get_or words 0 run) (second : workers ≡ get_or words 1 workers)
+    (r : Option ℕ) (reads : SomeIff r (IsNumber (f workers)) (min (digits_value 10 (f workers)) 18446744073709551615)) where
+  -- `run` and a number of workers are a command
+  pub is_command : f run ≡ codes "run" → (w : ℕ) → r ≡ Some w → IsWithin 1 MOST_WORKERS w → IsRunCommand (map f words) w
+  is_command h w is range =
+      let second_is : f workers ≡ number w = number_of r (f workers) w reads is (omega (arith, range.1)) in
+      record { words_are = two_of f words run workers two first second ∙ ap (λ x. x ∷ f workers ∷ []) h ∙ ap (λ y. codes "run" ∷ y ∷ []) second_is; range = range }
 
-  -- another second word is of no command
-  pub no_command : pointwise eqb (f workers) (codes "1") ≡ false → IsValidCommand (map f words) → ⊥
-  no_command other valid =
-      let same : f run ∷ f workers ∷ [] ≡ codes "run" ∷ number valid.0 ∷ [] = sym (two_of f words run workers two first second) ∙ valid.1.words_are in
-      let last : f workers ≡ number valid.0 = cc in
-      let one : f workers ≡ codes "1" = last ∙ only_one valid.0 valid.1.range in
-      let equal : true ≡ false = subst (λ x. pointwise eqb x (codes "1") ≡ false) one other in
-      cc
+  -- where the second word is no number in the range, they are none
+  pub no_command : ((w : ℕ) → r ≡ Some w → IsWithin 1 MOST_WORKERS w → ⊥) → IsRun (map f words) → ⊥
+  no_command none valid =
+      let w : ℕ = valid.0 in
+      let same : f run ∷ f workers ∷ [] ≡ codes "run" ∷ number w ∷ [] = sym (two_of f words run workers two first second) ∙ valid.1.words_are in
+      let last : f workers ≡ number w = cc in
+      none w (number_is_read r (f workers) w reads (omega (arith, valid.1.range.1)) last) valid.1.range
+
+-- one option has one value
+pub other_some : (r : Option ℕ) (x y : ℕ) → r ≡ Some x → r ≡ Some y → x ≡ y
+other_some r x y first second = let same : Some x ≡ Some y = sym first ∙ second in cc

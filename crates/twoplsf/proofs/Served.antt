@@ -1,25 +1,25 @@
 -- What was printed, put together.
-use Rattle.std.proofs.Common.{◌≡◌, ◌≢◌, ◌<◌, ◌≤◌, ◌⊎◌, ◌++◌, ℕ, List, [], length, refl, Option, Some, None, IfSome, IsSome, sym, ap, ◌∙◌, subst, inl, inr, arith, append-nil}
+use Rattle.std.proofs.Common.{Vec, Global, ◌≡◌, ◌≢◌, ◌<◌, ◌≤◌, ◌⊎◌, ◌++◌, ℕ, List, [], length, refl, Option, Some, None, IfSome, IsSome, ◌↔◌, sym, ap, ◌∙◌, subst, inl, inr, arith, append-nil, true≢false}
 use Rattle.std.specs.Io.KnownBytes.{Appends, Consumes, IsAtEnd}
-use Rattle.std.proofs.lemmas.List.Elements.{All-weaker}
 use Rattle.io_ends.specs.Taken.{AppendsPrefix, TakesAtMost}
 use Rattle.script_reader.specs.Input.{ClearingInput}
 use Rattle.script_reader.specs.Grammar.{Spells}
-use Rattle.script_reader.specs.Command.{IsRunCommand, IsValidCommand}
+use Rattle.script_reader.specs.Command.{IsRun, IsCheck, IsValidCommand}
+use Rattle.script_reader.proofs.Deciding.{not_both, front_not_both, fronts_once}
+use Rattle.script_reader.proofs.OneInput.{one_input}
+use Rattle.books_report.specs.declared.limits.TheConstants.{RESTARTS_BELOW}
 use Rattle.books_report.specs.Output.{IsOutput}
+use Rattle.books_report.specs.Checking.{IsFirstWrongLine}
+use Rattle.books_report.proofs.Wrong.{one_wrong, none_of_output}
+use Rattle.twoplsf.specs.declared.answer.Answer.TheVariants.{Output, Difference, Refusal}
+use Rattle.worker_pool.specs.declared.done.DayEnd.{DayEnd}
+use Rattle.twoplsf.proofs.Days.{day_output}
+use Rattle.twoplsf.specs.declared.command.Command.{Command}
+use Rattle.twoplsf.specs.declared.command.Command.TheVariants as command
+use Rattle.twoplsf.specs.Check.{IsCommand, AreTwoTexts, differs_line}
 use Rattle.twoplsf.specs.declared.status.Status.{Status}
 use Rattle.twoplsf.specs.declared.status.Status.TheVariants as status
-use Rattle.twoplsf.specs.Answer.{IsOutputFor, IsTextFor, TookText}
-
--- an output with every number of restarts below 1 has them below any number of workers
-more_workers : (input : ClearingInput) (w : ℕ) (text : List ℕ) → 1 ≤ w → IsOutput input 1 text → IsOutput input w text
-more_workers input w text some h = record {
-  scripts = h.scripts;
-  journal = h.journal;
-  below = All-weaker (λ ran. ran.restarts < 1) (λ ran. ran.restarts < w) (λ ran e. omega arith) h.scripts h.below;
-  replies = h.replies;
-  text_is = h.text_is;
-}
+use Rattle.twoplsf.specs.Answer.{IsDayFor, IsOutputFor, IsAnswerBy, IsDoneText, IsDifferenceFor, IsRefusalOf, IsRefusalOfFront, IsRefusalFor, HaveInputFor, IsTextFor, TookText}
 
 -- what was read to the end is all that was left
 pub all_read : (left now : Option (List ℕ)) (bytes : List ℕ) (P : List ℕ → Type 0) → Consumes left now bytes → IsAtEnd now → P bytes → IfSome left P
@@ -36,22 +36,115 @@ pub nothing_taken : (left : Option (List ℕ)) (most : ℕ) → TakesAtMost left
 nothing_taken None most = ([], tt, omega arith)
 nothing_taken (Some bytes) most = ([], refl, omega arith)
 
--- an answer to the bytes that were read is an output for the command
-pub output_for : (words : List (List ℕ)) (workers : Option ℕ) (bytes text : List ℕ) → IsSome workers → IfSome workers (IsRunCommand words)
-    → ((input : ClearingInput) × Spells bytes input × IsOutput input 1 text) → IsOutputFor words bytes text
-output_for words None bytes text some command answer = absurd cc
-output_for words (Some w) bytes text some command answer = record {
-  workers = w;
-  command = command;
-  input = answer.0;
-  spelled = answer.1;
-  output = more_workers answer.0 w text command.range.0 answer.2;
-}
+-- no words are both commands
+pub run_not_check : (words : List (List ℕ)) → IsRun words → IsCheck words → ⊥
+run_not_check words run check = omega (arith, ap length run.1.words_are, ap length check)
 
--- a number of workers shows a command
-pub valid_command : (words : List (List ℕ)) (workers : Option ℕ) → IsSome workers → IfSome workers (IsRunCommand words) → IsValidCommand words
-valid_command words None some command = absurd cc
-valid_command words (Some w) some command = (w, command)
+-- the words of a command are valid
+pub valid_command : (words : List (List ℕ)) (c : Command) → IsCommand words c → IsValidCommand words
+valid_command words (command.Run w) is = inl (w, is)
+valid_command words command.Check is = inr is
+
+-- the answer to the bytes that were read, by the words
+pub done_text : (words : List (List ℕ)) (c : Command) (bytes : List ℕ) (text : Vec ℕ Global) (day : Option DayEnd) → IsCommand words c → IsAnswerBy c bytes (Output text day) → IsDoneText words bytes text.items
+done_text words (command.Run w) bytes text day is answer =
+    inl (record { workers = w; command = is; input = answer.0; spelled = answer.1; output = day_output answer.0 w answer.2.ended answer.2.of_input text.items answer.2.text_is })
+done_text words command.Check bytes text day is answer = inr (is, answer.0, answer.1)
+
+pub done_input : (words : List (List ℕ)) (c : Command) (bytes : List ℕ) (text : Vec ℕ Global) (day : Option DayEnd) → IsCommand words c → IsAnswerBy c bytes (Output text day) → HaveInputFor words bytes
+done_input words (command.Run w) bytes text day is answer = inl ((w, is), (answer.0, answer.1))
+done_input words command.Check bytes text day is answer = inr (is, record { input = answer.0.input; text = answer.0.text; two = answer.0.two })
+
+-- the day of an answer is one for the words, and its text the output
+pub day_of : (words : List (List ℕ)) (c : Command) (bytes : List ℕ) (text : Vec ℕ Global) (day : Option DayEnd) (before now : Option (List ℕ)) → IsCommand words c → IsAnswerBy c bytes (Output text day)
+    → Appends before now text.items → IfSome day (IsDayFor words bytes before now)
+day_of words (command.Run w) bytes text day before now is answer printed =
+    subst (λ (d : Option DayEnd). IfSome d (IsDayFor words bytes before now)) (sym answer.2.day_is) (record {
+      workers = w;
+      command = is;
+      input = answer.0;
+      spelled = answer.1;
+      day_is = answer.2.of_input;
+      printed = subst (Appends before now) answer.2.text_is printed;
+    })
+day_of words command.Check bytes text day before now is answer printed = subst (λ (d : Option DayEnd). IfSome d (IsDayFor words bytes before now)) (sym answer.2) tt
+
+none_there : IsSome {T = DayEnd} None → ⊥
+none_there h = true≢false (sym h)
+
+-- it is there where scripts were run
+pub has_day : (words : List (List ℕ)) (c : Command) (bytes : List ℕ) (text : Vec ℕ Global) (day : Option DayEnd) → IsCommand words c → IsAnswerBy c bytes (Output text day) → IsSome day ↔ IsRun words
+has_day words (command.Run w) bytes text day is answer = (λ some. (w, is), λ run. subst IsSome (sym answer.2.day_is) refl)
+has_day words command.Check bytes text day is answer = (λ some. absurd (none_there (subst IsSome answer.2 some)), λ run. absurd (run_not_check words run is))
+
+-- after a text was written or not, the day is there only where it was
+pub day_kept : (result : Status) (day kept : Option DayEnd) (W R F : Type 0) (P : DayEnd → Type 0) → (result ≡ status.Done → kept ≡ day) → (result ≢ status.Done → kept ≡ None)
+    → (result ≡ status.Done × W) ⊎ (result ≡ status.WriteFault × R × F) → (result ≡ status.Done → IfSome day P) → IfSome kept P
+day_kept result day kept W R F P done other (inl h) holds = subst (λ (d : Option DayEnd). IfSome d P) (sym (done h.0)) (holds h.0)
+day_kept result day kept W R F P done other (inr h) holds = subst (λ (d : Option DayEnd). IfSome d P) (sym (other (λ e. let same : status.WriteFault ≡ status.Done = sym h.0 ∙ e in cc))) tt
+
+pub day_there : (result : Status) (day kept : Option DayEnd) (W R F run : Type 0) → (result ≡ status.Done → kept ≡ day) → (result ≢ status.Done → kept ≡ None)
+    → (result ≡ status.Done × W) ⊎ (result ≡ status.WriteFault × R × F) → IsSome day ↔ run → IsSome kept ↔ (run × (result ≡ status.Done))
+day_there result day kept W R F run done other (inl h) has = (λ some. (has.0 (subst IsSome (done h.0) some), h.0), λ both. subst IsSome (sym (done both.1)) (has.1 both.0))
+day_there result day kept W R F run done other (inr h) has =
+    (λ some. absurd (none_there (subst IsSome (other (λ e. let same : status.WriteFault ≡ status.Done = sym h.0 ∙ e in cc)) some)), λ both. subst IsSome (sym (done both.1)) (has.1 both.0))
+
+pub difference_text : (words : List (List ℕ)) (c : Command) (bytes : List ℕ) (text : Vec ℕ Global) → IsCommand words c → IsAnswerBy c bytes (Difference text) → IsDifferenceFor words bytes text.items
+difference_text words (command.Run w) bytes text is answer = absurd answer
+difference_text words command.Check bytes text is answer = (is, answer)
+
+pub difference_input : (words : List (List ℕ)) (bytes text : List ℕ) → IsDifferenceFor words bytes text → HaveInputFor words bytes
+difference_input words bytes text d = inr (d.0, record { input = d.1.1.input; text = d.1.1.text; two = d.1.1.two })
+
+pub refusal_text : (words : List (List ℕ)) (c : Command) (bytes : List ℕ) (text : Vec ℕ Global) → IsCommand words c → IsAnswerBy c bytes (Refusal text) → IsRefusalFor words bytes text.items
+refusal_text words (command.Run w) bytes text is answer = inl ((w, is), answer)
+refusal_text words command.Check bytes text is answer = inr (is, answer)
+
+-- an output for `run W`
+pub output_of_run : (words : List (List ℕ)) (bytes text : List ℕ) → IsRun words → IsDoneText words bytes text → IsOutputFor words bytes text
+output_of_run words bytes text run (inl output) = output
+output_of_run words bytes text run (inr check) = absurd (run_not_check words run check.0)
+
+-- the refusal for `run W`, and for `check`
+pub refusal_of_run : (words : List (List ℕ)) (bytes text : List ℕ) → IsRun words → IsRefusalFor words bytes text → IsRefusalOf bytes text
+refusal_of_run words bytes text run (inl refusal) = refusal.1
+refusal_of_run words bytes text run (inr check) = absurd (run_not_check words run check.0)
+
+pub refusal_of_check : (words : List (List ℕ)) (bytes text : List ℕ) → IsCheck words → IsRefusalFor words bytes text → IsRefusalOfFront bytes text
+refusal_of_check words bytes text check (inl run) = absurd (run_not_check words run.0 check)
+refusal_of_check words bytes text check (inr refusal) = refusal.1
+
+-- bytes that are refused do not have the input
+pub refused_none : (words : List (List ℕ)) (bytes text : List ℕ) → IsRefusalFor words bytes text → HaveInputFor words bytes → ⊥
+refused_none words bytes text (inl (run, r)) (inl (run', valid)) = not_both bytes valid (r.number, r.why, r.first)
+refused_none words bytes text (inl (run, r)) (inr (check, begins)) = run_not_check words run check
+refused_none words bytes text (inr (check, r)) (inl (run, valid)) = run_not_check words run check
+refused_none words bytes text (inr (check, r)) (inr (check', b)) = front_not_both bytes b.two.front b.text b.input r.number r.why b.two.bytes_are b.two.spelled r.first
+
+-- bytes are an input and a text behind it in one way
+one_way : (bytes : List ℕ) (input other : ClearingInput) (text more : List ℕ) → AreTwoTexts bytes input text → AreTwoTexts bytes other more → (input ≡ other) × (text ≡ more)
+one_way bytes input other text more a b =
+    let same = fronts_once bytes a.front text b.front more input other a.bytes_are b.bytes_are a.spelled b.spelled in
+    (one_input a.front input other a.spelled (subst (λ f. Spells f other) (sym same.0) b.spelled), same.1)
+
+-- a text with a wrong line is no output of its input
+pub wrong_is_none : (words : List (List ℕ)) (bytes printed : List ℕ) → IsDifferenceFor words bytes printed → (input : ClearingInput) (text : List ℕ) → AreTwoTexts bytes input text → IsOutput input RESTARTS_BELOW text → ⊥
+wrong_is_none words bytes printed (check, (n, h, is)) input text two output =
+    let same = one_way bytes h.input input h.text text h.two two in
+    none_of_output input RESTARTS_BELOW two.spelled.valid text n output (subst (λ t. IsFirstWrongLine input RESTARTS_BELOW t n) same.1 (subst (λ i. IsFirstWrongLine i RESTARTS_BELOW h.text n) same.0 h.wrong))
+
+-- and that line is its first wrong one
+pub wrong_is_first : (words : List (List ℕ)) (bytes printed : List ℕ) → IsDifferenceFor words bytes printed → (input : ClearingInput) (text : List ℕ) (number : ℕ) → AreTwoTexts bytes input text → IsFirstWrongLine input RESTARTS_BELOW text number → printed ≡ differs_line number
+wrong_is_first words bytes printed (check, (n, h, is)) input text number two wrong =
+    let same = one_way bytes h.input input h.text text h.two two in
+    is ∙ ap differs_line (one_wrong input RESTARTS_BELOW two.spelled.valid text n number (subst (λ t. IsFirstWrongLine input RESTARTS_BELOW t n) same.1 (subst (λ i. IsFirstWrongLine i RESTARTS_BELOW h.text n) same.0 h.wrong)) wrong)
+
+-- a text that agrees is an output of its input
+pub done_is_output : (words : List (List ℕ)) (bytes printed : List ℕ) → IsCheck words → IsDoneText words bytes printed → (input : ClearingInput) (text : List ℕ) → AreTwoTexts bytes input text → IsOutput input RESTARTS_BELOW text
+done_is_output words bytes printed check (inl run) input text two = absurd (run_not_check words (run.workers, run.command) check)
+done_is_output words bytes printed check (inr (is, h, line)) input text two =
+    let same = one_way bytes h.input input h.text text h.two two in
+    subst (λ t. IsOutput input RESTARTS_BELOW t) same.1 (subst (λ i. IsOutput i RESTARTS_BELOW h.text) same.0 h.output)
 
 -- where the status is not a write fault, the text was written whole
 pub written : (result is : Status) (W R F : Type 0) → (result ≡ is × W) ⊎ (result ≡ status.WriteFault × R × F) → result ≢ status.WriteFault → W
@@ -64,7 +157,7 @@ took_whole status.Done words left now before after text h k = (text, h, k)
 took_whole status.BadWords words left now before after text h k = (text, h, k)
 took_whole status.BadInput words left now before after text h k = (text, h, k)
 took_whole status.TooLarge words left now before after text h k = (text, h, k)
-took_whole status.Differs words left now before after text h k = absurd h
+took_whole status.Differs words left now before after text h k = (text, h, k)
 took_whole status.ReadFault words left now before after text h k = absurd h
 took_whole status.WriteFault words left now before after text h k = absurd h
 took_whole status.OutOfMemory words left now before after text h k = absurd h
@@ -74,3 +167,8 @@ pub took_text : (result is : Status) (words : List (List ℕ)) (left now before 
     → (result ≡ is × Appends before after text) ⊎ (result ≡ status.WriteFault × R × AppendsPrefix before after text) → TookText result words left now before after
 took_text result is words left now before after text R h (inl w) = subst (λ s. TookText s words left now before after) (sym w.0) (took_whole is words left now before after text h w.1)
 took_text result is words left now before after text R h (inr f) = subst (λ s. TookText s words left now before after) (sym f.0) (is, text, h, f.2)
+
+-- what is weaker holds of a value that is there
+pub some_weaker : (day : Option DayEnd) (P Q : DayEnd → Type 0) → ((d : DayEnd) → P d → Q d) → IfSome day P → IfSome day Q
+some_weaker None P Q f h = tt
+some_weaker (Some d) P Q f h = f d h

@@ -1,20 +1,25 @@
 -- What the top call prints.
-use Rattle.std.specs.Prelude.{◌≡◌, ℕ, ◌+◌, ◌≤◌, List, [], ◌∷◌, Option, IfSome, codes, length}
+use Rattle.std.specs.Prelude.{◌≡◌, ◌⊎◌, ℕ, ◌+◌, ◌≤◌, List, [], ◌∷◌, Option, Some, None, IfSome, codes, length}
 use Rattle.std.specs.Io.KnownBytes.{Appends, IsAtEnd}
 use Rattle.io_ends.specs.Taken.{AppendsPrefix, count_taken}
 use Rattle.script_reader.specs.declared.fault.Fault.{Fault}
 use Rattle.script_reader.specs.Text.{line, number}
 use Rattle.script_reader.specs.FaultWords.{fault_word}
 use Rattle.script_reader.specs.Input.{ClearingInput}
-use Rattle.script_reader.specs.Grammar.{Spells}
-use Rattle.script_reader.specs.Faults.{IsFirstFault}
-use Rattle.script_reader.specs.Command.{IsRunCommand, IsValidCommand}
-use Rattle.books_report.specs.Output.{IsOutput}
+use Rattle.script_reader.specs.Grammar.{Spells, IsValidInput}
+use Rattle.script_reader.specs.Faults.{IsFirstFault, IsFrontFault}
+use Rattle.script_reader.specs.Command.{IsRun, IsRunCommand, IsCheck, IsValidCommand}
+use Rattle.books_report.specs.Output.{IsOutput, output_of}
+use Rattle.worker_pool.specs.declared.done.DayEnd.{DayEnd}
+use Rattle.twoplsf.specs.Day.{IsDayOf, journal_of}
 use Rattle.twoplsf.specs.declared.limits.TheConstants.{MOST_INPUT_BYTES}
+use Rattle.twoplsf.specs.declared.command.Command.{Command}
+use Rattle.twoplsf.specs.declared.command.Command.TheVariants as command
 use Rattle.twoplsf.specs.declared.status.Status.{Status}
 use Rattle.twoplsf.specs.declared.status.Status.TheVariants as status
 use Rattle.twoplsf.specs.declared.answer.Answer.{Answer}
-use Rattle.twoplsf.specs.declared.answer.Answer.TheVariants.{Output, Refusal}
+use Rattle.twoplsf.specs.declared.answer.Answer.TheVariants.{Output, Difference, Refusal}
+use Rattle.twoplsf.specs.Check.{BeginWithInput, HoldOutput, HoldWrongLine, agrees_line, differs_line}
 
 -- the words are `run W`, the bytes are the text of an input, and this text is an output of that input with each number of restarts below W
 pub record IsOutputFor (words : List (List ℕ)) (bytes text : List ℕ) : Type 0 where
@@ -49,18 +54,70 @@ pub record IsRefusalOf (bytes text : List ℕ) : Type 0 where
   pub first : IsFirstFault bytes number why
   pub text_is : text ≡ refused_line number why
 
--- the answer to bytes: an output of the input that they spell, for one worker, or the refusal of their first fault
-abbrev pub IsAnswerTo : List ℕ → Answer → Type 0
-IsAnswerTo bytes (Output text) = (input : ClearingInput) × Spells bytes input × IsOutput input 1 text.items
-IsAnswerTo bytes (Refusal text) = IsRefusalOf bytes text.items
+-- a day of the input by so many workers, and the output for its items
+pub record TellsOfDay (input : ClearingInput) (workers : ℕ) (text : List ℕ) (day : Option DayEnd) : Type 0 where
+  pub ended : DayEnd
+  pub day_is : day ≡ Some ended
+  pub of_input : IsDayOf input workers ended
+  pub text_is : text ≡ output_of input (journal_of ended)
+
+-- the answer to bytes: a day of the input that they spell and its output, or the refusal of their first fault
+abbrev pub IsAnswerTo : ℕ → List ℕ → Answer → Type 0
+IsAnswerTo workers bytes (Output text day) = (input : ClearingInput) × Spells bytes input × TellsOfDay input workers text.items day
+IsAnswerTo workers bytes (Difference text) = ⊥
+IsAnswerTo workers bytes (Refusal text) = IsRefusalOf bytes text.items
+
+-- the day of a run: that of the input that the bytes spell, by as many workers as the words say; and what was printed is
+-- the output for its items, in their order and with their restarts
+pub record IsDayFor (words : List (List ℕ)) (bytes : List ℕ) (before now : Option (List ℕ)) (day : DayEnd) : Type 0 where
+  pub workers : ℕ
+  pub command : IsRunCommand words workers
+  pub input : ClearingInput
+  pub spelled : Spells bytes input
+  pub day_is : IsDayOf input workers day
+  pub printed : Appends before now (output_of input (journal_of day))
+
+-- the text refuses the first faulty line of the input with which the bytes should begin
+pub record IsRefusalOfFront (bytes text : List ℕ) : Type 0 where
+  pub number : ℕ
+  pub why : Fault
+  pub first : IsFrontFault bytes number why
+  pub text_is : text ≡ refused_line number why
+
+-- the answer to bytes that are to be an input and an output of it
+abbrev pub IsCheckOf : List ℕ → Answer → Type 0
+IsCheckOf bytes (Output text day) = HoldOutput bytes × (text.items ≡ agrees_line) × (day ≡ None)
+IsCheckOf bytes (Difference text) = (n : ℕ) × HoldWrongLine bytes n × (text.items ≡ differs_line n)
+IsCheckOf bytes (Refusal text) = IsRefusalOfFront bytes text.items
+
+-- the answer of a command to bytes
+abbrev pub IsAnswerBy : Command → List ℕ → Answer → Type 0
+IsAnswerBy (command.Run workers) bytes answer = IsAnswerTo workers bytes answer
+IsAnswerBy command.Check bytes answer = IsCheckOf bytes answer
+
+-- what a command that did its work prints: an output, or that the text behind the input is one
+abbrev pub IsDoneText : List (List ℕ) → List ℕ → List ℕ → Type 0
+IsDoneText words bytes text = IsOutputFor words bytes text ⊎ (IsCheck words × HoldOutput bytes × (text ≡ agrees_line))
+
+-- what is printed for a text behind an input that is no output of it
+abbrev pub IsDifferenceFor : List (List ℕ) → List ℕ → List ℕ → Type 0
+IsDifferenceFor words bytes text = IsCheck words × ((n : ℕ) × HoldWrongLine bytes n × (text ≡ differs_line n))
+
+-- what refuses bytes that do not have the input that the command reads
+abbrev pub IsRefusalFor : List (List ℕ) → List ℕ → List ℕ → Type 0
+IsRefusalFor words bytes text = (IsRun words × IsRefusalOf bytes text) ⊎ (IsCheck words × IsRefusalOfFront bytes text)
+
+-- the bytes have the input that the command reads: all of them are one, or they begin with one
+abbrev pub HaveInputFor : List (List ℕ) → List ℕ → Type 0
+HaveInputFor words bytes = (IsRun words × IsValidInput bytes) ⊎ (IsCheck words × BeginWithInput bytes)
 
 -- a text goes with a status, by the words and by what the source had left and has left now
 abbrev pub IsTextFor : Status → List (List ℕ) → Option (List ℕ) → Option (List ℕ) → List ℕ → Type 0
-IsTextFor status.Done words left now text = IsValidCommand words × IsAtEnd now × IfSome left (λ bytes. (length bytes ≤ MOST_INPUT_BYTES) × IsOutputFor words bytes text)
+IsTextFor status.Done words left now text = IsValidCommand words × IsAtEnd now × IfSome left (λ bytes. (length bytes ≤ MOST_INPUT_BYTES) × IsDoneText words bytes text)
+IsTextFor status.Differs words left now text = IsValidCommand words × IsAtEnd now × IfSome left (λ bytes. (length bytes ≤ MOST_INPUT_BYTES) × IsDifferenceFor words bytes text)
 IsTextFor status.BadWords words left now text = (¬ IsValidCommand words) × (text ≡ refused_words)
-IsTextFor status.BadInput words left now text = IsValidCommand words × IsAtEnd now × IfSome left (λ bytes. (length bytes ≤ MOST_INPUT_BYTES) × IsRefusalOf bytes text)
+IsTextFor status.BadInput words left now text = IsValidCommand words × IsAtEnd now × IfSome left (λ bytes. (length bytes ≤ MOST_INPUT_BYTES) × IsRefusalFor words bytes text)
 IsTextFor status.TooLarge words left now text = IsValidCommand words × IfSome (count_taken left now) (λ n. n ≡ MOST_INPUT_BYTES + 1) × (text ≡ refused_size)
-IsTextFor status.Differs words left now text = ⊥
 IsTextFor status.ReadFault words left now text = ⊥
 IsTextFor status.WriteFault words left now text = ⊥
 IsTextFor status.OutOfMemory words left now text = ⊥
@@ -68,10 +125,10 @@ IsTextFor status.OutOfMemory words left now text = ⊥
 -- the sink took a whole text that goes with the status; after a write fault a prefix of one that goes with another; and nothing is said of it after a read fault and out of memory
 abbrev pub TookText : Status → List (List ℕ) → Option (List ℕ) → Option (List ℕ) → Option (List ℕ) → Option (List ℕ) → Type 0
 TookText status.Done words left now before after = (text : List ℕ) × IsTextFor status.Done words left now text × Appends before after text
+TookText status.Differs words left now before after = (text : List ℕ) × IsTextFor status.Differs words left now text × Appends before after text
 TookText status.BadWords words left now before after = (text : List ℕ) × IsTextFor status.BadWords words left now text × Appends before after text
 TookText status.BadInput words left now before after = (text : List ℕ) × IsTextFor status.BadInput words left now text × Appends before after text
 TookText status.TooLarge words left now before after = (text : List ℕ) × IsTextFor status.TooLarge words left now text × Appends before after text
 TookText status.WriteFault words left now before after = (is : Status) × (text : List ℕ) × IsTextFor is words left now text × AppendsPrefix before after text
 TookText status.ReadFault words left now before after = Unit {0}
 TookText status.OutOfMemory words left now before after = Unit {0}
-TookText status.Differs words left now before after = ⊥

@@ -1,3 +1,4 @@
+pub mod Day
+pub mod Check
 pub mod Answer
 pub mod Ending
-pub mod Inner

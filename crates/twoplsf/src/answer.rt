@@ -1,25 +1,38 @@
 //! The answer to the bytes of an input.
 
-ghost use Rattle.std.specs.Prelude.{◌≡◌, IfOk};
-ghost use Rattle.books_report.specs.Output.{IsOutput};
+ghost use Rattle.std.specs.Prelude.{◌≡◌, map, IfOk};
+ghost use Rattle.books_model.specs.Ranges.{IsWithin};
+ghost use Rattle.books_report.specs.Output.{output_of};
+ghost use Rattle.script_reader.specs.declared.limits.TheConstants.{MOST_WORKERS};
 ghost use Rattle.twoplsf.specs.Answer.{IsAnswerTo, refused_line};
+ghost use Rattle.twoplsf.specs.Day.{IsDayOf, journal_of, line_of};
 
 use crate::day::run_day;
-use books_report::journal_text;
+use books_model::Reply;
+use books_report::{Line, journal_text};
 use io_ends::OutOfMemory;
 use script_reader::{Fault, Input, InputFault, read_input};
 use std::alloc::Global;
+use std::sync::Wait;
+use std::thread::Threads;
+use txn_books::laws::one_books;
+use txn_books::{BooksShape, read_books};
+use worker_gate::Gate;
+use worker_pool::{DayEnd, Done};
 
 /// A text to be printed.
 #[derive(Drop)]
 pub enum Answer {
-    /// A journal and closing books.
-    Output(Vec<u8>),
+    /// What a command that did its work has to say: a journal and closing books, with the day that they tell of, or that
+    /// a text is an output.
+    Output { text: Vec<u8>, day: Option<DayEnd> },
+    /// The first wrong line of a text that is no output.
+    Difference(Vec<u8>),
     /// A faulty line and its fault.
     Refusal(Vec<u8>),
 }
 
-fn refusal_of(alloc: Global, line: u32, why: Fault) -> Result<Vec<u8>, OutOfMemory>
+pub(crate) fn refusal_of(alloc: Global, line: u32, why: Fault) -> Result<Vec<u8>, OutOfMemory>
     ensures { IfOk result (λ text. text.items ≡ refused_line line why) }
 {
     let mut text = String::from_str(alloc, "refused line ")?;
@@ -28,19 +41,72 @@ fn refusal_of(alloc: Global, line: u32, why: Fault) -> Result<Vec<u8>, OutOfMemo
     Ok(text.into_bytes())
 }
 
-fn output_of(alloc: Global, input: &Input) -> Result<Vec<u8>, OutOfMemory>
-    ensures { IfOk result (λ text. IsOutput input.now 1 text.items) }
+// The lines of a journal.
+fn lines_of(alloc: Global, done: &[Done]) -> Result<Vec<Line>, OutOfMemory>
+    ensures { IfOk result (λ lines. lines.items ≡ map line_of done.now) }
 {
-    let day = run_day(alloc, input)?;
-    journal_text(alloc, input, &day.lines, &day.replies, &day.books)
+    let mut lines = Vec::new(alloc);
+    for item in done {
+        lines.push(Line {
+            caller: item.caller,
+            index: item.index,
+            restarts: item.restarts,
+        })?;
+    }
+    Ok(lines)
 }
 
-/// Reads an input, runs its scripts and makes the text of the journal; or makes the text of a refusal.
-pub fn answer_to(alloc: Global, bytes: &[u8]) -> Result<Answer, OutOfMemory>
-    ensures { IfOk result (IsAnswerTo bytes.now) }
+// The replies beside them.
+fn replies_of(alloc: Global, done: &[Done]) -> Result<Vec<Reply>, OutOfMemory>
+    ensures { IfOk result (λ replies. replies.items ≡ map (λ item. item.reply) done.now) }
+{
+    let mut replies = Vec::new(alloc);
+    for item in done {
+        replies.push(item.reply.copy(alloc)?)?;
+    }
+    Ok(replies)
+}
+
+// The text of a day: its journal, and the books for which the closed words stand.
+fn output_of(
+    alloc: Global,
+    input: &Input,
+    workers: u32,
+    day: &DayEnd,
+) -> Result<Vec<u8>, OutOfMemory>
+    requires { IsDayOf input.now workers day.now }
+    ensures { IfOk result (λ text. text.items ≡ output_of input.now (journal_of day.now)) }
+{
+    // The books that are read are those that the interpreter leaves.
+    one_books();
+    let shape = BooksShape::of(input.books());
+    let closing = read_books(alloc, &shape, day.closed.words())?;
+    let lines = lines_of(alloc, &day.done)?;
+    let replies = replies_of(alloc, &day.done)?;
+    journal_text(alloc, input, &lines, &replies, &closing)
+}
+
+/// Reads an input, runs its scripts by so many workers and makes the text of the journal; or makes the text of a
+/// refusal.
+pub fn answer_to<R: Threads + Wait + Sync, G: Gate>(
+    rt: &R,
+    alloc: Global,
+    bytes: &[u8],
+    workers: u32,
+    gate: &G,
+) -> Result<Answer, OutOfMemory>
+    requires workers { IsWithin 1 MOST_WORKERS workers }
+    ensures { IfOk result (IsAnswerTo workers bytes.now) }
 {
     match read_input(alloc, bytes) {
-        Ok(input) => Ok(Answer::Output(output_of(alloc, &input)?)),
+        Ok(input) => {
+            let day = run_day(rt, alloc, &input, workers, gate)?;
+            let text = output_of(alloc, &input, workers, &day)?;
+            Ok(Answer::Output {
+                text,
+                day: Some(day),
+            })
+        }
         Err(InputFault::Line { line, why }) => Ok(Answer::Refusal(refusal_of(alloc, line, why)?)),
         Err(InputFault::OutOfMemory) => Err(OutOfMemory),
     }

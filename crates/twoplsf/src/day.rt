@@ -1,78 +1,33 @@
-//! A day: the scripts of an input, run one after the other.
+//! A day: the scripts of an input, run by workers over a table of their own.
 
-ghost use Rattle.std.specs.Prelude.{◌+◌, ◌<◌, length, IfOk, OnOk};
-ghost use Rattle.script_reader.specs.Input.{IsInput, caller_at};
-ghost use Rattle.twoplsf.specs.Inner.Day.{IsDay, HasRun};
+ghost use Rattle.std.specs.Prelude.{IfOk};
+ghost use Rattle.books_model.specs.Ranges.{IsWithin};
+ghost use Rattle.script_reader.specs.declared.limits.TheConstants.{MOST_WORKERS};
+ghost use Rattle.twoplsf.specs.Day.{IsDayOf};
 
-use books_model::laws::scripts_go_by_instruments;
-use books_model::{Books, Reply, run_plain};
-use books_report::Line;
 use io_ends::OutOfMemory;
 use script_reader::Input;
 use std::alloc::Global;
+use std::sync::Wait;
+use std::thread::Threads;
+use txn_books::{BooksShape, build};
+use word_table::Desk;
+use worker_gate::Gate;
+use worker_pool::{DayEnd, run_callers};
 
-/// What was run so far, in its order, and the books that it left.
-#[derive(Drop)]
-pub struct Day {
-    pub lines: Vec<Line>,
-    pub replies: Vec<Reply>,
-    pub books: Books,
-}
-
-fn run_script(
+/// Runs each script once, as one transaction, by so many workers.
+pub fn run_day<R: Threads + Wait + Sync, G: Gate>(
+    rt: &R,
     alloc: Global,
     input: &Input,
-    caller: u32,
-    index: u32,
-    day: &mut Day,
-) -> Result<(), OutOfMemory>
-    requires caller { caller < length input.now.callers }
-    requires index { index < length (caller_at input.now caller).scripts }
-    requires valid { IsInput input.now }
-    requires so_far { HasRun input.now caller index
-        day.old.lines.items day.old.replies.items day.old.books }
-    ensures { OnOk result
-        (HasRun input.now caller (index + 1)
-        day.new.lines.items day.new.replies.items day.new.books) }
+    workers: u32,
+    gate: &G,
+) -> Result<DayEnd, OutOfMemory>
+    requires workers { IsWithin 1 MOST_WORKERS workers }
+    ensures { IfOk result (IsDayOf input.now workers) }
 {
-    // A script for the opening books is one for these.
-    scripts_go_by_instruments();
-    let reply = run_plain(alloc, input.script(caller, index), &mut day.books)?;
-    day.replies.push(reply)?;
-    day.lines.push(Line {
-        caller,
-        index,
-        restarts: 0,
-    })?;
-    Ok(())
-}
-
-fn run_caller(alloc: Global, input: &Input, caller: u32, day: &mut Day) -> Result<(), OutOfMemory>
-    requires caller { caller < length input.now.callers }
-    requires valid { IsInput input.now }
-    requires so_far { HasRun input.now caller 0
-        day.old.lines.items day.old.replies.items day.old.books }
-    ensures { OnOk result
-        (HasRun input.now (caller + 1) 0
-        day.new.lines.items day.new.replies.items day.new.books) }
-{
-    for index in 0..input.scripts_of(caller) {
-        run_script(alloc, input, caller, index, day)?;
-    }
-    Ok(())
-}
-
-/// Runs each script once, caller by caller, and each caller's in their order.
-pub fn run_day(alloc: Global, input: &Input) -> Result<Day, OutOfMemory>
-    ensures { IfOk result (λ day. IsDay input.now day.lines.items day.replies.items day.books) }
-{
-    let mut day = Day {
-        lines: Vec::new(alloc),
-        replies: Vec::new(alloc),
-        books: input.books().copy()?,
-    };
-    for caller in 0..input.callers() {
-        run_caller(alloc, input, caller, &mut day)?;
-    }
-    Ok(day)
+    let shape = BooksShape::of(input.books());
+    let words = build(alloc, input.books())?;
+    let (desk, passes) = Desk::new(alloc, shape, words, workers)?;
+    run_callers(rt, alloc, desk, passes, input, gate)
 }

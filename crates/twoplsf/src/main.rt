@@ -2,6 +2,7 @@
 #![tactic(auto)]
 
 pub mod answer;
+pub mod check;
 pub mod command;
 pub mod day;
 pub mod laws;
@@ -11,9 +12,10 @@ pub mod status;
 
 use io_ends::{OutOfMemory, StdSink, StdSource};
 use serve::serve;
-use status::{Status, ending_of};
+use status::ending_of;
 use std::process::ExitCode;
 use std::{env, io};
+use worker_gate::OpenGate;
 
 /// The words after the program's name. Words that are no text are no words at all, which no command has.
 fn words_of(rt: &HostRuntime) -> Result<Vec<String>, OutOfMemory> {
@@ -30,17 +32,20 @@ fn words_of(rt: &HostRuntime) -> Result<Vec<String>, OutOfMemory> {
     }
 }
 
-/// What became of the command, unless there was no memory for its words.
-fn run(rt: &HostRuntime) -> Result<Status, OutOfMemory> {
-    let words = words_of(rt)?;
-    let mut source = StdSource::new(rt.reader());
-    let mut sink = StdSink::new(io::writer(rt));
-    Ok(serve(rt.alloc(), &words, &mut source, &mut sink))
-}
-
 fn main(rt: HostRuntime) -> ExitCode {
-    ExitCode::from(ending_of(run(&rt)))
+    let mut source = StdSource::new(rt.reader());
+    let mut sink = StdSink::new(io::writer(&rt));
+    let ended = match words_of(&rt) {
+        Ok(words) => {
+            let served = serve(&rt, rt.alloc(), &words, &mut source, &mut sink, &OpenGate);
+            Ok(served.status)
+        }
+        Err(error) => Err(error),
+    };
+    ExitCode::from(ending_of(ended))
 }
 
 #[cfg(test)]
 mod tests;
+#[cfg(test)]
+mod thread_tests;

@@ -1,22 +1,40 @@
 //! The top call.
 
-ghost use Rattle.std.specs.Prelude.{◌≡◌, ◌≢◌, ℕ, ◌+◌, ◌≤◌, ◌<◌, ◌⊎◌, Some, length, map, IfSome};
+ghost use Rattle.std.specs.Prelude.{◌≡◌, ◌≢◌, ℕ, ◌+◌, ◌≤◌, ◌<◌, ◌⊎◌, ◌↔◌, List, None, Some, length, map, IfOk, IfSome, IsSome};
 ghost use Rattle.std.specs.String.{string_bytes};
 ghost use Rattle.std.specs.Io.KnownBytes.{Appends};
 ghost use Rattle.io_ends.specs.Counts.{Rose};
 ghost use Rattle.io_ends.specs.Taken.{AppendsPrefix, TakesAtMost, count_taken};
 ghost use Rattle.script_reader.specs.Grammar.{IsValidInput};
 ghost use Rattle.script_reader.specs.declared.fault.Fault.{Fault};
-ghost use Rattle.script_reader.specs.Faults.{IsFirstFault};
-ghost use Rattle.script_reader.specs.Command.{IsValidCommand};
-ghost use Rattle.twoplsf.specs.Answer.{PrintsOutput, TookText, refused_line};
+ghost use Rattle.script_reader.specs.Faults.{IsFirstFault, IsFrontFault};
+ghost use Rattle.script_reader.specs.Input.{ClearingInput};
+ghost use Rattle.script_reader.specs.Command.{IsRun, IsCheck, IsValidCommand};
+ghost use Rattle.books_report.specs.Output.{IsOutput};
+ghost use Rattle.books_report.specs.Checking.{IsFirstWrongLine};
+ghost use Rattle.twoplsf.specs.Check.{AreTwoTexts, BeginWithInput, IsCommand, differs_line};
+ghost use Rattle.twoplsf.specs.Answer.{HaveInputFor, IsAnswerBy, IsDayFor, PrintsOutput, TookText, refused_line};
 
 use crate::answer::{Answer, answer_to};
-use crate::command::workers_of;
+use crate::check::check_answer;
+use crate::command::{Command, command_of};
 use crate::limits::MOST_INPUT_BYTES;
 use crate::status::Status;
-use io_ends::{ReadStop, Sink, Source, read_all, write_all_of};
+use books_report::limits::RESTARTS_BELOW;
+use io_ends::{OutOfMemory, ReadStop, Sink, Source, read_all, write_all_of};
 use std::alloc::Global;
+use std::sync::Wait;
+use std::thread::Threads;
+use worker_gate::Gate;
+use worker_pool::DayEnd;
+
+/// What serving came to.
+#[derive(Drop)]
+pub struct Served {
+    pub status: Status,
+    /// What the workers did, where scripts were run and their output was written whole.
+    pub day: Option<DayEnd>,
+}
 
 /// Writes a text, and answers the status that goes with it, or `WriteFault`.
 fn finish<K: Sink>(sink: &mut K, text: &[u8], status: Status) -> Status
@@ -30,90 +48,181 @@ fn finish<K: Sink>(sink: &mut K, text: &[u8], status: Status) -> Status
     }
 }
 
-/// Does what the words say: `run W` reads an input from the source, runs each of its scripts as one transaction, and
-/// writes the journal and the closing books to the sink. Every text is made before the first write. Faults are looked
+/// The day, where its output was written whole.
+fn day_after(status: Status, day: Option<DayEnd>) -> Option<DayEnd>
+    ensures done { status ≡ Status.Done → result ≡ day }
+    ensures other { status ≢ Status.Done → result ≡ None }
+{
+    if status == Status::Done { day } else { None }
+}
+
+/// What a command has to say of the bytes that were read.
+fn answer_by<R: Threads + Wait + Sync, G: Gate>(
+    rt: &R,
+    alloc: Global,
+    command: Command,
+    bytes: &[u8],
+    gate: &G,
+) -> Result<Answer, OutOfMemory>
+    requires { (words : List (List ℕ)) × IsCommand words command }
+    ensures { IfOk result (IsAnswerBy command bytes.now) }
+{
+    match command {
+        Command::Run(workers) => answer_to(rt, alloc, bytes, workers, gate),
+        Command::Check => check_answer(alloc, bytes),
+    }
+}
+
+/// Does what the words say: `run W` reads an input from the source, runs each of its scripts as one transaction on one
+/// of W threads, and writes the journal and the closing books to the sink; `check` reads an input and a text behind it,
+/// and writes whether that is an output of the input, or its first wrong line. `run` may wait: that a wait ends, no
+/// clause says. Every text is made before the first write. Faults are looked
 /// for in the order words, read, size, input; out of memory may come before any of them but words.
-pub fn serve<S: Source, K: Sink>(
+pub fn serve<R: Threads + Wait + Sync, S: Source, K: Sink, G: Gate>(
+    rt: &R,
     alloc: Global,
     words: &[String],
     source: &mut S,
     sink: &mut K,
-) -> Status
+    gate: &G,
+) -> Served
     // The serial journal theorem: what is printed is one serial history with every script once and each caller's in
     // order; the sequential interpreter, run down it from the opening books, gives every reply and the closing books;
     // and no script was restarted as often as there are workers. It follows from `text`.
-    ensures headline { result ≡ Status.Done → IfSome (S.left source.old)
-        (λ bytes. PrintsOutput (map string_bytes words.now) bytes
+    ensures headline { IsRun (map string_bytes words.now) → result.status ≡ Status.Done
+        → IfSome (S.left source.old) (λ bytes. PrintsOutput (map string_bytes words.now) bytes
         (K.taken sink.old) (K.taken sink.new)) }
+
+    // The day is there exactly where scripts were run and their output was printed: then it is a day of the input by as
+    // many workers as the words say, and the text is the output for its items.
+    ensures day { IfSome result.day (λ day. IfSome (S.left source.old)
+        (λ bytes. IsDayFor (map string_bytes words.now) bytes
+        (K.taken sink.old) (K.taken sink.new) day)) }
+    ensures has_day { IsSome result.day
+        ↔ (IsRun (map string_bytes words.now) × (result.status ≡ Status.Done)) }
 
     // What the sink took: exactly the text of the status, and after a write fault a prefix of the text in whose place
     // it stands. The text says what words and bytes it is for: so a status that has one never comes with others.
-    ensures text { TookText result (map string_bytes words.now)
+    ensures text { TookText result.status (map string_bytes words.now)
         (S.left source.old) (S.left source.new) (K.taken sink.old) (K.taken sink.new) }
-    ensures unwritten { (result ≡ Status.ReadFault) ⊎ (result ≡ Status.OutOfMemory)
+    ensures unwritten { (result.status ≡ Status.ReadFault) ⊎ (result.status ≡ Status.OutOfMemory)
         → sink.new ≡ sink.old }
 
     // Wrong words are refused, and then nothing is read, whatever comes of the refusal. (`bad_words` follows from
     // `text`.)
-    ensures bad_words { result ≡ Status.BadWords → ¬ IsValidCommand (map string_bytes words.now) }
+    ensures bad_words { result.status ≡ Status.BadWords
+        → ¬ IsValidCommand (map string_bytes words.now) }
     ensures words_first { (¬ IsValidCommand (map string_bytes words.now))
-        → (result ≡ Status.BadWords) ⊎ (result ≡ Status.WriteFault) }
+        → (result.status ≡ Status.BadWords) ⊎ (result.status ≡ Status.WriteFault) }
     ensures words_source { (¬ IsValidCommand (map string_bytes words.now))
         → source.new ≡ source.old }
 
     // Too many bytes: no more than one of them is taken, and they are refused. (`too_large` follows from `text`.)
-    ensures too_large { result ≡ Status.TooLarge
+    ensures too_large { result.status ≡ Status.TooLarge
         → IfSome (count_taken (S.left source.old) (S.left source.new))
         (λ n. n ≡ MOST_INPUT_BYTES + 1) }
     ensures taken { TakesAtMost (S.left source.old) (S.left source.new) (MOST_INPUT_BYTES + 1) }
     ensures too_many { IsValidCommand (map string_bytes words.now) → IfSome (S.left source.old)
         (λ bytes. MOST_INPUT_BYTES < length bytes
-        → (result ≡ Status.TooLarge) ⊎ (result ≡ Status.ReadFault) ⊎ (result ≡ Status.WriteFault)
-        ⊎ (result ≡ Status.OutOfMemory)) }
+        → (result.status ≡ Status.TooLarge) ⊎ (result.status ≡ Status.ReadFault)
+        ⊎ (result.status ≡ Status.WriteFault) ⊎ (result.status ≡ Status.OutOfMemory)) }
     ensures above_limit { count_taken (S.left source.old) (S.left source.new)
         ≡ Some (MOST_INPUT_BYTES + 1)
-        → (result ≡ Status.TooLarge) ⊎ (result ≡ Status.WriteFault)
-        ⊎ (result ≡ Status.OutOfMemory) }
+        → (result.status ≡ Status.TooLarge) ⊎ (result.status ≡ Status.WriteFault)
+        ⊎ (result.status ≡ Status.OutOfMemory) }
 
-    // Bytes that are no input: the first faulty line is refused, with the first reason that applies to it.
-    // (`first_fault` and `bad_input` follow from `text` and the laws of texts.)
-    ensures first_fault { result ≡ Status.BadInput → IfSome (S.left source.old)
+    // Bytes that do not have the input that the command reads: the first faulty line is refused, with the first reason
+    // that applies to it. (`first_fault`, `first_fault_in_front` and `bad_input` follow from `text` and the laws of
+    // texts.)
+    ensures first_fault { IsRun (map string_bytes words.now) → result.status ≡ Status.BadInput
+        → IfSome (S.left source.old)
         (λ bytes. (number : ℕ) (why : Fault) → IsFirstFault bytes number why
         → Appends (K.taken sink.old) (K.taken sink.new) (refused_line number why)) }
-    ensures bad_input { result ≡ Status.BadInput
-        → IfSome (S.left source.old) (λ bytes. ¬ IsValidInput bytes) }
+    ensures first_fault_in_front { IsCheck (map string_bytes words.now)
+        → result.status ≡ Status.BadInput → IfSome (S.left source.old)
+        (λ bytes. (number : ℕ) (why : Fault) → IsFrontFault bytes number why
+        → Appends (K.taken sink.old) (K.taken sink.new) (refused_line number why)) }
+    ensures bad_input { result.status ≡ Status.BadInput → IfSome (S.left source.old)
+        (λ bytes. ¬ HaveInputFor (map string_bytes words.now) bytes) }
     ensures no_input { IsValidCommand (map string_bytes words.now) → IfSome (S.left source.old)
-        (λ bytes. length bytes ≤ MOST_INPUT_BYTES → (¬ IsValidInput bytes)
-        → (result ≡ Status.BadInput) ⊎ (result ≡ Status.ReadFault) ⊎ (result ≡ Status.WriteFault)
-        ⊎ (result ≡ Status.OutOfMemory)) }
+        (λ bytes. length bytes ≤ MOST_INPUT_BYTES
+        → (¬ HaveInputFor (map string_bytes words.now) bytes)
+        → (result.status ≡ Status.BadInput) ⊎ (result.status ≡ Status.ReadFault)
+        ⊎ (result.status ≡ Status.WriteFault) ⊎ (result.status ≡ Status.OutOfMemory)) }
 
-    // Completeness: where nothing is wrong and no fault comes, the command is done, or out of memory.
-    ensures complete { IsValidCommand (map string_bytes words.now) → IfSome (S.left source.old)
+    // A text behind an input: `Differs` comes in `check` alone, exactly where the text is no output of the input, with
+    // its first wrong line. (`only_check`, `differs` and `first_wrong` follow from `text` and the laws of outputs.)
+    ensures only_check { result.status ≡ Status.Differs → IsCheck (map string_bytes words.now) }
+    ensures differs { result.status ≡ Status.Differs → IfSome (S.left source.old)
+        (λ bytes. (input : ClearingInput) (text : List ℕ) → AreTwoTexts bytes input text
+        → ¬ IsOutput input RESTARTS_BELOW text) }
+    ensures first_wrong { result.status ≡ Status.Differs → IfSome (S.left source.old)
+        (λ bytes. (input : ClearingInput) (text : List ℕ) (number : ℕ)
+        → AreTwoTexts bytes input text → IsFirstWrongLine input RESTARTS_BELOW text number
+        → Appends (K.taken sink.old) (K.taken sink.new) (differs_line number)) }
+    ensures no_output { IsCheck (map string_bytes words.now) → IfSome (S.left source.old)
+        (λ bytes. length bytes ≤ MOST_INPUT_BYTES → (input : ClearingInput) (text : List ℕ)
+        → AreTwoTexts bytes input text → (¬ IsOutput input RESTARTS_BELOW text)
+        → (result.status ≡ Status.Differs) ⊎ (result.status ≡ Status.ReadFault)
+        ⊎ (result.status ≡ Status.WriteFault) ⊎ (result.status ≡ Status.OutOfMemory)) }
+
+    // Completeness: where nothing is wrong and no fault comes, the command is done, or out of memory; and `check` may
+    // find that the text differs.
+    ensures complete { IsRun (map string_bytes words.now) → IfSome (S.left source.old)
         (λ bytes. length bytes ≤ MOST_INPUT_BYTES → IsValidInput bytes
         → (¬ Rose (S.faults source.old) (S.faults source.new))
         → (¬ Rose (K.faults sink.old) (K.faults sink.new))
-        → (result ≡ Status.Done) ⊎ (result ≡ Status.OutOfMemory)) }
+        → (result.status ≡ Status.Done) ⊎ (result.status ≡ Status.OutOfMemory)) }
+    ensures complete_check { IsCheck (map string_bytes words.now) → IfSome (S.left source.old)
+        (λ bytes. length bytes ≤ MOST_INPUT_BYTES → BeginWithInput bytes
+        → (¬ Rose (S.faults source.old) (S.faults source.new))
+        → (¬ Rose (K.faults sink.old) (K.faults sink.new))
+        → (result.status ≡ Status.Done) ⊎ (result.status ≡ Status.Differs)
+        ⊎ (result.status ≡ Status.OutOfMemory)) }
 
-    // Faults of the outside. (`never_differs` follows from `text`.)
-    ensures read_fault { result ≡ Status.ReadFault
+    // Faults of the outside.
+    ensures read_fault { result.status ≡ Status.ReadFault
         → Rose (S.faults source.old) (S.faults source.new) }
-    ensures write_fault { result ≡ Status.WriteFault
+    ensures write_fault { result.status ≡ Status.WriteFault
         → Rose (K.faults sink.old) (K.faults sink.new) }
-    ensures never_differs { result ≢ Status.Differs }
     ensures reads { S.reads source.new ≤ S.reads source.old + MOST_INPUT_BYTES + 2 }
 {
-    if workers_of(words).is_none() {
-        return finish(sink, b"refused words\n", Status::BadWords);
-    }
+    let Some(command) = command_of(words) else {
+        let status = finish(sink, b"refused words\n", Status::BadWords);
+        return Served { status, day: None };
+    };
     let bytes = match read_all(alloc, source, MOST_INPUT_BYTES) {
         Ok(bytes) => bytes,
-        Err(ReadStop::Fault) => return Status::ReadFault,
-        Err(ReadStop::TooLarge) => return finish(sink, b"refused size\n", Status::TooLarge),
-        Err(ReadStop::OutOfMemory) => return Status::OutOfMemory,
+        Err(ReadStop::Fault) => {
+            let status = Status::ReadFault;
+            return Served { status, day: None };
+        }
+        Err(ReadStop::TooLarge) => {
+            let status = finish(sink, b"refused size\n", Status::TooLarge);
+            return Served { status, day: None };
+        }
+        Err(ReadStop::OutOfMemory) => {
+            let status = Status::OutOfMemory;
+            return Served { status, day: None };
+        }
     };
-    match answer_to(alloc, &bytes) {
-        Ok(Answer::Output(text)) => finish(sink, &text, Status::Done),
-        Ok(Answer::Refusal(text)) => finish(sink, &text, Status::BadInput),
-        Err(_) => Status::OutOfMemory,
+    match answer_by(rt, alloc, command, &bytes, gate) {
+        Ok(Answer::Output { text, day }) => {
+            let status = finish(sink, &text, Status::Done);
+            let day = day_after(status, day);
+            Served { status, day }
+        }
+        Ok(Answer::Difference(text)) => {
+            let status = finish(sink, &text, Status::Differs);
+            Served { status, day: None }
+        }
+        Ok(Answer::Refusal(text)) => {
+            let status = finish(sink, &text, Status::BadInput);
+            Served { status, day: None }
+        }
+        Err(_) => {
+            let status = Status::OutOfMemory;
+            Served { status, day: None }
+        }
     }
 }

@@ -4,7 +4,10 @@ use crate::serve::serve;
 use crate::status::{Status, ending_of};
 use io_ends::{MemSink, MemSource, OutOfMemory};
 use std::alloc::Global;
+use std::sync::Wait;
 use std::test::Fail;
+use std::thread::Threads;
+use worker_gate::OpenGate;
 
 /// An input with the sizes 4, 1 and 1.
 const HEADER: &str = "books 1 blocks 4 instruments 1 ring 1\n";
@@ -52,7 +55,13 @@ fn words(alloc: Global, line: &str) -> Result<Vec<String>, OutOfMemory> {
     Ok(words)
 }
 
-fn served(alloc: Global, line: &str, bytes: Vec<u8>, ends: Ends) -> Result<Outcome, OutOfMemory>
+fn served<R: Threads + Wait + Sync>(
+    rt: &R,
+    alloc: Global,
+    line: &str,
+    bytes: Vec<u8>,
+    ends: Ends,
+) -> Result<Outcome, OutOfMemory>
     requires { 1 ≤ ends.most }
 {
     let words = words(alloc, line)?;
@@ -63,9 +72,9 @@ fn served(alloc: Global, line: &str, bytes: Vec<u8>, ends: Ends) -> Result<Outco
         ends.most,
         vec![in alloc; ends.write_fails]?,
     )?;
-    let status = serve(alloc, &words, &mut source, &mut sink);
+    let served = serve(rt, alloc, &words, &mut source, &mut sink, &OpenGate);
     Ok(Outcome {
-        status,
+        status: served.status,
         taken: sink.taken().to_vec(alloc)?,
     })
 }
@@ -148,10 +157,22 @@ fn scripts_are_run_and_printed(rt: HostRuntime) -> Result<(), Fail> {
         ),
     ];
     for (input, journal, books) in rows {
-        let run = served(alloc, "run 1", text(alloc, &[HEADER, input])?, GOOD)?;
+        let run = served(&rt, alloc, "run 1", text(alloc, &[HEADER, input])?, GOOD)?;
         assert_eq!(rt; run.status, Status::Done, "{input}");
         let want = text(alloc, &[journal, HEADER, books])?;
         assert_eq!(rt; run.taken.as_slice(), want.as_slice(), "{input}");
+    }
+    Ok(())
+}
+
+#[test]
+fn one_caller_has_one_output_for_all_workers(rt: HostRuntime) -> Result<(), Fail> {
+    let alloc = rt.alloc();
+    let want = text(alloc, &[FIRST_OUTPUT.0, HEADER, FIRST_OUTPUT.1])?;
+    for command in ["run 1", "run 2", "run 4", "run 9", "run 15", "run 16"] {
+        let run = served(&rt, alloc, command, text(alloc, &[HEADER, FIRST])?, GOOD)?;
+        assert_eq!(rt; run.status, Status::Done, "{command}");
+        assert_eq!(rt; run.taken.as_slice(), want.as_slice(), "{command}");
     }
     Ok(())
 }
@@ -176,7 +197,7 @@ fn scripts_are_run_on_other_sizes(rt: HostRuntime) -> Result<(), Fail> {
         ),
     ];
     for (header, input, journal, books) in rows {
-        let run = served(alloc, "run 1", text(alloc, &[header, input])?, GOOD)?;
+        let run = served(&rt, alloc, "run 1", text(alloc, &[header, input])?, GOOD)?;
         assert_eq!(rt; run.status, Status::Done, "{input}");
         let want = text(alloc, &[journal, header, books])?;
         assert_eq!(rt; run.taken.as_slice(), want.as_slice(), "{input}");
@@ -192,7 +213,7 @@ fn the_cash_of_all_accounts_is_summed(rt: HostRuntime) -> Result<(), Fail> {
         write!(input, "account {account} 1000000000000000\n")?;
     }
     input.push_str("scripts\nscript ann\nsum 1 16384\nend\nfinish\n")?;
-    let run = served(alloc, "run 1", input.into_bytes(), GOOD)?;
+    let run = served(&rt, alloc, "run 1", input.into_bytes(), GOOD)?;
     assert_eq!(rt; run.status, Status::Done);
     let want = b"journal\n1 ann 1 0 done 16384000000000000000\nbooks ".as_slice();
     assert!(rt; run.taken.starts_with(want));
@@ -203,10 +224,21 @@ fn the_cash_of_all_accounts_is_summed(rt: HostRuntime) -> Result<(), Fail> {
 fn command_words_out_of_form_are_refused(rt: HostRuntime) -> Result<(), Fail> {
     let alloc = rt.alloc();
     let lines = [
-        "", "run", "run 0", "run 01", "run 17", "run 2", "run 1 1", "Run 1", "--help",
+        "",
+        "run",
+        "run 0",
+        "run 01",
+        "run 17",
+        "run 100",
+        "run 1 1",
+        "Run 1",
+        "--help",
+        "check 1",
+        "Check",
+        "check check",
     ];
     for line in lines {
-        let run = served(alloc, line, text(alloc, &[HEADER, FIRST])?, GOOD)?;
+        let run = served(&rt, alloc, line, text(alloc, &[HEADER, FIRST])?, GOOD)?;
         assert_eq!(rt; run.status, Status::BadWords, "{line}");
         assert_eq!(rt;
             run.taken.as_slice(),
@@ -234,7 +266,7 @@ fn ends_that_fail_leave_a_front(rt: HostRuntime) -> Result<(), Fail> {
             read_fails,
             write_fails,
         };
-        let run = served(alloc, "run 1", text(alloc, &[HEADER, FIRST])?, ends)?;
+        let run = served(&rt, alloc, "run 1", text(alloc, &[HEADER, FIRST])?, ends)?;
         assert_eq!(rt; run.status, status, "{read_fails} {write_fails}");
         assert_eq!(rt;
             run.taken.as_slice(),
@@ -254,7 +286,7 @@ fn more_bytes_than_the_largest_input_are_refused(rt: HostRuntime) -> Result<(), 
         (9_000_000, Status::TooLarge, "refused size\n"),
     ];
     for (count, status, taken) in rows {
-        let run = served(alloc, "run 1", vec![in alloc; b'x'; count]?, GOOD)?;
+        let run = served(&rt, alloc, "run 1", vec![in alloc; b'x'; count]?, GOOD)?;
         assert_eq!(rt; run.status, status, "{count}");
         assert_eq!(rt; run.taken.as_slice(), taken.as_bytes(), "{count}");
     }
@@ -329,7 +361,7 @@ fn faulty_lines_are_refused(rt: HostRuntime) -> Result<(), Fail> {
         ),
     ];
     for (input, taken) in rows {
-        let run = served(alloc, "run 1", text(alloc, &[HEADER, input])?, GOOD)?;
+        let run = served(&rt, alloc, "run 1", text(alloc, &[HEADER, input])?, GOOD)?;
         assert_eq!(rt; run.status, Status::BadInput, "{input}");
         assert_eq!(rt; run.taken.as_slice(), taken.as_bytes(), "{input}");
     }
@@ -359,7 +391,7 @@ fn faults_in_whole_texts_are_refused(rt: HostRuntime) -> Result<(), Fail> {
         ),
     ];
     for (input, taken) in rows {
-        let run = served(alloc, "run 1", text(alloc, &[input])?, GOOD)?;
+        let run = served(&rt, alloc, "run 1", text(alloc, &[input])?, GOOD)?;
         assert_eq!(rt; run.status, Status::BadInput, "{input}");
         assert_eq!(rt; run.taken.as_slice(), taken.as_bytes(), "{input}");
     }
@@ -373,7 +405,7 @@ fn each_front_of_a_text_ends_too_soon(rt: HostRuntime) -> Result<(), Fail> {
     for end in 0..whole.len() {
         let front = &whole[..end];
         let lines = front.iter().filter(|b| **b == b'\n').count() as u64;
-        let run = served(alloc, "run 1", front.to_vec(alloc)?, GOOD)?;
+        let run = served(&rt, alloc, "run 1", front.to_vec(alloc)?, GOOD)?;
         let want = format!(in alloc; "refused line {} end\n", lines.saturating_add(1))?;
         assert_eq!(rt; run.status, Status::BadInput, "{end}");
         assert_eq!(rt; run.taken.as_slice(), want.as_bytes(), "{end}");
@@ -387,13 +419,98 @@ fn long_numbers_and_long_scripts_are_refused(rt: HostRuntime) -> Result<(), Fail
     let mut number = text(alloc, &[HEADER, "account 1 "])?;
     number.extend_from_slice(vec![in alloc; b'9'; 1_000]?.as_slice())?;
     number.extend_from_slice(b"\n")?;
-    let run = served(alloc, "run 1", number, GOOD)?;
+    let run = served(&rt, alloc, "run 1", number, GOOD)?;
     assert_eq!(rt; run.taken.as_slice(), b"refused line 2 limit\n".as_slice());
     let mut script = text(alloc, &[HEADER, "scripts\nscript ann\n"])?;
     for _ in 0..65 {
         script.extend_from_slice(b"next\n")?;
     }
-    let run = served(alloc, "run 1", script, GOOD)?;
+    let run = served(&rt, alloc, "run 1", script, GOOD)?;
     assert_eq!(rt; run.taken.as_slice(), b"refused line 68 limit\n".as_slice());
+    Ok(())
+}
+
+#[test]
+fn texts_are_compared_with_inputs(rt: HostRuntime) -> Result<(), Fail> {
+    let alloc = rt.alloc();
+    // What stands behind the input before the header of the closing books, and behind it.
+    let rows = [
+        (FIRST_OUTPUT.0, FIRST_OUTPUT.1, Status::Done, "agrees\n"),
+        (
+            "journal\n1 ann 1 15 done ok 105\n",
+            FIRST_OUTPUT.1,
+            Status::Done,
+            "agrees\n",
+        ),
+        (
+            "journal\n1 ann 1 0 done ok 106\n",
+            FIRST_OUTPUT.1,
+            Status::Differs,
+            "differs line 2\n",
+        ),
+        (
+            "journal\n1 ann 1 99 done ok 105\n",
+            FIRST_OUTPUT.1,
+            Status::Differs,
+            "differs line 2\n",
+        ),
+        (
+            FIRST_OUTPUT.0,
+            "account 7 100\nfinish\n",
+            Status::Differs,
+            "differs line 4\n",
+        ),
+        (
+            FIRST_OUTPUT.0,
+            "account 7 105\n",
+            Status::Differs,
+            "differs line 5\n",
+        ),
+        (
+            FIRST_OUTPUT.0,
+            "account 7 105\nfinish",
+            Status::Differs,
+            "differs line 5\n",
+        ),
+        (
+            FIRST_OUTPUT.0,
+            "account 7 105\nfinish\n\n",
+            Status::Differs,
+            "differs line 6\n",
+        ),
+    ];
+    for (journal, books, status, taken) in rows {
+        let both = text(alloc, &[HEADER, FIRST, journal, HEADER, books])?;
+        let run = served(&rt, alloc, "check", both, GOOD)?;
+        assert_eq!(rt; run.status, status, "{journal}{books}");
+        assert_eq!(rt; run.taken.as_slice(), taken.as_bytes(), "{journal}{books}");
+    }
+    Ok(())
+}
+
+#[test]
+fn faults_of_the_input_come_before_the_text(rt: HostRuntime) -> Result<(), Fail> {
+    let alloc = rt.alloc();
+    let rows = [
+        // The input alone: there is no line 1.
+        (FIRST, Status::Differs, "differs line 1\n"),
+        ("", Status::BadInput, "refused line 2 end\n"),
+        ("scripts\nfinish", Status::BadInput, "refused line 3 end\n"),
+        (
+            "scripts\nfinish\nend\n",
+            Status::Differs,
+            "differs line 1\n",
+        ),
+        (
+            "scripts\njournal\nfinish\n",
+            Status::BadInput,
+            "refused line 3 word\n",
+        ),
+    ];
+    for (input, status, taken) in rows {
+        let run = served(&rt, alloc, "check", text(alloc, &[HEADER, input])?, GOOD)?;
+        assert_eq!(rt; run.status, status, "{input}");
+        assert_eq!(rt; run.taken.as_slice(), taken.as_bytes(), "{input}");
+    }
     Ok(())
 }

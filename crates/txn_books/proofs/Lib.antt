@@ -23,6 +23,7 @@ pub mod Holdings
 pub mod Looking
 pub mod Turning
 pub mod Operating
+pub mod Scripted
 pub mod TradeSides
 pub mod Built
 pub mod Walking

@@ -4,4 +4,5 @@ pub mod Statements
 pub mod Access
 pub mod Laying
 pub mod Operating
+pub mod Meaning
 pub mod Inner

@@ -237,11 +237,7 @@ pub fn build(alloc: Global, books: &Books) -> Result<Vec<u64>, OutOfMemory>
     ensures rising { IfOk result (λ words. HasRisingList (arena_of (shape_of books.now)) words.items) }
 {
     books.ranges();
-    let shape = BooksShape {
-        blocks: books.blocks(),
-        instruments: books.instruments(),
-        ring: books.ring(),
-    };
+    let shape = BooksShape::of(books);
     let words = empty_words(alloc, &shape)?;
     let words = add_accounts(alloc, &shape, words, books)?;
     let words = add_prices(alloc, &shape, words, books)?;

@@ -6,15 +6,18 @@
 //!
 //! `cash`, `price`, `quantity` and `queue` have a call for each thing that an operation looks up or changes. Their
 //! contracts say by `specs/Access` what it answers and does, whatever books the words stand for. `operations` has the
-//! operations of scripts, and `specs/Operating` says what they come to.
+//! operations of scripts, and `specs/Operating` says what they come to. `ScriptJob` is a script as a job over any words
+//! of a shape, and `specs/Meaning` says what it means.
 #![tactic(auto)]
 
 pub mod building;
 pub mod cash;
+pub mod job;
 pub mod laws;
 pub mod lay;
 pub mod layout;
 mod listing;
+pub mod on_plain;
 pub mod operations;
 pub mod price;
 pub mod quantity;
@@ -25,10 +28,16 @@ pub mod shape;
 mod trading;
 
 pub use building::build;
+pub use job::ScriptJob;
 pub use lay::{empty_words, lay_free};
+pub use on_plain::run_on_plain;
 pub use operations::{Outcome, run_operation};
 pub use read::read_books;
 pub use shape::BooksShape;
 
+#[cfg(test)]
+mod part_tests;
+#[cfg(test)]
+mod script_tests;
 #[cfg(test)]
 mod tests;

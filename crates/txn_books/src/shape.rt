@@ -1,5 +1,9 @@
 //! Which word lists stand for books.
 
+ghost use Rattle.std.specs.Prelude.{◌≡◌};
+ghost use Rattle.txn_books.specs.Layout.{shape_of};
+
+use books_model::Books;
 use history_model::Shape;
 
 /// The sizes of clearing books.
@@ -14,6 +18,19 @@ pub struct BooksShape {
     pub instruments: u32,
     /// How many margin calls the queue holds at most.
     pub ring: u32,
+}
+
+impl BooksShape {
+    /// The sizes of these books.
+    pub fn of(books: &Books) -> BooksShape
+        ensures { result ≡ shape_of books.now }
+    {
+        BooksShape {
+            blocks: books.blocks(),
+            instruments: books.instruments(),
+            ring: books.ring(),
+        }
+    }
 }
 
 impl Shape for BooksShape {

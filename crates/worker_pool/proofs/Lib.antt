@@ -2,3 +2,13 @@ pub mod Sums
 pub mod Steps
 pub mod Takes
 pub mod Finishing
+pub mod Rooms
+pub mod Yielded
+pub mod Seating
+pub mod Serials
+pub mod Orders
+pub mod Making
+pub mod Running
+pub mod Replayed
+pub mod Gathered
+pub mod Ended

@@ -1,3 +1,4 @@
 pub mod Counting
 pub mod Takers
+pub mod Days
 pub mod Inner

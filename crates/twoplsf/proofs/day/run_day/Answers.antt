@@ -1,8 +1,13 @@
-use Rattle.std.proofs.Common.{arith}
-use Rattle.twoplsf.proofs.Days.{ran_all}
+use Rattle.std.proofs.Common.{◌≡◌, sym, ap, ◌∙◌, subst}
+use Rattle.history_model.specs.Fitting.{IsGood}
+use Rattle.txn_books.specs.declared.shape.BooksShape.{BooksShape}
+use Rattle.txn_books.specs.Layout.{shape_of, words_of}
+use Rattle.txn_books.specs.Standing.{IsGoodFor}
 use Rattle.twoplsf.proofs.day.run_day.Goals as goal
 
-pub returns : goal.returns
-returns c =
-    let day = c.loop-caller.day in
-    ran_all c.args.input.now c.loop-caller.caller day.lines.items day.replies.items day.books (omega (arith, c.callers-caller-end.ensures.value)) c.loop-caller.invariant
+pub new-requires-clause-good : goal.new-requires-clause-good
+new-requires-clause-good g c =
+    let made = c.in_ok-words.ensures in
+    let shape_is : c.of-shape.result ≡ shape_of c.books-2.result.now = c.of-shape.ensures ∙ ap shape_of (c.books.ensures ∙ sym c.books-2.ensures) in
+    subst (λ (s : BooksShape). IsGood (words_of s) (IsGoodFor s) c.in_ok-words.words.items) (sym shape_is)
+    (record { count = made.count; good = (c.books-2.result.now, made.stands) })

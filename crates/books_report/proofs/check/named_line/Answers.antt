@@ -1,0 +1,47 @@
+use Rattle.std.proofs.Common.{◌≡◌, ℕ, ◌<◌, inl, inr, length, slice_index, Some, ap, arith}
+use Rattle.std.proofs.lemmas.Option.{same_Some, none-some}
+use Rattle.script_reader.specs.declared.words.TheConstants.{SPACE}
+use Rattle.script_reader.specs.Lines.{IsFreeOf}
+use Rattle.script_reader.specs.Text.{number}
+use Rattle.script_reader.specs.Input.{ClearingInput, IsInput, caller_at}
+use Rattle.script_reader.proofs.Submitting.{caller-AreWords}
+use Rattle.books_report.proofs.Rows.{number-word, caller_named}
+use Rattle.books_report.proofs.check.named_line.Goals as goal
+
+-- names and numbers have no space
+name_free : (input : ClearingInput) → IsInput input → (caller : ℕ) → caller < length input.callers → IsFreeOf SPACE (caller_at input caller).name
+name_free input valid caller within = (caller-AreWords (caller_at input caller).name (caller_named input valid caller within)).each.1.0.0
+
+number_free : (n : ℕ) → IsFreeOf SPACE (number n)
+number_free n = (number-word n).0
+
+pub returns-in_err-name-clause-named : goal.returns-in_err-name-clause-named
+returns-in_err-name-clause-named c = λ serial caller index restarts rest within left below e.
+    absurd (c.in_err-name.ensures (number serial) (caller_at c.args.input.now caller).name (number index) (number restarts) rest e (number_free serial) (name_free c.args.input.now c.requires.valid caller within) (number_free index) (number_free restarts))
+
+pub returns-in_err-caller-clause-named : goal.returns-in_err-caller-clause-named
+returns-in_err-caller-clause-named c = λ serial caller index restarts rest within left below e.
+    let words = c.in_ok-name.ensures (number serial) (caller_at c.args.input.now caller).name (number index) (number restarts) rest e (number_free serial) (name_free c.args.input.now c.requires.valid caller within) (number_free index) (number_free restarts) in
+    absurd (none-some _ (c.in_err-caller.ensures.named caller within words.0))
+
+pub returns-in_err-restarts-clause-named : goal.returns-in_err-restarts-clause-named
+returns-in_err-restarts-clause-named c = λ serial caller index restarts rest within left below e.
+    let words = c.in_ok-name.ensures (number serial) (caller_at c.args.input.now caller).name (number index) (number restarts) rest e (number_free serial) (name_free c.args.input.now c.requires.valid caller within) (number_free index) (number_free restarts) in
+    absurd (none-some _ (c.in_err-restarts.ensures restarts (omega (arith, below)) words.1))
+
+pub returns-then-restarts-lt-RESTARTS_BELOW-clause-named : goal.returns-then-restarts-lt-RESTARTS_BELOW-clause-named
+returns-then-restarts-lt-RESTARTS_BELOW-clause-named c = λ serial caller index restarts rest within left below e.
+    let words = c.in_ok-name.ensures (number serial) (caller_at c.args.input.now caller).name (number index) (number restarts) rest e (number_free serial) (name_free c.args.input.now c.requires.valid caller within) (number_free index) (number_free restarts) in
+    let its : c.in_ok-caller.caller ≡ caller = same_Some _ _ (c.in_ok-caller.ensures.named caller within words.0) in
+    let read : c.in_ok-restarts.restarts ≡ restarts = same_Some _ _ (c.in_ok-restarts.ensures restarts (omega (arith, below)) words.1) in
+    λ i. Some (record { caller = its i; index = slice_index c.args.done.now (its i); restarts = read i })
+
+pub returns-else-index-scripts_of-clause-named : goal.returns-else-index-scripts_of-clause-named
+returns-else-index-scripts_of-clause-named c = λ serial caller index restarts rest within left below e.
+    let words = c.in_ok-name.ensures (number serial) (caller_at c.args.input.now caller).name (number index) (number restarts) rest e (number_free serial) (name_free c.args.input.now c.requires.valid caller within) (number_free index) (number_free restarts) in
+    let its : c.in_ok-caller.caller ≡ caller = same_Some _ _ (c.in_ok-caller.ensures.named caller within words.0) in
+    let read : c.in_ok-restarts.restarts ≡ restarts = same_Some _ _ (c.in_ok-restarts.ensures restarts (omega (arith, below)) words.1) in
+    elim c.else-index-scripts_of.either [
+      | inl many ↦ absurd (omega (arith, many.1, read, below))
+      | inr none ↦ absurd (omega (arith, none, c.scripts_of.ensures, ap (λ x. length (caller_at c.args.input.now x).scripts) its, ap (slice_index c.args.done.now) its, left))
+    ]

@@ -1,0 +1,16 @@
+use Rattle.std.proofs.Common.{◌≡◌, ◌+◌, ◌*◌, ◌++◌, subst, arith}
+use Rattle.std.specs.String.{string_bytes}
+use Rattle.std.specs.List.{flat_map}
+use Rattle.script_reader.specs.Text.{position_line}
+use Rattle.input_maker.specs.Made.{positions_in}
+use Rattle.input_maker.proofs.Listing.{written_more, written_none, positions_in-more, positions_in-none}
+use Rattle.input_maker.proofs.books.write_positions_of.Goals as goal
+
+pub loop-place-init : goal.loop-place-init
+loop-place-init c = written_none position_line (string_bytes c.args.text.now) (positions_in c.args.account 0) (positions_in-none c.args.account)
+
+pub loop-place-preserved : goal.loop-place-preserved
+loop-place-preserved c =
+    let place = c.loop-place.place in
+    written_more position_line (string_bytes c.args.text.now) (string_bytes c.loop-place.text) (string_bytes c.write_position.new.text) (positions_in c.args.account place) (positions_in c.args.account (place + 1)) ((c.args.account, place + 1), 100)
+    c.loop-place.invariant c.in_ok-write_position.ensures (positions_in-more c.args.account place)

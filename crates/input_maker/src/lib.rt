@@ -1,0 +1,15 @@
+//! Inputs that a seed gives: a whole day's books and scripts to try things on.
+#![tactic(auto)]
+
+pub mod books;
+pub mod generator;
+pub mod laws;
+pub mod limits;
+pub mod made;
+pub mod operations;
+pub mod scripts;
+
+pub use made::make_input;
+
+#[cfg(test)]
+mod tests;

@@ -1,0 +1,50 @@
+-- A text behind an input that is compared with it.
+use Rattle.std.specs.Prelude.{◌≡◌, ℕ, List, [], ◌∷◌, ◌++◌, codes}
+use Rattle.script_reader.specs.Text.{line, number}
+use Rattle.script_reader.specs.Input.{ClearingInput}
+use Rattle.script_reader.specs.Grammar.{Spells}
+use Rattle.script_reader.specs.Command.{IsRunCommand, IsCheck}
+use Rattle.books_report.specs.declared.limits.TheConstants.{RESTARTS_BELOW}
+use Rattle.books_report.specs.Output.{IsOutput}
+use Rattle.books_report.specs.Checking.{IsFirstWrongLine}
+use Rattle.twoplsf.specs.declared.command.Command.{Command}
+use Rattle.twoplsf.specs.declared.command.Command.TheVariants as command
+
+-- the words are those of this command
+abbrev pub IsCommand : List (List ℕ) → Command → Type 0
+IsCommand words (command.Run workers) = IsRunCommand words workers
+IsCommand words command.Check = IsCheck words
+
+-- the bytes are the text of an input and, directly behind it, another text
+pub record AreTwoTexts (bytes : List ℕ) (input : ClearingInput) (text : List ℕ) : Type 0 where
+  pub front : List ℕ
+  pub spelled : Spells front input
+  pub bytes_are : bytes ≡ front ++ text
+
+-- the bytes begin with the text of an input
+pub record BeginWithInput (bytes : List ℕ) : Type 0 where
+  pub input : ClearingInput
+  pub text : List ℕ
+  pub two : AreTwoTexts bytes input text
+
+-- the text behind the input is an output of it
+pub record HoldOutput (bytes : List ℕ) : Type 0 where
+  pub input : ClearingInput
+  pub text : List ℕ
+  pub two : AreTwoTexts bytes input text
+  pub output : IsOutput input RESTARTS_BELOW text
+
+-- the text behind the input has this first wrong line
+pub record HoldWrongLine (bytes : List ℕ) (number : ℕ) : Type 0 where
+  pub input : ClearingInput
+  pub text : List ℕ
+  pub two : AreTwoTexts bytes input text
+  pub wrong : IsFirstWrongLine input RESTARTS_BELOW text number
+
+-- what is printed for a text that is an output
+abbrev pub agrees_line : List ℕ
+agrees_line = line (codes "agrees" ∷ [])
+
+-- what is printed for one that is none
+abbrev pub differs_line : ℕ → List ℕ
+differs_line n = line (codes "differs" ∷ codes "line" ∷ number n ∷ [])

@@ -1,0 +1,32 @@
+-- What a day of some workers is, and what is printed of it.
+use Rattle.std.specs.Prelude.{◌≡◌, ℕ, List, map}
+use Rattle.history_model.specs.Fitting.{IsGood}
+use Rattle.history_model.specs.Legal.{IsLegalHistory}
+use Rattle.script_reader.specs.Input.{ClearingInput}
+use Rattle.books_report.specs.declared.line.Line.{Line}
+use Rattle.books_report.specs.Output.{Ran}
+use Rattle.txn_books.specs.Layout.{words_of}
+use Rattle.txn_books.specs.Standing.{Stands, IsGoodFor}
+use Rattle.worker_pool.specs.declared.done.Done.{Done}
+use Rattle.worker_pool.specs.declared.done.DayEnd.{DayEnd}
+use Rattle.worker_pool.specs.Days.{place_of, IsDay}
+
+-- what the journal says of an item
+abbrev pub ran_of : Done → Ran
+ran_of item = record { place = place_of item; restarts = item.restarts; reply = item.reply }
+
+-- the line of an item, without its reply
+abbrev pub line_of : Done → Line
+line_of item = record { caller = item.caller; index = item.index; restarts = item.restarts }
+
+-- what the journal says of all items, in their order
+abbrev pub journal_of : DayEnd → List Ran
+journal_of day = map ran_of day.done.items
+
+-- a day of the input by so many workers: a table with a seat for each, whose words stood for the opening books, and a legal
+-- history of all that was done on it
+pub record IsDayOf (input : ClearingInput) (workers : ℕ) (day : DayEnd) : Type 0 where
+  pub seats : day.closed.seats ≡ workers
+  pub opening : Stands day.closed.shape day.closed.base input.books
+  pub legal : IsLegalHistory (IsGood (words_of day.closed.shape) (IsGoodFor day.closed.shape)) day.closed.seats day.closed.base day.closed.history
+  pub is_day : IsDay input day.closed day.done.items

@@ -1,2 +1,0 @@
--- What only the contracts of inner functions and the proofs cite.
-pub mod Day

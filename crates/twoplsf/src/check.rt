@@ -1,0 +1,41 @@
+//! The answer to the bytes of an input and of a text behind it.
+
+ghost use Rattle.std.specs.Prelude.{◌≡◌, IfOk};
+ghost use Rattle.twoplsf.specs.Answer.{IsCheckOf};
+ghost use Rattle.twoplsf.specs.Check.{differs_line};
+
+use crate::answer::{Answer, refusal_of};
+use books_report::{Checked, check_text};
+use io_ends::OutOfMemory;
+use script_reader::{InputFault, read_front};
+use std::alloc::Global;
+
+fn difference_of(alloc: Global, line: u32) -> Result<Vec<u8>, OutOfMemory>
+    ensures { IfOk result (λ text. text.items ≡ differs_line line) }
+{
+    let mut text = String::from_str(alloc, "differs line ")?;
+    write!(text, "{line}")?;
+    text.push_str("\n")?;
+    Ok(text.into_bytes())
+}
+
+/// Reads an input, and says whether what stands behind it is an output of it; or makes the text of a refusal. The input
+/// ends with the line feed after its first line `finish`.
+pub fn check_answer(alloc: Global, bytes: &[u8]) -> Result<Answer, OutOfMemory>
+    ensures { IfOk result (IsCheckOf bytes.now) }
+{
+    let (input, end) = match read_front(alloc, bytes) {
+        Ok(front) => front,
+        Err(InputFault::Line { line, why }) => {
+            return Ok(Answer::Refusal(refusal_of(alloc, line, why)?));
+        }
+        Err(InputFault::OutOfMemory) => return Err(OutOfMemory),
+    };
+    match check_text(alloc, &input, &bytes[end..])? {
+        Checked::Agrees => Ok(Answer::Output {
+            text: String::from_str(alloc, "agrees\n")?.into_bytes(),
+            day: None,
+        }),
+        Checked::Differs(line) => Ok(Answer::Difference(difference_of(alloc, line)?)),
+    }
+}

@@ -1,0 +1,127 @@
+-- Items in the order of their serials: the interpreter, run down them, replies what they reply, and leaves the books for
+-- which the words stand that the history leaves.
+use Rattle.std.proofs.Common.{◌≡◌, ◌≢◌, ℕ, zero, suc, ◌+◌, ◌<◌, ◌≤◌, Bool, true, false, List, [], ◌∷◌, ◌++◌, All, map, length, take, get_or, slice_get, Some, refl, sym, ap, ◌∙◌, subst, arith, true≢false}
+use Rattle.std.specs.List.{range_with_len}
+use Rattle.std.proofs.lemmas.List.{take_more, map_push, length-map, get_or-map}
+use Rattle.std.proofs.lemmas.List.FromFn.{get_or-range_with_len, length-range_with_len}
+use Rattle.std.proofs.lemmas.Option.{get_or_from_slice_get, slice_get_within}
+use Rattle.history_model.specs.declared.entry.Entry.{Entry}
+use Rattle.history_model.specs.Histories.{replay}
+use Rattle.history_model.specs.Traces.{after}
+use Rattle.history_model.proofs.HistoryLaws.{replay_nothing}
+use Rattle.history_model.proofs.ReplayLaws.{replay_kept, replay_reverted}
+use Rattle.books_model.specs.declared.reply.Reply.{Reply}
+use Rattle.books_model.specs.declared.reply.Value.{Value}
+use Rattle.books_model.specs.declared.script.Op.{Op}
+use Rattle.books_model.specs.declared.reply.Reply.TheVariants as reply
+use Rattle.books_model.specs.Books.{ClearingBooks}
+use Rattle.books_model.specs.Interpreter.{outcome_of}
+use Rattle.books_model.specs.Laws.{RefusedChangesNothing}
+use Rattle.script_reader.specs.Input.{ClearingInput, script_at}
+use Rattle.script_reader.specs.Journal.{Place}
+use Rattle.books_report.specs.Output.{reply_to, books_left, replies_of, books_after}
+use Rattle.txn_books.specs.declared.shape.BooksShape.{BooksShape}
+use Rattle.txn_books.specs.Standing.{Stands}
+use Rattle.txn_books.specs.Meaning.{is_done, ScriptMeans}
+use Rattle.word_table.specs.Desks.{DeskView}
+use Rattle.worker_pool.specs.declared.done.Done.{Done}
+use Rattle.worker_pool.specs.Days.{place_of, places_of, IsEntryOf, AreEntriesOf}
+use Rattle.worker_pool.specs.Inner.Makers.{IsMade}
+
+-- the books after one more script
+pub books_after-push : (input : ClearingInput) (books : ClearingBooks) (places : List Place) (p : Place)
+    → books_after input books (places ++ p ∷ []) ≡ books_left input (books_after input books places) p
+books_after-push input books [] p = refl
+books_after-push input books (q ∷ places) p = books_after-push input (books_left input books q) places p
+
+-- the replies with one more script
+pub replies_of-push : (input : ClearingInput) (books : ClearingBooks) (places : List Place) (p : Place)
+    → replies_of input books (places ++ p ∷ []) ≡ replies_of input books places ++ reply_to input (books_after input books places) p ∷ []
+replies_of-push input books [] p = refl
+replies_of-push input books (q ∷ places) p =
+    ap (λ rs. reply_to input books q ∷ rs) (replies_of-push input (books_left input books q) places p)
+
+not_done : (answer : Reply) → is_done answer ≡ false → (r : Reply) → answer ≡ r → (values : List Value) → r ≢ reply.Done values
+not_done answer refusal r same values e = let done : is_done answer ≡ true = ap is_done (same ∙ e) in absurd (true≢false (sym done ∙ refusal))
+
+-- what a script leaves of words that stand for books, stands for the books that the interpreter leaves
+after_one : (refused : RefusedChangesNothing) (shape : BooksShape) (base : List ℕ) (entries : List Entry) (e : Entry) (script : List Op) (answer : Reply) (books : ClearingBooks)
+    → ScriptMeans shape script (replay base entries) e.kept answer (after e.trace (replay base entries)) → Stands shape (replay base entries) books
+    → Stands shape (replay base (entries ++ e ∷ [])) (outcome_of script books).1
+after_one refused shape base entries e script answer books means stands = by_kept e.kept refl
+  where
+    by_kept : (b : Bool) → e.kept ≡ b → Stands shape (replay base (entries ++ e ∷ [])) (outcome_of script books).1
+    by_kept true kept = subst (λ words. Stands shape words (outcome_of script books).1) (sym (replay_kept base entries e kept)) (means.leaves kept books stands)
+    by_kept false kept =
+        let refusal : is_done answer ≡ false = sym means.kept_where_done ∙ kept in
+        let same = refused script books (λ values. not_done answer refusal (outcome_of script books).0 (means.replies books stands) values) in
+        subst (λ (b : ClearingBooks). Stands shape (replay base (entries ++ e ∷ [])) b) (sym same)
+        (subst (λ words. Stands shape words books) (sym (replay_reverted base entries e kept)) stands)
+
+-- the first items, as far as a place
+pub record RunsTo (desk : DeskView BooksShape) (input : ClearingInput) (history : List Entry) (done : List Done) (k : ℕ) : Type 0 where
+  pub replies : map (λ (item : Done). item.reply) (take k done) ≡ replies_of input input.books (places_of (take k done))
+  pub stands : Stands desk.shape (replay desk.base (take k history)) (books_after input input.books (places_of (take k done)))
+
+module _ (refused : RefusedChangesNothing) (desk : DeskView BooksShape) (input : ClearingInput) (history : List Entry) (done : List Done)
+    (opening : Stands desk.shape desk.base input.books)
+    (serials : map (λ (item : Done). item.serial) done ≡ range_with_len 1 (length history))
+    (made : All (IsMade desk input history) done) where
+  pub as_many : length done ≡ length history
+  as_many = sym (length-map done (λ (item : Done). item.serial)) ∙ ap length serials ∙ length-range_with_len 1 (length history)
+
+  pub serial_at : (k : ℕ) (d : Done) → k < length done → (get_or done k d).serial ≡ 1 + k
+  serial_at k d lt = sym (get_or-map (λ (item : Done). item.serial) done k d d.serial lt) ∙ ap (λ l. get_or l k d.serial) serials ∙ get_or-range_with_len 1 (length history) k d.serial (omega (arith, as_many, lt))
+
+  pub place_at : (k : ℕ) (d : Done) (lt : k < length done) → (made k d lt).place ≡ k
+  place_at k d lt = omega (arith, (made k d lt).serial_is, serial_at k d lt)
+
+  pub entry_at : (k : ℕ) (d : Done) (lt : k < length done) → slice_get history k ≡ Some (made k d lt).entry
+  entry_at k d lt = subst (λ p. slice_get history p ≡ Some (made k d lt).entry) (place_at k d lt) (made k d lt).stands_at
+
+  pub entries_of : AreEntriesOf done history
+  entries_of = record {
+    serials = serials;
+    each = λ k item entry at entry_is.
+        let lt : k < length done = slice_get_within done k item at in
+        let same : get_or done k item ≡ item = get_or_from_slice_get done k item item at in
+        let found : Some (made k item lt).entry ≡ Some entry = sym (entry_at k item lt) ∙ entry_is in
+        let its : (made k item lt).entry ≡ entry = cc in
+        subst (λ (x : Done). IsEntryOf x entry) same (subst (λ (e : Entry). IsEntryOf (get_or done k item) e) its (made k item lt).is_of);
+  }
+
+  pub runs_to : (k : ℕ) → k ≤ length done → RunsTo desk input history done k
+  runs_to zero le = record { replies = refl; stands = subst (λ words. Stands desk.shape words input.books) (sym (replay_nothing desk.base)) opening }
+  runs_to (suc k) le = one (runs_to k (omega arith)) (last_of done (omega arith))
+    where
+      last_of : (xs : List Done) → 0 < length xs → Done
+      last_of [] lt = absurd (omega arith)
+      last_of (x ∷ xs) lt = x
+
+      one : RunsTo desk input history done k → Done → RunsTo desk input history done (suc k)
+      one prev d =
+          let lt : k < length done = omega arith in
+          let x : Done = get_or done k d in
+          let m = made k d lt in
+          let books : ClearingBooks = books_after input input.books (places_of (take k done)) in
+          let script = script_at input x.caller x.index in
+          let here = place_at k d lt in
+          let means : ScriptMeans desk.shape script (replay desk.base (take k history)) m.entry.kept x.reply (after m.entry.trace (replay desk.base (take k history))) =
+          subst (λ p. ScriptMeans desk.shape script (replay desk.base (take p history)) m.entry.kept x.reply (after m.entry.trace (replay desk.base (take p history)))) here m.meaning in
+          let next : suc k ≡ k + 1 = omega arith in
+          let taken : take (suc k) done ≡ take k done ++ x ∷ [] = ap (λ n. take n done) next ∙ take_more done k d lt in
+          let long : k < length history = omega (arith, as_many, lt) in
+          let entry : get_or history k m.entry ≡ m.entry = get_or_from_slice_get history k m.entry m.entry (entry_at k d lt) in
+          let seen : take (suc k) history ≡ take k history ++ m.entry ∷ [] = ap (λ n. take n history) next ∙ take_more history k m.entry long ∙ ap (λ e. take k history ++ e ∷ []) entry in
+          let places : places_of (take (suc k) done) ≡ places_of (take k done) ++ place_of x ∷ [] = ap places_of taken ∙ map_push place_of (take k done) x in
+          let left : books_after input input.books (places_of (take (suc k) done)) ≡ (outcome_of script books).1 =
+          ap (books_after input input.books) places ∙ books_after-push input input.books (places_of (take k done)) (place_of x) in
+          let told : x.reply ≡ (outcome_of script books).0 = means.replies books prev.stands in
+          record {
+            replies = ap (map (λ (item : Done). item.reply)) taken ∙ map_push (λ (item : Done). item.reply) (take k done) x
+                ∙ ap (λ rs. rs ++ x.reply ∷ []) prev.replies ∙ ap (λ r. replies_of input input.books (places_of (take k done)) ++ r ∷ []) told
+                ∙ sym (replies_of-push input input.books (places_of (take k done)) (place_of x)) ∙ ap (replies_of input input.books) (sym places);
+            stands = subst (λ (b : ClearingBooks). Stands desk.shape (replay desk.base (take (suc k) history)) b) (sym left)
+                (subst (λ (h : List Entry). Stands desk.shape (replay desk.base h) (outcome_of script books).1) (sym seen)
+                (after_one refused desk.shape desk.base (take k history) m.entry script x.reply books means prev.stands));
+          }

@@ -1,0 +1,15 @@
+use Rattle.std.proofs.Common.{◌≡◌, ◌++◌, All, map, flat_map, length, false}
+use Rattle.std.specs.Vec.Iter.{into_iter_items, into_iter_len}
+use Rattle.worker_pool.specs.declared.worker.Worker.{Worker}
+use Rattle.worker_pool.proofs.run.gather.Given as goal
+
+-- the workers so far found memory, and what they had is put together
+abbrev pub invariant-loop-worker : goal.invariant-loop-worker
+invariant-loop-worker l = record {
+  all_come : l.yielded ++ into_iter_items l.worker-iterator ≡ into_iter_items l.initial.worker-iterator;
+  left : into_iter_len l.worker-iterator ≡ length (into_iter_items l.worker-iterator);
+  none_failed : All (λ (worker : Worker). worker.failed ≡ false) l.yielded;
+  takers : l.takers.items ≡ map (λ (worker : Worker). worker.taker) l.yielded;
+  passes : l.passes.items ≡ map (λ (worker : Worker). worker.pass) l.yielded;
+  done : l.all.items ≡ flat_map (λ (worker : Worker). worker.done.items) l.yielded;
+}

@@ -1,0 +1,17 @@
+use Rattle.std.proofs.Common.{◌≡◌, length, false}
+use Rattle.worker_pool.specs.Takers.{had, taken}
+use Rattle.worker_pool.specs.Inner.Makers.{HasMade, HasRun, scripts_of}
+use Rattle.worker_pool.specs.Inner.Workers.{number_of}
+use Rattle.worker_pool.proofs.worker.Worker.run.Given as goal
+
+-- all scripts of the callers that were taken so far were run
+abbrev pub invariant-loop : goal.invariant-loop
+invariant-loop g l = record {
+  table : l.self.taker.table ≡ l.source.table;
+  callers : l.self.taker.callers ≡ l.source.callers;
+  over : l.self.taker.over ≡ false;
+  who : l.self.pass.view.who ≡ l.fn.self.pass.view.who;
+  made : HasMade l.desk l.input (number_of l.fn.self) l.self.pass l.self.done.items;
+  run : HasRun l.input (had l.self.taker) 0 0 l.self.done.items;
+  count : length l.self.done.items ≡ scripts_of l.input (taken l.self.taker);
+}

@@ -1,0 +1,37 @@
+use Rattle.std.proofs.Common.{◌≡◌, ℕ, ◌+◌, List, slice_index, refl, sym, ap, ◌∙◌, subst}
+use Rattle.books_model.specs.declared.script.Op.{Op}
+use Rattle.history_model.specs.Views.{number}
+use Rattle.script_reader.specs.Input.{script_at}
+use Rattle.txn_books.specs.declared.shape.BooksShape.{BooksShape}
+use Rattle.txn_books.specs.Meaning.{ScriptMeans, ScriptOn}
+use Rattle.txn_commit.specs.Transactions.{GetsEntry}
+use Rattle.worker_pool.specs.declared.done.Done.{Done}
+use Rattle.worker_pool.proofs.Making.{made_more}
+use Rattle.worker_pool.proofs.worker.run_script.Goals as goal
+
+pub returns-clause-made : goal.returns-clause-made
+returns-clause-made g c = λ done made.
+    let desk = c.args.desk.now in
+    let input = c.args.input.now in
+    let old = c.args.pass.now in
+    let new = c.transact.new.pass in
+    let receipt = c.in_ok-receipt.receipt in
+    let e = c.in_ok-receipt.ensures in
+    let job = c.new-job.result in
+    let item : Done = record {
+      caller = c.args.caller;
+      index = c.args.index;
+      seat = c.who.result;
+      call = receipt.call;
+      serial = receipt.serial;
+      restarts = receipt.restarts;
+      reply = receipt.answer;
+    } in
+    let shape_is : job.shape ≡ desk.shape = ap (λ (j : ScriptOn). j.shape) c.new-job.ensures ∙ sym c.requires.shape in
+    let script_is : job.script ≡ script_at input c.args.caller c.args.index = ap (λ (j : ScriptOn). j.script) c.new-job.ensures ∙ c.script.ensures in
+    let gets = subst (λ (s : BooksShape). GetsEntry desk.base (ScriptMeans s (script_at input c.args.caller c.args.index)) (number old.view) (old.view.call + 1) old.view.seen new.view.seen receipt) shape_is
+    (subst (λ (ops : List Op). GetsEntry desk.base (ScriptMeans job.shape ops) (number old.view) (old.view.call + 1) old.view.seen new.view.seen receipt) script_is e.entry) in
+    let named : c.who.result ≡ number old.view = c.who.ensures.number ∙ ap (λ (w : List ℕ). slice_index w 0) e.seat.who in
+    made_more desk input (number old.view) (old.view.call + 1) old.view.seen new.view.seen receipt item gets
+    (record { seat = named; call = refl; serial = refl; restarts = refl; reply = refl })
+    done _ old new refl refl refl e.desk e.idle e.seat.who e.call e.few made
