@@ -7,6 +7,5 @@ pub mod Forms
 pub mod Faults
 pub mod FaultWords
 pub mod Journal
-pub mod Command
 pub mod Statements
 pub mod Inner

@@ -6,7 +6,7 @@ use Rattle.books_model.specs.Ranges.{IsWithin}
 use Rattle.script_reader.specs.Number.{IsNumber}
 use Rattle.script_reader.specs.Text.{number}
 use Rattle.script_reader.specs.declared.limits.TheConstants.{MOST_WORKERS}
-use Rattle.script_reader.specs.Command.{IsRun, IsRunCommand}
+use Rattle.twoplsf.specs.Command.{IsRun, IsRunCommand}
 use Rattle.script_reader.proofs.Numerals.{number_is_read, read_is}
 
 -- two elements are the whole of a list of length 2

@@ -4,7 +4,7 @@ use Rattle.std.specs.Io.KnownBytes.{Appends, Consumes, IsAtEnd}
 use Rattle.io_ends.specs.Taken.{AppendsPrefix, TakesAtMost}
 use Rattle.script_reader.specs.Input.{ClearingInput}
 use Rattle.script_reader.specs.Grammar.{Spells}
-use Rattle.script_reader.specs.Command.{IsRun, IsCheck, IsValidCommand}
+use Rattle.twoplsf.specs.Command.{IsRun, IsCheck, IsValidCommand}
 use Rattle.script_reader.proofs.Deciding.{not_both, front_not_both, fronts_once}
 use Rattle.script_reader.proofs.OneInput.{one_input}
 use Rattle.books_report.specs.declared.limits.TheConstants.{RESTARTS_BELOW}

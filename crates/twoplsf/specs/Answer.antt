@@ -8,7 +8,7 @@ use Rattle.script_reader.specs.FaultWords.{fault_word}
 use Rattle.script_reader.specs.Input.{ClearingInput}
 use Rattle.script_reader.specs.Grammar.{Spells, IsValidInput}
 use Rattle.script_reader.specs.Faults.{IsFirstFault, IsFrontFault}
-use Rattle.script_reader.specs.Command.{IsRun, IsRunCommand, IsCheck, IsValidCommand}
+use Rattle.twoplsf.specs.Command.{IsRun, IsRunCommand, IsCheck, IsValidCommand}
 use Rattle.books_report.specs.Output.{IsOutput, output_of}
 use Rattle.worker_pool.specs.declared.done.DayEnd.{DayEnd}
 use Rattle.twoplsf.specs.Day.{IsDayOf, journal_of}

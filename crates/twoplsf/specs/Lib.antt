@@ -1,3 +1,4 @@
+pub mod Command
 pub mod Day
 pub mod Check
 pub mod Answer

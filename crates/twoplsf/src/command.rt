@@ -2,7 +2,7 @@
 
 ghost use Rattle.std.specs.Prelude.{map, IfSome, IfNone};
 ghost use Rattle.std.specs.String.{string_bytes};
-ghost use Rattle.script_reader.specs.Command.{IsRun, IsRunCommand, IsValidCommand};
+ghost use Rattle.twoplsf.specs.Command.{IsRun, IsRunCommand, IsValidCommand};
 ghost use Rattle.twoplsf.specs.Check.{IsCommand};
 
 use script_reader::limits::MOST_WORKERS;

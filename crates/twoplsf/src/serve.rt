@@ -9,7 +9,7 @@ ghost use Rattle.script_reader.specs.Grammar.{IsValidInput};
 ghost use Rattle.script_reader.specs.declared.fault.Fault.{Fault};
 ghost use Rattle.script_reader.specs.Faults.{IsFirstFault, IsFrontFault};
 ghost use Rattle.script_reader.specs.Input.{ClearingInput};
-ghost use Rattle.script_reader.specs.Command.{IsRun, IsCheck, IsValidCommand};
+ghost use Rattle.twoplsf.specs.Command.{IsRun, IsCheck, IsValidCommand};
 ghost use Rattle.books_report.specs.Output.{IsOutput};
 ghost use Rattle.books_report.specs.Checking.{IsFirstWrongLine};
 ghost use Rattle.twoplsf.specs.Check.{AreTwoTexts, BeginWithInput, IsCommand, differs_line};
