@@ -21,7 +21,8 @@ fn first_ten_draws(rt: HostRuntime) -> Result<(), Fail> {
 #[test]
 fn smallest_input(rt: HostRuntime) -> Result<(), Fail> {
     let text = make_input(rt.alloc(), 0, 1, 1)?;
-    let front = b"books 1 blocks 4096 instruments 8 ring 64\naccount 1 1000000\naccount 2 1000000\n";
+    let front =
+        b"books 1 blocks 4096 instruments 8 ring 64\naccount 1 1000000\naccount 2 1000000\n";
     assert!(rt; text.starts_with(front));
     let end = b"position 200 8 100\nscripts\nscript caaa\ndeposit 118 46\nend\nfinish\n";
     assert!(rt; text.ends_with(end));
