@@ -3,7 +3,7 @@ use Rattle.std.proofs.Common.{◌≡◌, ℕ, zero, suc, ◌+◌, ◌*◌, ◌<�
 use Rattle.std.specs.List.{AllByRecursion, flat_map, range_with_len}
 use Rattle.std.specs.declared.cmp.Ordering.{Ordering}
 use Rattle.std.specs.declared.cmp.Ordering.TheVariants.{Less, Equal, Greater}
-use Rattle.std.specs.Ordering.{nat_cmp, is_lt, is_eq, eq_by_cmp, ordering_then}
+use Rattle.std.specs.Ordering.{nat_cmp, is_lt, eq_by_cmp, ordering_then}
 use Rattle.std.specs.Cmp.{nat_cmp_is, Equal-is}
 use Rattle.std.specs.FinMap as finmap
 use Rattle.std.specs.FinMap.{nat_cmp-IsAntisymmetric, find, get-from_sorted, entries-from_sorted, len-entries}
@@ -156,7 +156,7 @@ prices_entries = entries-from_sorted nat_cmp (prices_to 8) prices_sorted
 pub positions_entries : finmap.entries made_books.positions ≡ positions_to 200
 positions_entries = entries-from_sorted position_cmp (positions_to 200) positions_sorted
 
-account_found : (a cash : ℕ) → finmap.get made_books.accounts a ≡ Some cash → IsWithin 1 200 a × (cash ≡ 1000000)
+pub account_found : (a cash : ℕ) → finmap.get made_books.accounts a ≡ Some cash → IsWithin 1 200 a × (cash ≡ 1000000)
 unfolding accounts_to
 account_found a cash found =
     found_holds nat_cmp nat_cmp-IsAntisymmetric (λ a cash. IsWithin 1 200 a × (cash ≡ 1000000)) a cash (accounts_to 200)
@@ -176,7 +176,7 @@ position_found a i quantity found =
     found_holds position_cmp same_position IsPosition (a, i) quantity (positions_to 200) (rows_hold 1 200 (omega arith) (omega arith))
     (sym (get-from_sorted position_cmp (positions_to 200) (a, i) positions_sorted) ∙ found)
 
-account_there : (a : ℕ) → IsWithin 1 200 a → IsSome (finmap.get made_books.accounts a)
+pub account_there : (a : ℕ) → IsWithin 1 200 a → IsSome (finmap.get made_books.accounts a)
 unfolding accounts_to
 account_there a within =
     let e : finmap.get made_books.accounts a ≡ Some 1000000 = get-from_sorted nat_cmp (accounts_to 200) a accounts_sorted ∙ keyed_found {X = ℕ} (λ a. 1000000) a 1 200 within.0 (omega arith) in
