@@ -13,6 +13,7 @@ use Rattle.std.proofs.lemmas.List.{append-nil}
 use Rattle.books_model.specs.Books.{position_cmp, used}
 use Rattle.books_model.specs.Ranges.{IsWithin, AreInRange}
 use Rattle.script_reader.specs.Text.{books_lines, header_line, account_line, price_line, position_line}
+use Rattle.script_reader.proofs.Sections.{less_number}
 use Rattle.input_maker.specs.Made.{accounts_to, prices_to, positions_in, positions_to, made_books}
 
 and_T : (r : Ordering) (b : Bool) → r ≡ Less → T b → T (is_lt r && b)
@@ -21,9 +22,6 @@ and_T r b less h = subst (λ r. T (is_lt r && b)) (sym less) h
 both_T : (a b : Bool) → T a → T b → T (a && b)
 both_T true b p q = q
 both_T false b p q = absurd p
-
-less_of : (a b : ℕ) → a < b → nat_cmp a b ≡ Less
-less_of a b less = sym (nat_cmp_is a b Less less)
 
 equal_of : (a b : ℕ) → a ≡ b → nat_cmp a b ≡ Equal
 equal_of a b same = sym (nat_cmp_is a b Equal same)
@@ -34,7 +32,7 @@ keyed v a n = map (λ i. (i, v i)) (range_with_len a n)
 
 keyed_below : {X : Type 0} (v : ℕ → X) (k a n : ℕ) → k < a → T (below_all nat_cmp k (keyed v a n))
 keyed_below v k a zero less = tt
-keyed_below v k a (suc n) less = and_T (nat_cmp k a) _ (less_of k a less) (keyed_below v k (a + 1) n (omega arith))
+keyed_below v k a (suc n) less = and_T (nat_cmp k a) _ (less_number k a less) (keyed_below v k (a + 1) n (omega arith))
 
 keyed_sorted : {X : Type 0} (v : ℕ → X) (a n : ℕ) → T (is_sorted nat_cmp (keyed v a n))
 keyed_sorted v a zero = tt
@@ -70,10 +68,10 @@ found_holds R same P q v (e ∷ es) all found =
 
 -- positions of one account go by instrument, and those of others by account
 own_position : (a i j : ℕ) → i < j → position_cmp (a, i) (a, j) ≡ Less
-own_position a i j less = ap (λ r. ordering_then r (nat_cmp i j)) (equal_of a a refl) ∙ less_of i j less
+own_position a i j less = ap (λ r. ordering_then r (nat_cmp i j)) (equal_of a a refl) ∙ less_number i j less
 
 other_position : (a b i j : ℕ) → a < b → position_cmp (a, i) (b, j) ≡ Less
-other_position a b i j less = ap (λ r. ordering_then r (nat_cmp i j)) (less_of a b less)
+other_position a b i j less = ap (λ r. ordering_then r (nat_cmp i j)) (less_number a b less)
 
 ordered : (x y : Ordering) → ordering_then x y ≡ Equal → (x ≡ Equal) × (y ≡ Equal)
 ordered Less y e = absurd cc

@@ -13,6 +13,7 @@ use Rattle.books_model.specs.Inner.Draft.{set_position}
 use Rattle.books_model.proofs.Drafts.{used_position}
 use Rattle.books_model.proofs.Entries.{AllByRecursion-weaker, All-entries, weigh, sum_by-set_at}
 use Rattle.books_model.proofs.Maps.{positions_total, exact_positions, found_after_insert, stays_after_insert}
+use Rattle.script_reader.proofs.BooksFaultless.{some_of}
 use Rattle.books_report.proofs.Classes.{sums}
 use Rattle.input_maker.specs.Days.{all_quantities}
 use Rattle.input_maker.proofs.Classes.{by_weights, numbers_most, pairs_most}
@@ -39,11 +40,6 @@ other_cash accounts a cash h within = record {
   every = λ q there. stays_after_insert nat_cmp_total accounts a q cash (h.every q there);
 }
 
--- what was found is some value
-value_of : (x : Option ℕ) → IsSome x → (v : ℕ) × (x ≡ Some v)
-value_of None some = absurd (cc)
-value_of (Some v) some = (v, refl)
-
 module _ (books : ClearingBooks) (h : AreOfDay books) where
   -- instruments and accounts are below these numbers
   priced : (i price : ℕ) → map.get books.prices i ≡ Some price → i < 9
@@ -52,8 +48,8 @@ module _ (books : ClearingBooks) (h : AreOfDay books) where
   placed : (q : ℕ × ℕ) (quantity : ℕ) → map.get books.positions q ≡ Some quantity → (q.0 < 201) × (q.1 < 9)
   placed q quantity found =
       let there = h.range.positions q.0 q.1 quantity found in
-      let account = value_of (map.get books.accounts q.0) there.0 in
-      let price = value_of (map.get books.prices q.1) there.1 in
+      let account = some_of (map.get books.accounts q.0) there.0 in
+      let price = some_of (map.get books.prices q.1) there.1 in
       (omega (arith, (h.accounts.only q.0 account.0 account.1).1), priced q.1 price.0 price.1)
 
   -- so few blocks are used
