@@ -1,78 +1,27 @@
 -- The scripts are for the opening books, and their callers are few.
-use Rattle.std.proofs.Common.{◌≡◌, ℕ, zero, suc, ◌+◌, ◌*◌, ◌/◌, ◌%◌, ◌<◌, ◌≤◌, ◌==◌, Bool, true, false, cond, ◌&&◌, ◌||◌, nat_le, List, [], ◌∷◌, ◌++◌, map, length, if◌then◌else◌, inl, inr, refl, sym, ap, subst, ◌∙◌, add-one, length-append, true≢false, arith}
-use Rattle.std.specs.List.{list_any, range_with_len}
+use Rattle.std.proofs.Common.{◌≡◌, ℕ, zero, suc, ◌+◌, ◌*◌, ◌/◌, ◌%◌, ◌<◌, ◌≤◌, Bool, true, false, ◌&&◌, ◌||◌, nat_le, List, [], ◌∷◌, ◌++◌, map, length, if◌then◌else◌, inl, inr, refl, sym, ap, subst, ◌∙◌, add-one, length-append, true≢false, arith}
+use Rattle.std.specs.List.{list_any}
 use Rattle.std.specs.Str.{bytes_eq}
 use Rattle.std.specs.Cmp.{IsEquivalence}
 use Rattle.std.specs.Cmp.Lexicographic.{nat_list_eq_equiv}
 use Rattle.std.proofs.Math.Nat.{mod-lt, mod-eq_of_lt}
 use Rattle.std.proofs.lemmas.Bool.{cases_lt}
 use Rattle.std.proofs.lemmas.Bool.Decides.{nat_tests}
-use Rattle.std.proofs.lemmas.List.{map_push, length-map}
-use Rattle.std.proofs.lemmas.List.Elements.{All-from_recursion}
+use Rattle.std.proofs.lemmas.List.{map_push}
 use Rattle.std.proofs.lemmas.List.Folds.{list_any-append}
 use Rattle.std.proofs.lemmas.List.FromFn.{length-map-range_with_len}
 use Rattle.std.proofs.lemmas.List.Sums.{fold_push}
-use Rattle.books_model.specs.declared.script.Op.{Op}
-use Rattle.books_model.specs.declared.script.Op.TheVariants as op
-use Rattle.books_model.specs.Ranges.{IsWithin, IsOperationFor, IsScriptFor}
 use Rattle.script_reader.specs.declared.limits.TheConstants.{MOST_CALLERS, MOST_SCRIPTS}
 use Rattle.script_reader.specs.Input.{Submission, AreCallersFor, IsName, add_name, first_seen, callers_of}
 use Rattle.script_reader.specs.Inner.Callers.{is_caller}
 use Rattle.script_reader.proofs.Grouping.{callers_of-push, no-names}
 use Rattle.script_reader.proofs.Reaching.{scripts_counted, callers_counted, caller_named}
 use Rattle.script_reader.proofs.Submitting.{callers_more}
-use Rattle.input_maker.specs.Generator.{drawn, next_state, state_after}
-use Rattle.input_maker.specs.Made.{made_books, caller_name, first_kind, second_kind, made_operation, operation_from, operations_from, script_from, made_submission, made_submissions, submissions_to, state_of_script, state_after_operations}
-use Rattle.input_maker.specs.Statements.{AreForMake, MadeInputsAreInputs}
+use Rattle.input_maker.specs.Made.{made_books, caller_name, script_from, made_submission, made_submissions, submissions_to, state_of_script}
+use Rattle.input_maker.specs.Statements.{MadeInputsAreInputs}
 use Rattle.input_maker.proofs.Listing.{submissions-none, submissions-more}
-use Rattle.input_maker.proofs.Opening.{all_mapped, made_books_in_range}
-
--- a draw is below its bound
-drawn_below : (n x : ℕ) → 0 < n → drawn n x < n
-unfolding drawn
-drawn_below n x some = mod-lt (next_state x / 65536) some
-
--- a draw and one
-within_one : (n x : ℕ) → 0 < n → IsWithin 1 n (1 + drawn n x)
-within_one n x some = let h = drawn_below n x some in (omega arith, omega (arith, h))
-
--- what holds of both holds of the one that is chosen
-chosen : {A : Type 0} (P : A → Type 0) (b : Bool) (x y : A) → P x → P y → P (if b then x else y)
-chosen P true x y p q = p
-chosen P false x y p q = q
-
-operation_fits : (g t a b i q : ℕ) → IsWithin 1 200 a → IsWithin 1 200 b → IsWithin 1 8 i → IsWithin 1 100 q → IsOperationFor made_books (made_operation g t a b i q)
-operation_fits g t a b i q account other instrument amount =
-    chosen P (g == 0) (first_kind t a b i q) (second_kind t a b i q)
-    (chosen P (t == 0) _ _ (number a account, (omega (arith, amount.0), omega (arith, amount.1)))
-    (chosen P (t == 1) _ _ (instrument, (omega (arith, amount.0), omega (arith, amount.1)))
-    (chosen P (t == 2) _ _ tt (number a account, number b other))))
-    (chosen P (t == 0) _ _ (number a account, number b other, (omega (arith, amount.0), omega (arith, amount.1)))
-    (chosen P (t == 1) _ _ (number a account, number b other, instrument, (omega (arith, amount.0), omega (arith, amount.1)))
-    (chosen P (t == 2) _ _ (number a account, (omega (arith, amount.0), omega (arith, amount.1))) (number a account))))
-  where
-    P : Op → Type 0
-    P o = IsOperationFor made_books o
-
-    number : (a : ℕ) → IsWithin 1 200 a → IsWithin 1 4294967295 a
-    number a h = (h.0, omega (arith, h.1))
-
-operation_from_fits : (g x : ℕ) → IsOperationFor made_books (operation_from g x)
-unfolding operation_from
-operation_from_fits g x =
-    operation_fits g (drawn 4 x) (1 + drawn 200 (state_after 1 x)) (1 + drawn 200 (state_after 2 x)) (1 + drawn 8 (state_after 3 x)) (1 + drawn 100 (state_after 4 x))
-    (within_one 200 (state_after 1 x) (omega arith)) (within_one 200 (state_after 2 x) (omega arith)) (within_one 8 (state_after 3 x) (omega arith)) (within_one 100 (state_after 4 x) (omega arith))
-
--- a script is for the opening books
-script_fits : (x : ℕ) → IsScriptFor made_books (script_from x)
-unfolding script_from operations_from
-script_fits x = record {
-  few =
-      let h = drawn_below 3 (state_after 1 x) (omega arith) in
-      omega (arith, h, length-map-range_with_len (λ k. operation_from (drawn 2 x) (state_after_operations k (state_after 2 x))) 0 (1 + drawn 3 (state_after 1 x)));
-  each = All-from_recursion _ _ (all_mapped (IsOperationFor made_books) (λ k. operation_from (drawn 2 x) (state_after_operations k (state_after 2 x))) 0 (1 + drawn 3 (state_after 1 x))
-      (λ k low high. operation_from_fits (drawn 2 x) (state_after_operations k (state_after 2 x))));
-}
+use Rattle.input_maker.proofs.Opening.{made_books_in_range}
+use Rattle.input_maker.proofs.Making.{script_fits, script_made}
 
 is_letter : (d : ℕ) → d < 26 → (nat_le 97 (97 + d) && nat_le (97 + d) 122) ≡ true
 is_letter d less = grind (arith, nat_tests)
@@ -168,6 +117,7 @@ callers_fit seed callers (suc n) some few room =
     let subs = submissions_to seed callers n in
     let s = made_submission seed callers n in
     let seen = seen_in seed callers n some in
+    let made = script_made (state_of_script seed n) in
     let within : n % callers < callers = mod-lt n some in
     let space : is_caller s.caller (callers_of subs) ≡ false → length (callers_of subs) < MOST_CALLERS =
     λ new. elim (cases_lt n callers) [
@@ -178,7 +128,7 @@ callers_fit seed callers (suc n) some few room =
     (subst (λ subs. AreCallersFor made_books (callers_of subs)) (sym (submissions-more seed callers n))
     (subst (AreCallersFor made_books) (sym (callers_of-push subs s))
     (callers_more made_books (callers_of subs) s (callers_fit seed callers n some few (omega (arith, room)))
-    (caller_name_is_name (n % callers) (omega (arith, within, few))) (script_fits (state_of_script seed n))
+    (caller_name_is_name (n % callers) (omega (arith, within, few))) (script_fits made.0 (script_from (state_of_script seed n)) made.1)
     (omega (arith, room, scripts_counted subs, submissions_length seed callers n)) space)))
 
 -- each generated text is of an input

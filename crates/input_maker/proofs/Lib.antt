@@ -1,3 +1,10 @@
 pub mod Listing
 pub mod Opening
+pub mod Making
 pub mod Calling
+pub mod Classes
+pub mod Rooms
+pub mod Steps
+pub mod Days
+pub mod Totals
+pub mod DayLaws

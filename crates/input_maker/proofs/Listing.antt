@@ -3,8 +3,6 @@ use Rattle.std.proofs.Common.{◌≡◌, ℕ, zero, suc, ◌+◌, ◌*◌, List,
 use Rattle.std.specs.List.{flat_map, range_with_len}
 use Rattle.std.proofs.lemmas.List.{append-nil, map_push, flat_map_more}
 use Rattle.std.proofs.lemmas.List.Concat.{flat_map-append}
-use Rattle.books_model.specs.declared.script.Op.{Op}
-use Rattle.script_reader.specs.Input.{Submission}
 use Rattle.script_reader.specs.Text.{position_line}
 use Rattle.input_maker.specs.Generator.{state_after}
 use Rattle.input_maker.specs.Made.{accounts_to, prices_to, positions_in, positions_to, operation_from, operations_from, state_after_operations, state_after_script, state_of_script, made_submission, submissions_to}

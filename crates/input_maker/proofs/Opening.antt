@@ -3,7 +3,7 @@ use Rattle.std.proofs.Common.{◌≡◌, ℕ, zero, suc, ◌+◌, ◌*◌, ◌<�
 use Rattle.std.specs.List.{AllByRecursion, flat_map, range_with_len}
 use Rattle.std.specs.declared.cmp.Ordering.{Ordering}
 use Rattle.std.specs.declared.cmp.Ordering.TheVariants.{Less, Equal, Greater}
-use Rattle.std.specs.Ordering.{nat_cmp, is_lt, is_eq, eq_by_cmp, ordering_then}
+use Rattle.std.specs.Ordering.{nat_cmp, is_lt, eq_by_cmp, ordering_then}
 use Rattle.std.specs.Cmp.{nat_cmp_is, Equal-is}
 use Rattle.std.specs.FinMap as finmap
 use Rattle.std.specs.FinMap.{nat_cmp-IsAntisymmetric, find, get-from_sorted, entries-from_sorted, len-entries}
@@ -13,6 +13,7 @@ use Rattle.std.proofs.lemmas.List.{append-nil}
 use Rattle.books_model.specs.Books.{position_cmp, used}
 use Rattle.books_model.specs.Ranges.{IsWithin, AreInRange}
 use Rattle.script_reader.specs.Text.{books_lines, header_line, account_line, price_line, position_line}
+use Rattle.script_reader.proofs.Sections.{less_number}
 use Rattle.input_maker.specs.Made.{accounts_to, prices_to, positions_in, positions_to, made_books}
 
 and_T : (r : Ordering) (b : Bool) → r ≡ Less → T b → T (is_lt r && b)
@@ -21,9 +22,6 @@ and_T r b less h = subst (λ r. T (is_lt r && b)) (sym less) h
 both_T : (a b : Bool) → T a → T b → T (a && b)
 both_T true b p q = q
 both_T false b p q = absurd p
-
-less_of : (a b : ℕ) → a < b → nat_cmp a b ≡ Less
-less_of a b less = sym (nat_cmp_is a b Less less)
 
 equal_of : (a b : ℕ) → a ≡ b → nat_cmp a b ≡ Equal
 equal_of a b same = sym (nat_cmp_is a b Equal same)
@@ -34,7 +32,7 @@ keyed v a n = map (λ i. (i, v i)) (range_with_len a n)
 
 keyed_below : {X : Type 0} (v : ℕ → X) (k a n : ℕ) → k < a → T (below_all nat_cmp k (keyed v a n))
 keyed_below v k a zero less = tt
-keyed_below v k a (suc n) less = and_T (nat_cmp k a) _ (less_of k a less) (keyed_below v k (a + 1) n (omega arith))
+keyed_below v k a (suc n) less = and_T (nat_cmp k a) _ (less_number k a less) (keyed_below v k (a + 1) n (omega arith))
 
 keyed_sorted : {X : Type 0} (v : ℕ → X) (a n : ℕ) → T (is_sorted nat_cmp (keyed v a n))
 keyed_sorted v a zero = tt
@@ -70,10 +68,10 @@ found_holds R same P q v (e ∷ es) all found =
 
 -- positions of one account go by instrument, and those of others by account
 own_position : (a i j : ℕ) → i < j → position_cmp (a, i) (a, j) ≡ Less
-own_position a i j less = ap (λ r. ordering_then r (nat_cmp i j)) (equal_of a a refl) ∙ less_of i j less
+own_position a i j less = ap (λ r. ordering_then r (nat_cmp i j)) (equal_of a a refl) ∙ less_number i j less
 
 other_position : (a b i j : ℕ) → a < b → position_cmp (a, i) (b, j) ≡ Less
-other_position a b i j less = ap (λ r. ordering_then r (nat_cmp i j)) (less_of a b less)
+other_position a b i j less = ap (λ r. ordering_then r (nat_cmp i j)) (less_number a b less)
 
 ordered : (x y : Ordering) → ordering_then x y ≡ Equal → (x ≡ Equal) × (y ≡ Equal)
 ordered Less y e = absurd cc
@@ -156,7 +154,7 @@ prices_entries = entries-from_sorted nat_cmp (prices_to 8) prices_sorted
 pub positions_entries : finmap.entries made_books.positions ≡ positions_to 200
 positions_entries = entries-from_sorted position_cmp (positions_to 200) positions_sorted
 
-account_found : (a cash : ℕ) → finmap.get made_books.accounts a ≡ Some cash → IsWithin 1 200 a × (cash ≡ 1000000)
+pub account_found : (a cash : ℕ) → finmap.get made_books.accounts a ≡ Some cash → IsWithin 1 200 a × (cash ≡ 1000000)
 unfolding accounts_to
 account_found a cash found =
     found_holds nat_cmp nat_cmp-IsAntisymmetric (λ a cash. IsWithin 1 200 a × (cash ≡ 1000000)) a cash (accounts_to 200)
@@ -176,7 +174,7 @@ position_found a i quantity found =
     found_holds position_cmp same_position IsPosition (a, i) quantity (positions_to 200) (rows_hold 1 200 (omega arith) (omega arith))
     (sym (get-from_sorted position_cmp (positions_to 200) (a, i) positions_sorted) ∙ found)
 
-account_there : (a : ℕ) → IsWithin 1 200 a → IsSome (finmap.get made_books.accounts a)
+pub account_there : (a : ℕ) → IsWithin 1 200 a → IsSome (finmap.get made_books.accounts a)
 unfolding accounts_to
 account_there a within =
     let e : finmap.get made_books.accounts a ≡ Some 1000000 = get-from_sorted nat_cmp (accounts_to 200) a accounts_sorted ∙ keyed_found {X = ℕ} (λ a. 1000000) a 1 200 within.0 (omega arith) in

@@ -1,3 +1,4 @@
 pub mod Generator
 pub mod Made
 pub mod Statements
+pub mod Days

@@ -1,6 +1,5 @@
-use Rattle.std.proofs.Common.{◌≡◌, ◌+◌, ◌*◌, ◌++◌, subst, arith}
+use Rattle.std.proofs.Common.{◌+◌}
 use Rattle.std.specs.String.{string_bytes}
-use Rattle.std.specs.List.{flat_map}
 use Rattle.script_reader.specs.Text.{position_line}
 use Rattle.input_maker.specs.Made.{positions_in}
 use Rattle.input_maker.proofs.Listing.{written_more, written_none, positions_in-more, positions_in-none}

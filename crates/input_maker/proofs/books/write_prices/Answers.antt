@@ -1,6 +1,5 @@
-use Rattle.std.proofs.Common.{◌≡◌, ◌+◌, ◌*◌, ◌++◌, subst, arith}
+use Rattle.std.proofs.Common.{◌+◌, ◌*◌}
 use Rattle.std.specs.String.{string_bytes}
-use Rattle.std.specs.List.{flat_map}
 use Rattle.script_reader.specs.Text.{price_line}
 use Rattle.input_maker.specs.Made.{prices_to}
 use Rattle.input_maker.proofs.Listing.{written_more, written_none, prices-more, prices-none}

@@ -1,0 +1,162 @@
+-- The operations and scripts that are made, of the first kind and of the second, and that each script of a made input is one.
+use Rattle.std.proofs.Common.{◌≡◌, ℕ, ◌+◌, ◌*◌, ◌/◌, ◌<◌, ◌≤◌, ◌==◌, ◌&&◌, Bool, true, false, if◌then◌else◌, List, [], ◌∷◌, map, filter, length, refl, sym, ap, ◌∙◌, true≢false, arith}
+use Rattle.std.specs.List.{All, AllByRecursion, list_all, range_with_len}
+use Rattle.std.specs.Str.{bytes_eq}
+use Rattle.std.proofs.Math.Nat.{mod-lt}
+use Rattle.std.proofs.lemmas.List.Elements.{All-filter, All-from_recursion, All-map}
+use Rattle.std.proofs.lemmas.List.FromFn.{length-map-range_with_len}
+use Rattle.std.proofs.lemmas.List.Sums.{sum_by-cons}
+use Rattle.books_model.specs.declared.script.Op.{Op}
+use Rattle.books_model.specs.declared.script.Op.TheVariants as op
+use Rattle.books_model.specs.Ranges.{IsWithin, IsOperationFor, IsScriptFor}
+use Rattle.books_model.proofs.Entries.{AllByRecursion-weaker, sum_by-most}
+use Rattle.script_reader.specs.Input.{Submission, first_seen, scripts_by, callers_of}
+use Rattle.input_maker.specs.Generator.{drawn, next_state, state_after}
+use Rattle.input_maker.specs.Made.{made_books, first_kind, second_kind, operation_from, operations_from, script_from, made_submission, submissions_to, state_of_script, state_after_operations}
+use Rattle.input_maker.specs.Days.{IsOfFirstKind, deposits_of, is_of_first_kind, paid_in_by}
+use Rattle.input_maker.proofs.Opening.{all_mapped}
+
+-- an operation that is made, with its numbers in their ranges
+pub data IsMade : Bool → Op → Type 0 where
+  made_deposit : (a x : ℕ) → IsWithin 1 200 a → IsWithin 1 100 x → IsMade true (op.Deposit a x)
+  made_price : (i p : ℕ) → IsWithin 1 8 i → IsWithin 1 1000 p → IsMade true (op.Price i p)
+  made_next : IsMade true op.Next
+  made_sum : (a b : ℕ) → IsWithin 1 200 a → IsWithin 1 200 b → IsMade true (op.Sum a b)
+  made_move : (a b x : ℕ) → IsWithin 1 200 a → IsWithin 1 200 b → IsWithin 1 100 x → IsMade false (op.Move a b x)
+  made_trade : (a b i q : ℕ) → IsWithin 1 200 a → IsWithin 1 200 b → IsWithin 1 8 i → IsWithin 1 100 q → IsMade false (op.Trade a b i q)
+  made_margin : (a m : ℕ) → IsWithin 1 200 a → IsWithin 1 100 m → IsMade false (op.Margin a m)
+  made_show : (a : ℕ) → IsWithin 1 200 a → IsMade false (op.Show a)
+
+-- what lies in a range lies in a wider one
+wider : (low most wide n : ℕ) → most ≤ wide → IsWithin low most n → IsWithin low wide n
+wider low most wide n fits h = (h.0, omega (arith, h.1, fits))
+
+-- it is for the opening books
+pub operation_fits : (first : Bool) (o : Op) → IsMade first o → IsOperationFor made_books o
+operation_fits first o (made_deposit a x account amount) = (wider 1 200 _ a (omega arith) account, wider 1 100 _ x (omega arith) amount)
+operation_fits first o (made_price i p instrument price) = (instrument, wider 1 1000 _ p (omega arith) price)
+operation_fits first o made_next = tt
+operation_fits first o (made_sum a b from to) = (wider 1 200 _ a (omega arith) from, wider 1 200 _ b (omega arith) to)
+operation_fits first o (made_move a b x payer payee amount) = (wider 1 200 _ a (omega arith) payer, wider 1 200 _ b (omega arith) payee, wider 1 100 _ x (omega arith) amount)
+operation_fits first o (made_trade a b i q buyer seller instrument quantity) = (wider 1 200 _ a (omega arith) buyer, wider 1 200 _ b (omega arith) seller, instrument, wider 1 100 _ q (omega arith) quantity)
+operation_fits first o (made_margin a m account rate) = (wider 1 200 _ a (omega arith) account, rate)
+operation_fits first o (made_show a account) = wider 1 200 _ a (omega arith) account
+
+-- it pays in no more than a hundred
+pub pays_little : (first : Bool) (o : Op) → IsMade first o → paid_in_by o ≤ 100
+pays_little first o (made_deposit a x account amount) = amount.1
+pays_little first o _ = omega arith
+
+-- it tells the kind
+tells_kind : (first : Bool) (o : Op) → IsMade first o → is_of_first_kind o ≡ first
+tells_kind first o (made_deposit a x account amount) = refl
+tells_kind first o _ = refl
+
+-- one that is not of the first kind pays nothing in
+pays_nothing : (o : Op) → is_of_first_kind o ≡ false → paid_in_by o ≡ 0
+pays_nothing (op.Deposit a x) second = absurd (true≢false second)
+pays_nothing _ second = refl
+
+-- a script that is made
+pub record IsMadeScript (first : Bool) (script : List Op) : Type 0 where
+  pub each : AllByRecursion (IsMade first) script
+  pub some : 1 ≤ length script
+  pub few : length script ≤ 3
+
+-- of one kind or the other
+abbrev pub IsMadeOnce : List Op → Type 0
+IsMadeOnce script = (first : Bool) × IsMadeScript first script
+
+-- it is for the opening books
+pub script_fits : (first : Bool) (script : List Op) → IsMadeScript first script → IsScriptFor made_books script
+script_fits first script m = record {
+  few = omega (arith, m.few);
+  each = All-from_recursion (IsOperationFor made_books) script (AllByRecursion-weaker (IsMade first) (IsOperationFor made_books) (operation_fits first) script m.each);
+}
+
+-- a script of such operations
+all_first : (ops : List Op) → AllByRecursion (IsMade true) ops → IsOfFirstKind ops
+all_first [] each = refl
+all_first (o ∷ ops) each = λ t. tells_kind true o each.0 t && all_first ops each.1 t
+
+not_first : (ops : List Op) → 1 ≤ length ops → AllByRecursion (IsMade false) ops → ¬ IsOfFirstKind ops
+not_first [] some each is = omega (arith, some)
+not_first (o ∷ ops) some each is = true≢false (sym is ∙ ap (λ b. b && list_all is_of_first_kind ops) (tells_kind false o each.0))
+
+-- a made script is of the kind of its operations
+pub kind_is : (first : Bool) (script : List Op) → IsMadeScript first script → IsOfFirstKind script → first ≡ true
+kind_is true script m is = refl
+kind_is false script m is = absurd (not_first script m.some m.each is)
+
+pub kind_is_not : (first : Bool) (script : List Op) → IsMadeScript first script → (¬ IsOfFirstKind script) → first ≡ false
+kind_is_not true script m is_not = absurd (is_not (all_first script m.each))
+kind_is_not false script m is_not = refl
+
+-- one of the second kind has no deposits
+pub deposits_none : (first : Bool) (ops : List Op) → AllByRecursion (IsMade first) ops → first ≡ false → deposits_of ops ≡ 0
+deposits_none first [] each second = refl
+deposits_none first (o ∷ ops) each second = omega (arith, sum_by-cons paid_in_by o ops, pays_nothing o (tells_kind first o each.0 ∙ second), deposits_none first ops each.1 second)
+
+pub deposits_most : (first : Bool) (script : List Op) → IsMadeScript first script → deposits_of script ≤ 300
+deposits_most first script m = omega (arith, m.few, sum_by-most paid_in_by 100 script (AllByRecursion-weaker (IsMade first) (λ o. paid_in_by o ≤ 100) (pays_little first) script m.each))
+
+-- a draw is below its bound
+drawn_below : (n x : ℕ) → 0 < n → drawn n x < n
+unfolding drawn
+drawn_below n x some = mod-lt (next_state x / 65536) some
+
+-- a draw and one
+within_one : (n x : ℕ) → 0 < n → IsWithin 1 n (1 + drawn n x)
+within_one n x some = let h = drawn_below n x some in (omega arith, omega (arith, h))
+
+-- what holds of both holds of the one that is chosen
+pub chosen : {A : Type 0} (P : A → Type 0) (b : Bool) (x y : A) → P x → P y → P (if b then x else y)
+chosen P true x y p q = p
+chosen P false x y p q = q
+
+-- what is chosen by its first draw
+operation_made : (first : Bool) (t a b i q : ℕ) → IsWithin 1 200 a → IsWithin 1 200 b → IsWithin 1 8 i → IsWithin 1 100 q → IsMade first (if first then first_kind t a b i q else second_kind t a b i q)
+operation_made true t a b i q account other instrument amount =
+    chosen (IsMade true) (t == 0) _ _ (made_deposit a q account amount)
+    (chosen (IsMade true) (t == 1) _ _ (made_price i (10 * q) instrument (omega (arith, amount.0), omega (arith, amount.1)))
+    (chosen (IsMade true) (t == 2) _ _ made_next (made_sum a b account other)))
+operation_made false t a b i q account other instrument amount =
+    chosen (IsMade false) (t == 0) _ _ (made_move a b q account other amount)
+    (chosen (IsMade false) (t == 1) _ _ (made_trade a b i q account other instrument amount)
+    (chosen (IsMade false) (t == 2) _ _ (made_margin a q account amount) (made_show a account)))
+
+operation_from_made : (g x : ℕ) → IsMade (g == 0) (operation_from g x)
+unfolding operation_from
+operation_from_made g x =
+    operation_made (g == 0) (drawn 4 x) (1 + drawn 200 (state_after 1 x)) (1 + drawn 200 (state_after 2 x)) (1 + drawn 8 (state_after 3 x)) (1 + drawn 100 (state_after 4 x))
+    (within_one 200 (state_after 1 x) (omega arith)) (within_one 200 (state_after 2 x) (omega arith)) (within_one 8 (state_after 3 x) (omega arith)) (within_one 100 (state_after 4 x) (omega arith))
+
+-- a script of the generator is made
+pub script_made : (x : ℕ) → IsMadeOnce (script_from x)
+unfolding script_from operations_from
+script_made x =
+    let make : ℕ → Op = λ k. operation_from (drawn 2 x) (state_after_operations k (state_after 2 x)) in
+    let count = length-map-range_with_len make 0 (1 + drawn 3 (state_after 1 x)) in (
+      drawn 2 x == 0,
+      record {
+        each = all_mapped (IsMade (drawn 2 x == 0)) make 0 (1 + drawn 3 (state_after 1 x)) (λ k low high. operation_from_made (drawn 2 x) (state_after_operations k (state_after 2 x)));
+        some = omega (arith, count);
+        few = omega (arith, count, drawn_below 3 (state_after 1 x) (omega arith));
+      },
+    )
+
+-- what holds of each script of a text holds of each of its callers' scripts
+of_callers : (P : List Op → Type 0) (subs : List Submission) → All (λ s. P s.script) subs → All (λ c. All P c.scripts) (callers_of subs)
+of_callers P subs each =
+    All-map (λ c. All P c.scripts) (λ name. record { name = name; scripts = scripts_by name subs }) (first_seen (map (λ s. s.caller) subs))
+    (λ k d less. All-map P (λ s. s.script) (filter (λ s. bytes_eq _ s.caller) subs) (All-filter (λ s. bytes_eq _ s.caller) (λ s. P s.script) subs each))
+
+submissions_made : (seed callers n : ℕ) → All (λ s. IsMadeOnce s.script) (submissions_to seed callers n)
+unfolding submissions_to
+submissions_made seed callers n =
+    All-from_recursion (λ s. IsMadeOnce s.script) (map (made_submission seed callers) (range_with_len 0 n))
+    (all_mapped (λ s. IsMadeOnce s.script) (made_submission seed callers) 0 n (λ k low high. script_made (state_of_script seed k)))
+
+-- so is each script of the callers of a made input
+pub callers_made : (seed callers n : ℕ) → All (λ c. All IsMadeOnce c.scripts) (callers_of (submissions_to seed callers n))
+callers_made seed callers n = of_callers IsMadeOnce (submissions_to seed callers n) (submissions_made seed callers n)
