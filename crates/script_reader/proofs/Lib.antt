@@ -1,3 +1,4 @@
+pub mod Parting
 pub mod Cutting
 pub mod Numerals
 pub mod Gathering

@@ -28,7 +28,7 @@ pub(crate) fn books_of(alloc: Global, lines: &mut Lines<'_>) -> Result<Books, Re
     ensures fault { (why : AnyFault) → result ≡ Err (Refusal.LineFault why)
         → IsFaultyBehind [] lines.old lines.new why }
 {
-    let words = lines.words(alloc)?;
+    let words = lines.words()?;
     let books = header_of(alloc, &words)?;
     filled(alloc, lines, books)
 }
@@ -44,7 +44,7 @@ fn filled(alloc: Global, lines: &mut Lines<'_>, mut books: Books) -> Result<Book
 {
     loop {
         books.ranges();
-        let words = lines.words(alloc)?;
+        let words = lines.words()?;
         if words.is_only(b"scripts") {
             return Ok(books);
         }

@@ -14,7 +14,7 @@ use crate::fault::{Fault, InputFault, Refusal};
 use crate::input::Input;
 use crate::lines::Lines;
 use crate::scripts::scripts_of;
-use crate::words::LINE_FEED;
+use crate::words::{LINE_FEED, occurrences};
 use std::alloc::Global;
 
 /// Reads opening books and scripts, all of the bytes. What a text spells is read, unless memory runs out, and nothing else is.
@@ -32,7 +32,7 @@ pub fn read_input(alloc: Global, bytes: &[u8]) -> Result<Input, InputFault>
     let (input, end) = read_front(alloc, bytes)?;
     if end < bytes.len() {
         return Err(InputFault::Line {
-            line: line_feeds(&bytes[..end]) as u32 + 1,
+            line: occurrences(&bytes[..end], LINE_FEED) as u32 + 1,
             why: Fault::End,
         });
     }
@@ -59,7 +59,7 @@ pub fn read_front(alloc: Global, bytes: &[u8]) -> Result<(Input, usize), InputFa
         Ok(input) => Ok((input, bytes.len() - lines.len())),
         Err(Refusal::OutOfMemory) => Err(InputFault::OutOfMemory),
         Err(Refusal::LineFault(why)) => {
-            let read = line_feeds(&bytes[..bytes.len() - lines.len()]);
+            let read = occurrences(&bytes[..bytes.len() - lines.len()], LINE_FEED);
             let line = faulty_line(read, why);
             Err(InputFault::Line { line, why })
         }
@@ -87,11 +87,4 @@ fn faulty_line(read: usize, why: Fault) -> u32
         Fault::End => read as u32 + 1,
         _ => read as u32,
     }
-}
-
-// How many lines end in these bytes.
-fn line_feeds(bytes: &[u8]) -> usize
-    ensures { result ≡ count_by (λ b. b == LINE_FEED) bytes.now }
-{
-    bytes.iter().filter(|b| **b == LINE_FEED).count()
 }

@@ -1,14 +1,12 @@
 //! The lines of a text, one after another.
 
-ghost use Rattle.std.specs.Prelude.{◌≡◌, ℕ, ◌==◌, ◌++◌, ◌∷◌, [], ◌↔◌, IsTrue, IfOk, IfSome, IfNone, Err, length, position};
-ghost use Rattle.script_reader.specs.declared.fault.Fault.{Fault as AnyFault};
+ghost use Rattle.std.specs.Prelude.{◌≡◌, ℕ, ◌==◌, ◌++◌, ◌∷◌, [], ◌↔◌, IsTrue, IfErr, IfOk, IfSome, IfNone, length, position};
 ghost use Rattle.script_reader.specs.Lines.{IsFreeOf, AreWords};
 ghost use Rattle.script_reader.specs.Text.{line as text_of};
 ghost use Rattle.script_reader.specs.declared.words.TheConstants.{LINE_FEED};
 
-use crate::fault::{Fault, Refusal};
+use crate::fault::Fault;
 use crate::words::{LINE_FEED, Words};
-use std::alloc::Global;
 use std::marker::Model;
 
 // What is left of a text. Contracts see it.
@@ -53,16 +51,16 @@ impl<'a> Lines<'a> {
     }
 
     // The words of the next line. Where no whole line is left, nothing changes.
-    pub(crate) fn words(&mut self, alloc: Global) -> Result<Words<'a>, Refusal>
+    pub(crate) fn words(&mut self) -> Result<Words<'a>, Fault>
         ensures found { IfOk result
             (λ words. AreWords words × (self.old ≡ text_of words ++ self.new)) }
-        ensures end { (why : AnyFault) → result ≡ Err (Refusal.LineFault why)
-            → (why ≡ Fault.End) × IsFreeOf LINE_FEED self.old × (self.new ≡ self.old) }
+        ensures end { IfErr result
+            (λ why. (why ≡ Fault.End) × IsFreeOf LINE_FEED self.old × (self.new ≡ self.old)) }
     {
-        let Some(line) = self.next() else {
-            return Err(Refusal::LineFault(Fault::End));
-        };
-        Ok(Words::of_line(alloc, line)?)
+        match self.next() {
+            Some(line) => Ok(Words::of_line(line)),
+            None => Err(Fault::End),
+        }
     }
 }
 

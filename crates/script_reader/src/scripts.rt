@@ -34,7 +34,7 @@ fn script_of(alloc: Global, lines: &mut Lines<'_>, books: &Books) -> Result<Scri
     books.ranges();
     let mut script = Script::new(alloc);
     loop {
-        let words = lines.words(alloc)?;
+        let words = lines.words()?;
         if words.is_only(b"end") {
             return Ok(script);
         }
@@ -61,7 +61,7 @@ pub(crate) fn scripts_of(
     books.ranges();
     let mut callers = Callers::new(alloc);
     loop {
-        let words = lines.words(alloc)?;
+        let words = lines.words()?;
         if words.is_only(b"finish") {
             return Ok(callers);
         }

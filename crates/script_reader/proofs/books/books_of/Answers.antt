@@ -1,7 +1,6 @@
-use Rattle.std.proofs.Common.{◌≡◌, ◌∷◌, [], ◌++◌, Err, Some, sym, ap, subst, ◌∙◌}
+use Rattle.std.proofs.Common.{◌≡◌, ◌∷◌, [], ◌++◌, Some, sym, ap, subst, ◌∙◌}
 use Rattle.std.proofs.lemmas.List.{append-nil}
 use Rattle.std.proofs.lemmas.Result.{err_from_is_err_and}
-use Rattle.script_reader.specs.declared.fault.Refusal.TheVariants as refusal
 use Rattle.script_reader.specs.Text.{line}
 use Rattle.script_reader.specs.Faults.{AreFaultless, IsFaultyBehind}
 use Rattle.script_reader.proofs.BooksFaultless.{books_faultless}
@@ -12,8 +11,8 @@ use Rattle.script_reader.proofs.books.books_of.Goals as goal
 pub returns-in_err-words-clause-fault : goal.returns-in_err-words-clause-fault
 returns-in_err-words-clause-fault c why e =
     let p = err_from_is_err_and c.from_residual.result c.from_residual.ensures.1 in
-    let same : c.in_err-words.field-0.0 ≡ refusal.LineFault why = cc (p.1, p.2, e) in
-    behind_end [] c.args.lines.now c.words.new.self why (c.words.ensures.end why (c.in_err-words.was ∙ ap Err same))
+    let same : c.in_err-words.field-0.0 ≡ why = cc (p.1, p.2, e) in
+    behind_end [] c.args.lines.now c.words.new.self why (sym same ∙ c.in_err-words.ensures.end.0, c.in_err-words.ensures.end.1, c.in_err-words.ensures.end.2)
 
 pub returns-in_err-books-clause-fault : goal.returns-in_err-books-clause-fault
 returns-in_err-books-clause-fault c why e =

@@ -31,9 +31,9 @@ loop-books-smaller c = line_shorter c.in_ok-words.words c.loop-books.lines c.wor
 pub returns-in_err-words-clause-fault : goal.returns-in_err-words-clause-fault
 returns-in_err-words-clause-fault c why e =
     let p = err_from_is_err_and c.from_residual.result c.from_residual.ensures.1 in
-    let same : c.in_err-words.field-0.0 ≡ refusal.LineFault why = cc (p.1, p.2, e) in
+    let same : c.in_err-words.field-0.0 ≡ why = cc (p.1, p.2, e) in
     behind_more (books_words c.args.books) c.loop-books.invariant.more c.args.lines.now c.loop-books.lines c.words.new.self why (read_so_far c.loop-books.books c.args.books c.loop-books.invariant.more c.ranges-in-loop-books.ensures c.loop-books.invariant.whole) c.loop-books.invariant.text
-    (behind_end (books_words c.args.books ++ c.loop-books.invariant.more) c.loop-books.lines c.words.new.self why (c.words.ensures.end why (c.in_err-words.was ∙ ap Err same)))
+    (behind_end (books_words c.args.books ++ c.loop-books.invariant.more) c.loop-books.lines c.words.new.self why (sym same ∙ c.in_err-words.ensures.end.0, c.in_err-words.ensures.end.1, c.in_err-words.ensures.end.2))
 
 pub returns-then-is_only-clause-text : goal.returns-then-is_only-clause-text
 returns-then-is_only-clause-text c =

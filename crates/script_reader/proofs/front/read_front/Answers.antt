@@ -39,18 +39,18 @@ in_text text start left why e h = subst (λ l. IsFaultyBehind [] l left why) e h
 behind : (c : goal.After-len-in-Err-LineFault) → IsFaultyBehind [] c.args.bytes.now c.input_of.new.lines c.in-Err-LineFault.why
 behind c = in_text c.args.bytes.now c.new-lines.result c.input_of.new.lines c.in-Err-LineFault.why c.new-lines.ensures (c.input_of.ensures.fault c.in-Err-LineFault.why (c.in-Err-LineFault.is ∙ ap Err c.in-Err-LineFault.field-0-is))
 
-pub slice_bounds-line_feeds-count : goal.slice_bounds-line_feeds-count
-slice_bounds-line_feeds-count c = omega (arith, c.len-in-Err-LineFault.ensures, (told c.args.bytes.now c.input_of.new.lines c.in-Err-LineFault.why (behind c)).shorter)
+pub slice_bounds-occurrences-count : goal.slice_bounds-occurrences-count
+slice_bounds-occurrences-count c = omega (arith, c.len-in-Err-LineFault.ensures, (told c.args.bytes.now c.input_of.new.lines c.in-Err-LineFault.why (behind c)).shorter)
 
-behind_counted : (c : goal.After-line_feeds-read) → IsFaultyBehind [] c.args.bytes.now c.input_of.new.lines c.in-Err-LineFault.why
+behind_counted : (c : goal.After-occurrences-read) → IsFaultyBehind [] c.args.bytes.now c.input_of.new.lines c.in-Err-LineFault.why
 behind_counted c = in_text c.args.bytes.now c.new-lines.result c.input_of.new.lines c.in-Err-LineFault.why c.new-lines.ensures (c.input_of.ensures.fault c.in-Err-LineFault.why (c.in-Err-LineFault.is ∙ ap Err c.in-Err-LineFault.field-0-is))
 
 behind_numbered : (c : goal.After-faulty_line-line) → IsFaultyBehind [] c.args.bytes.now c.input_of.new.lines c.in-Err-LineFault.why
 behind_numbered c = in_text c.args.bytes.now c.new-lines.result c.input_of.new.lines c.in-Err-LineFault.why c.new-lines.ensures (c.input_of.ensures.fault c.in-Err-LineFault.why (c.in-Err-LineFault.is ∙ ap Err c.in-Err-LineFault.field-0-is))
 
 -- how many line feeds there are in front of what is left
-counted : (c : goal.After-line_feeds-read) → c.line_feeds-read.result ≡ feeds c.args.bytes.now c.input_of.new.lines
-counted c = c.line_feeds-read.ensures ∙ ap (λ n. count_by (λ b. b == LINE_FEED) (take (length c.args.bytes.now - n) c.args.bytes.now)) c.len-in-Err-LineFault.ensures
+counted : (c : goal.After-occurrences-read) → c.occurrences-read.result ≡ feeds c.args.bytes.now c.input_of.new.lines
+counted c = c.occurrences-read.ensures ∙ ap (λ n. count_by (λ b. b == LINE_FEED) (take (length c.args.bytes.now - n) c.args.bytes.now)) c.len-in-Err-LineFault.ensures
 
 pub faulty_line-line-requires : goal.faulty_line-line-requires
 faulty_line-line-requires c = omega (arith, counted c, (told c.args.bytes.now c.input_of.new.lines c.in-Err-LineFault.why (behind_counted c)).few)
@@ -66,11 +66,11 @@ returns-in-Ok-clause-read c input end short h =
 pub returns-in-Ok-clause-faulty : goal.returns-in-Ok-clause-faulty
 returns-in-Ok-clause-faulty c number why h = front_not_both c.args.bytes.now (front c).front c.input_of.new.lines c.in-Ok.input number why (front c).text (front c).spelled h
 
-numbered : (c : goal.After-faulty_line-line) → c.line_feeds-read.result ≡ feeds c.args.bytes.now c.input_of.new.lines
-numbered c = c.line_feeds-read.ensures ∙ ap (λ n. count_by (λ b. b == LINE_FEED) (take (length c.args.bytes.now - n) c.args.bytes.now)) c.len-in-Err-LineFault.ensures
+numbered : (c : goal.After-faulty_line-line) → c.occurrences-read.result ≡ feeds c.args.bytes.now c.input_of.new.lines
+numbered c = c.occurrences-read.ensures ∙ ap (λ n. count_by (λ b. b == LINE_FEED) (take (length c.args.bytes.now - n) c.args.bytes.now)) c.len-in-Err-LineFault.ensures
 
 faulty : (c : goal.After-faulty_line-line) → IsFrontFault c.args.bytes.now c.faulty_line-line.result c.in-Err-LineFault.why
-faulty c = is_front_fault c.args.bytes.now c.input_of.new.lines c.in-Err-LineFault.why (behind_numbered c) c.line_feeds-read.result c.faulty_line-line.result (numbered c) c.faulty_line-line.ensures.missing c.faulty_line-line.ensures.whole
+faulty c = is_front_fault c.args.bytes.now c.input_of.new.lines c.in-Err-LineFault.why (behind_numbered c) c.occurrences-read.result c.faulty_line-line.result (numbered c) c.faulty_line-line.ensures.missing c.faulty_line-line.ensures.whole
 
 pub returns-in-Err-LineFault-clause-read : goal.returns-in-Err-LineFault-clause-read
 returns-in-Err-LineFault-clause-read c input end short h =

@@ -45,26 +45,26 @@ returns-in_err-input-clause-faulty c number why h =
     ])
 
 pub overflow_cast-result : goal.overflow_cast-result
-overflow_cast-result c = omega (arith, c.line_feeds.ensures, few_of_input (take c.in_ok-input.end c.args.bytes.now) c.in_ok-input.input c.in_ok-input.ensures.ok.1)
+overflow_cast-result c = omega (arith, c.occurrences.ensures, few_of_input (take c.in_ok-input.end c.args.bytes.now) c.in_ok-input.input c.in_ok-input.ensures.ok.1)
 
 pub overflow_add-result : goal.overflow_add-result
-overflow_add-result c = omega (arith, c.line_feeds.ensures, few_of_input (take c.in_ok-input.end c.args.bytes.now) c.in_ok-input.input c.in_ok-input.ensures.ok.1)
+overflow_add-result c = omega (arith, c.occurrences.ensures, few_of_input (take c.in_ok-input.end c.args.bytes.now) c.in_ok-input.input c.in_ok-input.ensures.ok.1)
 
-more : (c : goal.After-drop-input-inside-then-end-bytes-8) → GoesOn c.args.bytes.now (c.line_feeds.result + 1) fault.End
-more c = goes_on c.args.bytes.now c.in_ok-input.end c.line_feeds.result c.in_ok-input.input c.if-end-bytes.true c.in_ok-input.ensures.ok.1 c.line_feeds.ensures
+more : (c : goal.After-drop-input-inside-then-end-bytes-8) → GoesOn c.args.bytes.now (c.occurrences.result + 1) fault.End
+more c = goes_on c.args.bytes.now c.in_ok-input.end c.occurrences.result c.in_ok-input.input c.if-end-bytes.true c.in_ok-input.ensures.ok.1 c.occurrences.ensures
 
 pub returns-then-end-bytes-clause-read : goal.returns-then-end-bytes-clause-read
-returns-then-end-bytes-clause-read c input h = absurd (not_both c.args.bytes.now (input, h) (c.line_feeds.result + 1, fault.End, inr (more c)))
+returns-then-end-bytes-clause-read c input h = absurd (not_both c.args.bytes.now (input, h) (c.occurrences.result + 1, fault.End, inr (more c)))
 
 pub returns-then-end-bytes-clause-refused : goal.returns-then-end-bytes-clause-refused
 returns-then-end-bytes-clause-refused c number why e =
-    let same_number : c.line_feeds.result + 1 ≡ number = cc in
+    let same_number : c.occurrences.result + 1 ≡ number = cc in
     let same_reason : fault.End ≡ why = cc in
-    subst (λ n. IsFirstFault c.args.bytes.now n why) same_number (subst (IsFirstFault c.args.bytes.now (c.line_feeds.result + 1)) same_reason (inr (more c)))
+    subst (λ n. IsFirstFault c.args.bytes.now n why) same_number (subst (IsFirstFault c.args.bytes.now (c.occurrences.result + 1)) same_reason (inr (more c)))
 
 pub returns-then-end-bytes-clause-faulty : goal.returns-then-end-bytes-clause-faulty
 returns-then-end-bytes-clause-faulty c number why h =
-    let same = one_fault c.args.bytes.now (c.line_feeds.result + 1) number fault.End why (inr (more c)) h in
+    let same = one_fault c.args.bytes.now (c.occurrences.result + 1) number fault.End why (inr (more c)) h in
     inl (λ i. refused.Line (same.0 i) (same.1 i))
 
 -- all was read

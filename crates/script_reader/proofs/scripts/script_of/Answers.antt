@@ -1,4 +1,4 @@
-use Rattle.std.proofs.Common.{◌≡◌, ℕ, true, ◌∷◌, [], ◌++◌, List, map, length, codes, Err, Some, sym, ap, subst, ◌∙◌, append_assoc, length-append, arith}
+use Rattle.std.proofs.Common.{◌≡◌, ℕ, true, ◌∷◌, [], ◌++◌, List, map, length, codes, Some, sym, ap, subst, ◌∙◌, append_assoc, length-append, arith}
 use Rattle.std.specs.List.{flat_map}
 use Rattle.std.proofs.lemmas.Bool.{le-leb}
 use Rattle.std.proofs.lemmas.List.{map-append}
@@ -10,7 +10,6 @@ use Rattle.books_model.specs.declared.limits.TheConstants.{MOST_OPERATIONS}
 use Rattle.books_model.specs.declared.script.Op.{Op}
 use Rattle.script_reader.specs.declared.fault.Fault.{Fault}
 use Rattle.script_reader.specs.declared.fault.Fault.TheVariants as fault
-use Rattle.script_reader.specs.declared.fault.Refusal.TheVariants as refusal
 use Rattle.script_reader.specs.Text.{line, operation_words, operation_lines}
 use Rattle.script_reader.specs.Input.{Submission}
 use Rattle.script_reader.specs.Inner.LinesAsWords.{lines_so_far, lines_inside}
@@ -42,9 +41,9 @@ behind_operation b range script left after words why subs name h = inside_fault_
 pub returns-in_err-words-clause-fault : goal.returns-in_err-words-clause-fault
 returns-in_err-words-clause-fault c why e subs name =
     let p = err_from_is_err_and c.from_residual.result c.from_residual.ensures.1 in
-    let same : c.in_err-words.field-0.0 ≡ refusal.LineFault why = cc (p.1, p.2, e) in
+    let same : c.in_err-words.field-0.0 ≡ why = cc (p.1, p.2, e) in
     behind_operations c.args.books.now c.ranges-2.ensures c.loop-script.script c.args.lines.now c.loop-script.lines c.words.new.self why c.loop-script.invariant.range c.loop-script.invariant.text subs name
-    (behind_end (lines_inside c.args.books.now subs name c.loop-script.script) c.loop-script.lines c.words.new.self why (c.words.ensures.end why (c.in_err-words.was ∙ ap Err same)))
+    (behind_end (lines_inside c.args.books.now subs name c.loop-script.script) c.loop-script.lines c.words.new.self why (sym same ∙ c.in_err-words.ensures.end.0, c.in_err-words.ensures.end.1, c.in_err-words.ensures.end.2))
 
 pub returns-then-is_only-clause-text : goal.returns-then-is_only-clause-text
 returns-then-is_only-clause-text c =

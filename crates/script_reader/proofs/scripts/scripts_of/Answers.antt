@@ -24,9 +24,9 @@ pub returns-in_err-words-clause-fault : goal.returns-in_err-words-clause-fault
 returns-in_err-words-clause-fault c why e =
     let v = c.loop-callers.invariant in
     let p = err_from_is_err_and c.from_residual.result c.from_residual.ensures.1 in
-    let same : c.in_err-words.field-0.0 ≡ refusal.LineFault why = cc (p.1, p.2, e) in
+    let same : c.in_err-words.field-0.0 ≡ why = cc (p.1, p.2, e) in
     behind_scripts c.args.books.now c.ranges-2.ensures v.subs c.args.lines.now c.loop-callers.lines c.words.new.self why v.valid v.text
-    (behind_end (lines_so_far c.args.books.now v.subs) c.loop-callers.lines c.words.new.self why (c.words.ensures.end why (c.in_err-words.was ∙ ap Err same)))
+    (behind_end (lines_so_far c.args.books.now v.subs) c.loop-callers.lines c.words.new.self why (sym same ∙ c.in_err-words.ensures.end.0, c.in_err-words.ensures.end.1, c.in_err-words.ensures.end.2))
 
 pub returns-then-is_only-clause-found : goal.returns-then-is_only-clause-found
 returns-then-is_only-clause-found c =
