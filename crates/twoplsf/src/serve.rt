@@ -9,10 +9,11 @@ ghost use Rattle.script_reader.specs.Grammar.{IsValidInput};
 ghost use Rattle.script_reader.specs.declared.fault.Fault.{Fault};
 ghost use Rattle.script_reader.specs.Faults.{IsFirstFault, IsFrontFault};
 ghost use Rattle.script_reader.specs.Input.{ClearingInput};
-ghost use Rattle.twoplsf.specs.Command.{IsRun, IsCheck, IsValidCommand};
+ghost use Rattle.twoplsf.specs.Command.{IsRun, IsCheck, IsDrill, IsMaking, IsReading, IsValidCommand};
 ghost use Rattle.books_report.specs.Output.{IsOutput};
 ghost use Rattle.books_report.specs.Checking.{IsFirstWrongLine};
 ghost use Rattle.twoplsf.specs.Check.{AreTwoTexts, BeginWithInput, IsCommand, differs_line};
+ghost use Rattle.twoplsf.specs.Made.{IsDrillDay, PrintsMade};
 ghost use Rattle.twoplsf.specs.Answer.{HaveInputFor, IsAnswerBy, IsDayFor, PrintsOutput, TookText, refused_line};
 
 use crate::answer::{Answer, answer_to};
@@ -93,13 +94,22 @@ pub fn serve<R: Threads + Wait + Sync, S: Source, K: Sink, G: Gate>(
         → IfSome (S.left source.old) (λ bytes. PrintsOutput (map string_bytes words.now) bytes
         (K.taken sink.old) (K.taken sink.new)) }
 
-    // The day is there exactly where scripts were run and their output was printed: then it is a day of the input by as
-    // many workers as the words say, and the text is the output for its items.
-    ensures day { IfSome result.day (λ day. IfSome (S.left source.old)
-        (λ bytes. IsDayFor (map string_bytes words.now) bytes
+    // The day is there exactly where scripts were run and their output was printed, or their sums after a drill: then it
+    // is a day of the input by as many workers as the words say, and the text of `run` is the output for its items.
+    ensures day { IsRun (map string_bytes words.now) → IfSome result.day
+        (λ day. IfSome (S.left source.old) (λ bytes. IsDayFor (map string_bytes words.now) bytes
         (K.taken sink.old) (K.taken sink.new) day)) }
+    ensures drill_day { IsDrill (map string_bytes words.now)
+        → IfSome result.day (IsDrillDay (map string_bytes words.now)) }
     ensures has_day { IsSome result.day
-        ↔ (IsRun (map string_bytes words.now) × (result.status ≡ Status.Done)) }
+        ↔ ((IsRun (map string_bytes words.now) ⊎ IsDrill (map string_bytes words.now))
+        × (result.status ≡ Status.Done)) }
+
+    // A command that makes its input reads nothing, and prints its one text: the input, or what became of it in a
+    // drill. (`made` follows from `text`.)
+    ensures unread { IsMaking (map string_bytes words.now) → source.new ≡ source.old }
+    ensures made { IsMaking (map string_bytes words.now) → result.status ≡ Status.Done
+        → PrintsMade (map string_bytes words.now) (K.taken sink.old) (K.taken sink.new) }
 
     // What the sink took: exactly the text of the status, and after a write fault a prefix of the text in whose place
     // it stands. The text says what words and bytes it is for: so a status that has one never comes with others.
@@ -122,7 +132,7 @@ pub fn serve<R: Threads + Wait + Sync, S: Source, K: Sink, G: Gate>(
         → IfSome (count_taken (S.left source.old) (S.left source.new))
         (λ n. n ≡ MOST_INPUT_BYTES + 1) }
     ensures taken { TakesAtMost (S.left source.old) (S.left source.new) (MOST_INPUT_BYTES + 1) }
-    ensures too_many { IsValidCommand (map string_bytes words.now) → IfSome (S.left source.old)
+    ensures too_many { IsReading (map string_bytes words.now) → IfSome (S.left source.old)
         (λ bytes. MOST_INPUT_BYTES < length bytes
         → (result.status ≡ Status.TooLarge) ⊎ (result.status ≡ Status.ReadFault)
         ⊎ (result.status ≡ Status.WriteFault) ⊎ (result.status ≡ Status.OutOfMemory)) }
@@ -144,7 +154,7 @@ pub fn serve<R: Threads + Wait + Sync, S: Source, K: Sink, G: Gate>(
         → Appends (K.taken sink.old) (K.taken sink.new) (refused_line number why)) }
     ensures bad_input { result.status ≡ Status.BadInput → IfSome (S.left source.old)
         (λ bytes. ¬ HaveInputFor (map string_bytes words.now) bytes) }
-    ensures no_input { IsValidCommand (map string_bytes words.now) → IfSome (S.left source.old)
+    ensures no_input { IsReading (map string_bytes words.now) → IfSome (S.left source.old)
         (λ bytes. length bytes ≤ MOST_INPUT_BYTES
         → (¬ HaveInputFor (map string_bytes words.now) bytes)
         → (result.status ≡ Status.BadInput) ⊎ (result.status ≡ Status.ReadFault)
@@ -179,6 +189,10 @@ pub fn serve<R: Threads + Wait + Sync, S: Source, K: Sink, G: Gate>(
         → (¬ Rose (K.faults sink.old) (K.faults sink.new))
         → (result.status ≡ Status.Done) ⊎ (result.status ≡ Status.Differs)
         ⊎ (result.status ≡ Status.OutOfMemory)) }
+
+    ensures complete_making { IsMaking (map string_bytes words.now)
+        → (¬ Rose (K.faults sink.old) (K.faults sink.new))
+        → (result.status ≡ Status.Done) ⊎ (result.status ≡ Status.OutOfMemory) }
 
     // Faults of the outside.
     ensures read_fault { result.status ≡ Status.ReadFault
