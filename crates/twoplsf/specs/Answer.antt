@@ -13,8 +13,8 @@ use Rattle.books_report.specs.Output.{IsOutput, output_of}
 use Rattle.worker_pool.specs.declared.done.DayEnd.{DayEnd}
 use Rattle.twoplsf.specs.Day.{IsDayOf, journal_of}
 use Rattle.twoplsf.specs.declared.limits.TheConstants.{MOST_INPUT_BYTES}
-use Rattle.twoplsf.specs.declared.command.Command.{Command}
-use Rattle.twoplsf.specs.declared.command.Command.TheVariants as command
+use Rattle.twoplsf.specs.declared.command.Reading.{Reading}
+use Rattle.twoplsf.specs.declared.command.Reading.TheVariants as reading
 use Rattle.twoplsf.specs.declared.status.Status.{Status}
 use Rattle.twoplsf.specs.declared.status.Status.TheVariants as status
 use Rattle.twoplsf.specs.declared.answer.Answer.{Answer}
@@ -92,9 +92,9 @@ IsCheckOf bytes (Difference text) = (n : ℕ) × HoldWrongLine bytes n × (text.
 IsCheckOf bytes (Refusal text) = IsRefusalOfFront bytes text.items
 
 -- the answer of a command to bytes
-abbrev pub IsAnswerBy : Command → List ℕ → Answer → Type 0
-IsAnswerBy (command.Run workers) bytes answer = IsAnswerTo workers bytes answer
-IsAnswerBy command.Check bytes answer = IsCheckOf bytes answer
+abbrev pub IsAnswerBy : Reading → List ℕ → Answer → Type 0
+IsAnswerBy (reading.Run workers) bytes answer = IsAnswerTo workers bytes answer
+IsAnswerBy reading.Check bytes answer = IsCheckOf bytes answer
 
 -- what a command that did its work prints: an output, or that the text behind the input is one
 abbrev pub IsDoneText : List (List ℕ) → List ℕ → List ℕ → Type 0

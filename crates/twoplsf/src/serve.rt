@@ -12,14 +12,17 @@ ghost use Rattle.script_reader.specs.Input.{ClearingInput};
 ghost use Rattle.twoplsf.specs.Command.{IsRun, IsCheck, IsDrill, IsMaking, IsReading, IsValidCommand};
 ghost use Rattle.books_report.specs.Output.{IsOutput};
 ghost use Rattle.books_report.specs.Checking.{IsFirstWrongLine};
-ghost use Rattle.twoplsf.specs.Check.{AreTwoTexts, BeginWithInput, IsCommand, differs_line};
+ghost use Rattle.twoplsf.specs.Commands.{IsMakingBy, IsReadingBy};
+ghost use Rattle.twoplsf.specs.Check.{AreTwoTexts, BeginWithInput, differs_line};
 ghost use Rattle.twoplsf.specs.Made.{IsDrillDay, PrintsMade};
+ghost use Rattle.twoplsf.specs.Making.{IsMakingDay, RunsScripts, making_text};
 ghost use Rattle.twoplsf.specs.Answer.{HaveInputFor, IsAnswerBy, IsDayFor, PrintsOutput, TookText, refused_line};
 
 use crate::answer::{Answer, answer_to};
 use crate::check::check_answer;
-use crate::command::{Command, command_of};
+use crate::command::{Command, Making, Reading, command_of};
 use crate::limits::MOST_INPUT_BYTES;
+use crate::making::made_answer;
 use crate::status::Status;
 use books_report::limits::RESTARTS_BELOW;
 use io_ends::{OutOfMemory, ReadStop, Sink, Source, read_all, write_all_of};
@@ -61,24 +64,55 @@ fn day_after(status: Status, day: Option<DayEnd>) -> Option<DayEnd>
 fn answer_by<R: Threads + Wait + Sync, G: Gate>(
     rt: &R,
     alloc: Global,
-    command: Command,
+    reading: Reading,
     bytes: &[u8],
     gate: &G,
 ) -> Result<Answer, OutOfMemory>
-    requires { (words : List (List ℕ)) × IsCommand words command }
-    ensures { IfOk result (IsAnswerBy command bytes.now) }
+    requires { (words : List (List ℕ)) × IsReadingBy words reading }
+    ensures { IfOk result (IsAnswerBy reading bytes.now) }
 {
-    match command {
-        Command::Run(workers) => answer_to(rt, alloc, bytes, workers, gate),
-        Command::Check => check_answer(alloc, bytes),
+    match reading {
+        Reading::Run(workers) => answer_to(rt, alloc, bytes, workers, gate),
+        Reading::Check => check_answer(alloc, bytes),
+    }
+}
+
+/// Does what a command that makes its input asks for: prints the text, which is all made before the first write.
+fn serve_making<R: Threads + Wait + Sync, K: Sink, G: Gate>(
+    rt: &R,
+    alloc: Global,
+    making: Making,
+    sink: &mut K,
+    gate: &G,
+) -> Served
+    requires { (words : List (List ℕ)) × IsMakingBy words making }
+    ensures text { ((result.status ≡ Status.Done)
+        × Appends (K.taken sink.old) (K.taken sink.new) (making_text making))
+        ⊎ ((result.status ≡ Status.WriteFault) × Rose (K.faults sink.old) (K.faults sink.new)
+        × AppendsPrefix (K.taken sink.old) (K.taken sink.new) (making_text making))
+        ⊎ ((result.status ≡ Status.OutOfMemory) × (sink.new ≡ sink.old)) }
+    ensures day { IfSome result.day (IsMakingDay making) }
+    ensures has_day { IsSome result.day ↔ (RunsScripts making × (result.status ≡ Status.Done)) }
+{
+    match made_answer(rt, alloc, making, gate) {
+        Ok(made) => {
+            let status = finish(sink, &made.text, Status::Done);
+            let day = day_after(status, made.day);
+            Served { status, day }
+        }
+        Err(_) => {
+            let status = Status::OutOfMemory;
+            Served { status, day: None }
+        }
     }
 }
 
 /// Does what the words say: `run W` reads an input from the source, runs each of its scripts as one transaction on one
 /// of W threads, and writes the journal and the closing books to the sink; `check` reads an input and a text behind it,
-/// and writes whether that is an output of the input, or its first wrong line. `run` may wait: that a wait ends, no
-/// clause says. Every text is made before the first write. Faults are looked
-/// for in the order words, read, size, input; out of memory may come before any of them but words.
+/// and writes whether that is an output of the input, or its first wrong line. `make` and `drill` read nothing: the one
+/// writes the input that a seed gives, the other runs it, checks the output, and writes what the closing books come to.
+/// `run` and `drill` may wait: that a wait ends, no clause says. Every text is made before the first write. Faults are
+/// looked for in the order words, read, size, input; out of memory may come before any of them but words.
 pub fn serve<R: Threads + Wait + Sync, S: Source, K: Sink, G: Gate>(
     rt: &R,
     alloc: Global,
@@ -205,6 +239,10 @@ pub fn serve<R: Threads + Wait + Sync, S: Source, K: Sink, G: Gate>(
         let status = finish(sink, b"refused words\n", Status::BadWords);
         return Served { status, day: None };
     };
+    let reading = match command {
+        Command::Read(reading) => reading,
+        Command::Make(making) => return serve_making(rt, alloc, making, sink, gate),
+    };
     let bytes = match read_all(alloc, source, MOST_INPUT_BYTES) {
         Ok(bytes) => bytes,
         Err(ReadStop::Fault) => {
@@ -220,7 +258,7 @@ pub fn serve<R: Threads + Wait + Sync, S: Source, K: Sink, G: Gate>(
             return Served { status, day: None };
         }
     };
-    match answer_by(rt, alloc, command, &bytes, gate) {
+    match answer_by(rt, alloc, reading, &bytes, gate) {
         Ok(Answer::Output { text, day }) => {
             let status = finish(sink, &text, Status::Done);
             let day = day_after(status, day);
