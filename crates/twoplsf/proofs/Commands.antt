@@ -1,48 +1,89 @@
--- Command lines of two words.
-use Rattle.std.proofs.Common.{◌≡◌, ◌<◌, ℕ, min, List, [], ◌∷◌, map, length, get_or, codes, refl, sym, ap, ◌∙◌, subst, arith, Option, Some}
+-- Command lines of a few words.
+use Rattle.std.proofs.Common.{◌≡◌, ◌<◌, ℕ, min, List, [], ◌∷◌, map, length, get_or, codes, refl, sym, ap, ◌∙◌, subst, arith, Option, Some, None, IfNone}
 use Rattle.std.specs.Option.{SomeIff}
 use Rattle.std.specs.Str.Parse.{digits_value}
 use Rattle.books_model.specs.Ranges.{IsWithin}
+use Rattle.script_reader.specs.declared.limits.TheConstants.{MOST_WORKERS}
 use Rattle.script_reader.specs.Number.{IsNumber}
 use Rattle.script_reader.specs.Text.{number}
-use Rattle.script_reader.specs.declared.limits.TheConstants.{MOST_WORKERS}
-use Rattle.twoplsf.specs.Command.{IsRun, IsRunCommand}
-use Rattle.script_reader.proofs.Numerals.{number_is_read, read_is}
+use Rattle.script_reader.proofs.Numerals.{read_is}
+use Rattle.twoplsf.specs.Command.{IsRunCommand, IsMakeCommand, IsDrillCommand}
+use Rattle.twoplsf.specs.Commands.{ArePlanned}
 
--- two elements are the whole of a list of length 2
-two_of : {A : Type 0} (f : A → List ℕ) (xs : List A) (x y : A) → length xs ≡ 2 → x ≡ get_or xs 0 x → y ≡ get_or xs 1 y → map f xs ≡ f x ∷ f y ∷ []
-two_of f [] x y two first second = absurd (omega arith)
-two_of f (a ∷ []) x y two first second = absurd (omega arith)
-two_of f (a ∷ b ∷ []) x y two first second = rw (sym first, sym second) refl
-two_of f (a ∷ b ∷ c ∷ xs) x y two first second = absurd (omega arith)
-
--- one element is the whole of a list of length 1
+-- a list of a known length is its elements
 pub one_of : {A : Type 0} (f : A → List ℕ) (xs : List A) (x : A) → length xs ≡ 1 → x ≡ get_or xs 0 x → map f xs ≡ f x ∷ []
 one_of f [] x one first = absurd (omega arith)
 one_of f (a ∷ []) x one first = rw (sym first) refl
 one_of f (a ∷ b ∷ xs) x one first = absurd (omega arith)
 
-number_of : (r : Option ℕ) (word : List ℕ) (w : ℕ) → SomeIff r (IsNumber word) (min (digits_value 10 word) 18446744073709551615) → r ≡ Some w → w < 18446744073709551615 → word ≡ number w
+pub two_of : {A : Type 0} (f : A → List ℕ) (xs : List A) (x y : A) → length xs ≡ 2 → x ≡ get_or xs 0 x → y ≡ get_or xs 1 y → map f xs ≡ f x ∷ f y ∷ []
+two_of f [] x y two first second = absurd (omega arith)
+two_of f (a ∷ xs) x y two first second = rw (sym first) (ap (λ ws. f x ∷ ws) (one_of f xs y (omega arith) second))
+
+three_of : {A : Type 0} (f : A → List ℕ) (xs : List A) (x y z : A) → length xs ≡ 3 → x ≡ get_or xs 0 x → y ≡ get_or xs 1 y → z ≡ get_or xs 2 z → map f xs ≡ f x ∷ f y ∷ f z ∷ []
+three_of f [] x y z three first second third = absurd (omega arith)
+three_of f (a ∷ xs) x y z three first second third = rw (sym first) (ap (λ ws. f x ∷ ws) (two_of f xs y z (omega arith) second third))
+
+pub four_of : {A : Type 0} (f : A → List ℕ) (xs : List A) (x y z u : A) → length xs ≡ 4 → x ≡ get_or xs 0 x → y ≡ get_or xs 1 y → z ≡ get_or xs 2 z → u ≡ get_or xs 3 u
+    → map f xs ≡ f x ∷ f y ∷ f z ∷ f u ∷ []
+four_of f [] x y z u four first second third fourth = absurd (omega arith)
+four_of f (a ∷ xs) x y z u four first second third fourth = rw (sym first) (ap (λ ws. f x ∷ ws) (three_of f xs y z u (omega arith) second third fourth))
+
+pub five_of : {A : Type 0} (f : A → List ℕ) (xs : List A) (x y z u v : A) → length xs ≡ 5 → x ≡ get_or xs 0 x → y ≡ get_or xs 1 y → z ≡ get_or xs 2 z → u ≡ get_or xs 3 u → v ≡ get_or xs 4 v
+    → map f xs ≡ f x ∷ f y ∷ f z ∷ f u ∷ f v ∷ []
+five_of f [] x y z u v five first second third fourth fifth = absurd (omega arith)
+five_of f (a ∷ xs) x y z u v five first second third fourth fifth = rw (sym first) (ap (λ ws. f x ∷ ws) (four_of f xs y z u v (omega arith) second third fourth fifth))
+
+-- what was read of a word is its number
+pub number_of : (r : Option ℕ) (word : List ℕ) (w : ℕ) → SomeIff r (IsNumber word) (min (digits_value 10 word) 18446744073709551615) → r ≡ Some w → w < 18446744073709551615 → word ≡ number w
 number_of r word w reads is few = by_some (subst (λ o. SomeIff o (IsNumber word) (min (digits_value 10 word) 18446744073709551615)) is reads)
   where
     by_some : IsNumber word × (w ≡ min (digits_value 10 word) 18446744073709551615) → word ≡ number w
     by_some h = read_is word w (h.0, sym h.1) few
 
-module _ {A : Type 0} (f : A → List ℕ) (words : List A) (run workers : A) (two : length words ≡ 2) (first : run ≡ get_or words 0 run) (second : workers ≡ get_or words 1 workers)
-    (r : Option ℕ) (reads : SomeIff r (IsNumber (f workers)) (min (digits_value 10 (f workers)) 18446744073709551615)) where
-  -- `run` and a number of workers are a command
-  pub is_command : f run ≡ codes "run" → (w : ℕ) → r ≡ Some w → IsWithin 1 MOST_WORKERS w → IsRunCommand (map f words) w
-  is_command h w is range =
-      let second_is : f workers ≡ number w = number_of r (f workers) w reads is (omega (arith, range.1)) in
-      record { words_are = two_of f words run workers two first second ∙ ap (λ x. x ∷ f workers ∷ []) h ∙ ap (λ y. codes "run" ∷ y ∷ []) second_is; range = range }
+-- the words of `run`, and of commands that make their input
+pub run_command : (words : List (List ℕ)) (word : List ℕ) → words ≡ codes "run" ∷ word ∷ [] → (w : ℕ) → (word ≡ number w) × IsWithin 1 MOST_WORKERS w → IsRunCommand words w
+run_command words word are w h = record { words_are = are ∙ (λ i. codes "run" ∷ h.0 i ∷ []); range = h.1 }
 
-  -- where the second word is no number in the range, they are none
-  pub no_command : ((w : ℕ) → r ≡ Some w → IsWithin 1 MOST_WORKERS w → ⊥) → IsRun (map f words) → ⊥
-  no_command none valid =
-      let w : ℕ = valid.0 in
-      let same : f run ∷ f workers ∷ [] ≡ codes "run" ∷ number w ∷ [] = sym (two_of f words run workers two first second) ∙ valid.1.words_are in
-      let last : f workers ≡ number w = cc in
-      none w (number_is_read r (f workers) w reads (omega (arith, valid.1.range.1)) last) valid.1.range
+pub run_word : (words : List (List ℕ)) (word : List ℕ) → words ≡ codes "run" ∷ word ∷ [] → (w : ℕ) → IsRunCommand words w → word ≡ number w
+run_word words word are w is = let same : codes "run" ∷ word ∷ [] ≡ codes "run" ∷ number w ∷ [] = sym are ∙ is.words_are in cc
+
+module _ (words : List (List ℕ)) (seed callers scripts : List ℕ) where
+  pub make_command : words ≡ codes "make" ∷ seed ∷ callers ∷ scripts ∷ [] → (s c n : ℕ) → ArePlanned seed callers scripts s c n → IsMakeCommand words s c n
+  make_command are s c n p = record { words_are = are ∙ (λ i. codes "make" ∷ p.seed_is i ∷ p.callers_is i ∷ p.scripts_is i ∷ []); range = p.range }
+
+  pub make_plan : words ≡ codes "make" ∷ seed ∷ callers ∷ scripts ∷ [] → (s c n : ℕ) → IsMakeCommand words s c n → ArePlanned seed callers scripts s c n
+  make_plan are s c n is =
+      let same : codes "make" ∷ seed ∷ callers ∷ scripts ∷ [] ≡ codes "make" ∷ number s ∷ number c ∷ number n ∷ [] = sym are ∙ is.words_are in
+      record { seed_is = cc; callers_is = cc; scripts_is = cc; range = is.range }
+
+  module _ (workers : List ℕ) (are : words ≡ codes "drill" ∷ workers ∷ seed ∷ callers ∷ scripts ∷ []) where
+    pub drill_command : (w s c n : ℕ) → (workers ≡ number w) × IsWithin 1 MOST_WORKERS w → ArePlanned seed callers scripts s c n → IsDrillCommand words w s c n
+    drill_command w s c n h p = record {
+      words_are = are ∙ (λ i. codes "drill" ∷ h.0 i ∷ p.seed_is i ∷ p.callers_is i ∷ p.scripts_is i ∷ []);
+      workers_range = h.1;
+      range = p.range;
+    }
+
+    pub drill_workers : (w s c n : ℕ) → IsDrillCommand words w s c n → workers ≡ number w
+    drill_workers w s c n is =
+        let same : codes "drill" ∷ workers ∷ seed ∷ callers ∷ scripts ∷ [] ≡ codes "drill" ∷ number w ∷ number s ∷ number c ∷ number n ∷ [] = sym are ∙ is.words_are in
+        cc
+
+    pub drill_plan : (w s c n : ℕ) → IsDrillCommand words w s c n → ArePlanned seed callers scripts s c n
+    drill_plan w s c n is =
+        let same : codes "drill" ∷ workers ∷ seed ∷ callers ∷ scripts ∷ [] ≡ codes "drill" ∷ number w ∷ number s ∷ number c ∷ number n ∷ [] = sym are ∙ is.words_are in
+        record { seed_is = cc; callers_is = cc; scripts_is = cc; range = is.range }
+
+-- what follows where there is no value
+pub if_none : {X : Type 0} (r : Option X) (P Q : Type 0) → (P → Q) → IfNone r P → IfNone r Q
+if_none None P Q f h = f h
+if_none (Some x) P Q f h = tt
+
+-- what holds at all does so where there is no value
+pub in_none : {X : Type 0} (r : Option X) (P : Type 0) → P → IfNone r P
+in_none None P h = h
+in_none (Some x) P h = tt
 
 -- one option has one value
 pub other_some : (r : Option ℕ) (x y : ℕ) → r ≡ Some x → r ≡ Some y → x ≡ y

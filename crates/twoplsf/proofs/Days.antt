@@ -10,12 +10,10 @@ use Rattle.books_report.specs.declared.line.Line.{Line}
 use Rattle.books_report.specs.Output.{Ran, places_of, replies_of, books_after, text_of, output_of, IsOutput}
 use Rattle.books_report.specs.Lines.{scripts_of}
 use Rattle.books_report.specs.Lines as lines
-use Rattle.txn_books.specs.Statements.{OneBooks}
-use Rattle.txn_books.specs.Standing.{Stands}
 use Rattle.worker_pool.specs.declared.done.Done.{Done}
 use Rattle.worker_pool.specs.declared.done.DayEnd.{DayEnd}
 use Rattle.worker_pool.specs.Days as days
-use Rattle.twoplsf.specs.Day.{ran_of, line_of, journal_of, IsDayOf}
+use Rattle.twoplsf.specs.Day.{ran_of, line_of, journal_of, closing_books, IsDayOf}
 
 -- the places of a journal are those of its items
 places_same : (done : List Done) → places_of (map ran_of done) ≡ days.places_of done
@@ -45,15 +43,13 @@ module _ (input : ClearingInput) (workers : ℕ) (day : DayEnd) (is : IsDayOf in
       All-from_map : (done : List Done) → All (IsPlace input) (days.places_of done) → All (λ (item : Done). IsPlace input (days.place_of item)) done
       All-from_map done all k d lt = subst (IsPlace input) (get_or-map days.place_of done k d (days.place_of d) lt) (all k (days.place_of d) (subst (λ n. k < n) (sym (length-map done days.place_of)) lt))
 
-  -- the books that are read of the closed words close the output
-  pub text_is : (one : OneBooks) (text : List ℕ) (lines : List Line) (replies : List Reply) (closing : ClearingBooks)
-      → lines ≡ map line_of day.done.items → replies ≡ map (λ (item : Done). item.reply) day.done.items → Stands day.closed.shape day.closed.words closing
+  -- the books that it left close the output
+  pub text_is : (text : List ℕ) (lines : List Line) (replies : List Reply) (closing : ClearingBooks)
+      → lines ≡ map line_of day.done.items → replies ≡ map (λ (item : Done). item.reply) day.done.items → closing ≡ closing_books input day
       → text ≡ text_of input (scripts_of lines replies) closing → text ≡ output_of input (journal_of day)
-  text_is one text lines replies closing lines_are replies_are found told =
+  text_is text lines replies closing lines_are replies_are closed told =
       let scripts : scripts_of lines replies ≡ journal_of day = (λ i. scripts_of (lines_are i) (replies_are i)) ∙ beside day.done.items in
-      let left : closing ≡ books_after input input.books (days.places_of day.done.items) =
-      one day.closed.shape day.closed.words closing (books_after input input.books (days.places_of day.done.items)) found is.is_day.left in
-      let books : closing ≡ books_after input input.books (places_of (journal_of day)) = left ∙ ap (books_after input input.books) (sym (places_same day.done.items)) in
+      let books : closing ≡ books_after input input.books (places_of (journal_of day)) = closed ∙ ap (books_after input input.books) (sym (places_same day.done.items)) in
       told ∙ (λ i. text_of input (scripts i) (books i))
 
   -- the text for the items of a day is an output, with each number of restarts below that of the workers

@@ -1,3 +1,6 @@
 pub mod Days
 pub mod Commands
+pub mod Summing
+pub mod Drills
+pub mod Makings
 pub mod Served

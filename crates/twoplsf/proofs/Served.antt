@@ -4,7 +4,7 @@ use Rattle.std.specs.Io.KnownBytes.{Appends, Consumes, IsAtEnd}
 use Rattle.io_ends.specs.Taken.{AppendsPrefix, TakesAtMost}
 use Rattle.script_reader.specs.Input.{ClearingInput}
 use Rattle.script_reader.specs.Grammar.{Spells}
-use Rattle.twoplsf.specs.Command.{IsRun, IsCheck, IsValidCommand}
+use Rattle.twoplsf.specs.Command.{IsRun, IsCheck, IsDrill, IsMaking, IsReading}
 use Rattle.script_reader.proofs.Deciding.{not_both, front_not_both, fronts_once}
 use Rattle.script_reader.proofs.OneInput.{one_input}
 use Rattle.books_report.specs.declared.limits.TheConstants.{RESTARTS_BELOW}
@@ -14,9 +14,10 @@ use Rattle.books_report.proofs.Wrong.{one_wrong, none_of_output}
 use Rattle.twoplsf.specs.declared.answer.Answer.TheVariants.{Output, Difference, Refusal}
 use Rattle.worker_pool.specs.declared.done.DayEnd.{DayEnd}
 use Rattle.twoplsf.proofs.Days.{day_output}
-use Rattle.twoplsf.specs.declared.command.Command.{Command}
-use Rattle.twoplsf.specs.declared.command.Command.TheVariants as command
-use Rattle.twoplsf.specs.Check.{IsCommand, AreTwoTexts, differs_line}
+use Rattle.twoplsf.specs.declared.command.Reading.{Reading}
+use Rattle.twoplsf.specs.declared.command.Reading.TheVariants as reading
+use Rattle.twoplsf.specs.Commands.{IsReadingBy}
+use Rattle.twoplsf.specs.Check.{AreTwoTexts, differs_line}
 use Rattle.twoplsf.specs.declared.status.Status.{Status}
 use Rattle.twoplsf.specs.declared.status.Status.TheVariants as status
 use Rattle.twoplsf.specs.Answer.{IsDayFor, IsOutputFor, IsAnswerBy, IsDoneText, IsDifferenceFor, IsRefusalOf, IsRefusalOfFront, IsRefusalFor, HaveInputFor, IsTextFor, TookText}
@@ -40,25 +41,32 @@ nothing_taken (Some bytes) most = ([], refl, omega arith)
 pub run_not_check : (words : List (List ℕ)) → IsRun words → IsCheck words → ⊥
 run_not_check words run check = omega (arith, ap length run.1.words_are, ap length check)
 
--- the words of a command are valid
-pub valid_command : (words : List (List ℕ)) (c : Command) → IsCommand words c → IsValidCommand words
-valid_command words (command.Run w) is = inl (w, is)
-valid_command words command.Check is = inr is
+-- the words of a command that reads are not those of one that makes its input
+pub read_not_made : (words : List (List ℕ)) → IsReading words → IsMaking words → ⊥
+read_not_made words (inl run) (inl make) = omega (arith, ap length run.1.words_are, ap length make.3.words_are)
+read_not_made words (inl run) (inr drill) = omega (arith, ap length run.1.words_are, ap length drill.4.words_are)
+read_not_made words (inr check) (inl make) = omega (arith, ap length check, ap length make.3.words_are)
+read_not_made words (inr check) (inr drill) = omega (arith, ap length check, ap length drill.4.words_are)
+
+-- the words of a command that reads
+pub reading_is : (words : List (List ℕ)) (r : Reading) → IsReadingBy words r → IsReading words
+reading_is words (reading.Run w) is = inl (w, is)
+reading_is words reading.Check is = inr is
 
 -- the answer to the bytes that were read, by the words
-pub done_text : (words : List (List ℕ)) (c : Command) (bytes : List ℕ) (text : Vec ℕ Global) (day : Option DayEnd) → IsCommand words c → IsAnswerBy c bytes (Output text day) → IsDoneText words bytes text.items
-done_text words (command.Run w) bytes text day is answer =
+pub done_text : (words : List (List ℕ)) (r : Reading) (bytes : List ℕ) (text : Vec ℕ Global) (day : Option DayEnd) → IsReadingBy words r → IsAnswerBy r bytes (Output text day) → IsDoneText words bytes text.items
+done_text words (reading.Run w) bytes text day is answer =
     inl (record { workers = w; command = is; input = answer.0; spelled = answer.1; output = day_output answer.0 w answer.2.ended answer.2.of_input text.items answer.2.text_is })
-done_text words command.Check bytes text day is answer = inr (is, answer.0, answer.1)
+done_text words reading.Check bytes text day is answer = inr (is, answer.0, answer.1)
 
-pub done_input : (words : List (List ℕ)) (c : Command) (bytes : List ℕ) (text : Vec ℕ Global) (day : Option DayEnd) → IsCommand words c → IsAnswerBy c bytes (Output text day) → HaveInputFor words bytes
-done_input words (command.Run w) bytes text day is answer = inl ((w, is), (answer.0, answer.1))
-done_input words command.Check bytes text day is answer = inr (is, record { input = answer.0.input; text = answer.0.text; two = answer.0.two })
+pub done_input : (words : List (List ℕ)) (r : Reading) (bytes : List ℕ) (text : Vec ℕ Global) (day : Option DayEnd) → IsReadingBy words r → IsAnswerBy r bytes (Output text day) → HaveInputFor words bytes
+done_input words (reading.Run w) bytes text day is answer = inl ((w, is), (answer.0, answer.1))
+done_input words reading.Check bytes text day is answer = inr (is, record { input = answer.0.input; text = answer.0.text; two = answer.0.two })
 
 -- the day of an answer is one for the words, and its text the output
-pub day_of : (words : List (List ℕ)) (c : Command) (bytes : List ℕ) (text : Vec ℕ Global) (day : Option DayEnd) (before now : Option (List ℕ)) → IsCommand words c → IsAnswerBy c bytes (Output text day)
+pub day_of : (words : List (List ℕ)) (r : Reading) (bytes : List ℕ) (text : Vec ℕ Global) (day : Option DayEnd) (before now : Option (List ℕ)) → IsReadingBy words r → IsAnswerBy r bytes (Output text day)
     → Appends before now text.items → IfSome day (IsDayFor words bytes before now)
-day_of words (command.Run w) bytes text day before now is answer printed =
+day_of words (reading.Run w) bytes text day before now is answer printed =
     subst (λ (d : Option DayEnd). IfSome d (IsDayFor words bytes before now)) (sym answer.2.day_is) (record {
       workers = w;
       command = is;
@@ -67,15 +75,19 @@ day_of words (command.Run w) bytes text day before now is answer printed =
       day_is = answer.2.of_input;
       printed = subst (Appends before now) answer.2.text_is printed;
     })
-day_of words command.Check bytes text day before now is answer printed = subst (λ (d : Option DayEnd). IfSome d (IsDayFor words bytes before now)) (sym answer.2) tt
+day_of words reading.Check bytes text day before now is answer printed = subst (λ (d : Option DayEnd). IfSome d (IsDayFor words bytes before now)) (sym answer.2) tt
 
-none_there : IsSome {T = DayEnd} None → ⊥
+pub none_there : IsSome {T = DayEnd} None → ⊥
 none_there h = true≢false (sym h)
 
 -- it is there where scripts were run
-pub has_day : (words : List (List ℕ)) (c : Command) (bytes : List ℕ) (text : Vec ℕ Global) (day : Option DayEnd) → IsCommand words c → IsAnswerBy c bytes (Output text day) → IsSome day ↔ IsRun words
-has_day words (command.Run w) bytes text day is answer = (λ some. (w, is), λ run. subst IsSome (sym answer.2.day_is) refl)
-has_day words command.Check bytes text day is answer = (λ some. absurd (none_there (subst IsSome answer.2 some)), λ run. absurd (run_not_check words run is))
+pub has_day : (words : List (List ℕ)) (r : Reading) (bytes : List ℕ) (text : Vec ℕ Global) (day : Option DayEnd) → IsReadingBy words r → IsAnswerBy r bytes (Output text day) → IsSome day ↔ (IsRun words ⊎ IsDrill words)
+has_day words (reading.Run w) bytes text day is answer = (λ some. inl (w, is), λ run. subst IsSome (sym answer.2.day_is) refl)
+has_day words reading.Check bytes text day is answer = (λ some. absurd (none_there (subst IsSome answer.2 some)), not_there)
+  where
+    not_there : IsRun words ⊎ IsDrill words → IsSome day
+    not_there (inl run) = absurd (run_not_check words run is)
+    not_there (inr drill) = absurd (read_not_made words (inr is) (inr drill))
 
 -- after a text was written or not, the day is there only where it was
 pub day_kept : (result : Status) (day kept : Option DayEnd) (W R F : Type 0) (P : DayEnd → Type 0) → (result ≡ status.Done → kept ≡ day) → (result ≢ status.Done → kept ≡ None)
@@ -89,16 +101,16 @@ day_there result day kept W R F run done other (inl h) has = (λ some. (has.0 (s
 day_there result day kept W R F run done other (inr h) has =
     (λ some. absurd (none_there (subst IsSome (other (λ e. let same : status.WriteFault ≡ status.Done = sym h.0 ∙ e in cc)) some)), λ both. subst IsSome (sym (done both.1)) (has.1 both.0))
 
-pub difference_text : (words : List (List ℕ)) (c : Command) (bytes : List ℕ) (text : Vec ℕ Global) → IsCommand words c → IsAnswerBy c bytes (Difference text) → IsDifferenceFor words bytes text.items
-difference_text words (command.Run w) bytes text is answer = absurd answer
-difference_text words command.Check bytes text is answer = (is, answer)
+pub difference_text : (words : List (List ℕ)) (r : Reading) (bytes : List ℕ) (text : Vec ℕ Global) → IsReadingBy words r → IsAnswerBy r bytes (Difference text) → IsDifferenceFor words bytes text.items
+difference_text words (reading.Run w) bytes text is answer = absurd answer
+difference_text words reading.Check bytes text is answer = (is, answer)
 
 pub difference_input : (words : List (List ℕ)) (bytes text : List ℕ) → IsDifferenceFor words bytes text → HaveInputFor words bytes
 difference_input words bytes text d = inr (d.0, record { input = d.1.1.input; text = d.1.1.text; two = d.1.1.two })
 
-pub refusal_text : (words : List (List ℕ)) (c : Command) (bytes : List ℕ) (text : Vec ℕ Global) → IsCommand words c → IsAnswerBy c bytes (Refusal text) → IsRefusalFor words bytes text.items
-refusal_text words (command.Run w) bytes text is answer = inl ((w, is), answer)
-refusal_text words command.Check bytes text is answer = inr (is, answer)
+pub refusal_text : (words : List (List ℕ)) (r : Reading) (bytes : List ℕ) (text : Vec ℕ Global) → IsReadingBy words r → IsAnswerBy r bytes (Refusal text) → IsRefusalFor words bytes text.items
+refusal_text words (reading.Run w) bytes text is answer = inl ((w, is), answer)
+refusal_text words reading.Check bytes text is answer = inr (is, answer)
 
 -- an output for `run W`
 pub output_of_run : (words : List (List ℕ)) (bytes text : List ℕ) → IsRun words → IsDoneText words bytes text → IsOutputFor words bytes text

@@ -8,18 +8,19 @@ use Rattle.script_reader.specs.FaultWords.{fault_word}
 use Rattle.script_reader.specs.Input.{ClearingInput}
 use Rattle.script_reader.specs.Grammar.{Spells, IsValidInput}
 use Rattle.script_reader.specs.Faults.{IsFirstFault, IsFrontFault}
-use Rattle.twoplsf.specs.Command.{IsRun, IsRunCommand, IsCheck, IsValidCommand}
+use Rattle.twoplsf.specs.Command.{IsRun, IsRunCommand, IsCheck, IsReading, IsValidCommand}
 use Rattle.books_report.specs.Output.{IsOutput, output_of}
 use Rattle.worker_pool.specs.declared.done.DayEnd.{DayEnd}
 use Rattle.twoplsf.specs.Day.{IsDayOf, journal_of}
 use Rattle.twoplsf.specs.declared.limits.TheConstants.{MOST_INPUT_BYTES}
-use Rattle.twoplsf.specs.declared.command.Command.{Command}
-use Rattle.twoplsf.specs.declared.command.Command.TheVariants as command
+use Rattle.twoplsf.specs.declared.command.Reading.{Reading}
+use Rattle.twoplsf.specs.declared.command.Reading.TheVariants as reading
 use Rattle.twoplsf.specs.declared.status.Status.{Status}
 use Rattle.twoplsf.specs.declared.status.Status.TheVariants as status
 use Rattle.twoplsf.specs.declared.answer.Answer.{Answer}
 use Rattle.twoplsf.specs.declared.answer.Answer.TheVariants.{Output, Difference, Refusal}
 use Rattle.twoplsf.specs.Check.{BeginWithInput, HoldOutput, HoldWrongLine, agrees_line, differs_line}
+use Rattle.twoplsf.specs.Made.{IsMadeText}
 
 -- the words are `run W`, the bytes are the text of an input, and this text is an output of that input with each number of restarts below W
 pub record IsOutputFor (words : List (List ℕ)) (bytes text : List ℕ) : Type 0 where
@@ -91,9 +92,9 @@ IsCheckOf bytes (Difference text) = (n : ℕ) × HoldWrongLine bytes n × (text.
 IsCheckOf bytes (Refusal text) = IsRefusalOfFront bytes text.items
 
 -- the answer of a command to bytes
-abbrev pub IsAnswerBy : Command → List ℕ → Answer → Type 0
-IsAnswerBy (command.Run workers) bytes answer = IsAnswerTo workers bytes answer
-IsAnswerBy command.Check bytes answer = IsCheckOf bytes answer
+abbrev pub IsAnswerBy : Reading → List ℕ → Answer → Type 0
+IsAnswerBy (reading.Run workers) bytes answer = IsAnswerTo workers bytes answer
+IsAnswerBy reading.Check bytes answer = IsCheckOf bytes answer
 
 -- what a command that did its work prints: an output, or that the text behind the input is one
 abbrev pub IsDoneText : List (List ℕ) → List ℕ → List ℕ → Type 0
@@ -113,11 +114,13 @@ HaveInputFor words bytes = (IsRun words × IsValidInput bytes) ⊎ (IsCheck word
 
 -- a text goes with a status, by the words and by what the source had left and has left now
 abbrev pub IsTextFor : Status → List (List ℕ) → Option (List ℕ) → Option (List ℕ) → List ℕ → Type 0
-IsTextFor status.Done words left now text = IsValidCommand words × IsAtEnd now × IfSome left (λ bytes. (length bytes ≤ MOST_INPUT_BYTES) × IsDoneText words bytes text)
-IsTextFor status.Differs words left now text = IsValidCommand words × IsAtEnd now × IfSome left (λ bytes. (length bytes ≤ MOST_INPUT_BYTES) × IsDifferenceFor words bytes text)
+IsTextFor status.Done words left now text =
+    (IsReading words × IsAtEnd now × IfSome left (λ bytes. (length bytes ≤ MOST_INPUT_BYTES) × IsDoneText words bytes text))
+    ⊎ IsMadeText words text
+IsTextFor status.Differs words left now text = IsReading words × IsAtEnd now × IfSome left (λ bytes. (length bytes ≤ MOST_INPUT_BYTES) × IsDifferenceFor words bytes text)
 IsTextFor status.BadWords words left now text = (¬ IsValidCommand words) × (text ≡ refused_words)
-IsTextFor status.BadInput words left now text = IsValidCommand words × IsAtEnd now × IfSome left (λ bytes. (length bytes ≤ MOST_INPUT_BYTES) × IsRefusalFor words bytes text)
-IsTextFor status.TooLarge words left now text = IsValidCommand words × IfSome (count_taken left now) (λ n. n ≡ MOST_INPUT_BYTES + 1) × (text ≡ refused_size)
+IsTextFor status.BadInput words left now text = IsReading words × IsAtEnd now × IfSome left (λ bytes. (length bytes ≤ MOST_INPUT_BYTES) × IsRefusalFor words bytes text)
+IsTextFor status.TooLarge words left now text = IsReading words × IfSome (count_taken left now) (λ n. n ≡ MOST_INPUT_BYTES + 1) × (text ≡ refused_size)
 IsTextFor status.ReadFault words left now text = ⊥
 IsTextFor status.WriteFault words left now text = ⊥
 IsTextFor status.OutOfMemory words left now text = ⊥

@@ -3,17 +3,9 @@ use Rattle.std.specs.Prelude.{◌≡◌, ℕ, List, [], ◌∷◌, ◌++◌, cod
 use Rattle.script_reader.specs.Text.{line, number}
 use Rattle.script_reader.specs.Input.{ClearingInput}
 use Rattle.script_reader.specs.Grammar.{Spells}
-use Rattle.twoplsf.specs.Command.{IsRunCommand, IsCheck}
 use Rattle.books_report.specs.declared.limits.TheConstants.{RESTARTS_BELOW}
 use Rattle.books_report.specs.Output.{IsOutput}
 use Rattle.books_report.specs.Checking.{IsFirstWrongLine}
-use Rattle.twoplsf.specs.declared.command.Command.{Command}
-use Rattle.twoplsf.specs.declared.command.Command.TheVariants as command
-
--- the words are those of this command
-abbrev pub IsCommand : List (List ℕ) → Command → Type 0
-IsCommand words (command.Run workers) = IsRunCommand words workers
-IsCommand words command.Check = IsCheck words
 
 -- the bytes are the text of an input and, directly behind it, another text
 pub record AreTwoTexts (bytes : List ℕ) (input : ClearingInput) (text : List ℕ) : Type 0 where

@@ -3,11 +3,23 @@ use Rattle.std.specs.Prelude.{◌≡◌, ◌⊎◌, ℕ, List, [], ◌∷◌, co
 use Rattle.books_model.specs.Ranges.{IsWithin}
 use Rattle.script_reader.specs.declared.limits.TheConstants.{MOST_WORKERS}
 use Rattle.script_reader.specs.Text.{number}
+use Rattle.input_maker.specs.Statements.{AreForMake}
 
 -- `run W`, with a number of workers
 pub record IsRunCommand (words : List (List ℕ)) (workers : ℕ) : Type 0 where
   pub words_are : words ≡ codes "run" ∷ number workers ∷ []
   pub range : IsWithin 1 MOST_WORKERS workers
+
+-- `make SEED CALLERS SCRIPTS`
+pub record IsMakeCommand (words : List (List ℕ)) (seed callers scripts : ℕ) : Type 0 where
+  pub words_are : words ≡ codes "make" ∷ number seed ∷ number callers ∷ number scripts ∷ []
+  pub range : AreForMake seed callers scripts
+
+-- `drill W SEED CALLERS SCRIPTS`
+pub record IsDrillCommand (words : List (List ℕ)) (workers seed callers scripts : ℕ) : Type 0 where
+  pub words_are : words ≡ codes "drill" ∷ number workers ∷ number seed ∷ number callers ∷ number scripts ∷ []
+  pub workers_range : IsWithin 1 MOST_WORKERS workers
+  pub range : AreForMake seed callers scripts
 
 -- `run W`, for some number of workers
 abbrev pub IsRun : List (List ℕ) → Type 0
@@ -17,6 +29,22 @@ IsRun words = (workers : ℕ) × IsRunCommand words workers
 abbrev pub IsCheck : List (List ℕ) → Type 0
 IsCheck words = words ≡ codes "check" ∷ []
 
+-- `make`, for some seed, callers and scripts
+abbrev pub IsMake : List (List ℕ) → Type 0
+IsMake words = (seed callers scripts : ℕ) × IsMakeCommand words seed callers scripts
+
+-- `drill`, for some of them
+abbrev pub IsDrill : List (List ℕ) → Type 0
+IsDrill words = (workers seed callers scripts : ℕ) × IsDrillCommand words workers seed callers scripts
+
+-- a command that reads a text
+abbrev pub IsReading : List (List ℕ) → Type 0
+IsReading words = IsRun words ⊎ IsCheck words
+
+-- a command that makes its input
+abbrev pub IsMaking : List (List ℕ) → Type 0
+IsMaking words = IsMake words ⊎ IsDrill words
+
 -- the words are those of a command
 abbrev pub IsValidCommand : List (List ℕ) → Type 0
-IsValidCommand words = IsRun words ⊎ IsCheck words
+IsValidCommand words = IsReading words ⊎ IsMaking words

@@ -4,12 +4,14 @@ use Rattle.history_model.specs.Fitting.{IsGood}
 use Rattle.history_model.specs.Legal.{IsLegalHistory}
 use Rattle.script_reader.specs.Input.{ClearingInput}
 use Rattle.books_report.specs.declared.line.Line.{Line}
-use Rattle.books_report.specs.Output.{Ran}
+use Rattle.books_model.specs.Books.{ClearingBooks}
+use Rattle.books_report.specs.Output.{Ran, books_after}
 use Rattle.txn_books.specs.Layout.{words_of}
 use Rattle.txn_books.specs.Standing.{Stands, IsGoodFor}
 use Rattle.worker_pool.specs.declared.done.Done.{Done}
 use Rattle.worker_pool.specs.declared.done.DayEnd.{DayEnd}
 use Rattle.worker_pool.specs.Days.{place_of, IsDay}
+use Rattle.worker_pool.specs.Days as days
 
 -- what the journal says of an item
 abbrev pub ran_of : Done → Ran
@@ -22,6 +24,10 @@ line_of item = record { caller = item.caller; index = item.index; restarts = ite
 -- what the journal says of all items, in their order
 abbrev pub journal_of : DayEnd → List Ran
 journal_of day = map ran_of day.done.items
+
+-- the books that the interpreter leaves after the items, in their order
+abbrev pub closing_books : ClearingInput → DayEnd → ClearingBooks
+closing_books input day = books_after input input.books (days.places_of day.done.items)
 
 -- a day of the input by so many workers: a table with a seat for each, whose words stood for the opening books, and a legal
 -- history of all that was done on it

@@ -5,10 +5,10 @@ ghost use Rattle.books_model.specs.Ranges.{IsWithin};
 ghost use Rattle.books_report.specs.Output.{output_of};
 ghost use Rattle.script_reader.specs.declared.limits.TheConstants.{MOST_WORKERS};
 ghost use Rattle.twoplsf.specs.Answer.{IsAnswerTo, refused_line};
-ghost use Rattle.twoplsf.specs.Day.{IsDayOf, journal_of, line_of};
+ghost use Rattle.twoplsf.specs.Day.{IsDayOf, closing_books, journal_of, line_of};
 
 use crate::day::run_day;
-use books_model::Reply;
+use books_model::{Books, Reply};
 use books_report::{Line, journal_text};
 use io_ends::OutOfMemory;
 use script_reader::{Fault, Input, InputFault, read_input};
@@ -67,23 +67,36 @@ fn replies_of(alloc: Global, done: &[Done]) -> Result<Vec<Reply>, OutOfMemory>
     Ok(replies)
 }
 
-// The text of a day: its journal, and the books for which the closed words stand.
-fn output_of(
+// The books for which the closed words of a day stand: those that the interpreter leaves.
+pub(crate) fn closing_of(
     alloc: Global,
     input: &Input,
     workers: u32,
     day: &DayEnd,
-) -> Result<Vec<u8>, OutOfMemory>
+) -> Result<Books, OutOfMemory>
     requires { IsDayOf input.now workers day.now }
-    ensures { IfOk result (λ text. text.items ≡ output_of input.now (journal_of day.now)) }
+    ensures { IfOk result (λ closing. closing ≡ closing_books input.now day.now) }
 {
-    // The books that are read are those that the interpreter leaves.
     one_books();
     let shape = BooksShape::of(input.books());
-    let closing = read_books(alloc, &shape, day.closed.words())?;
+    read_books(alloc, &shape, day.closed.words())
+}
+
+// The text of a day: its journal, and the books that it left.
+pub(crate) fn output_of(
+    alloc: Global,
+    input: &Input,
+    workers: u32,
+    day: &DayEnd,
+    closing: &Books,
+) -> Result<Vec<u8>, OutOfMemory>
+    requires day { IsDayOf input.now workers day.now }
+    requires closing { closing.now ≡ closing_books input.now day.now }
+    ensures { IfOk result (λ text. text.items ≡ output_of input.now (journal_of day.now)) }
+{
     let lines = lines_of(alloc, &day.done)?;
     let replies = replies_of(alloc, &day.done)?;
-    journal_text(alloc, input, &lines, &replies, &closing)
+    journal_text(alloc, input, &lines, &replies, closing)
 }
 
 /// Reads an input, runs its scripts by so many workers and makes the text of the journal; or makes the text of a
@@ -101,7 +114,8 @@ pub fn answer_to<R: Threads + Wait + Sync, G: Gate>(
     match read_input(alloc, bytes) {
         Ok(input) => {
             let day = run_day(rt, alloc, &input, workers, gate)?;
-            let text = output_of(alloc, &input, workers, &day)?;
+            let closing = closing_of(alloc, &input, workers, &day)?;
+            let text = output_of(alloc, &input, workers, &day, &closing)?;
             Ok(Answer::Output {
                 text,
                 day: Some(day),

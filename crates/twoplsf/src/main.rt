@@ -7,8 +7,10 @@ pub mod command;
 pub mod day;
 pub mod laws;
 pub mod limits;
+pub mod making;
 pub mod serve;
 pub mod status;
+pub mod sums;
 
 use io_ends::{OutOfMemory, StdSink, StdSource};
 use serve::serve;

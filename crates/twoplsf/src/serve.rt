@@ -9,16 +9,20 @@ ghost use Rattle.script_reader.specs.Grammar.{IsValidInput};
 ghost use Rattle.script_reader.specs.declared.fault.Fault.{Fault};
 ghost use Rattle.script_reader.specs.Faults.{IsFirstFault, IsFrontFault};
 ghost use Rattle.script_reader.specs.Input.{ClearingInput};
-ghost use Rattle.twoplsf.specs.Command.{IsRun, IsCheck, IsValidCommand};
+ghost use Rattle.twoplsf.specs.Command.{IsRun, IsCheck, IsDrill, IsMaking, IsReading, IsValidCommand};
 ghost use Rattle.books_report.specs.Output.{IsOutput};
 ghost use Rattle.books_report.specs.Checking.{IsFirstWrongLine};
-ghost use Rattle.twoplsf.specs.Check.{AreTwoTexts, BeginWithInput, IsCommand, differs_line};
+ghost use Rattle.twoplsf.specs.Commands.{IsMakingBy, IsReadingBy};
+ghost use Rattle.twoplsf.specs.Check.{AreTwoTexts, BeginWithInput, differs_line};
+ghost use Rattle.twoplsf.specs.Made.{IsDrillDay, PrintsMade};
+ghost use Rattle.twoplsf.specs.Making.{IsMakingDay, RunsScripts, making_text};
 ghost use Rattle.twoplsf.specs.Answer.{HaveInputFor, IsAnswerBy, IsDayFor, PrintsOutput, TookText, refused_line};
 
 use crate::answer::{Answer, answer_to};
 use crate::check::check_answer;
-use crate::command::{Command, command_of};
+use crate::command::{Command, Making, Reading, command_of};
 use crate::limits::MOST_INPUT_BYTES;
+use crate::making::made_answer;
 use crate::status::Status;
 use books_report::limits::RESTARTS_BELOW;
 use io_ends::{OutOfMemory, ReadStop, Sink, Source, read_all, write_all_of};
@@ -60,24 +64,55 @@ fn day_after(status: Status, day: Option<DayEnd>) -> Option<DayEnd>
 fn answer_by<R: Threads + Wait + Sync, G: Gate>(
     rt: &R,
     alloc: Global,
-    command: Command,
+    reading: Reading,
     bytes: &[u8],
     gate: &G,
 ) -> Result<Answer, OutOfMemory>
-    requires { (words : List (List ℕ)) × IsCommand words command }
-    ensures { IfOk result (IsAnswerBy command bytes.now) }
+    requires { (words : List (List ℕ)) × IsReadingBy words reading }
+    ensures { IfOk result (IsAnswerBy reading bytes.now) }
 {
-    match command {
-        Command::Run(workers) => answer_to(rt, alloc, bytes, workers, gate),
-        Command::Check => check_answer(alloc, bytes),
+    match reading {
+        Reading::Run(workers) => answer_to(rt, alloc, bytes, workers, gate),
+        Reading::Check => check_answer(alloc, bytes),
+    }
+}
+
+/// Does what a command that makes its input asks for: prints the text, which is all made before the first write.
+fn serve_making<R: Threads + Wait + Sync, K: Sink, G: Gate>(
+    rt: &R,
+    alloc: Global,
+    making: Making,
+    sink: &mut K,
+    gate: &G,
+) -> Served
+    requires { (words : List (List ℕ)) × IsMakingBy words making }
+    ensures text { ((result.status ≡ Status.Done)
+        × Appends (K.taken sink.old) (K.taken sink.new) (making_text making))
+        ⊎ ((result.status ≡ Status.WriteFault) × Rose (K.faults sink.old) (K.faults sink.new)
+        × AppendsPrefix (K.taken sink.old) (K.taken sink.new) (making_text making))
+        ⊎ ((result.status ≡ Status.OutOfMemory) × (sink.new ≡ sink.old)) }
+    ensures day { IfSome result.day (IsMakingDay making) }
+    ensures has_day { IsSome result.day ↔ (RunsScripts making × (result.status ≡ Status.Done)) }
+{
+    match made_answer(rt, alloc, making, gate) {
+        Ok(made) => {
+            let status = finish(sink, &made.text, Status::Done);
+            let day = day_after(status, made.day);
+            Served { status, day }
+        }
+        Err(_) => {
+            let status = Status::OutOfMemory;
+            Served { status, day: None }
+        }
     }
 }
 
 /// Does what the words say: `run W` reads an input from the source, runs each of its scripts as one transaction on one
 /// of W threads, and writes the journal and the closing books to the sink; `check` reads an input and a text behind it,
-/// and writes whether that is an output of the input, or its first wrong line. `run` may wait: that a wait ends, no
-/// clause says. Every text is made before the first write. Faults are looked
-/// for in the order words, read, size, input; out of memory may come before any of them but words.
+/// and writes whether that is an output of the input, or its first wrong line. `make` and `drill` read nothing: the one
+/// writes the input that a seed gives, the other runs it, checks the output, and writes what the closing books come to.
+/// `run` and `drill` may wait: that a wait ends, no clause says. Every text is made before the first write. Faults are
+/// looked for in the order words, read, size, input; out of memory may come before any of them but words.
 pub fn serve<R: Threads + Wait + Sync, S: Source, K: Sink, G: Gate>(
     rt: &R,
     alloc: Global,
@@ -93,13 +128,22 @@ pub fn serve<R: Threads + Wait + Sync, S: Source, K: Sink, G: Gate>(
         → IfSome (S.left source.old) (λ bytes. PrintsOutput (map string_bytes words.now) bytes
         (K.taken sink.old) (K.taken sink.new)) }
 
-    // The day is there exactly where scripts were run and their output was printed: then it is a day of the input by as
-    // many workers as the words say, and the text is the output for its items.
-    ensures day { IfSome result.day (λ day. IfSome (S.left source.old)
-        (λ bytes. IsDayFor (map string_bytes words.now) bytes
+    // The day is there exactly where scripts were run and their output was printed, or their sums after a drill: then it
+    // is a day of the input by as many workers as the words say, and the text of `run` is the output for its items.
+    ensures day { IsRun (map string_bytes words.now) → IfSome result.day
+        (λ day. IfSome (S.left source.old) (λ bytes. IsDayFor (map string_bytes words.now) bytes
         (K.taken sink.old) (K.taken sink.new) day)) }
+    ensures drill_day { IsDrill (map string_bytes words.now)
+        → IfSome result.day (IsDrillDay (map string_bytes words.now)) }
     ensures has_day { IsSome result.day
-        ↔ (IsRun (map string_bytes words.now) × (result.status ≡ Status.Done)) }
+        ↔ ((IsRun (map string_bytes words.now) ⊎ IsDrill (map string_bytes words.now))
+        × (result.status ≡ Status.Done)) }
+
+    // A command that makes its input reads nothing, and prints its one text: the input, or what became of it in a
+    // drill. (`made` follows from `text`.)
+    ensures unread { IsMaking (map string_bytes words.now) → source.new ≡ source.old }
+    ensures made { IsMaking (map string_bytes words.now) → result.status ≡ Status.Done
+        → PrintsMade (map string_bytes words.now) (K.taken sink.old) (K.taken sink.new) }
 
     // What the sink took: exactly the text of the status, and after a write fault a prefix of the text in whose place
     // it stands. The text says what words and bytes it is for: so a status that has one never comes with others.
@@ -122,7 +166,7 @@ pub fn serve<R: Threads + Wait + Sync, S: Source, K: Sink, G: Gate>(
         → IfSome (count_taken (S.left source.old) (S.left source.new))
         (λ n. n ≡ MOST_INPUT_BYTES + 1) }
     ensures taken { TakesAtMost (S.left source.old) (S.left source.new) (MOST_INPUT_BYTES + 1) }
-    ensures too_many { IsValidCommand (map string_bytes words.now) → IfSome (S.left source.old)
+    ensures too_many { IsReading (map string_bytes words.now) → IfSome (S.left source.old)
         (λ bytes. MOST_INPUT_BYTES < length bytes
         → (result.status ≡ Status.TooLarge) ⊎ (result.status ≡ Status.ReadFault)
         ⊎ (result.status ≡ Status.WriteFault) ⊎ (result.status ≡ Status.OutOfMemory)) }
@@ -144,7 +188,7 @@ pub fn serve<R: Threads + Wait + Sync, S: Source, K: Sink, G: Gate>(
         → Appends (K.taken sink.old) (K.taken sink.new) (refused_line number why)) }
     ensures bad_input { result.status ≡ Status.BadInput → IfSome (S.left source.old)
         (λ bytes. ¬ HaveInputFor (map string_bytes words.now) bytes) }
-    ensures no_input { IsValidCommand (map string_bytes words.now) → IfSome (S.left source.old)
+    ensures no_input { IsReading (map string_bytes words.now) → IfSome (S.left source.old)
         (λ bytes. length bytes ≤ MOST_INPUT_BYTES
         → (¬ HaveInputFor (map string_bytes words.now) bytes)
         → (result.status ≡ Status.BadInput) ⊎ (result.status ≡ Status.ReadFault)
@@ -180,6 +224,10 @@ pub fn serve<R: Threads + Wait + Sync, S: Source, K: Sink, G: Gate>(
         → (result.status ≡ Status.Done) ⊎ (result.status ≡ Status.Differs)
         ⊎ (result.status ≡ Status.OutOfMemory)) }
 
+    ensures complete_making { IsMaking (map string_bytes words.now)
+        → (¬ Rose (K.faults sink.old) (K.faults sink.new))
+        → (result.status ≡ Status.Done) ⊎ (result.status ≡ Status.OutOfMemory) }
+
     // Faults of the outside.
     ensures read_fault { result.status ≡ Status.ReadFault
         → Rose (S.faults source.old) (S.faults source.new) }
@@ -190,6 +238,10 @@ pub fn serve<R: Threads + Wait + Sync, S: Source, K: Sink, G: Gate>(
     let Some(command) = command_of(words) else {
         let status = finish(sink, b"refused words\n", Status::BadWords);
         return Served { status, day: None };
+    };
+    let reading = match command {
+        Command::Read(reading) => reading,
+        Command::Make(making) => return serve_making(rt, alloc, making, sink, gate),
     };
     let bytes = match read_all(alloc, source, MOST_INPUT_BYTES) {
         Ok(bytes) => bytes,
@@ -206,7 +258,7 @@ pub fn serve<R: Threads + Wait + Sync, S: Source, K: Sink, G: Gate>(
             return Served { status, day: None };
         }
     };
-    match answer_by(rt, alloc, command, &bytes, gate) {
+    match answer_by(rt, alloc, reading, &bytes, gate) {
         Ok(Answer::Output { text, day }) => {
             let status = finish(sink, &text, Status::Done);
             let day = day_after(status, day);

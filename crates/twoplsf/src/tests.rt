@@ -236,6 +236,16 @@ fn command_words_out_of_form_are_refused(rt: HostRuntime) -> Result<(), Fail> {
         "check 1",
         "Check",
         "check check",
+        "make 0 0 1",
+        "make 0 1025 1",
+        "make 2147483648 1 1",
+        "make 0 1024 65",
+        "make 0 1 65537",
+        "make 00 1 1",
+        "make 0 1",
+        "drill 17 0 1 1",
+        "drill 0 0 1 1",
+        "drill 1 0 1 1 1",
     ];
     for line in lines {
         let run = served(&rt, alloc, line, text(alloc, &[HEADER, FIRST])?, GOOD)?;
@@ -512,5 +522,76 @@ fn faults_of_the_input_come_before_the_text(rt: HostRuntime) -> Result<(), Fail>
         assert_eq!(rt; run.status, status, "{input}");
         assert_eq!(rt; run.taken.as_slice(), taken.as_bytes(), "{input}");
     }
+    Ok(())
+}
+
+#[test]
+fn a_made_input_is_printed(rt: HostRuntime) -> Result<(), Fail> {
+    let alloc = rt.alloc();
+    let made = served(&rt, alloc, "make 0 1 1", Vec::new(alloc), GOOD)?;
+    assert_eq!(rt; made.status, Status::Done);
+    let front = b"books 1 blocks 4096 instruments 8 ring 64\naccount 1 1000000\n".as_slice();
+    assert!(rt; made.taken.starts_with(front));
+    let back = b"scripts\nscript caaa\ndeposit 118 46\nend\nfinish\n".as_slice();
+    assert!(rt; made.taken.ends_with(back));
+    Ok(())
+}
+
+// The 200 accounts open with 1,000,000 each, and the one script deposits 46. Each account holds 100 of each of 8
+// instruments.
+#[test]
+fn a_drill_sums_up_its_closing_books(rt: HostRuntime) -> Result<(), Fail> {
+    let alloc = rt.alloc();
+    let drill = served(&rt, alloc, "drill 1 0 1 1", Vec::new(alloc), GOOD)?;
+    assert_eq!(rt; drill.status, Status::Done);
+    let want = b"scripts 1\ncash 200000046\nquantity 160000\nagrees\n".as_slice();
+    assert_eq!(rt; drill.taken.as_slice(), want);
+    Ok(())
+}
+
+// The line, with other restarts where it is line 5.
+fn with_restarts(alloc: Global, number: usize, line: &str) -> Result<String, OutOfMemory> {
+    let mut changed = String::new(alloc);
+    for (place, word) in line.split(' ').enumerate() {
+        if place > 0 {
+            changed.push_str(" ")?;
+        }
+        changed.push_str(if number == 5 && place == 3 {
+            "99"
+        } else {
+            word
+        })?;
+    }
+    changed.push_str("\n")?;
+    Ok(changed)
+}
+
+#[test]
+fn the_output_of_a_made_input_agrees(rt: HostRuntime) -> Result<(), Fail> {
+    let alloc = rt.alloc();
+    let made = served(&rt, alloc, "make 2023 40 50", Vec::new(alloc), GOOD)?;
+    assert_eq!(rt; made.status, Status::Done);
+    let run = served(
+        &rt,
+        alloc,
+        "run 4",
+        made.taken.as_slice().to_vec(alloc)?,
+        GOOD,
+    )?;
+    assert_eq!(rt; run.status, Status::Done);
+    let mut both = made.taken.as_slice().to_vec(alloc)?;
+    both.extend_from_slice(run.taken.as_slice())?;
+    let same = served(&rt, alloc, "check", both, GOOD)?;
+    assert_eq!(rt; same.status, Status::Done);
+    assert_eq!(rt; same.taken.as_slice(), b"agrees\n".as_slice());
+    let output = String::from_utf8(run.taken).expect(&rt, "the output is ASCII");
+    let mut changed = made.taken;
+    for (place, line) in output.lines().enumerate() {
+        let line = with_restarts(alloc, place.saturating_add(1), line)?;
+        changed.extend_from_slice(line.as_bytes())?;
+    }
+    let other = served(&rt, alloc, "check", changed, GOOD)?;
+    assert_eq!(rt; other.status, Status::Differs);
+    assert_eq!(rt; other.taken.as_slice(), b"differs line 5\n".as_slice());
     Ok(())
 }

@@ -205,3 +205,37 @@ fn each_script_of_a_day_is_run_once_in_its_callers_order(rt: HostRuntime) -> Res
     }
     Ok(())
 }
+
+/// Counts the scripts that are committed.
+#[derive(Drop)]
+struct Commits {
+    count: AtomicCell<u64>,
+}
+
+impl Gate for Commits {
+    fn at<R: Wait>(&self, _rt: &R, point: Point) {
+        if let Stage::AfterCommit = point.stage {
+            let _ = self.count.fetch_add(1);
+        }
+    }
+}
+
+// Four callers with five scripts each.
+#[test]
+fn a_drill_commits_each_script_once(rt: HostRuntime) -> Result<(), Fail> {
+    let alloc = rt.alloc();
+    let mut words = Vec::new(alloc);
+    for word in ["drill", "2", "0", "4", "5"] {
+        words.push(String::from_str(alloc, word)?)?;
+    }
+    let mut source = MemSource::new(Vec::new(alloc), 1, Vec::new(alloc));
+    let mut sink = MemSink::with_room(alloc, 1_000, 1_000, Vec::new(alloc))?;
+    let gate = Commits {
+        count: AtomicCell::new(0),
+    };
+    let served = serve(&rt, alloc, &words, &mut source, &mut sink, &gate);
+    assert_eq!(rt; served.status, Status::Done);
+    assert!(rt; served.day.is_some());
+    assert_eq!(rt; gate.count.load(), 20);
+    Ok(())
+}

@@ -1,32 +1,17 @@
-use Rattle.std.proofs.Common.{◌≡◌, ℕ, List, min, rules, subst, arith, codes}
-use Rattle.std.specs.Option.{SomeIff}
-use Rattle.std.specs.Str.Parse.{digits_value}
+use Rattle.std.proofs.Common.{◌≡◌, ◌∷◌, [], codes, rules, map, sym, ◌∙◌, arith}
 use Rattle.std.specs.String.{string_bytes}
-use Rattle.script_reader.specs.Number.{IsNumber}
-use Rattle.twoplsf.proofs.Commands.{is_command, no_command, other_some}
+use Rattle.std.proofs.lemmas.Option.{IfSome_then}
+use Rattle.twoplsf.proofs.Commands.{two_of, run_command, run_word, if_none}
 use Rattle.twoplsf.proofs.command.workers_of.Goals as goal
 
-pub returns-in-Some-clause-some : goal.returns-in-Some-clause-some
-returns-in-Some-clause-some c =
-    let reads = subst (λ (b : List ℕ). SomeIff c.numeral.result (IsNumber b) (min (digits_value 10 b) 18446744073709551615)) c.as_bytes.ensures.value c.numeral.ensures in
+pub returns-clause-some : goal.returns-clause-some
+returns-clause-some c =
     let run_is : string_bytes c.run-item.result ≡ codes "run" = search rules in
-    is_command string_bytes c.args.words.now c.run-item.result c.workers-item.result (omega arith) c.run-item.is c.workers-item.is c.numeral.result reads run_is c.in-Some.found c.in-Some.is
-    (omega (arith, c.if-found-ge1.true), omega (arith, c.if-found-from.true, c.from.ensures))
+    let are = two_of string_bytes c.args.words.now c.run-item.result c.workers-item.result (omega arith) c.run-item.is c.workers-item.is ∙ (λ i. run_is i ∷ sym c.as_bytes.ensures.value i ∷ []) in
+    IfSome_then c.number_within.result c.number_within.ensures.some (run_command (map string_bytes c.args.words.now) c.as_bytes.result.now are)
 
-pub returns-in_default-numeral-clause-none : goal.returns-in_default-numeral-clause-none
-returns-in_default-numeral-clause-none c =
-    let reads = subst (λ (b : List ℕ). SomeIff c.numeral.result (IsNumber b) (min (digits_value 10 b) 18446744073709551615)) c.as_bytes.ensures.value c.numeral.ensures in
-    no_command string_bytes c.args.words.now c.run-item.result c.workers-item.result (omega arith) c.run-item.is c.workers-item.is c.numeral.result reads
-    (λ w is range. let same : w ≡ c.in-Some.found = other_some c.numeral.result w c.in-Some.found is c.in-Some.is in absurd (omega (arith, same, range.1, c.if-found-from.false, c.from.ensures)))
-
-pub returns-in_default-numeral-2-clause-none : goal.returns-in_default-numeral-2-clause-none
-returns-in_default-numeral-2-clause-none c =
-    let reads = subst (λ (b : List ℕ). SomeIff c.numeral.result (IsNumber b) (min (digits_value 10 b) 18446744073709551615)) c.as_bytes.ensures.value c.numeral.ensures in
-    no_command string_bytes c.args.words.now c.run-item.result c.workers-item.result (omega arith) c.run-item.is c.workers-item.is c.numeral.result reads
-    (λ w is range. let same : w ≡ c.in-Some.found = other_some c.numeral.result w c.in-Some.found is c.in-Some.is in absurd (omega (arith, same, range.0, c.if-found-ge1.false)))
-
-pub returns-in_default-numeral-3-clause-none : goal.returns-in_default-numeral-3-clause-none
-returns-in_default-numeral-3-clause-none c =
-    let reads = subst (λ (b : List ℕ). SomeIff c.numeral.result (IsNumber b) (min (digits_value 10 b) 18446744073709551615)) c.as_bytes.ensures.value c.numeral.ensures in
-    no_command string_bytes c.args.words.now c.run-item.result c.workers-item.result (omega arith) c.run-item.is c.workers-item.is c.numeral.result reads
-    (λ w is range. search rules)
+pub returns-clause-none : goal.returns-clause-none
+returns-clause-none c =
+    let run_is : string_bytes c.run-item.result ≡ codes "run" = search rules in
+    let are = two_of string_bytes c.args.words.now c.run-item.result c.workers-item.result (omega arith) c.run-item.is c.workers-item.is ∙ (λ i. run_is i ∷ sym c.as_bytes.ensures.value i ∷ []) in
+    if_none c.number_within.result _ _ (λ none run. none run.0 (run_word (map string_bytes c.args.words.now) c.as_bytes.result.now are run.0 run.1) run.1.range) c.number_within.ensures.none

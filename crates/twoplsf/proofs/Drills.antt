@@ -1,0 +1,50 @@
+-- What a drill says of the closing books.
+use Rattle.std.proofs.Common.{◌≡◌, ◌≤◌, ℕ, ◌+◌, ◌*◌, List, ◌++◌, length, codes, sym, ap, ◌∙◌, arith}
+use Rattle.std.proofs.lemmas.List.{length-map}
+use Rattle.std.proofs.lemmas.List.FromFn.{length-map-range_with_len}
+use Rattle.books_model.specs.Books.{ClearingBooks}
+use Rattle.books_model.specs.Laws.{all_cash}
+use Rattle.script_reader.specs.Input.{ClearingInput}
+use Rattle.script_reader.proofs.Reaching.{scripts_counted}
+use Rattle.books_report.specs.Output.{IsOutput}
+use Rattle.books_report.proofs.Turns.{length_of_journal}
+use Rattle.input_maker.specs.Made.{made_input, made_submission, made_submissions, submissions_to}
+use Rattle.input_maker.specs.Statements.{AreForMake}
+use Rattle.input_maker.specs.Days.{MadeCash, MadeQuantities, all_deposits, all_quantities}
+use Rattle.worker_pool.specs.declared.done.DayEnd.{DayEnd}
+use Rattle.worker_pool.specs.Days.{place_of, places_of}
+use Rattle.twoplsf.specs.Check.{agrees_line}
+use Rattle.twoplsf.specs.Day.{IsDayOf, closing_books}
+use Rattle.twoplsf.specs.Made.{sum_line, drill_text}
+
+-- an output stays one below a higher limit
+pub output_below : (input : ClearingInput) (limit most : ℕ) (text : List ℕ) → limit ≤ most → IsOutput input limit text → IsOutput input most text
+output_below input limit most text more output = record {
+  scripts = output.scripts;
+  journal = output.journal;
+  below = λ k d less. let below = output.below k d less in omega arith;
+  replies = output.replies;
+  text_is = output.text_is;
+}
+
+module _ (seed callers scripts workers : ℕ) (day : DayEnd) (is : IsDayOf (made_input seed callers scripts) workers day) where
+  -- each script that was asked for was run
+  pub scripts_run : length day.done.items ≡ callers * scripts
+  unfolding submissions_to
+  scripts_run =
+      sym (length-map day.done.items place_of)
+      ∙ length_of_journal (made_input seed callers scripts) (places_of day.done.items) is.is_day.journal
+      ∙ scripts_counted (made_submissions seed callers scripts)
+      ∙ length-map-range_with_len (made_submission seed callers) 0 (callers * scripts)
+
+  -- what is said of the closing books is what the laws say
+  pub summary_is : MadeCash → MadeQuantities → AreForMake seed callers scripts → (closing : ClearingBooks) → closing ≡ closing_books (made_input seed callers scripts) day
+      → (text : List ℕ) (run cash quantity : ℕ) → run ≡ length day.done.items → cash ≡ all_cash closing → quantity ≡ all_quantities closing
+      → text ≡ sum_line (codes "scripts") run ++ sum_line (codes "cash") cash ++ sum_line (codes "quantity") quantity ++ agrees_line
+      → text ≡ drill_text seed callers scripts
+  summary_is cash_law quantity_law range closing closed text run cash quantity run_is cash_is quantity_is told =
+      let places = places_of day.done.items in
+      let run_all : run ≡ callers * scripts = run_is ∙ scripts_run in
+      let cash_all : cash ≡ 200000000 + all_deposits (made_input seed callers scripts) = cash_is ∙ ap all_cash closed ∙ cash_law seed callers scripts places range is.is_day.journal in
+      let quantity_all : quantity ≡ 160000 = quantity_is ∙ ap all_quantities closed ∙ quantity_law seed callers scripts places range is.is_day.journal in
+      told ∙ (λ i. sum_line (codes "scripts") (run_all i) ++ sum_line (codes "cash") (cash_all i) ++ sum_line (codes "quantity") (quantity_all i) ++ agrees_line)

@@ -1,0 +1,103 @@
+-- The answers of commands that make their input.
+use Rattle.std.proofs.Common.{◌≡◌, ◌≢◌, ◌∙◌, ◌⊎◌, ◌↔◌, ℕ, List, length, Option, IfSome, IsSome, refl, sym, ap, subst, inl, inr, arith}
+use Rattle.std.specs.Io.KnownBytes.{Appends}
+use Rattle.io_ends.specs.Taken.{AppendsPrefix}
+use Rattle.worker_pool.specs.declared.done.DayEnd.{DayEnd}
+use Rattle.twoplsf.specs.Command.{IsRun, IsDrill, IsMaking}
+use Rattle.twoplsf.specs.Commands.{IsMakingBy}
+use Rattle.twoplsf.specs.Made.{IsDrillDay, IsMadeText}
+use Rattle.twoplsf.specs.Making.{IsMakingDay, LeavesDay, RunsScripts, making_text}
+use Rattle.twoplsf.specs.declared.command.Making.{Making}
+use Rattle.twoplsf.specs.declared.command.Making.TheVariants.{Input, Drill}
+use Rattle.twoplsf.specs.declared.status.Status.{Status}
+use Rattle.twoplsf.specs.declared.status.Status.TheVariants as status
+use Rattle.twoplsf.specs.Answer.{TookText}
+use Rattle.twoplsf.proofs.Served.{none_there, read_not_made, took_text}
+
+-- what is left of a command is a day of it
+pub left_day : (making : Making) (day : Option DayEnd) → LeavesDay making day → IfSome day (IsMakingDay making)
+left_day (Input plan) day left = subst (λ (d : Option DayEnd). IfSome d (IsMakingDay (Input plan))) (sym left) tt
+left_day (Drill workers plan) day left = subst (λ (d : Option DayEnd). IfSome d (IsMakingDay (Drill workers plan))) (sym left.1) left.2
+
+-- and it is there where scripts were run
+pub day_left : (making : Making) (day : Option DayEnd) → LeavesDay making day → IsSome day ↔ RunsScripts making
+day_left (Input plan) day left = (λ some. absurd (none_there (subst IsSome left some)), λ runs. absurd runs)
+day_left (Drill workers plan) day left = (λ some. tt, λ runs. subst IsSome (sym left.1) refl)
+
+-- the words of a command that makes its input
+pub making_is : (words : List (List ℕ)) (making : Making) → IsMakingBy words making → IsMaking words
+making_is words (Input plan) is = inl (plan.seed, plan.callers, plan.scripts, is)
+making_is words (Drill workers plan) is = inr (workers, plan.seed, plan.callers, plan.scripts, is)
+
+-- it runs scripts where its words are those of a drill
+pub runs_of : (words : List (List ℕ)) (making : Making) → IsMakingBy words making → RunsScripts making ↔ (IsRun words ⊎ IsDrill words)
+runs_of words (Input plan) is = (λ runs. absurd runs, no_run)
+  where
+    no_run : IsRun words ⊎ IsDrill words → ⊥
+    no_run (inl run) = read_not_made words (inl run) (making_is words (Input plan) is)
+    no_run (inr drill) = omega (arith, ap length is.words_are, ap length drill.4.words_are)
+runs_of words (Drill workers plan) is = (λ runs. inr (workers, plan.seed, plan.callers, plan.scripts, is), λ run. tt)
+
+-- its text is the one for the words
+pub text_of_making : (words : List (List ℕ)) (making : Making) → IsMakingBy words making → IsMadeText words (making_text making)
+text_of_making words (Input plan) is = inl (record { seed = plan.seed; callers = plan.callers; scripts = plan.scripts; command = is; text_is = refl })
+text_of_making words (Drill workers plan) is = inr (record { workers = workers; seed = plan.seed; callers = plan.callers; scripts = plan.scripts; command = is; text_is = refl })
+
+-- and its day
+pub day_of_making : (words : List (List ℕ)) (making : Making) (day : DayEnd) → IsMakingBy words making → IsMakingDay making day → IsDrillDay words day
+day_of_making words (Input plan) day is none = absurd none
+day_of_making words (Drill workers plan) day is day_is = record { workers = workers; seed = plan.seed; callers = plan.callers; scripts = plan.scripts; command = is; day_is = day_is }
+
+-- what was written of it is its text, whole or not
+pub took_making : (result : Status) (words : List (List ℕ)) (making : Making) (left now before after : Option (List ℕ)) (R S : Type 0) → IsMakingBy words making
+    → (result ≡ status.Done × Appends before after (making_text making)) ⊎ (result ≡ status.WriteFault × R × AppendsPrefix before after (making_text making)) ⊎ (result ≡ status.OutOfMemory × S)
+    → TookText result words left now before after
+took_making result words making left now before after R S is (inl whole) = took_text result status.Done words left now before after (making_text making) R (inr (text_of_making words making is)) (inl whole)
+took_making result words making left now before after R S is (inr (inl front)) = took_text result status.Done words left now before after (making_text making) R (inr (text_of_making words making is)) (inr front)
+took_making result words making left now before after R S is (inr (inr none)) = subst (λ (s : Status). TookText s words left now before after) (sym none.0) tt
+
+module _ (result : Status) (W R F S : Type 0) (ends : (result ≡ status.Done × W) ⊎ (result ≡ status.WriteFault × R × F) ⊎ (result ≡ status.OutOfMemory × S)) where
+  -- where the status is that the work is done, its text was written whole
+  pub whole_making : result ≡ status.Done → W
+  whole_making done = by ends
+    where
+      by : (result ≡ status.Done × W) ⊎ (result ≡ status.WriteFault × R × F) ⊎ (result ≡ status.OutOfMemory × S) → W
+      by (inl whole) = whole.1
+      by (inr (inl front)) = let same : status.WriteFault ≡ status.Done = sym front.0 ∙ done in absurd (cc)
+      by (inr (inr none)) = let same : status.OutOfMemory ≡ status.Done = sym none.0 ∙ done in absurd (cc)
+
+  -- it is done where there was memory and no fault came
+  pub ends_making : (R → ⊥) → (result ≡ status.Done) ⊎ (result ≡ status.OutOfMemory)
+  ends_making fault = by ends
+    where
+      by : (result ≡ status.Done × W) ⊎ (result ≡ status.WriteFault × R × F) ⊎ (result ≡ status.OutOfMemory × S) → (result ≡ status.Done) ⊎ (result ≡ status.OutOfMemory)
+      by (inl whole) = inl whole.0
+      by (inr (inl front)) = absurd (fault front.1)
+      by (inr (inr none)) = inr none.0
+
+  -- and nothing was written where there was none
+  pub none_of_making : (result ≡ status.ReadFault) ⊎ (result ≡ status.OutOfMemory) → S
+  none_of_making is = by ends is
+    where
+      by : (result ≡ status.Done × W) ⊎ (result ≡ status.WriteFault × R × F) ⊎ (result ≡ status.OutOfMemory × S) → (result ≡ status.ReadFault) ⊎ (result ≡ status.OutOfMemory) → S
+      by (inl whole) (inl read) = let same : status.Done ≡ status.ReadFault = sym whole.0 ∙ read in absurd (cc)
+      by (inl whole) (inr memory) = let same : status.Done ≡ status.OutOfMemory = sym whole.0 ∙ memory in absurd (cc)
+      by (inr (inl front)) (inl read) = let same : status.WriteFault ≡ status.ReadFault = sym front.0 ∙ read in absurd (cc)
+      by (inr (inl front)) (inr memory) = let same : status.WriteFault ≡ status.OutOfMemory = sym front.0 ∙ memory in absurd (cc)
+      by (inr (inr none)) is = none.1
+
+  -- it ends in no other way
+  pub no_other_end : (other : Status) → other ≢ status.Done → other ≢ status.WriteFault → other ≢ status.OutOfMemory → result ≡ other → ⊥
+  no_other_end other done write memory is = by ends
+    where
+      by : (result ≡ status.Done × W) ⊎ (result ≡ status.WriteFault × R × F) ⊎ (result ≡ status.OutOfMemory × S) → ⊥
+      by (inl whole) = done (sym is ∙ whole.0)
+      by (inr (inl front)) = write (sym is ∙ front.0)
+      by (inr (inr none)) = memory (sym is ∙ none.0)
+
+-- what was written of a text is what was written of the one that it is
+pub told_making : (result : Status) (before now : Option (List ℕ)) (text want : List ℕ) (R S : Type 0) → text ≡ want
+    → (result ≡ status.Done × Appends before now text) ⊎ (result ≡ status.WriteFault × R × AppendsPrefix before now text)
+    → (result ≡ status.Done × Appends before now want) ⊎ (result ≡ status.WriteFault × R × AppendsPrefix before now want) ⊎ (result ≡ status.OutOfMemory × S)
+told_making result before now text want R S same (inl whole) = inl (whole.0, subst (Appends before now) same whole.1)
+told_making result before now text want R S same (inr front) = inr (inl (front.0, front.1, subst (AppendsPrefix before now) same front.2))

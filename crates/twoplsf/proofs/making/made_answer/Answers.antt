@@ -1,0 +1,8 @@
+use Rattle.std.proofs.Common.{Some, refl, sym, subst}
+use Rattle.twoplsf.specs.Making.{LeavesDay}
+use Rattle.twoplsf.specs.declared.command.Making.{Making}
+use Rattle.twoplsf.proofs.making.made_answer.Goals as goal
+
+pub returns-in_ok-text-in-Drill-clause-day : goal.returns-in_ok-text-in-Drill-clause-day
+returns-in_ok-text-in-Drill-clause-day g c =
+    subst (λ (m : Making). LeavesDay m (Some c.in_ok-text-in-Drill.day)) (sym c.in-Drill.is) (c.in_ok-text-in-Drill.day, refl, c.in_ok-text-in-Drill.ensures.day)

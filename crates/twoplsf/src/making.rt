@@ -1,0 +1,140 @@
+//! The answer of a command that makes its input.
+
+ghost use Rattle.std.specs.Prelude.{◌≡◌, ◌++◌, ℕ, List, IfOk, OnOk, codes};
+ghost use Rattle.std.specs.String.{string_bytes};
+ghost use Rattle.books_model.specs.Ranges.{IsWithin};
+ghost use Rattle.books_report.specs.declared.limits.TheConstants.{RESTARTS_BELOW};
+ghost use Rattle.books_report.specs.Output.{IsOutput};
+ghost use Rattle.input_maker.specs.Statements.{AreForMake};
+ghost use Rattle.script_reader.specs.declared.limits.TheConstants.{MOST_WORKERS};
+ghost use Rattle.twoplsf.specs.Check.{agrees_line};
+ghost use Rattle.twoplsf.specs.Commands.{IsMakingBy};
+ghost use Rattle.twoplsf.specs.Day.{IsDayOf};
+ghost use Rattle.twoplsf.specs.Made.{drill_text, sum_line};
+ghost use Rattle.twoplsf.specs.Making.{LeavesDay, making_text, planned_input};
+
+use crate::answer::{closing_of, output_of};
+use crate::command::{Making, Plan};
+use crate::day::run_day;
+use crate::sums::{cash_of_all, quantity_of_all};
+use books_report::{Checked, check_text};
+use input_maker::laws::{made_days, made_inputs_are_inputs};
+use input_maker::make_input;
+use io_ends::OutOfMemory;
+use script_reader::{Input, InputFault, read_input};
+use std::alloc::{AllocError, Global};
+use std::sync::Wait;
+use std::thread::Threads;
+use worker_gate::Gate;
+use worker_pool::DayEnd;
+
+/// What a command that makes its input has to say.
+#[derive(Drop)]
+pub struct Made {
+    pub text: Vec<u8>,
+    /// The day of a drill.
+    pub day: Option<DayEnd>,
+}
+
+/// The input of a plan, read from its text.
+fn input_of(alloc: Global, plan: Plan) -> Result<Input, OutOfMemory>
+    requires { AreForMake plan.seed plan.callers plan.scripts }
+    ensures { IfOk result (λ input. input ≡ planned_input plan) }
+{
+    // The text has no fault.
+    made_inputs_are_inputs();
+    let text = make_input(alloc, plan.seed, plan.callers, plan.scripts)?;
+    match read_input(alloc, &text) {
+        Ok(input) => Ok(input),
+        Err(InputFault::OutOfMemory) => Err(OutOfMemory),
+        Err(InputFault::Line { .. }) => unreachable!(),
+    }
+}
+
+// Appends a line with a number.
+fn write_sum(text: &mut String, name: &str, sum: u64) -> Result<(), AllocError>
+    ensures { OnOk result
+        (string_bytes text.new ≡ string_bytes text.old ++ sum_line name.now sum) }
+{
+    write!(text, "{name} {sum}\n")
+}
+
+/// What is said of a drill whose output agrees.
+fn summary_of(alloc: Global, scripts: u64, cash: u64, quantity: u64) -> Result<Vec<u8>, OutOfMemory>
+    ensures { IfOk result (λ text. text.items
+        ≡ sum_line (codes "scripts") scripts ++ sum_line (codes "cash") cash
+        ++ sum_line (codes "quantity") quantity ++ agrees_line) }
+{
+    let mut text = String::new(alloc);
+    write_sum(&mut text, "scripts", scripts)?;
+    write_sum(&mut text, "cash", cash)?;
+    write_sum(&mut text, "quantity", quantity)?;
+    text.push_str("agrees\n")?;
+    Ok(text.into_bytes())
+}
+
+/// Compares an output with the input that it is of. It agrees.
+fn agree(alloc: Global, input: &Input, output: &[u8]) -> Result<(), OutOfMemory>
+    requires { IsOutput input.now RESTARTS_BELOW output.now }
+{
+    match check_text(alloc, input, output)? {
+        Checked::Agrees => Ok(()),
+        Checked::Differs(_) => unreachable!(),
+    }
+}
+
+/// Runs the input of a plan by so many workers, makes its output and checks that, and sums up the closing books.
+pub fn drill<R: Threads + Wait + Sync, G: Gate>(
+    rt: &R,
+    alloc: Global,
+    workers: u32,
+    plan: Plan,
+    gate: &G,
+) -> Result<(Vec<u8>, DayEnd), OutOfMemory>
+    requires workers { IsWithin 1 MOST_WORKERS workers }
+    requires plan { AreForMake plan.seed plan.callers plan.scripts }
+    ensures text { IfOk result (λ r. r.0.items ≡ drill_text plan.seed plan.callers plan.scripts) }
+    ensures day { IfOk result (λ r. IsDayOf (planned_input plan) workers r.1) }
+{
+    // What the closing books come to, whatever the order of the scripts.
+    made_days();
+    let input = input_of(alloc, plan)?;
+    let day = run_day(rt, alloc, &input, workers, gate)?;
+    let closing = closing_of(alloc, &input, workers, &day)?;
+    let output = output_of(alloc, &input, workers, &day, &closing)?;
+    agree(alloc, &input, &output)?;
+    let scripts = day.done.len() as u64;
+    let text = summary_of(
+        alloc,
+        scripts,
+        cash_of_all(&closing),
+        quantity_of_all(&closing),
+    )?;
+    Ok((text, day))
+}
+
+/// The text of a command that makes its input, and the day of a drill.
+pub fn made_answer<R: Threads + Wait + Sync, G: Gate>(
+    rt: &R,
+    alloc: Global,
+    making: Making,
+    gate: &G,
+) -> Result<Made, OutOfMemory>
+    requires { (words : List (List ℕ)) × IsMakingBy words making }
+    ensures text { IfOk result (λ made. made.text.items ≡ making_text making) }
+    ensures day { IfOk result (λ made. LeavesDay making made.day) }
+{
+    match making {
+        Making::Input(plan) => {
+            let text = make_input(alloc, plan.seed, plan.callers, plan.scripts)?;
+            Ok(Made { text, day: None })
+        }
+        Making::Drill { workers, plan } => {
+            let (text, day) = drill(rt, alloc, workers, plan, gate)?;
+            Ok(Made {
+                text,
+                day: Some(day),
+            })
+        }
+    }
+}
