@@ -1,10 +1,11 @@
 //! The words of a line.
 
-ghost use Rattle.std.specs.Prelude.{◌≡◌, ℕ, ◌<◌, ◌==◌, ◌&&◌, true, false, min, length, count_by, option_map, slice_get, IfOk, IfErr};
+ghost use Rattle.std.specs.Prelude.{◌≡◌, ℕ, ◌-◌, ◌<◌, ◌≤◌, ◌==◌, ◌&&◌, true, false, min, length, take, drop, count_by, IfOk, IfErr};
 ghost use Rattle.std.specs.List.{slice_split};
 ghost use Rattle.std.specs.Str.{bytes_eq};
 ghost use Rattle.script_reader.specs.Lines.{word_at};
 ghost use Rattle.script_reader.specs.Number.{is_number};
+ghost use Rattle.script_reader.specs.declared.words.TheConstants.{MOST_WORDS};
 ghost use Rattle.script_reader.specs.Forms.{begins, is_only, value_at};
 
 use crate::fault::Fault;
@@ -17,24 +18,28 @@ pub const SPACE: u8 = b' ';
 /// What ends a line.
 pub const LINE_FEED: u8 = b'\n';
 
-// The words of a line. All but the first are looked for each time, so they take no memory. An empty word is a word.
+/// The most words of a line that may stand in a text.
+pub const MOST_WORDS: usize = 8;
+
+// The words of a line, with where the first of them end. An empty word is a word.
 #[derive(Drop)]
 pub(crate) struct Words<'a> {
     line: &'a [u8],
-    first: &'a [u8],
+    spaces: usize,
+    ends: [usize; MOST_WORDS],
 }
 
 impl<'a> Model for Words<'a> {
-    ghost use Rattle.std.specs.Prelude.{◌≡◌, ℕ, List, ◌==◌};
+    ghost use Rattle.std.specs.Prelude.{ℕ, List, ◌==◌};
     ghost use Rattle.std.specs.List.{slice_split};
     ghost use Rattle.script_reader.specs.declared.words.TheConstants.{SPACE};
-    ghost use Rattle.script_reader.specs.Lines.{word_at};
+    ghost use Rattle.script_reader.specs.Inner.Cuts.{IsCut};
 
     ghost Value = { List (List ℕ) };
 
     ghost view = { λ w. slice_split (λ b. b == SPACE) w.line.now };
 
-    ghost invariant = { λ w. w.first.now ≡ word_at (slice_split (λ b. b == SPACE) w.line.now) 0 };
+    ghost invariant = { λ w. IsCut w.line.now w.spaces w.ends };
 }
 
 impl<'a> Words<'a> {
@@ -42,38 +47,46 @@ impl<'a> Words<'a> {
     pub(crate) fn of_line(line: &'a [u8]) -> Words<'a>
         ensures { result ≡ slice_split (λ b. b == SPACE) line.now }
     {
-        let first = part_of(line, 0).unwrap();
-        Words { line, first }
+        let mut spaces = 0;
+        let mut ends = [line.len(); MOST_WORDS];
+        for i in 0..line.len() {
+            if line[i] != SPACE {
+                continue;
+            }
+            if spaces < MOST_WORDS {
+                ends[spaces] = i;
+            }
+            spaces += 1;
+        }
+        Words { line, spaces, ends }
     }
 
     // How many words there are: at least one.
     pub(crate) fn len(&self) -> usize
         ensures { result ≡ length self.now }
     {
-        occurrences(self.line, SPACE) + 1
+        self.spaces + 1
     }
 
     // The word at a place, from 0.
     pub(crate) fn at(&self, index: usize) -> &'a [u8]
-        requires { index < length self.now }
+        requires there { index < length self.now }
+        requires early { index < MOST_WORDS }
         ensures { result.now ≡ word_at self.now index }
     {
-        part_of(self.line, index).unwrap()
+        if index == 0 {
+            return between(self.line, 0, self.ends[0]);
+        }
+        between(self.line, self.ends[index - 1] + 1, self.ends[index])
     }
 
     // Whether the word at a place is the given one.
     pub(crate) fn is(&self, index: usize, word: &[u8]) -> bool
-        requires { index < length self.now }
+        requires there { index < length self.now }
+        requires early { index < MOST_WORDS }
         ensures { result ≡ bytes_eq (word_at self.now index) word.now }
     {
         self.at(index) == word
-    }
-
-    // Whether the first word is the given one.
-    fn begins(&self, word: &[u8]) -> bool
-        ensures { result ≡ begins word.now self.now }
-    {
-        self.first == word
     }
 
     // Whether the line has the given first word, and so many words.
@@ -81,7 +94,7 @@ impl<'a> Words<'a> {
         requires { 0 < len }
         ensures { result ≡ (begins keyword.now self.now && length self.now == len) }
     {
-        self.begins(keyword) && self.len() == len
+        self.len() == len && self.is(0, keyword)
     }
 
     // Whether the line is one word, the given one.
@@ -93,7 +106,8 @@ impl<'a> Words<'a> {
 
     // The number that the word at a place is, or the greatest `u64` where it is greater.
     pub(crate) fn number(&self, index: usize) -> Result<u64, Fault>
-        requires { index < length self.now }
+        requires there { index < length self.now }
+        requires early { index < MOST_WORDS }
         ensures found { IfOk result
             (λ n. (is_number (word_at self.now index) ≡ true)
             × (n ≡ min (value_at self.now index) u64.MAX)) }
@@ -104,12 +118,13 @@ impl<'a> Words<'a> {
     }
 }
 
-// The part of a line between spaces at a place, from 0.
-fn part_of(line: &[u8], index: usize) -> Option<&[u8]>
-    ensures { option_map (λ part. part.now) result
-        ≡ slice_get (slice_split (λ b. b == SPACE) line.now) index }
+// The bytes from one place up to another.
+fn between(bytes: &[u8], start: usize, end: usize) -> &[u8]
+    requires rises { start ≤ end }
+    requires within { end ≤ length bytes.now }
+    ensures { result.now ≡ take (end - start) (drop start bytes.now) }
 {
-    line.split(|b| *b == SPACE).nth(index)
+    &bytes[start..end]
 }
 
 // How often a byte occurs in others.
