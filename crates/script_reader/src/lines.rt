@@ -68,5 +68,10 @@ impl<'a> Lines<'a> {
 fn line_end(text: &[u8]) -> Option<usize>
     ensures { result ≡ position (λ b. b == LINE_FEED) text.now }
 {
-    text.iter().position(|b| *b == LINE_FEED)
+    for i in 0..text.len() {
+        if text[i] == LINE_FEED {
+            return Some(i);
+        }
+    }
+    None
 }
