@@ -1,5 +1,5 @@
 -- Words, cut out of their line where they end.
-use Rattle.std.proofs.Common.{◌≡◌, ◌+◌, ◌-◌, ◌<◌, ◌≤◌, ◌==◌, ℕ, suc, zero, Bool, true, false, cond, List, [], ◌∷◌, length, take, drop, get_or, refl, sym, ap, ◌∙◌, arith}
+use Rattle.std.proofs.Common.{◌≡◌, ◌+◌, ◌-◌, ◌<◌, ◌≤◌, ◌==◌, ℕ, suc, zero, Bool, true, false, cond, List, [], ◌∷◌, ◌++◌, length, take, drop, get_or, refl, sym, ap, ◌∙◌, arith}
 use Rattle.std.specs.List.{slice_split, onto_first, count_by}
 use Rattle.std.proofs.lemmas.List.Sums.{sum_by-cons}
 use Rattle.std.proofs.lemmas.List.Splits.{length-slice_split}
@@ -100,24 +100,38 @@ last_end (b ∷ line) (suc k) few = by (is_space b) (λ j none. last_end line j 
     by true rest none = omega (arith, rest k (omega (arith, none)))
     by false rest none = omega (arith, rest (suc k) (omega (arith, none)))
 
--- at a space ends the word with as many spaces before it
-pub end_at_space : (line : List ℕ) (i k : ℕ) → i < length line → is_space (get_or line i 0) ≡ true → count_by is_space (take i line) ≡ k → word_end line k ≡ i
-end_at_space [] i k less here counted = absurd (omega arith)
-end_at_space (b ∷ line) zero zero less here counted = ap (λ (h : Bool). cond h 0 (suc (word_end line 0))) here
-end_at_space (b ∷ line) zero (suc k) less here counted = absurd (omega (arith, counted))
-end_at_space (b ∷ line) (suc i) zero less here counted =
-    by (is_space b) (λ counted. end_at_space line i 0 (omega (arith, less)) here counted) (omega (arith, counted, spaces_cons b (take i line)))
+-- a word that ends with a space ends there whatever follows
+pub end_kept : (line more : List ℕ) (k : ℕ) → k < count_by is_space line → word_end (line ++ more) k ≡ word_end line k
+end_kept [] more k less = absurd (omega arith)
+end_kept (b ∷ line) more zero less = by (is_space b) (λ some. end_kept line more 0 some) (omega (arith, less, spaces_cons b line))
   where
-    by : (here : Bool) → (count_by is_space (take i line) ≡ 0 → word_end line 0 ≡ i) → cond here 1 0 + count_by is_space (take i line) ≡ 0 → cond here 0 (suc (word_end line 0)) ≡ suc i
-    by true rest none = absurd (omega (arith, none))
-    by false rest none = ap suc (rest (omega (arith, none)))
-end_at_space (b ∷ line) (suc i) (suc k) less here counted =
-    by (is_space b) (λ j counted. end_at_space line i j (omega (arith, less)) here counted) (omega (arith, counted, spaces_cons b (take i line)))
+    by : (here : Bool) → (0 < count_by is_space line → word_end (line ++ more) 0 ≡ word_end line 0) → 0 < cond here 1 0 + count_by is_space line
+        → cond here 0 (suc (word_end (line ++ more) 0)) ≡ cond here 0 (suc (word_end line 0))
+    by true rest some = refl
+    by false rest some = ap suc (rest (omega (arith, some)))
+end_kept (b ∷ line) more (suc k) less = by (is_space b) (λ j some. end_kept line more j some) (omega (arith, less, spaces_cons b line))
   where
-    by : (here : Bool) → ((j : ℕ) → count_by is_space (take i line) ≡ j → word_end line j ≡ i) → cond here 1 0 + count_by is_space (take i line) ≡ suc k
-        → suc (word_end line (cond here k (suc k))) ≡ suc i
+    by : (here : Bool) → ((j : ℕ) → j < count_by is_space line → word_end (line ++ more) j ≡ word_end line j) → suc k < cond here 1 0 + count_by is_space line
+        → suc (word_end (line ++ more) (cond here k (suc k))) ≡ suc (word_end line (cond here k (suc k)))
     by true rest some = ap suc (rest k (omega (arith, some)))
     by false rest some = ap suc (rest (suc k) (omega (arith, some)))
+
+-- and the last word ends at a space that comes next
+pub end_here : (line : List ℕ) (space k : ℕ) → is_space space ≡ true → count_by is_space line ≡ k → word_end (line ++ space ∷ []) k ≡ length line
+end_here [] space zero is counted = ap (λ (h : Bool). cond h 0 1) is
+end_here [] space (suc k) is counted = absurd (omega (arith, counted))
+end_here (b ∷ line) space zero is counted = by (is_space b) (λ none. end_here line space 0 is none) (omega (arith, counted, spaces_cons b line))
+  where
+    by : (here : Bool) → (count_by is_space line ≡ 0 → word_end (line ++ space ∷ []) 0 ≡ length line) → cond here 1 0 + count_by is_space line ≡ 0
+        → cond here 0 (suc (word_end (line ++ space ∷ []) 0)) ≡ length (b ∷ line)
+    by true rest none = absurd (omega (arith, none))
+    by false rest none = omega (arith, rest (omega (arith, none)))
+end_here (b ∷ line) space (suc k) is counted = by (is_space b) (λ j some. end_here line space j is some) (omega (arith, counted, spaces_cons b line))
+  where
+    by : (here : Bool) → ((j : ℕ) → count_by is_space line ≡ j → word_end (line ++ space ∷ []) j ≡ length line) → cond here 1 0 + count_by is_space line ≡ suc k
+        → suc (word_end (line ++ space ∷ []) (cond here k (suc k))) ≡ length (b ∷ line)
+    by true rest some = omega (arith, rest k (omega (arith, some)))
+    by false rest some = omega (arith, rest (suc k) (omega (arith, some)))
 
 -- the bytes from one place to another are a word
 pub record IsPart (line : List ℕ) (words : List (List ℕ)) (start end i : ℕ) : Type 0 where
@@ -128,7 +142,7 @@ pub record IsPart (line : List ℕ) (words : List (List ℕ)) (start end i : ℕ
 -- a line that is cut has its first word up to the first end
 pub cut_first : (line : List ℕ) (spaces : ℕ) (ends : List ℕ) → IsCut line spaces ends → (words : List (List ℕ)) → slice_split is_space line ≡ words → IsPart line words 0 (get_or ends 0 0) 0
 cut_first line spaces ends cut words are =
-    let same = cut.each 0 (omega arith) in
+    let same = cut.each 0 (omega arith) (omega arith) in
     let size : get_or ends 0 0 - 0 ≡ word_end line 0 = omega (arith, same) in
     record {
       rises = omega arith;
@@ -142,8 +156,9 @@ pub cut_later : (line : List ℕ) (spaces : ℕ) (ends : List ℕ) → IsCut lin
 cut_later line spaces ends cut words are zero some early there = absurd (some refl)
 cut_later line spaces ends cut words are (suc k) some early there =
     let before : suc k - 1 ≡ k = omega arith in
-    let from : get_or ends (suc k - 1) 0 + 1 ≡ suc (word_end line k) = omega (arith, ap (λ j. get_or ends j 0) before, cut.each k (omega arith)) in
-    let to = cut.each (suc k) early in
+    let few : suc k ≤ spaces = omega (arith, there, ap length are, length-slice_split is_space line, cut.counted) in
+    let from : get_or ends (suc k - 1) 0 + 1 ≡ suc (word_end line k) = omega (arith, ap (λ j. get_or ends j 0) before, cut.each k (omega (arith, few)) (omega (arith, early))) in
+    let to = cut.each (suc k) few early in
     record {
       rises = omega (arith, from, to, end_rises line k (omega (arith, there, ap length are, length-slice_split is_space line)));
       within = omega (arith, to, end_within line (suc k));

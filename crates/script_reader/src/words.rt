@@ -1,11 +1,12 @@
 //! The words of a line.
 
-ghost use Rattle.std.specs.Prelude.{◌≡◌, ℕ, ◌-◌, ◌<◌, ◌≤◌, ◌==◌, ◌&&◌, true, false, min, length, take, drop, count_by, IfOk, IfErr};
+ghost use Rattle.std.specs.Prelude.{◌≡◌, ℕ, ◌-◌, ◌<◌, ◌≤◌, ◌==◌, ◌&&◌, ◌||◌, true, false, Some, None, position, slice_set, min, length, take, drop, count_by, IfSome, IfNone, IfOk, IfErr};
 ghost use Rattle.std.specs.List.{slice_split};
 ghost use Rattle.std.specs.Str.{bytes_eq};
 ghost use Rattle.script_reader.specs.Lines.{word_at};
 ghost use Rattle.script_reader.specs.Number.{is_number};
-ghost use Rattle.script_reader.specs.declared.words.TheConstants.{MOST_WORDS};
+ghost use Rattle.script_reader.specs.declared.words.TheConstants.{SPACE, LINE_FEED, MOST_WORDS};
+ghost use Rattle.script_reader.specs.Inner.Cuts.{IsCut};
 ghost use Rattle.script_reader.specs.Forms.{begins, is_only, value_at};
 
 use crate::fault::Fault;
@@ -43,21 +44,11 @@ impl<'a> Model for Words<'a> {
 }
 
 impl<'a> Words<'a> {
-    // The words of a line without its line feed.
-    pub(crate) fn of_line(line: &'a [u8]) -> Words<'a>
+    // The words of a line without its line feed, with where they end.
+    pub(crate) fn new(line: &'a [u8], spaces: usize, ends: [usize; MOST_WORDS]) -> Words<'a>
+        requires { IsCut line.now spaces ends }
         ensures { result ≡ slice_split (λ b. b == SPACE) line.now }
     {
-        let mut spaces = 0;
-        let mut ends = [line.len(); MOST_WORDS];
-        for i in 0..line.len() {
-            if line[i] != SPACE {
-                continue;
-            }
-            if spaces < MOST_WORDS {
-                ends[spaces] = i;
-            }
-            spaces += 1;
-        }
         Words { line, spaces, ends }
     }
 
@@ -115,6 +106,56 @@ impl<'a> Words<'a> {
             (λ why. (why ≡ Fault.Number) × (is_number (word_at self.now index) ≡ false)) }
     {
         numeral(self.at(index)).ok_or(Fault::Number)
+    }
+}
+
+// Where the first line of a text ends, how many spaces it has, and where the first of its words end.
+#[derive(Drop)]
+pub(crate) struct Cut {
+    pub(crate) end: usize,
+    pub(crate) spaces: usize,
+    pub(crate) ends: [usize; MOST_WORDS],
+}
+
+// Cuts the first line of a text into words.
+pub(crate) fn cut_of(text: &[u8]) -> Option<Cut>
+    ensures found { IfSome result (λ cut. (position (λ b. b == LINE_FEED) text.now ≡ Some cut.end)
+        × IsCut (take cut.end text.now) cut.spaces cut.ends) }
+    ensures none { IfNone result (position (λ b. b == LINE_FEED) text.now ≡ None) }
+{
+    let mut spaces = 0;
+    let mut ends = [0; MOST_WORDS];
+    for i in 0..text.len() {
+        if !ends_word(text[i]) {
+            continue;
+        }
+        keep(&mut ends, spaces, i);
+        if text[i] == LINE_FEED {
+            return Some(Cut {
+                end: i,
+                spaces,
+                ends,
+            });
+        }
+        spaces += 1;
+    }
+    None
+}
+
+// Whether a byte stands behind a word. Most are above a space.
+fn ends_word(byte: u8) -> bool
+    ensures { result ≡ (byte == SPACE || byte == LINE_FEED) }
+{
+    byte <= SPACE && (byte == SPACE || byte == LINE_FEED)
+}
+
+// Keeps where a word ends, if it is one of the first.
+fn keep(ends: &mut [usize; MOST_WORDS], place: usize, end: usize)
+    ensures kept { place < MOST_WORDS → ends.new ≡ slice_set ends.old place end }
+    ensures late { MOST_WORDS ≤ place → ends.new ≡ ends.old }
+{
+    if place < MOST_WORDS {
+        ends[place] = end;
     }
 }
 
