@@ -1,6 +1,7 @@
 -- How a text is cut into lines, and a line into words.
-use Rattle.std.proofs.Common.{◌≡◌, ℕ, suc, zero, ◌-◌, ◌<◌, ◌≤◌, ◌==◌, Bool, true, false, not, ◌&&◌, cond, List, [], ◌∷◌, ◌++◌, length, take, drop, get_or, Some, None, refl, sym, ap, subst, ◌∙◌, append_assoc, eq-eqb, eqb-true, take-append-drop, arith, true≢false}
+use Rattle.std.proofs.Common.{◌≡◌, ℕ, suc, zero, ◌+◌, ◌-◌, nat_lt, ◌<◌, ◌≤◌, ◌==◌, Bool, true, false, not, ◌&&◌, cond, List, [], ◌∷◌, ◌++◌, length, take, drop, get_or, Some, None, refl, sym, ap, subst, ◌∙◌, append_assoc, eq-eqb, eqb-true, take-append-drop, arith, true≢false}
 use Rattle.std.specs.List.{AllByRecursion, list_all, slice_split, onto_first, join_with_byte, position, position_or_len}
+use Rattle.std.proofs.lemmas.Bool.{lt-ltb, le-ltb}
 use Rattle.std.proofs.lemmas.List.{take_rest}
 use Rattle.std.proofs.Math.Seq.{drop-cons}
 use Rattle.std.proofs.lemmas.Grind.{common_steps}
@@ -119,3 +120,26 @@ word_from_test (b ∷ word) h = by (b == SPACE) refl (b == LINE_FEED) refl (list
     by true e q f r rest h = cc
     by false e true f r rest h = cc
     by false e false f false rest h = cc
+
+-- where a byte stands first
+first_of : (c : ℕ) (xs : List ℕ) (i : ℕ) → i < length xs → ((k : ℕ) → k < i → (get_or xs k 0 == c) ≡ false) → (get_or xs i 0 == c) ≡ true → position_or_len (λ b. b == c) xs ≡ i
+first_of c [] i less before here = absurd (omega arith)
+first_of c (x ∷ xs) zero less before here = ap (λ (b : Bool). cond (not b) (1 + position_or_len (λ b. b == c) xs) 0) here
+first_of c (x ∷ xs) (suc i) less before here =
+    ap (λ (b : Bool). cond (not b) (1 + position_or_len (λ b. b == c) xs) 0) (before 0 (omega arith))
+    ∙ omega (arith, first_of c xs i (omega arith) (λ k lower. before (suc k) (omega arith)) here)
+
+pub first_is_at : (c : ℕ) (xs : List ℕ) (i : ℕ) → i < length xs → ((k : ℕ) → k < i → (get_or xs k 0 == c) ≡ false) → (get_or xs i 0 == c) ≡ true → Some i ≡ position (λ b. b == c) xs
+first_is_at c xs i less before here =
+    let at = first_of c xs i less before here in
+    sym ((λ t. cond (nat_lt (at t) (length xs)) (Some (at t)) None) ∙ ap (λ (b : Bool). cond b (Some i) None) (lt-ltb i (length xs) less))
+
+-- or that it stands nowhere
+none_of : (c : ℕ) (xs : List ℕ) → ((k : ℕ) → k < length xs → (get_or xs k 0 == c) ≡ false) → position_or_len (λ b. b == c) xs ≡ length xs
+none_of c [] free = refl
+none_of c (x ∷ xs) free = ap (λ (b : Bool). cond (not b) (1 + position_or_len (λ b. b == c) xs) 0) (free 0 (omega arith)) ∙ omega (arith, none_of c xs (λ k less. free (suc k) (omega arith)))
+
+pub none_is_at : (c : ℕ) (xs : List ℕ) → ((k : ℕ) → k < length xs → (get_or xs k 0 == c) ≡ false) → None ≡ position (λ b. b == c) xs
+none_is_at c xs free =
+    let past = none_of c xs free in
+    sym ((λ t. cond (nat_lt (past t) (length xs)) (Some (past t)) None) ∙ ap (λ (b : Bool). cond b (Some (length xs)) None) (le-ltb (length xs) (length xs) (omega arith)))

@@ -5,3 +5,4 @@ pub mod Rows
 pub mod Placed
 pub mod Callers
 pub mod Scripts
+pub mod Cuts

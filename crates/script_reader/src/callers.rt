@@ -46,7 +46,7 @@ impl Callers {
             && nat_le MOST_CALLERS (length (callers_in self.now)))) }
     {
         self.count >= MOST_SCRIPTS
-            || (!self.names.contains(name) && self.names.len() >= MOST_CALLERS)
+            || (self.names.len() >= MOST_CALLERS && !self.names.contains(name))
     }
 
     // Adds a script of the caller with the name.

@@ -6,7 +6,7 @@ ghost use Rattle.script_reader.specs.Text.{line as text_of};
 ghost use Rattle.script_reader.specs.declared.words.TheConstants.{LINE_FEED};
 
 use crate::fault::Fault;
-use crate::words::{LINE_FEED, Words};
+use crate::words::{Words, cut_of};
 use std::marker::Model;
 
 // What is left of a text. Contracts see it.
@@ -38,18 +38,6 @@ impl<'a> Lines<'a> {
         self.left.len()
     }
 
-    // The next line, without its line feed. Where no line feed is left, nothing changes.
-    fn next(&mut self) -> Option<&'a [u8]>
-        ensures found { IfSome result
-            (λ line. (self.old ≡ line.now ++ LINE_FEED ∷ self.new) × IsFreeOf LINE_FEED line.now) }
-        ensures end { IfNone result (IsFreeOf LINE_FEED self.old × (self.new ≡ self.old)) }
-    {
-        let end = line_end(self.left)?;
-        let (line, after) = self.left.split_at(end);
-        self.left = &after[1..];
-        Some(line)
-    }
-
     // The words of the next line. Where no whole line is left, nothing changes.
     pub(crate) fn words(&mut self) -> Result<Words<'a>, Fault>
         ensures found { IfOk result
@@ -57,16 +45,13 @@ impl<'a> Lines<'a> {
         ensures end { IfErr result
             (λ why. (why ≡ Fault.End) × IsFreeOf LINE_FEED self.old × (self.new ≡ self.old)) }
     {
-        match self.next() {
-            Some(line) => Ok(Words::of_line(line)),
+        match cut_of(self.left) {
+            Some(cut) => {
+                let (line, after) = self.left.split_at(cut.end);
+                self.left = &after[1..];
+                Ok(Words::new(line, cut.spaces, cut.ends))
+            }
             None => Err(Fault::End),
         }
     }
-}
-
-// Where the first line ends.
-fn line_end(text: &[u8]) -> Option<usize>
-    ensures { result ≡ position (λ b. b == LINE_FEED) text.now }
-{
-    text.iter().position(|b| *b == LINE_FEED)
 }

@@ -17,38 +17,27 @@ use crate::fault::Fault;
 pub fn numeral(word: &[u8]) -> Option<u64>
     ensures { SomeIff result (IsNumber word.now) (min (digits_value 10 word.now) u64.MAX) }
 {
-    if is_number(word) {
-        Some(value_of(word))
-    } else {
-        None
+    if word.is_empty() || (word[0] == b'0' && word.len() != 1) {
+        return None;
     }
+    value_of(word)
 }
 
-// Whether a word is digits with no zero in front.
-fn is_number(word: &[u8]) -> bool
-    ensures { result ≡ is_number word.now }
-{
-    !word.is_empty() && (word[0] != b'0' || word.len() == 1) && are_digits(word)
-}
-
-fn are_digits(word: &[u8]) -> bool
-    ensures { result ≡ list_all is_ascii_digit word.now }
-{
-    word.iter().all(|b| b.is_ascii_digit())
-}
-
-// The number that digits are, or the greatest `u64` where it is greater.
-fn value_of(word: &[u8]) -> u64
-    requires { all_ascii_digits word.now ≡ true }
-    ensures { result ≡ min (digits_value 10 word.now) u64.MAX }
+// The number that digits are, or the greatest `u64` where it is greater. None where a byte is no digit.
+fn value_of(word: &[u8]) -> Option<u64>
+    ensures { SomeIff result (all_ascii_digits word.now ≡ true)
+        (min (digits_value 10 word.now) u64.MAX) }
 {
     let mut value = 0u64;
     for b in word {
+        if !b.is_ascii_digit() {
+            return None;
+        }
         value = value
             .saturating_mul(10)
             .saturating_add(u64::from(*b - b'0'));
     }
-    value
+    Some(value)
 }
 
 // A number that is in its range.

@@ -1,10 +1,12 @@
 //! The words of a line.
 
-ghost use Rattle.std.specs.Prelude.{◌≡◌, ℕ, ◌<◌, ◌==◌, ◌&&◌, true, false, min, length, count_by, option_map, slice_get, IfOk, IfErr};
+ghost use Rattle.std.specs.Prelude.{◌≡◌, ℕ, ◌-◌, ◌<◌, ◌≤◌, ◌==◌, ◌&&◌, ◌||◌, true, false, Some, None, position, slice_set, min, length, take, drop, count_by, IfSome, IfNone, IfOk, IfErr};
 ghost use Rattle.std.specs.List.{slice_split};
 ghost use Rattle.std.specs.Str.{bytes_eq};
 ghost use Rattle.script_reader.specs.Lines.{word_at};
 ghost use Rattle.script_reader.specs.Number.{is_number};
+ghost use Rattle.script_reader.specs.declared.words.TheConstants.{SPACE, LINE_FEED, MOST_WORDS};
+ghost use Rattle.script_reader.specs.Inner.Cuts.{IsCut};
 ghost use Rattle.script_reader.specs.Forms.{begins, is_only, value_at};
 
 use crate::fault::Fault;
@@ -17,63 +19,65 @@ pub const SPACE: u8 = b' ';
 /// What ends a line.
 pub const LINE_FEED: u8 = b'\n';
 
-// The words of a line. All but the first are looked for each time, so they take no memory. An empty word is a word.
+/// The most words of a line that may stand in a text.
+pub const MOST_WORDS: usize = 8;
+
+// The words of a line, with where the first of them end. An empty word is a word.
 #[derive(Drop)]
 pub(crate) struct Words<'a> {
     line: &'a [u8],
-    first: &'a [u8],
+    spaces: usize,
+    ends: [usize; MOST_WORDS],
 }
 
 impl<'a> Model for Words<'a> {
-    ghost use Rattle.std.specs.Prelude.{◌≡◌, ℕ, List, ◌==◌};
+    ghost use Rattle.std.specs.Prelude.{ℕ, List, ◌==◌};
     ghost use Rattle.std.specs.List.{slice_split};
     ghost use Rattle.script_reader.specs.declared.words.TheConstants.{SPACE};
-    ghost use Rattle.script_reader.specs.Lines.{word_at};
+    ghost use Rattle.script_reader.specs.Inner.Cuts.{IsCut};
 
     ghost Value = { List (List ℕ) };
 
     ghost view = { λ w. slice_split (λ b. b == SPACE) w.line.now };
 
-    ghost invariant = { λ w. w.first.now ≡ word_at (slice_split (λ b. b == SPACE) w.line.now) 0 };
+    ghost invariant = { λ w. IsCut w.line.now w.spaces w.ends };
 }
 
 impl<'a> Words<'a> {
-    // The words of a line without its line feed.
-    pub(crate) fn of_line(line: &'a [u8]) -> Words<'a>
+    // The words of a line without its line feed, with where they end.
+    pub(crate) fn new(line: &'a [u8], spaces: usize, ends: [usize; MOST_WORDS]) -> Words<'a>
+        requires { IsCut line.now spaces ends }
         ensures { result ≡ slice_split (λ b. b == SPACE) line.now }
     {
-        let first = part_of(line, 0).unwrap();
-        Words { line, first }
+        Words { line, spaces, ends }
     }
 
     // How many words there are: at least one.
     pub(crate) fn len(&self) -> usize
         ensures { result ≡ length self.now }
     {
-        occurrences(self.line, SPACE) + 1
+        self.spaces + 1
     }
 
     // The word at a place, from 0.
     pub(crate) fn at(&self, index: usize) -> &'a [u8]
-        requires { index < length self.now }
+        requires there { index < length self.now }
+        requires early { index < MOST_WORDS }
         ensures { result.now ≡ word_at self.now index }
     {
-        part_of(self.line, index).unwrap()
+        if index == 0 {
+            return between(self.line, 0, self.ends[0]);
+        }
+        between(self.line, self.ends[index - 1] + 1, self.ends[index])
     }
 
     // Whether the word at a place is the given one.
     pub(crate) fn is(&self, index: usize, word: &[u8]) -> bool
-        requires { index < length self.now }
+        requires there { index < length self.now }
+        requires early { index < MOST_WORDS }
         ensures { result ≡ bytes_eq (word_at self.now index) word.now }
     {
         self.at(index) == word
-    }
-
-    // Whether the first word is the given one.
-    fn begins(&self, word: &[u8]) -> bool
-        ensures { result ≡ begins word.now self.now }
-    {
-        self.first == word
     }
 
     // Whether the line has the given first word, and so many words.
@@ -81,7 +85,7 @@ impl<'a> Words<'a> {
         requires { 0 < len }
         ensures { result ≡ (begins keyword.now self.now && length self.now == len) }
     {
-        self.begins(keyword) && self.len() == len
+        self.len() == len && self.is(0, keyword)
     }
 
     // Whether the line is one word, the given one.
@@ -93,7 +97,8 @@ impl<'a> Words<'a> {
 
     // The number that the word at a place is, or the greatest `u64` where it is greater.
     pub(crate) fn number(&self, index: usize) -> Result<u64, Fault>
-        requires { index < length self.now }
+        requires there { index < length self.now }
+        requires early { index < MOST_WORDS }
         ensures found { IfOk result
             (λ n. (is_number (word_at self.now index) ≡ true)
             × (n ≡ min (value_at self.now index) u64.MAX)) }
@@ -104,12 +109,63 @@ impl<'a> Words<'a> {
     }
 }
 
-// The part of a line between spaces at a place, from 0.
-fn part_of(line: &[u8], index: usize) -> Option<&[u8]>
-    ensures { option_map (λ part. part.now) result
-        ≡ slice_get (slice_split (λ b. b == SPACE) line.now) index }
+// Where the first line of a text ends, how many spaces it has, and where the first of its words end.
+#[derive(Drop)]
+pub(crate) struct Cut {
+    pub(crate) end: usize,
+    pub(crate) spaces: usize,
+    pub(crate) ends: [usize; MOST_WORDS],
+}
+
+// Cuts the first line of a text into words.
+pub(crate) fn cut_of(text: &[u8]) -> Option<Cut>
+    ensures found { IfSome result (λ cut. (position (λ b. b == LINE_FEED) text.now ≡ Some cut.end)
+        × IsCut (take cut.end text.now) cut.spaces cut.ends) }
+    ensures none { IfNone result (position (λ b. b == LINE_FEED) text.now ≡ None) }
 {
-    line.split(|b| *b == SPACE).nth(index)
+    let mut spaces = 0;
+    let mut ends = [0; MOST_WORDS];
+    for i in 0..text.len() {
+        if !ends_word(text[i]) {
+            continue;
+        }
+        keep(&mut ends, spaces, i);
+        if text[i] == LINE_FEED {
+            return Some(Cut {
+                end: i,
+                spaces,
+                ends,
+            });
+        }
+        spaces += 1;
+    }
+    None
+}
+
+// Whether a byte stands behind a word. Most are above a space.
+fn ends_word(byte: u8) -> bool
+    ensures { result ≡ (byte == SPACE || byte == LINE_FEED) }
+{
+    byte <= SPACE && (byte == SPACE || byte == LINE_FEED)
+}
+
+// Keeps where a word ends, if it is one of the first.
+fn keep(ends: &mut [usize; MOST_WORDS], place: usize, end: usize)
+    ensures kept { place < MOST_WORDS → ends.new ≡ slice_set ends.old place end }
+    ensures late { MOST_WORDS ≤ place → ends.new ≡ ends.old }
+{
+    if place < MOST_WORDS {
+        ends[place] = end;
+    }
+}
+
+// The bytes from one place up to another.
+fn between(bytes: &[u8], start: usize, end: usize) -> &[u8]
+    requires rises { start ≤ end }
+    requires within { end ≤ length bytes.now }
+    ensures { result.now ≡ take (end - start) (drop start bytes.now) }
+{
+    &bytes[start..end]
 }
 
 // How often a byte occurs in others.

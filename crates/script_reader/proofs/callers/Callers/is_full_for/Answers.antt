@@ -1,23 +1,34 @@
-use Rattle.std.proofs.Common.{◌≡◌, ◌||◌, ◌&&◌, not, true, false, nat_le, sym, ap, ◌∙◌, arith, length}
+use Rattle.std.proofs.Common.{◌≡◌, ◌||◌, ◌&&◌, Bool, not, true, false, nat_le, refl, sym, ap, ◌∙◌, arith, length}
 use Rattle.std.specs.String.{string_bytes}
-use Rattle.std.proofs.lemmas.Bool.{lt-leb}
+use Rattle.std.proofs.lemmas.Bool.{lt-leb, le-leb}
 use Rattle.script_reader.specs.Inner.Callers.{callers_in, is_caller}
 use Rattle.script_reader.proofs.Gathering.{count_callers, has_caller}
 use Rattle.script_reader.proofs.callers.Callers.is_full_for.Goals as goal
 
-pub returns-then-not-contains : goal.returns-then-not-contains
-returns-then-not-contains c =
-    let callers = callers_in c.args.self.now in
-    let few = lt-leb 65536 c.args.self.now.count c.if-self-ge-MOST_SCRIPTS.false in
-    let new : is_caller c.args.name.now callers ≡ false = has_caller string_bytes (λ v. v.items) c.args.self.now.names.keys c.args.self.now.scripts.items c.requires.beside c.args.name.now ∙ sym c.contains.ensures ∙ c.if-not-contains.true in
-    let many : c.len.result ≡ length callers = omega (arith, count_callers string_bytes (λ v. v.items) c.args.self.now.names.keys c.args.self.now.scripts.items c.requires.beside, c.len.ensures.len) in
-    (λ i. nat_le 1024 (many i))
-    ∙ sym (λ i. (ap (nat_le 65536) (sym c.requires.counted) ∙ few) i || (not (new i) && nat_le 1024 (length callers)))
+-- a test beside one that passes
+with_true : (b : Bool) → b ≡ (b && true)
+with_true true = refl
+with_true false = refl
 
-pub returns-else-not-contains : goal.returns-else-not-contains
-returns-else-not-contains c =
+-- and beside one that does not
+with_false : (b : Bool) → false ≡ (b && false)
+with_false true = refl
+with_false false = refl
+
+pub returns-then-len-ge-MOST_CALLERS : goal.returns-then-len-ge-MOST_CALLERS
+returns-then-len-ge-MOST_CALLERS c =
     let callers = callers_in c.args.self.now in
     let few = lt-leb 65536 c.args.self.now.count c.if-self-ge-MOST_SCRIPTS.false in
-    let old : is_caller c.args.name.now callers ≡ true = has_caller string_bytes (λ v. v.items) c.args.self.now.names.keys c.args.self.now.scripts.items c.requires.beside c.args.name.now ∙ sym c.contains.ensures ∙ c.if-not-contains.false in
-    ap not c.if-not-contains.false
-    ∙ sym (λ i. (ap (nat_le 65536) (sym c.requires.counted) ∙ few) i || (not (old i) && nat_le 1024 (length callers)))
+    let known : is_caller c.args.name.now callers ≡ c.contains.result = has_caller string_bytes (λ v. v.items) c.args.self.now.names.keys c.args.self.now.scripts.items c.requires.beside c.args.name.now ∙ sym c.contains.ensures in
+    let many : nat_le 1024 (length callers) ≡ true = le-leb 1024 (length callers) (omega (arith, count_callers string_bytes (λ v. v.items) c.args.self.now.names.keys c.args.self.now.scripts.items c.requires.beside, c.len.ensures.len, c.if-len-ge-MOST_CALLERS.true)) in
+    with_true (not c.contains.result)
+    ∙ sym (λ i. (ap (nat_le 65536) (sym c.requires.counted) ∙ few) i || (not (known i) && many i))
+
+pub returns-else-len-ge-MOST_CALLERS : goal.returns-else-len-ge-MOST_CALLERS
+returns-else-len-ge-MOST_CALLERS c =
+    let callers = callers_in c.args.self.now in
+    let few = lt-leb 65536 c.args.self.now.count c.if-self-ge-MOST_SCRIPTS.false in
+    let room : nat_le 1024 (length callers) ≡ false = lt-leb 1024 (length callers) (omega (arith, count_callers string_bytes (λ v. v.items) c.args.self.now.names.keys c.args.self.now.scripts.items c.requires.beside, c.len.ensures.len, c.if-len-ge-MOST_CALLERS.false)) in
+    lt-leb 1024 c.len.result c.if-len-ge-MOST_CALLERS.false
+    ∙ with_false (not (is_caller c.args.name.now callers))
+    ∙ sym (λ i. (ap (nat_le 65536) (sym c.requires.counted) ∙ few) i || (not (is_caller c.args.name.now callers) && room i))

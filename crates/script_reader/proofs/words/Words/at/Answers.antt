@@ -1,14 +1,29 @@
-use Rattle.std.proofs.Common.{◌<◌, ◌==◌, ℕ, List, length, Bor, option_map, sym, ap, subst, ◌∙◌}
-use Rattle.std.specs.List.{slice_split}
-use Rattle.script_reader.specs.declared.words.TheConstants.{SPACE}
+use Rattle.std.proofs.Common.{sym, ap, ◌∙◌, arith}
 use Rattle.script_reader.specs.Lines.{word_at}
-use Rattle.script_reader.proofs.Parting.{part_there, part_is_word}
+use Rattle.script_reader.proofs.Parting.{cut_first, cut_later}
 use Rattle.script_reader.proofs.words.Words.at.Goals as goal
 
-pub unwrap-requires : goal.unwrap-requires
-unwrap-requires c = part_there c.part_of.result (slice_split (λ b. b == SPACE) c.self.inside.line.now) c.args.index c.part_of.ensures (subst (λ (ws : List (List ℕ)). c.args.index < length ws) (sym c.self.view_is) c.requires)
+pub between-requires-clause-within : goal.between-requires-clause-within
+between-requires-clause-within c = (cut_first c.self.inside.line.now c.self.inside.spaces c.self.inside.ends c.self.invariant c.args.self.now c.self.view_is).within
+
+pub returns-then-index-eq0 : goal.returns-then-index-eq0
+returns-then-index-eq0 c =
+    c.between.ensures
+    ∙ (cut_first c.self.inside.line.now c.self.inside.spaces c.self.inside.ends c.self.invariant c.args.self.now c.self.view_is).word
+    ∙ ap (word_at c.args.self.now) (sym c.if-index-eq0.true)
+
+pub overflow_add-self-inside : goal.overflow_add-self-inside
+overflow_add-self-inside c =
+    let part = cut_later c.self.inside.line.now c.self.inside.spaces c.self.inside.ends c.self.invariant c.args.self.now c.self.view_is c.args.index c.if-index-eq0.false c.requires.early c.requires.there in
+    omega (arith, part.rises, part.within, c.self.told.0.0)
+
+pub between-requires-2-clause-rises : goal.between-requires-2-clause-rises
+between-requires-2-clause-rises c = (cut_later c.self.inside.line.now c.self.inside.spaces c.self.inside.ends c.self.invariant c.args.self.now c.self.view_is c.args.index c.if-index-eq0.false c.requires.early c.requires.there).rises
+
+pub between-requires-2-clause-within : goal.between-requires-2-clause-within
+between-requires-2-clause-within c = (cut_later c.self.inside.line.now c.self.inside.spaces c.self.inside.ends c.self.invariant c.args.self.now c.self.view_is c.args.index c.if-index-eq0.false c.requires.early c.requires.there).within
 
 pub returns : goal.returns
 returns c =
-    part_is_word c.unwrap.result (slice_split (λ b. b == SPACE) c.self.inside.line.now) c.args.index (ap (option_map (λ (w : Bor (List ℕ)). w.now)) (sym c.unwrap.ensures) ∙ c.part_of.ensures)
-    ∙ ap (λ (ws : List (List ℕ)). word_at ws c.args.index) c.self.view_is
+    c.between-2.ensures
+    ∙ (cut_later c.self.inside.line.now c.self.inside.spaces c.self.inside.ends c.self.invariant c.args.self.now c.self.view_is c.args.index c.if-index-eq0.false c.requires.early c.requires.there).word

@@ -4,4 +4,4 @@ use Rattle.script_reader.specs.declared.words.TheConstants.{SPACE}
 use Rattle.script_reader.proofs.words.Words.len.Goals as goal
 
 pub returns : goal.returns
-returns c = omega (arith, c.occurrences.ensures, length-slice_split (λ b. b == SPACE) c.self.inside.line.now, ap length c.self.view_is)
+returns c = omega (arith, c.self.invariant.counted, length-slice_split (λ b. b == SPACE) c.self.inside.line.now, ap length c.self.view_is)
