@@ -1,3 +1,4 @@
+pub mod Decimals
 pub mod Walks
 pub mod Walked
 pub mod Journals

@@ -8,6 +8,7 @@ ghost use Rattle.books_model.specs.Ranges.{AreInRange};
 ghost use Rattle.script_reader.specs.declared.words.TheConstants.{SPACE};
 ghost use Rattle.script_reader.specs.Text.{account_line, books_lines, call_line, header_line, number, position_line, price_line};
 
+use crate::decimal::push_next;
 use books_model::Books;
 use io_ends::OutOfMemory;
 use std::alloc::{AllocError, Global};
@@ -17,7 +18,9 @@ fn write_size(text: &mut String, name: &str, size: u32) -> Result<(), AllocError
         (string_bytes text.new
         ≡ string_bytes text.old ++ SPACE ∷ (name.now ++ SPACE ∷ number size)) }
 {
-    write!(text, " {name} {size}")
+    text.push(' ')?;
+    text.push_str(name)?;
+    push_next(text, u64::from(size))
 }
 
 fn write_header(text: &mut String, books: &Books) -> Result<(), AllocError>
@@ -35,7 +38,10 @@ fn write_account(text: &mut String, account: u32, cash: u64) -> Result<(), Alloc
     ensures { OnOk result
         (string_bytes text.new ≡ string_bytes text.old ++ account_line (account, cash)) }
 {
-    write!(text, "account {account} {cash}\n")
+    text.push_str("account")?;
+    push_next(text, u64::from(account))?;
+    push_next(text, cash)?;
+    text.push('\n')
 }
 
 fn write_accounts(text: &mut String, books: &Books) -> Result<(), AllocError>
@@ -56,7 +62,10 @@ fn write_price(text: &mut String, instrument: u32, price: u64) -> Result<(), All
     ensures { OnOk result
         (string_bytes text.new ≡ string_bytes text.old ++ price_line (instrument, price)) }
 {
-    write!(text, "price {instrument} {price}\n")
+    text.push_str("price")?;
+    push_next(text, u64::from(instrument))?;
+    push_next(text, price)?;
+    text.push('\n')
 }
 
 fn write_prices(text: &mut String, books: &Books) -> Result<(), AllocError>
@@ -83,7 +92,11 @@ fn write_position(
         (string_bytes text.new
         ≡ string_bytes text.old ++ position_line ((account, instrument), quantity)) }
 {
-    write!(text, "position {account} {instrument} {quantity}\n")
+    text.push_str("position")?;
+    push_next(text, u64::from(account))?;
+    push_next(text, u64::from(instrument))?;
+    push_next(text, quantity)?;
+    text.push('\n')
 }
 
 fn write_positions(text: &mut String, books: &Books) -> Result<(), AllocError>
@@ -104,7 +117,10 @@ fn write_call(text: &mut String, account: u32, shortfall: u64) -> Result<(), All
     ensures { OnOk result
         (string_bytes text.new ≡ string_bytes text.old ++ call_line (account, shortfall)) }
 {
-    write!(text, "call {account} {shortfall}\n")
+    text.push_str("call")?;
+    push_next(text, u64::from(account))?;
+    push_next(text, shortfall)?;
+    text.push('\n')
 }
 
 fn write_calls(text: &mut String, books: &Books) -> Result<(), AllocError>

@@ -1,18 +1,39 @@
 //! The text of a journal and of closing books.
 
-ghost use Rattle.std.specs.Prelude.{◌≡◌, ◌++◌, length, All, IfOk, OnOk};
+ghost use Rattle.std.specs.Prelude.{◌≡◌, ◌+◌, [], ◌∷◌, ◌++◌, length, All, IfOk, OnOk};
 ghost use Rattle.std.specs.String.{string_bytes};
+ghost use Rattle.script_reader.specs.declared.words.TheConstants.{SPACE};
+ghost use Rattle.script_reader.specs.Text.{number};
 ghost use Rattle.script_reader.specs.Journal.{IsPlace};
 ghost use Rattle.books_report.specs.Output.{journal_line, journal_lines, text_of};
 ghost use Rattle.books_report.specs.Lines.{place_of, ran_of, scripts_of};
 
 use crate::books::write_books;
+use crate::decimal::{push_next, push_number};
 use crate::line::Line;
 use crate::words::write_reply;
 use books_model::{Books, Reply};
 use io_ends::OutOfMemory;
 use script_reader::Input;
 use std::alloc::{AllocError, Global};
+
+// What stands before the reply.
+fn write_place(text: &mut String, serial: u64, name: &str, line: Line) -> Result<(), AllocError>
+    ensures { OnOk result
+        (string_bytes text.new
+        ≡ string_bytes text.old
+        ++ number serial
+        ++ SPACE ∷ (name.now
+        ++ SPACE ∷ (number (line.index + 1) ++ SPACE ∷ (number line.restarts ++ SPACE ∷ [])))) }
+{
+    let index = u64::from(line.index) + 1;
+    push_number(text, serial)?;
+    text.push(' ')?;
+    text.push_str(name)?;
+    push_next(text, index)?;
+    push_next(text, u64::from(line.restarts))?;
+    text.push(' ')
+}
 
 pub(crate) fn write_line(
     text: &mut String,
@@ -26,9 +47,7 @@ pub(crate) fn write_line(
         ≡ string_bytes text.old
         ++ journal_line serial name.now (ran_of line reply.now)) }
 {
-    let index = u64::from(line.index) + 1;
-    let restarts = line.restarts;
-    write!(text, "{serial} {name} {index} {restarts} ")?;
+    write_place(text, serial, name, line)?;
     write_reply(text, reply)?;
     text.push('\n')
 }

@@ -1,14 +1,38 @@
 //! The words of replies.
 
-ghost use Rattle.std.specs.Prelude.{◌≡◌, ◌∷◌, ◌++◌, OnOk};
+ghost use Rattle.std.specs.Prelude.{◌≡◌, ◌∷◌, ◌++◌, OnOk, codes};
 ghost use Rattle.std.specs.String.{string_bytes};
 ghost use Rattle.std.specs.List.{flat_map, join_with_byte};
 ghost use Rattle.script_reader.specs.declared.words.TheConstants.{SPACE};
+ghost use Rattle.script_reader.specs.Text.{number};
 ghost use Rattle.books_model.specs.Words.{value_word};
 ghost use Rattle.books_report.specs.Words.{reply_words};
 
-use books_model::{Reply, Values};
+use crate::decimal::{push_next, push_number};
+use books_model::{Reply, Value, Values};
 use std::alloc::AllocError;
+
+fn write_taken(text: &mut String, account: u32, shortfall: u64) -> Result<(), AllocError>
+    ensures { OnOk result
+        (string_bytes text.new
+        ≡ string_bytes text.old ++ SPACE ∷ (number account ++ codes ":" ++ number shortfall)) }
+{
+    push_next(text, u64::from(account))?;
+    text.push(':')?;
+    push_number(text, shortfall)
+}
+
+fn write_value(text: &mut String, value: Value) -> Result<(), AllocError>
+    ensures { OnOk result
+        (string_bytes text.new ≡ string_bytes text.old ++ SPACE ∷ value_word value) }
+{
+    match value {
+        Value::Done => text.push_str(" ok"),
+        Value::Number(number) => push_next(text, number),
+        Value::Call(account, shortfall) => write_taken(text, account, shortfall),
+        Value::Nothing => text.push_str(" none"),
+    }
+}
 
 fn write_values(text: &mut String, values: &Values) -> Result<(), AllocError>
     ensures { OnOk result
@@ -16,7 +40,7 @@ fn write_values(text: &mut String, values: &Values) -> Result<(), AllocError>
         ≡ string_bytes text.old ++ flat_map (λ v. SPACE ∷ value_word v) values.now) }
 {
     for value in values {
-        write!(text, " {value}")?;
+        write_value(text, *value)?;
     }
     Ok(())
 }
@@ -32,7 +56,14 @@ pub fn write_reply(text: &mut String, reply: &Reply) -> Result<(), AllocError>
             text.push_str("done")?;
             write_values(text, values)
         }
-        Reply::Declined(number, why) => write!(text, "declined {number} {why}"),
-        Reply::Full(number) => write!(text, "full {number}"),
+        Reply::Declined(number, why) => {
+            text.push_str("declined")?;
+            push_next(text, u64::from(*number))?;
+            write!(text, " {why}")
+        }
+        Reply::Full(number) => {
+            text.push_str("full")?;
+            push_next(text, u64::from(*number))
+        }
     }
 }

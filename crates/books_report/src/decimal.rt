@@ -1,0 +1,67 @@
+//! Numbers in a text.
+
+ghost use Rattle.std.specs.Prelude.{◌≡◌, ◌+◌, ◌/◌, ◌%◌, ◌<◌, [], ◌∷◌, ◌++◌, OnOk};
+ghost use Rattle.std.specs.String.{string_bytes};
+ghost use Rattle.script_reader.specs.declared.words.TheConstants.{SPACE};
+ghost use Rattle.script_reader.specs.Text.{number};
+
+use std::alloc::AllocError;
+
+#[inline(always)]
+fn push_digit(text: &mut String, digit: u64) -> Result<(), AllocError>
+    requires { digit < 10 }
+    ensures { OnOk result (string_bytes text.new ≡ string_bytes text.old ++ (48 + digit) ∷ []) }
+{
+    text.push(char::from(b'0' + digit as u8))
+}
+
+#[inline(always)]
+fn push_pair(text: &mut String, pair: u64) -> Result<(), AllocError>
+    requires { pair < 100 }
+    ensures { OnOk result
+        (string_bytes text.new
+        ≡ string_bytes text.old ++ (48 + pair / 10) ∷ (48 + pair % 10) ∷ []) }
+{
+    push_digit(text, pair / 10)?;
+    push_digit(text, pair % 10)
+}
+
+#[inline(always)]
+fn push_short(text: &mut String, value: u64) -> Result<(), AllocError>
+    requires { value < 100 }
+    ensures { OnOk result (string_bytes text.new ≡ string_bytes text.old ++ number value) }
+{
+    if value < 10 {
+        push_digit(text, value)
+    } else {
+        push_pair(text, value)
+    }
+}
+
+// Appends the digits of a number, without zeros in front: the last two stand behind those of a hundredth of it.
+pub(crate) fn push_number(text: &mut String, value: u64) -> Result<(), AllocError>
+    ensures { OnOk result (string_bytes text.new ≡ string_bytes text.old ++ number value) }
+{
+    if value < 100 {
+        return push_short(text, value);
+    }
+    let most = value / 100;
+    if most < 100 {
+        push_short(text, most)?;
+    } else {
+        push_number(text, most / 100)?;
+        push_pair(text, most % 100)?;
+    }
+    push_pair(text, value % 100)
+}
+
+// Appends a space and a number.
+pub(crate) fn push_next(text: &mut String, value: u64) -> Result<(), AllocError>
+    ensures { OnOk result (string_bytes text.new ≡ string_bytes text.old ++ SPACE ∷ number value) }
+{
+    text.push(' ')?;
+    if value < 100 {
+        return push_short(text, value);
+    }
+    push_number(text, value)
+}
