@@ -1,12 +1,12 @@
 //! The lines of a text, one after another.
 
-ghost use Rattle.std.specs.Prelude.{◌≡◌, ℕ, ◌==◌, ◌++◌, ◌∷◌, [], ◌↔◌, IsTrue, IfErr, IfOk, IfSome, IfNone, length, position};
+ghost use Rattle.std.specs.Prelude.{◌≡◌, ◌++◌, IfErr, IfOk, length};
 ghost use Rattle.script_reader.specs.Lines.{IsFreeOf, AreWords};
 ghost use Rattle.script_reader.specs.Text.{line as text_of};
 ghost use Rattle.script_reader.specs.declared.words.TheConstants.{LINE_FEED};
 
 use crate::fault::Fault;
-use crate::words::{Words, cut_of};
+use crate::words::{Words, first_line};
 use std::marker::Model;
 
 // What is left of a text. Contracts see it.
@@ -45,11 +45,10 @@ impl<'a> Lines<'a> {
         ensures end { IfErr result
             (λ why. (why ≡ Fault.End) × IsFreeOf LINE_FEED self.old × (self.new ≡ self.old)) }
     {
-        match cut_of(self.left) {
-            Some(cut) => {
-                let (line, after) = self.left.split_at(cut.end);
-                self.left = &after[1..];
-                Ok(Words::new(line, cut.spaces, cut.ends))
+        match first_line(self.left) {
+            Some((words, after)) => {
+                self.left = after;
+                Ok(words)
             }
             None => Err(Fault::End),
         }

@@ -1,10 +1,11 @@
 //! The words of a line.
 
-ghost use Rattle.std.specs.Prelude.{◌≡◌, ℕ, ◌-◌, ◌<◌, ◌≤◌, ◌==◌, ◌&&◌, ◌||◌, true, false, Some, None, position, slice_set, min, length, take, drop, count_by, IfSome, IfNone, IfOk, IfErr};
+ghost use Rattle.std.specs.Prelude.{◌≡◌, ℕ, ◌-◌, ◌<◌, ◌≤◌, ◌++◌, ◌==◌, ◌&&◌, ◌||◌, true, false, slice_set, min, length, take, drop, count_by, IfSome, IfNone, IfOk, IfErr};
 ghost use Rattle.std.specs.List.{slice_split};
 ghost use Rattle.std.specs.Str.{bytes_eq};
-ghost use Rattle.script_reader.specs.Lines.{word_at};
+ghost use Rattle.script_reader.specs.Lines.{AreWords, IsFreeOf, word_at};
 ghost use Rattle.script_reader.specs.Number.{is_number};
+ghost use Rattle.script_reader.specs.Text.{line as text_of};
 ghost use Rattle.script_reader.specs.declared.words.TheConstants.{SPACE, LINE_FEED, MOST_WORDS};
 ghost use Rattle.script_reader.specs.Inner.Cuts.{IsCut};
 ghost use Rattle.script_reader.specs.Forms.{begins, is_only, value_at};
@@ -109,44 +110,33 @@ impl<'a> Words<'a> {
     }
 }
 
-// Where the first line of a text ends, how many spaces it has, and where the first of its words end.
-#[derive(Drop)]
-pub(crate) struct Cut {
-    pub(crate) end: usize,
-    pub(crate) spaces: usize,
-    pub(crate) ends: [usize; MOST_WORDS],
-}
-
-// Cuts the first line of a text into words.
-pub(crate) fn cut_of(text: &[u8]) -> Option<Cut>
-    ensures found { IfSome result (λ cut. (position (λ b. b == LINE_FEED) text.now ≡ Some cut.end)
-        × IsCut (take cut.end text.now) cut.spaces cut.ends) }
-    ensures none { IfNone result (position (λ b. b == LINE_FEED) text.now ≡ None) }
+// The words of the first line of a text, and the text behind it.
+pub(crate) fn first_line(text: &[u8]) -> Option<(Words<'_>, &[u8])>
+    ensures found { IfSome result (λ found. AreWords found.0
+        × (text.now ≡ text_of found.0 ++ found.1.now)) }
+    ensures none { IfNone result (IsFreeOf LINE_FEED text.now) }
 {
     let mut spaces = 0;
     let mut ends = [0; MOST_WORDS];
     for i in 0..text.len() {
-        if !ends_word(text[i]) {
+        // Most bytes are above both.
+        if text[i] > SPACE || !ends_word(text[i]) {
             continue;
         }
         keep(&mut ends, spaces, i);
         if text[i] == LINE_FEED {
-            return Some(Cut {
-                end: i,
-                spaces,
-                ends,
-            });
+            return Some((Words::new(&text[..i], spaces, ends), &text[i + 1..]));
         }
         spaces += 1;
     }
     None
 }
 
-// Whether a byte stands behind a word. Most are above a space.
+// Whether a byte stands behind a word.
 fn ends_word(byte: u8) -> bool
     ensures { result ≡ (byte == SPACE || byte == LINE_FEED) }
 {
-    byte <= SPACE && (byte == SPACE || byte == LINE_FEED)
+    byte == SPACE || byte == LINE_FEED
 }
 
 // Keeps where a word ends, if it is one of the first.

@@ -2,7 +2,7 @@ use Rattle.std.proofs.Common.{◌≡◌, ◌<◌, ◌==◌, ℕ, false, length, 
 use Rattle.std.specs.List.{count_by}
 use Rattle.script_reader.specs.declared.words.TheConstants.{SPACE, LINE_FEED}
 use Rattle.script_reader.specs.Inner.Cuts.{word_end}
-use Rattle.script_reader.proofs.words.cut_of.Given as goal
+use Rattle.script_reader.proofs.words.first_line.Given as goal
 
 abbrev pub invariant-loop-i : goal.invariant-loop-i
 invariant-loop-i l = record {

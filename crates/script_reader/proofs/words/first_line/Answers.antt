@@ -1,14 +1,15 @@
-use Rattle.std.proofs.Common.{◌≡◌, ◌≢◌, ◌<◌, ◌≤◌, ◌+◌, ◌==◌, ◌||◌, ◌∷◌, [], ℕ, Bool, true, false, List, Some, length, take, set, get_or, inl, inr, refl, sym, ap, ◌∙◌, arith, eq-eqb, length-set, get_or-set_other, get_or-set_same}
-use Rattle.std.specs.List.{count_by, position}
+use Rattle.std.proofs.Common.{◌≡◌, ◌≢◌, ◌<◌, ◌≤◌, ◌+◌, ◌-◌, ◌==◌, ◌||◌, ◌∷◌, ◌++◌, [], ℕ, Bool, true, false, List, length, take, drop, set, get_or, inl, inr, refl, sym, ap, ◌∙◌, arith, eq-eqb, length-set, get_or-set_other, get_or-set_same}
+use Rattle.std.specs.List.{count_by}
 use Rattle.std.proofs.lemmas.Bool.{cases_lt, ne_eqb}
-use Rattle.std.proofs.lemmas.List.{take_more, length-take}
+use Rattle.std.proofs.lemmas.List.{take_more, take_rest, length-take, drop-drop}
 use Rattle.std.proofs.lemmas.List.Sums.{count_by_more_no, count_by_more_yes}
 use Rattle.script_reader.specs.declared.words.TheConstants.{SPACE, LINE_FEED}
 use Rattle.script_reader.specs.Inner.Cuts.{word_end, IsCut}
 use Rattle.script_reader.proofs.Conditions.{neither}
-use Rattle.script_reader.proofs.Cutting.{first_is_at, none_is_at}
+use Rattle.script_reader.proofs.Cutting.{first_is_at, none_is_at, found_at, found_none, taken}
 use Rattle.script_reader.proofs.Parting.{end_kept, end_here, last_end}
-use Rattle.script_reader.proofs.words.cut_of.Goals as goal
+use Rattle.script_reader.proofs.words.first_line.Goals as goal
+use Rattle.script_reader.proofs.words.first_line.Goals.{then-text-i-gt-SPACE-via-then-text-i-gt-SPACE, then-text-i-gt-SPACE-via-else-text-i-gt-SPACE+then-not-ends_word}
 
 -- what is known of a text up to a place in its first line
 record IsCutUpTo (text : List ℕ) (i spaces : ℕ) (ends : List ℕ) : Type 0 where
@@ -82,41 +83,56 @@ at_space text i spaces ends new kept late less space feed v = record {
 
 -- the line feed
 at_end : (text : List ℕ) (i spaces : ℕ) (ends new : List ℕ) → (spaces < 8 → new ≡ set ends spaces i) → (8 ≤ spaces → new ≡ ends) → i < length text
-    → (get_or text i 0 == LINE_FEED) ≡ true → IsCutUpTo text i spaces ends → (position (λ b. b == LINE_FEED) text ≡ Some i) × IsCut (take i text) spaces new
-at_end text i spaces ends new kept late less feed v = (
-  sym (first_is_at LINE_FEED text i less v.line feed),
-  record {
-    counted = v.counted;
-    each = λ k few early. elim (cases_lt k spaces) [
-      | inl known ↦ let other : k ≢ spaces = omega arith in still ends new spaces i k kept late other ∙ v.before k known early
-      | inr past ↦
-          let same : k ≡ spaces = omega arith in
-          let first : spaces < 8 = omega arith in
-          let size : length (take i text) ≡ i = omega (arith, length-take i text, less) in
-          ap (λ j. get_or new j 0) same
-          ∙ renewed ends new spaces i v.size first (kept first)
-          ∙ sym (last_end (take i text) k (omega (arith, past, v.counted)) ∙ size)
-    ];
-  },
-)
+    → IsCutUpTo text i spaces ends → IsCut (take i text) spaces new
+at_end text i spaces ends new kept late less v = record {
+  counted = v.counted;
+  each = λ k few early. elim (cases_lt k spaces) [
+    | inl known ↦ let other : k ≢ spaces = omega arith in still ends new spaces i k kept late other ∙ v.before k known early
+    | inr past ↦
+        let same : k ≡ spaces = omega arith in
+        let first : spaces < 8 = omega arith in
+        let size : length (take i text) ≡ i = omega (arith, length-take i text, less) in
+        ap (λ j. get_or new j 0) same
+        ∙ renewed ends new spaces i v.size first (kept first)
+        ∙ sym (last_end (take i text) k (omega (arith, past, v.counted)) ∙ size)
+  ];
+}
+
+-- what stands behind a place, cut in two steps or in one
+behind : (text : List ℕ) (i : ℕ) → take (length (drop i text) - 1) (drop 1 (drop i text)) ≡ take (length text - (i + 1)) (drop (i + 1) text)
+behind text i = take_rest (drop i text) 1 ∙ drop-drop 1 i text ∙ sym (take_rest text (i + 1))
 
 -- a byte behind a word that is no line feed
 other_end : (space feed : Bool) → (space || feed) ≡ true → feed ≡ false → space ≡ true
 other_end true feed ends other = refl
 other_end false feed ends other = cc
 
-pub loop-i-preserved-then-not-ends_word : goal.loop-i-preserved-then-not-ends_word
-loop-i-preserved-then-not-ends_word c =
+-- a byte above a space
+above : (b : ℕ) → SPACE < b → ((b == SPACE) ≡ false) × ((b == LINE_FEED) ≡ false)
+above b more = (ne_eqb b SPACE (omega (arith, more)), ne_eqb b LINE_FEED (omega (arith, more)))
+
+pub loop-i-preserved-then-text-i-gt-SPACE : goal.loop-i-preserved-then-text-i-gt-SPACE
+loop-i-preserved-then-text-i-gt-SPACE c =
     let v = c.loop-i.invariant in
-    let apart = neither (sym c.ends_word.ensures ∙ c.if-not-ends_word.true) in
+    let byte = get_or c.args.text.now c.loop-i.i 0 in
+    let apart : ((byte == SPACE) ≡ false) × ((byte == LINE_FEED) ≡ false) = elim c.then-text-i-gt-SPACE.branch [
+      | then-text-i-gt-SPACE-via-then-text-i-gt-SPACE w ↦ above byte w.if-text-i-gt-SPACE.true
+      | then-text-i-gt-SPACE-via-else-text-i-gt-SPACE+then-not-ends_word w ↦ neither (sym w.ends_word.ensures ∙ w.if-not-ends_word.true)
+    ] in
     let next = in_word c.args.text.now c.loop-i.i c.loop-i.spaces c.loop-i.ends c.loop-i-test.true apart.0 apart.1 (record { size = v.size; line = v.line; counted = v.counted; before = v.before }) in
     record { size = next.size; line = next.line; counted = next.counted; before = next.before }
 
+pub new-requires : goal.new-requires
+new-requires c =
+    let v = c.loop-i.invariant in
+    at_end c.args.text.now c.loop-i.i c.loop-i.spaces c.loop-i.ends c.keep.new.ends c.keep.ensures.kept c.keep.ensures.late c.loop-i-test.true (record { size = v.size; line = v.line; counted = v.counted; before = v.before })
+
 pub returns-then-text-i-eq-LINE_FEED-clause-found : goal.returns-then-text-i-eq-LINE_FEED-clause-found
 returns-then-text-i-eq-LINE_FEED-clause-found c =
-    let v = c.loop-i.invariant in
-    at_end c.args.text.now c.loop-i.i c.loop-i.spaces c.loop-i.ends c.keep.new.ends c.keep.ensures.kept c.keep.ensures.late c.loop-i-test.true (eq-eqb (get_or c.args.text.now c.loop-i.i 0) LINE_FEED c.if-text-i-eq-LINE_FEED.true)
-    (record { size = v.size; line = v.line; counted = v.counted; before = v.before })
+    let text = c.args.text.now in
+    let i = c.loop-i.i in
+    let found = found_at LINE_FEED text i (sym (first_is_at LINE_FEED text i c.loop-i-test.true c.loop-i.invariant.line (eq-eqb (get_or text i 0) LINE_FEED c.if-text-i-eq-LINE_FEED.true))) in
+    taken text (take i text) (take (length text - (i + 1)) (drop (i + 1) text)) c.new.result (found.2 ∙ ap (λ rest. take i text ++ LINE_FEED ∷ rest) (behind text i), found.1) c.new.ensures
 
 pub loop-i-preserved : goal.loop-i-preserved
 loop-i-preserved c =
@@ -127,4 +143,4 @@ loop-i-preserved c =
     record { size = next.size; line = next.line; counted = next.counted; before = next.before }
 
 pub returns-clause-none : goal.returns-clause-none
-returns-clause-none c = sym (none_is_at LINE_FEED c.args.text.now (λ k less. c.loop-i.invariant.line k (omega (arith, less, c.loop-i-test.false))))
+returns-clause-none c = found_none LINE_FEED c.args.text.now (sym (none_is_at LINE_FEED c.args.text.now (λ k less. c.loop-i.invariant.line k (omega (arith, less, c.loop-i-test.false)))))
