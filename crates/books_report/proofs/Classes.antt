@@ -1,4 +1,4 @@
--- How many elements a list has, class by class.
+-- Sums over a list, class by class.
 use Rattle.std.proofs.Common.{◌≡◌, ℕ, zero, suc, ◌+◌, ◌<◌, ◌≤◌, ◌==◌, ◌&&◌, Bool, true, false, cond, List, [], ◌∷◌, length, take, get_or, sum_by, count_by, inl, inr, refl, sym, ap, ◌∙◌, subst, arith}
 use Rattle.std.specs.List.{AllByRecursion}
 use Rattle.std.proofs.lemmas.List.{take_all}
@@ -41,38 +41,40 @@ sums-tight (suc k) g h each same i less =
       | inr apart ↦ sums-tight k g h (λ i less. each i (omega arith)) (omega (arith, below, last, same)) i (omega (arith, apart.1, less))
     ]
 
--- one element counts in its class alone
-one_class : (k : ℕ) (p : Bool) (n : ℕ) → (p ≡ true → n < k) → sums k (λ i. cond (p && n == i) 1 0) ≡ cond p 1 0
-one_class k false n within = none k
-  where
-    none : (k : ℕ) → sums k (λ i. 0) ≡ 0
-    none zero = refl
-    none (suc k) = omega (arith, none k)
-one_class k true n within = by k (within refl)
-  where
-    before : (k : ℕ) → k ≤ n → sums k (λ i. cond (n == i) 1 0) ≡ 0
-    before zero le = refl
-    before (suc k) le = elim (eqb_tells n k) [ inl at ↦ absurd (omega (arith, at.1, le)) | inr apart ↦ omega (arith, before k (omega arith), ap {B = ℕ} (λ b. cond b 1 0) apart.0) ]
+-- nothing, as often as one likes
+sums-none : (k : ℕ) → sums k (λ i. 0) ≡ 0
+sums-none zero = refl
+sums-none (suc k) = omega (arith, sums-none k)
 
-    by : (k : ℕ) → n < k → sums k (λ i. cond (n == i) 1 0) ≡ 1
+-- one weight counts in its class alone
+one_class : (w k : ℕ) (p : Bool) (n : ℕ) → (p ≡ true → n < k) → sums k (λ i. cond (p && n == i) w 0) ≡ cond p w 0
+one_class w k false n within = sums-none k
+one_class w k true n within = by k (within refl)
+  where
+    before : (k : ℕ) → k ≤ n → sums k (λ i. cond (n == i) w 0) ≡ 0
+    before zero le = refl
+    before (suc k) le = elim (eqb_tells n k) [ inl at ↦ absurd (omega (arith, at.1, le)) | inr apart ↦ omega (arith, before k (omega arith), ap {B = ℕ} (λ b. cond b w 0) apart.0) ]
+
+    by : (k : ℕ) → n < k → sums k (λ i. cond (n == i) w 0) ≡ w
     by zero less = absurd (omega arith)
     by (suc k) less = elim (eqb_tells n k) [
-      | inl at ↦ omega (arith, before k (omega (arith, at.1)), ap {B = ℕ} (λ b. cond b 1 0) at.0)
-      | inr apart ↦ omega (arith, by k (omega (arith, apart.1, less)), ap {B = ℕ} (λ b. cond b 1 0) apart.0)
+      | inl at ↦ omega (arith, before k (omega (arith, at.1)), ap {B = ℕ} (λ b. cond b w 0) at.0)
+      | inr apart ↦ omega (arith, by k (omega (arith, apart.1, less)), ap {B = ℕ} (λ b. cond b w 0) apart.0)
     ]
 
--- those that pass a test are those of each class together
+-- what those weigh that pass a test is what those of each class weigh together
+pub by_weights : {A : Type 0} (p : A → Bool) (f w : A → ℕ) (k : ℕ) (xs : List A) → AllByRecursion (λ x. p x ≡ true → f x < k) xs
+    → sum_by (λ x. cond (p x) (w x) 0) xs ≡ sums k (λ i. sum_by (λ x. cond (p x && f x == i) (w x) 0) xs)
+by_weights p f w k [] all = sym (sums-none k)
+by_weights p f w k (x ∷ xs) all =
+    sum_by-cons (λ y. cond (p y) (w y) 0) x xs
+    ∙ (λ i. sym (one_class (w x) k (p x) (f x) all.0) i + by_weights p f w k xs all.1 i)
+    ∙ sym (sums-add k (λ i. cond (p x && f x == i) (w x) 0) (λ i. sum_by (λ y. cond (p y && f y == i) (w y) 0) xs))
+    ∙ sums-same k _ _ (λ i less. sym (sum_by-cons (λ y. cond (p y && f y == i) (w y) 0) x xs))
+
+-- and they are as many as those of each class together
 pub by_classes : {A : Type 0} (p : A → Bool) (f : A → ℕ) (k : ℕ) (xs : List A) → AllByRecursion (λ x. p x ≡ true → f x < k) xs → count_by p xs ≡ sums k (λ i. count_by (λ x. p x && f x == i) xs)
-by_classes p f k [] all = none k
-  where
-    none : (k : ℕ) → 0 ≡ sums k (λ i. 0)
-    none zero = refl
-    none (suc k) = omega (arith, none k)
-by_classes p f k (x ∷ xs) all =
-    sum_by-cons (λ y. cond (p y) 1 0) x xs
-    ∙ (λ i. sym (one_class k (p x) (f x) all.0) i + by_classes p f k xs all.1 i)
-    ∙ sym (sums-add k (λ i. cond (p x && f x == i) 1 0) (λ i. count_by (λ y. p y && f y == i) xs))
-    ∙ sums-same k _ _ (λ i less. sym (sum_by-cons (λ y. cond (p y && f y == i) 1 0) x xs))
+by_classes p f k xs all = by_weights p f (λ x. 1) k xs all
 
 -- the sum over the first elements of a list, by their places
 pub sum_by_places : {A : Type 0} (f : A → ℕ) (d : A) (xs : List A) (k : ℕ) → k ≤ length xs → sum_by f (take k xs) ≡ sums k (λ i. f (get_or xs i d))

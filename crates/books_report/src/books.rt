@@ -34,7 +34,8 @@ fn write_header(text: &mut String, books: &Books) -> Result<(), AllocError>
     text.push('\n')
 }
 
-fn write_account(text: &mut String, account: u32, cash: u64) -> Result<(), AllocError>
+/// Appends the line of an account.
+pub fn write_account(text: &mut String, account: u32, cash: u64) -> Result<(), AllocError>
     ensures { OnOk result
         (string_bytes text.new ≡ string_bytes text.old ++ account_line (account, cash)) }
 {
@@ -58,7 +59,8 @@ fn write_accounts(text: &mut String, books: &Books) -> Result<(), AllocError>
     Ok(())
 }
 
-fn write_price(text: &mut String, instrument: u32, price: u64) -> Result<(), AllocError>
+/// Appends the line of an instrument's price.
+pub fn write_price(text: &mut String, instrument: u32, price: u64) -> Result<(), AllocError>
     ensures { OnOk result
         (string_bytes text.new ≡ string_bytes text.old ++ price_line (instrument, price)) }
 {
@@ -82,7 +84,8 @@ fn write_prices(text: &mut String, books: &Books) -> Result<(), AllocError>
     Ok(())
 }
 
-fn write_position(
+/// Appends the line of what an account holds of an instrument.
+pub fn write_position(
     text: &mut String,
     account: u32,
     instrument: u32,

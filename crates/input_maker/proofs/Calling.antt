@@ -5,7 +5,7 @@ use Rattle.std.specs.Str.{bytes_eq}
 use Rattle.std.specs.Cmp.{IsEquivalence}
 use Rattle.std.specs.Cmp.Lexicographic.{nat_list_eq_equiv}
 use Rattle.std.proofs.Math.Nat.{mod-lt, mod-eq_of_lt}
-use Rattle.std.proofs.lemmas.Bool.{cases_lt}
+use Rattle.std.proofs.lemmas.Bool.{cases_lt, or_right}
 use Rattle.std.proofs.lemmas.Bool.Decides.{nat_tests}
 use Rattle.std.proofs.lemmas.List.{map_push}
 use Rattle.std.proofs.lemmas.List.Folds.{list_any-append}
@@ -44,10 +44,6 @@ record Seen (callers n : ℕ) (seen : List (List ℕ)) : Type 0 where
 laws : IsEquivalence bytes_eq
 laws = nat_list_eq_equiv
 
-or_true : (a b : Bool) → b ≡ true → (a || b) ≡ true
-or_true true b e = refl
-or_true false b e = e
-
 one_seen : (callers n : ℕ) (seen : List (List ℕ)) → 1 ≤ callers → Seen callers n seen → Seen callers (n + 1) (add_name seen (caller_name (n % callers)))
 one_seen callers n seen some h = by (list_any (bytes_eq (caller_name (n % callers))) seen) refl
   where
@@ -70,7 +66,7 @@ one_seen callers n seen some h = by (list_any (bytes_eq (caller_name (n % caller
       all = λ j less within. list_any-append (bytes_eq (caller_name j)) seen (caller_name (n % callers) ∷ []) ∙ elim (cases_lt j n) [
         | inl before ↦ ap (λ (b : Bool). b || (bytes_eq (caller_name j) (caller_name (n % callers)) || false)) (h.all j before within)
         | inr past ↦ let same : j ≡ n = omega (arith, past, less) in let here : n < callers = omega (arith, same, within) in
-            or_true (list_any (bytes_eq (caller_name j)) seen) (bytes_eq (caller_name j) (caller_name (n % callers)) || false)
+            or_right (list_any (bytes_eq (caller_name j)) seen) (bytes_eq (caller_name j) (caller_name (n % callers)) || false)
             (ap (λ (c : List ℕ). bytes_eq (caller_name j) c || false) (own here ∙ ap caller_name (sym same)) ∙ ap (λ (b : Bool). b || false) (laws.refl (caller_name j)))
       ];
     }

@@ -1,9 +1,8 @@
--- Sums over a list, class by class, and how many entries a map has at most.
+-- Sums of weights that are all the same, and how many entries a map has at most.
 use Rattle.std.proofs.Common.{◌≡◌, ◌≢◌, ℕ, zero, suc, ◌+◌, ◌*◌, ◌<◌, ◌≤◌, ◌==◌, ◌&&◌, Bool, true, false, cond, List, [], ◌∷◌, Option, Some, None, sum_by, count_by, inl, inr, refl, sym, ap, ◌∙◌, true≢false, arith}
 use Rattle.std.specs.declared.cmp.Ordering.{Ordering}
 use Rattle.std.specs.Cmp.{IsTotalOrder, nat_cmp_total, tied_itself}
 use Rattle.std.specs.Ordering.{nat_cmp, eq_by_cmp, is_eq}
-use Rattle.std.specs.List.{AllByRecursion}
 use Rattle.std.specs.FinMap as map
 use Rattle.std.proofs.lemmas.Bool.{ne_eqb}
 use Rattle.std.proofs.lemmas.Bool.Decides.{eqb_tells}
@@ -13,37 +12,7 @@ use Rattle.books_model.specs.Books.{position_cmp}
 use Rattle.books_model.proofs.Maps.{positions_total, exact_positions}
 use Rattle.books_model.proofs.Entries.{AllByRecursion-weaker, All-entries, weigh, sum_by-one}
 use Rattle.script_reader.proofs.Conditions.{count_always}
-use Rattle.books_report.proofs.Classes.{sums, sums-add, sums-same, by_classes}
-
--- one weight counts in its class alone
-one_class : (w k : ℕ) (p : Bool) (n : ℕ) → (p ≡ true → n < k) → sums k (λ i. cond (p && n == i) w 0) ≡ cond p w 0
-one_class w k false n within = none k
-  where
-    none : (k : ℕ) → sums k (λ i. 0) ≡ 0
-    none zero = refl
-    none (suc k) = omega (arith, none k)
-one_class w k true n within = by k (within refl)
-  where
-    before : (k : ℕ) → k ≤ n → sums k (λ i. cond (n == i) w 0) ≡ 0
-    before zero le = refl
-    before (suc k) le = elim (eqb_tells n k) [ inl at ↦ absurd (omega (arith, at.1, le)) | inr apart ↦ omega (arith, before k (omega arith), ap {B = ℕ} (λ b. cond b w 0) apart.0) ]
-
-    by : (k : ℕ) → n < k → sums k (λ i. cond (n == i) w 0) ≡ w
-    by zero less = absurd (omega arith)
-    by (suc k) less = elim (eqb_tells n k) [
-      | inl at ↦ omega (arith, before k (omega (arith, at.1)), ap {B = ℕ} (λ b. cond b w 0) at.0)
-      | inr apart ↦ omega (arith, by k (omega (arith, apart.1, less)), ap {B = ℕ} (λ b. cond b w 0) apart.0)
-    ]
-
--- what those weigh that pass a test is what those of each class weigh together
-pub by_weights : {A : Type 0} (p : A → Bool) (f w : A → ℕ) (k : ℕ) (xs : List A) → AllByRecursion (λ x. p x ≡ true → f x < k) xs
-    → sum_by (λ x. cond (p x) (w x) 0) xs ≡ sums k (λ i. sum_by (λ x. cond (p x && f x == i) (w x) 0) xs)
-by_weights p f w k [] all = sym (one_class 0 k false 0 (λ e. absurd (true≢false (sym e))))
-by_weights p f w k (x ∷ xs) all =
-    sum_by-cons (λ y. cond (p y) (w y) 0) x xs
-    ∙ (λ i. sym (one_class (w x) k (p x) (f x) all.0) i + by_weights p f w k xs all.1 i)
-    ∙ sym (sums-add k (λ i. cond (p x && f x == i) (w x) 0) (λ i. sum_by (λ y. cond (p y && f y == i) (w y) 0) xs))
-    ∙ sums-same k _ _ (λ i less. sym (sum_by-cons (λ y. cond (p y && f y == i) (w y) 0) x xs))
+use Rattle.books_report.proofs.Classes.{sums, by_classes}
 
 -- what those weigh that pass a test, where each of them weighs the same
 pub same_weight : {A : Type 0} (t : A → Bool) (w : A → ℕ) (d : ℕ) (xs : List A) → ((x : A) → t x ≡ true → w x ≡ d) → sum_by (λ x. cond (t x) (w x) 0) xs ≡ count_by t xs * d

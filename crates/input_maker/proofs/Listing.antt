@@ -1,8 +1,9 @@
 -- Lists of what is made, with one more.
-use Rattle.std.proofs.Common.{◌≡◌, ℕ, zero, suc, ◌+◌, ◌*◌, List, [], ◌∷◌, ◌++◌, map, refl, sym, ap, ◌∙◌, append_assoc, add-one, arith}
+use Rattle.std.proofs.Common.{◌≡◌, ℕ, zero, suc, ◌+◌, ◌*◌, List, [], ◌∷◌, ◌++◌, refl, sym, ap, ◌∙◌, append_assoc, add-one, arith}
 use Rattle.std.specs.List.{flat_map, range_with_len}
-use Rattle.std.proofs.lemmas.List.{append-nil, map_push, flat_map_more}
+use Rattle.std.proofs.lemmas.List.{append-nil}
 use Rattle.std.proofs.lemmas.List.Concat.{flat_map-append}
+use Rattle.std.proofs.lemmas.List.FromFn.{map-range_with_len_more}
 use Rattle.script_reader.specs.Text.{position_line}
 use Rattle.input_maker.specs.Generator.{state_after}
 use Rattle.input_maker.specs.Made.{accounts_to, prices_to, positions_in, positions_to, operation_from, operations_from, state_after_operations, state_after_script, state_of_script, made_submission, submissions_to}
@@ -11,20 +12,6 @@ use Rattle.input_maker.specs.Made.{accounts_to, prices_to, positions_in, positio
 range-more : (a n : ℕ) → range_with_len a (suc n) ≡ range_with_len a n ++ (a + n) ∷ []
 range-more a zero = let e : a ≡ a + 0 = omega arith in ap (λ x. x ∷ []) e
 range-more a (suc n) = let e : (a + 1) + n ≡ a + suc n = omega arith in ap (λ l. a ∷ l) (range-more (a + 1) n ∙ ap (λ x. range_with_len (a + 1) n ++ x ∷ []) e)
-
--- and what is made of it
-mapped-more : {X : Type 0} (f : ℕ → X) (a n k : ℕ) → a + n ≡ k → map f (range_with_len a (n + 1)) ≡ map f (range_with_len a n) ++ f k ∷ []
-mapped-more f a n k e =
-    ap (λ m. map f (range_with_len a m)) (add-one n)
-    ∙ ap (map f) (range-more a n)
-    ∙ map_push f (range_with_len a n) (a + n)
-    ∙ ap (λ x. map f (range_with_len a n) ++ f x ∷ []) e
-
--- one more is written
-pub written_more : {X : Type 0} (write : X → List ℕ) (text before now : List ℕ) (done more : List X) (e : X)
-    → before ≡ text ++ flat_map write done → now ≡ before ++ write e → more ≡ done ++ e ∷ [] → now ≡ text ++ flat_map write more
-written_more write text before now done more e h k next =
-    k ∙ ap (λ xs. xs ++ write e) h ∙ flat_map_more write text done e ∙ ap (λ xs. text ++ flat_map write xs) (sym next)
 
 -- nothing is written
 pub written_none : {X : Type 0} (write : X → List ℕ) (text : List ℕ) (none : List X) → none ≡ [] → text ≡ text ++ flat_map write none
@@ -36,7 +23,7 @@ accounts-none = refl
 
 pub accounts-more : (n : ℕ) → accounts_to (n + 1) ≡ accounts_to n ++ (n + 1, 1000000) ∷ []
 unfolding accounts_to
-accounts-more n = mapped-more (λ a. (a, 1000000)) 1 n (n + 1) (omega arith)
+accounts-more n = map-range_with_len_more (λ a. (a, 1000000)) 1 n (n + 1) (omega arith)
 
 pub prices-none : prices_to 0 ≡ []
 unfolding prices_to
@@ -44,7 +31,7 @@ prices-none = refl
 
 pub prices-more : (n : ℕ) → prices_to (n + 1) ≡ prices_to n ++ (n + 1, 100 * (n + 1)) ∷ []
 unfolding prices_to
-prices-more n = mapped-more (λ i. (i, 100 * i)) 1 n (n + 1) (omega arith)
+prices-more n = map-range_with_len_more (λ i. (i, 100 * i)) 1 n (n + 1) (omega arith)
 
 pub positions_in-none : (a : ℕ) → positions_in a 0 ≡ []
 unfolding positions_in
@@ -52,7 +39,7 @@ positions_in-none a = refl
 
 pub positions_in-more : (a n : ℕ) → positions_in a (n + 1) ≡ positions_in a n ++ ((a, n + 1), 100) ∷ []
 unfolding positions_in
-positions_in-more a n = mapped-more (λ i. ((a, i), 100)) 1 n (n + 1) (omega arith)
+positions_in-more a n = map-range_with_len_more (λ i. ((a, i), 100)) 1 n (n + 1) (omega arith)
 
 pub positions-none : positions_to 0 ≡ []
 unfolding positions_to
@@ -85,7 +72,7 @@ operations-none g x = refl
 
 pub operations-more : (g x n : ℕ) → operations_from g x (n + 1) ≡ operations_from g x n ++ operation_from g (state_after_operations n x) ∷ []
 unfolding operations_from
-operations-more g x n = mapped-more (λ k. operation_from g (state_after_operations k x)) 0 n n (omega arith)
+operations-more g x n = map-range_with_len_more (λ k. operation_from g (state_after_operations k x)) 0 n n (omega arith)
 
 pub states-none : (x : ℕ) → state_after_operations 0 x ≡ x
 unfolding state_after_operations
@@ -101,7 +88,7 @@ submissions-none seed callers = refl
 
 pub submissions-more : (seed callers n : ℕ) → submissions_to seed callers (n + 1) ≡ submissions_to seed callers n ++ made_submission seed callers n ∷ []
 unfolding submissions_to
-submissions-more seed callers n = mapped-more (made_submission seed callers) 0 n n (omega arith)
+submissions-more seed callers n = map-range_with_len_more (made_submission seed callers) 0 n n (omega arith)
 
 pub scripts-none : (seed : ℕ) → state_of_script seed 0 ≡ seed
 unfolding state_of_script

@@ -14,6 +14,7 @@ use Rattle.books_model.specs.Books.{position_cmp, used}
 use Rattle.books_model.specs.Ranges.{IsWithin, AreInRange}
 use Rattle.script_reader.specs.Text.{books_lines, header_line, account_line, price_line, position_line}
 use Rattle.script_reader.proofs.Sections.{less_number}
+use Rattle.books_report.proofs.Rows.{all_both}
 use Rattle.input_maker.specs.Made.{accounts_to, prices_to, positions_in, positions_to, made_books}
 
 and_T : (r : Ordering) (b : Bool) → r ≡ Less → T b → T (is_lt r && b)
@@ -51,10 +52,6 @@ keyed_found v q a (suc n) low high =
 pub all_mapped : {X : Type 0} (P : X → Type 0) (f : ℕ → X) (a n : ℕ) → ((k : ℕ) → a ≤ k → k < a + n → P (f k)) → AllByRecursion P (map f (range_with_len a n))
 all_mapped P f a zero each = tt
 all_mapped P f a (suc n) each = (each a (omega arith) (omega arith), all_mapped P f (a + 1) n (λ k low high. each k (omega arith) (omega arith)))
-
-all_both : {A : Type 0} (P : A → Type 0) (xs ys : List A) → AllByRecursion P xs → AllByRecursion P ys → AllByRecursion P (xs ++ ys)
-all_both P [] ys p q = q
-all_both P (x ∷ xs) ys p q = (p.0, all_both P xs ys p.1 q)
 
 -- what holds of all entries holds of one that is found
 found_holds : {K X : Type 0} (R : K → K → Ordering) (same : (x y : K) → R x y ≡ Equal → x ≡ y) (P : K → X → Type 0) (q : K) (v : X) (es : List (K × X))

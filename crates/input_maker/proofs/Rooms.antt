@@ -14,9 +14,9 @@ use Rattle.books_model.proofs.Drafts.{used_position}
 use Rattle.books_model.proofs.Entries.{AllByRecursion-weaker, All-entries, weigh, sum_by-set_at}
 use Rattle.books_model.proofs.Maps.{positions_total, exact_positions, found_after_insert, stays_after_insert}
 use Rattle.script_reader.proofs.BooksFaultless.{some_of}
-use Rattle.books_report.proofs.Classes.{sums}
+use Rattle.books_report.proofs.Classes.{sums, by_weights}
 use Rattle.input_maker.specs.Days.{all_quantities}
-use Rattle.input_maker.proofs.Classes.{by_weights, numbers_most, pairs_most}
+use Rattle.input_maker.proofs.Classes.{numbers_most, pairs_most}
 
 -- the accounts are those from 1 to 200
 pub record HasAccounts (accounts : map.FinMap nat_cmp ℕ) : Type 0 where

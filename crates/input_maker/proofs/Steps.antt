@@ -1,8 +1,7 @@
 -- What an operation of a generated script does on the books of a day.
 use Rattle.std.proofs.Common.{◌≡◌, ℕ, ◌+◌, ◌-◌, ◌*◌, ◌≤◌, ◌==◌, ◌&&◌, ◌||◌, Bool, true, false, cond, not, nat_lt, if◌then◌else◌, List, [], ◌∷◌, length, sum_by, refl, sym, ap, subst, ◌∙◌, arith}
 use Rattle.std.specs.FinMap as map
-use Rattle.std.proofs.Math.Bool.{and-false}
-use Rattle.std.proofs.lemmas.Bool.{le-ltb}
+use Rattle.std.proofs.lemmas.Bool.{and_right, le-ltb}
 use Rattle.books_model.specs.declared.limits.TheConstants.{GREATEST_CASH, GREATEST_QUANTITY}
 use Rattle.books_model.specs.declared.script.Op.{Op}
 use Rattle.books_model.specs.declared.script.Op.TheVariants as op
@@ -61,10 +60,6 @@ no_more n = omega arith
 held_same : (books after : ClearingBooks) → after.positions ≡ books.positions → (i : ℕ) → all_held after i ≡ all_held books i
 held_same books after same i = ap (λ m. sum_by (λ (e : (ℕ × ℕ) × ℕ). cond (e.0.1 == i) e.1 0) (map.entries m)) same
 
--- both tests fail where the second does
-fails_both : (b t : Bool) → t ≡ false → (b && t) ≡ false
-fails_both b t fails = ap (λ t. b && t) fails ∙ and-false b
-
 module _ (books : ClearingBooks) (h : AreOfDay books) where
   -- accounts and positions are left alone
   alone : (o : Op) (after : ClearingBooks) → paid_in_by o ≡ 0 → after.accounts ≡ books.accounts → after.positions ≡ books.positions → Follow o books after
@@ -92,7 +87,7 @@ module _ (books : ClearingBooks) (h : AreOfDay books) where
         held = held_same books after k.1;
       })
   step_goes room first o (made_price i p instrument price) =
-      past true (Follow (op.Price i p) books) (not (map.contains_key books.prices i) && is_full books) _ _ (fails_both (not (map.contains_key books.prices i)) (is_full books) (not_full books h))
+      past true (Follow (op.Price i p) books) (not (map.contains_key books.prices i) && is_full books) _ _ (and_right (not (map.contains_key books.prices i)) (is_full books) (not_full books h))
       (gives _ _ _ _ (alone _ _ refl refl refl))
   step_goes room first o made_next = next_goes books.calls
   step_goes room first o (made_sum a b from to) = gives _ _ _ _ (alone _ _ refl refl refl)
@@ -113,7 +108,7 @@ module _ (books : ClearingBooks) (h : AreOfDay books) where
       (or_declined _ (not (map.contains_key books.prices i)) _ _ (or_declined _ (nat_lt (position_of books b i) q) _ _
       (or_declined _ (nat_lt (cash_of books a) (q * price_of books i)) _ _
       (or_declined _ (nat_lt GREATEST_CASH (cash_of books b + q * price_of books i) || nat_lt GREATEST_QUANTITY (position_of books a i + q)) _ _
-      (past _ _ (not (map.contains_key books.positions (a, i)) && is_full lowered) _ _ (fails_both (not (map.contains_key books.positions (a, i))) (is_full lowered) (not_full_after books h b i (position_of books b i - q))) (gives _ _ _ _
+      (past _ _ (not (map.contains_key books.positions (a, i)) && is_full lowered) _ _ (and_right (not (map.contains_key books.positions (a, i))) (is_full lowered) (not_full_after books h b i (position_of books b i - q))) (gives _ _ _ _
       (other_cash (map.insert books.accounts a (cash_of books a - q * price_of books i)) b (cash_of books b + q * price_of books i)
       (other_cash books.accounts a (cash_of books a - q * price_of books i) h.accounts buyer) seller)))))))))
       (λ v after is k. record {

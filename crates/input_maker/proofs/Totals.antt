@@ -8,11 +8,11 @@ use Rattle.books_model.specs.declared.script.Op.{Op}
 use Rattle.books_model.specs.Laws.{all_cash}
 use Rattle.script_reader.specs.Input.{Caller, ClearingInput, caller_at, script_at}
 use Rattle.script_reader.specs.Journal.{Place, IsJournal}
-use Rattle.books_report.proofs.Classes.{sums-same, sum_by_all}
+use Rattle.books_report.proofs.Classes.{sums-same, by_weights, sum_by_all}
 use Rattle.input_maker.specs.Made.{accounts_to, positions_in, positions_to, made_books}
 use Rattle.input_maker.specs.Days.{all_quantities}
 use Rattle.input_maker.proofs.Opening.{accounts_entries, positions_entries}
-use Rattle.input_maker.proofs.Classes.{by_weights, same_weight}
+use Rattle.input_maker.proofs.Classes.{same_weight}
 
 -- a sum over the scripts of an order is the sum over the callers' scripts
 pub sum_of_order : (input : ClearingInput) (w : List Op → ℕ) (order : List Place) → IsJournal input order

@@ -8,6 +8,7 @@ ghost use Rattle.script_reader.specs.declared.words.TheConstants.{SPACE};
 ghost use Rattle.script_reader.specs.Text.{account_line, books_lines, header_line, number, position_line, price_line};
 ghost use Rattle.input_maker.specs.Made.{accounts_to, made_books, positions_in, positions_to, prices_to};
 
+use books_report::books::{write_account, write_position, write_price};
 use std::alloc::AllocError;
 
 const BLOCKS: u32 = 4_096;
@@ -46,13 +47,6 @@ fn write_header(
     text.push('\n')
 }
 
-fn write_account(text: &mut String, account: u32, cash: u64) -> Result<(), AllocError>
-    ensures { OnOk result
-        (string_bytes text.new ≡ string_bytes text.old ++ account_line (account, cash)) }
-{
-    write!(text, "account {account} {cash}\n")
-}
-
 fn write_accounts(text: &mut String) -> Result<(), AllocError>
     ensures { OnOk result (string_bytes text.new ≡ string_bytes text.old
         ++ flat_map account_line (accounts_to 200)) }
@@ -63,35 +57,15 @@ fn write_accounts(text: &mut String) -> Result<(), AllocError>
     Ok(())
 }
 
-fn write_price(text: &mut String, instrument: u32, price: u32) -> Result<(), AllocError>
-    ensures { OnOk result
-        (string_bytes text.new ≡ string_bytes text.old ++ price_line (instrument, price)) }
-{
-    write!(text, "price {instrument} {price}\n")
-}
-
 fn write_prices(text: &mut String) -> Result<(), AllocError>
     ensures { OnOk result (string_bytes text.new ≡ string_bytes text.old
         ++ flat_map price_line (prices_to 8)) }
 {
     for place in 0..INSTRUMENTS {
         let instrument = place + 1;
-        write_price(text, instrument, 100 * instrument)?;
+        write_price(text, instrument, u64::from(100 * instrument))?;
     }
     Ok(())
-}
-
-fn write_position(
-    text: &mut String,
-    account: u32,
-    instrument: u32,
-    quantity: u64,
-) -> Result<(), AllocError>
-    ensures { OnOk result
-        (string_bytes text.new
-        ≡ string_bytes text.old ++ position_line ((account, instrument), quantity)) }
-{
-    write!(text, "position {account} {instrument} {quantity}\n")
 }
 
 fn write_positions_of(text: &mut String, account: u32) -> Result<(), AllocError>

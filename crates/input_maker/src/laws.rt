@@ -1,7 +1,15 @@
-//! What follows of generated inputs, each law the contract of a function that does nothing.
+//! What follows of generated inputs, and the greatest seed: each law is the contract of a function that does nothing.
 
+ghost use Rattle.std.specs.Prelude.{◌≡◌};
 ghost use Rattle.input_maker.specs.Statements.{MadeInputsAreInputs};
 ghost use Rattle.input_maker.specs.Days.{FirstKindIsDone, MadeCash, MadeQuantities, NoneIsFull, SecondKindKeepsCash};
+
+use crate::limits::GREATEST_SEED;
+
+/// The greatest seed, in digits. All else cites the constant.
+pub fn greatest_sizes()
+    ensures seed { GREATEST_SEED ≡ 2147483647 }
+{}
 
 /// Each generated text is the text of an input: it has no fault.
 pub fn made_inputs_are_inputs()

@@ -20,6 +20,7 @@ use Rattle.books_model.specs.Laws.{RefusedChangesNothing}
 use Rattle.script_reader.specs.Input.{ClearingInput, script_at}
 use Rattle.script_reader.specs.Journal.{Place}
 use Rattle.books_report.specs.Output.{reply_to, books_left, replies_of, books_after}
+use Rattle.books_report.proofs.Turns.{books_after-push}
 use Rattle.txn_books.specs.declared.shape.BooksShape.{BooksShape}
 use Rattle.txn_books.specs.Standing.{Stands}
 use Rattle.txn_books.specs.Meaning.{is_done, ScriptMeans}
@@ -27,12 +28,6 @@ use Rattle.word_table.specs.Desks.{DeskView}
 use Rattle.worker_pool.specs.declared.done.Done.{Done}
 use Rattle.worker_pool.specs.Days.{place_of, places_of, IsEntryOf, AreEntriesOf}
 use Rattle.worker_pool.specs.Inner.Makers.{IsMade}
-
--- the books after one more script
-pub books_after-push : (input : ClearingInput) (books : ClearingBooks) (places : List Place) (p : Place)
-    → books_after input books (places ++ p ∷ []) ≡ books_left input (books_after input books places) p
-books_after-push input books [] p = refl
-books_after-push input books (q ∷ places) p = books_after-push input (books_left input books q) places p
 
 -- the replies with one more script
 pub replies_of-push : (input : ClearingInput) (books : ClearingBooks) (places : List Place) (p : Place)

@@ -13,6 +13,7 @@ pub mod source;
 mod step;
 pub mod taker;
 mod worker;
+mod workshop;
 
 pub use done::{DayEnd, Done};
 pub use rule::MOST_DRAWS;

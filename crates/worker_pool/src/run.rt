@@ -4,17 +4,17 @@ ghost use Rattle.std.specs.Prelude.{◌≡◌, ◌<◌, ◌≤◌, ◌*◌, ◌+
 ghost use Rattle.std.specs.List.{range_with_len};
 ghost use Rattle.history_model.specs.Fitting.{IsGood};
 ghost use Rattle.history_model.specs.Legal.{IsLegalHistory};
-ghost use Rattle.script_reader.specs.Input.{IsInput};
 ghost use Rattle.txn_books.specs.Layout.{shape_of, words_of};
 ghost use Rattle.txn_books.specs.Standing.{IsGoodFor, Stands, StandsFor};
 ghost use Rattle.worker_pool.specs.Days.{AreAllNew, IsDay};
 ghost use Rattle.worker_pool.specs.Takers.{opening_taker};
-ghost use Rattle.worker_pool.specs.Inner.Workers.{number_of, HasEnded, IsSeated};
+ghost use Rattle.worker_pool.specs.Inner.Workers.{number_of, FitTogether, HasEnded, IsSeated};
 
 use crate::done::{DayEnd, Done};
 use crate::source::Source;
 use crate::taker::Taker;
 use crate::worker::Worker;
+use crate::workshop::Workshop;
 use books_model::laws::refused_changes_nothing;
 use io_ends::OutOfMemory;
 use script_reader::Input;
@@ -57,36 +57,26 @@ fn seat_workers(
 }
 
 // Each worker on a thread of its own.
-fn work_all<R: Threads + Wait + Sync, G: Gate>(
-    rt: &R,
-    alloc: Global,
-    desk: &Desk<BooksShape>,
-    shape: BooksShape,
-    source: &Source,
-    input: &Input,
-    gate: &G,
-    workers: &mut [Worker],
-)
+fn work_all<R: Threads + Wait + Sync, G: Gate>(shop: &Workshop<R, G>, workers: &mut [Worker])
     requires some { 0 < length workers.old }
-    requires seated { All (IsSeated source.now desk.now) workers.old }
-    requires shape { desk.now.shape ≡ shape }
-    requires sizes { shape ≡ shape_of input.now.books }
-    requires valid { IsInput input.now }
-    requires callers { source.now.callers ≡ length input.now.callers }
-    ensures ended { All (HasEnded source.now desk.now input.now) workers.new }
+    requires fit { FitTogether shop.now.desk.now shop.now.shape
+        shop.now.source.now shop.now.input.now }
+    requires seated { All (IsSeated shop.now.source.now shop.now.desk.now) workers.old }
+    ensures ended { All (HasEnded shop.now.source.now shop.now.desk.now shop.now.input.now)
+        workers.new }
     ensures numbers { map number_of workers.new ≡ map number_of workers.old }
 {
     thread::for_each_mut(
-        rt,
+        shop.rt,
         workers,
         workers.len(),
         &|_, worker: &mut Worker|
-            requires { IsSeated source.now desk.now worker.now × (desk.now.shape ≡ shape)
-                × (shape ≡ shape_of input.now.books) × IsInput input.now
-                × (source.now.callers ≡ length input.now.callers) }
-            ensures { HasEnded source.entry.now desk.entry.now input.entry.now worker.exit.now
+            requires { FitTogether shop.now.desk.now shop.now.shape shop.now.source.now
+                shop.now.input.now × IsSeated shop.now.source.now shop.now.desk.now worker.now }
+            ensures { HasEnded shop.entry.now.source.now shop.entry.now.desk.now
+                shop.entry.now.input.now worker.exit.now
                 × (number_of worker.exit.now ≡ number_of worker.entry.now) }
-        { worker.work(rt, alloc, desk, shape, source, input, gate) },
+        { worker.work(shop) },
     );
 }
 
@@ -179,18 +169,17 @@ pub fn run_callers<R: Threads + Wait + Sync, G: Gate>(
     // One serial history of all scripts, and what the interpreter says of it.
     ensures day { IfOk result (λ day. IsDay input.now day.closed day.done.items) }
 {
-    let shape = BooksShape::of(input.books());
     let (source, takers) = Source::new(alloc, input.callers(), desk.seats())?;
     let mut workers = seat_workers(alloc, &source, &desk, passes, takers)?;
-    work_all(
+    let shop = Workshop {
         rt,
         alloc,
-        &desk,
-        shape,
-        &source,
+        desk: &desk,
+        shape: BooksShape::of(input.books()),
+        source: &source,
         input,
         gate,
-        workers.as_mut_slice(),
-    );
+    };
+    work_all(&shop, workers.as_mut_slice());
     end_day(alloc, desk, source, input, workers)
 }

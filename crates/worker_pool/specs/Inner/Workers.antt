@@ -1,10 +1,11 @@
 -- A worker before its thread begins, and after it has ended.
-use Rattle.std.specs.Prelude.{◌≡◌, ℕ, [], ◌∷◌, false}
+use Rattle.std.specs.Prelude.{◌≡◌, ℕ, [], ◌∷◌, length, false}
 use Rattle.history_model.specs.declared.view.Phase.TheVariants.{Idle}
 use Rattle.history_model.specs.Views.{number}
 use Rattle.word_table.specs.Desks.{DeskView}
-use Rattle.script_reader.specs.Input.{ClearingInput}
+use Rattle.script_reader.specs.Input.{ClearingInput, IsInput}
 use Rattle.txn_books.specs.declared.shape.BooksShape.{BooksShape}
+use Rattle.txn_books.specs.Layout.{shape_of}
 use Rattle.worker_pool.specs.declared.worker.Worker.{Worker}
 use Rattle.worker_pool.specs.Takers.{SourceView, had, IsDone}
 use Rattle.worker_pool.specs.Inner.Ends.{IsReady}
@@ -13,6 +14,13 @@ use Rattle.worker_pool.specs.Inner.Makers.{HasMade, HasRun}
 -- the number of a worker's seat
 abbrev pub number_of : Worker → ℕ
 number_of worker = number worker.pass.view
+
+-- what all workers share fits together: the table is for books of the input's sizes, and the source hands out its callers
+pub record FitTogether (desk : DeskView BooksShape) (shape : BooksShape) (source : SourceView) (input : ClearingInput) : Type 0 where
+  pub shape_is : desk.shape ≡ shape
+  pub sizes : shape ≡ shape_of input.books
+  pub valid : IsInput input
+  pub callers : source.callers ≡ length input.callers
 
 -- a worker at this source and this desk, that did nothing yet
 pub record IsSeated (source : SourceView) (desk : DeskView BooksShape) (worker : Worker) : Type 0 where

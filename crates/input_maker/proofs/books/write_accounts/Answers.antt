@@ -1,8 +1,9 @@
 use Rattle.std.proofs.Common.{◌+◌}
 use Rattle.std.specs.String.{string_bytes}
 use Rattle.script_reader.specs.Text.{account_line}
+use Rattle.books_report.proofs.Walks.{written_next}
 use Rattle.input_maker.specs.Made.{accounts_to}
-use Rattle.input_maker.proofs.Listing.{written_more, written_none, accounts-more, accounts-none}
+use Rattle.input_maker.proofs.Listing.{written_none, accounts-more, accounts-none}
 use Rattle.input_maker.proofs.books.write_accounts.Goals as goal
 
 pub loop-place-init : goal.loop-place-init
@@ -11,5 +12,5 @@ loop-place-init c = written_none account_line (string_bytes c.args.text.now) (ac
 pub loop-place-preserved : goal.loop-place-preserved
 loop-place-preserved c =
     let place = c.loop-place.place in
-    written_more account_line (string_bytes c.args.text.now) (string_bytes c.loop-place.text) (string_bytes c.write_account.new.text) (accounts_to place) (accounts_to (place + 1)) (place + 1, 1000000)
+    written_next (string_bytes c.args.text.now) (string_bytes c.loop-place.text) (string_bytes c.write_account.new.text) account_line (accounts_to place) (accounts_to (place + 1)) (place + 1, 1000000)
     c.loop-place.invariant c.in_ok-write_account.ensures (accounts-more place)

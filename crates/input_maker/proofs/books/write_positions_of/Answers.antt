@@ -1,8 +1,9 @@
 use Rattle.std.proofs.Common.{◌+◌}
 use Rattle.std.specs.String.{string_bytes}
 use Rattle.script_reader.specs.Text.{position_line}
+use Rattle.books_report.proofs.Walks.{written_next}
 use Rattle.input_maker.specs.Made.{positions_in}
-use Rattle.input_maker.proofs.Listing.{written_more, written_none, positions_in-more, positions_in-none}
+use Rattle.input_maker.proofs.Listing.{written_none, positions_in-more, positions_in-none}
 use Rattle.input_maker.proofs.books.write_positions_of.Goals as goal
 
 pub loop-place-init : goal.loop-place-init
@@ -11,5 +12,5 @@ loop-place-init c = written_none position_line (string_bytes c.args.text.now) (p
 pub loop-place-preserved : goal.loop-place-preserved
 loop-place-preserved c =
     let place = c.loop-place.place in
-    written_more position_line (string_bytes c.args.text.now) (string_bytes c.loop-place.text) (string_bytes c.write_position.new.text) (positions_in c.args.account place) (positions_in c.args.account (place + 1)) ((c.args.account, place + 1), 100)
+    written_next (string_bytes c.args.text.now) (string_bytes c.loop-place.text) (string_bytes c.write_position.new.text) position_line (positions_in c.args.account place) (positions_in c.args.account (place + 1)) ((c.args.account, place + 1), 100)
     c.loop-place.invariant c.in_ok-write_position.ensures (positions_in-more c.args.account place)

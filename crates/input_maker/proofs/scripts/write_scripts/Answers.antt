@@ -1,8 +1,9 @@
 use Rattle.std.proofs.Common.{◌+◌, ◌%◌, ◌++◌, ℕ, sym, ap, ◌∙◌}
 use Rattle.std.specs.String.{string_bytes}
 use Rattle.script_reader.specs.Grammar.{submission_lines}
+use Rattle.books_report.proofs.Walks.{written_next}
 use Rattle.input_maker.specs.Made.{caller_name, script_from, state_after_script, made_submission, submissions_to}
-use Rattle.input_maker.proofs.Listing.{written_more, written_none, submissions-none, submissions-more, scripts-none, scripts-more}
+use Rattle.input_maker.proofs.Listing.{written_none, submissions-none, submissions-more, scripts-none, scripts-more}
 use Rattle.input_maker.proofs.scripts.write_scripts.Goals as goal
 
 pub loop-place-init : goal.loop-place-init
@@ -18,7 +19,7 @@ loop-place-preserved c =
     let callers = c.args.callers in
     record {
       state = c.in_ok-write_script.ensures.state ∙ ap state_after_script c.loop-place.invariant.state ∙ sym (scripts-more seed place);
-      text = written_more submission_lines (string_bytes c.args.text.now) (string_bytes c.loop-place.text) (string_bytes c.write_script.new.text)
+      text = written_next (string_bytes c.args.text.now) (string_bytes c.loop-place.text) (string_bytes c.write_script.new.text) submission_lines
           (submissions_to seed callers place) (submissions_to seed callers (place + 1)) (made_submission seed callers place)
           c.loop-place.invariant.text
           (c.in_ok-write_script.ensures.text ∙ ap (λ (x : ℕ). string_bytes c.loop-place.text ++ submission_lines (record { caller = caller_name (place % callers); script = script_from x })) c.loop-place.invariant.state)

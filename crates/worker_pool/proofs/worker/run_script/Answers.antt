@@ -11,8 +11,8 @@ use Rattle.worker_pool.proofs.worker.run_script.Goals as goal
 
 pub returns-clause-made : goal.returns-clause-made
 returns-clause-made g c = λ done made.
-    let desk = c.args.desk.now in
-    let input = c.args.input.now in
+    let desk = c.args.shop.now.desk.now in
+    let input = c.args.shop.now.input.now in
     let old = c.args.pass.now in
     let new = c.transact.new.pass in
     let receipt = c.in_ok-receipt.receipt in
@@ -27,8 +27,8 @@ returns-clause-made g c = λ done made.
       restarts = receipt.restarts;
       reply = receipt.answer;
     } in
-    let shape_is : job.shape ≡ desk.shape = ap (λ (j : ScriptOn). j.shape) c.new-job.ensures ∙ sym c.requires.shape in
-    let script_is : job.script ≡ script_at input c.args.caller c.args.index = ap (λ (j : ScriptOn). j.script) c.new-job.ensures ∙ c.script.ensures in
+    let shape_is : job.shape ≡ desk.shape = ap (λ (j : ScriptOn). j.shape) c.new-job.ensures ∙ sym c.requires.fit.shape_is in
+    let script_is : job.script ≡ script_at input c.args.caller c.args.index = ap (λ (j : ScriptOn). j.script) c.new-job.ensures ∙ c.script-script.ensures in
     let gets = subst (λ (s : BooksShape). GetsEntry desk.base (ScriptMeans s (script_at input c.args.caller c.args.index)) (number old.view) (old.view.call + 1) old.view.seen new.view.seen receipt) shape_is
     (subst (λ (ops : List Op). GetsEntry desk.base (ScriptMeans job.shape ops) (number old.view) (old.view.call + 1) old.view.seen new.view.seen receipt) script_is e.entry) in
     let named : c.who.result ≡ number old.view = c.who.ensures.number ∙ ap (λ (w : List ℕ). slice_index w 0) e.seat.who in

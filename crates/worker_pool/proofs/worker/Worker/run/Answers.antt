@@ -12,13 +12,13 @@ pub run_caller-requires-clause-room : goal.run_caller-requires-clause-room
 run_caller-requires-clause-room g c κs within =
     let i = c.loop.invariant in
     let n = c.in-Some-next.ensures in
-    room_left c.args.input.now c.requires.valid c.args.source.now.callers (length c.loop.self.done.items) c.in-Some-next.caller (taken c.loop.self.taker) (taken c.next-in-loop.new.self)
-    c.requires.callers i.count n.taken (subst (λ k. length (taken c.next-in-loop.new.self) ≤ k) i.callers n.few)
+    room_left c.args.shop.now.input.now c.requires.fit.valid c.args.shop.now.source.now.callers (length c.loop.self.done.items) c.in-Some-next.caller (taken c.loop.self.taker) (taken c.next-in-loop.new.self)
+    c.requires.fit.callers i.count n.taken (subst (λ k. length (taken c.next-in-loop.new.self) ≤ k) i.callers n.few)
 
 pub loop-preserved : goal.loop-preserved
 loop-preserved g c =
     let i = c.loop.invariant in
-    let input = c.args.input.now in
+    let input = c.args.shop.now.input.now in
     let n = c.in-Some-next.ensures in
     let e = c.in_ok-run_caller.ensures in
     let b = c.in-Some-next.caller in
@@ -29,7 +29,7 @@ loop-preserved g c =
       callers = n.source.1 ∙ i.callers;
       over = n.goes_on;
       who = e.who ∙ i.who;
-      made = subst (λ k. HasMade c.args.desk.now input k c.run_caller.new.pass c.run_caller.new.done.items) same e.made;
+      made = subst (λ k. HasMade c.args.shop.now.desk.now input k c.run_caller.new.pass c.run_caller.new.done.items) same e.made;
       run = next_caller input (had c.next-in-loop.new.self) 0 b c.run_caller.new.done.items
           (ran_caller input (had c.loop.self.taker) b (had c.next-in-loop.new.self) c.run_caller.new.done.items n.had ran);
       count = omega (arith, e.count, i.count, scripts_push input (taken c.loop.self.taker) (taken c.next-in-loop.new.self) b n.taken);
@@ -38,12 +38,12 @@ loop-preserved g c =
 pub returns-in_default-clause-worked : goal.returns-in_default-clause-worked
 returns-in_default-clause-worked g c =
     let i = c.loop.invariant in
-    let input = c.args.input.now in
+    let input = c.args.shop.now.input.now in
     let n = c.in_default.ensures in
     let done = c.loop.self.done.items in
     let same : number c.loop.self.pass.view ≡ number_of c.args.self.now = ap (λ (w : List ℕ). slice_index w 0) i.who in
     record {
       end = record { table = n.source.0 ∙ i.table; callers = n.source.1 ∙ i.callers; over = n.over };
-      made = subst (λ k. HasMade c.args.desk.now input k c.loop.self.pass done) (sym same) i.made;
+      made = subst (λ k. HasMade c.args.shop.now.desk.now input k c.loop.self.pass done) (sym same) i.made;
       run = subst (λ (l : List ℕ). HasRun input (λ x. times x l) 0 0 done) (sym n.none) i.run;
     }
