@@ -20,32 +20,66 @@ call 9 64000000000000000
 call 7 1
 ";
 
+fn add_account(
+    rt: &impl Abort,
+    books: &mut Books,
+    account: u32,
+    cash: u64,
+) -> Result<(), OutOfMemory> {
+    assert!(rt; account > 0 && cash <= GREATEST_CASH);
+    assert!(rt; books.cash(account).is_none() && books.used() < books.blocks());
+    books.add_account(account, cash)
+}
+
+fn add_price(
+    rt: &impl Abort,
+    books: &mut Books,
+    instrument: u32,
+    price: u64,
+) -> Result<(), OutOfMemory> {
+    assert!(rt; instrument > 0 && instrument <= books.instruments());
+    assert!(rt; price > 0 && price <= GREATEST_PRICE);
+    assert!(rt; books.price(instrument).is_none() && books.used() < books.blocks());
+    books.add_price(instrument, price)
+}
+
+fn add_position(
+    rt: &impl Abort,
+    books: &mut Books,
+    account: u32,
+    instrument: u32,
+    quantity: u64,
+) -> Result<(), OutOfMemory> {
+    assert!(rt; books.cash(account).is_some() && books.price(instrument).is_some());
+    assert!(rt; quantity > 0 && quantity <= GREATEST_QUANTITY);
+    assert!(rt; books.position(account, instrument).is_none());
+    assert!(rt; books.used() < books.blocks());
+    books.add_position(account, instrument, quantity)
+}
+
+fn add_call(
+    rt: &impl Abort,
+    books: &mut Books,
+    account: u32,
+    shortfall: u64,
+) -> Result<(), OutOfMemory> {
+    assert!(rt; account > 0 && shortfall > 0 && shortfall <= GREATEST_SHORTFALL);
+    assert!(rt; books.calls() < books.ring());
+    books.add_call(account, shortfall)
+}
+
 // Books with every kind of line, made in another order than that of their text.
 fn full_books(rt: &impl Abort, alloc: Global) -> Result<Books, OutOfMemory> {
     let mut books = Books::new(alloc, 8, 2, 2);
-    for (account, cash) in &[(30, GREATEST_CASH), (1, 0)] {
-        assert!(rt; *account > 0 && *cash <= GREATEST_CASH);
-        assert!(rt; books.cash(*account).is_none() && books.used() < books.blocks());
-        books.add_account(*account, *cash)?;
-    }
-    for (instrument, price) in &[(2, GREATEST_PRICE), (1, 10)] {
-        assert!(rt; *instrument > 0 && *instrument <= books.instruments());
-        assert!(rt; *price > 0 && *price <= GREATEST_PRICE);
-        assert!(rt; books.price(*instrument).is_none() && books.used() < books.blocks());
-        books.add_price(*instrument, *price)?;
-    }
-    for (account, instrument, quantity) in &[(30, 2, 1), (30, 1, GREATEST_QUANTITY), (1, 2, 5)] {
-        assert!(rt; books.cash(*account).is_some() && books.price(*instrument).is_some());
-        assert!(rt; *quantity > 0 && *quantity <= GREATEST_QUANTITY);
-        assert!(rt; books.position(*account, *instrument).is_none());
-        assert!(rt; books.used() < books.blocks());
-        books.add_position(*account, *instrument, *quantity)?;
-    }
-    for (account, shortfall) in &[(9, GREATEST_SHORTFALL), (7, 1)] {
-        assert!(rt; *account > 0 && *shortfall > 0 && *shortfall <= GREATEST_SHORTFALL);
-        assert!(rt; books.calls() < books.ring());
-        books.add_call(*account, *shortfall)?;
-    }
+    add_account(rt, &mut books, 30, GREATEST_CASH)?;
+    add_account(rt, &mut books, 1, 0)?;
+    add_price(rt, &mut books, 2, GREATEST_PRICE)?;
+    add_price(rt, &mut books, 1, 10)?;
+    add_position(rt, &mut books, 30, 2, 1)?;
+    add_position(rt, &mut books, 30, 1, GREATEST_QUANTITY)?;
+    add_position(rt, &mut books, 1, 2, 5)?;
+    add_call(rt, &mut books, 9, GREATEST_SHORTFALL)?;
+    add_call(rt, &mut books, 7, 1)?;
     Ok(books)
 }
 
@@ -59,11 +93,10 @@ fn books_have_every_kind_of_line_in_order(rt: HostRuntime) -> Result<(), Fail> {
 
 // An input with so many scripts of one caller.
 fn input_of(rt: &impl Abort, alloc: Global, scripts: usize) -> Result<Input, OutOfMemory> {
-    let mut text = String::from_str(alloc, "books 1 blocks 4 instruments 1 ring 1\nscripts\n")?;
-    for _ in 0..scripts {
-        text.push_str("script ann\nend\n")?;
-    }
-    text.push_str("finish\n")?;
+    let scripts = "script ann\nend\n".repeat(alloc, scripts)?;
+    let text = format!(in alloc;
+        "books 1 blocks 4 instruments 1 ring 1\nscripts\n{scripts}finish\n"
+    )?;
     match read_input(alloc, text.as_bytes()) {
         Ok(input) => Ok(input),
         Err(_) => panic!(rt; "refused"),
@@ -105,9 +138,8 @@ const DECLINES: [(u32, Decline); 9] = [
     (9, Decline::Queue),
 ];
 
-#[test]
-fn a_journal_has_every_word_of_replies(rt: HostRuntime) -> Result<(), Fail> {
-    let alloc = rt.alloc();
+// What a script tells, with every word of a value.
+fn every_value(alloc: Global) -> Result<Values, OutOfMemory> {
     let mut values = Values::new(alloc);
     for value in &[
         Value::Done,
@@ -117,18 +149,23 @@ fn a_journal_has_every_word_of_replies(rt: HostRuntime) -> Result<(), Fail> {
     ] {
         values.push(*value)?;
     }
+    Ok(values)
+}
+
+// Replies with every word.
+fn every_reply(alloc: Global) -> Result<Vec<Reply>, OutOfMemory> {
     let mut replies = Vec::new(alloc);
-    replies.push(Reply::Done(values))?;
+    replies.push(Reply::Done(every_value(alloc)?))?;
     for (number, why) in &DECLINES {
         replies.push(Reply::Declined(*number, *why))?;
     }
     replies.push(Reply::Full(64))?;
     replies.push(Reply::Done(Values::new(alloc)))?;
-    let input = input_of(&rt, alloc, replies.len())?;
-    let text = journal_of(&rt, alloc, &input, &replies, &full_books(&rt, alloc)?)?;
-    let mut want = String::from_str(
-        alloc,
-        "journal
+    Ok(replies)
+}
+
+// The journal of these replies.
+const EVERY_REPLY: &str = "journal
 1 ann 1 0 done ok 105 7:9 none
 2 ann 2 0 declined 1 exists
 3 ann 3 0 declined 2 absent
@@ -141,10 +178,15 @@ fn a_journal_has_every_word_of_replies(rt: HostRuntime) -> Result<(), Fail> {
 10 ann 10 0 declined 9 queue
 11 ann 11 0 full 64
 12 ann 12 0 done
-",
-    )?;
-    want.push_str(FULL_BOOKS)?;
-    want.push_str("finish\n")?;
+";
+
+#[test]
+fn a_journal_has_every_word_of_replies(rt: HostRuntime) -> Result<(), Fail> {
+    let alloc = rt.alloc();
+    let replies = every_reply(alloc)?;
+    let input = input_of(&rt, alloc, replies.len())?;
+    let text = journal_of(&rt, alloc, &input, &replies, &full_books(&rt, alloc)?)?;
+    let want = [EVERY_REPLY, FULL_BOOKS, "finish\n"].concat(alloc)?;
     assert_eq!(rt; text.as_slice(), want.as_bytes());
     Ok(())
 }

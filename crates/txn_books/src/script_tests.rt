@@ -13,6 +13,7 @@ use crate::{BooksShape, build, read_books, run_on_plain};
 use books_model::laws::scripts_go_by_instruments;
 use books_model::limits::{
     GREATEST_AMOUNT, GREATEST_CASH, GREATEST_PRICE, GREATEST_QUANTITY, GREATEST_RATE,
+    GREATEST_SHORTFALL,
 };
 use books_model::{Books, Decline, Op, Reply, Script, Value, run_plain};
 use io_ends::OutOfMemory;
@@ -33,25 +34,67 @@ const OK: Want<'static> = Want::Done(&[Value::Done]);
 // How many blocks the opening books use.
 const USED: u32 = 7;
 
+fn add_account(
+    rt: &impl Abort,
+    books: &mut Books,
+    account: u32,
+    cash: u64,
+) -> Result<(), OutOfMemory> {
+    assert!(rt; account > 0 && cash <= GREATEST_CASH);
+    assert!(rt; books.cash(account).is_none() && books.used() < books.blocks());
+    books.add_account(account, cash)
+}
+
+fn add_price(
+    rt: &impl Abort,
+    books: &mut Books,
+    instrument: u32,
+    price: u64,
+) -> Result<(), OutOfMemory> {
+    assert!(rt; instrument > 0 && instrument <= books.instruments());
+    assert!(rt; price > 0 && price <= GREATEST_PRICE);
+    assert!(rt; books.price(instrument).is_none() && books.used() < books.blocks());
+    books.add_price(instrument, price)
+}
+
+fn add_position(
+    rt: &impl Abort,
+    books: &mut Books,
+    account: u32,
+    instrument: u32,
+    quantity: u64,
+) -> Result<(), OutOfMemory> {
+    assert!(rt; books.cash(account).is_some() && books.price(instrument).is_some());
+    assert!(rt; quantity > 0 && quantity <= GREATEST_QUANTITY);
+    assert!(rt; books.position(account, instrument).is_none());
+    assert!(rt; books.used() < books.blocks());
+    books.add_position(account, instrument, quantity)
+}
+
+fn add_call(
+    rt: &impl Abort,
+    books: &mut Books,
+    account: u32,
+    shortfall: u64,
+) -> Result<(), OutOfMemory> {
+    assert!(rt; account > 0 && shortfall > 0 && shortfall <= GREATEST_SHORTFALL);
+    assert!(rt; books.calls() < books.ring());
+    books.add_call(account, shortfall)
+}
+
 // Accounts 1 to 4, the third at both limits; a price of instrument 1 and none of instrument 2; and a queue of one margin
 // call, which is full.
 fn opening(rt: &impl Abort, alloc: Global, blocks: u32) -> Result<Books, OutOfMemory> {
     assert!(rt; blocks >= USED && blocks <= 16_384);
     let mut books = Books::new(alloc, blocks, 2, 1);
-    for (account, cash) in [(1, 100), (2, 0), (3, GREATEST_CASH), (4, 0)] {
-        assert!(rt; books.cash(account).is_none() && books.used() < books.blocks());
-        books.add_account(account, cash)?;
+    for (account, cash) in &[(1, 100), (2, 0), (3, GREATEST_CASH), (4, 0)] {
+        add_account(rt, &mut books, *account, *cash)?;
     }
-    assert!(rt; books.instruments() > 0 && books.price(1).is_none());
-    assert!(rt; books.used() < books.blocks());
-    books.add_price(1, 10)?;
-    for (account, quantity) in [(2, 3), (3, GREATEST_QUANTITY)] {
-        assert!(rt; books.cash(account).is_some() && books.price(1).is_some());
-        assert!(rt; books.position(account, 1).is_none() && books.used() < books.blocks());
-        books.add_position(account, 1, quantity)?;
+    add_price(rt, &mut books, 1, 10)?;
+    for (account, quantity) in &[(2, 3), (3, GREATEST_QUANTITY)] {
+        add_position(rt, &mut books, *account, 1, *quantity)?;
     }
-    assert!(rt; books.calls() < books.ring());
-    books.add_call(7, 9)?;
+    add_call(rt, &mut books, 7, 9)?;
     Ok(books)
 }
 
@@ -205,7 +248,7 @@ fn compare(
 /// Accounts, where two blocks are left.
 #[test]
 fn accounts_and_cash(rt: HostRuntime) -> Result<(), Fail> {
-    let rows: [(&[Op], Want<'_>); 17] = [
+    const ROWS: [(&[Op], Want<'static>); 17] = [
         (&[Op::OpenAccount(5)], OK),
         (&[Op::OpenAccount(1)], Want::Declined(1, Decline::Exists)),
         (&[Op::Close(4)], OK),
@@ -224,14 +267,14 @@ fn accounts_and_cash(rt: HostRuntime) -> Result<(), Fail> {
         (&[Op::Move(2, 1, 1)], Want::Declined(1, Decline::Cash)),
         (&[Op::Move(1, 3, 1)], Want::Declined(1, Decline::Limit)),
     ];
-    compare(&rt, rt.alloc(), USED + 2, rows.as_slice())?;
+    compare(&rt, rt.alloc(), USED + 2, &ROWS)?;
     Ok(())
 }
 
 /// Prices and trades, where two blocks are left.
 #[test]
 fn prices_and_trades(rt: HostRuntime) -> Result<(), Fail> {
-    let rows: [(&[Op], Want<'_>); 10] = [
+    const ROWS: [(&[Op], Want<'static>); 10] = [
         (&[Op::Price(1, 20)], OK),
         (&[Op::Price(2, 5)], OK),
         (&[Op::Trade(1, 2, 1, 1)], OK),
@@ -246,14 +289,14 @@ fn prices_and_trades(rt: HostRuntime) -> Result<(), Fail> {
         (&[Op::Trade(3, 2, 1, 1)], Want::Declined(1, Decline::Limit)),
         (&[Op::Trade(1, 3, 1, 1)], Want::Declined(1, Decline::Limit)),
     ];
-    compare(&rt, rt.alloc(), USED + 2, rows.as_slice())?;
+    compare(&rt, rt.alloc(), USED + 2, &ROWS)?;
     Ok(())
 }
 
 /// Margin calls, and what is told.
 #[test]
 fn margin_calls_and_sums(rt: HostRuntime) -> Result<(), Fail> {
-    let rows: [(&[Op], Want<'_>); 9] = [
+    const ROWS: [(&[Op], Want<'static>); 9] = [
         (&[Op::Margin(2, 100)], Want::Declined(1, Decline::Queue)),
         (&[Op::Margin(9, 1)], Want::Declined(1, Decline::Absent)),
         (&[Op::Margin(1, 100)], Want::Done(&[Value::Number(0)])),
@@ -273,14 +316,14 @@ fn margin_calls_and_sums(rt: HostRuntime) -> Result<(), Fail> {
         ),
         (&[Op::Sum(3, 1)], Want::Done(&[Value::Number(0)])),
     ];
-    compare(&rt, rt.alloc(), USED + 2, rows.as_slice())?;
+    compare(&rt, rt.alloc(), USED + 2, &ROWS)?;
     Ok(())
 }
 
 /// Where no block is left. A seller that gives up its whole position leaves a block for the buyer's.
 #[test]
 fn no_block_is_left(rt: HostRuntime) -> Result<(), Fail> {
-    let rows: [(&[Op], Want<'_>); 6] = [
+    const ROWS: [(&[Op], Want<'static>); 6] = [
         (&[Op::OpenAccount(5)], Want::Full(1)),
         (&[Op::Price(2, 5)], Want::Full(1)),
         (&[Op::Price(1, 20)], OK),
@@ -288,14 +331,14 @@ fn no_block_is_left(rt: HostRuntime) -> Result<(), Fail> {
         (&[Op::Trade(1, 2, 1, 3)], OK),
         (&[Op::Deposit(1, 5), Op::OpenAccount(5)], Want::Full(2)),
     ];
-    compare(&rt, rt.alloc(), USED, rows.as_slice())?;
+    compare(&rt, rt.alloc(), USED, &ROWS)?;
     Ok(())
 }
 
 /// Several operations, all or none.
 #[test]
 fn scripts_are_done_or_change_nothing(rt: HostRuntime) -> Result<(), Fail> {
-    let rows: [(&[Op], Want<'_>); 4] = [
+    const ROWS: [(&[Op], Want<'static>); 4] = [
         (&[], Want::Done(&[])),
         (
             &[Op::Deposit(1, 5), Op::Show(1)],
@@ -310,7 +353,7 @@ fn scripts_are_done_or_change_nothing(rt: HostRuntime) -> Result<(), Fail> {
             Want::Full(3),
         ),
     ];
-    compare(&rt, rt.alloc(), USED, rows.as_slice())?;
+    compare(&rt, rt.alloc(), USED, &ROWS)?;
     Ok(())
 }
 
@@ -318,12 +361,10 @@ fn scripts_are_done_or_change_nothing(rt: HostRuntime) -> Result<(), Fail> {
 #[test]
 fn a_first_script(rt: HostRuntime) -> Result<(), Fail> {
     let mut books = Books::new(rt.alloc(), 4, 1, 1);
-    assert!(rt; books.cash(7).is_none() && books.used() < books.blocks());
-    books.add_account(7, 100)?;
-    let operations = [Op::Deposit(7, 5), Op::Show(7)];
-    let ran = run_on_words(&rt, rt.alloc(), &books, operations.as_slice())?;
-    let values = [Value::Done, Value::Number(105)];
-    assert!(rt; is_wanted(&ran.reply, Want::Done(&values)));
+    add_account(&rt, &mut books, 7, 100)?;
+    let ran = run_on_words(&rt, rt.alloc(), &books, &[Op::Deposit(7, 5), Op::Show(7)])?;
+    let want = Want::Done(&[Value::Done, Value::Number(105)]);
+    assert!(rt; is_wanted(&ran.reply, want));
     assert_eq!(rt; ran.books.cash(7), Some(105));
     assert_eq!(rt; ran.books.used(), 1);
     Ok(())
