@@ -146,19 +146,23 @@ const OK: Want<'static> = Want::Done(&[Value::Done]);
 fn a_script_tells_values_and_changes_books(rt: HostRuntime) -> Result<(), Fail> {
     let alloc = rt.alloc();
     let mut books = books_of(&rt, alloc, 4, &[(7, 100)])?;
-    let script = [
-        Op::Deposit(7, 5),
-        Op::Show(7),
-        Op::Withdraw(7, 105),
-        Op::Show(7),
-    ];
-    let values = [
-        Value::Done,
-        Value::Number(105),
-        Value::Done,
-        Value::Number(0),
-    ];
-    expect(&rt, alloc, &script, &mut books, Want::Done(&values))?;
+    expect(
+        &rt,
+        alloc,
+        &[
+            Op::Deposit(7, 5),
+            Op::Show(7),
+            Op::Withdraw(7, 105),
+            Op::Show(7),
+        ],
+        &mut books,
+        Want::Done(&[
+            Value::Done,
+            Value::Number(105),
+            Value::Done,
+            Value::Number(0),
+        ]),
+    )?;
     assert_eq!(rt; books.cash(7), Some(0));
     expect(&rt, alloc, &[], &mut books, Want::Done(&[]))?;
     Ok(())
@@ -168,11 +172,10 @@ fn a_script_tells_values_and_changes_books(rt: HostRuntime) -> Result<(), Fail> 
 fn a_declined_script_changes_nothing(rt: HostRuntime) -> Result<(), Fail> {
     let alloc = rt.alloc();
     let mut books = books_of(&rt, alloc, 4, &[(1, 10)])?;
-    let script = [Op::Deposit(1, 5), Op::Withdraw(1, 1000)];
     expect(
         &rt,
         alloc,
-        &script,
+        &[Op::Deposit(1, 5), Op::Withdraw(1, 1000)],
         &mut books,
         Want::Declined(2, Decline::Cash),
     )?;
@@ -191,8 +194,13 @@ fn a_declined_script_changes_nothing(rt: HostRuntime) -> Result<(), Fail> {
 fn accounts_open_while_a_block_is_left(rt: HostRuntime) -> Result<(), Fail> {
     let alloc = rt.alloc();
     let mut books = books_of(&rt, alloc, 1, &[])?;
-    let script = [Op::OpenAccount(1), Op::OpenAccount(2)];
-    expect(&rt, alloc, &script, &mut books, Want::Full(2))?;
+    expect(
+        &rt,
+        alloc,
+        &[Op::OpenAccount(1), Op::OpenAccount(2)],
+        &mut books,
+        Want::Full(2),
+    )?;
     assert_eq!(rt; books.account_after(0), None);
     expect(&rt, alloc, &[Op::OpenAccount(1)], &mut books, OK)?;
     assert_eq!(rt; books.account_after(0), Some((1, 0)));
@@ -221,7 +229,7 @@ fn cash_moves_from_one_account_to_another(rt: HostRuntime) -> Result<(), Fail> {
         &[(1, 50), (2, 0), (3, 1_000_000_000_000_000)],
     )?;
     // From, to, the amount, what is replied, and the cash of accounts 1 and 2 after it.
-    let rows = [
+    for (from, to, amount, want, first, second) in &[
         (1, 2, 50, OK, 0, 50),
         (1, 1, 1, Want::Declined(1, Decline::Same), 50, 0),
         (9, 9, 1, Want::Declined(1, Decline::Same), 50, 0),
@@ -230,8 +238,7 @@ fn cash_moves_from_one_account_to_another(rt: HostRuntime) -> Result<(), Fail> {
         (2, 1, 1, Want::Declined(1, Decline::Cash), 50, 0),
         (2, 3, 1, Want::Declined(1, Decline::Cash), 50, 0),
         (1, 3, 1, Want::Declined(1, Decline::Limit), 50, 0),
-    ];
-    for (from, to, amount, want, first, second) in &rows {
+    ] {
         let mut after = books.copy()?;
         expect(
             &rt,
@@ -252,7 +259,7 @@ fn accounts_close_open_and_trade_for_their_reasons(rt: HostRuntime) -> Result<()
     let mut books = books_of(&rt, alloc, 8, &[(1, 5), (2, 0), (3, 0)])?;
     add_price(&rt, &mut books, 1, 10)?;
     add_position(&rt, &mut books, 2, 1, 1)?;
-    let rows = [
+    for (op, want) in &[
         (Op::Close(1), Want::Declined(1, Decline::Cash)),
         (Op::Close(2), Want::Declined(1, Decline::Held)),
         (Op::Close(3), OK),
@@ -263,8 +270,7 @@ fn accounts_close_open_and_trade_for_their_reasons(rt: HostRuntime) -> Result<()
         (Op::Trade(1, 9, 1, 1), Want::Declined(1, Decline::Absent)),
         (Op::Trade(1, 1, 1, 1), Want::Declined(1, Decline::Same)),
         (Op::Trade(1, 2, 2, 1), Want::Declined(1, Decline::Price)),
-    ];
-    for (op, want) in &rows {
+    ] {
         expect(&rt, alloc, &[*op], &mut books, *want)?;
     }
     assert_eq!(rt; books.cash(3), None);
@@ -303,13 +309,12 @@ fn a_shortfall_is_queued_while_there_is_room(rt: HostRuntime) -> Result<(), Fail
     books.add_account(1, 4)?;
     add_price(&rt, &mut books, 1, 7)?;
     add_position(&rt, &mut books, 1, 1, 3)?;
-    let rows = [
+    for (op, want) in &[
         (Op::Margin(1, 27), Want::Done(&[Value::Number(1)])),
         (Op::Margin(1, 27), Want::Declined(1, Decline::Queue)),
         (Op::Margin(1, 19), Want::Done(&[Value::Number(0)])),
         (Op::Margin(2, 19), Want::Declined(1, Decline::Absent)),
-    ];
-    for (op, want) in &rows {
+    ] {
         expect(&rt, alloc, &[*op], &mut books, *want)?;
     }
     assert!(rt; books.calls() == 1);
@@ -322,13 +327,12 @@ fn margin_calls_are_taken_from_the_front(rt: HostRuntime) -> Result<(), Fail> {
     let alloc = rt.alloc();
     let mut books = books_of(&rt, alloc, 4, &[])?;
     add_call(&rt, &mut books, 7, 9)?;
-    let taken = [Value::Call(7, 9), Value::Nothing];
     expect(
         &rt,
         alloc,
         &[Op::Next, Op::Next],
         &mut books,
-        Want::Done(&taken),
+        Want::Done(&[Value::Call(7, 9), Value::Nothing]),
     )?;
     assert_eq!(rt; books.calls(), 0);
     Ok(())
@@ -337,21 +341,46 @@ fn margin_calls_are_taken_from_the_front(rt: HostRuntime) -> Result<(), Fail> {
 #[test]
 fn cash_is_summed_from_end_to_end(rt: HostRuntime) -> Result<(), Fail> {
     let alloc = rt.alloc();
-    let rich = 1_000_000_000_000_000;
-    let mut books = books_of(&rt, alloc, 4, &[(1, rich), (2, rich), (5, 1)])?;
-    let script = [Op::Sum(3, 4), Op::Sum(1, 4_294_967_295), Op::Sum(5, 1)];
-    let sums = [0, 2_000_000_000_000_001, 0].map(Value::Number);
-    expect(&rt, alloc, &script, &mut books, Want::Done(&sums))?;
-    let script = [
-        Op::Withdraw(1, rich),
-        Op::Close(1),
-        Op::OpenAccount(4),
-        Op::Deposit(4, 2),
-        Op::Sum(1, 4),
-    ];
-    let after = Value::Number(1_000_000_000_000_002);
-    let values = [Value::Done, Value::Done, Value::Done, Value::Done, after];
-    expect(&rt, alloc, &script, &mut books, Want::Done(&values))?;
+    let mut books = books_of(
+        &rt,
+        alloc,
+        4,
+        &[
+            (1, 1_000_000_000_000_000),
+            (2, 1_000_000_000_000_000),
+            (5, 1),
+        ],
+    )?;
+    expect(
+        &rt,
+        alloc,
+        &[Op::Sum(3, 4), Op::Sum(1, 4_294_967_295), Op::Sum(5, 1)],
+        &mut books,
+        Want::Done(&[
+            Value::Number(0),
+            Value::Number(2_000_000_000_000_001),
+            Value::Number(0),
+        ]),
+    )?;
+    expect(
+        &rt,
+        alloc,
+        &[
+            Op::Withdraw(1, 1_000_000_000_000_000),
+            Op::Close(1),
+            Op::OpenAccount(4),
+            Op::Deposit(4, 2),
+            Op::Sum(1, 4),
+        ],
+        &mut books,
+        Want::Done(&[
+            Value::Done,
+            Value::Done,
+            Value::Done,
+            Value::Done,
+            Value::Number(1_000_000_000_000_002),
+        ]),
+    )?;
     Ok(())
 }
 

@@ -4,6 +4,7 @@ use crate::serve::serve;
 use crate::status::{Status, ending_of};
 use io_ends::{MemSink, MemSource, OutOfMemory};
 use std::alloc::Global;
+use std::process::Abort;
 use std::sync::Wait;
 use std::test::Fail;
 use std::thread::Threads;
@@ -87,10 +88,29 @@ fn text(alloc: Global, parts: &[&str]) -> Result<Vec<u8>, OutOfMemory> {
     Ok(bytes)
 }
 
+// Runs a command over an input, which is to end so and print this. Both texts come in parts.
+fn look<R: Abort + Threads + Wait + Sync>(
+    rt: &R,
+    alloc: Global,
+    command: &str,
+    input: &[&str],
+    status: Status,
+    output: &[&str],
+) -> Result<(), OutOfMemory> {
+    let run = served(rt, alloc, command, text(alloc, input)?, GOOD)?;
+    assert_eq!(rt; run.status, status, "{command}: {input:?}");
+    let output = text(alloc, output)?;
+    assert_eq!(rt;
+        run.taken.as_slice(),
+        output.as_slice(),
+        "{command}: {input:?}"
+    );
+    Ok(())
+}
+
 #[test]
 fn scripts_are_run_and_printed(rt: HostRuntime) -> Result<(), Fail> {
-    let alloc = rt.alloc();
-    let rows = [
+    for (input, journal, books) in &[
         // deposit_then_show
         (FIRST, FIRST_OUTPUT.0, FIRST_OUTPUT.1),
         // empty_input_prints_an_empty_journal
@@ -155,32 +175,39 @@ fn scripts_are_run_and_printed(rt: HostRuntime) -> Result<(), Fail> {
             "journal\n1 ann 1 0 declined 2 absent\n2 bob 1 0 done 10\n",
             "account 1 10\nfinish\n",
         ),
-    ];
-    for (input, journal, books) in rows {
-        let run = served(&rt, alloc, "run 1", text(alloc, &[HEADER, input])?, GOOD)?;
-        assert_eq!(rt; run.status, Status::Done, "{input}");
-        let want = text(alloc, &[journal, HEADER, books])?;
-        assert_eq!(rt; run.taken.as_slice(), want.as_slice(), "{input}");
+    ] {
+        let output = [*journal, HEADER, *books];
+        look(
+            &rt,
+            rt.alloc(),
+            "run 1",
+            &[HEADER, *input],
+            Status::Done,
+            &output,
+        )?;
     }
     Ok(())
 }
 
 #[test]
 fn one_caller_has_one_output_for_all_workers(rt: HostRuntime) -> Result<(), Fail> {
-    let alloc = rt.alloc();
-    let want = text(alloc, &[FIRST_OUTPUT.0, HEADER, FIRST_OUTPUT.1])?;
-    for command in ["run 1", "run 2", "run 4", "run 9", "run 15", "run 16"] {
-        let run = served(&rt, alloc, command, text(alloc, &[HEADER, FIRST])?, GOOD)?;
-        assert_eq!(rt; run.status, Status::Done, "{command}");
-        assert_eq!(rt; run.taken.as_slice(), want.as_slice(), "{command}");
+    let output = [FIRST_OUTPUT.0, HEADER, FIRST_OUTPUT.1];
+    for command in &["run 1", "run 2", "run 4", "run 9", "run 15", "run 16"] {
+        look(
+            &rt,
+            rt.alloc(),
+            *command,
+            &[HEADER, FIRST],
+            Status::Done,
+            &output,
+        )?;
     }
     Ok(())
 }
 
 #[test]
 fn scripts_are_run_on_other_sizes(rt: HostRuntime) -> Result<(), Fail> {
-    let alloc = rt.alloc();
-    let rows = [
+    for (header, input, journal, books) in &[
         // second_account_finds_no_block
         (
             "books 1 blocks 1 instruments 1 ring 1\n",
@@ -195,12 +222,16 @@ fn scripts_are_run_on_other_sizes(rt: HostRuntime) -> Result<(), Fail> {
             "journal\n1 ann 1 0 declined 1 cash\n2 ann 2 0 declined 1 held\n3 ann 3 0 done ok\n4 ann 4 0 declined 1 absent\n5 ann 5 0 declined 1 exists\n6 ann 6 0 declined 1 cash\n7 ann 7 0 declined 1 quantity\n8 ann 8 0 declined 1 absent\n",
             "account 1 5\naccount 2 0\nprice 1 10\nposition 2 1 1\nfinish\n",
         ),
-    ];
-    for (header, input, journal, books) in rows {
-        let run = served(&rt, alloc, "run 1", text(alloc, &[header, input])?, GOOD)?;
-        assert_eq!(rt; run.status, Status::Done, "{input}");
-        let want = text(alloc, &[journal, header, books])?;
-        assert_eq!(rt; run.taken.as_slice(), want.as_slice(), "{input}");
+    ] {
+        let output = [*journal, *header, *books];
+        look(
+            &rt,
+            rt.alloc(),
+            "run 1",
+            &[*header, *input],
+            Status::Done,
+            &output,
+        )?;
     }
     Ok(())
 }
@@ -222,8 +253,7 @@ fn the_cash_of_all_accounts_is_summed(rt: HostRuntime) -> Result<(), Fail> {
 
 #[test]
 fn command_words_out_of_form_are_refused(rt: HostRuntime) -> Result<(), Fail> {
-    let alloc = rt.alloc();
-    let lines = [
+    for line in &[
         "",
         "run",
         "run 0",
@@ -246,15 +276,16 @@ fn command_words_out_of_form_are_refused(rt: HostRuntime) -> Result<(), Fail> {
         "drill 17 0 1 1",
         "drill 0 0 1 1",
         "drill 1 0 1 1 1",
-    ];
-    for line in lines {
-        let run = served(&rt, alloc, line, text(alloc, &[HEADER, FIRST])?, GOOD)?;
-        assert_eq!(rt; run.status, Status::BadWords, "{line}");
-        assert_eq!(rt;
-            run.taken.as_slice(),
-            b"refused words\n".as_slice(),
-            "{line}"
-        );
+    ] {
+        let output = ["refused words\n"];
+        look(
+            &rt,
+            rt.alloc(),
+            *line,
+            &[HEADER, FIRST],
+            Status::BadWords,
+            &output,
+        )?;
     }
     Ok(())
 }
@@ -262,22 +293,21 @@ fn command_words_out_of_form_are_refused(rt: HostRuntime) -> Result<(), Fail> {
 #[test]
 fn ends_that_fail_leave_a_front(rt: HostRuntime) -> Result<(), Fail> {
     let alloc = rt.alloc();
-    let rows = [
+    for (read_fails, write_fails, status, taken) in &[
         // second_write_fails_after_a_prefix
         (0, 2, Status::WriteFault, "journal\n1 "),
         // second_read_fails_and_nothing_is_written
         (2, 0, Status::ReadFault, ""),
         (1, 0, Status::ReadFault, ""),
         (0, 1, Status::WriteFault, ""),
-    ];
-    for (read_fails, write_fails, status, taken) in rows {
+    ] {
         let ends = Ends {
             most: 10,
-            read_fails,
-            write_fails,
+            read_fails: *read_fails,
+            write_fails: *write_fails,
         };
         let run = served(&rt, alloc, "run 1", text(alloc, &[HEADER, FIRST])?, ends)?;
-        assert_eq!(rt; run.status, status, "{read_fails} {write_fails}");
+        assert_eq!(rt; run.status, *status, "{read_fails} {write_fails}");
         assert_eq!(rt;
             run.taken.as_slice(),
             taken.as_bytes(),
@@ -290,14 +320,13 @@ fn ends_that_fail_leave_a_front(rt: HostRuntime) -> Result<(), Fail> {
 #[test]
 fn more_bytes_than_the_largest_input_are_refused(rt: HostRuntime) -> Result<(), Fail> {
     let alloc = rt.alloc();
-    let rows = [
+    for (count, status, taken) in &[
         (8_388_608, Status::BadInput, "refused line 1 end\n"),
         (8_388_609, Status::TooLarge, "refused size\n"),
         (9_000_000, Status::TooLarge, "refused size\n"),
-    ];
-    for (count, status, taken) in rows {
-        let run = served(&rt, alloc, "run 1", vec![in alloc; b'x'; count]?, GOOD)?;
-        assert_eq!(rt; run.status, status, "{count}");
+    ] {
+        let run = served(&rt, alloc, "run 1", vec![in alloc; b'x'; *count]?, GOOD)?;
+        assert_eq!(rt; run.status, *status, "{count}");
         assert_eq!(rt; run.taken.as_slice(), taken.as_bytes(), "{count}");
     }
     Ok(())
@@ -305,7 +334,7 @@ fn more_bytes_than_the_largest_input_are_refused(rt: HostRuntime) -> Result<(), 
 
 #[test]
 fn each_status_has_its_exit_status(rt: HostRuntime) {
-    let rows = [
+    for (outcome, code) in &[
         (Ok(Status::Done), 0),
         (Ok(Status::Differs), 1),
         (Ok(Status::BadWords), 2),
@@ -315,16 +344,14 @@ fn each_status_has_its_exit_status(rt: HostRuntime) {
         (Ok(Status::WriteFault), 6),
         (Ok(Status::OutOfMemory), 7),
         (Err(OutOfMemory), 7),
-    ];
-    for (outcome, code) in rows {
-        assert_eq!(rt; ending_of(outcome), code, "{outcome:?}");
+    ] {
+        assert_eq!(rt; ending_of(*outcome), *code, "{outcome:?}");
     }
 }
 
 #[test]
 fn faulty_lines_are_refused(rt: HostRuntime) -> Result<(), Fail> {
-    let alloc = rt.alloc();
-    let rows = [
+    for (input, output) in &[
         // lines that are missing, or come after the last one
         ("scripts\n", "refused line 3 end\n"),
         ("scripts\nfinish", "refused line 3 end\n"),
@@ -369,19 +396,22 @@ fn faulty_lines_are_refused(rt: HostRuntime) -> Result<(), Fail> {
             "account 1 1\ncall 1 1\nprice 0 0\n",
             "refused line 4 order\n",
         ),
-    ];
-    for (input, taken) in rows {
-        let run = served(&rt, alloc, "run 1", text(alloc, &[HEADER, input])?, GOOD)?;
-        assert_eq!(rt; run.status, Status::BadInput, "{input}");
-        assert_eq!(rt; run.taken.as_slice(), taken.as_bytes(), "{input}");
+    ] {
+        look(
+            &rt,
+            rt.alloc(),
+            "run 1",
+            &[HEADER, *input],
+            Status::BadInput,
+            &[*output],
+        )?;
     }
     Ok(())
 }
 
 #[test]
 fn faults_in_whole_texts_are_refused(rt: HostRuntime) -> Result<(), Fail> {
-    let alloc = rt.alloc();
-    let rows = [
+    for (input, output) in &[
         ("", "refused line 1 end\n"),
         (
             "books 9 blocks 4 instruments 1 ring 1\n",
@@ -399,11 +429,15 @@ fn faults_in_whole_texts_are_refused(rt: HostRuntime) -> Result<(), Fail> {
             "books 1 blocks 1 instruments 1 ring 1\naccount 1 1\naccount 2 1\n",
             "refused line 3 blocks\n",
         ),
-    ];
-    for (input, taken) in rows {
-        let run = served(&rt, alloc, "run 1", text(alloc, &[input])?, GOOD)?;
-        assert_eq!(rt; run.status, Status::BadInput, "{input}");
-        assert_eq!(rt; run.taken.as_slice(), taken.as_bytes(), "{input}");
+    ] {
+        look(
+            &rt,
+            rt.alloc(),
+            "run 1",
+            &[*input],
+            Status::BadInput,
+            &[*output],
+        )?;
     }
     Ok(())
 }
@@ -442,9 +476,8 @@ fn long_numbers_and_long_scripts_are_refused(rt: HostRuntime) -> Result<(), Fail
 
 #[test]
 fn texts_are_compared_with_inputs(rt: HostRuntime) -> Result<(), Fail> {
-    let alloc = rt.alloc();
     // What stands behind the input before the header of the closing books, and behind it.
-    let rows = [
+    for (journal, books, status, output) in &[
         (FIRST_OUTPUT.0, FIRST_OUTPUT.1, Status::Done, "agrees\n"),
         (
             "journal\n1 ann 1 15 done ok 105\n",
@@ -488,20 +521,16 @@ fn texts_are_compared_with_inputs(rt: HostRuntime) -> Result<(), Fail> {
             Status::Differs,
             "differs line 6\n",
         ),
-    ];
-    for (journal, books, status, taken) in rows {
-        let both = text(alloc, &[HEADER, FIRST, journal, HEADER, books])?;
-        let run = served(&rt, alloc, "check", both, GOOD)?;
-        assert_eq!(rt; run.status, status, "{journal}{books}");
-        assert_eq!(rt; run.taken.as_slice(), taken.as_bytes(), "{journal}{books}");
+    ] {
+        let both = [HEADER, FIRST, *journal, HEADER, *books];
+        look(&rt, rt.alloc(), "check", &both, *status, &[*output])?;
     }
     Ok(())
 }
 
 #[test]
 fn faults_of_the_input_come_before_the_text(rt: HostRuntime) -> Result<(), Fail> {
-    let alloc = rt.alloc();
-    let rows = [
+    for (input, status, output) in &[
         // The input alone: there is no line 1.
         (FIRST, Status::Differs, "differs line 1\n"),
         ("", Status::BadInput, "refused line 2 end\n"),
@@ -516,11 +545,15 @@ fn faults_of_the_input_come_before_the_text(rt: HostRuntime) -> Result<(), Fail>
             Status::BadInput,
             "refused line 3 word\n",
         ),
-    ];
-    for (input, status, taken) in rows {
-        let run = served(&rt, alloc, "check", text(alloc, &[HEADER, input])?, GOOD)?;
-        assert_eq!(rt; run.status, status, "{input}");
-        assert_eq!(rt; run.taken.as_slice(), taken.as_bytes(), "{input}");
+    ] {
+        look(
+            &rt,
+            rt.alloc(),
+            "check",
+            &[HEADER, *input],
+            *status,
+            &[*output],
+        )?;
     }
     Ok(())
 }
