@@ -34,7 +34,7 @@ fn write_header(text: &mut String, books: &Books) -> Result<(), AllocError>
     text.push('\n')
 }
 
-/// Appends the line of an account.
+/// Appends the line of an account. Where memory runs out, a part of it may stand there.
 pub fn write_account(text: &mut String, account: u32, cash: u64) -> Result<(), AllocError>
     ensures { OnOk result
         (string_bytes text.new ≡ string_bytes text.old ++ account_line (account, cash)) }
@@ -59,7 +59,7 @@ fn write_accounts(text: &mut String, books: &Books) -> Result<(), AllocError>
     Ok(())
 }
 
-/// Appends the line of an instrument's price.
+/// Appends the line of an instrument's price. Where memory runs out, a part of it may stand there.
 pub fn write_price(text: &mut String, instrument: u32, price: u64) -> Result<(), AllocError>
     ensures { OnOk result
         (string_bytes text.new ≡ string_bytes text.old ++ price_line (instrument, price)) }
@@ -84,7 +84,7 @@ fn write_prices(text: &mut String, books: &Books) -> Result<(), AllocError>
     Ok(())
 }
 
-/// Appends the line of what an account holds of an instrument.
+/// Appends the line of what an account holds of an instrument. Where memory runs out, a part of it may stand there.
 pub fn write_position(
     text: &mut String,
     account: u32,
