@@ -3,10 +3,12 @@ use Rattle.std.proofs.Common.{◌≡◌, ◌≢◌, ◌∙◌, ◌⊎◌, ◌↔
 use Rattle.std.specs.Io.KnownBytes.{Appends}
 use Rattle.io_ends.specs.Taken.{AppendsPrefix}
 use Rattle.worker_pool.specs.declared.done.DayEnd.{DayEnd}
-use Rattle.twoplsf.specs.Command.{IsRun, IsDrill, IsMaking}
-use Rattle.twoplsf.specs.Commands.{IsMakingBy}
+use Rattle.twoplsf.specs.Command.{IsRun, IsDrill, IsMaking, IsReading}
+use Rattle.twoplsf.specs.Commands.{IsCommand, IsMakingBy}
 use Rattle.twoplsf.specs.Made.{IsDrillDay, IsMadeText}
 use Rattle.twoplsf.specs.Making.{IsMakingDay, LeavesDay, RunsScripts, making_text}
+use Rattle.twoplsf.specs.declared.command.Command.{Command}
+use Rattle.twoplsf.specs.declared.command.Command.TheVariants.{Make}
 use Rattle.twoplsf.specs.declared.command.Making.{Making}
 use Rattle.twoplsf.specs.declared.command.Making.TheVariants.{Input, Drill}
 use Rattle.twoplsf.specs.declared.status.Status.{Status}
@@ -28,6 +30,17 @@ day_left (Drill workers plan) day left = (λ some. tt, λ runs. subst IsSome (sy
 pub making_is : (words : List (List ℕ)) (making : Making) → IsMakingBy words making → IsMaking words
 making_is words (Input plan) is = inl (plan.seed, plan.callers, plan.scripts, is)
 making_is words (Drill workers plan) is = inr (workers, plan.seed, plan.callers, plan.scripts, is)
+
+-- where the command that was found makes its input, the words are those of one that does
+pub made_by : (words : List (List ℕ)) {o : Command} {making : Making} → o ≡ Make making → IsCommand words o → IsMakingBy words making
+made_by words is h = subst (IsCommand words) is h
+
+pub made_is : (words : List (List ℕ)) {o : Command} {making : Making} → o ≡ Make making → IsCommand words o → IsMaking words
+made_is words {making = making} is h = making_is words making (made_by words is h)
+
+-- and no other's
+pub not_read : (words : List (List ℕ)) {o : Command} {making : Making} → o ≡ Make making → IsCommand words o → IsReading words → ⊥
+not_read words is h reading = read_not_made words reading (made_is words is h)
 
 -- it runs scripts where its words are those of a drill
 pub runs_of : (words : List (List ℕ)) (making : Making) → IsMakingBy words making → RunsScripts making ↔ (IsRun words ⊎ IsDrill words)

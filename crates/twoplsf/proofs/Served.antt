@@ -1,41 +1,39 @@
 -- What was printed, put together.
-use Rattle.std.proofs.Common.{Vec, Global, ◌≡◌, ◌≢◌, ◌<◌, ◌≤◌, ◌⊎◌, ◌++◌, ℕ, List, [], length, refl, Option, Some, None, IfSome, IsSome, ◌↔◌, sym, ap, ◌∙◌, subst, inl, inr, arith, append-nil, true≢false}
+use Rattle.std.proofs.Common.{Vec, Global, ◌≡◌, ◌≢◌, ◌≤◌, ◌⊎◌, ◌++◌, ℕ, List, length, refl, Option, Some, None, IfSome, IsSome, ◌↔◌, sym, ap, ◌∙◌, subst, inl, inr, arith, append-nil, true≢false}
 use Rattle.std.specs.Io.KnownBytes.{Appends, Consumes, IsAtEnd}
-use Rattle.io_ends.specs.Taken.{AppendsPrefix, TakesAtMost}
+use Rattle.std.proofs.lemmas.Option.{IfSome_then}
+use Rattle.io_ends.specs.Taken.{AppendsPrefix}
+use Rattle.script_reader.specs.declared.fault.Fault.{Fault}
+use Rattle.script_reader.specs.Faults.{IsFirstFault, IsFrontFault}
 use Rattle.script_reader.specs.Input.{ClearingInput}
 use Rattle.script_reader.specs.Grammar.{Spells}
 use Rattle.twoplsf.specs.Command.{IsRun, IsCheck, IsDrill, IsMaking, IsReading}
-use Rattle.script_reader.proofs.Deciding.{not_both, front_not_both, fronts_once}
+use Rattle.script_reader.proofs.Deciding.{not_both, front_not_both, fronts_once, one_fault}
 use Rattle.script_reader.proofs.OneInput.{one_input}
 use Rattle.books_report.specs.declared.limits.TheConstants.{RESTARTS_BELOW}
 use Rattle.books_report.specs.Output.{IsOutput}
 use Rattle.books_report.specs.Checking.{IsFirstWrongLine}
 use Rattle.books_report.proofs.Wrong.{one_wrong, none_of_output}
+use Rattle.twoplsf.specs.declared.limits.TheConstants.{MOST_INPUT_BYTES}
+use Rattle.twoplsf.specs.declared.answer.Answer.{Answer}
 use Rattle.twoplsf.specs.declared.answer.Answer.TheVariants.{Output, Difference, Refusal}
 use Rattle.worker_pool.specs.declared.done.DayEnd.{DayEnd}
 use Rattle.twoplsf.proofs.Days.{day_output}
 use Rattle.twoplsf.specs.declared.command.Reading.{Reading}
 use Rattle.twoplsf.specs.declared.command.Reading.TheVariants as reading
-use Rattle.twoplsf.specs.Commands.{IsReadingBy}
+use Rattle.twoplsf.specs.declared.command.Command.{Command}
+use Rattle.twoplsf.specs.declared.command.Command.TheVariants.{Read}
+use Rattle.twoplsf.specs.Commands.{IsCommand, IsReadingBy}
 use Rattle.twoplsf.specs.Check.{AreTwoTexts, differs_line}
 use Rattle.twoplsf.specs.declared.status.Status.{Status}
 use Rattle.twoplsf.specs.declared.status.Status.TheVariants as status
-use Rattle.twoplsf.specs.Answer.{IsDayFor, IsOutputFor, IsAnswerBy, IsDoneText, IsDifferenceFor, IsRefusalOf, IsRefusalOfFront, IsRefusalFor, HaveInputFor, IsTextFor, TookText}
+use Rattle.twoplsf.specs.Answer.{IsDayFor, IsOutputFor, PrintsOutput, IsAnswerBy, IsDoneText, IsDifferenceFor, IsRefusalOf, IsRefusalOfFront, IsRefusalFor, HaveInputFor, IsTextFor, TookText, refused_line}
 
 -- what was read to the end is all that was left
 pub all_read : (left now : Option (List ℕ)) (bytes : List ℕ) (P : List ℕ → Type 0) → Consumes left now bytes → IsAtEnd now → P bytes → IfSome left P
 all_read None now bytes P h end p = tt
 all_read (Some all) None bytes P h end p = absurd h
 all_read (Some all) (Some rest) bytes P h end p = subst P (sym (h ∙ ap (λ xs. bytes ++ xs) end ∙ append-nil bytes)) p
-
--- what was read to the end and is not too much was not too much
-pub few_bytes : (left now : Option (List ℕ)) (bytes : List ℕ) (most : ℕ) (R : Type 0) → Consumes left now bytes → IsAtEnd now → length bytes ≤ most → IfSome left (λ all. most < length all → R)
-few_bytes left now bytes most R h end few = all_read left now bytes (λ all. most < length all → R) h end (λ more. absurd (omega arith))
-
--- a source that is as it was gave nothing
-pub nothing_taken : (left : Option (List ℕ)) (most : ℕ) → TakesAtMost left left most
-nothing_taken None most = ([], tt, omega arith)
-nothing_taken (Some bytes) most = ([], refl, omega arith)
 
 -- no words are both commands
 pub run_not_check : (words : List (List ℕ)) → IsRun words → IsCheck words → ⊥
@@ -52,6 +50,17 @@ read_not_made words (inr check) (inr drill) = omega (arith, ap length check, ap 
 pub reading_is : (words : List (List ℕ)) (r : Reading) → IsReadingBy words r → IsReading words
 reading_is words (reading.Run w) is = inl (w, is)
 reading_is words reading.Check is = inr is
+
+-- where the command that was found reads, the words are those of one that does
+pub read_by : (words : List (List ℕ)) {o : Command} {r : Reading} → o ≡ Read r → IsCommand words o → IsReadingBy words r
+read_by words is h = subst (IsCommand words) is h
+
+pub read_is : (words : List (List ℕ)) {o : Command} {r : Reading} → o ≡ Read r → IsCommand words o → IsReading words
+read_is words {r = r} is h = reading_is words r (read_by words is h)
+
+-- and no other's
+pub not_made : (words : List (List ℕ)) {o : Command} {r : Reading} → o ≡ Read r → IsCommand words o → IsMaking words → ⊥
+not_made words is h making = read_not_made words (read_is words is h) making
 
 -- the answer to the bytes that were read, by the words
 pub done_text : (words : List (List ℕ)) (r : Reading) (bytes : List ℕ) (text : Vec ℕ Global) (day : Option DayEnd) → IsReadingBy words r → IsAnswerBy r bytes (Output text day) → IsDoneText words bytes text.items
@@ -180,7 +189,94 @@ pub took_text : (result is : Status) (words : List (List ℕ)) (left now before 
 took_text result is words left now before after text R h (inl w) = subst (λ s. TookText s words left now before after) (sym w.0) (took_whole is words left now before after text h w.1)
 took_text result is words left now before after text R h (inr f) = subst (λ s. TookText s words left now before after) (sym f.0) (is, text, h, f.2)
 
--- what is weaker holds of a value that is there
-pub some_weaker : (day : Option DayEnd) (P Q : DayEnd → Type 0) → ((d : DayEnd) → P d → Q d) → IfSome day P → IfSome day Q
-some_weaker None P Q f h = tt
-some_weaker (Some d) P Q f h = f d h
+-- a command has read all that was left, which was not too much, and this is its answer
+pub record HasAnswered (words : List (List ℕ)) (r : Reading) (left now : Option (List ℕ)) (bytes : List ℕ) (answer : Answer) : Type 0 where
+  pub is : IsReadingBy words r
+  pub taken : Consumes left now bytes
+  pub end : IsAtEnd now
+  pub few : length bytes ≤ MOST_INPUT_BYTES
+  pub answers : IsAnswerBy r bytes answer
+
+module _ {words : List (List ℕ)} {r : Reading} {left now : Option (List ℕ)} {bytes : List ℕ} {answer : Answer} (h : HasAnswered words r left now bytes answer) where
+  -- what holds of the bytes holds of all that was left
+  pub of_all : (P : List ℕ → Type 0) → P bytes → IfSome left P
+  of_all P p = all_read left now bytes P h.taken h.end p
+
+  -- and so does what a text says of them
+  told : (P : List ℕ → Type 0) → P bytes → IsReading words × IsAtEnd now × IfSome left (λ all. (length all ≤ MOST_INPUT_BYTES) × P all)
+  told P p = (reading_is words r h.is, h.end, of_all (λ all. (length all ≤ MOST_INPUT_BYTES) × P all) (h.few, p))
+
+module _ {words : List (List ℕ)} {r : Reading} {left now : Option (List ℕ)} {bytes : List ℕ} {text : Vec ℕ Global} {day : Option DayEnd} (h : HasAnswered words r left now bytes (Output text day)) where
+  done : IsDoneText words bytes text.items
+  done = done_text words r bytes text day h.is h.answers
+
+  -- the bytes have the input that the command reads
+  pub output_has_input : HaveInputFor words bytes
+  output_has_input = done_input words r bytes text day h.is h.answers
+
+  -- what the sink took is a text of its work
+  pub output_taken : (result : Status) (before after : Option (List ℕ)) (R : Type 0) → (result ≡ status.Done × Appends before after text.items) ⊎ (result ≡ status.WriteFault × R × AppendsPrefix before after text.items)
+      → TookText result words left now before after
+  output_taken result before after R wrote = took_text result status.Done words left now before after text.items R (inl (told h (λ all. IsDoneText words all text.items) done)) wrote
+
+  -- what is printed for `run W`
+  pub output_printed : (before after : Option (List ℕ)) → IsRun words → Appends before after text.items → IfSome left (λ all. PrintsOutput words all before after)
+  output_printed before after run printed =
+      of_all h (λ all. PrintsOutput words all before after) (record { text = text.items; output = output_of_run words bytes text.items run done; printed = printed })
+
+  -- a text that `check` agrees to
+  pub output_agreed : IsCheck words → (input : ClearingInput) (other : List ℕ) → AreTwoTexts bytes input other → IsOutput input RESTARTS_BELOW other
+  output_agreed check = done_is_output words bytes text.items check done
+
+  -- its day
+  pub output_day : (before after : Option (List ℕ)) → Appends before after text.items → IfSome day (λ d. IfSome left (λ all. IsDayFor words all before after d))
+  output_day before after printed = IfSome_then day (day_of words r bytes text day before after h.is h.answers printed) (λ d is. of_all h (λ all. IsDayFor words all before after d) is)
+
+module _ {words : List (List ℕ)} {r : Reading} {left now : Option (List ℕ)} {bytes : List ℕ} {text : Vec ℕ Global} (h : HasAnswered words r left now bytes (Difference text)) where
+  difference : IsDifferenceFor words bytes text.items
+  difference = difference_text words r bytes text h.is h.answers
+
+  -- the bytes have the input that the command reads
+  pub difference_has_input : HaveInputFor words bytes
+  difference_has_input = difference_input words bytes text.items difference
+
+  -- what the sink took names a wrong line
+  pub difference_taken : (result : Status) (before after : Option (List ℕ)) (R : Type 0)
+      → (result ≡ status.Differs × Appends before after text.items) ⊎ (result ≡ status.WriteFault × R × AppendsPrefix before after text.items) → TookText result words left now before after
+  difference_taken result before after R wrote = took_text result status.Differs words left now before after text.items R (told h (λ all. IsDifferenceFor words all text.items) difference) wrote
+
+  -- the text behind the input is no output
+  pub difference_is_none : (input : ClearingInput) (other : List ℕ) → AreTwoTexts bytes input other → IsOutput input RESTARTS_BELOW other → ⊥
+  difference_is_none = wrong_is_none words bytes text.items difference
+
+  -- and what is printed is its first wrong line
+  pub difference_printed : (before after : Option (List ℕ)) → Appends before after text.items → (input : ClearingInput) (other : List ℕ) (number : ℕ) → AreTwoTexts bytes input other
+      → IsFirstWrongLine input RESTARTS_BELOW other number → Appends before after (differs_line number)
+  difference_printed before after printed input other number two wrong = subst (Appends before after) (wrong_is_first words bytes text.items difference input other number two wrong) printed
+
+module _ {words : List (List ℕ)} {r : Reading} {left now : Option (List ℕ)} {bytes : List ℕ} {text : Vec ℕ Global} (h : HasAnswered words r left now bytes (Refusal text)) where
+  refusal : IsRefusalFor words bytes text.items
+  refusal = refusal_text words r bytes text h.is h.answers
+
+  -- the bytes do not have the input that the command reads
+  pub refusal_has_none : HaveInputFor words bytes → ⊥
+  refusal_has_none = refused_none words bytes text.items refusal
+
+  -- what the sink took refuses them
+  pub refusal_taken : (result : Status) (before after : Option (List ℕ)) (R : Type 0) → (result ≡ status.BadInput × Appends before after text.items) ⊎ (result ≡ status.WriteFault × R × AppendsPrefix before after text.items)
+      → TookText result words left now before after
+  refusal_taken result before after R wrote = took_text result status.BadInput words left now before after text.items R (told h (λ all. IsRefusalFor words all text.items) refusal) wrote
+
+  -- what is printed names the first faulty line
+  pub refusal_printed : (before after : Option (List ℕ)) → IsRun words → Appends before after text.items → (number : ℕ) (why : Fault) → IsFirstFault bytes number why → Appends before after (refused_line number why)
+  refusal_printed before after run printed number why fault =
+      let first = refusal_of_run words bytes text.items run refusal in
+      let same = one_fault bytes first.number number first.why why first.first fault in
+      subst (Appends before after) (first.text_is ∙ (λ i. refused_line (same.0 i) (same.1 i))) printed
+
+  -- and for `check` that of the input in front
+  pub front_refusal_printed : (before after : Option (List ℕ)) → IsCheck words → Appends before after text.items → (number : ℕ) (why : Fault) → IsFrontFault bytes number why → Appends before after (refused_line number why)
+  front_refusal_printed before after check printed number why fault =
+      let first = refusal_of_check words bytes text.items check refusal in
+      let same = one_fault bytes first.number number first.why why (inl first.first) (inl fault) in
+      subst (Appends before after) (first.text_is ∙ (λ i. refused_line (same.0 i) (same.1 i))) printed
