@@ -4,14 +4,16 @@ ghost use Rattle.std.specs.Prelude.{◌≡◌};
 ghost use Rattle.script_reader.specs.Statements.{OneInput, OneFault, ValidOrFaulty};
 
 use crate::limits::{LONGEST_NAME, MOST_CALLERS, MOST_SCRIPTS, MOST_WORKERS};
-use crate::words::{LINE_FEED, SPACE};
+use crate::words::{LINE_FEED, MOST_WORDS, SPACE};
 
-/// The limits of a text, in digits, and the bytes that separate words and lines, which are those of ASCII.
+/// The limits of a text, and of a line's words, in digits, and the bytes that separate words and lines, which are those of
+/// ASCII.
 pub fn limits_are_those_of_the_language()
     ensures callers { MOST_CALLERS ≡ 1_024 }
     ensures scripts { MOST_SCRIPTS ≡ 65_536 }
     ensures name { LONGEST_NAME ≡ 16 }
     ensures workers { MOST_WORKERS ≡ 16 }
+    ensures words { MOST_WORDS ≡ 8 }
     ensures space { SPACE ≡ 32 }
     ensures line_feed { LINE_FEED ≡ 10 }
 {}

@@ -6,6 +6,7 @@
 #![tactic(auto)]
 
 pub mod attempt;
+pub mod laws;
 pub mod release;
 pub mod rollback;
 pub mod transaction;
