@@ -228,7 +228,13 @@ fn open_three(
 {
     let base = vec![in alloc; 0u64, 0]?;
     let (desk, mut passes) = Desk::new(alloc, Pair, base, 3)?;
-    let (Some(two), Some(one), Some(zero)) = (passes.pop(), passes.pop(), passes.pop()) else {
+    let Some(two) = passes.pop() else {
+        unreachable!()
+    };
+    let Some(one) = passes.pop() else {
+        unreachable!()
+    };
+    let Some(zero) = passes.pop() else {
         unreachable!()
     };
     Ok((desk, zero, one, two))

@@ -37,7 +37,10 @@ pub(crate) fn open_pair(
 {
     let base = vec![in alloc; first, second]?;
     let (desk, mut passes) = Desk::new(alloc, Pair, base, 2)?;
-    let (Some(one), Some(zero)) = (passes.pop(), passes.pop()) else {
+    let Some(one) = passes.pop() else {
+        unreachable!()
+    };
+    let Some(zero) = passes.pop() else {
         unreachable!()
     };
     Ok((desk, zero, one))
