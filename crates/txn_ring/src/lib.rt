@@ -8,3 +8,6 @@ pub mod laws;
 pub mod ring;
 
 pub use ring::Ring;
+
+#[cfg(test)]
+mod tests;
