@@ -44,41 +44,43 @@ mod tests {
     use crate::add_all::AddAll;
     use std::test::Fail;
 
+    // Whether adding one is kept or not, as asked, answers what the counter was, and leaves it as asked.
+    fn is_counted(alloc: Global, was: u64, kept: bool, left: u64) -> Result<bool, OutOfMemory> {
+        let counted = increment_plain(alloc, &[was])?;
+        Ok(
+            counted.kept == kept
+                && counted.answer == was
+                && counted.words.as_slice() == [left].as_slice(),
+        )
+    }
+
     #[test]
     fn counter_counts_up_to_its_end(rt: HostRuntime) -> Result<(), Fail> {
-        let rows = [
+        let rows = &[
             (0, true, 1),
             (41, true, 42),
             (u64::MAX - 1, true, u64::MAX),
             (u64::MAX, false, u64::MAX),
         ];
-        for (was, kept, left) in rows {
-            let counted = increment_plain(rt.alloc(), &[was])?;
-            assert_eq!(rt; counted.kept, kept, "at {was}");
-            assert_eq!(rt; counted.answer, was, "at {was}");
-            assert_eq!(rt; counted.words.as_slice(), [left].as_slice(), "at {was}");
+        for &(was, kept, left) in rows {
+            assert!(rt; is_counted(rt.alloc(), was, kept, left)?, "at {was}");
         }
         Ok(())
     }
 
+    // The verdict on adding the amounts to ten, and the words as the job left them.
+    fn add_to_ten(alloc: Global, amounts: &[u64]) -> Result<(Verdict<()>, Vec<u64>), OutOfMemory> {
+        let words = Vec::from_slice(alloc, &[10])?;
+        let (verdict, plain) = run_on_plain(alloc, CounterShape, words, &AddAll { amounts })?;
+        Ok((verdict, plain.into_words()))
+    }
+
     #[test]
     fn amounts_are_added_all_or_none(rt: HostRuntime) -> Result<(), Fail> {
-        let words = Vec::from_slice(rt.alloc(), &[10])?;
-        let (verdict, plain) = run_on_plain(
-            rt.alloc(),
-            CounterShape,
-            words,
-            &AddAll { amounts: &[3, 4] },
-        )?;
-        assert_eq!(rt; verdict, Verdict::Keep(()));
-        assert_eq!(rt; plain.words(), [17].as_slice());
-
-        let words = Vec::from_slice(rt.alloc(), &[10])?;
-        let job = AddAll {
-            amounts: &[3, u64::MAX],
-        };
-        let (verdict, _) = run_on_plain(rt.alloc(), CounterShape, words, &job)?;
-        assert_eq!(rt; verdict, Verdict::Revert(()));
+        let (kept, words) = add_to_ten(rt.alloc(), &[3, 4])?;
+        let (reverted, _) = add_to_ten(rt.alloc(), &[3, u64::MAX])?;
+        assert_eq!(rt; (kept, reverted), (Verdict::Keep(()), Verdict::Revert(())));
+        assert_eq!(rt; words.as_slice(), [17].as_slice());
         Ok(())
     }
 }

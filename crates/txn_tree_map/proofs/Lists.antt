@@ -1,5 +1,5 @@
 -- Word lists of tests.
-use Rattle.std.proofs.Common.{◌≡◌, ℕ, ◌≤◌, List, [], ◌∷◌, length, slice_set, replicate, refl, sym, ap, ◌∙◌, subst, arith, rules}
+use Rattle.std.proofs.Common.{◌≡◌, ℕ, ◌≤◌, Bool, true, false, if◌then◌else◌, List, [], ◌∷◌, length, slice_set, replicate, refl, sym, ap, ◌∙◌, subst, arith, rules}
 use Rattle.std.proofs.lemmas.List.{nil_from_length}
 use Rattle.std.specs.List.{sum_by}
 use Rattle.std.specs.Cmp.{nat_cmp_total}
@@ -27,8 +27,8 @@ abbrev pub small : TreeMap
 small = record { root = 0; arena = record { heads = 1; first = 277; blocks = 2 } }
 
 -- a map with these entries
-abbrev pub has_entries : Entries → List ℕ → Type 0
-has_entries entries words = (map : HasMapApart (tree_part small) words) × (map.entries ≡ entries)
+abbrev pub has_entries : TreeMap → Entries → List ℕ → Type 0
+has_entries map entries words = (o : HasMapApart (tree_part map) words) × (o.entries ≡ entries)
 
 -- no entry is held where all other words are 0
 pub none_held : (words : List ℕ) → AreLinked words → TreeHolds small words entry_map.empty set.empty
@@ -45,7 +45,7 @@ none_held words are =
     }
 
 -- a list of zeros but for the two words that link the blocks holds the empty map
-pub linked_empty : (n : ℕ) (ws : List ℕ) → n ≡ 285 → ws ≡ replicate n 0 → IsGood 285 (has_entries entry_map.empty) (with_links ws)
+pub linked_empty : (n : ℕ) (ws : List ℕ) → n ≡ 285 → ws ≡ replicate n 0 → IsGood 285 (has_entries small entry_map.empty) (with_links ws)
 linked_empty n ws is_n e =
     let are = blocks.linked n ws is_n e in
     record {
@@ -61,37 +61,22 @@ linked_empty n ws is_n e =
       );
     }
 
--- so it is good
-pub linked : (n : ℕ) (ws : List ℕ) → n ≡ 285 → ws ≡ replicate n 0 → IsGood 285 (HasMapApart (tree_part small)) (with_links ws)
-linked n ws is_n e = let k = linked_empty n ws is_n e in record { count = k.count; good = k.good.0 }
-
--- the entries after an insert that has room
-pub has_put : (key x : ℕ) (entries : Entries) (answer : Put) (s t : List ℕ) → (answer ≡ Full → ⊥) → has_entries entries s → Inserts (tree_part small) key x answer s t → has_entries (entry_map.insert entries key x) t
-has_put key x entries New s t ne h i =
+-- the entries after an insert, by whether there was room
+pub has_after : (map : TreeMap) (key x : ℕ) (entries : Entries) (answer : Put) (room : Bool) (s t : List ℕ)
+    → (answer ≡ New → room ≡ true) → ((was : ℕ) → answer ≡ Old was → room ≡ true) → (answer ≡ Full → room ≡ false)
+    → has_entries map entries s → Inserts (tree_part map) key x answer s t → has_entries map (if room then entry_map.insert entries key x else entries) t
+has_after map key x entries New room s t new old full h i =
     let o = h.0 in
     let k = i o.entries o.used o.free o.holds in
+    subst (λ z. has_entries map (if z then entry_map.insert entries key x else entries) t) (sym (new refl))
     (record { entries = entry_map.insert o.entries key x; used = set.insert o.used k.block; free = set.remove o.free k.block; holds = k.left }, ap (λ z. entry_map.insert z key x) h.1)
-has_put key x entries (Old was) s t ne h i =
+has_after map key x entries (Old was) room s t new old full h i =
     let o = h.0 in
     let k = i o.entries o.used o.free o.holds in
+    subst (λ z. has_entries map (if z then entry_map.insert entries key x else entries) t) (sym (old was refl))
     (record { entries = entry_map.insert o.entries key x; used = o.used; free = o.free; holds = k.left }, ap (λ z. entry_map.insert z key x) h.1)
-has_put key x entries Full s t ne h i = absurd (ne refl)
-
--- where there is none, they stay
-pub has_full : (key x : ℕ) (entries : Entries) (answer : Put) (s t : List ℕ) → answer ≡ Full → has_entries entries s → Inserts (tree_part small) key x answer s t → has_entries entries t
-has_full key x entries answer s t e h i =
-    let same : t ≡ s = subst (λ z. Inserts (tree_part small) key x z s t) e i in
-    subst (λ z. has_entries entries z) (sym same) h
-
--- an answer that is no other
-pub is_full : (answer : Put) → (answer ≡ New → ⊥) → ((was : ℕ) → answer ≡ Old was → ⊥) → answer ≡ Full
-is_full New new old = absurd (new refl)
-is_full (Old was) new old = absurd (old was refl)
-is_full Full new old = refl
-
--- what a sum leaves is in order
-pub order_summed : (low high total : ℕ) (s t : List ℕ) → HasMapApart (tree_part small) s → SumsRange (tree_part small) low high total s t → HasMapApart (tree_part small) t
-order_summed low high total s t h k = subst (λ z. HasMapApart (tree_part small) z) (sym k.same) h
+has_after map key x entries Full room s t new old full h i =
+    subst (λ z. has_entries map (if z then entry_map.insert entries key x else entries) t) (sym (full refl)) (subst (λ z. has_entries map entries z) (sym i) h)
 
 -- the entries that three inserts leave
 abbrev pub three_puts : Entries
@@ -107,9 +92,9 @@ puts_are =
     entry_map.entries-insert nat_cmp_total two_puts 8 80 ∙ ap (λ es. put nat_cmp 8 80 es) (entry_map.entries-insert nat_cmp_total one 7 71 ∙ ap (λ es. put nat_cmp 7 71 es) (entry_map.entries-insert nat_cmp_total entry_map.empty 7 70 ∙ ap (λ es. put nat_cmp 7 70 es) none_yet))
 
 -- their sum is small
-pub has_small : (s : List ℕ) → has_entries three_puts s → HasSmallSum (tree_part small) s
-has_small s h f u hold =
-    let same : f ≡ three_puts = (one_map small s f h.0.entries u h.0.used hold h.0.holds.map).0 ∙ h.1 in
+pub has_small : (map : TreeMap) (s : List ℕ) → has_entries map three_puts s → HasSmallSum (tree_part map) s
+has_small map s h f u hold =
+    let same : f ≡ three_puts = (one_map map s f h.0.entries u h.0.used hold h.0.holds.map).0 ∙ h.1 in
     let sum : sum_by (λ e. e.1) (entry_map.entries f) ≡ 151 = ap (λ m. sum_by (λ e. e.1) (entry_map.entries m)) same ∙ ap (λ es. sum_by (λ e. e.1) es) puts_are in
     omega (arith, sum)
 
@@ -189,5 +174,5 @@ summed ws e = subst (λ z. IsGood 285 is_summed (spelled_both z)) (sym e)
     (record { count = refl; good = (record { entries = both_entries; used = set.from_list (0 ∷ 1 ∷ []); holds = both_hold }, both_small) })
 
 -- a sum leaves the sum small
-pub small_after : (low high total : ℕ) (s t : List ℕ) → HasSmallSum (tree_part small) s → SumsRange (tree_part small) low high total s t → HasSmallSum (tree_part small) t
-small_after low high total s t h k = subst (λ z. HasSmallSum (tree_part small) z) (sym k.same) h
+pub small_after : (map : TreeMap) (low high total : ℕ) (s t : List ℕ) → HasSmallSum (tree_part map) s → SumsRange (tree_part map) low high total s t → HasSmallSum (tree_part map) t
+small_after map low high total s t h k = subst (λ z. HasSmallSum (tree_part map) z) (sym k.same) h
