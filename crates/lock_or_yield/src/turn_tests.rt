@@ -34,7 +34,10 @@ pub(crate) fn open_pair(alloc: Global) -> Result<(Desk<Pair>, Pass<Pair>, Pass<P
 {
     let base = vec![in alloc; 0u64, 0]?;
     let (desk, mut passes) = Desk::new(alloc, Pair, base, 2)?;
-    let (Some(one), Some(zero)) = (passes.pop(), passes.pop()) else {
+    let Some(one) = passes.pop() else {
+        unreachable!()
+    };
+    let Some(zero) = passes.pop() else {
         unreachable!()
     };
     Ok((desk, zero, one))
@@ -189,19 +192,31 @@ fn end_in_turn(
     Some((first, second))
 }
 
+// Both calls, until they end: whom the first waits for, to which cause the second gives way, the timestamps that they
+// have then, and the places of their entries.
+fn cross(
+    desk: &Desk<Pair>,
+    zero: &mut Pass<Pair>,
+    one: &mut Pass<Pair>,
+) -> Option<(u32, Cause, (u64, u64), (u64, u64))>
+    requires words { length desk.now.base ≡ 2 }
+    requires zero { zero.old ≡ record { table = desk.now.table; view = opening_view desk.now.base 2 (0 ∷ []) [] } }
+    requires one { one.old ≡ record { table = desk.now.table; view = opening_view desk.now.base 2 (1 ∷ []) [] } }
+{
+    let (other, cause) = ask_for_each_others(desk, zero, one)?;
+    let stamps = (zero.stamp(), one.stamp());
+    let places = end_in_turn(desk, zero, one, cause)?;
+    Some((other, cause, stamps, places))
+}
+
 #[test]
 fn the_earlier_call_waits_and_the_later_gives_way(rt: HostRuntime) -> Result<(), Fail> {
     let (desk, mut zero, mut one) = open_pair(rt.alloc())?;
-    let Some((other, cause)) = ask_for_each_others(&desk, &mut zero, &mut one) else {
-        panic!(rt; "the first call waits and the second gives way")
-    };
-    assert_eq!(rt; other, 1);
-    assert_eq!(rt; cause, Cause { seat: 0, stamp: 1 });
-    assert_eq!(rt; (zero.stamp(), one.stamp()), (1, 2));
-    let Some(places) = end_in_turn(&desk, &mut zero, &mut one, cause) else {
-        panic!(rt; "both calls have their entries")
-    };
-    assert_eq!(rt; places, (1, 2));
-    assert_eq!(rt; one.stamp(), 2);
+    let crossed = cross(&desk, &mut zero, &mut one);
+    let cause = Cause { seat: 0, stamp: 1 };
+    assert_eq!(rt;
+        (crossed, one.stamp()),
+        (Some((1, cause, (1, 2), (1, 2))), 2)
+    );
     Ok(())
 }

@@ -28,7 +28,9 @@ fn want_both<R: Wait>(rt: &R, desk: &Desk<Pair>, pass: &mut Pass<Pair>) -> (Got,
 fn locks_that_nobody_has_are_granted_without_a_timestamp(rt: HostRuntime) -> Result<(), Fail> {
     let (desk, mut zero, _) = open_pair(rt.alloc())?;
     let got = want_both(&rt, &desk, &mut zero);
-    assert_eq!(rt; got, (Got::Granted, Some(Got::Granted)));
-    assert_eq!(rt; zero.stamp(), 0);
+    assert_eq!(rt;
+        (got, zero.stamp()),
+        ((Got::Granted, Some(Got::Granted)), 0)
+    );
     Ok(())
 }

@@ -6,3 +6,5 @@ pub mod Releasing
 pub mod Attempts
 -- how a transaction begins and ends
 pub mod Ending
+-- a desk that a test opens
+pub mod Opened

@@ -79,7 +79,10 @@ fn open_wide(alloc: Global) -> Result<(Desk<Wide>, Pass<Wide>, Pass<Wide>), OutO
 {
     let base = vec![in alloc; 0u64; 1030]?;
     let (desk, mut passes) = Desk::new(alloc, Wide, base, 2)?;
-    let (Some(one), Some(zero)) = (passes.pop(), passes.pop()) else {
+    let Some(one) = passes.pop() else {
+        unreachable!()
+    };
+    let Some(zero) = passes.pop() else {
         unreachable!()
     };
     Ok((desk, zero, one))
@@ -125,13 +128,13 @@ fn call<R: Wait>(
 fn two_words_of_one_lock_are_written_in_one_call(rt: HostRuntime) -> Result<(), Fail> {
     let (desk, mut zero, one) = open_wide(rt.alloc())?;
     let receipt = call(&rt, rt.alloc(), &desk, &mut zero, &Step::Write)?;
-    assert_eq!(rt; receipt.serial, 1);
-    assert_eq!(rt; receipt.call, 1);
-    assert_eq!(rt; receipt.restarts, 0);
     let words = close_two(rt.alloc(), desk, zero, one)?;
-    assert_eq!(rt; words.get(5), Some(&5));
-    assert_eq!(rt; words.get(1029), Some(&6));
-    assert_eq!(rt; words.iter().filter(|word| **word != 0).count(), 2);
+    assert_eq!(rt; (receipt.serial, receipt.call, receipt.restarts), (1, 1, 0));
+    let written = words.iter().filter(|word| **word != 0).count();
+    assert_eq!(rt;
+        (words.get(5), words.get(1029), written),
+        (Some(&5), Some(&6), 2)
+    );
     Ok(())
 }
 
@@ -139,26 +142,24 @@ fn two_words_of_one_lock_are_written_in_one_call(rt: HostRuntime) -> Result<(), 
 fn a_pass_that_was_told_of_a_call_reads_what_it_wrote(rt: HostRuntime) -> Result<(), Fail> {
     let (desk, mut zero, mut one) = open_wide(rt.alloc())?;
     let written = call(&rt, rt.alloc(), &desk, &mut zero, &Step::Write)?;
-    assert_eq!(rt; written.serial, 1);
     let note = desk.note(&mut zero);
     desk.meet(&mut one, note);
     let read = call(&rt, rt.alloc(), &desk, &mut one, &Step::Read)?;
-    assert_eq!(rt; read.serial, 2);
-    assert_eq!(rt; read.answer, 5);
+    assert_eq!(rt; (written.serial, read.serial, read.answer), (1, 2, 5));
     Ok(())
 }
 
 #[test]
 fn a_call_that_finds_no_memory_leaves_no_entry_and_no_write(rt: HostRuntime) -> Result<(), Fail> {
     let (desk, mut zero, one) = open_wide(rt.alloc())?;
-    let failed = call(&rt, rt.alloc(), &desk, &mut zero, &Step::WriteAndFail);
-    assert!(rt; failed.is_err());
+    let failed = call(&rt, rt.alloc(), &desk, &mut zero, &Step::WriteAndFail).is_err();
     let read = call(&rt, rt.alloc(), &desk, &mut zero, &Step::Read)?;
-    assert_eq!(rt; read.serial, 1);
-    assert_eq!(rt; read.call, 2);
-    assert_eq!(rt; read.restarts, 0);
-    assert_eq!(rt; read.answer, 0);
     let words = close_two(rt.alloc(), desk, zero, one)?;
+    assert!(rt; failed);
+    assert_eq!(rt;
+        (read.serial, read.call, read.restarts, read.answer),
+        (1, 2, 0, 0)
+    );
     assert!(rt; words.iter().all(|word| *word == 0));
     Ok(())
 }

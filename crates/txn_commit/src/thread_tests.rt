@@ -143,7 +143,10 @@ fn open_pair(alloc: Global) -> Result<(Desk<Pair>, Pass<Pair>, Pass<Pair>), OutO
 {
     let base = vec![in alloc; 0u64; 2]?;
     let (desk, mut passes) = Desk::new(alloc, Pair, base, 2)?;
-    let (Some(one), Some(zero)) = (passes.pop(), passes.pop()) else {
+    let Some(one) = passes.pop() else {
+        unreachable!()
+    };
+    let Some(zero) = passes.pop() else {
         unreachable!()
     };
     Ok((desk, zero, one))
@@ -259,12 +262,16 @@ fn open_four(
 {
     let base = vec![in alloc; 0u64; 2]?;
     let (desk, mut passes) = Desk::new(alloc, Pair, base, 4)?;
-    let (Some(three), Some(two), Some(one), Some(zero)) = (
-        passes.pop(),
-        passes.pop(),
-        passes.pop(),
-        passes.pop(),
-    ) else {
+    let Some(three) = passes.pop() else {
+        unreachable!()
+    };
+    let Some(two) = passes.pop() else {
+        unreachable!()
+    };
+    let Some(one) = passes.pop() else {
+        unreachable!()
+    };
+    let Some(zero) = passes.pop() else {
         unreachable!()
     };
     Ok((desk, zero, one, two, three))
@@ -299,9 +306,8 @@ fn of_two_calls_that_cross_one_gives_way_once(rt: HostRuntime) -> Result<(), Fai
         arrived: AtomicCell::new(0),
     };
     let ((zero, left), (one, right)) = cross(&rt, rt.alloc(), &desk, zero, one, 1, &gate);
-    assert_eq!(rt; left? + right?, 1);
     let words = close_two(rt.alloc(), desk, zero, one)?;
-    assert_eq!(rt; words.as_slice(), [2, 2].as_slice());
+    assert_eq!(rt; (left? + right?, words.as_slice()), (1, [2, 2].as_slice()));
     Ok(())
 }
 
@@ -318,9 +324,9 @@ fn four_threads_add_ten_thousand_times(rt: HostRuntime) -> Result<(), Fail> {
         three,
         2_500,
     );
+    let words = close_four(rt.alloc(), desk, zero, one, two, three)?;
     let most = first?.max(second?).max(third?).max(fourth?);
     assert!(rt; most < 4);
-    let words = close_four(rt.alloc(), desk, zero, one, two, three)?;
     assert_eq!(rt; words.as_slice(), [10_000, 10_000].as_slice());
     Ok(())
 }

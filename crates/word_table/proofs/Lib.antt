@@ -20,3 +20,5 @@ pub mod Judging
 pub mod RunLaws
 pub mod Meetings
 pub mod Committing
+-- a desk that a test opens
+pub mod Opened

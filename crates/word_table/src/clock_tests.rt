@@ -201,19 +201,28 @@ fn end_in_turn(
     Some((first, second))
 }
 
+// Both calls, until they end: the cause to which the second gives way, the timestamps that they have then, and the
+// places of their entries.
+fn cross(
+    desk: &Desk<Pair>,
+    zero: &mut Pass<Pair>,
+    one: &mut Pass<Pair>,
+) -> Option<((u32, u64), (u64, u64), (u64, u64))>
+    requires words { length desk.now.base ≡ 2 }
+    requires zero { zero.old ≡ record { table = desk.now.table; view = opening_view desk.now.base 2 (0 ∷ []) [] } }
+    requires one { one.old ≡ record { table = desk.now.table; view = opening_view desk.now.base 2 (1 ∷ []) [] } }
+{
+    let cause = want_each_others(desk, zero, one)?;
+    let stamps = (zero.stamp(), one.stamp());
+    let places = end_in_turn(desk, zero, one, cause)?;
+    Some((cause, stamps, places))
+}
+
 #[test]
 fn the_later_call_gives_way_and_the_earlier_waits(rt: HostRuntime) -> Result<(), Fail> {
     let (desk, mut zero, mut one) = open_pair(rt.alloc(), 0, 0)?;
-    let Some(cause) = want_each_others(&desk, &mut zero, &mut one) else {
-        panic!(rt; "the second call gives way")
-    };
-    assert_eq!(rt; cause, (0, 1));
-    assert_eq!(rt; (zero.stamp(), one.stamp()), (1, 2));
-    let Some(places) = end_in_turn(&desk, &mut zero, &mut one, cause) else {
-        panic!(rt; "both calls have their entries")
-    };
-    assert_eq!(rt; places, (1, 2));
-    assert_eq!(rt; one.stamp(), 2);
+    let crossed = cross(&desk, &mut zero, &mut one);
+    assert_eq!(rt; (crossed, one.stamp()), (Some(((0, 1), (1, 2), (1, 2))), 2));
     Ok(())
 }
 
@@ -326,16 +335,28 @@ fn give_way_twice(
     Some((first, second, place))
 }
 
+// The third call holds a word that the others want, and then gives way to each of them: the causes and the place.
+fn restart_twice(
+    desk: &Desk<Pair>,
+    zero: &mut Pass<Pair>,
+    one: &mut Pass<Pair>,
+    two: &mut Pass<Pair>,
+) -> Option<((u32, u64), (u32, u64), u64)>
+    requires words { length desk.now.base ≡ 2 }
+    requires zero { zero.old ≡ record { table = desk.now.table; view = opening_view desk.now.base 3 (0 ∷ []) [] } }
+    requires one { one.old ≡ record { table = desk.now.table; view = opening_view desk.now.base 3 (1 ∷ []) [] } }
+    requires two { two.old ≡ record { table = desk.now.table; view = opening_view desk.now.base 3 (2 ∷ []) [] } }
+{
+    if !meet_third(desk, zero, one, two) {
+        return None;
+    }
+    give_way_twice(desk, zero, one, two)
+}
+
 #[test]
 fn a_call_restarts_once_less_than_there_are_passes(rt: HostRuntime) -> Result<(), Fail> {
     let (desk, mut zero, mut one, mut two) = open_three(rt.alloc())?;
-    if !meet_third(&desk, &mut zero, &mut one, &mut two) {
-        panic!(rt; "two calls wait for the third")
-    }
-    let Some(ended) = give_way_twice(&desk, &mut zero, &mut one, &mut two) else {
-        panic!(rt; "the third call has its entry")
-    };
-    assert_eq!(rt; ended, ((0, 1), (1, 2), 3));
-    assert_eq!(rt; two.stamp(), 3);
+    let ended = restart_twice(&desk, &mut zero, &mut one, &mut two);
+    assert_eq!(rt; (ended, two.stamp()), (Some(((0, 1), (1, 2), 3)), 3));
     Ok(())
 }

@@ -28,22 +28,32 @@ fn close_pair(
     }
 }
 
-#[test]
-fn what_a_note_has_seen_comes_before(rt: HostRuntime) -> Result<(), Fail> {
-    let alloc = rt.alloc();
+// One pass adds and gives the other a note, and the other reads: the values, the places, and the words that are left.
+fn tell_of_a_call(
+    alloc: Global,
+) -> Result<Option<((u64, u64), (u64, u64), Vec<u64>)>, OutOfMemory> {
     let (desk, mut zero, mut one) = open_pair(alloc, 3, 4)?;
     let Some(first) = add(&desk, &mut zero, 6) else {
-        panic!(rt; "the first call has its entry")
+        return Ok(None);
     };
-    assert_eq!(rt; first, (3, 1));
     let note = desk.note(&mut zero);
     desk.meet(&mut one, note);
     let Some(second) = read_one(&desk, &mut one) else {
-        panic!(rt; "the second call has its entry")
+        return Ok(None);
     };
-    assert_eq!(rt; second, (9, 2));
     let words = close_pair(alloc, desk, zero, one)?;
-    assert_eq!(rt; words.as_slice(), [9, 4].as_slice());
+    Ok(Some((first, second, words)))
+}
+
+#[test]
+fn what_a_note_has_seen_comes_before(rt: HostRuntime) -> Result<(), Fail> {
+    let Some((first, second, words)) = tell_of_a_call(rt.alloc())? else {
+        panic!(rt; "both calls have their entries")
+    };
+    assert_eq!(rt;
+        (first, second, words.as_slice()),
+        ((3, 1), (9, 2), [9, 4].as_slice())
+    );
     Ok(())
 }
 

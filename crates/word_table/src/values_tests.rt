@@ -171,25 +171,28 @@ pub(crate) fn read_one(desk: &Desk<Pair>, pass: &mut Pass<Pair>) -> Option<(u64,
     Some((value, place))
 }
 
+// One pass adds and the other reads, and then the first undoes a write and the other adds: the values and the places.
+fn call_by_turns(
+    desk: &Desk<Pair>,
+    zero: &mut Pass<Pair>,
+    one: &mut Pass<Pair>,
+) -> Option<((u64, u64), (u64, u64), u64, (u64, u64))>
+    requires zero { (zero.old.table ≡ desk.now.table) × (length zero.old.view.base ≡ 2) × (zero.old.view.phase ≡ Phase.Idle) }
+    requires one { (one.old.table ≡ desk.now.table) × (length one.old.view.base ≡ 2) × (one.old.view.phase ≡ Phase.Idle) }
+    requires undo { one.old.view.undo ≡ [] }
+{
+    let first = add(desk, zero, 1)?;
+    let second = read_one(desk, one)?;
+    let undone = undo_one(desk, zero)?;
+    let last = add(desk, one, 1)?;
+    Some((first, second, undone, last))
+}
+
 #[test]
 fn a_commit_is_seen_and_an_undone_write_is_not(rt: HostRuntime) -> Result<(), Fail> {
     let (desk, mut zero, mut one) = open_pair(rt.alloc(), 3, 4)?;
-    let Some(first) = add(&desk, &mut zero, 1) else {
-        panic!(rt; "the first call has its entry")
-    };
-    assert_eq!(rt; first, (3, 1));
-    let Some(second) = read_one(&desk, &mut one) else {
-        panic!(rt; "the second call has its entry")
-    };
-    assert_eq!(rt; second, (4, 2));
-    let Some(undone) = undo_one(&desk, &mut zero) else {
-        panic!(rt; "the third call is given up")
-    };
-    assert_eq!(rt; undone, 4);
-    let Some(last) = add(&desk, &mut one, 1) else {
-        panic!(rt; "the fourth call has its entry")
-    };
-    assert_eq!(rt; last, (4, 3));
+    let calls = call_by_turns(&desk, &mut zero, &mut one);
+    assert_eq!(rt; calls, Some(((3, 1), (4, 2), 4, (4, 3))));
     Ok(())
 }
 
