@@ -180,13 +180,17 @@ const EVERY_REPLY: &str = "journal
 12 ann 12 0 done
 ";
 
+fn journal_of_every_reply(rt: &impl Abort, alloc: Global) -> Result<Vec<u8>, OutOfMemory> {
+    let replies = every_reply(alloc)?;
+    let input = input_of(rt, alloc, replies.len())?;
+    let closing = full_books(rt, alloc)?;
+    journal_of(rt, alloc, &input, &replies, &closing)
+}
+
 #[test]
 fn a_journal_has_every_word_of_replies(rt: HostRuntime) -> Result<(), Fail> {
-    let alloc = rt.alloc();
-    let replies = every_reply(alloc)?;
-    let input = input_of(&rt, alloc, replies.len())?;
-    let text = journal_of(&rt, alloc, &input, &replies, &full_books(&rt, alloc)?)?;
-    let want = [EVERY_REPLY, FULL_BOOKS, "finish\n"].concat(alloc)?;
+    let text = journal_of_every_reply(&rt, rt.alloc())?;
+    let want = [EVERY_REPLY, FULL_BOOKS, "finish\n"].concat(rt.alloc())?;
     assert_eq!(rt; text.as_slice(), want.as_bytes());
     Ok(())
 }
