@@ -6,5 +6,3 @@ pub mod Releasing
 pub mod Attempts
 -- how a transaction begins and ends
 pub mod Ending
--- a desk that a test opens
-pub mod Opened
