@@ -3,7 +3,7 @@ use Rattle.std.specs.FinMap as entry_map
 use Rattle.txn_words.specs.Plainly.{PlainView}
 use Rattle.history_model.proofs.FittingLaws.{each_fresh}
 use Rattle.txn_books.specs.declared.part_tests.NoAccounts.{NoAccounts}
-use Rattle.txn_tree_map.proofs.Lists.{has_entries}
+use Rattle.txn_tree_map.proofs.Lists.{small, has_entries}
 use Rattle.books_model.specs.Books.{ClearingBooks}
 use Rattle.txn_books.specs.Layout.{words_of, shape_of}
 use Rattle.txn_books.specs.Standing.{Stands}
@@ -19,4 +19,4 @@ new-plain-requires g c =
     }
 
 pub two_are_put-requires-clause-nothing : goal.two_are_put-requires-clause-nothing
-two_are_put-requires-clause-nothing g c = record { at = (each_fresh 285 (has_entries entry_map.empty) _ (ap (λ (v : PlainView NoAccounts). v.trace) c.new-plain.ensures.view)).at }
+two_are_put-requires-clause-nothing g c = record { at = (each_fresh 285 (has_entries small entry_map.empty) _ (ap (λ (v : PlainView NoAccounts). v.trace) c.new-plain.ensures.view)).at }
