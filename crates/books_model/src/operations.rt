@@ -1,6 +1,6 @@
 //! The operations of scripts, each on a draft.
 
-ghost use Rattle.std.specs.Prelude.{◌≡◌, ◌+◌, ◌-◌, ◌≤◌, ◌≢◌, None, IsSome, IfSome, IfNone, IfOk, unwrap_or};
+ghost use Rattle.std.specs.Prelude.{◌≡◌, ◌+◌, ◌-◌, ◌≤◌, ◌≢◌, None, Some, IsSome, IfSome, IfNone, IfOk, OnOk, unwrap_or};
 ghost use Rattle.std.specs.FinMap as map;
 
 use crate::draft::{Draft, Outcome, Side};
@@ -12,6 +12,7 @@ use crate::script::Op;
 use io_ends::OutOfMemory;
 
 impl<'a> Draft<'a> {
+    ghost use Rattle.books_model.specs.Books.{put_cash};
     ghost use Rattle.books_model.specs.Interpreter.{put_position, step_of, trade_of};
     ghost use Rattle.books_model.specs.Ranges.{IsAccountNumber, IsInstrumentOf, IsOperationFor, IsWithin};
     ghost use Rattle.books_model.specs.Inner.Draft.{IsSideOf};
@@ -127,9 +128,31 @@ impl<'a> Draft<'a> {
         if gets + amount > GREATEST_CASH {
             return Ok(Outcome::Declines(Decline::Limit));
         }
-        self.set_cash(payer, has, has - amount)?;
-        self.set_cash(payee, gets, gets + amount)?;
+        self.pay(payer, has, payee, gets, amount)?;
         Ok(Outcome::Gives(Value::Done))
+    }
+
+    // Pays an amount from one account to another, from what both have.
+    fn pay(
+        &mut self,
+        payer: u32,
+        has: u64,
+        payee: u32,
+        gets: u64,
+        amount: u64,
+    ) -> Result<(), OutOfMemory>
+        requires apart { payer ≢ payee }
+        requires payer { map.get self.old.after.accounts payer ≡ Some has }
+        requires payee { map.get self.old.after.accounts payee ≡ Some gets }
+        requires range { has ≤ GREATEST_CASH }
+        requires pays { amount ≤ has }
+        requires gets { gets + amount ≤ GREATEST_CASH }
+        ensures ok { OnOk result (self.new.after
+            ≡ put_cash (put_cash self.old.after payer (has - amount)) payee (gets + amount)) }
+        ensures before { self.new.before ≡ self.old.before }
+    {
+        self.set_cash(payer, has, has - amount)?;
+        self.set_cash(payee, gets, gets + amount)
     }
 
     fn set_price(&mut self, instrument: u32, price: u64) -> Result<Outcome, OutOfMemory>
@@ -235,8 +258,7 @@ impl<'a> Draft<'a> {
         }
         let more = buys.held.unwrap_or(0) + quantity;
         self.set_quantity(buys.account, instrument, buys.held, more)?;
-        self.set_cash(buys.account, buys.cash, buys.cash - cost)?;
-        self.set_cash(sells.account, sells.cash, sells.cash + cost)?;
+        self.pay(buys.account, buys.cash, sells.account, sells.cash, cost)?;
         Ok(Outcome::Gives(Value::Done))
     }
 

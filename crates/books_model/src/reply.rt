@@ -38,17 +38,17 @@ impl fmt::Display for Decline {
     ghost output = { λ why. Some (decline_word why) };
 
     fn fmt<W: fmt::Write>(&self, f: &mut fmt::Formatter<W>) -> fmt::Result {
-        match self {
-            Decline::Exists => write!(f, "exists"),
-            Decline::Absent => write!(f, "absent"),
-            Decline::Cash => write!(f, "cash"),
-            Decline::Held => write!(f, "held"),
-            Decline::Limit => write!(f, "limit"),
-            Decline::Same => write!(f, "same"),
-            Decline::Price => write!(f, "price"),
-            Decline::Quantity => write!(f, "quantity"),
-            Decline::Queue => write!(f, "queue"),
-        }
+        f.write_str(match self {
+            Decline::Exists => "exists",
+            Decline::Absent => "absent",
+            Decline::Cash => "cash",
+            Decline::Held => "held",
+            Decline::Limit => "limit",
+            Decline::Same => "same",
+            Decline::Price => "price",
+            Decline::Quantity => "quantity",
+            Decline::Queue => "queue",
+        })
     }
 }
 
@@ -73,10 +73,10 @@ impl fmt::Display for Value {
 
     fn fmt<W: fmt::Write>(&self, f: &mut fmt::Formatter<W>) -> fmt::Result {
         match self {
-            Value::Done => write!(f, "ok"),
+            Value::Done => f.write_str("ok"),
             Value::Number(n) => write!(f, "{n}"),
             Value::Call(account, shortfall) => write!(f, "{account}:{shortfall}"),
-            Value::Nothing => write!(f, "none"),
+            Value::Nothing => f.write_str("none"),
         }
     }
 }

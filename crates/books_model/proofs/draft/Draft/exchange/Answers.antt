@@ -1,6 +1,6 @@
 use Rattle.std.proofs.Common.{ℕ, is_some, not, sym, ap, ◌∙◌}
 use Rattle.std.specs.FinMap as map
-use Rattle.books_model.proofs.Drafts.{room_left, put_cash-apart, put_position-apart}
+use Rattle.books_model.proofs.Drafts.{room_left, put_position-apart}
 use Rattle.books_model.proofs.draft.Draft.exchange.Goals as goal
 use Rattle.books_model.proofs.draft.Draft.exchange.Goals.{else-is_none-via-then-is_none+else-is_full, else-is_none-via-else-is_none}
 
@@ -20,13 +20,3 @@ set_quantity-requires-2-clause-room c = λ none. elim c.else-is_none.branch [
       let no_more = sym some ∙ ap (λ x. is_some {T = ℕ} x) none in
       absurd (cc)
 ]
-
--- the seller has its cash after the buyer's has changed
-pub set_cash-requires-2-clause-was : goal.set_cash-requires-2-clause-was
-set_cash-requires-2-clause-was c =
-    let seller = c.args.sells.account in
-    ap (λ books. map.get books.accounts seller) c.in_ok-set_cash.ensures.ok
-    ∙ put_cash-apart c.set_quantity-2.new.self.after c.args.buys.account seller _ c.requires.apart
-    ∙ ap (λ books. map.get books.accounts seller) c.in_ok-set_quantity-2.ensures.ok
-    ∙ ap (λ books. map.get books.accounts seller) c.in_ok-set_quantity.ensures.ok
-    ∙ c.requires.seller.cash
