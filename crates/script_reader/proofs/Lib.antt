@@ -30,3 +30,5 @@ pub mod Following
 pub mod Gathered
 pub mod Fronting
 pub mod Counting
+mod Pairs
+mod RowFaults

@@ -12,11 +12,12 @@ ghost use Rattle.script_reader.specs.Faults.{header_fault, fault_of, IsFaultyBeh
 
 use crate::fault::{Fault, Refusal};
 use crate::lines::Lines;
-use crate::numbers::within;
-use crate::rows::{ACCOUNTS, CASH, PRICES, QUANTITIES, SHORTFALLS, instruments_of};
+use crate::numbers::{both_within, within};
+use crate::rows::{
+    ACCOUNTS, BLOCKS, CASH, INSTRUMENTS, PRICES, QUANTITIES, RINGS, SHORTFALLS, instruments_of,
+};
 use crate::words::Words;
 use books_model::Books;
-use books_model::limits::{MOST_BLOCKS, MOST_INSTRUMENTS, MOST_RING};
 use std::alloc::Global;
 
 // The books of the next lines, and the line that begins the scripts.
@@ -29,26 +30,27 @@ pub(crate) fn books_of(alloc: Global, lines: &mut Lines<'_>) -> Result<Books, Re
         → IsFaultyBehind [] lines.old lines.new why }
 {
     let words = lines.words()?;
-    let books = header_of(alloc, &words)?;
-    filled(alloc, lines, books)
+    let mut books = header_of(alloc, &words)?;
+    fill(lines, &mut books)?;
+    Ok(books)
 }
 
-// The books with what the next lines give, up to the line that begins the scripts.
-fn filled(alloc: Global, lines: &mut Lines<'_>, mut books: Books) -> Result<Books, Refusal>
-    ensures range { IfOk result (λ found. AreInRange found) }
-    ensures text { IfOk result
-        (λ found. flat_map line (books_words books) ++ lines.old
-        ≡ flat_map line (books_words found) ++ (line (codes "scripts" ∷ []) ++ lines.new)) }
+// Adds to the books what the next lines give, up to the line that begins the scripts.
+fn fill(lines: &mut Lines<'_>, books: &mut Books) -> Result<(), Refusal>
+    ensures range { OnOk result (AreInRange books.new) }
+    ensures text { OnOk result
+        (flat_map line (books_words books.old) ++ lines.old
+        ≡ flat_map line (books_words books.new) ++ (line (codes "scripts" ∷ []) ++ lines.new)) }
     ensures fault { (why : AnyFault) → result ≡ Err (Refusal.LineFault why)
-        → IsFaultyBehind (books_words books) lines.old lines.new why }
+        → IsFaultyBehind (books_words books.old) lines.old lines.new why }
 {
     loop {
         books.ranges();
         let words = lines.words()?;
         if words.is_only(b"scripts") {
-            return Ok(books);
+            return Ok(());
         }
-        add_line(&mut books, &words)?;
+        add_line(books, &words)?;
     }
 }
 
@@ -73,13 +75,13 @@ fn sizes_of(words: &Words<'_>) -> Result<(u32, u32, u32), Fault>
     if !is_header(words) {
         return Err(Fault::Header);
     }
-    let blocks = words.number(3)?;
-    let instruments = words.number(5)?;
+    let (blocks, instruments) = words.both_numbers(3, 5)?;
     let ring = words.number(7)?;
+    both_within(blocks, BLOCKS, instruments, INSTRUMENTS)?;
     Ok((
-        within(blocks, 1, u64::from(MOST_BLOCKS))? as u32,
-        within(instruments, 1, u64::from(MOST_INSTRUMENTS))? as u32,
-        within(ring, 1, u64::from(MOST_RING))? as u32,
+        blocks as u32,
+        instruments as u32,
+        within(ring, RINGS.0, RINGS.1)? as u32,
     ))
 }
 

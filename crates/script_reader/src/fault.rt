@@ -35,16 +35,28 @@ impl fmt::Display for Fault {
     ghost output = { λ why. Some (fault_word why) };
 
     fn fmt<W: fmt::Write>(&self, f: &mut fmt::Formatter<W>) -> fmt::Result {
+        f.write_str(self.word())
+    }
+}
+
+impl Fault {
+    ghost use Rattle.std.specs.Prelude.{◌≡◌};
+    ghost use Rattle.script_reader.specs.FaultWords.{fault_word};
+
+    // What is printed of it.
+    fn word(&self) -> &'static str
+        ensures { result.now ≡ fault_word self.now }
+    {
         match self {
-            Fault::Header => write!(f, "header"),
-            Fault::Number => write!(f, "number"),
-            Fault::Word => write!(f, "word"),
-            Fault::Order => write!(f, "order"),
-            Fault::Limit => write!(f, "limit"),
-            Fault::Account => write!(f, "account"),
-            Fault::Price => write!(f, "price"),
-            Fault::Blocks => write!(f, "blocks"),
-            Fault::End => write!(f, "end"),
+            Fault::Header => "header",
+            Fault::Number => "number",
+            Fault::Word => "word",
+            Fault::Order => "order",
+            Fault::Limit => "limit",
+            Fault::Account => "account",
+            Fault::Price => "price",
+            Fault::Blocks => "blocks",
+            Fault::End => "end",
         }
     }
 }

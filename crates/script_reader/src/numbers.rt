@@ -1,6 +1,6 @@
 //! Words that are numbers, and their ranges.
 
-ghost use Rattle.std.specs.Prelude.{◌≡◌, ℕ, ◌<◌, ◌≤◌, ◌^◌, ◌↔◌, true, min, IsTrue, IfOk, IfErr, Some, length};
+ghost use Rattle.std.specs.Prelude.{◌≡◌, ℕ, ◌<◌, ◌≤◌, ◌^◌, ◌↔◌, true, min, IsTrue, IfOk, IfErr, OnOk, Some, length};
 ghost use Rattle.std.specs.Option.{SomeIff};
 ghost use Rattle.std.specs.Result.{OkIff};
 ghost use Rattle.std.specs.List.{list_all};
@@ -50,4 +50,21 @@ pub(crate) fn within(number: u64, low: u64, high: u64) -> Result<u64, Fault>
     } else {
         Err(Fault::Limit)
     }
+}
+
+// Whether two numbers are in their ranges, of which each is given by its least and its greatest.
+pub(crate) fn both_within(
+    one: u64,
+    range: (u64, u64),
+    other: u64,
+    other_range: (u64, u64),
+) -> Result<(), Fault>
+    ensures ok { OnOk result
+        (IsWithin range.0 range.1 one × IsWithin other_range.0 other_range.1 other) }
+    ensures err { IfErr result (λ why. (why ≡ Fault.Limit)
+        × ¬ (IsWithin range.0 range.1 one × IsWithin other_range.0 other_range.1 other)) }
+{
+    within(one, range.0, range.1)?;
+    within(other, other_range.0, other_range.1)?;
+    Ok(())
 }

@@ -1,9 +1,10 @@
 //! The operations of a script.
 
-ghost use Rattle.std.specs.Prelude.{◌≡◌, Some, false, IfOk, IfErr, codes};
+ghost use Rattle.std.specs.Prelude.{◌≡◌, ℕ, ◌&&◌, ◌==◌, Some, true, false, length, IfOk, IfErr, codes};
+ghost use Rattle.books_model.specs.Books.{ClearingBooks};
 ghost use Rattle.books_model.specs.Ranges.{IsOperationFor};
 ghost use Rattle.script_reader.specs.Text.{operation_words};
-ghost use Rattle.script_reader.specs.Forms.{script_forms, is_only};
+ghost use Rattle.script_reader.specs.Forms.{begins, script_forms, is_only};
 ghost use Rattle.script_reader.specs.Inner.Rows.{row_fault};
 
 use crate::fault::Fault;
@@ -19,8 +20,24 @@ pub(crate) fn operation_of(words: &Words<'_>, books: &Books) -> Result<Op, Fault
     ensures err { IfErr result
         (λ why. row_fault (script_forms books.now.instruments) words.now ≡ Some why) }
 {
-    books.ranges();
-    let instruments = instruments_of(books);
+    match words.len() {
+        2 => with_one_number(words),
+        3 => with_two_numbers(words, books),
+        4 => with_three_numbers(words),
+        5 => with_four_numbers(words, books),
+        _ if words.is_only(b"next") => Ok(Op::Next),
+        _ => Err(Fault::Word),
+    }
+}
+
+// The operation of a line of two words.
+fn with_one_number(words: &Words<'_>) -> Result<Op, Fault>
+    requires { length words.now ≡ 2 }
+    ensures found { IfOk result (λ op. (books : ClearingBooks) → IsOperationFor books op
+        × (words.now ≡ operation_words op)) }
+    ensures err { IfErr result
+        (λ why. (instruments : ℕ) → row_fault (script_forms instruments) words.now ≡ Some why) }
+{
     if words.is_row(b"open", 2) {
         let account = words.one_number(ACCOUNTS)?;
         return Ok(Op::OpenAccount(account as u32));
@@ -29,6 +46,21 @@ pub(crate) fn operation_of(words: &Words<'_>, books: &Books) -> Result<Op, Fault
         let account = words.one_number(ACCOUNTS)?;
         return Ok(Op::Close(account as u32));
     }
+    if words.is_row(b"show", 2) {
+        let account = words.one_number(ACCOUNTS)?;
+        return Ok(Op::Show(account as u32));
+    }
+    Err(Fault::Word)
+}
+
+// The operation of a line of three words.
+fn with_two_numbers(words: &Words<'_>, books: &Books) -> Result<Op, Fault>
+    requires { length words.now ≡ 3 }
+    ensures found { IfOk result
+        (λ op. IsOperationFor books.now op × (words.now ≡ operation_words op)) }
+    ensures err { IfErr result
+        (λ why. row_fault (script_forms books.now.instruments) words.now ≡ Some why) }
+{
     if words.is_row(b"deposit", 3) {
         let (account, amount) = words.two_numbers(ACCOUNTS, AMOUNTS)?;
         return Ok(Op::Deposit(account as u32, amount));
@@ -37,37 +69,65 @@ pub(crate) fn operation_of(words: &Words<'_>, books: &Books) -> Result<Op, Fault
         let (account, amount) = words.two_numbers(ACCOUNTS, AMOUNTS)?;
         return Ok(Op::Withdraw(account as u32, amount));
     }
-    if words.is_row(b"move", 4) {
-        let (from, to, amount) = words.three_numbers(ACCOUNTS, ACCOUNTS, AMOUNTS)?;
-        return Ok(Op::Move(from as u32, to as u32, amount));
-    }
     if words.is_row(b"price", 3) {
-        let (instrument, price) = words.two_numbers(instruments, PRICES)?;
-        return Ok(Op::Price(instrument as u32, price));
-    }
-    if words.is_row(b"trade", 5) {
-        let (buyer, seller, instrument, quantity) = words.four_numbers(
-            ACCOUNTS,
-            ACCOUNTS,
-            instruments,
-            QUANTITIES,
-        )?;
-        return Ok(Op::Trade(buyer as u32, seller as u32, instrument as u32, quantity));
+        return price_of(words, books);
     }
     if words.is_row(b"margin", 3) {
         let (account, rate) = words.two_numbers(ACCOUNTS, RATES)?;
         return Ok(Op::Margin(account as u32, rate));
     }
-    if words.is_row(b"next", 1) {
-        return Ok(Op::Next);
-    }
-    if words.is_row(b"show", 2) {
-        let account = words.one_number(ACCOUNTS)?;
-        return Ok(Op::Show(account as u32));
-    }
     if words.is_row(b"sum", 3) {
         let (first, last) = words.two_numbers(ACCOUNTS, ACCOUNTS)?;
         return Ok(Op::Sum(first as u32, last as u32));
+    }
+    Err(Fault::Word)
+}
+
+// The operation of a line that gives a price.
+fn price_of(words: &Words<'_>, books: &Books) -> Result<Op, Fault>
+    requires { (begins (codes "price") words.now && length words.now == 3) ≡ true }
+    ensures found { IfOk result
+        (λ op. IsOperationFor books.now op × (words.now ≡ operation_words op)) }
+    ensures err { IfErr result
+        (λ why. row_fault (script_forms books.now.instruments) words.now ≡ Some why) }
+{
+    books.ranges();
+    let (instrument, price) = words.two_numbers(instruments_of(books), PRICES)?;
+    Ok(Op::Price(instrument as u32, price))
+}
+
+// The operation of a line of four words.
+fn with_three_numbers(words: &Words<'_>) -> Result<Op, Fault>
+    requires { length words.now ≡ 4 }
+    ensures found { IfOk result (λ op. (books : ClearingBooks) → IsOperationFor books op
+        × (words.now ≡ operation_words op)) }
+    ensures err { IfErr result
+        (λ why. (instruments : ℕ) → row_fault (script_forms instruments) words.now ≡ Some why) }
+{
+    if words.is_row(b"move", 4) {
+        let (from, to, amount) = words.three_numbers(ACCOUNTS, ACCOUNTS, AMOUNTS)?;
+        return Ok(Op::Move(from as u32, to as u32, amount));
+    }
+    Err(Fault::Word)
+}
+
+// The operation of a line of five words.
+fn with_four_numbers(words: &Words<'_>, books: &Books) -> Result<Op, Fault>
+    requires { length words.now ≡ 5 }
+    ensures found { IfOk result
+        (λ op. IsOperationFor books.now op × (words.now ≡ operation_words op)) }
+    ensures err { IfErr result
+        (λ why. row_fault (script_forms books.now.instruments) words.now ≡ Some why) }
+{
+    books.ranges();
+    if words.is_row(b"trade", 5) {
+        let (buyer, seller, instrument, quantity) = words.four_numbers(
+            ACCOUNTS,
+            ACCOUNTS,
+            instruments_of(books),
+            QUANTITIES,
+        )?;
+        return Ok(Op::Trade(buyer as u32, seller as u32, instrument as u32, quantity));
     }
     Err(Fault::Word)
 }

@@ -1,19 +1,28 @@
 //! The numbers of a line, behind its first word.
 
-ghost use Rattle.std.specs.Prelude.{◌≡◌, ◌<◌, [], ◌∷◌, length, Some, IfOk, IfErr};
+ghost use Rattle.std.specs.Prelude.{◌≡◌, ◌<◌, ◌&&◌, [], ◌∷◌, min, true, false, length, Some, IfOk, IfErr};
+ghost use Rattle.script_reader.specs.Lines.{word_at};
+ghost use Rattle.script_reader.specs.Number.{is_number};
+ghost use Rattle.script_reader.specs.declared.words.TheConstants.{MOST_WORDS};
 ghost use Rattle.script_reader.specs.Forms.{value_at};
 ghost use Rattle.script_reader.specs.Inner.Rows.{HasNumbers, numbers_fault};
 
 use crate::fault::Fault;
-use crate::numbers::within;
+use crate::numbers::{both_within, within};
 use crate::words::Words;
 use books_model::Books;
 use books_model::limits::{
     GREATEST_ACCOUNT, GREATEST_AMOUNT, GREATEST_CASH, GREATEST_PRICE, GREATEST_QUANTITY,
-    GREATEST_RATE, GREATEST_SHORTFALL,
+    GREATEST_RATE, GREATEST_SHORTFALL, MOST_BLOCKS, MOST_INSTRUMENTS, MOST_RING,
 };
 
 // The least and the greatest of each kind of number.
+pub(crate) const BLOCKS: (u64, u64) = (1, MOST_BLOCKS as u64);
+
+pub(crate) const INSTRUMENTS: (u64, u64) = (1, MOST_INSTRUMENTS as u64);
+
+pub(crate) const RINGS: (u64, u64) = (1, MOST_RING as u64);
+
 pub(crate) const ACCOUNTS: (u64, u64) = (1, GREATEST_ACCOUNT as u64);
 
 pub(crate) const CASH: (u64, u64) = (0, GREATEST_CASH);
@@ -37,6 +46,22 @@ pub(crate) fn instruments_of(books: &Books) -> (u64, u64)
 }
 
 impl<'a> Words<'a> {
+    // The numbers that the words at two places are, each as `number` has it.
+    pub(crate) fn both_numbers(&self, one: usize, other: usize) -> Result<(u64, u64), Fault>
+        requires there { (one < length self.now) × (other < length self.now) }
+        requires early { (one < MOST_WORDS) × (other < MOST_WORDS) }
+        ensures found { IfOk result (λ n. (is_number (word_at self.now one) ≡ true)
+            × (is_number (word_at self.now other) ≡ true)
+            × (n.0 ≡ min (value_at self.now one) u64.MAX)
+            × (n.1 ≡ min (value_at self.now other) u64.MAX)) }
+        ensures err { IfErr result (λ why. (why ≡ Fault.Number)
+            × ((is_number (word_at self.now one) && is_number (word_at self.now other)) ≡ false)) }
+    {
+        let a = self.number(one)?;
+        let b = self.number(other)?;
+        Ok((a, b))
+    }
+
     // The number of a line of two words.
     pub(crate) fn one_number(&self, first: (u64, u64)) -> Result<u64, Fault>
         requires two { length self.now ≡ 2 }
@@ -63,9 +88,9 @@ impl<'a> Words<'a> {
         ensures err { IfErr result
             (λ why. numbers_fault self.now (first ∷ second ∷ []) ≡ Some why) }
     {
-        let a = self.number(1)?;
-        let b = self.number(2)?;
-        Ok((within(a, first.0, first.1)?, within(b, second.0, second.1)?))
+        let (a, b) = self.both_numbers(1, 2)?;
+        both_within(a, first, b, second)?;
+        Ok((a, b))
     }
 
     // The numbers of a line of four words.
@@ -83,14 +108,10 @@ impl<'a> Words<'a> {
         ensures err { IfErr result
             (λ why. numbers_fault self.now (first ∷ second ∷ third ∷ []) ≡ Some why) }
     {
-        let a = self.number(1)?;
-        let b = self.number(2)?;
+        let (a, b) = self.both_numbers(1, 2)?;
         let c = self.number(3)?;
-        Ok((
-            within(a, first.0, first.1)?,
-            within(b, second.0, second.1)?,
-            within(c, third.0, third.1)?,
-        ))
+        both_within(a, first, b, second)?;
+        Ok((a, b, within(c, third.0, third.1)?))
     }
 
     // The numbers of a line of five words.
@@ -110,15 +131,10 @@ impl<'a> Words<'a> {
         ensures err { IfErr result
             (λ why. numbers_fault self.now (first ∷ second ∷ third ∷ fourth ∷ []) ≡ Some why) }
     {
-        let a = self.number(1)?;
-        let b = self.number(2)?;
-        let c = self.number(3)?;
-        let d = self.number(4)?;
-        Ok((
-            within(a, first.0, first.1)?,
-            within(b, second.0, second.1)?,
-            within(c, third.0, third.1)?,
-            within(d, fourth.0, fourth.1)?,
-        ))
+        let (a, b) = self.both_numbers(1, 2)?;
+        let (c, d) = self.both_numbers(3, 4)?;
+        both_within(a, first, b, second)?;
+        both_within(c, third, d, fourth)?;
+        Ok((a, b, c, d))
     }
 }

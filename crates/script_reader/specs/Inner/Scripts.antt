@@ -1,9 +1,12 @@
 -- The scripts that a text has, and the callers that they make.
-use Rattle.std.specs.Prelude.{◌≡◌, ℕ, List, ◌++◌}
+use Rattle.std.specs.Prelude.{◌≡◌, ℕ, false, not, ◌&&◌, ◌||◌, nat_le, List, [], ◌∷◌, ◌++◌, codes, length}
 use Rattle.std.specs.List.{flat_map}
 use Rattle.books_model.specs.Books.{ClearingBooks}
-use Rattle.script_reader.specs.Text.{finish_line}
-use Rattle.script_reader.specs.Input.{Caller, ClearingInput, Submission, AreCallersFor, callers_of}
+use Rattle.books_model.specs.Ranges.{IsScriptFor}
+use Rattle.script_reader.specs.declared.limits.TheConstants.{MOST_CALLERS, MOST_SCRIPTS}
+use Rattle.script_reader.specs.Text.{operation_lines, end_line, finish_line}
+use Rattle.script_reader.specs.Input.{Caller, ClearingInput, Submission, AreCallersFor, IsName, callers_of, count_scripts}
+use Rattle.script_reader.specs.Inner.Callers.{is_caller, add_submission}
 use Rattle.script_reader.specs.Grammar.{Spells, submission_lines}
 
 -- the text before begins with scripts that make the callers, and with the line `finish`, and goes on with the text after
@@ -18,3 +21,14 @@ pub record HasFront (input : ClearingInput) (before after : List ℕ) : Type 0 w
   pub front : List ℕ
   pub text : before ≡ front ++ after
   pub spelled : Spells front input
+
+-- the line begins a script, for which and for whose caller there is room; the text before begins with its other lines, and goes
+-- on with the text after; and more is the callers with the script
+pub record IsAdded (books : ClearingBooks) (words : List (List ℕ)) (callers more : List Caller) (before after : List ℕ) : Type 0 where
+  pub submission : Submission
+  pub begins : words ≡ codes "script" ∷ submission.caller ∷ []
+  pub named : IsName submission.caller
+  pub room : (nat_le MOST_SCRIPTS (count_scripts callers) || (not (is_caller submission.caller callers) && nat_le MOST_CALLERS (length callers))) ≡ false
+  pub valid : IsScriptFor books submission.script
+  pub text : before ≡ operation_lines submission.script ++ (end_line ++ after)
+  pub made : more ≡ add_submission callers submission

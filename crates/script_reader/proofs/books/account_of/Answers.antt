@@ -1,7 +1,8 @@
-use Rattle.std.proofs.Common.{◌≡◌, true, false, not, ◌||◌, ◌∷◌, [], drop, codes, sym, ap, ◌∙◌, arith}
+use Rattle.std.proofs.Common.{◌≡◌, true, false, not, ◌||◌, ◌∷◌, [], drop, codes, sym, ap, subst, ◌∙◌, arith}
 use Rattle.std.specs.Option.{is_some}
 use Rattle.std.specs.FinMap as map
 use Rattle.std.proofs.lemmas.Result.{err_from_is_err_and}
+use Rattle.books_model.specs.Ranges.{IsWithin}
 use Rattle.script_reader.specs.Forms.{are_numbers, are_in_range, value_at}
 use Rattle.script_reader.proofs.Conditions.{or_false}
 use Rattle.script_reader.proofs.Printed.{is_late_in, is_low_in}
@@ -10,6 +11,13 @@ use Rattle.script_reader.proofs.Refusing.{reasons, numbers_first, some_is, has_n
 use Rattle.script_reader.proofs.Ranging.{first_within, row_length}
 use Rattle.script_reader.proofs.Finding.{low_found}
 use Rattle.script_reader.proofs.books.account_of.Goals as goal
+use Rattle.script_reader.proofs.books.account_of.Goals.{In_ok-account}
+
+account_within : (c : In_ok-account) → IsWithin 1 4294967295 c.in_ok-account.account
+account_within c = subst (IsWithin 1 4294967295) (sym c.in_ok-account.ensures.found.1) (first_within c.args.words.now 1 4294967295 _ (omega (arith, row_length (codes "account") 3 c.args.words.now c.requires)) c.in_ok-account.ensures.found.0.in_range)
+
+pub overflow_cast-account : goal.overflow_cast-account
+overflow_cast-account c = omega (arith, (account_within c).1)
 
 pub returns-then-is_past_accounts-clause-err : goal.returns-then-is_past_accounts-clause-err
 returns-then-is_past_accounts-clause-err c =

@@ -1,6 +1,8 @@
-use Rattle.std.proofs.Common.{◌≡◌, ◌∷◌, [], ◌++◌, Some, sym, ap, subst, ◌∙◌}
+use Rattle.std.proofs.Common.{◌≡◌, ◌∷◌, [], ◌++◌, Err, Some, sym, ap, subst, ◌∙◌}
 use Rattle.std.proofs.lemmas.List.{append-nil}
 use Rattle.std.proofs.lemmas.Result.{err_from_is_err_and}
+use Rattle.std.specs.List.{flat_map}
+use Rattle.script_reader.specs.declared.fault.Refusal.TheVariants as refusal
 use Rattle.script_reader.specs.Text.{line}
 use Rattle.script_reader.specs.Faults.{AreFaultless, IsFaultyBehind}
 use Rattle.script_reader.proofs.BooksFaultless.{books_faultless}
@@ -20,10 +22,18 @@ returns-in_err-books-clause-fault c why e =
     let same : c.in_err-books.field-0.0 ≡ why = cc (p.1, p.2, e) in
     behind_line [] c.args.lines.now c.words.new.self c.in_ok-words.words why c.in_ok-words.ensures.found.0 c.in_ok-words.ensures.found.1 (c.in_err-books.ensures.err ∙ ap Some same)
 
-pub returns-clause-fault : goal.returns-clause-fault
-returns-clause-fault c why e =
+pub returns-in_err-fill-clause-fault : goal.returns-in_err-fill-clause-fault
+returns-in_err-fill-clause-fault c why e =
+    let p = err_from_is_err_and c.from_residual-in_err-fill.result c.from_residual-in_err-fill.ensures.1 in
+    let same : c.in_err-fill.field-0.0 ≡ refusal.LineFault why = cc (p.1, p.2, e) in
     let h = header_adds c.in_ok-words.words c.in_ok-books.ensures.fine in
-    behind_more [] (c.in_ok-words.words ∷ []) c.args.lines.now c.words.new.self c.filled.new.lines why
+    behind_more [] (c.in_ok-words.words ∷ []) c.args.lines.now c.words.new.self c.fill.new.lines why
     (subst (AreFaultless []) h.lines (books_faultless (books_of_header c.in_ok-words.words) h.in_range))
     (c.in_ok-words.ensures.found.1 ∙ ap (λ l. l ++ c.words.new.self) (sym (append-nil (line c.in_ok-words.words))))
-    (subst (λ b. IsFaultyBehind b c.words.new.self c.filled.new.lines why) c.in_ok-books.ensures.found (c.filled.ensures.fault why e))
+    (subst (λ b. IsFaultyBehind b c.words.new.self c.fill.new.lines why) c.in_ok-books.ensures.found (c.fill.ensures.fault why (c.in_err-fill.was ∙ ap Err same)))
+
+pub returns-clause-text : goal.returns-clause-text
+returns-clause-text c =
+    c.in_ok-words.ensures.found.1
+    ∙ ap (λ l. l ++ c.words.new.self) (sym (append-nil (line c.in_ok-words.words)) ∙ ap (flat_map line) (sym c.in_ok-books.ensures.found))
+    ∙ c.in_ok-fill.ensures.text

@@ -2,6 +2,7 @@ use Rattle.std.proofs.Common.{◌≡◌, true, false, not, ◌||◌, ◌∷◌, 
 use Rattle.std.specs.Option.{is_some}
 use Rattle.std.specs.FinMap as map
 use Rattle.std.proofs.lemmas.Result.{err_from_is_err_and}
+use Rattle.books_model.specs.Ranges.{IsWithin}
 use Rattle.script_reader.specs.Forms.{are_numbers, are_in_range, value_at}
 use Rattle.script_reader.specs.Inner.Rows.{HasNumbers, numbers_fault}
 use Rattle.script_reader.proofs.Conditions.{or_false}
@@ -11,6 +12,18 @@ use Rattle.script_reader.proofs.Refusing.{reasons, numbers_first, some_is, has_n
 use Rattle.script_reader.proofs.Ranging.{first_within, row_length}
 use Rattle.script_reader.proofs.Finding.{low_found}
 use Rattle.script_reader.proofs.books.price_of.Goals as goal
+use Rattle.script_reader.proofs.books.price_of.Goals.{In_ok-instrument}
+
+instrument_within : (c : In_ok-instrument) → IsWithin 1 c.args.books.now.instruments c.in_ok-instrument.instrument
+instrument_within c = subst (IsWithin 1 c.args.books.now.instruments) (sym c.in_ok-instrument.ensures.found.1)
+    (first_within c.args.words.now 1 c.args.books.now.instruments ((1, 1000000000) ∷ []) (omega (arith, row_length (codes "price") 3 c.args.words.now c.requires))
+    (subst (λ r. HasNumbers c.args.words.now (r ∷ (1, 1000000000) ∷ [])) c.instruments_of-instruments.ensures.number c.in_ok-instrument.ensures.found.0).in_range)
+
+pub overflow_cast-instrument : goal.overflow_cast-instrument
+overflow_cast-instrument c = omega (arith, (instrument_within c).1, c.ranges-2.ensures.instruments.1)
+
+pub overflow_sub-instrument : goal.overflow_sub-instrument
+overflow_sub-instrument c = (instrument_within c).0
 
 pub returns-then-is_past_prices-clause-err : goal.returns-then-is_past_prices-clause-err
 returns-then-is_past_prices-clause-err c =

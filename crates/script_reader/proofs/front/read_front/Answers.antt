@@ -11,6 +11,7 @@ use Rattle.script_reader.specs.Inner.Scripts.{HasFront}
 use Rattle.script_reader.specs.Faults.{IsFaultyBehind, IsFrontFault}
 use Rattle.script_reader.proofs.Counting.{Told, told, feeds}
 use Rattle.script_reader.proofs.Deciding.{front_not_both, fronts_once, one_fault}
+use Rattle.script_reader.proofs.Fronting.{take_front}
 use Rattle.script_reader.proofs.OneInput.{one_input}
 use Rattle.script_reader.proofs.front.read_front.Goals as goal
 
@@ -57,6 +58,12 @@ faulty_line-line-requires c = omega (arith, counted c, (told c.args.bytes.now c.
 
 front : (c : goal.After-len) → HasFront c.in-Ok.input c.args.bytes.now c.input_of.new.lines
 front c = subst (λ l. HasFront c.in-Ok.input l c.input_of.new.lines) c.new-lines.ensures c.in-Ok.ensures.found
+
+pub returns-in-Ok-clause-ok : goal.returns-in-Ok-clause-ok
+returns-in-Ok-clause-ok c =
+    let h = front c in
+    let end = ap (λ n. length c.args.bytes.now - n) c.len.ensures in
+    (omega arith, subst (λ t. Spells t c.in-Ok.input) (sym (take_front c.args.bytes.now h.front c.input_of.new.lines (length c.args.bytes.now - c.len.result) h.text end)) h.spelled)
 
 pub returns-in-Ok-clause-read : goal.returns-in-Ok-clause-read
 returns-in-Ok-clause-read c input end short h =

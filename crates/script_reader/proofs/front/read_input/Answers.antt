@@ -35,6 +35,20 @@ goes_on text end number input shorter h counted = record {
   why_is = refl;
 }
 
+pub returns-in_err-input-clause-read : goal.returns-in_err-input-clause-read
+returns-in_err-input-clause-read c input h =
+    let p = err_from_is_err_and c.from_residual.result c.from_residual.ensures.1 in
+    let is : c.from_residual.result ≡ Err c.in_err-input.field-0.0 = cc (p.1, p.2) in
+    let all = take_all (length c.args.bytes.now) c.args.bytes.now (omega arith) in
+    subst (λ r. MatchResult r (λ found. found ≡ input) (λ fault. fault ≡ refused.OutOfMemory)) (sym is)
+    (c.in_err-input.ensures.read input (length c.args.bytes.now) (omega arith) (subst (λ t. Spells t input) (sym all) h))
+
+pub returns-in_err-input-clause-refused : goal.returns-in_err-input-clause-refused
+returns-in_err-input-clause-refused c number why e =
+    let p = err_from_is_err_and c.from_residual.result c.from_residual.ensures.1 in
+    let is : Err c.in_err-input.field-0.0 ≡ Err (refused.Line number why) = cc (p.1, p.2, e) in
+    inl (c.in_err-input.ensures.refused number why is)
+
 pub returns-in_err-input-clause-faulty : goal.returns-in_err-input-clause-faulty
 returns-in_err-input-clause-faulty c number why h =
     let p = err_from_is_err_and c.from_residual.result c.from_residual.ensures.1 in
@@ -70,6 +84,9 @@ returns-then-end-bytes-clause-faulty c number why h =
 -- all was read
 all_read : (c : goal.Else-end-bytes) → Spells c.args.bytes.now c.in_ok-input.input
 all_read c = subst (λ t. Spells t c.in_ok-input.input) (take_all c.in_ok-input.end c.args.bytes.now (omega (arith, c.if-end-bytes.false))) c.in_ok-input.ensures.ok.1
+
+pub returns-clause-ok : goal.returns-clause-ok
+returns-clause-ok c = all_read c
 
 pub returns-clause-read : goal.returns-clause-read
 returns-clause-read c input h = one_input c.args.bytes.now c.in_ok-input.input input (all_read c) h

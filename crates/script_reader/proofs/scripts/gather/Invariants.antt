@@ -4,10 +4,10 @@ use Rattle.script_reader.specs.Text.{line}
 use Rattle.script_reader.specs.Input.{Submission, AreCallersFor, callers_of}
 use Rattle.script_reader.specs.Inner.LinesAsWords.{submission_words}
 use Rattle.script_reader.specs.Inner.Callers.{callers_in, IsEven}
-use Rattle.script_reader.proofs.scripts.scripts_of.Given as goal
+use Rattle.script_reader.proofs.scripts.gather.Given as goal
 
-abbrev pub invariant-loop-callers : goal.invariant-loop-callers
-invariant-loop-callers l = record {
+abbrev pub invariant-loop-words : goal.invariant-loop-words
+invariant-loop-words l = record {
   even : IsEven l.callers;
   subs : List Submission;
   made : callers_in l.callers ≡ callers_of subs;
@@ -15,5 +15,5 @@ invariant-loop-callers l = record {
   text : l.initial.lines ≡ flat_map line (flat_map submission_words subs) ++ l.lines;
 }
 
-abbrev pub decreases-loop-callers : goal.decreases-loop-callers
-decreases-loop-callers l = length l.lines
+abbrev pub decreases-loop-words : goal.decreases-loop-words
+decreases-loop-words l = length l.lines
