@@ -1,6 +1,6 @@
 //! Whether a text is an output of an input.
 
-ghost use Rattle.std.specs.Prelude.{◌≡◌, ◌≢◌, ℕ, ◌+◌, ◌<◌, ◌≤◌, ◌==◌, ◌^◌, List, ◌∷◌, ◌++◌, Ok, Some, length, count_by, slice_index, IfOk, IfSome, IfNone, IsSomeAnd, OnOk};
+ghost use Rattle.std.specs.Prelude.{◌≡◌, ◌≢◌, ℕ, ◌+◌, ◌<◌, ◌≤◌, ◌==◌, ◌^◌, List, ◌∷◌, ◌++◌, Ok, Some, codes, length, replicate, count_by, slice_index, IfOk, IfSome, IfNone, IsSomeAnd, OnOk};
 ghost use Rattle.std.specs.List.{concat};
 ghost use Rattle.script_reader.specs.declared.words.TheConstants.{SPACE, LINE_FEED};
 ghost use Rattle.script_reader.specs.Lines.{IsFreeOf};
@@ -193,6 +193,33 @@ fn closing_differs(alloc: Global, books: &Books, text: &[u8]) -> Result<Option<u
     Ok(Some(lines_in_common(expected, text) as u32))
 }
 
+// What the check of a text finds behind its first line, from the opening books on and with no script done.
+fn found_behind(
+    alloc: Global,
+    input: &Input,
+    books: &mut Books,
+    done: &mut [u32],
+    journal: &[u8],
+) -> Result<Checked, OutOfMemory>
+    requires valid { IsInput input.now }
+    requires opening { books.old ≡ input.now.books }
+    requires nothing_done { done.old ≡ replicate (length input.now.callers) 0 }
+    ensures { IfOk result (λ checked.
+        IsFound input.now (codes "journal\n" ++ journal.now) checked) }
+{
+    let mut left = journal;
+    for run in 0..input.scripts() {
+        match next_line(alloc, input, books, done, run + 1, left)? {
+            Some(after) => left = after,
+            None => return Ok(Checked::Differs(run + 2)),
+        }
+    }
+    match closing_differs(alloc, books, left)? {
+        None => Ok(Checked::Agrees),
+        Some(lines) => Ok(Checked::Differs(input.scripts() + lines + 2)),
+    }
+}
+
 // What the check of a text finds, out of memory aside.
 fn found_in(alloc: Global, input: &Input, text: &[u8]) -> Result<Checked, OutOfMemory>
     requires valid { IsInput input.now }
@@ -203,17 +230,7 @@ fn found_in(alloc: Global, input: &Input, text: &[u8]) -> Result<Checked, OutOfM
     };
     let mut books = input.books().copy()?;
     let mut done = vec![in alloc; 0; input.callers() as usize]?;
-    let mut left = journal;
-    for run in 0..input.scripts() {
-        match next_line(alloc, input, &mut books, &mut done, run + 1, left)? {
-            Some(after) => left = after,
-            None => return Ok(Checked::Differs(run + 2)),
-        }
-    }
-    match closing_differs(alloc, &books, left)? {
-        None => Ok(Checked::Agrees),
-        Some(lines) => Ok(Checked::Differs(input.scripts() + lines + 2)),
-    }
+    found_behind(alloc, input, &mut books, &mut done, journal)
 }
 
 /// Whether a text is an output of an input, whatever the order of its scripts and the restarts below their limit. Each

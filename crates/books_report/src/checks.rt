@@ -47,8 +47,21 @@ fn answer(alloc: Global, input: &Input, text: &[u8]) -> Result<Checked, OutOfMem
     check_text(alloc, input, text)
 }
 
-fn found(rt: &impl Abort, alloc: Global, text: &str) -> Result<Checked, OutOfMemory> {
-    answer(alloc, &input_of(rt, alloc, INPUT), text.as_bytes())
+// The check of a text of this input finds what is wanted.
+fn finds_for(
+    rt: &impl Abort,
+    alloc: Global,
+    input: &Input,
+    text: &str,
+    want: Checked,
+) -> Result<(), OutOfMemory> {
+    let found = answer(alloc, input, text.as_bytes())?;
+    assert_eq!(rt; found, want, "{text}");
+    Ok(())
+}
+
+fn finds(rt: &impl Abort, alloc: Global, text: &str, want: Checked) -> Result<(), OutOfMemory> {
+    finds_for(rt, alloc, &input_of(rt, alloc, INPUT), text, want)
 }
 
 // Lines with another text in place of one of them, by its number from 1.
@@ -96,9 +109,22 @@ account 7 104
 finish
 ",
     ] {
-        assert_eq!(rt; found(&rt, rt.alloc(), *text)?, Checked::Agrees, "{text}");
+        finds(&rt, rt.alloc(), *text, Checked::Agrees)?;
     }
     Ok(())
+}
+
+// A text stands in place of the line with this number: the first wrong line.
+fn differs_with(
+    rt: &impl Abort,
+    alloc: Global,
+    lines: &[&str],
+    number: u32,
+    other: &str,
+    first: u32,
+) -> Result<(), OutOfMemory> {
+    let text = with_line(alloc, lines, number, other)?;
+    finds(rt, alloc, text.as_str(), Checked::Differs(first))
 }
 
 // Each text stands in place of the line with this number, and the first wrong line is the number beside it.
@@ -110,9 +136,7 @@ fn look(
     rows: &[(&str, u32)],
 ) -> Result<(), OutOfMemory> {
     for (other, first) in rows {
-        let text = with_line(alloc, lines, number, *other)?;
-        let checked = found(rt, alloc, text.as_str())?;
-        assert_eq!(rt; checked, Checked::Differs(*first), "{text}");
+        differs_with(rt, alloc, lines, number, *other, *first)?;
     }
     Ok(())
 }
@@ -287,22 +311,26 @@ fn the_last_line_is_looked_at(rt: HostRuntime) -> Result<(), Fail> {
     Ok(())
 }
 
+// The line with this number is doubled: the second one is wrong.
+fn differs_doubled(
+    rt: &impl Abort,
+    alloc: Global,
+    lines: &[&str],
+    number: u32,
+    line: &str,
+) -> Result<(), OutOfMemory> {
+    let twice = format!(in alloc; "{line}{line}")?;
+    let second = number.saturating_add(1);
+    differs_with(rt, alloc, lines, number, twice.as_str(), second)
+}
+
 // Each line is left out, and each is doubled.
 fn look_for_each(rt: &impl Abort, alloc: Global, lines: &[&str]) -> Result<(), OutOfMemory> {
     let mut number = 0u32;
     for line in lines {
         number = number.saturating_add(1);
-        let out = with_line(alloc, lines, number, "")?;
-        let checked = found(rt, alloc, out.as_str())?;
-        assert_eq!(rt; checked, Checked::Differs(number), "{out}");
-        let twice = format!(in alloc; "{line}{line}")?;
-        let doubled = with_line(alloc, lines, number, twice.as_str())?;
-        let checked = found(rt, alloc, doubled.as_str())?;
-        assert_eq!(rt;
-            checked,
-            Checked::Differs(number.saturating_add(1)),
-            "{doubled}"
-        );
+        differs_with(rt, alloc, lines, number, "", number)?;
+        differs_doubled(rt, alloc, lines, number, *line)?;
     }
     Ok(())
 }
@@ -331,13 +359,30 @@ fn with_exchanged(alloc: Global, lines: &[&str], first: u32) -> Result<String, A
     Ok(text)
 }
 
+// The first of the exchanged lines is wrong.
+fn differs_exchanged(rt: &impl Abort, alloc: Global, first: u32) -> Result<(), OutOfMemory> {
+    let text = with_exchanged(alloc, &LINES, first)?;
+    finds(rt, alloc, text.as_str(), Checked::Differs(first))
+}
+
 #[test]
 fn lines_are_exchanged(rt: HostRuntime) -> Result<(), Fail> {
     for first in 1..7u32 {
-        let text = with_exchanged(rt.alloc(), &LINES, first)?;
-        let checked = found(&rt, rt.alloc(), text.as_str())?;
-        assert_eq!(rt; checked, Checked::Differs(first), "{text}");
+        differs_exchanged(&rt, rt.alloc(), first)?;
     }
+    Ok(())
+}
+
+// The same of a text as bytes.
+fn finds_in_bytes(
+    rt: &impl Abort,
+    alloc: Global,
+    input: &Input,
+    text: &[u8],
+    want: Checked,
+) -> Result<(), OutOfMemory> {
+    let found = answer(alloc, input, text)?;
+    assert_eq!(rt; found, want);
     Ok(())
 }
 
@@ -353,13 +398,11 @@ fn look_at_fronts(
     for line in lines {
         number = number.saturating_add(1);
         for byte in line.as_bytes() {
-            let checked = answer(alloc, input, &text)?;
-            assert_eq!(rt; checked, Checked::Differs(number));
+            finds_in_bytes(rt, alloc, input, &text, Checked::Differs(number))?;
             text.push(*byte)?;
         }
     }
-    assert_eq!(rt; answer(alloc, input, &text)?, Checked::Agrees);
-    Ok(())
+    finds_in_bytes(rt, alloc, input, &text, Checked::Agrees)
 }
 
 #[test]
@@ -386,8 +429,7 @@ fn an_input_without_scripts(rt: HostRuntime) -> Result<(), Fail> {
         ("journal\n", Checked::Differs(2)),
         ("", Checked::Differs(1)),
     ] {
-        let found = answer(rt.alloc(), &input, text.as_bytes())?;
-        assert_eq!(rt; found, *want, "{text}");
+        finds_for(&rt, rt.alloc(), &input, *text, *want)?;
     }
     Ok(())
 }

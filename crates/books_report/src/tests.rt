@@ -68,18 +68,22 @@ fn add_call(
     books.add_call(account, shortfall)
 }
 
-// Books with every kind of line, made in another order than that of their text.
+// Every kind of line, in another order than that of their text.
+fn fill_books(rt: &impl Abort, books: &mut Books) -> Result<(), OutOfMemory> {
+    add_account(rt, books, 30, GREATEST_CASH)?;
+    add_account(rt, books, 1, 0)?;
+    add_price(rt, books, 2, GREATEST_PRICE)?;
+    add_price(rt, books, 1, 10)?;
+    add_position(rt, books, 30, 2, 1)?;
+    add_position(rt, books, 30, 1, GREATEST_QUANTITY)?;
+    add_position(rt, books, 1, 2, 5)?;
+    add_call(rt, books, 9, GREATEST_SHORTFALL)?;
+    add_call(rt, books, 7, 1)
+}
+
 fn full_books(rt: &impl Abort, alloc: Global) -> Result<Books, OutOfMemory> {
     let mut books = Books::new(alloc, 8, 2, 2);
-    add_account(rt, &mut books, 30, GREATEST_CASH)?;
-    add_account(rt, &mut books, 1, 0)?;
-    add_price(rt, &mut books, 2, GREATEST_PRICE)?;
-    add_price(rt, &mut books, 1, 10)?;
-    add_position(rt, &mut books, 30, 2, 1)?;
-    add_position(rt, &mut books, 30, 1, GREATEST_QUANTITY)?;
-    add_position(rt, &mut books, 1, 2, 5)?;
-    add_call(rt, &mut books, 9, GREATEST_SHORTFALL)?;
-    add_call(rt, &mut books, 7, 1)?;
+    fill_books(rt, &mut books)?;
     Ok(books)
 }
 
@@ -123,6 +127,17 @@ fn journal_of(
         })?;
     }
     journal_text(alloc, input, &lines, replies, closing)
+}
+
+// The same, before the full books.
+fn journal_before_full_books(
+    rt: &impl Abort,
+    alloc: Global,
+    input: &Input,
+    replies: &[Reply],
+) -> Result<Vec<u8>, OutOfMemory> {
+    let closing = full_books(rt, alloc)?;
+    journal_of(rt, alloc, input, replies, &closing)
 }
 
 // Operations that are declined, by their numbers.
@@ -183,8 +198,7 @@ const EVERY_REPLY: &str = "journal
 fn journal_of_every_reply(rt: &impl Abort, alloc: Global) -> Result<Vec<u8>, OutOfMemory> {
     let replies = every_reply(alloc)?;
     let input = input_of(rt, alloc, replies.len())?;
-    let closing = full_books(rt, alloc)?;
-    journal_of(rt, alloc, &input, &replies, &closing)
+    journal_before_full_books(rt, alloc, &input, &replies)
 }
 
 #[test]

@@ -4,16 +4,18 @@ use Rattle.std.proofs.lemmas.Bool.Decides.{Decides-eqb}
 use Rattle.std.proofs.lemmas.Slice.Eq.{strip_prefix_is}
 use Rattle.books_report.proofs.check.behind.Goals as goal
 
-pub returns-clause-begins : goal.returns-clause-begins
-returns-clause-begins c = by c.strip_prefix.result (strip_prefix_is Decides-eqb c.args.text.now c.args.front.now c.strip_prefix.result c.strip_prefix.ensures.cases)
+pub returns : goal.returns
+returns c =
+    let found = strip_prefix_is Decides-eqb c.args.text.now c.args.front.now c.strip_prefix.result c.strip_prefix.ensures.cases in
+    record {
+      begins = begins c.strip_prefix.result found;
+      none = none c.strip_prefix.result found;
+    }
   where
-    by : (r : Option (Bor (List ℕ))) → MatchOption r ((rest : List ℕ) → c.args.text.now ≢ c.args.front.now ++ rest) (λ x. c.args.text.now ≡ c.args.front.now ++ x.now) → IfSome r (λ left. c.args.text.now ≡ c.args.front.now ++ left.now)
-    by None h = tt
-    by (Some left) h = h
+    begins : (r : Option (Bor (List ℕ))) → MatchOption r ((rest : List ℕ) → c.args.text.now ≢ c.args.front.now ++ rest) (λ x. c.args.text.now ≡ c.args.front.now ++ x.now) → IfSome r (λ left. c.args.text.now ≡ c.args.front.now ++ left.now)
+    begins None h = tt
+    begins (Some left) h = h
 
-pub returns-clause-none : goal.returns-clause-none
-returns-clause-none c = by c.strip_prefix.result (strip_prefix_is Decides-eqb c.args.text.now c.args.front.now c.strip_prefix.result c.strip_prefix.ensures.cases)
-  where
-    by : (r : Option (Bor (List ℕ))) → MatchOption r ((rest : List ℕ) → c.args.text.now ≢ c.args.front.now ++ rest) (λ x. c.args.text.now ≡ c.args.front.now ++ x.now) → IfNone r ((left : List ℕ) → c.args.text.now ≢ c.args.front.now ++ left)
-    by None h = h
-    by (Some left) h = tt
+    none : (r : Option (Bor (List ℕ))) → MatchOption r ((rest : List ℕ) → c.args.text.now ≢ c.args.front.now ++ rest) (λ x. c.args.text.now ≡ c.args.front.now ++ x.now) → IfNone r ((left : List ℕ) → c.args.text.now ≢ c.args.front.now ++ left)
+    none None h = h
+    none (Some left) h = tt

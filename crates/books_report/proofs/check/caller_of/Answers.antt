@@ -1,4 +1,4 @@
-use Rattle.std.proofs.Common.{◌≡◌, ◌≢◌, ℕ, ◌<◌, length, Option, Some, None, sym, ap, subst, ◌∙◌}
+use Rattle.std.proofs.Common.{◌≡◌, ◌≢◌, ℕ, ◌<◌, length, Option, Some, None, sym, ap, subst, ◌∙◌, rules}
 use Rattle.std.specs.Option.{IfSome, IfNone}
 use Rattle.std.specs.Str.{IsUtf8}
 use Rattle.script_reader.specs.Input.{caller_at}
@@ -7,12 +7,18 @@ use Rattle.books_report.proofs.Rows.{caller_named}
 use Rattle.books_report.proofs.Histories.{one_caller}
 use Rattle.books_report.proofs.check.caller_of.Goals as goal
 
-pub returns-in_default-clause-named : goal.returns-in_default-clause-named
-returns-in_default-clause-named c = λ caller within same.
-    absurd (c.in_default.ensures.cases.0 (subst IsUtf8 (sym same) (IsName-text (caller_at c.args.input.now caller).name (caller_named c.args.input.now c.requires.valid caller within))))
+pub returns-in_default : goal.returns-in_default
+returns-in_default c = record {
+  within = tt;
+  named = λ caller within same.
+      absurd (c.in_default.ensures.cases.0 (subst IsUtf8 (sym same) (IsName-text (caller_at c.args.input.now caller).name (caller_named c.args.input.now c.requires.valid caller within))));
+}
 
-pub returns-clause-named : goal.returns-clause-named
-returns-clause-named c = λ caller within same. by caller within (c.in-Ok.ensures.cases.0 ∙ same) c.caller_named.result c.caller_named.ensures.found c.caller_named.ensures.none
+pub returns : goal.returns
+returns c = record {
+  within = search rules;
+  named = λ caller within same. by caller within (c.in-Ok.ensures.cases.0 ∙ same) c.caller_named.result c.caller_named.ensures.found c.caller_named.ensures.none;
+}
   where
     by : (caller : ℕ) → caller < length c.args.input.now.callers → c.in-Ok.name.now ≡ (caller_at c.args.input.now caller).name → (r : Option ℕ)
         → IfSome r (λ d. (d < length c.args.input.now.callers) × ((caller_at c.args.input.now d).name ≡ c.in-Ok.name.now))

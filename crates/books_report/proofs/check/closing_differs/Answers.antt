@@ -1,6 +1,7 @@
 use Rattle.std.proofs.Common.{◌≡◌, ◌≢◌, ◌++◌, List, [], ℕ, sym, ap, ◌∙◌, subst, arith}
 use Rattle.std.specs.List.{concat}
 use Rattle.std.proofs.lemmas.Bool.Decides.{Decides-eqb, not_from_Decides}
+use Rattle.std.proofs.lemmas.Result.{IfOk-from_err}
 use Rattle.std.proofs.lemmas.Slice.Eq.{slice_eq-Decides}
 use Rattle.books_model.specs.Books.{ClearingBooks}
 use Rattle.script_reader.specs.Text.{books_lines, finish_line}
@@ -20,10 +21,19 @@ stops : (b : ClearingBooks) (expected text : List ℕ) (count : ℕ) → expecte
 stops b expected text count is differs counted =
     subst (StopsAfter (closing_lines b) text) (sym (counted ∙ ap (λ l. feeds (in_common l text)) is)) (stops_in_common (closing_lines b) text (closing_rows b) (λ same. differs (same ∙ sym is)))
 
-pub returns-then-eq-clause-same : goal.returns-then-eq-clause-same
-returns-then-eq-clause-same c =
-    (slice_eq-Decides Decides-eqb c.args.text.now c.as_bytes-expected.result.now c.eq.result c.eq.ensures).0 c.if-eq.true
-    ∙ written c.args.books.now _ _ _ _ c.as_bytes-expected.ensures.value c.in_ok-push_str.ensures.bytes c.in_ok-write_books.ensures c.new-expected.ensures.bytes
+pub returns-in_err-write_books : goal.returns-in_err-write_books
+returns-in_err-write_books c = let failed = c.from_residual.ensures.0 in search IfOk-from_err
+
+pub returns-in_err-push_str : goal.returns-in_err-push_str
+returns-in_err-push_str c = let failed = c.from_residual-in_err-push_str.ensures.0 in search IfOk-from_err
+
+pub returns-then-eq : goal.returns-then-eq
+returns-then-eq c = record {
+  same = (slice_eq-Decides Decides-eqb c.args.text.now c.as_bytes-expected.result.now c.eq.result c.eq.ensures).0 c.if-eq.true
+      ∙ written c.args.books.now _ _ _ _ c.as_bytes-expected.ensures.value c.in_ok-push_str.ensures.bytes c.in_ok-write_books.ensures c.new-expected.ensures.bytes;
+  stops = tt;
+  few = tt;
+}
 
 pub overflow_cast-result : goal.overflow_cast-result
 overflow_cast-result c =
@@ -32,12 +42,13 @@ overflow_cast-result c =
     (not_from_Decides c.eq.result (slice_eq-Decides Decides-eqb c.args.text.now c.as_bytes-expected.result.now c.eq.result c.eq.ensures) c.if-eq.false) c.lines_in_common.ensures in
     omega (arith, stops_within (closing_lines c.args.books.now) c.args.text.now c.lines_in_common.result s, few_closing c.args.books.now c.ranges-2.ensures)
 
-pub returns-clause-stops : goal.returns-clause-stops
-returns-clause-stops c =
-    stops c.args.books.now c.as_bytes-expected.result.now c.args.text.now c.lines_in_common.result
+pub returns : goal.returns
+returns c =
+    let s = stops c.args.books.now c.as_bytes-expected.result.now c.args.text.now c.lines_in_common.result
     (written c.args.books.now _ _ _ _ c.as_bytes-expected.ensures.value c.in_ok-push_str.ensures.bytes c.in_ok-write_books.ensures c.new-expected.ensures.bytes)
-    (not_from_Decides c.eq.result (slice_eq-Decides Decides-eqb c.args.text.now c.as_bytes-expected.result.now c.eq.result c.eq.ensures) c.if-eq.false) c.lines_in_common.ensures
-
-pub returns-clause-few : goal.returns-clause-few
-returns-clause-few c =
-    omega (arith, stops_within (closing_lines c.args.books.now) c.args.text.now c.lines_in_common.result (returns-clause-stops c), few_closing c.args.books.now c.ranges-2.ensures)
+    (not_from_Decides c.eq.result (slice_eq-Decides Decides-eqb c.args.text.now c.as_bytes-expected.result.now c.eq.result c.eq.ensures) c.if-eq.false) c.lines_in_common.ensures in
+    record {
+      same = tt;
+      stops = s;
+      few = omega (arith, stops_within (closing_lines c.args.books.now) c.args.text.now c.lines_in_common.result s, few_closing c.args.books.now c.ranges-2.ensures);
+    }

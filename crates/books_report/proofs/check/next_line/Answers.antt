@@ -1,6 +1,7 @@
-use Rattle.std.proofs.Common.{◌≡◌, ◌≢◌, ℕ, ◌+◌, ◌++◌, List, set, length, Bor, Option, Some, None, refl, ap, ◌∙◌, arith}
+use Rattle.std.proofs.Common.{◌≡◌, ◌≢◌, ℕ, ◌+◌, ◌++◌, List, set, length, Bor, Option, Some, None, refl, ap, ◌∙◌, arith, rules}
 use Rattle.std.specs.Option.{IfSome, IfNone}
 use Rattle.std.proofs.lemmas.Option.{same_Some, none-some}
+use Rattle.std.proofs.lemmas.Result.{IfOk-from_err}
 use Rattle.books_model.specs.Interpreter.{outcome_of}
 use Rattle.books_report.specs.Inner.Audit.{HasRun, BeginsWithLine, BeginsWithNone}
 use Rattle.books_report.specs.Output.{Ran, journal_line}
@@ -8,18 +9,32 @@ use Rattle.books_report.specs.Lines.{ran_of}
 use Rattle.books_report.proofs.Audits.{named, begins_with_line, expected_begins}
 use Rattle.books_report.proofs.check.next_line.Goals as goal
 
-pub returns-in_default-clause-wrong : goal.returns-in_default-clause-wrong
-returns-in_default-clause-wrong c = λ scripts at run ran left m e.
-    let n = named c.args.input.now scripts c.args.books.now c.args.done.now run c.args.text.now ran left m e in
-    none-some _ (c.in_default.ensures.named (length scripts + 1) ran.place.caller (ran.place.index + 1) ran.restarts n.rest n.within n.left n.below n.text_is)
+pub returns-in_default : goal.returns-in_default
+returns-in_default c = record {
+  fits = c.requires.fits;
+  right = tt;
+  wrong = λ scripts at run ran left m e.
+      let n = named c.args.input.now scripts c.args.books.now c.args.done.now run c.args.text.now ran left m e in
+      none-some _ (c.in_default.ensures.named (length scripts + 1) ran.place.caller (ran.place.index + 1) ran.restarts n.rest n.within n.left n.below n.text_is);
+}
 
-pub returns-clause-right : goal.returns-clause-right
-returns-clause-right c = by c.behind.result c.behind.ensures.begins
+pub returns-in_err-reply : goal.returns-in_err-reply
+returns-in_err-reply c = let failed = c.from_residual.ensures.0 in search IfOk-from_err
+
+pub returns-in_err-write_line : goal.returns-in_err-write_line
+returns-in_err-write_line c = let failed = c.from_residual-in_err-write_line.ensures.0 in search IfOk-from_err
+
+pub returns : goal.returns
+returns c = record {
+  fits = search rules;
+  right = right_by c.behind.result c.behind.ensures.begins;
+  wrong = wrong_by c.behind.result c.behind.ensures.none;
+}
   where
-    by : (r : Option (Bor (List ℕ))) → IfSome r (λ left. c.args.text.now ≡ c.as_bytes.result.now ++ left.now)
+    right_by : (r : Option (Bor (List ℕ))) → IfSome r (λ left. c.args.text.now ≡ c.as_bytes.result.now ++ left.now)
         → IfSome r (λ left. (scripts : List Ran) → length scripts + 1 ≡ c.args.serial → HasRun c.args.input.now scripts c.args.books.now c.args.done.now
         → BeginsWithLine c.args.input.now scripts c.args.text.now left.now c.run_plain.new.books (set c.args.done.now c.in-Some.line.caller (c.in-Some.line.index + 1)))
-    by (Some left) e = λ scripts at run.
+    right_by (Some left) e = λ scripts at run.
         let found = c.in-Some.ensures.found in
         let ran = c.in_ok-reply.ensures in
         let line = c.in-Some.line in
@@ -28,15 +43,12 @@ returns-clause-right c = by c.behind.result c.behind.ensures.begins
         (ran.reply ∙ ap (λ s. (outcome_of s c.args.books.now).0) script_is) (ran.books ∙ ap (λ s. (outcome_of s c.args.books.now).1) script_is) refl
         c.from.result c.args.text.now c.name-name.result.now c.as_bytes.result.now left.now (omega (arith, at, c.from.ensures)) c.name-name.ensures
         (c.as_bytes.ensures.value ∙ c.in_ok-write_line.ensures ∙ ap (λ l. l ++ journal_line c.from.result c.name-name.result.now (ran_of line c.in_ok-reply.reply)) c.new-expected.ensures.bytes) found.2 e
-    by None e = tt
+    right_by None e = tt
 
-pub returns-clause-wrong : goal.returns-clause-wrong
-returns-clause-wrong c = by c.behind.result c.behind.ensures.none
-  where
-    by : (r : Option (Bor (List ℕ))) → IfNone r ((left : List ℕ) → c.args.text.now ≢ c.as_bytes.result.now ++ left)
+    wrong_by : (r : Option (Bor (List ℕ))) → IfNone r ((left : List ℕ) → c.args.text.now ≢ c.as_bytes.result.now ++ left)
         → IfNone r ((scripts : List Ran) → length scripts + 1 ≡ c.args.serial → HasRun c.args.input.now scripts c.args.books.now c.args.done.now → BeginsWithNone c.args.input.now scripts c.args.text.now)
-    by (Some left) none = tt
-    by None none = λ scripts at run ran behind m e.
+    wrong_by (Some left) none = tt
+    wrong_by None none = λ scripts at run ran behind m e.
         let found = c.in-Some.ensures.found in
         let done = c.in_ok-reply.ensures in
         let line = c.in-Some.line in
