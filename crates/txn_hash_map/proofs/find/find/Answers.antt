@@ -1,6 +1,9 @@
-use Rattle.std.proofs.Common.{◌≡◌, ◌+◌, ◌*◌, ◌-◌, ◌<◌, Some, refl, ap, ◌∙◌, subst, arith}
+use Rattle.std.proofs.Common.{◌≡◌, ◌+◌, ◌*◌, ◌-◌, ◌<◌, Some, refl, ap, ◌∙◌, subst, rules, arith}
+use Rattle.std.proofs.lemmas.Result.{IfOk-from_err}
 use Rattle.history_model.specs.Fitting.{SomeFits}
 use Rattle.history_model.proofs.FittingLaws.{some_at}
+use Rattle.history_model.proofs.TraceLaws.{begins_trans}
+use Rattle.txn_words.specs.Calls.{GoesOn}
 use Rattle.txn_hash_map.specs.Searches.{IsPassed, IsFoundAt, IsMissing, IsLink}
 use Rattle.txn_hash_map.proofs.Steps.{bucket_fits, passed_none, passed_end, passed_more, passed_found, passed_all}
 use Rattle.txn_words.proofs.Looks.{looks_none, looks_map}
@@ -56,25 +59,49 @@ read-requires-in-loop-clause-within g c =
     let in_list = laid_block m.arena _ _ _ some b (record { at = λ s fit. (i.looks.holds s fit).laid.arena }) lt in
     omega (arith, in_list.0, c.place_of-at.ensures, ap g.W.Shape.Shape.word_count (c.in_ok-name.ensures.shape ∙ i.shape))
 
-pub returns-then-name-eq0-clause-missing : goal.returns-then-name-eq0-clause-missing
-returns-then-name-eq0-clause-missing g c =
+pub returns-then-name-eq0 : goal.returns-then-name-eq0
+returns-then-name-eq0 g c =
     let m = c.args.map.now in
     let i = c.loop.invariant in
-    looks_map _ _ _ (IsLink m c.args.key) _ _ (IsMissing m c.args.key) (λ s h. passed_end m c.args.key s c.loop.place c.loop.counter h.0 (h.1 ∙ ap (λ k. Some k) c.if-name-eq0.true))
-    (looks_name m c.args.key _ _ _ _ _ c.loop.place c.loop.counter c.in_ok-name.name i.looks c.in_ok-name.ensures.value)
+    record {
+      found = tt;
+      missing =
+          looks_map _ _ _ (IsLink m c.args.key) _ _ (IsMissing m c.args.key) (λ s h. passed_end m c.args.key s c.loop.place c.loop.counter h.0 (h.1 ∙ ap (λ k. Some k) c.if-name-eq0.true))
+          (looks_name m c.args.key _ _ _ _ _ c.loop.place c.loop.counter c.in_ok-name.name i.looks c.in_ok-name.ensures.value);
+      block = tt;
+      goes_on = record {
+        shape = c.in_ok-name.ensures.shape ∙ i.shape;
+        origin = c.in_ok-name.ensures.origin ∙ i.origin;
+        begins = begins_trans _ _ _ i.looks.begins c.in_ok-name.ensures.begins;
+        stops = search rules;
+        sound = c.in_ok-name.ensures.sound;
+      };
+    }
 
-pub returns-then-there-key-clause-found : goal.returns-then-there-key-clause-found
-returns-then-there-key-clause-found g c =
+pub returns-then-there-key : goal.returns-then-there-key
+returns-then-there-key g c =
     let m = c.args.map.now in
     let i = c.loop.invariant in
     let b = c.in_ok-name.name - 1 in
     let one_more : c.in_ok-name.name ≡ b + 1 = omega (arith, c.if-name-eq0.false) in
     let lt : b < m.arena.blocks = omega arith in
     let is_block : c.place_of-at.result ≡ m.arena.first + 4 * b = c.place_of-at.ensures in
-    looks_map _ _ _ (IsLink m c.args.key) _ _ (IsFoundAt m c.args.key c.loop.place b)
-    (λ s h. passed_found m c.args.key s c.loop.place c.loop.counter b h.0 h.1 (h.2 ∙ ap (λ k. Some k) c.if-there-key.true))
-    (looks_key m c.args.key _ _ _ _ _ _ c.loop.place c.loop.counter c.in_ok-name.name b _ c.in_ok-there.there i.looks c.in_ok-name.ensures.value c.in_ok-there.ensures.value
-    one_more is_block)
+    record {
+      found =
+          looks_map _ _ _ (IsLink m c.args.key) _ _ (IsFoundAt m c.args.key c.loop.place b)
+          (λ s h. passed_found m c.args.key s c.loop.place c.loop.counter b h.0 h.1 (h.2 ∙ ap (λ k. Some k) c.if-there-key.true))
+          (looks_key m c.args.key _ _ _ _ _ _ c.loop.place c.loop.counter c.in_ok-name.name b _ c.in_ok-there.there i.looks c.in_ok-name.ensures.value c.in_ok-there.ensures.value
+          one_more is_block);
+      missing = tt;
+      block = lt;
+      goes_on = record {
+        shape = c.in_ok-there.ensures.shape ∙ c.in_ok-name.ensures.shape ∙ i.shape;
+        origin = c.in_ok-there.ensures.origin ∙ c.in_ok-name.ensures.origin ∙ i.origin;
+        begins = begins_trans _ _ _ i.looks.begins (begins_trans _ _ _ c.in_ok-name.ensures.begins c.in_ok-there.ensures.begins);
+        stops = search rules;
+        sound = c.in_ok-there.ensures.sound;
+      };
+    }
 
 pub loop-preserved : goal.loop-preserved
 loop-preserved g c =
@@ -96,8 +123,40 @@ loop-preserved g c =
           one_more is_block);
     }
 
-pub returns-clause-missing : goal.returns-clause-missing
-returns-clause-missing g c =
+pub returns : goal.returns
+returns g c =
     let m = c.args.map.now in
     let i = c.loop.invariant in
-    looks_map _ _ _ (IsLink m c.args.key) _ _ (IsMissing m c.args.key) (λ s h. passed_all m c.args.key s c.loop.place c.loop.counter (omega (arith, c.loop-test.false)) h) i.looks
+    record {
+      found = tt;
+      missing =
+          looks_map _ _ _ (IsLink m c.args.key) _ _ (IsMissing m c.args.key) (λ s h. passed_all m c.args.key s c.loop.place c.loop.counter (omega (arith, c.loop-test.false)) h) i.looks;
+      block = tt;
+      goes_on = record { shape = i.shape; origin = i.origin; begins = i.looks.begins; stops = i.stop; sound = i.sound };
+    }
+
+pub returns-in_err-name : goal.returns-in_err-name
+returns-in_err-name g c =
+    let i = c.loop.invariant in
+    let failed = c.from_residual.ensures.0 in
+    let on : GoesOn g.W.Words c.args.w.now c.read.new.self c.from_residual.result = record {
+      shape = c.in_err-name.ensures.shape ∙ i.shape;
+      origin = c.in_err-name.ensures.origin ∙ i.origin;
+      begins = begins_trans _ _ _ i.looks.begins c.in_err-name.ensures.begins;
+      stops = search rules;
+      sound = c.in_err-name.ensures.sound;
+    } in
+    search IfOk-from_err
+
+pub returns-in_err-there : goal.returns-in_err-there
+returns-in_err-there g c =
+    let i = c.loop.invariant in
+    let failed = c.from_residual-in_err-there.ensures.0 in
+    let on : GoesOn g.W.Words c.args.w.now c.read-in-loop.new.self c.from_residual-in_err-there.result = record {
+      shape = c.in_err-there.ensures.shape ∙ c.in_ok-name.ensures.shape ∙ i.shape;
+      origin = c.in_err-there.ensures.origin ∙ c.in_ok-name.ensures.origin ∙ i.origin;
+      begins = begins_trans _ _ _ i.looks.begins (begins_trans _ _ _ c.in_ok-name.ensures.begins c.in_err-there.ensures.begins);
+      stops = search rules;
+      sound = c.in_err-there.ensures.sound;
+    } in
+    search IfOk-from_err

@@ -1,5 +1,8 @@
-use Rattle.std.proofs.Common.{◌≡◌, ◌+◌, ◌*◌, arith, ap, ◌∙◌}
+use Rattle.std.proofs.Common.{◌≡◌, ◌+◌, ◌*◌, arith, ap, ◌∙◌, rules}
+use Rattle.std.proofs.lemmas.Result.{IfOk-from_err}
+use Rattle.history_model.proofs.TraceLaws.{begins_trans}
 use Rattle.txn_words.proofs.CallLaws.{each_plain}
+use Rattle.txn_words.specs.Calls.{GoesOn}
 use Rattle.txn_hash_map.specs.Chains.{bucket_of}
 use Rattle.txn_hash_map.proofs.Fronts.{room, puts_front, front_only, front_reads}
 use Rattle.txn_hash_map.proofs.front.put_in_front.Goals as goal
@@ -65,3 +68,63 @@ returns-clause-reads g c =
     let is_name : c.from.result + 1 ≡ c.args.block + 1 = omega arith in
     front_reads m c.args.key c.args.value c.args.block 0 (λ s. ⊥) _ _ _ _ _ _ _ _ c.in_ok-next.next _ is_bucket is_block is_name
     c.in_ok-next.ensures.value c.in_ok-write.ensures.value c.in_ok-write-2.ensures.value c.in_ok-write-3.ensures.value c.in_ok-write-4.ensures.value
+
+pub returns-in_err-next : goal.returns-in_err-next
+returns-in_err-next g c =
+    let failed = c.from_residual.ensures.0 in
+    let on : GoesOn g.W.Words c.args.w.now c.read.new.self c.from_residual.result = record {
+      shape = c.in_err-next.ensures.shape;
+      origin = c.in_err-next.ensures.origin;
+      begins = c.in_err-next.ensures.begins;
+      stops = search rules;
+      sound = c.in_err-next.ensures.sound;
+    } in
+    search IfOk-from_err
+
+pub returns-in_err-write : goal.returns-in_err-write
+returns-in_err-write g c =
+    let failed = c.from_residual-in_err-write.ensures.0 in
+    let on : GoesOn g.W.Words c.args.w.now c.write.new.self c.from_residual-in_err-write.result = record {
+      shape = c.in_err-write.ensures.shape ∙ c.in_ok-next.ensures.shape;
+      origin = c.in_err-write.ensures.origin ∙ c.in_ok-next.ensures.origin;
+      begins = begins_trans _ _ _ c.in_ok-next.ensures.begins c.in_err-write.ensures.begins;
+      stops = search rules;
+      sound = c.in_err-write.ensures.sound;
+    } in
+    search IfOk-from_err
+
+pub returns-in_err-write-2 : goal.returns-in_err-write-2
+returns-in_err-write-2 g c =
+    let failed = c.from_residual-in_err-write-2.ensures.0 in
+    let on : GoesOn g.W.Words c.args.w.now c.write-2.new.self c.from_residual-in_err-write-2.result = record {
+      shape = c.in_err-write-2.ensures.shape ∙ c.in_ok-write.ensures.shape ∙ c.in_ok-next.ensures.shape;
+      origin = c.in_err-write-2.ensures.origin ∙ c.in_ok-write.ensures.origin ∙ c.in_ok-next.ensures.origin;
+      begins = begins_trans _ _ _ c.in_ok-next.ensures.begins (begins_trans _ _ _ c.in_ok-write.ensures.begins c.in_err-write-2.ensures.begins);
+      stops = search rules;
+      sound = c.in_err-write-2.ensures.sound;
+    } in
+    search IfOk-from_err
+
+pub returns-in_err-write-3 : goal.returns-in_err-write-3
+returns-in_err-write-3 g c =
+    let failed = c.from_residual-in_err-write-3.ensures.0 in
+    let on : GoesOn g.W.Words c.args.w.now c.write-3.new.self c.from_residual-in_err-write-3.result = record {
+      shape = c.in_err-write-3.ensures.shape ∙ c.in_ok-write-2.ensures.shape ∙ c.in_ok-write.ensures.shape ∙ c.in_ok-next.ensures.shape;
+      origin = c.in_err-write-3.ensures.origin ∙ c.in_ok-write-2.ensures.origin ∙ c.in_ok-write.ensures.origin ∙ c.in_ok-next.ensures.origin;
+      begins = begins_trans _ _ _ c.in_ok-next.ensures.begins (begins_trans _ _ _ c.in_ok-write.ensures.begins (begins_trans _ _ _ c.in_ok-write-2.ensures.begins c.in_err-write-3.ensures.begins));
+      stops = search rules;
+      sound = c.in_err-write-3.ensures.sound;
+    } in
+    search IfOk-from_err
+
+pub returns-in_err-write-4 : goal.returns-in_err-write-4
+returns-in_err-write-4 g c =
+    let failed = c.from_residual-in_err-write-4.ensures.0 in
+    let on : GoesOn g.W.Words c.args.w.now c.write-4.new.self c.from_residual-in_err-write-4.result = record {
+      shape = c.in_err-write-4.ensures.shape ∙ c.in_ok-write-3.ensures.shape ∙ c.in_ok-write-2.ensures.shape ∙ c.in_ok-write.ensures.shape ∙ c.in_ok-next.ensures.shape;
+      origin = c.in_err-write-4.ensures.origin ∙ c.in_ok-write-3.ensures.origin ∙ c.in_ok-write-2.ensures.origin ∙ c.in_ok-write.ensures.origin ∙ c.in_ok-next.ensures.origin;
+      begins = begins_trans _ _ _ c.in_ok-next.ensures.begins (begins_trans _ _ _ c.in_ok-write.ensures.begins (begins_trans _ _ _ c.in_ok-write-2.ensures.begins (begins_trans _ _ _ c.in_ok-write-3.ensures.begins c.in_err-write-4.ensures.begins)));
+      stops = search rules;
+      sound = c.in_err-write-4.ensures.sound;
+    } in
+    search IfOk-from_err

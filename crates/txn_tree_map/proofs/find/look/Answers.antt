@@ -1,7 +1,10 @@
-use Rattle.std.proofs.Common.{◌≡◌, ◌+◌, ◌-◌, ◌<◌, Some, inl, inr, sym, ap, ◌∙◌, arith, slice_get}
+use Rattle.std.proofs.Common.{◌≡◌, ◌+◌, ◌-◌, ◌<◌, Some, inl, inr, sym, ap, ◌∙◌, arith, slice_get, rules}
+use Rattle.std.proofs.lemmas.Result.{IfOk-from_err}
 use Rattle.history_model.specs.Fitting.{SomeFits}
 use Rattle.history_model.proofs.FittingLaws.{some_at}
+use Rattle.history_model.proofs.TraceLaws.{begins_trans}
 use Rattle.txn_words.proofs.CallLaws.{each_plain}
+use Rattle.txn_words.specs.Calls.{GoesOn}
 use Rattle.txn_alloc.specs.FreeLists.{block_at}
 use Rattle.txn_words.proofs.Looks.{looks_at, looks_map, looks_read, looks_still, looks_wider}
 use Rattle.txn_tree_map.specs.Searches.{HasTop, IsPlace, IsPlaceOrKey, IsNamed, IsEnd}
@@ -12,10 +15,21 @@ use Rattle.txn_tree_map.proofs.find.look.Goals as goal
 pub read-requires-clause-within : goal.read-requires-clause-within
 read-requires-clause-within g c = top_within c.args.map.now _ _ _ (g.met.W.Words.fits c.args.w.now c.requires.ready.sound) c.args.place (each_plain g.W.Words g.W.Shape.Shape _ _ c.requires.top)
 
-pub returns-then-name-eq0-clause-end : goal.returns-then-name-eq0-clause-end
-returns-then-name-eq0-clause-end g c =
-    let m = c.args.map.now in
-    looks_map _ _ _ (IsPlace c.args.place) _ _ (IsEnd c.args.place) (λ s h. h ∙ ap (λ k. Some k) c.if-name-eq0.true) (looks_at _ _ _ _ c.args.place c.in_ok-name.name c.in_ok-name.ensures.value)
+pub returns-then-name-eq0 : goal.returns-then-name-eq0
+returns-then-name-eq0 g c = record {
+  named = search rules;
+  end =
+      let m = c.args.map.now in
+      looks_map _ _ _ (IsPlace c.args.place) _ _ (IsEnd c.args.place) (λ s h. h ∙ ap (λ k. Some k) c.if-name-eq0.true) (looks_at _ _ _ _ c.args.place c.in_ok-name.name c.in_ok-name.ensures.value);
+  block = search rules;
+  goes_on = record {
+    shape = c.in_ok-name.ensures.shape;
+    origin = c.in_ok-name.ensures.origin;
+    begins = c.in_ok-name.ensures.begins;
+    stops = search rules;
+    sound = c.in_ok-name.ensures.sound;
+  };
+}
 
 pub prove-unreachable-requires : goal.prove-unreachable-requires
 prove-unreachable-requires g c =
@@ -36,13 +50,48 @@ read-requires-2-clause-within g c =
     let in_list = laid_block m.arena _ _ _ (g.met.W.Words.fits c.args.w.now c.requires.ready.sound) (c.in_ok-name.name - 1) (record { at = λ s fit. (c.requires.top.at s fit).laid.arena }) lt in
     omega (arith, in_list.0, c.place_of.ensures, ap g.W.Shape.Shape.word_count c.in_ok-name.ensures.shape)
 
-pub returns-clause-named : goal.returns-clause-named
-returns-clause-named g c =
-    let m = c.args.map.now in
-    let b = c.in_ok-name.name - 1 in
-    let one_more : c.in_ok-name.name ≡ b + 1 = omega (arith, c.if-name-eq0.false) in
-    let lt : b < m.arena.blocks = omega arith in
-    let is_block : c.place_of.result ≡ block_at m.arena b = c.place_of.ensures in
-    looks_map _ _ _ (IsPlaceOrKey m c.args.place b) _ _ (IsNamed m c.args.place b c.in_ok-key.key) (λ s h. (h.0 ∙ ap (λ k. Some k) one_more, ap (λ a. slice_get s a) (sym is_block) ∙ h.1))
-    (looks_read _ _ _ (IsPlaceOrKey m c.args.place b) _ _ _ c.in_ok-key.key _
-    (looks_wider _ _ _ _ (IsPlace c.args.place) (IsPlaceOrKey m c.args.place b) _ (λ s p a k. inl k) (looks_at _ _ _ _ c.args.place c.in_ok-name.name c.in_ok-name.ensures.value)) c.in_ok-key.ensures.value (λ s p. inr is_block))
+pub returns : goal.returns
+returns g c = record {
+  named =
+      let m = c.args.map.now in
+      let b = c.in_ok-name.name - 1 in
+      let one_more : c.in_ok-name.name ≡ b + 1 = omega (arith, c.if-name-eq0.false) in
+      let lt : b < m.arena.blocks = omega arith in
+      let is_block : c.place_of.result ≡ block_at m.arena b = c.place_of.ensures in
+      looks_map _ _ _ (IsPlaceOrKey m c.args.place b) _ _ (IsNamed m c.args.place b c.in_ok-key.key) (λ s h. (h.0 ∙ ap (λ k. Some k) one_more, ap (λ a. slice_get s a) (sym is_block) ∙ h.1))
+      (looks_read _ _ _ (IsPlaceOrKey m c.args.place b) _ _ _ c.in_ok-key.key _
+      (looks_wider _ _ _ _ (IsPlace c.args.place) (IsPlaceOrKey m c.args.place b) _ (λ s p a k. inl k) (looks_at _ _ _ _ c.args.place c.in_ok-name.name c.in_ok-name.ensures.value)) c.in_ok-key.ensures.value (λ s p. inr is_block));
+  end = search rules;
+  block = search rules;
+  goes_on = record {
+    shape = c.in_ok-key.ensures.shape ∙ c.in_ok-name.ensures.shape;
+    origin = c.in_ok-key.ensures.origin ∙ c.in_ok-name.ensures.origin;
+    begins = begins_trans _ _ _ c.in_ok-name.ensures.begins c.in_ok-key.ensures.begins;
+    stops = search rules;
+    sound = c.in_ok-key.ensures.sound;
+  };
+}
+
+pub returns-in_err-name : goal.returns-in_err-name
+returns-in_err-name g c =
+    let failed = c.from_residual.ensures.0 in
+    let on : GoesOn g.W.Words c.args.w.now c.read.new.self c.from_residual.result = record {
+      shape = c.in_err-name.ensures.shape;
+      origin = c.in_err-name.ensures.origin;
+      begins = c.in_err-name.ensures.begins;
+      stops = search rules;
+      sound = c.in_err-name.ensures.sound;
+    } in
+    search IfOk-from_err
+
+pub returns-in_err-key : goal.returns-in_err-key
+returns-in_err-key g c =
+    let failed = c.from_residual-in_err-key.ensures.0 in
+    let on : GoesOn g.W.Words c.args.w.now c.read-2.new.self c.from_residual-in_err-key.result = record {
+      shape = c.in_err-key.ensures.shape ∙ c.in_ok-name.ensures.shape;
+      origin = c.in_err-key.ensures.origin ∙ c.in_ok-name.ensures.origin;
+      begins = begins_trans _ _ _ c.in_ok-name.ensures.begins c.in_err-key.ensures.begins;
+      stops = search rules;
+      sound = c.in_err-key.ensures.sound;
+    } in
+    search IfOk-from_err

@@ -1,4 +1,7 @@
-use Rattle.std.proofs.Common.{◌≡◌, ◌+◌, nat_le, refl, sym, ◌∙◌, subst, arith, if◌then◌else◌}
+use Rattle.std.proofs.Common.{◌≡◌, ◌+◌, nat_le, refl, sym, ◌∙◌, subst, arith, if◌then◌else◌, rules}
+use Rattle.std.proofs.lemmas.Result.{IfOk-from_err}
+use Rattle.history_model.proofs.TraceLaws.{begins_trans}
+use Rattle.txn_words.specs.Calls.{GoesOn}
 use Rattle.txn_alloc.specs.FreeLists.{block_at}
 use Rattle.txn_words.proofs.Looks.{looks_none, looks_map, looks_grow, looks_each, looks_from}
 use Rattle.txn_tree_map.specs.Searches.{HasTop, IsNamed, IsEnd, IsLink, IsPlace, IsPlaceOrKey}
@@ -25,13 +28,24 @@ look-requires-clause-top g c =
     let i = c.loop.invariant in
     looks_each g.W.Words g.W.Shape.Shape _ _ (IsLink m) (HasTop m c.loop.place) (looks_map _ _ _ (IsLink m) _ _ _ (λ s h. near_top m c.args.least s c.loop.best c.loop.place c.loop.counter h) i.looks) i.shape
 
-pub returns-in-None-clause-nearest : goal.returns-in-None-clause-nearest
-returns-in-None-clause-nearest g c =
+pub returns-in-None : goal.returns-in-None
+returns-in-None g c =
     let m = c.args.map.now in
     let i = c.loop.invariant in
     let end = rw c.in-None.is at c.in_ok-look.ensures.end in
-    looks_map _ _ _ (IsLink m) _ _ (IsNearest m c.args.least c.loop.best) (λ s h. near_end m c.args.least s c.loop.best c.loop.place c.loop.counter h.0 h.1)
-    (looks_grow _ _ _ (IsLink m) _ _ (IsPlace c.loop.place) _ (IsEnd c.loop.place) (λ s p q. near_place m c.args.least s c.loop.best c.loop.place c.loop.counter p) i.looks (looks_from g.W.Words g.W.Shape.Shape c.args.w.now c.loop.w _ _ (IsPlace c.loop.place) _ i.shape end))
+    let on = c.in_ok-look.ensures.goes_on in
+    record {
+      nearest =
+          looks_map _ _ _ (IsLink m) _ _ (IsNearest m c.args.least c.loop.best) (λ s h. near_end m c.args.least s c.loop.best c.loop.place c.loop.counter h.0 h.1)
+          (looks_grow _ _ _ (IsLink m) _ _ (IsPlace c.loop.place) _ (IsEnd c.loop.place) (λ s p q. near_place m c.args.least s c.loop.best c.loop.place c.loop.counter p) i.looks (looks_from g.W.Words g.W.Shape.Shape c.args.w.now c.loop.w _ _ (IsPlace c.loop.place) _ i.shape end));
+      goes_on = record {
+        shape = on.shape ∙ i.shape;
+        origin = on.origin ∙ i.origin;
+        begins = begins_trans _ _ _ i.looks.begins on.begins;
+        stops = search rules;
+        sound = on.sound;
+      };
+    }
 
 pub loop-preserved : goal.loop-preserved
 loop-preserved g c =
@@ -55,7 +69,25 @@ loop-preserved g c =
           (looks_grow _ _ _ (IsLink m) _ _ (IsPlaceOrKey m c.loop.place node.block) _ (IsNamed m c.loop.place node.block node.key) (λ s p q. near_near m least s c.loop.best c.loop.place c.loop.counter p node.block node.key q) i.looks (looks_from g.W.Words g.W.Shape.Shape c.args.w.now c.loop.w _ _ (IsPlaceOrKey m c.loop.place node.block) _ i.shape named));
     }
 
-pub returns-clause-nearest : goal.returns-clause-nearest
-returns-clause-nearest g c =
+pub returns : goal.returns
+returns g c =
     let m = c.args.map.now in
-    looks_map _ _ _ (IsLink m) _ _ (IsNearest m c.args.least c.loop.best) (λ s h. near_all m c.args.least s c.loop.best c.loop.place c.loop.counter (omega (arith, c.loop-test.false)) h) c.loop.invariant.looks
+    let i = c.loop.invariant in
+    record {
+      nearest = looks_map _ _ _ (IsLink m) _ _ (IsNearest m c.args.least c.loop.best) (λ s h. near_all m c.args.least s c.loop.best c.loop.place c.loop.counter (omega (arith, c.loop-test.false)) h) c.loop.invariant.looks;
+      goes_on = record { shape = i.shape; origin = i.origin; begins = i.looks.begins; stops = i.stop; sound = i.sound };
+    }
+
+pub returns-in_err-look : goal.returns-in_err-look
+returns-in_err-look g c =
+    let i = c.loop.invariant in
+    let on = c.in_err-look.ensures.goes_on in
+    let failed = c.from_residual.ensures.0 in
+    let goes : GoesOn g.W.Words c.args.w.now c.look.new.w c.from_residual.result = record {
+      shape = on.shape ∙ i.shape;
+      origin = on.origin ∙ i.origin;
+      begins = begins_trans _ _ _ i.looks.begins on.begins;
+      stops = search rules;
+      sound = on.sound;
+    } in
+    search IfOk-from_err

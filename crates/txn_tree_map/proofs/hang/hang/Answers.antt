@@ -1,4 +1,7 @@
-use Rattle.std.proofs.Common.{◌≡◌, ℕ, ◌⊎◌, inl, inr, refl, ap, arith}
+use Rattle.std.proofs.Common.{◌≡◌, ℕ, ◌⊎◌, inl, inr, refl, ap, arith, rules, ◌∙◌}
+use Rattle.std.proofs.lemmas.Result.{IfOk-from_err}
+use Rattle.history_model.proofs.TraceLaws.{begins_trans}
+use Rattle.txn_words.specs.Calls.{GoesOn}
 use Rattle.txn_words.proofs.CallLaws.{each_plain}
 use Rattle.txn_words.proofs.FrameLaws.{only_read, only_write, only_then}
 use Rattle.txn_words.proofs.ReadLaws.{sees_read, sees_write, sees_then}
@@ -26,3 +29,27 @@ pub returns-clause-reads : goal.returns-clause-reads
 returns-clause-reads g c =
     let seen : ℕ → Type 0 = λ a. (a ≡ c.args.hole) ⊎ (a ≡ c.args.inner) in
     sees_then seen _ _ _ (sees_read seen _ _ _ _ c.in_ok-rest.ensures.value (inr refl)) (sees_write seen _ _ _ _ c.in_ok-write.ensures.value (inl refl))
+
+pub returns-in_err-rest : goal.returns-in_err-rest
+returns-in_err-rest g c =
+    let failed = c.from_residual.ensures.0 in
+    let on : GoesOn g.W.Words c.args.w.now c.read.new.self c.from_residual.result = record {
+      shape = c.in_err-rest.ensures.shape;
+      origin = c.in_err-rest.ensures.origin;
+      begins = c.in_err-rest.ensures.begins;
+      stops = search rules;
+      sound = c.in_err-rest.ensures.sound;
+    } in
+    search IfOk-from_err
+
+pub returns-in_err-write : goal.returns-in_err-write
+returns-in_err-write g c =
+    let failed = c.from_residual-in_err-write.ensures.0 in
+    let on : GoesOn g.W.Words c.args.w.now c.write.new.self c.from_residual-in_err-write.result = record {
+      shape = c.in_err-write.ensures.shape ∙ c.in_ok-rest.ensures.shape;
+      origin = c.in_err-write.ensures.origin ∙ c.in_ok-rest.ensures.origin;
+      begins = begins_trans _ _ _ c.in_ok-rest.ensures.begins c.in_err-write.ensures.begins;
+      stops = search rules;
+      sound = c.in_err-write.ensures.sound;
+    } in
+    search IfOk-from_err

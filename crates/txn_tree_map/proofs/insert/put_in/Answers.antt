@@ -1,6 +1,9 @@
-use Rattle.std.proofs.Common.{◌≡◌, ◌+◌, ◌<◌, ap, ◌∙◌, arith}
+use Rattle.std.proofs.Common.{◌≡◌, ◌+◌, ◌<◌, ap, ◌∙◌, arith, rules}
+use Rattle.std.proofs.lemmas.Result.{IfOk-from_err}
 use Rattle.history_model.specs.Fitting.{SomeFits}
 use Rattle.history_model.proofs.FittingLaws.{some_at}
+use Rattle.history_model.proofs.TraceLaws.{begins_trans}
+use Rattle.txn_words.specs.Calls.{GoesOn}
 use Rattle.txn_words.proofs.CallLaws.{each_plain}
 use Rattle.txn_alloc.specs.FreeLists.{block_at}
 use Rattle.txn_words.proofs.Looks.{each_from, leads_from, within_from, reads_from}
@@ -86,3 +89,63 @@ returns-clause-reads g c =
           (leads_from g.W.Words g.W.Shape.Shape c.args.w.now c.write-2.new.self c.split.new.w _ same c.in_ok-split.ensures.split) is_name c.in_ok-write-3.ensures.value
           (reads_from g.W.Words g.W.Shape.Shape c.args.w.now c.write-2.new.self c.split.new.w _ same c.in_ok-split.ensures.reads);
     }
+
+pub returns-in_err-seat : goal.returns-in_err-seat
+returns-in_err-seat g c =
+    let failed = c.from_residual.ensures.0 in
+    let on : GoesOn g.W.Words c.args.w.now c.find_seat.new.w c.from_residual.result = record {
+      shape = c.in_err-seat.ensures.goes_on.shape;
+      origin = c.in_err-seat.ensures.goes_on.origin;
+      begins = c.in_err-seat.ensures.goes_on.begins;
+      stops = search rules;
+      sound = c.in_err-seat.ensures.goes_on.sound;
+    } in
+    search IfOk-from_err
+
+pub returns-in_err-write : goal.returns-in_err-write
+returns-in_err-write g c =
+    let failed = c.from_residual-in_err-write.ensures.0 in
+    let on : GoesOn g.W.Words c.args.w.now c.write.new.self c.from_residual-in_err-write.result = record {
+      shape = c.in_err-write.ensures.shape ∙ c.in_ok-seat.ensures.goes_on.shape;
+      origin = c.in_err-write.ensures.origin ∙ c.in_ok-seat.ensures.goes_on.origin;
+      begins = begins_trans _ _ _ c.in_ok-seat.ensures.goes_on.begins c.in_err-write.ensures.begins;
+      stops = search rules;
+      sound = c.in_err-write.ensures.sound;
+    } in
+    search IfOk-from_err
+
+pub returns-in_err-write-2 : goal.returns-in_err-write-2
+returns-in_err-write-2 g c =
+    let failed = c.from_residual-in_err-write-2.ensures.0 in
+    let on : GoesOn g.W.Words c.args.w.now c.write-2.new.self c.from_residual-in_err-write-2.result = record {
+      shape = c.in_err-write-2.ensures.shape ∙ c.in_ok-write.ensures.shape ∙ c.in_ok-seat.ensures.goes_on.shape;
+      origin = c.in_err-write-2.ensures.origin ∙ c.in_ok-write.ensures.origin ∙ c.in_ok-seat.ensures.goes_on.origin;
+      begins = begins_trans _ _ _ c.in_ok-seat.ensures.goes_on.begins (begins_trans _ _ _ c.in_ok-write.ensures.begins c.in_err-write-2.ensures.begins);
+      stops = search rules;
+      sound = c.in_err-write-2.ensures.sound;
+    } in
+    search IfOk-from_err
+
+pub returns-in_err-split : goal.returns-in_err-split
+returns-in_err-split g c =
+    let failed = c.from_residual-in_err-split.ensures.0 in
+    let on : GoesOn g.W.Words c.args.w.now c.split.new.w c.from_residual-in_err-split.result = record {
+      shape = c.in_err-split.ensures.goes_on.shape ∙ c.in_ok-write-2.ensures.shape ∙ c.in_ok-write.ensures.shape ∙ c.in_ok-seat.ensures.goes_on.shape;
+      origin = c.in_err-split.ensures.goes_on.origin ∙ c.in_ok-write-2.ensures.origin ∙ c.in_ok-write.ensures.origin ∙ c.in_ok-seat.ensures.goes_on.origin;
+      begins = begins_trans _ _ _ c.in_ok-seat.ensures.goes_on.begins (begins_trans _ _ _ c.in_ok-write.ensures.begins (begins_trans _ _ _ c.in_ok-write-2.ensures.begins c.in_err-split.ensures.goes_on.begins));
+      stops = search rules;
+      sound = c.in_err-split.ensures.goes_on.sound;
+    } in
+    search IfOk-from_err
+
+pub returns-in_err-write-3 : goal.returns-in_err-write-3
+returns-in_err-write-3 g c =
+    let failed = c.from_residual-in_err-write-3.ensures.0 in
+    let on : GoesOn g.W.Words c.args.w.now c.write-3.new.self c.from_residual-in_err-write-3.result = record {
+      shape = c.in_err-write-3.ensures.shape ∙ c.in_ok-split.ensures.goes_on.shape ∙ c.in_ok-write-2.ensures.shape ∙ c.in_ok-write.ensures.shape ∙ c.in_ok-seat.ensures.goes_on.shape;
+      origin = c.in_err-write-3.ensures.origin ∙ c.in_ok-split.ensures.goes_on.origin ∙ c.in_ok-write-2.ensures.origin ∙ c.in_ok-write.ensures.origin ∙ c.in_ok-seat.ensures.goes_on.origin;
+      begins = begins_trans _ _ _ c.in_ok-seat.ensures.goes_on.begins (begins_trans _ _ _ c.in_ok-write.ensures.begins (begins_trans _ _ _ c.in_ok-write-2.ensures.begins (begins_trans _ _ _ c.in_ok-split.ensures.goes_on.begins c.in_err-write-3.ensures.begins)));
+      stops = search rules;
+      sound = c.in_err-write-3.ensures.sound;
+    } in
+    search IfOk-from_err

@@ -1,8 +1,10 @@
-use Rattle.std.proofs.Common.{refl, ◌∙◌, arith}
+use Rattle.std.proofs.Common.{refl, ◌∙◌, arith, rules}
+use Rattle.std.proofs.lemmas.Result.{IfOk-from_err}
 use Rattle.history_model.proofs.TraceLaws.{begins_refl, begins_trans}
 use Rattle.txn_words.proofs.FrameLaws.{only_same}
 use Rattle.txn_words.proofs.ReadLaws.{sees_same}
 use Rattle.txn_words.proofs.Looks.{each_from, leads_from}
+use Rattle.txn_words.specs.Calls.{GoesOn}
 use Rattle.txn_tree_map.specs.Joins.{CanGoOn}
 use Rattle.txn_tree_map.proofs.Joinings.{joined_none, gathered_no_left, gathered_no_right, gathered_all}
 use Rattle.txn_tree_map.proofs.Joining.{joined_more, gap_own_more, gap_seen_more}
@@ -49,38 +51,52 @@ loop-preserved g c =
           (leads_from g.W.Words g.W.Shape.Shape c.args.w.now c.loop.w c.join_one.new.w _ i.shape one.joined);
     }
 
-pub returns-then-gap-eq0-clause-gathered : goal.returns-then-gap-eq0-clause-gathered
-returns-then-gap-eq0-clause-gathered g c =
+pub returns-then-gap-eq0 : goal.returns-then-gap-eq0
+returns-then-gap-eq0 g c =
     let m = c.args.map.now in
+    let i = c.loop.invariant in
     let p = c.loop.gap in
-    record { at = λ s fit. gathered_no_left m c.args.hole c.args.left c.args.right c.loop.counter p.place p.left p.right _ _ (c.loop.invariant.joined s fit) c.if-gap-eq0.true }
+    record {
+      gathered = record { at = λ s fit. gathered_no_left m c.args.hole c.args.left c.args.right c.loop.counter p.place p.left p.right _ _ (c.loop.invariant.joined s fit) c.if-gap-eq0.true };
+      frame = record { at = c.loop.invariant.own };
+      reads = record { at = c.loop.invariant.reads };
+      goes_on = record { shape = i.shape; origin = i.origin; begins = i.begins; stops = i.stop; sound = i.sound };
+    }
 
-pub returns-then-gap-eq0-2-clause-gathered : goal.returns-then-gap-eq0-2-clause-gathered
-returns-then-gap-eq0-2-clause-gathered g c =
+pub returns-then-gap-eq0-2 : goal.returns-then-gap-eq0-2
+returns-then-gap-eq0-2 g c =
     let m = c.args.map.now in
+    let i = c.loop.invariant in
     let p = c.loop.gap in
-    record { at = λ s fit. gathered_no_right m c.args.hole c.args.left c.args.right c.loop.counter p.place p.left p.right _ _ (c.loop.invariant.joined s fit) c.if-gap-eq0-2.true }
+    record {
+      gathered = record { at = λ s fit. gathered_no_right m c.args.hole c.args.left c.args.right c.loop.counter p.place p.left p.right _ _ (c.loop.invariant.joined s fit) c.if-gap-eq0-2.true };
+      frame = record { at = c.loop.invariant.own };
+      reads = record { at = c.loop.invariant.reads };
+      goes_on = record { shape = i.shape; origin = i.origin; begins = i.begins; stops = i.stop; sound = i.sound };
+    }
 
-pub returns-clause-gathered : goal.returns-clause-gathered
-returns-clause-gathered g c =
+pub returns : goal.returns
+returns g c =
     let m = c.args.map.now in
+    let i = c.loop.invariant in
     let p = c.loop.gap in
-    record { at = λ s fit. gathered_all m c.args.hole c.args.left c.args.right c.loop.counter p.place p.left p.right _ _ (c.loop.invariant.joined s fit) (omega (arith, c.loop-test.false)) }
+    record {
+      gathered = record { at = λ s fit. gathered_all m c.args.hole c.args.left c.args.right c.loop.counter p.place p.left p.right _ _ (c.loop.invariant.joined s fit) (omega (arith, c.loop-test.false)) };
+      frame = record { at = c.loop.invariant.own };
+      reads = record { at = c.loop.invariant.reads };
+      goes_on = record { shape = i.shape; origin = i.origin; begins = i.begins; stops = i.stop; sound = i.sound };
+    }
 
-pub returns-then-gap-eq0-clause-frame : goal.returns-then-gap-eq0-clause-frame
-returns-then-gap-eq0-clause-frame g c = record { at = c.loop.invariant.own }
-
-pub returns-then-gap-eq0-2-clause-frame : goal.returns-then-gap-eq0-2-clause-frame
-returns-then-gap-eq0-2-clause-frame g c = record { at = c.loop.invariant.own }
-
-pub returns-clause-frame : goal.returns-clause-frame
-returns-clause-frame g c = record { at = c.loop.invariant.own }
-
-pub returns-then-gap-eq0-clause-reads : goal.returns-then-gap-eq0-clause-reads
-returns-then-gap-eq0-clause-reads g c = record { at = c.loop.invariant.reads }
-
-pub returns-then-gap-eq0-2-clause-reads : goal.returns-then-gap-eq0-2-clause-reads
-returns-then-gap-eq0-2-clause-reads g c = record { at = c.loop.invariant.reads }
-
-pub returns-clause-reads : goal.returns-clause-reads
-returns-clause-reads g c = record { at = c.loop.invariant.reads }
+pub returns-in_err-gap : goal.returns-in_err-gap
+returns-in_err-gap g c =
+    let i = c.loop.invariant in
+    let on = c.in_err-gap.ensures.goes_on in
+    let failed = c.from_residual.ensures.0 in
+    let goes : GoesOn g.W.Words c.args.w.now c.join_one.new.w c.from_residual.result = record {
+      shape = on.shape ∙ i.shape;
+      origin = on.origin ∙ i.origin;
+      begins = begins_trans _ _ _ i.begins on.begins;
+      stops = search rules;
+      sound = on.sound;
+    } in
+    search IfOk-from_err

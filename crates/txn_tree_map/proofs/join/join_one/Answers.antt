@@ -1,4 +1,7 @@
-use Rattle.std.proofs.Common.{◌≡◌, ℕ, ◌+◌, ◌-◌, ◌<◌, ◌⊎◌, inl, inr, refl, ap, ◌∙◌, arith}
+use Rattle.std.proofs.Common.{◌≡◌, ℕ, ◌+◌, ◌-◌, ◌<◌, ◌⊎◌, inl, inr, refl, ap, ◌∙◌, arith, rules}
+use Rattle.std.proofs.lemmas.Result.{IfOk-from_err}
+use Rattle.history_model.proofs.TraceLaws.{begins_trans}
+use Rattle.txn_words.specs.Calls.{GoesOn}
 use Rattle.txn_words.proofs.CallLaws.{each_plain}
 use Rattle.txn_words.proofs.FrameLaws.{only_read, only_then}
 use Rattle.txn_words.proofs.ReadLaws.{sees_read, sees_then, sees_more}
@@ -85,62 +88,120 @@ hang-requires-2-clause-within g c =
           record { hole_in = k.0; inner_in = omega (arith, k.1) };
     })
 
-pub returns-then-priority-clause-joined : goal.returns-then-priority-clause-joined
-returns-then-priority-clause-joined g c =
-    let m = c.args.map.now in
-    let p = c.args.gap in
-    let left_is : p.left ≡ (p.left - 1) + 1 = omega (arith, c.requires.left) in
-    let right_is : p.right ≡ (p.right - 1) + 1 = omega (arith, c.requires.right) in
-    record {
-      at = (joins_left m p.place p.left p.right _ _ _ _ _ _ (p.left - 1) (p.right - 1) c.in_ok-left_key.left_key c.in_ok-right_key.right_key c.in_ok-inner.inner left_is right_is
-          c.in_ok-left_key.ensures.value c.in_ok-right_key.ensures.value c.in_ok-inner.ensures.goes_on.begins (omega (arith, c.if-priority.true, c.priority.ensures.value, c.priority-2.ensures.value))
-          (leads_from g.W.Words g.W.Shape.Shape c.args.w.now c.read-2.new.self c.hang.new.w _ (c.in_ok-right_key.ensures.shape ∙ c.in_ok-left_key.ensures.shape) c.in_ok-inner.ensures.hung)).at;
-    }
+pub returns-then-priority : goal.returns-then-priority
+returns-then-priority g c = record {
+  joined =
+      let m = c.args.map.now in
+      let p = c.args.gap in
+      let left_is : p.left ≡ (p.left - 1) + 1 = omega (arith, c.requires.left) in
+      let right_is : p.right ≡ (p.right - 1) + 1 = omega (arith, c.requires.right) in
+      record {
+        at = (joins_left m p.place p.left p.right _ _ _ _ _ _ (p.left - 1) (p.right - 1) c.in_ok-left_key.left_key c.in_ok-right_key.right_key c.in_ok-inner.inner left_is right_is
+            c.in_ok-left_key.ensures.value c.in_ok-right_key.ensures.value c.in_ok-inner.ensures.goes_on.begins (omega (arith, c.if-priority.true, c.priority.ensures.value, c.priority-2.ensures.value))
+            (leads_from g.W.Words g.W.Shape.Shape c.args.w.now c.read-2.new.self c.hang.new.w _ (c.in_ok-right_key.ensures.shape ∙ c.in_ok-left_key.ensures.shape) c.in_ok-inner.ensures.hung)).at;
+      };
+  frame =
+      let own : ℕ → Type 0 = λ a. a ≡ c.args.gap.place in
+      record {
+        appended = only_then own _ _ _ (only_read own _ _ _ _ c.in_ok-left_key.ensures.value) (only_then own _ _ _ (only_read own _ _ _ _ c.in_ok-right_key.ensures.value) c.in_ok-inner.ensures.frame.appended);
+      };
+  reads =
+      let m = c.args.map.now in
+      let p = c.args.gap in
+      let seen = IsPlaceOrTop m p.place p.left p.right in
+      let left_is : p.left ≡ (p.left - 1) + 1 = omega (arith, c.requires.left) in
+      let right_is : p.right ≡ (p.right - 1) + 1 = omega (arith, c.requires.right) in
+      sees_then seen _ _ _ (sees_read seen _ _ _ _ c.in_ok-left_key.ensures.value (inr (p.left - 1, inl left_is, inl refl)))
+      (sees_then seen _ _ _ (sees_read seen _ _ _ _ c.in_ok-right_key.ensures.value (inr (p.right - 1, inr right_is, inl refl)))
+      (sees_more (λ a. (a ≡ p.place) ⊎ (a ≡ block_at m.arena (p.left - 1) + 3)) seen _ _ (λ a k. elim k [ inl z ↦ inl z | inr z ↦ inr (p.left - 1, inl left_is, inr (inr z)) ]) c.in_ok-inner.ensures.reads));
+  goes_on = record {
+    shape = c.in_ok-inner.ensures.goes_on.shape ∙ c.in_ok-right_key.ensures.shape ∙ c.in_ok-left_key.ensures.shape;
+    origin = c.in_ok-inner.ensures.goes_on.origin ∙ c.in_ok-right_key.ensures.origin ∙ c.in_ok-left_key.ensures.origin;
+    begins = begins_trans _ _ _ c.in_ok-left_key.ensures.begins (begins_trans _ _ _ c.in_ok-right_key.ensures.begins c.in_ok-inner.ensures.goes_on.begins);
+    stops = search rules;
+    sound = c.in_ok-inner.ensures.goes_on.sound;
+  };
+}
 
-pub returns-clause-joined : goal.returns-clause-joined
-returns-clause-joined g c =
-    let m = c.args.map.now in
-    let p = c.args.gap in
-    let left_is : p.left ≡ (p.left - 1) + 1 = omega (arith, c.requires.left) in
-    let right_is : p.right ≡ (p.right - 1) + 1 = omega (arith, c.requires.right) in
-    record {
-      at = (joins_right m p.place p.left p.right _ _ _ _ _ _ (p.left - 1) (p.right - 1) c.in_ok-left_key.left_key c.in_ok-right_key.right_key c.in_ok-inner-2.inner left_is right_is
-          c.in_ok-left_key.ensures.value c.in_ok-right_key.ensures.value c.in_ok-inner-2.ensures.goes_on.begins c.priority-2.ensures.small c.priority.ensures.small (λ k. omega (arith, k, c.if-priority.false, c.priority.ensures.value, c.priority-2.ensures.value))
-          (leads_from g.W.Words g.W.Shape.Shape c.args.w.now c.read-2.new.self c.hang-2.new.w _ (c.in_ok-right_key.ensures.shape ∙ c.in_ok-left_key.ensures.shape) c.in_ok-inner-2.ensures.hung)).at;
-    }
+pub returns : goal.returns
+returns g c = record {
+  joined =
+      let m = c.args.map.now in
+      let p = c.args.gap in
+      let left_is : p.left ≡ (p.left - 1) + 1 = omega (arith, c.requires.left) in
+      let right_is : p.right ≡ (p.right - 1) + 1 = omega (arith, c.requires.right) in
+      record {
+        at = (joins_right m p.place p.left p.right _ _ _ _ _ _ (p.left - 1) (p.right - 1) c.in_ok-left_key.left_key c.in_ok-right_key.right_key c.in_ok-inner-2.inner left_is right_is
+            c.in_ok-left_key.ensures.value c.in_ok-right_key.ensures.value c.in_ok-inner-2.ensures.goes_on.begins c.priority-2.ensures.small c.priority.ensures.small (λ k. omega (arith, k, c.if-priority.false, c.priority.ensures.value, c.priority-2.ensures.value))
+            (leads_from g.W.Words g.W.Shape.Shape c.args.w.now c.read-2.new.self c.hang-2.new.w _ (c.in_ok-right_key.ensures.shape ∙ c.in_ok-left_key.ensures.shape) c.in_ok-inner-2.ensures.hung)).at;
+      };
+  frame =
+      let own : ℕ → Type 0 = λ a. a ≡ c.args.gap.place in
+      record {
+        appended = only_then own _ _ _ (only_read own _ _ _ _ c.in_ok-left_key.ensures.value) (only_then own _ _ _ (only_read own _ _ _ _ c.in_ok-right_key.ensures.value) c.in_ok-inner-2.ensures.frame.appended);
+      };
+  reads =
+      let m = c.args.map.now in
+      let p = c.args.gap in
+      let seen = IsPlaceOrTop m p.place p.left p.right in
+      let left_is : p.left ≡ (p.left - 1) + 1 = omega (arith, c.requires.left) in
+      let right_is : p.right ≡ (p.right - 1) + 1 = omega (arith, c.requires.right) in
+      sees_then seen _ _ _ (sees_read seen _ _ _ _ c.in_ok-left_key.ensures.value (inr (p.left - 1, inl left_is, inl refl)))
+      (sees_then seen _ _ _ (sees_read seen _ _ _ _ c.in_ok-right_key.ensures.value (inr (p.right - 1, inr right_is, inl refl)))
+      (sees_more (λ a. (a ≡ p.place) ⊎ (a ≡ block_at m.arena (p.right - 1) + 2)) seen _ _ (λ a k. elim k [ inl z ↦ inl z | inr z ↦ inr (p.right - 1, inr right_is, inr (inl z)) ]) c.in_ok-inner-2.ensures.reads));
+  goes_on = record {
+    shape = c.in_ok-inner-2.ensures.goes_on.shape ∙ c.in_ok-right_key.ensures.shape ∙ c.in_ok-left_key.ensures.shape;
+    origin = c.in_ok-inner-2.ensures.goes_on.origin ∙ c.in_ok-right_key.ensures.origin ∙ c.in_ok-left_key.ensures.origin;
+    begins = begins_trans _ _ _ c.in_ok-left_key.ensures.begins (begins_trans _ _ _ c.in_ok-right_key.ensures.begins c.in_ok-inner-2.ensures.goes_on.begins);
+    stops = search rules;
+    sound = c.in_ok-inner-2.ensures.goes_on.sound;
+  };
+}
 
-pub returns-then-priority-clause-frame : goal.returns-then-priority-clause-frame
-returns-then-priority-clause-frame g c =
-    let own : ℕ → Type 0 = λ a. a ≡ c.args.gap.place in
-    record {
-      appended = only_then own _ _ _ (only_read own _ _ _ _ c.in_ok-left_key.ensures.value) (only_then own _ _ _ (only_read own _ _ _ _ c.in_ok-right_key.ensures.value) c.in_ok-inner.ensures.frame.appended);
-    }
+pub returns-in_err-left_key : goal.returns-in_err-left_key
+returns-in_err-left_key g c =
+    let failed = c.from_residual.ensures.0 in
+    let on : GoesOn g.W.Words c.args.w.now c.read.new.self c.from_residual.result = record {
+      shape = c.in_err-left_key.ensures.shape;
+      origin = c.in_err-left_key.ensures.origin;
+      begins = c.in_err-left_key.ensures.begins;
+      stops = search rules;
+      sound = c.in_err-left_key.ensures.sound;
+    } in
+    search IfOk-from_err
 
-pub returns-clause-frame : goal.returns-clause-frame
-returns-clause-frame g c =
-    let own : ℕ → Type 0 = λ a. a ≡ c.args.gap.place in
-    record {
-      appended = only_then own _ _ _ (only_read own _ _ _ _ c.in_ok-left_key.ensures.value) (only_then own _ _ _ (only_read own _ _ _ _ c.in_ok-right_key.ensures.value) c.in_ok-inner-2.ensures.frame.appended);
-    }
+pub returns-in_err-right_key : goal.returns-in_err-right_key
+returns-in_err-right_key g c =
+    let failed = c.from_residual-in_err-right_key.ensures.0 in
+    let on : GoesOn g.W.Words c.args.w.now c.read-2.new.self c.from_residual-in_err-right_key.result = record {
+      shape = c.in_err-right_key.ensures.shape ∙ c.in_ok-left_key.ensures.shape;
+      origin = c.in_err-right_key.ensures.origin ∙ c.in_ok-left_key.ensures.origin;
+      begins = begins_trans _ _ _ c.in_ok-left_key.ensures.begins c.in_err-right_key.ensures.begins;
+      stops = search rules;
+      sound = c.in_err-right_key.ensures.sound;
+    } in
+    search IfOk-from_err
 
-pub returns-then-priority-clause-reads : goal.returns-then-priority-clause-reads
-returns-then-priority-clause-reads g c =
-    let m = c.args.map.now in
-    let p = c.args.gap in
-    let seen = IsPlaceOrTop m p.place p.left p.right in
-    let left_is : p.left ≡ (p.left - 1) + 1 = omega (arith, c.requires.left) in
-    let right_is : p.right ≡ (p.right - 1) + 1 = omega (arith, c.requires.right) in
-    sees_then seen _ _ _ (sees_read seen _ _ _ _ c.in_ok-left_key.ensures.value (inr (p.left - 1, inl left_is, inl refl)))
-    (sees_then seen _ _ _ (sees_read seen _ _ _ _ c.in_ok-right_key.ensures.value (inr (p.right - 1, inr right_is, inl refl)))
-    (sees_more (λ a. (a ≡ p.place) ⊎ (a ≡ block_at m.arena (p.left - 1) + 3)) seen _ _ (λ a k. elim k [ inl z ↦ inl z | inr z ↦ inr (p.left - 1, inl left_is, inr (inr z)) ]) c.in_ok-inner.ensures.reads))
+pub returns-in_err-inner : goal.returns-in_err-inner
+returns-in_err-inner g c =
+    let failed = c.from_residual-in_err-inner.ensures.0 in
+    let on : GoesOn g.W.Words c.args.w.now c.hang.new.w c.from_residual-in_err-inner.result = record {
+      shape = c.in_err-inner.ensures.goes_on.shape ∙ c.in_ok-right_key.ensures.shape ∙ c.in_ok-left_key.ensures.shape;
+      origin = c.in_err-inner.ensures.goes_on.origin ∙ c.in_ok-right_key.ensures.origin ∙ c.in_ok-left_key.ensures.origin;
+      begins = begins_trans _ _ _ c.in_ok-left_key.ensures.begins (begins_trans _ _ _ c.in_ok-right_key.ensures.begins c.in_err-inner.ensures.goes_on.begins);
+      stops = search rules;
+      sound = c.in_err-inner.ensures.goes_on.sound;
+    } in
+    search IfOk-from_err
 
-pub returns-clause-reads : goal.returns-clause-reads
-returns-clause-reads g c =
-    let m = c.args.map.now in
-    let p = c.args.gap in
-    let seen = IsPlaceOrTop m p.place p.left p.right in
-    let left_is : p.left ≡ (p.left - 1) + 1 = omega (arith, c.requires.left) in
-    let right_is : p.right ≡ (p.right - 1) + 1 = omega (arith, c.requires.right) in
-    sees_then seen _ _ _ (sees_read seen _ _ _ _ c.in_ok-left_key.ensures.value (inr (p.left - 1, inl left_is, inl refl)))
-    (sees_then seen _ _ _ (sees_read seen _ _ _ _ c.in_ok-right_key.ensures.value (inr (p.right - 1, inr right_is, inl refl)))
-    (sees_more (λ a. (a ≡ p.place) ⊎ (a ≡ block_at m.arena (p.right - 1) + 2)) seen _ _ (λ a k. elim k [ inl z ↦ inl z | inr z ↦ inr (p.right - 1, inr right_is, inr (inl z)) ]) c.in_ok-inner-2.ensures.reads))
+pub returns-in_err-inner-2 : goal.returns-in_err-inner-2
+returns-in_err-inner-2 g c =
+    let failed = c.from_residual-in_err-inner-2.ensures.0 in
+    let on : GoesOn g.W.Words c.args.w.now c.hang-2.new.w c.from_residual-in_err-inner-2.result = record {
+      shape = c.in_err-inner-2.ensures.goes_on.shape ∙ c.in_ok-right_key.ensures.shape ∙ c.in_ok-left_key.ensures.shape;
+      origin = c.in_err-inner-2.ensures.goes_on.origin ∙ c.in_ok-right_key.ensures.origin ∙ c.in_ok-left_key.ensures.origin;
+      begins = begins_trans _ _ _ c.in_ok-left_key.ensures.begins (begins_trans _ _ _ c.in_ok-right_key.ensures.begins c.in_err-inner-2.ensures.goes_on.begins);
+      stops = search rules;
+      sound = c.in_err-inner-2.ensures.goes_on.sound;
+    } in
+    search IfOk-from_err

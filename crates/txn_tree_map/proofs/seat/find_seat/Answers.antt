@@ -1,4 +1,7 @@
-use Rattle.std.proofs.Common.{◌≡◌, ◌+◌, ◌≤◌, nat_lt, refl, ◌∙◌, subst, arith, if◌then◌else◌}
+use Rattle.std.proofs.Common.{◌≡◌, ◌+◌, ◌≤◌, nat_lt, refl, ◌∙◌, subst, arith, if◌then◌else◌, rules}
+use Rattle.std.proofs.lemmas.Result.{IfOk-from_err}
+use Rattle.history_model.proofs.TraceLaws.{begins_trans}
+use Rattle.txn_words.specs.Calls.{GoesOn}
 use Rattle.txn_alloc.specs.FreeLists.{block_at}
 use Rattle.txn_words.proofs.Looks.{looks_none, looks_map, looks_grow, looks_each, looks_from}
 use Rattle.txn_tree_map.specs.Trees.{priority_of}
@@ -25,26 +28,48 @@ look-requires-clause-top g c =
     let i = c.loop.invariant in
     looks_each g.W.Words g.W.Shape.Shape _ _ (IsLink m) (HasTop m c.loop.place) (looks_map _ _ _ (IsLink m) _ _ _ (λ s h. passed_top m c.args.key (priority_of c.args.key + 1) s c.loop.place c.loop.counter h.0) i.looks) i.shape
 
-pub returns-in-None-clause-seat : goal.returns-in-None-clause-seat
-returns-in-None-clause-seat g c =
+pub returns-in-None : goal.returns-in-None
+returns-in-None g c =
     let m = c.args.map.now in
     let i = c.loop.invariant in
     let end = rw c.in-None.is at c.in_ok-look.ensures.end in
-    looks_map _ _ _ (IsLink m) _ _ (IsSeat m c.args.key c.loop.place 0) (λ s h. seat_end m c.args.key s c.loop.place c.loop.counter h.0.0 h.1)
-    (looks_grow _ _ _ (IsLink m) _ _ (IsPlace c.loop.place) _ (IsEnd c.loop.place) (λ s p q. passed_place m c.args.key (priority_of c.args.key + 1) s c.loop.place c.loop.counter p.0) i.looks (looks_from g.W.Words g.W.Shape.Shape c.args.w.now c.loop.w _ _ (IsPlace c.loop.place) _ i.shape end))
+    let on = c.in_ok-look.ensures.goes_on in
+    record {
+      seat =
+          looks_map _ _ _ (IsLink m) _ _ (IsSeat m c.args.key c.loop.place 0) (λ s h. seat_end m c.args.key s c.loop.place c.loop.counter h.0.0 h.1)
+          (looks_grow _ _ _ (IsLink m) _ _ (IsPlace c.loop.place) _ (IsEnd c.loop.place) (λ s p q. passed_place m c.args.key (priority_of c.args.key + 1) s c.loop.place c.loop.counter p.0) i.looks (looks_from g.W.Words g.W.Shape.Shape c.args.w.now c.loop.w _ _ (IsPlace c.loop.place) _ i.shape end));
+      goes_on = record {
+        shape = on.shape ∙ i.shape;
+        origin = on.origin ∙ i.origin;
+        begins = begins_trans _ _ _ i.looks.begins on.begins;
+        stops = search rules;
+        sound = on.sound;
+      };
+    }
 
-pub returns-then-priority-rank-clause-seat : goal.returns-then-priority-rank-clause-seat
-returns-then-priority-rank-clause-seat g c =
+pub returns-then-priority-rank : goal.returns-then-priority-rank
+returns-then-priority-rank g c =
     let m = c.args.map.now in
     let i = c.loop.invariant in
     let node = c.in-Some.node in
     let key = c.args.key in
     let named = rw c.in-Some.is at c.in_ok-look.ensures.named in
     let le : priority_of node.key ≤ priority_of key = omega (arith, c.if-priority-rank.true, c.priority.ensures.value, c.priority-rank.ensures.value) in
-    looks_map _ _ _ (IsLink m) _ _ (IsSeat m key c.loop.place (c.from-name.result + 1))
-    (λ s h. subst (λ n. IsSeat m key c.loop.place n s) (omega (arith, c.from-name.ensures))
-    (seat_here m key s c.loop.place c.loop.counter node.block node.key c.priority-rank.ensures.small c.priority.ensures.small h.0.1 h.0.0 h.1 le))
-    (looks_grow _ _ _ (IsLink m) _ _ (IsPlaceOrKey m c.loop.place node.block) _ (IsNamed m c.loop.place node.block node.key) (λ s p q. passed_near m c.args.key (priority_of c.args.key + 1) s c.loop.place c.loop.counter p.0 node.block node.key q) i.looks (looks_from g.W.Words g.W.Shape.Shape c.args.w.now c.loop.w _ _ (IsPlaceOrKey m c.loop.place node.block) _ i.shape named))
+    let on = c.in_ok-look.ensures.goes_on in
+    record {
+      seat =
+          looks_map _ _ _ (IsLink m) _ _ (IsSeat m key c.loop.place (c.from-name.result + 1))
+          (λ s h. subst (λ n. IsSeat m key c.loop.place n s) (omega (arith, c.from-name.ensures))
+          (seat_here m key s c.loop.place c.loop.counter node.block node.key c.priority-rank.ensures.small c.priority.ensures.small h.0.1 h.0.0 h.1 le))
+          (looks_grow _ _ _ (IsLink m) _ _ (IsPlaceOrKey m c.loop.place node.block) _ (IsNamed m c.loop.place node.block node.key) (λ s p q. passed_near m c.args.key (priority_of c.args.key + 1) s c.loop.place c.loop.counter p.0 node.block node.key q) i.looks (looks_from g.W.Words g.W.Shape.Shape c.args.w.now c.loop.w _ _ (IsPlaceOrKey m c.loop.place node.block) _ i.shape named));
+      goes_on = record {
+        shape = on.shape ∙ i.shape;
+        origin = on.origin ∙ i.origin;
+        begins = begins_trans _ _ _ i.looks.begins on.begins;
+        stops = search rules;
+        sound = on.sound;
+      };
+    }
 
 pub loop-preserved : goal.loop-preserved
 loop-preserved g c =
@@ -72,8 +97,25 @@ loop-preserved g c =
           (looks_grow _ _ _ (IsLink m) _ _ (IsPlaceOrKey m c.loop.place node.block) _ (IsNamed m c.loop.place node.block node.key) (λ s p q. passed_near m c.args.key (priority_of c.args.key + 1) s c.loop.place c.loop.counter p.0 node.block node.key q) i.looks (looks_from g.W.Words g.W.Shape.Shape c.args.w.now c.loop.w _ _ (IsPlaceOrKey m c.loop.place node.block) _ i.shape named));
     }
 
-pub returns-clause-seat : goal.returns-clause-seat
-returns-clause-seat g c =
+pub returns : goal.returns
+returns g c =
     let m = c.args.map.now in
     let i = c.loop.invariant in
-    looks_map _ _ _ (IsLink m) _ _ (IsSeat m c.args.key c.loop.place 0) (λ s h. seat_all m c.args.key s c.loop.place c.loop.counter (omega (arith, c.loop-test.false)) h.0) i.looks
+    record {
+      seat = looks_map _ _ _ (IsLink m) _ _ (IsSeat m c.args.key c.loop.place 0) (λ s h. seat_all m c.args.key s c.loop.place c.loop.counter (omega (arith, c.loop-test.false)) h.0) i.looks;
+      goes_on = record { shape = i.shape; origin = i.origin; begins = i.looks.begins; stops = i.stop; sound = i.sound };
+    }
+
+pub returns-in_err-look : goal.returns-in_err-look
+returns-in_err-look g c =
+    let i = c.loop.invariant in
+    let on = c.in_err-look.ensures.goes_on in
+    let failed = c.from_residual.ensures.0 in
+    let goes : GoesOn g.W.Words c.args.w.now c.look.new.w c.from_residual.result = record {
+      shape = on.shape ∙ i.shape;
+      origin = on.origin ∙ i.origin;
+      begins = begins_trans _ _ _ i.looks.begins on.begins;
+      stops = search rules;
+      sound = on.sound;
+    } in
+    search IfOk-from_err

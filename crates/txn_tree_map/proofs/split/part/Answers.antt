@@ -1,7 +1,9 @@
-use Rattle.std.proofs.Common.{◌≡◌, refl, ◌∙◌, arith}
+use Rattle.std.proofs.Common.{◌≡◌, refl, ◌∙◌, arith, rules}
+use Rattle.std.proofs.lemmas.Result.{IfOk-from_err}
 use Rattle.history_model.proofs.TraceLaws.{begins_refl, begins_trans}
 use Rattle.txn_words.proofs.FrameLaws.{only_same}
 use Rattle.txn_words.proofs.ReadLaws.{sees_same}
+use Rattle.txn_words.specs.Calls.{GoesOn}
 use Rattle.txn_alloc.specs.FreeLists.{block_at}
 use Rattle.txn_words.proofs.Looks.{each_from, leads_from}
 use Rattle.txn_tree_map.specs.Changes.{CanPart}
@@ -52,26 +54,40 @@ loop-preserved g c =
           (leads_from g.W.Words g.W.Shape.Shape c.args.w.now c.loop.w c.part_one.new.w _ i.shape one.parted);
     }
 
-pub returns-then-ends-eq0-clause-parted : goal.returns-then-ends-eq0-clause-parted
-returns-then-ends-eq0-clause-parted g c =
+pub returns-then-ends-eq0 : goal.returns-then-ends-eq0
+returns-then-ends-eq0 g c =
     let m = c.args.map.now in
+    let i = c.loop.invariant in
     let e = c.loop.ends in
-    record { at = λ s fit. parted_end m c.args.key c.args.block c.args.name c.loop.counter e.smaller e.greater e.rest _ _ (c.loop.invariant.parted s fit) c.if-ends-eq0.true }
+    record {
+      parted = record { at = λ s fit. parted_end m c.args.key c.args.block c.args.name c.loop.counter e.smaller e.greater e.rest _ _ (c.loop.invariant.parted s fit) c.if-ends-eq0.true };
+      frame = record { at = c.loop.invariant.own };
+      reads = record { at = c.loop.invariant.reads };
+      goes_on = record { shape = i.shape; origin = i.origin; begins = i.begins; stops = i.stop; sound = i.sound };
+    }
 
-pub returns-clause-parted : goal.returns-clause-parted
-returns-clause-parted g c =
+pub returns : goal.returns
+returns g c =
     let m = c.args.map.now in
+    let i = c.loop.invariant in
     let e = c.loop.ends in
-    record { at = λ s fit. parted_all m c.args.key c.args.block c.args.name c.loop.counter e.smaller e.greater e.rest _ _ (c.loop.invariant.parted s fit) (omega (arith, c.loop-test.false)) }
+    record {
+      parted = record { at = λ s fit. parted_all m c.args.key c.args.block c.args.name c.loop.counter e.smaller e.greater e.rest _ _ (c.loop.invariant.parted s fit) (omega (arith, c.loop-test.false)) };
+      frame = record { at = c.loop.invariant.own };
+      reads = record { at = c.loop.invariant.reads };
+      goes_on = record { shape = i.shape; origin = i.origin; begins = i.begins; stops = i.stop; sound = i.sound };
+    }
 
-pub returns-then-ends-eq0-clause-frame : goal.returns-then-ends-eq0-clause-frame
-returns-then-ends-eq0-clause-frame g c = record { at = c.loop.invariant.own }
-
-pub returns-clause-frame : goal.returns-clause-frame
-returns-clause-frame g c = record { at = c.loop.invariant.own }
-
-pub returns-then-ends-eq0-clause-reads : goal.returns-then-ends-eq0-clause-reads
-returns-then-ends-eq0-clause-reads g c = record { at = c.loop.invariant.reads }
-
-pub returns-clause-reads : goal.returns-clause-reads
-returns-clause-reads g c = record { at = c.loop.invariant.reads }
+pub returns-in_err-ends : goal.returns-in_err-ends
+returns-in_err-ends g c =
+    let i = c.loop.invariant in
+    let on = c.in_err-ends.ensures.goes_on in
+    let failed = c.from_residual.ensures.0 in
+    let goes : GoesOn g.W.Words c.args.w.now c.part_one.new.w c.from_residual.result = record {
+      shape = on.shape ∙ i.shape;
+      origin = on.origin ∙ i.origin;
+      begins = begins_trans _ _ _ i.begins on.begins;
+      stops = search rules;
+      sound = on.sound;
+    } in
+    search IfOk-from_err

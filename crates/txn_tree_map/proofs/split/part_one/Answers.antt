@@ -1,4 +1,7 @@
-use Rattle.std.proofs.Common.{◌≡◌, ℕ, ◌+◌, ◌-◌, ◌<◌, ◌⊎◌, inl, inr, refl, arith}
+use Rattle.std.proofs.Common.{◌≡◌, ℕ, ◌+◌, ◌-◌, ◌<◌, ◌⊎◌, inl, inr, refl, arith, rules, ◌∙◌}
+use Rattle.std.proofs.lemmas.Result.{IfOk-from_err}
+use Rattle.history_model.proofs.TraceLaws.{begins_trans}
+use Rattle.txn_words.specs.Calls.{GoesOn}
 use Rattle.txn_words.proofs.CallLaws.{each_plain}
 use Rattle.txn_words.proofs.FrameLaws.{only_read, only_then, only_more}
 use Rattle.txn_words.proofs.ReadLaws.{sees_read, sees_then, sees_more}
@@ -73,56 +76,102 @@ hang-requires-2-clause-within g c =
           record { hole_in = k.1; inner_in = omega (arith, k.2) };
     })
 
-pub returns-then-there-key-clause-parted : goal.returns-then-there-key-clause-parted
-returns-then-there-key-clause-parted g c =
-    let m = c.args.map.now in
-    let e = c.args.ends in
-    let is_name : e.rest ≡ (e.rest - 1) + 1 = omega (arith, c.requires.rest) in
-    record {
-      at = (parts_low m c.args.key e.smaller e.greater e.rest _ _ _ _ _ (e.rest - 1) c.in_ok-there.there c.in_ok-right.right is_name c.in_ok-there.ensures.value c.in_ok-right.ensures.goes_on.begins c.if-there-key.true
-          (leads_from g.W.Words g.W.Shape.Shape c.args.w.now c.read.new.self c.hang.new.w _ c.in_ok-there.ensures.shape c.in_ok-right.ensures.hung)).at;
-    }
+pub returns-then-there-key : goal.returns-then-there-key
+returns-then-there-key g c = record {
+  parted =
+      let m = c.args.map.now in
+      let e = c.args.ends in
+      let is_name : e.rest ≡ (e.rest - 1) + 1 = omega (arith, c.requires.rest) in
+      record {
+        at = (parts_low m c.args.key e.smaller e.greater e.rest _ _ _ _ _ (e.rest - 1) c.in_ok-there.there c.in_ok-right.right is_name c.in_ok-there.ensures.value c.in_ok-right.ensures.goes_on.begins c.if-there-key.true
+            (leads_from g.W.Words g.W.Shape.Shape c.args.w.now c.read.new.self c.hang.new.w _ c.in_ok-there.ensures.shape c.in_ok-right.ensures.hung)).at;
+      };
+  frame =
+      let e = c.args.ends in
+      let own : ℕ → Type 0 = λ a. (a ≡ e.smaller) ⊎ (a ≡ e.greater) in
+      record {
+        appended = only_then own _ _ _ (only_read own _ _ _ _ c.in_ok-there.ensures.value) (only_more (λ a. a ≡ e.smaller) own _ _ (λ a k. inl k) c.in_ok-right.ensures.frame.appended);
+      };
+  reads =
+      let m = c.args.map.now in
+      let e = c.args.ends in
+      let seen = IsEndOrTop m e.smaller e.greater e.rest in
+      let is_name : e.rest ≡ (e.rest - 1) + 1 = omega (arith, c.requires.rest) in
+      sees_then seen _ _ _ (sees_read seen _ _ _ _ c.in_ok-there.ensures.value (inr (inr (e.rest - 1, is_name, inl refl))))
+      (sees_more (λ a. (a ≡ e.smaller) ⊎ (a ≡ block_at m.arena (e.rest - 1) + 3)) seen _ _ (λ a k. elim k [ inl z ↦ inl z | inr z ↦ inr (inr (e.rest - 1, is_name, inr (inr z))) ]) c.in_ok-right.ensures.reads);
+  goes_on = record {
+    shape = c.in_ok-right.ensures.goes_on.shape ∙ c.in_ok-there.ensures.shape;
+    origin = c.in_ok-right.ensures.goes_on.origin ∙ c.in_ok-there.ensures.origin;
+    begins = begins_trans _ _ _ c.in_ok-there.ensures.begins c.in_ok-right.ensures.goes_on.begins;
+    stops = search rules;
+    sound = c.in_ok-right.ensures.goes_on.sound;
+  };
+}
 
-pub returns-clause-parted : goal.returns-clause-parted
-returns-clause-parted g c =
-    let m = c.args.map.now in
-    let e = c.args.ends in
-    let is_name : e.rest ≡ (e.rest - 1) + 1 = omega (arith, c.requires.rest) in
-    record {
-      at = (parts_high m c.args.key e.smaller e.greater e.rest _ _ _ _ _ (e.rest - 1) c.in_ok-there.there c.in_ok-left.left is_name c.in_ok-there.ensures.value c.in_ok-left.ensures.goes_on.begins (λ k. omega (arith, k, c.if-there-key.false))
-          (leads_from g.W.Words g.W.Shape.Shape c.args.w.now c.read.new.self c.hang-2.new.w _ c.in_ok-there.ensures.shape c.in_ok-left.ensures.hung)).at;
-    }
+pub returns : goal.returns
+returns g c = record {
+  parted =
+      let m = c.args.map.now in
+      let e = c.args.ends in
+      let is_name : e.rest ≡ (e.rest - 1) + 1 = omega (arith, c.requires.rest) in
+      record {
+        at = (parts_high m c.args.key e.smaller e.greater e.rest _ _ _ _ _ (e.rest - 1) c.in_ok-there.there c.in_ok-left.left is_name c.in_ok-there.ensures.value c.in_ok-left.ensures.goes_on.begins (λ k. omega (arith, k, c.if-there-key.false))
+            (leads_from g.W.Words g.W.Shape.Shape c.args.w.now c.read.new.self c.hang-2.new.w _ c.in_ok-there.ensures.shape c.in_ok-left.ensures.hung)).at;
+      };
+  frame =
+      let e = c.args.ends in
+      let own : ℕ → Type 0 = λ a. (a ≡ e.smaller) ⊎ (a ≡ e.greater) in
+      record {
+        appended = only_then own _ _ _ (only_read own _ _ _ _ c.in_ok-there.ensures.value) (only_more (λ a. a ≡ e.greater) own _ _ (λ a k. inr k) c.in_ok-left.ensures.frame.appended);
+      };
+  reads =
+      let m = c.args.map.now in
+      let e = c.args.ends in
+      let seen = IsEndOrTop m e.smaller e.greater e.rest in
+      let is_name : e.rest ≡ (e.rest - 1) + 1 = omega (arith, c.requires.rest) in
+      sees_then seen _ _ _ (sees_read seen _ _ _ _ c.in_ok-there.ensures.value (inr (inr (e.rest - 1, is_name, inl refl))))
+      (sees_more (λ a. (a ≡ e.greater) ⊎ (a ≡ block_at m.arena (e.rest - 1) + 2)) seen _ _ (λ a k. elim k [ inl z ↦ inr (inl z) | inr z ↦ inr (inr (e.rest - 1, is_name, inr (inl z))) ]) c.in_ok-left.ensures.reads);
+  goes_on = record {
+    shape = c.in_ok-left.ensures.goes_on.shape ∙ c.in_ok-there.ensures.shape;
+    origin = c.in_ok-left.ensures.goes_on.origin ∙ c.in_ok-there.ensures.origin;
+    begins = begins_trans _ _ _ c.in_ok-there.ensures.begins c.in_ok-left.ensures.goes_on.begins;
+    stops = search rules;
+    sound = c.in_ok-left.ensures.goes_on.sound;
+  };
+}
 
-pub returns-then-there-key-clause-frame : goal.returns-then-there-key-clause-frame
-returns-then-there-key-clause-frame g c =
-    let e = c.args.ends in
-    let own : ℕ → Type 0 = λ a. (a ≡ e.smaller) ⊎ (a ≡ e.greater) in
-    record {
-      appended = only_then own _ _ _ (only_read own _ _ _ _ c.in_ok-there.ensures.value) (only_more (λ a. a ≡ e.smaller) own _ _ (λ a k. inl k) c.in_ok-right.ensures.frame.appended);
-    }
+pub returns-in_err-there : goal.returns-in_err-there
+returns-in_err-there g c =
+    let failed = c.from_residual.ensures.0 in
+    let on : GoesOn g.W.Words c.args.w.now c.read.new.self c.from_residual.result = record {
+      shape = c.in_err-there.ensures.shape;
+      origin = c.in_err-there.ensures.origin;
+      begins = c.in_err-there.ensures.begins;
+      stops = search rules;
+      sound = c.in_err-there.ensures.sound;
+    } in
+    search IfOk-from_err
 
-pub returns-clause-frame : goal.returns-clause-frame
-returns-clause-frame g c =
-    let e = c.args.ends in
-    let own : ℕ → Type 0 = λ a. (a ≡ e.smaller) ⊎ (a ≡ e.greater) in
-    record {
-      appended = only_then own _ _ _ (only_read own _ _ _ _ c.in_ok-there.ensures.value) (only_more (λ a. a ≡ e.greater) own _ _ (λ a k. inr k) c.in_ok-left.ensures.frame.appended);
-    }
+pub returns-in_err-right : goal.returns-in_err-right
+returns-in_err-right g c =
+    let failed = c.from_residual-in_err-right.ensures.0 in
+    let on : GoesOn g.W.Words c.args.w.now c.hang.new.w c.from_residual-in_err-right.result = record {
+      shape = c.in_err-right.ensures.goes_on.shape ∙ c.in_ok-there.ensures.shape;
+      origin = c.in_err-right.ensures.goes_on.origin ∙ c.in_ok-there.ensures.origin;
+      begins = begins_trans _ _ _ c.in_ok-there.ensures.begins c.in_err-right.ensures.goes_on.begins;
+      stops = search rules;
+      sound = c.in_err-right.ensures.goes_on.sound;
+    } in
+    search IfOk-from_err
 
-pub returns-then-there-key-clause-reads : goal.returns-then-there-key-clause-reads
-returns-then-there-key-clause-reads g c =
-    let m = c.args.map.now in
-    let e = c.args.ends in
-    let seen = IsEndOrTop m e.smaller e.greater e.rest in
-    let is_name : e.rest ≡ (e.rest - 1) + 1 = omega (arith, c.requires.rest) in
-    sees_then seen _ _ _ (sees_read seen _ _ _ _ c.in_ok-there.ensures.value (inr (inr (e.rest - 1, is_name, inl refl))))
-    (sees_more (λ a. (a ≡ e.smaller) ⊎ (a ≡ block_at m.arena (e.rest - 1) + 3)) seen _ _ (λ a k. elim k [ inl z ↦ inl z | inr z ↦ inr (inr (e.rest - 1, is_name, inr (inr z))) ]) c.in_ok-right.ensures.reads)
-
-pub returns-clause-reads : goal.returns-clause-reads
-returns-clause-reads g c =
-    let m = c.args.map.now in
-    let e = c.args.ends in
-    let seen = IsEndOrTop m e.smaller e.greater e.rest in
-    let is_name : e.rest ≡ (e.rest - 1) + 1 = omega (arith, c.requires.rest) in
-    sees_then seen _ _ _ (sees_read seen _ _ _ _ c.in_ok-there.ensures.value (inr (inr (e.rest - 1, is_name, inl refl))))
-    (sees_more (λ a. (a ≡ e.greater) ⊎ (a ≡ block_at m.arena (e.rest - 1) + 2)) seen _ _ (λ a k. elim k [ inl z ↦ inr (inl z) | inr z ↦ inr (inr (e.rest - 1, is_name, inr (inl z))) ]) c.in_ok-left.ensures.reads)
+pub returns-in_err-left : goal.returns-in_err-left
+returns-in_err-left g c =
+    let failed = c.from_residual-in_err-left.ensures.0 in
+    let on : GoesOn g.W.Words c.args.w.now c.hang-2.new.w c.from_residual-in_err-left.result = record {
+      shape = c.in_err-left.ensures.goes_on.shape ∙ c.in_ok-there.ensures.shape;
+      origin = c.in_err-left.ensures.goes_on.origin ∙ c.in_ok-there.ensures.origin;
+      begins = begins_trans _ _ _ c.in_ok-there.ensures.begins c.in_err-left.ensures.goes_on.begins;
+      stops = search rules;
+      sound = c.in_err-left.ensures.goes_on.sound;
+    } in
+    search IfOk-from_err

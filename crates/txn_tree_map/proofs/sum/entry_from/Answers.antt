@@ -1,6 +1,9 @@
-use Rattle.std.proofs.Common.{◌≡◌, ◌+◌, ◌<◌, ap, arith}
+use Rattle.std.proofs.Common.{◌≡◌, ◌+◌, ◌<◌, ap, arith, rules, ◌∙◌}
+use Rattle.std.proofs.lemmas.Result.{IfOk-from_err}
 use Rattle.history_model.specs.Fitting.{SomeFits}
 use Rattle.history_model.proofs.FittingLaws.{some_at}
+use Rattle.history_model.proofs.TraceLaws.{begins_trans}
+use Rattle.txn_words.specs.Calls.{GoesOn}
 use Rattle.txn_words.proofs.CallLaws.{each_plain}
 use Rattle.txn_alloc.specs.FreeLists.{block_at}
 use Rattle.txn_alloc.proofs.Traces.{laid_block}
@@ -70,3 +73,27 @@ returns-in_ok-value-in-Some-clause-low g c =
     let some : SomeFits (g.W.Shape.Shape.word_count (g.W.Words.shape c.args.w.now)) (g.W.Shape.Shape.good (g.W.Words.shape c.args.w.now)) (g.W.Words.trace c.first_at.new.w) =
     some_at g.W.Shape.Shape.word_count g.W.Shape.Shape.good _ _ _ goes.shape (g.met.W.Words.fits c.first_at.new.w goes.sound) in
     node_from c.args.map.now _ _ _ _ c.args.least c.args.high c.in-Some.node nearest some
+
+pub returns-in_err-first_at : goal.returns-in_err-first_at
+returns-in_err-first_at g c =
+    let failed = c.from_residual.ensures.0 in
+    let on : GoesOn g.W.Words c.args.w.now c.first_at.new.w c.from_residual.result = record {
+      shape = c.in_err-first_at.ensures.goes_on.shape;
+      origin = c.in_err-first_at.ensures.goes_on.origin;
+      begins = c.in_err-first_at.ensures.goes_on.begins;
+      stops = search rules;
+      sound = c.in_err-first_at.ensures.goes_on.sound;
+    } in
+    search IfOk-from_err
+
+pub returns-in_err-value-in-Some : goal.returns-in_err-value-in-Some
+returns-in_err-value-in-Some g c =
+    let failed = c.from_residual-in_err-value-in-Some.ensures.0 in
+    let on : GoesOn g.W.Words c.args.w.now c.read.new.self c.from_residual-in_err-value-in-Some.result = record {
+      shape = c.in_err-value-in-Some.ensures.shape ∙ c.in_ok-first_at.ensures.goes_on.shape;
+      origin = c.in_err-value-in-Some.ensures.origin ∙ c.in_ok-first_at.ensures.goes_on.origin;
+      begins = begins_trans _ _ _ c.in_ok-first_at.ensures.goes_on.begins c.in_err-value-in-Some.ensures.begins;
+      stops = search rules;
+      sound = c.in_err-value-in-Some.ensures.sound;
+    } in
+    search IfOk-from_err

@@ -1,7 +1,9 @@
-use Rattle.std.proofs.Common.{◌≡◌, ◌+◌, None, Some, arith, ap, ◌∙◌}
+use Rattle.std.proofs.Common.{◌≡◌, ◌+◌, None, Some, arith, ap, ◌∙◌, rules}
+use Rattle.std.proofs.lemmas.Result.{IfOk-from_err}
 use Rattle.history_model.specs.Fitting.{SomeFits}
 use Rattle.history_model.proofs.TraceLaws.{begins_trans}
 use Rattle.history_model.proofs.FittingLaws.{some_at}
+use Rattle.txn_words.specs.Calls.{GoesOn, LeadsTo}
 use Rattle.txn_words.proofs.CallLaws.{each_plain, state_after}
 use Rattle.txn_alloc.specs.FreeLists.{block_at}
 use Rattle.txn_alloc.specs.EntryMaps.{HasMap, Finds}
@@ -15,6 +17,38 @@ use Rattle.txn_alloc.proofs.Founds.{looks_value, IsNearOr, finds_some, sees_near
 use Rattle.txn_hash_map.proofs.Looks.{near_own, keys_block}
 use Rattle.txn_hash_map.proofs.map.ChainMap.get.Goals as goal
 
+pub returns-in_err-find : goal.returns-in_err-find
+returns-in_err-find g c =
+    let failed = c.from_residual.ensures.0 in
+    let on : GoesOn g.W.Words c.args.w.now c.find.new.w c.from_residual.result = record {
+      shape = c.in_err-find.ensures.goes_on.shape;
+      origin = c.in_err-find.ensures.goes_on.origin;
+      begins = c.in_err-find.ensures.goes_on.begins;
+      stops = search rules;
+      sound = c.in_err-find.ensures.goes_on.sound;
+    } in
+    search IfOk-from_err
+
+pub returns-in-None : goal.returns-in-None
+returns-in-None g c =
+    let m = c.args.self.now in
+    let goes = c.in_ok-find.ensures.goes_on in
+    let missing = rw c.in-None.is at c.in_ok-find.ensures.missing in
+    let found : LeadsTo g.W.Words g.W.Shape.Shape c.args.w.now c.find.new.w (Finds (chain_part m) c.args.key None) = record { at = (finds_none (chain_part m) c.args.key _ _ _ _ (λ s f v. missing_value m c.args.key s f v) missing).at } in
+    record {
+      found = found;
+      order = state_after g.W.Words g.W.Shape.Shape _ _ (HasMap (chain_part m)) (HasMap (chain_part m)) (Finds (chain_part m) c.args.key None) goes.shape goes.begins c.requires.order found (held_found (chain_part m) c.args.key None);
+      frame = looks_only g.W.Words g.W.Shape.Shape _ _ (IsLink m c.args.key) _ missing;
+      reads = record { at = sees_near (chain_part m) c.args.key _ _ _ _ (near_own m c.args.key) missing (each_plain g.W.Words g.W.Shape.Shape _ _ c.requires.order) };
+      goes_on = record {
+        shape = goes.shape;
+        origin = goes.origin;
+        begins = goes.begins;
+        stops = goes.stops;
+        sound = goes.sound;
+      };
+    }
+
 pub read-requires-clause-within : goal.read-requires-clause-within
 read-requires-clause-within g c =
     let m = c.args.self.now in
@@ -26,61 +60,45 @@ read-requires-clause-within g c =
     let in_list = laid_block m.arena _ _ _ some c.in-Some.found.block (record { at = λ s fit. (found.holds s fit).laid.arena }) below in
     omega (arith, in_list.0, ap g.W.Shape.Shape.word_count goes.shape, c.place_of.ensures)
 
-pub returns-in-None-clause-found : goal.returns-in-None-clause-found
-returns-in-None-clause-found g c =
-    let missing = rw c.in-None.is at c.in_ok-find.ensures.missing in
-    record { at = (finds_none (chain_part c.args.self.now) c.args.key _ _ _ _ (λ s f v. missing_value c.args.self.now c.args.key s f v) missing).at }
+pub returns-in_err-value-in-Some : goal.returns-in_err-value-in-Some
+returns-in_err-value-in-Some g c =
+    let failed = c.from_residual-in_err-value-in-Some.ensures.0 in
+    let on : GoesOn g.W.Words c.args.w.now c.read.new.self c.from_residual-in_err-value-in-Some.result = record {
+      shape = c.in_err-value-in-Some.ensures.shape ∙ c.in_ok-find.ensures.goes_on.shape;
+      origin = c.in_err-value-in-Some.ensures.origin ∙ c.in_ok-find.ensures.goes_on.origin;
+      begins = begins_trans _ _ _ c.in_ok-find.ensures.goes_on.begins c.in_err-value-in-Some.ensures.begins;
+      stops = search rules;
+      sound = c.in_err-value-in-Some.ensures.sound;
+    } in
+    search IfOk-from_err
 
-pub returns-in-None-clause-order : goal.returns-in-None-clause-order
-returns-in-None-clause-order g c =
+pub returns-in_ok-value-in-Some : goal.returns-in_ok-value-in-Some
+returns-in_ok-value-in-Some g c =
     let m = c.args.self.now in
+    let b = c.in-Some.found.block in
+    let q = c.place_of.result + 1 in
+    let y = c.in_ok-value-in-Some.value in
+    let value = c.in_ok-value-in-Some.ensures in
     let goes = c.in_ok-find.ensures.goes_on in
-    state_after g.W.Words g.W.Shape.Shape _ _ (HasMap (chain_part m)) (HasMap (chain_part m)) (Finds (chain_part m) c.args.key None) goes.shape goes.begins c.requires.order (returns-in-None-clause-found g c) (held_found (chain_part m) c.args.key None)
-
-pub returns-in-None-clause-frame : goal.returns-in-None-clause-frame
-returns-in-None-clause-frame g c =
-    let missing = rw c.in-None.is at c.in_ok-find.ensures.missing in
-    looks_only g.W.Words g.W.Shape.Shape _ _ (IsLink c.args.self.now c.args.key) _ missing
-
-pub returns-in-None-clause-reads : goal.returns-in-None-clause-reads
-returns-in-None-clause-reads g c =
-    let missing = rw c.in-None.is at c.in_ok-find.ensures.missing in
-    record { at = sees_near (chain_part c.args.self.now) c.args.key _ _ _ _ (near_own c.args.self.now c.args.key) missing (each_plain g.W.Words g.W.Shape.Shape _ _ c.requires.order) }
-
-pub returns-in_ok-value-in-Some-clause-found : goal.returns-in_ok-value-in-Some-clause-found
-returns-in_ok-value-in-Some-clause-found g c =
-    let m = c.args.self.now in
-    let found = rw c.in-Some.is at c.in_ok-find.ensures.found in
-    let q = c.place_of.result + 1 in
-    let is_value : q ≡ block_at m.arena c.in-Some.found.block + 1 = omega (arith, c.place_of.ensures) in
+    let is_value : q ≡ block_at m.arena b + 1 = omega (arith, c.place_of.ensures) in
+    let looks = looks_value _ _ _ _ (rw c.in-Some.is at c.in_ok-find.ensures.found) _ q y value.value in
+    let shape : g.W.Words.shape c.read.new.self ≡ g.W.Words.shape c.args.w.now = value.shape ∙ goes.shape in
+    let begins = begins_trans _ _ _ goes.begins value.begins in
+    let found : LeadsTo g.W.Words g.W.Shape.Shape c.args.w.now c.read.new.self (Finds (chain_part m) c.args.key (Some y)) = record {
+      at = (finds_some (chain_part m) c.args.key _ _ _ _ b q y is_value (keys_block m c.args.key c.in-Some.found.place b) looks).at;
+    } in
     record {
-      at = (finds_some (chain_part m) c.args.key _ _ _ _ c.in-Some.found.block q c.in_ok-value-in-Some.value is_value (keys_block m c.args.key c.in-Some.found.place c.in-Some.found.block)
-          (looks_value _ _ _ _ found _ q c.in_ok-value-in-Some.value c.in_ok-value-in-Some.ensures.value)).at;
-    }
-
-pub returns-in_ok-value-in-Some-clause-order : goal.returns-in_ok-value-in-Some-clause-order
-returns-in_ok-value-in-Some-clause-order g c =
-    let m = c.args.self.now in
-    let goes = c.in_ok-find.ensures.goes_on in
-    state_after g.W.Words g.W.Shape.Shape _ _ (HasMap (chain_part m)) (HasMap (chain_part m)) (Finds (chain_part m) c.args.key (Some c.in_ok-value-in-Some.value)) (c.in_ok-value-in-Some.ensures.shape ∙ goes.shape)
-    (begins_trans _ _ _ goes.begins c.in_ok-value-in-Some.ensures.begins) c.requires.order (returns-in_ok-value-in-Some-clause-found g c) (held_found (chain_part m) c.args.key (Some c.in_ok-value-in-Some.value))
-
-pub returns-in_ok-value-in-Some-clause-frame : goal.returns-in_ok-value-in-Some-clause-frame
-returns-in_ok-value-in-Some-clause-frame g c =
-    let m = c.args.self.now in
-    let found = rw c.in-Some.is at c.in_ok-find.ensures.found in
-    let q = c.place_of.result + 1 in
-    looks_only g.W.Words g.W.Shape.Shape _ _ (IsNearOr (IsLink m c.args.key) q) _
-    (looks_value _ _ _ _ found _ q c.in_ok-value-in-Some.value c.in_ok-value-in-Some.ensures.value)
-
-pub returns-in_ok-value-in-Some-clause-reads : goal.returns-in_ok-value-in-Some-clause-reads
-returns-in_ok-value-in-Some-clause-reads g c =
-    let m = c.args.self.now in
-    let found = rw c.in-Some.is at c.in_ok-find.ensures.found in
-    let q = c.place_of.result + 1 in
-    let is_value : q ≡ block_at m.arena c.in-Some.found.block + 1 = omega (arith, c.place_of.ensures) in
-    record {
-      at = sees_value (chain_part m) c.args.key _ _ _ _ c.in-Some.found.block q c.in_ok-value-in-Some.value is_value (keys_block m c.args.key c.in-Some.found.place c.in-Some.found.block)
-          (looks_value _ _ _ _ found _ q c.in_ok-value-in-Some.value c.in_ok-value-in-Some.ensures.value) (near_own m c.args.key)
-          (each_plain g.W.Words g.W.Shape.Shape _ _ c.requires.order);
+      found = found;
+      order = state_after g.W.Words g.W.Shape.Shape _ _ (HasMap (chain_part m)) (HasMap (chain_part m)) (Finds (chain_part m) c.args.key (Some y)) shape begins c.requires.order found (held_found (chain_part m) c.args.key (Some y));
+      frame = looks_only g.W.Words g.W.Shape.Shape _ _ (IsNearOr (IsLink m c.args.key) q) _ looks;
+      reads = record {
+        at = sees_value (chain_part m) c.args.key _ _ _ _ b q y is_value (keys_block m c.args.key c.in-Some.found.place b) looks (near_own m c.args.key) (each_plain g.W.Words g.W.Shape.Shape _ _ c.requires.order);
+      };
+      goes_on = record {
+        shape = shape;
+        origin = value.origin ∙ goes.origin;
+        begins = begins;
+        stops = value.stops;
+        sound = value.sound;
+      };
     }

@@ -1,9 +1,11 @@
-use Rattle.std.proofs.Common.{◌≡◌, ◌+◌, ◌<◌, None, Some, inl, inr, arith, ap, ◌∙◌}
+use Rattle.std.proofs.Common.{◌≡◌, ◌+◌, ◌<◌, None, Some, inl, inr, arith, ap, ◌∙◌, rules}
+use Rattle.std.proofs.lemmas.Result.{IfOk-from_err}
 use Rattle.history_model.specs.Fitting.{SomeFits}
 use Rattle.history_model.proofs.TraceLaws.{begins_trans}
 use Rattle.history_model.proofs.FittingLaws.{some_at}
 use Rattle.txn_words.proofs.CallLaws.{each_plain, state_after}
 use Rattle.txn_words.proofs.FrameLaws.{only_more}
+use Rattle.txn_words.specs.Calls.{GoesOn}
 use Rattle.txn_alloc.specs.FreeLists.{block_at}
 use Rattle.txn_alloc.specs.EntryMaps.{HasMapApart, Removes}
 use Rattle.txn_hash_map.specs.Chains.{chain_part}
@@ -227,3 +229,63 @@ returns-in_ok-give-in-Some-clause-goes_on g c =
       stops = given.stops;
       sound = given.sound;
     }
+
+pub returns-in_err-find : goal.returns-in_err-find
+returns-in_err-find g c =
+    let failed = c.from_residual.ensures.0 in
+    let on : GoesOn g.W.Words c.args.w.now c.find.new.w c.from_residual.result = record {
+      shape = c.in_err-find.ensures.goes_on.shape;
+      origin = c.in_err-find.ensures.goes_on.origin;
+      begins = c.in_err-find.ensures.goes_on.begins;
+      stops = search rules;
+      sound = c.in_err-find.ensures.goes_on.sound;
+    } in
+    search IfOk-from_err
+
+pub returns-in_err-value-in-Some : goal.returns-in_err-value-in-Some
+returns-in_err-value-in-Some g c =
+    let failed = c.from_residual-in_err-value-in-Some.ensures.0 in
+    let on : GoesOn g.W.Words c.args.w.now c.read.new.self c.from_residual-in_err-value-in-Some.result = record {
+      shape = c.in_err-value-in-Some.ensures.shape ∙ c.in_ok-find.ensures.goes_on.shape;
+      origin = c.in_err-value-in-Some.ensures.origin ∙ c.in_ok-find.ensures.goes_on.origin;
+      begins = begins_trans _ _ _ c.in_ok-find.ensures.goes_on.begins c.in_err-value-in-Some.ensures.begins;
+      stops = search rules;
+      sound = c.in_err-value-in-Some.ensures.sound;
+    } in
+    search IfOk-from_err
+
+pub returns-in_err-next-in-Some : goal.returns-in_err-next-in-Some
+returns-in_err-next-in-Some g c =
+    let failed = c.from_residual-in_err-next-in-Some.ensures.0 in
+    let on : GoesOn g.W.Words c.args.w.now c.read-in-Some.new.self c.from_residual-in_err-next-in-Some.result = record {
+      shape = c.in_err-next-in-Some.ensures.shape ∙ c.in_ok-value-in-Some.ensures.shape ∙ c.in_ok-find.ensures.goes_on.shape;
+      origin = c.in_err-next-in-Some.ensures.origin ∙ c.in_ok-value-in-Some.ensures.origin ∙ c.in_ok-find.ensures.goes_on.origin;
+      begins = begins_trans _ _ _ c.in_ok-find.ensures.goes_on.begins (begins_trans _ _ _ c.in_ok-value-in-Some.ensures.begins c.in_err-next-in-Some.ensures.begins);
+      stops = search rules;
+      sound = c.in_err-next-in-Some.ensures.sound;
+    } in
+    search IfOk-from_err
+
+pub returns-in_err-write-in-Some : goal.returns-in_err-write-in-Some
+returns-in_err-write-in-Some g c =
+    let failed = c.from_residual-in_err-write-in-Some.ensures.0 in
+    let on : GoesOn g.W.Words c.args.w.now c.write.new.self c.from_residual-in_err-write-in-Some.result = record {
+      shape = c.in_err-write-in-Some.ensures.shape ∙ c.in_ok-next-in-Some.ensures.shape ∙ c.in_ok-value-in-Some.ensures.shape ∙ c.in_ok-find.ensures.goes_on.shape;
+      origin = c.in_err-write-in-Some.ensures.origin ∙ c.in_ok-next-in-Some.ensures.origin ∙ c.in_ok-value-in-Some.ensures.origin ∙ c.in_ok-find.ensures.goes_on.origin;
+      begins = begins_trans _ _ _ c.in_ok-find.ensures.goes_on.begins (begins_trans _ _ _ c.in_ok-value-in-Some.ensures.begins (begins_trans _ _ _ c.in_ok-next-in-Some.ensures.begins c.in_err-write-in-Some.ensures.begins));
+      stops = search rules;
+      sound = c.in_err-write-in-Some.ensures.sound;
+    } in
+    search IfOk-from_err
+
+pub returns-in_err-give-in-Some : goal.returns-in_err-give-in-Some
+returns-in_err-give-in-Some g c =
+    let failed = c.from_residual-in_err-give-in-Some.ensures.0 in
+    let on : GoesOn g.W.Words c.args.w.now c.give.new.w c.from_residual-in_err-give-in-Some.result = record {
+      shape = c.in_err-give-in-Some.ensures.goes_on.shape ∙ c.in_ok-write-in-Some.ensures.shape ∙ c.in_ok-next-in-Some.ensures.shape ∙ c.in_ok-value-in-Some.ensures.shape ∙ c.in_ok-find.ensures.goes_on.shape;
+      origin = c.in_err-give-in-Some.ensures.goes_on.origin ∙ c.in_ok-write-in-Some.ensures.origin ∙ c.in_ok-next-in-Some.ensures.origin ∙ c.in_ok-value-in-Some.ensures.origin ∙ c.in_ok-find.ensures.goes_on.origin;
+      begins = begins_trans _ _ _ c.in_ok-find.ensures.goes_on.begins (begins_trans _ _ _ c.in_ok-value-in-Some.ensures.begins (begins_trans _ _ _ c.in_ok-next-in-Some.ensures.begins (begins_trans _ _ _ c.in_ok-write-in-Some.ensures.begins c.in_err-give-in-Some.ensures.goes_on.begins)));
+      stops = search rules;
+      sound = c.in_err-give-in-Some.ensures.goes_on.sound;
+    } in
+    search IfOk-from_err

@@ -1,7 +1,9 @@
 use Rattle.std.proofs.Common.{◌≡◌, ◌+◌, refl, arith, rules, ap, ◌∙◌}
+use Rattle.std.proofs.lemmas.Result.{IfOk-from_err}
 use Rattle.history_model.specs.Fitting.{SomeFits}
 use Rattle.history_model.proofs.TraceLaws.{begins_trans}
 use Rattle.history_model.proofs.FittingLaws.{some_at}
+use Rattle.txn_words.specs.Calls.{GoesOn}
 use Rattle.txn_words.proofs.CallLaws.{each_plain, leads_plain, state_after}
 use Rattle.txn_words.proofs.FrameLaws.{only_more, only_then}
 use Rattle.txn_alloc.specs.declared.put.Put.TheVariants.{New, Old, Full}
@@ -58,19 +60,6 @@ put_in-requires-clause-missing g c =
     (can_put_each m c.args.key c.args.value _ _ _ _ (each_plain g.W.Words g.W.Shape.Shape _ _ c.requires.order) missing _ then.goes_on.begins c.in-Some-2.block
     (leads_from g.W.Words g.W.Shape.Shape c.args.w.now c.find.new.w c.take.new.w _ goes.shape taken)
     (take_keeps m.arena c.in_ok-block-in-None.field-0 _ _ _ _ (leads_from g.W.Words g.W.Shape.Shape c.args.w.now c.find.new.w c.take.new.w _ goes.shape then.others))))
-
-pub returns-in_err-put_in-in-Some-2-clause-goes_on : goal.returns-in_err-put_in-in-Some-2-clause-goes_on
-returns-in_err-put_in-in-Some-2-clause-goes_on g c =
-    let one = c.in_ok-found.ensures.goes_on in
-    let two = c.in_ok-block-in-None.ensures.goes_on in
-    let three = c.in_err-put_in-in-Some-2.ensures.goes_on in
-    record {
-      shape = three.shape ∙ two.shape ∙ one.shape;
-      origin = three.origin ∙ two.origin ∙ one.origin;
-      begins = begins_trans _ _ _ one.begins (begins_trans _ _ _ two.begins three.begins);
-      stops = search rules;
-      sound = three.sound;
-    }
 
 pub returns-in_ok-put_in-in-Some-2-clause-goes_on : goal.returns-in_ok-put_in-in-Some-2-clause-goes_on
 returns-in_ok-put_in-in-Some-2-clause-goes_on g c =
@@ -283,3 +272,63 @@ returns-in_ok-write-in-Some-clause-full_frame g c = λ e. absurd (old_not_full _
 
 pub returns-in_ok-put_in-in-Some-2-clause-full_frame : goal.returns-in_ok-put_in-in-Some-2-clause-full_frame
 returns-in_ok-put_in-in-Some-2-clause-full_frame g c = λ e. absurd (new_not_full e)
+
+pub returns-in_err-found : goal.returns-in_err-found
+returns-in_err-found g c =
+    let failed = c.from_residual.ensures.0 in
+    let on : GoesOn g.W.Words c.args.w.now c.find.new.w c.from_residual.result = record {
+      shape = c.in_err-found.ensures.goes_on.shape;
+      origin = c.in_err-found.ensures.goes_on.origin;
+      begins = c.in_err-found.ensures.goes_on.begins;
+      stops = search rules;
+      sound = c.in_err-found.ensures.goes_on.sound;
+    } in
+    search IfOk-from_err
+
+pub returns-in_err-old-in-Some : goal.returns-in_err-old-in-Some
+returns-in_err-old-in-Some g c =
+    let failed = c.from_residual-in_err-old-in-Some.ensures.0 in
+    let on : GoesOn g.W.Words c.args.w.now c.read.new.self c.from_residual-in_err-old-in-Some.result = record {
+      shape = c.in_err-old-in-Some.ensures.shape ∙ c.in_ok-found.ensures.goes_on.shape;
+      origin = c.in_err-old-in-Some.ensures.origin ∙ c.in_ok-found.ensures.goes_on.origin;
+      begins = begins_trans _ _ _ c.in_ok-found.ensures.goes_on.begins c.in_err-old-in-Some.ensures.begins;
+      stops = search rules;
+      sound = c.in_err-old-in-Some.ensures.sound;
+    } in
+    search IfOk-from_err
+
+pub returns-in_err-write-in-Some : goal.returns-in_err-write-in-Some
+returns-in_err-write-in-Some g c =
+    let failed = c.from_residual-in_err-write-in-Some.ensures.0 in
+    let on : GoesOn g.W.Words c.args.w.now c.write.new.self c.from_residual-in_err-write-in-Some.result = record {
+      shape = c.in_err-write-in-Some.ensures.shape ∙ c.in_ok-old-in-Some.ensures.shape ∙ c.in_ok-found.ensures.goes_on.shape;
+      origin = c.in_err-write-in-Some.ensures.origin ∙ c.in_ok-old-in-Some.ensures.origin ∙ c.in_ok-found.ensures.goes_on.origin;
+      begins = begins_trans _ _ _ c.in_ok-found.ensures.goes_on.begins (begins_trans _ _ _ c.in_ok-old-in-Some.ensures.begins c.in_err-write-in-Some.ensures.begins);
+      stops = search rules;
+      sound = c.in_err-write-in-Some.ensures.sound;
+    } in
+    search IfOk-from_err
+
+pub returns-in_err-block-in-None : goal.returns-in_err-block-in-None
+returns-in_err-block-in-None g c =
+    let failed = c.from_residual-in_err-block-in-None.ensures.0 in
+    let on : GoesOn g.W.Words c.args.w.now c.take.new.w c.from_residual-in_err-block-in-None.result = record {
+      shape = c.in_err-block-in-None.ensures.goes_on.shape ∙ c.in_ok-found.ensures.goes_on.shape;
+      origin = c.in_err-block-in-None.ensures.goes_on.origin ∙ c.in_ok-found.ensures.goes_on.origin;
+      begins = begins_trans _ _ _ c.in_ok-found.ensures.goes_on.begins c.in_err-block-in-None.ensures.goes_on.begins;
+      stops = search rules;
+      sound = c.in_err-block-in-None.ensures.goes_on.sound;
+    } in
+    search IfOk-from_err
+
+pub returns-in_err-put_in-in-Some-2 : goal.returns-in_err-put_in-in-Some-2
+returns-in_err-put_in-in-Some-2 g c =
+    let failed = c.from_residual-in_err-put_in-in-Some-2.ensures.0 in
+    let on : GoesOn g.W.Words c.args.w.now c.put_in.new.w c.from_residual-in_err-put_in-in-Some-2.result = record {
+      shape = c.in_err-put_in-in-Some-2.ensures.goes_on.shape ∙ c.in_ok-block-in-None.ensures.goes_on.shape ∙ c.in_ok-found.ensures.goes_on.shape;
+      origin = c.in_err-put_in-in-Some-2.ensures.goes_on.origin ∙ c.in_ok-block-in-None.ensures.goes_on.origin ∙ c.in_ok-found.ensures.goes_on.origin;
+      begins = begins_trans _ _ _ c.in_ok-found.ensures.goes_on.begins (begins_trans _ _ _ c.in_ok-block-in-None.ensures.goes_on.begins c.in_err-put_in-in-Some-2.ensures.goes_on.begins);
+      stops = search rules;
+      sound = c.in_err-put_in-in-Some-2.ensures.goes_on.sound;
+    } in
+    search IfOk-from_err

@@ -1,5 +1,7 @@
-use Rattle.std.proofs.Common.{Some, None, arith, ◌∙◌}
+use Rattle.std.proofs.Common.{Some, None, arith, ◌∙◌, rules}
+use Rattle.std.proofs.lemmas.Result.{IfOk-from_err}
 use Rattle.history_model.proofs.TraceLaws.{begins_trans}
+use Rattle.txn_words.specs.Calls.{GoesOn}
 use Rattle.txn_words.proofs.CallLaws.{each_plain, state_after}
 use Rattle.txn_words.proofs.FrameLaws.{only_more}
 use Rattle.txn_alloc.specs.EntryMaps.{HasMapApart, Removes}
@@ -152,3 +154,39 @@ returns-in_ok-give-in-Some-clause-reads g c =
           (give_keeps m.arena f.block _ _ _ _ (leads_from g.W.Words g.W.Shape.Shape c.args.w.now c.cut.new.w c.give.new.w _ same kept))
           (reads_from g.W.Words g.W.Shape.Shape c.args.w.now c.find.new.w c.cut.new.w _ goes.shape cut.reads) names;
     }
+
+pub returns-in_err-find : goal.returns-in_err-find
+returns-in_err-find g c =
+    let failed = c.from_residual.ensures.0 in
+    let on : GoesOn g.W.Words c.args.w.now c.find.new.w c.from_residual.result = record {
+      shape = c.in_err-find.ensures.goes_on.shape;
+      origin = c.in_err-find.ensures.goes_on.origin;
+      begins = c.in_err-find.ensures.goes_on.begins;
+      stops = search rules;
+      sound = c.in_err-find.ensures.goes_on.sound;
+    } in
+    search IfOk-from_err
+
+pub returns-in_err-value-in-Some : goal.returns-in_err-value-in-Some
+returns-in_err-value-in-Some g c =
+    let failed = c.from_residual-in_err-value-in-Some.ensures.0 in
+    let on : GoesOn g.W.Words c.args.w.now c.cut.new.w c.from_residual-in_err-value-in-Some.result = record {
+      shape = c.in_err-value-in-Some.ensures.goes_on.shape ∙ c.in_ok-find.ensures.goes_on.shape;
+      origin = c.in_err-value-in-Some.ensures.goes_on.origin ∙ c.in_ok-find.ensures.goes_on.origin;
+      begins = begins_trans _ _ _ c.in_ok-find.ensures.goes_on.begins c.in_err-value-in-Some.ensures.goes_on.begins;
+      stops = search rules;
+      sound = c.in_err-value-in-Some.ensures.goes_on.sound;
+    } in
+    search IfOk-from_err
+
+pub returns-in_err-give-in-Some : goal.returns-in_err-give-in-Some
+returns-in_err-give-in-Some g c =
+    let failed = c.from_residual-in_err-give-in-Some.ensures.0 in
+    let on : GoesOn g.W.Words c.args.w.now c.give.new.w c.from_residual-in_err-give-in-Some.result = record {
+      shape = c.in_err-give-in-Some.ensures.goes_on.shape ∙ c.in_ok-value-in-Some.ensures.goes_on.shape ∙ c.in_ok-find.ensures.goes_on.shape;
+      origin = c.in_err-give-in-Some.ensures.goes_on.origin ∙ c.in_ok-value-in-Some.ensures.goes_on.origin ∙ c.in_ok-find.ensures.goes_on.origin;
+      begins = begins_trans _ _ _ c.in_ok-find.ensures.goes_on.begins (begins_trans _ _ _ c.in_ok-value-in-Some.ensures.goes_on.begins c.in_err-give-in-Some.ensures.goes_on.begins);
+      stops = search rules;
+      sound = c.in_err-give-in-Some.ensures.goes_on.sound;
+    } in
+    search IfOk-from_err
