@@ -1,21 +1,47 @@
-use Rattle.std.proofs.Common.{sym, ap, ◌∙◌}
+use Rattle.std.proofs.Common.{sym, ap, ◌∙◌, rules}
+use Rattle.std.proofs.lemmas.Result.{IfOk-from_err}
+use Rattle.txn_words.specs.Calls.{GoesOn}
 use Rattle.books_model.specs.declared.reply.Value.TheVariants as value
 use Rattle.books_model.specs.Interpreter.{Gives}
-use Rattle.txn_books.proofs.Turning.{looked, answers, look_turn, of_change, comes}
+use Rattle.txn_books.proofs.Turning.{looked, answers, look_turn, of_change, comes, goes_as, goes_then}
 use Rattle.txn_books.proofs.Operating.{withdraw_absent, withdraw_cash, withdraw_done}
 use Rattle.txn_books.proofs.operations.withdraw.Goals as goal
 
-pub returns-in_default-clause-step : goal.returns-in_default-clause-step
-returns-in_default-clause-step g c =
-    answers (looked c.in_ok-held.ensures.goes_on (rw c.in_default.is at c.in_ok-held.ensures.told))
-    (λ books sized none. withdraw_absent books c.args.account c.args.amount none)
+pub returns-in_default : goal.returns-in_default
+returns-in_default g c = record {
+  step =
+      answers (looked c.in_ok-held.ensures.goes_on (rw c.in_default.is at c.in_ok-held.ensures.told))
+      (λ books sized none. withdraw_absent books c.args.account c.args.amount none);
+  stands = c.in_ok-held.ensures.stands;
+  goes_on = goes_as c.in_ok-held.ensures.goes_on (search rules);
+}
 
-pub returns-then-held-amount-clause-step : goal.returns-then-held-amount-clause-step
-returns-then-held-amount-clause-step g c =
-    answers (looked c.in_ok-held.ensures.goes_on (rw c.in-Some.is at c.in_ok-held.ensures.told))
-    (λ books sized some. withdraw_cash books c.args.account c.args.amount c.in-Some.held some c.if-held-amount.true)
+pub returns-then-held-amount : goal.returns-then-held-amount
+returns-then-held-amount g c = record {
+  step =
+      answers (looked c.in_ok-held.ensures.goes_on (rw c.in-Some.is at c.in_ok-held.ensures.told))
+      (λ books sized some. withdraw_cash books c.args.account c.args.amount c.in-Some.held some c.if-held-amount.true);
+  stands = c.in_ok-held.ensures.stands;
+  goes_on = goes_as c.in_ok-held.ensures.goes_on (search rules);
+}
 
-pub returns-clause-step : goal.returns-clause-step
-returns-clause-step g c =
-    comes (look_turn c.in_ok-set_cash.ensures.goes_on (looked c.in_ok-held.ensures.goes_on (rw c.in-Some.is at c.in_ok-held.ensures.told)) (of_change c.in_ok-set_cash.ensures.changed))
-    (λ books after sized k. withdraw_done books c.args.account c.args.amount c.in-Some.held k.0 c.if-held-amount.false ∙ ap (Gives value.Done) (sym k.1))
+pub returns : goal.returns
+returns g c = record {
+  step =
+      comes (look_turn c.in_ok-set_cash.ensures.goes_on (looked c.in_ok-held.ensures.goes_on (rw c.in-Some.is at c.in_ok-held.ensures.told)) (of_change c.in_ok-set_cash.ensures.changed))
+      (λ books after sized k. withdraw_done books c.args.account c.args.amount c.in-Some.held k.0 c.if-held-amount.false ∙ ap (Gives value.Done) (sym k.1));
+  stands = c.in_ok-set_cash.ensures.stands;
+  goes_on = goes_as (goes_then c.in_ok-held.ensures.goes_on c.in_ok-set_cash.ensures.goes_on) (search rules);
+}
+
+pub returns-in_err-held : goal.returns-in_err-held
+returns-in_err-held g c =
+    let failed = c.from_residual.ensures.0 in
+    let on : GoesOn g.W.Words c.args.w.now c.cash.new.w c.from_residual.result = goes_as c.in_err-held.ensures.goes_on (search rules) in
+    search IfOk-from_err
+
+pub returns-in_err-set_cash : goal.returns-in_err-set_cash
+returns-in_err-set_cash g c =
+    let failed = c.from_residual-in_err-set_cash.ensures.0 in
+    let on : GoesOn g.W.Words c.args.w.now c.set_cash.new.w c.from_residual-in_err-set_cash.result = goes_as (goes_then c.in_ok-held.ensures.goes_on c.in_err-set_cash.ensures.goes_on) (search rules) in
+    search IfOk-from_err
