@@ -6,6 +6,7 @@ ghost use Rattle.history_model.specs.Sets.{has};
 ghost use Rattle.history_model.specs.Views.{HasBit, HasClaim};
 ghost use Rattle.locks_rule.specs.Splits.{opening_view};
 ghost use Rattle.stamps_rule.specs.Causes.{newest, past_causes};
+ghost use Rattle.word_table.specs.Calls.{SameCall};
 
 use crate::values_tests::{Pair, finish, hold, open_pair};
 use crate::{Claimed, Desk, Judged, Pass};
@@ -53,6 +54,43 @@ fn draw_once(desk: &Desk<Pair>, pass: &mut Pass<Pair>)
     let _ = desk.draw(pass);
 }
 
+// Claims word a: the seat that it meets, if it meets one.
+fn claim_or_meet(desk: &Desk<Pair>, pass: &mut Pass<Pair>, a: u64) -> Option<u32>
+    requires desk { pass.old.table ≡ desk.now.table }
+    requires word { a < length pass.old.view.base }
+    requires phase { pass.old.view.phase ≡ Phase.Running }
+    ensures desk { pass.new.table ≡ desk.now.table }
+    ensures call { SameCall pass.old.view pass.new.view }
+    ensures met { IfSome result (λ other. (other < pass.old.view.seats) × (has other pass.new.view.met ≡ true)) }
+{
+    match desk.claim(pass, a) {
+        Claimed::Pending => None,
+        Claimed::Met(other) => Some(other),
+    }
+}
+
+// Judges the seat that a claim met.
+fn judge_met(desk: &Desk<Pair>, pass: &mut Pass<Pair>, other: u32) -> Turn
+    requires desk { pass.old.table ≡ desk.now.table }
+    requires phase { pass.old.view.phase ≡ Phase.Running }
+    requires met { (other < pass.old.view.seats) × (has other pass.old.view.met ≡ true) }
+    ensures desk { (pass.new.table ≡ desk.now.table) × (pass.new.view.base ≡ pass.old.view.base) }
+    ensures undone { pass.new.view.undo ≡ pass.old.view.undo }
+    ensures who { pass.new.view.who ≡ pass.old.view.who }
+    ensures waits { result ≡ Turn.Waits
+        → (pass.new.view.phase ≡ Phase.Running) × (pass.new.view.abandoned ≡ pass.old.view.abandoned) }
+    ensures yields { (other stamp : ℕ) → result ≡ Turn.Yields other stamp
+        → (pass.new.view.phase ≡ Phase.Yielding) × (other < pass.new.view.seats)
+        × (newest (past_causes pass.new.view) ≡ Some (record { seat = other; stamp = stamp }))
+        × (length pass.new.view.abandoned ≡ length pass.old.view.abandoned + 1) }
+{
+    show_stamp(desk, pass);
+    match desk.judge(pass, other) {
+        Judged::Wait => Turn::Waits,
+        Judged::Yield(stamp) => Turn::Yields(other, stamp),
+    }
+}
+
 // Claims word a, and judges the seat that it meets.
 fn claim_or_judge(desk: &Desk<Pair>, pass: &mut Pass<Pair>, a: u64) -> Turn
     requires desk { pass.old.table ≡ desk.now.table }
@@ -68,13 +106,9 @@ fn claim_or_judge(desk: &Desk<Pair>, pass: &mut Pass<Pair>, a: u64) -> Turn
         × (newest (past_causes pass.new.view) ≡ Some (record { seat = other; stamp = stamp }))
         × (length pass.new.view.abandoned ≡ length pass.old.view.abandoned + 1) }
 {
-    let Claimed::Met(other) = desk.claim(pass, a) else {
-        return Turn::Claimed;
-    };
-    show_stamp(desk, pass);
-    match desk.judge(pass, other) {
-        Judged::Wait => Turn::Waits,
-        Judged::Yield(stamp) => Turn::Yields(other, stamp),
+    match claim_or_meet(desk, pass, a) {
+        None => Turn::Claimed,
+        Some(other) => judge_met(desk, pass, other),
     }
 }
 

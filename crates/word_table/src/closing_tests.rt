@@ -1,6 +1,7 @@
 //! Notes that are met, and tables that are closed.
 
-ghost use Rattle.std.specs.Prelude.{◌≡◌, [], ◌∷◌, length};
+ghost use Rattle.std.specs.Prelude.{◌≡◌, [], ◌∷◌, ◌++◌, length, IfOk};
+ghost use Rattle.word_table.specs.Closing.{AreAllPasses};
 
 use crate::values_tests::{Pair, add, open_pair, read_one};
 use crate::{Desk, Pass};
@@ -8,6 +9,20 @@ use history_model::Phase;
 use io_ends::OutOfMemory;
 use std::alloc::Global;
 use std::test::Fail;
+
+// The words that a desk leaves.
+fn close_all(
+    alloc: Global,
+    desk: Desk<Pair>,
+    passes: Vec<Pass<Pair>>,
+) -> Result<Vec<u64>, OutOfMemory>
+    requires all { AreAllPasses desk.table desk.seats passes.items }
+{
+    match desk.close(alloc, passes) {
+        Ok(closed) => Ok(closed.words().to_vec(alloc)?),
+        Err(_) => Err(OutOfMemory),
+    }
+}
 
 // The words that a desk with these two passes leaves.
 fn close_pair(
@@ -22,10 +37,7 @@ fn close_pair(
     requires numbers { (zero.view.who ≡ 0 ∷ []) × (one.view.who ≡ 1 ∷ []) }
 {
     let passes = vec![in alloc; zero, one]?;
-    match desk.close(alloc, passes) {
-        Ok(closed) => Ok(closed.words().to_vec(alloc)?),
-        Err(_) => Err(OutOfMemory),
-    }
+    close_all(alloc, desk, passes)
 }
 
 // One pass adds and gives the other a note, and the other reads: the values, the places, and the words that are left.
@@ -66,21 +78,27 @@ fn a_desk_where_nothing_was_done_leaves_its_words(rt: HostRuntime) -> Result<(),
     Ok(())
 }
 
-// Of sixteen passes the last adds one to word 0, and the others do nothing: the words that the desk leaves.
-fn one_of_sixteen(alloc: Global) -> Result<Option<Vec<u64>>, OutOfMemory> {
+// A desk of two words with sixteen passes, of which the last stands apart.
+fn open_sixteen(alloc: Global) -> Result<(Desk<Pair>, Vec<Pass<Pair>>, Pass<Pair>), OutOfMemory>
+    ensures all { IfOk result (λ opened. AreAllPasses opened.0.table opened.0.seats (opened.1.items ++ opened.2 ∷ [])) }
+    ensures last { IfOk result (λ opened. (opened.2.table ≡ opened.0.table) × (opened.2.view.phase ≡ Phase.Idle) × (length opened.2.view.base ≡ 2)) }
+{
     let base = vec![in alloc; 3u64, 4]?;
     let (desk, mut passes) = Desk::new(alloc, Pair, base, 16)?;
-    let Some(mut last) = passes.pop() else {
+    let Some(last) = passes.pop() else {
         unreachable!()
     };
+    Ok((desk, passes, last))
+}
+
+// Of sixteen passes the last adds one to word 0, and the others do nothing: the words that the desk leaves.
+fn one_of_sixteen(alloc: Global) -> Result<Option<Vec<u64>>, OutOfMemory> {
+    let (desk, mut passes, mut last) = open_sixteen(alloc)?;
     let Some(_) = add(&desk, &mut last, 1) else {
         return Ok(None);
     };
     passes.push(last)?;
-    match desk.close(alloc, passes) {
-        Ok(closed) => Ok(Some(closed.words().to_vec(alloc)?)),
-        Err(_) => Err(OutOfMemory),
-    }
+    Ok(Some(close_all(alloc, desk, passes)?))
 }
 
 #[test]

@@ -234,13 +234,19 @@ fn count_together<R: Threads + Sync>(
     )
 }
 
-#[test]
-fn two_threads_count_each_number_once(rt: HostRuntime) -> Result<(), Fail> {
-    let (desk, zero, one) = open_pair(rt.alloc(), 0, 4)?;
-    let (first, second) = count_together(&rt, rt.alloc(), &desk, zero, one);
+// The values that two threads read, each with a pass of one desk, in order.
+fn count_in_order<R: Threads + Sync>(rt: &R, alloc: Global) -> Result<Vec<u64>, OutOfMemory> {
+    let (desk, zero, one) = open_pair(alloc, 0, 4)?;
+    let (first, second) = count_together(rt, alloc, &desk, zero, one);
     let mut values = first?;
     values.extend_from_slice(second?.as_slice())?;
     values.sort()?;
+    Ok(values)
+}
+
+#[test]
+fn two_threads_count_each_number_once(rt: HostRuntime) -> Result<(), Fail> {
+    let values = count_in_order(&rt, rt.alloc())?;
     assert_eq!(rt; values.len(), 200);
     for (i, value) in values.iter().enumerate() {
         assert_eq!(rt; *value, i as u64);

@@ -23,8 +23,8 @@ two_passes table a b ta tb pa pb na nb = record {
     at (suc zero) lt = (b, (1, refl), nb)
     at (suc (suc j)) lt = absurd (omega arith)
 
-pub close-requires : goal.close-requires
-close-requires c = let r = c.requires in record {
+pub close_all-requires : goal.close_all-requires
+close_all-requires c = let r = c.requires in record {
   all = subst (λ (l : List PassView). AreAllPasses c.args.desk.table c.args.desk.seats l) (sym c.in_ok-passes.ensures.items)
       (subst (λ (n : ℕ). AreAllPasses c.args.desk.table n (c.args.zero ∷ c.args.one ∷ [])) (sym r.seats)
       (two_passes c.args.desk.table c.args.zero c.args.one r.tables.0 r.tables.1 r.idle.0 r.idle.1 r.numbers.0 r.numbers.1));

@@ -1,4 +1,5 @@
 use Rattle.std.proofs.Common.{◌≡◌, ◌-◌, ◌∙◌, refl, arith}
+use Rattle.std.proofs.lemmas.Result.{IfOk-from_err}
 use Rattle.word_table.proofs.Opening.{dealt_push, last_me}
 use Rattle.word_table.proofs.deal.deal.Goals as goal
 
@@ -14,3 +15,15 @@ returns-clause-passes g c = let i = c.loop-j.invariant in let end : c.loop-j.j �
     let d = dealt_push c.args.table.now.key.base.items c.args.n c.args.table.now.table_id (c.args.n - 1) c.loop-j.passes.items c.push-2.new.self.items c.of-2.result c.loop-j.j c.loop-j.seat.me i.2 end c.in_ok-push-2.ensures.items (c.of-2.ensures.table ∙ i.0)
     (last_me c.args.table.now.key.base.items c.args.n c.loop-j.j c.loop-j.seat.me c.requires.counts.0 end i.1) c.of-2.ensures.view in
     λ j lt. d.each j (omega arith)
+
+pub returns-in_err-scans : goal.returns-in_err-scans
+returns-in_err-scans g c = let failed = c.from_residual.ensures.0 in search IfOk-from_err
+
+pub returns-in_err-push : goal.returns-in_err-push
+returns-in_err-push g c = let failed = c.from_residual-in_err-push.ensures.0 in search IfOk-from_err
+
+pub returns-in_err-scans-2 : goal.returns-in_err-scans-2
+returns-in_err-scans-2 g c = let failed = c.from_residual-in_err-scans-2.ensures.0 in search IfOk-from_err
+
+pub returns-in_err-push-2 : goal.returns-in_err-push-2
+returns-in_err-push-2 g c = let failed = c.from_residual-in_err-push-2.ensures.0 in search IfOk-from_err

@@ -1,4 +1,5 @@
 use Rattle.std.proofs.Common.{ℕ, sym, ap, subst, ◌∙◌}
+use Rattle.std.proofs.lemmas.Result.{IfOk-from_err}
 use Rattle.word_table.specs.Closing.{AreAllPasses}
 use Rattle.history_model.specs.Fitting.{IsGood}
 use Rattle.word_table.proofs.Opening.{opening_sound}
@@ -12,3 +13,12 @@ pub returns-clause-all : goal.returns-clause-all
 returns-clause-all g c = let t = c.in_ok-table.table.shared in
     subst (λ (m : ℕ). AreAllPasses t.table_id m c.in_ok-passes.passes.items) (sym (ap (λ (x : _). x.seats) c.in_ok-table.ensures.5))
     (fresh_passes t.key.base.items c.args.n t.table_id c.in_ok-passes.passes.items c.in_ok-passes.ensures.count c.in_ok-passes.ensures.passes)
+
+pub returns-in_err-words : goal.returns-in_err-words
+returns-in_err-words g c = let failed = c.from_residual.ensures.0 in search IfOk-from_err
+
+pub returns-in_err-table : goal.returns-in_err-table
+returns-in_err-table g c = let failed = c.from_residual-in_err-table.ensures.0 in search IfOk-from_err
+
+pub returns-in_err-passes : goal.returns-in_err-passes
+returns-in_err-passes g c = let failed = c.from_residual-in_err-passes.ensures.0 in search IfOk-from_err
