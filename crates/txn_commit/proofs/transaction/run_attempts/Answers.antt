@@ -1,31 +1,109 @@
-use Rattle.std.proofs.Common.{◌<◌, List, length, refl, sym, ap, ◌∙◌, subst}
+use Rattle.std.proofs.Common.{◌≡◌, ℕ, ◌<◌, Bool, List, [], ◌∷◌, ◌++◌, length, refl, sym, ap, ◌∙◌, subst, rules}
 use Rattle.history_model.specs.declared.entry.Abandoned.{Abandoned}
+use Rattle.history_model.specs.declared.entry.Entry.{Entry}
+use Rattle.history_model.specs.declared.view.Phase.TheVariants.{Releasing}
+use Rattle.history_model.specs.declared.view.View.{View}
+use Rattle.history_model.specs.Fitting.{IsGood}
+use Rattle.history_model.specs.Legal.{IsLegalHistory}
+use Rattle.values_rule.specs.Steps.{entry_of}
 use Rattle.txn_words.specs.Verdicts.{is_kept, answer_of}
 use Rattle.word_table.specs.Calls.{CommitsAt}
 use Rattle.word_table.specs.Copies.{PassView}
+use Rattle.word_table.specs.Desks.{DeskView}
+use Rattle.txn_commit.specs.Attempts.{start_of}
+use Rattle.txn_commit.specs.Inner.Releasing.{Undoes}
+use Rattle.txn_commit.specs.Transactions.{SameSeat}
 use Rattle.txn_commit.proofs.Attempts.{not_halted, same_call}
 use Rattle.txn_commit.proofs.Ending.{same_desk, same_pass, gets_entry, meant, undone_others, one_more, ran_on, still_runs, gave_way}
 use Rattle.txn_commit.proofs.transaction.run_attempts.Goals as goal
 
-pub returns-in-Ok-clause-entry : goal.returns-in-Ok-clause-entry
-returns-in-Ok-clause-entry g c = let inv = c.loop-restarts.invariant in let first = c.args.attempt.now.pass.now.view in let at = c.loop-restarts.attempt in let ran = c.run.new.w in
+-- what began from the same has the same name, and its table is the same
+same_name : {S : Type 0} (d e : DeskView S) (m n : ℕ) (p q : PassView) → start_of d m p ≡ start_of e n q → m ≡ n
+same_name d e m n p q s = ap (λ o. o.name) s
+
+same_table : {S : Type 0} (d e : DeskView S) → d ≡ e → d.table ≡ e.table
+same_table d e same = ap (λ x. x.table) same
+
+-- what a commit leaves, and what undoing leaves
+abbrev Commits : View → View → List Entry → Bool → Type 0
+Commits old new history kept = new ≡ record old { seen = history ++ entry_of kept old ∷ []; undo = []; phase = Releasing }
+
+seat_after_commit : (first old new : View) (history : List Entry) (kept : Bool) → Commits old new history kept → SameSeat first old → SameSeat first new
+seat_after_commit first old new history kept e same = record {
+  who = ap (λ (v : View). v.who) e ∙ same.who;
+  base = ap (λ (v : View). v.base) e ∙ same.base;
+  seats = ap (λ (v : View). v.seats) e ∙ same.seats;
+}
+
+call_after_commit : (old new : View) (history : List Entry) (kept : Bool) → Commits old new history kept → new.call ≡ old.call
+call_after_commit old new history kept e = ap (λ (v : View). v.call) e
+
+undone_by_commit : (old new : View) (history : List Entry) (kept : Bool) → Commits old new history kept → new.undo ≡ []
+undone_by_commit old new history kept e = ap (λ (v : View). v.undo) e
+
+phase_after_commit : (old new : View) (history : List Entry) (kept : Bool) → Commits old new history kept → new.phase ≡ Releasing
+phase_after_commit old new history kept e = ap (λ (v : View). v.phase) e
+
+seat_after_undo : (first old new : View) → Undoes old new → SameSeat first old → SameSeat first new
+seat_after_undo first old new undone same = record {
+  who = ap (λ (v : View). v.who) undone.some.rest ∙ same.who;
+  base = ap (λ (v : View). v.base) undone.some.rest ∙ same.base;
+  seats = ap (λ (v : View). v.seats) undone.some.rest ∙ same.seats;
+}
+
+call_after_undo : (old new : View) → Undoes old new → new.call ≡ old.call
+call_after_undo old new undone = ap (λ (v : View). v.call) undone.some.rest
+
+pub returns-in-Ok : goal.returns-in-Ok
+returns-in-Ok g c = let inv = c.loop-restarts.invariant in let first = c.args.attempt.now.pass.now.view in let at = c.loop-restarts.attempt in let ran = c.run.new.w in
     let same = ran_on first ran.began.value at.began.value at.pass.now ran.pass.now.view inv.call (same_pass ran.desk.now at.desk.now ran.pass.ghost_name at.pass.ghost_name ran.began.value at.began.value c.run.ensures.origin) inv.began c.run.ensures.sound.call in
     let runs = still_runs ran.desk.now.seats ran.halt ran.began.value.view ran.pass.now.view (not_halted ran.halt (c.in-Ok.ensures.done)) c.run.ensures.sound.stands in
     let desk = same_desk ran.desk.now at.desk.now ran.pass.ghost_name at.pass.ghost_name ran.began.value at.began.value c.run.ensures.origin ∙ inv.desk in
     let shape = ap (λ d. d.shape) desk ∙ sym c.requires.job in
-    gets_entry (g.S.Shape.word_count ran.desk.now.shape) (g.S.Shape.good ran.desk.now.shape) c.args.attempt.now.desk.now.base (g.J.Job.means c.args.job.now) c.decision-kept.result.0 c.args.call first ran.pass.now.view c.settle-serial.new.attempt.pass.now.view
-    (record { serial = c.settle-serial.result; call = c.args.call; restarts = c.loop-restarts.restarts; answer = c.decision-kept.result.1 })
-    same c.requires.floor c.requires.call
-    (subst (λ d. CommitsAt (g.S.Shape.word_count ran.desk.now.shape) (g.S.Shape.good ran.desk.now.shape) d.base c.decision-kept.result.0 ran.pass.now.view c.settle-serial.new.attempt.pass.now.view c.settle-serial.result) desk c.settle-serial.ensures.entry)
-    refl
-    (ap (λ (l : List Abandoned). length l) runs.abandoned ∙ (ap (λ (p : PassView). length p.view.abandoned) (same_pass ran.desk.now at.desk.now ran.pass.ghost_name at.pass.ghost_name ran.began.value at.began.value c.run.ensures.origin ∙ inv.began) ∙ inv.restarts))
-    (meant (g.J.Job.means c.args.job.now) g.S.Shape.word_count g.S.Shape.good ran.desk.now.shape (g.J.Job.shape c.args.job.now) ran.pass.now.view.trace (is_kept c.in-Ok.verdict) c.decision-kept.result.0 (answer_of c.in-Ok.verdict) c.decision-kept.result.1
-    shape c.decision-kept.ensures.kept c.decision-kept.ensures.answer c.in-Ok.ensures.meaning)
+    let commits = c.settle-serial.ensures.entry in
+    let new = c.settle-serial.new.attempt.pass.now.view in
+    record {
+      name = c.settle-serial.ensures.name ∙ (same_name ran.desk.now at.desk.now ran.pass.ghost_name at.pass.ghost_name ran.began.value at.began.value c.run.ensures.origin ∙ inv.name);
+      desk = c.settle-serial.ensures.desk ∙ same_table ran.desk.now c.args.attempt.now.desk.now desk;
+      seat = seat_after_commit first ran.pass.now.view new commits.history c.decision-kept.result.0 commits.view same.seat;
+      call = call_after_commit ran.pass.now.view new commits.history c.decision-kept.result.0 commits.view ∙ (same.call ∙ c.requires.call);
+      undone = undone_by_commit ran.pass.now.view new commits.history c.decision-kept.result.0 commits.view;
+      entry =
+          gets_entry (g.S.Shape.word_count ran.desk.now.shape) (g.S.Shape.good ran.desk.now.shape) c.args.attempt.now.desk.now.base (g.J.Job.means c.args.job.now) c.decision-kept.result.0 c.args.call first ran.pass.now.view c.settle-serial.new.attempt.pass.now.view
+          (record { serial = c.settle-serial.result; call = c.args.call; restarts = c.loop-restarts.restarts; answer = c.decision-kept.result.1 })
+          same c.requires.floor c.requires.call
+          (subst (λ d. CommitsAt (g.S.Shape.word_count ran.desk.now.shape) (g.S.Shape.good ran.desk.now.shape) d.base c.decision-kept.result.0 ran.pass.now.view c.settle-serial.new.attempt.pass.now.view c.settle-serial.result) desk c.settle-serial.ensures.entry)
+          refl
+          (ap (λ (l : List Abandoned). length l) runs.abandoned ∙ (ap (λ (p : PassView). length p.view.abandoned) (same_pass ran.desk.now at.desk.now ran.pass.ghost_name at.pass.ghost_name ran.began.value at.began.value c.run.ensures.origin ∙ inv.began) ∙ inv.restarts))
+          (meant (g.J.Job.means c.args.job.now) g.S.Shape.word_count g.S.Shape.good ran.desk.now.shape (g.J.Job.shape c.args.job.now) ran.pass.now.view.trace (is_kept c.in-Ok.verdict) c.decision-kept.result.0 (answer_of c.in-Ok.verdict) c.decision-kept.result.1
+          shape c.decision-kept.ensures.kept c.decision-kept.ensures.answer c.in-Ok.ensures.meaning);
+      legal =
+          subst (λ d. IsLegalHistory (IsGood (g.S.Shape.word_count d.shape) (g.S.Shape.good d.shape)) d.seats d.base new.seen) desk c.settle-serial.ensures.legal;
+      few = subst (λ (n : ℕ). n < c.args.attempt.now.desk.now.seats) inv.restarts inv.few;
+      committed = phase_after_commit ran.pass.now.view new commits.history c.decision-kept.result.0 commits.view;
+      others = search rules;
+      given_up = search rules;
+    }
 
-pub returns-in-Err-Memory-clause-others : goal.returns-in-Err-Memory-clause-others
-returns-in-Err-Memory-clause-others g c = let inv = c.loop-restarts.invariant in let first = c.args.attempt.now.pass.now.view in let at = c.loop-restarts.attempt in let ran = c.run.new.w in
+pub returns-in-Err-Memory : goal.returns-in-Err-Memory
+returns-in-Err-Memory g c = let inv = c.loop-restarts.invariant in let first = c.args.attempt.now.pass.now.view in let at = c.loop-restarts.attempt in let ran = c.run.new.w in
     let same = ran_on first ran.began.value at.began.value at.pass.now ran.pass.now.view inv.call (same_pass ran.desk.now at.desk.now ran.pass.ghost_name at.pass.ghost_name ran.began.value at.began.value c.run.ensures.origin) inv.began c.run.ensures.sound.call in
-    undone_others first ran.pass.now.view c.undo_all.new.pass.view same c.undo_all.ensures.undone
+    let desk = same_desk ran.desk.now at.desk.now ran.pass.ghost_name at.pass.ghost_name ran.began.value at.began.value c.run.ensures.origin ∙ inv.desk in
+    let undone = c.undo_all.ensures.undone in
+    let new = c.undo_all.new.pass.view in
+    record {
+      name = same_name ran.desk.now at.desk.now ran.pass.ghost_name at.pass.ghost_name ran.began.value at.began.value c.run.ensures.origin ∙ inv.name;
+      desk = c.undo_all.ensures.desk ∙ (c.run.ensures.sound.table ∙ same_table ran.desk.now c.args.attempt.now.desk.now desk);
+      seat = seat_after_undo first ran.pass.now.view new undone same.seat;
+      call = call_after_undo ran.pass.now.view new undone ∙ (same.call ∙ c.requires.call);
+      undone = undone.none_left;
+      entry = search rules;
+      legal = search rules;
+      few = search rules;
+      committed = search rules;
+      others = undone_others first ran.pass.now.view c.undo_all.new.pass.view same c.undo_all.ensures.undone;
+      given_up = search rules;
+    }
 
 pub loop-restarts-preserved : goal.loop-restarts-preserved
 loop-restarts-preserved g c = let inv = c.loop-restarts.invariant in let first = c.args.attempt.now.pass.now.view in let at = c.loop-restarts.attempt in let ran = c.run.new.w in let next = c.give_way.new.attempt in

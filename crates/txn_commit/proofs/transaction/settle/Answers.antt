@@ -1,4 +1,4 @@
-use Rattle.std.proofs.Common.{◌≡◌, List, ℕ, Bool, true, false, sym, ◌∙◌, subst}
+use Rattle.std.proofs.Common.{◌≡◌, List, ℕ, Bool, true, false, sym, ◌∙◌, subst, rules}
 use Rattle.history_model.specs.Fitting.{IsGood}
 use Rattle.history_model.specs.Traces.{IsLegalTrace, after}
 use Rattle.history_model.proofs.TraceLaws.{length-after}
@@ -17,3 +17,12 @@ commit-serial-requires-clause-leaves_good g c kept words good legal = elim c.if-
       (λ ws fine fits. record { count = length-after c.args.attempt.now.pass.now.view.trace ws ∙ fine.count; good = c.requires.leaves_good kept ws (record { count = fine.count; good = fine.good; legal = fits }) })
       words good legal
 ]
+
+pub returns : goal.returns
+returns g c = record {
+  name = search rules;
+  desk = search rules;
+  entry = search rules;
+  legal = search rules;
+  few = search rules;
+}

@@ -1,18 +1,113 @@
-use Rattle.std.proofs.Common.{◌≡◌, Option, Some, refl, sym, ◌∙◌, subst, arith}
+use Rattle.std.proofs.Common.{◌≡◌, ℕ, ◌<◌, [], ◌∷◌, ◌++◌, Option, Some, inr, refl, sym, ap, ◌∙◌, subst, arith, append_assoc, append-nil, rules}
+use Rattle.history_model.specs.declared.event.Event.TheVariants.{Read, Write}
+use Rattle.history_model.specs.declared.view.View.{View}
+use Rattle.history_model.specs.Locks.{lock_of_word}
+use Rattle.history_model.specs.Traces.{Trace}
+use Rattle.history_model.specs.Views.{number, HasWriteGrant}
+use Rattle.values_rule.specs.Steps.{store_value_action}
 use Rattle.undo_log.specs.Room.{Room}
+use Rattle.lock_or_yield.specs.Asking.{Asks, GainsAtMost}
 use Rattle.txn_commit.specs.declared.attempt.Halt.{Halt}
 use Rattle.txn_commit.specs.declared.attempt.Halt.TheVariants as halt
 use Rattle.txn_commit.specs.Attempts.{IsSound}
-use Rattle.txn_commit.proofs.Attempts.{loaded_last, not_halted, of_refused, of_made, refused_when_full, yields_sound, held_sound, memory_sound, store_sound, held_not_yield, granted_not_yield}
+use Rattle.txn_commit.proofs.Attempts.{asks_sound, loaded_last, not_halted, of_refused, of_made, refused_when_full, yields_sound, held_sound, memory_sound, store_sound, held_not_yield, granted_not_yield}
 use Rattle.txn_commit.proofs.attempt.AttemptWords.write.Goals.{in-Held, in-Granted}
 use Rattle.txn_commit.proofs.attempt.AttemptWords.write.Goals as goal
 
-pub returns-in-Yield-clause-sound : goal.returns-in-Yield-clause-sound
-returns-in-Yield-clause-sound g c = let none = not_halted c.args.self.now.halt c.requires.going in let old = c.args.self.now.pass.now in
-    let sound = subst (λ (h : Option Halt). IsSound g.S.Shape.word_count g.S.Shape.good c.args.self.now.desk.now c.args.self.now.began.value old c.args.self.now.undo h) none c.requires.sound in
+-- what asking for a lock, a load after that, and a store after that leave of the trace and of the words asked for
+asks_trace : (a : ℕ) (first asked : View) → Asks a first asked → asked.trace ≡ first.trace
+asks_trace a first asked asks = ap (λ (v : View). v.trace) asks.rest
+
+load_trace : (a was : ℕ) (first asked loaded : View) → Asks a first asked → loaded.trace ≡ asked.trace ++ Read a was ∷ []
+    → loaded.trace ≡ first.trace ++ Read a was ∷ []
+load_trace a was first asked loaded asks last = last ∙ ap (λ (t : Trace). t ++ Read a was ∷ []) (asks_trace a first asked asks)
+
+store_trace : (a was x : ℕ) (first loaded stored : View) → loaded.trace ≡ first.trace ++ Read a was ∷ []
+    → stored ≡ (store_value_action (number loaded) a x loaded).view [] 0 → stored.trace ≡ first.trace ++ Read a was ∷ Write a x ∷ []
+store_trace a was x first loaded stored read step =
+    ap (λ (v : View). v.trace) step ∙ ap (λ (t : Trace). t ++ Write a x ∷ []) read ∙ append_assoc first.trace (Read a was ∷ []) (Write a x ∷ [])
+
+load_asked : (a was : ℕ) (first asked loaded : View) → Asks a first asked → loaded ≡ record asked { trace = asked.trace ++ Read a was ∷ [] }
+    → GainsAtMost a first.asked loaded.asked
+load_asked a was first asked loaded asks event = subst (λ (v : View). GainsAtMost a first.asked v.asked) (sym event) asks.asked
+
+store_asked : (a x : ℕ) (first loaded stored : View) → GainsAtMost a first.asked loaded.asked
+    → stored ≡ (store_value_action (number loaded) a x loaded).view [] 0 → GainsAtMost a first.asked stored.asked
+store_asked a x first loaded stored asked step = subst (λ (v : View). GainsAtMost a first.asked v.asked) (sym step) asked
+
+pub returns-in-Yield : goal.returns-in-Yield
+returns-in-Yield g c =
+    let none = not_halted c.args.self.now.halt c.requires.going in
+    let sound = subst (λ (h : Option Halt). IsSound g.S.Shape.word_count g.S.Shape.good c.args.self.now.desk.now c.args.self.now.began.value c.args.self.now.pass.now c.args.self.now.undo h) none c.requires.sound in
+    let asks = c.in-Yield.ensures.asks in
     let way = c.in-Yield.ensures.yields c.in-Yield.cause refl in
-    yields_sound g.S.Shape.word_count g.S.Shape.good c.args.self.now.desk.now c.args.self.now.began.value c.args.a old c.ask_to_write.new.pass c.args.self.now.undo c.in-Yield.cause
-    sound c.in-Yield.ensures.desk c.in-Yield.ensures.asks c.in-Yield.ensures.judged way.0 way.1
+    record {
+      value = search rules;
+      begins = ([], asks_trace c.args.a c.args.self.now.pass.now.view c.ask_to_write.new.pass.view asks ∙ sym (append-nil c.args.self.now.pass.now.view.trace));
+      stops = refl;
+      shape = refl;
+      origin = refl;
+      sound =
+          yields_sound g.S.Shape.word_count g.S.Shape.good c.args.self.now.desk.now c.args.self.now.began.value c.args.a c.args.self.now.pass.now c.ask_to_write.new.pass c.args.self.now.undo c.in-Yield.cause
+          sound c.in-Yield.ensures.desk asks c.in-Yield.ensures.judged way.0 way.1;
+      memory = λ room e. cc;
+      asked = asks.asked;
+    }
+
+pub load-old-requires : goal.load-old-requires
+load-old-requires g c =
+    let none = not_halted c.args.self.now.halt c.requires.going in
+    let sound = subst (λ (h : Option Halt). IsSound g.S.Shape.word_count g.S.Shape.good c.args.self.now.desk.now c.args.self.now.began.value c.args.self.now.pass.now c.args.self.now.undo h) none c.requires.sound in
+    let goes_on = c.ask_to_write.ensures.goes_on (elim c.match-ask_to_write.branch [ in-Held w ↦ λ cause e. held_not_yield cause (sym w.in-Held.is ∙ e) | in-Granted w ↦ λ cause e. granted_not_yield cause (sym w.in-Granted.is ∙ e) ]) in
+    let asked = asks_sound g.S.Shape.word_count g.S.Shape.good c.args.self.now.desk.now c.args.self.now.began.value c.args.a c.args.self.now.pass.now c.ask_to_write.new.pass c.args.self.now.undo
+    sound c.ask_to_write.ensures.desk c.ask_to_write.ensures.asks c.ask_to_write.ensures.judged goes_on.1 in
+    record {
+      desk = asked.table;
+      phase = asked.stands.phase;
+      word = subst (λ (n : ℕ). c.args.a < n) (sym asked.words) c.requires.within;
+      granted = inr goes_on.0;
+    }
+
+pub store-requires : goal.store-requires
+store-requires g c =
+    let goes_on = c.ask_to_write.ensures.goes_on (elim c.match-ask_to_write.branch [ in-Held w ↦ λ cause e. held_not_yield cause (sym w.in-Held.is ∙ e) | in-Granted w ↦ λ cause e. granted_not_yield cause (sym w.in-Granted.is ∙ e) ]) in
+    let held = held_sound g.S.Shape.word_count g.S.Shape.good c.args.self.now.desk.now c.args.self.now.began.value c.args.a c.load-old.result c.args.self.now.pass.now c.ask_to_write.new.pass c.load-old.new.pass c.args.self.now.undo c.args.self.now.halt
+    c.requires.going c.requires.sound c.ask_to_write.ensures.desk c.ask_to_write.ensures.asks c.ask_to_write.ensures.judged goes_on.1 c.load-old.ensures.desk c.load-old.ensures.event c.load-old.ensures.fits in
+    let last = loaded_last c.args.a c.load-old.result c.ask_to_write.new.pass.view c.load-old.new.pass.view c.load-old.ensures.event in
+    record {
+      desk = held.table;
+      phase = held.stands.phase;
+      word = subst (λ (n : ℕ). c.args.a < n) (sym held.words) c.requires.within;
+      granted = subst (λ (v : View). HasWriteGrant v (lock_of_word c.args.a)) (sym c.load-old.ensures.event) goes_on.0;
+      read = (c.ask_to_write.new.pass.view.trace, c.load-old.result, last);
+    }
+
+pub returns : goal.returns
+returns g c =
+    let goes_on = c.ask_to_write.ensures.goes_on (elim c.match-ask_to_write.branch [ in-Held w ↦ λ cause e. held_not_yield cause (sym w.in-Held.is ∙ e) | in-Granted w ↦ λ cause e. granted_not_yield cause (sym w.in-Granted.is ∙ e) ]) in
+    let held = held_sound g.S.Shape.word_count g.S.Shape.good c.args.self.now.desk.now c.args.self.now.began.value c.args.a c.load-old.result c.args.self.now.pass.now c.ask_to_write.new.pass c.load-old.new.pass c.args.self.now.undo c.args.self.now.halt
+    c.requires.going c.requires.sound c.ask_to_write.ensures.desk c.ask_to_write.ensures.asks c.ask_to_write.ensures.judged goes_on.1 c.load-old.ensures.desk c.load-old.ensures.event c.load-old.ensures.fits in
+    let last = loaded_last c.args.a c.load-old.result c.ask_to_write.new.pass.view c.load-old.new.pass.view c.load-old.ensures.event in
+    let asks = c.ask_to_write.ensures.asks in
+    let read = load_trace c.args.a c.load-old.result c.args.self.now.pass.now.view c.ask_to_write.new.pass.view c.load-old.new.pass.view asks last in
+    let written = store_trace c.args.a c.load-old.result c.args.v c.args.self.now.pass.now.view c.load-old.new.pass.view c.store.new.pass.view read c.store.ensures.step in
+    let made = sym c.if-is_err.ensures.value in
+    record {
+      value = inr (c.load-old.result, written);
+      begins = (Read c.args.a c.load-old.result ∷ Write c.args.a c.args.v ∷ [], written);
+      stops = c.requires.going;
+      shape = refl;
+      origin = refl;
+      sound =
+          subst (λ (h : Option Halt). IsSound g.S.Shape.word_count g.S.Shape.good c.args.self.now.desk.now c.args.self.now.began.value c.store.new.pass c.note.new.self h) (sym (not_halted c.args.self.now.halt c.requires.going))
+          (store_sound g.S.Shape.word_count g.S.Shape.good c.args.self.now.desk.now c.args.self.now.began.value c.args.a c.args.v c.load-old.result c.ask_to_write.new.pass.view.trace c.load-old.new.pass c.store.new.pass c.args.self.now.undo c.note.new.self
+          held c.requires.within last c.store.ensures.desk c.store.ensures.step (c.store.ensures.noted c.ask_to_write.new.pass.view.trace c.load-old.result last)
+          (of_made c.note.result made c.note.ensures.ok) (of_made c.note.result made c.note.ensures.spare));
+      memory = λ room e. cc;
+      asked =
+          store_asked c.args.a c.args.v c.args.self.now.pass.now.view c.load-old.new.pass.view c.store.new.pass.view
+          (load_asked c.args.a c.load-old.result c.args.self.now.pass.now.view c.ask_to_write.new.pass.view c.load-old.new.pass.view asks c.load-old.ensures.event) c.store.ensures.step;
+    }
 
 pub returns-then-is_err-clause-sound : goal.returns-then-is_err-clause-sound
 returns-then-is_err-clause-sound g c =
@@ -24,15 +119,3 @@ returns-then-is_err-clause-sound g c =
     let room = c.requires.sound.room in
     subst (λ (log : Room). IsSound g.S.Shape.word_count g.S.Shape.good c.args.self.now.desk.now c.args.self.now.began.value c.load-old.new.pass log (Some halt.Memory)) (sym (of_refused c.note.result refused c.note.ensures.err))
     (memory_sound g.S.Shape.word_count g.S.Shape.good c.args.self.now.desk.now c.args.self.now.began.value c.load-old.new.pass c.args.self.now.undo held (omega (arith, full, room)))
-
-pub returns-clause-sound : goal.returns-clause-sound
-returns-clause-sound g c =
-    let goes_on = c.ask_to_write.ensures.goes_on (elim c.match-ask_to_write.branch [ in-Held w ↦ λ cause e. held_not_yield cause (sym w.in-Held.is ∙ e) | in-Granted w ↦ λ cause e. granted_not_yield cause (sym w.in-Granted.is ∙ e) ]) in
-    let held = held_sound g.S.Shape.word_count g.S.Shape.good c.args.self.now.desk.now c.args.self.now.began.value c.args.a c.load-old.result c.args.self.now.pass.now c.ask_to_write.new.pass c.load-old.new.pass c.args.self.now.undo c.args.self.now.halt
-    c.requires.going c.requires.sound c.ask_to_write.ensures.desk c.ask_to_write.ensures.asks c.ask_to_write.ensures.judged goes_on.1 c.load-old.ensures.desk c.load-old.ensures.event c.load-old.ensures.fits in
-    let made = sym c.if-is_err.ensures.value in
-    let last = loaded_last c.args.a c.load-old.result c.ask_to_write.new.pass.view c.load-old.new.pass.view c.load-old.ensures.event in
-    subst (λ (h : Option Halt). IsSound g.S.Shape.word_count g.S.Shape.good c.args.self.now.desk.now c.args.self.now.began.value c.store.new.pass c.note.new.self h) (sym (not_halted c.args.self.now.halt c.requires.going))
-    (store_sound g.S.Shape.word_count g.S.Shape.good c.args.self.now.desk.now c.args.self.now.began.value c.args.a c.args.v c.load-old.result c.ask_to_write.new.pass.view.trace c.load-old.new.pass c.store.new.pass c.args.self.now.undo c.note.new.self
-    held c.requires.within last c.store.ensures.desk c.store.ensures.step (c.store.ensures.noted c.ask_to_write.new.pass.view.trace c.load-old.result last)
-    (of_made c.note.result made c.note.ensures.ok) (of_made c.note.result made c.note.ensures.spare))
