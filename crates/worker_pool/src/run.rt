@@ -1,6 +1,6 @@
 //! All workers of a day: a thread for each pass, and what they leave.
 
-ghost use Rattle.std.specs.Prelude.{◌≡◌, ◌<◌, ◌≤◌, ◌*◌, ◌+◌, length, map, flat_map, replicate, All, false, IfOk};
+ghost use Rattle.std.specs.Prelude.{◌≡◌, ◌<◌, ◌≤◌, ◌*◌, ◌+◌, ◌++◌, ◌∷◌, [], length, map, flat_map, replicate, All, false, IfOk, OnOk};
 ghost use Rattle.std.specs.List.{range_with_len};
 ghost use Rattle.history_model.specs.Fitting.{IsGood};
 ghost use Rattle.history_model.specs.Legal.{IsLegalHistory};
@@ -80,6 +80,33 @@ fn work_all<R: Threads + Wait + Sync, G: Gate>(shop: &Workshop<R, G>, workers: &
     );
 }
 
+// What one worker has, behind what others had, unless it found no memory.
+fn add_worker(
+    worker: Worker,
+    takers: &mut Vec<Taker>,
+    passes: &mut Vec<Pass<BooksShape>>,
+    all: &mut Vec<Done>,
+) -> Result<(), OutOfMemory>
+    ensures not_failed { OnOk result (worker.failed ≡ false) }
+    ensures taker { OnOk result (takers.new.items ≡ takers.old.items ++ worker.taker ∷ []) }
+    ensures pass { OnOk result (passes.new.items ≡ passes.old.items ++ worker.pass ∷ []) }
+    ensures done { OnOk result (all.new.items ≡ all.old.items ++ worker.done.items) }
+{
+    let Worker {
+        taker,
+        pass,
+        mut done,
+        failed,
+    } = worker;
+    if failed {
+        return Err(OutOfMemory);
+    }
+    takers.push(taker)?;
+    passes.push(pass)?;
+    all.append(&mut done)?;
+    Ok(())
+}
+
 // What all workers have, each list in their order, unless one of them found no memory.
 fn gather(
     alloc: Global,
@@ -97,18 +124,7 @@ fn gather(
     let mut passes = Vec::new(alloc);
     let mut all = Vec::new(alloc);
     for worker in workers {
-        let Worker {
-            taker,
-            pass,
-            mut done,
-            failed,
-        } = worker;
-        if failed {
-            return Err(OutOfMemory);
-        }
-        takers.push(taker)?;
-        passes.push(pass)?;
-        all.append(&mut done)?;
+        add_worker(worker, &mut takers, &mut passes, &mut all)?;
     }
     Ok((takers, passes, all))
 }

@@ -1,8 +1,9 @@
-use Rattle.std.proofs.Common.{◌≡◌, false, ap, arith, length}
+use Rattle.std.proofs.Common.{◌≡◌, ◌∙◌, All, List, map, flat_map, false, ap, arith, length, subst}
 use Rattle.std.proofs.lemmas.List.Elements.{All-push}
+use Rattle.std.proofs.lemmas.Result.{IfOk-from_err}
 use Rattle.std.specs.Vec.Iter.{into_iter_items}
 use Rattle.worker_pool.specs.declared.worker.Worker.{Worker}
-use Rattle.worker_pool.proofs.Yielded.{one_given, made_push, joined_push}
+use Rattle.worker_pool.proofs.Yielded.{all_given, one_given, made_push, joined_push}
 use Rattle.worker_pool.proofs.run.gather.Goals as goal
 
 pub loop-worker-preserved : goal.loop-worker-preserved
@@ -11,11 +12,28 @@ loop-worker-preserved c =
     let i = at.invariant in
     let w = c.in-Some.worker in
     let steps = c.in-Some.ensures.steps in
+    let e = c.in_ok-add_worker.ensures in
     record {
       all_come = one_given at.yielded (into_iter_items at.worker-iterator) (into_iter_items c.next.new.self) _ w steps.0 i.all_come;
       left = omega (arith, i.left, steps.1, ap length steps.0);
-      none_failed = All-push (λ (worker : Worker). worker.failed ≡ false) at.yielded w i.none_failed c.if-failed.false;
-      takers = made_push (λ (worker : Worker). worker.taker) at.yielded at.takers.items c.push.new.self.items w c.in_ok-push.ensures.items i.takers;
-      passes = made_push (λ (worker : Worker). worker.pass) at.yielded at.passes.items c.push-in-loop-worker.new.self.items w c.in_ok-push-2.ensures.items i.passes;
-      done = joined_push (λ (worker : Worker). worker.done.items) at.yielded at.all.items c.append.new.self.items w c.in_ok-append.ensures.items i.done;
+      none_failed = All-push (λ (worker : Worker). worker.failed ≡ false) at.yielded w i.none_failed e.not_failed;
+      takers = made_push (λ (worker : Worker). worker.taker) at.yielded at.takers.items c.add_worker.new.takers.items w e.taker i.takers;
+      passes = made_push (λ (worker : Worker). worker.pass) at.yielded at.passes.items c.add_worker.new.passes.items w e.pass i.passes;
+      done = joined_push (λ (worker : Worker). worker.done.items) at.yielded at.all.items c.add_worker.new.all.items w e.done i.done;
+    }
+
+pub returns-in_err-add_worker : goal.returns-in_err-add_worker
+returns-in_err-add_worker c = let failed = c.from_residual.ensures.0 in search IfOk-from_err
+
+pub returns : goal.returns
+returns c =
+    let at = c.loop-worker in
+    let i = at.invariant in
+    let whole = i.all_come ∙ c.into_iter-worker-iterator.ensures.into_iter_gives.0 in
+    let all = all_given at.yielded (into_iter_items at.worker-iterator) c.args.workers.items (omega (arith, i.left, c.in-None.ensures.steps.0)) whole in
+    record {
+      none_failed = subst (λ (l : List Worker). All (λ (worker : Worker). worker.failed ≡ false) l) all i.none_failed;
+      takers = i.takers ∙ ap (map (λ (worker : Worker). worker.taker)) all;
+      passes = i.passes ∙ ap (map (λ (worker : Worker). worker.pass)) all;
+      done = i.done ∙ ap (flat_map (λ (worker : Worker). worker.done.items)) all;
     }

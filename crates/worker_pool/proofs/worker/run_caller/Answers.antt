@@ -1,4 +1,5 @@
-use Rattle.std.proofs.Common.{◌≡◌, ℕ, ◌∷◌, ◌++◌, [], List, length, slice_index, sym, ap, ◌∙◌, subst, subst₂, arith, length-append, ◌<◌}
+use Rattle.std.proofs.Common.{◌≡◌, ℕ, ◌∷◌, ◌+◌, ◌++◌, [], List, length, slice_index, sym, ap, ◌∙◌, subst, subst₂, arith, length-append, ◌<◌}
+use Rattle.std.proofs.lemmas.Result.{IfOk-from_err}
 use Rattle.history_model.specs.Views.{number}
 use Rattle.script_reader.specs.Input.{caller_at}
 use Rattle.worker_pool.specs.declared.done.Done.{Done}
@@ -27,7 +28,25 @@ loop-index-preserved g c =
       count = omega (arith, i.count, ap length is, length-append at.done.items (item ∷ []));
     }
 
-pub returns-clause-run : goal.returns-clause-run
-returns-clause-run g c = λ h none before.
+pub returns-in_err-item : goal.returns-in_err-item
+returns-in_err-item g c =
+    let failed = c.from_residual.ensures.0 in
+    let who : c.run_script.new.pass.view.who ≡ c.args.pass.now.view.who = c.run_script.ensures.who ∙ c.loop-index.invariant.who in
+    search IfOk-from_err
+
+pub returns-in_err-push : goal.returns-in_err-push
+returns-in_err-push g c =
+    let failed = c.from_residual-in_err-push.ensures.0 in
+    let who : c.run_script.new.pass.view.who ≡ c.args.pass.now.view.who = c.run_script.ensures.who ∙ c.loop-index.invariant.who in
+    search IfOk-from_err
+
+pub returns : goal.returns
+returns g c =
+    let i = c.loop-index.invariant in
     let all : c.loop-index.index ≡ length (caller_at c.args.shop.now.input.now c.args.caller).scripts = omega arith in
-    subst (λ n. HasRun c.args.shop.now.input.now h c.args.caller n c.loop-index.done.items) all (c.loop-index.invariant.run h none before)
+    record {
+      who = i.who;
+      made = i.made;
+      run = λ h none before. subst (λ n. HasRun c.args.shop.now.input.now h c.args.caller n c.loop-index.done.items) all (i.run h none before);
+      count = i.count ∙ ap (λ (n : ℕ). length c.args.done.now.items + n) all;
+    }

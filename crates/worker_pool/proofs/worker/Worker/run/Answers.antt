@@ -1,4 +1,5 @@
 use Rattle.std.proofs.Common.{◌≡◌, ℕ, List, length, slice_index, sym, ap, ◌∙◌, subst, arith, ◌≤◌}
+use Rattle.std.proofs.lemmas.Result.{IfOk-from_err}
 use Rattle.history_model.specs.Views.{number}
 use Rattle.worker_pool.specs.Counting.{times}
 use Rattle.worker_pool.specs.Takers.{had, taken}
@@ -35,15 +36,24 @@ loop-preserved g c =
       count = omega (arith, e.count, i.count, scripts_push input (taken c.loop.self.taker) (taken c.next-in-loop.new.self) b n.taken);
     }
 
-pub returns-in_default-clause-worked : goal.returns-in_default-clause-worked
-returns-in_default-clause-worked g c =
+pub returns-in_default : goal.returns-in_default
+returns-in_default g c =
     let i = c.loop.invariant in
     let input = c.args.shop.now.input.now in
     let n = c.in_default.ensures in
     let done = c.loop.self.done.items in
     let same : number c.loop.self.pass.view ≡ number_of c.args.self.now = ap (λ (w : List ℕ). slice_index w 0) i.who in
     record {
-      end = record { table = n.source.0 ∙ i.table; callers = n.source.1 ∙ i.callers; over = n.over };
-      made = subst (λ k. HasMade c.args.shop.now.desk.now input k c.loop.self.pass done) (sym same) i.made;
-      run = subst (λ (l : List ℕ). HasRun input (λ x. times x l) 0 0 done) (sym n.none) i.run;
+      who = i.who;
+      worked = record {
+        end = record { table = n.source.0 ∙ i.table; callers = n.source.1 ∙ i.callers; over = n.over };
+        made = subst (λ k. HasMade c.args.shop.now.desk.now input k c.loop.self.pass done) (sym same) i.made;
+        run = subst (λ (l : List ℕ). HasRun input (λ x. times x l) 0 0 done) (sym n.none) i.run;
+      };
     }
+
+pub returns-in_err-run_caller : goal.returns-in_err-run_caller
+returns-in_err-run_caller g c =
+    let failed = c.from_residual.ensures.0 in
+    let who : c.run_caller.new.pass.view.who ≡ c.args.self.now.pass.view.who = c.run_caller.ensures.who ∙ c.loop.invariant.who in
+    search IfOk-from_err
