@@ -1,8 +1,7 @@
 -- What a drill says of the closing books.
-use Rattle.std.proofs.Common.{◌≡◌, ◌≤◌, ℕ, ◌+◌, ◌*◌, List, ◌++◌, length, codes, sym, ap, ◌∙◌, arith}
+use Rattle.std.proofs.Common.{◌≡◌, ◌≤◌, ℕ, ◌+◌, ◌*◌, List, ◌++◌, length, codes, sym, ◌∙◌, arith}
 use Rattle.std.proofs.lemmas.List.{length-map}
 use Rattle.std.proofs.lemmas.List.FromFn.{length-map-range_with_len}
-use Rattle.books_model.specs.Books.{ClearingBooks}
 use Rattle.books_model.specs.Laws.{all_cash}
 use Rattle.script_reader.specs.Input.{ClearingInput}
 use Rattle.script_reader.proofs.Reaching.{scripts_counted}
@@ -38,13 +37,12 @@ module _ (seed callers scripts workers : ℕ) (day : DayEnd) (is : IsDayOf (made
       ∙ length-map-range_with_len (made_submission seed callers) 0 (callers * scripts)
 
   -- what is said of the closing books is what the laws say
-  pub summary_is : MadeCash → MadeQuantities → AreForMake seed callers scripts → (closing : ClearingBooks) → closing ≡ closing_books (made_input seed callers scripts) day
-      → (text : List ℕ) (run cash quantity : ℕ) → run ≡ length day.done.items → cash ≡ all_cash closing → quantity ≡ all_quantities closing
-      → text ≡ sum_line (codes "scripts") run ++ sum_line (codes "cash") cash ++ sum_line (codes "quantity") quantity ++ agrees_line
+  pub summary_is : MadeCash → MadeQuantities → AreForMake seed callers scripts → (text : List ℕ)
+      → text ≡ sum_line (codes "scripts") (length day.done.items) ++ sum_line (codes "cash") (all_cash (closing_books (made_input seed callers scripts) day))
+      ++ sum_line (codes "quantity") (all_quantities (closing_books (made_input seed callers scripts) day)) ++ agrees_line
       → text ≡ drill_text seed callers scripts
-  summary_is cash_law quantity_law range closing closed text run cash quantity run_is cash_is quantity_is told =
+  summary_is cash_law quantity_law range text told =
       let places = places_of day.done.items in
-      let run_all : run ≡ callers * scripts = run_is ∙ scripts_run in
-      let cash_all : cash ≡ 200000000 + all_deposits (made_input seed callers scripts) = cash_is ∙ ap all_cash closed ∙ cash_law seed callers scripts places range is.is_day.journal in
-      let quantity_all : quantity ≡ 160000 = quantity_is ∙ ap all_quantities closed ∙ quantity_law seed callers scripts places range is.is_day.journal in
-      told ∙ (λ i. sum_line (codes "scripts") (run_all i) ++ sum_line (codes "cash") (cash_all i) ++ sum_line (codes "quantity") (quantity_all i) ++ agrees_line)
+      let cash_all : all_cash (closing_books (made_input seed callers scripts) day) ≡ 200000000 + all_deposits (made_input seed callers scripts) = cash_law seed callers scripts places range is.is_day.journal in
+      let quantity_all : all_quantities (closing_books (made_input seed callers scripts) day) ≡ 160000 = quantity_law seed callers scripts places range is.is_day.journal in
+      told ∙ (λ i. sum_line (codes "scripts") (scripts_run i) ++ sum_line (codes "cash") (cash_all i) ++ sum_line (codes "quantity") (quantity_all i) ++ agrees_line)

@@ -9,7 +9,9 @@ use Rattle.script_reader.specs.Input.{ClearingInput}
 use Rattle.script_reader.specs.Grammar.{Spells, IsValidInput}
 use Rattle.script_reader.specs.Faults.{IsFirstFault, IsFrontFault}
 use Rattle.twoplsf.specs.Command.{IsRun, IsRunCommand, IsCheck, IsReading, IsValidCommand}
+use Rattle.books_report.specs.declared.limits.TheConstants.{RESTARTS_BELOW}
 use Rattle.books_report.specs.Output.{IsOutput, output_of}
+use Rattle.books_report.specs.Checking.{IsFirstWrongLine}
 use Rattle.worker_pool.specs.declared.done.DayEnd.{DayEnd}
 use Rattle.twoplsf.specs.Day.{IsDayOf, journal_of}
 use Rattle.twoplsf.specs.declared.limits.TheConstants.{MOST_INPUT_BYTES}
@@ -84,6 +86,12 @@ pub record IsRefusalOfFront (bytes text : List ℕ) : Type 0 where
   pub why : Fault
   pub first : IsFrontFault bytes number why
   pub text_is : text ≡ refused_line number why
+
+-- the answer to a text that is to be an output of an input
+abbrev pub IsComparison : ClearingInput → List ℕ → Answer → Type 0
+IsComparison input read (Output text day) = IsOutput input RESTARTS_BELOW read × (text.items ≡ agrees_line) × (day ≡ None)
+IsComparison input read (Difference text) = (n : ℕ) × IsFirstWrongLine input RESTARTS_BELOW read n × (text.items ≡ differs_line n)
+IsComparison input read (Refusal text) = ⊥
 
 -- the answer to bytes that are to be an input and an output of it
 abbrev pub IsCheckOf : List ℕ → Answer → Type 0

@@ -99,6 +99,24 @@ pub(crate) fn output_of(
     journal_text(alloc, input, &lines, &replies, closing)
 }
 
+// Runs the scripts of an input by so many workers, and makes the text of the journal.
+fn day_and_text<R: Threads + Wait + Sync, G: Gate>(
+    rt: &R,
+    alloc: Global,
+    input: &Input,
+    workers: u32,
+    gate: &G,
+) -> Result<(DayEnd, Vec<u8>), OutOfMemory>
+    requires workers { IsWithin 1 MOST_WORKERS workers }
+    ensures day { IfOk result (λ r. IsDayOf input.now workers r.0) }
+    ensures text { IfOk result (λ r. r.1.items ≡ output_of input.now (journal_of r.0)) }
+{
+    let day = run_day(rt, alloc, input, workers, gate)?;
+    let closing = closing_of(alloc, input, workers, &day)?;
+    let text = output_of(alloc, input, workers, &day, &closing)?;
+    Ok((day, text))
+}
+
 /// Reads an input, runs its scripts by so many workers and makes the text of the journal; or makes the text of a
 /// refusal.
 pub fn answer_to<R: Threads + Wait + Sync, G: Gate>(
@@ -113,9 +131,7 @@ pub fn answer_to<R: Threads + Wait + Sync, G: Gate>(
 {
     match read_input(alloc, bytes) {
         Ok(input) => {
-            let day = run_day(rt, alloc, &input, workers, gate)?;
-            let closing = closing_of(alloc, &input, workers, &day)?;
-            let text = output_of(alloc, &input, workers, &day, &closing)?;
+            let (day, text) = day_and_text(rt, alloc, &input, workers, gate)?;
             Ok(Answer::Output {
                 text,
                 day: Some(day),

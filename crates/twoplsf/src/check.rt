@@ -1,13 +1,13 @@
 //! The answer to the bytes of an input and of a text behind it.
 
 ghost use Rattle.std.specs.Prelude.{◌≡◌, IfOk};
-ghost use Rattle.twoplsf.specs.Answer.{IsCheckOf};
+ghost use Rattle.twoplsf.specs.Answer.{IsCheckOf, IsComparison};
 ghost use Rattle.twoplsf.specs.Check.{differs_line};
 
 use crate::answer::{Answer, refusal_of};
 use books_report::{Checked, check_text};
 use io_ends::OutOfMemory;
-use script_reader::{InputFault, read_front};
+use script_reader::{Input, InputFault, read_front};
 use std::alloc::Global;
 
 fn difference_of(alloc: Global, line: u32) -> Result<Vec<u8>, OutOfMemory>
@@ -17,6 +17,19 @@ fn difference_of(alloc: Global, line: u32) -> Result<Vec<u8>, OutOfMemory>
     write!(text, "{line}")?;
     text.push_str("\n")?;
     Ok(text.into_bytes())
+}
+
+// Compares a text with the input that it is to be an output of.
+fn compare(alloc: Global, input: &Input, text: &[u8]) -> Result<Answer, OutOfMemory>
+    ensures { IfOk result (IsComparison input.now text.now) }
+{
+    match check_text(alloc, input, text)? {
+        Checked::Agrees => Ok(Answer::Output {
+            text: String::from_str(alloc, "agrees\n")?.into_bytes(),
+            day: None,
+        }),
+        Checked::Differs(line) => Ok(Answer::Difference(difference_of(alloc, line)?)),
+    }
 }
 
 /// Reads an input, and says whether what stands behind it is an output of it; or makes the text of a refusal. The input
@@ -31,11 +44,5 @@ pub fn check_answer(alloc: Global, bytes: &[u8]) -> Result<Answer, OutOfMemory>
         }
         Err(InputFault::OutOfMemory) => return Err(OutOfMemory),
     };
-    match check_text(alloc, &input, &bytes[end..])? {
-        Checked::Agrees => Ok(Answer::Output {
-            text: String::from_str(alloc, "agrees\n")?.into_bytes(),
-            day: None,
-        }),
-        Checked::Differs(line) => Ok(Answer::Difference(difference_of(alloc, line)?)),
-    }
+    compare(alloc, &input, &bytes[end..])
 }

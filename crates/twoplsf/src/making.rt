@@ -1,15 +1,15 @@
 //! The answer of a command that makes its input.
 
-ghost use Rattle.std.specs.Prelude.{◌≡◌, ◌++◌, ℕ, List, IfOk, OnOk, codes};
+ghost use Rattle.std.specs.Prelude.{◌≡◌, ◌++◌, ℕ, List, IfOk, OnOk, codes, length};
 ghost use Rattle.std.specs.String.{string_bytes};
+ghost use Rattle.books_model.specs.Laws.{all_cash};
 ghost use Rattle.books_model.specs.Ranges.{IsWithin};
-ghost use Rattle.books_report.specs.declared.limits.TheConstants.{RESTARTS_BELOW};
-ghost use Rattle.books_report.specs.Output.{IsOutput};
+ghost use Rattle.input_maker.specs.Days.{all_quantities};
 ghost use Rattle.input_maker.specs.Statements.{AreForMake};
 ghost use Rattle.script_reader.specs.declared.limits.TheConstants.{MOST_WORKERS};
 ghost use Rattle.twoplsf.specs.Check.{agrees_line};
 ghost use Rattle.twoplsf.specs.Commands.{IsMakingBy};
-ghost use Rattle.twoplsf.specs.Day.{IsDayOf};
+ghost use Rattle.twoplsf.specs.Day.{IsDayOf, closing_books};
 ghost use Rattle.twoplsf.specs.Made.{drill_text, sum_line};
 ghost use Rattle.twoplsf.specs.Making.{LeavesDay, making_text, planned_input};
 
@@ -17,6 +17,7 @@ use crate::answer::{closing_of, output_of};
 use crate::command::{Making, Plan};
 use crate::day::run_day;
 use crate::sums::{cash_of_all, quantity_of_all};
+use books_model::Books;
 use books_report::{Checked, check_text};
 use input_maker::laws::{made_days, made_inputs_are_inputs};
 use input_maker::make_input;
@@ -73,14 +74,49 @@ fn summary_of(alloc: Global, scripts: u64, cash: u64, quantity: u64) -> Result<V
     Ok(text.into_bytes())
 }
 
-/// Compares an output with the input that it is of. It agrees.
-fn agree(alloc: Global, input: &Input, output: &[u8]) -> Result<(), OutOfMemory>
-    requires { IsOutput input.now RESTARTS_BELOW output.now }
+/// Makes the output of a day, and compares it with the input. It agrees.
+fn agree(
+    alloc: Global,
+    input: &Input,
+    workers: u32,
+    day: &DayEnd,
+    closing: &Books,
+) -> Result<(), OutOfMemory>
+    requires workers { IsWithin 1 MOST_WORKERS workers }
+    requires day { IsDayOf input.now workers day.now }
+    requires closing { closing.now ≡ closing_books input.now day.now }
 {
-    match check_text(alloc, input, output)? {
+    let output = output_of(alloc, input, workers, day, closing)?;
+    match check_text(alloc, input, &output)? {
         Checked::Agrees => Ok(()),
         Checked::Differs(_) => unreachable!(),
     }
+}
+
+/// What is said of a day, whose output agrees: how many scripts it ran, and what its closing books come to.
+fn summary_of_day(
+    alloc: Global,
+    input: &Input,
+    workers: u32,
+    day: &DayEnd,
+) -> Result<Vec<u8>, OutOfMemory>
+    requires workers { IsWithin 1 MOST_WORKERS workers }
+    requires day { IsDayOf input.now workers day.now }
+    ensures { IfOk result (λ text. text.items
+        ≡ sum_line (codes "scripts") (length day.now.done.items)
+        ++ sum_line (codes "cash") (all_cash (closing_books input.now day.now))
+        ++ sum_line (codes "quantity") (all_quantities (closing_books input.now day.now))
+        ++ agrees_line) }
+{
+    let closing = closing_of(alloc, input, workers, day)?;
+    agree(alloc, input, workers, day, &closing)?;
+    let scripts = day.done.len() as u64;
+    summary_of(
+        alloc,
+        scripts,
+        cash_of_all(&closing),
+        quantity_of_all(&closing),
+    )
 }
 
 /// Runs the input of a plan by so many workers, makes its output and checks that, and sums up the closing books.
@@ -100,16 +136,7 @@ pub fn drill<R: Threads + Wait + Sync, G: Gate>(
     made_days();
     let input = input_of(alloc, plan)?;
     let day = run_day(rt, alloc, &input, workers, gate)?;
-    let closing = closing_of(alloc, &input, workers, &day)?;
-    let output = output_of(alloc, &input, workers, &day, &closing)?;
-    agree(alloc, &input, &output)?;
-    let scripts = day.done.len() as u64;
-    let text = summary_of(
-        alloc,
-        scripts,
-        cash_of_all(&closing),
-        quantity_of_all(&closing),
-    )?;
+    let text = summary_of_day(alloc, &input, workers, &day)?;
     Ok((text, day))
 }
 

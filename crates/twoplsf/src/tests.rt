@@ -33,6 +33,13 @@ struct Outcome {
     taken: Vec<u8>,
 }
 
+impl Outcome {
+    // That a run ended so, and its sink took these bytes.
+    fn is_so(&self, status: Status, taken: &[u8]) -> bool {
+        self.status == status && self.taken.as_slice() == taken
+    }
+}
+
 /// How the ends behave: the most bytes that a call moves, and the call of each that fails (0: none).
 #[derive(Clone, Copy)]
 struct Ends {
@@ -48,7 +55,7 @@ const GOOD: Ends = Ends {
     write_fails: 0,
 };
 
-fn words(alloc: Global, line: &str) -> Result<Vec<String>, OutOfMemory> {
+pub fn words(alloc: Global, line: &str) -> Result<Vec<String>, OutOfMemory> {
     let mut words = Vec::new(alloc);
     for word in line.split_whitespace() {
         words.push(String::from_str(alloc, word)?)?;
@@ -80,12 +87,24 @@ fn served<R: Threads + Wait + Sync>(
     })
 }
 
-fn text(alloc: Global, parts: &[&str]) -> Result<Vec<u8>, OutOfMemory> {
+pub fn text(alloc: Global, parts: &[&str]) -> Result<Vec<u8>, OutOfMemory> {
     let mut bytes = Vec::new(alloc);
     for part in parts {
         bytes.extend_from_slice(part.as_bytes())?;
     }
     Ok(bytes)
+}
+
+// What a command that is done prints.
+fn printed<R: Abort + Threads + Wait + Sync>(
+    rt: &R,
+    alloc: Global,
+    command: &str,
+    bytes: Vec<u8>,
+) -> Result<Vec<u8>, OutOfMemory> {
+    let run = served(rt, alloc, command, bytes, GOOD)?;
+    assert_eq!(rt; run.status, Status::Done, "{command}");
+    Ok(run.taken)
 }
 
 // Runs a command over an input, which is to end so and print this. Both texts come in parts.
@@ -236,18 +255,21 @@ fn scripts_are_run_on_other_sizes(rt: HostRuntime) -> Result<(), Fail> {
     Ok(())
 }
 
-#[test]
-fn the_cash_of_all_accounts_is_summed(rt: HostRuntime) -> Result<(), Fail> {
-    let alloc = rt.alloc();
+// As many accounts as there can be, each with as much cash as it can have.
+fn all_accounts(alloc: Global) -> Result<Vec<u8>, OutOfMemory> {
     let mut input = String::from_str(alloc, "books 1 blocks 16384 instruments 1 ring 1\n")?;
     for account in 1..=16_384u32 {
         write!(input, "account {account} 1000000000000000\n")?;
     }
     input.push_str("scripts\nscript ann\nsum 1 16384\nend\nfinish\n")?;
-    let run = served(&rt, alloc, "run 1", input.into_bytes(), GOOD)?;
-    assert_eq!(rt; run.status, Status::Done);
+    Ok(input.into_bytes())
+}
+
+#[test]
+fn the_cash_of_all_accounts_is_summed(rt: HostRuntime) -> Result<(), Fail> {
+    let taken = printed(&rt, rt.alloc(), "run 1", all_accounts(rt.alloc())?)?;
     let want = b"journal\n1 ann 1 0 done 16384000000000000000\nbooks ".as_slice();
-    assert!(rt; run.taken.starts_with(want));
+    assert!(rt; taken.starts_with(want));
     Ok(())
 }
 
@@ -307,10 +329,8 @@ fn ends_that_fail_leave_a_front(rt: HostRuntime) -> Result<(), Fail> {
             write_fails: *write_fails,
         };
         let run = served(&rt, alloc, "run 1", text(alloc, &[HEADER, FIRST])?, ends)?;
-        assert_eq!(rt; run.status, *status, "{read_fails} {write_fails}");
-        assert_eq!(rt;
-            run.taken.as_slice(),
-            taken.as_bytes(),
+        assert!(rt;
+            run.is_so(*status, taken.as_bytes()),
             "{read_fails} {write_fails}"
         );
     }
@@ -326,8 +346,7 @@ fn more_bytes_than_the_largest_input_are_refused(rt: HostRuntime) -> Result<(), 
         (9_000_000, Status::TooLarge, "refused size\n"),
     ] {
         let run = served(&rt, alloc, "run 1", vec![in alloc; b'x'; *count]?, GOOD)?;
-        assert_eq!(rt; run.status, *status, "{count}");
-        assert_eq!(rt; run.taken.as_slice(), taken.as_bytes(), "{count}");
+        assert!(rt; run.is_so(*status, taken.as_bytes()), "{count}");
     }
     Ok(())
 }
@@ -451,26 +470,45 @@ fn each_front_of_a_text_ends_too_soon(rt: HostRuntime) -> Result<(), Fail> {
         let lines = front.iter().filter(|b| **b == b'\n').count() as u64;
         let run = served(&rt, alloc, "run 1", front.to_vec(alloc)?, GOOD)?;
         let want = format!(in alloc; "refused line {} end\n", lines.saturating_add(1))?;
-        assert_eq!(rt; run.status, Status::BadInput, "{end}");
-        assert_eq!(rt; run.taken.as_slice(), want.as_bytes(), "{end}");
+        assert!(rt; run.is_so(Status::BadInput, want.as_bytes()), "{end}");
     }
     Ok(())
+}
+
+// An input with a part that stands there so many times.
+fn long_input(
+    alloc: Global,
+    front: &str,
+    part: &str,
+    times: u32,
+    back: &str,
+) -> Result<Vec<u8>, OutOfMemory> {
+    let mut input = String::from_str(alloc, HEADER)?;
+    input.push_str(front)?;
+    for _ in 0..times {
+        input.push_str(part)?;
+    }
+    input.push_str(back)?;
+    Ok(input.into_bytes())
 }
 
 #[test]
 fn long_numbers_and_long_scripts_are_refused(rt: HostRuntime) -> Result<(), Fail> {
     let alloc = rt.alloc();
-    let mut number = text(alloc, &[HEADER, "account 1 "])?;
-    number.extend_from_slice(vec![in alloc; b'9'; 1_000]?.as_slice())?;
-    number.extend_from_slice(b"\n")?;
-    let run = served(&rt, alloc, "run 1", number, GOOD)?;
-    assert_eq!(rt; run.taken.as_slice(), b"refused line 2 limit\n".as_slice());
-    let mut script = text(alloc, &[HEADER, "scripts\nscript ann\n"])?;
-    for _ in 0..65 {
-        script.extend_from_slice(b"next\n")?;
+    for (front, part, times, back, output) in &[
+        ("account 1 ", "9", 1_000, "\n", "refused line 2 limit\n"),
+        (
+            "scripts\nscript ann\n",
+            "next\n",
+            65,
+            "",
+            "refused line 68 limit\n",
+        ),
+    ] {
+        let input = long_input(alloc, *front, *part, *times, *back)?;
+        let run = served(&rt, alloc, "run 1", input, GOOD)?;
+        assert!(rt; run.is_so(Status::BadInput, output.as_bytes()), "{output}");
     }
-    let run = served(&rt, alloc, "run 1", script, GOOD)?;
-    assert_eq!(rt; run.taken.as_slice(), b"refused line 68 limit\n".as_slice());
     Ok(())
 }
 
@@ -560,13 +598,10 @@ fn faults_of_the_input_come_before_the_text(rt: HostRuntime) -> Result<(), Fail>
 
 #[test]
 fn a_made_input_is_printed(rt: HostRuntime) -> Result<(), Fail> {
-    let alloc = rt.alloc();
-    let made = served(&rt, alloc, "make 0 1 1", Vec::new(alloc), GOOD)?;
-    assert_eq!(rt; made.status, Status::Done);
+    let made = printed(&rt, rt.alloc(), "make 0 1 1", Vec::new(rt.alloc()))?;
     let front = b"books 1 blocks 4096 instruments 8 ring 64\naccount 1 1000000\n".as_slice();
-    assert!(rt; made.taken.starts_with(front));
     let back = b"scripts\nscript caaa\ndeposit 118 46\nend\nfinish\n".as_slice();
-    assert!(rt; made.taken.ends_with(back));
+    assert!(rt; made.starts_with(front) && made.ends_with(back));
     Ok(())
 }
 
@@ -574,11 +609,9 @@ fn a_made_input_is_printed(rt: HostRuntime) -> Result<(), Fail> {
 // instruments.
 #[test]
 fn a_drill_sums_up_its_closing_books(rt: HostRuntime) -> Result<(), Fail> {
-    let alloc = rt.alloc();
-    let drill = served(&rt, alloc, "drill 1 0 1 1", Vec::new(alloc), GOOD)?;
-    assert_eq!(rt; drill.status, Status::Done);
+    let summary = printed(&rt, rt.alloc(), "drill 1 0 1 1", Vec::new(rt.alloc()))?;
     let want = b"scripts 1\ncash 200000046\nquantity 160000\nagrees\n".as_slice();
-    assert_eq!(rt; drill.taken.as_slice(), want);
+    assert_eq!(rt; summary.as_slice(), want);
     Ok(())
 }
 
@@ -599,32 +632,37 @@ fn with_restarts(alloc: Global, number: usize, line: &str) -> Result<String, Out
     Ok(changed)
 }
 
+// An input, and behind it a text.
+fn with_text(alloc: Global, input: &[u8], text: &[u8]) -> Result<Vec<u8>, OutOfMemory> {
+    let mut both = input.to_vec(alloc)?;
+    both.extend_from_slice(text)?;
+    Ok(both)
+}
+
+// An output, with other restarts on line 5.
+fn restarted(alloc: Global, output: &str) -> Result<String, OutOfMemory> {
+    let mut changed = String::new(alloc);
+    for (place, line) in output.lines().enumerate() {
+        let line = with_restarts(alloc, place.saturating_add(1), line)?;
+        changed.push_str(line.as_str())?;
+    }
+    Ok(changed)
+}
+
 #[test]
 fn the_output_of_a_made_input_agrees(rt: HostRuntime) -> Result<(), Fail> {
     let alloc = rt.alloc();
-    let made = served(&rt, alloc, "make 2023 40 50", Vec::new(alloc), GOOD)?;
-    assert_eq!(rt; made.status, Status::Done);
-    let run = served(
-        &rt,
-        alloc,
-        "run 4",
-        made.taken.as_slice().to_vec(alloc)?,
-        GOOD,
-    )?;
-    assert_eq!(rt; run.status, Status::Done);
-    let mut both = made.taken.as_slice().to_vec(alloc)?;
-    both.extend_from_slice(run.taken.as_slice())?;
-    let same = served(&rt, alloc, "check", both, GOOD)?;
-    assert_eq!(rt; same.status, Status::Done);
-    assert_eq!(rt; same.taken.as_slice(), b"agrees\n".as_slice());
-    let output = String::from_utf8(run.taken).expect(&rt, "the output is ASCII");
-    let mut changed = made.taken;
-    for (place, line) in output.lines().enumerate() {
-        let line = with_restarts(alloc, place.saturating_add(1), line)?;
-        changed.extend_from_slice(line.as_bytes())?;
+    let input = printed(&rt, alloc, "make 2023 40 50", Vec::new(alloc))?;
+    let output = printed(&rt, alloc, "run 4", input.as_slice().to_vec(alloc)?)?;
+    let output = String::from_utf8(output).expect(&rt, "the output is ASCII");
+    let other = restarted(alloc, output.as_str())?;
+    for (text, status, said) in &[
+        (output.as_bytes(), Status::Done, "agrees\n"),
+        (other.as_bytes(), Status::Differs, "differs line 5\n"),
+    ] {
+        let both = with_text(alloc, input.as_slice(), *text)?;
+        let run = served(&rt, alloc, "check", both, GOOD)?;
+        assert!(rt; run.is_so(*status, said.as_bytes()), "{said}");
     }
-    let other = served(&rt, alloc, "check", changed, GOOD)?;
-    assert_eq!(rt; other.status, Status::Differs);
-    assert_eq!(rt; other.taken.as_slice(), b"differs line 5\n".as_slice());
     Ok(())
 }

@@ -2,9 +2,11 @@
 
 use crate::serve::serve;
 use crate::status::Status;
+use crate::tests::{text, words};
 use crossbeam_utils::atomic::AtomicCell;
 use io_ends::{MemSink, MemSource, OutOfMemory};
 use std::alloc::Global;
+use std::process::Abort;
 use std::sync::Wait;
 use std::test::Fail;
 use std::thread::Threads;
@@ -67,141 +69,158 @@ impl Gate for BothWrite {
     }
 }
 
-// The output of an input that is run by so many workers.
-fn output_of<R: Threads + Wait + Sync, G: Gate>(
+// What a run prints of an input, which comes in parts.
+fn printed<R: Abort + Threads + Wait + Sync, G: Gate>(
     rt: &R,
     alloc: Global,
-    workers: u32,
-    input: Vec<u8>,
+    command: &str,
+    input: &[&str],
     gate: &G,
-) -> Result<(Status, Vec<u8>), OutOfMemory> {
-    let mut words = Vec::new(alloc);
-    words.push(String::from_str(alloc, "run")?)?;
-    words.push(format!(in alloc; "{workers}")?)?;
-    let mut source = MemSource::new(input, 1_000_000, Vec::new(alloc));
+) -> Result<Vec<u8>, OutOfMemory> {
+    let words = words(alloc, command)?;
+    let mut source = MemSource::new(text(alloc, input)?, 1_000_000, Vec::new(alloc));
     let mut sink = MemSink::with_room(alloc, 1_000_000, 1_000_000, Vec::new(alloc))?;
     let served = serve(rt, alloc, &words, &mut source, &mut sink, gate);
-    Ok((served.status, sink.taken().to_vec(alloc)?))
+    assert_eq!(rt; served.status, Status::Done, "{command}");
+    Ok(sink.taken().to_vec(alloc)?)
 }
 
-fn bytes_of(alloc: Global, parts: &[&str]) -> Result<Vec<u8>, OutOfMemory> {
-    let mut bytes = Vec::new(alloc);
+// Whether a text is these parts, one behind another.
+fn is_text(text: &[u8], parts: &[&str]) -> bool {
+    let mut rest = text;
     for part in parts {
-        bytes.extend_from_slice(part.as_bytes())?;
+        let Some(behind) = rest.strip_prefix(part.as_bytes()) else {
+            return false;
+        };
+        rest = behind;
     }
-    Ok(bytes)
+    rest.is_empty()
 }
 
 // The second caller's script is committed while the first's is under way: so the two were run at once, and it comes
 // first in the journal.
 #[test]
 fn two_workers_run_at_once(rt: HostRuntime) -> Result<(), Fail> {
-    let alloc = rt.alloc();
-    let input = bytes_of(
-        alloc,
-        &[
-            TWO_ACCOUNTS,
-            "scripts\nscript ann\ndeposit 1 5\nshow 2\nend\nscript bob\ndeposit 2 7\nend\nfinish\n",
-        ],
-    )?;
     let gate = SecondFirst {
         committed: AtomicCell::new(false),
         gave_up: AtomicCell::new(false),
     };
-    let (status, taken) = output_of(&rt, alloc, 2, input, &gate)?;
-    assert!(rt; !gate.gave_up.load());
-    assert_eq!(rt; status, Status::Done);
-    let want = bytes_of(
-        alloc,
-        &[
-            "journal\n1 bob 1 0 done ok\n2 ann 1 0 done ok 7\n",
-            "books 1 blocks 2 instruments 1 ring 1\naccount 1 5\naccount 2 7\nfinish\n",
-        ],
-    )?;
-    assert_eq!(rt; taken.as_slice(), want.as_slice());
+    let input = &[
+        TWO_ACCOUNTS,
+        "scripts\nscript ann\ndeposit 1 5\nshow 2\nend\nscript bob\ndeposit 2 7\nend\nfinish\n",
+    ];
+    let taken = printed(&rt, rt.alloc(), "run 2", input, &gate)?;
+    let output = &[
+        "journal\n1 bob 1 0 done ok\n2 ann 1 0 done ok 7\n",
+        "books 1 blocks 2 instruments 1 ring 1\naccount 1 5\naccount 2 7\nfinish\n",
+    ];
+    assert!(rt; is_text(&taken, output) && !gate.gave_up.load());
     Ok(())
 }
 
 // Each holds an account that the other wants next: one of them gives way, once, and its script comes second.
 #[test]
 fn of_two_that_cross_one_gives_way(rt: HostRuntime) -> Result<(), Fail> {
-    let alloc = rt.alloc();
-    let input = bytes_of(
-        alloc,
-        &[
-            TWO_ACCOUNTS,
-            "scripts\nscript ann\ndeposit 1 5\ndeposit 2 5\nend\nscript bob\ndeposit 2 5\ndeposit 1 5\nend\nfinish\n",
-        ],
-    )?;
     let gate = BothWrite {
         first: AtomicCell::new(false),
         second: AtomicCell::new(false),
         gave_up: AtomicCell::new(false),
     };
-    let (status, taken) = output_of(&rt, alloc, 2, input, &gate)?;
-    assert!(rt; !gate.gave_up.load());
-    assert_eq!(rt; status, Status::Done);
+    let input = &[
+        TWO_ACCOUNTS,
+        "scripts\nscript ann\ndeposit 1 5\ndeposit 2 5\nend\nscript bob\ndeposit 2 5\ndeposit 1 5\nend\nfinish\n",
+    ];
+    let taken = printed(&rt, rt.alloc(), "run 2", input, &gate)?;
     let closing = "books 1 blocks 2 instruments 1 ring 1\naccount 1 10\naccount 2 10\nfinish\n";
-    let first = bytes_of(
-        alloc,
-        &[
-            "journal\n1 ann 1 0 done ok ok\n2 bob 1 1 done ok ok\n",
-            closing,
-        ],
-    )?;
-    let second = bytes_of(
-        alloc,
-        &[
-            "journal\n1 bob 1 0 done ok ok\n2 ann 1 1 done ok ok\n",
-            closing,
-        ],
-    )?;
-    assert!(rt; taken.as_slice() == first.as_slice() || taken.as_slice() == second.as_slice());
+    let first = &[
+        "journal\n1 ann 1 0 done ok ok\n2 bob 1 1 done ok ok\n",
+        closing,
+    ];
+    let second = &[
+        "journal\n1 bob 1 0 done ok ok\n2 ann 1 1 done ok ok\n",
+        closing,
+    ];
+    assert!(rt; is_text(&taken, first) || is_text(&taken, second));
+    assert!(rt; !gate.gave_up.load());
     Ok(())
 }
 
-// Eight callers, named `a` to `h`, with 25 scripts each: every one deposits 1 into account 1, and shows it. So whatever
-// the order, script number k of the journal, from 1, shows k, and the account ends with 200.
+/// The names of eight callers.
+const NAMES: [&str; 8] = ["a", "b", "c", "d", "e", "f", "g", "h"];
+
+// The scripts of these callers, 25 each: every one deposits 1 into account 1, and shows it.
+fn deposits(alloc: Global) -> Result<String, OutOfMemory> {
+    let mut scripts = String::from_str(alloc, "scripts\n")?;
+    for _ in 0..25 {
+        for name in &NAMES {
+            write!(scripts, "script {name}\ndeposit 1 1\nshow 1\nend\n")?;
+        }
+    }
+    scripts.push_str("finish\n")?;
+    Ok(scripts)
+}
+
+// Whether a line of the journal is that of the next script of one of the callers, which then has one more. Number k of
+// the journal, from 1, shows k.
+fn is_next(
+    alloc: Global,
+    line: &str,
+    serial: u32,
+    counts: &mut [u32; 8],
+) -> Result<bool, OutOfMemory> {
+    let mut found = false;
+    for (place, name) in NAMES.iter().enumerate() {
+        let index = counts[place].saturating_add(1);
+        let front = format!(in alloc; "{serial} {name} {index} ")?;
+        if line.starts_with(front.as_str()) {
+            counts[place] = index;
+            found = true;
+        }
+    }
+    let back = format!(in alloc; " done ok {serial}")?;
+    Ok(found && line.ends_with(back.as_str()))
+}
+
+// Whether a text is an output for the deposits, in whatever order: the account ends with 200.
+fn is_day_of_deposits(alloc: Global, text: &str) -> Result<bool, OutOfMemory> {
+    let mut lines = text.lines();
+    if lines.next() != Some("journal") {
+        return Ok(false);
+    }
+    let mut counts = [0u32; 8];
+    for serial in 1..=200u32 {
+        let Some(line) = lines.next() else {
+            return Ok(false);
+        };
+        if !is_next(alloc, line, serial, &mut counts)? {
+            return Ok(false);
+        }
+    }
+    for want in &[
+        "books 1 blocks 2 instruments 1 ring 1",
+        "account 1 200",
+        "account 2 0",
+        "finish",
+    ] {
+        if lines.next() != Some(*want) {
+            return Ok(false);
+        }
+    }
+    Ok(lines.next() == None)
+}
+
 #[test]
 fn each_script_of_a_day_is_run_once_in_its_callers_order(rt: HostRuntime) -> Result<(), Fail> {
     let alloc = rt.alloc();
-    let names = ["a", "b", "c", "d", "e", "f", "g", "h"];
-    let mut input = String::from_str(alloc, TWO_ACCOUNTS)?;
-    input.push_str("scripts\n")?;
-    for _ in 0..25 {
-        for name in names {
-            write!(input, "script {name}\ndeposit 1 1\nshow 1\nend\n")?;
-        }
-    }
-    input.push_str("finish\n")?;
-    for workers in [1, 2, 4, 16] {
-        let bytes = input.as_bytes().to_vec(alloc)?;
-        let (status, taken) = output_of(&rt, alloc, workers, bytes, &OpenGate)?;
-        assert_eq!(rt; status, Status::Done);
+    let scripts = deposits(alloc)?;
+    for command in &["run 1", "run 2", "run 4", "run 16"] {
+        let input = [TWO_ACCOUNTS, scripts.as_str()];
+        let taken = printed(&rt, alloc, *command, &input, &OpenGate)?;
         let taken = String::from_utf8(taken).expect(&rt, "the output is ASCII");
-        let mut lines = taken.lines();
-        assert_eq!(rt; lines.next(), Some("journal"));
-        let mut next = [0u32; 8];
-        for serial in 1..=200u32 {
-            let line = lines.next().expect(&rt, "a line for each script");
-            let mut found = false;
-            for (place, name) in names.iter().enumerate() {
-                let index = next[place].saturating_add(1);
-                let front = format!(in alloc; "{serial} {name} {index} ")?;
-                if line.starts_with(front.as_str()) {
-                    next[place] = index;
-                    found = true;
-                }
-            }
-            assert!(rt; found, "{line}");
-            let back = format!(in alloc; " done ok {serial}")?;
-            assert!(rt; line.ends_with(back.as_str()), "{line}");
-        }
-        assert_eq!(rt; lines.next(), Some("books 1 blocks 2 instruments 1 ring 1"));
-        assert_eq!(rt; lines.next(), Some("account 1 200"));
-        assert_eq!(rt; lines.next(), Some("account 2 0"));
-        assert_eq!(rt; lines.next(), Some("finish"));
-        assert_eq!(rt; lines.next(), None);
+        assert!(rt;
+            is_day_of_deposits(alloc, taken.as_str())?,
+            "{command}: {taken}"
+        );
     }
     Ok(())
 }
@@ -224,10 +243,7 @@ impl Gate for Commits {
 #[test]
 fn a_drill_commits_each_script_once(rt: HostRuntime) -> Result<(), Fail> {
     let alloc = rt.alloc();
-    let mut words = Vec::new(alloc);
-    for word in ["drill", "2", "0", "4", "5"] {
-        words.push(String::from_str(alloc, word)?)?;
-    }
+    let words = words(alloc, "drill 2 0 4 5")?;
     let mut source = MemSource::new(Vec::new(alloc), 1, Vec::new(alloc));
     let mut sink = MemSink::with_room(alloc, 1_000, 1_000, Vec::new(alloc))?;
     let gate = Commits {
@@ -235,7 +251,6 @@ fn a_drill_commits_each_script_once(rt: HostRuntime) -> Result<(), Fail> {
     };
     let served = serve(&rt, alloc, &words, &mut source, &mut sink, &gate);
     assert_eq!(rt; served.status, Status::Done);
-    assert!(rt; served.day.is_some());
-    assert_eq!(rt; gate.count.load(), 20);
+    assert!(rt; served.day.is_some() && gate.count.load() == 20);
     Ok(())
 }

@@ -1,7 +1,11 @@
-use Rattle.std.proofs.Common.{◌-◌, ◌++◌, ℕ, List, Ok, Vec, Global, length, take, drop, refl, sym, ap, ◌∙◌, take-append-drop}
+use Rattle.std.proofs.Common.{◌-◌, ◌++◌, ℕ, List, length, take, drop, sym, ap, ◌∙◌, take-append-drop}
 use Rattle.std.proofs.lemmas.List.{take_rest}
+use Rattle.std.proofs.lemmas.Result.{IfOk-weaker}
 use Rattle.script_reader.specs.Input.{ClearingInput}
 use Rattle.script_reader.specs.Grammar.{Spells}
+use Rattle.twoplsf.specs.declared.answer.Answer.{Answer}
+use Rattle.twoplsf.specs.declared.answer.Answer.TheVariants.{Output, Difference, Refusal}
+use Rattle.twoplsf.specs.Answer.{IsCheckOf, IsComparison}
 use Rattle.twoplsf.specs.Check.{AreTwoTexts}
 use Rattle.twoplsf.proofs.check.check_answer.Goals as goal
 
@@ -13,26 +17,14 @@ two_texts bytes input end spelled = record {
   bytes_are = sym (take-append-drop end bytes) ∙ ap (λ l. take end bytes ++ l) (sym (take_rest bytes end));
 }
 
-pub returns-in-Agrees : goal.returns-in-Agrees
-returns-in-Agrees c = (
-  record {
-    input = c.in-Ok.front.0;
-    text = take (length c.args.bytes.now - c.in-Ok.front.1) (drop c.in-Ok.front.1 c.args.bytes.now);
-    two = two_texts c.args.bytes.now c.in-Ok.front.0 c.in-Ok.front.1 c.in-Ok.ensures.ok.1;
-    output = c.check_text.ensures.agrees (c.in_ok-check_text.was ∙ ap Ok c.in-Agrees.is);
-  },
-  ap (λ (v : Vec ℕ Global). v.items) c.into_bytes.ensures.value ∙ c.in_ok-from_str-in-Agrees.ensures.ok,
-  refl,
-)
+-- what is said of the rest of bytes is said of the bytes
+check_of : (bytes : List ℕ) (input : ClearingInput) (end : ℕ) → Spells (take end bytes) input
+    → (answer : Answer) → IsComparison input (take (length bytes - end) (drop end bytes)) answer → IsCheckOf bytes answer
+check_of bytes input end spelled (Output text day) (output, said, none) =
+    (record { input = input; text = take (length bytes - end) (drop end bytes); two = two_texts bytes input end spelled; output = output }, said, none)
+check_of bytes input end spelled (Difference text) (line, wrong, said) =
+    (line, record { input = input; text = take (length bytes - end) (drop end bytes); two = two_texts bytes input end spelled; wrong = wrong }, said)
+check_of bytes input end spelled (Refusal text) none = absurd none
 
 pub returns : goal.returns
-returns c = (
-  c.in-Differs.line,
-  record {
-    input = c.in-Ok.front.0;
-    text = take (length c.args.bytes.now - c.in-Ok.front.1) (drop c.in-Ok.front.1 c.args.bytes.now);
-    two = two_texts c.args.bytes.now c.in-Ok.front.0 c.in-Ok.front.1 c.in-Ok.ensures.ok.1;
-    wrong = c.check_text.ensures.differs c.in-Differs.line (c.in_ok-check_text.was ∙ ap Ok c.in-Differs.is);
-  },
-  c.in_ok-difference_of-in-Differs.ensures,
-)
+returns c = IfOk-weaker c.compare.result _ _ (check_of c.args.bytes.now c.in-Ok.front.0 c.in-Ok.front.1 c.in-Ok.ensures.ok.1) c.compare.ensures
