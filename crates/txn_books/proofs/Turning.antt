@@ -9,7 +9,6 @@ use Rattle.books_model.specs.Interpreter.{step_of}
 use Rattle.txn_words.specs.declared.words.Stop.{Stop}
 use Rattle.txn_words.specs.declared.words.Words.{Ghosts as AnyWords}
 use Rattle.txn_words.specs.Calls.{GoesOn, InEachState, LeadsTo}
-use Rattle.txn_words.specs.Steps.{stop_after}
 use Rattle.txn_words.proofs.CallLaws.{state_after, leads_then}
 use Rattle.txn_books.specs.declared.shape.BooksShape.{BooksShape}
 use Rattle.txn_books.specs.declared.operations.Outcome.{Outcome}
@@ -44,27 +43,6 @@ module _ {W S O : Type 0} (words : AnyWords W S O) (shapes : Shapes S) (shape : 
   -- what is known before any call
   pub known : (v : W) (P : ClearingBooks → Type 0) → InEachState words shapes v (OfBooks shape P) → Looked v v P
   known v P each = record { kept = refl; begins = begins_refl _; saw = record { at = λ s fit. record { same = refl; saw = each.at s fit } } }
-
-module _ {W S O A B : Type 0} {words : AnyWords W S O} {v w : W} {r : Result A Stop} {s : Result B Stop} where
-  -- calls one after another go on from where the first began
-  pub goes_then : {u : W} → GoesOn words u v r → GoesOn words v w s → GoesOn words u w s
-  goes_then first second = record {
-    shape = second.shape ∙ first.shape;
-    origin = second.origin ∙ first.origin;
-    begins = begins_trans _ _ _ first.begins second.begins;
-    stops = second.stops;
-    sound = second.sound;
-  }
-
-  -- and so does an answer of another kind that stops as they do
-  pub goes_as : GoesOn words v w r → words.stop w ≡ stop_after s → GoesOn words v w s
-  goes_as goes stops = record {
-    shape = goes.shape;
-    origin = goes.origin;
-    begins = goes.begins;
-    stops = stops;
-    sound = goes.sound;
-  }
 
 module _ {W S O A : Type 0} {words : AnyWords W S O} {shapes : Shapes S} {shape : BooksShape} {v w : W} {r : Result A Stop} (goes : GoesOn words v w r) where
   -- the first look

@@ -1,11 +1,14 @@
 -- From what a call on words did to what holds after it.
-use Rattle.std.proofs.Common.{◌≡◌, ℕ, List, [], sym, subst}
+use Rattle.std.proofs.Common.{◌≡◌, ℕ, List, [], Option, Some, None, Result, Ok, Err, refl, sym, ◌∙◌, subst}
 use Rattle.history_model.specs.declared.shape.Shape.{Ghosts as Shapes}
 use Rattle.history_model.specs.Traces.{after, Begins}
 use Rattle.history_model.specs.Fitting.{Fits, InEach, Leads}
+use Rattle.history_model.proofs.TraceLaws.{begins_trans}
 use Rattle.history_model.proofs.FittingLaws.{fits_begins, after_call, leads_at, each_at}
+use Rattle.txn_words.specs.declared.words.Stop.{Stop}
 use Rattle.txn_words.specs.declared.words.Words.{Ghosts as AnyWords}
-use Rattle.txn_words.specs.Calls.{InEachState, LeadsTo}
+use Rattle.txn_words.specs.Calls.{GoesOn, InEachState, LeadsTo}
+use Rattle.txn_words.specs.Steps.{stop_after}
 
 module _ {W S O : Type 0} (words : AnyWords W S O) (shapes : Shapes S) where
   -- the same facts over traces alone, as the lemmas of the history model take them
@@ -42,3 +45,50 @@ module _ {W S O : Type 0} (words : AnyWords W S O) (shapes : Shapes S) where
   pub state_at : (v w : W) (P : List ℕ → Type 0) → words.shape w ≡ words.shape v
       → InEach (shapes.word_count (words.shape v)) (shapes.good (words.shape v)) (words.trace w) P → InEachState words shapes w P
   state_at v w P e h = record { at = (each_at shapes.word_count shapes.good (words.trace w) P (words.shape v) (words.shape w) (sym e) h).at }
+
+-- an answer that leaves this stop
+abbrev pub answer_with : Option Stop → Result Unit Stop
+answer_with None = Ok tt
+answer_with (Some stop) = Err stop
+
+pub leaves_its_stop : (stop : Option Stop) → stop ≡ stop_after (answer_with stop)
+leaves_its_stop None = refl
+leaves_its_stop (Some stop) = refl
+
+module _ {W S O : Type 0} {words : AnyWords W S O} {v w : W} {stop : Option Stop} where
+  -- calls whose clauses these are go on
+  pub goes : words.shape w ≡ words.shape v → words.origin w ≡ words.origin v → Begins (words.trace v) (words.trace w) → words.stop w ≡ stop → words.is_sound w
+      → GoesOn words v w (answer_with stop)
+  goes shape origin begins stops sound = record { shape = shape; origin = origin; begins = begins; stops = stops ∙ leaves_its_stop stop; sound = sound }
+
+  -- and so does a read or a write, whatever its value
+  pub goes_call : {V : Type 0} → record {
+    value : V;
+    begins : Begins (words.trace v) (words.trace w);
+    stops : words.stop w ≡ stop;
+    shape : words.shape w ≡ words.shape v;
+    origin : words.origin w ≡ words.origin v;
+    sound : words.is_sound w;
+  } → GoesOn words v w (answer_with stop)
+  goes_call call = goes call.shape call.origin call.begins call.stops call.sound
+
+module _ {W S O A B : Type 0} {words : AnyWords W S O} {v w : W} {r : Result A Stop} {s : Result B Stop} where
+  -- calls one after another go on from where the first began
+  pub goes_then : {u : W} → GoesOn words u v r → GoesOn words v w s → GoesOn words u w s
+  goes_then first second = record {
+    shape = second.shape ∙ first.shape;
+    origin = second.origin ∙ first.origin;
+    begins = begins_trans _ _ _ first.begins second.begins;
+    stops = second.stops;
+    sound = second.sound;
+  }
+
+  -- and so does an answer of another kind that stops as they do
+  pub goes_as : GoesOn words v w r → words.stop w ≡ stop_after s → GoesOn words v w s
+  goes_as goes stops = record {
+    shape = goes.shape;
+    origin = goes.origin;
+    begins = goes.begins;
+    stops = stops;
+    sound = goes.sound;
+  }

@@ -2,7 +2,7 @@ use Rattle.std.proofs.Common.{◌≡◌, ◌+◌, ◌*◌, ◌<◌, inl, inr, re
 use Rattle.std.proofs.lemmas.Result.{IfOk-from_err}
 use Rattle.history_model.proofs.TraceLaws.{begins_trans}
 use Rattle.txn_words.specs.Calls.{GoesOn}
-use Rattle.txn_words.proofs.CallLaws.{each_plain, state_after}
+use Rattle.txn_words.proofs.CallLaws.{each_plain, state_after, goes_call, goes_then, goes_as}
 use Rattle.txn_words.proofs.ReadLaws.{sees_read, sees_then, sees_write}
 use Rattle.txn_words.proofs.FrameLaws.{only_read, only_write, only_then, writes_keep}
 use Rattle.txn_alloc.specs.FreeLists.{block_at, IsHeadOrFirst, IsInOrder, Gives}
@@ -65,35 +65,17 @@ returns-clause-reads g c =
 pub returns-in_err-head : goal.returns-in_err-head
 returns-in_err-head g c =
     let failed = c.from_residual.ensures.0 in
-    let on : GoesOn g.W.Words c.args.w.now c.read.new.self c.from_residual.result = record {
-      shape = c.in_err-head.ensures.shape;
-      origin = c.in_err-head.ensures.origin;
-      begins = c.in_err-head.ensures.begins;
-      stops = search rules;
-      sound = c.in_err-head.ensures.sound;
-    } in
+    let on : GoesOn g.W.Words c.args.w.now c.read.new.self c.from_residual.result = goes_as (goes_call c.in_err-head.ensures) (search rules) in
     search IfOk-from_err
 
 pub returns-in_err-write : goal.returns-in_err-write
 returns-in_err-write g c =
     let failed = c.from_residual-in_err-write.ensures.0 in
-    let on : GoesOn g.W.Words c.args.w.now c.write.new.self c.from_residual-in_err-write.result = record {
-      shape = c.in_err-write.ensures.shape ∙ c.in_ok-head.ensures.shape;
-      origin = c.in_err-write.ensures.origin ∙ c.in_ok-head.ensures.origin;
-      begins = begins_trans _ _ _ c.in_ok-head.ensures.begins c.in_err-write.ensures.begins;
-      stops = search rules;
-      sound = c.in_err-write.ensures.sound;
-    } in
+    let on : GoesOn g.W.Words c.args.w.now c.write.new.self c.from_residual-in_err-write.result = goes_as (goes_then (goes_call c.in_ok-head.ensures) (goes_call c.in_err-write.ensures)) (search rules) in
     search IfOk-from_err
 
 pub returns-in_err-write-2 : goal.returns-in_err-write-2
 returns-in_err-write-2 g c =
     let failed = c.from_residual-in_err-write-2.ensures.0 in
-    let on : GoesOn g.W.Words c.args.w.now c.write-2.new.self c.from_residual-in_err-write-2.result = record {
-      shape = c.in_err-write-2.ensures.shape ∙ c.in_ok-write.ensures.shape ∙ c.in_ok-head.ensures.shape;
-      origin = c.in_err-write-2.ensures.origin ∙ c.in_ok-write.ensures.origin ∙ c.in_ok-head.ensures.origin;
-      begins = begins_trans _ _ _ c.in_ok-head.ensures.begins (begins_trans _ _ _ c.in_ok-write.ensures.begins c.in_err-write-2.ensures.begins);
-      stops = search rules;
-      sound = c.in_err-write-2.ensures.sound;
-    } in
+    let on : GoesOn g.W.Words c.args.w.now c.write-2.new.self c.from_residual-in_err-write-2.result = goes_as (goes_then (goes_then (goes_call c.in_ok-head.ensures) (goes_call c.in_ok-write.ensures)) (goes_call c.in_err-write-2.ensures)) (search rules) in
     search IfOk-from_err

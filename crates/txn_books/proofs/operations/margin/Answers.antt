@@ -1,10 +1,11 @@
 use Rattle.std.proofs.Common.{ap, ◌∙◌, rules}
 use Rattle.std.proofs.lemmas.Result.{IfOk-from_err}
 use Rattle.txn_words.specs.Calls.{GoesOn}
+use Rattle.txn_words.proofs.CallLaws.{goes_then, goes_as}
 use Rattle.books_model.specs.Books.{put_call}
 use Rattle.books_model.specs.declared.reply.Value.TheVariants as value
 use Rattle.books_model.specs.Interpreter.{Gives}
-use Rattle.txn_books.proofs.Turning.{looked, look_then, answers, look_turn, of_room, comes, goes_as, goes_then}
+use Rattle.txn_books.proofs.Turning.{looked, look_then, answers, look_turn, of_room, comes}
 use Rattle.txn_books.proofs.Operating.{margin_absent, margin_none, margin_queue, margin_done, left_with}
 use Rattle.txn_books.proofs.operations.margin.Goals as goal
 

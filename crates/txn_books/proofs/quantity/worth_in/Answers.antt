@@ -1,11 +1,11 @@
 use Rattle.std.proofs.Common.{◌≡◌, ◌*◌, Some, rules}
 use Rattle.std.proofs.lemmas.Result.{IfOk-from_err}
 use Rattle.txn_words.specs.Calls.{GoesOn}
+use Rattle.txn_words.proofs.CallLaws.{goes_then, goes_as}
 use Rattle.std.specs.FinMap as map
 use Rattle.books_model.specs.Books.{position_of, price_of}
 use Rattle.txn_books.proofs.Holdings.{worth_here}
 use Rattle.txn_books.proofs.Looking.{saw_told, told_saw, saw_then}
-use Rattle.txn_books.proofs.Turning.{goes_then, goes_as}
 use Rattle.txn_books.proofs.quantity.worth_in.Goals as goal
 
 pub returns : goal.returns

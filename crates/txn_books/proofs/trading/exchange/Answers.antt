@@ -3,11 +3,12 @@ use Rattle.std.specs.Cmp.{nat_cmp_total}
 use Rattle.std.specs.FinMap as map
 use Rattle.std.proofs.lemmas.Result.{IfOk-from_err}
 use Rattle.txn_words.specs.Calls.{GoesOn}
+use Rattle.txn_words.proofs.CallLaws.{goes_then, goes_as}
 use Rattle.books_model.specs.Books.{put_cash}
 use Rattle.books_model.specs.Interpreter.{put_position}
 use Rattle.books_model.proofs.Maps.{stays_after_insert}
 use Rattle.txn_books.specs.Inner.Trading.{sold}
-use Rattle.txn_books.proofs.Turning.{turn_then, turned_less, of_change, each_turned, goes_as, goes_then}
+use Rattle.txn_books.proofs.Turning.{turn_then, turned_less, of_change, each_turned}
 use Rattle.txn_books.proofs.TradeSides.{has_sold, has_bought, bought, exchanges}
 use Rattle.txn_books.proofs.trading.exchange.Goals as goal
 

@@ -2,11 +2,11 @@ use Rattle.std.proofs.Common.{◌≡◌, ◌+◌, ◌*◌, ◌-◌, ◌<◌, Som
 use Rattle.std.proofs.lemmas.Result.{IfOk-from_err}
 use Rattle.history_model.specs.Fitting.{SomeFits}
 use Rattle.history_model.proofs.FittingLaws.{some_at}
-use Rattle.history_model.proofs.TraceLaws.{begins_trans}
 use Rattle.txn_words.specs.Calls.{GoesOn}
 use Rattle.txn_hash_map.specs.Searches.{IsPassed, IsFoundAt, IsMissing, IsLink}
 use Rattle.txn_hash_map.proofs.Steps.{bucket_fits, passed_none, passed_end, passed_more, passed_found, passed_all}
 use Rattle.txn_words.proofs.Looks.{looks_none, looks_map}
+use Rattle.txn_words.proofs.CallLaws.{goes, goes_call, goes_then, goes_as}
 use Rattle.txn_alloc.proofs.Traces.{laid_block}
 use Rattle.txn_hash_map.proofs.Looks.{looks_within, looks_names, looks_name, looks_key}
 use Rattle.txn_hash_map.proofs.find.find.Goals as goal
@@ -69,13 +69,7 @@ returns-then-name-eq0 g c =
           looks_map _ _ _ (IsLink m c.args.key) _ _ (IsMissing m c.args.key) (λ s h. passed_end m c.args.key s c.loop.place c.loop.counter h.0 (h.1 ∙ ap (λ k. Some k) c.if-name-eq0.true))
           (looks_name m c.args.key _ _ _ _ _ c.loop.place c.loop.counter c.in_ok-name.name i.looks c.in_ok-name.ensures.value);
       block = tt;
-      goes_on = record {
-        shape = c.in_ok-name.ensures.shape ∙ i.shape;
-        origin = c.in_ok-name.ensures.origin ∙ i.origin;
-        begins = begins_trans _ _ _ i.looks.begins c.in_ok-name.ensures.begins;
-        stops = search rules;
-        sound = c.in_ok-name.ensures.sound;
-      };
+      goes_on = goes_as (goes_then (goes i.shape i.origin i.looks.begins i.stop i.sound) (goes_call c.in_ok-name.ensures)) (search rules);
     }
 
 pub returns-then-there-key : goal.returns-then-there-key
@@ -94,13 +88,7 @@ returns-then-there-key g c =
           one_more is_block);
       missing = tt;
       block = lt;
-      goes_on = record {
-        shape = c.in_ok-there.ensures.shape ∙ c.in_ok-name.ensures.shape ∙ i.shape;
-        origin = c.in_ok-there.ensures.origin ∙ c.in_ok-name.ensures.origin ∙ i.origin;
-        begins = begins_trans _ _ _ i.looks.begins (begins_trans _ _ _ c.in_ok-name.ensures.begins c.in_ok-there.ensures.begins);
-        stops = search rules;
-        sound = c.in_ok-there.ensures.sound;
-      };
+      goes_on = goes_as (goes_then (goes_then (goes i.shape i.origin i.looks.begins i.stop i.sound) (goes_call c.in_ok-name.ensures)) (goes_call c.in_ok-there.ensures)) (search rules);
     }
 
 pub loop-preserved : goal.loop-preserved
@@ -132,31 +120,19 @@ returns g c =
       missing =
           looks_map _ _ _ (IsLink m c.args.key) _ _ (IsMissing m c.args.key) (λ s h. passed_all m c.args.key s c.loop.place c.loop.counter (omega (arith, c.loop-test.false)) h) i.looks;
       block = tt;
-      goes_on = record { shape = i.shape; origin = i.origin; begins = i.looks.begins; stops = i.stop; sound = i.sound };
+      goes_on = goes_as (goes i.shape i.origin i.looks.begins i.stop i.sound) i.stop;
     }
 
 pub returns-in_err-name : goal.returns-in_err-name
 returns-in_err-name g c =
     let i = c.loop.invariant in
     let failed = c.from_residual.ensures.0 in
-    let on : GoesOn g.W.Words c.args.w.now c.read.new.self c.from_residual.result = record {
-      shape = c.in_err-name.ensures.shape ∙ i.shape;
-      origin = c.in_err-name.ensures.origin ∙ i.origin;
-      begins = begins_trans _ _ _ i.looks.begins c.in_err-name.ensures.begins;
-      stops = search rules;
-      sound = c.in_err-name.ensures.sound;
-    } in
+    let on : GoesOn g.W.Words c.args.w.now c.read.new.self c.from_residual.result = goes_as (goes_then (goes i.shape i.origin i.looks.begins i.stop i.sound) (goes_call c.in_err-name.ensures)) (search rules) in
     search IfOk-from_err
 
 pub returns-in_err-there : goal.returns-in_err-there
 returns-in_err-there g c =
     let i = c.loop.invariant in
     let failed = c.from_residual-in_err-there.ensures.0 in
-    let on : GoesOn g.W.Words c.args.w.now c.read-in-loop.new.self c.from_residual-in_err-there.result = record {
-      shape = c.in_err-there.ensures.shape ∙ c.in_ok-name.ensures.shape ∙ i.shape;
-      origin = c.in_err-there.ensures.origin ∙ c.in_ok-name.ensures.origin ∙ i.origin;
-      begins = begins_trans _ _ _ i.looks.begins (begins_trans _ _ _ c.in_ok-name.ensures.begins c.in_err-there.ensures.begins);
-      stops = search rules;
-      sound = c.in_err-there.ensures.sound;
-    } in
+    let on : GoesOn g.W.Words c.args.w.now c.read-in-loop.new.self c.from_residual-in_err-there.result = goes_as (goes_then (goes_then (goes i.shape i.origin i.looks.begins i.stop i.sound) (goes_call c.in_ok-name.ensures)) (goes_call c.in_err-there.ensures)) (search rules) in
     search IfOk-from_err

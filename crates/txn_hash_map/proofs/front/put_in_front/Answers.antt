@@ -1,7 +1,6 @@
 use Rattle.std.proofs.Common.{◌≡◌, ◌+◌, ◌*◌, arith, ap, ◌∙◌, rules}
 use Rattle.std.proofs.lemmas.Result.{IfOk-from_err}
-use Rattle.history_model.proofs.TraceLaws.{begins_trans}
-use Rattle.txn_words.proofs.CallLaws.{each_plain}
+use Rattle.txn_words.proofs.CallLaws.{each_plain, goes_call, goes_then, goes_as}
 use Rattle.txn_words.specs.Calls.{GoesOn}
 use Rattle.txn_hash_map.specs.Chains.{bucket_of}
 use Rattle.txn_hash_map.proofs.Fronts.{room, puts_front, front_only, front_reads}
@@ -72,59 +71,29 @@ returns-clause-reads g c =
 pub returns-in_err-next : goal.returns-in_err-next
 returns-in_err-next g c =
     let failed = c.from_residual.ensures.0 in
-    let on : GoesOn g.W.Words c.args.w.now c.read.new.self c.from_residual.result = record {
-      shape = c.in_err-next.ensures.shape;
-      origin = c.in_err-next.ensures.origin;
-      begins = c.in_err-next.ensures.begins;
-      stops = search rules;
-      sound = c.in_err-next.ensures.sound;
-    } in
+    let on : GoesOn g.W.Words c.args.w.now c.read.new.self c.from_residual.result = goes_as (goes_call c.in_err-next.ensures) (search rules) in
     search IfOk-from_err
 
 pub returns-in_err-write : goal.returns-in_err-write
 returns-in_err-write g c =
     let failed = c.from_residual-in_err-write.ensures.0 in
-    let on : GoesOn g.W.Words c.args.w.now c.write.new.self c.from_residual-in_err-write.result = record {
-      shape = c.in_err-write.ensures.shape ∙ c.in_ok-next.ensures.shape;
-      origin = c.in_err-write.ensures.origin ∙ c.in_ok-next.ensures.origin;
-      begins = begins_trans _ _ _ c.in_ok-next.ensures.begins c.in_err-write.ensures.begins;
-      stops = search rules;
-      sound = c.in_err-write.ensures.sound;
-    } in
+    let on : GoesOn g.W.Words c.args.w.now c.write.new.self c.from_residual-in_err-write.result = goes_as (goes_then (goes_call c.in_ok-next.ensures) (goes_call c.in_err-write.ensures)) (search rules) in
     search IfOk-from_err
 
 pub returns-in_err-write-2 : goal.returns-in_err-write-2
 returns-in_err-write-2 g c =
     let failed = c.from_residual-in_err-write-2.ensures.0 in
-    let on : GoesOn g.W.Words c.args.w.now c.write-2.new.self c.from_residual-in_err-write-2.result = record {
-      shape = c.in_err-write-2.ensures.shape ∙ c.in_ok-write.ensures.shape ∙ c.in_ok-next.ensures.shape;
-      origin = c.in_err-write-2.ensures.origin ∙ c.in_ok-write.ensures.origin ∙ c.in_ok-next.ensures.origin;
-      begins = begins_trans _ _ _ c.in_ok-next.ensures.begins (begins_trans _ _ _ c.in_ok-write.ensures.begins c.in_err-write-2.ensures.begins);
-      stops = search rules;
-      sound = c.in_err-write-2.ensures.sound;
-    } in
+    let on : GoesOn g.W.Words c.args.w.now c.write-2.new.self c.from_residual-in_err-write-2.result = goes_as (goes_then (goes_then (goes_call c.in_ok-next.ensures) (goes_call c.in_ok-write.ensures)) (goes_call c.in_err-write-2.ensures)) (search rules) in
     search IfOk-from_err
 
 pub returns-in_err-write-3 : goal.returns-in_err-write-3
 returns-in_err-write-3 g c =
     let failed = c.from_residual-in_err-write-3.ensures.0 in
-    let on : GoesOn g.W.Words c.args.w.now c.write-3.new.self c.from_residual-in_err-write-3.result = record {
-      shape = c.in_err-write-3.ensures.shape ∙ c.in_ok-write-2.ensures.shape ∙ c.in_ok-write.ensures.shape ∙ c.in_ok-next.ensures.shape;
-      origin = c.in_err-write-3.ensures.origin ∙ c.in_ok-write-2.ensures.origin ∙ c.in_ok-write.ensures.origin ∙ c.in_ok-next.ensures.origin;
-      begins = begins_trans _ _ _ c.in_ok-next.ensures.begins (begins_trans _ _ _ c.in_ok-write.ensures.begins (begins_trans _ _ _ c.in_ok-write-2.ensures.begins c.in_err-write-3.ensures.begins));
-      stops = search rules;
-      sound = c.in_err-write-3.ensures.sound;
-    } in
+    let on : GoesOn g.W.Words c.args.w.now c.write-3.new.self c.from_residual-in_err-write-3.result = goes_as (goes_then (goes_then (goes_then (goes_call c.in_ok-next.ensures) (goes_call c.in_ok-write.ensures)) (goes_call c.in_ok-write-2.ensures)) (goes_call c.in_err-write-3.ensures)) (search rules) in
     search IfOk-from_err
 
 pub returns-in_err-write-4 : goal.returns-in_err-write-4
 returns-in_err-write-4 g c =
     let failed = c.from_residual-in_err-write-4.ensures.0 in
-    let on : GoesOn g.W.Words c.args.w.now c.write-4.new.self c.from_residual-in_err-write-4.result = record {
-      shape = c.in_err-write-4.ensures.shape ∙ c.in_ok-write-3.ensures.shape ∙ c.in_ok-write-2.ensures.shape ∙ c.in_ok-write.ensures.shape ∙ c.in_ok-next.ensures.shape;
-      origin = c.in_err-write-4.ensures.origin ∙ c.in_ok-write-3.ensures.origin ∙ c.in_ok-write-2.ensures.origin ∙ c.in_ok-write.ensures.origin ∙ c.in_ok-next.ensures.origin;
-      begins = begins_trans _ _ _ c.in_ok-next.ensures.begins (begins_trans _ _ _ c.in_ok-write.ensures.begins (begins_trans _ _ _ c.in_ok-write-2.ensures.begins (begins_trans _ _ _ c.in_ok-write-3.ensures.begins c.in_err-write-4.ensures.begins)));
-      stops = search rules;
-      sound = c.in_err-write-4.ensures.sound;
-    } in
+    let on : GoesOn g.W.Words c.args.w.now c.write-4.new.self c.from_residual-in_err-write-4.result = goes_as (goes_then (goes_then (goes_then (goes_then (goes_call c.in_ok-next.ensures) (goes_call c.in_ok-write.ensures)) (goes_call c.in_ok-write-2.ensures)) (goes_call c.in_ok-write-3.ensures)) (goes_call c.in_err-write-4.ensures)) (search rules) in
     search IfOk-from_err

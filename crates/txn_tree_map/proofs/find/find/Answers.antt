@@ -1,9 +1,9 @@
 use Rattle.std.proofs.Common.{◌≡◌, ◌+◌, nat_lt, refl, ◌∙◌, subst, arith, if◌then◌else◌, rules}
 use Rattle.std.proofs.lemmas.Result.{IfOk-from_err}
-use Rattle.history_model.proofs.TraceLaws.{begins_trans}
 use Rattle.txn_words.specs.Calls.{GoesOn}
 use Rattle.txn_alloc.specs.FreeLists.{block_at}
 use Rattle.txn_words.proofs.Looks.{looks_none, looks_map, looks_grow, looks_each, looks_from}
+use Rattle.txn_words.proofs.CallLaws.{goes, goes_then, goes_as}
 use Rattle.txn_tree_map.specs.Searches.{HasTop, IsPassed, IsNamed, IsEnd, IsFoundAt, IsMissing, IsLink, IsPlace, IsPlaceOrKey}
 use Rattle.txn_tree_map.proofs.Places.{at_tree}
 use Rattle.txn_tree_map.proofs.Descents.{passed_tree, passed_top, passed_end, passed_all, passed_found, passed_down}
@@ -41,13 +41,7 @@ returns-in-None g c =
           looks_map _ _ _ (IsLink m) _ _ (IsMissing m c.args.key) (λ s h. passed_end m c.args.key 0 s c.loop.place c.loop.counter h.0 h.1)
           (looks_grow _ _ _ (IsLink m) _ _ (IsPlace c.loop.place) _ (IsEnd c.loop.place) (λ s p q. passed_place m c.args.key 0 s c.loop.place c.loop.counter p) i.looks (looks_from g.W.Words g.W.Shape.Shape c.args.w.now c.loop.w _ _ (IsPlace c.loop.place) _ i.shape end));
       block = tt;
-      goes_on = record {
-        shape = on.shape ∙ i.shape;
-        origin = on.origin ∙ i.origin;
-        begins = begins_trans _ _ _ i.looks.begins on.begins;
-        stops = search rules;
-        sound = on.sound;
-      };
+      goes_on = goes_as (goes_then (goes i.shape i.origin i.looks.begins i.stop i.sound) on) (search rules);
     }
 
 pub returns-then-node-key : goal.returns-then-node-key
@@ -64,13 +58,7 @@ returns-then-node-key g c =
           (looks_grow _ _ _ (IsLink m) _ _ (IsPlaceOrKey m c.loop.place node.block) _ (IsNamed m c.loop.place node.block node.key) (λ s p q. passed_near m c.args.key 0 s c.loop.place c.loop.counter p node.block node.key q) i.looks (looks_from g.W.Words g.W.Shape.Shape c.args.w.now c.loop.w _ _ (IsPlaceOrKey m c.loop.place node.block) _ i.shape named));
       missing = tt;
       block = rw c.in-Some.is at c.in_ok-look.ensures.block;
-      goes_on = record {
-        shape = on.shape ∙ i.shape;
-        origin = on.origin ∙ i.origin;
-        begins = begins_trans _ _ _ i.looks.begins on.begins;
-        stops = search rules;
-        sound = on.sound;
-      };
+      goes_on = goes_as (goes_then (goes i.shape i.origin i.looks.begins i.stop i.sound) on) (search rules);
     }
 
 pub loop-preserved : goal.loop-preserved
@@ -101,7 +89,7 @@ returns g c =
       found = tt;
       missing = looks_map _ _ _ (IsLink m) _ _ (IsMissing m c.args.key) (λ s h. passed_all m c.args.key 0 s c.loop.place c.loop.counter (omega (arith, c.loop-test.false)) h) i.looks;
       block = tt;
-      goes_on = record { shape = i.shape; origin = i.origin; begins = i.looks.begins; stops = i.stop; sound = i.sound };
+      goes_on = goes_as (goes i.shape i.origin i.looks.begins i.stop i.sound) i.stop;
     }
 
 pub returns-in_err-look : goal.returns-in_err-look
@@ -109,11 +97,5 @@ returns-in_err-look g c =
     let i = c.loop.invariant in
     let on = c.in_err-look.ensures.goes_on in
     let failed = c.from_residual.ensures.0 in
-    let goes : GoesOn g.W.Words c.args.w.now c.look.new.w c.from_residual.result = record {
-      shape = on.shape ∙ i.shape;
-      origin = on.origin ∙ i.origin;
-      begins = begins_trans _ _ _ i.looks.begins on.begins;
-      stops = search rules;
-      sound = on.sound;
-    } in
+    let goes : GoesOn g.W.Words c.args.w.now c.look.new.w c.from_residual.result = goes_as (goes_then (goes i.shape i.origin i.looks.begins i.stop i.sound) on) (search rules) in
     search IfOk-from_err

@@ -2,8 +2,7 @@ use Rattle.std.proofs.Common.{◌≡◌, ◌+◌, ◌-◌, ◌<◌, Some, inl, i
 use Rattle.std.proofs.lemmas.Result.{IfOk-from_err}
 use Rattle.history_model.specs.Fitting.{SomeFits}
 use Rattle.history_model.proofs.FittingLaws.{some_at}
-use Rattle.history_model.proofs.TraceLaws.{begins_trans}
-use Rattle.txn_words.proofs.CallLaws.{each_plain}
+use Rattle.txn_words.proofs.CallLaws.{each_plain, goes_call, goes_then, goes_as}
 use Rattle.txn_words.specs.Calls.{GoesOn}
 use Rattle.txn_alloc.specs.FreeLists.{block_at}
 use Rattle.txn_words.proofs.Looks.{looks_at, looks_map, looks_read, looks_still, looks_wider}
@@ -22,13 +21,7 @@ returns-then-name-eq0 g c = record {
       let m = c.args.map.now in
       looks_map _ _ _ (IsPlace c.args.place) _ _ (IsEnd c.args.place) (λ s h. h ∙ ap (λ k. Some k) c.if-name-eq0.true) (looks_at _ _ _ _ c.args.place c.in_ok-name.name c.in_ok-name.ensures.value);
   block = search rules;
-  goes_on = record {
-    shape = c.in_ok-name.ensures.shape;
-    origin = c.in_ok-name.ensures.origin;
-    begins = c.in_ok-name.ensures.begins;
-    stops = search rules;
-    sound = c.in_ok-name.ensures.sound;
-  };
+  goes_on = goes_as (goes_call c.in_ok-name.ensures) (search rules);
 }
 
 pub prove-unreachable-requires : goal.prove-unreachable-requires
@@ -63,35 +56,17 @@ returns g c = record {
       (looks_wider _ _ _ _ (IsPlace c.args.place) (IsPlaceOrKey m c.args.place b) _ (λ s p a k. inl k) (looks_at _ _ _ _ c.args.place c.in_ok-name.name c.in_ok-name.ensures.value)) c.in_ok-key.ensures.value (λ s p. inr is_block));
   end = search rules;
   block = search rules;
-  goes_on = record {
-    shape = c.in_ok-key.ensures.shape ∙ c.in_ok-name.ensures.shape;
-    origin = c.in_ok-key.ensures.origin ∙ c.in_ok-name.ensures.origin;
-    begins = begins_trans _ _ _ c.in_ok-name.ensures.begins c.in_ok-key.ensures.begins;
-    stops = search rules;
-    sound = c.in_ok-key.ensures.sound;
-  };
+  goes_on = goes_as (goes_then (goes_call c.in_ok-name.ensures) (goes_call c.in_ok-key.ensures)) (search rules);
 }
 
 pub returns-in_err-name : goal.returns-in_err-name
 returns-in_err-name g c =
     let failed = c.from_residual.ensures.0 in
-    let on : GoesOn g.W.Words c.args.w.now c.read.new.self c.from_residual.result = record {
-      shape = c.in_err-name.ensures.shape;
-      origin = c.in_err-name.ensures.origin;
-      begins = c.in_err-name.ensures.begins;
-      stops = search rules;
-      sound = c.in_err-name.ensures.sound;
-    } in
+    let on : GoesOn g.W.Words c.args.w.now c.read.new.self c.from_residual.result = goes_as (goes_call c.in_err-name.ensures) (search rules) in
     search IfOk-from_err
 
 pub returns-in_err-key : goal.returns-in_err-key
 returns-in_err-key g c =
     let failed = c.from_residual-in_err-key.ensures.0 in
-    let on : GoesOn g.W.Words c.args.w.now c.read-2.new.self c.from_residual-in_err-key.result = record {
-      shape = c.in_err-key.ensures.shape ∙ c.in_ok-name.ensures.shape;
-      origin = c.in_err-key.ensures.origin ∙ c.in_ok-name.ensures.origin;
-      begins = begins_trans _ _ _ c.in_ok-name.ensures.begins c.in_err-key.ensures.begins;
-      stops = search rules;
-      sound = c.in_err-key.ensures.sound;
-    } in
+    let on : GoesOn g.W.Words c.args.w.now c.read-2.new.self c.from_residual-in_err-key.result = goes_as (goes_then (goes_call c.in_ok-name.ensures) (goes_call c.in_err-key.ensures)) (search rules) in
     search IfOk-from_err

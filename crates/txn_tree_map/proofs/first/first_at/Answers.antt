@@ -1,9 +1,9 @@
 use Rattle.std.proofs.Common.{◌≡◌, ◌+◌, nat_le, refl, sym, ◌∙◌, subst, arith, if◌then◌else◌, rules}
 use Rattle.std.proofs.lemmas.Result.{IfOk-from_err}
-use Rattle.history_model.proofs.TraceLaws.{begins_trans}
 use Rattle.txn_words.specs.Calls.{GoesOn}
 use Rattle.txn_alloc.specs.FreeLists.{block_at}
 use Rattle.txn_words.proofs.Looks.{looks_none, looks_map, looks_grow, looks_each, looks_from}
+use Rattle.txn_words.proofs.CallLaws.{goes, goes_then, goes_as}
 use Rattle.txn_tree_map.specs.Searches.{HasTop, IsNamed, IsEnd, IsLink, IsPlace, IsPlaceOrKey}
 use Rattle.txn_tree_map.specs.Sums.{IsNear, IsNearest}
 use Rattle.txn_tree_map.proofs.Places.{at_tree}
@@ -38,13 +38,7 @@ returns-in-None g c =
       nearest =
           looks_map _ _ _ (IsLink m) _ _ (IsNearest m c.args.least c.loop.best) (λ s h. near_end m c.args.least s c.loop.best c.loop.place c.loop.counter h.0 h.1)
           (looks_grow _ _ _ (IsLink m) _ _ (IsPlace c.loop.place) _ (IsEnd c.loop.place) (λ s p q. near_place m c.args.least s c.loop.best c.loop.place c.loop.counter p) i.looks (looks_from g.W.Words g.W.Shape.Shape c.args.w.now c.loop.w _ _ (IsPlace c.loop.place) _ i.shape end));
-      goes_on = record {
-        shape = on.shape ∙ i.shape;
-        origin = on.origin ∙ i.origin;
-        begins = begins_trans _ _ _ i.looks.begins on.begins;
-        stops = search rules;
-        sound = on.sound;
-      };
+      goes_on = goes_as (goes_then (goes i.shape i.origin i.looks.begins i.stop i.sound) on) (search rules);
     }
 
 pub loop-preserved : goal.loop-preserved
@@ -75,7 +69,7 @@ returns g c =
     let i = c.loop.invariant in
     record {
       nearest = looks_map _ _ _ (IsLink m) _ _ (IsNearest m c.args.least c.loop.best) (λ s h. near_all m c.args.least s c.loop.best c.loop.place c.loop.counter (omega (arith, c.loop-test.false)) h) c.loop.invariant.looks;
-      goes_on = record { shape = i.shape; origin = i.origin; begins = i.looks.begins; stops = i.stop; sound = i.sound };
+      goes_on = goes_as (goes i.shape i.origin i.looks.begins i.stop i.sound) i.stop;
     }
 
 pub returns-in_err-look : goal.returns-in_err-look
@@ -83,11 +77,5 @@ returns-in_err-look g c =
     let i = c.loop.invariant in
     let on = c.in_err-look.ensures.goes_on in
     let failed = c.from_residual.ensures.0 in
-    let goes : GoesOn g.W.Words c.args.w.now c.look.new.w c.from_residual.result = record {
-      shape = on.shape ∙ i.shape;
-      origin = on.origin ∙ i.origin;
-      begins = begins_trans _ _ _ i.looks.begins on.begins;
-      stops = search rules;
-      sound = on.sound;
-    } in
+    let goes : GoesOn g.W.Words c.args.w.now c.look.new.w c.from_residual.result = goes_as (goes_then (goes i.shape i.origin i.looks.begins i.stop i.sound) on) (search rules) in
     search IfOk-from_err

@@ -1,8 +1,7 @@
-use Rattle.std.proofs.Common.{◌≡◌, ℕ, ◌⊎◌, inl, inr, refl, ap, arith, rules, ◌∙◌}
+use Rattle.std.proofs.Common.{◌≡◌, ℕ, ◌⊎◌, inl, inr, refl, ap, arith, rules}
 use Rattle.std.proofs.lemmas.Result.{IfOk-from_err}
-use Rattle.history_model.proofs.TraceLaws.{begins_trans}
 use Rattle.txn_words.specs.Calls.{GoesOn}
-use Rattle.txn_words.proofs.CallLaws.{each_plain}
+use Rattle.txn_words.proofs.CallLaws.{each_plain, goes_call, goes_then, goes_as}
 use Rattle.txn_words.proofs.FrameLaws.{only_read, only_write, only_then}
 use Rattle.txn_words.proofs.ReadLaws.{sees_read, sees_write, sees_then}
 use Rattle.txn_tree_map.proofs.Splitting.{are_within, hangs_leads}
@@ -33,23 +32,11 @@ returns-clause-reads g c =
 pub returns-in_err-rest : goal.returns-in_err-rest
 returns-in_err-rest g c =
     let failed = c.from_residual.ensures.0 in
-    let on : GoesOn g.W.Words c.args.w.now c.read.new.self c.from_residual.result = record {
-      shape = c.in_err-rest.ensures.shape;
-      origin = c.in_err-rest.ensures.origin;
-      begins = c.in_err-rest.ensures.begins;
-      stops = search rules;
-      sound = c.in_err-rest.ensures.sound;
-    } in
+    let on : GoesOn g.W.Words c.args.w.now c.read.new.self c.from_residual.result = goes_as (goes_call c.in_err-rest.ensures) (search rules) in
     search IfOk-from_err
 
 pub returns-in_err-write : goal.returns-in_err-write
 returns-in_err-write g c =
     let failed = c.from_residual-in_err-write.ensures.0 in
-    let on : GoesOn g.W.Words c.args.w.now c.write.new.self c.from_residual-in_err-write.result = record {
-      shape = c.in_err-write.ensures.shape ∙ c.in_ok-rest.ensures.shape;
-      origin = c.in_err-write.ensures.origin ∙ c.in_ok-rest.ensures.origin;
-      begins = begins_trans _ _ _ c.in_ok-rest.ensures.begins c.in_err-write.ensures.begins;
-      stops = search rules;
-      sound = c.in_err-write.ensures.sound;
-    } in
+    let on : GoesOn g.W.Words c.args.w.now c.write.new.self c.from_residual-in_err-write.result = goes_as (goes_then (goes_call c.in_ok-rest.ensures) (goes_call c.in_err-write.ensures)) (search rules) in
     search IfOk-from_err

@@ -2,9 +2,8 @@ use Rattle.std.proofs.Common.{◌≡◌, ◌+◌, ◌<◌, ap, ◌∙◌, arith,
 use Rattle.std.proofs.lemmas.Result.{IfOk-from_err}
 use Rattle.history_model.specs.Fitting.{SomeFits}
 use Rattle.history_model.proofs.FittingLaws.{some_at}
-use Rattle.history_model.proofs.TraceLaws.{begins_trans}
 use Rattle.txn_words.specs.Calls.{GoesOn}
-use Rattle.txn_words.proofs.CallLaws.{each_plain}
+use Rattle.txn_words.proofs.CallLaws.{each_plain, goes_call, goes_then, goes_as}
 use Rattle.txn_alloc.specs.FreeLists.{block_at}
 use Rattle.txn_words.proofs.Looks.{each_from, leads_from, within_from, reads_from}
 use Rattle.txn_alloc.proofs.Traces.{laid_block}
@@ -93,59 +92,29 @@ returns-clause-reads g c =
 pub returns-in_err-seat : goal.returns-in_err-seat
 returns-in_err-seat g c =
     let failed = c.from_residual.ensures.0 in
-    let on : GoesOn g.W.Words c.args.w.now c.find_seat.new.w c.from_residual.result = record {
-      shape = c.in_err-seat.ensures.goes_on.shape;
-      origin = c.in_err-seat.ensures.goes_on.origin;
-      begins = c.in_err-seat.ensures.goes_on.begins;
-      stops = search rules;
-      sound = c.in_err-seat.ensures.goes_on.sound;
-    } in
+    let on : GoesOn g.W.Words c.args.w.now c.find_seat.new.w c.from_residual.result = goes_as c.in_err-seat.ensures.goes_on (search rules) in
     search IfOk-from_err
 
 pub returns-in_err-write : goal.returns-in_err-write
 returns-in_err-write g c =
     let failed = c.from_residual-in_err-write.ensures.0 in
-    let on : GoesOn g.W.Words c.args.w.now c.write.new.self c.from_residual-in_err-write.result = record {
-      shape = c.in_err-write.ensures.shape ∙ c.in_ok-seat.ensures.goes_on.shape;
-      origin = c.in_err-write.ensures.origin ∙ c.in_ok-seat.ensures.goes_on.origin;
-      begins = begins_trans _ _ _ c.in_ok-seat.ensures.goes_on.begins c.in_err-write.ensures.begins;
-      stops = search rules;
-      sound = c.in_err-write.ensures.sound;
-    } in
+    let on : GoesOn g.W.Words c.args.w.now c.write.new.self c.from_residual-in_err-write.result = goes_as (goes_then c.in_ok-seat.ensures.goes_on (goes_call c.in_err-write.ensures)) (search rules) in
     search IfOk-from_err
 
 pub returns-in_err-write-2 : goal.returns-in_err-write-2
 returns-in_err-write-2 g c =
     let failed = c.from_residual-in_err-write-2.ensures.0 in
-    let on : GoesOn g.W.Words c.args.w.now c.write-2.new.self c.from_residual-in_err-write-2.result = record {
-      shape = c.in_err-write-2.ensures.shape ∙ c.in_ok-write.ensures.shape ∙ c.in_ok-seat.ensures.goes_on.shape;
-      origin = c.in_err-write-2.ensures.origin ∙ c.in_ok-write.ensures.origin ∙ c.in_ok-seat.ensures.goes_on.origin;
-      begins = begins_trans _ _ _ c.in_ok-seat.ensures.goes_on.begins (begins_trans _ _ _ c.in_ok-write.ensures.begins c.in_err-write-2.ensures.begins);
-      stops = search rules;
-      sound = c.in_err-write-2.ensures.sound;
-    } in
+    let on : GoesOn g.W.Words c.args.w.now c.write-2.new.self c.from_residual-in_err-write-2.result = goes_as (goes_then (goes_then c.in_ok-seat.ensures.goes_on (goes_call c.in_ok-write.ensures)) (goes_call c.in_err-write-2.ensures)) (search rules) in
     search IfOk-from_err
 
 pub returns-in_err-split : goal.returns-in_err-split
 returns-in_err-split g c =
     let failed = c.from_residual-in_err-split.ensures.0 in
-    let on : GoesOn g.W.Words c.args.w.now c.split.new.w c.from_residual-in_err-split.result = record {
-      shape = c.in_err-split.ensures.goes_on.shape ∙ c.in_ok-write-2.ensures.shape ∙ c.in_ok-write.ensures.shape ∙ c.in_ok-seat.ensures.goes_on.shape;
-      origin = c.in_err-split.ensures.goes_on.origin ∙ c.in_ok-write-2.ensures.origin ∙ c.in_ok-write.ensures.origin ∙ c.in_ok-seat.ensures.goes_on.origin;
-      begins = begins_trans _ _ _ c.in_ok-seat.ensures.goes_on.begins (begins_trans _ _ _ c.in_ok-write.ensures.begins (begins_trans _ _ _ c.in_ok-write-2.ensures.begins c.in_err-split.ensures.goes_on.begins));
-      stops = search rules;
-      sound = c.in_err-split.ensures.goes_on.sound;
-    } in
+    let on : GoesOn g.W.Words c.args.w.now c.split.new.w c.from_residual-in_err-split.result = goes_as (goes_then (goes_then (goes_then c.in_ok-seat.ensures.goes_on (goes_call c.in_ok-write.ensures)) (goes_call c.in_ok-write-2.ensures)) c.in_err-split.ensures.goes_on) (search rules) in
     search IfOk-from_err
 
 pub returns-in_err-write-3 : goal.returns-in_err-write-3
 returns-in_err-write-3 g c =
     let failed = c.from_residual-in_err-write-3.ensures.0 in
-    let on : GoesOn g.W.Words c.args.w.now c.write-3.new.self c.from_residual-in_err-write-3.result = record {
-      shape = c.in_err-write-3.ensures.shape ∙ c.in_ok-split.ensures.goes_on.shape ∙ c.in_ok-write-2.ensures.shape ∙ c.in_ok-write.ensures.shape ∙ c.in_ok-seat.ensures.goes_on.shape;
-      origin = c.in_err-write-3.ensures.origin ∙ c.in_ok-split.ensures.goes_on.origin ∙ c.in_ok-write-2.ensures.origin ∙ c.in_ok-write.ensures.origin ∙ c.in_ok-seat.ensures.goes_on.origin;
-      begins = begins_trans _ _ _ c.in_ok-seat.ensures.goes_on.begins (begins_trans _ _ _ c.in_ok-write.ensures.begins (begins_trans _ _ _ c.in_ok-write-2.ensures.begins (begins_trans _ _ _ c.in_ok-split.ensures.goes_on.begins c.in_err-write-3.ensures.begins)));
-      stops = search rules;
-      sound = c.in_err-write-3.ensures.sound;
-    } in
+    let on : GoesOn g.W.Words c.args.w.now c.write-3.new.self c.from_residual-in_err-write-3.result = goes_as (goes_then (goes_then (goes_then (goes_then c.in_ok-seat.ensures.goes_on (goes_call c.in_ok-write.ensures)) (goes_call c.in_ok-write-2.ensures)) c.in_ok-split.ensures.goes_on) (goes_call c.in_err-write-3.ensures)) (search rules) in
     search IfOk-from_err

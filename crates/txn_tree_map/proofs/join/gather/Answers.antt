@@ -5,6 +5,7 @@ use Rattle.txn_words.proofs.FrameLaws.{only_same}
 use Rattle.txn_words.proofs.ReadLaws.{sees_same}
 use Rattle.txn_words.proofs.Looks.{each_from, leads_from}
 use Rattle.txn_words.specs.Calls.{GoesOn}
+use Rattle.txn_words.proofs.CallLaws.{goes, goes_then, goes_as}
 use Rattle.txn_tree_map.specs.Joins.{CanGoOn}
 use Rattle.txn_tree_map.proofs.Joinings.{joined_none, gathered_no_left, gathered_no_right, gathered_all}
 use Rattle.txn_tree_map.proofs.Joining.{joined_more, gap_own_more, gap_seen_more}
@@ -60,7 +61,7 @@ returns-then-gap-eq0 g c =
       gathered = record { at = λ s fit. gathered_no_left m c.args.hole c.args.left c.args.right c.loop.counter p.place p.left p.right _ _ (c.loop.invariant.joined s fit) c.if-gap-eq0.true };
       frame = record { at = c.loop.invariant.own };
       reads = record { at = c.loop.invariant.reads };
-      goes_on = record { shape = i.shape; origin = i.origin; begins = i.begins; stops = i.stop; sound = i.sound };
+      goes_on = goes_as (goes i.shape i.origin i.begins i.stop i.sound) i.stop;
     }
 
 pub returns-then-gap-eq0-2 : goal.returns-then-gap-eq0-2
@@ -72,7 +73,7 @@ returns-then-gap-eq0-2 g c =
       gathered = record { at = λ s fit. gathered_no_right m c.args.hole c.args.left c.args.right c.loop.counter p.place p.left p.right _ _ (c.loop.invariant.joined s fit) c.if-gap-eq0-2.true };
       frame = record { at = c.loop.invariant.own };
       reads = record { at = c.loop.invariant.reads };
-      goes_on = record { shape = i.shape; origin = i.origin; begins = i.begins; stops = i.stop; sound = i.sound };
+      goes_on = goes_as (goes i.shape i.origin i.begins i.stop i.sound) i.stop;
     }
 
 pub returns : goal.returns
@@ -84,7 +85,7 @@ returns g c =
       gathered = record { at = λ s fit. gathered_all m c.args.hole c.args.left c.args.right c.loop.counter p.place p.left p.right _ _ (c.loop.invariant.joined s fit) (omega (arith, c.loop-test.false)) };
       frame = record { at = c.loop.invariant.own };
       reads = record { at = c.loop.invariant.reads };
-      goes_on = record { shape = i.shape; origin = i.origin; begins = i.begins; stops = i.stop; sound = i.sound };
+      goes_on = goes_as (goes i.shape i.origin i.begins i.stop i.sound) i.stop;
     }
 
 pub returns-in_err-gap : goal.returns-in_err-gap
@@ -92,11 +93,5 @@ returns-in_err-gap g c =
     let i = c.loop.invariant in
     let on = c.in_err-gap.ensures.goes_on in
     let failed = c.from_residual.ensures.0 in
-    let goes : GoesOn g.W.Words c.args.w.now c.join_one.new.w c.from_residual.result = record {
-      shape = on.shape ∙ i.shape;
-      origin = on.origin ∙ i.origin;
-      begins = begins_trans _ _ _ i.begins on.begins;
-      stops = search rules;
-      sound = on.sound;
-    } in
+    let goes : GoesOn g.W.Words c.args.w.now c.join_one.new.w c.from_residual.result = goes_as (goes_then (goes i.shape i.origin i.begins i.stop i.sound) on) (search rules) in
     search IfOk-from_err

@@ -1,10 +1,9 @@
-use Rattle.std.proofs.Common.{ap, arith, rules, ◌∙◌}
+use Rattle.std.proofs.Common.{ap, arith, rules}
 use Rattle.std.proofs.lemmas.Result.{IfOk-from_err}
 use Rattle.history_model.specs.Fitting.{SomeFits}
 use Rattle.history_model.proofs.FittingLaws.{some_at}
-use Rattle.history_model.proofs.TraceLaws.{begins_trans}
 use Rattle.txn_words.specs.Calls.{GoesOn}
-use Rattle.txn_words.proofs.CallLaws.{leads_plain}
+use Rattle.txn_words.proofs.CallLaws.{leads_plain, goes_call, goes_then, goes_as}
 use Rattle.txn_tree_map.proofs.Joining.{last_within, joins_leads, joins_own, joins_seen}
 use Rattle.txn_tree_map.proofs.join.join.Goals as goal
 
@@ -39,23 +38,11 @@ returns-clause-reads g c =
 pub returns-in_err-last : goal.returns-in_err-last
 returns-in_err-last g c =
     let failed = c.from_residual.ensures.0 in
-    let on : GoesOn g.W.Words c.args.w.now c.gather.new.w c.from_residual.result = record {
-      shape = c.in_err-last.ensures.goes_on.shape;
-      origin = c.in_err-last.ensures.goes_on.origin;
-      begins = c.in_err-last.ensures.goes_on.begins;
-      stops = search rules;
-      sound = c.in_err-last.ensures.goes_on.sound;
-    } in
+    let on : GoesOn g.W.Words c.args.w.now c.gather.new.w c.from_residual.result = goes_as c.in_err-last.ensures.goes_on (search rules) in
     search IfOk-from_err
 
 pub returns-in_err-write : goal.returns-in_err-write
 returns-in_err-write g c =
     let failed = c.from_residual-in_err-write.ensures.0 in
-    let on : GoesOn g.W.Words c.args.w.now c.write.new.self c.from_residual-in_err-write.result = record {
-      shape = c.in_err-write.ensures.shape ∙ c.in_ok-last.ensures.goes_on.shape;
-      origin = c.in_err-write.ensures.origin ∙ c.in_ok-last.ensures.goes_on.origin;
-      begins = begins_trans _ _ _ c.in_ok-last.ensures.goes_on.begins c.in_err-write.ensures.begins;
-      stops = search rules;
-      sound = c.in_err-write.ensures.sound;
-    } in
+    let on : GoesOn g.W.Words c.args.w.now c.write.new.self c.from_residual-in_err-write.result = goes_as (goes_then c.in_ok-last.ensures.goes_on (goes_call c.in_err-write.ensures)) (search rules) in
     search IfOk-from_err

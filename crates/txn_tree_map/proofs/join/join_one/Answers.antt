@@ -1,8 +1,7 @@
 use Rattle.std.proofs.Common.{◌≡◌, ℕ, ◌+◌, ◌-◌, ◌<◌, ◌⊎◌, inl, inr, refl, ap, ◌∙◌, arith, rules}
 use Rattle.std.proofs.lemmas.Result.{IfOk-from_err}
-use Rattle.history_model.proofs.TraceLaws.{begins_trans}
 use Rattle.txn_words.specs.Calls.{GoesOn}
-use Rattle.txn_words.proofs.CallLaws.{each_plain}
+use Rattle.txn_words.proofs.CallLaws.{each_plain, goes_call, goes_then, goes_as}
 use Rattle.txn_words.proofs.FrameLaws.{only_read, only_then}
 use Rattle.txn_words.proofs.ReadLaws.{sees_read, sees_then, sees_more}
 use Rattle.txn_alloc.specs.FreeLists.{block_at}
@@ -114,13 +113,7 @@ returns-then-priority g c = record {
       sees_then seen _ _ _ (sees_read seen _ _ _ _ c.in_ok-left_key.ensures.value (inr (p.left - 1, inl left_is, inl refl)))
       (sees_then seen _ _ _ (sees_read seen _ _ _ _ c.in_ok-right_key.ensures.value (inr (p.right - 1, inr right_is, inl refl)))
       (sees_more (λ a. (a ≡ p.place) ⊎ (a ≡ block_at m.arena (p.left - 1) + 3)) seen _ _ (λ a k. elim k [ inl z ↦ inl z | inr z ↦ inr (p.left - 1, inl left_is, inr (inr z)) ]) c.in_ok-inner.ensures.reads));
-  goes_on = record {
-    shape = c.in_ok-inner.ensures.goes_on.shape ∙ c.in_ok-right_key.ensures.shape ∙ c.in_ok-left_key.ensures.shape;
-    origin = c.in_ok-inner.ensures.goes_on.origin ∙ c.in_ok-right_key.ensures.origin ∙ c.in_ok-left_key.ensures.origin;
-    begins = begins_trans _ _ _ c.in_ok-left_key.ensures.begins (begins_trans _ _ _ c.in_ok-right_key.ensures.begins c.in_ok-inner.ensures.goes_on.begins);
-    stops = search rules;
-    sound = c.in_ok-inner.ensures.goes_on.sound;
-  };
+  goes_on = goes_as (goes_then (goes_then (goes_call c.in_ok-left_key.ensures) (goes_call c.in_ok-right_key.ensures)) c.in_ok-inner.ensures.goes_on) (search rules);
 }
 
 pub returns : goal.returns
@@ -149,59 +142,29 @@ returns g c = record {
       sees_then seen _ _ _ (sees_read seen _ _ _ _ c.in_ok-left_key.ensures.value (inr (p.left - 1, inl left_is, inl refl)))
       (sees_then seen _ _ _ (sees_read seen _ _ _ _ c.in_ok-right_key.ensures.value (inr (p.right - 1, inr right_is, inl refl)))
       (sees_more (λ a. (a ≡ p.place) ⊎ (a ≡ block_at m.arena (p.right - 1) + 2)) seen _ _ (λ a k. elim k [ inl z ↦ inl z | inr z ↦ inr (p.right - 1, inr right_is, inr (inl z)) ]) c.in_ok-inner-2.ensures.reads));
-  goes_on = record {
-    shape = c.in_ok-inner-2.ensures.goes_on.shape ∙ c.in_ok-right_key.ensures.shape ∙ c.in_ok-left_key.ensures.shape;
-    origin = c.in_ok-inner-2.ensures.goes_on.origin ∙ c.in_ok-right_key.ensures.origin ∙ c.in_ok-left_key.ensures.origin;
-    begins = begins_trans _ _ _ c.in_ok-left_key.ensures.begins (begins_trans _ _ _ c.in_ok-right_key.ensures.begins c.in_ok-inner-2.ensures.goes_on.begins);
-    stops = search rules;
-    sound = c.in_ok-inner-2.ensures.goes_on.sound;
-  };
+  goes_on = goes_as (goes_then (goes_then (goes_call c.in_ok-left_key.ensures) (goes_call c.in_ok-right_key.ensures)) c.in_ok-inner-2.ensures.goes_on) (search rules);
 }
 
 pub returns-in_err-left_key : goal.returns-in_err-left_key
 returns-in_err-left_key g c =
     let failed = c.from_residual.ensures.0 in
-    let on : GoesOn g.W.Words c.args.w.now c.read.new.self c.from_residual.result = record {
-      shape = c.in_err-left_key.ensures.shape;
-      origin = c.in_err-left_key.ensures.origin;
-      begins = c.in_err-left_key.ensures.begins;
-      stops = search rules;
-      sound = c.in_err-left_key.ensures.sound;
-    } in
+    let on : GoesOn g.W.Words c.args.w.now c.read.new.self c.from_residual.result = goes_as (goes_call c.in_err-left_key.ensures) (search rules) in
     search IfOk-from_err
 
 pub returns-in_err-right_key : goal.returns-in_err-right_key
 returns-in_err-right_key g c =
     let failed = c.from_residual-in_err-right_key.ensures.0 in
-    let on : GoesOn g.W.Words c.args.w.now c.read-2.new.self c.from_residual-in_err-right_key.result = record {
-      shape = c.in_err-right_key.ensures.shape ∙ c.in_ok-left_key.ensures.shape;
-      origin = c.in_err-right_key.ensures.origin ∙ c.in_ok-left_key.ensures.origin;
-      begins = begins_trans _ _ _ c.in_ok-left_key.ensures.begins c.in_err-right_key.ensures.begins;
-      stops = search rules;
-      sound = c.in_err-right_key.ensures.sound;
-    } in
+    let on : GoesOn g.W.Words c.args.w.now c.read-2.new.self c.from_residual-in_err-right_key.result = goes_as (goes_then (goes_call c.in_ok-left_key.ensures) (goes_call c.in_err-right_key.ensures)) (search rules) in
     search IfOk-from_err
 
 pub returns-in_err-inner : goal.returns-in_err-inner
 returns-in_err-inner g c =
     let failed = c.from_residual-in_err-inner.ensures.0 in
-    let on : GoesOn g.W.Words c.args.w.now c.hang.new.w c.from_residual-in_err-inner.result = record {
-      shape = c.in_err-inner.ensures.goes_on.shape ∙ c.in_ok-right_key.ensures.shape ∙ c.in_ok-left_key.ensures.shape;
-      origin = c.in_err-inner.ensures.goes_on.origin ∙ c.in_ok-right_key.ensures.origin ∙ c.in_ok-left_key.ensures.origin;
-      begins = begins_trans _ _ _ c.in_ok-left_key.ensures.begins (begins_trans _ _ _ c.in_ok-right_key.ensures.begins c.in_err-inner.ensures.goes_on.begins);
-      stops = search rules;
-      sound = c.in_err-inner.ensures.goes_on.sound;
-    } in
+    let on : GoesOn g.W.Words c.args.w.now c.hang.new.w c.from_residual-in_err-inner.result = goes_as (goes_then (goes_then (goes_call c.in_ok-left_key.ensures) (goes_call c.in_ok-right_key.ensures)) c.in_err-inner.ensures.goes_on) (search rules) in
     search IfOk-from_err
 
 pub returns-in_err-inner-2 : goal.returns-in_err-inner-2
 returns-in_err-inner-2 g c =
     let failed = c.from_residual-in_err-inner-2.ensures.0 in
-    let on : GoesOn g.W.Words c.args.w.now c.hang-2.new.w c.from_residual-in_err-inner-2.result = record {
-      shape = c.in_err-inner-2.ensures.goes_on.shape ∙ c.in_ok-right_key.ensures.shape ∙ c.in_ok-left_key.ensures.shape;
-      origin = c.in_err-inner-2.ensures.goes_on.origin ∙ c.in_ok-right_key.ensures.origin ∙ c.in_ok-left_key.ensures.origin;
-      begins = begins_trans _ _ _ c.in_ok-left_key.ensures.begins (begins_trans _ _ _ c.in_ok-right_key.ensures.begins c.in_err-inner-2.ensures.goes_on.begins);
-      stops = search rules;
-      sound = c.in_err-inner-2.ensures.goes_on.sound;
-    } in
+    let on : GoesOn g.W.Words c.args.w.now c.hang-2.new.w c.from_residual-in_err-inner-2.result = goes_as (goes_then (goes_then (goes_call c.in_ok-left_key.ensures) (goes_call c.in_ok-right_key.ensures)) c.in_err-inner-2.ensures.goes_on) (search rules) in
     search IfOk-from_err

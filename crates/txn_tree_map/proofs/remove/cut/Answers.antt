@@ -1,8 +1,7 @@
 use Rattle.std.proofs.Common.{◌≡◌, ap, ◌∙◌, arith, rules}
 use Rattle.std.proofs.lemmas.Result.{IfOk-from_err}
-use Rattle.history_model.proofs.TraceLaws.{begins_trans}
 use Rattle.txn_words.specs.Calls.{GoesOn}
-use Rattle.txn_words.proofs.CallLaws.{each_plain}
+use Rattle.txn_words.proofs.CallLaws.{each_plain, goes_call, goes_then, goes_as}
 use Rattle.txn_alloc.specs.FreeLists.{block_at}
 use Rattle.txn_words.proofs.Looks.{each_from, leads_from, within_from, reads_from}
 use Rattle.txn_alloc.proofs.Traces.{laid_block}
@@ -76,47 +75,23 @@ returns-clause-reads g c =
 pub returns-in_err-value : goal.returns-in_err-value
 returns-in_err-value g c =
     let failed = c.from_residual.ensures.0 in
-    let on : GoesOn g.W.Words c.args.w.now c.read.new.self c.from_residual.result = record {
-      shape = c.in_err-value.ensures.shape;
-      origin = c.in_err-value.ensures.origin;
-      begins = c.in_err-value.ensures.begins;
-      stops = search rules;
-      sound = c.in_err-value.ensures.sound;
-    } in
+    let on : GoesOn g.W.Words c.args.w.now c.read.new.self c.from_residual.result = goes_as (goes_call c.in_err-value.ensures) (search rules) in
     search IfOk-from_err
 
 pub returns-in_err-left : goal.returns-in_err-left
 returns-in_err-left g c =
     let failed = c.from_residual-in_err-left.ensures.0 in
-    let on : GoesOn g.W.Words c.args.w.now c.read-2.new.self c.from_residual-in_err-left.result = record {
-      shape = c.in_err-left.ensures.shape ∙ c.in_ok-value.ensures.shape;
-      origin = c.in_err-left.ensures.origin ∙ c.in_ok-value.ensures.origin;
-      begins = begins_trans _ _ _ c.in_ok-value.ensures.begins c.in_err-left.ensures.begins;
-      stops = search rules;
-      sound = c.in_err-left.ensures.sound;
-    } in
+    let on : GoesOn g.W.Words c.args.w.now c.read-2.new.self c.from_residual-in_err-left.result = goes_as (goes_then (goes_call c.in_ok-value.ensures) (goes_call c.in_err-left.ensures)) (search rules) in
     search IfOk-from_err
 
 pub returns-in_err-right : goal.returns-in_err-right
 returns-in_err-right g c =
     let failed = c.from_residual-in_err-right.ensures.0 in
-    let on : GoesOn g.W.Words c.args.w.now c.read-3.new.self c.from_residual-in_err-right.result = record {
-      shape = c.in_err-right.ensures.shape ∙ c.in_ok-left.ensures.shape ∙ c.in_ok-value.ensures.shape;
-      origin = c.in_err-right.ensures.origin ∙ c.in_ok-left.ensures.origin ∙ c.in_ok-value.ensures.origin;
-      begins = begins_trans _ _ _ c.in_ok-value.ensures.begins (begins_trans _ _ _ c.in_ok-left.ensures.begins c.in_err-right.ensures.begins);
-      stops = search rules;
-      sound = c.in_err-right.ensures.sound;
-    } in
+    let on : GoesOn g.W.Words c.args.w.now c.read-3.new.self c.from_residual-in_err-right.result = goes_as (goes_then (goes_then (goes_call c.in_ok-value.ensures) (goes_call c.in_ok-left.ensures)) (goes_call c.in_err-right.ensures)) (search rules) in
     search IfOk-from_err
 
 pub returns-in_err-join : goal.returns-in_err-join
 returns-in_err-join g c =
     let failed = c.from_residual-in_err-join.ensures.0 in
-    let on : GoesOn g.W.Words c.args.w.now c.join.new.w c.from_residual-in_err-join.result = record {
-      shape = c.in_err-join.ensures.goes_on.shape ∙ c.in_ok-right.ensures.shape ∙ c.in_ok-left.ensures.shape ∙ c.in_ok-value.ensures.shape;
-      origin = c.in_err-join.ensures.goes_on.origin ∙ c.in_ok-right.ensures.origin ∙ c.in_ok-left.ensures.origin ∙ c.in_ok-value.ensures.origin;
-      begins = begins_trans _ _ _ c.in_ok-value.ensures.begins (begins_trans _ _ _ c.in_ok-left.ensures.begins (begins_trans _ _ _ c.in_ok-right.ensures.begins c.in_err-join.ensures.goes_on.begins));
-      stops = search rules;
-      sound = c.in_err-join.ensures.goes_on.sound;
-    } in
+    let on : GoesOn g.W.Words c.args.w.now c.join.new.w c.from_residual-in_err-join.result = goes_as (goes_then (goes_then (goes_then (goes_call c.in_ok-value.ensures) (goes_call c.in_ok-left.ensures)) (goes_call c.in_ok-right.ensures)) c.in_err-join.ensures.goes_on) (search rules) in
     search IfOk-from_err

@@ -6,6 +6,7 @@ use Rattle.txn_words.proofs.ReadLaws.{sees_same}
 use Rattle.txn_words.specs.Calls.{GoesOn}
 use Rattle.txn_alloc.specs.FreeLists.{block_at}
 use Rattle.txn_words.proofs.Looks.{each_from, leads_from}
+use Rattle.txn_words.proofs.CallLaws.{goes, goes_then, goes_as}
 use Rattle.txn_tree_map.specs.Changes.{CanPart}
 use Rattle.txn_tree_map.proofs.Partings.{parted_end, parted_all}
 use Rattle.txn_tree_map.proofs.Splitting.{parted_start, parted_more, own_more, seen_more}
@@ -63,7 +64,7 @@ returns-then-ends-eq0 g c =
       parted = record { at = λ s fit. parted_end m c.args.key c.args.block c.args.name c.loop.counter e.smaller e.greater e.rest _ _ (c.loop.invariant.parted s fit) c.if-ends-eq0.true };
       frame = record { at = c.loop.invariant.own };
       reads = record { at = c.loop.invariant.reads };
-      goes_on = record { shape = i.shape; origin = i.origin; begins = i.begins; stops = i.stop; sound = i.sound };
+      goes_on = goes_as (goes i.shape i.origin i.begins i.stop i.sound) i.stop;
     }
 
 pub returns : goal.returns
@@ -75,7 +76,7 @@ returns g c =
       parted = record { at = λ s fit. parted_all m c.args.key c.args.block c.args.name c.loop.counter e.smaller e.greater e.rest _ _ (c.loop.invariant.parted s fit) (omega (arith, c.loop-test.false)) };
       frame = record { at = c.loop.invariant.own };
       reads = record { at = c.loop.invariant.reads };
-      goes_on = record { shape = i.shape; origin = i.origin; begins = i.begins; stops = i.stop; sound = i.sound };
+      goes_on = goes_as (goes i.shape i.origin i.begins i.stop i.sound) i.stop;
     }
 
 pub returns-in_err-ends : goal.returns-in_err-ends
@@ -83,11 +84,5 @@ returns-in_err-ends g c =
     let i = c.loop.invariant in
     let on = c.in_err-ends.ensures.goes_on in
     let failed = c.from_residual.ensures.0 in
-    let goes : GoesOn g.W.Words c.args.w.now c.part_one.new.w c.from_residual.result = record {
-      shape = on.shape ∙ i.shape;
-      origin = on.origin ∙ i.origin;
-      begins = begins_trans _ _ _ i.begins on.begins;
-      stops = search rules;
-      sound = on.sound;
-    } in
+    let goes : GoesOn g.W.Words c.args.w.now c.part_one.new.w c.from_residual.result = goes_as (goes_then (goes i.shape i.origin i.begins i.stop i.sound) on) (search rules) in
     search IfOk-from_err

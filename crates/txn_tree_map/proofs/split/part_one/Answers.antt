@@ -1,8 +1,7 @@
-use Rattle.std.proofs.Common.{◌≡◌, ℕ, ◌+◌, ◌-◌, ◌<◌, ◌⊎◌, inl, inr, refl, arith, rules, ◌∙◌}
+use Rattle.std.proofs.Common.{◌≡◌, ℕ, ◌+◌, ◌-◌, ◌<◌, ◌⊎◌, inl, inr, refl, arith, rules}
 use Rattle.std.proofs.lemmas.Result.{IfOk-from_err}
-use Rattle.history_model.proofs.TraceLaws.{begins_trans}
 use Rattle.txn_words.specs.Calls.{GoesOn}
-use Rattle.txn_words.proofs.CallLaws.{each_plain}
+use Rattle.txn_words.proofs.CallLaws.{each_plain, goes_call, goes_then, goes_as}
 use Rattle.txn_words.proofs.FrameLaws.{only_read, only_then, only_more}
 use Rattle.txn_words.proofs.ReadLaws.{sees_read, sees_then, sees_more}
 use Rattle.txn_alloc.specs.FreeLists.{block_at}
@@ -99,13 +98,7 @@ returns-then-there-key g c = record {
       let is_name : e.rest ≡ (e.rest - 1) + 1 = omega (arith, c.requires.rest) in
       sees_then seen _ _ _ (sees_read seen _ _ _ _ c.in_ok-there.ensures.value (inr (inr (e.rest - 1, is_name, inl refl))))
       (sees_more (λ a. (a ≡ e.smaller) ⊎ (a ≡ block_at m.arena (e.rest - 1) + 3)) seen _ _ (λ a k. elim k [ inl z ↦ inl z | inr z ↦ inr (inr (e.rest - 1, is_name, inr (inr z))) ]) c.in_ok-right.ensures.reads);
-  goes_on = record {
-    shape = c.in_ok-right.ensures.goes_on.shape ∙ c.in_ok-there.ensures.shape;
-    origin = c.in_ok-right.ensures.goes_on.origin ∙ c.in_ok-there.ensures.origin;
-    begins = begins_trans _ _ _ c.in_ok-there.ensures.begins c.in_ok-right.ensures.goes_on.begins;
-    stops = search rules;
-    sound = c.in_ok-right.ensures.goes_on.sound;
-  };
+  goes_on = goes_as (goes_then (goes_call c.in_ok-there.ensures) c.in_ok-right.ensures.goes_on) (search rules);
 }
 
 pub returns : goal.returns
@@ -131,47 +124,23 @@ returns g c = record {
       let is_name : e.rest ≡ (e.rest - 1) + 1 = omega (arith, c.requires.rest) in
       sees_then seen _ _ _ (sees_read seen _ _ _ _ c.in_ok-there.ensures.value (inr (inr (e.rest - 1, is_name, inl refl))))
       (sees_more (λ a. (a ≡ e.greater) ⊎ (a ≡ block_at m.arena (e.rest - 1) + 2)) seen _ _ (λ a k. elim k [ inl z ↦ inr (inl z) | inr z ↦ inr (inr (e.rest - 1, is_name, inr (inl z))) ]) c.in_ok-left.ensures.reads);
-  goes_on = record {
-    shape = c.in_ok-left.ensures.goes_on.shape ∙ c.in_ok-there.ensures.shape;
-    origin = c.in_ok-left.ensures.goes_on.origin ∙ c.in_ok-there.ensures.origin;
-    begins = begins_trans _ _ _ c.in_ok-there.ensures.begins c.in_ok-left.ensures.goes_on.begins;
-    stops = search rules;
-    sound = c.in_ok-left.ensures.goes_on.sound;
-  };
+  goes_on = goes_as (goes_then (goes_call c.in_ok-there.ensures) c.in_ok-left.ensures.goes_on) (search rules);
 }
 
 pub returns-in_err-there : goal.returns-in_err-there
 returns-in_err-there g c =
     let failed = c.from_residual.ensures.0 in
-    let on : GoesOn g.W.Words c.args.w.now c.read.new.self c.from_residual.result = record {
-      shape = c.in_err-there.ensures.shape;
-      origin = c.in_err-there.ensures.origin;
-      begins = c.in_err-there.ensures.begins;
-      stops = search rules;
-      sound = c.in_err-there.ensures.sound;
-    } in
+    let on : GoesOn g.W.Words c.args.w.now c.read.new.self c.from_residual.result = goes_as (goes_call c.in_err-there.ensures) (search rules) in
     search IfOk-from_err
 
 pub returns-in_err-right : goal.returns-in_err-right
 returns-in_err-right g c =
     let failed = c.from_residual-in_err-right.ensures.0 in
-    let on : GoesOn g.W.Words c.args.w.now c.hang.new.w c.from_residual-in_err-right.result = record {
-      shape = c.in_err-right.ensures.goes_on.shape ∙ c.in_ok-there.ensures.shape;
-      origin = c.in_err-right.ensures.goes_on.origin ∙ c.in_ok-there.ensures.origin;
-      begins = begins_trans _ _ _ c.in_ok-there.ensures.begins c.in_err-right.ensures.goes_on.begins;
-      stops = search rules;
-      sound = c.in_err-right.ensures.goes_on.sound;
-    } in
+    let on : GoesOn g.W.Words c.args.w.now c.hang.new.w c.from_residual-in_err-right.result = goes_as (goes_then (goes_call c.in_ok-there.ensures) c.in_err-right.ensures.goes_on) (search rules) in
     search IfOk-from_err
 
 pub returns-in_err-left : goal.returns-in_err-left
 returns-in_err-left g c =
     let failed = c.from_residual-in_err-left.ensures.0 in
-    let on : GoesOn g.W.Words c.args.w.now c.hang-2.new.w c.from_residual-in_err-left.result = record {
-      shape = c.in_err-left.ensures.goes_on.shape ∙ c.in_ok-there.ensures.shape;
-      origin = c.in_err-left.ensures.goes_on.origin ∙ c.in_ok-there.ensures.origin;
-      begins = begins_trans _ _ _ c.in_ok-there.ensures.begins c.in_err-left.ensures.goes_on.begins;
-      stops = search rules;
-      sound = c.in_err-left.ensures.goes_on.sound;
-    } in
+    let on : GoesOn g.W.Words c.args.w.now c.hang-2.new.w c.from_residual-in_err-left.result = goes_as (goes_then (goes_call c.in_ok-there.ensures) c.in_err-left.ensures.goes_on) (search rules) in
     search IfOk-from_err

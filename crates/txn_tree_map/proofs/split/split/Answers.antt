@@ -2,9 +2,8 @@ use Rattle.std.proofs.Common.{ap, ◌∙◌, arith, rules}
 use Rattle.std.proofs.lemmas.Result.{IfOk-from_err}
 use Rattle.history_model.specs.Fitting.{SomeFits}
 use Rattle.history_model.proofs.FittingLaws.{some_at}
-use Rattle.history_model.proofs.TraceLaws.{begins_trans}
 use Rattle.txn_words.specs.Calls.{GoesOn}
-use Rattle.txn_words.proofs.CallLaws.{leads_plain}
+use Rattle.txn_words.proofs.CallLaws.{leads_plain, goes_call, goes_then, goes_as}
 use Rattle.txn_tree_map.proofs.Splitting.{splits_leads, splits_own, splits_seen, ends_within}
 use Rattle.txn_tree_map.proofs.split.split.Goals as goal
 
@@ -54,35 +53,17 @@ returns-clause-reads g c =
 pub returns-in_err-ends : goal.returns-in_err-ends
 returns-in_err-ends g c =
     let failed = c.from_residual.ensures.0 in
-    let on : GoesOn g.W.Words c.args.w.now c.part.new.w c.from_residual.result = record {
-      shape = c.in_err-ends.ensures.goes_on.shape;
-      origin = c.in_err-ends.ensures.goes_on.origin;
-      begins = c.in_err-ends.ensures.goes_on.begins;
-      stops = search rules;
-      sound = c.in_err-ends.ensures.goes_on.sound;
-    } in
+    let on : GoesOn g.W.Words c.args.w.now c.part.new.w c.from_residual.result = goes_as c.in_err-ends.ensures.goes_on (search rules) in
     search IfOk-from_err
 
 pub returns-in_err-write : goal.returns-in_err-write
 returns-in_err-write g c =
     let failed = c.from_residual-in_err-write.ensures.0 in
-    let on : GoesOn g.W.Words c.args.w.now c.write.new.self c.from_residual-in_err-write.result = record {
-      shape = c.in_err-write.ensures.shape ∙ c.in_ok-ends.ensures.goes_on.shape;
-      origin = c.in_err-write.ensures.origin ∙ c.in_ok-ends.ensures.goes_on.origin;
-      begins = begins_trans _ _ _ c.in_ok-ends.ensures.goes_on.begins c.in_err-write.ensures.begins;
-      stops = search rules;
-      sound = c.in_err-write.ensures.sound;
-    } in
+    let on : GoesOn g.W.Words c.args.w.now c.write.new.self c.from_residual-in_err-write.result = goes_as (goes_then c.in_ok-ends.ensures.goes_on (goes_call c.in_err-write.ensures)) (search rules) in
     search IfOk-from_err
 
 pub returns-in_err-write-2 : goal.returns-in_err-write-2
 returns-in_err-write-2 g c =
     let failed = c.from_residual-in_err-write-2.ensures.0 in
-    let on : GoesOn g.W.Words c.args.w.now c.write-2.new.self c.from_residual-in_err-write-2.result = record {
-      shape = c.in_err-write-2.ensures.shape ∙ c.in_ok-write.ensures.shape ∙ c.in_ok-ends.ensures.goes_on.shape;
-      origin = c.in_err-write-2.ensures.origin ∙ c.in_ok-write.ensures.origin ∙ c.in_ok-ends.ensures.goes_on.origin;
-      begins = begins_trans _ _ _ c.in_ok-ends.ensures.goes_on.begins (begins_trans _ _ _ c.in_ok-write.ensures.begins c.in_err-write-2.ensures.begins);
-      stops = search rules;
-      sound = c.in_err-write-2.ensures.sound;
-    } in
+    let on : GoesOn g.W.Words c.args.w.now c.write-2.new.self c.from_residual-in_err-write-2.result = goes_as (goes_then (goes_then c.in_ok-ends.ensures.goes_on (goes_call c.in_ok-write.ensures)) (goes_call c.in_err-write-2.ensures)) (search rules) in
     search IfOk-from_err

@@ -1,10 +1,9 @@
-use Rattle.std.proofs.Common.{◌≡◌, ◌+◌, ◌<◌, ap, arith, rules, ◌∙◌}
+use Rattle.std.proofs.Common.{◌≡◌, ◌+◌, ◌<◌, ap, arith, rules}
 use Rattle.std.proofs.lemmas.Result.{IfOk-from_err}
 use Rattle.history_model.specs.Fitting.{SomeFits}
 use Rattle.history_model.proofs.FittingLaws.{some_at}
-use Rattle.history_model.proofs.TraceLaws.{begins_trans}
 use Rattle.txn_words.specs.Calls.{GoesOn}
-use Rattle.txn_words.proofs.CallLaws.{each_plain}
+use Rattle.txn_words.proofs.CallLaws.{each_plain, goes_call, goes_then, goes_as}
 use Rattle.txn_alloc.specs.FreeLists.{block_at}
 use Rattle.txn_alloc.proofs.Traces.{laid_block}
 use Rattle.txn_tree_map.proofs.Totals.{none_from, past_from, links_from, node_below, node_from, next_from, value_from}
@@ -77,23 +76,11 @@ returns-in_ok-value-in-Some-clause-low g c =
 pub returns-in_err-first_at : goal.returns-in_err-first_at
 returns-in_err-first_at g c =
     let failed = c.from_residual.ensures.0 in
-    let on : GoesOn g.W.Words c.args.w.now c.first_at.new.w c.from_residual.result = record {
-      shape = c.in_err-first_at.ensures.goes_on.shape;
-      origin = c.in_err-first_at.ensures.goes_on.origin;
-      begins = c.in_err-first_at.ensures.goes_on.begins;
-      stops = search rules;
-      sound = c.in_err-first_at.ensures.goes_on.sound;
-    } in
+    let on : GoesOn g.W.Words c.args.w.now c.first_at.new.w c.from_residual.result = goes_as c.in_err-first_at.ensures.goes_on (search rules) in
     search IfOk-from_err
 
 pub returns-in_err-value-in-Some : goal.returns-in_err-value-in-Some
 returns-in_err-value-in-Some g c =
     let failed = c.from_residual-in_err-value-in-Some.ensures.0 in
-    let on : GoesOn g.W.Words c.args.w.now c.read.new.self c.from_residual-in_err-value-in-Some.result = record {
-      shape = c.in_err-value-in-Some.ensures.shape ∙ c.in_ok-first_at.ensures.goes_on.shape;
-      origin = c.in_err-value-in-Some.ensures.origin ∙ c.in_ok-first_at.ensures.goes_on.origin;
-      begins = begins_trans _ _ _ c.in_ok-first_at.ensures.goes_on.begins c.in_err-value-in-Some.ensures.begins;
-      stops = search rules;
-      sound = c.in_err-value-in-Some.ensures.sound;
-    } in
+    let on : GoesOn g.W.Words c.args.w.now c.read.new.self c.from_residual-in_err-value-in-Some.result = goes_as (goes_then c.in_ok-first_at.ensures.goes_on (goes_call c.in_err-value-in-Some.ensures)) (search rules) in
     search IfOk-from_err

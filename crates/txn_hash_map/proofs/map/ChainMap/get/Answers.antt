@@ -4,7 +4,7 @@ use Rattle.history_model.specs.Fitting.{SomeFits}
 use Rattle.history_model.proofs.TraceLaws.{begins_trans}
 use Rattle.history_model.proofs.FittingLaws.{some_at}
 use Rattle.txn_words.specs.Calls.{GoesOn, LeadsTo}
-use Rattle.txn_words.proofs.CallLaws.{each_plain, state_after}
+use Rattle.txn_words.proofs.CallLaws.{each_plain, state_after, goes_call, goes_then, goes_as}
 use Rattle.txn_alloc.specs.FreeLists.{block_at}
 use Rattle.txn_alloc.specs.EntryMaps.{HasMap, Finds}
 use Rattle.txn_hash_map.specs.Chains.{chain_part}
@@ -20,13 +20,7 @@ use Rattle.txn_hash_map.proofs.map.ChainMap.get.Goals as goal
 pub returns-in_err-find : goal.returns-in_err-find
 returns-in_err-find g c =
     let failed = c.from_residual.ensures.0 in
-    let on : GoesOn g.W.Words c.args.w.now c.find.new.w c.from_residual.result = record {
-      shape = c.in_err-find.ensures.goes_on.shape;
-      origin = c.in_err-find.ensures.goes_on.origin;
-      begins = c.in_err-find.ensures.goes_on.begins;
-      stops = search rules;
-      sound = c.in_err-find.ensures.goes_on.sound;
-    } in
+    let on : GoesOn g.W.Words c.args.w.now c.find.new.w c.from_residual.result = goes_as c.in_err-find.ensures.goes_on (search rules) in
     search IfOk-from_err
 
 pub returns-in-None : goal.returns-in-None
@@ -40,13 +34,7 @@ returns-in-None g c =
       order = state_after g.W.Words g.W.Shape.Shape _ _ (HasMap (chain_part m)) (HasMap (chain_part m)) (Finds (chain_part m) c.args.key None) goes.shape goes.begins c.requires.order found (held_found (chain_part m) c.args.key None);
       frame = looks_only g.W.Words g.W.Shape.Shape _ _ (IsLink m c.args.key) _ missing;
       reads = record { at = sees_near (chain_part m) c.args.key _ _ _ _ (near_own m c.args.key) missing (each_plain g.W.Words g.W.Shape.Shape _ _ c.requires.order) };
-      goes_on = record {
-        shape = goes.shape;
-        origin = goes.origin;
-        begins = goes.begins;
-        stops = goes.stops;
-        sound = goes.sound;
-      };
+      goes_on = goes_as goes goes.stops;
     }
 
 pub read-requires-clause-within : goal.read-requires-clause-within
@@ -63,13 +51,7 @@ read-requires-clause-within g c =
 pub returns-in_err-value-in-Some : goal.returns-in_err-value-in-Some
 returns-in_err-value-in-Some g c =
     let failed = c.from_residual-in_err-value-in-Some.ensures.0 in
-    let on : GoesOn g.W.Words c.args.w.now c.read.new.self c.from_residual-in_err-value-in-Some.result = record {
-      shape = c.in_err-value-in-Some.ensures.shape ∙ c.in_ok-find.ensures.goes_on.shape;
-      origin = c.in_err-value-in-Some.ensures.origin ∙ c.in_ok-find.ensures.goes_on.origin;
-      begins = begins_trans _ _ _ c.in_ok-find.ensures.goes_on.begins c.in_err-value-in-Some.ensures.begins;
-      stops = search rules;
-      sound = c.in_err-value-in-Some.ensures.sound;
-    } in
+    let on : GoesOn g.W.Words c.args.w.now c.read.new.self c.from_residual-in_err-value-in-Some.result = goes_as (goes_then c.in_ok-find.ensures.goes_on (goes_call c.in_err-value-in-Some.ensures)) (search rules) in
     search IfOk-from_err
 
 pub returns-in_ok-value-in-Some : goal.returns-in_ok-value-in-Some
@@ -94,11 +76,5 @@ returns-in_ok-value-in-Some g c =
       reads = record {
         at = sees_value (chain_part m) c.args.key _ _ _ _ b q y is_value (keys_block m c.args.key c.in-Some.found.place b) looks (near_own m c.args.key) (each_plain g.W.Words g.W.Shape.Shape _ _ c.requires.order);
       };
-      goes_on = record {
-        shape = shape;
-        origin = value.origin ∙ goes.origin;
-        begins = begins;
-        stops = value.stops;
-        sound = value.sound;
-      };
+      goes_on = goes_as (goes_then goes (goes_call value)) value.stops;
     }

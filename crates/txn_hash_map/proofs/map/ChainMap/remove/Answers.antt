@@ -3,7 +3,7 @@ use Rattle.std.proofs.lemmas.Result.{IfOk-from_err}
 use Rattle.history_model.specs.Fitting.{SomeFits}
 use Rattle.history_model.proofs.TraceLaws.{begins_trans}
 use Rattle.history_model.proofs.FittingLaws.{some_at}
-use Rattle.txn_words.proofs.CallLaws.{each_plain, state_after}
+use Rattle.txn_words.proofs.CallLaws.{each_plain, state_after, goes_call, goes_then, goes_as}
 use Rattle.txn_words.proofs.FrameLaws.{only_more}
 use Rattle.txn_words.specs.Calls.{GoesOn}
 use Rattle.txn_alloc.specs.FreeLists.{block_at}
@@ -222,70 +222,34 @@ returns-in_ok-give-in-Some-clause-goes_on g c =
     let next = c.in_ok-next-in-Some.ensures in
     let write = c.in_ok-write-in-Some.ensures in
     let given = c.in_ok-give-in-Some.ensures.goes_on in
-    record {
-      shape = given.shape ∙ write.shape ∙ next.shape ∙ value.shape ∙ goes.shape;
-      origin = given.origin ∙ write.origin ∙ next.origin ∙ value.origin ∙ goes.origin;
-      begins = begins_trans _ _ _ goes.begins (begins_trans _ _ _ value.begins (begins_trans _ _ _ next.begins (begins_trans _ _ _ write.begins given.begins)));
-      stops = given.stops;
-      sound = given.sound;
-    }
+    goes_as (goes_then (goes_then (goes_then (goes_then goes (goes_call value)) (goes_call next)) (goes_call write)) given) given.stops
 
 pub returns-in_err-find : goal.returns-in_err-find
 returns-in_err-find g c =
     let failed = c.from_residual.ensures.0 in
-    let on : GoesOn g.W.Words c.args.w.now c.find.new.w c.from_residual.result = record {
-      shape = c.in_err-find.ensures.goes_on.shape;
-      origin = c.in_err-find.ensures.goes_on.origin;
-      begins = c.in_err-find.ensures.goes_on.begins;
-      stops = search rules;
-      sound = c.in_err-find.ensures.goes_on.sound;
-    } in
+    let on : GoesOn g.W.Words c.args.w.now c.find.new.w c.from_residual.result = goes_as c.in_err-find.ensures.goes_on (search rules) in
     search IfOk-from_err
 
 pub returns-in_err-value-in-Some : goal.returns-in_err-value-in-Some
 returns-in_err-value-in-Some g c =
     let failed = c.from_residual-in_err-value-in-Some.ensures.0 in
-    let on : GoesOn g.W.Words c.args.w.now c.read.new.self c.from_residual-in_err-value-in-Some.result = record {
-      shape = c.in_err-value-in-Some.ensures.shape ∙ c.in_ok-find.ensures.goes_on.shape;
-      origin = c.in_err-value-in-Some.ensures.origin ∙ c.in_ok-find.ensures.goes_on.origin;
-      begins = begins_trans _ _ _ c.in_ok-find.ensures.goes_on.begins c.in_err-value-in-Some.ensures.begins;
-      stops = search rules;
-      sound = c.in_err-value-in-Some.ensures.sound;
-    } in
+    let on : GoesOn g.W.Words c.args.w.now c.read.new.self c.from_residual-in_err-value-in-Some.result = goes_as (goes_then c.in_ok-find.ensures.goes_on (goes_call c.in_err-value-in-Some.ensures)) (search rules) in
     search IfOk-from_err
 
 pub returns-in_err-next-in-Some : goal.returns-in_err-next-in-Some
 returns-in_err-next-in-Some g c =
     let failed = c.from_residual-in_err-next-in-Some.ensures.0 in
-    let on : GoesOn g.W.Words c.args.w.now c.read-in-Some.new.self c.from_residual-in_err-next-in-Some.result = record {
-      shape = c.in_err-next-in-Some.ensures.shape ∙ c.in_ok-value-in-Some.ensures.shape ∙ c.in_ok-find.ensures.goes_on.shape;
-      origin = c.in_err-next-in-Some.ensures.origin ∙ c.in_ok-value-in-Some.ensures.origin ∙ c.in_ok-find.ensures.goes_on.origin;
-      begins = begins_trans _ _ _ c.in_ok-find.ensures.goes_on.begins (begins_trans _ _ _ c.in_ok-value-in-Some.ensures.begins c.in_err-next-in-Some.ensures.begins);
-      stops = search rules;
-      sound = c.in_err-next-in-Some.ensures.sound;
-    } in
+    let on : GoesOn g.W.Words c.args.w.now c.read-in-Some.new.self c.from_residual-in_err-next-in-Some.result = goes_as (goes_then (goes_then c.in_ok-find.ensures.goes_on (goes_call c.in_ok-value-in-Some.ensures)) (goes_call c.in_err-next-in-Some.ensures)) (search rules) in
     search IfOk-from_err
 
 pub returns-in_err-write-in-Some : goal.returns-in_err-write-in-Some
 returns-in_err-write-in-Some g c =
     let failed = c.from_residual-in_err-write-in-Some.ensures.0 in
-    let on : GoesOn g.W.Words c.args.w.now c.write.new.self c.from_residual-in_err-write-in-Some.result = record {
-      shape = c.in_err-write-in-Some.ensures.shape ∙ c.in_ok-next-in-Some.ensures.shape ∙ c.in_ok-value-in-Some.ensures.shape ∙ c.in_ok-find.ensures.goes_on.shape;
-      origin = c.in_err-write-in-Some.ensures.origin ∙ c.in_ok-next-in-Some.ensures.origin ∙ c.in_ok-value-in-Some.ensures.origin ∙ c.in_ok-find.ensures.goes_on.origin;
-      begins = begins_trans _ _ _ c.in_ok-find.ensures.goes_on.begins (begins_trans _ _ _ c.in_ok-value-in-Some.ensures.begins (begins_trans _ _ _ c.in_ok-next-in-Some.ensures.begins c.in_err-write-in-Some.ensures.begins));
-      stops = search rules;
-      sound = c.in_err-write-in-Some.ensures.sound;
-    } in
+    let on : GoesOn g.W.Words c.args.w.now c.write.new.self c.from_residual-in_err-write-in-Some.result = goes_as (goes_then (goes_then (goes_then c.in_ok-find.ensures.goes_on (goes_call c.in_ok-value-in-Some.ensures)) (goes_call c.in_ok-next-in-Some.ensures)) (goes_call c.in_err-write-in-Some.ensures)) (search rules) in
     search IfOk-from_err
 
 pub returns-in_err-give-in-Some : goal.returns-in_err-give-in-Some
 returns-in_err-give-in-Some g c =
     let failed = c.from_residual-in_err-give-in-Some.ensures.0 in
-    let on : GoesOn g.W.Words c.args.w.now c.give.new.w c.from_residual-in_err-give-in-Some.result = record {
-      shape = c.in_err-give-in-Some.ensures.goes_on.shape ∙ c.in_ok-write-in-Some.ensures.shape ∙ c.in_ok-next-in-Some.ensures.shape ∙ c.in_ok-value-in-Some.ensures.shape ∙ c.in_ok-find.ensures.goes_on.shape;
-      origin = c.in_err-give-in-Some.ensures.goes_on.origin ∙ c.in_ok-write-in-Some.ensures.origin ∙ c.in_ok-next-in-Some.ensures.origin ∙ c.in_ok-value-in-Some.ensures.origin ∙ c.in_ok-find.ensures.goes_on.origin;
-      begins = begins_trans _ _ _ c.in_ok-find.ensures.goes_on.begins (begins_trans _ _ _ c.in_ok-value-in-Some.ensures.begins (begins_trans _ _ _ c.in_ok-next-in-Some.ensures.begins (begins_trans _ _ _ c.in_ok-write-in-Some.ensures.begins c.in_err-give-in-Some.ensures.goes_on.begins)));
-      stops = search rules;
-      sound = c.in_err-give-in-Some.ensures.goes_on.sound;
-    } in
+    let on : GoesOn g.W.Words c.args.w.now c.give.new.w c.from_residual-in_err-give-in-Some.result = goes_as (goes_then (goes_then (goes_then (goes_then c.in_ok-find.ensures.goes_on (goes_call c.in_ok-value-in-Some.ensures)) (goes_call c.in_ok-next-in-Some.ensures)) (goes_call c.in_ok-write-in-Some.ensures)) c.in_err-give-in-Some.ensures.goes_on) (search rules) in
     search IfOk-from_err

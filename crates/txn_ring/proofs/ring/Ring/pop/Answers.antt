@@ -5,7 +5,7 @@ use Rattle.history_model.specs.Traces.{Begins}
 use Rattle.history_model.proofs.TraceLaws.{begins_trans}
 use Rattle.history_model.proofs.FittingLaws.{some_at}
 use Rattle.txn_words.specs.Calls.{GoesOn, LeadsTo, WritesOnly}
-use Rattle.txn_words.proofs.CallLaws.{each_plain, leads_plain, state_after}
+use Rattle.txn_words.proofs.CallLaws.{each_plain, leads_plain, state_after, goes_call, goes_then, goes_as}
 use Rattle.txn_words.proofs.FrameLaws.{only_read, only_write, only_then, writes_keep}
 use Rattle.txn_words.proofs.ReadLaws.{sees_read, sees_write, sees_then}
 use Rattle.txn_ring.specs.Queues.{place_at, IsOwn, IsInOrder, IsEmpty, Pops}
@@ -34,25 +34,13 @@ returns-then-count-eq0 g c =
       others = writes_keep g.W.Words g.W.Shape.Shape _ _ _ frame;
       none_frame = record { appended = only_read (λ _. ⊥) _ _ _ _ read };
       reads = record { appended = sees_read (IsOwn ring) _ _ _ _ read count };
-      goes_on = record {
-        shape = c.in_ok-count.ensures.shape;
-        origin = c.in_ok-count.ensures.origin;
-        begins = c.in_ok-count.ensures.begins;
-        stops = c.in_ok-count.ensures.stops;
-        sound = c.in_ok-count.ensures.sound;
-      };
+      goes_on = goes_as (goes_call c.in_ok-count.ensures) c.in_ok-count.ensures.stops;
     }
 
 pub returns-in_err-count : goal.returns-in_err-count
 returns-in_err-count g c =
     let failed = c.from_residual.ensures.0 in
-    let on : GoesOn g.W.Words c.args.w.now c.read.new.self c.from_residual.result = record {
-      shape = c.in_err-count.ensures.shape;
-      origin = c.in_err-count.ensures.origin;
-      begins = c.in_err-count.ensures.begins;
-      stops = search rules;
-      sound = c.in_err-count.ensures.sound;
-    } in
+    let on : GoesOn g.W.Words c.args.w.now c.read.new.self c.from_residual.result = goes_as (goes_call c.in_err-count.ensures) (search rules) in
     search IfOk-from_err
 
 pub prove-unreachable-requires-2 : goal.prove-unreachable-requires-2
@@ -102,61 +90,31 @@ write-requires-2-clause-within g c =
 pub returns-in_err-front : goal.returns-in_err-front
 returns-in_err-front g c =
     let failed = c.from_residual-in_err-front.ensures.0 in
-    let on : GoesOn g.W.Words c.args.w.now c.read-2.new.self c.from_residual-in_err-front.result = record {
-      shape = c.in_err-front.ensures.shape ∙ c.in_ok-count.ensures.shape;
-      origin = c.in_err-front.ensures.origin ∙ c.in_ok-count.ensures.origin;
-      begins = begins_trans _ _ _ c.in_ok-count.ensures.begins c.in_err-front.ensures.begins;
-      stops = search rules;
-      sound = c.in_err-front.ensures.sound;
-    } in
+    let on : GoesOn g.W.Words c.args.w.now c.read-2.new.self c.from_residual-in_err-front.result = goes_as (goes_then (goes_call c.in_ok-count.ensures) (goes_call c.in_err-front.ensures)) (search rules) in
     search IfOk-from_err
 
 pub returns-in_err-first : goal.returns-in_err-first
 returns-in_err-first g c =
     let failed = c.from_residual-in_err-first.ensures.0 in
-    let on : GoesOn g.W.Words c.args.w.now c.read-3.new.self c.from_residual-in_err-first.result = record {
-      shape = c.in_err-first.ensures.shape ∙ c.in_ok-front.ensures.shape ∙ c.in_ok-count.ensures.shape;
-      origin = c.in_err-first.ensures.origin ∙ c.in_ok-front.ensures.origin ∙ c.in_ok-count.ensures.origin;
-      begins = begins_trans _ _ _ c.in_ok-count.ensures.begins (begins_trans _ _ _ c.in_ok-front.ensures.begins c.in_err-first.ensures.begins);
-      stops = search rules;
-      sound = c.in_err-first.ensures.sound;
-    } in
+    let on : GoesOn g.W.Words c.args.w.now c.read-3.new.self c.from_residual-in_err-first.result = goes_as (goes_then (goes_then (goes_call c.in_ok-count.ensures) (goes_call c.in_ok-front.ensures)) (goes_call c.in_err-first.ensures)) (search rules) in
     search IfOk-from_err
 
 pub returns-in_err-second : goal.returns-in_err-second
 returns-in_err-second g c =
     let failed = c.from_residual-in_err-second.ensures.0 in
-    let on : GoesOn g.W.Words c.args.w.now c.read-4.new.self c.from_residual-in_err-second.result = record {
-      shape = c.in_err-second.ensures.shape ∙ c.in_ok-first.ensures.shape ∙ c.in_ok-front.ensures.shape ∙ c.in_ok-count.ensures.shape;
-      origin = c.in_err-second.ensures.origin ∙ c.in_ok-first.ensures.origin ∙ c.in_ok-front.ensures.origin ∙ c.in_ok-count.ensures.origin;
-      begins = begins_trans _ _ _ c.in_ok-count.ensures.begins (begins_trans _ _ _ c.in_ok-front.ensures.begins (begins_trans _ _ _ c.in_ok-first.ensures.begins c.in_err-second.ensures.begins));
-      stops = search rules;
-      sound = c.in_err-second.ensures.sound;
-    } in
+    let on : GoesOn g.W.Words c.args.w.now c.read-4.new.self c.from_residual-in_err-second.result = goes_as (goes_then (goes_then (goes_then (goes_call c.in_ok-count.ensures) (goes_call c.in_ok-front.ensures)) (goes_call c.in_ok-first.ensures)) (goes_call c.in_err-second.ensures)) (search rules) in
     search IfOk-from_err
 
 pub returns-in_err-write : goal.returns-in_err-write
 returns-in_err-write g c =
     let failed = c.from_residual-in_err-write.ensures.0 in
-    let on : GoesOn g.W.Words c.args.w.now c.write.new.self c.from_residual-in_err-write.result = record {
-      shape = c.in_err-write.ensures.shape ∙ c.in_ok-second.ensures.shape ∙ c.in_ok-first.ensures.shape ∙ c.in_ok-front.ensures.shape ∙ c.in_ok-count.ensures.shape;
-      origin = c.in_err-write.ensures.origin ∙ c.in_ok-second.ensures.origin ∙ c.in_ok-first.ensures.origin ∙ c.in_ok-front.ensures.origin ∙ c.in_ok-count.ensures.origin;
-      begins = begins_trans _ _ _ c.in_ok-count.ensures.begins (begins_trans _ _ _ c.in_ok-front.ensures.begins (begins_trans _ _ _ c.in_ok-first.ensures.begins (begins_trans _ _ _ c.in_ok-second.ensures.begins c.in_err-write.ensures.begins)));
-      stops = search rules;
-      sound = c.in_err-write.ensures.sound;
-    } in
+    let on : GoesOn g.W.Words c.args.w.now c.write.new.self c.from_residual-in_err-write.result = goes_as (goes_then (goes_then (goes_then (goes_then (goes_call c.in_ok-count.ensures) (goes_call c.in_ok-front.ensures)) (goes_call c.in_ok-first.ensures)) (goes_call c.in_ok-second.ensures)) (goes_call c.in_err-write.ensures)) (search rules) in
     search IfOk-from_err
 
 pub returns-in_err-write-2 : goal.returns-in_err-write-2
 returns-in_err-write-2 g c =
     let failed = c.from_residual-in_err-write-2.ensures.0 in
-    let on : GoesOn g.W.Words c.args.w.now c.write-2.new.self c.from_residual-in_err-write-2.result = record {
-      shape = c.in_err-write-2.ensures.shape ∙ c.in_ok-write.ensures.shape ∙ c.in_ok-second.ensures.shape ∙ c.in_ok-first.ensures.shape ∙ c.in_ok-front.ensures.shape ∙ c.in_ok-count.ensures.shape;
-      origin = c.in_err-write-2.ensures.origin ∙ c.in_ok-write.ensures.origin ∙ c.in_ok-second.ensures.origin ∙ c.in_ok-first.ensures.origin ∙ c.in_ok-front.ensures.origin ∙ c.in_ok-count.ensures.origin;
-      begins = begins_trans _ _ _ c.in_ok-count.ensures.begins (begins_trans _ _ _ c.in_ok-front.ensures.begins (begins_trans _ _ _ c.in_ok-first.ensures.begins (begins_trans _ _ _ c.in_ok-second.ensures.begins (begins_trans _ _ _ c.in_ok-write.ensures.begins c.in_err-write-2.ensures.begins))));
-      stops = search rules;
-      sound = c.in_err-write-2.ensures.sound;
-    } in
+    let on : GoesOn g.W.Words c.args.w.now c.write-2.new.self c.from_residual-in_err-write-2.result = goes_as (goes_then (goes_then (goes_then (goes_then (goes_then (goes_call c.in_ok-count.ensures) (goes_call c.in_ok-front.ensures)) (goes_call c.in_ok-first.ensures)) (goes_call c.in_ok-second.ensures)) (goes_call c.in_ok-write.ensures)) (goes_call c.in_err-write-2.ensures)) (search rules) in
     search IfOk-from_err
 
 pub returns : goal.returns
@@ -199,11 +157,5 @@ returns g c =
             (sees_then is_own _ _ _ (sees_read is_own _ _ _ _ c.in_ok-first.ensures.value first) (sees_then is_own _ _ _ (sees_read is_own _ _ _ _ c.in_ok-second.ensures.value second)
             (sees_then is_own _ _ _ (sees_write is_own _ _ _ _ c.in_ok-write.ensures.value front) (sees_write is_own _ _ _ _ c.in_ok-write-2.ensures.value count)))));
       };
-      goes_on = record {
-        shape = shape;
-        origin = c.in_ok-write-2.ensures.origin ∙ c.in_ok-write.ensures.origin ∙ c.in_ok-second.ensures.origin ∙ c.in_ok-first.ensures.origin ∙ c.in_ok-front.ensures.origin ∙ c.in_ok-count.ensures.origin;
-        begins = begins;
-        stops = c.in_ok-write-2.ensures.stops;
-        sound = c.in_ok-write-2.ensures.sound;
-      };
+      goes_on = goes_as (goes_then (goes_then (goes_then (goes_then (goes_then (goes_call c.in_ok-count.ensures) (goes_call c.in_ok-front.ensures)) (goes_call c.in_ok-first.ensures)) (goes_call c.in_ok-second.ensures)) (goes_call c.in_ok-write.ensures)) (goes_call c.in_ok-write-2.ensures)) c.in_ok-write-2.ensures.stops;
     }

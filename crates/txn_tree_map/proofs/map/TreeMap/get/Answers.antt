@@ -1,8 +1,7 @@
 use Rattle.std.proofs.Common.{◌≡◌, ◌+◌, arith, ap, ◌∙◌, rules}
 use Rattle.std.proofs.lemmas.Result.{IfOk-from_err}
-use Rattle.history_model.proofs.TraceLaws.{begins_trans}
 use Rattle.txn_words.specs.Calls.{GoesOn}
-use Rattle.txn_words.proofs.CallLaws.{each_plain}
+use Rattle.txn_words.proofs.CallLaws.{each_plain, goes_call, goes_then, goes_as}
 use Rattle.txn_alloc.specs.FreeLists.{block_at}
 use Rattle.txn_alloc.specs.EntryMaps.{HasMap}
 use Rattle.txn_words.proofs.Looks.{looks_only, each_looked, each_from}
@@ -18,13 +17,7 @@ use Rattle.txn_tree_map.proofs.map.TreeMap.get.Goals as goal
 pub returns-in_err-find : goal.returns-in_err-find
 returns-in_err-find g c =
     let failed = c.from_residual.ensures.0 in
-    let on : GoesOn g.W.Words c.args.w.now c.find.new.w c.from_residual.result = record {
-      shape = c.in_err-find.ensures.goes_on.shape;
-      origin = c.in_err-find.ensures.goes_on.origin;
-      begins = c.in_err-find.ensures.goes_on.begins;
-      stops = search rules;
-      sound = c.in_err-find.ensures.goes_on.sound;
-    } in
+    let on : GoesOn g.W.Words c.args.w.now c.find.new.w c.from_residual.result = goes_as c.in_err-find.ensures.goes_on (search rules) in
     search IfOk-from_err
 
 pub returns-in-None : goal.returns-in-None
@@ -38,13 +31,7 @@ returns-in-None g c =
       order = each_from g.W.Words g.W.Shape.Shape c.args.w.now _ _ goes.shape (each_looked _ _ _ _ missing (HasMap (tree_part m)) plain);
       frame = looks_only g.W.Words g.W.Shape.Shape _ _ (IsLink m) _ missing;
       reads = record { at = sees_near (tree_part m) c.args.key _ _ _ _ (near_own m c.args.key) missing plain };
-      goes_on = record {
-        shape = goes.shape;
-        origin = goes.origin;
-        begins = goes.begins;
-        stops = goes.stops;
-        sound = goes.sound;
-      };
+      goes_on = goes_as goes goes.stops;
     }
 
 pub read-requires-clause-within : goal.read-requires-clause-within
@@ -59,13 +46,7 @@ read-requires-clause-within g c =
 pub returns-in_err-value-in-Some : goal.returns-in_err-value-in-Some
 returns-in_err-value-in-Some g c =
     let failed = c.from_residual-in_err-value-in-Some.ensures.0 in
-    let on : GoesOn g.W.Words c.args.w.now c.read.new.self c.from_residual-in_err-value-in-Some.result = record {
-      shape = c.in_err-value-in-Some.ensures.shape ∙ c.in_ok-find.ensures.goes_on.shape;
-      origin = c.in_err-value-in-Some.ensures.origin ∙ c.in_ok-find.ensures.goes_on.origin;
-      begins = begins_trans _ _ _ c.in_ok-find.ensures.goes_on.begins c.in_err-value-in-Some.ensures.begins;
-      stops = search rules;
-      sound = c.in_err-value-in-Some.ensures.sound;
-    } in
+    let on : GoesOn g.W.Words c.args.w.now c.read.new.self c.from_residual-in_err-value-in-Some.result = goes_as (goes_then c.in_ok-find.ensures.goes_on (goes_call c.in_err-value-in-Some.ensures)) (search rules) in
     search IfOk-from_err
 
 pub returns-in_ok-value-in-Some : goal.returns-in_ok-value-in-Some
@@ -87,11 +68,5 @@ returns-in_ok-value-in-Some g c =
       reads = record {
         at = sees_value (tree_part m) c.args.key _ _ _ _ b q y is_value (keys_block m c.args.key c.in-Some.found.place b) looks (near_own m c.args.key) plain;
       };
-      goes_on = record {
-        shape = shape;
-        origin = value.origin ∙ goes.origin;
-        begins = begins_trans _ _ _ goes.begins value.begins;
-        stops = value.stops;
-        sound = value.sound;
-      };
+      goes_on = goes_as (goes_then goes (goes_call value)) value.stops;
     }

@@ -4,7 +4,7 @@ use Rattle.history_model.specs.Fitting.{SomeFits}
 use Rattle.history_model.proofs.TraceLaws.{begins_trans}
 use Rattle.history_model.proofs.FittingLaws.{some_at}
 use Rattle.txn_words.specs.Calls.{GoesOn}
-use Rattle.txn_words.proofs.CallLaws.{each_plain, leads_plain, state_after}
+use Rattle.txn_words.proofs.CallLaws.{each_plain, leads_plain, state_after, goes_call, goes_then, goes_as}
 use Rattle.txn_words.proofs.FrameLaws.{only_more, only_then}
 use Rattle.txn_alloc.specs.declared.put.Put.TheVariants.{New, Old, Full}
 use Rattle.txn_alloc.specs.FreeLists.{block_at, HasNone}
@@ -66,13 +66,7 @@ returns-in_ok-put_in-in-Some-2-clause-goes_on g c =
     let one = c.in_ok-found.ensures.goes_on in
     let two = c.in_ok-block-in-None.ensures.goes_on in
     let three = c.in_ok-put_in-in-Some-2.ensures.goes_on in
-    record {
-      shape = three.shape ∙ two.shape ∙ one.shape;
-      origin = three.origin ∙ two.origin ∙ one.origin;
-      begins = begins_trans _ _ _ one.begins (begins_trans _ _ _ two.begins three.begins);
-      stops = three.stops;
-      sound = three.sound;
-    }
+    goes_as (goes_then (goes_then one two) three) three.stops
 
 pub returns-in_ok-write-in-Some-clause-put : goal.returns-in_ok-write-in-Some-clause-put
 returns-in_ok-write-in-Some-clause-put g c =
@@ -276,59 +270,29 @@ returns-in_ok-put_in-in-Some-2-clause-full_frame g c = λ e. absurd (new_not_ful
 pub returns-in_err-found : goal.returns-in_err-found
 returns-in_err-found g c =
     let failed = c.from_residual.ensures.0 in
-    let on : GoesOn g.W.Words c.args.w.now c.find.new.w c.from_residual.result = record {
-      shape = c.in_err-found.ensures.goes_on.shape;
-      origin = c.in_err-found.ensures.goes_on.origin;
-      begins = c.in_err-found.ensures.goes_on.begins;
-      stops = search rules;
-      sound = c.in_err-found.ensures.goes_on.sound;
-    } in
+    let on : GoesOn g.W.Words c.args.w.now c.find.new.w c.from_residual.result = goes_as c.in_err-found.ensures.goes_on (search rules) in
     search IfOk-from_err
 
 pub returns-in_err-old-in-Some : goal.returns-in_err-old-in-Some
 returns-in_err-old-in-Some g c =
     let failed = c.from_residual-in_err-old-in-Some.ensures.0 in
-    let on : GoesOn g.W.Words c.args.w.now c.read.new.self c.from_residual-in_err-old-in-Some.result = record {
-      shape = c.in_err-old-in-Some.ensures.shape ∙ c.in_ok-found.ensures.goes_on.shape;
-      origin = c.in_err-old-in-Some.ensures.origin ∙ c.in_ok-found.ensures.goes_on.origin;
-      begins = begins_trans _ _ _ c.in_ok-found.ensures.goes_on.begins c.in_err-old-in-Some.ensures.begins;
-      stops = search rules;
-      sound = c.in_err-old-in-Some.ensures.sound;
-    } in
+    let on : GoesOn g.W.Words c.args.w.now c.read.new.self c.from_residual-in_err-old-in-Some.result = goes_as (goes_then c.in_ok-found.ensures.goes_on (goes_call c.in_err-old-in-Some.ensures)) (search rules) in
     search IfOk-from_err
 
 pub returns-in_err-write-in-Some : goal.returns-in_err-write-in-Some
 returns-in_err-write-in-Some g c =
     let failed = c.from_residual-in_err-write-in-Some.ensures.0 in
-    let on : GoesOn g.W.Words c.args.w.now c.write.new.self c.from_residual-in_err-write-in-Some.result = record {
-      shape = c.in_err-write-in-Some.ensures.shape ∙ c.in_ok-old-in-Some.ensures.shape ∙ c.in_ok-found.ensures.goes_on.shape;
-      origin = c.in_err-write-in-Some.ensures.origin ∙ c.in_ok-old-in-Some.ensures.origin ∙ c.in_ok-found.ensures.goes_on.origin;
-      begins = begins_trans _ _ _ c.in_ok-found.ensures.goes_on.begins (begins_trans _ _ _ c.in_ok-old-in-Some.ensures.begins c.in_err-write-in-Some.ensures.begins);
-      stops = search rules;
-      sound = c.in_err-write-in-Some.ensures.sound;
-    } in
+    let on : GoesOn g.W.Words c.args.w.now c.write.new.self c.from_residual-in_err-write-in-Some.result = goes_as (goes_then (goes_then c.in_ok-found.ensures.goes_on (goes_call c.in_ok-old-in-Some.ensures)) (goes_call c.in_err-write-in-Some.ensures)) (search rules) in
     search IfOk-from_err
 
 pub returns-in_err-block-in-None : goal.returns-in_err-block-in-None
 returns-in_err-block-in-None g c =
     let failed = c.from_residual-in_err-block-in-None.ensures.0 in
-    let on : GoesOn g.W.Words c.args.w.now c.take.new.w c.from_residual-in_err-block-in-None.result = record {
-      shape = c.in_err-block-in-None.ensures.goes_on.shape ∙ c.in_ok-found.ensures.goes_on.shape;
-      origin = c.in_err-block-in-None.ensures.goes_on.origin ∙ c.in_ok-found.ensures.goes_on.origin;
-      begins = begins_trans _ _ _ c.in_ok-found.ensures.goes_on.begins c.in_err-block-in-None.ensures.goes_on.begins;
-      stops = search rules;
-      sound = c.in_err-block-in-None.ensures.goes_on.sound;
-    } in
+    let on : GoesOn g.W.Words c.args.w.now c.take.new.w c.from_residual-in_err-block-in-None.result = goes_as (goes_then c.in_ok-found.ensures.goes_on c.in_err-block-in-None.ensures.goes_on) (search rules) in
     search IfOk-from_err
 
 pub returns-in_err-put_in-in-Some-2 : goal.returns-in_err-put_in-in-Some-2
 returns-in_err-put_in-in-Some-2 g c =
     let failed = c.from_residual-in_err-put_in-in-Some-2.ensures.0 in
-    let on : GoesOn g.W.Words c.args.w.now c.put_in.new.w c.from_residual-in_err-put_in-in-Some-2.result = record {
-      shape = c.in_err-put_in-in-Some-2.ensures.goes_on.shape ∙ c.in_ok-block-in-None.ensures.goes_on.shape ∙ c.in_ok-found.ensures.goes_on.shape;
-      origin = c.in_err-put_in-in-Some-2.ensures.goes_on.origin ∙ c.in_ok-block-in-None.ensures.goes_on.origin ∙ c.in_ok-found.ensures.goes_on.origin;
-      begins = begins_trans _ _ _ c.in_ok-found.ensures.goes_on.begins (begins_trans _ _ _ c.in_ok-block-in-None.ensures.goes_on.begins c.in_err-put_in-in-Some-2.ensures.goes_on.begins);
-      stops = search rules;
-      sound = c.in_err-put_in-in-Some-2.ensures.goes_on.sound;
-    } in
+    let on : GoesOn g.W.Words c.args.w.now c.put_in.new.w c.from_residual-in_err-put_in-in-Some-2.result = goes_as (goes_then (goes_then c.in_ok-found.ensures.goes_on c.in_ok-block-in-None.ensures.goes_on) c.in_err-put_in-in-Some-2.ensures.goes_on) (search rules) in
     search IfOk-from_err

@@ -1,8 +1,7 @@
 use Rattle.std.proofs.Common.{Some, None, arith, ◌∙◌, rules}
 use Rattle.std.proofs.lemmas.Result.{IfOk-from_err}
-use Rattle.history_model.proofs.TraceLaws.{begins_trans}
 use Rattle.txn_words.specs.Calls.{GoesOn}
-use Rattle.txn_words.proofs.CallLaws.{each_plain, state_after}
+use Rattle.txn_words.proofs.CallLaws.{each_plain, state_after, goes_then, goes_as}
 use Rattle.txn_words.proofs.FrameLaws.{only_more}
 use Rattle.txn_alloc.specs.EntryMaps.{HasMapApart, Removes}
 use Rattle.txn_words.proofs.Looks.{looks_each, looks_map, looks_only, each_from, leads_from, within_from, reads_from}
@@ -89,13 +88,7 @@ returns-in_ok-give-in-Some-clause-goes_on g c =
     let one = c.in_ok-find.ensures.goes_on in
     let two = c.in_ok-value-in-Some.ensures.goes_on in
     let three = c.in_ok-give-in-Some.ensures.goes_on in
-    record {
-      shape = three.shape ∙ two.shape ∙ one.shape;
-      origin = three.origin ∙ two.origin ∙ one.origin;
-      begins = begins_trans _ _ _ one.begins (begins_trans _ _ _ two.begins three.begins);
-      stops = three.stops;
-      sound = three.sound;
-    }
+    goes_as (goes_then (goes_then one two) three) three.stops
 
 pub returns-in_ok-give-in-Some-clause-removed : goal.returns-in_ok-give-in-Some-clause-removed
 returns-in_ok-give-in-Some-clause-removed g c =
@@ -158,35 +151,17 @@ returns-in_ok-give-in-Some-clause-reads g c =
 pub returns-in_err-find : goal.returns-in_err-find
 returns-in_err-find g c =
     let failed = c.from_residual.ensures.0 in
-    let on : GoesOn g.W.Words c.args.w.now c.find.new.w c.from_residual.result = record {
-      shape = c.in_err-find.ensures.goes_on.shape;
-      origin = c.in_err-find.ensures.goes_on.origin;
-      begins = c.in_err-find.ensures.goes_on.begins;
-      stops = search rules;
-      sound = c.in_err-find.ensures.goes_on.sound;
-    } in
+    let on : GoesOn g.W.Words c.args.w.now c.find.new.w c.from_residual.result = goes_as c.in_err-find.ensures.goes_on (search rules) in
     search IfOk-from_err
 
 pub returns-in_err-value-in-Some : goal.returns-in_err-value-in-Some
 returns-in_err-value-in-Some g c =
     let failed = c.from_residual-in_err-value-in-Some.ensures.0 in
-    let on : GoesOn g.W.Words c.args.w.now c.cut.new.w c.from_residual-in_err-value-in-Some.result = record {
-      shape = c.in_err-value-in-Some.ensures.goes_on.shape ∙ c.in_ok-find.ensures.goes_on.shape;
-      origin = c.in_err-value-in-Some.ensures.goes_on.origin ∙ c.in_ok-find.ensures.goes_on.origin;
-      begins = begins_trans _ _ _ c.in_ok-find.ensures.goes_on.begins c.in_err-value-in-Some.ensures.goes_on.begins;
-      stops = search rules;
-      sound = c.in_err-value-in-Some.ensures.goes_on.sound;
-    } in
+    let on : GoesOn g.W.Words c.args.w.now c.cut.new.w c.from_residual-in_err-value-in-Some.result = goes_as (goes_then c.in_ok-find.ensures.goes_on c.in_err-value-in-Some.ensures.goes_on) (search rules) in
     search IfOk-from_err
 
 pub returns-in_err-give-in-Some : goal.returns-in_err-give-in-Some
 returns-in_err-give-in-Some g c =
     let failed = c.from_residual-in_err-give-in-Some.ensures.0 in
-    let on : GoesOn g.W.Words c.args.w.now c.give.new.w c.from_residual-in_err-give-in-Some.result = record {
-      shape = c.in_err-give-in-Some.ensures.goes_on.shape ∙ c.in_ok-value-in-Some.ensures.goes_on.shape ∙ c.in_ok-find.ensures.goes_on.shape;
-      origin = c.in_err-give-in-Some.ensures.goes_on.origin ∙ c.in_ok-value-in-Some.ensures.goes_on.origin ∙ c.in_ok-find.ensures.goes_on.origin;
-      begins = begins_trans _ _ _ c.in_ok-find.ensures.goes_on.begins (begins_trans _ _ _ c.in_ok-value-in-Some.ensures.goes_on.begins c.in_err-give-in-Some.ensures.goes_on.begins);
-      stops = search rules;
-      sound = c.in_err-give-in-Some.ensures.goes_on.sound;
-    } in
+    let on : GoesOn g.W.Words c.args.w.now c.give.new.w c.from_residual-in_err-give-in-Some.result = goes_as (goes_then (goes_then c.in_ok-find.ensures.goes_on c.in_ok-value-in-Some.ensures.goes_on) c.in_err-give-in-Some.ensures.goes_on) (search rules) in
     search IfOk-from_err
