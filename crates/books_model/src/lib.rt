@@ -15,6 +15,3 @@ pub use books::Books;
 pub use reply::{Decline, Reply, Value, Values};
 pub use run::run_plain;
 pub use script::{Op, Script};
-
-#[cfg(test)]
-mod tests;

@@ -14,8 +14,3 @@ pub use books::books_text;
 pub use check::{Checked, check_text};
 pub use journal::journal_text;
 pub use line::Line;
-
-#[cfg(test)]
-mod checks;
-#[cfg(test)]
-mod tests;

@@ -18,6 +18,3 @@ pub use sink::Sink;
 pub use source::{Failed, Source};
 pub use standard::{StdSink, StdSource};
 pub use writing::{WriteFault, write_all_of};
-
-#[cfg(test)]
-mod tests;

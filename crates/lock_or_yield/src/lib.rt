@@ -12,10 +12,3 @@ pub mod want;
 
 pub use turn::{Tried, try_read, try_write};
 pub use want::{Got, want_read, want_write};
-
-#[cfg(test)]
-mod thread_tests;
-#[cfg(test)]
-mod turn_tests;
-#[cfg(test)]
-mod want_tests;

@@ -20,6 +20,3 @@ pub use fault::{Fault, InputFault};
 pub use front::{read_front, read_input};
 pub use input::Input;
 pub use numbers::numeral;
-
-#[cfg(test)]
-mod tests;

@@ -16,6 +16,3 @@ pub use arena::{Arena, Block};
 pub use found::Found;
 pub use free::{give, take};
 pub use put::Put;
-
-#[cfg(test)]
-mod tests;

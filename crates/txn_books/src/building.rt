@@ -245,34 +245,3 @@ pub fn build(alloc: Global, books: &Books) -> Result<Vec<u64>, OutOfMemory>
     let words = add_calls(alloc, &shape, words, books)?;
     sort_free(alloc, &shape, words)
 }
-
-#[cfg(test)]
-mod tests {
-    use super::*;
-    use crate::read::read_books;
-    use std::test::Fail;
-
-    /// Two blocks, one instrument, and a queue of one margin call.
-    const SHAPE: BooksShape = BooksShape {
-        blocks: 2,
-        instruments: 1,
-        ring: 1,
-    };
-
-    /// The account takes the first block, and the list of the free ones begins with the second.
-    #[test]
-    fn what_is_built_is_read(rt: HostRuntime) -> Result<(), Fail> {
-        let mut books = Books::new(rt.alloc(), 2, 1, 1);
-        books.add_account(7, 70)?;
-        let words = build(rt.alloc(), &books)?;
-        assert_eq!(rt; words.len(), 285);
-        assert_eq!(rt; words[0], 1);
-        assert_eq!(rt; words[1], 2);
-        assert_eq!(rt; words[277], 7);
-        assert_eq!(rt; words[278], 70);
-        let again = read_books(rt.alloc(), &SHAPE, &words)?;
-        assert_eq!(rt; again.cash(7), Some(70));
-        assert_eq!(rt; again.used(), 1);
-        Ok(())
-    }
-}

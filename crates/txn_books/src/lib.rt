@@ -34,10 +34,3 @@ pub use on_plain::run_on_plain;
 pub use operations::{Outcome, run_operation};
 pub use read::read_books;
 pub use shape::BooksShape;
-
-#[cfg(test)]
-mod part_tests;
-#[cfg(test)]
-mod script_tests;
-#[cfg(test)]
-mod tests;

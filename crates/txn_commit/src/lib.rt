@@ -13,8 +13,3 @@ pub mod transaction;
 
 pub use attempt::{Attempt, Halt, Start, UNDO_ROOM};
 pub use transaction::{Receipt, transact};
-
-#[cfg(test)]
-mod tests;
-#[cfg(test)]
-mod thread_tests;

@@ -15,6 +15,3 @@ pub mod map;
 mod remove;
 
 pub use map::ChainMap;
-
-#[cfg(test)]
-mod tests;

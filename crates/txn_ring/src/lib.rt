@@ -8,6 +8,3 @@ pub mod laws;
 pub mod ring;
 
 pub use ring::Ring;
-
-#[cfg(test)]
-mod tests;

@@ -50,6 +50,3 @@ mod split;
 mod sum;
 
 pub use map::TreeMap;
-
-#[cfg(test)]
-mod tests;

@@ -37,14 +37,3 @@ pub use limits::{LAST_CALL, MOST_PASSES, MOST_WORDS};
 pub use notes::Note;
 pub use pass::Pass;
 pub use rule::{DeskRule, Ground};
-
-#[cfg(test)]
-mod clock_tests;
-#[cfg(test)]
-mod closing_tests;
-#[cfg(test)]
-mod laws_tests;
-#[cfg(test)]
-mod tests;
-#[cfg(test)]
-mod values_tests;

@@ -20,6 +20,3 @@ pub use rule::MOST_DRAWS;
 pub use run::run_callers;
 pub use source::Source;
 pub use taker::Taker;
-
-#[cfg(test)]
-mod tests;

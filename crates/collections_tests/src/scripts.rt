@@ -1,0 +1,385 @@
+//! Scripts on words and in the plain interpreter, side by side: the same rows through both, with replies computed by
+//! hand.
+
+ghost use Rattle.std.specs.Prelude.{◌≡◌, IfOk};
+ghost use Rattle.std.specs.Bool.{OnTrue};
+ghost use Rattle.books_model.specs.Ranges.{IsWithin};
+ghost use Rattle.books_model.specs.declared.limits.TheConstants.{GREATEST_AMOUNT};
+ghost use Rattle.txn_books.specs.Layout.{shape_of};
+ghost use Rattle.txn_books.specs.Operating.{IsOperationIn};
+ghost use Rattle.txn_books.specs.Meaning.{IsScriptIn};
+
+use books_model::laws::scripts_go_by_instruments;
+use books_model::limits::{
+    GREATEST_AMOUNT, GREATEST_CASH, GREATEST_PRICE, GREATEST_QUANTITY, GREATEST_RATE,
+    GREATEST_SHORTFALL,
+};
+use books_model::{Books, Decline, Op, Reply, Script, Value, run_plain};
+use io_ends::OutOfMemory;
+use std::alloc::Global;
+use std::process::Abort;
+use std::test::Fail;
+use txn_books::{BooksShape, build, read_books, run_on_plain};
+
+// What a script is to reply.
+#[derive(Clone, Copy)]
+enum Want<'a> {
+    Done(&'a [Value]),
+    Declined(u32, Decline),
+    Full(u32),
+}
+
+const OK: Want<'static> = Want::Done(&[Value::Done]);
+
+// How many blocks the opening books use.
+const USED: u32 = 7;
+
+fn add_account(
+    rt: &impl Abort,
+    books: &mut Books,
+    account: u32,
+    cash: u64,
+) -> Result<(), OutOfMemory> {
+    assert!(rt; account > 0 && cash <= GREATEST_CASH);
+    assert!(rt; books.cash(account).is_none() && books.used() < books.blocks());
+    books.add_account(account, cash)
+}
+
+fn add_price(
+    rt: &impl Abort,
+    books: &mut Books,
+    instrument: u32,
+    price: u64,
+) -> Result<(), OutOfMemory> {
+    assert!(rt; instrument > 0 && instrument <= books.instruments());
+    assert!(rt; price > 0 && price <= GREATEST_PRICE);
+    assert!(rt; books.price(instrument).is_none() && books.used() < books.blocks());
+    books.add_price(instrument, price)
+}
+
+fn add_position(
+    rt: &impl Abort,
+    books: &mut Books,
+    account: u32,
+    instrument: u32,
+    quantity: u64,
+) -> Result<(), OutOfMemory> {
+    assert!(rt; books.cash(account).is_some() && books.price(instrument).is_some());
+    assert!(rt; quantity > 0 && quantity <= GREATEST_QUANTITY);
+    assert!(rt; books.position(account, instrument).is_none());
+    assert!(rt; books.used() < books.blocks());
+    books.add_position(account, instrument, quantity)
+}
+
+fn add_call(
+    rt: &impl Abort,
+    books: &mut Books,
+    account: u32,
+    shortfall: u64,
+) -> Result<(), OutOfMemory> {
+    assert!(rt; account > 0 && shortfall > 0 && shortfall <= GREATEST_SHORTFALL);
+    assert!(rt; books.calls() < books.ring());
+    books.add_call(account, shortfall)
+}
+
+// Accounts 1 to 4, the third at both limits; a price of instrument 1 and none of instrument 2; and a queue of one margin
+// call, which is full.
+fn opening(rt: &impl Abort, alloc: Global, blocks: u32) -> Result<Books, OutOfMemory> {
+    assert!(rt; blocks >= USED && blocks <= 16_384);
+    let mut books = Books::new(alloc, blocks, 2, 1);
+    for (account, cash) in &[(1, 100), (2, 0), (3, GREATEST_CASH), (4, 0)] {
+        add_account(rt, &mut books, *account, *cash)?;
+    }
+    add_price(rt, &mut books, 1, 10)?;
+    for (account, quantity) in &[(2, 3), (3, GREATEST_QUANTITY)] {
+        add_position(rt, &mut books, *account, 1, *quantity)?;
+    }
+    add_call(rt, &mut books, 7, 9)?;
+    Ok(books)
+}
+
+fn is_amount(amount: u64) -> bool
+    ensures { OnTrue result (IsWithin 1 GREATEST_AMOUNT amount) }
+{
+    amount > 0 && amount <= GREATEST_AMOUNT
+}
+
+// Whether the numbers of an operation are in their ranges.
+fn is_in(shape: &BooksShape, op: Op) -> bool
+    ensures { OnTrue result (IsOperationIn shape.now op) }
+{
+    match op {
+        Op::OpenAccount(a) | Op::Close(a) | Op::Show(a) => a > 0,
+        Op::Deposit(a, x) | Op::Withdraw(a, x) => a > 0 && is_amount(x),
+        Op::Move(a, b, x) => a > 0 && b > 0 && is_amount(x),
+        Op::Price(i, p) => i > 0 && i <= shape.instruments && p > 0 && p <= GREATEST_PRICE,
+        Op::Trade(a, b, i, q) => {
+            a > 0 && b > 0 && i > 0 && i <= shape.instruments && q > 0 && q <= GREATEST_QUANTITY
+        }
+        Op::Margin(a, m) => a > 0 && m > 0 && m <= GREATEST_RATE,
+        Op::Next => true,
+        Op::Sum(a, b) => a > 0 && b > 0,
+    }
+}
+
+// A script of these operations.
+fn script_of(
+    rt: &impl Abort,
+    alloc: Global,
+    shape: &BooksShape,
+    operations: &[Op],
+) -> Result<Script, OutOfMemory>
+    ensures { IfOk result (λ script. IsScriptIn shape.now script) }
+{
+    assert!(rt; operations.len() <= 64);
+    let mut script = Script::new(alloc);
+    for operation in operations {
+        let fits = is_in(shape, *operation);
+        assert!(rt; fits);
+        script.push(*operation)?;
+    }
+    Ok(script)
+}
+
+// The sizes of books.
+fn sizes_of(books: &Books) -> BooksShape
+    ensures { result ≡ shape_of books.now }
+{
+    BooksShape {
+        blocks: books.blocks(),
+        instruments: books.instruments(),
+        ring: books.ring(),
+    }
+}
+
+// What a script replies, and the books after it.
+#[derive(Drop)]
+struct Ran {
+    reply: Reply,
+    books: Books,
+}
+
+// Runs a script on the words that are built of the books.
+fn run_on_words(
+    rt: &impl Abort,
+    alloc: Global,
+    books: &Books,
+    operations: &[Op],
+) -> Result<Ran, OutOfMemory> {
+    let shape = sizes_of(books);
+    let script = script_of(rt, alloc, &shape, operations)?;
+    let mut words = build(alloc, books)?;
+    let reply = run_on_plain(alloc, &shape, &script, &mut words)?;
+    let books = read_books(alloc, &shape, &words)?;
+    Ok(Ran { reply, books })
+}
+
+// Runs a script on the books themselves.
+fn run_in_memory(
+    rt: &impl Abort,
+    alloc: Global,
+    books: &Books,
+    operations: &[Op],
+) -> Result<Ran, OutOfMemory> {
+    let shape = sizes_of(books);
+    scripts_go_by_instruments();
+    let script = script_of(rt, alloc, &shape, operations)?;
+    let mut books = books.copy()?;
+    let reply = run_plain(alloc, &script, &mut books)?;
+    Ok(Ran { reply, books })
+}
+
+// Whether a reply is the one that is wanted.
+fn is_wanted(reply: &Reply, want: Want<'_>) -> bool {
+    match (reply, want) {
+        (Reply::Done(values), Want::Done(wanted)) => {
+            values.len() == wanted.len()
+                && (0..wanted.len()).all(|place| values.at(place) == wanted[place])
+        }
+        (Reply::Declined(number, why), Want::Declined(wanted, reason)) => {
+            *number == wanted && *why == reason
+        }
+        (Reply::Full(number), Want::Full(wanted)) => *number == wanted,
+        _ => false,
+    }
+}
+
+// Whether books agree, of which neither has an account above 9.
+fn agree(books: &Books, others: &Books) -> bool {
+    if books.used() != others.used() || books.calls() != others.calls() {
+        return false;
+    }
+    for index in 0..books.calls() {
+        if index >= others.calls() || books.call_at(index) != others.call_at(index) {
+            return false;
+        }
+    }
+    for account in 1..10 {
+        if books.cash(account) != others.cash(account) {
+            return false;
+        }
+        for instrument in 1..3 {
+            if books.position(account, instrument) != others.position(account, instrument) {
+                return false;
+            }
+        }
+    }
+    books.price(1) == others.price(1) && books.price(2) == others.price(2)
+}
+
+// Runs each script from the opening books anew, in both ways.
+fn compare(
+    rt: &impl Abort,
+    alloc: Global,
+    blocks: u32,
+    rows: &[(&[Op], Want<'_>)],
+) -> Result<(), OutOfMemory> {
+    let books = opening(rt, alloc, blocks)?;
+    for (operations, want) in rows {
+        let on_words = run_on_words(rt, alloc, &books, operations)?;
+        let in_memory = run_in_memory(rt, alloc, &books, operations)?;
+        assert!(rt; is_wanted(&on_words.reply, *want));
+        assert!(rt; is_wanted(&in_memory.reply, *want));
+        assert!(rt; agree(&on_words.books, &in_memory.books));
+    }
+    Ok(())
+}
+
+/// Accounts, where two blocks are left.
+#[test]
+fn accounts_and_cash(rt: HostRuntime) -> Result<(), Fail> {
+    const ROWS: [(&[Op], Want<'static>); 17] = [
+        (&[Op::OpenAccount(5)], OK),
+        (&[Op::OpenAccount(1)], Want::Declined(1, Decline::Exists)),
+        (&[Op::Close(4)], OK),
+        (&[Op::Close(1)], Want::Declined(1, Decline::Cash)),
+        (&[Op::Close(2)], Want::Declined(1, Decline::Held)),
+        (&[Op::Close(9)], Want::Declined(1, Decline::Absent)),
+        (&[Op::Deposit(1, 5)], OK),
+        (&[Op::Deposit(9, 1)], Want::Declined(1, Decline::Absent)),
+        (&[Op::Deposit(3, 1)], Want::Declined(1, Decline::Limit)),
+        (&[Op::Withdraw(1, 100)], OK),
+        (&[Op::Withdraw(9, 1)], Want::Declined(1, Decline::Absent)),
+        (&[Op::Withdraw(1, 101)], Want::Declined(1, Decline::Cash)),
+        (&[Op::Move(1, 2, 50)], OK),
+        (&[Op::Move(1, 1, 1)], Want::Declined(1, Decline::Same)),
+        (&[Op::Move(1, 9, 1)], Want::Declined(1, Decline::Absent)),
+        (&[Op::Move(2, 1, 1)], Want::Declined(1, Decline::Cash)),
+        (&[Op::Move(1, 3, 1)], Want::Declined(1, Decline::Limit)),
+    ];
+    compare(&rt, rt.alloc(), USED + 2, &ROWS)?;
+    Ok(())
+}
+
+/// Prices and trades, where two blocks are left.
+#[test]
+fn prices_and_trades(rt: HostRuntime) -> Result<(), Fail> {
+    const ROWS: [(&[Op], Want<'static>); 10] = [
+        (&[Op::Price(1, 20)], OK),
+        (&[Op::Price(2, 5)], OK),
+        (&[Op::Trade(1, 2, 1, 1)], OK),
+        (&[Op::Trade(1, 1, 1, 1)], Want::Declined(1, Decline::Same)),
+        (&[Op::Trade(1, 9, 1, 1)], Want::Declined(1, Decline::Absent)),
+        (&[Op::Trade(1, 2, 2, 1)], Want::Declined(1, Decline::Price)),
+        (
+            &[Op::Trade(1, 2, 1, 4)],
+            Want::Declined(1, Decline::Quantity),
+        ),
+        (&[Op::Trade(4, 2, 1, 1)], Want::Declined(1, Decline::Cash)),
+        (&[Op::Trade(3, 2, 1, 1)], Want::Declined(1, Decline::Limit)),
+        (&[Op::Trade(1, 3, 1, 1)], Want::Declined(1, Decline::Limit)),
+    ];
+    compare(&rt, rt.alloc(), USED + 2, &ROWS)?;
+    Ok(())
+}
+
+/// Margin calls, and what is told.
+#[test]
+fn margin_calls_and_sums(rt: HostRuntime) -> Result<(), Fail> {
+    const ROWS: [(&[Op], Want<'static>); 9] = [
+        (&[Op::Margin(2, 100)], Want::Declined(1, Decline::Queue)),
+        (&[Op::Margin(9, 1)], Want::Declined(1, Decline::Absent)),
+        (&[Op::Margin(1, 100)], Want::Done(&[Value::Number(0)])),
+        (
+            &[Op::Next, Op::Margin(2, 50)],
+            Want::Done(&[Value::Call(7, 9), Value::Number(15)]),
+        ),
+        (
+            &[Op::Next, Op::Next],
+            Want::Done(&[Value::Call(7, 9), Value::Nothing]),
+        ),
+        (&[Op::Show(1)], Want::Done(&[Value::Number(100)])),
+        (&[Op::Show(9)], Want::Declined(1, Decline::Absent)),
+        (
+            &[Op::Sum(1, 3)],
+            Want::Done(&[Value::Number(1_000_000_000_000_100)]),
+        ),
+        (&[Op::Sum(3, 1)], Want::Done(&[Value::Number(0)])),
+    ];
+    compare(&rt, rt.alloc(), USED + 2, &ROWS)?;
+    Ok(())
+}
+
+/// Where no block is left. A seller that gives up its whole position leaves a block for the buyer's.
+#[test]
+fn no_block_is_left(rt: HostRuntime) -> Result<(), Fail> {
+    const ROWS: [(&[Op], Want<'static>); 6] = [
+        (&[Op::OpenAccount(5)], Want::Full(1)),
+        (&[Op::Price(2, 5)], Want::Full(1)),
+        (&[Op::Price(1, 20)], OK),
+        (&[Op::Trade(1, 2, 1, 1)], Want::Full(1)),
+        (&[Op::Trade(1, 2, 1, 3)], OK),
+        (&[Op::Deposit(1, 5), Op::OpenAccount(5)], Want::Full(2)),
+    ];
+    compare(&rt, rt.alloc(), USED, &ROWS)?;
+    Ok(())
+}
+
+/// Several operations, all or none.
+#[test]
+fn scripts_are_done_or_change_nothing(rt: HostRuntime) -> Result<(), Fail> {
+    const ROWS: [(&[Op], Want<'static>); 4] = [
+        (&[], Want::Done(&[])),
+        (
+            &[Op::Deposit(1, 5), Op::Show(1)],
+            Want::Done(&[Value::Done, Value::Number(105)]),
+        ),
+        (
+            &[Op::Deposit(1, 5), Op::Withdraw(1, 1000)],
+            Want::Declined(2, Decline::Cash),
+        ),
+        (
+            &[Op::Close(4), Op::OpenAccount(5), Op::Price(2, 5)],
+            Want::Full(3),
+        ),
+    ];
+    compare(&rt, rt.alloc(), USED, &ROWS)?;
+    Ok(())
+}
+
+/// A first script, on the words of books of four blocks.
+#[test]
+fn a_first_script(rt: HostRuntime) -> Result<(), Fail> {
+    let mut books = Books::new(rt.alloc(), 4, 1, 1);
+    add_account(&rt, &mut books, 7, 100)?;
+    let ran = run_on_words(&rt, rt.alloc(), &books, &[Op::Deposit(7, 5), Op::Show(7)])?;
+    let want = Want::Done(&[Value::Done, Value::Number(105)]);
+    assert!(rt; is_wanted(&ran.reply, want));
+    assert_eq!(rt; ran.books.cash(7), Some(105));
+    assert_eq!(rt; ran.books.used(), 1);
+    Ok(())
+}
+
+/// Every kind of entry, a queue, and no block left: what is built is read back.
+#[test]
+fn what_is_built_is_read_back(rt: HostRuntime) -> Result<(), Fail> {
+    let books = opening(&rt, rt.alloc(), USED)?;
+    let words = build(rt.alloc(), &books)?;
+    let again = read_books(rt.alloc(), &sizes_of(&books), &words)?;
+    assert!(rt; agree(&books, &again));
+    assert_eq!(rt; again.used(), USED);
+    assert_eq!(rt; words.len(), 305);
+    assert_eq!(rt; [words[1], words[273], words[274]], [0, 0, 1]);
+    assert_eq!(rt; [words[275], words[276]], [7, 9]);
+    Ok(())
+}

@@ -1,7 +1,0 @@
-use Rattle.std.proofs.Common.{◌∙◌}
-use Rattle.history_model.proofs.TraceLaws.{length-after}
-use Rattle.lock_or_yield.proofs.turn_tests.take_and_end.Goals as goal
-
--- any two words are good, and a trace keeps their number
-pub commit-place-requires-clause-leaves_good : goal.commit-place-requires-clause-leaves_good
-commit-place-requires-clause-leaves_good c kept words h legal = record { count = length-after c.ask.new.pass.view.trace words ∙ h.count; good = tt }

@@ -1,0 +1,7 @@
+use Rattle.std.proofs.Common.{◌∙◌}
+use Rattle.history_model.proofs.TraceLaws.{length-after}
+use Rattle.memory_tests.proofs.values.read_one.Goals as goal
+
+-- any two words are good, and a trace keeps their number
+pub commit-place-requires-clause-leaves_good : goal.commit-place-requires-clause-leaves_good
+commit-place-requires-clause-leaves_good c kept words h legal = record { count = length-after c.load-value.new.pass.view.trace words ∙ h.count; good = tt }

@@ -1,0 +1,111 @@
+//! Notes that are met, and tables that are closed.
+
+ghost use Rattle.std.specs.Prelude.{◌≡◌, [], ◌∷◌, ◌++◌, length, IfOk};
+ghost use Rattle.word_table.specs.Closing.{AreAllPasses};
+
+use crate::values::{Pair, add, open_pair, read_one};
+use history_model::Phase;
+use io_ends::OutOfMemory;
+use std::alloc::Global;
+use std::test::Fail;
+use word_table::{Desk, Pass};
+
+// The words that a desk leaves.
+fn close_all(
+    alloc: Global,
+    desk: Desk<Pair>,
+    passes: Vec<Pass<Pair>>,
+) -> Result<Vec<u64>, OutOfMemory>
+    requires all { AreAllPasses desk.table desk.seats passes.items }
+{
+    match desk.close(alloc, passes) {
+        Ok(closed) => Ok(closed.words().to_vec(alloc)?),
+        Err(_) => Err(OutOfMemory),
+    }
+}
+
+// The words that a desk with these two passes leaves.
+fn close_pair(
+    alloc: Global,
+    desk: Desk<Pair>,
+    zero: Pass<Pair>,
+    one: Pass<Pair>,
+) -> Result<Vec<u64>, OutOfMemory>
+    requires seats { desk.seats ≡ 2 }
+    requires tables { (zero.table ≡ desk.table) × (one.table ≡ desk.table) }
+    requires idle { (zero.view.phase ≡ Phase.Idle) × (one.view.phase ≡ Phase.Idle) }
+    requires numbers { (zero.view.who ≡ 0 ∷ []) × (one.view.who ≡ 1 ∷ []) }
+{
+    let passes = vec![in alloc; zero, one]?;
+    close_all(alloc, desk, passes)
+}
+
+// One pass adds and gives the other a note, and the other reads: the values, the places, and the words that are left.
+fn tell_of_a_call(
+    alloc: Global,
+) -> Result<Option<((u64, u64), (u64, u64), Vec<u64>)>, OutOfMemory> {
+    let (desk, mut zero, mut one) = open_pair(alloc, 3, 4)?;
+    let Some(first) = add(&desk, &mut zero, 6) else {
+        return Ok(None);
+    };
+    let note = desk.note(&mut zero);
+    desk.meet(&mut one, note);
+    let Some(second) = read_one(&desk, &mut one) else {
+        return Ok(None);
+    };
+    let words = close_pair(alloc, desk, zero, one)?;
+    Ok(Some((first, second, words)))
+}
+
+#[test]
+fn what_a_note_has_seen_comes_before(rt: HostRuntime) -> Result<(), Fail> {
+    let Some((first, second, words)) = tell_of_a_call(rt.alloc())? else {
+        panic!(rt; "both calls have their entries")
+    };
+    assert_eq!(rt;
+        (first, second, words.as_slice()),
+        ((3, 1), (9, 2), [9, 4].as_slice())
+    );
+    Ok(())
+}
+
+#[test]
+fn a_desk_where_nothing_was_done_leaves_its_words(rt: HostRuntime) -> Result<(), Fail> {
+    let alloc = rt.alloc();
+    let (desk, zero, one) = open_pair(alloc, 3, 4)?;
+    let words = close_pair(alloc, desk, zero, one)?;
+    assert_eq!(rt; words.as_slice(), [3, 4].as_slice());
+    Ok(())
+}
+
+// A desk of two words with sixteen passes, of which the last stands apart.
+fn open_sixteen(alloc: Global) -> Result<(Desk<Pair>, Vec<Pass<Pair>>, Pass<Pair>), OutOfMemory>
+    ensures all { IfOk result (λ opened. AreAllPasses opened.0.table opened.0.seats (opened.1.items ++ opened.2 ∷ [])) }
+    ensures last { IfOk result (λ opened. (opened.2.table ≡ opened.0.table) × (opened.2.view.phase ≡ Phase.Idle) × (length opened.2.view.base ≡ 2)) }
+{
+    let base = vec![in alloc; 3u64, 4]?;
+    let (desk, mut passes) = Desk::new(alloc, Pair, base, 16)?;
+    let Some(last) = passes.pop() else {
+        unreachable!()
+    };
+    Ok((desk, passes, last))
+}
+
+// Of sixteen passes the last adds one to word 0, and the others do nothing: the words that the desk leaves.
+fn one_of_sixteen(alloc: Global) -> Result<Option<Vec<u64>>, OutOfMemory> {
+    let (desk, mut passes, mut last) = open_sixteen(alloc)?;
+    let Some(_) = add(&desk, &mut last, 1) else {
+        return Ok(None);
+    };
+    passes.push(last)?;
+    Ok(Some(close_all(alloc, desk, passes)?))
+}
+
+#[test]
+fn sixteen_passes_close(rt: HostRuntime) -> Result<(), Fail> {
+    let Some(words) = one_of_sixteen(rt.alloc())? else {
+        panic!(rt; "the last pass has its entry")
+    };
+    assert_eq!(rt; words.as_slice(), [4, 4].as_slice());
+    Ok(())
+}

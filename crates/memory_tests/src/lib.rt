@@ -1,0 +1,26 @@
+//! Tests of the public calls of word_table, lock_or_yield, txn_commit and worker_pool, also on threads, in a crate of
+//! their own: they rest on what those promise, and do not prove them again.
+#![tactic(auto)]
+
+#[cfg(test)]
+mod clock;
+#[cfg(test)]
+mod closing;
+#[cfg(test)]
+mod crossing;
+#[cfg(test)]
+mod locks;
+#[cfg(test)]
+mod runs;
+#[cfg(test)]
+mod takers;
+#[cfg(test)]
+mod transaction_threads;
+#[cfg(test)]
+mod transactions;
+#[cfg(test)]
+mod turns;
+#[cfg(test)]
+mod values;
+#[cfg(test)]
+mod wants;

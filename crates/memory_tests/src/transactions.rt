@@ -1,0 +1,165 @@
+//! The worked rows of transactions by one thread: two words of one lock, a note between two calls, and a job that finds no
+//! memory.
+
+ghost use Rattle.std.specs.Prelude.{◌≡◌, ◌<◌, [], ◌∷◌, IfOk, OnOk, OnErr};
+ghost use Rattle.history_model.specs.declared.view.Phase.TheVariants.{Idle};
+ghost use Rattle.locks_rule.specs.Splits.{opening_view};
+
+use history_model::Shape;
+use io_ends::OutOfMemory;
+use std::alloc::Global;
+use std::sync::Wait;
+use std::test::Fail;
+use txn_commit::{Receipt, transact};
+use txn_words::{Job, Stop, Verdict, Words};
+use word_table::{Desk, Pass};
+use worker_gate::OpenGate;
+
+/// Any 1,030 words are good.
+#[derive(Clone, Copy)]
+pub(crate) struct Wide;
+
+impl Shape for Wide {
+    ghost use Rattle.std.specs.Prelude.{⊤};
+
+    ghost word_count = { λ _. 1030 };
+
+    ghost good = { λ _ _. ⊤ };
+}
+
+// What a job does to two words that share a lock.
+enum Step {
+    Write,
+    Read,
+    WriteAndFail,
+}
+
+impl Job for Step {
+    ghost use Rattle.std.specs.Prelude.{⊤};
+
+    type Shape = Wide;
+
+    type Answer = u64;
+
+    ghost shape = { λ _. record {} };
+
+    ghost means = { λ _ _ _ _ _. ⊤ };
+
+    fn tag(&self) -> u64 {
+        5
+    }
+
+    fn run<W: Words<Shape = Wide>>(&self, w: &mut W) -> Result<Verdict<u64>, Stop> {
+        match self {
+            Step::Write => {
+                w.write(5, 5)?;
+                w.write(1029, 6)?;
+                Ok(Verdict::Keep(0))
+            }
+            Step::Read => Ok(Verdict::Keep(w.read(5)?)),
+            Step::WriteAndFail => {
+                w.write(5, 7)?;
+                Err(Stop::Memory)
+            }
+        }
+    }
+}
+
+// A desk with 1,030 words, all 0, and two passes.
+fn open_wide(alloc: Global) -> Result<(Desk<Wide>, Pass<Wide>, Pass<Wide>), OutOfMemory>
+    ensures seats { IfOk result (λ opened. opened.0.seats ≡ 2) }
+    ensures zero { IfOk result (λ opened. opened.1 ≡ record {
+      table = opened.0.table;
+      view = opening_view opened.0.base 2 (0 ∷ []) [];
+    }) }
+    ensures one { IfOk result (λ opened. opened.2 ≡ record {
+      table = opened.0.table;
+      view = opening_view opened.0.base 2 (1 ∷ []) [];
+    }) }
+{
+    let base = vec![in alloc; 0u64; 1030]?;
+    let (desk, mut passes) = Desk::new(alloc, Wide, base, 2)?;
+    let Some(one) = passes.pop() else {
+        unreachable!()
+    };
+    let Some(zero) = passes.pop() else {
+        unreachable!()
+    };
+    Ok((desk, zero, one))
+}
+
+// The words that a desk with these two passes leaves.
+pub(crate) fn close_two<S: Shape>(
+    alloc: Global,
+    desk: Desk<S>,
+    zero: Pass<S>,
+    one: Pass<S>,
+) -> Result<Vec<u64>, OutOfMemory>
+    requires seats { desk.seats ≡ 2 }
+    requires zero { (zero.table ≡ desk.table) × (zero.view.who ≡ 0 ∷ []) × (zero.view.phase ≡ Idle) }
+    requires one { (one.table ≡ desk.table) × (one.view.who ≡ 1 ∷ []) × (one.view.phase ≡ Idle) }
+{
+    let passes = vec![in alloc; zero, one]?;
+    match desk.close(alloc, passes) {
+        Ok(closed) => Ok(closed.words().to_vec(alloc)?),
+        Err(_) => Err(OutOfMemory),
+    }
+}
+
+// One call of a pass whose next call is its first or its second.
+fn call<R: Wait>(
+    rt: &R,
+    alloc: Global,
+    desk: &Desk<Wide>,
+    pass: &mut Pass<Wide>,
+    job: &Step,
+) -> Result<Receipt<u64>, OutOfMemory>
+    requires desk { pass.old.table ≡ desk.now.table }
+    requires idle { pass.old.view.phase ≡ Idle }
+    requires room { pass.old.view.call < 2 }
+    ensures desk { pass.new.table ≡ desk.now.table }
+    ensures idle { (pass.new.view.phase ≡ Idle) × (pass.new.view.who ≡ pass.old.view.who) }
+    ensures call { pass.old.view.call ≡ 0 → pass.new.view.call < 2 }
+{
+    transact(rt, alloc, desk, pass, job, &OpenGate)
+}
+
+#[test]
+fn two_words_of_one_lock_are_written_in_one_call(rt: HostRuntime) -> Result<(), Fail> {
+    let (desk, mut zero, one) = open_wide(rt.alloc())?;
+    let receipt = call(&rt, rt.alloc(), &desk, &mut zero, &Step::Write)?;
+    let words = close_two(rt.alloc(), desk, zero, one)?;
+    assert_eq!(rt; (receipt.serial, receipt.call, receipt.restarts), (1, 1, 0));
+    let written = words.iter().filter(|word| **word != 0).count();
+    assert_eq!(rt;
+        (words.get(5), words.get(1029), written),
+        (Some(&5), Some(&6), 2)
+    );
+    Ok(())
+}
+
+#[test]
+fn a_pass_that_was_told_of_a_call_reads_what_it_wrote(rt: HostRuntime) -> Result<(), Fail> {
+    let (desk, mut zero, mut one) = open_wide(rt.alloc())?;
+    let written = call(&rt, rt.alloc(), &desk, &mut zero, &Step::Write)?;
+    let note = desk.note(&mut zero);
+    desk.meet(&mut one, note);
+    let read = call(&rt, rt.alloc(), &desk, &mut one, &Step::Read)?;
+    assert_eq!(rt; (written.serial, read.serial, read.answer), (1, 2, 5));
+    Ok(())
+}
+
+#[test]
+fn a_call_that_finds_no_memory_leaves_no_entry_and_no_write(rt: HostRuntime) -> Result<(), Fail> {
+    let (desk, mut zero, one) = open_wide(rt.alloc())?;
+    let failed = call(&rt, rt.alloc(), &desk, &mut zero, &Step::WriteAndFail).is_err();
+    let read = call(&rt, rt.alloc(), &desk, &mut zero, &Step::Read)?;
+    let words = close_two(rt.alloc(), desk, zero, one)?;
+    assert!(rt; failed);
+    assert_eq!(rt;
+        (read.serial, read.call, read.restarts, read.answer),
+        (1, 2, 0, 0)
+    );
+    assert!(rt; words.iter().all(|word| *word == 0));
+    Ok(())
+}

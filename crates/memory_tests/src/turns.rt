@@ -1,0 +1,222 @@
+//! The worked row of asking for locks: who is granted, who waits, and who gives way.
+
+ghost use Rattle.std.specs.Prelude.{◌≡◌, ◌<◌, ◌+◌, ℕ, [], ◌∷◌, ◌++◌, length, List, Some, IfOk, IfSome, OnSome, IsTrue};
+ghost use Rattle.history_model.specs.declared.entry.Entry.{Entry};
+ghost use Rattle.history_model.specs.Views.{HasBit, HasClaim};
+ghost use Rattle.locks_rule.specs.Splits.{opening_view};
+ghost use Rattle.stamps_rule.specs.Causes.{newest, past_causes};
+
+use history_model::{Cause, Phase, Shape};
+use io_ends::OutOfMemory;
+use lock_or_yield::{Tried, try_write};
+use std::alloc::Global;
+use std::test::Fail;
+use word_table::{Desk, Pass};
+
+/// Any two words are good.
+#[derive(Clone, Copy)]
+pub(crate) struct Pair;
+
+impl Shape for Pair {
+    ghost use Rattle.std.specs.Prelude.{⊤};
+
+    ghost word_count = { λ _. 2 };
+
+    ghost good = { λ _ _. ⊤ };
+}
+
+// A desk of two words with two passes.
+pub(crate) fn open_pair(alloc: Global) -> Result<(Desk<Pair>, Pass<Pair>, Pass<Pair>), OutOfMemory>
+    ensures words { IfOk result (λ opened. length opened.0.base ≡ 2) }
+    ensures seats { IfOk result (λ opened. opened.0.seats ≡ 2) }
+    ensures zero { IfOk result (λ opened. opened.1 ≡ record { table = opened.0.table; view = opening_view opened.0.base 2 (0 ∷ []) [] }) }
+    ensures one { IfOk result (λ opened. opened.2 ≡ record { table = opened.0.table; view = opening_view opened.0.base 2 (1 ∷ []) [] }) }
+{
+    let base = vec![in alloc; 0u64, 0]?;
+    let (desk, mut passes) = Desk::new(alloc, Pair, base, 2)?;
+    let Some(one) = passes.pop() else {
+        unreachable!()
+    };
+    let Some(zero) = passes.pop() else {
+        unreachable!()
+    };
+    Ok((desk, zero, one))
+}
+
+// A turn of asking to write.
+fn ask(desk: &Desk<Pair>, pass: &mut Pass<Pair>, a: u64) -> Tried
+    requires desk { pass.old.table ≡ desk.now.table }
+    requires words { (a < 2) × (length pass.old.view.base ≡ 2) }
+    requires fresh { (pass.old.view.phase ≡ Phase.Running) × (pass.old.view.undo ≡ []) × (pass.old.view.met ≡ []) }
+    ensures desk { (pass.new.table ≡ desk.now.table) × (length pass.new.view.base ≡ 2) }
+    ensures rest { (pass.new.view.undo ≡ []) × (pass.new.view.met ≡ []) }
+    ensures granted { result ≡ Tried.Granted
+        → (pass.new.view.phase ≡ Phase.Running) × (pass.new.view.abandoned ≡ pass.old.view.abandoned) }
+    ensures waits { (j : ℕ) → result ≡ Tried.Wait j
+        → (pass.new.view.phase ≡ Phase.Running) × (pass.new.view.abandoned ≡ pass.old.view.abandoned) }
+    ensures yields { (cause : Cause) → result ≡ Tried.Yield cause
+        → (pass.new.view.phase ≡ Phase.Yielding) × (cause.seat < pass.new.view.seats)
+        × (newest (past_causes pass.new.view) ≡ Some cause)
+        × (length pass.new.view.abandoned ≡ length pass.old.view.abandoned + 1) }
+{
+    try_write(desk, pass, a)
+}
+
+// Two calls, each of which asks for the word that the other holds: whom the first waits for, and to which cause the
+// second gives way.
+fn ask_for_each_others(
+    desk: &Desk<Pair>,
+    zero: &mut Pass<Pair>,
+    one: &mut Pass<Pair>,
+) -> Option<(u32, Cause)>
+    requires words { length desk.now.base ≡ 2 }
+    requires zero { zero.old ≡ record { table = desk.now.table; view = opening_view desk.now.base 2 (0 ∷ []) [] } }
+    requires one { one.old ≡ record { table = desk.now.table; view = opening_view desk.now.base 2 (1 ∷ []) [] } }
+    ensures zero { (zero.new.table ≡ desk.now.table) × (length zero.new.view.base ≡ 2) }
+    ensures one { (one.new.table ≡ desk.now.table) × (length one.new.view.base ≡ 2) }
+    ensures waits { OnSome result ((zero.new.view.phase ≡ Phase.Running) × (zero.new.view.undo ≡ []) × (zero.new.view.met ≡ [])) }
+    ensures yields { IfSome result (λ met. (one.new.view.phase ≡ Phase.Yielding) × (one.new.view.undo ≡ []) × (met.1.seat < one.new.view.seats)
+        × (newest (past_causes one.new.view) ≡ Some met.1) × (length one.new.view.abandoned ≡ 1)) }
+{
+    let _ = desk.begin(zero);
+    let _ = desk.begin(one);
+    let Tried::Granted = ask(desk, zero, 0) else {
+        return None;
+    };
+    let Tried::Granted = ask(desk, one, 1) else {
+        return None;
+    };
+    let Tried::Wait(other) = ask(desk, zero, 1) else {
+        return None;
+    };
+    let Tried::Yield(cause) = ask(desk, one, 0) else {
+        return None;
+    };
+    Some((other, cause))
+}
+
+// Gives up the claim of an attempt that gives way, and tells whether that was the last lock.
+fn release(desk: &Desk<Pair>, pass: &mut Pass<Pair>) -> bool
+    requires desk { (pass.old.table ≡ desk.now.table) × (length pass.old.view.base ≡ 2) }
+    requires yields { (pass.old.view.phase ≡ Phase.Yielding) × (pass.old.view.undo ≡ []) }
+    ensures desk { (pass.new.table ≡ desk.now.table) × (length pass.new.view.base ≡ 2) }
+    ensures yields { (pass.new.view.phase ≡ Phase.Yielding) × (pass.new.view.undo ≡ []) }
+    ensures rest { (pass.new.view.seats ≡ pass.old.view.seats) × (pass.new.view.abandoned ≡ pass.old.view.abandoned) }
+    ensures no_claim { IsTrue result → (k : ℕ) → ¬ HasClaim pass.new.view k }
+    ensures no_bit { IsTrue result → (k : ℕ) → ¬ HasBit pass.new.view k }
+{
+    let Some(lock) = pass.next_claim() else {
+        return pass.next_bit().is_none();
+    };
+    desk.unclaim(pass, lock);
+    if pass.next_claim().is_some() {
+        return false;
+    }
+    pass.next_bit().is_none()
+}
+
+// Releases both claims and ends the call, where no lock is left.
+fn end(desk: &Desk<Pair>, pass: &mut Pass<Pair>) -> bool
+    requires desk { pass.old.table ≡ desk.now.table }
+    requires ended { (pass.old.view.phase ≡ Phase.Releasing) × (pass.old.view.undo ≡ []) }
+{
+    if let Some(first) = pass.next_claim() {
+        desk.unclaim(pass, first);
+    }
+    if let Some(second) = pass.next_claim() {
+        desk.unclaim(pass, second);
+    }
+    if pass.next_claim().is_some() || pass.next_bit().is_some() {
+        return false;
+    }
+    desk.finish_call(pass);
+    true
+}
+
+// Asks for word 1, commits, and ends the call: the entry's place.
+fn take_and_end(desk: &Desk<Pair>, pass: &mut Pass<Pair>) -> Option<u64>
+    requires desk { (pass.old.table ≡ desk.now.table) × (length pass.old.view.base ≡ 2) }
+    requires fresh { (pass.old.view.phase ≡ Phase.Running) × (pass.old.view.undo ≡ []) × (pass.old.view.met ≡ []) }
+{
+    let Tried::Granted = ask(desk, pass, 1) else {
+        return None;
+    };
+    let place = desk.commit(pass, true);
+    if !end(desk, pass) {
+        return None;
+    }
+    Some(place)
+}
+
+// Commits a call that gave way once, once its cause is gone: the entry's place. The entry tells of one attempt that
+// gave way.
+fn commit_again(desk: &Desk<Pair>, pass: &mut Pass<Pair>, cause: Cause) -> Option<u64>
+    requires desk { (pass.old.table ≡ desk.now.table) × (length pass.old.view.base ≡ 2) }
+    requires yields { (pass.old.view.phase ≡ Phase.Yielding) × (pass.old.view.undo ≡ []) }
+    requires cause { (cause.seat < pass.old.view.seats) × (newest (past_causes pass.old.view) ≡ Some cause) }
+    requires no_claim { (k : ℕ) → ¬ HasClaim pass.old.view k }
+    requires no_bit { (k : ℕ) → ¬ HasBit pass.old.view k }
+    requires restarts { length pass.old.view.abandoned ≡ 1 }
+    ensures entry { OnSome result ((earlier : List Entry) × (entry : Entry)
+        × (pass.new.view.seen ≡ earlier ++ entry ∷ []) × (length entry.abandoned ≡ 1)) }
+{
+    if !desk.gone(pass, cause.seat, cause.stamp) {
+        return None;
+    }
+    Some(desk.commit(pass, true))
+}
+
+// The first call ends, and after it the second, which gave way to the first: the places of their entries.
+fn end_in_turn(
+    desk: &Desk<Pair>,
+    zero: &mut Pass<Pair>,
+    one: &mut Pass<Pair>,
+    cause: Cause,
+) -> Option<(u64, u64)>
+    requires zero { (zero.old.table ≡ desk.now.table) × (length zero.old.view.base ≡ 2) }
+    requires runs { (zero.old.view.phase ≡ Phase.Running) × (zero.old.view.undo ≡ []) × (zero.old.view.met ≡ []) }
+    requires one { (one.old.table ≡ desk.now.table) × (length one.old.view.base ≡ 2) }
+    requires yields { (one.old.view.phase ≡ Phase.Yielding) × (one.old.view.undo ≡ []) × (cause.seat < one.old.view.seats)
+        × (newest (past_causes one.old.view) ≡ Some cause) × (length one.old.view.abandoned ≡ 1) }
+    ensures entry { OnSome result ((earlier : List Entry) × (entry : Entry)
+        × (one.new.view.seen ≡ earlier ++ entry ∷ []) × (length entry.abandoned ≡ 1)) }
+{
+    if !release(desk, one) {
+        return None;
+    }
+    if desk.gone(one, cause.seat, cause.stamp) {
+        return None;
+    }
+    let first = take_and_end(desk, zero)?;
+    let second = commit_again(desk, one, cause)?;
+    Some((first, second))
+}
+
+// Both calls, until they end: whom the first waits for, to which cause the second gives way, the timestamps that they
+// have then, and the places of their entries.
+fn cross(
+    desk: &Desk<Pair>,
+    zero: &mut Pass<Pair>,
+    one: &mut Pass<Pair>,
+) -> Option<(u32, Cause, (u64, u64), (u64, u64))>
+    requires words { length desk.now.base ≡ 2 }
+    requires zero { zero.old ≡ record { table = desk.now.table; view = opening_view desk.now.base 2 (0 ∷ []) [] } }
+    requires one { one.old ≡ record { table = desk.now.table; view = opening_view desk.now.base 2 (1 ∷ []) [] } }
+{
+    let (other, cause) = ask_for_each_others(desk, zero, one)?;
+    let stamps = (zero.stamp(), one.stamp());
+    let places = end_in_turn(desk, zero, one, cause)?;
+    Some((other, cause, stamps, places))
+}
+
+#[test]
+fn the_earlier_call_waits_and_the_later_gives_way(rt: HostRuntime) -> Result<(), Fail> {
+    let (desk, mut zero, mut one) = open_pair(rt.alloc())?;
+    let crossed = cross(&desk, &mut zero, &mut one);
+    let cause = Cause { seat: 0, stamp: 1 };
+    assert_eq!(rt;
+        (crossed, one.stamp()),
+        (Some((1, cause, (1, 2), (1, 2))), 2)
+    );
+    Ok(())
+}

@@ -1,0 +1,14 @@
+//! Tests of the public calls of io_ends, books_model, script_reader and books_report, in a crate of their own: they rest on
+//! what those promise, and do not prove them again.
+#![tactic(auto)]
+
+#[cfg(test)]
+mod checks;
+#[cfg(test)]
+mod ends;
+#[cfg(test)]
+mod model;
+#[cfg(test)]
+mod reader;
+#[cfg(test)]
+mod report;

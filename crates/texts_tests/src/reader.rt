@@ -1,0 +1,397 @@
+//! Whole texts, and the first fault of others.
+
+ghost use Rattle.std.specs.Prelude.{◌≤◌};
+
+use books_model::{Op, Script};
+use script_reader::{Fault, Input, InputFault, read_front, read_input};
+use std::alloc::{AllocError, Global};
+use std::test::Fail;
+
+const HEADER: &str = "books 1 blocks 4 instruments 1 ring 1\n";
+
+/// What an input tells.
+enum Told<'a> {
+    /// The opening cash of an account, and how many blocks the books have.
+    Opening(u32, (Option<u64>, u32)),
+    /// How many callers and scripts there are.
+    Counts(u32, u32),
+    /// The name of a caller, and how many scripts it has.
+    Caller(u32, (&'a str, u32)),
+    /// How many operations a script of a caller has.
+    Length(u32, u32, usize),
+    /// An operation of a script of a caller.
+    Operation(u32, u32, usize, Op),
+}
+
+fn opening_of(input: &Input, account: u32) -> (Option<u64>, u32) {
+    let books = input.books();
+    (books.cash(account), books.blocks())
+}
+
+fn caller_of(input: &Input, caller: u32) -> Option<(&str, u32)> {
+    if caller >= input.callers() {
+        return None;
+    }
+    Some((input.name(caller), input.scripts_of(caller)))
+}
+
+fn script_of(input: &Input, caller: u32, index: u32) -> Option<&Script> {
+    if caller >= input.callers() || index >= input.scripts_of(caller) {
+        return None;
+    }
+    Some(input.script(caller, index))
+}
+
+fn length_of(input: &Input, caller: u32, index: u32) -> Option<usize> {
+    Some(script_of(input, caller, index)?.len())
+}
+
+fn operation_of(input: &Input, caller: u32, index: u32, place: usize) -> Option<Op> {
+    let script = script_of(input, caller, index)?;
+    if place >= script.len() {
+        return None;
+    }
+    Some(script.at(place))
+}
+
+fn is_told(input: &Input, told: &Told<'_>) -> bool {
+    match *told {
+        Told::Opening(account, opening) => opening_of(input, account) == opening,
+        Told::Counts(callers, scripts) => (input.callers(), input.scripts()) == (callers, scripts),
+        Told::Caller(caller, told) => caller_of(input, caller) == Some(told),
+        Told::Length(caller, index, len) => length_of(input, caller, index) == Some(len),
+        Told::Operation(caller, index, place, op) => {
+            operation_of(input, caller, index, place) == Some(op)
+        }
+    }
+}
+
+// The number of the first that the input does not tell.
+fn first_wrong(input: &Input, told: &[Told<'_>]) -> Option<usize> {
+    for (number, one) in told.iter().enumerate() {
+        if !is_told(input, one) {
+            return Some(number);
+        }
+    }
+    None
+}
+
+// A text that goes on so behind the header.
+fn text_of(alloc: Global, rest: &str) -> Result<String, AllocError> {
+    [HEADER, rest].concat(alloc)
+}
+
+fn read(alloc: Global, text: &str) -> Result<Input, InputFault> {
+    read_input(alloc, text.as_bytes())
+}
+
+// The number of the first that the input of a text does not tell. The text goes on so behind the header.
+fn first_wrong_of(alloc: Global, rest: &str, told: &[Told<'_>]) -> Result<Option<usize>, Fail> {
+    let text = text_of(alloc, rest)?;
+    let input = read(alloc, text.as_str())?;
+    Ok(first_wrong(&input, told))
+}
+
+// The same of the front of a text, and where it ends.
+fn first_wrong_of_front(
+    alloc: Global,
+    rest: &str,
+    told: &[Told<'_>],
+) -> Result<(Option<usize>, usize), Fail> {
+    let text = text_of(alloc, rest)?;
+    let (input, end) = read_front(alloc, text.as_bytes())?;
+    Ok((first_wrong(&input, told), end))
+}
+
+#[test]
+fn whole_text(rt: HostRuntime) -> Result<(), Fail> {
+    let rest = "account 7 100\nscripts\nscript ann\ndeposit 7 5\nshow 7\nend\nfinish\n";
+    let told = &[
+        Told::Opening(7, (Some(100), 4)),
+        Told::Counts(1, 1),
+        Told::Caller(0, ("ann", 1)),
+        Told::Length(0, 0, 2),
+        Told::Operation(0, 0, 0, Op::Deposit(7, 5)),
+        Told::Operation(0, 0, 1, Op::Show(7)),
+    ];
+    assert_eq!(rt; first_wrong_of(rt.alloc(), rest, told)?, None);
+    Ok(())
+}
+
+#[test]
+fn front_of_a_longer_text(rt: HostRuntime) -> Result<(), Fail> {
+    let rest = "account 7 100\nscripts\nscript ann\ndeposit 7 5\nend\nfinish\njournal\n";
+    let told = &[Told::Opening(7, (Some(100), 4)), Told::Counts(1, 1)];
+    // 38 bytes of the header, 14, 8, 11, 12, 4 and 7.
+    assert_eq!(rt; first_wrong_of_front(rt.alloc(), rest, told)?, (None, 94));
+    Ok(())
+}
+
+#[test]
+fn alternating_callers(rt: HostRuntime) -> Result<(), Fail> {
+    let rest =
+        "scripts\nscript ann\nshow 1\nend\nscript bob\nshow 2\nend\nscript ann\nshow 3\nend\nfinish\n";
+    let told = &[
+        Told::Counts(2, 3),
+        Told::Caller(0, ("ann", 2)),
+        Told::Caller(1, ("bob", 1)),
+        Told::Length(0, 0, 1),
+        Told::Operation(0, 0, 0, Op::Show(1)),
+        Told::Length(0, 1, 1),
+        Told::Operation(0, 1, 0, Op::Show(3)),
+        Told::Length(1, 0, 1),
+        Told::Operation(1, 0, 0, Op::Show(2)),
+    ];
+    assert_eq!(rt; first_wrong_of(rt.alloc(), rest, told)?, None);
+    Ok(())
+}
+
+fn is_printed(alloc: Global, fault: InputFault, words: &str) -> Result<bool, AllocError> {
+    Ok(format!(in alloc; "{fault}")?.as_str() == words)
+}
+
+#[test]
+fn words_of_a_refusal(rt: HostRuntime) -> Result<(), Fail> {
+    for (fault, words) in &[
+        (
+            InputFault::Line {
+                line: 3,
+                why: Fault::Word,
+            },
+            "line 3 word",
+        ),
+        (InputFault::OutOfMemory, "out of memory"),
+    ] {
+        assert!(rt; is_printed(rt.alloc(), *fault, *words)?, "{words}");
+    }
+    Ok(())
+}
+
+// The fault of a text that is no input.
+fn fault_of(alloc: Global, text: &str) -> Option<(u32, Fault)> {
+    match read(alloc, text) {
+        Err(InputFault::Line { line, why }) => Some((line, why)),
+        _ => None,
+    }
+}
+
+#[test]
+fn first_faults(rt: HostRuntime) {
+    for (text, line, why) in &[
+        ("", 1, Fault::End),
+        (
+            "books 1 blocks 4 instruments 1 ring 1\naccount 7 100\nscripts\nscript ann\ndeposit 7 5\nshow 7\nend\n",
+            8,
+            Fault::End,
+        ),
+        (
+            "books 1 blocks 4 instruments 1 ring 1\naccount 7 100\nscripts\nscript ann\ndeposit 7 5\nshow 7\nend\nfinish",
+            8,
+            Fault::End,
+        ),
+        (
+            "books 1 blocks 4 instruments 1 ring 1\naccount 7 100\nscripts\nscript ann\ndeposit 7 5\nshow 7\nend\nfinish\nend\n",
+            9,
+            Fault::End,
+        ),
+        ("books 9 blocks 4 instruments 1 ring 1\n", 1, Fault::Header),
+        ("books 1 blocks 04 instruments 1 ring 1\n", 1, Fault::Number),
+        ("books 1 blocks 4 instruments 65 ring 1\n", 1, Fault::Limit),
+        (
+            "books 1 blocks 4 instruments 1 ring 1\naccount 2 1\naccount 1 1\n",
+            3,
+            Fault::Order,
+        ),
+        (
+            "books 1 blocks 4 instruments 1 ring 1\naccount 1 1\naccount 2 01\n",
+            3,
+            Fault::Number,
+        ),
+        (
+            "books 1 blocks 4 instruments 1 ring 1\naccount 1 1\naccount 2 1000000000000001\n",
+            3,
+            Fault::Limit,
+        ),
+        (
+            "books 1 blocks 4 instruments 1 ring 1\naccount 1 100000000000000000000000000000\n",
+            2,
+            Fault::Limit,
+        ),
+        (
+            "books 1 blocks 4 instruments 1 ring 1\naccount 4294967296 x\n",
+            2,
+            Fault::Number,
+        ),
+        (
+            "books 1 blocks 4 instruments 1 ring 1\naccount 1 1\naccount 2\n",
+            3,
+            Fault::Word,
+        ),
+        (
+            "books 1 blocks 1 instruments 1 ring 1\naccount 1 1\naccount 2 1\n",
+            3,
+            Fault::Blocks,
+        ),
+        (
+            "books 1 blocks 4 instruments 1 ring 1\naccount 1  1\n",
+            2,
+            Fault::Word,
+        ),
+        (
+            "books 1 blocks 4 instruments 1 ring 1\nscripts\naccount 1 1\n",
+            3,
+            Fault::Word,
+        ),
+        (
+            "books 1 blocks 4 instruments 1 ring 1\nscripts\nscript ann\ntry 1 2\n",
+            4,
+            Fault::Word,
+        ),
+        (
+            "books 1 blocks 4 instruments 1 ring 1\nscripts\nscript abcdefghijklmnopq\n",
+            3,
+            Fault::Word,
+        ),
+        (
+            "books 1 blocks 4 instruments 1 ring 1\nscripts\nscript Ann\n",
+            3,
+            Fault::Word,
+        ),
+        (
+            "books 1 blocks 4 instruments 1 ring 1\nscripts\nscript ann\ndeposit 1 0\n",
+            4,
+            Fault::Limit,
+        ),
+    ] {
+        assert_eq!(rt; fault_of(rt.alloc(), *text), Some((*line, *why)), "{text}");
+    }
+}
+
+// How many scripts and callers the input of a text has.
+fn counts_of(alloc: Global, text: &str) -> Result<(u32, u32), InputFault> {
+    let input = read(alloc, text)?;
+    Ok((input.scripts(), input.callers()))
+}
+
+// The front of a text, up to a script's operations, of which there are so many.
+fn operations(alloc: Global, count: usize) -> Result<String, AllocError> {
+    let lines = "show 1\n".repeat(alloc, count)?;
+    [HEADER, "scripts\nscript ann\n", lines.as_str()].concat(alloc)
+}
+
+// What is read of a text that goes on so behind so many operations of its one script.
+fn counts_with_operations(
+    alloc: Global,
+    count: usize,
+    rest: &str,
+) -> Result<Result<(u32, u32), InputFault>, AllocError> {
+    let front = operations(alloc, count)?;
+    let text = [front.as_str(), rest].concat(alloc)?;
+    Ok(counts_of(alloc, text.as_str()))
+}
+
+#[test]
+fn most_operations(rt: HostRuntime) -> Result<(), Fail> {
+    for (count, rest, want) in &[
+        (64, "end\nfinish\n", Ok((1, 1))),
+        (
+            65,
+            "",
+            Err(InputFault::Line {
+                line: 68,
+                why: Fault::Limit,
+            }),
+        ),
+    ] {
+        assert_eq!(rt;
+            counts_with_operations(rt.alloc(), *count, *rest)?,
+            *want,
+            "{count}"
+        );
+    }
+    Ok(())
+}
+
+fn letter(n: u32) -> char {
+    (b'a' + (n % 26) as u8) as char
+}
+
+// A text with so many scripts, which so many callers give in turn. The callers have three letters each.
+fn scripts_in_turn(alloc: Global, scripts: u32, callers: u32) -> Result<String, AllocError>
+    requires { 1 ≤ callers }
+{
+    let mut text = String::from_str(alloc, HEADER)?;
+    text.push_str("scripts\n")?;
+    for script in 0..scripts {
+        let caller = script % callers;
+        text.push_str("script ")?;
+        text.push(letter(caller / 676))?;
+        text.push(letter(caller / 26))?;
+        text.push(letter(caller))?;
+        text.push_str("\nend\n")?;
+    }
+    text.push_str("finish\n")?;
+    Ok(text)
+}
+
+// What is read of a text with so many scripts and callers.
+fn counts_in_turn(
+    alloc: Global,
+    scripts: u32,
+    callers: u32,
+) -> Result<Result<(u32, u32), InputFault>, AllocError>
+    requires { 1 ≤ callers }
+{
+    let text = scripts_in_turn(alloc, scripts, callers)?;
+    Ok(counts_of(alloc, text.as_str()))
+}
+
+#[test]
+fn most_scripts_and_most_callers(rt: HostRuntime) -> Result<(), Fail> {
+    // Script number k, from 0, begins in line 3 + 2 k.
+    for (scripts, callers, want) in &[
+        (65_536, 1, Ok((65_536, 1))),
+        (
+            65_537,
+            1,
+            Err(InputFault::Line {
+                line: 131_075,
+                why: Fault::Limit,
+            }),
+        ),
+        (1_024, 1_024, Ok((1_024, 1_024))),
+        (
+            1_025,
+            1_025,
+            Err(InputFault::Line {
+                line: 2_051,
+                why: Fault::Limit,
+            }),
+        ),
+    ] {
+        assert!(rt; *callers >= 1);
+        assert_eq!(rt;
+            counts_in_turn(rt.alloc(), *scripts, *callers)?,
+            *want,
+            "{scripts} {callers}"
+        );
+    }
+    Ok(())
+}
+
+// The fault of a text with one script of a caller with this name.
+fn fault_of_name(alloc: Global, name: &str) -> Result<Option<(u32, Fault)>, AllocError> {
+    let text = [HEADER, "scripts\nscript ", name, "\nend\nfinish\n"].concat(alloc)?;
+    Ok(fault_of(alloc, text.as_str()))
+}
+
+#[test]
+fn longest_name(rt: HostRuntime) -> Result<(), Fail> {
+    for (name, want) in &[
+        ("abcdefghijklmnop", None),
+        ("abcdefghijklmnopq", Some((3, Fault::Word))),
+    ] {
+        assert_eq!(rt; fault_of_name(rt.alloc(), *name)?, *want, "{name}");
+    }
+    Ok(())
+}
