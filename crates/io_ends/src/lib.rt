@@ -9,6 +9,7 @@ pub mod reading;
 pub mod sink;
 pub mod source;
 pub mod standard;
+pub mod sure;
 pub mod writing;
 
 pub use memory::{MemSink, MemSource};
@@ -17,4 +18,5 @@ pub use reading::{ReadStop, read_all};
 pub use sink::Sink;
 pub use source::{Failed, Source};
 pub use standard::{StdSink, StdSource};
+pub use sure::{SureSink, SureSource};
 pub use writing::{WriteFault, write_all_of};

@@ -1,8 +1,8 @@
 //! Reading to the end or the limit, writing all or a prefix, over memory and over std's readers and writers.
 
 use io_ends::{
-    Failed, MemSink, MemSource, OutOfMemory, ReadStop, Sink, StdSink, StdSource, WriteFault,
-    read_all, write_all_of,
+    Failed, MemSink, MemSource, OutOfMemory, ReadStop, Sink, Source, StdSink, StdSource, SureSink,
+    SureSource, WriteFault, read_all, write_all_of,
 };
 use std::alloc::{AllocError, Global};
 use std::io::{Read, Write};
@@ -213,6 +213,27 @@ fn a_piece_of_no_bytes_is_written_to_any_writer(rt: HostRuntime) -> Result<(), F
     let answers = (sink.write(b"a"), sink.write(b""));
     assert_eq!(rt; answers, (Err(Failed), Ok(0)));
     Ok(())
+}
+
+#[test]
+fn a_sure_source_gives_all_of_its_bytes_and_then_the_end(rt: HostRuntime) -> Result<(), Fail> {
+    let mut source = SureSource::new(b"hello".to_vec(rt.alloc())?);
+    let mut buf = *b"....";
+    let first = source.read(&mut buf);
+    assert_eq!(rt; (first, &buf), (Ok(4), b"hell"));
+    let second = source.read(&mut buf);
+    assert_eq!(rt; (second, &buf), (Ok(1), b"oell"));
+    let ends = (source.read(&mut buf), source.read(&mut buf));
+    assert_eq!(rt; ends, (Ok(0), Ok(0)));
+    Ok(())
+}
+
+#[test]
+fn a_sure_sink_takes_every_piece_whole(rt: HostRuntime) {
+    let mut sink = SureSink::new();
+    let answers = (sink.write(b"hello"), sink.write(b""), sink.write(b"a"));
+    assert_eq!(rt; answers, (Ok(5), Ok(0), Ok(1)));
+    assert_eq!(rt; write_all_of(&mut sink, b"hello"), Ok(()));
 }
 
 // Whether it is printed as this text.
