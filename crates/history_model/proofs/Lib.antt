@@ -13,3 +13,9 @@ pub mod Places
 pub mod Changes
 -- the table's words
 pub mod TableLaws
+-- items and their arrangements
+pub mod ListPlaces
+pub mod ItemValues
+pub mod ItemOrders
+pub mod ItemEnds
+pub mod ItemDrops

@@ -3,6 +3,7 @@
 //! A proof cites a law by calling its function, or the lemma of `proofs/` behind it.
 
 ghost use Rattle.history_model.specs.Statements.{AppendedAfter, AppendedLegal, KeptLength, LegalByPlaces, LastEventStands, LastWriteStands, UnwrittenStays, TouchedByLast, WritesUndone, NotedWrite, AppendedReplay, LastReplayed, WordsApart, LongestSeen, LegalPrefix, LegalOneMore, LegalLeavesGood, FewAttempts};
+ghost use Rattle.history_model.specs.ArrangementLaws.{OrderedIsLegal, SameWords, StandsLast, DropsItems};
 ghost use Rattle.std.specs.Prelude.{◌≡◌};
 ghost use Rattle.history_model.specs.declared.TheConstants.{LOCKS};
 
@@ -102,4 +103,24 @@ pub fn few_attempts()
 /// How many locks the words share, in digits.
 pub fn number_of_locks()
     ensures { LOCKS ≡ 1024 }
+{}
+
+/// Every list of the items that keeps the order of their uses is legal, and leaves the newest values.
+pub fn ordered_is_legal<S: Shape>()
+    ensures { (shape : _) → OrderedIsLegal (S.good shape) }
+{}
+
+/// All such lists leave the same words.
+pub fn same_words<S: Shape>()
+    ensures { (shape : _) → SameWords (S.good shape) }
+{}
+
+/// An item whose versions are all current and which no pass had seen may stand at the end of an arrangement.
+pub fn stands_last<S: Shape>()
+    ensures { (shape : _) → StandsLast (S.good shape) }
+{}
+
+/// Without some of the items that wrote nothing the rest has an arrangement.
+pub fn drops_items<S: Shape>()
+    ensures { (shape : _) → DropsItems (S.good shape) }
 {}
