@@ -70,6 +70,7 @@ attempt_of cause front v = record {
   cause = cause;
   front = front;
   trace = v.trace;
+  uses = [];
 }
 
 -- the attempt gives way to a cause, where this is the history

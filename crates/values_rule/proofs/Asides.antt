@@ -231,7 +231,7 @@ module _ (good : List ℕ → Type 0) (n : ℕ) (base ws : List ℕ) (vs : List 
       let whole : length w.seen ≡ length (history_of vs) = ap (λ (l : List Entry). length l) s.seen in
       let few = seen_at_most vs id v me in
       let floor = q.floor.floor_seen id v me in
-      let y : Abandoned = record { cause = cause; front = length (history_of vs); trace = v.trace } in
+      let y : Abandoned = record { cause = cause; front = length (history_of vs); trace = v.trace; uses = [] } in
       let legal : IsLegalTrace v.trace (replay base (take (length (history_of vs)) (history_of vs))) = subst (λ (l : List Entry). IsLegalTrace v.trace (replay base l))
       (sym (take_all (length (history_of vs)) (history_of vs) (omega arith))) (q.trace.legal id v me (attempt_runs v s.runs)) in
       let same_floor = s.goes_on.floor in

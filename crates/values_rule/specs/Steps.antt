@@ -117,6 +117,8 @@ entry_of kept v = record {
   kept = kept;
   trace = v.trace;
   abandoned = v.abandoned;
+  uses = [];
+  knew = [];
 }
 
 abbrev pub commit_call_action : ℕ → Bool → View → Action

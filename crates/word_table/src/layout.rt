@@ -72,5 +72,5 @@ pub(crate) fn place_of_values(seats: u32) -> usize
     requires { seats ≤ MOST_PASSES }
     ensures { result ≡ value_word seats 0 }
 {
-    2 + 18 * seats as usize + LOCKS as usize
+    2 + 19 * seats as usize + 2 * LOCKS as usize
 }
