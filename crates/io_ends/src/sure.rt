@@ -78,7 +78,9 @@ pub struct SureSink;
 
 impl SureSink {
     /// A sink that takes all that it is given.
-    pub fn new() -> SureSink {
+    pub fn new() -> SureSink
+        ensures { result ≡ record {} }
+    {
         SureSink
     }
 }
