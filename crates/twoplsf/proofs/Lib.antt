@@ -4,3 +4,4 @@ pub mod Summing
 pub mod Drills
 pub mod Makings
 pub mod Served
+pub mod FromText

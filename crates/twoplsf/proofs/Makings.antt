@@ -52,7 +52,7 @@ runs_of words (Input plan) is = (λ runs. absurd runs, no_run)
 runs_of words (Drill workers plan) is = (λ runs. inr (workers, plan.seed, plan.callers, plan.scripts, is), λ run. tt)
 
 -- its text is the one for the words
-pub text_of_making : (words : List (List ℕ)) (making : Making) → IsMakingBy words making → IsMadeText words (making_text making)
+text_of_making : (words : List (List ℕ)) (making : Making) → IsMakingBy words making → IsMadeText words (making_text making)
 text_of_making words (Input plan) is = inl (record { seed = plan.seed; callers = plan.callers; scripts = plan.scripts; command = is; text_is = refl })
 text_of_making words (Drill workers plan) is = inr (record { workers = workers; seed = plan.seed; callers = plan.callers; scripts = plan.scripts; command = is; text_is = refl })
 
@@ -70,35 +70,6 @@ took_making result words making left now before after R S is (inr (inl front)) =
 took_making result words making left now before after R S is (inr (inr none)) = subst (λ (s : Status). TookText s words left now before after) (sym none.0) tt
 
 module _ (result : Status) (W R F S : Type 0) (ends : (result ≡ status.Done × W) ⊎ (result ≡ status.WriteFault × R × F) ⊎ (result ≡ status.OutOfMemory × S)) where
-  -- where the status is that the work is done, its text was written whole
-  pub whole_making : result ≡ status.Done → W
-  whole_making done = by ends
-    where
-      by : (result ≡ status.Done × W) ⊎ (result ≡ status.WriteFault × R × F) ⊎ (result ≡ status.OutOfMemory × S) → W
-      by (inl whole) = whole.1
-      by (inr (inl front)) = let same : status.WriteFault ≡ status.Done = sym front.0 ∙ done in absurd (cc)
-      by (inr (inr none)) = let same : status.OutOfMemory ≡ status.Done = sym none.0 ∙ done in absurd (cc)
-
-  -- it is done where there was memory and no fault came
-  pub ends_making : (R → ⊥) → (result ≡ status.Done) ⊎ (result ≡ status.OutOfMemory)
-  ends_making fault = by ends
-    where
-      by : (result ≡ status.Done × W) ⊎ (result ≡ status.WriteFault × R × F) ⊎ (result ≡ status.OutOfMemory × S) → (result ≡ status.Done) ⊎ (result ≡ status.OutOfMemory)
-      by (inl whole) = inl whole.0
-      by (inr (inl front)) = absurd (fault front.1)
-      by (inr (inr none)) = inr none.0
-
-  -- and nothing was written where there was none
-  pub none_of_making : (result ≡ status.ReadFault) ⊎ (result ≡ status.OutOfMemory) → S
-  none_of_making is = by ends is
-    where
-      by : (result ≡ status.Done × W) ⊎ (result ≡ status.WriteFault × R × F) ⊎ (result ≡ status.OutOfMemory × S) → (result ≡ status.ReadFault) ⊎ (result ≡ status.OutOfMemory) → S
-      by (inl whole) (inl read) = let same : status.Done ≡ status.ReadFault = sym whole.0 ∙ read in absurd (cc)
-      by (inl whole) (inr memory) = let same : status.Done ≡ status.OutOfMemory = sym whole.0 ∙ memory in absurd (cc)
-      by (inr (inl front)) (inl read) = let same : status.WriteFault ≡ status.ReadFault = sym front.0 ∙ read in absurd (cc)
-      by (inr (inl front)) (inr memory) = let same : status.WriteFault ≡ status.OutOfMemory = sym front.0 ∙ memory in absurd (cc)
-      by (inr (inr none)) is = none.1
-
   -- it ends in no other way
   pub no_other_end : (other : Status) → other ≢ status.Done → other ≢ status.WriteFault → other ≢ status.OutOfMemory → result ≡ other → ⊥
   no_other_end other done write memory is = by ends
@@ -107,6 +78,16 @@ module _ (result : Status) (W R F S : Type 0) (ends : (result ≡ status.Done ×
       by (inl whole) = done (sym is ∙ whole.0)
       by (inr (inl front)) = write (sym is ∙ front.0)
       by (inr (inr none)) = memory (sym is ∙ none.0)
+
+  -- and nothing was written where there was no memory
+  pub none_of_making : (result ≡ status.ReadFault) ⊎ (result ≡ status.OutOfMemory) → S
+  none_of_making is = by ends is
+    where
+      by : (result ≡ status.Done × W) ⊎ (result ≡ status.WriteFault × R × F) ⊎ (result ≡ status.OutOfMemory × S) → (result ≡ status.ReadFault) ⊎ (result ≡ status.OutOfMemory) → S
+      by ends (inl read) = absurd (no_other_end status.ReadFault (λ e. cc) (λ e. cc) (λ e. cc) read)
+      by (inl whole) (inr memory) = let same : status.Done ≡ status.OutOfMemory = sym whole.0 ∙ memory in absurd (cc)
+      by (inr (inl front)) (inr memory) = let same : status.WriteFault ≡ status.OutOfMemory = sym front.0 ∙ memory in absurd (cc)
+      by (inr (inr none)) is = none.1
 
 -- what was written of a text is what was written of the one that it is
 pub told_making : (result : Status) (before now : Option (List ℕ)) (text want : List ℕ) (R S : Type 0) → text ≡ want

@@ -27,7 +27,7 @@ use Rattle.twoplsf.specs.Commands.{IsCommand, IsReadingBy}
 use Rattle.twoplsf.specs.Check.{AreTwoTexts, differs_line}
 use Rattle.twoplsf.specs.declared.status.Status.{Status}
 use Rattle.twoplsf.specs.declared.status.Status.TheVariants as status
-use Rattle.twoplsf.specs.Answer.{IsDayFor, IsOutputFor, PrintsOutput, IsAnswerBy, IsDoneText, IsDifferenceFor, IsRefusalOf, IsRefusalOfFront, IsRefusalFor, HaveInputFor, IsTextFor, TookText, refused_line}
+use Rattle.twoplsf.specs.Answer.{IsDayFor, IsOutputFor, IsAnswerBy, IsDoneText, IsDifferenceFor, IsRefusalOf, IsRefusalOfFront, IsRefusalFor, HaveInputFor, IsTextFor, TookText, refused_line}
 
 -- what was read to the end is all that was left
 pub all_read : (left now : Option (List ℕ)) (bytes : List ℕ) (P : List ℕ → Type 0) → Consumes left now bytes → IsAtEnd now → P bytes → IfSome left P
@@ -68,9 +68,10 @@ done_text words (reading.Run w) bytes text day is answer =
     inl (record { workers = w; command = is; input = answer.0; spelled = answer.1; output = day_output answer.0 w answer.2.ended answer.2.of_input text.items answer.2.text_is })
 done_text words reading.Check bytes text day is answer = inr (is, answer.0, answer.1)
 
-pub done_input : (words : List (List ℕ)) (r : Reading) (bytes : List ℕ) (text : Vec ℕ Global) (day : Option DayEnd) → IsReadingBy words r → IsAnswerBy r bytes (Output text day) → HaveInputFor words bytes
-done_input words (reading.Run w) bytes text day is answer = inl ((w, is), (answer.0, answer.1))
-done_input words reading.Check bytes text day is answer = inr (is, record { input = answer.0.input; text = answer.0.text; two = answer.0.two })
+-- bytes whose text is printed have the input that the command reads
+pub done_input : (words : List (List ℕ)) (bytes text : List ℕ) → IsDoneText words bytes text → HaveInputFor words bytes
+done_input words bytes text (inl output) = inl ((output.workers, output.command), (output.input, output.spelled))
+done_input words bytes text (inr (check, h, line)) = inr (check, record { input = h.input; text = h.text; two = h.two })
 
 -- the day of an answer is one for the words, and its text the output
 pub day_of : (words : List (List ℕ)) (r : Reading) (bytes : List ℕ) (text : Vec ℕ Global) (day : Option DayEnd) (before now : Option (List ℕ)) → IsReadingBy words r → IsAnswerBy r bytes (Output text day)
@@ -127,13 +128,26 @@ output_of_run words bytes text run (inl output) = output
 output_of_run words bytes text run (inr check) = absurd (run_not_check words run check.0)
 
 -- the refusal for `run W`, and for `check`
-pub refusal_of_run : (words : List (List ℕ)) (bytes text : List ℕ) → IsRun words → IsRefusalFor words bytes text → IsRefusalOf bytes text
+refusal_of_run : (words : List (List ℕ)) (bytes text : List ℕ) → IsRun words → IsRefusalFor words bytes text → IsRefusalOf bytes text
 refusal_of_run words bytes text run (inl refusal) = refusal.1
 refusal_of_run words bytes text run (inr check) = absurd (run_not_check words run check.0)
 
-pub refusal_of_check : (words : List (List ℕ)) (bytes text : List ℕ) → IsCheck words → IsRefusalFor words bytes text → IsRefusalOfFront bytes text
+refusal_of_check : (words : List (List ℕ)) (bytes text : List ℕ) → IsCheck words → IsRefusalFor words bytes text → IsRefusalOfFront bytes text
 refusal_of_check words bytes text check (inl run) = absurd (run_not_check words run.0 check)
 refusal_of_check words bytes text check (inr refusal) = refusal.1
+
+-- the first faulty line that is refused for `run W`, and for `check`
+pub first_refused : (words : List (List ℕ)) (bytes text : List ℕ) → IsRun words → IsRefusalFor words bytes text → (number : ℕ) (why : Fault) → IsFirstFault bytes number why → text ≡ refused_line number why
+first_refused words bytes text run refusal number why fault =
+    let first = refusal_of_run words bytes text run refusal in
+    let same = one_fault bytes first.number number first.why why first.first fault in
+    first.text_is ∙ (λ i. refused_line (same.0 i) (same.1 i))
+
+pub front_refused : (words : List (List ℕ)) (bytes text : List ℕ) → IsCheck words → IsRefusalFor words bytes text → (number : ℕ) (why : Fault) → IsFrontFault bytes number why → text ≡ refused_line number why
+front_refused words bytes text check refusal number why fault =
+    let first = refusal_of_check words bytes text check refusal in
+    let same = one_fault bytes first.number number first.why why (inl first.first) (inl fault) in
+    first.text_is ∙ (λ i. refused_line (same.0 i) (same.1 i))
 
 -- bytes that are refused do not have the input
 pub refused_none : (words : List (List ℕ)) (bytes text : List ℕ) → IsRefusalFor words bytes text → HaveInputFor words bytes → ⊥
@@ -199,7 +213,7 @@ pub record HasAnswered (words : List (List ℕ)) (r : Reading) (left now : Optio
 
 module _ {words : List (List ℕ)} {r : Reading} {left now : Option (List ℕ)} {bytes : List ℕ} {answer : Answer} (h : HasAnswered words r left now bytes answer) where
   -- what holds of the bytes holds of all that was left
-  pub of_all : (P : List ℕ → Type 0) → P bytes → IfSome left P
+  of_all : (P : List ℕ → Type 0) → P bytes → IfSome left P
   of_all P p = all_read left now bytes P h.taken h.end p
 
   -- and so does what a text says of them
@@ -207,26 +221,11 @@ module _ {words : List (List ℕ)} {r : Reading} {left now : Option (List ℕ)} 
   told P p = (reading_is words r h.is, h.end, of_all (λ all. (length all ≤ MOST_INPUT_BYTES) × P all) (h.few, p))
 
 module _ {words : List (List ℕ)} {r : Reading} {left now : Option (List ℕ)} {bytes : List ℕ} {text : Vec ℕ Global} {day : Option DayEnd} (h : HasAnswered words r left now bytes (Output text day)) where
-  done : IsDoneText words bytes text.items
-  done = done_text words r bytes text day h.is h.answers
-
-  -- the bytes have the input that the command reads
-  pub output_has_input : HaveInputFor words bytes
-  output_has_input = done_input words r bytes text day h.is h.answers
-
   -- what the sink took is a text of its work
   pub output_taken : (result : Status) (before after : Option (List ℕ)) (R : Type 0) → (result ≡ status.Done × Appends before after text.items) ⊎ (result ≡ status.WriteFault × R × AppendsPrefix before after text.items)
       → TookText result words left now before after
-  output_taken result before after R wrote = took_text result status.Done words left now before after text.items R (inl (told h (λ all. IsDoneText words all text.items) done)) wrote
-
-  -- what is printed for `run W`
-  pub output_printed : (before after : Option (List ℕ)) → IsRun words → Appends before after text.items → IfSome left (λ all. PrintsOutput words all before after)
-  output_printed before after run printed =
-      of_all h (λ all. PrintsOutput words all before after) (record { text = text.items; output = output_of_run words bytes text.items run done; printed = printed })
-
-  -- a text that `check` agrees to
-  pub output_agreed : IsCheck words → (input : ClearingInput) (other : List ℕ) → AreTwoTexts bytes input other → IsOutput input RESTARTS_BELOW other
-  output_agreed check = done_is_output words bytes text.items check done
+  output_taken result before after R wrote =
+      took_text result status.Done words left now before after text.items R (inl (told h (λ all. IsDoneText words all text.items) (done_text words r bytes text day h.is h.answers))) wrote
 
   -- its day
   pub output_day : (before after : Option (List ℕ)) → Appends before after text.items → IfSome day (λ d. IfSome left (λ all. IsDayFor words all before after d))
@@ -236,47 +235,18 @@ module _ {words : List (List ℕ)} {r : Reading} {left now : Option (List ℕ)} 
   difference : IsDifferenceFor words bytes text.items
   difference = difference_text words r bytes text h.is h.answers
 
-  -- the bytes have the input that the command reads
-  pub difference_has_input : HaveInputFor words bytes
-  difference_has_input = difference_input words bytes text.items difference
-
   -- what the sink took names a wrong line
   pub difference_taken : (result : Status) (before after : Option (List ℕ)) (R : Type 0)
       → (result ≡ status.Differs × Appends before after text.items) ⊎ (result ≡ status.WriteFault × R × AppendsPrefix before after text.items) → TookText result words left now before after
   difference_taken result before after R wrote = took_text result status.Differs words left now before after text.items R (told h (λ all. IsDifferenceFor words all text.items) difference) wrote
 
-  -- the text behind the input is no output
-  pub difference_is_none : (input : ClearingInput) (other : List ℕ) → AreTwoTexts bytes input other → IsOutput input RESTARTS_BELOW other → ⊥
-  difference_is_none = wrong_is_none words bytes text.items difference
-
-  -- and what is printed is its first wrong line
-  pub difference_printed : (before after : Option (List ℕ)) → Appends before after text.items → (input : ClearingInput) (other : List ℕ) (number : ℕ) → AreTwoTexts bytes input other
-      → IsFirstWrongLine input RESTARTS_BELOW other number → Appends before after (differs_line number)
-  difference_printed before after printed input other number two wrong = subst (Appends before after) (wrong_is_first words bytes text.items difference input other number two wrong) printed
+  -- and `check` alone names one
+  pub difference_checks : IsCheck words
+  difference_checks = difference.0
 
 module _ {words : List (List ℕ)} {r : Reading} {left now : Option (List ℕ)} {bytes : List ℕ} {text : Vec ℕ Global} (h : HasAnswered words r left now bytes (Refusal text)) where
-  refusal : IsRefusalFor words bytes text.items
-  refusal = refusal_text words r bytes text h.is h.answers
-
-  -- the bytes do not have the input that the command reads
-  pub refusal_has_none : HaveInputFor words bytes → ⊥
-  refusal_has_none = refused_none words bytes text.items refusal
-
-  -- what the sink took refuses them
+  -- what the sink took refuses the bytes
   pub refusal_taken : (result : Status) (before after : Option (List ℕ)) (R : Type 0) → (result ≡ status.BadInput × Appends before after text.items) ⊎ (result ≡ status.WriteFault × R × AppendsPrefix before after text.items)
       → TookText result words left now before after
-  refusal_taken result before after R wrote = took_text result status.BadInput words left now before after text.items R (told h (λ all. IsRefusalFor words all text.items) refusal) wrote
-
-  -- what is printed names the first faulty line
-  pub refusal_printed : (before after : Option (List ℕ)) → IsRun words → Appends before after text.items → (number : ℕ) (why : Fault) → IsFirstFault bytes number why → Appends before after (refused_line number why)
-  refusal_printed before after run printed number why fault =
-      let first = refusal_of_run words bytes text.items run refusal in
-      let same = one_fault bytes first.number number first.why why first.first fault in
-      subst (Appends before after) (first.text_is ∙ (λ i. refused_line (same.0 i) (same.1 i))) printed
-
-  -- and for `check` that of the input in front
-  pub front_refusal_printed : (before after : Option (List ℕ)) → IsCheck words → Appends before after text.items → (number : ℕ) (why : Fault) → IsFrontFault bytes number why → Appends before after (refused_line number why)
-  front_refusal_printed before after check printed number why fault =
-      let first = refusal_of_check words bytes text.items check refusal in
-      let same = one_fault bytes first.number number first.why why (inl first.first) (inl fault) in
-      subst (Appends before after) (first.text_is ∙ (λ i. refused_line (same.0 i) (same.1 i))) printed
+  refusal_taken result before after R wrote =
+      took_text result status.BadInput words left now before after text.items R (told h (λ all. IsRefusalFor words all text.items) (refusal_text words r bytes text h.is h.answers)) wrote

@@ -107,6 +107,91 @@ fn serve_making<R: Threads + Wait + Sync, K: Sink, G: Gate>(
     }
 }
 
+/// Does the whole work of `serve`. Its clauses are those from which the contract of `serve` follows.
+fn serve_words<R: Threads + Wait + Sync, S: Source, K: Sink, G: Gate>(
+    rt: &R,
+    alloc: Global,
+    words: &[String],
+    source: &mut S,
+    sink: &mut K,
+    gate: &G,
+) -> Served
+    ensures text { TookText result.status (map string_bytes words.now)
+        (S.left source.old) (S.left source.new) (K.taken sink.old) (K.taken sink.new) }
+    ensures unwritten { (result.status ≡ Status.ReadFault) ⊎ (result.status ≡ Status.OutOfMemory)
+        → sink.new ≡ sink.old }
+
+    ensures day { IsRun (map string_bytes words.now) → IfSome result.day
+        (λ day. IfSome (S.left source.old) (λ bytes. IsDayFor (map string_bytes words.now) bytes
+        (K.taken sink.old) (K.taken sink.new) day)) }
+    ensures drill_day { IsDrill (map string_bytes words.now)
+        → IfSome result.day (IsDrillDay (map string_bytes words.now)) }
+    ensures has_day { IsSome result.day
+        ↔ ((IsRun (map string_bytes words.now) ⊎ IsDrill (map string_bytes words.now))
+        × (result.status ≡ Status.Done)) }
+
+    // What is read, and when nothing is.
+    ensures unread { (¬ IsReading (map string_bytes words.now)) → source.new ≡ source.old }
+    ensures taken { TakesAtMost (S.left source.old) (S.left source.new) (MOST_INPUT_BYTES + 1) }
+    ensures reads { S.reads source.new ≤ S.reads source.old + MOST_INPUT_BYTES + 2 }
+
+    // What a status says besides its text.
+    ensures words_first { (¬ IsValidCommand (map string_bytes words.now))
+        → (result.status ≡ Status.BadWords) ⊎ (result.status ≡ Status.WriteFault) }
+    ensures above_limit { count_taken (S.left source.old) (S.left source.new)
+        ≡ Some (MOST_INPUT_BYTES + 1)
+        → (result.status ≡ Status.TooLarge) ⊎ (result.status ≡ Status.WriteFault)
+        ⊎ (result.status ≡ Status.OutOfMemory) }
+    ensures only_check { result.status ≡ Status.Differs → IsCheck (map string_bytes words.now) }
+    ensures read_fault { result.status ≡ Status.ReadFault
+        → IsReading (map string_bytes words.now) × Rose (S.faults source.old) (S.faults source.new) }
+    ensures write_fault { result.status ≡ Status.WriteFault
+        → Rose (K.faults sink.old) (K.faults sink.new) }
+{
+    let Some(command) = command_of(words) else {
+        let status = finish(sink, b"refused words\n", Status::BadWords);
+        return Served { status, day: None };
+    };
+    let reading = match command {
+        Command::Read(reading) => reading,
+        Command::Make(making) => return serve_making(rt, alloc, making, sink, gate),
+    };
+    let bytes = match read_all(alloc, source, MOST_INPUT_BYTES) {
+        Ok(bytes) => bytes,
+        Err(ReadStop::Fault) => {
+            let status = Status::ReadFault;
+            return Served { status, day: None };
+        }
+        Err(ReadStop::TooLarge) => {
+            let status = finish(sink, b"refused size\n", Status::TooLarge);
+            return Served { status, day: None };
+        }
+        Err(ReadStop::OutOfMemory) => {
+            let status = Status::OutOfMemory;
+            return Served { status, day: None };
+        }
+    };
+    match answer_by(rt, alloc, reading, &bytes, gate) {
+        Ok(Answer::Output { text, day }) => {
+            let status = finish(sink, &text, Status::Done);
+            let day = day_after(status, day);
+            Served { status, day }
+        }
+        Ok(Answer::Difference(text)) => {
+            let status = finish(sink, &text, Status::Differs);
+            Served { status, day: None }
+        }
+        Ok(Answer::Refusal(text)) => {
+            let status = finish(sink, &text, Status::BadInput);
+            Served { status, day: None }
+        }
+        Err(_) => {
+            let status = Status::OutOfMemory;
+            Served { status, day: None }
+        }
+    }
+}
+
 /// Does what the words say: `run W` reads an input from the source, runs each of its scripts as one transaction on one
 /// of W threads, and writes the journal and the closing books to the sink; `check` reads an input and a text behind it,
 /// and writes whether that is an output of the input, or its first wrong line. `make` and `drill` read nothing: the one
@@ -235,46 +320,5 @@ pub fn serve<R: Threads + Wait + Sync, S: Source, K: Sink, G: Gate>(
         → Rose (K.faults sink.old) (K.faults sink.new) }
     ensures reads { S.reads source.new ≤ S.reads source.old + MOST_INPUT_BYTES + 2 }
 {
-    let Some(command) = command_of(words) else {
-        let status = finish(sink, b"refused words\n", Status::BadWords);
-        return Served { status, day: None };
-    };
-    let reading = match command {
-        Command::Read(reading) => reading,
-        Command::Make(making) => return serve_making(rt, alloc, making, sink, gate),
-    };
-    let bytes = match read_all(alloc, source, MOST_INPUT_BYTES) {
-        Ok(bytes) => bytes,
-        Err(ReadStop::Fault) => {
-            let status = Status::ReadFault;
-            return Served { status, day: None };
-        }
-        Err(ReadStop::TooLarge) => {
-            let status = finish(sink, b"refused size\n", Status::TooLarge);
-            return Served { status, day: None };
-        }
-        Err(ReadStop::OutOfMemory) => {
-            let status = Status::OutOfMemory;
-            return Served { status, day: None };
-        }
-    };
-    match answer_by(rt, alloc, reading, &bytes, gate) {
-        Ok(Answer::Output { text, day }) => {
-            let status = finish(sink, &text, Status::Done);
-            let day = day_after(status, day);
-            Served { status, day }
-        }
-        Ok(Answer::Difference(text)) => {
-            let status = finish(sink, &text, Status::Differs);
-            Served { status, day: None }
-        }
-        Ok(Answer::Refusal(text)) => {
-            let status = finish(sink, &text, Status::BadInput);
-            Served { status, day: None }
-        }
-        Err(_) => {
-            let status = Status::OutOfMemory;
-            Served { status, day: None }
-        }
-    }
+    serve_words(rt, alloc, words, source, sink, gate)
 }

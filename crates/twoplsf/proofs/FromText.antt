@@ -1,0 +1,203 @@
+-- What follows from the text that the sink took.
+use Rattle.std.proofs.Common.{◌≡◌, ◌≢◌, ◌+◌, ◌≤◌, ◌<◌, ◌⊎◌, ℕ, List, length, refl, subst, Option, Some, None, IfSome, inl, inr, arith}
+use Rattle.std.specs.Io.KnownBytes.{Appends}
+use Rattle.std.proofs.lemmas.Option.{IfSome_then}
+use Rattle.io_ends.specs.Taken.{TakesAtMost, count_taken}
+use Rattle.script_reader.specs.Grammar.{IsValidInput}
+use Rattle.script_reader.specs.declared.fault.Fault.{Fault}
+use Rattle.script_reader.specs.Faults.{IsFirstFault, IsFrontFault}
+use Rattle.script_reader.specs.Input.{ClearingInput}
+use Rattle.books_report.specs.declared.limits.TheConstants.{RESTARTS_BELOW}
+use Rattle.books_report.specs.Output.{IsOutput}
+use Rattle.books_report.specs.Checking.{IsFirstWrongLine}
+use Rattle.twoplsf.specs.declared.limits.TheConstants.{MOST_INPUT_BYTES}
+use Rattle.twoplsf.specs.declared.status.Status.{Status}
+use Rattle.twoplsf.specs.declared.status.Status.TheVariants as status
+use Rattle.twoplsf.specs.Command.{IsRun, IsCheck, IsMaking, IsReading, IsValidCommand}
+use Rattle.twoplsf.specs.Check.{AreTwoTexts, BeginWithInput, differs_line}
+use Rattle.twoplsf.specs.Made.{IsMadeText, PrintsMade}
+use Rattle.twoplsf.specs.Answer.{IsDoneText, IsDifferenceFor, IsRefusalFor, HaveInputFor, PrintsOutput, TookText, refused_line}
+use Rattle.twoplsf.proofs.Served.{run_not_check, read_not_made, output_of_run, done_input, difference_input, done_is_output, refused_none, first_refused, front_refused, wrong_is_none, wrong_is_first}
+
+-- the status stands for trouble outside
+abbrev pub Failed : Status → Type 0
+Failed result = (result ≡ status.ReadFault) ⊎ (result ≡ status.WriteFault) ⊎ (result ≡ status.OutOfMemory)
+
+-- the ways in which a command that reads ends on the bytes that were left
+pub data EndsOn (result : Status) (words : List (List ℕ)) (bytes : List ℕ) : Type 0 where
+  IsDone : result ≡ status.Done → length bytes ≤ MOST_INPUT_BYTES → (text : List ℕ) → IsDoneText words bytes text → EndsOn result words bytes
+  IsOther : result ≡ status.Differs → length bytes ≤ MOST_INPUT_BYTES → (text : List ℕ) → IsDifferenceFor words bytes text → EndsOn result words bytes
+  IsRefused : result ≡ status.BadInput → length bytes ≤ MOST_INPUT_BYTES → (text : List ℕ) → IsRefusalFor words bytes text → EndsOn result words bytes
+  IsTooLarge : result ≡ status.TooLarge → MOST_INPUT_BYTES < length bytes → EndsOn result words bytes
+  HasFailed : Failed result → EndsOn result words bytes
+
+-- what always holds does so of bytes that are told
+always : (left : Option (List ℕ)) (P : List ℕ → Type 0) → ((bytes : List ℕ) → P bytes) → IfSome left P
+always None P h = tt
+always (Some bytes) P h = h bytes
+
+-- where one byte too many was taken, more were left than an input may have
+above_most : (left now : Option (List ℕ)) → TakesAtMost left now (MOST_INPUT_BYTES + 1) → IfSome (count_taken left now) (λ n. n ≡ MOST_INPUT_BYTES + 1) → IfSome left (λ bytes. MOST_INPUT_BYTES < length bytes)
+above_most None now taken above = tt
+above_most (Some bytes) None taken above = absurd taken.1
+above_most (Some bytes) (Some rest) taken above = omega arith
+
+-- the words of a command whose text is made
+made_text_is : (words : List (List ℕ)) (text : List ℕ) → IsMadeText words text → IsMaking words
+made_text_is words text (inl input) = inl (input.seed, input.callers, input.scripts, input.command)
+made_text_is words text (inr sums) = inr (sums.workers, sums.seed, sums.callers, sums.scripts, sums.command)
+
+-- a command that reads ends in one of these ways
+ends : (result : Status) (words : List (List ℕ)) (left now before after : Option (List ℕ)) → TookText result words left now before after → TakesAtMost left now (MOST_INPUT_BYTES + 1) → IsReading words
+    → IfSome left (EndsOn result words)
+ends status.Done words left now before after (text, inl h, printed) taken reading = IfSome_then left h.2 (λ bytes is. IsDone refl is.0 text is.1)
+ends status.Done words left now before after (text, inr made, printed) taken reading = absurd (read_not_made words reading (made_text_is words text made))
+ends status.Differs words left now before after (text, h, printed) taken reading = IfSome_then left h.2 (λ bytes is. IsOther refl is.0 text is.1)
+ends status.BadWords words left now before after (text, h, printed) taken reading = absurd (h.0 (inl reading))
+ends status.BadInput words left now before after (text, h, printed) taken reading = IfSome_then left h.2 (λ bytes is. IsRefused refl is.0 text is.1)
+ends status.TooLarge words left now before after (text, h, printed) taken reading = IfSome_then left (above_most left now taken h.1) (λ bytes many. IsTooLarge refl many)
+ends status.ReadFault words left now before after h taken reading = always left (EndsOn status.ReadFault words) (λ bytes. HasFailed (inl refl))
+ends status.WriteFault words left now before after h taken reading = always left (EndsOn status.WriteFault words) (λ bytes. HasFailed (inr (inl refl)))
+ends status.OutOfMemory words left now before after h taken reading = always left (EndsOn status.OutOfMemory words) (λ bytes. HasFailed (inr (inr refl)))
+
+module _ (result : Status) (words : List (List ℕ)) (bytes : List ℕ) where
+  -- on more bytes than an input may have
+  on_many : EndsOn result words bytes → MOST_INPUT_BYTES < length bytes → (result ≡ status.TooLarge) ⊎ Failed result
+  on_many (IsDone is few text h) many = absurd (omega arith)
+  on_many (IsOther is few text h) many = absurd (omega arith)
+  on_many (IsRefused is few text h) many = absurd (omega arith)
+  on_many (IsTooLarge is above) many = inl is
+  on_many (HasFailed failed) many = inr failed
+
+  -- on bytes that do not have the input
+  on_no_input : EndsOn result words bytes → length bytes ≤ MOST_INPUT_BYTES → (HaveInputFor words bytes → ⊥) → (result ≡ status.BadInput) ⊎ Failed result
+  on_no_input (IsDone is few text h) within none = absurd (none (done_input words bytes text h))
+  on_no_input (IsOther is few text h) within none = absurd (none (difference_input words bytes text h))
+  on_no_input (IsRefused is few text h) within none = inl is
+  on_no_input (IsTooLarge is above) within none = absurd (omega arith)
+  on_no_input (HasFailed failed) within none = inr failed
+
+  -- on a text that is no output of the input in front
+  on_no_output : IsCheck words → EndsOn result words bytes → length bytes ≤ MOST_INPUT_BYTES → (input : ClearingInput) (other : List ℕ) → AreTwoTexts bytes input other
+      → (IsOutput input RESTARTS_BELOW other → ⊥) → (result ≡ status.Differs) ⊎ Failed result
+  on_no_output check (IsDone is few text h) within input other two none = absurd (none (done_is_output words bytes text check h input other two))
+  on_no_output check (IsOther is few text h) within input other two none = inl is
+  on_no_output check (IsRefused is few text h) within input other two none = absurd (refused_none words bytes text h (inr (check, record { input = input; text = other; two = two })))
+  on_no_output check (IsTooLarge is above) within input other two none = absurd (omega arith)
+  on_no_output check (HasFailed failed) within input other two none = inr failed
+
+  -- on bytes that have the input, where no fault came
+  on_input : EndsOn result words bytes → length bytes ≤ MOST_INPUT_BYTES → HaveInputFor words bytes → result ≢ status.ReadFault → result ≢ status.WriteFault
+      → (result ≡ status.Done) ⊎ (result ≡ status.Differs) ⊎ (result ≡ status.OutOfMemory)
+  on_input (IsDone is few text h) within have read write = inl is
+  on_input (IsOther is few text h) within have read write = inr (inl is)
+  on_input (IsRefused is few text h) within have read write = absurd (refused_none words bytes text h have)
+  on_input (IsTooLarge is above) within have read write = absurd (omega arith)
+  on_input (HasFailed (inl fault)) within have read write = absurd (read fault)
+  on_input (HasFailed (inr (inl fault))) within have read write = absurd (write fault)
+  on_input (HasFailed (inr (inr memory))) within have read write = inr (inr memory)
+
+  -- and for `run W`, which compares no text
+  on_run : (result ≡ status.Differs → IsCheck words) → IsRun words → (result ≡ status.Done) ⊎ (result ≡ status.Differs) ⊎ (result ≡ status.OutOfMemory)
+      → (result ≡ status.Done) ⊎ (result ≡ status.OutOfMemory)
+  on_run only run (inl is) = inl is
+  on_run only run (inr (inl is)) = absurd (run_not_check words run (only is))
+  on_run only run (inr (inr memory)) = inr memory
+
+-- a command that makes its input ends so where no fault came
+makes : (result : Status) (words : List (List ℕ)) (left now before after : Option (List ℕ)) → TookText result words left now before after → (result ≡ status.ReadFault → IsReading words) → result ≢ status.WriteFault → IsMaking words
+    → (result ≡ status.Done) ⊎ (result ≡ status.OutOfMemory)
+makes status.Done words left now before after h read write making = inl refl
+makes status.Differs words left now before after (text, h, printed) read write making = absurd (read_not_made words h.0 making)
+makes status.BadWords words left now before after (text, h, printed) read write making = absurd (h.0 (inr making))
+makes status.BadInput words left now before after (text, h, printed) read write making = absurd (read_not_made words h.0 making)
+makes status.TooLarge words left now before after (text, h, printed) read write making = absurd (read_not_made words h.0 making)
+makes status.ReadFault words left now before after h read write making = absurd (read_not_made words (read refl) making)
+makes status.WriteFault words left now before after h read write making = absurd (write refl)
+makes status.OutOfMemory words left now before after h read write making = inr refl
+
+-- a command has ended: what its sink took, by what its source gave, and what two of the statuses say besides
+pub record HasEnded (result : Status) (words : List (List ℕ)) (left now before after : Option (List ℕ)) (Read Write : Type 0) : Type 0 where
+  pub text : TookText result words left now before after
+  pub taken : TakesAtMost left now (MOST_INPUT_BYTES + 1)
+  pub only : result ≡ status.Differs → IsCheck words
+  pub read : result ≡ status.ReadFault → IsReading words × Read
+  pub write : result ≡ status.WriteFault → Write
+
+module _ {result : Status} {words : List (List ℕ)} {left now before after : Option (List ℕ)} {Read Write : Type 0} (h : HasEnded result words left now before after Read Write) where
+  -- the text of the status that it is
+  text_of : (is : Status) → result ≡ is → TookText is words left now before after
+  text_of is same = subst (λ s. TookText s words left now before after) same h.text
+
+  -- what is printed for `run W`
+  pub headline : IsRun words → result ≡ status.Done → IfSome left (λ bytes. PrintsOutput words bytes before after)
+  headline run is = by (text_of status.Done is)
+    where
+      by : TookText status.Done words left now before after → IfSome left (λ bytes. PrintsOutput words bytes before after)
+      by (text, inl t, printed) = IfSome_then left t.2 (λ bytes done. record { text = text; output = output_of_run words bytes text run done.1; printed = printed })
+      by (text, inr made, printed) = absurd (read_not_made words (inl run) (made_text_is words text made))
+
+  -- and by a command that makes its input
+  pub made : IsMaking words → result ≡ status.Done → PrintsMade words before after
+  made making is = by (text_of status.Done is)
+    where
+      by : TookText status.Done words left now before after → PrintsMade words before after
+      by (text, inl t, printed) = absurd (read_not_made words t.0 making)
+      by (text, inr made, printed) = record { text = text; made = made; printed = printed }
+
+  -- words are refused that are no command
+  pub bad_words : result ≡ status.BadWords → IsValidCommand words → ⊥
+  bad_words is = (text_of status.BadWords is).1.0
+
+  -- so are bytes of which one too many was taken
+  pub too_large : result ≡ status.TooLarge → IfSome (count_taken left now) (λ n. n ≡ MOST_INPUT_BYTES + 1)
+  too_large is = (text_of status.TooLarge is).1.1
+
+  pub too_many : IsReading words → IfSome left (λ bytes. MOST_INPUT_BYTES < length bytes → (result ≡ status.TooLarge) ⊎ Failed result)
+  too_many reading = IfSome_then left (ends result words left now before after h.text h.taken reading) (on_many result words)
+
+  -- bytes are refused that do not have the input, and their first fault is named
+  pub first_fault : IsRun words → result ≡ status.BadInput → IfSome left (λ bytes. (number : ℕ) (why : Fault) → IsFirstFault bytes number why → Appends before after (refused_line number why))
+  first_fault run is =
+      let t = text_of status.BadInput is in
+      IfSome_then left t.1.2 (λ bytes refused number why fault. subst (Appends before after) (first_refused words bytes t.0 run refused.1 number why fault) t.2)
+
+  pub first_fault_in_front : IsCheck words → result ≡ status.BadInput → IfSome left (λ bytes. (number : ℕ) (why : Fault) → IsFrontFault bytes number why → Appends before after (refused_line number why))
+  first_fault_in_front check is =
+      let t = text_of status.BadInput is in
+      IfSome_then left t.1.2 (λ bytes refused number why fault. subst (Appends before after) (front_refused words bytes t.0 check refused.1 number why fault) t.2)
+
+  pub bad_input : result ≡ status.BadInput → IfSome left (λ bytes. HaveInputFor words bytes → ⊥)
+  bad_input is = let t = text_of status.BadInput is in IfSome_then left t.1.2 (λ bytes refused. refused_none words bytes t.0 refused.1)
+
+  pub no_input : IsReading words → IfSome left (λ bytes. length bytes ≤ MOST_INPUT_BYTES → (HaveInputFor words bytes → ⊥) → (result ≡ status.BadInput) ⊎ Failed result)
+  no_input reading = IfSome_then left (ends result words left now before after h.text h.taken reading) (on_no_input result words)
+
+  -- a text differs that is no output, and its first wrong line is named
+  pub differs : result ≡ status.Differs → IfSome left (λ bytes. (input : ClearingInput) (other : List ℕ) → AreTwoTexts bytes input other → IsOutput input RESTARTS_BELOW other → ⊥)
+  differs is = let t = text_of status.Differs is in IfSome_then left t.1.2 (λ bytes difference. wrong_is_none words bytes t.0 difference.1)
+
+  pub first_wrong : result ≡ status.Differs
+      → IfSome left (λ bytes. (input : ClearingInput) (other : List ℕ) (number : ℕ) → AreTwoTexts bytes input other → IsFirstWrongLine input RESTARTS_BELOW other number → Appends before after (differs_line number))
+  first_wrong is =
+      let t = text_of status.Differs is in
+      IfSome_then left t.1.2 (λ bytes difference input other number two wrong. subst (Appends before after) (wrong_is_first words bytes t.0 difference.1 input other number two wrong) t.2)
+
+  pub no_output : IsCheck words
+      → IfSome left (λ bytes. length bytes ≤ MOST_INPUT_BYTES → (input : ClearingInput) (other : List ℕ) → AreTwoTexts bytes input other → (IsOutput input RESTARTS_BELOW other → ⊥) → (result ≡ status.Differs) ⊎ Failed result)
+  no_output check = IfSome_then left (ends result words left now before after h.text h.taken (inr check)) (λ bytes. on_no_output result words bytes check)
+
+  -- where nothing is wrong, the work is done
+  pub complete : IsRun words → IfSome left (λ bytes. length bytes ≤ MOST_INPUT_BYTES → IsValidInput bytes → (Read → ⊥) → (Write → ⊥) → (result ≡ status.Done) ⊎ (result ≡ status.OutOfMemory))
+  complete run =
+      IfSome_then left (ends result words left now before after h.text h.taken (inl run))
+      (λ bytes end within valid read write. on_run result words bytes h.only run (on_input result words bytes end within (inl (run, valid)) (λ is. read (h.read is).1) (λ is. write (h.write is))))
+
+  pub complete_check : IsCheck words
+      → IfSome left (λ bytes. length bytes ≤ MOST_INPUT_BYTES → BeginWithInput bytes → (Read → ⊥) → (Write → ⊥) → (result ≡ status.Done) ⊎ (result ≡ status.Differs) ⊎ (result ≡ status.OutOfMemory))
+  complete_check check =
+      IfSome_then left (ends result words left now before after h.text h.taken (inr check))
+      (λ bytes end within begins read write. on_input result words bytes end within (inr (check, begins)) (λ is. read (h.read is).1) (λ is. write (h.write is)))
+
+  pub complete_making : IsMaking words → (Write → ⊥) → (result ≡ status.Done) ⊎ (result ≡ status.OutOfMemory)
+  complete_making making write = makes result words left now before after h.text (λ is. (h.read is).0) (λ is. write (h.write is)) making
