@@ -16,8 +16,8 @@ use Rattle.twoplsf.specs.declared.status.Status.TheVariants as status
 use Rattle.twoplsf.specs.Command.{IsRun, IsCheck, IsMaking, IsReading, IsValidCommand}
 use Rattle.twoplsf.specs.Check.{AreTwoTexts, BeginWithInput, differs_line}
 use Rattle.twoplsf.specs.Made.{IsMadeText, PrintsMade}
-use Rattle.twoplsf.specs.Answer.{IsDoneText, IsDifferenceFor, IsRefusalFor, HaveInputFor, PrintsOutput, TookText, refused_line}
-use Rattle.twoplsf.proofs.Served.{run_not_check, read_not_made, output_of_run, done_input, difference_input, done_is_output, refused_none, first_refused, front_refused, wrong_is_none, wrong_is_first}
+use Rattle.twoplsf.specs.Answer.{IsDoneText, IsDifferenceFor, IsRefusalFor, HaveInputFor, OfBytesRead, PrintsOutput, TookText, refused_line}
+use Rattle.twoplsf.proofs.Served.{of_left, run_not_check, read_not_made, output_of_run, done_input, difference_input, done_is_output, refused_none, first_refused, front_refused, wrong_is_none, wrong_is_first}
 
 -- the status stands for trouble outside
 abbrev pub Failed : Status → Type 0
@@ -50,11 +50,11 @@ made_text_is words text (inr sums) = inr (sums.workers, sums.seed, sums.callers,
 -- a command that reads ends in one of these ways
 ends : (result : Status) (words : List (List ℕ)) (left now before after : Option (List ℕ)) → TookText result words left now before after → TakesAtMost left now (MOST_INPUT_BYTES + 1) → IsReading words
     → IfSome left (EndsOn result words)
-ends status.Done words left now before after (text, inl h, printed) taken reading = IfSome_then left h.2 (λ bytes is. IsDone refl is.0 text is.1)
+ends status.Done words left now before after (text, inl h, printed) taken reading = of_left left h.2 (λ bytes is. IsDone refl is.0 text is.1)
 ends status.Done words left now before after (text, inr made, printed) taken reading = absurd (read_not_made words reading (made_text_is words text made))
-ends status.Differs words left now before after (text, h, printed) taken reading = IfSome_then left h.2 (λ bytes is. IsOther refl is.0 text is.1)
+ends status.Differs words left now before after (text, h, printed) taken reading = of_left left h.2 (λ bytes is. IsOther refl is.0 text is.1)
 ends status.BadWords words left now before after (text, h, printed) taken reading = absurd (h.0 (inl reading))
-ends status.BadInput words left now before after (text, h, printed) taken reading = IfSome_then left h.2 (λ bytes is. IsRefused refl is.0 text is.1)
+ends status.BadInput words left now before after (text, h, printed) taken reading = of_left left h.2 (λ bytes is. IsRefused refl is.0 text is.1)
 ends status.TooLarge words left now before after (text, h, printed) taken reading = IfSome_then left (above_most left now taken h.1) (λ bytes many. IsTooLarge refl many)
 ends status.ReadFault words left now before after h taken reading = always left (EndsOn status.ReadFault words) (λ bytes. HasFailed (inl refl))
 ends status.WriteFault words left now before after h taken reading = always left (EndsOn status.WriteFault words) (λ bytes. HasFailed (inr (inl refl)))
@@ -120,7 +120,6 @@ makes status.OutOfMemory words left now before after h read write making = inr r
 pub record HasEnded (result : Status) (words : List (List ℕ)) (left now before after : Option (List ℕ)) (Read Write : Type 0) : Type 0 where
   pub text : TookText result words left now before after
   pub taken : TakesAtMost left now (MOST_INPUT_BYTES + 1)
-  pub only : result ≡ status.Differs → IsCheck words
   pub read : result ≡ status.ReadFault → IsReading words × Read
   pub write : result ≡ status.WriteFault → Write
 
@@ -130,11 +129,13 @@ module _ {result : Status} {words : List (List ℕ)} {left now before after : Op
   text_of is same = subst (λ s. TookText s words left now before after) same h.text
 
   -- what is printed for `run W`
-  pub headline : IsRun words → result ≡ status.Done → IfSome left (λ bytes. PrintsOutput words bytes before after)
+  pub headline : IsRun words → result ≡ status.Done → OfBytesRead left (λ bytes. PrintsOutput words bytes before after)
   headline run is = by (text_of status.Done is)
     where
-      by : TookText status.Done words left now before after → IfSome left (λ bytes. PrintsOutput words bytes before after)
-      by (text, inl t, printed) = IfSome_then left t.2 (λ bytes done. record { text = text; output = output_of_run words bytes text run done.1; printed = printed })
+      by : TookText status.Done words left now before after → OfBytesRead left (λ bytes. PrintsOutput words bytes before after)
+      by (text, inl t, printed) =
+          let read = t.2 in
+          record { bytes = read.bytes; told = read.told; holds = record { text = text; output = output_of_run words read.bytes text run read.holds.1; printed = printed } }
       by (text, inr made, printed) = absurd (read_not_made words (inl run) (made_text_is words text made))
 
   -- and by a command that makes its input
@@ -160,38 +161,42 @@ module _ {result : Status} {words : List (List ℕ)} {left now before after : Op
   pub first_fault : IsRun words → result ≡ status.BadInput → IfSome left (λ bytes. (number : ℕ) (why : Fault) → IsFirstFault bytes number why → Appends before after (refused_line number why))
   first_fault run is =
       let t = text_of status.BadInput is in
-      IfSome_then left t.1.2 (λ bytes refused number why fault. subst (Appends before after) (first_refused words bytes t.0 run refused.1 number why fault) t.2)
+      of_left left t.1.2 (λ bytes refused number why fault. subst (Appends before after) (first_refused words bytes t.0 run refused.1 number why fault) t.2)
 
   pub first_fault_in_front : IsCheck words → result ≡ status.BadInput → IfSome left (λ bytes. (number : ℕ) (why : Fault) → IsFrontFault bytes number why → Appends before after (refused_line number why))
   first_fault_in_front check is =
       let t = text_of status.BadInput is in
-      IfSome_then left t.1.2 (λ bytes refused number why fault. subst (Appends before after) (front_refused words bytes t.0 check refused.1 number why fault) t.2)
+      of_left left t.1.2 (λ bytes refused number why fault. subst (Appends before after) (front_refused words bytes t.0 check refused.1 number why fault) t.2)
 
   pub bad_input : result ≡ status.BadInput → IfSome left (λ bytes. HaveInputFor words bytes → ⊥)
-  bad_input is = let t = text_of status.BadInput is in IfSome_then left t.1.2 (λ bytes refused. refused_none words bytes t.0 refused.1)
+  bad_input is = let t = text_of status.BadInput is in of_left left t.1.2 (λ bytes refused. refused_none words bytes t.0 refused.1)
 
   pub no_input : IsReading words → IfSome left (λ bytes. length bytes ≤ MOST_INPUT_BYTES → (HaveInputFor words bytes → ⊥) → (result ≡ status.BadInput) ⊎ Failed result)
   no_input reading = IfSome_then left (ends result words left now before after h.text h.taken reading) (on_no_input result words)
 
   -- a text differs that is no output, and its first wrong line is named
   pub differs : result ≡ status.Differs → IfSome left (λ bytes. (input : ClearingInput) (other : List ℕ) → AreTwoTexts bytes input other → IsOutput input RESTARTS_BELOW other → ⊥)
-  differs is = let t = text_of status.Differs is in IfSome_then left t.1.2 (λ bytes difference. wrong_is_none words bytes t.0 difference.1)
+  differs is = let t = text_of status.Differs is in of_left left t.1.2 (λ bytes difference. wrong_is_none words bytes t.0 difference.1)
 
   pub first_wrong : result ≡ status.Differs
       → IfSome left (λ bytes. (input : ClearingInput) (other : List ℕ) (number : ℕ) → AreTwoTexts bytes input other → IsFirstWrongLine input RESTARTS_BELOW other number → Appends before after (differs_line number))
   first_wrong is =
       let t = text_of status.Differs is in
-      IfSome_then left t.1.2 (λ bytes difference input other number two wrong. subst (Appends before after) (wrong_is_first words bytes t.0 difference.1 input other number two wrong) t.2)
+      of_left left t.1.2 (λ bytes difference input other number two wrong. subst (Appends before after) (wrong_is_first words bytes t.0 difference.1 input other number two wrong) t.2)
 
   pub no_output : IsCheck words
       → IfSome left (λ bytes. length bytes ≤ MOST_INPUT_BYTES → (input : ClearingInput) (other : List ℕ) → AreTwoTexts bytes input other → (IsOutput input RESTARTS_BELOW other → ⊥) → (result ≡ status.Differs) ⊎ Failed result)
   no_output check = IfSome_then left (ends result words left now before after h.text h.taken (inr check)) (λ bytes. on_no_output result words bytes check)
 
+  -- no command but `check` finds that a text differs
+  pub only_check : result ≡ status.Differs → IsCheck words
+  only_check is = (text_of status.Differs is).1.2.holds.1.0
+
   -- where nothing is wrong, the work is done
   pub complete : IsRun words → IfSome left (λ bytes. length bytes ≤ MOST_INPUT_BYTES → IsValidInput bytes → (Read → ⊥) → (Write → ⊥) → (result ≡ status.Done) ⊎ (result ≡ status.OutOfMemory))
   complete run =
       IfSome_then left (ends result words left now before after h.text h.taken (inl run))
-      (λ bytes end within valid read write. on_run result words bytes h.only run (on_input result words bytes end within (inl (run, valid)) (λ is. read (h.read is).1) (λ is. write (h.write is))))
+      (λ bytes end within valid read write. on_run result words bytes only_check run (on_input result words bytes end within (inl (run, valid)) (λ is. read (h.read is).1) (λ is. write (h.write is))))
 
   pub complete_check : IsCheck words
       → IfSome left (λ bytes. length bytes ≤ MOST_INPUT_BYTES → BeginWithInput bytes → (Read → ⊥) → (Write → ⊥) → (result ≡ status.Done) ⊎ (result ≡ status.Differs) ⊎ (result ≡ status.OutOfMemory))

@@ -27,13 +27,18 @@ use Rattle.twoplsf.specs.Commands.{IsCommand, IsReadingBy}
 use Rattle.twoplsf.specs.Check.{AreTwoTexts, differs_line}
 use Rattle.twoplsf.specs.declared.status.Status.{Status}
 use Rattle.twoplsf.specs.declared.status.Status.TheVariants as status
-use Rattle.twoplsf.specs.Answer.{IsDayFor, IsOutputFor, IsAnswerBy, IsDoneText, IsDifferenceFor, IsRefusalOf, IsRefusalOfFront, IsRefusalFor, HaveInputFor, IsTextFor, TookText, refused_line}
+use Rattle.twoplsf.specs.Answer.{OfBytesRead, IsDayFor, IsOutputFor, IsAnswerBy, IsDoneText, IsDifferenceFor, IsRefusalOf, IsRefusalOfFront, IsRefusalFor, HaveInputFor, IsTextFor, TookText, refused_line}
 
 -- what was read to the end is all that was left
-pub all_read : (left now : Option (List ℕ)) (bytes : List ℕ) (P : List ℕ → Type 0) → Consumes left now bytes → IsAtEnd now → P bytes → IfSome left P
-all_read None now bytes P h end p = tt
-all_read (Some all) None bytes P h end p = absurd h
-all_read (Some all) (Some rest) bytes P h end p = subst P (sym (h ∙ ap (λ xs. bytes ++ xs) end ∙ append-nil bytes)) p
+all_read : (left now : Option (List ℕ)) (bytes : List ℕ) → Consumes left now bytes → IsAtEnd now → IfSome left (λ all. all ≡ bytes)
+all_read None now bytes h end = tt
+all_read (Some all) None bytes h end = absurd h
+all_read (Some all) (Some rest) bytes h end = h ∙ ap (λ xs. bytes ++ xs) end ∙ append-nil bytes
+
+-- what holds of the bytes that were read holds of those that were left
+pub of_left : {P Q : List ℕ → Type 0} (left : Option (List ℕ)) → OfBytesRead left P → ((bytes : List ℕ) → P bytes → Q bytes) → IfSome left Q
+of_left None read h = tt
+of_left {P = P} (Some all) read h = h all (subst P (sym read.told) read.holds)
 
 -- no words are both commands
 pub run_not_check : (words : List (List ℕ)) → IsRun words → IsCheck words → ⊥
@@ -212,13 +217,12 @@ pub record HasAnswered (words : List (List ℕ)) (r : Reading) (left now : Optio
   pub answers : IsAnswerBy r bytes answer
 
 module _ {words : List (List ℕ)} {r : Reading} {left now : Option (List ℕ)} {bytes : List ℕ} {answer : Answer} (h : HasAnswered words r left now bytes answer) where
-  -- what holds of the bytes holds of all that was left
-  of_all : (P : List ℕ → Type 0) → P bytes → IfSome left P
-  of_all P p = all_read left now bytes P h.taken h.end p
+  -- what holds of the bytes holds of those that were read
+  of_read : (P : List ℕ → Type 0) → P bytes → OfBytesRead left P
+  of_read P p = record { bytes = bytes; told = all_read left now bytes h.taken h.end; holds = p }
 
-  -- and so does what a text says of them
-  told : (P : List ℕ → Type 0) → P bytes → IsReading words × IsAtEnd now × IfSome left (λ all. (length all ≤ MOST_INPUT_BYTES) × P all)
-  told P p = (reading_is words r h.is, h.end, of_all (λ all. (length all ≤ MOST_INPUT_BYTES) × P all) (h.few, p))
+  told : (P : List ℕ → Type 0) → P bytes → IsReading words × IsAtEnd now × OfBytesRead left (λ all. (length all ≤ MOST_INPUT_BYTES) × P all)
+  told P p = (reading_is words r h.is, h.end, of_read (λ all. (length all ≤ MOST_INPUT_BYTES) × P all) (h.few, p))
 
 module _ {words : List (List ℕ)} {r : Reading} {left now : Option (List ℕ)} {bytes : List ℕ} {text : Vec ℕ Global} {day : Option DayEnd} (h : HasAnswered words r left now bytes (Output text day)) where
   -- what the sink took is a text of its work
@@ -228,8 +232,8 @@ module _ {words : List (List ℕ)} {r : Reading} {left now : Option (List ℕ)} 
       took_text result status.Done words left now before after text.items R (inl (told h (λ all. IsDoneText words all text.items) (done_text words r bytes text day h.is h.answers))) wrote
 
   -- its day
-  pub output_day : (before after : Option (List ℕ)) → Appends before after text.items → IfSome day (λ d. IfSome left (λ all. IsDayFor words all before after d))
-  output_day before after printed = IfSome_then day (day_of words r bytes text day before after h.is h.answers printed) (λ d is. of_all h (λ all. IsDayFor words all before after d) is)
+  pub output_day : (before after : Option (List ℕ)) → Appends before after text.items → IfSome day (λ d. OfBytesRead left (λ all. IsDayFor words all before after d))
+  output_day before after printed = IfSome_then day (day_of words r bytes text day before after h.is h.answers printed) (λ d is. of_read h (λ all. IsDayFor words all before after d) is)
 
 module _ {words : List (List ℕ)} {r : Reading} {left now : Option (List ℕ)} {bytes : List ℕ} {text : Vec ℕ Global} (h : HasAnswered words r left now bytes (Difference text)) where
   difference : IsDifferenceFor words bytes text.items
@@ -239,10 +243,6 @@ module _ {words : List (List ℕ)} {r : Reading} {left now : Option (List ℕ)} 
   pub difference_taken : (result : Status) (before after : Option (List ℕ)) (R : Type 0)
       → (result ≡ status.Differs × Appends before after text.items) ⊎ (result ≡ status.WriteFault × R × AppendsPrefix before after text.items) → TookText result words left now before after
   difference_taken result before after R wrote = took_text result status.Differs words left now before after text.items R (told h (λ all. IsDifferenceFor words all text.items) difference) wrote
-
-  -- and `check` alone names one
-  pub difference_checks : IsCheck words
-  difference_checks = difference.0
 
 module _ {words : List (List ℕ)} {r : Reading} {left now : Option (List ℕ)} {bytes : List ℕ} {text : Vec ℕ Global} (h : HasAnswered words r left now bytes (Refusal text)) where
   -- what the sink took refuses the bytes

@@ -24,6 +24,12 @@ use Rattle.twoplsf.specs.declared.answer.Answer.TheVariants.{Output, Difference,
 use Rattle.twoplsf.specs.Check.{BeginWithInput, HoldOutput, HoldWrongLine, agrees_line, differs_line}
 use Rattle.twoplsf.specs.Made.{IsMadeText}
 
+-- this holds of the bytes that were read, which are those that were left, where the source tells them
+pub record OfBytesRead (left : Option (List ℕ)) (P : List ℕ → Type 0) : Type 0 where
+  pub bytes : List ℕ
+  pub told : IfSome left (λ all. all ≡ bytes)
+  pub holds : P bytes
+
 -- the words are `run W`, the bytes are the text of an input, and this text is an output of that input with each number of restarts below W
 pub record IsOutputFor (words : List (List ℕ)) (bytes text : List ℕ) : Type 0 where
   pub workers : ℕ
@@ -123,11 +129,11 @@ HaveInputFor words bytes = (IsRun words × IsValidInput bytes) ⊎ (IsCheck word
 -- a text goes with a status, by the words and by what the source had left and has left now
 abbrev pub IsTextFor : Status → List (List ℕ) → Option (List ℕ) → Option (List ℕ) → List ℕ → Type 0
 IsTextFor status.Done words left now text =
-    (IsReading words × IsAtEnd now × IfSome left (λ bytes. (length bytes ≤ MOST_INPUT_BYTES) × IsDoneText words bytes text))
+    (IsReading words × IsAtEnd now × OfBytesRead left (λ bytes. (length bytes ≤ MOST_INPUT_BYTES) × IsDoneText words bytes text))
     ⊎ IsMadeText words text
-IsTextFor status.Differs words left now text = IsReading words × IsAtEnd now × IfSome left (λ bytes. (length bytes ≤ MOST_INPUT_BYTES) × IsDifferenceFor words bytes text)
+IsTextFor status.Differs words left now text = IsReading words × IsAtEnd now × OfBytesRead left (λ bytes. (length bytes ≤ MOST_INPUT_BYTES) × IsDifferenceFor words bytes text)
 IsTextFor status.BadWords words left now text = (¬ IsValidCommand words) × (text ≡ refused_words)
-IsTextFor status.BadInput words left now text = IsReading words × IsAtEnd now × IfSome left (λ bytes. (length bytes ≤ MOST_INPUT_BYTES) × IsRefusalFor words bytes text)
+IsTextFor status.BadInput words left now text = IsReading words × IsAtEnd now × OfBytesRead left (λ bytes. (length bytes ≤ MOST_INPUT_BYTES) × IsRefusalFor words bytes text)
 IsTextFor status.TooLarge words left now text = IsReading words × IfSome (count_taken left now) (λ n. n ≡ MOST_INPUT_BYTES + 1) × (text ≡ refused_size)
 IsTextFor status.ReadFault words left now text = ⊥
 IsTextFor status.WriteFault words left now text = ⊥

@@ -1,6 +1,7 @@
 //! The clearing house: runs the scripts of a text on its clearing books, and prints a journal and the closing books.
 #![tactic(auto)]
 
+pub mod agreement;
 pub mod answer;
 pub mod check;
 pub mod command;
@@ -8,13 +9,13 @@ pub mod day;
 pub mod laws;
 pub mod limits;
 pub mod making;
+pub mod program;
 pub mod serve;
 pub mod status;
 pub mod sums;
 
 use io_ends::{OutOfMemory, StdSink, StdSource};
-use serve::serve;
-use status::ending_of;
+use program::run_program;
 use std::process::ExitCode;
 use std::{env, io};
 use worker_gate::OpenGate;
@@ -35,16 +36,14 @@ fn words_of(rt: &HostRuntime) -> Result<Vec<String>, OutOfMemory> {
 }
 
 fn main(rt: HostRuntime) -> ExitCode {
-    let mut source = StdSource::new(rt.reader());
-    let mut sink = StdSink::new(io::writer(&rt));
-    let ended = match words_of(&rt) {
-        Ok(words) => {
-            let served = serve(&rt, rt.alloc(), &words, &mut source, &mut sink, &OpenGate);
-            Ok(served.status)
-        }
-        Err(error) => Err(error),
-    };
-    ExitCode::from(ending_of(ended))
+    ExitCode::from(run_program(
+        &rt,
+        rt.alloc(),
+        words_of(&rt),
+        &mut StdSource::new(rt.reader()),
+        &mut StdSink::new(io::writer(&rt)),
+        &OpenGate,
+    ))
 }
 
 #[cfg(test)]

@@ -13,12 +13,12 @@ ghost use Rattle.twoplsf.specs.Day.{IsDayOf, closing_books};
 ghost use Rattle.twoplsf.specs.Made.{drill_text, sum_line};
 ghost use Rattle.twoplsf.specs.Making.{LeavesDay, making_text, planned_input};
 
-use crate::answer::{closing_of, output_of};
+use crate::agreement::{Agreement, agree};
+use crate::answer::closing_of;
 use crate::command::{Making, Plan};
 use crate::day::run_day;
 use crate::sums::{cash_of_all, quantity_of_all};
 use books_model::Books;
-use books_report::{Checked, check_text};
 use input_maker::laws::{made_days, made_inputs_are_inputs};
 use input_maker::make_input;
 use io_ends::OutOfMemory;
@@ -60,40 +60,26 @@ fn write_sum(text: &mut String, name: &str, sum: u64) -> Result<(), AllocError>
     write!(text, "{name} {sum}\n")
 }
 
-/// What is said of a drill whose output agrees.
-fn summary_of(alloc: Global, scripts: u64, cash: u64, quantity: u64) -> Result<Vec<u8>, OutOfMemory>
+/// What is said of a drill whose output agrees: how many scripts it ran, and what its closing books come to.
+fn summary_of(
+    alloc: Global,
+    _agreement: Agreement,
+    scripts: u64,
+    closing: &Books,
+) -> Result<Vec<u8>, OutOfMemory>
     ensures { IfOk result (λ text. text.items
-        ≡ sum_line (codes "scripts") scripts ++ sum_line (codes "cash") cash
-        ++ sum_line (codes "quantity") quantity ++ agrees_line) }
+        ≡ sum_line (codes "scripts") scripts ++ sum_line (codes "cash") (all_cash closing.now)
+        ++ sum_line (codes "quantity") (all_quantities closing.now) ++ agrees_line) }
 {
     let mut text = String::new(alloc);
     write_sum(&mut text, "scripts", scripts)?;
-    write_sum(&mut text, "cash", cash)?;
-    write_sum(&mut text, "quantity", quantity)?;
+    write_sum(&mut text, "cash", cash_of_all(closing))?;
+    write_sum(&mut text, "quantity", quantity_of_all(closing))?;
     text.push_str("agrees\n")?;
     Ok(text.into_bytes())
 }
 
-/// Makes the output of a day, and compares it with the input. It agrees.
-fn agree(
-    alloc: Global,
-    input: &Input,
-    workers: u32,
-    day: &DayEnd,
-    closing: &Books,
-) -> Result<(), OutOfMemory>
-    requires workers { IsWithin 1 MOST_WORKERS workers }
-    requires day { IsDayOf input.now workers day.now }
-    requires closing { closing.now ≡ closing_books input.now day.now }
-{
-    let output = output_of(alloc, input, workers, day, closing)?;
-    match check_text(alloc, input, &output)? {
-        Checked::Agrees => Ok(()),
-        Checked::Differs(_) => unreachable!(),
-    }
-}
-
-/// What is said of a day, whose output agrees: how many scripts it ran, and what its closing books come to.
+/// Compares the output of a day with its input, and sums up its closing books.
 fn summary_of_day(
     alloc: Global,
     input: &Input,
@@ -109,14 +95,9 @@ fn summary_of_day(
         ++ agrees_line) }
 {
     let closing = closing_of(alloc, input, workers, day)?;
-    agree(alloc, input, workers, day, &closing)?;
+    let agreement = agree(alloc, input, workers, day, &closing)?;
     let scripts = day.done.len() as u64;
-    summary_of(
-        alloc,
-        scripts,
-        cash_of_all(&closing),
-        quantity_of_all(&closing),
-    )
+    summary_of(alloc, agreement, scripts, &closing)
 }
 
 /// Runs the input of a plan by so many workers, makes its output and checks that, and sums up the closing books.

@@ -16,7 +16,7 @@ ghost use Rattle.twoplsf.specs.Commands.{IsMakingBy, IsReadingBy};
 ghost use Rattle.twoplsf.specs.Check.{AreTwoTexts, BeginWithInput, differs_line};
 ghost use Rattle.twoplsf.specs.Made.{IsDrillDay, PrintsMade};
 ghost use Rattle.twoplsf.specs.Making.{IsMakingDay, RunsScripts, making_text};
-ghost use Rattle.twoplsf.specs.Answer.{HaveInputFor, IsAnswerBy, IsDayFor, PrintsOutput, TookText, refused_line};
+ghost use Rattle.twoplsf.specs.Answer.{HaveInputFor, OfBytesRead, IsAnswerBy, IsDayFor, PrintsOutput, TookText, refused_line};
 
 use crate::answer::{Answer, answer_to};
 use crate::check::check_answer;
@@ -122,7 +122,7 @@ fn serve_words<R: Threads + Wait + Sync, S: Source, K: Sink, G: Gate>(
         → sink.new ≡ sink.old }
 
     ensures day { IsRun (map string_bytes words.now) → IfSome result.day
-        (λ day. IfSome (S.left source.old) (λ bytes. IsDayFor (map string_bytes words.now) bytes
+        (λ day. OfBytesRead (S.left source.old) (λ bytes. IsDayFor (map string_bytes words.now) bytes
         (K.taken sink.old) (K.taken sink.new) day)) }
     ensures drill_day { IsDrill (map string_bytes words.now)
         → IfSome result.day (IsDrillDay (map string_bytes words.now)) }
@@ -142,7 +142,6 @@ fn serve_words<R: Threads + Wait + Sync, S: Source, K: Sink, G: Gate>(
         ≡ Some (MOST_INPUT_BYTES + 1)
         → (result.status ≡ Status.TooLarge) ⊎ (result.status ≡ Status.WriteFault)
         ⊎ (result.status ≡ Status.OutOfMemory) }
-    ensures only_check { result.status ≡ Status.Differs → IsCheck (map string_bytes words.now) }
     ensures read_fault { result.status ≡ Status.ReadFault
         → IsReading (map string_bytes words.now) × Rose (S.faults source.old) (S.faults source.new) }
     ensures write_fault { result.status ≡ Status.WriteFault
@@ -208,15 +207,16 @@ pub fn serve<R: Threads + Wait + Sync, S: Source, K: Sink, G: Gate>(
 ) -> Served
     // The serial journal theorem: what is printed is one serial history with every script once and each caller's in
     // order; the sequential interpreter, run down it from the opening books, gives every reply and the closing books;
-    // and no script was restarted as often as there are workers. It follows from `text`.
+    // and no script was restarted as often as there are workers. The bytes are those that the source had left, where it
+    // tells them; where the sink does not tell what it took, `Appends` says nothing of it. It follows from `text`.
     ensures headline { IsRun (map string_bytes words.now) → result.status ≡ Status.Done
-        → IfSome (S.left source.old) (λ bytes. PrintsOutput (map string_bytes words.now) bytes
+        → OfBytesRead (S.left source.old) (λ bytes. PrintsOutput (map string_bytes words.now) bytes
         (K.taken sink.old) (K.taken sink.new)) }
 
     // The day is there exactly where scripts were run and their output was printed, or their sums after a drill: then it
     // is a day of the input by as many workers as the words say, and the text of `run` is the output for its items.
     ensures day { IsRun (map string_bytes words.now) → IfSome result.day
-        (λ day. IfSome (S.left source.old) (λ bytes. IsDayFor (map string_bytes words.now) bytes
+        (λ day. OfBytesRead (S.left source.old) (λ bytes. IsDayFor (map string_bytes words.now) bytes
         (K.taken sink.old) (K.taken sink.new) day)) }
     ensures drill_day { IsDrill (map string_bytes words.now)
         → IfSome result.day (IsDrillDay (map string_bytes words.now)) }

@@ -2,7 +2,7 @@ use Rattle.std.proofs.Common.{map, inl}
 use Rattle.std.specs.String.{string_bytes}
 use Rattle.io_ends.specs.Counts.{Rose}
 use Rattle.twoplsf.proofs.Served.{read_not_made}
-use Rattle.twoplsf.proofs.FromText.{HasEnded, headline, made, bad_words, too_large, too_many, first_fault, first_fault_in_front, bad_input, no_input, differs, first_wrong, no_output, complete, complete_check, complete_making}
+use Rattle.twoplsf.proofs.FromText.{HasEnded, headline, made, bad_words, too_large, too_many, first_fault, first_fault_in_front, bad_input, no_input, differs, first_wrong, no_output, complete, complete_check, complete_making, only_check}
 use Rattle.twoplsf.proofs.serve.serve.Given.{Over}
 use Rattle.twoplsf.proofs.serve.serve.Goals as goal
 
@@ -12,7 +12,6 @@ ended : (g : Over) (c : goal.After-serve_words g)
 ended g c = record {
   text = c.serve_words.ensures.text;
   taken = c.serve_words.ensures.taken;
-  only = c.serve_words.ensures.only_check;
   read = c.serve_words.ensures.read_fault;
   write = c.serve_words.ensures.write_fault;
 }
@@ -38,7 +37,7 @@ returns g c = record {
   first_fault_in_front = first_fault_in_front (ended g c);
   bad_input = bad_input (ended g c);
   no_input = no_input (ended g c);
-  only_check = c.serve_words.ensures.only_check;
+  only_check = only_check (ended g c);
   differs = differs (ended g c);
   first_wrong = first_wrong (ended g c);
   no_output = no_output (ended g c);

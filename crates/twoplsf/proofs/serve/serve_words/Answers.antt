@@ -7,7 +7,7 @@ use Rattle.twoplsf.specs.declared.answer.Answer.TheVariants.{Output, Difference,
 use Rattle.twoplsf.specs.declared.limits.TheConstants.{MOST_INPUT_BYTES}
 use Rattle.twoplsf.specs.declared.status.Status.TheVariants as status
 use Rattle.twoplsf.specs.Answer.{refused_words, refused_size}
-use Rattle.twoplsf.proofs.Served.{day_kept, day_there, has_day, read_by, read_is, not_made, written, took_text, HasAnswered, output_taken, output_day, difference_taken, difference_checks, refusal_taken}
+use Rattle.twoplsf.proofs.Served.{day_kept, day_there, has_day, read_by, read_is, not_made, written, took_text, HasAnswered, output_taken, output_day, difference_taken, refusal_taken}
 use Rattle.twoplsf.proofs.Makings.{made_by, made_is, not_read, runs_of, day_of_making, took_making, none_of_making, no_other_end}
 use Rattle.twoplsf.proofs.serve.serve_words.Given.{Over}
 use Rattle.twoplsf.proofs.serve.serve_words.Goals as goal
@@ -106,14 +106,8 @@ returns-in-Make-clause-has_day g c =
 pub returns-in-Make-clause-unwritten : goal.returns-in-Make-clause-unwritten
 returns-in-Make-clause-unwritten g c = none_of_making c.serve_making.result.status _ _ _ _ c.serve_making.ensures.text
 
-pub returns-in-Make-clause-only_check : goal.returns-in-Make-clause-only_check
-returns-in-Make-clause-only_check g c is = absurd (no_other_end c.serve_making.result.status _ _ _ _ c.serve_making.ensures.text status.Differs (λ e. cc) (λ e. cc) (λ e. cc) is)
-
 pub returns-in-Make-clause-read_fault : goal.returns-in-Make-clause-read_fault
 returns-in-Make-clause-read_fault g c is = absurd (no_other_end c.serve_making.result.status _ _ _ _ c.serve_making.ensures.text status.ReadFault (λ e. cc) (λ e. cc) (λ e. cc) is)
-
-pub returns-in-Ok-Difference-clause-only_check : goal.returns-in-Ok-Difference-clause-only_check
-returns-in-Ok-Difference-clause-only_check g c is = difference_checks (difference g c)
 
 pub returns-in-Err-Fault-clause-read_fault : goal.returns-in-Err-Fault-clause-read_fault
 returns-in-Err-Fault-clause-read_fault g c is = (read_is (map string_bytes c.args.words.now) c.in-Read.is c.in-Some.ensures.some, search rules)

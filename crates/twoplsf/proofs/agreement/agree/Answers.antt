@@ -5,7 +5,7 @@ use Rattle.books_report.specs.declared.check.Checked.TheVariants.{Agrees}
 use Rattle.books_report.specs.declared.limits.TheConstants.{RESTARTS_BELOW}
 use Rattle.twoplsf.proofs.Days.{day_output}
 use Rattle.twoplsf.proofs.Drills.{output_below}
-use Rattle.twoplsf.proofs.making.agree.Goals as goal
+use Rattle.twoplsf.proofs.agreement.agree.Goals as goal
 
 pub unreachable-requires : goal.unreachable-requires
 unreachable-requires c =
