@@ -13,6 +13,7 @@ pub mod program;
 pub mod serve;
 pub mod status;
 pub mod sums;
+pub mod surely;
 
 use io_ends::{OutOfMemory, StdSink, StdSource};
 use program::run_program;
@@ -46,6 +47,10 @@ fn main(rt: HostRuntime) -> ExitCode {
     ))
 }
 
+#[cfg(test)]
+mod hostile_tests;
+#[cfg(test)]
+mod refused_tests;
 #[cfg(test)]
 mod tests;
 #[cfg(test)]

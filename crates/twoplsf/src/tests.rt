@@ -11,13 +11,14 @@ use std::thread::Threads;
 use worker_gate::OpenGate;
 
 /// An input with the sizes 4, 1 and 1.
-const HEADER: &str = "books 1 blocks 4 instruments 1 ring 1\n";
+pub(crate) const HEADER: &str = "books 1 blocks 4 instruments 1 ring 1\n";
 
 /// What deposits and shows account 7.
-const FIRST: &str = "account 7 100\nscripts\nscript ann\ndeposit 7 5\nshow 7\nend\nfinish\n";
+pub(crate) const FIRST: &str =
+    "account 7 100\nscripts\nscript ann\ndeposit 7 5\nshow 7\nend\nfinish\n";
 
 /// Its output, but for the header.
-const FIRST_OUTPUT: (&str, &str) = (
+pub(crate) const FIRST_OUTPUT: (&str, &str) = (
     "journal\n1 ann 1 0 done ok 105\n",
     "account 7 105\nfinish\n",
 );
@@ -28,28 +29,28 @@ const TRADES: &str =
 
 /// What a run came to, and what its sink took.
 #[derive(Drop)]
-struct Outcome {
-    status: Status,
-    taken: Vec<u8>,
+pub(crate) struct Outcome {
+    pub(crate) status: Status,
+    pub(crate) taken: Vec<u8>,
 }
 
 impl Outcome {
     // That a run ended so, and its sink took these bytes.
-    fn is_so(&self, status: Status, taken: &[u8]) -> bool {
+    pub(crate) fn is_so(&self, status: Status, taken: &[u8]) -> bool {
         self.status == status && self.taken.as_slice() == taken
     }
 }
 
 /// How the ends behave: the most bytes that a call moves, and the call of each that fails (0: none).
 #[derive(Clone, Copy)]
-struct Ends {
-    most: usize,
-    read_fails: u64,
-    write_fails: u64,
+pub(crate) struct Ends {
+    pub(crate) most: usize,
+    pub(crate) read_fails: u64,
+    pub(crate) write_fails: u64,
 }
 
 /// Ends that move much and never fail.
-const GOOD: Ends = Ends {
+pub(crate) const GOOD: Ends = Ends {
     most: 1_000_000,
     read_fails: 0,
     write_fails: 0,
@@ -63,7 +64,7 @@ pub fn words(alloc: Global, line: &str) -> Result<Vec<String>, OutOfMemory> {
     Ok(words)
 }
 
-fn served<R: Threads + Wait + Sync>(
+pub(crate) fn served<R: Threads + Wait + Sync>(
     rt: &R,
     alloc: Global,
     line: &str,
@@ -382,8 +383,6 @@ fn faulty_lines_are_refused(rt: HostRuntime) -> Result<(), Fail> {
             "account 1 1\nbooks 1 blocks 4 instruments 1 ring 1\n",
             "refused line 3 word\n",
         ),
-        ("account 1  5\n", "refused line 2 word\n"),
-        ("finish\r\n", "refused line 2 word\n"),
         ("scripts\naccount 1 1\n", "refused line 3 word\n"),
         ("scripts\nscript ann\ntry\nend\n", "refused line 4 word\n"),
         (
@@ -396,12 +395,10 @@ fn faulty_lines_are_refused(rt: HostRuntime) -> Result<(), Fail> {
         ("account 2 1\naccount 2 1\n", "refused line 3 order\n"),
         // numbers and their ranges
         ("account 1 1\naccount 2 01\n", "refused line 3 number\n"),
-        ("account 1 -5\n", "refused line 2 number\n"),
         (
             "account 1 1\naccount 2 1000000000000001\n",
             "refused line 3 limit\n",
         ),
-        ("account 0 5\n", "refused line 2 limit\n"),
         ("account 0 x\n", "refused line 2 number\n"),
         ("call 1 1\ncall 2 1\n", "refused line 3 limit\n"),
         // positions
@@ -462,7 +459,7 @@ fn faults_in_whole_texts_are_refused(rt: HostRuntime) -> Result<(), Fail> {
 }
 
 #[test]
-fn each_front_of_a_text_ends_too_soon(rt: HostRuntime) -> Result<(), Fail> {
+fn each_proper_prefix_lacks_its_end(rt: HostRuntime) -> Result<(), Fail> {
     let alloc = rt.alloc();
     let whole = text(alloc, &[HEADER, TRADES])?;
     for end in 0..whole.len() {
@@ -493,10 +490,14 @@ fn long_input(
 }
 
 #[test]
-fn long_numbers_and_long_scripts_are_refused(rt: HostRuntime) -> Result<(), Fail> {
+fn hostile_lines_are_refused(rt: HostRuntime) -> Result<(), Fail> {
     let alloc = rt.alloc();
     for (front, part, times, back, output) in &[
         ("account 1 ", "9", 1_000, "\n", "refused line 2 limit\n"),
+        ("account 1", " ", 2, "5\n", "refused line 2 word\n"),
+        ("account 1 ", "-", 1, "5\n", "refused line 2 number\n"),
+        ("account ", "0", 1, " 5\n", "refused line 2 limit\n"),
+        ("finish", "\r", 1, "\n", "refused line 2 word\n"),
         (
             "scripts\nscript ann\n",
             "next\n",

@@ -13,7 +13,12 @@ use std::thread::Threads;
 use worker_gate::{Gate, OpenGate, Point, Stage};
 
 /// Two accounts without cash.
-const TWO_ACCOUNTS: &str = "books 1 blocks 2 instruments 1 ring 1\naccount 1 0\naccount 2 0\n";
+pub(crate) const TWO_ACCOUNTS: &str =
+    "books 1 blocks 2 instruments 1 ring 1\naccount 1 0\naccount 2 0\n";
+
+/// Two callers who want both accounts, in opposite order.
+pub(crate) const CROSSING: &str =
+    "scripts\nscript ann\ndeposit 1 5\ndeposit 2 5\nend\nscript bob\ndeposit 2 5\ndeposit 1 5\nend\nfinish\n";
 
 /// How often a gate looks before it gives up.
 const LOOKS: u32 = 100_000_000;
@@ -49,10 +54,20 @@ impl Gate for SecondFirst {
 
 /// Holds each of two callers' scripts at its first lock to write until the other has one too.
 #[derive(Drop)]
-struct BothWrite {
+pub(crate) struct BothWrite {
     first: AtomicCell<bool>,
     second: AtomicCell<bool>,
     gave_up: AtomicCell<bool>,
+}
+
+impl BothWrite {
+    pub(crate) fn new() -> BothWrite {
+        BothWrite {
+            first: AtomicCell::new(false),
+            second: AtomicCell::new(false),
+            gave_up: AtomicCell::new(false),
+        }
+    }
 }
 
 impl Gate for BothWrite {
@@ -121,15 +136,8 @@ fn two_workers_run_at_once(rt: HostRuntime) -> Result<(), Fail> {
 // Each holds an account that the other wants next: one of them gives way, once, and its script comes second.
 #[test]
 fn of_two_that_cross_one_gives_way(rt: HostRuntime) -> Result<(), Fail> {
-    let gate = BothWrite {
-        first: AtomicCell::new(false),
-        second: AtomicCell::new(false),
-        gave_up: AtomicCell::new(false),
-    };
-    let input = &[
-        TWO_ACCOUNTS,
-        "scripts\nscript ann\ndeposit 1 5\ndeposit 2 5\nend\nscript bob\ndeposit 2 5\ndeposit 1 5\nend\nfinish\n",
-    ];
+    let gate = BothWrite::new();
+    let input = &[TWO_ACCOUNTS, CROSSING];
     let taken = printed(&rt, rt.alloc(), "run 2", input, &gate)?;
     let closing = "books 1 blocks 2 instruments 1 ring 1\naccount 1 10\naccount 2 10\nfinish\n";
     let first = &[

@@ -1,0 +1,78 @@
+//! Each read and each write that fails, in turn, and ends that cannot fail.
+
+use crate::status::Status;
+use crate::surely::serve_surely;
+use crate::tests::{Ends, FIRST, FIRST_OUTPUT, HEADER, served, text, words};
+use io_ends::OutOfMemory;
+use std::alloc::Global;
+use std::sync::Wait;
+use std::test::Fail;
+use std::thread::Threads;
+use worker_gate::OpenGate;
+
+#[test]
+fn source_fails_at_each_read(rt: HostRuntime) -> Result<(), Fail> {
+    let alloc = rt.alloc();
+    for call in 1..=40 {
+        let ends = Ends {
+            most: 1,
+            read_fails: call,
+            write_fails: 0,
+        };
+        let run = served(&rt, alloc, "run 1", text(alloc, &[HEADER, FIRST])?, ends)?;
+        assert!(rt; run.is_so(Status::ReadFault, b""), "read {call}");
+    }
+    Ok(())
+}
+
+// What the sink has taken is the output up to the byte that was refused.
+#[test]
+fn sink_fails_at_each_write(rt: HostRuntime) -> Result<(), Fail> {
+    let alloc = rt.alloc();
+    let output = b"journal\n1 ann 1 0 done ok 105\nbooks 1 blocks 4".as_slice();
+    for call in 1..=40u8 {
+        let ends = Ends {
+            most: 1,
+            read_fails: 0,
+            write_fails: u64::from(call),
+        };
+        let run = served(&rt, alloc, "run 1", text(alloc, &[HEADER, FIRST])?, ends)?;
+        let taken = &output[..usize::from(call).saturating_sub(1)];
+        assert!(rt; run.is_so(Status::WriteFault, taken), "write {call}");
+    }
+    Ok(())
+}
+
+// What a command came to over bytes, which come in parts, and whether it tells of a day.
+fn surely<R: Threads + Wait + Sync>(
+    rt: &R,
+    alloc: Global,
+    command: &str,
+    bytes: &[&str],
+) -> Result<(Status, bool), OutOfMemory> {
+    let words = words(alloc, command)?;
+    let served = serve_surely(rt, alloc, &words, text(alloc, bytes)?, &OpenGate);
+    Ok((served.status, served.day.is_some()))
+}
+
+#[test]
+fn sure_ends_never_fault(rt: HostRuntime) -> Result<(), Fail> {
+    let first = [HEADER, FIRST, "", "", ""];
+    let checked = [HEADER, FIRST, FIRST_OUTPUT.0, HEADER, FIRST_OUTPUT.1];
+    let wrong = [HEADER, FIRST, FIRST_OUTPUT.0, HEADER, "finish\n"];
+    for (command, bytes, status, tells) in &[
+        ("run 1", &first, Status::Done, true),
+        ("run 2", &first, Status::Done, true),
+        ("run 1", &["", "", "", "", ""], Status::BadInput, false),
+        ("run 0", &first, Status::BadWords, false),
+        ("check", &checked, Status::Done, false),
+        ("check", &wrong, Status::Differs, false),
+        ("check", &["", "", "", "", ""], Status::BadInput, false),
+        ("make 0 1 1", &first, Status::Done, false),
+        ("drill 1 0 1 1", &first, Status::Done, true),
+    ] {
+        let came = surely(&rt, rt.alloc(), *command, *bytes)?;
+        assert_eq!(rt; came, (*status, *tells), "{command}");
+    }
+    Ok(())
+}

@@ -1,0 +1,73 @@
+//! The top call over a source and a sink that cannot fail: then no answer is a fault, and what words and bytes call for is
+//! what comes, or out of memory.
+
+ghost use Rattle.std.specs.Prelude.{◌≡◌, ◌≢◌, ◌≤◌, ◌<◌, ◌⊎◌, ◌↔◌, List, ℕ, None, length, map, IfSome, IsSome};
+ghost use Rattle.std.specs.String.{string_bytes};
+ghost use Rattle.script_reader.specs.Grammar.{IsValidInput};
+ghost use Rattle.script_reader.specs.Input.{ClearingInput};
+ghost use Rattle.books_report.specs.Output.{IsOutput};
+ghost use Rattle.twoplsf.specs.Command.{IsRun, IsCheck, IsDrill, IsMaking, IsReading, IsValidCommand};
+ghost use Rattle.twoplsf.specs.Check.{AreTwoTexts, BeginWithInput};
+ghost use Rattle.twoplsf.specs.Made.{IsDrillDay};
+ghost use Rattle.twoplsf.specs.Answer.{HaveInputFor, IsDayFor};
+
+use crate::limits::MOST_INPUT_BYTES;
+use crate::serve::{Served, serve};
+use crate::status::Status;
+use books_report::limits::RESTARTS_BELOW;
+use io_ends::{SureSink, SureSource};
+use std::alloc::Global;
+use std::sync::Wait;
+use std::thread::Threads;
+use worker_gate::Gate;
+
+/// Serves a command whose source gives exactly these bytes, and whose sink takes all that it is given. Neither can fail.
+pub fn serve_surely<R: Threads + Wait + Sync, G: Gate>(
+    rt: &R,
+    alloc: Global,
+    words: &[String],
+    bytes: Vec<u8>,
+    gate: &G,
+) -> Served
+    ensures no_read_fault { result.status ≢ Status.ReadFault }
+    ensures no_write_fault { result.status ≢ Status.WriteFault }
+
+    // Valid words, and a valid input within the size: done, or out of memory.
+    ensures run { IsRun (map string_bytes words.now) → length bytes.items ≤ MOST_INPUT_BYTES
+        → IsValidInput bytes.items
+        → (result.status ≡ Status.Done) ⊎ (result.status ≡ Status.OutOfMemory) }
+    ensures check { IsCheck (map string_bytes words.now) → length bytes.items ≤ MOST_INPUT_BYTES
+        → BeginWithInput bytes.items
+        → (result.status ≡ Status.Done) ⊎ (result.status ≡ Status.Differs)
+        ⊎ (result.status ≡ Status.OutOfMemory) }
+    ensures making { IsMaking (map string_bytes words.now)
+        → (result.status ≡ Status.Done) ⊎ (result.status ≡ Status.OutOfMemory) }
+
+    // Each refusal, where it is called for: it comes, or out of memory.
+    ensures bad_words { (¬ IsValidCommand (map string_bytes words.now))
+        → result.status ≡ Status.BadWords }
+    ensures too_large { IsReading (map string_bytes words.now)
+        → MOST_INPUT_BYTES < length bytes.items
+        → (result.status ≡ Status.TooLarge) ⊎ (result.status ≡ Status.OutOfMemory) }
+    ensures bad_input { IsReading (map string_bytes words.now)
+        → length bytes.items ≤ MOST_INPUT_BYTES
+        → (¬ HaveInputFor (map string_bytes words.now) bytes.items)
+        → (result.status ≡ Status.BadInput) ⊎ (result.status ≡ Status.OutOfMemory) }
+    ensures differs { IsCheck (map string_bytes words.now)
+        → length bytes.items ≤ MOST_INPUT_BYTES → (input : ClearingInput) (text : List ℕ)
+        → AreTwoTexts bytes.items input text → (¬ IsOutput input RESTARTS_BELOW text)
+        → (result.status ≡ Status.Differs) ⊎ (result.status ≡ Status.OutOfMemory) }
+
+    // What the workers did is told as ever, of exactly these bytes.
+    ensures day { IsRun (map string_bytes words.now)
+        → IfSome result.day (IsDayFor (map string_bytes words.now) bytes.items None None) }
+    ensures drill_day { IsDrill (map string_bytes words.now)
+        → IfSome result.day (IsDrillDay (map string_bytes words.now)) }
+    ensures has_day { IsSome result.day
+        ↔ ((IsRun (map string_bytes words.now) ⊎ IsDrill (map string_bytes words.now))
+        × (result.status ≡ Status.Done)) }
+{
+    let mut source = SureSource::new(bytes);
+    let mut sink = SureSink::new();
+    serve(rt, alloc, words, &mut source, &mut sink, gate)
+}
