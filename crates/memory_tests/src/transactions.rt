@@ -1,11 +1,12 @@
-//! The worked rows of transactions by one thread: two words of one lock, a note between two calls, and a job that finds no
-//! memory.
+//! The worked rows of transactions by one thread: two words of one lock, a note between two calls, a job that finds no
+//! memory, and one that writes more words than the undo log has room for at first.
 
-ghost use Rattle.std.specs.Prelude.{◌≡◌, ◌<◌, [], ◌∷◌, IfOk, OnOk, OnErr};
+ghost use Rattle.std.specs.Prelude.{◌≡◌, ◌<◌, [], ◌∷◌, None, IfOk, OnOk, OnErr};
 ghost use Rattle.history_model.specs.declared.view.Phase.TheVariants.{Idle};
 ghost use Rattle.locks_rule.specs.Splits.{opening_view};
+ghost use Rattle.txn_words.specs.Steps.{stop_after};
 
-use history_model::Shape;
+use history_model::{Phase, Shape};
 use io_ends::OutOfMemory;
 use std::alloc::Global;
 use std::sync::Wait;
@@ -27,11 +28,27 @@ impl Shape for Wide {
     ghost good = { λ _ _. ⊤ };
 }
 
-// What a job does to two words that share a lock.
+// What a job does: to two words that share a lock, or to the first 1,025 words.
 enum Step {
     Write,
     Read,
     WriteAndFail,
+    WriteMany,
+}
+
+// Writes 1 into each of the first 1,025 words.
+fn write_many<W: Words<Shape = Wide>>(w: &mut W) -> Result<(), Stop>
+    requires going { W.stop w.old ≡ None }
+    requires sound { W.is_sound w.old }
+    ensures stops { W.stop w.new ≡ stop_after result }
+    ensures shape { W.shape w.new ≡ W.shape w.old }
+    ensures origin { W.origin w.new ≡ W.origin w.old }
+    ensures sound { W.is_sound w.new }
+{
+    for a in 0..1_025 {
+        w.write(a, 1)?;
+    }
+    Ok(())
 }
 
 impl Job for Step {
@@ -60,6 +77,10 @@ impl Job for Step {
             Step::WriteAndFail => {
                 w.write(5, 7)?;
                 Err(Stop::Memory)
+            }
+            Step::WriteMany => {
+                write_many(w)?;
+                Ok(Verdict::Keep(0))
             }
         }
     }
@@ -150,16 +171,55 @@ fn a_pass_that_was_told_of_a_call_reads_what_it_wrote(rt: HostRuntime) -> Result
 }
 
 #[test]
-fn a_call_that_finds_no_memory_leaves_no_entry_and_no_write(rt: HostRuntime) -> Result<(), Fail> {
+fn job_out_of_memory_leaves_an_idle_pass(rt: HostRuntime) -> Result<(), Fail> {
     let (desk, mut zero, one) = open_wide(rt.alloc())?;
     let failed = call(&rt, rt.alloc(), &desk, &mut zero, &Step::WriteAndFail).is_err();
+    let idle = zero.phase() == Phase::Idle;
     let read = call(&rt, rt.alloc(), &desk, &mut zero, &Step::Read)?;
     let words = close_two(rt.alloc(), desk, zero, one)?;
-    assert!(rt; failed);
+    assert!(rt; failed && idle);
     assert_eq!(rt;
         (read.serial, read.call, read.restarts, read.answer),
         (1, 2, 0, 0)
     );
     assert!(rt; words.iter().all(|word| *word == 0));
     Ok(())
+}
+
+#[test]
+fn undo_log_grows_past_its_reserve(rt: HostRuntime) -> Result<(), Fail> {
+    let (desk, mut zero, one) = open_wide(rt.alloc())?;
+    let receipt = call(&rt, rt.alloc(), &desk, &mut zero, &Step::WriteMany)?;
+    let words = close_two(rt.alloc(), desk, zero, one)?;
+    assert_eq!(rt; (receipt.serial, receipt.call, receipt.restarts), (1, 1, 0));
+    for (a, word) in words.iter().enumerate() {
+        assert_eq!(rt; *word, if a < 1_025 { 1 } else { 0 }, "word {a}");
+    }
+    Ok(())
+}
+
+// Two words of one lock are written in one call, and the table is closed: whether all of it is as it must be. Where the
+// call finds no memory, it has no entry and left no word.
+fn is_written_or_not(rt: &impl Wait, alloc: Global) -> Result<bool, OutOfMemory> {
+    let (desk, mut zero, one) = open_wide(alloc)?;
+    let ended = call(rt, alloc, &desk, &mut zero, &Step::Write);
+    let idle = zero.phase() == Phase::Idle;
+    let words = close_two(alloc, desk, zero, one)?;
+    let written = words.iter().filter(|word| **word != 0).count();
+    Ok(
+        idle && match ended {
+            Ok(receipt) => {
+                (receipt.serial, receipt.call, receipt.restarts) == (1, 1, 0)
+                    && (words.get(5), words.get(1029), written) == (Some(&5), Some(&6), 2)
+            }
+            Err(OutOfMemory) => written == 0,
+        },
+    )
+}
+
+// It is run with each allocation refused in turn, too.
+#[test]
+fn two_words_are_written_or_no_memory_is_found(rt: HostRuntime) {
+    let ended = is_written_or_not(&rt, rt.alloc());
+    assert!(rt; matches!(ended, Ok(true) | Err(OutOfMemory)));
 }

@@ -1,0 +1,7 @@
+use Rattle.std.proofs.Common.{◌∙◌}
+use Rattle.history_model.proofs.TraceLaws.{length-after}
+use Rattle.memory_tests.proofs.bound.commit_again.Goals as goal
+
+-- any three words are good, and a trace keeps their number
+pub commit-requires-clause-leaves_good : goal.commit-requires-clause-leaves_good
+commit-requires-clause-leaves_good c kept words h legal = record { count = length-after c.gone.new.pass.view.trace words ∙ h.count; good = tt }

@@ -1,0 +1,11 @@
+use Rattle.std.proofs.Common.{◌≡◌, None}
+use Rattle.memory_tests.proofs.transactions.write_many.Given as goal
+
+-- another write may be made
+abbrev pub invariant-loop-a : goal.invariant-loop-a
+invariant-loop-a g l = record {
+  going : g.W.Words.stop l.w ≡ None;
+  sound : g.W.Words.is_sound l.w;
+  shape : g.W.Words.shape l.w ≡ g.W.Words.shape l.initial.w;
+  origin : g.W.Words.origin l.w ≡ g.W.Words.origin l.initial.w;
+}
