@@ -1,0 +1,10 @@
+pub mod Stuck
+pub mod Marks
+pub mod Legal
+pub mod Waits
+pub mod Come
+pub mod Codes
+pub mod Rows
+pub mod Makes
+pub mod Loops
+pub mod Begin

@@ -1,0 +1,11 @@
+use Rattle.std.proofs.Common.{◌/◌, slice_index}
+use Rattle.order_rebuild.specs.declared.turn.TheConstants.{LINE}
+use Rattle.order_rebuild.specs.Lines.{AreStarts}
+use Rattle.order_rebuild.proofs.Makes.{IsRun}
+use Rattle.order_rebuild.proofs.lines.bases_of.Given as goal
+
+abbrev pub invariant-loop-i : goal.invariant-loop-i
+invariant-loop-i l = record {
+  starts : AreStarts (λ i. slice_index l.codes i / LINE) l.i l.base.items;
+  run : IsRun (λ i. slice_index l.codes i / LINE) l.i l.start;
+}

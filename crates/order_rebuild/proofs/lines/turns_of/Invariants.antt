@@ -1,0 +1,6 @@
+use Rattle.std.proofs.Common.{map}
+use Rattle.order_rebuild.specs.Turns.{AreTurns}
+use Rattle.order_rebuild.proofs.lines.turns_of.Given as goal
+
+abbrev pub invariant-loop-p : goal.invariant-loop-p
+invariant-loop-p g l = AreTurns (map g.P.Placed.spot l.done) l.p l.turns.items

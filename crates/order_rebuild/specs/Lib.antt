@@ -1,0 +1,5 @@
+pub mod Order
+pub mod Legal
+pub mod Turns
+pub mod Lines
+pub mod Going
