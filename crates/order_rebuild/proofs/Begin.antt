@@ -7,7 +7,7 @@ use Rattle.std.proofs.lemmas.Option.{slice_get-get_or}
 use Rattle.order_rebuild.specs.declared.lines.Lines.{Lines}
 use Rattle.order_rebuild.specs.Lines.{places, items, item_at, last_of, AreRows}
 use Rattle.order_rebuild.specs.Going.{AreGone, AreStopped, AreWaits, AreClosed, Comer, comer_cmp, AreReady, KeepsReady}
-use Rattle.order_rebuild.specs.declared.placed.Spot.{Spot}
+use Rattle.history_model.specs.declared.placed.Spot.{Spot}
 use Rattle.order_rebuild.specs.Order.{IsNext}
 use Rattle.order_rebuild.proofs.Come.{IsState}
 

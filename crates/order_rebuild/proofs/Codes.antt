@@ -8,7 +8,7 @@ use Rattle.history_model.specs.declared.item.LockUse.{LockUse}
 use Rattle.history_model.specs.Items.{UsedBefore}
 use Rattle.history_model.specs.Sets.{flag}
 use Rattle.order_rebuild.specs.declared.turn.TheConstants.{LINE}
-use Rattle.order_rebuild.specs.declared.placed.Spot.{Spot}
+use Rattle.history_model.specs.declared.placed.Spot.{Spot}
 use Rattle.order_rebuild.specs.Order.{Precedes, Orderable}
 use Rattle.order_rebuild.specs.Turns.{key_of, IsRising, HasAbove, IsLockCode, caller_code, IsTurnOf}
 

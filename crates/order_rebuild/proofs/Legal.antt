@@ -8,7 +8,7 @@ use Rattle.history_model.specs.Items.{UsedBefore, KeepsUses}
 use Rattle.history_model.specs.Arrangements.{IsArrangement, WasSeenBefore}
 use Rattle.std.proofs.lemmas.Option.{slice_get_within, slice_get-get_or}
 use Rattle.history_model.proofs.ListPlaces.{below_get}
-use Rattle.order_rebuild.specs.declared.placed.Spot.{Spot}
+use Rattle.history_model.specs.declared.placed.Spot.{Spot}
 use Rattle.order_rebuild.specs.Order.{IsOrder, Orderable}
 use Rattle.order_rebuild.specs.Legal.{SameUses, AreEntries, entries_at}
 use Rattle.order_rebuild.proofs.Stuck.{order_once, order_keeps}

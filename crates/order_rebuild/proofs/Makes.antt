@@ -8,7 +8,7 @@ use Rattle.std.proofs.lemmas.Option.{slice_get_within, slice_get-get_or, get_or_
 use Rattle.history_model.specs.declared.item.LockUse.{LockUse}
 use Rattle.history_model.proofs.HistoryLaws.{get_first, get_last, get_cases}
 use Rattle.order_rebuild.specs.declared.turn.TheConstants.{LINE}
-use Rattle.order_rebuild.specs.declared.placed.Spot.{Spot}
+use Rattle.history_model.specs.declared.placed.Spot.{Spot}
 use Rattle.order_rebuild.specs.declared.turn.Turn.{Turn}
 use Rattle.order_rebuild.specs.Turns.{IsLockCode, caller_code, IsTurnOf, HasTurn, AreTurns, GainTurns}
 use Rattle.order_rebuild.specs.Lines.{AreStarts, AreChains}

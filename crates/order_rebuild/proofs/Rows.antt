@@ -8,7 +8,7 @@ use Rattle.history_model.specs.declared.item.LockUse.{LockUse}
 use Rattle.history_model.proofs.ListPlaces.{below_get}
 use Rattle.order_rebuild.specs.declared.turn.TheConstants.{LINE}
 use Rattle.order_rebuild.specs.declared.lines.Lines.{Lines}
-use Rattle.order_rebuild.specs.declared.placed.Spot.{Spot}
+use Rattle.history_model.specs.declared.placed.Spot.{Spot}
 use Rattle.order_rebuild.specs.declared.turn.Turn.{Turn}
 use Rattle.order_rebuild.specs.Order.{Precedes, Orderable}
 use Rattle.order_rebuild.specs.Turns.{caller_code, IsTurnOf, HasTurn, AreTurns}

@@ -6,7 +6,7 @@ use Rattle.history_model.specs.Legal.{IsIn}
 use Rattle.std.proofs.lemmas.List.{take_all}
 use Rattle.std.proofs.lemmas.Option.{slice_get_within}
 use Rattle.history_model.proofs.ListPlaces.{get-front, front-get, below_get, take-more}
-use Rattle.order_rebuild.specs.declared.placed.Spot.{Spot}
+use Rattle.history_model.specs.declared.placed.Spot.{Spot}
 use Rattle.order_rebuild.specs.Order.{Precedes, MayCome, IsNext, IsOrder, Orderable}
 
 -- whether a number is in a list

@@ -5,7 +5,7 @@ use Rattle.history_model.specs.declared.item.LockUse.{LockUse}
 use Rattle.history_model.specs.Items.{HasUse, AgreeWithVersions, LegalOrder, IsNewest, replay_items}
 use Rattle.history_model.specs.Legal.{IsIn}
 use Rattle.history_model.specs.Arrangements.{IsArrangement, WasSeenBefore}
-use Rattle.order_rebuild.specs.declared.placed.Spot.{Spot}
+use Rattle.history_model.specs.declared.placed.Spot.{Spot}
 use Rattle.order_rebuild.specs.Order.{IsOrder, Orderable}
 
 -- the same uses, in any order

@@ -1,7 +1,7 @@
 -- The lines in one row: where each begins, who stands level, and the places of an item.
 use Rattle.std.specs.Prelude.{◌≡◌, ◌≢◌, ℕ, suc, ◌<◌, ◌≤◌, List, length, slice_get, slice_index, Some, vec_len}
 use Rattle.order_rebuild.specs.declared.lines.Lines.{Lines}
-use Rattle.order_rebuild.specs.declared.placed.Spot.{Spot}
+use Rattle.history_model.specs.declared.placed.Spot.{Spot}
 use Rattle.order_rebuild.specs.Order.{Precedes, Orderable}
 
 -- at each place the first of those that have the same f, where f never falls

@@ -2,7 +2,7 @@
 use Rattle.std.specs.Prelude.{◌≡◌, ◌≢◌, ℕ, ◌<◌, ◌≤◌, ◌⊎◌, Bool, true, false, List, slice_get, length, take, Some}
 use Rattle.history_model.specs.Items.{UsedBefore}
 use Rattle.history_model.specs.Legal.{IsIn}
-use Rattle.order_rebuild.specs.declared.placed.Spot.{Spot}
+use Rattle.history_model.specs.declared.placed.Spot.{Spot}
 
 -- x has to come before y
 abbrev pub Precedes : Spot → Spot → Type 0

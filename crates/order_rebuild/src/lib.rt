@@ -13,18 +13,15 @@ ghost use Rattle.order_rebuild.specs.Order.{IsOrder, Orderable, OneOrder};
 
 use crate::lines::Lines;
 use crate::placing::place_all;
-use history_model::Shape;
+use history_model::{Placed, Shape};
 use io_ends::OutOfMemory;
 use std::alloc::Global;
 use std::collections::BinaryHeap;
 
 mod lines;
-pub mod placed;
 mod placing;
 mod ready;
 mod turn;
-
-pub use placed::{Placed, Spot};
 
 /// The places of the items in the order in which they may be printed: again and again, of the items that may come, the
 /// one of the least caller. Of a list that cannot be put in order it says nothing.

@@ -6,9 +6,8 @@ ghost use Rattle.order_rebuild.specs.declared.turn.Turn.{Turn};
 ghost use Rattle.order_rebuild.specs.Turns.{IsRising, AreTurns, GainTurns};
 ghost use Rattle.order_rebuild.specs.Lines.{AreStarts, AreChains, AreLinesOf};
 
-use crate::placed::Placed;
 use crate::turn::{LINE, Turn, code_of_caller, is_rising, lock_code};
-use history_model::LockUse;
+use history_model::{LockUse, Placed};
 use io_ends::OutOfMemory;
 use std::alloc::Global;
 

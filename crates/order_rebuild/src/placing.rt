@@ -2,7 +2,7 @@
 
 ghost use Rattle.std.specs.Prelude.{◌≡◌, ℕ, ◌<◌, List, [], OnOk, length, slice_get, slice_index, Some, true};
 ghost use Rattle.std.specs.BinaryHeap.{heap_items};
-ghost use Rattle.order_rebuild.specs.declared.placed.Spot.{Spot};
+ghost use Rattle.history_model.specs.declared.placed.Spot.{Spot};
 ghost use Rattle.order_rebuild.specs.Order.{IsOrder, Orderable};
 ghost use Rattle.order_rebuild.specs.Lines.{places, items, AreRows, AreLines};
 

@@ -1,6 +1,6 @@
 use Rattle.std.proofs.Common.{◌≡◌, ℕ, List, Some, slice_get, take, length}
 use Rattle.std.specs.BinaryHeap.{heap_items}
-use Rattle.order_rebuild.specs.declared.placed.Spot.{Spot}
+use Rattle.history_model.specs.declared.placed.Spot.{Spot}
 use Rattle.order_rebuild.specs.Lines.{items, AreLines}
 use Rattle.order_rebuild.specs.Order.{IsRest, IsNext}
 use Rattle.order_rebuild.proofs.Come.{IsState}
