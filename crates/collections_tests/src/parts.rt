@@ -270,14 +270,55 @@ fn one_is_free<W: Words>(w: &mut W, arena: &Arena) -> Result<bool, Stop>
     Ok(other.is_none())
 }
 
+// The words that are built of empty books, of which no more is said than that the tree holds nothing.
+fn built_for_tree(alloc: Global) -> Result<Plain<NoAccounts>, OutOfMemory>
+    ensures trace { IfOk result (λ plain. plain.trace ≡ []) }
+    ensures stop { IfOk result (λ plain. plain.stop ≡ None) }
+    ensures sound { IfOk result (λ plain. IsSoundPlain 285
+        (λ words. (map : HasMapApart (tree_part TREE) words) × (map.entries ≡ empty)) plain) }
+{
+    let books = Books::new(alloc, 2, 1, 1);
+    let words = build(alloc, &books)?;
+    Ok(Plain::new(alloc, NoAccounts, words))
+}
+
 /// The tree has room for two entries, and then blocks are taken and given back.
 #[test]
 fn tree_and_blocks_on_built_words(rt: HostRuntime) -> Result<(), Fail> {
-    let books = Books::new(rt.alloc(), 2, 1, 1);
-    let words = build(rt.alloc(), &books)?;
-    let mut plain = Plain::new(rt.alloc(), NoAccounts, words);
+    let mut plain = built_for_tree(rt.alloc())?;
     assert!(rt; two_are_put(&mut plain)?);
     assert_eq!(rt; sum_and_remove(&mut plain, &TREE)?, (151, Some(71)));
     assert!(rt; one_is_free(&mut plain, &TREE.arena)?);
     Ok(())
+}
+
+// Whether the tree and the blocks answer so.
+fn are_answered<W: Words>(w: &mut W) -> Result<bool, Stop>
+    requires ready { IsReady W.Words w.old }
+    requires nothing { InEachState W.Words W.Shape.Shape w.old (λ words.
+        (map : HasMapApart (tree_part TREE) words) × (map.entries ≡ empty)) }
+{
+    if !two_are_put(w)? {
+        return Ok(false);
+    }
+    if sum_and_remove(w, &TREE)? != (151, Some(71)) {
+        return Ok(false);
+    }
+    one_is_free(w, &TREE.arena)
+}
+
+// Whether they answer so, or stop for want of memory, and every write can be taken back.
+fn are_answered_or_not(alloc: Global) -> Result<bool, OutOfMemory> {
+    let mut plain = built_for_tree(alloc)?;
+    let before = plain.words().to_vec(alloc)?;
+    let ended = are_answered(&mut plain);
+    let left = plain.into_origin();
+    Ok(left == before && matches!(ended, Ok(true) | Err(Stop::Memory)))
+}
+
+// It is run with each allocation refused in turn, too.
+#[test]
+fn tree_and_blocks_answer_or_no_memory_is_found(rt: HostRuntime) {
+    let ended = are_answered_or_not(rt.alloc());
+    assert!(rt; matches!(ended, Ok(true) | Err(OutOfMemory)));
 }

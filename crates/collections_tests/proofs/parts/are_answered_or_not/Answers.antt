@@ -1,0 +1,7 @@
+use Rattle.std.specs.FinMap as entry_map
+use Rattle.history_model.proofs.FittingLaws.{each_fresh}
+use Rattle.txn_tree_map.proofs.Lists.{small, has_entries}
+use Rattle.collections_tests.proofs.parts.are_answered_or_not.Goals as goal
+
+pub are_answered-ended-requires-clause-nothing : goal.are_answered-ended-requires-clause-nothing
+are_answered-ended-requires-clause-nothing c = record { at = (each_fresh 285 (has_entries small entry_map.empty) _ c.in_ok-plain.ensures.trace).at }
