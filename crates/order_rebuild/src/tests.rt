@@ -1,7 +1,7 @@
 //! Tests of the order that is rebuilt from the uses of locks: rows by hand, and serial runs beside the plain order.
 
-use crate::{Placed, order_of};
-use history_model::LockUse;
+use crate::order_of;
+use history_model::{LockUse, Placed};
 use io_ends::OutOfMemory;
 use std::alloc::Global;
 use std::test::Fail;
@@ -15,7 +15,7 @@ struct Call {
 }
 
 impl Placed for Call {
-    ghost use Rattle.order_rebuild.specs.declared.placed.Spot.{Spot};
+    ghost use Rattle.history_model.specs.declared.placed.Spot.{Spot};
 
     ghost spot = { λ c. record { caller = c.caller; index = c.index; uses = c.uses.items } };
 
