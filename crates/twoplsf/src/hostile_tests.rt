@@ -2,7 +2,7 @@
 
 use crate::status::Status;
 use crate::surely::serve_surely;
-use crate::tests::{Ends, FIRST, FIRST_OUTPUT, HEADER, served, text, words};
+use crate::tests::{Ends, FIRST, HEADER, served, text, words};
 use io_ends::OutOfMemory;
 use std::alloc::Global;
 use std::sync::Wait;
@@ -43,35 +43,42 @@ fn sink_fails_at_each_write(rt: HostRuntime) -> Result<(), Fail> {
     Ok(())
 }
 
-// What a command came to over bytes, which come in parts, and whether it tells of a day.
+// What a command came to over an input and a text behind it, and whether it tells of a day.
 fn surely<R: Threads + Wait + Sync>(
     rt: &R,
     alloc: Global,
     command: &str,
-    bytes: &[&str],
+    input: &str,
+    behind: &str,
 ) -> Result<(Status, bool), OutOfMemory> {
     let words = words(alloc, command)?;
-    let served = serve_surely(rt, alloc, &words, text(alloc, bytes)?, &OpenGate);
+    let bytes = text(alloc, &[input, behind])?;
+    let served = serve_surely(rt, alloc, &words, bytes, &OpenGate);
     Ok((served.status, served.day.is_some()))
 }
 
+/// The first input.
+const WHOLE: &str =
+    "books 1 blocks 4 instruments 1 ring 1\naccount 7 100\nscripts\nscript ann\ndeposit 7 5\nshow 7\nend\nfinish\n";
+
+/// Its output.
+const PRINTED: &str =
+    "journal\n1 ann 1 0 done ok 105\nbooks 1 blocks 4 instruments 1 ring 1\naccount 7 105\nfinish\n";
+
 #[test]
 fn sure_ends_never_fault(rt: HostRuntime) -> Result<(), Fail> {
-    let first = [HEADER, FIRST, "", "", ""];
-    let checked = [HEADER, FIRST, FIRST_OUTPUT.0, HEADER, FIRST_OUTPUT.1];
-    let wrong = [HEADER, FIRST, FIRST_OUTPUT.0, HEADER, "finish\n"];
-    for (command, bytes, status, tells) in &[
-        ("run 1", &first, Status::Done, true),
-        ("run 2", &first, Status::Done, true),
-        ("run 1", &["", "", "", "", ""], Status::BadInput, false),
-        ("run 0", &first, Status::BadWords, false),
-        ("check", &checked, Status::Done, false),
-        ("check", &wrong, Status::Differs, false),
-        ("check", &["", "", "", "", ""], Status::BadInput, false),
-        ("make 0 1 1", &first, Status::Done, false),
-        ("drill 1 0 1 1", &first, Status::Done, true),
+    for (command, input, behind, status, tells) in &[
+        ("run 1", WHOLE, "", Status::Done, true),
+        ("run 2", WHOLE, "", Status::Done, true),
+        ("run 1", "", "", Status::BadInput, false),
+        ("run 0", WHOLE, "", Status::BadWords, false),
+        ("check", WHOLE, PRINTED, Status::Done, false),
+        ("check", WHOLE, "journal\n", Status::Differs, false),
+        ("check", "", "", Status::BadInput, false),
+        ("make 0 1 1", WHOLE, "", Status::Done, false),
+        ("drill 1 0 1 1", WHOLE, "", Status::Done, true),
     ] {
-        let came = surely(&rt, rt.alloc(), *command, *bytes)?;
+        let came = surely(&rt, rt.alloc(), *command, *input, *behind)?;
         assert_eq!(rt; came, (*status, *tells), "{command}");
     }
     Ok(())
