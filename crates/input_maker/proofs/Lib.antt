@@ -1,6 +1,7 @@
 pub mod Listing
 pub mod Opening
 pub mod Making
+pub mod Fitting
 pub mod Calling
 pub mod Classes
 pub mod Rooms

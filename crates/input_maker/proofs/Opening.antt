@@ -118,7 +118,7 @@ rows_length a (suc n) =
     omega (arith, own, rows_length (a + 1) n, length-append (positions_in a 8) (rows (a + 1) n))
 
 -- what is known of a position
-abbrev IsPosition : ℕ × ℕ → ℕ → Type 0
+abbrev pub IsPosition : ℕ × ℕ → ℕ → Type 0
 IsPosition key quantity = IsWithin 1 200 key.0 × IsWithin 1 8 key.1 × (quantity ≡ 100)
 
 rows_hold : (a n : ℕ) → 1 ≤ a → a + n ≤ 201 → AllByRecursion (λ e. IsPosition e.0 e.1) (rows a n)
@@ -128,6 +128,10 @@ rows_hold a (suc n) low high =
     all_both (λ (e : (ℕ × ℕ) × ℕ). IsPosition e.0 e.1) (positions_in a 8) (rows (a + 1) n)
     (all_mapped (λ (e : (ℕ × ℕ) × ℕ). IsPosition e.0 e.1) (λ i. ((a, i), 100)) 1 8 (λ i least most. ((low, omega arith), (least, omega arith), refl)))
     (rows_hold (a + 1) n (omega arith) (omega arith))
+
+pub positions_hold : AllByRecursion (λ e. IsPosition e.0 e.1) (positions_to 200)
+unfolding positions_to
+positions_hold = rows_hold 1 200 (omega arith) (omega arith)
 
 accounts_sorted : T (is_sorted nat_cmp (accounts_to 200))
 unfolding accounts_to
@@ -166,9 +170,8 @@ price_found i price found =
     (sym (get-from_sorted nat_cmp (prices_to 8) i prices_sorted) ∙ found)
 
 position_found : (a i quantity : ℕ) → finmap.get made_books.positions (a, i) ≡ Some quantity → IsPosition (a, i) quantity
-unfolding positions_to
 position_found a i quantity found =
-    found_holds position_cmp same_position IsPosition (a, i) quantity (positions_to 200) (rows_hold 1 200 (omega arith) (omega arith))
+    found_holds position_cmp same_position IsPosition (a, i) quantity (positions_to 200) positions_hold
     (sym (get-from_sorted position_cmp (positions_to 200) (a, i) positions_sorted) ∙ found)
 
 pub account_there : (a : ℕ) → IsWithin 1 200 a → IsSome (finmap.get made_books.accounts a)
@@ -183,15 +186,15 @@ price_there i within =
     let e : finmap.get made_books.prices i ≡ Some (100 * i) = get-from_sorted nat_cmp (prices_to 8) i prices_sorted ∙ keyed_found {X = ℕ} (λ i. 100 * i) i 1 8 within.0 (omega arith) in
     subst (λ (o : Option ℕ). IsSome o) (sym e) refl
 
-accounts_length : length (accounts_to 200) ≡ 200
+pub accounts_length : length (accounts_to 200) ≡ 200
 unfolding accounts_to
 accounts_length = length-map-range_with_len {X = ℕ × ℕ} (λ a. (a, 1000000)) 1 200
 
-prices_length : length (prices_to 8) ≡ 8
+pub prices_length : length (prices_to 8) ≡ 8
 unfolding prices_to
 prices_length = length-map-range_with_len {X = ℕ × ℕ} (λ i. (i, 100 * i)) 1 8
 
-positions_length : length (positions_to 200) ≡ 1600
+pub positions_length : length (positions_to 200) ≡ 1600
 unfolding positions_to
 positions_length = rows_length 1 200
 

@@ -1,7 +1,7 @@
 -- What the law of generated inputs says.
-use Rattle.std.specs.Prelude.{ℕ, ◌*◌, ◌≤◌}
+use Rattle.std.specs.Prelude.{ℕ, ◌*◌, ◌≤◌, length}
 use Rattle.books_model.specs.Ranges.{IsWithin}
-use Rattle.script_reader.specs.declared.limits.TheConstants.{MOST_CALLERS, MOST_SCRIPTS}
+use Rattle.script_reader.specs.declared.limits.TheConstants.{MOST_CALLERS, MOST_INPUT_BYTES, MOST_SCRIPTS}
 use Rattle.script_reader.specs.Grammar.{Spells}
 use Rattle.input_maker.specs.declared.limits.TheConstants.{GREATEST_SEED}
 use Rattle.input_maker.specs.Made.{made_input, made_input_text}
@@ -16,3 +16,7 @@ pub record AreForMake (seed callers scripts : ℕ) : Type 0 where
 -- each generated text is the text of an input
 abbrev pub MadeInputsAreInputs : Type 0
 MadeInputsAreInputs = (seed callers scripts : ℕ) → AreForMake seed callers scripts → Spells (made_input_text seed callers scripts) (made_input seed callers scripts)
+
+-- and it is small enough to be read
+abbrev pub MadeInputsFit : Type 0
+MadeInputsFit = (seed callers scripts : ℕ) → AreForMake seed callers scripts → length (made_input_text seed callers scripts) ≤ MOST_INPUT_BYTES

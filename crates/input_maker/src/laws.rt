@@ -1,7 +1,7 @@
 //! What follows of generated inputs, and the greatest seed: each law is the contract of a function that does nothing.
 
 ghost use Rattle.std.specs.Prelude.{◌≡◌};
-ghost use Rattle.input_maker.specs.Statements.{MadeInputsAreInputs};
+ghost use Rattle.input_maker.specs.Statements.{MadeInputsAreInputs, MadeInputsFit};
 ghost use Rattle.input_maker.specs.Days.{FirstKindIsDone, MadeCash, MadeQuantities, NoneIsFull, SecondKindKeepsCash};
 
 use crate::limits::GREATEST_SEED;
@@ -14,6 +14,11 @@ pub fn greatest_sizes()
 /// Each generated text is the text of an input: it has no fault.
 pub fn made_inputs_are_inputs()
     ensures { MadeInputsAreInputs }
+{}
+
+/// Each generated text is small enough to be read by the program that runs it.
+pub fn made_inputs_fit()
+    ensures { MadeInputsFit }
 {}
 
 /// What a generated day comes to, in every order of its scripts.

@@ -22,6 +22,7 @@ pub mod Extending
 pub mod Reaching
 pub mod Deciding
 pub mod OneInput
+pub mod FrontLaws
 pub mod Finding
 pub mod Ranging
 pub mod Refusing

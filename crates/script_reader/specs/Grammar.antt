@@ -23,3 +23,15 @@ pub record Spells (bytes : List ℕ) (input : ClearingInput) : Type 0 where
 -- some input has these bytes as its text
 abbrev pub IsValidInput : List ℕ → Type 0
 IsValidInput bytes = (input : ClearingInput) × Spells bytes input
+
+-- the bytes are the text of an input and, directly behind it, another text
+pub record AreTwoTexts (bytes : List ℕ) (input : ClearingInput) (text : List ℕ) : Type 0 where
+  pub front : List ℕ
+  pub spelled : Spells front input
+  pub bytes_are : bytes ≡ front ++ text
+
+-- the bytes begin with the text of an input
+pub record BeginWithInput (bytes : List ℕ) : Type 0 where
+  pub input : ClearingInput
+  pub text : List ℕ
+  pub two : AreTwoTexts bytes input text

@@ -2,8 +2,8 @@
 use Rattle.std.specs.Prelude.{◌≡◌, ◌⊎◌, ℕ, List}
 use Rattle.script_reader.specs.declared.fault.Fault.{Fault}
 use Rattle.script_reader.specs.Input.{ClearingInput}
-use Rattle.script_reader.specs.Grammar.{Spells, IsValidInput}
-use Rattle.script_reader.specs.Faults.{IsFirstFault}
+use Rattle.script_reader.specs.Grammar.{Spells, IsValidInput, AreTwoTexts, BeginWithInput}
+use Rattle.script_reader.specs.Faults.{IsFirstFault, IsFrontFault}
 
 -- the text has a first fault
 abbrev pub HasFault : List ℕ → Type 0
@@ -21,3 +21,17 @@ OneInput = (text : List ℕ) (input other : ClearingInput) → Spells text input
 -- a text has one first fault at most
 abbrev pub OneFault : Type 0
 OneFault = (text : List ℕ) (number other : ℕ) (why reason : Fault) → IsFirstFault text number why → IsFirstFault text other reason → (number ≡ other) × (why ≡ reason)
+
+-- the text has a first fault up to its line `finish`
+abbrev pub HasFrontFault : List ℕ → Type 0
+HasFrontFault text = (number : ℕ) × (why : Fault) × IsFrontFault text number why
+
+-- a text that begins with that of an input has no fault there, and one that has none there begins with one
+pub record FrontOrFaulty : Type 0 where
+  pub either : (text : List ℕ) → BeginWithInput text ⊎ HasFrontFault text
+  pub not_both : (text : List ℕ) → BeginWithInput text → ¬ HasFrontFault text
+
+-- where a text begins with that of an input, its bytes, the input and what follows are one
+abbrev pub OneFront : Type 0
+OneFront = (bytes : List ℕ) (input other : ClearingInput) (text rest : List ℕ) (this : AreTwoTexts bytes input text) (that : AreTwoTexts bytes other rest)
+    → (this.front ≡ that.front) × (input ≡ other) × (text ≡ rest)

@@ -1,14 +1,15 @@
 //! What follows of texts, each law the contract of a function that does nothing.
 
 ghost use Rattle.std.specs.Prelude.{◌≡◌};
-ghost use Rattle.script_reader.specs.Statements.{OneInput, OneFault, ValidOrFaulty};
+ghost use Rattle.script_reader.specs.Statements.{FrontOrFaulty, OneFault, OneFront, OneInput, ValidOrFaulty};
 
-use crate::limits::{LONGEST_NAME, MOST_CALLERS, MOST_SCRIPTS, MOST_WORKERS};
+use crate::limits::{LONGEST_NAME, MOST_CALLERS, MOST_INPUT_BYTES, MOST_SCRIPTS, MOST_WORKERS};
 use crate::words::{LINE_FEED, MOST_WORDS, SPACE};
 
 /// The limits of a text, and of a line's words, in digits, and the bytes that separate words and lines, which are those of
 /// ASCII.
 pub fn limits_are_those_of_the_language()
+    ensures bytes { MOST_INPUT_BYTES ≡ 8_388_608 }
     ensures callers { MOST_CALLERS ≡ 1_024 }
     ensures scripts { MOST_SCRIPTS ≡ 65_536 }
     ensures name { LONGEST_NAME ≡ 16 }
@@ -31,4 +32,14 @@ pub fn one_fault()
 /// A text is of an input, or has a first fault, and never both.
 pub fn valid_or_faulty()
     ensures { ValidOrFaulty }
+{}
+
+/// A text is of one input and what follows it at most.
+pub fn one_front()
+    ensures { OneFront }
+{}
+
+/// A text begins with that of an input, or has a first fault up to its line `finish`, and never both.
+pub fn front_or_faulty()
+    ensures { FrontOrFaulty }
 {}

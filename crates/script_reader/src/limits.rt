@@ -1,5 +1,8 @@
 //! How much an input may have, and how many workers may run it.
 
+/// The most bytes that are read as an input, or as an input and a text behind it.
+pub const MOST_INPUT_BYTES: usize = 8_388_608;
+
 /// The most callers of an input.
 pub const MOST_CALLERS: usize = 1_024;
 

@@ -3,18 +3,18 @@ use Rattle.std.proofs.Common.{◌≡◌, ◌≢◌, ◌+◌, ◌≤◌, ◌<◌,
 use Rattle.std.specs.Io.KnownBytes.{Appends}
 use Rattle.std.proofs.lemmas.Option.{IfSome_then}
 use Rattle.io_ends.specs.Taken.{TakesAtMost, count_taken}
-use Rattle.script_reader.specs.Grammar.{IsValidInput}
+use Rattle.script_reader.specs.Grammar.{IsValidInput, AreTwoTexts, BeginWithInput}
 use Rattle.script_reader.specs.declared.fault.Fault.{Fault}
 use Rattle.script_reader.specs.Faults.{IsFirstFault, IsFrontFault}
 use Rattle.script_reader.specs.Input.{ClearingInput}
 use Rattle.books_report.specs.declared.limits.TheConstants.{RESTARTS_BELOW}
 use Rattle.books_report.specs.Output.{IsOutput}
 use Rattle.books_report.specs.Checking.{IsFirstWrongLine}
-use Rattle.twoplsf.specs.declared.limits.TheConstants.{MOST_INPUT_BYTES}
+use Rattle.script_reader.specs.declared.limits.TheConstants.{MOST_INPUT_BYTES}
 use Rattle.twoplsf.specs.declared.status.Status.{Status}
 use Rattle.twoplsf.specs.declared.status.Status.TheVariants as status
 use Rattle.twoplsf.specs.Command.{IsRun, IsCheck, IsMaking, IsReading, IsValidCommand}
-use Rattle.twoplsf.specs.Check.{AreTwoTexts, BeginWithInput, differs_line}
+use Rattle.twoplsf.specs.Check.{differs_line}
 use Rattle.twoplsf.specs.Made.{IsMadeText, PrintsMade}
 use Rattle.twoplsf.specs.Answer.{IsDoneText, IsDifferenceFor, IsRefusalFor, HaveInputFor, OfBytesRead, PrintsOutput, TookText, refused_line}
 use Rattle.twoplsf.proofs.Served.{of_left, run_not_check, read_not_made, output_of_run, done_input, difference_input, done_is_output, refused_none, first_refused, front_refused, wrong_is_none, wrong_is_first}

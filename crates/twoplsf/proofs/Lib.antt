@@ -5,3 +5,4 @@ pub mod Drills
 pub mod Makings
 pub mod Served
 pub mod FromText
+pub mod Endings

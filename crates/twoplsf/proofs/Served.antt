@@ -6,17 +6,17 @@ use Rattle.io_ends.specs.Taken.{AppendsPrefix}
 use Rattle.script_reader.specs.declared.fault.Fault.{Fault}
 use Rattle.script_reader.specs.Faults.{IsFirstFault, IsFrontFault}
 use Rattle.script_reader.specs.Input.{ClearingInput}
-use Rattle.script_reader.specs.Grammar.{Spells}
+use Rattle.script_reader.specs.Grammar.{AreTwoTexts}
 use Rattle.twoplsf.specs.Command.{IsRun, IsCheck, IsDrill, IsMaking, IsReading}
-use Rattle.script_reader.proofs.Deciding.{not_both, front_not_both, fronts_once, one_fault}
-use Rattle.script_reader.proofs.OneInput.{one_input}
+use Rattle.script_reader.proofs.Deciding.{not_both, one_fault}
+use Rattle.script_reader.proofs.FrontLaws.{never_both, one_front}
 use Rattle.books_report.specs.declared.limits.TheConstants.{RESTARTS_BELOW}
 use Rattle.books_report.specs.Output.{IsOutput}
 use Rattle.books_report.specs.Checking.{IsFirstWrongLine}
 use Rattle.books_report.proofs.Wrong.{one_wrong, none_of_output}
-use Rattle.twoplsf.specs.declared.limits.TheConstants.{MOST_INPUT_BYTES}
+use Rattle.script_reader.specs.declared.limits.TheConstants.{MOST_INPUT_BYTES}
 use Rattle.twoplsf.specs.declared.answer.Answer.{Answer}
-use Rattle.twoplsf.specs.declared.answer.Answer.TheVariants.{Output, Difference, Refusal}
+use Rattle.twoplsf.specs.declared.answer.Answer.TheVariants.{Output, Agrees, Difference, Refusal}
 use Rattle.worker_pool.specs.declared.done.DayEnd.{DayEnd}
 use Rattle.twoplsf.proofs.Days.{day_output}
 use Rattle.twoplsf.specs.declared.command.Reading.{Reading}
@@ -24,10 +24,10 @@ use Rattle.twoplsf.specs.declared.command.Reading.TheVariants as reading
 use Rattle.twoplsf.specs.declared.command.Command.{Command}
 use Rattle.twoplsf.specs.declared.command.Command.TheVariants.{Read}
 use Rattle.twoplsf.specs.Commands.{IsCommand, IsReadingBy}
-use Rattle.twoplsf.specs.Check.{AreTwoTexts, differs_line}
+use Rattle.twoplsf.specs.Check.{differs_line}
 use Rattle.twoplsf.specs.declared.status.Status.{Status}
 use Rattle.twoplsf.specs.declared.status.Status.TheVariants as status
-use Rattle.twoplsf.specs.Answer.{OfBytesRead, IsDayFor, IsOutputFor, IsAnswerBy, IsDoneText, IsDifferenceFor, IsRefusalOf, IsRefusalOfFront, IsRefusalFor, HaveInputFor, IsTextFor, TookText, refused_line}
+use Rattle.twoplsf.specs.Answer.{OfBytesRead, IsDayFor, IsOutputFor, IsAnswerBy, IsDoneText, IsDifferenceFor, IsRefusalOf, IsRefusalOfFront, IsRefusalFor, HaveInputFor, IsTextFor, TookText, day_of, refused_line, status_of, text_of}
 
 -- what was read to the end is all that was left
 all_read : (left now : Option (List ℕ)) (bytes : List ℕ) → Consumes left now bytes → IsAtEnd now → IfSome left (λ all. all ≡ bytes)
@@ -68,41 +68,45 @@ pub not_made : (words : List (List ℕ)) {o : Command} {r : Reading} → o ≡ R
 not_made words is h making = read_not_made words (read_is words is h) making
 
 -- the answer to the bytes that were read, by the words
-pub done_text : (words : List (List ℕ)) (r : Reading) (bytes : List ℕ) (text : Vec ℕ Global) (day : Option DayEnd) → IsReadingBy words r → IsAnswerBy r bytes (Output text day) → IsDoneText words bytes text.items
-done_text words (reading.Run w) bytes text day is answer =
-    inl (record { workers = w; command = is; input = answer.0; spelled = answer.1; output = day_output answer.0 w answer.2.ended answer.2.of_input text.items answer.2.text_is })
-done_text words reading.Check bytes text day is answer = inr (is, answer.0, answer.1)
+output_text : (words : List (List ℕ)) (r : Reading) (bytes : List ℕ) (text : Vec ℕ Global) (day : DayEnd) → IsReadingBy words r → IsAnswerBy r bytes (Output text day) → IsDoneText words bytes text.items
+output_text words (reading.Run w) bytes text day is answer =
+    inl (record { workers = w; command = is; input = answer.0; spelled = answer.1; output = day_output answer.0 w day answer.2.of_input text.items answer.2.text_is })
+output_text words reading.Check bytes text day is answer = absurd answer
+
+agrees_text : (words : List (List ℕ)) (r : Reading) (bytes : List ℕ) (text : Vec ℕ Global) → IsReadingBy words r → IsAnswerBy r bytes (Agrees text) → IsDoneText words bytes text.items
+agrees_text words (reading.Run w) bytes text is answer = absurd answer
+agrees_text words reading.Check bytes text is answer = inr (is, answer.0, answer.1)
 
 -- bytes whose text is printed have the input that the command reads
 pub done_input : (words : List (List ℕ)) (bytes text : List ℕ) → IsDoneText words bytes text → HaveInputFor words bytes
 done_input words bytes text (inl output) = inl ((output.workers, output.command), (output.input, output.spelled))
 done_input words bytes text (inr (check, h, line)) = inr (check, record { input = h.input; text = h.text; two = h.two })
 
--- the day of an answer is one for the words, and its text the output
-pub day_of : (words : List (List ℕ)) (r : Reading) (bytes : List ℕ) (text : Vec ℕ Global) (day : Option DayEnd) (before now : Option (List ℕ)) → IsReadingBy words r → IsAnswerBy r bytes (Output text day)
-    → Appends before now text.items → IfSome day (IsDayFor words bytes before now)
-day_of words (reading.Run w) bytes text day before now is answer printed =
-    subst (λ (d : Option DayEnd). IfSome d (IsDayFor words bytes before now)) (sym answer.2.day_is) (record {
-      workers = w;
-      command = is;
-      input = answer.0;
-      spelled = answer.1;
-      day_is = answer.2.of_input;
-      printed = subst (Appends before now) answer.2.text_is printed;
-    })
-day_of words reading.Check bytes text day before now is answer printed = subst (λ (d : Option DayEnd). IfSome d (IsDayFor words bytes before now)) (sym answer.2) tt
+-- the day of an output is one for the words, and its text the output
+output_day : (words : List (List ℕ)) (r : Reading) (bytes : List ℕ) (text : Vec ℕ Global) (day : DayEnd) (before now : Option (List ℕ)) → IsReadingBy words r → IsAnswerBy r bytes (Output text day)
+    → Appends before now text.items → IsDayFor words bytes before now day
+output_day words (reading.Run w) bytes text day before now is answer printed = record {
+  workers = w;
+  command = is;
+  input = answer.0;
+  spelled = answer.1;
+  day_is = answer.2.of_input;
+  printed = subst (Appends before now) answer.2.text_is printed;
+}
+output_day words reading.Check bytes text day before now is answer printed = absurd answer
+
+-- an output is that of a run, and no other answer is to `run W` where the work was done
+output_runs : (words : List (List ℕ)) (r : Reading) (bytes : List ℕ) (text : Vec ℕ Global) (day : DayEnd) → IsReadingBy words r → IsAnswerBy r bytes (Output text day) → IsRun words
+output_runs words (reading.Run w) bytes text day is answer = (w, is)
+output_runs words reading.Check bytes text day is answer = absurd answer
+
+agrees_runs_not : (words : List (List ℕ)) (r : Reading) (bytes : List ℕ) (text : Vec ℕ Global) → IsReadingBy words r → IsAnswerBy r bytes (Agrees text) → IsRun words ⊎ IsDrill words → ⊥
+agrees_runs_not words (reading.Run w) bytes text is answer runs = absurd answer
+agrees_runs_not words reading.Check bytes text is answer (inl run) = run_not_check words run is
+agrees_runs_not words reading.Check bytes text is answer (inr drill) = read_not_made words (inr is) (inr drill)
 
 pub none_there : IsSome {T = DayEnd} None → ⊥
 none_there h = true≢false (sym h)
-
--- it is there where scripts were run
-pub has_day : (words : List (List ℕ)) (r : Reading) (bytes : List ℕ) (text : Vec ℕ Global) (day : Option DayEnd) → IsReadingBy words r → IsAnswerBy r bytes (Output text day) → IsSome day ↔ (IsRun words ⊎ IsDrill words)
-has_day words (reading.Run w) bytes text day is answer = (λ some. inl (w, is), λ run. subst IsSome (sym answer.2.day_is) refl)
-has_day words reading.Check bytes text day is answer = (λ some. absurd (none_there (subst IsSome answer.2 some)), not_there)
-  where
-    not_there : IsRun words ⊎ IsDrill words → IsSome day
-    not_there (inl run) = absurd (run_not_check words run is)
-    not_there (inr drill) = absurd (read_not_made words (inr is) (inr drill))
 
 -- after a text was written or not, the day is there only where it was
 pub day_kept : (result : Status) (day kept : Option DayEnd) (W R F : Type 0) (P : DayEnd → Type 0) → (result ≡ status.Done → kept ≡ day) → (result ≢ status.Done → kept ≡ None)
@@ -116,14 +120,14 @@ day_there result day kept W R F run done other (inl h) has = (λ some. (has.0 (s
 day_there result day kept W R F run done other (inr h) has =
     (λ some. absurd (none_there (subst IsSome (other (λ e. let same : status.WriteFault ≡ status.Done = sym h.0 ∙ e in cc)) some)), λ both. subst IsSome (sym (done both.1)) (has.1 both.0))
 
-pub difference_text : (words : List (List ℕ)) (r : Reading) (bytes : List ℕ) (text : Vec ℕ Global) → IsReadingBy words r → IsAnswerBy r bytes (Difference text) → IsDifferenceFor words bytes text.items
+difference_text : (words : List (List ℕ)) (r : Reading) (bytes : List ℕ) (text : Vec ℕ Global) → IsReadingBy words r → IsAnswerBy r bytes (Difference text) → IsDifferenceFor words bytes text.items
 difference_text words (reading.Run w) bytes text is answer = absurd answer
 difference_text words reading.Check bytes text is answer = (is, answer)
 
 pub difference_input : (words : List (List ℕ)) (bytes text : List ℕ) → IsDifferenceFor words bytes text → HaveInputFor words bytes
 difference_input words bytes text d = inr (d.0, record { input = d.1.1.input; text = d.1.1.text; two = d.1.1.two })
 
-pub refusal_text : (words : List (List ℕ)) (r : Reading) (bytes : List ℕ) (text : Vec ℕ Global) → IsReadingBy words r → IsAnswerBy r bytes (Refusal text) → IsRefusalFor words bytes text.items
+refusal_text : (words : List (List ℕ)) (r : Reading) (bytes : List ℕ) (text : Vec ℕ Global) → IsReadingBy words r → IsAnswerBy r bytes (Refusal text) → IsRefusalFor words bytes text.items
 refusal_text words (reading.Run w) bytes text is answer = inl ((w, is), answer)
 refusal_text words reading.Check bytes text is answer = inr (is, answer)
 
@@ -159,32 +163,26 @@ pub refused_none : (words : List (List ℕ)) (bytes text : List ℕ) → IsRefus
 refused_none words bytes text (inl (run, r)) (inl (run', valid)) = not_both bytes valid (r.number, r.why, r.first)
 refused_none words bytes text (inl (run, r)) (inr (check, begins)) = run_not_check words run check
 refused_none words bytes text (inr (check, r)) (inl (run, valid)) = run_not_check words run check
-refused_none words bytes text (inr (check, r)) (inr (check', b)) = front_not_both bytes b.two.front b.text b.input r.number r.why b.two.bytes_are b.two.spelled r.first
-
--- bytes are an input and a text behind it in one way
-one_way : (bytes : List ℕ) (input other : ClearingInput) (text more : List ℕ) → AreTwoTexts bytes input text → AreTwoTexts bytes other more → (input ≡ other) × (text ≡ more)
-one_way bytes input other text more a b =
-    let same = fronts_once bytes a.front text b.front more input other a.bytes_are b.bytes_are a.spelled b.spelled in
-    (one_input a.front input other a.spelled (subst (λ f. Spells f other) (sym same.0) b.spelled), same.1)
+refused_none words bytes text (inr (check, r)) (inr (check', begins)) = never_both bytes begins (r.number, r.why, r.first)
 
 -- a text with a wrong line is no output of its input
 pub wrong_is_none : (words : List (List ℕ)) (bytes printed : List ℕ) → IsDifferenceFor words bytes printed → (input : ClearingInput) (text : List ℕ) → AreTwoTexts bytes input text → IsOutput input RESTARTS_BELOW text → ⊥
 wrong_is_none words bytes printed (check, (n, h, is)) input text two output =
-    let same = one_way bytes h.input input h.text text h.two two in
-    none_of_output input RESTARTS_BELOW two.spelled.valid text n output (subst (λ t. IsFirstWrongLine input RESTARTS_BELOW t n) same.1 (subst (λ i. IsFirstWrongLine i RESTARTS_BELOW h.text n) same.0 h.wrong))
+    let same = one_front bytes h.input input h.text text h.two two in
+    none_of_output input RESTARTS_BELOW two.spelled.valid text n output (subst (λ t. IsFirstWrongLine input RESTARTS_BELOW t n) same.2 (subst (λ i. IsFirstWrongLine i RESTARTS_BELOW h.text n) same.1 h.wrong))
 
 -- and that line is its first wrong one
 pub wrong_is_first : (words : List (List ℕ)) (bytes printed : List ℕ) → IsDifferenceFor words bytes printed → (input : ClearingInput) (text : List ℕ) (number : ℕ) → AreTwoTexts bytes input text → IsFirstWrongLine input RESTARTS_BELOW text number → printed ≡ differs_line number
 wrong_is_first words bytes printed (check, (n, h, is)) input text number two wrong =
-    let same = one_way bytes h.input input h.text text h.two two in
-    is ∙ ap differs_line (one_wrong input RESTARTS_BELOW two.spelled.valid text n number (subst (λ t. IsFirstWrongLine input RESTARTS_BELOW t n) same.1 (subst (λ i. IsFirstWrongLine i RESTARTS_BELOW h.text n) same.0 h.wrong)) wrong)
+    let same = one_front bytes h.input input h.text text h.two two in
+    is ∙ ap differs_line (one_wrong input RESTARTS_BELOW two.spelled.valid text n number (subst (λ t. IsFirstWrongLine input RESTARTS_BELOW t n) same.2 (subst (λ i. IsFirstWrongLine i RESTARTS_BELOW h.text n) same.1 h.wrong)) wrong)
 
 -- a text that agrees is an output of its input
 pub done_is_output : (words : List (List ℕ)) (bytes printed : List ℕ) → IsCheck words → IsDoneText words bytes printed → (input : ClearingInput) (text : List ℕ) → AreTwoTexts bytes input text → IsOutput input RESTARTS_BELOW text
 done_is_output words bytes printed check (inl run) input text two = absurd (run_not_check words (run.workers, run.command) check)
 done_is_output words bytes printed check (inr (is, h, line)) input text two =
-    let same = one_way bytes h.input input h.text text h.two two in
-    subst (λ t. IsOutput input RESTARTS_BELOW t) same.1 (subst (λ i. IsOutput i RESTARTS_BELOW h.text) same.0 h.output)
+    let same = one_front bytes h.input input h.text text h.two two in
+    subst (λ t. IsOutput input RESTARTS_BELOW t) same.2 (subst (λ i. IsOutput i RESTARTS_BELOW h.text) same.1 h.output)
 
 -- where the status is not a write fault, the text was written whole
 pub written : (result is : Status) (W R F : Type 0) → (result ≡ is × W) ⊎ (result ≡ status.WriteFault × R × F) → result ≢ status.WriteFault → W
@@ -224,29 +222,66 @@ module _ {words : List (List ℕ)} {r : Reading} {left now : Option (List ℕ)} 
   told : (P : List ℕ → Type 0) → P bytes → IsReading words × IsAtEnd now × OfBytesRead left (λ all. (length all ≤ MOST_INPUT_BYTES) × P all)
   told P p = (reading_is words r h.is, h.end, of_read (λ all. (length all ≤ MOST_INPUT_BYTES) × P all) (h.few, p))
 
-module _ {words : List (List ℕ)} {r : Reading} {left now : Option (List ℕ)} {bytes : List ℕ} {text : Vec ℕ Global} {day : Option DayEnd} (h : HasAnswered words r left now bytes (Output text day)) where
-  -- what the sink took is a text of its work
-  pub output_taken : (result : Status) (before after : Option (List ℕ)) (R : Type 0) → (result ≡ status.Done × Appends before after text.items) ⊎ (result ≡ status.WriteFault × R × AppendsPrefix before after text.items)
-      → TookText result words left now before after
-  output_taken result before after R wrote =
-      took_text result status.Done words left now before after text.items R (inl (told h (λ all. IsDoneText words all text.items) (done_text words r bytes text day h.is h.answers))) wrote
+-- the text of an answer goes with its status
+text_is_for : (words : List (List ℕ)) (r : Reading) (left now : Option (List ℕ)) (bytes : List ℕ) (answer : Answer) → HasAnswered words r left now bytes answer → IsTextFor (status_of answer) words left now (text_of answer)
+text_is_for words r left now bytes (Output text day) h = inl (told h (λ all. IsDoneText words all text.items) (output_text words r bytes text day h.is h.answers))
+text_is_for words r left now bytes (Agrees text) h = inl (told h (λ all. IsDoneText words all text.items) (agrees_text words r bytes text h.is h.answers))
+text_is_for words r left now bytes (Difference text) h = told h (λ all. IsDifferenceFor words all text.items) (difference_text words r bytes text h.is h.answers)
+text_is_for words r left now bytes (Refusal text) h = told h (λ all. IsRefusalFor words all text.items) (refusal_text words r bytes text h.is h.answers)
 
-  -- its day
-  pub output_day : (before after : Option (List ℕ)) → Appends before after text.items → IfSome day (λ d. OfBytesRead left (λ all. IsDayFor words all before after d))
-  output_day before after printed = IfSome_then day (day_of words r bytes text day before after h.is h.answers printed) (λ d is. of_read h (λ all. IsDayFor words all before after d) is)
+-- an answer was printed or not, with its day where it was
+pub record HasPrinted (answer : Answer) (result : Status) (kept : Option DayEnd) (before after : Option (List ℕ)) (R : Type 0) : Type 0 where
+  pub wrote : (result ≡ status_of answer × Appends before after (text_of answer)) ⊎ (result ≡ status.WriteFault × R × AppendsPrefix before after (text_of answer))
+  pub done : result ≡ status.Done → kept ≡ day_of answer
+  pub other : result ≢ status.Done → kept ≡ None
 
-module _ {words : List (List ℕ)} {r : Reading} {left now : Option (List ℕ)} {bytes : List ℕ} {text : Vec ℕ Global} (h : HasAnswered words r left now bytes (Difference text)) where
-  difference : IsDifferenceFor words bytes text.items
-  difference = difference_text words r bytes text h.is h.answers
+-- then the sink took the text that goes with the status
+pub printed_text : (words : List (List ℕ)) (r : Reading) (left now : Option (List ℕ)) (bytes : List ℕ) (answer : Answer) (result : Status) (kept : Option DayEnd) (before after : Option (List ℕ)) (R : Type 0)
+    → HasAnswered words r left now bytes answer → HasPrinted answer result kept before after R → TookText result words left now before after
+printed_text words r left now bytes answer result kept before after R h p = took_text result (status_of answer) words left now before after (text_of answer) R (text_is_for words r left now bytes answer h) p.wrote
 
-  -- what the sink took names a wrong line
-  pub difference_taken : (result : Status) (before after : Option (List ℕ)) (R : Type 0)
-      → (result ≡ status.Differs × Appends before after text.items) ⊎ (result ≡ status.WriteFault × R × AppendsPrefix before after text.items) → TookText result words left now before after
-  difference_taken result before after R wrote = took_text result status.Differs words left now before after text.items R (told h (λ all. IsDifferenceFor words all text.items) difference) wrote
+-- no day is told but that of an output
+none_kept : (result is : Status) (kept : Option DayEnd) → result ≡ is → is ≢ status.Done → (result ≢ status.Done → kept ≡ None) → kept ≡ None
+none_kept result is kept same differs other = other (λ done. differs (sym same ∙ done))
 
-module _ {words : List (List ℕ)} {r : Reading} {left now : Option (List ℕ)} {bytes : List ℕ} {text : Vec ℕ Global} (h : HasAnswered words r left now bytes (Refusal text)) where
-  -- what the sink took refuses the bytes
-  pub refusal_taken : (result : Status) (before after : Option (List ℕ)) (R : Type 0) → (result ≡ status.BadInput × Appends before after text.items) ⊎ (result ≡ status.WriteFault × R × AppendsPrefix before after text.items)
-      → TookText result words left now before after
-  refusal_taken result before after R wrote =
-      took_text result status.BadInput words left now before after text.items R (told h (λ all. IsRefusalFor words all text.items) (refusal_text words r bytes text h.is h.answers)) wrote
+-- the day that is told is that of the bytes
+pub printed_day : (words : List (List ℕ)) (r : Reading) (left now : Option (List ℕ)) (bytes : List ℕ) (answer : Answer) (result : Status) (kept : Option DayEnd) (before after : Option (List ℕ)) (R : Type 0)
+    → HasAnswered words r left now bytes answer → HasPrinted answer result kept before after R → IfSome kept (λ d. OfBytesRead left (λ all. IsDayFor words all before after d))
+printed_day words r left now bytes answer result kept before after R h p = by answer h p p.wrote
+  where
+    Told : Option DayEnd → Type 0
+    Told kept = IfSome kept (λ d. OfBytesRead left (λ all. IsDayFor words all before after d))
+
+    none : kept ≡ None → Told kept
+    none is = subst Told (sym is) tt
+
+    by : (a : Answer) → HasAnswered words r left now bytes a → HasPrinted a result kept before after R
+        → (result ≡ status_of a × Appends before after (text_of a)) ⊎ (result ≡ status.WriteFault × R × AppendsPrefix before after (text_of a)) → Told kept
+    by a h p (inr fault) = none (none_kept result status.WriteFault kept fault.0 (λ e. cc) p.other)
+    by (Output text day) h p (inl wrote) =
+        subst Told (sym (p.done wrote.0)) (of_read h (λ all. IsDayFor words all before after day) (output_day words r bytes text day before after h.is h.answers wrote.1))
+    by (Agrees text) h p (inl wrote) = none (p.done wrote.0)
+    by (Difference text) h p (inl wrote) = none (none_kept result status.Differs kept wrote.0 (λ e. cc) p.other)
+    by (Refusal text) h p (inl wrote) = none (none_kept result status.BadInput kept wrote.0 (λ e. cc) p.other)
+
+-- it is told exactly where scripts were run, and the work was done
+pub printed_has_day : (words : List (List ℕ)) (r : Reading) (left now : Option (List ℕ)) (bytes : List ℕ) (answer : Answer) (result : Status) (kept : Option DayEnd) (before after : Option (List ℕ)) (R : Type 0)
+    → HasAnswered words r left now bytes answer → HasPrinted answer result kept before after R → IsSome kept ↔ ((IsRun words ⊎ IsDrill words) × (result ≡ status.Done))
+printed_has_day words r left now bytes answer result kept before after R h p = by answer h p p.wrote
+  where
+    Runs : Type 0
+    Runs = (IsRun words ⊎ IsDrill words) × (result ≡ status.Done)
+
+    never : kept ≡ None → ¬ Runs → IsSome kept ↔ Runs
+    never none not = (λ some. absurd (none_there (subst IsSome none some)), λ runs. absurd (not runs))
+
+    unlike : (is : Status) → result ≡ is → is ≢ status.Done → (result ≢ status.Done → kept ≡ None) → IsSome kept ↔ Runs
+    unlike is same differs other = never (none_kept result is kept same differs other) (λ runs. differs (sym same ∙ runs.1))
+
+    by : (a : Answer) → HasAnswered words r left now bytes a → HasPrinted a result kept before after R
+        → (result ≡ status_of a × Appends before after (text_of a)) ⊎ (result ≡ status.WriteFault × R × AppendsPrefix before after (text_of a)) → IsSome kept ↔ Runs
+    by a h p (inr fault) = unlike status.WriteFault fault.0 (λ e. cc) p.other
+    by (Output text day) h p (inl wrote) = (λ some. (inl (output_runs words r bytes text day h.is h.answers), wrote.0), λ runs. subst IsSome (sym (p.done wrote.0)) refl)
+    by (Agrees text) h p (inl wrote) = never (p.done wrote.0) (λ runs. agrees_runs_not words r bytes text h.is h.answers runs.0)
+    by (Difference text) h p (inl wrote) = unlike status.Differs wrote.0 (λ e. cc) p.other
+    by (Refusal text) h p (inl wrote) = unlike status.BadInput wrote.0 (λ e. cc) p.other

@@ -6,7 +6,7 @@ use Rattle.script_reader.specs.declared.fault.Fault.{Fault}
 use Rattle.script_reader.specs.Text.{line, number}
 use Rattle.script_reader.specs.FaultWords.{fault_word}
 use Rattle.script_reader.specs.Input.{ClearingInput}
-use Rattle.script_reader.specs.Grammar.{Spells, IsValidInput}
+use Rattle.script_reader.specs.Grammar.{Spells, IsValidInput, BeginWithInput}
 use Rattle.script_reader.specs.Faults.{IsFirstFault, IsFrontFault}
 use Rattle.twoplsf.specs.Command.{IsRun, IsRunCommand, IsCheck, IsReading, IsValidCommand}
 use Rattle.books_report.specs.declared.limits.TheConstants.{RESTARTS_BELOW}
@@ -14,14 +14,14 @@ use Rattle.books_report.specs.Output.{IsOutput, output_of}
 use Rattle.books_report.specs.Checking.{IsFirstWrongLine}
 use Rattle.worker_pool.specs.declared.done.DayEnd.{DayEnd}
 use Rattle.twoplsf.specs.Day.{IsDayOf, journal_of}
-use Rattle.twoplsf.specs.declared.limits.TheConstants.{MOST_INPUT_BYTES}
+use Rattle.script_reader.specs.declared.limits.TheConstants.{MOST_INPUT_BYTES}
 use Rattle.twoplsf.specs.declared.command.Reading.{Reading}
 use Rattle.twoplsf.specs.declared.command.Reading.TheVariants as reading
 use Rattle.twoplsf.specs.declared.status.Status.{Status}
 use Rattle.twoplsf.specs.declared.status.Status.TheVariants as status
 use Rattle.twoplsf.specs.declared.answer.Answer.{Answer}
-use Rattle.twoplsf.specs.declared.answer.Answer.TheVariants.{Output, Difference, Refusal}
-use Rattle.twoplsf.specs.Check.{BeginWithInput, HoldOutput, HoldWrongLine, agrees_line, differs_line}
+use Rattle.twoplsf.specs.declared.answer.Answer.TheVariants.{Output, Agrees, Difference, Refusal}
+use Rattle.twoplsf.specs.Check.{HoldOutput, HoldWrongLine, agrees_line, differs_line}
 use Rattle.twoplsf.specs.Made.{IsMadeText}
 
 -- this holds of the bytes that were read, which are those that were left, where the source tells them
@@ -63,16 +63,36 @@ pub record IsRefusalOf (bytes text : List ℕ) : Type 0 where
   pub first : IsFirstFault bytes number why
   pub text_is : text ≡ refused_line number why
 
+-- the status that an answer is printed with
+abbrev pub status_of : Answer → Status
+status_of (Output text day) = status.Done
+status_of (Agrees text) = status.Done
+status_of (Difference text) = status.Differs
+status_of (Refusal text) = status.BadInput
+
+-- its text
+abbrev pub text_of : Answer → List ℕ
+text_of (Output text day) = text.items
+text_of (Agrees text) = text.items
+text_of (Difference text) = text.items
+text_of (Refusal text) = text.items
+
+-- its day, which an output alone has
+abbrev pub day_of : Answer → Option DayEnd
+day_of (Output text day) = Some day
+day_of (Agrees text) = None
+day_of (Difference text) = None
+day_of (Refusal text) = None
+
 -- a day of the input by so many workers, and the output for its items
-pub record TellsOfDay (input : ClearingInput) (workers : ℕ) (text : List ℕ) (day : Option DayEnd) : Type 0 where
-  pub ended : DayEnd
-  pub day_is : day ≡ Some ended
-  pub of_input : IsDayOf input workers ended
-  pub text_is : text ≡ output_of input (journal_of ended)
+pub record TellsOfDay (input : ClearingInput) (workers : ℕ) (text : List ℕ) (day : DayEnd) : Type 0 where
+  pub of_input : IsDayOf input workers day
+  pub text_is : text ≡ output_of input (journal_of day)
 
 -- the answer to bytes: a day of the input that they spell and its output, or the refusal of their first fault
 abbrev pub IsAnswerTo : ℕ → List ℕ → Answer → Type 0
 IsAnswerTo workers bytes (Output text day) = (input : ClearingInput) × Spells bytes input × TellsOfDay input workers text.items day
+IsAnswerTo workers bytes (Agrees text) = ⊥
 IsAnswerTo workers bytes (Difference text) = ⊥
 IsAnswerTo workers bytes (Refusal text) = IsRefusalOf bytes text.items
 
@@ -95,13 +115,15 @@ pub record IsRefusalOfFront (bytes text : List ℕ) : Type 0 where
 
 -- the answer to a text that is to be an output of an input
 abbrev pub IsComparison : ClearingInput → List ℕ → Answer → Type 0
-IsComparison input read (Output text day) = IsOutput input RESTARTS_BELOW read × (text.items ≡ agrees_line) × (day ≡ None)
+IsComparison input read (Output text day) = ⊥
+IsComparison input read (Agrees text) = IsOutput input RESTARTS_BELOW read × (text.items ≡ agrees_line)
 IsComparison input read (Difference text) = (n : ℕ) × IsFirstWrongLine input RESTARTS_BELOW read n × (text.items ≡ differs_line n)
 IsComparison input read (Refusal text) = ⊥
 
 -- the answer to bytes that are to be an input and an output of it
 abbrev pub IsCheckOf : List ℕ → Answer → Type 0
-IsCheckOf bytes (Output text day) = HoldOutput bytes × (text.items ≡ agrees_line) × (day ≡ None)
+IsCheckOf bytes (Output text day) = ⊥
+IsCheckOf bytes (Agrees text) = HoldOutput bytes × (text.items ≡ agrees_line)
 IsCheckOf bytes (Difference text) = (n : ℕ) × HoldWrongLine bytes n × (text.items ≡ differs_line n)
 IsCheckOf bytes (Refusal text) = IsRefusalOfFront bytes text.items
 

@@ -1,23 +1,11 @@
 -- A text behind an input that is compared with it.
-use Rattle.std.specs.Prelude.{◌≡◌, ℕ, List, [], ◌∷◌, ◌++◌, codes}
+use Rattle.std.specs.Prelude.{ℕ, List, [], ◌∷◌, codes}
 use Rattle.script_reader.specs.Text.{line, number}
 use Rattle.script_reader.specs.Input.{ClearingInput}
-use Rattle.script_reader.specs.Grammar.{Spells}
+use Rattle.script_reader.specs.Grammar.{AreTwoTexts}
 use Rattle.books_report.specs.declared.limits.TheConstants.{RESTARTS_BELOW}
 use Rattle.books_report.specs.Output.{IsOutput}
 use Rattle.books_report.specs.Checking.{IsFirstWrongLine}
-
--- the bytes are the text of an input and, directly behind it, another text
-pub record AreTwoTexts (bytes : List ℕ) (input : ClearingInput) (text : List ℕ) : Type 0 where
-  pub front : List ℕ
-  pub spelled : Spells front input
-  pub bytes_are : bytes ≡ front ++ text
-
--- the bytes begin with the text of an input
-pub record BeginWithInput (bytes : List ℕ) : Type 0 where
-  pub input : ClearingInput
-  pub text : List ℕ
-  pub two : AreTwoTexts bytes input text
 
 -- the text behind the input is an output of it
 pub record HoldOutput (bytes : List ℕ) : Type 0 where

@@ -4,10 +4,11 @@ ghost use Rattle.std.specs.Prelude.{◌≡◌, map, IfOk};
 ghost use Rattle.books_model.specs.Ranges.{IsWithin};
 ghost use Rattle.books_report.specs.Output.{output_of};
 ghost use Rattle.script_reader.specs.declared.limits.TheConstants.{MOST_WORKERS};
-ghost use Rattle.twoplsf.specs.Answer.{IsAnswerTo, refused_line};
+ghost use Rattle.twoplsf.specs.Answer.{IsAnswerTo, day_of, refused_line, status_of, text_of};
 ghost use Rattle.twoplsf.specs.Day.{IsDayOf, closing_books, journal_of, line_of};
 
 use crate::day::run_day;
+use crate::status::Status;
 use books_model::{Books, Reply};
 use books_report::{Line, journal_text};
 use io_ends::OutOfMemory;
@@ -23,13 +24,30 @@ use worker_pool::{DayEnd, Done};
 /// A text to be printed.
 #[derive(Drop)]
 pub enum Answer {
-    /// What a command that did its work has to say: a journal and closing books, with the day that they tell of, or that
-    /// a text is an output.
-    Output { text: Vec<u8>, day: Option<DayEnd> },
+    /// A journal and closing books, and the day that they tell of.
+    Output { text: Vec<u8>, day: DayEnd },
+    /// That the text behind an input is an output of it.
+    Agrees(Vec<u8>),
     /// The first wrong line of a text that is no output.
     Difference(Vec<u8>),
     /// A faulty line and its fault.
     Refusal(Vec<u8>),
+}
+
+impl Answer {
+    /// The status that it is printed with, its text, and its day, which an output alone has.
+    pub(crate) fn into_parts(self) -> (Status, Vec<u8>, Option<DayEnd>)
+        ensures status { result.0 ≡ status_of self }
+        ensures text { result.1.items ≡ text_of self }
+        ensures day { result.2 ≡ day_of self }
+    {
+        match self {
+            Answer::Output { text, day } => (Status::Done, text, Some(day)),
+            Answer::Agrees(text) => (Status::Done, text, None),
+            Answer::Difference(text) => (Status::Differs, text, None),
+            Answer::Refusal(text) => (Status::BadInput, text, None),
+        }
+    }
 }
 
 pub(crate) fn refusal_of(alloc: Global, line: u32, why: Fault) -> Result<Vec<u8>, OutOfMemory>
@@ -132,10 +150,7 @@ pub fn answer_to<R: Threads + Wait + Sync, G: Gate>(
     match read_input(alloc, bytes) {
         Ok(input) => {
             let (day, text) = day_and_text(rt, alloc, &input, workers, gate)?;
-            Ok(Answer::Output {
-                text,
-                day: Some(day),
-            })
+            Ok(Answer::Output { text, day })
         }
         Err(InputFault::Line { line, why }) => Ok(Answer::Refusal(refusal_of(alloc, line, why)?)),
         Err(InputFault::OutOfMemory) => Err(OutOfMemory),

@@ -24,10 +24,7 @@ fn compare(alloc: Global, input: &Input, text: &[u8]) -> Result<Answer, OutOfMem
     ensures { IfOk result (IsComparison input.now text.now) }
 {
     match check_text(alloc, input, text)? {
-        Checked::Agrees => Ok(Answer::Output {
-            text: String::from_str(alloc, "agrees\n")?.into_bytes(),
-            day: None,
-        }),
+        Checked::Agrees => Ok(Answer::Agrees(String::from_str(alloc, "agrees\n")?.into_bytes())),
         Checked::Differs(line) => Ok(Answer::Difference(difference_of(alloc, line)?)),
     }
 }

@@ -1,9 +1,12 @@
-//! Each read and each write that fails, in turn, and ends that cannot fail.
+//! Each read and each write that fails, in turn, ends that cannot fail, and what the program ends with.
 
+use crate::program::run_program;
+use crate::serve::serve;
 use crate::status::Status;
 use crate::surely::serve_surely;
 use crate::tests::{Ends, FIRST, HEADER, served, text, words};
-use io_ends::OutOfMemory;
+use io_ends::{MemSink, MemSource, OutOfMemory};
+use script_reader::limits::MOST_INPUT_BYTES;
 use std::alloc::Global;
 use std::sync::Wait;
 use std::test::Fail;
@@ -80,6 +83,39 @@ fn sure_ends_never_fault(rt: HostRuntime) -> Result<(), Fail> {
     ] {
         let came = surely(&rt, rt.alloc(), *command, *input, *behind)?;
         assert_eq!(rt; came, (*status, *tells), "{command}");
+    }
+    Ok(())
+}
+
+// The largest input that a seed gives is read whole, and its day is done.
+#[test]
+fn the_largest_generated_input_is_run(rt: HostRuntime) -> Result<(), Fail> {
+    let alloc = rt.alloc();
+    let mut none = MemSource::new(Vec::new(alloc), 1, Vec::new(alloc));
+    let room = MOST_INPUT_BYTES;
+    let mut made = MemSink::with_room(alloc, room, room, Vec::new(alloc))?;
+    let make = words(alloc, "make 0 1024 64")?;
+    let making = serve(&rt, alloc, &make, &mut none, &mut made, &OpenGate);
+    assert_eq!(rt; making.status, Status::Done);
+    let run = words(alloc, "run 1")?;
+    let served = serve_surely(&rt, alloc, &run, made.taken().to_vec(alloc)?, &OpenGate);
+    assert_eq!(rt; served.status, Status::Done);
+    Ok(())
+}
+
+// What the program ends with, of no words, and of words over the first input.
+#[test]
+fn the_program_ends_with_the_number_of_its_status(rt: HostRuntime) -> Result<(), Fail> {
+    let alloc = rt.alloc();
+    for (command, number) in &[(None, 7), (Some("run 1"), 0), (Some("run 0"), 2)] {
+        let line = match *command {
+            Some(command) => Ok(words(alloc, command)?),
+            None => Err(OutOfMemory),
+        };
+        let mut source = MemSource::new(text(alloc, &[WHOLE])?, 100, Vec::new(alloc));
+        let mut sink = MemSink::with_room(alloc, 1_000, 100, Vec::new(alloc))?;
+        let ended = run_program(&rt, alloc, line, &mut source, &mut sink, &OpenGate);
+        assert_eq!(rt; ended, *number);
     }
     Ok(())
 }

@@ -6,8 +6,6 @@ pub mod answer;
 pub mod check;
 pub mod command;
 pub mod day;
-pub mod laws;
-pub mod limits;
 pub mod making;
 pub mod program;
 pub mod serve;

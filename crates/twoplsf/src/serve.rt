@@ -5,7 +5,7 @@ ghost use Rattle.std.specs.String.{string_bytes};
 ghost use Rattle.std.specs.Io.KnownBytes.{Appends};
 ghost use Rattle.io_ends.specs.Counts.{Rose};
 ghost use Rattle.io_ends.specs.Taken.{AppendsPrefix, TakesAtMost, count_taken};
-ghost use Rattle.script_reader.specs.Grammar.{IsValidInput};
+ghost use Rattle.script_reader.specs.Grammar.{AreTwoTexts, BeginWithInput, IsValidInput};
 ghost use Rattle.script_reader.specs.declared.fault.Fault.{Fault};
 ghost use Rattle.script_reader.specs.Faults.{IsFirstFault, IsFrontFault};
 ghost use Rattle.script_reader.specs.Input.{ClearingInput};
@@ -13,19 +13,19 @@ ghost use Rattle.twoplsf.specs.Command.{IsRun, IsCheck, IsDrill, IsMaking, IsRea
 ghost use Rattle.books_report.specs.Output.{IsOutput};
 ghost use Rattle.books_report.specs.Checking.{IsFirstWrongLine};
 ghost use Rattle.twoplsf.specs.Commands.{IsMakingBy, IsReadingBy};
-ghost use Rattle.twoplsf.specs.Check.{AreTwoTexts, BeginWithInput, differs_line};
+ghost use Rattle.twoplsf.specs.Check.{differs_line};
 ghost use Rattle.twoplsf.specs.Made.{IsDrillDay, PrintsMade};
 ghost use Rattle.twoplsf.specs.Making.{IsMakingDay, RunsScripts, making_text};
-ghost use Rattle.twoplsf.specs.Answer.{HaveInputFor, OfBytesRead, IsAnswerBy, IsDayFor, PrintsOutput, TookText, refused_line};
+ghost use Rattle.twoplsf.specs.Answer.{HaveInputFor, OfBytesRead, IsAnswerBy, IsDayFor, PrintsOutput, TookText, day_of, refused_line, status_of, text_of};
 
 use crate::answer::{Answer, answer_to};
 use crate::check::check_answer;
 use crate::command::{Command, Making, Reading, command_of};
-use crate::limits::MOST_INPUT_BYTES;
 use crate::making::made_answer;
 use crate::status::Status;
 use books_report::limits::RESTARTS_BELOW;
 use io_ends::{OutOfMemory, ReadStop, Sink, Source, read_all, write_all_of};
+use script_reader::limits::MOST_INPUT_BYTES;
 use std::alloc::Global;
 use std::sync::Wait;
 use std::thread::Threads;
@@ -58,6 +58,21 @@ fn day_after(status: Status, day: Option<DayEnd>) -> Option<DayEnd>
     ensures other { status ≢ Status.Done → result ≡ None }
 {
     if status == Status::Done { day } else { None }
+}
+
+/// Writes the text of an answer.
+fn print_answer<K: Sink>(sink: &mut K, answer: Answer) -> Served
+    ensures text { (result.status ≡ status_of answer
+        × Appends (K.taken sink.old) (K.taken sink.new) (text_of answer))
+        ⊎ (result.status ≡ Status.WriteFault × Rose (K.faults sink.old) (K.faults sink.new)
+        × AppendsPrefix (K.taken sink.old) (K.taken sink.new) (text_of answer)) }
+    ensures done { result.status ≡ Status.Done → result.day ≡ day_of answer }
+    ensures other { result.status ≢ Status.Done → result.day ≡ None }
+{
+    let (status, text, day) = answer.into_parts();
+    let status = finish(sink, &text, status);
+    let day = day_after(status, day);
+    Served { status, day }
 }
 
 /// What a command has to say of the bytes that were read.
@@ -171,19 +186,7 @@ fn serve_words<R: Threads + Wait + Sync, S: Source, K: Sink, G: Gate>(
         }
     };
     match answer_by(rt, alloc, reading, &bytes, gate) {
-        Ok(Answer::Output { text, day }) => {
-            let status = finish(sink, &text, Status::Done);
-            let day = day_after(status, day);
-            Served { status, day }
-        }
-        Ok(Answer::Difference(text)) => {
-            let status = finish(sink, &text, Status::Differs);
-            Served { status, day: None }
-        }
-        Ok(Answer::Refusal(text)) => {
-            let status = finish(sink, &text, Status::BadInput);
-            Served { status, day: None }
-        }
+        Ok(answer) => print_answer(sink, answer),
         Err(_) => {
             let status = Status::OutOfMemory;
             Served { status, day: None }

@@ -1,9 +1,7 @@
 //! How the program ends.
 
 ghost use Rattle.std.specs.Prelude.{◌≡◌};
-ghost use Rattle.twoplsf.specs.Ending.{ending_of, exit_status};
-
-use io_ends::OutOfMemory;
+ghost use Rattle.twoplsf.specs.Ending.{exit_status};
 
 /// What became of a command. The exit statuses are 0 to 7, in this order.
 #[derive(Clone, Copy, Debug, PartialEq, Eq)]
@@ -32,16 +30,5 @@ impl Status {
         ensures { result ≡ exit_status self }
     {
         self as u8
-    }
-}
-
-/// The exit status of the program, from what became of the command. Where there was no memory for its words, the
-/// program ends as whenever it is out of memory.
-pub fn ending_of(outcome: Result<Status, OutOfMemory>) -> u8
-    ensures { result ≡ ending_of outcome }
-{
-    match outcome {
-        Ok(status) => status.code(),
-        Err(OutOfMemory) => Status::OutOfMemory.code(),
     }
 }

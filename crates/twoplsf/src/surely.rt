@@ -3,19 +3,18 @@
 
 ghost use Rattle.std.specs.Prelude.{◌≡◌, ◌≢◌, ◌≤◌, ◌<◌, ◌⊎◌, ◌↔◌, List, ℕ, None, length, map, IfSome, IsSome};
 ghost use Rattle.std.specs.String.{string_bytes};
-ghost use Rattle.script_reader.specs.Grammar.{IsValidInput};
+ghost use Rattle.script_reader.specs.Grammar.{AreTwoTexts, BeginWithInput, IsValidInput};
 ghost use Rattle.script_reader.specs.Input.{ClearingInput};
 ghost use Rattle.books_report.specs.Output.{IsOutput};
 ghost use Rattle.twoplsf.specs.Command.{IsRun, IsCheck, IsDrill, IsMaking, IsReading, IsValidCommand};
-ghost use Rattle.twoplsf.specs.Check.{AreTwoTexts, BeginWithInput};
 ghost use Rattle.twoplsf.specs.Made.{IsDrillDay};
 ghost use Rattle.twoplsf.specs.Answer.{HaveInputFor, IsDayFor};
 
-use crate::limits::MOST_INPUT_BYTES;
 use crate::serve::{Served, serve};
 use crate::status::Status;
 use books_report::limits::RESTARTS_BELOW;
 use io_ends::{SureSink, SureSource};
+use script_reader::limits::MOST_INPUT_BYTES;
 use std::alloc::Global;
 use std::sync::Wait;
 use std::thread::Threads;

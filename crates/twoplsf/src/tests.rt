@@ -1,7 +1,7 @@
 ghost use Rattle.std.specs.Prelude.{◌≤◌};
 
 use crate::serve::serve;
-use crate::status::{Status, ending_of};
+use crate::status::Status;
 use io_ends::{MemSink, MemSource, OutOfMemory};
 use std::alloc::Global;
 use std::process::Abort;
@@ -354,18 +354,17 @@ fn more_bytes_than_the_largest_input_are_refused(rt: HostRuntime) -> Result<(), 
 
 #[test]
 fn each_status_has_its_exit_status(rt: HostRuntime) {
-    for (outcome, code) in &[
-        (Ok(Status::Done), 0),
-        (Ok(Status::Differs), 1),
-        (Ok(Status::BadWords), 2),
-        (Ok(Status::BadInput), 3),
-        (Ok(Status::TooLarge), 4),
-        (Ok(Status::ReadFault), 5),
-        (Ok(Status::WriteFault), 6),
-        (Ok(Status::OutOfMemory), 7),
-        (Err(OutOfMemory), 7),
+    for (status, code) in &[
+        (Status::Done, 0),
+        (Status::Differs, 1),
+        (Status::BadWords, 2),
+        (Status::BadInput, 3),
+        (Status::TooLarge, 4),
+        (Status::ReadFault, 5),
+        (Status::WriteFault, 6),
+        (Status::OutOfMemory, 7),
     ] {
-        assert_eq!(rt; ending_of(*outcome), *code, "{outcome:?}");
+        assert_eq!(rt; status.code(), *code, "{status:?}");
     }
 }
 

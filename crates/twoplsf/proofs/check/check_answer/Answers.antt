@@ -2,11 +2,10 @@ use Rattle.std.proofs.Common.{◌-◌, ◌++◌, ℕ, List, length, take, drop, 
 use Rattle.std.proofs.lemmas.List.{take_rest}
 use Rattle.std.proofs.lemmas.Result.{IfOk-weaker}
 use Rattle.script_reader.specs.Input.{ClearingInput}
-use Rattle.script_reader.specs.Grammar.{Spells}
+use Rattle.script_reader.specs.Grammar.{Spells, AreTwoTexts}
 use Rattle.twoplsf.specs.declared.answer.Answer.{Answer}
-use Rattle.twoplsf.specs.declared.answer.Answer.TheVariants.{Output, Difference, Refusal}
+use Rattle.twoplsf.specs.declared.answer.Answer.TheVariants.{Output, Agrees, Difference, Refusal}
 use Rattle.twoplsf.specs.Answer.{IsCheckOf, IsComparison}
-use Rattle.twoplsf.specs.Check.{AreTwoTexts}
 use Rattle.twoplsf.proofs.check.check_answer.Goals as goal
 
 -- what is read of bytes, and the rest of them
@@ -20,8 +19,9 @@ two_texts bytes input end spelled = record {
 -- what is said of the rest of bytes is said of the bytes
 check_of : (bytes : List ℕ) (input : ClearingInput) (end : ℕ) → Spells (take end bytes) input
     → (answer : Answer) → IsComparison input (take (length bytes - end) (drop end bytes)) answer → IsCheckOf bytes answer
-check_of bytes input end spelled (Output text day) (output, said, none) =
-    (record { input = input; text = take (length bytes - end) (drop end bytes); two = two_texts bytes input end spelled; output = output }, said, none)
+check_of bytes input end spelled (Output text day) none = absurd none
+check_of bytes input end spelled (Agrees text) (output, said) =
+    (record { input = input; text = take (length bytes - end) (drop end bytes); two = two_texts bytes input end spelled; output = output }, said)
 check_of bytes input end spelled (Difference text) (line, wrong, said) =
     (line, record { input = input; text = take (length bytes - end) (drop end bytes); two = two_texts bytes input end spelled; wrong = wrong }, said)
 check_of bytes input end spelled (Refusal text) none = absurd none

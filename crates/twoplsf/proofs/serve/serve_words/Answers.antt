@@ -2,12 +2,12 @@ use Rattle.std.proofs.Common.{map, rules, ◌≡◌, ◌+◌, inl, inr, IfSome, 
 use Rattle.std.proofs.lemmas.Option.{IfSome_then}
 use Rattle.std.specs.String.{string_bytes}
 use Rattle.io_ends.specs.Taken.{count_taken}
+use Rattle.io_ends.specs.Counts.{Rose}
 use Rattle.twoplsf.specs.Command.{IsValidCommand}
-use Rattle.twoplsf.specs.declared.answer.Answer.TheVariants.{Output, Difference, Refusal}
-use Rattle.twoplsf.specs.declared.limits.TheConstants.{MOST_INPUT_BYTES}
+use Rattle.script_reader.specs.declared.limits.TheConstants.{MOST_INPUT_BYTES}
 use Rattle.twoplsf.specs.declared.status.Status.TheVariants as status
 use Rattle.twoplsf.specs.Answer.{refused_words, refused_size}
-use Rattle.twoplsf.proofs.Served.{day_kept, day_there, has_day, read_by, read_is, not_made, written, took_text, HasAnswered, output_taken, output_day, difference_taken, refusal_taken}
+use Rattle.twoplsf.proofs.Served.{read_by, read_is, not_made, took_text, HasAnswered, HasPrinted, printed_text, printed_day, printed_has_day}
 use Rattle.twoplsf.proofs.Makings.{made_by, made_is, not_read, runs_of, day_of_making, took_making, none_of_making, no_other_end}
 use Rattle.twoplsf.proofs.serve.serve_words.Given.{Over}
 use Rattle.twoplsf.proofs.serve.serve_words.Goals as goal
@@ -28,61 +28,6 @@ returns-in-Err-TooLarge-clause-text g c =
     let above : IfSome (count_taken (g.S.Source.left c.args.source.now) (g.S.Source.left c.read_all.new.source)) (λ n. n ≡ MOST_INPUT_BYTES + 1) = search rules in
     took_text c.finish-status-in-Err-TooLarge.result status.TooLarge (map string_bytes c.args.words.now) (g.S.Source.left c.args.source.now) (g.S.Source.left c.read_all.new.source) (g.K.Sink.taken c.args.sink.now) (g.K.Sink.taken c.finish-status-in-Err-TooLarge.new.sink) refused_size _
     (read_is (map string_bytes c.args.words.now) c.in-Read.is c.in-Some.ensures.some, above, refl) c.finish-status-in-Err-TooLarge.ensures
-
--- the answer is an output, or that a text is one
-output : (g : Over) (c : goal.After-drop-bytes g)
-    → HasAnswered (map string_bytes c.args.words.now) c.in-Read.reading (g.S.Source.left c.args.source.now) (g.S.Source.left c.read_all.new.source) c.in-Ok.bytes.items (Output c.in-Ok-Output.text c.in-Ok-Output.day)
-output g c = record {
-  is = read_by (map string_bytes c.args.words.now) c.in-Read.is c.in-Some.ensures.some;
-  taken = c.in-Ok.ensures.bytes;
-  end = c.in-Ok.ensures.end;
-  few = omega (arith, c.in-Ok.ensures.within, c.in-Ok.bytes.ok.0);
-  answers = rw (c.in-Ok-Output.field-0-is, c.deref.ensures.value) at c.in-Ok-Output.ensures;
-}
-
-pub returns-in-Ok-Output-clause-text : goal.returns-in-Ok-Output-clause-text
-returns-in-Ok-Output-clause-text g c = output_taken (output g c) c.finish-status-in-Ok-Output.result (g.K.Sink.taken c.args.sink.now) (g.K.Sink.taken c.finish-status-in-Ok-Output.new.sink) _ (rw c.deref-in-Ok-Output.ensures.value at c.finish-status-in-Ok-Output.ensures)
-
-pub returns-in-Ok-Output-clause-day : goal.returns-in-Ok-Output-clause-day
-returns-in-Ok-Output-clause-day g c run =
-    day_kept c.finish-status-in-Ok-Output.result c.in-Ok-Output.day c.day_after-day.result _ _ _ _ c.day_after-day.ensures.done c.day_after-day.ensures.other c.finish-status-in-Ok-Output.ensures
-    (λ is. output_day (output g c) (g.K.Sink.taken c.args.sink.now) (g.K.Sink.taken c.finish-status-in-Ok-Output.new.sink) (written c.finish-status-in-Ok-Output.result status.Done _ _ _ (rw c.deref-in-Ok-Output.ensures.value at c.finish-status-in-Ok-Output.ensures) (λ w. cc)))
-
-pub returns-in-Ok-Output-clause-has_day : goal.returns-in-Ok-Output-clause-has_day
-returns-in-Ok-Output-clause-has_day g c =
-    day_there c.finish-status-in-Ok-Output.result c.in-Ok-Output.day c.day_after-day.result _ _ _ _ c.day_after-day.ensures.done c.day_after-day.ensures.other c.finish-status-in-Ok-Output.ensures
-    (has_day (map string_bytes c.args.words.now) c.in-Read.reading c.in-Ok.bytes.items c.in-Ok-Output.text c.in-Ok-Output.day (output g c).is (output g c).answers)
-
-pub returns-in-Ok-Output-clause-drill_day : goal.returns-in-Ok-Output-clause-drill_day
-returns-in-Ok-Output-clause-drill_day g c drill = absurd (not_made (map string_bytes c.args.words.now) c.in-Read.is c.in-Some.ensures.some (inr drill))
-
--- the answer is a wrong line
-difference : (g : Over) (c : goal.After-drop-bytes-in-Ok-Difference g)
-    → HasAnswered (map string_bytes c.args.words.now) c.in-Read.reading (g.S.Source.left c.args.source.now) (g.S.Source.left c.read_all.new.source) c.in-Ok.bytes.items (Difference c.in-Ok-Difference.text)
-difference g c = record {
-  is = read_by (map string_bytes c.args.words.now) c.in-Read.is c.in-Some.ensures.some;
-  taken = c.in-Ok.ensures.bytes;
-  end = c.in-Ok.ensures.end;
-  few = omega (arith, c.in-Ok.ensures.within, c.in-Ok.bytes.ok.0);
-  answers = rw (c.in-Ok-Difference.field-0-is, c.deref.ensures.value) at c.in-Ok-Difference.ensures;
-}
-
-pub returns-in-Ok-Difference-clause-text : goal.returns-in-Ok-Difference-clause-text
-returns-in-Ok-Difference-clause-text g c = difference_taken (difference g c) c.finish-status-in-Ok-Difference.result (g.K.Sink.taken c.args.sink.now) (g.K.Sink.taken c.finish-status-in-Ok-Difference.new.sink) _ (rw c.deref-in-Ok-Difference.ensures.value at c.finish-status-in-Ok-Difference.ensures)
-
--- the answer is a refusal
-refusal : (g : Over) (c : goal.After-drop-bytes-in-Ok-Refusal g)
-    → HasAnswered (map string_bytes c.args.words.now) c.in-Read.reading (g.S.Source.left c.args.source.now) (g.S.Source.left c.read_all.new.source) c.in-Ok.bytes.items (Refusal c.in-Ok-Refusal.text)
-refusal g c = record {
-  is = read_by (map string_bytes c.args.words.now) c.in-Read.is c.in-Some.ensures.some;
-  taken = c.in-Ok.ensures.bytes;
-  end = c.in-Ok.ensures.end;
-  few = omega (arith, c.in-Ok.ensures.within, c.in-Ok.bytes.ok.0);
-  answers = rw (c.in-Ok-Refusal.field-0-is, c.deref.ensures.value) at c.in-Ok-Refusal.ensures;
-}
-
-pub returns-in-Ok-Refusal-clause-text : goal.returns-in-Ok-Refusal-clause-text
-returns-in-Ok-Refusal-clause-text g c = refusal_taken (refusal g c) c.finish-status-in-Ok-Refusal.result (g.K.Sink.taken c.args.sink.now) (g.K.Sink.taken c.finish-status-in-Ok-Refusal.new.sink) _ (rw c.deref-in-Ok-Refusal.ensures.value at c.finish-status-in-Ok-Refusal.ensures)
 
 pub returns-in-Make-clause-day : goal.returns-in-Make-clause-day
 returns-in-Make-clause-day g c run = absurd (not_read (map string_bytes c.args.words.now) c.in-Make.is c.in-Some.ensures.some (inl run))
@@ -130,20 +75,32 @@ returns-in-Err-OutOfMemory-clause-unread g c none = absurd (none (read_is (map s
 pub returns-in-Err-OutOfMemory-clause-words_first : goal.returns-in-Err-OutOfMemory-clause-words_first
 returns-in-Err-OutOfMemory-clause-words_first g c none = absurd (none (inl (read_is (map string_bytes c.args.words.now) c.in-Read.is c.in-Some.ensures.some)))
 
-pub returns-in-Ok-Output-clause-unread : goal.returns-in-Ok-Output-clause-unread
-returns-in-Ok-Output-clause-unread g c none = absurd (none (read_is (map string_bytes c.args.words.now) c.in-Read.is c.in-Some.ensures.some))
+-- the answer to the bytes that were read
+answered : (g : Over) (c : goal.After-drop-bytes g) → HasAnswered (map string_bytes c.args.words.now) c.in-Read.reading (g.S.Source.left c.args.source.now) (g.S.Source.left c.read_all.new.source) c.in-Ok.bytes.items c.in-Ok-answer_by.answer
+answered g c = record {
+  is = read_by (map string_bytes c.args.words.now) c.in-Read.is c.in-Some.ensures.some;
+  taken = c.in-Ok.ensures.bytes;
+  end = c.in-Ok.ensures.end;
+  few = omega (arith, c.in-Ok.ensures.within, c.in-Ok.bytes.ok.0);
+  answers = rw c.deref.ensures.value at c.in-Ok-answer_by.ensures;
+}
 
-pub returns-in-Ok-Output-clause-words_first : goal.returns-in-Ok-Output-clause-words_first
-returns-in-Ok-Output-clause-words_first g c none = absurd (none (inl (read_is (map string_bytes c.args.words.now) c.in-Read.is c.in-Some.ensures.some)))
+-- it was printed or not
+printed : (g : Over) (c : goal.After-drop-bytes g)
+    → HasPrinted c.in-Ok-answer_by.answer c.print_answer.result.status c.print_answer.result.day (g.K.Sink.taken c.args.sink.now) (g.K.Sink.taken c.print_answer.new.sink) (Rose (g.K.Sink.faults c.args.sink.now) (g.K.Sink.faults c.print_answer.new.sink))
+printed g c = record { wrote = c.print_answer.ensures.text; done = c.print_answer.ensures.done; other = c.print_answer.ensures.other }
 
-pub returns-in-Ok-Difference-clause-unread : goal.returns-in-Ok-Difference-clause-unread
-returns-in-Ok-Difference-clause-unread g c none = absurd (none (read_is (map string_bytes c.args.words.now) c.in-Read.is c.in-Some.ensures.some))
+pub returns-in-Ok-answer_by-clause-text : goal.returns-in-Ok-answer_by-clause-text
+returns-in-Ok-answer_by-clause-text g c = printed_text _ _ _ _ _ _ _ _ _ _ _ (answered g c) (printed g c)
 
-pub returns-in-Ok-Difference-clause-words_first : goal.returns-in-Ok-Difference-clause-words_first
-returns-in-Ok-Difference-clause-words_first g c none = absurd (none (inl (read_is (map string_bytes c.args.words.now) c.in-Read.is c.in-Some.ensures.some)))
+pub returns-in-Ok-answer_by-clause-day : goal.returns-in-Ok-answer_by-clause-day
+returns-in-Ok-answer_by-clause-day g c run = printed_day _ _ _ _ _ _ _ _ _ _ _ (answered g c) (printed g c)
 
-pub returns-in-Ok-Refusal-clause-unread : goal.returns-in-Ok-Refusal-clause-unread
-returns-in-Ok-Refusal-clause-unread g c none = absurd (none (read_is (map string_bytes c.args.words.now) c.in-Read.is c.in-Some.ensures.some))
+pub returns-in-Ok-answer_by-clause-has_day : goal.returns-in-Ok-answer_by-clause-has_day
+returns-in-Ok-answer_by-clause-has_day g c = printed_has_day _ _ _ _ _ _ _ _ _ _ _ (answered g c) (printed g c)
 
-pub returns-in-Ok-Refusal-clause-words_first : goal.returns-in-Ok-Refusal-clause-words_first
-returns-in-Ok-Refusal-clause-words_first g c none = absurd (none (inl (read_is (map string_bytes c.args.words.now) c.in-Read.is c.in-Some.ensures.some)))
+pub returns-in-Ok-answer_by-clause-unread : goal.returns-in-Ok-answer_by-clause-unread
+returns-in-Ok-answer_by-clause-unread g c none = absurd (none (read_is (map string_bytes c.args.words.now) c.in-Read.is c.in-Some.ensures.some))
+
+pub returns-in-Ok-answer_by-clause-words_first : goal.returns-in-Ok-answer_by-clause-words_first
+returns-in-Ok-answer_by-clause-words_first g c none = absurd (none (inl (read_is (map string_bytes c.args.words.now) c.in-Read.is c.in-Some.ensures.some)))

@@ -3,7 +3,7 @@ use Rattle.std.proofs.lemmas.Option.{IfSome_then}
 use Rattle.std.specs.String.{string_bytes}
 use Rattle.io_ends.specs.Counts.{Rose}
 use Rattle.script_reader.specs.Grammar.{IsValidInput}
-use Rattle.twoplsf.specs.declared.limits.TheConstants.{MOST_INPUT_BYTES}
+use Rattle.script_reader.specs.declared.limits.TheConstants.{MOST_INPUT_BYTES}
 use Rattle.twoplsf.specs.Answer.{HaveInputFor, IsDayFor}
 use Rattle.twoplsf.proofs.surely.serve_surely.Goals as goal
 

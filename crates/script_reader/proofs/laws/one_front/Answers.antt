@@ -1,0 +1,5 @@
+use Rattle.script_reader.proofs.FrontLaws.{one_front}
+use Rattle.script_reader.proofs.laws.one_front.Goals as goal
+
+pub returns : goal.returns
+returns c = one_front

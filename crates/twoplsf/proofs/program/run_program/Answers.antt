@@ -1,0 +1,41 @@
+use Rattle.script_reader.specs.Grammar.{BeginWithInput, IsValidInput}
+use Rattle.twoplsf.specs.declared.status.Status.TheVariants as status
+use Rattle.twoplsf.proofs.Endings.{one_status, one_of_two, ends_in_two, ends_in_three, where_ok}
+use Rattle.twoplsf.proofs.program.run_program.Goals as goal
+
+pub returns-in-Ok-clause-headline : goal.returns-in-Ok-clause-headline
+returns-in-Ok-clause-headline g c =
+    let headline = rw c.deref.ensures.value at c.serve.ensures.headline in
+    where_ok _ c.in-Ok.is (λ run done. headline run (one_status c.code.result c.serve.result.status status.Done c.code.ensures done))
+
+pub returns-in-Ok-clause-served : goal.returns-in-Ok-clause-served
+returns-in-Ok-clause-served g c = where_ok _ c.in-Ok.is (record {
+  is = c.serve.result.status;
+  number_is = c.code.ensures;
+  text = rw c.deref.ensures.value at c.serve.ensures.text;
+  read_fault = c.serve.ensures.read_fault;
+  write_fault = c.serve.ensures.write_fault;
+  words_first = rw c.deref.ensures.value at c.serve.ensures.words_first;
+  above_limit = c.serve.ensures.above_limit;
+})
+
+pub returns-in-Ok-clause-unread : goal.returns-in-Ok-clause-unread
+returns-in-Ok-clause-unread g c = where_ok _ c.in-Ok.is (rw c.deref.ensures.value at c.serve.ensures.unread)
+
+pub returns-in-Ok-clause-words_source : goal.returns-in-Ok-clause-words_source
+returns-in-Ok-clause-words_source g c = where_ok _ c.in-Ok.is (rw c.deref.ensures.value at c.serve.ensures.words_source)
+
+pub returns-in-Ok-clause-complete : goal.returns-in-Ok-clause-complete
+returns-in-Ok-clause-complete g c =
+    let complete = rw c.deref.ensures.value at c.serve.ensures.complete in
+    where_ok _ c.in-Ok.is (λ run. ends_in_two IsValidInput _ _ c.code.result c.serve.result.status status.Done status.OutOfMemory _ c.code.ensures (complete run))
+
+pub returns-in-Ok-clause-complete_check : goal.returns-in-Ok-clause-complete_check
+returns-in-Ok-clause-complete_check g c =
+    let complete = rw c.deref.ensures.value at c.serve.ensures.complete_check in
+    where_ok _ c.in-Ok.is (λ check. ends_in_three BeginWithInput _ _ c.code.result c.serve.result.status status.Done status.Differs status.OutOfMemory _ c.code.ensures (complete check))
+
+pub returns-in-Ok-clause-complete_making : goal.returns-in-Ok-clause-complete_making
+returns-in-Ok-clause-complete_making g c =
+    let complete = rw c.deref.ensures.value at c.serve.ensures.complete_making in
+    where_ok _ c.in-Ok.is (λ making write. one_of_two c.code.result c.serve.result.status status.Done status.OutOfMemory c.code.ensures (complete making write))
