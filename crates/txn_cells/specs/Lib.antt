@@ -1,0 +1,6 @@
+pub mod Spelling
+pub mod Pairs
+pub mod Cells
+pub mod Typed
+pub mod Puts
+pub mod Statements

@@ -1,0 +1,7 @@
+//! The limits of cells.
+
+/// The most words that a cell takes.
+pub const MOST_WORDS_OF_A_CELL: u32 = 8;
+
+/// The most words that an array and all before it take.
+pub const MOST_WORDS: u64 = 1_048_576;
