@@ -1,8 +1,8 @@
 -- The calls of an array, over any words.
-use Rattle.std.proofs.Common.{◌≡◌, ℕ, ◌+◌, ◌*◌, ◌<◌, ◌≤◌, List, [], ◌∷◌, ◌++◌, Result, Ok, Err, length, sym, ap, ◌∙◌, subst}
+use Rattle.std.proofs.Common.{◌≡◌, ℕ, ◌+◌, ◌*◌, ◌<◌, ◌≤◌, List, [], ◌∷◌, ◌++◌, Result, Ok, Err, length, sym, subst}
 use Rattle.std.specs.Result.{OnOk}
 use Rattle.history_model.specs.declared.shape.Shape.{Ghosts as Shapes}
-use Rattle.history_model.specs.Traces.{Trace, after, Begins}
+use Rattle.history_model.specs.Traces.{after, Begins}
 use Rattle.history_model.specs.Fitting.{SomeFits, Leads}
 use Rattle.history_model.proofs.FittingLaws.{some_at}
 use Rattle.txn_words.specs.declared.words.Words.{Ghosts as AnyWords}

@@ -3,7 +3,7 @@ use Rattle.std.proofs.Common.{◌≡◌, ℕ, ◌+◌, ◌*◌, ◌<◌, ◌≤�
 use Rattle.history_model.specs.Traces.{Trace, after, Begins}
 use Rattle.history_model.specs.Fitting.{Fits, SomeFits, InEach, Leads}
 use Rattle.history_model.proofs.TraceLaws.{length-after, begins_refl, begins_trans}
-use Rattle.history_model.proofs.FittingLaws.{fits_begins, leads_each, leads_leads}
+use Rattle.history_model.proofs.FittingLaws.{fits_begins, leads_each}
 use Rattle.txn_words.specs.Looks.{Looks}
 use Rattle.txn_cells.specs.declared.coded.Coded.{Ghosts as Codes}
 use Rattle.txn_cells.specs.declared.typed.TypedEvent.TheVariants.{Get, Set}

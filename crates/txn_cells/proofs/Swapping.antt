@@ -1,9 +1,8 @@
 -- Two cells are read, and their values put in crosswise.
-use Rattle.std.proofs.Common.{◌≡◌, ◌⊎◌, inl, inr, ℕ, ◌+◌, ◌*◌, ◌<◌, ◌≤◌, List, [], ◌∷◌, ◌++◌, length, ◌∙◌}
+use Rattle.std.proofs.Common.{◌≡◌, ◌⊎◌, inl, inr, ℕ, ◌+◌, ◌*◌, ◌<◌, ◌≤◌, List, [], ◌∷◌, length, ◌∙◌}
 use Rattle.history_model.specs.declared.shape.Shape.{Ghosts as Shapes}
 use Rattle.history_model.specs.Traces.{Trace, Begins}
 use Rattle.history_model.specs.Fitting.{SomeFits}
-use Rattle.history_model.proofs.TraceLaws.{begins_trans}
 use Rattle.txn_words.specs.declared.words.Words.{Ghosts as AnyWords}
 use Rattle.txn_words.specs.Calls.{InEachState, LeadsTo}
 use Rattle.txn_words.specs.Looks.{Looks}
@@ -17,7 +16,7 @@ use Rattle.txn_cells.specs.declared.typed.TypedEvent.TheVariants.{Get, Set}
 use Rattle.txn_cells.specs.Cells.{AreCells, cell_words}
 use Rattle.txn_cells.specs.Typed.{DoesTyped}
 use Rattle.txn_cells.specs.Puts.{PutsWords}
-use Rattle.txn_cells.proofs.Arrays.{value_found, gets, sets, cells_after, does_next}
+use Rattle.txn_cells.proofs.Arrays.{value_found, gets, sets, does_next}
 
 module _ {W S O T : Type 0} (words : AnyWords W S O) (shapes : Shapes S) (code : Codes T) (at len : ℕ) where
   -- the cells are there still where words were read alone

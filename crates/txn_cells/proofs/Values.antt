@@ -1,15 +1,12 @@
 -- What is known of cells' values, as words are read and put in.
-use Rattle.std.proofs.Common.{◌≡◌, ◌≢◌, ◌⊎◌, inl, inr, ℕ, ◌+◌, ◌*◌, ◌<◌, ◌≤◌, List, [], ◌∷◌, Some, length, take, drop, get_or, slice_get, slice_set, refl, sym, ap, ◌∙◌, subst, arith, min, length-take, length-drop, ◌-◌}
+use Rattle.std.proofs.Common.{◌≡◌, ◌≢◌, ◌⊎◌, inl, inr, ℕ, ◌+◌, ◌*◌, ◌<◌, ◌≤◌, List, Some, length, take, drop, slice_get, slice_set, sym, ap, ◌∙◌, subst, arith}
 use Rattle.std.proofs.lemmas.List.{length-set}
 use Rattle.std.proofs.lemmas.Bool.{cases_order}
 use Rattle.history_model.proofs.ListPlaces.{same_list}
-use Rattle.std.proofs.lemmas.Option.{slice_get_within, slice_get-get_or, slice_get_cases}
-use Rattle.history_model.proofs.TraceLaws.{length-after}
-use Rattle.history_model.specs.Traces.{Trace, after}
-use Rattle.history_model.specs.Fitting.{Fits, SomeFits, InEach}
+use Rattle.std.proofs.lemmas.Option.{slice_get_within, slice_get_cases}
 use Rattle.txn_cells.specs.declared.coded.Coded.{Ghosts as Codes}
 use Rattle.txn_cells.specs.Cells.{AreCellValues, AreCells, cell_words}
-use Rattle.txn_cells.specs.Puts.{HasWords, PutsWords}
+use Rattle.txn_cells.specs.Puts.{PutsWords}
 use Rattle.txn_cells.proofs.Windows.{window_within, window_stays, window_is, cells_apart, get_set_cases}
 
 module _ {T : Type 0} (code : Codes T) (count : (x : T) → code.is_value x → length (code.words x) ≡ code.WORDS) (one : (x y : T) → code.is_value x → code.is_value y → code.words x ≡ code.words y → x ≡ y) (at len : ℕ) where

@@ -38,6 +38,14 @@ impl<T: Coded> Clone for CellsShape<T> {
 
 impl<T: Coded> Copy for CellsShape<T> {}
 
+impl<T: Coded> Clone for CellArray<T> {
+    fn clone(&self) -> Result<Self, AllocError> {
+        Ok(*self)
+    }
+}
+
+impl<T: Coded> Copy for CellArray<T> {}
+
 impl<T: Coded> Shape for CellsShape<T> {
     ghost use Rattle.std.specs.Prelude.{◌+◌, ◌*◌};
     ghost use Rattle.txn_cells.specs.Cells.{AreCells};
@@ -149,6 +157,14 @@ impl<T: Coded> CellArray<T> {
         self.write_cell(w, j, &first[..T::WORDS as usize])
     }
 
+    // The first word of the cell at place `i`.
+    fn first_word(&self, i: u32) -> u64
+        requires place { i < self.now.len }
+        ensures { result ≡ self.now.at + i * T.WORDS }
+    {
+        self.at + u64::from(i) * u64::from(T::WORDS)
+    }
+
     // The words of the cell at place `i`, and behind them nothing that counts.
     fn read_cell<W: Words>(
         &self,
@@ -163,7 +179,7 @@ impl<T: Coded> CellArray<T> {
             (λ s. cell_words T.Coded self.now.at i s ≡ take T.WORDS words)) }
         ensures goes_on { GoesOn W.Words w.old w.new result }
     {
-        let first = self.at + u64::from(i) * u64::from(T::WORDS);
+        let first = self.first_word(i);
         let mut words = [0; MOST_WORDS_OF_A_CELL as usize];
         for k in 0..T::WORDS {
             words[k as usize] = w.read(first + u64::from(k))?;
@@ -183,7 +199,7 @@ impl<T: Coded> CellArray<T> {
         ensures reads { OnOk result (ReadsOnly W.Words w.old w.new (IsOfCell T.WORDS self.now.at i)) }
         ensures goes_on { GoesOn W.Words w.old w.new result }
     {
-        let first = self.at + u64::from(i) * u64::from(T::WORDS);
+        let first = self.first_word(i);
         for k in 0..T::WORDS {
             w.write(first + u64::from(k), words[k as usize])?;
         }

@@ -13,6 +13,8 @@ pub mod laws;
 pub mod limits;
 pub mod numbers;
 pub mod pair;
+#[cfg(test)]
+mod tests;
 pub mod typed;
 
 pub use array::{CellArray, CellsShape};

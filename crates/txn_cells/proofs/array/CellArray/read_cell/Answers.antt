@@ -26,7 +26,7 @@ loop-k-preserved g c =
     let loop = c.loop-k in
     let read = c.in_ok-words in
     let below : loop.k < length loop.words = omega (arith, loop.invariant.count, c.loop-k-test.true, array.sizes.few) in
-    let own : IsOfCell code.WORDS array.at c.args.i (array.at + c.from.result * c.from-2.result + c.from-in-loop-k.result) = (omega (arith, loop.invariant.first), omega (arith, loop.invariant.first, c.loop-k-test.true)) in
+    let own : IsOfCell code.WORDS array.at c.args.i (c.first_word-first.result + c.from.result) = (omega (arith, loop.invariant.first), omega (arith, loop.invariant.first, c.loop-k-test.true)) in
     record {
       shape = read.ensures.shape ∙ loop.invariant.shape;
       origin = read.ensures.origin ∙ loop.invariant.origin;
@@ -46,6 +46,6 @@ returns-clause-looks g c =
     let shapes = g.W.Shape.Shape in
     let end : loop.k ≡ code.WORDS = omega (arith, c.loop-k-test.false) in
     let long : length (take code.WORDS loop.words) ≡ code.WORDS = length-take-le code.WORDS loop.words (omega (arith, loop.invariant.count, array.sizes.few)) in
-    let looks : Looks (shapes.word_count (words.shape c.args.w.now)) (shapes.good (words.shape c.args.w.now)) (words.trace c.args.w.now) (words.trace loop.w) (λ _. IsOfCell code.WORDS array.at c.args.i) (HasWords (array.at + c.from.result * c.from-2.result) (take code.WORDS loop.words)) =
-    subst (λ k. Looks (shapes.word_count (words.shape c.args.w.now)) (shapes.good (words.shape c.args.w.now)) (words.trace c.args.w.now) (words.trace loop.w) (λ _. IsOfCell code.WORDS array.at c.args.i) (HasWords (array.at + c.from.result * c.from-2.result) (take k loop.words))) end loop.invariant.looks in
+    let looks : Looks (shapes.word_count (words.shape c.args.w.now)) (shapes.good (words.shape c.args.w.now)) (words.trace c.args.w.now) (words.trace loop.w) (λ _. IsOfCell code.WORDS array.at c.args.i) (HasWords (c.first_word-first.result) (take code.WORDS loop.words)) =
+    subst (λ k. Looks (shapes.word_count (words.shape c.args.w.now)) (shapes.good (words.shape c.args.w.now)) (words.trace c.args.w.now) (words.trace loop.w) (λ _. IsOfCell code.WORDS array.at c.args.i) (HasWords (c.first_word-first.result) (take k loop.words))) end loop.invariant.looks in
     cell_read _ _ _ code g.met.T.Coded.count g.met.T.Coded.one array.at array.len _ c.args.i _ loop.words array.sizes.some (each_plain words shapes _ _ c.requires.cells) c.requires.place loop.invariant.first long looks

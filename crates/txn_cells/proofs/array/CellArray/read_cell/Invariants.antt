@@ -1,4 +1,4 @@
-use Rattle.std.proofs.Common.{◌≡◌, ◌+◌, ◌*◌, ◌≤◌, None, length, take}
+use Rattle.std.proofs.Common.{◌≡◌, ◌+◌, ◌*◌, None, length, take}
 use Rattle.txn_words.specs.Looks.{Looks}
 use Rattle.txn_cells.specs.Cells.{IsOfCell}
 use Rattle.txn_cells.specs.Puts.{HasWords}

@@ -1,9 +1,5 @@
-use Rattle.std.proofs.Common.{rules, ◌≡◌, [], ◌∷◌, take}
-use Rattle.txn_words.specs.Calls.{LeadsTo, InEachState}
+use Rattle.std.proofs.Common.{rules, [], ◌∷◌, take}
 use Rattle.txn_cells.specs.declared.typed.TypedEvent.TheVariants.{Set}
-use Rattle.txn_cells.specs.Cells.{AreCells}
-use Rattle.txn_cells.specs.Typed.{DoesTyped}
-use Rattle.txn_cells.specs.Puts.{PutsWords}
 use Rattle.txn_cells.proofs.Arrays.{on_ok_then, sets, cells_after}
 use Rattle.txn_cells.proofs.array.CellArray.set.Goals as goal
 

@@ -1,4 +1,4 @@
-use Rattle.std.proofs.Common.{◌≡◌, ◌+◌, ◌*◌, ◌<◌, ◌≤◌, length, take, get_or, ap, ◌∙◌, arith}
+use Rattle.std.proofs.Common.{◌≡◌, ◌+◌, ◌*◌, ◌≤◌, get_or, ap, ◌∙◌, arith}
 use Rattle.history_model.proofs.TraceLaws.{begins_trans}
 use Rattle.txn_words.proofs.CallLaws.{each_plain}
 use Rattle.txn_words.proofs.FrameLaws.{only_write, only_then}
@@ -30,7 +30,7 @@ loop-k-preserved g c =
     let IsOwn = IsOfCell code.WORDS array.at c.args.i in
     let lies : array.at + c.args.i * code.WORDS + code.WORDS ≤ shapes.word_count (words.shape c.args.w.now) =
     cell_lies code array.at array.len _ _ g.met.T.Coded.count g.met.T.Coded.one _ array.sizes.some (each_plain words shapes _ _ c.requires.cells) (g.met.W.Words.fits c.args.w.now c.requires.ready.sound) c.args.i c.requires.place in
-    let own : IsOfCell code.WORDS array.at c.args.i (array.at + c.from.result * c.from-2.result + c.from-in-loop-k.result) = (omega (arith, loop.invariant.first), omega (arith, loop.invariant.first, c.loop-k-test.true)) in
+    let own : IsOfCell code.WORDS array.at c.args.i (c.first_word-first.result + c.from.result) = (omega (arith, loop.invariant.first), omega (arith, loop.invariant.first, c.loop-k-test.true)) in
     record {
       shape = put.ensures.shape ∙ loop.invariant.shape;
       origin = put.ensures.origin ∙ loop.invariant.origin;
