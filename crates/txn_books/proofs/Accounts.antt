@@ -1,12 +1,10 @@
 -- What calls on the tree of accounts say of books.
-use Rattle.std.proofs.Common.{◌≡◌, ℕ, ◌*◌, ◌^◌, ◌<◌, ◌≤◌, false, Option, Some, None, IsSome, IfSome, List, [], length, refl, sym, ◌∙◌, subst, arith}
+use Rattle.std.proofs.Common.{◌≡◌, ℕ, ◌*◌, ◌^◌, ◌<◌, ◌≤◌, Bool, true, false, nat_le, ◌&&◌, if◌then◌else◌, Option, Some, None, IsSome, IfSome, List, [], length, refl, sym, ◌∙◌, subst, arith}
 use Rattle.std.specs.Cmp.{nat_cmp_total}
-use Rattle.std.specs.List.{sum_by}
 use Rattle.std.specs.FinMap as map
 use Rattle.std.proofs.lemmas.Map.Lookups.{exact_unsigned}
 use Rattle.books_model.proofs.Entries.{All-entries, sum_by-most}
 use Rattle.books_model.proofs.Drafts.{closed-in_range}
-use Rattle.txn_tree_map.proofs.Maps.{one_map}
 use Rattle.books_model.specs.declared.limits.TheConstants.{GREATEST_CASH}
 use Rattle.books_model.specs.Books.{ClearingBooks, used, put_cash}
 use Rattle.books_model.specs.Interpreter.{is_full, holds_any, cash_between}
@@ -15,7 +13,7 @@ use Rattle.books_model.proofs.InRange.{put_cash-in_range, used_after_insert, cha
 use Rattle.txn_words.specs.Frames.{KeepsOthers}
 use Rattle.txn_alloc.specs.declared.put.Put.{Put}
 use Rattle.txn_alloc.specs.declared.put.Put.TheVariants.{New, Old, Full}
-use Rattle.txn_alloc.specs.EntryMaps.{HasMap, HasMapApart, HasSmallSum, Finds, IsOwn, Inserts, Removes, SumsRange}
+use Rattle.txn_alloc.specs.EntryMaps.{HasMap, HasMapApart, Finds, IsOwn, Inserts, Removes, SumsRange}
 use Rattle.txn_alloc.proofs.Parts.{held}
 use Rattle.txn_tree_map.specs.Trees.{tree_part}
 use Rattle.txn_books.specs.declared.shape.BooksShape.{BooksShape}
@@ -28,11 +26,16 @@ use Rattle.txn_books.proofs.Parts.{good_parts, some_tree, tree_free, tree_new, t
 use Rattle.txn_books.proofs.States.{tree_apart, has_room, no_room, is_below, is_at}
 use Rattle.txn_books.proofs.Calls.{IsPut, IsCut}
 
--- all cash of books in range fits a word
-all_cash_fits : (books : ClearingBooks) → AreInRange books → sum_by (λ e. e.1) (map.entries books.accounts) < 2 ^ 64
-all_cash_fits books range =
-    let most : sum_by (λ e. e.1) (map.entries books.accounts) ≤ length (map.entries books.accounts) * GREATEST_CASH = sum_by-most (λ e. e.1) GREATEST_CASH (map.entries books.accounts)
-    (All-entries nat_cmp_total exact_unsigned _ books.accounts (λ k v there. (range.accounts k v there).1)) in
+-- a value that is counted, or 0 in its place
+counted_most : (b : Bool) (v most : ℕ) → v ≤ most → (if b then v else 0) ≤ most
+counted_most true v most le = le
+counted_most false v most le = omega arith
+
+-- the cash between two accounts of books in range fits a word
+cash_fits : (books : ClearingBooks) (low high : ℕ) → AreInRange books → cash_between books low high < 2 ^ 64
+cash_fits books low high range =
+    let most : cash_between books low high ≤ length (map.entries books.accounts) * GREATEST_CASH = sum_by-most (λ e. if nat_le low e.0 && nat_le e.0 high then e.1 else 0) GREATEST_CASH (map.entries books.accounts)
+    (All-entries nat_cmp_total exact_unsigned _ books.accounts (λ k v there. counted_most (nat_le low k && nat_le k high) v GREATEST_CASH (range.accounts k v there).1)) in
     omega (arith, most, map.len-entries books.accounts, range.blocks_used, range.blocks.1)
 
 -- an account's cash is in range
@@ -53,11 +56,9 @@ module _ (shape : BooksShape) where
   pub tells_between : (low high total : ℕ) (x y : List ℕ) → SumsRange (tree_part (tree_of shape)) low high total x y → Tells shape (λ books. cash_between books low high) total x y
   tells_between low high total x y sums = record { same = sums.same; told = λ books stand. sums.sum books.accounts stand.parts.tree_used (tree_apart shape x books stand).map }
 
-  -- all cash fits a word
-  pub tree_small : (x : List ℕ) → IsGoodFor shape x → HasSmallSum (tree_part (tree_of shape)) x
-  tree_small x good = λ entries used holds.
-      let same : good.0.accounts ≡ entries = (one_map (tree_of shape) x good.0.accounts entries good.1.parts.tree_used used (tree_apart shape x good.0 good.1).map holds).0 in
-      subst (λ f. sum_by (λ e. e.1) (map.entries f) < 2 ^ 64) same (all_cash_fits good.0 good.1.range)
+  -- a sum of cash fits a word
+  pub between_small : (low high total : ℕ) (x y : List ℕ) → IsGoodFor shape x → SumsRange (tree_part (tree_of shape)) low high total x y → total < 2 ^ 64
+  between_small low high total x y good sums = subst (λ (n : ℕ). n < 2 ^ 64) (sym ((tells_between low high total x y sums).told good.0 good.1)) (cash_fits good.0 low high good.1.range)
 
 module _ (shape : BooksShape) (x y : List ℕ) (books : ClearingBooks) (stand : Stands shape x books) (a : ℕ) (keeps : KeepsOthers (IsOwn (tree_part (tree_of shape)) a x y) x y) where
   kept : KeepsOthers (IsOwn (tree_part (tree_of (shape_of books))) a x y) x y

@@ -93,5 +93,7 @@ pub fn cash_between<W: Words>(
     ensures stands { OnOk result (InEachState W.Words W.Shape.Shape w.new (IsGoodFor shape.now)) }
     ensures goes_on { GoesOn W.Words w.old w.new result }
 {
-    shape.tree().sum_range(w, u64::from(low), u64::from(high))
+    let total = shape.tree().sum_range(w, u64::from(low), u64::from(high))?;
+    prove!(total <= u128::from(u64::MAX));
+    Ok(total as u64)
 }

@@ -23,5 +23,6 @@ pub mod Entries
 pub mod Nearest
 pub mod Summing
 pub mod Totals
+pub mod Firsts
 pub mod Lists
 pub mod Numbers

@@ -1,16 +1,16 @@
 -- The steps of a sum over keys, in one word list.
-use Rattle.std.proofs.Common.{◌≡◌, ℕ, ◌+◌, ◌^◌, ◌<◌, ◌≤◌, Bool, true, false, nat_lt, nat_le, ◌&&◌, List, [], ◌∷◌, ◌++◌, length, slice_get, Some, None, refl, sym, ap, ◌∙◌, subst, arith, rules, if◌then◌else◌, length-append}
+use Rattle.std.proofs.Common.{◌≡◌, ℕ, ◌+◌, ◌<◌, ◌≤◌, Bool, true, false, nat_lt, nat_le, ◌&&◌, List, [], ◌∷◌, ◌++◌, length, slice_get, Some, None, refl, sym, ap, ◌∙◌, subst, arith, rules, if◌then◌else◌, length-append}
 use Rattle.std.proofs.lemmas.List.{append-nil, append_assoc}
 use Rattle.std.proofs.lemmas.List.Sums.{sum_by-cons}
 use Rattle.std.proofs.lemmas.Option.{same_Some}
 use Rattle.std.specs.List.{AllByRecursion, sum_by}
 use Rattle.std.specs.FinMap as entry_map
 use Rattle.txn_alloc.specs.FreeLists.{block_at}
-use Rattle.txn_alloc.specs.EntryMaps.{Cell, Entries, Blocks, sum_between, HasSmallSum}
+use Rattle.txn_alloc.specs.EntryMaps.{Cell, Entries, Blocks, sum_between}
 use Rattle.txn_alloc.proofs.Cells.{all_append, all_last, all_map}
 use Rattle.txn_tree_map.specs.declared.map.TreeMap.{TreeMap}
 use Rattle.txn_tree_map.specs.declared.find.Named.{Named}
-use Rattle.txn_tree_map.specs.Trees.{Tree, cells_of, IsAbove, IsRising, TreeHolds, tree_part}
+use Rattle.txn_tree_map.specs.Trees.{Tree, cells_of, IsAbove, IsRising, TreeHolds}
 use Rattle.txn_tree_map.specs.Paths.{IsAt, IsBelow}
 use Rattle.txn_tree_map.specs.Sums.{IsFrom, IsNearest, sum_cells, counted, IsSummed, IsTotal, IsNext, HasNoneTo}
 use Rattle.txn_tree_map.proofs.Rising.{below_more, rising_above}
@@ -42,17 +42,6 @@ counted_high low high c h = at (nat_le low c.key) refl
     at : (b : Bool) → nat_le low c.key ≡ b → counted low high c ≡ 0
     at true e = grind (rules, e, no)
     at false e = grind (rules, e)
-
-counted_most : (low high : ℕ) (c : Cell) → counted low high c ≤ c.value
-counted_most low high c = at (nat_le low c.key && nat_le c.key high) refl
-  where
-    at : (b : Bool) → (nat_le low c.key && nat_le c.key high) ≡ b → counted low high c ≤ c.value
-    at true e = let k : counted low high c ≡ c.value = ap (λ t. if t then c.value else 0) e in omega (arith, k)
-    at false e = let k : counted low high c ≡ 0 = ap (λ t. if t then c.value else 0) e in omega (arith, k)
-
-sum_most : (low high : ℕ) (cs : List Cell) → sum_cells (counted low high) cs ≤ sum_cells (λ c. c.value) cs
-sum_most low high [] = omega arith
-sum_most low high (c ∷ cs) = let rest : sum_cells (counted low high) cs ≤ sum_cells (λ d. d.value) cs = sum_most low high cs in omega (arith, rest, counted_most low high c)
 
 sum_low : (low high : ℕ) (cs : List Cell) → IsBelow low cs → sum_cells (counted low high) cs ≡ 0
 sum_low low high [] h = refl
@@ -237,18 +226,6 @@ module _ (map : TreeMap) (s : List ℕ) where
 
         next_parts : (h.done ≡ k.lows) × (h.rest ≡ k.cell ∷ k.highs)
         next_parts = parted_once least h.done h.rest k.lows (k.cell ∷ k.highs) (sym h.cells ∙ trees_same h.tree k.tree h.is_at k.is_at ∙ k.cells) h.below h.from k.low next_from
-
-        -- what a sum of all values bounds
-        pub next_room : (f : Entries) (u : Blocks) → TreeHolds map s f u → HasSmallSum (tree_part map) s → total + value < 2 ^ 64
-        next_room f u hold small =
-            let cs : List Cell = cells_of hold.tree in
-            let bound : sum_by (λ e. e.1) (entry_map.entries f) < 2 ^ 64 = small f u hold in
-            let values : sum_by (λ e. e.1) (entry_map.entries f) ≡ sum_cells (λ c. c.value) cs = ap (λ es. sum_by (λ e. e.1) es) (entries_cells map s f u hold) ∙ sum_pairs (λ e. e.1) cs in
-            let parts : cs ≡ k.lows ++ k.cell ∷ k.highs = trees_same hold.tree k.tree (at_tree map s f u hold) k.is_at ∙ k.cells in
-            let sums : sum_cells (λ c. c.value) cs ≡ sum_cells (λ c. c.value) k.lows + (k.cell.value + sum_cells (λ c. c.value) k.highs) = ap (λ z. sum_cells (λ c. c.value) z) parts ∙ sum_cells-append (λ c. c.value) k.lows (k.cell ∷ k.highs) in
-            let most : sum_cells (counted low high) k.lows ≤ sum_cells (λ c. c.value) k.lows = sum_most low high k.lows in
-            let so_far : total ≡ sum_cells (counted low high) k.lows = h.sum ∙ ap (λ z. sum_cells (counted low high) z) next_parts.0 in
-            omega (arith, bound, values, sums, most, so_far, k.is_value)
 
         -- one value more
         pub summed_more : low ≤ least → key ≤ high → IsSummed map low high (key + 1) (turns + 1) (total + value) s

@@ -1,5 +1,5 @@
 -- What a sum over keys learns and reads, in every fitting state at once.
-use Rattle.std.proofs.Common.{◌≡◌, ℕ, ◌+◌, ◌^◌, ◌<◌, ◌≤◌, List, [], ◌∷◌, ◌++◌, slice_get, Some, None, inl, inr, sym, ap, ◌∙◌, subst, arith}
+use Rattle.std.proofs.Common.{◌≡◌, ℕ, ◌+◌, ◌<◌, ◌≤◌, List, [], ◌∷◌, ◌++◌, slice_get, Some, None, inl, inr, sym, ap, ◌∙◌, subst, arith}
 use Rattle.history_model.specs.declared.event.Event.TheVariants.{Read}
 use Rattle.history_model.specs.Traces.{Trace, after}
 use Rattle.history_model.specs.Fitting.{Fits, SomeFits, InEach, Leads}
@@ -7,9 +7,9 @@ use Rattle.history_model.proofs.FittingLaws.{fits_begins}
 use Rattle.txn_words.specs.Frames.{AppendsReads}
 use Rattle.txn_words.proofs.ReadLaws.{sees_more, sees_then}
 use Rattle.txn_alloc.specs.FreeLists.{block_at}
-use Rattle.txn_alloc.specs.EntryMaps.{HasMap, HasSmallSum, MayReadRange, SumsRange}
+use Rattle.txn_alloc.specs.EntryMaps.{HasMap, MayReadRange, SumsRange}
 use Rattle.txn_words.specs.Looks.{Looks}
-use Rattle.txn_words.proofs.Looks.{looks_map, looks_then, looks_wider, seen_before}
+use Rattle.txn_words.proofs.Looks.{looks_map, looks_wider, seen_before}
 use Rattle.txn_tree_map.specs.declared.map.TreeMap.{TreeMap}
 use Rattle.txn_tree_map.specs.declared.find.Named.{Named}
 use Rattle.txn_tree_map.specs.Trees.{tree_part}
@@ -17,7 +17,7 @@ use Rattle.txn_tree_map.specs.Searches.{IsLink}
 use Rattle.txn_tree_map.specs.Sums.{IsAnyWord, IsNearest, IsNext, HasNoneTo, IsSummed, IsTotal}
 use Rattle.txn_alloc.proofs.Founds.{IsNearOr, looks_value}
 use Rattle.txn_tree_map.proofs.Links.{nearest_of, tree_uses, link_seen}
-use Rattle.txn_tree_map.proofs.Summing.{nearest_below, nearest_key, nearest_from, nearest_next, nearest_past, nearest_none, next_room, total_sum}
+use Rattle.txn_tree_map.proofs.Summing.{nearest_below, nearest_key, nearest_from, nearest_next, nearest_past, nearest_none, total_sum}
 
 module _ (map : TreeMap) (n : ℕ) (G : List ℕ → Type 0) (t u : Trace) where
   -- the first node from a key on, and its value
@@ -86,15 +86,6 @@ module _ (map : TreeMap) (low high least turns total : ℕ) (n : ℕ) (G : List 
       let may : ℕ → Type 0 = MayReadRange (tree_part map) low high (after t s) (after v s) in
       let more : AppendsReads u v (MayReadRange (tree_part map) least high (after t s) (after v s)) = subst (λ z. AppendsReads u v (MayReadRange (tree_part map) least high z (after v s))) (l.same s fit_u) (second s fit) in
       sees_then may t u v (first s fit_u) (sees_more (MayReadRange (tree_part map) least high (after t s) (after v s)) may u v (λ a k. range_more map low least high (after t s) (after v s) a le k) more)
-
-  pub room : (key value : ℕ) → Looks n G u v IsAnyWord (IsNext map least key value) → InEach n G t (HasMap (tree_part map)) → InEach n G t (HasSmallSum (tree_part map)) → SomeFits n G v → total + value < 2 ^ 64
-  room key value m order small some =
-      let s : List ℕ = some.0 in
-      let both = looks_then n G t IsAnyWord u v _ (IsNext map least key value) l m in
-      let seen = seen_before n G t v both s some.1 in
-      let fit_t : Fits n G t s = fits_begins n G t v s both.begins some.1 in
-      let o = order.at s fit_t in
-      next_room map (after t s) low high least turns total seen.0 key value seen.1 o.entries o.used o.holds (small.at s fit_t)
 
 -- the whole sum
 pub sums_range : (map : TreeMap) (low high total : ℕ) (n : ℕ) (G : List ℕ → Type 0) (t u : Trace) → Looks n G t u IsAnyWord (IsTotal map low high total) → Leads n G t u (SumsRange (tree_part map) low high total)

@@ -5,3 +5,4 @@ pub mod Changes
 pub mod Joins
 pub mod Sums
 pub mod Statements
+pub mod Firsts

@@ -1,7 +1,7 @@
 //! A map from keys to values on any words, in the order of its keys: a treap of blocks.
 //!
-//! A `TreeMap` says which word names the block on top and which arena its blocks are of. `get`, `insert`, `remove`
-//! and `sum_range` see the map as a finite map from keys to values, with the set of the blocks that it uses and the
+//! A `TreeMap` says which word names the block on top and which arena its blocks are of. `get`, `insert`, `remove`,
+//! `sum_range` and `first_from` see the map as a finite map from keys to values, with the set of the blocks that it uses and the
 //! set of those that are free; how the tree goes through the blocks stands in `specs/Trees` alone. `laws` has what a
 //! collection above concludes of them.
 //!
@@ -44,6 +44,7 @@ mod insert;
 mod join;
 pub mod laws;
 pub mod map;
+mod next;
 mod remove;
 mod seat;
 mod split;

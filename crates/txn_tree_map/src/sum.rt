@@ -1,9 +1,9 @@
 //! The sum of the values from one key to another.
 
-ghost use Rattle.std.specs.Prelude.{◌≤◌, IfOk, IfSome, IfNone, OnOk};
+ghost use Rattle.std.specs.Prelude.{◌<◌, ◌≤◌, ◌^◌, IfOk, IfSome, IfNone, OnOk};
 ghost use Rattle.txn_words.specs.Calls.{IsReady, GoesOn, ReadsWithin, WritesOnly, InEachState, LeadsTo};
 ghost use Rattle.txn_words.specs.Looks.{Looks};
-ghost use Rattle.txn_alloc.specs.EntryMaps.{HasMap, HasSmallSum, SumsRange, MayReadRange};
+ghost use Rattle.txn_alloc.specs.EntryMaps.{HasMap, SumsRange, MayReadRange};
 ghost use Rattle.txn_tree_map.specs.Trees.{tree_part};
 ghost use Rattle.txn_tree_map.specs.Sums.{IsAnyWord, IsNext, HasNoneTo};
 
@@ -34,6 +34,8 @@ pub(crate) fn entry_from<W: Words>(
         (Looks (W.Shape.word_count (W.shape w.old)) (W.Shape.good (W.shape w.old)) (W.trace w.old) (W.trace w.new) IsAnyWord (HasNoneTo map.now least high))) }
     ensures low { IfOk result (λ answer. IfSome answer (λ entry. least ≤ entry.key)) }
     ensures high { IfOk result (λ answer. IfSome answer (λ entry. entry.key ≤ high)) }
+    // A number of 64 bits, which callers' proofs know of no field of a struct.
+    ensures small { IfOk result (λ answer. IfSome answer (λ entry. entry.value < 2 ^ 64)) }
     ensures reads { OnOk result (
         ReadsWithin W.Words W.Shape.Shape w.old w.new (MayReadRange (tree_part map.now) least high)) }
     ensures goes_on { GoesOn W.Words w.old w.new result }
@@ -54,10 +56,9 @@ pub(crate) fn entry_from<W: Words>(
 
 impl TreeMap {
     /// The sum of the values of the keys from `low` to `high`, both included: 0 where `low` is above `high`.
-    pub fn sum_range<W: Words>(&self, w: &mut W, low: u64, high: u64) -> Result<u64, Stop>
+    pub fn sum_range<W: Words>(&self, w: &mut W, low: u64, high: u64) -> Result<u128, Stop>
         requires ready { IsReady W.Words w.old }
         requires order { InEachState W.Words W.Shape.Shape w.old (HasMap (tree_part self.now)) }
-        requires small { InEachState W.Words W.Shape.Shape w.old (HasSmallSum (tree_part self.now)) }
 
         // Nothing changes, and the answer is the sum.
         ensures sum { IfOk result (λ total.
@@ -73,14 +74,14 @@ impl TreeMap {
             ReadsWithin W.Words W.Shape.Shape w.old w.new (MayReadRange (tree_part self.now) low high)) }
         ensures goes_on { GoesOn W.Words w.old w.new result }
     {
-        let mut total = 0;
+        let mut total = 0u128;
         let mut least = low;
         for _ in 0..self.arena.blocks {
             let entry = match entry_from(w, self, least, high)? {
                 None => return Ok(total),
                 Some(entry) => entry,
             };
-            total += entry.value;
+            total += u128::from(entry.value);
             if entry.key == high {
                 return Ok(total);
             }

@@ -1,6 +1,4 @@
-use Rattle.std.proofs.Common.{◌+◌, ◌^◌, ◌<◌, refl, ◌∙◌, arith}
-use Rattle.history_model.specs.Fitting.{SomeFits}
-use Rattle.history_model.proofs.FittingLaws.{some_at}
+use Rattle.std.proofs.Common.{◌+◌, refl, ◌∙◌, arith}
 use Rattle.txn_words.proofs.CallLaws.{each_plain}
 use Rattle.txn_words.proofs.ReadLaws.{sees_same}
 use Rattle.txn_alloc.specs.EntryMaps.{HasMap}
@@ -9,7 +7,7 @@ use Rattle.txn_tree_map.specs.Trees.{tree_part}
 use Rattle.txn_tree_map.specs.Sums.{IsAnyWord, IsTotal, IsNext, HasNoneTo}
 use Rattle.txn_tree_map.proofs.Places.{at_tree}
 use Rattle.txn_tree_map.proofs.Summing.{summed_none, summed_more, total_none, total_all, total_high}
-use Rattle.txn_tree_map.proofs.Totals.{reads_on, room, sums_range}
+use Rattle.txn_tree_map.proofs.Totals.{reads_on, sums_range}
 use Rattle.txn_tree_map.proofs.map.TreeMap.sum_range.Goals as goal
 
 pub loop-init : goal.loop-init
@@ -21,6 +19,7 @@ loop-init g c =
       stop = c.requires.ready.going;
       sound = c.requires.ready.sound;
       from = omega arith;
+      bound = omega arith;
       looks = looks_none _ _ _ IsAnyWord _ (record { at = λ s fit. let o = c.requires.order.at s fit in summed_none m _ c.args.low c.args.high o.holds.tree (at_tree m _ o.entries o.used o.holds) });
       reads = λ s fit. sees_same _ _;
     }
@@ -33,16 +32,8 @@ entry_from-requires-clause-order g c =
 
 pub overflow_add-total : goal.overflow_add-total
 overflow_add-total g c =
-    let m = c.args.self.now in
-    let i = c.loop.invariant in
-    let e = c.in-Some.entry in
-    let next = rw c.in-Some.is at c.in_ok-entry_from.ensures.next in
-    let goes = c.in_ok-entry_from.ensures.goes_on in
-    let some : SomeFits (g.W.Shape.Shape.word_count (g.W.Words.shape c.args.w.now)) (g.W.Shape.Shape.good (g.W.Words.shape c.args.w.now)) (g.W.Words.trace c.entry_from.new.w) =
-    some_at g.W.Shape.Shape.word_count g.W.Shape.Shape.good _ _ _ (goes.shape ∙ i.shape) (g.met.W.Words.fits c.entry_from.new.w goes.sound) in
-    let fits : c.loop.total + e.value < 2 ^ 64 = room m c.args.low c.args.high c.loop.least c.loop.counter c.loop.total _ _ _ _ _ i.looks e.key e.value
-    (looks_from g.W.Words g.W.Shape.Shape c.args.w.now c.loop.w _ _ IsAnyWord _ i.shape next) (each_plain g.W.Words g.W.Shape.Shape _ _ c.requires.order) (each_plain g.W.Words g.W.Shape.Shape _ _ c.requires.small) some in
-    omega (arith, fits)
+    let small = rw c.in-Some.is at c.in_ok-entry_from.ensures.small in
+    omega (arith, small, c.from-total.ensures, c.loop.invariant.bound)
 
 pub returns-in-None-clause-sum : goal.returns-in-None-clause-sum
 returns-in-None-clause-sum g c =
@@ -88,13 +79,13 @@ returns-then-entry-high-clause-sum g c =
     let e = c.in-Some.entry in
     let next = rw c.in-Some.is at c.in_ok-entry_from.ensures.next in
     let le = rw c.in-Some.is at c.in_ok-entry_from.ensures.high in
-    record {
+    rw c.from-total.ensures (record {
       at = (sums_range m c.args.low c.args.high (c.loop.total + e.value) _ _ _ _
           (looks_map _ _ _ IsAnyWord _ _ (IsTotal m c.args.low c.args.high (c.loop.total + e.value))
           (λ s h. total_high m s c.args.low c.args.high (e.key + 1) (c.loop.counter + 1) (c.loop.total + e.value)
           (summed_more m s c.args.low c.args.high c.loop.least c.loop.counter c.loop.total h.0 e.key e.value h.1 i.from le) (omega (arith, c.if-entry-high.true)))
           (looks_then _ _ _ IsAnyWord _ _ _ (IsNext m c.loop.least e.key e.value) i.looks (looks_from g.W.Words g.W.Shape.Shape c.args.w.now c.loop.w _ _ IsAnyWord _ i.shape next)))).at;
-    }
+    })
 
 pub returns-then-entry-high-clause-order : goal.returns-then-entry-high-clause-order
 returns-then-entry-high-clause-order g c =
@@ -139,17 +130,19 @@ loop-preserved g c =
     let le = rw c.in-Some.is at c.in_ok-entry_from.ensures.high in
     let looked = looks_from g.W.Words g.W.Shape.Shape c.args.w.now c.loop.w _ _ IsAnyWord _ i.shape next in
     let from = rw c.in-Some.is at c.in_ok-entry_from.ensures.low in
-    record {
+    let small = rw c.in-Some.is at c.in_ok-entry_from.ensures.small in
+    rw c.from-total.ensures (record {
       shape = goes.shape ∙ i.shape;
       origin = goes.origin ∙ i.origin;
       stop = goes.stops;
       sound = goes.sound;
       from = omega (arith, i.from, from);
+      bound = omega (arith, small, i.bound);
       looks = looks_map _ _ _ IsAnyWord _ _ _ (λ s h. summed_more m s c.args.low c.args.high c.loop.least c.loop.counter c.loop.total h.0 e.key e.value h.1 i.from le)
           (looks_then _ _ _ IsAnyWord _ _ _ (IsNext m c.loop.least e.key e.value) i.looks looked);
       reads = reads_on m c.args.low c.args.high c.loop.least c.loop.counter c.loop.total _ _ _ _ _ i.looks looked i.from i.reads
           (reads_from g.W.Words g.W.Shape.Shape c.args.w.now c.loop.w c.entry_from.new.w _ i.shape c.in_ok-entry_from.ensures.reads);
-    }
+    })
 
 pub returns-clause-sum : goal.returns-clause-sum
 returns-clause-sum g c =

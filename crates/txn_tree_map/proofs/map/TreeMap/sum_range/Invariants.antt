@@ -1,4 +1,4 @@
-use Rattle.std.proofs.Common.{◌≡◌, ◌≤◌, ℕ, List, None}
+use Rattle.std.proofs.Common.{◌≡◌, ◌≤◌, ◌*◌, ◌^◌, ℕ, List, None}
 use Rattle.history_model.specs.Traces.{after}
 use Rattle.history_model.specs.Fitting.{Fits}
 use Rattle.txn_words.specs.Frames.{AppendsReads}
@@ -17,6 +17,7 @@ invariant-loop g l =
       stop : words.stop l.w ≡ None;
       sound : words.is_sound l.w;
       from : l.low ≤ l.least;
+      bound : l.total ≤ l.counter * 2 ^ 64;
       looks : Looks (g.W.Shape.Shape.word_count (words.shape l.fn.w)) (g.W.Shape.Shape.good (words.shape l.fn.w)) (words.trace l.fn.w) (words.trace l.w) IsAnyWord (IsSummed l.self l.low l.high l.least l.counter l.total);
       reads : (s : List ℕ) → Fits (g.W.Shape.Shape.word_count (words.shape l.fn.w)) (g.W.Shape.Shape.good (words.shape l.fn.w)) (words.trace l.w) s
           → AppendsReads (words.trace l.fn.w) (words.trace l.w) (MayReadRange (tree_part l.self) l.low l.high (after (words.trace l.fn.w) s) (after (words.trace l.w) s));
