@@ -177,8 +177,7 @@ fn one_caller_has_nearly_all_scripts(rt: HostRuntime) -> Result<(), Fail> {
     let input = [TWO_ACCOUNTS, scripts.as_str()];
     let taken = printed(&rt, alloc, "run 4", &input, &OpenGate)?;
     let taken = String::from_utf8(taken).expect(&rt, "the output is ASCII");
-    let closing =
-        "books 1 blocks 2 instruments 1 ring 1\naccount 1 1015\naccount 2 0\nfinish\n";
+    let closing = "books 1 blocks 2 instruments 1 ring 1\naccount 1 1015\naccount 2 0\nfinish\n";
     assert!(rt; taken.as_str().ends_with(closing));
     Ok(())
 }
