@@ -1,5 +1,5 @@
-//! Tests of the public calls of word_table, lock_or_yield, txn_commit and worker_pool, also on threads, in a crate of
-//! their own: they rest on what those promise, and do not prove them again.
+//! Tests of the public calls of word_table, lock_or_yield and txn_commit, also on threads, in a crate of their own: they
+//! rest on what those promise, and do not prove them again.
 #![tactic(auto)]
 
 #[cfg(test)]
@@ -14,8 +14,6 @@ mod crossing;
 mod locks;
 #[cfg(test)]
 mod runs;
-#[cfg(test)]
-mod takers;
 #[cfg(test)]
 mod transaction_threads;
 #[cfg(test)]

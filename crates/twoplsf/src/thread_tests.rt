@@ -33,20 +33,31 @@ fn await_mark(mark: &AtomicCell<bool>, gave_up: &AtomicCell<bool>) {
     gave_up.store(true);
 }
 
-/// Holds the first caller's script at its first lock until the second caller's is committed.
+/// Holds the first caller's script at its first lock until another script, by its tag, is committed.
 #[derive(Drop)]
-struct SecondFirst {
+struct OtherFirst {
+    other: u64,
     committed: AtomicCell<bool>,
     gave_up: AtomicCell<bool>,
 }
 
-impl Gate for SecondFirst {
+impl OtherFirst {
+    fn new(other: u64) -> OtherFirst {
+        OtherFirst {
+            other,
+            committed: AtomicCell::new(false),
+            gave_up: AtomicCell::new(false),
+        }
+    }
+}
+
+impl Gate for OtherFirst {
     fn at<R: Wait>(&self, _rt: &R, point: Point) {
         match point.stage {
             Stage::Granted { .. } if point.tag == 0 => {
                 await_mark(&self.committed, &self.gave_up);
             }
-            Stage::AfterCommit if point.tag == 65_536 => self.committed.store(true),
+            Stage::AfterCommit if point.tag == self.other => self.committed.store(true),
             _ => {}
         }
     }
@@ -116,10 +127,7 @@ fn is_text(text: &[u8], parts: &[&str]) -> bool {
 // first in the journal.
 #[test]
 fn two_workers_run_at_once(rt: HostRuntime) -> Result<(), Fail> {
-    let gate = SecondFirst {
-        committed: AtomicCell::new(false),
-        gave_up: AtomicCell::new(false),
-    };
+    let gate = OtherFirst::new(65_536);
     let input = &[
         TWO_ACCOUNTS,
         "scripts\nscript ann\ndeposit 1 5\nshow 2\nend\nscript bob\ndeposit 2 7\nend\nfinish\n",
@@ -130,6 +138,47 @@ fn two_workers_run_at_once(rt: HostRuntime) -> Result<(), Fail> {
         "books 1 blocks 2 instruments 1 ring 1\naccount 1 5\naccount 2 7\nfinish\n",
     ];
     assert!(rt; is_text(&taken, output) && !gate.gave_up.load());
+    Ok(())
+}
+
+// The first and the third caller are dealt to one worker, which the gate holds until the third caller's script is
+// committed: so the other worker stole it.
+#[test]
+fn idle_worker_steals_a_caller(rt: HostRuntime) -> Result<(), Fail> {
+    let gate = OtherFirst::new(131_072);
+    let input = &[
+        "books 1 blocks 3 instruments 1 ring 1\naccount 1 0\naccount 2 0\naccount 3 0\nscripts\n",
+        "script ann\ndeposit 1 1\nshow 2\nshow 3\nend\nscript bob\ndeposit 2 1\nend\n",
+        "script cid\ndeposit 3 1\nend\nfinish\n",
+    ];
+    let taken = printed(&rt, rt.alloc(), "run 2", input, &gate)?;
+    let output = &[
+        "journal\n1 bob 1 0 done ok\n2 cid 1 0 done ok\n3 ann 1 0 done ok 1 1\n",
+        "books 1 blocks 3 instruments 1 ring 1\naccount 1 1\naccount 2 1\naccount 3 1\nfinish\n",
+    ];
+    assert!(rt; is_text(&taken, output) && !gate.gave_up.load());
+    Ok(())
+}
+
+// One caller with 1,000 scripts and fifteen with one: every script deposits 1 into account 1.
+#[test]
+fn one_caller_has_nearly_all_scripts(rt: HostRuntime) -> Result<(), Fail> {
+    let alloc = rt.alloc();
+    let mut scripts = String::from_str(alloc, "scripts\n")?;
+    for _ in 0..1_000 {
+        scripts.push_str("script long\ndeposit 1 1\nend\n")?;
+    }
+    for name in &[
+        "a", "b", "c", "d", "e", "f", "g", "h", "i", "j", "k", "l", "m", "n", "o",
+    ] {
+        write!(scripts, "script {name}\ndeposit 1 1\nend\n")?;
+    }
+    scripts.push_str("finish\n")?;
+    let input = [TWO_ACCOUNTS, scripts.as_str()];
+    let taken = printed(&rt, alloc, "run 4", &input, &OpenGate)?;
+    let taken = String::from_utf8(taken).expect(&rt, "the output is ASCII");
+    let closing = "books 1 blocks 2 instruments 1 ring 1\naccount 1 1015\naccount 2 0\nfinish\n";
+    assert!(rt; taken.as_str().ends_with(closing));
     Ok(())
 }
 

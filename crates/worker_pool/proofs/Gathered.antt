@@ -29,26 +29,21 @@ use Rattle.word_table.specs.Closing.{AreOwnersAmong, ClosedView}
 use Rattle.word_table.specs.Copies.{PassView}
 use Rattle.word_table.specs.Desks.{DeskView}
 use Rattle.worker_pool.specs.declared.done.Done.{Done}
-use Rattle.worker_pool.specs.declared.worker.Worker.{Worker}
 use Rattle.worker_pool.specs.Counting.{times, once_below}
-use Rattle.worker_pool.specs.Takers.{SourceView, TakerView, had, IsEachOnce}
 use Rattle.worker_pool.specs.Days.{place_of, places_of, IsDay}
 use Rattle.worker_pool.specs.Inner.Makers.{serials_by, IsMade}
-use Rattle.worker_pool.specs.Inner.Workers.{number_of, HasWorked}
+use Rattle.worker_pool.specs.Inner.Workers.{tally_number, IsDone, Tally}
 use Rattle.worker_pool.proofs.Serials.{serials-append, serials-others, serials_rise, serials_sum}
 use Rattle.worker_pool.proofs.Making.{made_stays}
 use Rattle.worker_pool.proofs.Orders.{in_order}
 use Rattle.worker_pool.proofs.Running.{among_had, one_if}
 use Rattle.worker_pool.proofs.Replayed.{as_many, entries_of, runs_to, RunsTo}
 
-abbrev pub items_of : Worker → List Done
-items_of worker = worker.done.items
+abbrev pub items_of : Tally → List Done
+items_of tally = tally.share.done.items
 
-abbrev pub pass_of : Worker → PassView
-pass_of worker = worker.pass
-
-abbrev pub taker_of : Worker → TakerView
-taker_of worker = worker.taker
+abbrev pub pass_of : Tally → PassView
+pass_of tally = tally.share.pass
 
 abbrev pub serial_of : Done → ℕ
 serial_of item = item.serial
@@ -66,7 +61,7 @@ default_of [] k d e lt = absurd (omega arith)
 default_of (x ∷ xs) zero d e lt = refl
 default_of (x ∷ xs) (suc k) d e lt = default_of xs k d e (omega arith)
 
--- what is counted over all workers' items is the sum over the workers
+-- what is counted over all shares' items is the sum over the workers
 counted_by : {X : Type 0} (f : Done → ℕ) (items : X → List Done) (ws : List X) → sum_by f (flat_map items ws) ≡ sum_by (λ w. sum_by f (items w)) ws
 counted_by f items [] = refl
 counted_by f items (w ∷ ws) = omega (arith, ap (sum_by f) (flat_map-cons items w ws), sum_by-append f (items w) (flat_map items ws), counted_by f items ws, sum_by-cons (λ v. sum_by f (items v)) w ws)
@@ -75,7 +70,7 @@ sum_alike : {X : Type 0} (f g : X → ℕ) (xs : List X) → All (λ x. f x ≡ 
 sum_alike f g [] all = refl
 sum_alike f g (x ∷ xs) all = omega (arith, All-head (λ y. f y ≡ g y) x xs all, sum_alike f g xs (All-tail (λ y. f y ≡ g y) x xs all), sum_by-cons f x xs, sum_by-cons g x xs)
 
-sum_over : {X Y : Type 0} (f : Y → ℕ) (h : X → Y) (xs : List X) → sum_by f (map h xs) ≡ sum_by (λ x. f (h x)) xs
+pub sum_over : {X Y : Type 0} (f : Y → ℕ) (h : X → Y) (xs : List X) → sum_by f (map h xs) ≡ sum_by (λ x. f (h x)) xs
 sum_over f h [] = refl
 sum_over f h (x ∷ xs) = omega (arith, sum_over f h xs, sum_by-cons f (h x) (map h xs), sum_by-cons (λ y. f (h y)) x xs)
 
@@ -105,34 +100,34 @@ abbrev InOrder : Done → Done → Type 0
 InOrder x y = x.caller ≡ y.caller → (x.index < y.index) × (x.serial < y.serial)
 
 -- a caller of whom the workers took all scripts once stands in one worker's list alone
-abbrev total_had : List Worker → ℕ → ℕ
-total_had ws x = sum_by (λ (w : Worker). had w.taker x) ws
+abbrev total_had : List Tally → ℕ → ℕ
+total_had ws x = sum_by (λ (w : Tally). w.had x) ws
 
-among_total : (ws : List Worker) → All (λ (w : Worker). All (λ (item : Done). 0 < had w.taker item.caller) w.done.items) ws → All (λ (item : Done). 0 < total_had ws item.caller) (flat_map items_of ws)
+among_total : (ws : List Tally) → All (λ (w : Tally). All (λ (item : Done). 0 < w.had item.caller) w.share.done.items) ws → All (λ (item : Done). 0 < total_had ws item.caller) (flat_map items_of ws)
 among_total [] each = All-nil (λ (item : Done). 0 < total_had [] item.caller)
 among_total (w ∷ ws) each =
-    let more : (x : ℕ) → total_had (w ∷ ws) x ≡ had w.taker x + total_had ws x = λ x. sum_by-cons (λ (v : Worker). had v.taker x) w ws in
-    let own : All (λ (item : Done). 0 < total_had (w ∷ ws) item.caller) w.done.items =
-    All-weaker (λ (item : Done). 0 < had w.taker item.caller) (λ (item : Done). 0 < total_had (w ∷ ws) item.caller) (λ item lt. omega (arith, more item.caller, lt)) w.done.items
-    (All-head (λ (v : Worker). All (λ (item : Done). 0 < had v.taker item.caller) v.done.items) w ws each) in
+    let more : (x : ℕ) → total_had (w ∷ ws) x ≡ w.had x + total_had ws x = λ x. sum_by-cons (λ (v : Tally). v.had x) w ws in
+    let own : All (λ (item : Done). 0 < total_had (w ∷ ws) item.caller) w.share.done.items =
+    All-weaker (λ (item : Done). 0 < w.had item.caller) (λ (item : Done). 0 < total_had (w ∷ ws) item.caller) (λ item lt. omega (arith, more item.caller, lt)) w.share.done.items
+    (All-head (λ (v : Tally). All (λ (item : Done). 0 < v.had item.caller) v.share.done.items) w ws each) in
     let others : All (λ (item : Done). 0 < total_had (w ∷ ws) item.caller) (flat_map items_of ws) =
     All-weaker (λ (item : Done). 0 < total_had ws item.caller) (λ (item : Done). 0 < total_had (w ∷ ws) item.caller) (λ item lt. omega (arith, more item.caller, lt)) (flat_map items_of ws)
-    (among_total ws (All-tail (λ (v : Worker). All (λ (item : Done). 0 < had v.taker item.caller) v.done.items) w ws each)) in
-    subst (λ l. All (λ (item : Done). 0 < total_had (w ∷ ws) item.caller) l) (sym (flat_map-cons items_of w ws)) (All-append (λ (item : Done). 0 < total_had (w ∷ ws) item.caller) w.done.items (flat_map items_of ws) own others)
+    (among_total ws (All-tail (λ (v : Tally). All (λ (item : Done). 0 < v.had item.caller) v.share.done.items) w ws each)) in
+    subst (λ l. All (λ (item : Done). 0 < total_had (w ∷ ws) item.caller) l) (sym (flat_map-cons items_of w ws)) (All-append (λ (item : Done). 0 < total_had (w ∷ ws) item.caller) w.share.done.items (flat_map items_of ws) own others)
 
-in_order_all : (ws : List Worker) → All (λ (w : Worker). AllPairs InOrder w.done.items) ws → All (λ (w : Worker). All (λ (item : Done). 0 < had w.taker item.caller) w.done.items) ws
+in_order_all : (ws : List Tally) → All (λ (w : Tally). AllPairs InOrder w.share.done.items) ws → All (λ (w : Tally). All (λ (item : Done). 0 < w.had item.caller) w.share.done.items) ws
     → ((x : ℕ) → total_had ws x ≤ 1) → AllPairs InOrder (flat_map items_of ws)
 in_order_all [] pairs among once = λ i j d lt short. absurd (omega arith)
 in_order_all (w ∷ ws) pairs among once =
-    let more : (x : ℕ) → total_had (w ∷ ws) x ≡ had w.taker x + total_had ws x = λ x. sum_by-cons (λ (v : Worker). had v.taker x) w ws in
-    let own : All (λ (item : Done). 0 < had w.taker item.caller) w.done.items = All-head (λ (v : Worker). All (λ (item : Done). 0 < had v.taker item.caller) v.done.items) w ws among in
-    let rest = All-tail (λ (v : Worker). All (λ (item : Done). 0 < had v.taker item.caller) v.done.items) w ws among in
+    let more : (x : ℕ) → total_had (w ∷ ws) x ≡ w.had x + total_had ws x = λ x. sum_by-cons (λ (v : Tally). v.had x) w ws in
+    let own : All (λ (item : Done). 0 < w.had item.caller) w.share.done.items = All-head (λ (v : Tally). All (λ (item : Done). 0 < v.had item.caller) v.share.done.items) w ws among in
+    let rest = All-tail (λ (v : Tally). All (λ (item : Done). 0 < v.had item.caller) v.share.done.items) w ws among in
     let others : All (λ (item : Done). 0 < total_had ws item.caller) (flat_map items_of ws) = among_total ws rest in
-    let cross : All (λ x. All (InOrder x) (flat_map items_of ws)) w.done.items = λ k d lt j e short same.
-    absurd (omega (arith, own k d lt, others j e short, more (get_or w.done.items k d).caller, once (get_or w.done.items k d).caller, ap (total_had ws) same)) in
+    let cross : All (λ x. All (InOrder x) (flat_map items_of ws)) w.share.done.items = λ k d lt j e short same.
+    absurd (omega (arith, own k d lt, others j e short, more (get_or w.share.done.items k d).caller, once (get_or w.share.done.items k d).caller, ap (total_had ws) same)) in
     subst (AllPairs InOrder) (sym (flat_map-cons items_of w ws))
-    (pairs-append InOrder w.done.items (flat_map items_of ws) (All-head (λ (v : Worker). AllPairs InOrder v.done.items) w ws pairs)
-    (in_order_all ws (All-tail (λ (v : Worker). AllPairs InOrder v.done.items) w ws pairs) rest (λ x. omega (arith, once x, more x))) cross)
+    (pairs-append InOrder w.share.done.items (flat_map items_of ws) (All-head (λ (v : Tally). AllPairs InOrder v.share.done.items) w ws pairs)
+    (in_order_all ws (All-tail (λ (v : Tally). AllPairs InOrder v.share.done.items) w ws pairs) rest (λ x. omega (arith, once x, more x))) cross)
 
 -- items in order, by the order of their serials
 module _ (old new : List Done) (moved : IsPermutation old new) (n : ℕ) (serials : map serial_of new ≡ range_with_len 1 n) (keeps : AllPairs InOrder old) where
@@ -169,47 +164,47 @@ module _ (old new : List Done) (moved : IsPermutation old new) (n : ℕ) (serial
       let on = keeps at_x.0 at_y.0 x (omega (arith, lt_of_not-le no)) at_y.1 (ap (λ (z : Done). z.caller) is_x ∙ same ∙ ap (λ (z : Done). z.caller) (sym y_by_x)) in
       omega (arith, on.0, ap (λ (z : Done). z.index) is_x, ap (λ (z : Done). z.index) y_by_x))
 
-module _ (source : SourceView) (desk : DeskView BooksShape) (input : ClearingInput) (history : List Entry) (ws : List Worker)
-    (worked : All (HasWorked source desk input) ws) (numbers : map number_of ws ≡ range_with_len 0 desk.seats)
+module _ (desk : DeskView BooksShape) (input : ClearingInput) (history : List Entry) (ws : List Tally)
+    (worked : All (IsDone desk input) ws) (numbers : map tally_number ws ≡ range_with_len 0 desk.seats)
     (seen : (pass : PassView) → IsIn pass (map pass_of ws) → IsPrefix pass.view.seen history) (owners : AreOwnersAmong (map pass_of ws) history)
     (good : List ℕ → Type 0) (legal : IsLegalHistory good desk.seats desk.base history) where
-  number_at : (k : ℕ) (d : Worker) → k < length ws → number_of (get_or ws k d) ≡ k
+  number_at : (k : ℕ) (d : Tally) → k < length ws → tally_number (get_or ws k d) ≡ k
   number_at k d lt =
-      let long : length ws ≡ desk.seats = sym (length-map ws number_of) ∙ ap length numbers ∙ length-range_with_len 0 desk.seats in
-      sym (get_or-map number_of ws k d (number_of d) lt) ∙ ap (λ l. get_or l k (number_of d)) numbers ∙ get_or-range_with_len 0 desk.seats k (number_of d) (omega (arith, long, lt)) ∙ zero-add k
+      let long : length ws ≡ desk.seats = sym (length-map ws tally_number) ∙ ap length numbers ∙ length-range_with_len 0 desk.seats in
+      sym (get_or-map tally_number ws k d (tally_number d) lt) ∙ ap (λ l. get_or l k (tally_number d)) numbers ∙ get_or-range_with_len 0 desk.seats k (tally_number d) (omega (arith, long, lt)) ∙ zero-add k
 
-  pass_in : (k : ℕ) (d : Worker) → k < length ws → IsIn (get_or ws k d).pass (map pass_of ws)
+  pass_in : (k : ℕ) (d : Tally) → k < length ws → IsIn (get_or ws k d).share.pass (map pass_of ws)
   pass_in k d lt =
       let long : k < length (map pass_of ws) = omega (arith, lt, length-map ws pass_of) in
-      (k, slice_get-get_or (map pass_of ws) k d.pass long ∙ ap (λ p. Some p) (get_or-map pass_of ws k d d.pass lt))
+      (k, slice_get-get_or (map pass_of ws) k d.share.pass long ∙ ap (λ p. Some p) (get_or-map pass_of ws k d d.share.pass lt))
 
   -- all that a worker's pass had not seen is by others
-  rest_by_others : (k : ℕ) (d : Worker) → k < length ws → GainsOthers (number_of (get_or ws k d)) (get_or ws k d).pass.view.seen history
+  rest_by_others : (k : ℕ) (d : Tally) → k < length ws → GainsOthers (tally_number (get_or ws k d)) (get_or ws k d).share.pass.view.seen history
   rest_by_others k d lt =
-      let w : Worker = get_or ws k d in
-      gains_history (number_of w) w.pass.view.seen history (seen w.pass (pass_in k d lt))
+      let w : Tally = get_or ws k d in
+      gains_history (tally_number w) w.share.pass.view.seen history (seen w.share.pass (pass_in k d lt))
       (λ q e le at same.
       let owner = owners q e at in
       let i : ℕ = owner.1.0 in
       let within : i < length ws = omega (arith, slice_get_within (map pass_of ws) i owner.0 owner.1.1, length-map ws pass_of) in
-      let v : Worker = get_or ws i d in
-      let its : v.pass ≡ owner.0 = sym (get_or-map pass_of ws i d d.pass within) ∙ get_or_from_slice_get (map pass_of ws) i owner.0 d.pass owner.1.1 in
-      let named : number_of v ∷ [] ≡ e.who ∷ [] = sym (worked i d within).made.number_is ∙ ap (λ (p : PassView). p.view.who) its ∙ owner.2 in
-      let who : number_of v ≡ e.who = cc in
+      let v : Tally = get_or ws i d in
+      let its : v.share.pass ≡ owner.0 = sym (get_or-map pass_of ws i d d.share.pass within) ∙ get_or_from_slice_get (map pass_of ws) i owner.0 d.share.pass owner.1.1 in
+      let named : tally_number v ∷ [] ≡ e.who ∷ [] = sym (worked i d within).made.number_is ∙ ap (λ (p : PassView). p.view.who) its ∙ owner.2 in
+      let who : tally_number v ≡ e.who = cc in
       let place : i ≡ k = sym (number_at i d within) ∙ who ∙ same ∙ number_at k d lt in
-      let mine : owner.0 ≡ w.pass = sym its ∙ ap (λ j. (get_or ws j d).pass) place in
+      let mine : owner.0 ≡ w.share.pass = sym its ∙ ap (λ j. (get_or ws j d).share.pass) place in
       omega (arith, owner.3, ap (λ (p : PassView). length p.view.seen) mine, le))
 
-  serials_of : (k : ℕ) (d : Worker) → k < length ws → map serial_of (get_or ws k d).done.items ≡ serials_by (number_of (get_or ws k d)) 1 history
+  serials_of : (k : ℕ) (d : Tally) → k < length ws → map serial_of (get_or ws k d).share.done.items ≡ serials_by (tally_number (get_or ws k d)) 1 history
   serials_of k d lt =
-      let w : Worker = get_or ws k d in
+      let w : Tally = get_or ws k d in
       let g = rest_by_others k d lt in
-      let n : ℕ = 1 + length w.pass.view.seen in
+      let n : ℕ = 1 + length w.share.pass.view.seen in
       (worked k d lt).made.serials
-      ∙ sym (append-nil (serials_by (number_of w) 1 w.pass.view.seen))
-      ∙ ap (λ l. serials_by (number_of w) 1 w.pass.view.seen ++ l) (sym (serials-others (number_of w) n g.others g.by_others))
-      ∙ sym (serials-append (number_of w) 1 n w.pass.view.seen g.others refl)
-      ∙ ap (serials_by (number_of w) 1) (sym g.seen)
+      ∙ sym (append-nil (serials_by (tally_number w) 1 w.share.pass.view.seen))
+      ∙ ap (λ l. serials_by (tally_number w) 1 w.share.pass.view.seen ++ l) (sym (serials-others (tally_number w) n g.others g.by_others))
+      ∙ sym (serials-append (tally_number w) 1 n w.share.pass.view.seen g.others refl)
+      ∙ ap (serials_by (tally_number w) 1) (sym g.seen)
 
   abbrev all_items : List Done
   all_items = flat_map items_of ws
@@ -220,17 +215,17 @@ module _ (source : SourceView) (desk : DeskView BooksShape) (input : ClearingInp
   -- a sum over all serials
   sum_serials : (m : ℕ → ℕ) → sum_by m (map serial_of all_items) ≡ sum_by m (range_with_len 1 (length history))
   sum_serials m =
-      let by_worker : Worker → ℕ = λ w. sum_by (λ item. m (serial_of item)) w.done.items in
+      let by_worker : Tally → ℕ = λ w. sum_by (λ item. m (serial_of item)) w.share.done.items in
       let by_seat : ℕ → ℕ = λ who. sum_by m (serials_by who 1 history) in
-      let each : All (λ w. by_worker w ≡ by_seat (number_of w)) ws = λ k d lt.
-      sym (sum_over m serial_of (get_or ws k d).done.items) ∙ ap (sum_by m) (serials_of k d lt) in
-      sum_over m serial_of all_items ∙ counted_by (λ item. m (serial_of item)) items_of ws ∙ sum_alike by_worker (λ w. by_seat (number_of w)) ws each
-      ∙ sym (sum_over by_seat number_of ws) ∙ ap (sum_by by_seat) numbers ∙ serials_sum m 1 history (range_with_len 0 desk.seats) each_seat_once
+      let each : All (λ w. by_worker w ≡ by_seat (tally_number w)) ws = λ k d lt.
+      sym (sum_over m serial_of (get_or ws k d).share.done.items) ∙ ap (sum_by m) (serials_of k d lt) in
+      sum_over m serial_of all_items ∙ counted_by (λ item. m (serial_of item)) items_of ws ∙ sum_alike by_worker (λ w. by_seat (tally_number w)) ws each
+      ∙ sym (sum_over by_seat tally_number ws) ∙ ap (sum_by by_seat) numbers ∙ serials_sum m 1 history (range_with_len 0 desk.seats) each_seat_once
 
   made_all : All (IsMade desk input history) all_items
   made_all = all_flat (IsMade desk input history) items_of ws (λ k d lt.
-      let w : Worker = get_or ws k d in
-      All-weaker (IsMade desk input w.pass.view.seen) (IsMade desk input history) (λ item made. made_stays desk input w.pass.view.seen history (seen w.pass (pass_in k d lt)) item made) w.done.items (worked k d lt).made.made)
+      let w : Tally = get_or ws k d in
+      All-weaker (IsMade desk input w.share.pass.view.seen) (IsMade desk input history) (λ item made. made_stays desk input w.share.pass.view.seen history (seen w.share.pass (pass_in k d lt)) item made) w.share.done.items (worked k d lt).made.made)
 
   below_all : All (λ (item : Done). item.restarts < desk.seats) all_items
   below_all = all_flat (λ (item : Done). item.restarts < desk.seats) items_of ws (λ k d lt. (worked k d lt).made.below)
@@ -238,34 +233,31 @@ module _ (source : SourceView) (desk : DeskView BooksShape) (input : ClearingInp
   only_all : All (λ (item : Done). IsPlace input (place_of item)) all_items
   only_all = all_flat (λ (item : Done). IsPlace input (place_of item)) items_of ws (λ k d lt. (worked k d lt).run.only)
 
-  module _ (callers : source.callers ≡ length input.callers) (once : IsEachOnce source.callers (map taker_of ws) []) where
-    each_caller : (x : ℕ) → total_had ws x ≡ once_below x (length input.callers)
-    each_caller x = sym (sum_over (λ (t : TakerView). had t x) taker_of ws) ∙ omega (arith, once x) ∙ ap (once_below x) callers
-
+  module _ (once : (x : ℕ) → total_had ws x ≡ once_below x (length input.callers)) where
     once_all : (p : Place) → IsPlace input p → count_by (λ q. q.caller == p.caller && q.index == p.index) (places_of all_items) ≡ 1
     once_all p there =
         let test : Place → ℕ = λ q. cond (q.caller == p.caller && q.index == p.index) 1 0 in
-        let by_worker : Worker → ℕ = λ w. sum_by (λ item. test (place_of item)) w.done.items in
+        let by_worker : Tally → ℕ = λ w. sum_by (λ item. test (place_of item)) w.share.done.items in
         let one : once_below p.caller (length input.callers) ≡ 1 = grind (arith, there.0) in
         let none : one_if (p.caller == 0 && nat_lt p.index 0) ≡ zero = grind (arith, nat_tests) in
-        let each : All (λ w. by_worker w ≡ had w.taker p.caller) ws = λ k d lt.
-        sym (sum_over test place_of (get_or ws k d).done.items) ∙ omega (arith, (worked k d lt).run.each p there, none) in
-        sum_over test place_of all_items ∙ counted_by (λ item. test (place_of item)) items_of ws ∙ sum_alike by_worker (λ w. had w.taker p.caller) ws each ∙ each_caller p.caller ∙ one
+        let each : All (λ w. by_worker w ≡ w.had p.caller) ws = λ k d lt.
+        sym (sum_over test place_of (get_or ws k d).share.done.items) ∙ omega (arith, (worked k d lt).run.each p there, none) in
+        sum_over test place_of all_items ∙ counted_by (λ item. test (place_of item)) items_of ws ∙ sum_alike by_worker (λ w. w.had p.caller) ws each ∙ once p.caller ∙ one
 
     keeps_all : AllPairs InOrder all_items
     keeps_all = in_order_all ws
         (λ k d lt i j e less short same. (
           (worked k d lt).run.rising i j e less short same,
-          let w : Worker = get_or ws k d in
-              let up = serials_rise (number_of w) 1 w.pass.view.seen in
+          let w : Tally = get_or ws k d in
+              let up = serials_rise (tally_number w) 1 w.share.pass.view.seen in
               let as_serials = (worked k d lt).made.serials in
-              let at : (x : ℕ) → x < length w.done.items → get_or (serials_by (number_of w) 1 w.pass.view.seen) x (serial_of e) ≡ serial_of (get_or w.done.items x e) = λ x within.
-              ap (λ l. get_or l x (serial_of e)) (sym as_serials) ∙ get_or-map serial_of w.done.items x e (serial_of e) within in
-              let long : length (serials_by (number_of w) 1 w.pass.view.seen) ≡ length w.done.items = sym (ap length as_serials) ∙ length-map w.done.items serial_of in
+              let at : (x : ℕ) → x < length w.share.done.items → get_or (serials_by (tally_number w) 1 w.share.pass.view.seen) x (serial_of e) ≡ serial_of (get_or w.share.done.items x e) = λ x within.
+              ap (λ l. get_or l x (serial_of e)) (sym as_serials) ∙ get_or-map serial_of w.share.done.items x e (serial_of e) within in
+              let long : length (serials_by (tally_number w) 1 w.share.pass.view.seen) ≡ length w.share.done.items = sym (ap length as_serials) ∙ length-map w.share.done.items serial_of in
               omega (arith, up i j (serial_of e) less (omega (arith, long, short)), at i (omega (arith, less, short)), at j short),
         ))
-        (λ k d lt. among_had input (had (get_or ws k d).taker) 0 (get_or ws k d).done.items (worked k d lt).run)
-        (λ x. omega (arith, each_caller x, below_one x))
+        (λ k d lt. among_had input (get_or ws k d).had 0 (get_or ws k d).share.done.items (worked k d lt).run)
+        (λ x. omega (arith, once x, below_one x))
       where
         below_one : (x : ℕ) → once_below x (length input.callers) ≤ 1
         below_one x = grind arith

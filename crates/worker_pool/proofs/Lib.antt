@@ -1,7 +1,11 @@
 pub mod Sums
 pub mod Steps
-pub mod Takes
-pub mod Finishing
+pub mod Places
+pub mod Fitting
+pub mod Dealt
+pub mod Returning
+pub mod Draining
+pub mod Opening
 pub mod Rooms
 pub mod Yielded
 pub mod Seating
@@ -12,3 +16,4 @@ pub mod Running
 pub mod Replayed
 pub mod Gathered
 pub mod Ended
+pub mod Ending

@@ -1,5 +1,5 @@
 -- One script more of a caller, and one caller more.
-use Rattle.std.proofs.Common.{◌≡◌, ℕ, zero, suc, ◌+◌, ◌<◌, ◌&&◌, ◌==◌, Bool, cond, List, [], ◌∷◌, ◌++◌, All, length, get_or, count_by, nat_lt, refl, sym, ap, ◌∙◌, subst, arith, if◌then◌else◌}
+use Rattle.std.proofs.Common.{◌≡◌, ℕ, zero, suc, ◌+◌, ◌<◌, ◌≤◌, ◌&&◌, ◌==◌, Bool, cond, List, [], ◌∷◌, ◌++◌, All, length, get_or, count_by, nat_lt, refl, sym, ap, ◌∙◌, subst, arith, if◌then◌else◌}
 use Rattle.std.proofs.lemmas.Bool.Decides.{nat_tests}
 use Rattle.std.proofs.lemmas.List.{map_push}
 use Rattle.std.proofs.lemmas.List.Elements.{All-nil, All-push, All-weaker}
@@ -10,7 +10,7 @@ use Rattle.script_reader.specs.Journal.{Place, IsPlace}
 use Rattle.worker_pool.specs.Counting.{HadOneMore}
 use Rattle.worker_pool.specs.declared.done.Done.{Done}
 use Rattle.worker_pool.specs.Days.{place_of, places_of}
-use Rattle.worker_pool.specs.Inner.Makers.{HasRun}
+use Rattle.worker_pool.specs.Inner.Makers.{HasRun, RunsEach}
 
 -- 1 where the test says so, and else 0
 abbrev pub one_if : Bool → ℕ
@@ -92,3 +92,39 @@ among_had input h c done r k d lt = some (h (get_or done k d).caller) refl
     some : (n : ℕ) → h (get_or done k d).caller ≡ n → 0 < h (get_or done k d).caller
     some zero e = absurd (omega (arith, (r.among k d lt e).1))
     some (suc n) e = omega arith
+
+-- of two counts, the second with one more, and at most one of each: so is the first, and it had none of that one
+few_before : (h more : ℕ → ℕ) (c : ℕ) → HadOneMore h more c → ((x : ℕ) → more x ≤ 1) → ((x : ℕ) → h x ≤ 1) × (h c ≡ 0)
+few_before h more c one few = (λ x. omega (arith, one x, few x), omega (arith, one c, few c, counts_itself c))
+
+other_caller : (n c : ℕ) (p : Place) → n ≤ c → p.caller < n → one_if (c == p.caller) ≡ 0
+other_caller n c p past there = grind (arith, nat_tests, past, there)
+
+module _ (input : ClearingInput) (h more : ℕ → ℕ) (c : ℕ) (one : HadOneMore h more c) where
+  -- all scripts of one caller more
+  pub runs_caller : (old new : List Done) → (h c ≡ 0 → HasRun input h c 0 old → HasRun input h c (length (caller_at input c).scripts) new) → RunsEach input h old → RunsEach input more new
+  runs_caller old new ran before few =
+      let less = few_before h more c one few in
+      next_caller input more 0 c new (ran_caller input h c more new one (ran less.1 (next_caller input h c 0 old (before less.0))))
+
+  -- a number that is no caller's is passed over
+  pub passes_over : (done : List Done) → length input.callers ≤ c → RunsEach input h done → RunsEach input more done
+  passes_over done past before few =
+      let r = before (few_before h more c one few).0 in
+      record {
+        only = r.only;
+        each = λ p there. omega (arith, r.each p there, one p.caller, other_caller (length input.callers) c p past there.0);
+        rising = r.rising;
+        among = λ k d lt none. r.among k d lt (omega (arith, one (get_or done k d).caller, none));
+      }
+
+-- the same items, where the same callers were had
+pub same_had : (input : ClearingInput) (h same : ℕ → ℕ) (done : List Done) → ((x : ℕ) → same x ≡ h x) → RunsEach input h done → RunsEach input same done
+same_had input h same done is before few =
+    let r = before (λ x. omega (arith, few x, is x)) in
+    record {
+      only = r.only;
+      each = λ p there. omega (arith, r.each p there, is p.caller);
+      rising = r.rising;
+      among = λ k d lt none. r.among k d lt (omega (arith, is (get_or done k d).caller, none));
+    }

@@ -1,5 +1,6 @@
 -- New passes, one after another, and the workers that get them.
-use Rattle.std.proofs.Common.{◌≡◌, ℕ, suc, ◌+◌, ◌<◌, false, List, [], ◌∷◌, ◌++◌, map, length, get_or, slice_get, Some, Option, IfSome, refl, sym, ap, ◌∙◌, subst, arith, zero-add, add-zero, length-append}
+use Rattle.std.proofs.Common.{◌≡◌, ℕ, suc, ◌+◌, ◌<◌, false, List, [], ◌∷◌, ◌++◌, map, length, get_or, reverse, slice_get, Some, Option, IfSome, refl, sym, ap, ◌∙◌, subst, arith, zero-add, add-zero, length-append, append-nil}
+use Rattle.std.proofs.lemmas.List.{length-map, map_push, reverse-append}
 use Rattle.std.specs.List.{range_with_len}
 use Rattle.std.proofs.lemmas.Option.{get_or_from_slice_get}
 use Rattle.history_model.specs.Views.{number}
@@ -9,9 +10,11 @@ use Rattle.txn_commit.proofs.Others.{get_second}
 use Rattle.word_table.specs.Copies.{PassView}
 use Rattle.word_table.specs.Desks.{DeskView}
 use Rattle.worker_pool.specs.declared.worker.Worker.{Worker}
-use Rattle.worker_pool.specs.Takers.{SourceView, TakerView, opening_taker}
 use Rattle.worker_pool.specs.Days.{AreAllNew}
-use Rattle.worker_pool.specs.Inner.Workers.{IsSeated}
+use Rattle.worker_pool.specs.Inner.Takers.{IsEndOf, IsUnused, Thieves}
+use Rattle.worker_pool.specs.Inner.Workers.{number_of, IsSeated}
+use Rattle.worker_pool.proofs.Opening.{OwnerOf}
+use Rattle.worker_pool.proofs.Yielded.{one_given}
 
 -- the pass of seat j of a new desk
 abbrev pub new_pass : DeskView BooksShape → ℕ → PassView
@@ -41,16 +44,12 @@ module _ (desk : DeskView BooksShape) (passes : List PassView) (all_new : AreAll
       let found : Some pass ≡ Some (new_pass desk (length given)) = sym here ∙ ap (λ l. slice_get l (length given)) whole ∙ all_new.each (length given) within in
       cc
 
--- a new pass and a new taker are a worker that did nothing
-pub seated_at : (source : SourceView) (desk : DeskView BooksShape) (j : ℕ) (worker : Worker) → worker.taker ≡ opening_taker source.table source.callers → worker.pass ≡ new_pass desk j → worker.done.items ≡ []
-    → worker.failed ≡ false → IsSeated source desk worker
-seated_at source desk j worker taker pass done going = record {
-  end = record {
-    table = ap (λ (t : TakerView). t.table) taker;
-    callers = ap (λ (t : TakerView). t.callers) taker;
-    over = ap (λ (t : TakerView). t.over) taker;
-  };
-  drawn = ap (λ (t : TakerView). t.drawn) taker;
+-- a new pass and an unused end are a worker that did nothing
+pub seated_at : (thieves : Thieves) (desk : DeskView BooksShape) (j : ℕ) (worker : Worker) → IsEndOf thieves j worker.taker → IsUnused worker.taker → worker.share.pass ≡ new_pass desk j → worker.share.done.items ≡ []
+    → worker.failed ≡ false → IsSeated thieves desk worker
+seated_at thieves desk j worker end unused pass done going = record {
+  end = subst (λ n. IsEndOf thieves n worker.taker) (sym (ap (λ (p : PassView). number p.view) pass)) end;
+  unused = unused;
   of_table = ap (λ (p : PassView). p.table) pass;
   idle = ap (λ (p : PassView). p.view.phase) pass;
   who_is = ap (λ (p : PassView). p.view.who) pass ∙ sym (ap (λ (p : PassView). number p.view ∷ []) pass);
@@ -59,6 +58,34 @@ seated_at source desk j worker taker pass done going = record {
   nothing_done = done;
   going = going;
 }
+
+-- the owner that stands last of those turned round is the next one
+abbrev pub own_of : Worker → OwnerOf
+own_of worker = worker.taker.own
+
+pub owner_seated : (workers : List Worker) (given : List PassView) → map number_of workers ≡ map (λ (p : PassView). number p.view) given → length workers ≡ length given
+owner_seated workers given is = sym (length-map workers number_of) ∙ ap (λ l. length l) is ∙ length-map given (λ (p : PassView). number p.view)
+
+turned : {X : Type 0} (xs ys : List X) (x : X) → xs ≡ ys ++ x ∷ [] → reverse xs ≡ x ∷ reverse ys
+turned xs ys x is = ap reverse is ∙ reverse-append ys (x ∷ [])
+
+at_seam : {X : Type 0} (given after : List X) (x d : X) → get_or (given ++ x ∷ after) (length given) d ≡ x
+at_seam [] after x d = refl
+at_seam (y ∷ ys) after x d = at_seam ys after x d
+
+pub next_owner : (workers : List Worker) (left after owners : List OwnerOf) (own : OwnerOf) → left ≡ after ++ own ∷ [] → map own_of workers ++ reverse left ≡ owners → own ≡ get_or owners (length workers) own
+next_owner workers left after owners own is whole =
+    let all : map own_of workers ++ own ∷ reverse after ≡ owners = ap (λ l. map own_of workers ++ l) (sym (turned left after own is)) ∙ whole in
+    sym (at_seam (map own_of workers) (reverse after) own own) ∙ ap (λ l. get_or l (length (map own_of workers)) own) all ∙ ap (λ n. get_or owners n own) (length-map workers own_of)
+
+pub owners_more : (workers more : List Worker) (left after owners : List OwnerOf) (worker : Worker) → left ≡ after ++ worker.taker.own ∷ [] → more ≡ workers ++ worker ∷ [] → map own_of workers ++ reverse left ≡ owners
+    → map own_of more ++ reverse after ≡ owners
+owners_more workers more left after owners worker is more_is whole =
+    ap (λ l. map own_of l ++ reverse after) more_is ∙ ap (λ l. l ++ reverse after) (map_push own_of workers worker) ∙ one_given (map own_of workers) (reverse left) (reverse after) owners worker.taker.own (turned left after worker.taker.own is) whole
+
+pub owners_all : (workers : List Worker) (left owners : List OwnerOf) → length left ≡ 0 → map own_of workers ++ reverse left ≡ owners → map own_of workers ≡ owners
+owners_all workers [] owners none whole = sym (append-nil (map own_of workers)) ∙ whole
+owners_all workers (x ∷ xs) owners none whole = absurd (omega arith)
 
 pub one_has : {X : Type 0} (P : X → Type 0) (r : Option X) (x : X) → r ≡ Some x → IfSome r P → P x
 one_has P r x is h = subst (λ (o : Option _). IfSome o P) is h

@@ -1,123 +1,108 @@
--- Each kind of step keeps the rule of the claim word, and who has all draws knows all.
-use Rattle.std.proofs.Common.{◌≡◌, ℕ, ◌+◌, ◌-◌, ◌%◌, ◌^◌, ◌<◌, ◌≤◌, List, [], ◌∷◌, ◌++◌, set, length, sym, refl, ap, ◌∙◌, arith, length-append, slice_index, ◌==◌, if◌then◌else◌}
+-- Each kind of step keeps the rule of a deque.
+use Rattle.std.proofs.Common.{◌≡◌, ◌≢◌, ℕ, zero, suc, ◌+◌, ◌-◌, ◌*◌, ◌<◌, ◌≤◌, Bool, true, false, List, [], ◌∷◌, ◌++◌, set, length, sym, refl, ap, ◌∙◌, subst, arith, length-append, ◌==◌, if◌then◌else◌, ne_eqb, min}
 use Rattle.std.specs.Prelude.{sum_by}
-use Rattle.std.proofs.lemmas.List.Sums.{sum_by-append, sum_by-cons}
-use Rattle.std.proofs.Math.Nat.{mod-eq_of_lt}
-use mathlib.Core.Option.{some}
-use lib.ListN.{get_elem?}
-use Rattle.atomic_table.specs.Table.{State, Me, keeps, Allows}
-use Rattle.worker_pool.specs.declared.rule.Claims.{Claims}
-use Rattle.worker_pool.specs.declared.rule.TheConstants.{MOST_DRAWS}
-use Rattle.worker_pool.specs.Counting.{times, once_below}
-use Rattle.worker_pool.specs.Inner.Claims.{claims, ClaimsHold, Draws}
-use Rattle.worker_pool.proofs.Sums.{sum_at_set, at_sum_le, alone}
+use Rattle.std.proofs.lemmas.List.Sums.{sum_by-append}
+use Rattle.crossbeam_deque.specs.Tasks.{Pushes, Takes, Finds, FindsFew, Forks, Merges}
+use Rattle.worker_pool.specs.declared.rule.Deal.{Deal}
+use Rattle.worker_pool.specs.declared.rule.TheConstants.{ALL_PARTS}
+use Rattle.worker_pool.specs.Counting.{times}
+use Rattle.worker_pool.specs.Inner.Deals.{deal, took, put, IsAllTaken, IsDealt}
+use Rattle.worker_pool.proofs.Sums.{sum_at_set, alone}
 
 pub times_append : (x : ℕ) (xs ys : List ℕ) → times x (xs ++ ys) ≡ times x xs + times x ys
 times_append x xs ys = sum_by-append (λ (y : ℕ). if y == x then 1 else 0) xs ys
 
--- the numbers below n + 1 are those below n, and n
-once_more : (x n : ℕ) → once_below x (n + 1) ≡ once_below x n + times x (n ∷ [])
-once_more x n = grind arith
+if_none : (b : Bool) (n : ℕ) → b ≡ true → (if b then 0 else n) ≡ (if true then 0 else 0)
+if_none true n e = refl
+if_none false n e = absurd (Rattle.std.proofs.Common.true≢false (sym e))
 
-not_below_itself : (n : ℕ) → once_below n n ≡ 0
-not_below_itself n = grind arith
+if_some : (b : Bool) (n : ℕ) → b ≡ false → (if b then 0 else n) ≡ n
+if_some true n e = absurd (Rattle.std.proofs.Common.true≢false e)
+if_some false n e = refl
 
-none_below : (x : ℕ) → 0 ≡ once_below x 0
-none_below x = grind arith
+-- a pass with a part counts with its lists
+took_of : (x : ℕ) (v : Deal) → 0 < v.parts → took x v ≡ times x v.taken
+took_of x v part = if_some (v.parts == 0) (times x v.taken) (ne_eqb v.parts 0 (λ e. omega (arith, e, part)))
 
-word_at : (words : List ℕ) (n : ℕ) → length words ≡ 1 → slice_index (set words 0 n) 0 ≡ n
-word_at [] n e = absurd (omega arith)
-word_at (x ∷ xs) n e = refl
+put_of : (x : ℕ) (v : Deal) → 0 < v.parts → put x v ≡ times x v.dealt
+put_of x v part = if_some (v.parts == 0) (times x v.dealt) (ne_eqb v.parts 0 (λ e. omega (arith, e, part)))
 
-word_long : (words : List ℕ) (n : ℕ) → length (set words 0 n) ≡ length words
-word_long [] n = refl
-word_long (x ∷ xs) n = refl
+-- a pass with no part counts for nothing
+no_took : (x : ℕ) (v : Deal) → v.parts ≡ 0 → took x v ≡ 0
+no_took x v e = grind arith
 
-pub opens : (draws : ℕ) → draws ≤ MOST_DRAWS → ClaimsHold draws (0 ∷ []) (claims [] draws ∷ [])
-opens draws few = record { one_word = refl; each_once = λ x. none_below x; count = refl; all_draws = omega arith; few = few }
+no_put : (x : ℕ) (v : Deal) → v.parts ≡ 0 → put x v ≡ 0
+no_put x v e = grind arith
 
-module _ (draws : ℕ) (words : List ℕ) (views : List Claims) (id : ℕ) (v : Claims) (kept : ClaimsHold draws words views) (at : get_elem? views id ≡ some v) where
-  draw_kept : (n : ℕ) → n ≡ slice_index words 0 → 0 < v.left
-      → ClaimsHold draws (set words 0 (n + 1)) (set views id (claims (v.drawn ++ n ∷ []) (v.left - 1)))
-  draw_kept n is some_left =
-      let w : Claims = claims (v.drawn ++ n ∷ []) (v.left - 1) in
-      let here : slice_index (set words 0 (n + 1)) 0 ≡ n + 1 = word_at words (n + 1) kept.one_word in
+pub begins : IsDealt [] (deal ALL_PARTS [] [] ∷ [])
+begins = record { parts = refl; once = λ x. refl }
+
+module _ (port : ℕ) (v : Deal) where
+  pub pushes : (xs : List ℕ) → 0 < v.parts → Pushes IsDealt port v xs (λ w. w ≡ deal v.parts (v.dealt ++ xs) v.taken)
+  pushes xs part items views h at = let w : Deal = deal v.parts (v.dealt ++ xs) v.taken in (
+    w,
+    record {
+      parts = omega (arith, h.parts, sum_at_set (λ (u : Deal). u.parts) views port v w at);
+      once = λ x. omega (arith, h.once x, sum_at_set (took x) views port v w at, sum_at_set (put x) views port v w at, took_of x v part, put_of x v part, took_of x w part, put_of x w part, times_append x v.dealt xs, times_append x items xs);
+    },
+    refl,
+  )
+
+  pub takes : 0 < v.parts → Takes IsDealt port v 1 (λ xs w. w ≡ deal v.parts v.dealt (v.taken ++ xs))
+  takes part xs items views _ _ h at = let w : Deal = deal v.parts v.dealt (v.taken ++ xs) in (
+    w,
+    record {
+      parts = omega (arith, h.parts, sum_at_set (λ (u : Deal). u.parts) views port v w at);
+      once = λ x. omega (arith, h.once x, sum_at_set (took x) views port v w at, sum_at_set (put x) views port v w at, took_of x v part, put_of x v part, took_of x w part, put_of x w part, times_append x v.taken xs, times_append x xs items);
+    },
+    refl,
+  )
+
+  -- who has all parts and finds nothing knows that all that was dealt was taken
+  pub finds : Finds IsDealt port v (v.parts ≡ ALL_PARTS → IsAllTaken v)
+  finds views h at all x =
+      let P : Deal → ℕ = λ u. u.parts in
+      let whole : sum_by P views ≡ P v = h.parts ∙ sym all in
+      let part : 0 < v.parts = omega (arith, all) in
+      omega (arith, h.once x, alone (took x) P (no_took x) views port v at whole, alone (put x) P (no_put x) views port v at whole, took_of x v part, put_of x v part)
+
+  pub finds_few : (most : ℕ) → most ≡ 0 → FindsFew IsDealt most port v (v.parts ≡ ALL_PARTS → IsAllTaken v)
+  finds_few most none items views few h at = finds views (subst (λ (l : List ℕ). IsDealt l views) (nothing items (omega (arith, few, none))) h) at
+    where
+      nothing : (l : List ℕ) → length l ≡ 0 → l ≡ []
+      nothing [] e = refl
+      nothing (y ∷ ys) e = absurd (omega arith)
+
+  pub forks : 1 < v.parts → Forks IsDealt port v (deal (v.parts - 1) v.dealt v.taken) (deal 1 [] [])
+  forks parts items views h at =
+      let l : Deal = deal (v.parts - 1) v.dealt v.taken in
+      let r : List Deal = deal 1 [] [] ∷ [] in
       record {
-        one_word = word_long words (n + 1) ∙ kept.one_word;
-        each_once = λ x.
-            let before : sum_by (λ (u : Claims). times x u.drawn) views ≡ once_below x n = rw is (kept.each_once x) in
-            let after : sum_by (λ (u : Claims). times x u.drawn) (set views id w) ≡ once_below x (n + 1) =
-            omega (arith, before, sum_at_set (λ (u : Claims). times x u.drawn) views id v w at, times_append x v.drawn (n ∷ []), once_more x n) in
-            after ∙ ap (λ (k : ℕ). once_below x k) (sym here);
-        count = omega (arith, kept.count, sum_at_set (λ (u : Claims). length u.drawn) views id v w at, length-append v.drawn (n ∷ []), here, is);
-        all_draws = omega (arith, kept.all_draws, sum_at_set (λ (u : Claims). u.left) views id v w at, at_sum_le (λ (u : Claims). u.left) views id v at, here, is);
-        few = kept.few;
+        parts = let P : Deal → ℕ = λ u. u.parts in omega (arith, h.parts, sum_at_set P views port v l at, sum_by-append P (set views port l) r);
+        once = λ x. omega (arith, h.once x, sum_at_set (took x) views port v l at, sum_at_set (put x) views port v l at, sum_by-append (took x) (set views port l) r, sum_by-append (put x) (set views port l) r, took_of x v (omega arith), put_of x v (omega arith), took_of x l (omega arith), put_of x l (omega arith));
       }
 
-  pub split_kept : (k : ℕ) → k ≤ v.left → ClaimsHold draws words (set views id (claims v.drawn (v.left - k)) ++ claims [] k ∷ [])
-  split_kept k enough =
-      let w : Claims = claims v.drawn (v.left - k) in
-      let given : List Claims = claims [] k ∷ [] in
-      let sum : (f : Claims → ℕ) → sum_by f (set views id w ++ given) + f v ≡ sum_by f views + f w + sum_by f given =
-      λ f. omega (arith, sum_at_set f views id v w at, sum_by-append f (set views id w) given) in
+  pub merges : (other : ℕ) (u : Deal) → 0 < v.parts → 0 < u.parts → Merges IsDealt port v other u (deal (v.parts + u.parts) (v.dealt ++ u.dealt) (v.taken ++ u.taken)) (deal 0 [] [])
+  merges other u part part' items views h at two at' =
+      let b : Deal = deal (v.parts + u.parts) (v.dealt ++ u.dealt) (v.taken ++ u.taken) in
+      let z : Deal = deal 0 [] [] in
+      let vs : List Deal = set views port b in
       record {
-        one_word = kept.one_word;
-        each_once = λ x. omega (arith, kept.each_once x, sum (λ (u : Claims). times x u.drawn));
-        count = omega (arith, kept.count, sum (λ (u : Claims). length u.drawn));
-        all_draws = omega (arith, kept.all_draws, sum (λ (u : Claims). u.left));
-        few = kept.few;
+        parts = let P : Deal → ℕ = λ y. y.parts in omega (arith, h.parts, sum_at_set P views port v b at, sum_at_set P vs other u z at');
+        once = λ x. omega (
+          arith,
+          h.once x,
+          sum_at_set (took x) views port v b at,
+          sum_at_set (put x) views port v b at,
+          sum_at_set (took x) vs other u z at',
+          sum_at_set (put x) vs other u z at',
+          took_of x v part,
+          put_of x v part,
+          took_of x u part',
+          put_of x u part',
+          took_of x b (omega arith),
+          put_of x b (omega arith),
+          times_append x v.dealt u.dealt,
+          times_append x v.taken u.taken,
+        );
       }
-
-  pub join_kept : (other : ℕ) (u : Claims) → get_elem? (set views id (claims (v.drawn ++ u.drawn) (v.left + u.left))) other ≡ some u
-      → ClaimsHold draws words (set (set views id (claims (v.drawn ++ u.drawn) (v.left + u.left))) other (claims [] 0))
-  join_kept other u at' =
-      let w : Claims = claims (v.drawn ++ u.drawn) (v.left + u.left) in
-      let spent : Claims = claims [] 0 in
-      let sum : (f : Claims → ℕ) → sum_by f (set (set views id w) other spent) + f v + f u ≡ sum_by f views + f w + f spent =
-      λ f. omega (arith, sum_at_set f views id v w at, sum_at_set f (set views id w) other u spent at') in
-      record {
-        one_word = kept.one_word;
-        each_once = λ x. omega (arith, kept.each_once x, sum (λ (y : Claims). times x y.drawn), times_append x v.drawn u.drawn);
-        count = omega (arith, kept.count, sum (λ (y : Claims). length y.drawn), length-append v.drawn u.drawn);
-        all_draws = omega (arith, kept.all_draws, sum (λ (y : Claims). y.left));
-        few = kept.few;
-      }
-
-  new_to_all : times (slice_index words 0) v.drawn ≡ 0
-  new_to_all =
-      let n : ℕ = slice_index words 0 in
-      omega (arith, kept.each_once n, not_below_itself n, at_sum_le (λ (u : Claims). times n u.drawn) views id v at)
-
-  draws_and_drawn : (vs : List Claims) → sum_by (λ (u : Claims). u.left + length u.drawn) vs ≡ sum_by (λ (u : Claims). u.left) vs + sum_by (λ (u : Claims). length u.drawn) vs
-  draws_and_drawn [] = refl
-  draws_and_drawn (x ∷ xs) = omega (arith, draws_and_drawn xs, sum_by-cons (λ (u : Claims). u.left + length u.drawn) x xs, sum_by-cons (λ (u : Claims). u.left) x xs, sum_by-cons (λ (u : Claims). length u.drawn) x xs)
-
-  nothing_drawn : (x : ℕ) (xs : List ℕ) → length xs ≡ 0 → times x xs ≡ 0
-  nothing_drawn x [] e = refl
-  nothing_drawn x (y ∷ ys) e = absurd (omega arith)
-
-  -- what one view drew and may still draw is all: what it drew are the numbers below their count, each once
-  pub all_known : v.left + length v.drawn ≡ draws → (x : ℕ) → times x v.drawn ≡ once_below x (length v.drawn)
-  all_known all x =
-      let both : Claims → ℕ = λ u. u.left + length u.drawn in
-      let whole : sum_by both views ≡ both v = omega (arith, draws_and_drawn views, kept.count, kept.all_draws) in
-      let drawn = alone (λ (u : Claims). times x u.drawn) both (λ u e. nothing_drawn x u.drawn (omega arith)) views id v at whole in
-      let count : sum_by (λ (u : Claims). length u.drawn) views ≡ length v.drawn = alone (λ (u : Claims). length u.drawn) both (λ u e. omega arith) views id v at whole in
-      sym drawn ∙ (kept.each_once x ∙ ap (λ (k : ℕ). once_below x k) (sym kept.count ∙ count))
-
-module _ (draws slots id : ℕ) (me : Me (Unit {0}) Claims) where
-  abbrev Holds : State (Unit {0}) Claims → Type 0
-  Holds s = ClaimsHold draws s.words s.views
-
-  pub draw_allowed : 0 < me.0.left → Allows Holds slots id me 0 (λ n. (n + 1) % 2 ^ 64) (Draws me)
-  draw_allowed some_left s kept homes at wide =
-      let n : ℕ = slice_index s.words 0 in
-      let room : n + 1 < 2 ^ 64 = omega (arith, at_sum_le (λ (u : Claims). u.left) s.views id me.0 at, kept.all_draws, kept.few) in
-      let whole : (n + 1) % 2 ^ 64 ≡ n + 1 = mod-eq_of_lt room in
-      let few : length me.0.drawn ≤ n = omega (arith, at_sum_le (λ (u : Claims). length u.drawn) s.views id me.0 at, kept.count) in (
-        claims (me.0.drawn ++ n ∷ []) (me.0.left - 1),
-        keeps,
-        tt,
-        rw whole (draw_kept draws s.words s.views id me.0 kept at n refl some_left),
-        record { seat = refl; not_before = new_to_all draws s.words s.views id me.0 kept at; few = few },
-      )

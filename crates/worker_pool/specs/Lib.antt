@@ -1,4 +1,3 @@
 pub mod Counting
-pub mod Takers
 pub mod Days
 pub mod Inner

@@ -1,10 +1,10 @@
-//! Facts that hold of every source.
+//! Facts that hold of every deque.
 
 ghost use Rattle.std.specs.Prelude.{◌≡◌};
 
-use crate::rule::MOST_DRAWS;
+use crate::rule::ALL_PARTS;
 
-/// The most draws of a source, in digits. All else cites the constant.
+/// The parts of a deque, in digits. All else cites the constant.
 pub fn greatest_sizes()
-    ensures draws { MOST_DRAWS ≡ 65536 }
+    ensures parts { ALL_PARTS ≡ 64 }
 {}

@@ -1,22 +1,22 @@
-//! The workers of a day: callers are handed out to them, each caller to one worker, once.
+//! The workers of a day: they share its callers by stealing, and each caller is run once.
 //!
-//! `run_callers` runs all scripts of an input, with a thread for each pass of a table. Which worker runs which caller
-//! goes by one word, the claim word, in a table of its own: whoever adds one to it may take the caller whose number it
-//! found. `ClaimsHold` in `specs/Inner/Claims` says what holds of the word between any two steps of any workers.
+//! `run_callers` runs all scripts of an input, with a thread for each pass of a table. Each worker owns a deque, and the
+//! callers are dealt to the deques in turn before any worker starts. A worker takes callers from its own deque, and where
+//! that is empty it steals them from the others. `IsDealt` in `specs/Inner/Deals` says what holds of a deque between any
+//! two steps of any workers. What no worker took is run at the end by the calling thread.
 #![tactic(auto)]
 
+mod dealing;
 pub mod done;
+mod ends;
+mod finish;
 pub mod laws;
 mod rule;
 pub mod run;
-pub mod source;
-mod step;
-pub mod taker;
+mod taker;
 mod worker;
 mod workshop;
 
 pub use done::{DayEnd, Done};
-pub use rule::MOST_DRAWS;
+pub use rule::ALL_PARTS;
 pub use run::run_callers;
-pub use source::Source;
-pub use taker::Taker;

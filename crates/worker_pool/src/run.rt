@@ -1,19 +1,26 @@
 //! All workers of a day: a thread for each pass, and what they leave.
 
-ghost use Rattle.std.specs.Prelude.{◌≡◌, ◌<◌, ◌≤◌, ◌*◌, ◌+◌, ◌++◌, ◌∷◌, [], length, map, flat_map, replicate, All, false, IfOk, OnOk};
+ghost use Rattle.std.specs.Prelude.{ℕ, ◌≡◌, ◌<◌, ◌≤◌, ◌+◌, ◌*◌, ◌++◌, ◌∷◌, [], length, map, flat_map, All, false, IfOk, OnOk};
 ghost use Rattle.std.specs.List.{range_with_len};
 ghost use Rattle.history_model.specs.Fitting.{IsGood};
 ghost use Rattle.history_model.specs.Legal.{IsLegalHistory};
+ghost use Rattle.script_reader.specs.declared.limits.TheConstants.{MOST_CALLERS, MOST_SCRIPTS};
 ghost use Rattle.txn_books.specs.Layout.{shape_of, words_of};
 ghost use Rattle.txn_books.specs.Standing.{IsGoodFor, Stands, StandsFor};
+ghost use Rattle.worker_pool.specs.declared.rule.TheConstants.{ALL_PARTS};
+ghost use Rattle.worker_pool.specs.Counting.{times};
 ghost use Rattle.worker_pool.specs.Days.{AreAllNew, IsDay};
-ghost use Rattle.worker_pool.specs.Takers.{opening_taker};
-ghost use Rattle.worker_pool.specs.Inner.Workers.{number_of, FitTogether, HasEnded, IsSeated};
+ghost use Rattle.worker_pool.specs.Inner.Dealing.{AreDealtInTurn, AreShown, IsFree, IsNewRow};
+ghost use Rattle.worker_pool.specs.Inner.Makers.{HasMade, RunsEach};
+ghost use Rattle.worker_pool.specs.Inner.Takers.{dealt_to, IsDealtOut};
+ghost use Rattle.worker_pool.specs.Inner.Workers.{number_of, seat_of, AreAllDone, FitTogether, HasEnded, IsSeated};
 
+use crate::dealing::{Deques, deal_out};
 use crate::done::{DayEnd, Done};
-use crate::source::Source;
+use crate::finish::settle;
+use crate::rule::{DequePass, Owner};
 use crate::taker::Taker;
-use crate::worker::Worker;
+use crate::worker::{Share, Worker, run_caller};
 use crate::workshop::Workshop;
 use books_model::laws::refused_changes_nothing;
 use io_ends::OutOfMemory;
@@ -26,30 +33,48 @@ use txn_books::BooksShape;
 use word_table::{Desk, Pass};
 use worker_gate::Gate;
 
-// A worker for each pass, in their order.
-fn seat_workers(
-    alloc: Global,
-    source: &Source,
-    desk: &Desk<BooksShape>,
+// A worker for each pass, in their order: each gets the deque of its number, and a row of passes.
+fn seat_workers<R: Wait, G: Gate>(
+    shop: &Workshop<R, G>,
     passes: Vec<Pass<BooksShape>>,
-    mut takers: Vec<Taker>,
+    mut owners: Vec<Owner>,
+    mut rows: Vec<Vec<DequePass>>,
 ) -> Result<Vec<Worker>, OutOfMemory>
-    requires takers { takers.items
-        ≡ replicate (length passes.items) (opening_taker source.now.table source.now.callers) }
-    requires passes { AreAllNew desk.now passes.items }
-    ensures seated { IfOk result (λ workers. All (IsSeated source.now desk.now) workers.items) }
+    requires passes { AreAllNew shop.now.desk.now passes.items }
+    requires count { (length owners.items ≡ length passes.items)
+        × (length rows.items ≡ length passes.items) }
+    requires few { length passes.items < ALL_PARTS }
+    requires shown { AreShown shop.now.thieves.now owners.items }
+    requires free { All (IsFree (length passes.items)) owners.items }
+    requires rows { All (λ row. IsNewRow owners.items row.items) rows.items }
+    ensures seated { IfOk result (λ workers.
+        All (IsSeated shop.now.thieves.now shop.now.desk.now) workers.items) }
     ensures numbers { IfOk result (λ workers.
-        map number_of workers.items ≡ range_with_len 0 desk.now.seats) }
+        map number_of workers.items ≡ range_with_len 0 shop.now.desk.now.seats) }
+    ensures owners { IfOk result (λ workers.
+        map (λ worker. worker.taker.own) workers.items ≡ owners.items) }
 {
-    let mut workers = Vec::new(alloc);
+    let mut workers = Vec::new(shop.alloc);
+    // They are taken from the end.
+    owners.reverse();
     for pass in passes {
-        let Some(taker) = takers.pop() else {
+        let Some(own) = owners.pop() else {
+            unreachable!()
+        };
+        let Some(row) = rows.pop() else {
             unreachable!()
         };
         workers.push(Worker {
-            taker,
-            pass,
-            done: Vec::new(alloc),
+            taker: Taker {
+                own,
+                passes: row,
+                seat: workers.len(),
+                count: 0,
+            },
+            share: Share {
+                pass,
+                done: Vec::new(shop.alloc),
+            },
             failed: false,
         })?;
     }
@@ -59,88 +84,205 @@ fn seat_workers(
 // Each worker on a thread of its own.
 fn work_all<R: Threads + Wait + Sync, G: Gate>(shop: &Workshop<R, G>, workers: &mut [Worker])
     requires some { 0 < length workers.old }
-    requires fit { FitTogether shop.now.desk.now shop.now.shape
-        shop.now.source.now shop.now.input.now }
-    requires seated { All (IsSeated shop.now.source.now shop.now.desk.now) workers.old }
-    ensures ended { All (HasEnded shop.now.source.now shop.now.desk.now shop.now.input.now)
+    requires fit { FitTogether shop.now.desk.now shop.now.shape shop.now.input.now }
+    requires seated { All (IsSeated shop.now.thieves.now shop.now.desk.now) workers.old }
+    ensures ended { All (HasEnded shop.now.thieves.now shop.now.desk.now shop.now.input.now)
         workers.new }
     ensures numbers { map number_of workers.new ≡ map number_of workers.old }
+    ensures dealt { map (λ worker. dealt_to worker.taker) workers.new
+        ≡ map (λ worker. dealt_to worker.taker) workers.old }
 {
     thread::for_each_mut(
         shop.rt,
         workers,
         workers.len(),
         &|_, worker: &mut Worker|
-            requires { FitTogether shop.now.desk.now shop.now.shape shop.now.source.now
-                shop.now.input.now × IsSeated shop.now.source.now shop.now.desk.now worker.now }
-            ensures { HasEnded shop.entry.now.source.now shop.entry.now.desk.now
+            requires { FitTogether shop.now.desk.now shop.now.shape shop.now.input.now
+                × IsSeated shop.now.thieves.now shop.now.desk.now worker.now }
+            ensures { HasEnded shop.entry.now.thieves.now shop.entry.now.desk.now
                 shop.entry.now.input.now worker.exit.now
-                × (number_of worker.exit.now ≡ number_of worker.entry.now) }
+                × (number_of worker.exit.now ≡ number_of worker.entry.now)
+                × (dealt_to worker.exit.now.taker ≡ dealt_to worker.entry.now.taker) }
         { worker.work(shop) },
     );
 }
 
-// What one worker has, behind what others had, unless it found no memory.
-fn add_worker(
-    worker: Worker,
-    takers: &mut Vec<Taker>,
-    passes: &mut Vec<Pass<BooksShape>>,
-    all: &mut Vec<Done>,
-) -> Result<(), OutOfMemory>
+/// What all workers leave, each list in their order.
+#[derive(Drop)]
+pub(crate) struct Leavings {
+    pub owners: Vec<Owner>,
+    pub rows: Vec<Vec<DequePass>>,
+    pub shares: Vec<Share>,
+}
+
+// What one worker leaves, behind what others left, unless it found no memory.
+fn add_worker(worker: Worker, all: &mut Leavings) -> Result<(), OutOfMemory>
     ensures not_failed { OnOk result (worker.failed ≡ false) }
-    ensures taker { OnOk result (takers.new.items ≡ takers.old.items ++ worker.taker ∷ []) }
-    ensures pass { OnOk result (passes.new.items ≡ passes.old.items ++ worker.pass ∷ []) }
-    ensures done { OnOk result (all.new.items ≡ all.old.items ++ worker.done.items) }
+    ensures owner { OnOk result (all.new.owners.items
+        ≡ all.old.owners.items ++ worker.taker.own ∷ []) }
+    ensures row { OnOk result (all.new.rows.items
+        ≡ all.old.rows.items ++ worker.taker.passes ∷ []) }
+    ensures share { OnOk result (all.new.shares.items
+        ≡ all.old.shares.items ++ worker.share ∷ []) }
 {
     let Worker {
         taker,
-        pass,
-        mut done,
+        share,
         failed,
     } = worker;
     if failed {
         return Err(OutOfMemory);
     }
-    takers.push(taker)?;
+    let Taker {
+        own,
+        passes,
+        seat: _,
+        count: _,
+    } = taker;
+    all.owners.push(own)?;
+    all.rows.push(passes)?;
+    all.shares.push(share)?;
+    Ok(())
+}
+
+// What all workers leave, unless one of them found no memory.
+fn gather(alloc: Global, workers: Vec<Worker>) -> Result<Leavings, OutOfMemory>
+    ensures none_failed { IfOk result (λ _. All (λ worker. worker.failed ≡ false) workers.items) }
+    ensures owners { IfOk result (λ all.
+        all.owners.items ≡ map (λ worker. worker.taker.own) workers.items) }
+    ensures rows { IfOk result (λ all.
+        all.rows.items ≡ map (λ worker. worker.taker.passes) workers.items) }
+    ensures shares { IfOk result (λ all.
+        all.shares.items ≡ map (λ worker. worker.share) workers.items) }
+{
+    let mut all = Leavings {
+        owners: Vec::new(alloc),
+        rows: Vec::new(alloc),
+        shares: Vec::new(alloc),
+    };
+    for worker in workers {
+        add_worker(worker, &mut all)?;
+    }
+    Ok(all)
+}
+
+// Runs all callers of the list.
+fn run_left<R: Wait, G: Gate>(
+    shop: &Workshop<R, G>,
+    share: &mut Share,
+    left: Vec<u32>,
+) -> Result<(), OutOfMemory>
+    requires fit { FitTogether shop.now.desk.now shop.now.shape shop.now.input.now }
+    requires made { HasMade shop.now.desk.now shop.now.input.now (seat_of share.old)
+        share.old.pass share.old.done.items }
+    requires few { length share.old.done.items ≤ MOST_CALLERS * MOST_SCRIPTS }
+    requires left { length left.items ≤ MOST_CALLERS }
+    ensures made { OnOk result (HasMade shop.now.desk.now shop.now.input.now (seat_of share.old)
+        share.new.pass share.new.done.items) }
+    ensures number { OnOk result (seat_of share.new ≡ seat_of share.old) }
+    ensures run { OnOk result ((h more : ℕ → ℕ) → ((x : ℕ) → more x ≡ h x + times x left.items)
+        → RunsEach shop.now.input.now h share.old.done.items
+        → RunsEach shop.now.input.now more share.new.done.items) }
+{
+    for caller in left {
+        run_caller(shop, share, caller)?;
+    }
+    Ok(())
+}
+
+// What no worker took is run by the calling thread, with the first pass.
+fn last_round<R: Wait, G: Gate>(
+    shop: &Workshop<R, G>,
+    workers: Vec<Worker>,
+    mut left: Vec<u32>,
+) -> Result<Vec<Share>, OutOfMemory>
+    requires some { 0 < length workers.items }
+    requires fit { FitTogether shop.now.desk.now shop.now.shape shop.now.input.now }
+    requires ended { All (HasEnded shop.now.thieves.now shop.now.desk.now shop.now.input.now)
+        workers.items }
+    requires numbers { map number_of workers.items ≡ range_with_len 0 shop.now.desk.now.seats }
+    requires thieves { length shop.now.thieves.now ≡ length workers.items }
+    requires dealt { IsDealtOut (length shop.now.input.now.callers)
+        (map (λ worker. dealt_to worker.taker) workers.items) left.items }
+    ensures { IfOk result (λ shares.
+        AreAllDone shop.now.desk.now shop.now.input.now shares.items) }
+{
+    let Leavings {
+        owners,
+        rows,
+        mut shares,
+    } = gather(shop.alloc, workers)?;
+    settle(shop.rt, owners, rows, &mut left)?;
+    run_left(shop, &mut shares[0], left)?;
+    Ok(shares)
+}
+
+// All scripts of the day, each run once.
+fn run_all<R: Threads + Wait + Sync, G: Gate>(
+    shop: &Workshop<R, G>,
+    passes: Vec<Pass<BooksShape>>,
+    owners: Vec<Owner>,
+    rows: Vec<Vec<DequePass>>,
+    left: Vec<u32>,
+) -> Result<Vec<Share>, OutOfMemory>
+    requires fit { FitTogether shop.now.desk.now shop.now.shape shop.now.input.now }
+    requires passes { AreAllNew shop.now.desk.now passes.items }
+    requires some { 0 < length passes.items }
+    requires count { (length owners.items ≡ length passes.items)
+        × (length rows.items ≡ length passes.items) }
+    requires few { length passes.items < ALL_PARTS }
+    requires shown { AreShown shop.now.thieves.now owners.items }
+    requires free { All (IsFree (length passes.items)) owners.items }
+    requires rows { All (λ row. IsNewRow owners.items row.items) rows.items }
+    requires dealt { AreDealtInTurn (length shop.now.input.now.callers) owners.items left.items }
+    ensures { IfOk result (λ shares.
+        AreAllDone shop.now.desk.now shop.now.input.now shares.items) }
+{
+    let mut workers = seat_workers(shop, passes, owners, rows)?;
+    work_all(shop, workers.as_mut_slice());
+    last_round(shop, workers, left)
+}
+
+// One share behind others.
+fn add_share(
+    share: Share,
+    passes: &mut Vec<Pass<BooksShape>>,
+    all: &mut Vec<Done>,
+) -> Result<(), OutOfMemory>
+    ensures pass { OnOk result (passes.new.items ≡ passes.old.items ++ share.pass ∷ []) }
+    ensures done { OnOk result (all.new.items ≡ all.old.items ++ share.done.items) }
+{
+    let Share { pass, mut done } = share;
     passes.push(pass)?;
     all.append(&mut done)?;
     Ok(())
 }
 
-// What all workers have, each list in their order, unless one of them found no memory.
-fn gather(
+// All passes, and all items, each in the order of the shares.
+fn join_shares(
     alloc: Global,
-    workers: Vec<Worker>,
-) -> Result<(Vec<Taker>, Vec<Pass<BooksShape>>, Vec<Done>), OutOfMemory>
-    ensures none_failed { IfOk result (λ all. All (λ worker. worker.failed ≡ false) workers.items) }
-    ensures takers { IfOk result (λ all.
-        all.0.items ≡ map (λ worker. worker.taker) workers.items) }
-    ensures passes { IfOk result (λ all.
-        all.1.items ≡ map (λ worker. worker.pass) workers.items) }
+    shares: Vec<Share>,
+) -> Result<(Vec<Pass<BooksShape>>, Vec<Done>), OutOfMemory>
+    ensures passes { IfOk result (λ all. all.0.items ≡ map (λ share. share.pass) shares.items) }
     ensures done { IfOk result (λ all.
-        all.2.items ≡ flat_map (λ worker. worker.done.items) workers.items) }
+        all.1.items ≡ flat_map (λ share. share.done.items) shares.items) }
 {
-    let mut takers = Vec::new(alloc);
     let mut passes = Vec::new(alloc);
     let mut all = Vec::new(alloc);
-    for worker in workers {
-        add_worker(worker, &mut takers, &mut passes, &mut all)?;
+    for share in shares {
+        add_share(share, &mut passes, &mut all)?;
     }
-    Ok((takers, passes, all))
+    Ok((passes, all))
 }
 
 // Closes the table and puts the items in the order of their serials.
 fn end_day(
     alloc: Global,
     desk: Desk<BooksShape>,
-    source: Source,
     input: &Input,
-    workers: Vec<Worker>,
+    shares: Vec<Share>,
 ) -> Result<DayEnd, OutOfMemory>
-    requires ended { All (HasEnded source desk input.now) workers.items }
-    requires numbers { map number_of workers.items ≡ range_with_len 0 desk.seats }
-    requires workers { length workers.items ≡ source.workers }
-    requires callers { source.callers ≡ length input.now.callers }
+    requires done { AreAllDone desk input.now shares.items }
     requires stands { Stands desk.shape desk.base input.now.books }
     ensures desk { IfOk result (λ day. (day.closed.base ≡ desk.base)
         × (day.closed.seats ≡ desk.seats) × (day.closed.shape ≡ desk.shape)) }
@@ -150,8 +292,7 @@ fn end_day(
     ensures day { IfOk result (λ day. IsDay input.now day.closed day.done.items) }
 {
     refused_changes_nothing();
-    let (takers, passes, mut done) = gather(alloc, workers)?;
-    source.finish(takers);
+    let (passes, mut done) = join_shares(alloc, shares)?;
     let Ok(closed) = desk.close(alloc, passes) else {
         return Err(OutOfMemory);
     };
@@ -185,17 +326,21 @@ pub fn run_callers<R: Threads + Wait + Sync, G: Gate>(
     // One serial history of all scripts, and what the interpreter says of it.
     ensures day { IfOk result (λ day. IsDay input.now day.closed day.done.items) }
 {
-    let (source, takers) = Source::new(alloc, input.callers(), desk.seats())?;
-    let mut workers = seat_workers(alloc, &source, &desk, passes, takers)?;
+    let Deques {
+        owners,
+        thieves,
+        rows,
+        left,
+    } = deal_out(alloc, input.callers(), desk.seats())?;
     let shop = Workshop {
         rt,
         alloc,
         desk: &desk,
         shape: BooksShape::of(input.books()),
-        source: &source,
+        thieves: thieves.as_slice(),
         input,
         gate,
     };
-    work_all(&shop, workers.as_mut_slice());
-    end_day(alloc, desk, source, input, workers)
+    let shares = run_all(&shop, passes, owners, rows, left)?;
+    end_day(alloc, desk, input, shares)
 }

@@ -1,90 +1,100 @@
-//! A worker's end of a source of callers.
+//! A worker's end of all deques.
 
-ghost use Rattle.std.specs.Prelude.{◌≡◌, ◌<◌, ◌≤◌, ◌+◌, ◌++◌, ◌∷◌, [], length, true, false, IfSome, IfNone};
+ghost use Rattle.std.specs.Prelude.{◌≡◌, ◌<◌, ◌≤◌, ◌+◌, length, IfSome, IfNone};
+ghost use Rattle.script_reader.specs.declared.limits.TheConstants.{MOST_CALLERS as most_callers};
+ghost use Rattle.worker_pool.specs.declared.rule.TheConstants.{ALL_PARTS};
 ghost use Rattle.worker_pool.specs.Counting.{HadOneMore};
-ghost use Rattle.worker_pool.specs.Takers.{opening_taker, taken, had};
-ghost use Rattle.worker_pool.specs.Inner.Claims.{claims};
-ghost use Rattle.worker_pool.specs.Inner.Ends.{IsSeatOf};
+ghost use Rattle.worker_pool.specs.Inner.Ends.{Fits, stolen, HadSame};
+ghost use Rattle.worker_pool.specs.Inner.Takers.{dealt_to, had, IsEndOf};
 
-use crate::rule::Claims;
-use crate::source::Source;
-use crate::step::draw;
-use atomic_table::Seat;
-use std::marker::Model;
+use crate::ends::{steal, take_own};
+use crate::rule::{DequePass, Owner, Thief};
+use script_reader::limits::MOST_CALLERS;
+use std::sync::Wait;
 
-/// A worker's end of a source: what is taken through it, no other taker takes.
+/// A worker's end of all deques: its own deque, and a pass at each deque, its own among them.
 #[derive(Drop)]
-pub struct Taker {
-    seat: Seat<(), Claims>,
-    callers: u32,
-    over: bool,
+pub(crate) struct Taker {
+    pub own: Owner,
+    pub passes: Vec<DequePass>,
+    /// Which of the deques is its own, from 0.
+    pub seat: usize,
+    /// How many callers were taken through it.
+    pub count: usize,
 }
 
-impl Model for Taker {
-    ghost use Rattle.worker_pool.specs.Takers.{TakerView};
-    ghost use Rattle.worker_pool.specs.Inner.Ends.{IsEnd};
+// Takes a caller from the deque of this number.
+fn steal_at<R: Wait>(
+    rt: &R,
+    thieves: &[Thief],
+    passes: &mut Vec<DequePass>,
+    k: usize,
+) -> Option<u32>
+    requires fits { Fits thieves.now passes.old.items }
+    requires place { k < length thieves.now }
+    ensures fits { Fits thieves.now passes.new.items }
+    ensures some { IfSome result
+        (λ caller. HadOneMore (stolen passes.old.items) (stolen passes.new.items) caller) }
+    ensures none { IfNone result (HadSame (stolen passes.old.items) (stolen passes.new.items)) }
+{
+    steal(rt, &thieves[k], &mut passes[k])
+}
 
-    ghost Value = { TakerView };
-
-    ghost view = { λ t. record {
-      table = t.seat.table_id;
-      callers = t.callers;
-      drawn = t.seat.me.0.drawn;
-      over = t.over;
-    } };
-
-    ghost invariant = { λ t. IsEnd t.callers t.over t.seat.me };
+// Tries the other workers' deques, from the next on, until one gives a caller.
+fn steal_round<R: Wait>(
+    rt: &R,
+    thieves: &[Thief],
+    passes: &mut Vec<DequePass>,
+    seat: usize,
+) -> Option<u32>
+    requires fits { Fits thieves.now passes.old.items }
+    requires seat { (seat < length thieves.now) × (length thieves.now < ALL_PARTS) }
+    ensures fits { Fits thieves.now passes.new.items }
+    ensures some { IfSome result
+        (λ caller. HadOneMore (stolen passes.old.items) (stolen passes.new.items) caller) }
+    ensures none { IfNone result (HadSame (stolen passes.old.items) (stolen passes.new.items)) }
+{
+    for step in 1..thieves.len() {
+        if let Some(caller) = steal_at(rt, thieves, passes, (seat + step) % thieves.len()) {
+            return Some(caller);
+        }
+    }
+    None
 }
 
 impl Taker {
-    /// The taker of a seat with one draw more than there are callers.
-    pub(crate) fn of(seat: Seat<(), Claims>, callers: u32) -> Taker
-        requires { seat.me ≡ (claims [] (callers + 1), []) }
-        ensures { result ≡ opening_taker seat.table_id callers }
+    // Takes a caller from the own deque, or else from the others.
+    fn take<R: Wait>(&mut self, rt: &R, thieves: &[Thief]) -> Option<u32>
+        requires end { IsEndOf thieves.now self.old.seat self.old }
+        ensures end { IsEndOf thieves.now self.old.seat self.new }
+        ensures dealt { dealt_to self.new ≡ dealt_to self.old }
+        ensures count { self.new.count ≡ self.old.count }
+        ensures some { IfSome result (λ caller. HadOneMore (had self.old) (had self.new) caller) }
+        ensures none { IfNone result (HadSame (had self.old) (had self.new)) }
     {
-        Taker {
-            seat,
-            callers,
-            over: false,
+        if let Some(caller) = take_own(&mut self.own) {
+            return Some(caller);
         }
+        steal_round(rt, thieves, &mut self.passes, self.seat)
     }
 
-    /// The next caller for this worker, or none, once all callers are handed out.
-    ///
-    /// A call is one atomic operation, and waits for nobody.
-    pub fn next(&mut self, source: &Source) -> Option<u32>
-        requires source { self.old.table ≡ source.now.table }
-        requires open { self.old.over ≡ false }
-        ensures source { (self.new.table ≡ self.old.table)
-            × (self.new.callers ≡ self.old.callers) }
-        ensures caller { IfSome result (λ c. c < self.old.callers) }
-        ensures taken { IfSome result (λ c. taken self.new ≡ taken self.old ++ c ∷ []) }
-        ensures had { IfSome result (λ c. HadOneMore (had self.old) (had self.new) c) }
-        ensures not_before { IfSome result (λ c. had self.old c ≡ 0) }
-        ensures goes_on { IfSome result (λ _. self.new.over ≡ false) }
-        ensures few { length (taken self.new) ≤ self.old.callers }
-        ensures over { IfNone result (self.new.over ≡ true) }
-        ensures none { IfNone result (taken self.new ≡ taken self.old) }
+    /// The next caller for this worker, or none, once it found all deques empty in one round, or took as many callers
+    /// as an input may have.
+    pub(crate) fn next<R: Wait>(&mut self, rt: &R, thieves: &[Thief]) -> Option<u32>
+        requires end { IsEndOf thieves.now self.old.seat self.old }
+        ensures end { IsEndOf thieves.now self.old.seat self.new }
+        ensures dealt { dealt_to self.new ≡ dealt_to self.old }
+        ensures count { IfSome result (λ _. self.new.count ≡ self.old.count + 1) }
+        ensures few { IfSome result (λ _. self.old.count < most_callers) }
+        ensures some { IfSome result (λ caller. HadOneMore (had self.old) (had self.new) caller) }
+        ensures none { IfNone result (HadSame (had self.old) (had self.new)) }
+        ensures still { IfNone result (self.new.count ≡ self.old.count) }
     {
-        let found = draw(source.word(), &mut self.seat);
-        if found < u64::from(self.callers) {
-            Some(found as u32)
-        } else {
-            self.over = true;
-            None
+        if self.count == MOST_CALLERS {
+            return None;
         }
-    }
-
-    /// The seat alone.
-    pub(crate) fn into_seat(self) -> Seat<(), Claims>
-        ensures table { result.table_id ≡ self.table }
-        ensures seat { IsSeatOf self result.me }
-    {
-        let Taker {
-            seat,
-            callers: _,
-            over: _,
-        } = self;
-        seat
+        let caller = self.take(rt, thieves)?;
+        self.count += 1;
+        Some(caller)
     }
 }

@@ -1,11 +1,14 @@
-//! One worker: it takes callers and runs their scripts, until none is left.
+//! One worker: it takes callers and runs their scripts, until it finds none.
 
 ghost use Rattle.std.specs.Prelude.{◌≡◌, ℕ, ◌+◌, ◌<◌, ◌≤◌, List, [], ◌∷◌, ◌++◌, length, IfOk, OnOk};
 ghost use Rattle.history_model.specs.declared.view.Phase.TheVariants.{Idle};
 ghost use Rattle.history_model.specs.Views.{number};
 ghost use Rattle.script_reader.specs.Input.{caller_at};
+ghost use Rattle.script_reader.specs.declared.limits.TheConstants.{MOST_SCRIPTS};
 ghost use Rattle.word_table.specs.declared.limits.TheConstants.{LAST_CALL};
-ghost use Rattle.worker_pool.specs.Inner.Makers.{HasMade, HasRun};
+ghost use Rattle.worker_pool.specs.Counting.{HadOneMore};
+ghost use Rattle.worker_pool.specs.Inner.Makers.{HasMade, HasRun, RunsEach};
+ghost use Rattle.worker_pool.specs.Inner.Takers.{dealt_to};
 ghost use Rattle.worker_pool.specs.Inner.Workers.{number_of, FitTogether, HasEnded, HasWorked, IsSeated};
 
 use crate::done::Done;
@@ -19,12 +22,18 @@ use txn_commit::transact;
 use word_table::Pass;
 use worker_gate::Gate;
 
+/// What was run by one pass.
+#[derive(Drop)]
+pub(crate) struct Share {
+    pub pass: Pass<BooksShape>,
+    pub done: Vec<Done>,
+}
+
 /// What a worker has for its own.
 #[derive(Drop)]
 pub(crate) struct Worker {
     pub taker: Taker,
-    pub pass: Pass<BooksShape>,
-    pub done: Vec<Done>,
+    pub share: Share,
     /// It found no memory, and ended before its work was done.
     pub failed: bool,
 }
@@ -36,8 +45,7 @@ fn run_script<R: Wait, G: Gate>(
     caller: u32,
     index: u32,
 ) -> Result<Done, OutOfMemory>
-    requires fit { FitTogether shop.now.desk.now shop.now.shape
-        shop.now.source.now shop.now.input.now }
+    requires fit { FitTogether shop.now.desk.now shop.now.shape shop.now.input.now }
     requires caller { caller < length shop.now.input.now.callers }
     requires index { index < length (caller_at shop.now.input.now caller).scripts }
     requires desk { pass.old.table ≡ shop.now.desk.now.table }
@@ -67,15 +75,14 @@ fn run_script<R: Wait, G: Gate>(
     })
 }
 
-// All scripts of one caller, in their order.
-fn run_caller<R: Wait, G: Gate>(
+// All scripts of one caller of the input, in their order.
+fn run_scripts<R: Wait, G: Gate>(
     shop: &Workshop<R, G>,
     pass: &mut Pass<BooksShape>,
     done: &mut Vec<Done>,
     caller: u32,
 ) -> Result<(), OutOfMemory>
-    requires fit { FitTogether shop.now.desk.now shop.now.shape
-        shop.now.source.now shop.now.input.now }
+    requires fit { FitTogether shop.now.desk.now shop.now.shape shop.now.input.now }
     requires caller { caller < length shop.now.input.now.callers }
     requires made { HasMade shop.now.desk.now shop.now.input.now (number pass.old.view)
         pass.old done.old.items }
@@ -98,32 +105,58 @@ fn run_caller<R: Wait, G: Gate>(
     Ok(())
 }
 
+/// All scripts of one caller, in their order. A number that is no caller's is passed over.
+pub(crate) fn run_caller<R: Wait, G: Gate>(
+    shop: &Workshop<R, G>,
+    share: &mut Share,
+    caller: u32,
+) -> Result<(), OutOfMemory>
+    requires fit { FitTogether shop.now.desk.now shop.now.shape shop.now.input.now }
+    requires made { HasMade shop.now.desk.now shop.now.input.now (number share.old.pass.view)
+        share.old.pass share.old.done.items }
+    requires room { length share.old.done.items + MOST_SCRIPTS ≤ LAST_CALL }
+    ensures who { share.new.pass.view.who ≡ share.old.pass.view.who }
+    ensures made { OnOk result (HasMade shop.now.desk.now shop.now.input.now
+        (number share.old.pass.view) share.new.pass share.new.done.items) }
+    ensures run { OnOk result ((h more : ℕ → ℕ) → HadOneMore h more caller
+        → RunsEach shop.now.input.now h share.old.done.items
+        → RunsEach shop.now.input.now more share.new.done.items) }
+    ensures count { OnOk result (length share.new.done.items
+        ≤ length share.old.done.items + MOST_SCRIPTS) }
+{
+    if caller < shop.input.callers() {
+        run_scripts(shop, &mut share.pass, &mut share.done, caller)?;
+    }
+    Ok(())
+}
+
 impl Worker {
-    // Takes callers until none is left.
+    // Takes callers until it finds none.
     fn run<R: Wait, G: Gate>(&mut self, shop: &Workshop<R, G>) -> Result<(), OutOfMemory>
-        requires fit { FitTogether shop.now.desk.now shop.now.shape
-            shop.now.source.now shop.now.input.now }
-        requires seated { IsSeated shop.now.source.now shop.now.desk.now self.old }
-        ensures who { self.new.pass.view.who ≡ self.old.pass.view.who }
+        requires fit { FitTogether shop.now.desk.now shop.now.shape shop.now.input.now }
+        requires seated { IsSeated shop.now.thieves.now shop.now.desk.now self.old }
+        ensures who { self.new.share.pass.view.who ≡ self.old.share.pass.view.who }
+        ensures dealt { dealt_to self.new.taker ≡ dealt_to self.old.taker }
         ensures worked { OnOk result
-            (HasWorked shop.now.source.now shop.now.desk.now shop.now.input.now self.new) }
+            (HasWorked shop.now.thieves.now shop.now.desk.now shop.now.input.now self.new) }
     {
         for _ in shop.rt.forever() {
-            let Some(caller) = self.taker.next(shop.source) else {
+            let Some(caller) = self.taker.next(shop.rt, shop.thieves) else {
                 return Ok(());
             };
-            run_caller(shop, &mut self.pass, &mut self.done, caller)?;
+            run_caller(shop, &mut self.share, caller)?;
         }
         unreachable!()
     }
 
-    /// Takes callers and runs their scripts, until none is left or there is no memory.
+    /// Takes callers and runs their scripts, until it finds none or there is no memory.
     pub(crate) fn work<R: Wait, G: Gate>(&mut self, shop: &Workshop<R, G>)
-        requires fit { FitTogether shop.now.desk.now shop.now.shape
-            shop.now.source.now shop.now.input.now }
-        requires seated { IsSeated shop.now.source.now shop.now.desk.now self.old }
+        requires fit { FitTogether shop.now.desk.now shop.now.shape shop.now.input.now }
+        requires seated { IsSeated shop.now.thieves.now shop.now.desk.now self.old }
         ensures number { number_of self.new ≡ number_of self.old }
-        ensures ended { HasEnded shop.now.source.now shop.now.desk.now shop.now.input.now self.new }
+        ensures dealt { dealt_to self.new.taker ≡ dealt_to self.old.taker }
+        ensures ended { HasEnded shop.now.thieves.now shop.now.desk.now shop.now.input.now
+            self.new }
     {
         if self.run(shop).is_err() {
             self.failed = true;

@@ -1,6 +1,6 @@
 //! What all workers of a day share.
 
-use crate::source::Source;
+use crate::rule::Thief;
 use script_reader::Input;
 use std::alloc::Global;
 use std::sync::Wait;
@@ -8,14 +8,14 @@ use txn_books::BooksShape;
 use word_table::Desk;
 use worker_gate::Gate;
 
-/// What each worker of a day works with: the table for the input's books, and the source of its callers.
+/// What each worker of a day works with: the table for the input's books, and the deques that its callers were dealt to.
 #[derive(Drop)]
 pub(crate) struct Workshop<'a, R: Wait, G: Gate> {
     pub rt: &'a R,
     pub alloc: Global,
     pub desk: &'a Desk<BooksShape>,
     pub shape: BooksShape,
-    pub source: &'a Source,
+    pub thieves: &'a [Thief],
     pub input: &'a Input,
     pub gate: &'a G,
 }

@@ -1,32 +1,69 @@
--- What a taker keeps of its seat.
-use Rattle.std.specs.Prelude.{◌≡◌, ℕ, ◌+◌, ◌<◌, ◌≤◌, List, [], length, true, false, Bool}
-use Rattle.atomic_table.specs.Table.{Me}
-use Rattle.worker_pool.specs.declared.rule.Claims.{Claims}
+-- Which pass is of which deque, and what was taken through a row of passes.
+use Rattle.std.specs.Prelude.{◌≡◌, ℕ, ◌+◌, ◌<◌, ◌≤◌, List, [], sum_by, length, get_or}
+use Rattle.crossbeam_deque.specs.declared.handles.Stealer.{Stealer}
+use Rattle.crossbeam_deque.specs.declared.handles.Worker.{Worker}
+use Rattle.crossbeam_deque.specs.Handles.{Pass, view, IsPassOf, stealer_deque, stealer_flavor, worker_deque, worker_view, worker_flavor}
+use Rattle.worker_pool.specs.declared.rule.Deal.{Deal}
+use Rattle.worker_pool.specs.declared.rule.TheConstants.{ALL_PARTS}
 use Rattle.worker_pool.specs.Counting.{times}
-use Rattle.worker_pool.specs.Takers.{SourceView, TakerView}
 
--- a number at or above the number of callers was drawn, which shows that all callers were
-pub record IsPast (callers : ℕ) (drawn : List ℕ) : Type 0 where
-  pub last : ℕ
-  pub above : callers ≤ last
-  pub among : 0 < times last drawn
+module _ {A P : Type 0} where
+  -- a pass with one part of the stealer's deque, which is first in, first out
+  pub record IsAt (s : Stealer ℕ A Deal P) (p : Pass ℕ Deal A) : Type 0 where
+    pub deque : IsPassOf (stealer_deque s) p
+    pub part : (view p).parts ≡ 1
+    pub dealt : (view p).dealt ≡ []
+    pub fifo : stealer_flavor s ≡ 0
 
--- a taker with so many callers, over or not, has a seat that knows this
-pub record IsEnd (callers : ℕ) (over : Bool) (me : Me (Unit {0}) Claims) : Type 0 where
-  pub slots : me.1 ≡ []
-  pub draws : me.0.left + length me.0.drawn ≡ callers + 1
-  pub goes_on : over ≡ false → length me.0.drawn ≤ callers
-  pub past : over ≡ true → IsPast callers me.0.drawn
+  -- a row of passes, one at each deque
+  pub record Fits (thieves : List (Stealer ℕ A Deal P)) (passes : List (Pass ℕ Deal A)) : Type 0 where
+    pub count : length passes ≡ length thieves
+    pub each : (k : ℕ) (s : Stealer ℕ A Deal P) (p : Pass ℕ Deal A) → k < length thieves → IsAt (get_or thieves k s) (get_or passes k p)
 
--- the seat of a taker
-pub record IsSeatOf (taker : TakerView) (me : Me (Unit {0}) Claims) : Type 0 where
-  pub slots : me.1 ≡ []
-  pub drawn : me.0.drawn ≡ taker.drawn
-  pub draws : me.0.left + length me.0.drawn ≡ taker.callers + 1
-  pub past : taker.over ≡ true → IsPast taker.callers me.0.drawn
+  -- an owner with more parts of its deque than so many, and one with all
+  abbrev pub HasOver : ℕ → Worker ℕ A Deal P → Type 0
+  HasOver n w = n < (worker_view w).parts
 
--- this end is one of the source's, and was not answered none yet
-pub record IsReady (source : SourceView) (taker : TakerView) : Type 0 where
-  pub table : taker.table ≡ source.table
-  pub callers : taker.callers ≡ source.callers
-  pub over : taker.over ≡ false
+  abbrev pub HasAll : Worker ℕ A Deal P → Type 0
+  HasAll w = (worker_view w).parts ≡ ALL_PARTS
+
+  -- a pass with one part of the owner's deque
+  pub record IsGuest (w : Worker ℕ A Deal P) (p : Pass ℕ Deal A) : Type 0 where
+    pub deque : IsPassOf (worker_deque w) p
+    pub part : (view p).parts ≡ 1
+    pub dealt : (view p).dealt ≡ []
+    pub own : 0 < (worker_view w).parts
+
+  -- passes at the first deques, one at each
+  pub record AreGuests (ws : List (Worker ℕ A Deal P)) (ps : List (Pass ℕ Deal A)) : Type 0 where
+    pub count : length ps ≤ length ws
+    pub each : (k : ℕ) (w : Worker ℕ A Deal P) (p : Pass ℕ Deal A) → k < length ps → IsGuest (get_or ws k w) (get_or ps k p)
+
+  -- an owner with so many parts more, to whose deque nothing more was dealt
+  pub record HasMore (more : ℕ) (old new : Worker ℕ A Deal P) : Type 0 where
+    pub deque : worker_deque new ≡ worker_deque old
+    pub fifo : worker_flavor new ≡ worker_flavor old
+    pub parts : (worker_view new).parts ≡ (worker_view old).parts + more
+    pub dealt : (worker_view new).dealt ≡ (worker_view old).dealt
+
+  -- all owners, each with so many parts more
+  pub record HaveMore (more : ℕ) (old new : List (Worker ℕ A Deal P)) : Type 0 where
+    pub count : length new ≡ length old
+    pub each : (k : ℕ) (w : Worker ℕ A Deal P) → k < length old → HasMore more (get_or old k w) (get_or new k w)
+
+  -- how often all owners took caller x, by themselves and by what was given back to them
+  abbrev pub owners_took : List (Worker ℕ A Deal P) → ℕ → ℕ
+  owners_took ws x = sum_by (λ (w : Worker ℕ A Deal P). times x (worker_view w).taken) ws
+
+  -- how often caller x was dealt to a deque
+  abbrev pub owners_dealt : List (Worker ℕ A Deal P) → ℕ → ℕ
+  owners_dealt ws x = sum_by (λ (w : Worker ℕ A Deal P). times x (worker_view w).dealt) ws
+
+module _ {A : Type 0} where
+  -- how often caller x was stolen through these passes
+  abbrev pub stolen : List (Pass ℕ Deal A) → ℕ → ℕ
+  stolen ps x = sum_by (λ (p : Pass ℕ Deal A). times x (view p).taken) ps
+
+-- of two ways to say how often each number was had: they say the same
+abbrev pub HadSame : (ℕ → ℕ) → (ℕ → ℕ) → Type 0
+HadSame old new = (x : ℕ) → new x ≡ old x

@@ -1,12 +1,12 @@
 -- What one worker did.
-use Rattle.std.specs.Prelude.{◌≡◌, ℕ, ◌+◌, ◌<◌, ◌&&◌, ◌==◌, nat_lt, if◌then◌else◌, List, [], ◌∷◌, map, length, take, sum_by, All, AllPairs, count_by, Some, slice_get}
+use Rattle.std.specs.Prelude.{◌≡◌, ℕ, ◌+◌, ◌<◌, ◌≤◌, ◌&&◌, ◌==◌, nat_lt, if◌then◌else◌, List, [], ◌∷◌, map, length, take, All, AllPairs, count_by, Some, slice_get}
 use Rattle.history_model.specs.declared.entry.Entry.{Entry}
 use Rattle.history_model.specs.declared.view.Phase.TheVariants.{Idle}
 use Rattle.history_model.specs.Histories.{replay}
 use Rattle.history_model.specs.Traces.{after}
 use Rattle.word_table.specs.Copies.{PassView}
 use Rattle.word_table.specs.Desks.{DeskView}
-use Rattle.script_reader.specs.Input.{ClearingInput, caller_at, script_at}
+use Rattle.script_reader.specs.Input.{ClearingInput, script_at}
 use Rattle.script_reader.specs.Journal.{Place, IsPlace}
 use Rattle.txn_books.specs.declared.shape.BooksShape.{BooksShape}
 use Rattle.txn_books.specs.Meaning.{ScriptMeans}
@@ -46,6 +46,6 @@ pub record HasRun (input : ClearingInput) (h : ℕ → ℕ) (c i : ℕ) (done : 
   pub rising : AllPairs (λ x y. x.caller ≡ y.caller → x.index < y.index) done
   pub among : All (λ item. h item.caller ≡ 0 → (item.caller ≡ c) × (item.index < i)) done
 
--- how many scripts these callers have together
-abbrev pub scripts_of : ClearingInput → List ℕ → ℕ
-scripts_of input callers = sum_by (λ c. length (caller_at input c).scripts) callers
+-- where no caller was had twice, the items are all scripts of each that was had
+abbrev pub RunsEach : ClearingInput → (ℕ → ℕ) → List Done → Type 0
+RunsEach input h done = ((x : ℕ) → h x ≤ 1) → HasRun input h 0 0 done

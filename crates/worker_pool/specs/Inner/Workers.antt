@@ -1,45 +1,75 @@
--- A worker before its thread begins, and after it has ended.
-use Rattle.std.specs.Prelude.{◌≡◌, ℕ, [], ◌∷◌, length, false}
+-- A worker before its thread begins, and after it has ended; and what all passes ran.
+use Rattle.std.specs.Prelude.{◌≡◌, ℕ, ◌*◌, ◌≤◌, List, [], ◌∷◌, length, map, sum_by, All, false}
+use Rattle.std.specs.List.{range_with_len}
 use Rattle.history_model.specs.declared.view.Phase.TheVariants.{Idle}
 use Rattle.history_model.specs.Views.{number}
 use Rattle.word_table.specs.Desks.{DeskView}
 use Rattle.script_reader.specs.Input.{ClearingInput, IsInput}
+use Rattle.script_reader.specs.declared.limits.TheConstants.{MOST_CALLERS, MOST_SCRIPTS}
 use Rattle.txn_books.specs.declared.shape.BooksShape.{BooksShape}
 use Rattle.txn_books.specs.Layout.{shape_of}
+use Rattle.worker_pool.specs.declared.worker.Share.{Share}
 use Rattle.worker_pool.specs.declared.worker.Worker.{Worker}
-use Rattle.worker_pool.specs.Takers.{SourceView, had, IsDone}
-use Rattle.worker_pool.specs.Inner.Ends.{IsReady}
-use Rattle.worker_pool.specs.Inner.Makers.{HasMade, HasRun}
+use Rattle.worker_pool.specs.Counting.{once_below}
+use Rattle.worker_pool.specs.Inner.Makers.{HasMade, HasRun, RunsEach}
+use Rattle.worker_pool.specs.Inner.Takers.{had, Thieves, IsEndOf, IsUnused}
 
--- the number of a worker's seat
+-- the number of a share's seat, and of a worker's
+abbrev pub seat_of : Share → ℕ
+seat_of share = number share.pass.view
+
 abbrev pub number_of : Worker → ℕ
-number_of worker = number worker.pass.view
+number_of worker = seat_of worker.share
 
--- what all workers share fits together: the table is for books of the input's sizes, and the source hands out its callers
-pub record FitTogether (desk : DeskView BooksShape) (shape : BooksShape) (source : SourceView) (input : ClearingInput) : Type 0 where
+-- what all workers share fits together: the table is for books of the input's sizes
+pub record FitTogether (desk : DeskView BooksShape) (shape : BooksShape) (input : ClearingInput) : Type 0 where
   pub shape_is : desk.shape ≡ shape
   pub sizes : shape ≡ shape_of input.books
   pub valid : IsInput input
-  pub callers : source.callers ≡ length input.callers
 
--- a worker at this source and this desk, that did nothing yet
-pub record IsSeated (source : SourceView) (desk : DeskView BooksShape) (worker : Worker) : Type 0 where
-  pub end : IsReady source worker.taker
-  pub drawn : worker.taker.drawn ≡ []
-  pub of_table : worker.pass.table ≡ desk.table
-  pub idle : worker.pass.view.phase ≡ Idle
-  pub who_is : worker.pass.view.who ≡ number_of worker ∷ []
-  pub no_call : worker.pass.view.call ≡ 0
-  pub nothing_seen : worker.pass.view.seen ≡ []
-  pub nothing_done : worker.done.items ≡ []
+-- a worker at these deques and this desk, that did nothing yet
+pub record IsSeated (thieves : Thieves) (desk : DeskView BooksShape) (worker : Worker) : Type 0 where
+  pub end : IsEndOf thieves (number_of worker) worker.taker
+  pub unused : IsUnused worker.taker
+  pub of_table : worker.share.pass.table ≡ desk.table
+  pub idle : worker.share.pass.view.phase ≡ Idle
+  pub who_is : worker.share.pass.view.who ≡ number_of worker ∷ []
+  pub no_call : worker.share.pass.view.call ≡ 0
+  pub nothing_seen : worker.share.pass.view.seen ≡ []
+  pub nothing_done : worker.share.done.items ≡ []
   pub going : worker.failed ≡ false
 
--- a worker that took callers until there was none left, and ran all scripts of each
-pub record HasWorked (source : SourceView) (desk : DeskView BooksShape) (input : ClearingInput) (worker : Worker) : Type 0 where
-  pub end : IsDone source worker.taker
-  pub made : HasMade desk input (number_of worker) worker.pass worker.done.items
-  pub run : HasRun input (had worker.taker) 0 0 worker.done.items
+-- a worker that took callers and ran all scripts of each
+pub record HasWorked (thieves : Thieves) (desk : DeskView BooksShape) (input : ClearingInput) (worker : Worker) : Type 0 where
+  pub end : IsEndOf thieves (number_of worker) worker.taker
+  pub made : HasMade desk input (number_of worker) worker.share.pass worker.share.done.items
+  pub run : RunsEach input (had worker.taker) worker.share.done.items
+  pub few : length worker.share.done.items ≤ MOST_CALLERS * MOST_SCRIPTS
 
 -- a worker whose thread has ended: unless it found no memory, it has done its part
-abbrev pub HasEnded : SourceView → DeskView BooksShape → ClearingInput → Worker → Type 0
-HasEnded source desk input worker = worker.failed ≡ false → HasWorked source desk input worker
+abbrev pub HasEnded : Thieves → DeskView BooksShape → ClearingInput → Worker → Type 0
+HasEnded thieves desk input worker = worker.failed ≡ false → HasWorked thieves desk input worker
+
+-- a share, and how often each caller was had for it
+pub record Tally : Type 0 where
+  pub share : Share
+  pub had : ℕ → ℕ
+
+abbrev pub share_of : Tally → Share
+share_of tally = tally.share
+
+abbrev pub tally_number : Tally → ℕ
+tally_number tally = seat_of tally.share
+
+-- the share has all scripts of the callers that were had for it
+pub record IsDone (desk : DeskView BooksShape) (input : ClearingInput) (tally : Tally) : Type 0 where
+  pub made : HasMade desk input (tally_number tally) tally.share.pass tally.share.done.items
+  pub run : HasRun input tally.had 0 0 tally.share.done.items
+
+-- all shares of a day: those of all passes, and for them together each caller was had once
+pub record AreAllDone (desk : DeskView BooksShape) (input : ClearingInput) (shares : List Share) : Type 0 where
+  pub tallies : List Tally
+  pub are : map share_of tallies ≡ shares
+  pub numbers : map seat_of shares ≡ range_with_len 0 desk.seats
+  pub each : All (IsDone desk input) tallies
+  pub once : (x : ℕ) → sum_by (λ (t : Tally). t.had x) tallies ≡ once_below x (length input.callers)

@@ -5,35 +5,31 @@ use Rattle.history_model.specs.Fitting.{IsGood}
 use Rattle.txn_books.specs.Layout.{words_of}
 use Rattle.txn_books.specs.Standing.{IsGoodFor}
 use Rattle.worker_pool.proofs.Gathered.{serial_of}
-use Rattle.worker_pool.proofs.Ended.{takers_done, passes_all, day_of_all}
+use Rattle.worker_pool.proofs.Ended.{passes_all, day_of_all}
 use Rattle.worker_pool.proofs.run.end_day.Goals as goal
-
-pub finish-requires-clause-done : goal.finish-requires-clause-done
-finish-requires-clause-done c =
-    takers_done c.args.source c.args.desk c.args.input.now c.args.workers.items c.requires.ended c.in_ok-takers.ensures.none_failed c.requires.numbers c.in_ok-takers.takers.items c.in_ok-takers.ensures.takers
 
 pub close-requires : goal.close-requires
 close-requires c = record {
-  all = passes_all c.args.source c.args.desk c.args.input.now c.args.workers.items c.requires.ended c.in_ok-takers.ensures.none_failed c.requires.numbers c.in_ok-takers.passes.items c.in_ok-takers.ensures.passes;
+  all = passes_all c.args.desk c.args.input.now c.args.shares.items c.requires.done c.in_ok-passes.passes.items c.in_ok-passes.ensures.passes;
 }
 
-pub returns-in_err-takers : goal.returns-in_err-takers
-returns-in_err-takers c = let failed = c.from_residual.ensures.0 in search IfOk-from_err
+pub returns-in_err-passes : goal.returns-in_err-passes
+returns-in_err-passes c = let failed = c.from_residual.ensures.0 in search IfOk-from_err
 
 pub returns-in_default : goal.returns-in_default
 returns-in_default c = record { desk = tt; legal = tt; day = tt }
 
 pub returns : goal.returns
 returns c =
-    let e = c.in_ok-takers.ensures in
+    let e = c.in_ok-passes.ensures in
     let closed = c.in-Ok.ensures in
     let sorted = c.sort_unstable_by_key.ensures in
     record {
       desk = closed.desk;
       legal = closed.legal;
-      day = day_of_all c.args.source c.args.desk c.args.input.now c.args.workers.items c.requires.ended e.none_failed c.requires.numbers (IsGood (words_of c.args.desk.shape) (IsGoodFor c.args.desk.shape))
-          c.in_ok-takers.passes.items c.in_ok-takers.takers.items c.in_ok-takers.done.items c.sort_unstable_by_key.new.self.items c.in-Ok.closed
-          e.passes e.takers e.done closed.desk.0 closed.desk.1 closed.desk.2 closed.legal closed.words closed.seen closed.owners
-          c.requires.callers c.finish.ensures c.refused_changes_nothing.ensures c.requires.stands
+      day = day_of_all c.args.desk c.args.input.now c.args.shares.items c.requires.done (IsGood (words_of c.args.desk.shape) (IsGoodFor c.args.desk.shape))
+          c.in_ok-passes.passes.items c.in_ok-passes.done.items c.sort_unstable_by_key.new.self.items c.in-Ok.closed
+          e.passes e.done closed.desk.0 closed.desk.1 closed.desk.2 closed.legal closed.words closed.seen closed.owners
+          c.refused_changes_nothing.ensures c.requires.stands
           sorted.permutation (IsNonDecreasingBy-from_sort_by_key serial_of _ sorted.sorted (λ a r q k. search rules));
     }

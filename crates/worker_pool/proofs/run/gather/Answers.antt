@@ -1,9 +1,9 @@
-use Rattle.std.proofs.Common.{◌≡◌, ◌∙◌, All, List, map, flat_map, false, ap, arith, length, subst}
+use Rattle.std.proofs.Common.{◌≡◌, ◌∙◌, All, List, map, false, ap, arith, length, subst}
 use Rattle.std.proofs.lemmas.List.Elements.{All-push}
 use Rattle.std.proofs.lemmas.Result.{IfOk-from_err}
 use Rattle.std.specs.Vec.Iter.{into_iter_items}
 use Rattle.worker_pool.specs.declared.worker.Worker.{Worker}
-use Rattle.worker_pool.proofs.Yielded.{all_given, one_given, made_push, joined_push}
+use Rattle.worker_pool.proofs.Yielded.{all_given, one_given, made_push}
 use Rattle.worker_pool.proofs.run.gather.Goals as goal
 
 pub loop-worker-preserved : goal.loop-worker-preserved
@@ -17,9 +17,9 @@ loop-worker-preserved c =
       all_come = one_given at.yielded (into_iter_items at.worker-iterator) (into_iter_items c.next.new.self) _ w steps.0 i.all_come;
       left = omega (arith, i.left, steps.1, ap length steps.0);
       none_failed = All-push (λ (worker : Worker). worker.failed ≡ false) at.yielded w i.none_failed e.not_failed;
-      takers = made_push (λ (worker : Worker). worker.taker) at.yielded at.takers.items c.add_worker.new.takers.items w e.taker i.takers;
-      passes = made_push (λ (worker : Worker). worker.pass) at.yielded at.passes.items c.add_worker.new.passes.items w e.pass i.passes;
-      done = joined_push (λ (worker : Worker). worker.done.items) at.yielded at.all.items c.add_worker.new.all.items w e.done i.done;
+      owners = made_push (λ (worker : Worker). worker.taker.own) at.yielded at.all.owners.items c.add_worker.new.all.owners.items w e.owner i.owners;
+      rows = made_push (λ (worker : Worker). worker.taker.passes) at.yielded at.all.rows.items c.add_worker.new.all.rows.items w e.row i.rows;
+      shares = made_push (λ (worker : Worker). worker.share) at.yielded at.all.shares.items c.add_worker.new.all.shares.items w e.share i.shares;
     }
 
 pub returns-in_err-add_worker : goal.returns-in_err-add_worker
@@ -33,7 +33,7 @@ returns c =
     let all = all_given at.yielded (into_iter_items at.worker-iterator) c.args.workers.items (omega (arith, i.left, c.in-None.ensures.steps.0)) whole in
     record {
       none_failed = subst (λ (l : List Worker). All (λ (worker : Worker). worker.failed ≡ false) l) all i.none_failed;
-      takers = i.takers ∙ ap (map (λ (worker : Worker). worker.taker)) all;
-      passes = i.passes ∙ ap (map (λ (worker : Worker). worker.pass)) all;
-      done = i.done ∙ ap (flat_map (λ (worker : Worker). worker.done.items)) all;
+      owners = i.owners ∙ ap (map (λ (worker : Worker). worker.taker.own)) all;
+      rows = i.rows ∙ ap (map (λ (worker : Worker). worker.taker.passes)) all;
+      shares = i.shares ∙ ap (map (λ (worker : Worker). worker.share)) all;
     }

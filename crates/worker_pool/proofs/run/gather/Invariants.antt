@@ -1,4 +1,4 @@
-use Rattle.std.proofs.Common.{◌≡◌, ◌++◌, All, map, flat_map, length, false}
+use Rattle.std.proofs.Common.{◌≡◌, ◌++◌, All, map, length, false}
 use Rattle.std.specs.Vec.Iter.{into_iter_items, into_iter_len}
 use Rattle.worker_pool.specs.declared.worker.Worker.{Worker}
 use Rattle.worker_pool.proofs.run.gather.Given as goal
@@ -9,7 +9,7 @@ invariant-loop-worker l = record {
   all_come : l.yielded ++ into_iter_items l.worker-iterator ≡ into_iter_items l.initial.worker-iterator;
   left : into_iter_len l.worker-iterator ≡ length (into_iter_items l.worker-iterator);
   none_failed : All (λ (worker : Worker). worker.failed ≡ false) l.yielded;
-  takers : l.takers.items ≡ map (λ (worker : Worker). worker.taker) l.yielded;
-  passes : l.passes.items ≡ map (λ (worker : Worker). worker.pass) l.yielded;
-  done : l.all.items ≡ flat_map (λ (worker : Worker). worker.done.items) l.yielded;
+  owners : l.all.owners.items ≡ map (λ (worker : Worker). worker.taker.own) l.yielded;
+  rows : l.all.rows.items ≡ map (λ (worker : Worker). worker.taker.passes) l.yielded;
+  shares : l.all.shares.items ≡ map (λ (worker : Worker). worker.share) l.yielded;
 }
