@@ -1,10 +1,15 @@
 -- How a transaction begins and ends.
-use Rattle.std.proofs.Common.{◌≡◌, ℕ, ◌+◌, ◌<◌, ◌≤◌, Bool, true, List, [], ◌∷◌, ◌++◌, length, length-append, slice_index, All, Option, None, Some, refl, sym, ap, ◌∙◌, subst, arith}
+use Rattle.std.proofs.Common.{◌≡◌, ◌≢◌, ℕ, ◌+◌, ◌<◌, ◌≤◌, Bool, true, false, List, [], ◌∷◌, ◌++◌, length, length-append, slice_index, All, Option, None, Some, Result, Ok, Err, OnErr, refl, sym, ap, ◌∙◌, subst, arith}
 use Rattle.history_model.specs.declared.entry.Abandoned.{Abandoned}
 use Rattle.history_model.specs.declared.entry.Entry.{Entry}
 use Rattle.history_model.specs.declared.view.View.{View}
 use Rattle.history_model.specs.declared.event.Cause.{Cause}
-use Rattle.history_model.specs.Fitting.{Fits, SomeFits}
+use Rattle.history_model.specs.declared.view.Phase.{Phase}
+use Rattle.history_model.specs.declared.view.Phase.TheVariants.{Idle}
+use Rattle.history_model.specs.Counts.{is_attempt}
+use Rattle.history_model.specs.Fitting.{Fits, IsGood, SomeFits}
+use Rattle.history_model.specs.Legal.{AreAttemptsLegal}
+use Rattle.history_model.specs.Table.{history_of}
 use Rattle.history_model.specs.Histories.{replay}
 use Rattle.history_model.specs.Traces.{Trace, after}
 use Rattle.history_model.specs.Sets.{has}
@@ -15,7 +20,7 @@ use Rattle.stamps_rule.specs.Stamps.{AreRestartsBounded}
 use Rattle.values_rule.specs.Steps.{begin_call_action, clear_stamp_action, entry_of}
 use Rattle.undo_log.specs.Room.{Room}
 use Rattle.word_table.specs.Calls.{CommitsAt}
-use Rattle.word_table.specs.Copies.{PassView}
+use Rattle.word_table.specs.Copies.{HoldsNothing, PassView}
 use Rattle.word_table.specs.Desks.{DeskHolds, DeskView}
 use Rattle.word_table.specs.Kinds.{TakenIn}
 use Rattle.txn_commit.specs.declared.attempt.TheConstants.{UNDO_ROOM}
@@ -24,8 +29,9 @@ use Rattle.txn_commit.specs.declared.attempt.Halt.{Halt}
 use Rattle.txn_commit.specs.declared.attempt.Halt.TheVariants as halt
 use Rattle.txn_commit.specs.Attempts.{GaveWayTo, IsSound, Runs, SameCall, StandsAs, start_of}
 use Rattle.txn_commit.specs.Inner.Releasing.{Releases, Undoes}
-use Rattle.txn_commit.specs.Transactions.{EndsWithoutEntry, GainsOthers, GetsEntry, HoldsNothing}
+use Rattle.txn_commit.specs.Transactions.{EndsWithoutEntry, GainsOthers, GetsEntry, ReadOneState}
 use Rattle.txn_commit.proofs.Attempts.{same_call}
+use Rattle.txn_commit.proofs.Releasing.{still_begun}
 use Rattle.txn_commit.proofs.Others.{gains_history, gains_more, gains_none}
 
 -- a call that is over has as few attempts that gave way as before
@@ -49,6 +55,27 @@ module _ {S : Type 0} (word_count : S → ℕ) (good : S → List ℕ → Type 0
   -- and knows as many words as the desk's shape says
   pub words_counted : (j : ℕ) → TakenIn (DeskHolds word_count good desk) action old found new → old.who ≡ j ∷ [] → length old.base ≡ word_count desk.shape
   words_counted j t one = ap (λ (l : List ℕ). length l) (t.holds.locks.bases_alike t.place j old (record { knows = t.knows; named = named old j one })) ∙ t.holds.values.history.base_good.count
+
+  -- and its attempts that gave way read one state each
+  pub one_state : TakenIn (DeskHolds word_count good desk) action old found new → old.phase ≢ Idle
+      → ReadOneState (IsGood (word_count desk.shape) (good desk.shape)) desk.seats desk.base old
+  one_state t begun = let alone = t.holds.values.calls.callers_alone t.place old t.knows begun in record {
+    history = history_of t.views;
+    legal = t.holds.values.history.legal;
+    begins = t.holds.values.seen.seen_begin t.place old t.knows;
+    stamp = old.stamp;
+    attempts =
+        subst (λ (j : ℕ). AreAttemptsLegal desk.seats desk.base (history_of t.views) j old.stamp old.floor (length old.seen) old.abandoned)
+        (sym (ap (λ (l : List ℕ). slice_index l 0) alone.1)) (t.holds.values.floor.attempts t.place alone.0 old t.knows alone.1 begun);
+  }
+
+-- what an error says of several things
+pub both_on_err : {A E : Type 0} (P Q : Type 0) (r : Result A E) → OnErr r P → OnErr r Q → OnErr r (P × Q)
+both_on_err P Q (Ok x) p q = p
+both_on_err P Q (Err x) p q = (p, q)
+
+attempt_begun : (p : Phase) → is_attempt p ≡ true → p ≢ Idle
+attempt_begun p t e = let z : true ≡ false = sym t ∙ ap is_attempt e in cc
 
 none_within : (n : ℕ) → All (λ (note : ℕ × ℕ). note.0 < n) []
 none_within n k d lt = absurd (omega arith)
@@ -77,16 +104,26 @@ begins_sound word_count good desk old began new log same table words step empty 
   fits = fits;
 }
 
+pub ends_holding_nothing : (j : ℕ) (old new : View) → HoldsNothing old → new ≡ (clear_stamp_action j old).view [] 0 → HoldsNothing new
+ends_holding_nothing j old new nothing clear = subst (λ (v : View). HoldsNothing v) (sym clear) (record { no_bit = nothing.no_bit; no_claim = nothing.no_claim })
+
 -- a call ended without an entry: its locks were released, and it is over
-pub ends_without : (n j : ℕ) (old began given_up released new : View) → began ≡ (begin_call_action (number old) old).view [] 0
-    → GainsOthers (number began) began.seen given_up.seen → given_up.call ≡ old.call + 1 → Releases given_up released
-    → HoldsNothing released → AreRestartsBounded n (number released) released → new ≡ (clear_stamp_action j released).view [] 0 → EndsWithoutEntry n old new
-ends_without n j old began given_up released new begin gains call rel nothing bounded clear = record {
+pub ends_without : {S : Type 0} (word_count : S → ℕ) (good : S → List ℕ → Type 0) (desk : DeskView S) (j found : ℕ) (old began given_up released new : View) → began ≡ (begin_call_action (number old) old).view [] 0
+    → GainsOthers (number began) began.seen given_up.seen × (given_up.floor ≡ began.floor) × (is_attempt given_up.phase ≡ true) → given_up.call ≡ old.call + 1 → Releases given_up released
+    → HoldsNothing released → AreRestartsBounded desk.seats (number released) released → new ≡ (clear_stamp_action j released).view [] 0
+    → TakenIn (DeskHolds word_count good desk) (clear_stamp_action j released) released found new
+    → EndsWithoutEntry (IsGood (word_count desk.shape) (good desk.shape)) desk.seats desk.base old new
+ends_without word_count good desk j found old began given_up released new begin up call rel nothing bounded clear taken = record {
   seen = subst (λ (l : List Entry). GainsOthers (number old) old.seen l) (sym (ap (λ (v : View). v.seen) clear ∙ ap (λ (v : View). v.seen) rel.rest))
-      (subst (λ (v : View). GainsOthers (number v) v.seen given_up.seen) begin gains);
+      (subst (λ (v : View). GainsOthers (number v) v.seen given_up.seen) begin up.0);
   call = ap (λ (v : View). v.call) clear ∙ (ap (λ (v : View). v.call) rel.rest ∙ call);
-  nothing = subst (λ (v : View). HoldsNothing v) (sym clear) (record { no_bit = nothing.no_bit; no_claim = nothing.no_claim });
-  bounded = ends_bounded n j released new bounded clear;
+  floor = ap (λ (v : View). v.floor) clear ∙ (ap (λ (v : View). v.floor) rel.rest ∙ (up.1 ∙ ap (λ (v : View). v.floor) begin));
+  nothing = ends_holding_nothing j released new nothing clear;
+  bounded = ends_bounded desk.seats j released new bounded clear;
+  opaque =
+      let one = one_state word_count good desk (clear_stamp_action j released) released found new taken (still_begun given_up released rel (attempt_begun given_up.phase up.2)) in
+      subst (λ (v : View). ReadOneState (IsGood (word_count desk.shape) (good desk.shape)) desk.seats desk.base v) (sym clear)
+      (record { history = one.history; legal = one.legal; begins = one.begins; stamp = one.stamp; attempts = one.attempts });
 }
 
 -- an attempt was committed

@@ -23,6 +23,7 @@ ghost use Rattle.stamps_rule.specs.Causes.{newest, past_causes};
 ghost use Rattle.stamps_rule.specs.Stamps.{AreRestartsBounded};
 ghost use Rattle.stamps_rule.specs.Steps.{draw_stamp_action, announce_stamp_action, load_cause_stamp_action};
 ghost use Rattle.word_table.specs.Calls.{CommitsAt, JudgedBy, Looked, MakesSeen, ScannedBy, with_bit};
+ghost use Rattle.word_table.specs.Copies.{HoldsNothing};
 ghost use Rattle.word_table.specs.Kinds.{TakenIn};
 ghost use Rattle.word_table.specs.Least.{IsLeast};
 ghost use Rattle.word_table.specs.Sound.{GroundHolds};
@@ -153,6 +154,13 @@ impl<S: Shape> Pass<S> {
         ensures { result ≡ self.now.view.phase }
     {
         self.call.phase
+    }
+
+    /// Between calls no lock is held, and none is asked for. The call does nothing: its contract says it.
+    pub fn rests(&self)
+        ensures { self.now.view.phase ≡ Phase.Idle → HoldsNothing self.now.view }
+    {
+        let _seat = &self.seat;
     }
 
     /// The call's timestamp, 0 where none was drawn. A smaller one is earlier.

@@ -54,6 +54,9 @@ seat_after_undo first old new undone same = record {
 call_after_undo : (old new : View) → Undoes old new → new.call ≡ old.call
 call_after_undo old new undone = ap (λ (v : View). v.call) undone.some.rest
 
+floor_after_undo : (old new : View) → Undoes old new → new.floor ≡ old.floor
+floor_after_undo old new undone = ap (λ (v : View). v.floor) undone.some.rest
+
 pub returns-in-Ok : goal.returns-in-Ok
 returns-in-Ok g c = let inv = c.loop-restarts.invariant in let first = c.args.attempt.now.pass.now.view in let at = c.loop-restarts.attempt in let ran = c.run.new.w in
     let same = ran_on first ran.began.value at.began.value at.pass.now ran.pass.now.view inv.call (same_pass ran.desk.now at.desk.now ran.pass.ghost_name at.pass.ghost_name ran.began.value at.began.value c.run.ensures.origin) inv.began c.run.ensures.sound.call in
@@ -82,6 +85,7 @@ returns-in-Ok g c = let inv = c.loop-restarts.invariant in let first = c.args.at
       few = subst (λ (n : ℕ). n < c.args.attempt.now.desk.now.seats) inv.restarts inv.few;
       committed = phase_after_commit ran.pass.now.view new commits.history c.decision-kept.result.0 commits.view;
       others = search rules;
+      floor = search rules;
       given_up = search rules;
     }
 
@@ -102,6 +106,7 @@ returns-in-Err-Memory g c = let inv = c.loop-restarts.invariant in let first = c
       few = search rules;
       committed = search rules;
       others = undone_others first ran.pass.now.view c.undo_all.new.pass.view same c.undo_all.ensures.undone;
+      floor = floor_after_undo ran.pass.now.view new undone ∙ same.floor;
       given_up = search rules;
     }
 
