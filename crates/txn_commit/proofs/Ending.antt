@@ -29,8 +29,9 @@ use Rattle.txn_commit.specs.declared.attempt.Halt.{Halt}
 use Rattle.txn_commit.specs.declared.attempt.Halt.TheVariants as halt
 use Rattle.txn_commit.specs.Attempts.{GaveWayTo, IsSound, Runs, SameCall, StandsAs, start_of}
 use Rattle.txn_commit.specs.Inner.Releasing.{Releases, Undoes}
-use Rattle.txn_commit.specs.Transactions.{EndsWithoutEntry, GainsOthers, GetsEntry, ReadOneState}
+use Rattle.txn_commit.specs.Transactions.{AsksItsFootprint, EndsWithoutEntry, GainsOthers, GetsEntry, LeavesFootprint, ReadOneState}
 use Rattle.txn_commit.proofs.Attempts.{same_call}
+use Rattle.txn_commit.proofs.Footprints.{asked_none, footprint_same, still_its_footprint}
 use Rattle.txn_commit.proofs.Releasing.{still_begun}
 use Rattle.txn_commit.proofs.Others.{gains_history, gains_more, gains_none}
 
@@ -102,6 +103,7 @@ begins_sound word_count good desk old began new log same table words step empty 
   room = let none : length log.list ≡ 0 = ap (λ (l : List (ℕ × ℕ)). length l) empty in omega arith;
   memory = λ e. absurd (cc);
   fits = fits;
+  footprint = asked_none new.view (ap (λ (v : View). v.asked) step);
 }
 
 pub ends_holding_nothing : (j : ℕ) (old new : View) → HoldsNothing old → new ≡ (clear_stamp_action j old).view [] 0 → HoldsNothing new
@@ -109,7 +111,7 @@ ends_holding_nothing j old new nothing clear = subst (λ (v : View). HoldsNothin
 
 -- a call ended without an entry: its locks were released, and it is over
 pub ends_without : {S : Type 0} (word_count : S → ℕ) (good : S → List ℕ → Type 0) (desk : DeskView S) (j found : ℕ) (old began given_up released new : View) → began ≡ (begin_call_action (number old) old).view [] 0
-    → GainsOthers (number began) began.seen given_up.seen × (given_up.floor ≡ began.floor) × (is_attempt given_up.phase ≡ true) → given_up.call ≡ old.call + 1 → Releases given_up released
+    → GainsOthers (number began) began.seen given_up.seen × (given_up.floor ≡ began.floor) × (is_attempt given_up.phase ≡ true) × LeavesFootprint given_up → given_up.call ≡ old.call + 1 → Releases given_up released
     → HoldsNothing released → AreRestartsBounded desk.seats (number released) released → new ≡ (clear_stamp_action j released).view [] 0
     → TakenIn (DeskHolds word_count good desk) (clear_stamp_action j released) released found new
     → EndsWithoutEntry (IsGood (word_count desk.shape) (good desk.shape)) desk.seats desk.base old new
@@ -124,7 +126,16 @@ ends_without word_count good desk j found old began given_up released new begin 
       let one = one_state word_count good desk (clear_stamp_action j released) released found new taken (still_begun given_up released rel (attempt_begun given_up.phase up.2)) in
       subst (λ (v : View). ReadOneState (IsGood (word_count desk.shape) (good desk.shape)) desk.seats desk.base v) (sym clear)
       (record { history = one.history; legal = one.legal; begins = one.begins; stamp = one.stamp; attempts = one.attempts });
+  footprint =
+      footprint_same given_up new (ap (λ (v : View). v.trace) clear ∙ ap (λ (v : View). v.trace) rel.rest) (ap (λ (v : View). v.abandoned) clear ∙ ap (λ (v : View). v.abandoned) rel.rest)
+      (ap (λ (v : View). v.meetings) clear ∙ ap (λ (v : View). v.meetings) rel.rest) (ap (λ (v : View). v.asked) clear ∙ ap (λ (v : View). v.asked) rel.rest) up.3;
 }
+
+-- a call that has its entry was over, once its locks were released
+pub ends_with_footprint : (j : ℕ) (committed released new : View) → Releases committed released → new ≡ (clear_stamp_action j released).view [] 0 → AsksItsFootprint committed → AsksItsFootprint new
+ends_with_footprint j committed released new rel clear = still_its_footprint committed new
+    (ap (λ (v : View). v.seen) clear ∙ ap (λ (v : View). v.seen) rel.rest) (ap (λ (v : View). v.asked) clear ∙ ap (λ (v : View). v.asked) rel.rest)
+    (ap (λ (v : View). v.meetings) clear ∙ ap (λ (v : View). v.meetings) rel.rest)
 
 -- an attempt was committed
 pub gets_entry : {A : Type 0} (word_count : ℕ) (good : List ℕ → Type 0) (base : List ℕ) (means : List ℕ → Bool → A → List ℕ → Type 0) (kept : Bool) (call : ℕ) (first old new : View) (receipt : Receipt A)

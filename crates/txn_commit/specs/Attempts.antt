@@ -17,7 +17,7 @@ use Rattle.txn_commit.specs.declared.attempt.Halt.{Halt}
 use Rattle.txn_commit.specs.declared.attempt.Halt.TheVariants as halt
 use Rattle.txn_commit.specs.declared.attempt.Start.{Start}
 use Rattle.txn_commit.specs.declared.attempt.TheConstants.{UNDO_ROOM}
-use Rattle.txn_commit.specs.Transactions.{GainsOthers, SameSeat}
+use Rattle.txn_commit.specs.Transactions.{GainsOthers, LeavesFootprint, SameSeat}
 
 -- the stop that the job is answered
 abbrev pub stop_of : Option Halt → Option Stop
@@ -46,6 +46,7 @@ pub record Runs (began now : View) : Type 0 where
 pub record GaveWayTo (n : ℕ) (cause : Cause) (began now : View) : Type 0 where
   pub phase : now.phase ≡ Yielding
   pub abandoned : (attempt : Abandoned) × (now.abandoned ≡ began.abandoned ++ attempt ∷ [])
+      × (attempt.cause ≡ cause) × (attempt.trace ≡ now.trace)
   pub last : newest (past_causes now) ≡ Some cause
   pub seat : cause.seat < now.seats
   pub bounded : AreRestartsBounded n (number now) now
@@ -70,3 +71,4 @@ pub record IsSound {S : Type 0} (word_count : S → ℕ) (good : S → List ℕ 
   -- no memory was found only where that room was full
   pub memory : halted ≡ Some halt.Memory → UNDO_ROOM ≤ length log.list
   pub fits : SomeFits (word_count desk.shape) (good desk.shape) pass.view.trace
+  pub footprint : LeavesFootprint pass.view

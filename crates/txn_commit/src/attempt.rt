@@ -1,7 +1,8 @@
 //! One attempt of a transaction, as the words that its job reads and writes.
 
-ghost use Rattle.std.specs.Prelude.{◌≡◌, ◌≢◌, ◌<◌, [], length};
+ghost use Rattle.std.specs.Prelude.{◌≡◌, ◌≢◌, ◌<◌, [], length, true};
 ghost use Rattle.history_model.specs.Locks.{lock_of_word};
+ghost use Rattle.history_model.specs.Sets.{has_pair};
 ghost use Rattle.history_model.specs.Views.{number, HasWriteGrant, IsGranted};
 ghost use Rattle.lock_or_yield.specs.Asking.{Asks, AsksToRead, AsksToWrite, WentOn};
 ghost use Rattle.txn_commit.specs.Attempts.{GaveWayTo};
@@ -94,7 +95,8 @@ fn ask_to_read<R: Wait, S: Shape>(rt: &R, desk: &Desk<S>, pass: &mut Pass<S>, a:
     ensures judged { pass.new.view.met ≡ [] }
     ensures yields { (cause : Cause) → result ≡ Asked.Yield cause
         → GaveWayTo desk.now.seats cause pass.old.view pass.new.view
-        × GainsOthers (number pass.old.view) pass.old.view.seen pass.new.view.seen }
+        × GainsOthers (number pass.old.view) pass.old.view.seen pass.new.view.seen
+        × (has_pair (lock_of_word a) cause.seat pass.new.view.meetings ≡ true) }
     ensures goes_on { ((cause : Cause) → result ≢ Asked.Yield cause)
         → IsGranted pass.new.view (lock_of_word a) × WentOn pass.old.view pass.new.view }
 {
@@ -120,7 +122,8 @@ fn ask_to_write<R: Wait, S: Shape>(rt: &R, desk: &Desk<S>, pass: &mut Pass<S>, a
     ensures judged { pass.new.view.met ≡ [] }
     ensures yields { (cause : Cause) → result ≡ Asked.Yield cause
         → GaveWayTo desk.now.seats cause pass.old.view pass.new.view
-        × GainsOthers (number pass.old.view) pass.old.view.seen pass.new.view.seen }
+        × GainsOthers (number pass.old.view) pass.old.view.seen pass.new.view.seen
+        × (has_pair (lock_of_word a) cause.seat pass.new.view.meetings ≡ true) }
     ensures goes_on { ((cause : Cause) → result ≢ Asked.Yield cause)
         → HasWriteGrant pass.new.view (lock_of_word a) × WentOn pass.old.view pass.new.view }
 {

@@ -12,7 +12,7 @@ ghost use Rattle.word_table.specs.Calls.{CommitsAt};
 ghost use Rattle.word_table.specs.Copies.{HoldsNothing};
 ghost use Rattle.word_table.specs.declared.limits.TheConstants.{LAST_CALL};
 ghost use Rattle.txn_commit.specs.Attempts.{IsSound, SameCall, stop_of};
-ghost use Rattle.txn_commit.specs.Transactions.{EndsWithoutEntry, GainsOthers, GetsEntry, SameSeat};
+ghost use Rattle.txn_commit.specs.Transactions.{AsksItsFootprint, EndsWithoutEntry, GainsOthers, GetsEntry, LeavesFootprint, SameSeat};
 
 use crate::attempt::{Attempt, Caller, Halt, UNDO_ROOM, tell};
 use crate::release::release_all;
@@ -170,6 +170,8 @@ fn run_attempts<S: Shape, G: Gate, R: Wait, J: Job<Shape = S>>(
         attempt.old.pass.now.view.seen attempt.new.pass.now.view.seen) }
     ensures floor { OnErr result (attempt.new.pass.now.view.floor ≡ attempt.old.pass.now.view.floor) }
     ensures given_up { OnErr result (is_attempt attempt.new.pass.now.view.phase ≡ true) }
+    ensures footprint { OnOk result (AsksItsFootprint attempt.new.pass.now.view) }
+    ensures left { OnErr result (LeavesFootprint attempt.new.pass.now.view) }
 {
     let seats = attempt.desk.seats();
     for restarts in 0..seats {
@@ -238,6 +240,7 @@ pub fn transact<S: Shape, G: Gate, R: Wait, J: Job<Shape = S>>(
         (IsGood (S.word_count desk.now.shape) (S.good desk.now.shape))
         desk.now.seats desk.now.base pass.new.view.seen) }
     ensures few { IfOk result (λ receipt. receipt.restarts < desk.now.seats) }
+    ensures footprint { OnOk result (AsksItsFootprint pass.new.view) }
     ensures err { OnErr result ((pass.new ≡ pass.old)
         ⊎ EndsWithoutEntry (IsGood (S.word_count desk.now.shape) (S.good desk.now.shape))
         desk.now.seats desk.now.base pass.old.view pass.new.view) }

@@ -12,7 +12,8 @@ use Rattle.word_table.specs.Copies.{PassView}
 use Rattle.word_table.specs.Desks.{DeskView}
 use Rattle.txn_commit.specs.Attempts.{start_of}
 use Rattle.txn_commit.specs.Inner.Releasing.{Undoes}
-use Rattle.txn_commit.specs.Transactions.{SameSeat}
+use Rattle.txn_commit.specs.Transactions.{LeavesFootprint, SameSeat}
+use Rattle.txn_commit.proofs.Footprints.{commits_footprint, footprint_same}
 use Rattle.txn_commit.proofs.Attempts.{not_halted, same_call}
 use Rattle.txn_commit.proofs.Ending.{same_desk, same_pass, gets_entry, meant, undone_others, one_more, ran_on, still_runs, gave_way}
 use Rattle.txn_commit.proofs.transaction.run_attempts.Goals as goal
@@ -57,6 +58,9 @@ call_after_undo old new undone = ap (λ (v : View). v.call) undone.some.rest
 floor_after_undo : (old new : View) → Undoes old new → new.floor ≡ old.floor
 floor_after_undo old new undone = ap (λ (v : View). v.floor) undone.some.rest
 
+footprint_undone : (old new : View) → Undoes old new → LeavesFootprint old → LeavesFootprint new
+footprint_undone old new undone = footprint_same old new (ap (λ (v : View). v.trace) undone.some.rest) (ap (λ (v : View). v.abandoned) undone.some.rest) (ap (λ (v : View). v.meetings) undone.some.rest) (ap (λ (v : View). v.asked) undone.some.rest)
+
 pub returns-in-Ok : goal.returns-in-Ok
 returns-in-Ok g c = let inv = c.loop-restarts.invariant in let first = c.args.attempt.now.pass.now.view in let at = c.loop-restarts.attempt in let ran = c.run.new.w in
     let same = ran_on first ran.began.value at.began.value at.pass.now ran.pass.now.view inv.call (same_pass ran.desk.now at.desk.now ran.pass.ghost_name at.pass.ghost_name ran.began.value at.began.value c.run.ensures.origin) inv.began c.run.ensures.sound.call in
@@ -87,6 +91,10 @@ returns-in-Ok g c = let inv = c.loop-restarts.invariant in let first = c.args.at
       others = search rules;
       floor = search rules;
       given_up = search rules;
+      footprint =
+          commits_footprint c.decision-kept.result.0 commits.history ran.pass.now.view new (ap (λ (v : View). v.seen) commits.view) (ap (λ (v : View). v.asked) commits.view) (ap (λ (v : View). v.meetings) commits.view)
+          c.run.ensures.sound.footprint;
+      left = search rules;
     }
 
 pub returns-in-Err-Memory : goal.returns-in-Err-Memory
@@ -108,6 +116,8 @@ returns-in-Err-Memory g c = let inv = c.loop-restarts.invariant in let first = c
       others = undone_others first ran.pass.now.view c.undo_all.new.pass.view same c.undo_all.ensures.undone;
       floor = floor_after_undo ran.pass.now.view new undone ∙ same.floor;
       given_up = search rules;
+      footprint = search rules;
+      left = footprint_undone ran.pass.now.view new undone c.run.ensures.sound.footprint;
     }
 
 pub loop-restarts-preserved : goal.loop-restarts-preserved

@@ -6,7 +6,7 @@ use Rattle.history_model.specs.Locks.{lock_of_word}
 use Rattle.lock_or_yield.specs.Asking.{Asks, AsksToRead, GainsAtMost}
 use Rattle.txn_commit.specs.declared.attempt.Halt.{Halt}
 use Rattle.txn_commit.specs.Attempts.{IsSound}
-use Rattle.txn_commit.proofs.Attempts.{asks_sound, granted_not_yield, held_not_yield, load_sound, not_halted, yields_sound}
+use Rattle.txn_commit.proofs.Attempts.{asks_table, granted_not_yield, held_not_yield, held_sound, not_halted, yields_sound}
 use Rattle.txn_commit.proofs.attempt.AttemptWords.read.Goals.{in-Held, in-Granted}
 use Rattle.txn_commit.proofs.attempt.AttemptWords.read.Goals as goal
 
@@ -52,7 +52,7 @@ returns-in-Yield g c =
       origin = refl;
       sound =
           yields_sound g.S.Shape.word_count g.S.Shape.good c.args.self.now.desk.now c.args.self.now.began.value c.args.a c.args.self.now.pass.now c.ask_to_read.new.pass c.args.self.now.undo c.in-Yield.cause
-          sound c.in-Yield.ensures.desk asks c.in-Yield.ensures.judged way.0 way.1;
+          sound c.in-Yield.ensures.desk asks c.in-Yield.ensures.judged way.0 way.1 way.2;
       memory = λ e. cc;
       asked = asks.asked;
       reads = c.in-Yield.ensures.reads;
@@ -63,19 +63,18 @@ load-requires g c =
     let none = not_halted c.args.self.now.halt c.requires.going in
     let sound = subst (λ (h : Option Halt). IsSound g.S.Shape.word_count g.S.Shape.good c.args.self.now.desk.now c.args.self.now.began.value c.args.self.now.pass.now c.args.self.now.undo h) none c.requires.sound in
     let goes_on = c.ask_to_read.ensures.goes_on (elim c.match-ask_to_read.branch [ in-Held w ↦ λ cause e. held_not_yield cause (sym w.in-Held.is ∙ e) | in-Granted w ↦ λ cause e. granted_not_yield cause (sym w.in-Granted.is ∙ e) ]) in
-    let asked = asks_sound g.S.Shape.word_count g.S.Shape.good c.args.self.now.desk.now c.args.self.now.began.value c.args.a c.args.self.now.pass.now c.ask_to_read.new.pass c.args.self.now.undo
-    sound c.ask_to_read.ensures.desk c.ask_to_read.ensures.asks c.ask_to_read.ensures.judged goes_on.1 in
+    let asked = asks_table g.S.Shape.word_count g.S.Shape.good c.args.self.now.desk.now c.args.self.now.began.value c.args.a c.args.self.now.pass.now c.ask_to_read.new.pass c.args.self.now.undo
+    sound c.ask_to_read.ensures.desk c.ask_to_read.ensures.asks goes_on.1 in
     record {
-      desk = asked.table;
-      phase = asked.stands.phase;
-      word = subst (λ (n : ℕ). c.args.a < n) (sym asked.words) c.requires.within;
+      desk = asked.0;
+      phase = asked.1;
+      word = subst (λ (n : ℕ). c.args.a < n) (sym asked.2) c.requires.within;
       granted = goes_on.0;
     }
 
 pub returns : goal.returns
 returns g c =
     let none = not_halted c.args.self.now.halt c.requires.going in
-    let sound = subst (λ (h : Option Halt). IsSound g.S.Shape.word_count g.S.Shape.good c.args.self.now.desk.now c.args.self.now.began.value c.args.self.now.pass.now c.args.self.now.undo h) none c.requires.sound in
     let goes_on = c.ask_to_read.ensures.goes_on (elim c.match-ask_to_read.branch [ in-Held w ↦ λ cause e. held_not_yield cause (sym w.in-Held.is ∙ e) | in-Granted w ↦ λ cause e. granted_not_yield cause (sym w.in-Granted.is ∙ e) ]) in
     let asks = c.ask_to_read.ensures.asks in
     let event = c.load.ensures.event in
@@ -88,10 +87,8 @@ returns g c =
       origin = refl;
       sound =
           subst (λ (h : Option Halt). IsSound g.S.Shape.word_count g.S.Shape.good c.args.self.now.desk.now c.args.self.now.began.value c.load.new.pass c.args.self.now.undo h) (sym none)
-          (load_sound g.S.Shape.word_count g.S.Shape.good c.args.self.now.desk.now c.args.self.now.began.value c.args.a c.load.result c.ask_to_read.new.pass c.load.new.pass c.args.self.now.undo
-          (asks_sound g.S.Shape.word_count g.S.Shape.good c.args.self.now.desk.now c.args.self.now.began.value c.args.a c.args.self.now.pass.now c.ask_to_read.new.pass c.args.self.now.undo
-          sound c.ask_to_read.ensures.desk asks c.ask_to_read.ensures.judged goes_on.1)
-          c.load.ensures.desk event c.load.ensures.fits);
+          (held_sound g.S.Shape.word_count g.S.Shape.good c.args.self.now.desk.now c.args.self.now.began.value c.args.a c.load.result c.args.self.now.pass.now c.ask_to_read.new.pass c.load.new.pass c.args.self.now.undo c.args.self.now.halt
+          c.requires.going c.requires.sound c.ask_to_read.ensures.desk asks c.ask_to_read.ensures.judged goes_on.1 c.load.ensures.desk event c.load.ensures.fits);
       memory = λ e. cc;
       asked = load_asked c.args.a c.load.result c.args.self.now.pass.now.view c.ask_to_read.new.pass.view c.load.new.pass.view asks event;
       reads = load_reads c.args.a c.load.result c.args.self.now.pass.now.view c.ask_to_read.new.pass.view c.load.new.pass.view c.ask_to_read.ensures.reads event;

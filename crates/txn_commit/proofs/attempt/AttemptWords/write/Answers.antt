@@ -10,7 +10,7 @@ use Rattle.lock_or_yield.specs.Asking.{Asks, AsksToWrite, GainsAtMost}
 use Rattle.txn_commit.specs.declared.attempt.Halt.{Halt}
 use Rattle.txn_commit.specs.declared.attempt.Halt.TheVariants as halt
 use Rattle.txn_commit.specs.Attempts.{IsSound}
-use Rattle.txn_commit.proofs.Attempts.{asks_sound, loaded_last, not_halted, of_refused, of_made, refused_when_full, yields_sound, held_sound, memory_sound, store_sound, held_not_yield, granted_not_yield}
+use Rattle.txn_commit.proofs.Attempts.{asks_table, loaded_last, not_halted, of_refused, of_made, refused_when_full, yields_sound, held_sound, memory_sound, store_sound, held_not_yield, granted_not_yield}
 use Rattle.txn_commit.proofs.attempt.AttemptWords.write.Goals.{in-Held, in-Granted}
 use Rattle.txn_commit.proofs.attempt.AttemptWords.write.Goals as goal
 
@@ -60,7 +60,7 @@ returns-in-Yield g c =
       origin = refl;
       sound =
           yields_sound g.S.Shape.word_count g.S.Shape.good c.args.self.now.desk.now c.args.self.now.began.value c.args.a c.args.self.now.pass.now c.ask_to_write.new.pass c.args.self.now.undo c.in-Yield.cause
-          sound c.in-Yield.ensures.desk asks c.in-Yield.ensures.judged way.0 way.1;
+          sound c.in-Yield.ensures.desk asks c.in-Yield.ensures.judged way.0 way.1 way.2;
       memory = λ room e. cc;
       asked = asks.asked;
       writes = c.in-Yield.ensures.writes;
@@ -71,12 +71,12 @@ load-old-requires g c =
     let none = not_halted c.args.self.now.halt c.requires.going in
     let sound = subst (λ (h : Option Halt). IsSound g.S.Shape.word_count g.S.Shape.good c.args.self.now.desk.now c.args.self.now.began.value c.args.self.now.pass.now c.args.self.now.undo h) none c.requires.sound in
     let goes_on = c.ask_to_write.ensures.goes_on (elim c.match-ask_to_write.branch [ in-Held w ↦ λ cause e. held_not_yield cause (sym w.in-Held.is ∙ e) | in-Granted w ↦ λ cause e. granted_not_yield cause (sym w.in-Granted.is ∙ e) ]) in
-    let asked = asks_sound g.S.Shape.word_count g.S.Shape.good c.args.self.now.desk.now c.args.self.now.began.value c.args.a c.args.self.now.pass.now c.ask_to_write.new.pass c.args.self.now.undo
-    sound c.ask_to_write.ensures.desk c.ask_to_write.ensures.asks c.ask_to_write.ensures.judged goes_on.1 in
+    let asked = asks_table g.S.Shape.word_count g.S.Shape.good c.args.self.now.desk.now c.args.self.now.began.value c.args.a c.args.self.now.pass.now c.ask_to_write.new.pass c.args.self.now.undo
+    sound c.ask_to_write.ensures.desk c.ask_to_write.ensures.asks goes_on.1 in
     record {
-      desk = asked.table;
-      phase = asked.stands.phase;
-      word = subst (λ (n : ℕ). c.args.a < n) (sym asked.words) c.requires.within;
+      desk = asked.0;
+      phase = asked.1;
+      word = subst (λ (n : ℕ). c.args.a < n) (sym asked.2) c.requires.within;
       granted = inr goes_on.0;
     }
 
