@@ -7,11 +7,11 @@ use Rattle.history_model.specs.declared.event.Cause.{Cause}
 use Rattle.history_model.specs.declared.view.Phase.{Phase}
 use Rattle.history_model.specs.declared.view.Phase.TheVariants.{Idle}
 use Rattle.history_model.specs.Counts.{is_attempt}
-use Rattle.history_model.specs.Fitting.{Fits, IsGood, SomeFits}
-use Rattle.history_model.specs.Legal.{AreAttemptsLegal}
+use Rattle.history_model.specs.Fitting.{Fits, IsGood}
+use Rattle.history_model.specs.Legal.{IsPrefix, AreAttemptsLegal}
 use Rattle.history_model.specs.Table.{history_of}
 use Rattle.history_model.specs.Histories.{replay}
-use Rattle.history_model.specs.Traces.{Trace, after}
+use Rattle.history_model.specs.Traces.{Trace, after, IsLegalTrace}
 use Rattle.history_model.specs.Sets.{has}
 use Rattle.history_model.specs.Views.{number}
 use Rattle.history_model.proofs.SetLemmas.{has-join_same}
@@ -19,7 +19,7 @@ use Rattle.locks_rule.specs.Actions.{Action}
 use Rattle.stamps_rule.specs.Stamps.{AreRestartsBounded}
 use Rattle.values_rule.specs.Steps.{begin_call_action, clear_stamp_action, entry_of}
 use Rattle.undo_log.specs.Room.{Room}
-use Rattle.word_table.specs.Calls.{CommitsAt}
+use Rattle.word_table.specs.Calls.{CommitsAt, ReadsHistory}
 use Rattle.word_table.specs.Copies.{HoldsNothing, PassView}
 use Rattle.word_table.specs.Desks.{DeskHolds, DeskView}
 use Rattle.word_table.specs.Kinds.{TakenIn}
@@ -30,7 +30,7 @@ use Rattle.txn_commit.specs.declared.attempt.Halt.TheVariants as halt
 use Rattle.txn_commit.specs.Attempts.{GaveWayTo, IsSound, Runs, SameCall, StandsAs, start_of}
 use Rattle.txn_commit.specs.Inner.Releasing.{Releases, Undoes}
 use Rattle.txn_commit.specs.Transactions.{AsksItsFootprint, EndsWithoutEntry, GainsOthers, GetsEntry, LeavesFootprint, ReadOneState}
-use Rattle.txn_commit.proofs.Attempts.{same_call}
+use Rattle.txn_commit.proofs.Attempts.{same_call, some_fits}
 use Rattle.txn_commit.proofs.Footprints.{asked_none, footprint_same, still_its_footprint}
 use Rattle.txn_commit.proofs.Releasing.{still_begun}
 use Rattle.txn_commit.proofs.Others.{gains_history, gains_more, gains_none}
@@ -78,13 +78,23 @@ both_on_err P Q (Err x) p q = (p, q)
 attempt_begun : (p : Phase) → is_attempt p ≡ true → p ≢ Idle
 attempt_begun p t e = let z : true ≡ false = sym t ∙ ap is_attempt e in cc
 
+-- a view that has seen the same and whose attempt did the same
+pub still_reads : (good : List ℕ → Type 0) (n : ℕ) (base : List ℕ) (old new : View) → new.seen ≡ old.seen → new.trace ≡ old.trace → ReadsHistory good n base old → ReadsHistory good n base new
+still_reads good n base old new seen trace r = record {
+  history = r.history;
+  legal = r.legal;
+  begins = subst (λ (l : List Entry). IsPrefix l r.history) (sym seen) r.begins;
+  left_good = r.left_good;
+  fits = subst (λ (t : Trace). IsLegalTrace t (replay base r.history)) (sym trace) r.fits;
+}
+
 none_within : (n : ℕ) → All (λ (note : ℕ × ℕ). note.0 < n) []
 none_within n k d lt = absurd (omega arith)
 
 -- a call was begun, and has done nothing yet
 pub begins_sound : {S : Type 0} (word_count : S → ℕ) (good : S → List ℕ → Type 0) (desk : DeskView S) (old : View) (began new : PassView) (log : Room)
     → began ≡ new → new.table ≡ desk.table → length old.base ≡ word_count desk.shape → new.view ≡ (begin_call_action (number old) old).view [] 0
-    → log.list ≡ [] → UNDO_ROOM ≤ log.spare → SomeFits (word_count desk.shape) (good desk.shape) new.view.trace
+    → log.list ≡ [] → UNDO_ROOM ≤ log.spare → ReadsHistory (IsGood (word_count desk.shape) (good desk.shape)) desk.seats desk.base new.view
     → IsSound word_count good desk began new log None
 begins_sound word_count good desk old began new log same table words step empty room fits = record {
   table = table;
@@ -102,7 +112,8 @@ begins_sound word_count good desk old began new log same table words step empty 
   within = subst (λ (l : List (ℕ × ℕ)). All (λ note. note.0 < word_count desk.shape) l) (sym empty) (none_within (word_count desk.shape));
   room = let none : length log.list ≡ 0 = ap (λ (l : List (ℕ × ℕ)). length l) empty in omega arith;
   memory = λ e. absurd (cc);
-  fits = fits;
+  fits = some_fits (word_count desk.shape) (good desk.shape) desk.seats desk.base new.view fits;
+  current = λ runs. fits;
   footprint = asked_none new.view (ap (λ (v : View). v.asked) step);
 }
 
@@ -111,7 +122,7 @@ ends_holding_nothing j old new nothing clear = subst (λ (v : View). HoldsNothin
 
 -- a call ended without an entry: its locks were released, and it is over
 pub ends_without : {S : Type 0} (word_count : S → ℕ) (good : S → List ℕ → Type 0) (desk : DeskView S) (j found : ℕ) (old began given_up released new : View) → began ≡ (begin_call_action (number old) old).view [] 0
-    → GainsOthers (number began) began.seen given_up.seen × (given_up.floor ≡ began.floor) × (is_attempt given_up.phase ≡ true) × LeavesFootprint given_up → given_up.call ≡ old.call + 1 → Releases given_up released
+    → GainsOthers (number began) began.seen given_up.seen × (given_up.floor ≡ began.floor) × (is_attempt given_up.phase ≡ true) × LeavesFootprint given_up × ReadsHistory (IsGood (word_count desk.shape) (good desk.shape)) desk.seats desk.base given_up → given_up.call ≡ old.call + 1 → Releases given_up released
     → HoldsNothing released → AreRestartsBounded desk.seats (number released) released → new ≡ (clear_stamp_action j released).view [] 0
     → TakenIn (DeskHolds word_count good desk) (clear_stamp_action j released) released found new
     → EndsWithoutEntry (IsGood (word_count desk.shape) (good desk.shape)) desk.seats desk.base old new
@@ -129,6 +140,9 @@ ends_without word_count good desk j found old began given_up released new begin 
   footprint =
       footprint_same given_up new (ap (λ (v : View). v.trace) clear ∙ ap (λ (v : View). v.trace) rel.rest) (ap (λ (v : View). v.abandoned) clear ∙ ap (λ (v : View). v.abandoned) rel.rest)
       (ap (λ (v : View). v.meetings) clear ∙ ap (λ (v : View). v.meetings) rel.rest) (ap (λ (v : View). v.asked) clear ∙ ap (λ (v : View). v.asked) rel.rest) up.3;
+  last =
+      still_reads (IsGood (word_count desk.shape) (good desk.shape)) desk.seats desk.base given_up new (ap (λ (v : View). v.seen) clear ∙ ap (λ (v : View). v.seen) rel.rest)
+      (ap (λ (v : View). v.trace) clear ∙ ap (λ (v : View). v.trace) rel.rest) up.4;
 }
 
 -- a call that has its entry was over, once its locks were released

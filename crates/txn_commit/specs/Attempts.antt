@@ -4,13 +4,14 @@ use Rattle.history_model.specs.declared.entry.Abandoned.{Abandoned}
 use Rattle.history_model.specs.declared.event.Cause.{Cause}
 use Rattle.history_model.specs.declared.view.View.{View}
 use Rattle.history_model.specs.declared.view.Phase.TheVariants.{Running, Yielding}
-use Rattle.history_model.specs.Fitting.{SomeFits}
+use Rattle.history_model.specs.Fitting.{IsGood, SomeFits}
 use Rattle.history_model.specs.Views.{number}
 use Rattle.stamps_rule.specs.Causes.{newest, past_causes}
 use Rattle.stamps_rule.specs.Stamps.{AreRestartsBounded}
 use Rattle.txn_words.specs.declared.words.Stop.{Stop}
 use Rattle.txn_words.specs.declared.words.Stop.TheVariants as stop
 use Rattle.undo_log.specs.Room.{Room}
+use Rattle.word_table.specs.Calls.{ReadsHistory}
 use Rattle.word_table.specs.Copies.{PassView}
 use Rattle.word_table.specs.Desks.{DeskView}
 use Rattle.txn_commit.specs.declared.attempt.Halt.{Halt}
@@ -72,3 +73,5 @@ pub record IsSound {S : Type 0} (word_count : S → ℕ) (good : S → List ℕ 
   pub memory : halted ≡ Some halt.Memory → UNDO_ROOM ≤ length log.list
   pub fits : SomeFits (word_count desk.shape) (good desk.shape) pass.view.trace
   pub footprint : LeavesFootprint pass.view
+  -- until it gives way, what it did is legal on what the committed history leaves
+  pub current : pass.view.phase ≡ Running → ReadsHistory (IsGood (word_count desk.shape) (good desk.shape)) desk.seats desk.base pass.view

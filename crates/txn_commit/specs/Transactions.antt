@@ -10,6 +10,7 @@ use Rattle.history_model.specs.Sets.{has, has_pair}
 use Rattle.history_model.specs.Traces.{Trace, Touches, after}
 use Rattle.history_model.specs.Views.{number}
 use Rattle.stamps_rule.specs.Stamps.{AreRestartsBounded}
+use Rattle.word_table.specs.Calls.{ReadsHistory}
 use Rattle.word_table.specs.Copies.{HoldsNothing}
 use Rattle.txn_commit.specs.declared.transaction.Receipt.{Receipt}
 
@@ -71,7 +72,8 @@ pub record ReadOneState (good : List ℕ → Type 0) (n : ℕ) (base : List ℕ)
   pub stamp : ℕ
   pub attempts : AreAttemptsLegal n base history (number v) stamp v.floor (length v.seen) v.abandoned
 
--- a call was made that has no entry; its attempts that gave way were as few as ever, and opaque
+-- a call was made that has no entry; its attempts that gave way were as few as ever, and all of them were opaque, the last
+-- one too, which came to nothing
 pub record EndsWithoutEntry (good : List ℕ → Type 0) (n : ℕ) (base : List ℕ) (old new : View) : Type 0 where
   pub seen : GainsOthers (number old) old.seen new.seen
   pub call : new.call ≡ old.call + 1
@@ -79,4 +81,5 @@ pub record EndsWithoutEntry (good : List ℕ → Type 0) (n : ℕ) (base : List 
   pub nothing : HoldsNothing new
   pub bounded : AreRestartsBounded n (number new) new
   pub opaque : ReadOneState good n base new
+  pub last : ReadsHistory good n base new
   pub footprint : LeavesFootprint new

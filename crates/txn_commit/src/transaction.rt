@@ -2,13 +2,13 @@
 
 ghost use Rattle.std.specs.Prelude.{◌≡◌, ℕ, ◌+◌, ◌<◌, ◌≤◌, [], ◌++◌, ◌∷◌, List, length, true, false, None, Some, Ok, IfOk, IfErr, OnErr, OnOk, ◌⊎◌};
 ghost use Rattle.history_model.specs.Counts.{is_attempt};
-ghost use Rattle.history_model.specs.Fitting.{Fits, IsGood, SomeFits};
+ghost use Rattle.history_model.specs.Fitting.{Fits, IsGood};
 ghost use Rattle.history_model.specs.Legal.{IsLegalHistory};
 ghost use Rattle.history_model.specs.Traces.{after};
 ghost use Rattle.history_model.specs.Views.{number};
 ghost use Rattle.stamps_rule.specs.Causes.{newest, past_causes};
 ghost use Rattle.txn_words.specs.Verdicts.{is_kept, answer_of};
-ghost use Rattle.word_table.specs.Calls.{CommitsAt};
+ghost use Rattle.word_table.specs.Calls.{CommitsAt, ReadsHistory};
 ghost use Rattle.word_table.specs.Copies.{HoldsNothing};
 ghost use Rattle.word_table.specs.declared.limits.TheConstants.{LAST_CALL};
 ghost use Rattle.txn_commit.specs.Attempts.{IsSound, SameCall, stop_of};
@@ -55,7 +55,8 @@ fn wait_out<R: Wait, S: Shape>(rt: &R, desk: &Desk<S>, pass: &mut Pass<S>, cause
       trace = [];
       waits = pass.new.view.waits;
     } }
-    ensures fits { SomeFits (S.word_count desk.now.shape) (S.good desk.now.shape) [] }
+    ensures fits { ReadsHistory (IsGood (S.word_count desk.now.shape) (S.good desk.now.shape))
+        desk.now.seats desk.now.base pass.new.view }
 {
     let backoff = Backoff::new();
     for _ in rt.forever() {
@@ -172,6 +173,9 @@ fn run_attempts<S: Shape, G: Gate, R: Wait, J: Job<Shape = S>>(
     ensures given_up { OnErr result (is_attempt attempt.new.pass.now.view.phase ≡ true) }
     ensures footprint { OnOk result (AsksItsFootprint attempt.new.pass.now.view) }
     ensures left { OnErr result (LeavesFootprint attempt.new.pass.now.view) }
+    ensures last { OnErr result (ReadsHistory
+        (IsGood (S.word_count attempt.old.desk.now.shape) (S.good attempt.old.desk.now.shape))
+        attempt.old.desk.now.seats attempt.old.desk.now.base attempt.new.pass.now.view) }
 {
     let seats = attempt.desk.seats();
     for restarts in 0..seats {

@@ -7,6 +7,7 @@ use Rattle.txn_commit.specs.declared.attempt.Halt.TheVariants as halt
 use Rattle.txn_commit.specs.Attempts.{StandsAs}
 use Rattle.txn_commit.specs.Inner.Releasing.{Releases, Undoes}
 use Rattle.txn_commit.specs.Transactions.{LeavesFootprint}
+use Rattle.txn_commit.proofs.Attempts.{some_fits}
 use Rattle.txn_commit.proofs.Ending.{gave_way}
 use Rattle.txn_commit.proofs.Footprints.{footprint_restarts}
 use Rattle.txn_commit.proofs.transaction.give_way.Goals as goal
@@ -52,7 +53,10 @@ returns g c = record {
     within = search rules;
     room = search rules;
     memory = search rules;
-    fits = search rules;
+    fits =
+        some_fits (g.S.Shape.word_count c.args.attempt.now.desk.now.shape) (g.S.Shape.good c.args.attempt.now.desk.now.shape) c.args.attempt.now.desk.now.seats c.args.attempt.now.desk.now.base c.wait_out.new.pass.view
+        c.wait_out.ensures.fits;
+    current = λ runs. c.wait_out.ensures.fits;
     footprint =
         given_way c.args.attempt.now.desk.now.seats c.args.cause c.args.attempt.now.halt c.args.attempt.now.began.value.view c.args.attempt.now.pass.now.view c.undo_all.new.pass.view c.release_all.new.pass.view c.wait_out.new.pass.view
         c.requires.halted c.requires.sound.stands c.undo_all.ensures.undone c.release_all.ensures.released c.wait_out.ensures.restarts c.requires.sound.footprint;

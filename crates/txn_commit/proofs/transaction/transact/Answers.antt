@@ -25,8 +25,8 @@ returns-clause-err g c = let old = c.args.pass.now.view in let back = sym (c.pas
     let ran = c.run_attempts-ended.ensures in let taken = c.finish_call.ensures.taken in
     on_err_weaker c.run_attempts-ended.result (λ up. inr (subst (λ (p : PassView). EndsWithoutEntry (IsGood (g.S.Shape.word_count c.args.desk.now.shape) (g.S.Shape.good c.args.desk.now.shape)) c.args.desk.now.seats c.args.desk.now.base old p.view) back
     (ends_without g.S.Shape.word_count g.S.Shape.good c.args.desk.now (number c.release_all.new.pass.view) taken.0 old c.begin-call.new.pass.view c.run_attempts-ended.new.attempt.pass.now.view c.release_all.new.pass.view c.finish_call.new.pass.view
-    c.begin-call.ensures.step (up.0, up.1.0, up.1.1.0, up.1.1.1) (ran.call ∙ c.begin-call.ensures.number) c.release_all.ensures.released c.release_all.ensures.nothing c.finish_call.ensures.bounded c.finish_call.ensures.step taken.1)))
-    (both_on_err _ _ c.run_attempts-ended.result ran.others (both_on_err _ _ c.run_attempts-ended.result ran.floor (both_on_err _ _ c.run_attempts-ended.result ran.given_up ran.left)))
+    c.begin-call.ensures.step (up.0, up.1.0, up.1.1.0, up.1.1.1.0, up.1.1.1.1) (ran.call ∙ c.begin-call.ensures.number) c.release_all.ensures.released c.release_all.ensures.nothing c.finish_call.ensures.bounded c.finish_call.ensures.step taken.1)))
+    (both_on_err _ _ c.run_attempts-ended.result ran.others (both_on_err _ _ c.run_attempts-ended.result ran.floor (both_on_err _ _ c.run_attempts-ended.result ran.given_up (both_on_err _ _ c.run_attempts-ended.result ran.left ran.last))))
 
 pub returns-clause-footprint : goal.returns-clause-footprint
 returns-clause-footprint g c = let back = sym (c.pass-1.given.1 (sym c.run_attempts-ended.ensures.name)) in
