@@ -13,7 +13,7 @@ use Rattle.history_model.specs.Views.{number}
 use Rattle.history_model.proofs.EndEvents.{last_read_same}
 use Rattle.history_model.proofs.HistoryLaws.{prefix_is_legal, replay_is_good}
 use Rattle.history_model.proofs.Places.{put_here}
-use Rattle.locks_rule.specs.Actions.{words_after, views_after, found_by}
+use Rattle.locks_rule.specs.Actions.{views_after, found_by}
 use Rattle.values_rule.specs.Steps.{MayBeginCall, MayLoadValue, MayCommitCall, begin_call_action, load_value_action, store_value_action, known_value, commit_call_action}
 use Rattle.values_rule.specs.Values.{ValuesHold}
 use Rattle.stamps_rule.specs.Steps.{MayLoadCauseStamp, load_cause_stamp_action, after_waiting, after_restarting}
