@@ -17,6 +17,10 @@ mod runs;
 #[cfg(test)]
 mod takers;
 #[cfg(test)]
+mod third;
+#[cfg(test)]
+mod told;
+#[cfg(test)]
 mod transaction_threads;
 #[cfg(test)]
 mod transactions;
