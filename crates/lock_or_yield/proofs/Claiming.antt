@@ -132,6 +132,7 @@ scans_meet sound a j old mid new call claims u =
             ∙ (ap (λ (x : View). record x { scans = before.scans }) (nobody_met old mid call same.0 same.1)
             ∙ ap (λ (x : View). record (with_locks x old) { scans = before.scans }) (sym u.clear.view));
         asking = before;
+        step = (refl, inr (refl, u.least));
         meets = u.meets;
       };
     }
@@ -147,5 +148,5 @@ claim_meets sound a j old new claims m = record {
   seat = m.seat;
   met = (claim_leaves sound old a (claimed.Met j) new claims).somebody j refl;
   meetings = m.conflict.0.1;
-  meets = record { action = claim_writer_action (number old) (lock_of_word a) a; before = old; locks = refl; asking = old; meets = m };
+  meets = record { action = claim_writer_action (number old) (lock_of_word a) a; before = old; locks = refl; asking = old; step = (refl, inl (a, refl, refl)); meets = m };
 }

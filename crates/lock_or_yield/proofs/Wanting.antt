@@ -12,6 +12,7 @@ use Rattle.lock_or_yield.specs.declared.turn.Tried.TheVariants as tried
 use Rattle.lock_or_yield.specs.declared.want.Got.TheVariants as got
 use Rattle.lock_or_yield.specs.Asking.{GainsOn, Asks, AsksToRead, AsksToWrite, with_locks, MeetsNobody, GoesOn, GivesWay, WentOn}
 use Rattle.lock_or_yield.specs.Turns.{MeetsAndJudges}
+use Rattle.locks_rule.specs.Actions.{Action}
 use Rattle.lock_or_yield.proofs.Steps.{gains_none, gains_twice}
 use Rattle.lock_or_yield.proofs.Turning.{changed, rest_of, gains_nothing}
 
@@ -125,10 +126,10 @@ module _ (old mid new : View) (x : Cause) (on : WentOn old mid) where
       subst (λ (y : Cause). (waited : List (ℕ × ℕ)) × GivesWay good n base (waited ++ (k, y.seat) ∷ []) y old new) (yield_is x cause e)
       (gives_way_more good n base k ((k, x.seat) ∷ []) x old mid new on more gives)
 
-  pub turns_met : (sound : List ℕ → List View → Type 0) (k : ℕ) (cause : Cause) → got.Yield x ≡ got.Yield cause → (tried.Yield x ≡ tried.Granted) ⊎ MeetsAndJudges sound mid k (tried.Yield x) new
-      → (before : View) × WentOn old before × MeetsAndJudges sound before k (tried.Yield cause) new
-  turns_met sound k cause e met =
-      (mid, on, subst (λ (y : Cause). MeetsAndJudges sound mid k (tried.Yield y) new) (yield_is x cause e) (gave_way x (MeetsAndJudges sound mid k (tried.Yield x) new) met))
+  pub turns_met : (is_step : ℕ → ℕ → View → (View → Action) → View → Type 0) (sound : List ℕ → List View → Type 0) (k : ℕ) (cause : Cause) → got.Yield x ≡ got.Yield cause → (tried.Yield x ≡ tried.Granted) ⊎ MeetsAndJudges is_step sound mid k (tried.Yield x) new
+      → (before : View) × WentOn old before × MeetsAndJudges is_step sound before k (tried.Yield cause) new
+  turns_met is_step sound k cause e met =
+      (mid, on, subst (λ (y : Cause). MeetsAndJudges is_step sound mid k (tried.Yield y) new) (yield_is x cause e) (gave_way x (MeetsAndJudges is_step sound mid k (tried.Yield x) new) met))
 
   -- the restart bound, of a call that went on before
   pub turns_bounded : (n : ℕ) → (tried.Yield x ≡ tried.Granted) ⊎ AreRestartsBounded n (number mid) new → AreRestartsBounded n (number old) new

@@ -9,7 +9,7 @@ ghost use Rattle.stamps_rule.specs.Stamps.{AreRestartsBounded};
 ghost use Rattle.word_table.specs.Calls.{GrantsStay};
 ghost use Rattle.word_table.specs.Desks.{DeskHolds};
 ghost use Rattle.lock_or_yield.specs.Asking.{Asks, AsksToRead, AsksToWrite, GivesWay, GoesOn, MeetsNobody};
-ghost use Rattle.lock_or_yield.specs.Turns.{ClaimsAndScans, JudgedToWait, JudgedToYield, JudgesMet, MeetsAndJudges, MeetsSeat, ScansClear, ScansUpTo};
+ghost use Rattle.lock_or_yield.specs.Turns.{ClaimsAndScans, IsReadStep, IsWriteStep, JudgedToWait, JudgedToYield, JudgesMet, MeetsAndJudges, MeetsSeat, ScansClear, ScansUpTo};
 
 use history_model::{Cause, LOCKS, Phase, Shape, lock_of};
 use word_table::{Claimed, Desk, Judged, Pass, Scanned, Shared};
@@ -95,8 +95,8 @@ pub fn try_read<S: Shape>(desk: &Desk<S>, pass: &mut Pass<S>, a: u64) -> Tried
         → GivesWay (IsGood (S.word_count desk.now.shape) (S.good desk.now.shape))
         desk.now.seats desk.now.base ((lock_of_word a, cause.seat) ∷ []) cause
         pass.old.view pass.new.view }
-    ensures met { (result ≡ Tried.Granted) ⊎ MeetsAndJudges (DeskHolds S.word_count S.good desk.now)
-        pass.old.view (lock_of_word a) result pass.new.view }
+    ensures met { (result ≡ Tried.Granted) ⊎ MeetsAndJudges IsReadStep
+        (DeskHolds S.word_count S.good desk.now) pass.old.view (lock_of_word a) result pass.new.view }
     ensures held { IsGranted pass.old.view (lock_of_word a)
         → (result ≡ Tried.Granted) × (pass.new.view ≡ pass.old.view) }
     ensures bounded { (result ≡ Tried.Granted)
@@ -171,8 +171,8 @@ pub fn try_write<S: Shape>(desk: &Desk<S>, pass: &mut Pass<S>, a: u64) -> Tried
         → GivesWay (IsGood (S.word_count desk.now.shape) (S.good desk.now.shape))
         desk.now.seats desk.now.base ((lock_of_word a, cause.seat) ∷ []) cause
         pass.old.view pass.new.view }
-    ensures met { (result ≡ Tried.Granted) ⊎ MeetsAndJudges (DeskHolds S.word_count S.good desk.now)
-        pass.old.view (lock_of_word a) result pass.new.view }
+    ensures met { (result ≡ Tried.Granted) ⊎ MeetsAndJudges IsWriteStep
+        (DeskHolds S.word_count S.good desk.now) pass.old.view (lock_of_word a) result pass.new.view }
     ensures held { HasWriteGrant pass.old.view (lock_of_word a)
         → (result ≡ Tried.Granted) × (pass.new.view ≡ pass.old.view) }
     ensures bounded { (result ≡ Tried.Granted)

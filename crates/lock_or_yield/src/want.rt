@@ -8,7 +8,7 @@ ghost use Rattle.history_model.specs.Views.{number, HasWriteGrant, IsGranted};
 ghost use Rattle.stamps_rule.specs.Stamps.{AreRestartsBounded};
 ghost use Rattle.word_table.specs.Desks.{DeskHolds};
 ghost use Rattle.lock_or_yield.specs.Asking.{Asks, AsksToRead, AsksToWrite, GivesWay, WentOn};
-ghost use Rattle.lock_or_yield.specs.Turns.{MeetsAndJudges};
+ghost use Rattle.lock_or_yield.specs.Turns.{IsReadStep, IsWriteStep, MeetsAndJudges};
 
 use crate::turn::{Tried, try_read, try_write};
 use crossbeam_utils::Backoff;
@@ -44,8 +44,8 @@ pub fn want_read<R: Wait, S: Shape>(rt: &R, desk: &Desk<S>, pass: &mut Pass<S>, 
         cause pass.old.view pass.new.view }
     ensures met { (cause : Cause) → result ≡ Got.Yield cause
         → (before : View) × WentOn pass.old.view before
-        × MeetsAndJudges (DeskHolds S.word_count S.good desk.now)
-        before (lock_of_word a) (Tried.Yield cause) pass.new.view }
+        × MeetsAndJudges IsReadStep
+        (DeskHolds S.word_count S.good desk.now) before (lock_of_word a) (Tried.Yield cause) pass.new.view }
     ensures bounded { (cause : Cause) → result ≡ Got.Yield cause
         → AreRestartsBounded desk.now.seats (number pass.old.view) pass.new.view }
 {
@@ -79,8 +79,8 @@ pub fn want_write<R: Wait, S: Shape>(rt: &R, desk: &Desk<S>, pass: &mut Pass<S>,
         cause pass.old.view pass.new.view }
     ensures met { (cause : Cause) → result ≡ Got.Yield cause
         → (before : View) × WentOn pass.old.view before
-        × MeetsAndJudges (DeskHolds S.word_count S.good desk.now)
-        before (lock_of_word a) (Tried.Yield cause) pass.new.view }
+        × MeetsAndJudges IsWriteStep
+        (DeskHolds S.word_count S.good desk.now) before (lock_of_word a) (Tried.Yield cause) pass.new.view }
     ensures bounded { (cause : Cause) → result ≡ Got.Yield cause
         → AreRestartsBounded desk.now.seats (number pass.old.view) pass.new.view }
 {

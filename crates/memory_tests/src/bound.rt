@@ -15,7 +15,7 @@ use word_table::{Desk, Pass};
 
 /// Any three words are good.
 #[derive(Clone, Copy)]
-struct Triple;
+pub(crate) struct Triple;
 
 impl Shape for Triple {
     ghost use Rattle.std.specs.Prelude.{⊤};
@@ -26,7 +26,7 @@ impl Shape for Triple {
 }
 
 // A desk of three words, all 0, with three passes.
-fn open_three(
+pub(crate) fn open_three(
     alloc: Global,
 ) -> Result<(Desk<Triple>, Pass<Triple>, Pass<Triple>, Pass<Triple>), OutOfMemory>
     ensures words { IfOk result (λ opened. length opened.0.base ≡ 3) }
@@ -49,7 +49,7 @@ fn open_three(
 }
 
 // A turn of asking to write.
-fn ask(desk: &Desk<Triple>, pass: &mut Pass<Triple>, a: u64) -> Tried
+pub(crate) fn ask(desk: &Desk<Triple>, pass: &mut Pass<Triple>, a: u64) -> Tried
     requires desk { pass.old.table ≡ desk.now.table }
     requires words { (a < 3) × (length pass.old.view.base ≡ 3) }
     requires fresh { (pass.old.view.phase ≡ Phase.Running) × (pass.old.view.undo ≡ []) × (pass.old.view.met ≡ []) }
@@ -99,7 +99,7 @@ fn hold_own(
 }
 
 // Asks for word 2: for whom the call waits, and its timestamp then.
-fn wait_for_third(desk: &Desk<Triple>, pass: &mut Pass<Triple>) -> Option<(u32, u64)>
+pub(crate) fn wait_for_third(desk: &Desk<Triple>, pass: &mut Pass<Triple>) -> Option<(u32, u64)>
     requires desk { (pass.old.table ≡ desk.now.table) × (length pass.old.view.base ≡ 3) }
     requires fresh { (pass.old.view.phase ≡ Phase.Running) × (pass.old.view.undo ≡ []) × (pass.old.view.met ≡ []) }
     ensures desk { (pass.new.table ≡ desk.now.table) × (length pass.new.view.base ≡ 3) }
@@ -163,7 +163,7 @@ fn give_up(desk: &Desk<Triple>, pass: &mut Pass<Triple>, lock: u32) -> bool
 }
 
 // The call commits, gives up the claim on this lock, which is its last, and ends.
-fn end(desk: &Desk<Triple>, pass: &mut Pass<Triple>, lock: u32) -> bool
+pub(crate) fn end(desk: &Desk<Triple>, pass: &mut Pass<Triple>, lock: u32) -> bool
     requires desk { (pass.old.table ≡ desk.now.table) × (length pass.old.view.base ≡ 3) }
     requires runs { (pass.old.view.phase ≡ Phase.Running) × (pass.old.view.undo ≡ []) }
 {

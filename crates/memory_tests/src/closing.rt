@@ -8,7 +8,7 @@ use history_model::Phase;
 use io_ends::OutOfMemory;
 use std::alloc::Global;
 use std::test::Fail;
-use word_table::{Desk, Pass};
+use word_table::{CloseRefused, Desk, Pass};
 
 // The words that a desk leaves.
 fn close_all(
@@ -24,6 +24,23 @@ fn close_all(
     }
 }
 
+// These two passes, which are all of the desk.
+fn all_of(
+    alloc: Global,
+    desk: &Desk<Pair>,
+    zero: Pass<Pair>,
+    one: Pass<Pair>,
+) -> Result<Vec<Pass<Pair>>, OutOfMemory>
+    requires seats { desk.now.seats ≡ 2 }
+    requires tables { (zero.table ≡ desk.now.table) × (one.table ≡ desk.now.table) }
+    requires idle { (zero.view.phase ≡ Phase.Idle) × (one.view.phase ≡ Phase.Idle) }
+    requires numbers { (zero.view.who ≡ 0 ∷ []) × (one.view.who ≡ 1 ∷ []) }
+    ensures all { IfOk result (λ passes. AreAllPasses desk.now.table desk.now.seats passes.items) }
+{
+    let passes = vec![in alloc; zero, one]?;
+    Ok(passes)
+}
+
 // The words that a desk with these two passes leaves.
 fn close_pair(
     alloc: Global,
@@ -36,7 +53,7 @@ fn close_pair(
     requires idle { (zero.view.phase ≡ Phase.Idle) × (one.view.phase ≡ Phase.Idle) }
     requires numbers { (zero.view.who ≡ 0 ∷ []) × (one.view.who ≡ 1 ∷ []) }
 {
-    let passes = vec![in alloc; zero, one]?;
+    let passes = all_of(alloc, &desk, zero, one)?;
     close_all(alloc, desk, passes)
 }
 
@@ -76,6 +93,32 @@ fn a_desk_where_nothing_was_done_leaves_its_words(rt: HostRuntime) -> Result<(),
     let words = close_pair(alloc, desk, zero, one)?;
     assert_eq!(rt; words.as_slice(), [3, 4].as_slice());
     Ok(())
+}
+
+// A table where one pass added is closed, and where no memory was found for that it is closed again, with the desk and
+// the passes that came back: the words that it leaves.
+fn close_or_try_again(alloc: Global) -> Result<Option<Vec<u64>>, OutOfMemory> {
+    let (desk, mut zero, one) = open_pair(alloc, 3, 4)?;
+    let Some(_) = add(&desk, &mut zero, 6) else {
+        return Ok(None);
+    };
+    let passes = all_of(alloc, &desk, zero, one)?;
+    match desk.close(alloc, passes) {
+        Ok(closed) => Ok(Some(closed.words().to_vec(alloc)?)),
+        Err(CloseRefused { desk, passes }) => Ok(Some(close_all(alloc, desk, passes)?)),
+    }
+}
+
+// It is run with each allocation refused in turn, too.
+#[test]
+fn a_table_is_closed_or_no_memory_is_found(rt: HostRuntime) {
+    let ended = close_or_try_again(rt.alloc());
+    let closed = match &ended {
+        Ok(Some(words)) => words.as_slice() == [9, 4].as_slice(),
+        Ok(None) => false,
+        Err(OutOfMemory) => true,
+    };
+    assert!(rt; closed);
 }
 
 // A desk of two words with sixteen passes, of which the last stands apart.

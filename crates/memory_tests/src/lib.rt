@@ -15,6 +15,10 @@ mod locks;
 #[cfg(test)]
 mod runs;
 #[cfg(test)]
+mod third;
+#[cfg(test)]
+mod told;
+#[cfg(test)]
 mod transaction_threads;
 #[cfg(test)]
 mod transactions;

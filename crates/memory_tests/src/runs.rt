@@ -23,6 +23,7 @@ fn laws_hold_of_a_shape() {
     laws::every_run::<ThreeWords>();
     laws::every_meeting::<ThreeWords>();
     laws::every_call::<ThreeWords>();
+    laws::every_deal::<ThreeWords>();
 }
 
 #[test]

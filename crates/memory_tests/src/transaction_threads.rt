@@ -66,14 +66,19 @@ impl Job for AddToBoth {
     }
 }
 
-// A gate that lets nobody pass with a first word to write until two came so far. It looks a hundred million times.
+// A gate that lets nobody pass with a first word to write until two came so far. It looks a hundred million times. It
+// counts how often it is told that an attempt gave way.
 #[derive(Drop)]
 struct Meeting {
     arrived: AtomicCell<u32>,
+    yielded: AtomicCell<u32>,
 }
 
 impl Gate for Meeting {
     fn at<R: Wait>(&self, _rt: &R, point: Point) {
+        if let Stage::Yielded { .. } = point.stage {
+            self.yielded.fetch_add(1);
+        }
         if let Stage::Granted { write: true, .. } = point.stage {
             self.arrived.fetch_add(1);
             for _ in 0..100_000_000u32 {
@@ -304,10 +309,14 @@ fn of_two_calls_that_cross_one_gives_way_once(rt: HostRuntime) -> Result<(), Fai
     let (desk, zero, one) = open_pair(rt.alloc())?;
     let gate = Meeting {
         arrived: AtomicCell::new(0),
+        yielded: AtomicCell::new(0),
     };
     let ((zero, left), (one, right)) = cross(&rt, rt.alloc(), &desk, zero, one, 1, &gate);
     let words = close_two(rt.alloc(), desk, zero, one)?;
-    assert_eq!(rt; (left? + right?, words.as_slice()), (1, [2, 2].as_slice()));
+    assert_eq!(rt;
+        (left? + right?, gate.yielded.load(), words.as_slice()),
+        (1, 1, [2, 2].as_slice())
+    );
     Ok(())
 }
 

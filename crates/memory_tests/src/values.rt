@@ -143,6 +143,33 @@ fn undo_one(desk: &Desk<Pair>, pass: &mut Pass<Pair>) -> Option<u64>
     Some(value)
 }
 
+// Writes word 0, undoes the write, and commits the call as one whose writes are not kept: the value that the write
+// covered, and the entry's place.
+fn revert_one(desk: &Desk<Pair>, pass: &mut Pass<Pair>) -> Option<(u64, u64)>
+    requires desk { (pass.old.table ≡ desk.now.table) × (length pass.old.view.base ≡ 2) }
+    requires idle { pass.old.view.phase ≡ Phase.Idle }
+    ensures desk { (pass.new.table ≡ desk.now.table) × (length pass.new.view.base ≡ 2) }
+    ensures idle { OnSome result (pass.new.view.phase ≡ Phase.Idle) }
+    ensures number { pass.new.view.who ≡ pass.old.view.who }
+{
+    if pass.calls_left() == 0 {
+        return None;
+    }
+    let _ = desk.begin(pass);
+    if !hold(desk, pass, 0) {
+        return None;
+    }
+    let value = desk.load(pass, 0);
+    desk.store(pass, 0, 77);
+    desk.undo_store(pass, 0, value);
+    let place = desk.commit(pass, false);
+    desk.unclaim(pass, 0);
+    if !finish(desk, pass) {
+        return None;
+    }
+    Some((value, place))
+}
+
 // Reads word 0 under its shared lock, as a call of its own: the value, and the entry's place.
 pub(crate) fn read_one(desk: &Desk<Pair>, pass: &mut Pass<Pair>) -> Option<(u64, u64)>
     requires desk { (pass.old.table ≡ desk.now.table) × (length pass.old.view.base ≡ 2) }
@@ -193,6 +220,29 @@ fn a_commit_is_seen_and_an_undone_write_is_not(rt: HostRuntime) -> Result<(), Fa
     let (desk, mut zero, mut one) = open_pair(rt.alloc(), 3, 4)?;
     let calls = call_by_turns(&desk, &mut zero, &mut one);
     assert_eq!(rt; calls, Some(((3, 1), (4, 2), 4, (4, 3))));
+    Ok(())
+}
+
+// One pass reverts its call, and then the other reads: the values and the places.
+fn read_after_reverting(
+    desk: &Desk<Pair>,
+    zero: &mut Pass<Pair>,
+    one: &mut Pass<Pair>,
+) -> Option<((u64, u64), (u64, u64))>
+    requires zero { (zero.old.table ≡ desk.now.table) × (length zero.old.view.base ≡ 2) × (zero.old.view.phase ≡ Phase.Idle) }
+    requires one { (one.old.table ≡ desk.now.table) × (length one.old.view.base ≡ 2) × (one.old.view.phase ≡ Phase.Idle) }
+    requires undo { one.old.view.undo ≡ [] }
+{
+    let reverted = revert_one(desk, zero)?;
+    let read = read_one(desk, one)?;
+    Some((reverted, read))
+}
+
+#[test]
+fn a_reverted_call_has_its_entry_and_leaves_the_words(rt: HostRuntime) -> Result<(), Fail> {
+    let (desk, mut zero, mut one) = open_pair(rt.alloc(), 3, 4)?;
+    let calls = read_after_reverting(&desk, &mut zero, &mut one);
+    assert_eq!(rt; calls, Some(((3, 1), (3, 2))));
     Ok(())
 }
 

@@ -6,7 +6,11 @@ use Rattle.history_model.specs.declared.entry.Abandoned.{Abandoned}
 use Rattle.history_model.specs.declared.event.Cause.{Cause}
 use Rattle.history_model.specs.declared.event.Event.TheVariants.{Read, Write}
 use Rattle.history_model.specs.declared.view.View.{View}
-use Rattle.history_model.specs.Fitting.{SomeFits}
+use Rattle.history_model.specs.Fitting.{IsGood, SomeFits}
+use Rattle.history_model.specs.Histories.{replay}
+use Rattle.history_model.specs.declared.view.Phase.TheVariants.{Running, Yielding}
+use Rattle.history_model.specs.Locks.{lock_of_word}
+use Rattle.history_model.specs.Sets.{has_pair}
 use Rattle.history_model.specs.Traces.{Trace}
 use Rattle.history_model.specs.Undoing.{Notes}
 use Rattle.history_model.specs.Views.{number}
@@ -14,6 +18,7 @@ use Rattle.history_model.proofs.FittingLaws.{fits_write}
 use Rattle.stamps_rule.specs.Stamps.{AreRestartsBounded}
 use Rattle.values_rule.specs.Steps.{store_value_action}
 use Rattle.undo_log.specs.Room.{Room}
+use Rattle.word_table.specs.Calls.{ReadsHistory}
 use Rattle.word_table.specs.Copies.{PassView}
 use Rattle.word_table.specs.Desks.{DeskView}
 use Rattle.lock_or_yield.specs.Asking.{Asks, GivesWay, WentOn}
@@ -23,6 +28,7 @@ use Rattle.txn_commit.specs.declared.attempt.Halt.TheVariants as halt
 use Rattle.txn_commit.specs.declared.attempt.TheConstants.{UNDO_ROOM}
 use Rattle.txn_commit.specs.Attempts.{GaveWayTo, IsSound, Runs, SameCall, stop_of}
 use Rattle.txn_commit.specs.Transactions.{GainsOthers}
+use Rattle.txn_commit.proofs.Footprints.{footprint_events, footprint_loaded, footprint_yields}
 use Rattle.txn_commit.proofs.Others.{gains_history, gains_more, gains_none}
 
 -- an attempt that gave way, and what the pass then had seen
@@ -30,7 +36,7 @@ pub gave_way_to : (good : List ℕ → Type 0) (n : ℕ) (base : List ℕ) (met 
     → GivesWay good n base met cause old new → AreRestartsBounded n (number old) new → GaveWayTo n cause old new
 gave_way_to good n base met cause old new g bounded = record {
   phase = ap (λ (v : View). v.phase) g.gave_way.view;
-  abandoned = (_, ap (λ (v : View). v.abandoned) g.gave_way.view);
+  abandoned = (_, ap (λ (v : View). v.abandoned) g.gave_way.view, refl, ap (λ (v : View). v.trace) (sym g.gave_way.view));
   last = g.last;
   seat = g.seat;
   bounded = subst (λ (j : ℕ). AreRestartsBounded n j new) (ap number (sym g.gave_way.view)) bounded;
@@ -48,7 +54,7 @@ same_cause a b e = cc
 gave_way_since : (n : ℕ) (cause : Cause) (began old new : View) → Runs began old → GaveWayTo n cause old new → GaveWayTo n cause began new
 gave_way_since n cause began old new r g = record {
   phase = g.phase;
-  abandoned = (g.abandoned.0, g.abandoned.1 ∙ ap (λ (l : List Abandoned). l ++ g.abandoned.0 ∷ []) r.abandoned);
+  abandoned = (g.abandoned.0, g.abandoned.1 ∙ ap (λ (l : List Abandoned). l ++ g.abandoned.0 ∷ []) r.abandoned, g.abandoned.2, g.abandoned.3);
   last = g.last;
   seat = g.seat;
   bounded = g.bounded;
@@ -123,6 +129,24 @@ events_same_call trace notes old new e = record {
   seen = saw_same (number old) old.seen new.seen (ap (λ (v : View). v.seen) e);
 }
 
+-- what is legal on what the history leaves fits some good list
+pub some_fits : (count : ℕ) (good : List ℕ → Type 0) (n : ℕ) (base : List ℕ) (v : View) → ReadsHistory (IsGood count good) n base v → SomeFits count good v.trace
+some_fits count good n base v r = (replay base r.history, record { count = r.left_good.count; good = r.left_good.good; legal = r.fits })
+
+-- a write is legal on every list
+reads_write : (count : ℕ) (good : List ℕ → Type 0) (n : ℕ) (base : List ℕ) (j a x : ℕ) (v : View) → ReadsHistory (IsGood count good) n base v
+    → ReadsHistory (IsGood count good) n base ((store_value_action j a x v).view [] 0)
+reads_write count good n base j a x v r = record {
+  history = r.history;
+  legal = r.legal;
+  begins = r.begins;
+  left_good = r.left_good;
+  fits = (fits_write count good v.trace (replay base r.history) a x (record { count = r.left_good.count; good = r.left_good.good; legal = r.fits })).legal;
+}
+
+yielding_runs : (v : View) → v.phase ≡ Yielding → v.phase ≡ Running → ⊥
+yielding_runs v y r = let z : Yielding ≡ Running = sym y ∙ r in cc
+
 one_within : (a was n : ℕ) → a < n → All (λ (note : ℕ × ℕ). note.0 < n) ((a, was) ∷ [])
 one_within a was n lt zero d near = lt
 one_within a was n lt (suc k) d near = absurd (omega arith)
@@ -131,9 +155,9 @@ module _ {S : Type 0} (word_count : S → ℕ) (good : S → List ℕ → Type 0
   -- the attempt asked for a lock and gave way
   pub yields_sound : (a : ℕ) (old new : PassView) (log : Room) (cause : Cause) → IsSound word_count good desk began old log None
       → new.table ≡ old.table → Asks a old.view new.view → new.view.met ≡ []
-      → GaveWayTo desk.seats cause old.view new.view → GainsOthers (number old.view) old.view.seen new.view.seen
+      → GaveWayTo desk.seats cause old.view new.view → GainsOthers (number old.view) old.view.seen new.view.seen → has_pair (lock_of_word a) cause.seat new.view.meetings ≡ true
       → IsSound word_count good desk began new log (Some (halt.Yield cause))
-  yields_sound a old new log cause s table asks judged gave gains = record {
+  yields_sound a old new log cause s table asks judged gave gains met = record {
     table = table ∙ s.table;
     words = ap (λ (v : View). length v.base) asks.rest ∙ s.words;
     call = same_call began.view old.view new.view s.call (asks_same_call a old.view new.view asks gains);
@@ -144,32 +168,22 @@ module _ {S : Type 0} (word_count : S → ℕ) (good : S → List ℕ → Type 0
     room = s.room;
     memory = λ e. absurd (cc);
     fits = subst (λ (t : Trace). SomeFits (word_count desk.shape) (good desk.shape) t) (ap (λ (v : View). v.trace) (sym asks.rest)) s.fits;
+    footprint = footprint_yields desk.seats a cause old.view new.view asks gave met s.footprint;
+    current = λ e. absurd (yielding_runs new.view gave.phase e);
   }
 
-  -- the attempt asked for a lock and goes on
-  pub asks_sound : (a : ℕ) (old new : PassView) (log : Room) → IsSound word_count good desk began old log None
-      → new.table ≡ old.table → Asks a old.view new.view → new.view.met ≡ [] → WentOn old.view new.view
-      → IsSound word_count good desk began new log None
-  asks_sound a old new log s table asks judged went = record {
-    table = table ∙ s.table;
-    words = ap (λ (v : View). length v.base) asks.rest ∙ s.words;
-    call = same_call began.view old.view new.view s.call
-        (asks_same_call a old.view new.view asks (saw_same (number old.view) old.view.seen new.view.seen (ap (λ (v : View). v.seen) went)));
-    stands = runs_on began.view old.view new.view s.stands (ap (λ (v : View). v.phase) went) (ap (λ (v : View). v.abandoned) went);
-    judged = judged;
-    log_is = s.log_is ∙ ap (λ (v : View). v.undo) (sym asks.rest);
-    within = s.within;
-    room = s.room;
-    memory = λ e. absurd (cc);
-    fits = subst (λ (t : Trace). SomeFits (word_count desk.shape) (good desk.shape) t) (ap (λ (v : View). v.trace) (sym asks.rest)) s.fits;
-  }
+  -- the attempt asked for a lock, and goes on with a load
+  pub asks_table : (a : ℕ) (old new : PassView) (log : Room) → IsSound word_count good desk began old log None → new.table ≡ old.table → Asks a old.view new.view → WentOn old.view new.view
+      → (new.table ≡ desk.table) × (new.view.phase ≡ Running) × (length new.view.base ≡ word_count desk.shape)
+  asks_table a old new log s table asks went =
+      (table ∙ s.table, ap (λ (v : View). v.phase) went ∙ s.stands.phase, ap (λ (v : View). length v.base) asks.rest ∙ s.words)
 
   -- the attempt did something to words
   pub events_sound : (trace : Trace) (notes : Notes) (old new : PassView) (log later : Room) → IsSound word_count good desk began old log None
       → new.table ≡ old.table → new.view ≡ with_events trace notes old.view → later.list ≡ notes
       → All (λ note. note.0 < word_count desk.shape) later.list → UNDO_ROOM ≤ later.spare + length later.list
-      → SomeFits (word_count desk.shape) (good desk.shape) trace → IsSound word_count good desk began new later None
-  events_sound trace notes old new log later s table e list within room fits = record {
+      → ReadsHistory (IsGood (word_count desk.shape) (good desk.shape)) desk.seats desk.base new.view → (more : Trace) → trace ≡ old.view.trace ++ more → IsSound word_count good desk began new later None
+  events_sound trace notes old new log later s table e list within room fits more longer = record {
     table = table ∙ s.table;
     words = ap (λ (v : View). length v.base) e ∙ s.words;
     call = same_call began.view old.view new.view s.call (events_same_call trace notes old.view new.view e);
@@ -179,7 +193,11 @@ module _ {S : Type 0} (word_count : S → ℕ) (good : S → List ℕ → Type 0
     within = within;
     room = room;
     memory = λ h. absurd (cc);
-    fits = subst (λ (t : Trace). SomeFits (word_count desk.shape) (good desk.shape) t) (ap (λ (v : View). v.trace) (sym e)) fits;
+    fits = some_fits (word_count desk.shape) (good desk.shape) desk.seats desk.base new.view fits;
+    current = λ runs. fits;
+    footprint =
+        footprint_events old.view new.view more (ap (λ (v : View). v.trace) e ∙ longer) (ap (λ (v : View). v.abandoned) e) (ap (λ (v : View). v.meetings) e) (ap (λ (v : View). v.asked) e)
+        s.footprint;
   }
 
   -- the attempt found no memory
@@ -196,14 +214,9 @@ module _ {S : Type 0} (word_count : S → ℕ) (good : S → List ℕ → Type 0
     room = s.room;
     memory = λ e. full;
     fits = s.fits;
+    footprint = s.footprint;
+    current = s.current;
   }
-
-  -- a word was loaded
-  pub load_sound : (a x : ℕ) (old new : PassView) (log : Room) → IsSound word_count good desk began old log None
-      → new.table ≡ old.table → new.view ≡ record old.view { trace = old.view.trace ++ Read a x ∷ [] }
-      → SomeFits (word_count desk.shape) (good desk.shape) new.view.trace → IsSound word_count good desk began new log None
-  load_sound a x old new log s table e fits = events_sound (old.view.trace ++ Read a x ∷ []) old.view.undo old new log log s table e s.log_is s.within s.room
-      (subst (λ (t : Trace). SomeFits (word_count desk.shape) (good desk.shape) t) (ap (λ (v : View). v.trace) e) fits)
 
   -- a word that was just loaded was noted and stored
   pub store_sound : (a x was : ℕ) (before : Trace) (old new : PassView) (log later : Room) → IsSound word_count good desk began old log None → a < word_count desk.shape
@@ -217,13 +230,28 @@ module _ {S : Type 0} (word_count : S → ℕ) (good : S → List ℕ → Type 0
       (list ∙ ap (λ (l : Notes). l ++ (a, was) ∷ []) s.log_is)
       (subst (λ (l : Notes). All (λ note. note.0 < word_count desk.shape) l) (sym list) (All-append (λ note. note.0 < word_count desk.shape) log.list ((a, was) ∷ []) s.within (one_within a was (word_count desk.shape) within)))
       (let long : length later.list ≡ length log.list + 1 = ap (λ (l : Notes). length l) list ∙ length-append log.list ((a, was) ∷ []) in let room = s.room in omega arith)
-      (s.fits.0, fits_write (word_count desk.shape) (good desk.shape) old.view.trace s.fits.0 a x s.fits.1)
+      (subst (λ (v : View). ReadsHistory (IsGood (word_count desk.shape) (good desk.shape)) desk.seats desk.base v) (sym step)
+      (reads_write (word_count desk.shape) (good desk.shape) desk.seats desk.base (number old.view) a x old.view (s.current s.stands.phase))) (Write a x ∷ []) refl
 
   -- the lock was asked for and is held, and the word was loaded
   pub held_sound : (a x : ℕ) (old mid new : PassView) (log : Room) (halted : Option Halt) → stop_of halted ≡ None → IsSound word_count good desk began old log halted
       → mid.table ≡ old.table → Asks a old.view mid.view → mid.view.met ≡ [] → WentOn old.view mid.view
       → new.table ≡ mid.table → new.view ≡ record mid.view { trace = mid.view.trace ++ Read a x ∷ [] }
-      → SomeFits (word_count desk.shape) (good desk.shape) new.view.trace → IsSound word_count good desk began new log None
-  held_sound a x old mid new log halted going s table asks judged went same event fits =
-      let none = subst (λ (h : Option Halt). IsSound word_count good desk began old log h) (not_halted halted going) s in
-      load_sound a x mid new log (asks_sound a old mid log none table asks judged went) same event fits
+      → ReadsHistory (IsGood (word_count desk.shape) (good desk.shape)) desk.seats desk.base new.view → IsSound word_count good desk began new log None
+  held_sound a x old mid new log halted going held table asks judged went same event fits =
+      let s : IsSound word_count good desk began old log None = subst (λ (h : Option Halt). IsSound word_count good desk began old log h) (not_halted halted going) held in
+      let on = events_same_call (mid.view.trace ++ Read a x ∷ []) mid.view.undo mid.view new.view event in record {
+        table = same ∙ (table ∙ s.table);
+        words = ap (λ (v : View). length v.base) event ∙ (ap (λ (v : View). length v.base) asks.rest ∙ s.words);
+        call = same_call began.view mid.view new.view
+            (same_call began.view old.view mid.view s.call (asks_same_call a old.view mid.view asks (saw_same (number old.view) old.view.seen mid.view.seen (ap (λ (v : View). v.seen) went)))) on;
+        stands = runs_on began.view old.view new.view s.stands (ap (λ (v : View). v.phase) event ∙ ap (λ (v : View). v.phase) went) (ap (λ (v : View). v.abandoned) event ∙ ap (λ (v : View). v.abandoned) went);
+        judged = ap (λ (v : View). v.met) event ∙ judged;
+        log_is = s.log_is ∙ (ap (λ (v : View). v.undo) (sym asks.rest) ∙ ap (λ (v : View). v.undo) (sym event));
+        within = s.within;
+        room = s.room;
+        memory = λ e. absurd (cc);
+        fits = some_fits (word_count desk.shape) (good desk.shape) desk.seats desk.base new.view fits;
+        current = λ runs. fits;
+        footprint = footprint_loaded a x old.view mid.view new.view asks went event s.footprint;
+      }

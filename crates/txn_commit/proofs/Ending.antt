@@ -1,12 +1,17 @@
 -- How a transaction begins and ends.
-use Rattle.std.proofs.Common.{◌≡◌, ℕ, ◌+◌, ◌<◌, ◌≤◌, Bool, true, List, [], ◌∷◌, ◌++◌, length, length-append, slice_index, All, Option, None, Some, refl, sym, ap, ◌∙◌, subst, arith}
+use Rattle.std.proofs.Common.{◌≡◌, ◌≢◌, ℕ, ◌+◌, ◌<◌, ◌≤◌, Bool, true, false, List, [], ◌∷◌, ◌++◌, length, length-append, slice_index, All, Option, None, Some, Result, Ok, Err, OnErr, refl, sym, ap, ◌∙◌, subst, arith}
 use Rattle.history_model.specs.declared.entry.Abandoned.{Abandoned}
 use Rattle.history_model.specs.declared.entry.Entry.{Entry}
 use Rattle.history_model.specs.declared.view.View.{View}
 use Rattle.history_model.specs.declared.event.Cause.{Cause}
-use Rattle.history_model.specs.Fitting.{Fits, SomeFits}
+use Rattle.history_model.specs.declared.view.Phase.{Phase}
+use Rattle.history_model.specs.declared.view.Phase.TheVariants.{Idle}
+use Rattle.history_model.specs.Counts.{is_attempt}
+use Rattle.history_model.specs.Fitting.{Fits, IsGood}
+use Rattle.history_model.specs.Legal.{IsPrefix, AreAttemptsLegal}
+use Rattle.history_model.specs.Table.{history_of}
 use Rattle.history_model.specs.Histories.{replay}
-use Rattle.history_model.specs.Traces.{Trace, after}
+use Rattle.history_model.specs.Traces.{Trace, after, IsLegalTrace}
 use Rattle.history_model.specs.Sets.{has}
 use Rattle.history_model.specs.Views.{number}
 use Rattle.history_model.proofs.SetLemmas.{has-join_same}
@@ -14,8 +19,8 @@ use Rattle.locks_rule.specs.Actions.{Action}
 use Rattle.stamps_rule.specs.Stamps.{AreRestartsBounded}
 use Rattle.values_rule.specs.Steps.{begin_call_action, clear_stamp_action, entry_of}
 use Rattle.undo_log.specs.Room.{Room}
-use Rattle.word_table.specs.Calls.{CommitsAt}
-use Rattle.word_table.specs.Copies.{PassView}
+use Rattle.word_table.specs.Calls.{CommitsAt, ReadsHistory}
+use Rattle.word_table.specs.Copies.{HoldsNothing, PassView}
 use Rattle.word_table.specs.Desks.{DeskHolds, DeskView}
 use Rattle.word_table.specs.Kinds.{TakenIn}
 use Rattle.txn_commit.specs.declared.attempt.TheConstants.{UNDO_ROOM}
@@ -24,8 +29,10 @@ use Rattle.txn_commit.specs.declared.attempt.Halt.{Halt}
 use Rattle.txn_commit.specs.declared.attempt.Halt.TheVariants as halt
 use Rattle.txn_commit.specs.Attempts.{GaveWayTo, IsSound, Runs, SameCall, StandsAs, start_of}
 use Rattle.txn_commit.specs.Inner.Releasing.{Releases, Undoes}
-use Rattle.txn_commit.specs.Transactions.{EndsWithoutEntry, GainsOthers, GetsEntry, HoldsNothing}
-use Rattle.txn_commit.proofs.Attempts.{same_call}
+use Rattle.txn_commit.specs.Transactions.{AsksItsFootprint, EndsWithoutEntry, GainsOthers, GetsEntry, LeavesFootprint, ReadOneState}
+use Rattle.txn_commit.proofs.Attempts.{same_call, some_fits}
+use Rattle.txn_commit.proofs.Footprints.{asked_none, footprint_same, still_its_footprint}
+use Rattle.txn_commit.proofs.Releasing.{still_begun}
 use Rattle.txn_commit.proofs.Others.{gains_history, gains_more, gains_none}
 
 -- a call that is over has as few attempts that gave way as before
@@ -50,13 +57,44 @@ module _ {S : Type 0} (word_count : S → ℕ) (good : S → List ℕ → Type 0
   pub words_counted : (j : ℕ) → TakenIn (DeskHolds word_count good desk) action old found new → old.who ≡ j ∷ [] → length old.base ≡ word_count desk.shape
   words_counted j t one = ap (λ (l : List ℕ). length l) (t.holds.locks.bases_alike t.place j old (record { knows = t.knows; named = named old j one })) ∙ t.holds.values.history.base_good.count
 
+  -- and its attempts that gave way read one state each
+  pub one_state : TakenIn (DeskHolds word_count good desk) action old found new → old.phase ≢ Idle
+      → ReadOneState (IsGood (word_count desk.shape) (good desk.shape)) desk.seats desk.base old
+  one_state t begun = let alone = t.holds.values.calls.callers_alone t.place old t.knows begun in record {
+    history = history_of t.views;
+    legal = t.holds.values.history.legal;
+    begins = t.holds.values.seen.seen_begin t.place old t.knows;
+    stamp = old.stamp;
+    attempts =
+        subst (λ (j : ℕ). AreAttemptsLegal desk.seats desk.base (history_of t.views) j old.stamp old.floor (length old.seen) old.abandoned)
+        (sym (ap (λ (l : List ℕ). slice_index l 0) alone.1)) (t.holds.values.floor.attempts t.place alone.0 old t.knows alone.1 begun);
+  }
+
+-- what an error says of several things
+pub both_on_err : {A E : Type 0} (P Q : Type 0) (r : Result A E) → OnErr r P → OnErr r Q → OnErr r (P × Q)
+both_on_err P Q (Ok x) p q = p
+both_on_err P Q (Err x) p q = (p, q)
+
+attempt_begun : (p : Phase) → is_attempt p ≡ true → p ≢ Idle
+attempt_begun p t e = let z : true ≡ false = sym t ∙ ap is_attempt e in cc
+
+-- a view that has seen the same and whose attempt did the same
+pub still_reads : (good : List ℕ → Type 0) (n : ℕ) (base : List ℕ) (old new : View) → new.seen ≡ old.seen → new.trace ≡ old.trace → ReadsHistory good n base old → ReadsHistory good n base new
+still_reads good n base old new seen trace r = record {
+  history = r.history;
+  legal = r.legal;
+  begins = subst (λ (l : List Entry). IsPrefix l r.history) (sym seen) r.begins;
+  left_good = r.left_good;
+  fits = subst (λ (t : Trace). IsLegalTrace t (replay base r.history)) (sym trace) r.fits;
+}
+
 none_within : (n : ℕ) → All (λ (note : ℕ × ℕ). note.0 < n) []
 none_within n k d lt = absurd (omega arith)
 
 -- a call was begun, and has done nothing yet
 pub begins_sound : {S : Type 0} (word_count : S → ℕ) (good : S → List ℕ → Type 0) (desk : DeskView S) (old : View) (began new : PassView) (log : Room)
     → began ≡ new → new.table ≡ desk.table → length old.base ≡ word_count desk.shape → new.view ≡ (begin_call_action (number old) old).view [] 0
-    → log.list ≡ [] → UNDO_ROOM ≤ log.spare → SomeFits (word_count desk.shape) (good desk.shape) new.view.trace
+    → log.list ≡ [] → UNDO_ROOM ≤ log.spare → ReadsHistory (IsGood (word_count desk.shape) (good desk.shape)) desk.seats desk.base new.view
     → IsSound word_count good desk began new log None
 begins_sound word_count good desk old began new log same table words step empty room fits = record {
   table = table;
@@ -74,20 +112,44 @@ begins_sound word_count good desk old began new log same table words step empty 
   within = subst (λ (l : List (ℕ × ℕ)). All (λ note. note.0 < word_count desk.shape) l) (sym empty) (none_within (word_count desk.shape));
   room = let none : length log.list ≡ 0 = ap (λ (l : List (ℕ × ℕ)). length l) empty in omega arith;
   memory = λ e. absurd (cc);
-  fits = fits;
+  fits = some_fits (word_count desk.shape) (good desk.shape) desk.seats desk.base new.view fits;
+  current = λ runs. fits;
+  footprint = asked_none new.view (ap (λ (v : View). v.asked) step);
 }
 
+pub ends_holding_nothing : (j : ℕ) (old new : View) → HoldsNothing old → new ≡ (clear_stamp_action j old).view [] 0 → HoldsNothing new
+ends_holding_nothing j old new nothing clear = subst (λ (v : View). HoldsNothing v) (sym clear) (record { no_bit = nothing.no_bit; no_claim = nothing.no_claim })
+
 -- a call ended without an entry: its locks were released, and it is over
-pub ends_without : (n j : ℕ) (old began given_up released new : View) → began ≡ (begin_call_action (number old) old).view [] 0
-    → GainsOthers (number began) began.seen given_up.seen → given_up.call ≡ old.call + 1 → Releases given_up released
-    → HoldsNothing released → AreRestartsBounded n (number released) released → new ≡ (clear_stamp_action j released).view [] 0 → EndsWithoutEntry n old new
-ends_without n j old began given_up released new begin gains call rel nothing bounded clear = record {
+pub ends_without : {S : Type 0} (word_count : S → ℕ) (good : S → List ℕ → Type 0) (desk : DeskView S) (j found : ℕ) (old began given_up released new : View) → began ≡ (begin_call_action (number old) old).view [] 0
+    → GainsOthers (number began) began.seen given_up.seen × (given_up.floor ≡ began.floor) × (is_attempt given_up.phase ≡ true) × LeavesFootprint given_up × ReadsHistory (IsGood (word_count desk.shape) (good desk.shape)) desk.seats desk.base given_up → given_up.call ≡ old.call + 1 → Releases given_up released
+    → HoldsNothing released → AreRestartsBounded desk.seats (number released) released → new ≡ (clear_stamp_action j released).view [] 0
+    → TakenIn (DeskHolds word_count good desk) (clear_stamp_action j released) released found new
+    → EndsWithoutEntry (IsGood (word_count desk.shape) (good desk.shape)) desk.seats desk.base old new
+ends_without word_count good desk j found old began given_up released new begin up call rel nothing bounded clear taken = record {
   seen = subst (λ (l : List Entry). GainsOthers (number old) old.seen l) (sym (ap (λ (v : View). v.seen) clear ∙ ap (λ (v : View). v.seen) rel.rest))
-      (subst (λ (v : View). GainsOthers (number v) v.seen given_up.seen) begin gains);
+      (subst (λ (v : View). GainsOthers (number v) v.seen given_up.seen) begin up.0);
   call = ap (λ (v : View). v.call) clear ∙ (ap (λ (v : View). v.call) rel.rest ∙ call);
-  nothing = subst (λ (v : View). HoldsNothing v) (sym clear) (record { no_bit = nothing.no_bit; no_claim = nothing.no_claim });
-  bounded = ends_bounded n j released new bounded clear;
+  floor = ap (λ (v : View). v.floor) clear ∙ (ap (λ (v : View). v.floor) rel.rest ∙ (up.1 ∙ ap (λ (v : View). v.floor) begin));
+  nothing = ends_holding_nothing j released new nothing clear;
+  bounded = ends_bounded desk.seats j released new bounded clear;
+  opaque =
+      let one = one_state word_count good desk (clear_stamp_action j released) released found new taken (still_begun given_up released rel (attempt_begun given_up.phase up.2)) in
+      subst (λ (v : View). ReadOneState (IsGood (word_count desk.shape) (good desk.shape)) desk.seats desk.base v) (sym clear)
+      (record { history = one.history; legal = one.legal; begins = one.begins; stamp = one.stamp; attempts = one.attempts });
+  footprint =
+      footprint_same given_up new (ap (λ (v : View). v.trace) clear ∙ ap (λ (v : View). v.trace) rel.rest) (ap (λ (v : View). v.abandoned) clear ∙ ap (λ (v : View). v.abandoned) rel.rest)
+      (ap (λ (v : View). v.meetings) clear ∙ ap (λ (v : View). v.meetings) rel.rest) (ap (λ (v : View). v.asked) clear ∙ ap (λ (v : View). v.asked) rel.rest) up.3;
+  last =
+      still_reads (IsGood (word_count desk.shape) (good desk.shape)) desk.seats desk.base given_up new (ap (λ (v : View). v.seen) clear ∙ ap (λ (v : View). v.seen) rel.rest)
+      (ap (λ (v : View). v.trace) clear ∙ ap (λ (v : View). v.trace) rel.rest) up.4;
 }
+
+-- a call that has its entry was over, once its locks were released
+pub ends_with_footprint : (j : ℕ) (committed released new : View) → Releases committed released → new ≡ (clear_stamp_action j released).view [] 0 → AsksItsFootprint committed → AsksItsFootprint new
+ends_with_footprint j committed released new rel clear = still_its_footprint committed new
+    (ap (λ (v : View). v.seen) clear ∙ ap (λ (v : View). v.seen) rel.rest) (ap (λ (v : View). v.asked) clear ∙ ap (λ (v : View). v.asked) rel.rest)
+    (ap (λ (v : View). v.meetings) clear ∙ ap (λ (v : View). v.meetings) rel.rest)
 
 -- an attempt was committed
 pub gets_entry : {A : Type 0} (word_count : ℕ) (good : List ℕ → Type 0) (base : List ℕ) (means : List ℕ → Bool → A → List ℕ → Type 0) (kept : Bool) (call : ℕ) (first old new : View) (receipt : Receipt A)

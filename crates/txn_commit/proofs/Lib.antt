@@ -2,6 +2,8 @@
 pub mod Others
 -- giving up locks and undoing writes
 pub mod Releasing
+-- which words a call asked for
+pub mod Footprints
 -- an attempt between two of its calls
 pub mod Attempts
 -- how a transaction begins and ends

@@ -4,20 +4,21 @@ use Rattle.history_model.specs.declared.entry.Abandoned.{Abandoned}
 use Rattle.history_model.specs.declared.event.Cause.{Cause}
 use Rattle.history_model.specs.declared.view.View.{View}
 use Rattle.history_model.specs.declared.view.Phase.TheVariants.{Running, Yielding}
-use Rattle.history_model.specs.Fitting.{SomeFits}
+use Rattle.history_model.specs.Fitting.{IsGood, SomeFits}
 use Rattle.history_model.specs.Views.{number}
 use Rattle.stamps_rule.specs.Causes.{newest, past_causes}
 use Rattle.stamps_rule.specs.Stamps.{AreRestartsBounded}
 use Rattle.txn_words.specs.declared.words.Stop.{Stop}
 use Rattle.txn_words.specs.declared.words.Stop.TheVariants as stop
 use Rattle.undo_log.specs.Room.{Room}
+use Rattle.word_table.specs.Calls.{ReadsHistory}
 use Rattle.word_table.specs.Copies.{PassView}
 use Rattle.word_table.specs.Desks.{DeskView}
 use Rattle.txn_commit.specs.declared.attempt.Halt.{Halt}
 use Rattle.txn_commit.specs.declared.attempt.Halt.TheVariants as halt
 use Rattle.txn_commit.specs.declared.attempt.Start.{Start}
 use Rattle.txn_commit.specs.declared.attempt.TheConstants.{UNDO_ROOM}
-use Rattle.txn_commit.specs.Transactions.{GainsOthers, SameSeat}
+use Rattle.txn_commit.specs.Transactions.{GainsOthers, LeavesFootprint, SameSeat}
 
 -- the stop that the job is answered
 abbrev pub stop_of : Option Halt → Option Stop
@@ -46,6 +47,7 @@ pub record Runs (began now : View) : Type 0 where
 pub record GaveWayTo (n : ℕ) (cause : Cause) (began now : View) : Type 0 where
   pub phase : now.phase ≡ Yielding
   pub abandoned : (attempt : Abandoned) × (now.abandoned ≡ began.abandoned ++ attempt ∷ [])
+      × (attempt.cause ≡ cause) × (attempt.trace ≡ now.trace)
   pub last : newest (past_causes now) ≡ Some cause
   pub seat : cause.seat < now.seats
   pub bounded : AreRestartsBounded n (number now) now
@@ -70,3 +72,6 @@ pub record IsSound {S : Type 0} (word_count : S → ℕ) (good : S → List ℕ 
   -- no memory was found only where that room was full
   pub memory : halted ≡ Some halt.Memory → UNDO_ROOM ≤ length log.list
   pub fits : SomeFits (word_count desk.shape) (good desk.shape) pass.view.trace
+  pub footprint : LeavesFootprint pass.view
+  -- until it gives way, what it did is legal on what the committed history leaves
+  pub current : pass.view.phase ≡ Running → ReadsHistory (IsGood (word_count desk.shape) (good desk.shape)) desk.seats desk.base pass.view

@@ -1,12 +1,17 @@
 -- What a transaction comes to: one entry of the history, or none where there was no memory.
-use Rattle.std.specs.Prelude.{◌≡◌, ◌≢◌, ℕ, ◌+◌, Bool, List, [], ◌∷◌, ◌++◌, length}
+use Rattle.std.specs.Prelude.{◌≡◌, ◌≢◌, ◌⊎◌, ℕ, ◌+◌, Bool, true, List, [], ◌∷◌, ◌++◌, length}
+use Rattle.history_model.specs.declared.entry.Abandoned.{Abandoned}
 use Rattle.history_model.specs.declared.entry.Entry.{Entry}
 use Rattle.history_model.specs.declared.view.View.{View}
 use Rattle.history_model.specs.Histories.{replay}
-use Rattle.history_model.specs.Legal.{IsIn}
-use Rattle.history_model.specs.Traces.{after}
-use Rattle.history_model.specs.Views.{number, HasBit, HasClaim}
+use Rattle.history_model.specs.Legal.{IsIn, IsPrefix, AreAttemptsLegal, IsLegalHistory}
+use Rattle.history_model.specs.Locks.{lock_of_word}
+use Rattle.history_model.specs.Sets.{has, has_pair}
+use Rattle.history_model.specs.Traces.{Trace, Touches, after}
+use Rattle.history_model.specs.Views.{number}
 use Rattle.stamps_rule.specs.Stamps.{AreRestartsBounded}
+use Rattle.word_table.specs.Calls.{ReadsHistory}
+use Rattle.word_table.specs.Copies.{HoldsNothing}
 use Rattle.txn_commit.specs.declared.transaction.Receipt.{Receipt}
 
 -- no entry of the list is by this seat
@@ -40,14 +45,41 @@ pub record SameSeat (old new : View) : Type 0 where
   pub base : new.base ≡ old.base
   pub seats : new.seats ≡ old.seats
 
--- no lock is held, and none is asked for
-pub record HoldsNothing (v : View) : Type 0 where
-  pub no_bit : (k : ℕ) → ¬ HasBit v k
-  pub no_claim : (k : ℕ) → ¬ HasClaim v k
+-- the word is one that the attempt touches, or one that an attempt before it touched, or it shares its lock with one at
+-- which such an attempt gave way: there it met the call to which it gave way
+abbrev pub IsFootprint : Trace → List Abandoned → List (ℕ × ℕ) → ℕ → Type 0
+IsFootprint trace abandoned meetings a =
+    Touches trace a
+    ⊎ ((x : Abandoned) × IsIn x abandoned × (Touches x.trace a ⊎ (has_pair (lock_of_word a) x.cause.seat meetings ≡ true)))
 
--- a call was made that has no entry; its attempts that gave way were as few as ever
-pub record EndsWithoutEntry (n : ℕ) (old new : View) : Type 0 where
+-- the call asked for the locks of no other words
+abbrev pub LeavesFootprint : View → Type 0
+LeavesFootprint v = (a : ℕ) → has a v.asked ≡ true → IsFootprint v.trace v.abandoned v.meetings a
+
+-- the same of a call that has its entry, which is the last that the seat has seen
+pub record AsksItsFootprint (v : View) : Type 0 where
+  pub earlier : List Entry
+  pub entry : Entry
+  pub last : v.seen ≡ earlier ++ entry ∷ []
+  pub asked : (a : ℕ) → has a v.asked ≡ true → IsFootprint entry.trace entry.abandoned v.meetings a
+
+-- each attempt of the call that gave way read what one part of the committed history leaves of the base: a part that has
+-- all that the seat had seen as the call began, and nothing that it has not seen by now
+pub record ReadOneState (good : List ℕ → Type 0) (n : ℕ) (base : List ℕ) (v : View) : Type 0 where
+  pub history : List Entry
+  pub legal : IsLegalHistory good n base history
+  pub begins : IsPrefix v.seen history
+  pub stamp : ℕ
+  pub attempts : AreAttemptsLegal n base history (number v) stamp v.floor (length v.seen) v.abandoned
+
+-- a call was made that has no entry; its attempts that gave way were as few as ever, and all of them were opaque, the last
+-- one too, which came to nothing
+pub record EndsWithoutEntry (good : List ℕ → Type 0) (n : ℕ) (base : List ℕ) (old new : View) : Type 0 where
   pub seen : GainsOthers (number old) old.seen new.seen
   pub call : new.call ≡ old.call + 1
+  pub floor : new.floor ≡ length old.seen
   pub nothing : HoldsNothing new
   pub bounded : AreRestartsBounded n (number new) new
+  pub opaque : ReadOneState good n base new
+  pub last : ReadsHistory good n base new
+  pub footprint : LeavesFootprint new

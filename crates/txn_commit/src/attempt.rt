@@ -1,9 +1,10 @@
 //! One attempt of a transaction, as the words that its job reads and writes.
 
-ghost use Rattle.std.specs.Prelude.{◌≡◌, ◌≢◌, ◌<◌, [], length};
+ghost use Rattle.std.specs.Prelude.{◌≡◌, ◌≢◌, ◌<◌, [], length, true};
 ghost use Rattle.history_model.specs.Locks.{lock_of_word};
+ghost use Rattle.history_model.specs.Sets.{has_pair};
 ghost use Rattle.history_model.specs.Views.{number, HasWriteGrant, IsGranted};
-ghost use Rattle.lock_or_yield.specs.Asking.{Asks, WentOn};
+ghost use Rattle.lock_or_yield.specs.Asking.{Asks, AsksToRead, AsksToWrite, WentOn};
 ghost use Rattle.txn_commit.specs.Attempts.{GaveWayTo};
 ghost use Rattle.txn_commit.specs.Transactions.{GainsOthers};
 
@@ -90,11 +91,12 @@ fn ask_to_read<R: Wait, S: Shape>(rt: &R, desk: &Desk<S>, pass: &mut Pass<S>, a:
     requires judged { pass.old.view.met ≡ [] }
     ensures desk { pass.new.table ≡ pass.old.table }
     ensures asks { Asks a pass.old.view pass.new.view }
-    ensures claims { pass.new.view.claims ≡ pass.old.view.claims }
+    ensures reads { AsksToRead (lock_of_word a) pass.old.view pass.new.view }
     ensures judged { pass.new.view.met ≡ [] }
     ensures yields { (cause : Cause) → result ≡ Asked.Yield cause
         → GaveWayTo desk.now.seats cause pass.old.view pass.new.view
-        × GainsOthers (number pass.old.view) pass.old.view.seen pass.new.view.seen }
+        × GainsOthers (number pass.old.view) pass.old.view.seen pass.new.view.seen
+        × (has_pair (lock_of_word a) cause.seat pass.new.view.meetings ≡ true) }
     ensures goes_on { ((cause : Cause) → result ≢ Asked.Yield cause)
         → IsGranted pass.new.view (lock_of_word a) × WentOn pass.old.view pass.new.view }
 {
@@ -116,10 +118,12 @@ fn ask_to_write<R: Wait, S: Shape>(rt: &R, desk: &Desk<S>, pass: &mut Pass<S>, a
     requires judged { pass.old.view.met ≡ [] }
     ensures desk { pass.new.table ≡ pass.old.table }
     ensures asks { Asks a pass.old.view pass.new.view }
+    ensures writes { AsksToWrite (lock_of_word a) pass.old.view pass.new.view }
     ensures judged { pass.new.view.met ≡ [] }
     ensures yields { (cause : Cause) → result ≡ Asked.Yield cause
         → GaveWayTo desk.now.seats cause pass.old.view pass.new.view
-        × GainsOthers (number pass.old.view) pass.old.view.seen pass.new.view.seen }
+        × GainsOthers (number pass.old.view) pass.old.view.seen pass.new.view.seen
+        × (has_pair (lock_of_word a) cause.seat pass.new.view.meetings ≡ true) }
     ensures goes_on { ((cause : Cause) → result ≢ Asked.Yield cause)
         → HasWriteGrant pass.new.view (lock_of_word a) × WentOn pass.old.view pass.new.view }
 {
@@ -178,7 +182,7 @@ impl<'a, S: Shape, G: Gate, R: Wait> Words for Attempt<'a, S, G, R> {
 
         ensures memory { result ≢ Err Memory }
         ensures asked { GainsAtMost a self.old.pass.now.view.asked self.new.pass.now.view.asked }
-        ensures claims { self.new.pass.now.view.claims ≡ self.old.pass.now.view.claims }
+        ensures reads { AsksToRead (lock_of_word a) self.old.pass.now.view self.new.pass.now.view }
     {
         match ask_to_read(self.rt, self.desk, self.pass, a) {
             Asked::Held => {}
@@ -216,6 +220,7 @@ impl<'a, S: Shape, G: Gate, R: Wait> Words for Attempt<'a, S, G, R> {
 
         ensures memory { 0 < self.old.undo.spare → result ≢ Err Memory }
         ensures asked { GainsAtMost a self.old.pass.now.view.asked self.new.pass.now.view.asked }
+        ensures writes { AsksToWrite (lock_of_word a) self.old.pass.now.view self.new.pass.now.view }
     {
         match ask_to_write(self.rt, self.desk, self.pass, a) {
             Asked::Held => {}

@@ -2,8 +2,8 @@
 
 ghost use Rattle.std.specs.Prelude.{◌≡◌, ◌≢◌, ◌⊎◌, ℕ, []};
 ghost use Rattle.history_model.specs.Views.{HasBit, HasClaim};
+ghost use Rattle.word_table.specs.Copies.{HoldsNothing};
 ghost use Rattle.txn_commit.specs.Inner.Releasing.{Releases};
-ghost use Rattle.txn_commit.specs.Transactions.{HoldsNothing};
 
 use history_model::{Phase, Shape};
 use word_table::{Desk, Pass};

@@ -2,16 +2,17 @@
 
 ghost use Rattle.std.specs.Prelude.{◌≡◌, ℕ, ◌+◌, ◌<◌, ◌≤◌, [], ◌++◌, ◌∷◌, List, length, true, false, None, Some, Ok, IfOk, IfErr, OnErr, OnOk, ◌⊎◌};
 ghost use Rattle.history_model.specs.Counts.{is_attempt};
-ghost use Rattle.history_model.specs.Fitting.{Fits, IsGood, SomeFits};
+ghost use Rattle.history_model.specs.Fitting.{Fits, IsGood};
 ghost use Rattle.history_model.specs.Legal.{IsLegalHistory};
 ghost use Rattle.history_model.specs.Traces.{after};
 ghost use Rattle.history_model.specs.Views.{number};
 ghost use Rattle.stamps_rule.specs.Causes.{newest, past_causes};
 ghost use Rattle.txn_words.specs.Verdicts.{is_kept, answer_of};
-ghost use Rattle.word_table.specs.Calls.{CommitsAt};
+ghost use Rattle.word_table.specs.Calls.{CommitsAt, ReadsHistory};
+ghost use Rattle.word_table.specs.Copies.{HoldsNothing};
 ghost use Rattle.word_table.specs.declared.limits.TheConstants.{LAST_CALL};
 ghost use Rattle.txn_commit.specs.Attempts.{IsSound, SameCall, stop_of};
-ghost use Rattle.txn_commit.specs.Transactions.{EndsWithoutEntry, GainsOthers, GetsEntry, HoldsNothing, SameSeat};
+ghost use Rattle.txn_commit.specs.Transactions.{AsksItsFootprint, EndsWithoutEntry, GainsOthers, GetsEntry, LeavesFootprint, SameSeat};
 
 use crate::attempt::{Attempt, Caller, Halt, UNDO_ROOM, tell};
 use crate::release::release_all;
@@ -54,7 +55,8 @@ fn wait_out<R: Wait, S: Shape>(rt: &R, desk: &Desk<S>, pass: &mut Pass<S>, cause
       trace = [];
       waits = pass.new.view.waits;
     } }
-    ensures fits { SomeFits (S.word_count desk.now.shape) (S.good desk.now.shape) [] }
+    ensures fits { ReadsHistory (IsGood (S.word_count desk.now.shape) (S.good desk.now.shape))
+        desk.now.seats desk.now.base pass.new.view }
 {
     let backoff = Backoff::new();
     for _ in rt.forever() {
@@ -167,7 +169,13 @@ fn run_attempts<S: Shape, G: Gate, R: Wait, J: Job<Shape = S>>(
     ensures committed { OnOk result (attempt.new.pass.now.view.phase ≡ Phase.Releasing) }
     ensures others { OnErr result (GainsOthers (number attempt.old.pass.now.view)
         attempt.old.pass.now.view.seen attempt.new.pass.now.view.seen) }
+    ensures floor { OnErr result (attempt.new.pass.now.view.floor ≡ attempt.old.pass.now.view.floor) }
     ensures given_up { OnErr result (is_attempt attempt.new.pass.now.view.phase ≡ true) }
+    ensures footprint { OnOk result (AsksItsFootprint attempt.new.pass.now.view) }
+    ensures left { OnErr result (LeavesFootprint attempt.new.pass.now.view) }
+    ensures last { OnErr result (ReadsHistory
+        (IsGood (S.word_count attempt.old.desk.now.shape) (S.good attempt.old.desk.now.shape))
+        attempt.old.desk.now.seats attempt.old.desk.now.base attempt.new.pass.now.view) }
 {
     let seats = attempt.desk.seats();
     for restarts in 0..seats {
@@ -227,7 +235,7 @@ pub fn transact<S: Shape, G: Gate, R: Wait, J: Job<Shape = S>>(
     ensures desk { pass.new.table ≡ pass.old.table }
     ensures seat { SameSeat pass.old.view pass.new.view }
     ensures idle { pass.new.view.phase ≡ Phase.Idle }
-    ensures nothing { OnOk result (HoldsNothing pass.new.view) }
+    ensures nothing { HoldsNothing pass.new.view }
     ensures call { OnOk result (pass.new.view.call ≡ pass.old.view.call + 1) }
     ensures entry { IfOk result (λ receipt. GetsEntry desk.now.base (J.means job.now)
         (number pass.old.view) (pass.old.view.call + 1)
@@ -236,9 +244,12 @@ pub fn transact<S: Shape, G: Gate, R: Wait, J: Job<Shape = S>>(
         (IsGood (S.word_count desk.now.shape) (S.good desk.now.shape))
         desk.now.seats desk.now.base pass.new.view.seen) }
     ensures few { IfOk result (λ receipt. receipt.restarts < desk.now.seats) }
+    ensures footprint { OnOk result (AsksItsFootprint pass.new.view) }
     ensures err { OnErr result ((pass.new ≡ pass.old)
-        ⊎ EndsWithoutEntry desk.now.seats pass.old.view pass.new.view) }
+        ⊎ EndsWithoutEntry (IsGood (S.word_count desk.now.shape) (S.good desk.now.shape))
+        desk.now.seats desk.now.base pass.old.view pass.new.view) }
 {
+    pass.rests();
     let undo = UndoLog::with_room(alloc, UNDO_ROOM)?;
     let seat = pass.who();
     let call = desk.begin(pass);

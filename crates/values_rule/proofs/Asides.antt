@@ -128,6 +128,7 @@ module _ (good : List ℕ → Type 0) (n : ℕ) (base ws : List ℕ) (vs : List 
     others = λ j away lt. stay j lt;
     numbered = λ j p e t alone at own. subst (λ (c : ℕ). e.call ≤ c) (sym s.call) (q.calls.entries_numbered id j p v e (mine j t s) (sym s.joined ∙ alone) at own);
     open_numbered = λ j p e t alone busy at own. subst (λ (c : ℕ). e.call < c) (sym s.call) (q.calls.open_numbered id j p v e (mine j t s) (sym s.joined ∙ alone) (s.still_open busy) at own);
+    from_one = λ busy. subst (λ (c : ℕ). 0 < c) (sym s.call) (q.calls.open_from_one id v me (s.still_open busy));
     fit = λ j lt. subst (λ (y : ℕ). y < 2 ^ 32) (sym (stay j lt)) (q.calls.calls_fit j lt);
     counted =
         let same = calls_below-same n n ws ws' stay in

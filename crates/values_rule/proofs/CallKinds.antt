@@ -40,6 +40,7 @@ begin_call_values good j n base ws vs id v h q me may =
         others = λ l away lt. there l (λ e. differ (has l v.who) (subst (λ (y : ℕ). has y v.who ≡ true) (sym e) o.seat.named) away);
         numbered = λ l p e t un at own_entry. let le = q.calls.entries_numbered id l p v e (mine l t) un at own_entry in omega arith;
         open_numbered = λ l p e t un busy at own_entry. let le = q.calls.entries_numbered id l p v e (mine l t) un at own_entry in omega arith;
+        from_one = λ busy. omega arith;
         fit = λ l lt. dite (ℕ_discrete l j) (λ e. subst (λ (y : ℕ). slice_index (slice_set ws i x) (calls_word n y) < 2 ^ 32) (sym e) (omega (arith, here, may.room))) (λ ne. subst (λ (y : ℕ). y < 2 ^ 32) (sym (there l ne)) (q.calls.calls_fit l lt));
         counted =
             let sums : calls_below n n (slice_set ws (calls_word n j) x) + slice_index ws (calls_word n j) ≡ calls_below n n ws + x = calls_below-more n n j x ws o.below long in

@@ -216,6 +216,12 @@ module _ (good : List ℕ → Type 0) (n : ℕ) (base ws : List ℕ) (vs : List 
         (λ t. absurd (let z : false ≡ true = subst (λ (y : View). is_open y.phase ≡ true) (sym t.1) busy in cc))
         (λ t. ⊎_elim (λ z. q.calls.open_numbered other i p u x (record { knows = t.1; named = s.named }) un busy z.1 own_entry) (λ z. absurd (not_theirs other i u x t.0 t.1 s.named z.1 own_entry)) (entry_cases p x at))
         (case other u s.knows);
+    entries_from_one = λ p x at. ⊎_elim
+        (λ z. q.calls.entries_from_one p x z.1)
+        (λ z. subst (λ (y : Entry). 0 < y.call) z.1 (q.calls.open_from_one id v me busy_open)) (entry_cases p x at);
+    open_from_one = λ other u k busy. ⊎_elim
+        (λ t. absurd (let z : false ≡ true = subst (λ (y : View). is_open y.phase ≡ true) (sym t.1) busy in cc))
+        (λ t. q.calls.open_from_one other u t.1 busy) (case other u k);
     calls_fit = λ i lt. subst (λ (y : ℕ). y < 2 ^ 32) (sym (call_stays i)) (q.calls.calls_fit i lt);
     counted =
         let sums = open_count-set vs id v w me in

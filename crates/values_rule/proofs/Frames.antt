@@ -39,6 +39,7 @@ pub record CallsMove (n : ℕ) (hist : List Entry) (ws ws' : List ℕ) (v w : Vi
   pub others : (j : ℕ) → has j v.who ≡ false → j < n → slice_index ws' (calls_word n j) ≡ slice_index ws (calls_word n j)
   pub numbered : (j q : ℕ) (e : Entry) → has j w.who ≡ true → w.joined ≡ false → slice_get hist q ≡ Some e → e.who ≡ j → e.call ≤ w.call
   pub open_numbered : (j q : ℕ) (e : Entry) → has j w.who ≡ true → w.joined ≡ false → is_open w.phase ≡ true → slice_get hist q ≡ Some e → e.who ≡ j → e.call < w.call
+  pub from_one : is_open w.phase ≡ true → 0 < w.call
   pub fit : (j : ℕ) → j < n → slice_index ws' (calls_word n j) < 2 ^ 32
   pub counted : flag (is_open w.phase) + calls_sum n ws ≤ flag (is_open v.phase) + calls_sum n ws'
 
@@ -160,6 +161,10 @@ module _ (good : List ℕ → Type 0) (n : ℕ) (base ws ws' : List ℕ) (vs : L
     open_numbered = λ other j p u e s alone busy at own. ⊎_elim
         (λ z. subst (λ (x : View). e.call < x.call) z.1 (m.calls.open_numbered j p e (is_mine j u z.1 s.named) (subst (λ (x : View). x.joined ≡ false) (sym z.1) alone) (subst (λ (x : View). is_open x.phase ≡ true) (sym z.1) busy) (back p e at) own))
         (λ z. q.calls.open_numbered other j p u e (record { knows = z.1; named = s.named }) alone busy (back p e at) own) (case other u s.knows);
+    entries_from_one = λ p e at. q.calls.entries_from_one p e (back p e at);
+    open_from_one = λ other u k busy. ⊎_elim
+        (λ z. subst (λ (x : View). 0 < x.call) z.1 (m.calls.from_one (subst (λ (x : View). is_open x.phase ≡ true) (sym z.1) busy)))
+        (λ z. q.calls.open_from_one other u z.1 busy) (case other u k);
     calls_fit = m.calls.fit;
     counted =
         let long : length (history_of (slice_set vs id w)) ≡ length (history_of vs) = ap (λ (l : List Entry). length l) stays in

@@ -74,6 +74,10 @@ module _ (good : List ℕ → Type 0) (n : ℕ) (base : List ℕ) (ws : List ℕ
     open_numbered = λ other i p u e s un busy at own. ⊎_elim
         (λ z. absurd (let y : true ≡ false = sym busy ∙ ap is_open z.phase in cc))
         (λ z. q.calls.open_numbered other i p u e (record { knows = z.1; named = s.named }) un busy (back p e at) own) (case other u s.knows);
+    entries_from_one = λ p e at. q.calls.entries_from_one p e (back p e at);
+    open_from_one = λ other u k busy. ⊎_elim
+        (λ z. absurd (let y : true ≡ false = sym busy ∙ ap is_open z.phase in cc))
+        (λ z. q.calls.open_from_one other u z.1 busy) (case other u k);
     calls_fit = q.calls.calls_fit;
     counted =
         let long : length (history_of vs') ≡ length (history_of vs) = ap (λ (l : List Entry). length l) r.history in

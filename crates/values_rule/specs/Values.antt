@@ -55,6 +55,9 @@ pub record CallsCounted (n : ℕ) (words : List ℕ) (views : List View) : Type 
       → slice_get (history_of views) q ≡ Some e → e.who ≡ j → e.call ≤ v.call
   pub open_numbered : (id j q : ℕ) (v : View) (e : Entry) → IsSeat views id v j → v.joined ≡ false → is_open v.phase ≡ true
       → slice_get (history_of views) q ≡ Some e → e.who ≡ j → e.call < v.call
+  -- calls are counted from 1
+  pub entries_from_one : (q : ℕ) (e : Entry) → slice_get (history_of views) q ≡ Some e → 0 < e.call
+  pub open_from_one : (id : ℕ) (v : View) → Knows views id v → is_open v.phase ≡ true → 0 < v.call
   pub calls_fit : (j : ℕ) → j < n → slice_index words (calls_word n j) < 2 ^ 32
   pub counted : length (history_of views) + open_count views ≤ calls_sum n words
 

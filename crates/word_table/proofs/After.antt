@@ -1,5 +1,5 @@
 -- A pass's copy after a step.
-use Rattle.std.proofs.Common.{◌≡◌, ℕ, ◌-◌, ◌%◌, ◌^◌, ◌/◌, ◌≤◌, Bool, true, false, List, [], ◌∷◌, length, refl, sym, ap, ◌∙◌, subst, ◌==◌, if◌then◌else◌}
+use Rattle.std.proofs.Common.{◌≡◌, ◌≢◌, ℕ, ◌-◌, ◌%◌, ◌^◌, ◌/◌, ◌≤◌, Bool, true, false, List, [], ◌∷◌, length, refl, sym, ap, ◌∙◌, subst, ◌==◌, if◌then◌else◌}
 use Rattle.std.specs.Prelude.{bit_and}
 use Rattle.std.specs.Int.{bit_at}
 use Rattle.std.proofs.lemmas.Nat.Bits.{shr_and_one}
@@ -7,13 +7,14 @@ use Rattle.atomic_table.specs.Table.{Me}
 use Rattle.atomic_table.specs.Seated.{TableId}
 use Rattle.history_model.specs.declared.view.View.{View}
 use Rattle.history_model.specs.declared.view.Phase.{Phase}
+use Rattle.history_model.specs.declared.view.Phase.TheVariants.{Idle, Running, Yielding, Withdrawing, Releasing}
 use Rattle.history_model.specs.Sets.{without_first}
 use Rattle.history_model.specs.Table.{table_words}
-use Rattle.locks_rule.specs.Steps.{is_free, load_writer_action, claim_writer_action, scan_row_action, after_asking, after_meeting}
+use Rattle.locks_rule.specs.Steps.{is_free, released_phase, load_writer_action, claim_writer_action, scan_row_action, after_asking, after_meeting}
 use Rattle.word_table.specs.declared.limits.TheConstants.{MOST_WORDS}
 use Rattle.word_table.specs.declared.copies.CallCopy.{CallCopy}
 use Rattle.word_table.specs.declared.copies.LockCopy.{LockCopy}
-use Rattle.word_table.specs.Copies.{Shows, ShowsPairs, IsLockCopy, IsCopy}
+use Rattle.word_table.specs.Copies.{Shows, ShowsPairs, HoldsNothing, IsLockCopy, IsCopy}
 
 -- what a pass relies on beside its copies
 pub record SameSeat (v w : View) : Type 0 where
@@ -31,8 +32,8 @@ steady v w eb es ew ed ec et ea = record { base = eb; seats = es; who = ew; due 
 -- a pass's copies after a step of its seat, from the seat, from the number of calls and from the copy of its locks
 pub copy_called : {call : CallCopy} {locks : LockCopy} {table : TableId} {me : Me (Unit {0}) View} → IsCopy call locks table me → (phase : Phase) (calls : ℕ) (locks' : LockCopy) (table' : TableId) (me' : Me (Unit {0}) View) (w : View)
     → table' ≡ table → me'.0 ≡ w → me'.1 ≡ me.1 → w.base ≡ me.0.base → w.seats ≡ me.0.seats → w.who ≡ me.0.who → w.due ≡ me.0.due → w.call ≡ calls → w.stamp ≡ me.0.stamp → w.announced ≡ me.0.announced → w.phase ≡ phase → IsLockCopy locks' w
-    → IsCopy (record call { phase = phase; calls = calls }) locks' table' me'
-copy_called {call} {locks} {table} {me} i phase calls locks' table' me' w et ew es eb en eo ed ec ez ea ep copy =
+    → (w.phase ≡ Idle → HoldsNothing w) → IsCopy (record call { phase = phase; calls = calls }) locks' table' me'
+copy_called {call} {locks} {table} {me} i phase calls locks' table' me' w et ew es eb en eo ed ec ez ea ep copy rests =
     subst (λ (t : TableId). IsCopy (record call { phase = phase; calls = calls }) locks' t me') (sym et) record {
       slots = es ∙ i.slots;
       no_cause = ap (λ (x : View). x.due) ew ∙ (ed ∙ i.no_cause);
@@ -52,17 +53,32 @@ copy_called {call} {locks} {table} {me} i phase calls locks' table' me' w et ew 
         announced_is = ap (λ (x : View). x.announced) ew ∙ (ea ∙ i.call_is.announced_is);
       };
       locks_are = subst (λ (x : View). IsLockCopy locks' x) (sym ew) copy;
+      rests = subst (λ (x : View). x.phase ≡ Idle → HoldsNothing x) (sym ew) rests;
     }
+
+-- a call that goes on is not over, and neither is one that gives up a lock
+pub busy : (w : View) → w.phase ≢ Idle → w.phase ≡ Idle → HoldsNothing w
+busy w on e = absurd (on e)
+
+pub runs_on : (v w : View) → w.phase ≡ v.phase → v.phase ≡ Running → w.phase ≢ Idle
+runs_on v w same runs e = let z : Running ≡ Idle = sym runs ∙ (sym same ∙ e) in cc
+
+pub releases_on : (p : Phase) → p ≢ Idle → released_phase p ≢ Idle
+releases_on Idle on e = cc
+releases_on Running on e = cc
+releases_on Yielding on e = cc
+releases_on Withdrawing on e = cc
+releases_on Releasing on e = cc
 
 -- the same in the call that goes on
 pub copy_after : {call : CallCopy} {locks : LockCopy} {table : TableId} {me : Me (Unit {0}) View} → IsCopy call locks table me → (phase : Phase) (locks' : LockCopy) (table' : TableId) (me' : Me (Unit {0}) View) (w : View)
-    → table' ≡ table → me'.0 ≡ w → me'.1 ≡ me.1 → SameSeat me.0 w → w.phase ≡ phase → IsLockCopy locks' w → IsCopy (record call { phase = phase }) locks' table' me'
-copy_after {call} {locks} {table} {me} i phase locks' table' me' w et ew es same ep copy =
-    copy_called i phase call.calls locks' table' me' w et ew es same.base same.seats same.who same.due (same.call ∙ i.call_is.calls_are) same.stamp same.announced ep copy
+    → table' ≡ table → me'.0 ≡ w → me'.1 ≡ me.1 → SameSeat me.0 w → w.phase ≡ phase → IsLockCopy locks' w → (w.phase ≡ Idle → HoldsNothing w) → IsCopy (record call { phase = phase }) locks' table' me'
+copy_after {call} {locks} {table} {me} i phase locks' table' me' w et ew es same ep copy rests =
+    copy_called i phase call.calls locks' table' me' w et ew es same.base same.seats same.who same.due (same.call ∙ i.call_is.calls_are) same.stamp same.announced ep copy rests
 
 -- the same after a store, which tells the view as a whole
 pub copy_stored : {call : CallCopy} {locks : LockCopy} {table : TableId} {me : Me (Unit {0}) View} → IsCopy call locks table me → (phase : Phase) (locks' : LockCopy) (table' : TableId) (me' : Me (Unit {0}) View) (w : View)
-    → table' ≡ table → me' ≡ (w, me.1) → SameSeat me.0 w → w.phase ≡ phase → IsLockCopy locks' w → IsCopy (record call { phase = phase }) locks' table' me'
+    → table' ≡ table → me' ≡ (w, me.1) → SameSeat me.0 w → w.phase ≡ phase → IsLockCopy locks' w → (w.phase ≡ Idle → HoldsNothing w) → IsCopy (record call { phase = phase }) locks' table' me'
 copy_stored {call} {locks} {table} {me} i phase locks' table' me' w et em = let after : Me (Unit {0}) View = (w, me.1) in
     copy_after i phase locks' table' me' w et (ap (λ (m : Me (Unit {0}) View). m.0) {y = after} em) (ap (λ (m : Me (Unit {0}) View). m.1) {y = after} em)
 

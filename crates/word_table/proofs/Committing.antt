@@ -4,7 +4,7 @@ use Rattle.history_model.specs.declared.entry.Entry.{Entry}
 use Rattle.history_model.specs.declared.event.Event.TheVariants.{Read}
 use Rattle.history_model.specs.declared.view.View.{View}
 use Rattle.history_model.specs.Counts.{is_attempt}
-use Rattle.history_model.specs.Fitting.{IsGood, Fits, SomeFits}
+use Rattle.history_model.specs.Fitting.{IsGood, Fits}
 use Rattle.history_model.specs.Histories.{replay}
 use Rattle.history_model.specs.Legal.{IsLegalHistory}
 use Rattle.history_model.specs.Table.{Knows, history_of}
@@ -13,14 +13,14 @@ use Rattle.history_model.specs.Views.{number}
 use Rattle.history_model.proofs.EndEvents.{last_read_same}
 use Rattle.history_model.proofs.HistoryLaws.{prefix_is_legal, replay_is_good}
 use Rattle.history_model.proofs.Places.{put_here}
-use Rattle.locks_rule.specs.Actions.{words_after, views_after, found_by}
+use Rattle.locks_rule.specs.Actions.{views_after, found_by}
 use Rattle.values_rule.specs.Steps.{MayBeginCall, MayLoadValue, MayCommitCall, begin_call_action, load_value_action, store_value_action, known_value, commit_call_action}
 use Rattle.values_rule.specs.Values.{ValuesHold}
 use Rattle.stamps_rule.specs.Steps.{MayLoadCauseStamp, load_cause_stamp_action, after_waiting, after_restarting}
 use Rattle.locks_rule.proofs.Own.{own}
 use Rattle.word_table.specs.declared.step.Step.{Step}
 use Rattle.word_table.specs.declared.step.Step.TheVariants.{BeginCall, LoadValue, CommitCall, LoadCauseStamp}
-use Rattle.word_table.specs.Calls.{CommitsAt}
+use Rattle.word_table.specs.Calls.{CommitsAt, ReadsHistory}
 use Rattle.word_table.specs.Kinds.{action_of, May, TakenIn}
 use Rattle.word_table.specs.Sound.{IsSound}
 use Rattle.word_table.proofs.KeptKinds.{sound_kept}
@@ -33,14 +33,21 @@ fits_now count good n base ws vs id v q me busy =
     record { count = fine.count; good = fine.good; legal = q.trace.legal id v me busy }
 
 -- the state that a step leads to is sound, and the seat then knows the new view
-pub fits_after : (count : ℕ) (good : List ℕ → Type 0) (n : ℕ) (base : List ℕ) (st : Step) (old new : View) (found : ℕ) → TakenIn (IsSound (IsGood count good) n base) (action_of st old) old found new → May (IsGood count good) st old
-    → is_attempt new.phase ≡ true → SomeFits count good new.trace
-fits_after count good n base st old new found t may busy =
+pub reads_after : (good : List ℕ → Type 0) (n : ℕ) (base : List ℕ) (st : Step) (old new : View) (found : ℕ) → TakenIn (IsSound good n base) (action_of st old) old found new → May good st old
+    → is_attempt new.phase ≡ true → ReadsHistory good n base new
+reads_after good n base st old new found t may busy =
     let next : View = (action_of st old).view (history_of t.views) (found_by (action_of st old) t.words) in
     let is : new ≡ next = t.view ∙ ap (λ (x : ℕ). (action_of st old).view (history_of t.views) x) (sym t.found_is) in
-    let after = sound_kept (IsGood count good) n base st t.words t.views t.place old t.holds t.knows may in
-    let fit = fits_now count good n base (words_after (action_of st old) t.words) (views_after (action_of st old) t.place t.words t.views) t.place next after.values (put_here t.views t.place old next t.knows) (subst (λ (x : View). is_attempt x.phase ≡ true) is busy) in
-    (replay base (history_of (views_after (action_of st old) t.place t.words t.views)), subst (λ (x : View). Fits count good x.trace (replay base (history_of (views_after (action_of st old) t.place t.words t.views)))) (sym is) fit)
+    let vs : List View = views_after (action_of st old) t.place t.words t.views in
+    let after = sound_kept good n base st t.words t.views t.place old t.holds t.knows may in
+    let me : Knows vs t.place next = put_here t.views t.place old next t.knows in
+    subst (λ (x : View). ReadsHistory good n base x) (sym is) (record {
+      history = history_of vs;
+      legal = after.values.history.legal;
+      begins = after.values.seen.seen_begin t.place next me;
+      left_good = replay_is_good good n base (history_of vs) after.values.history.base_good after.values.history.legal;
+      fits = after.values.trace.legal t.place next me (subst (λ (x : View). is_attempt x.phase ≡ true) is busy);
+    })
 
 module _ (count : ℕ) (good : List ℕ → Type 0) (n : ℕ) (base : List ℕ) (kept : Bool) (v w : View) (found : ℕ)
     (t : TakenIn (IsSound (IsGood count good) n base) (commit_call_action (number v) kept v) v found w) (may : MayCommitCall (IsGood count good) (number v) kept v) where
@@ -71,16 +78,16 @@ module _ (count : ℕ) (good : List ℕ → Type 0) (n : ℕ) (base : List ℕ) 
       let whole : IsLegalHistory (IsGood count good) n base (next.seen ++ begins.0) = subst (λ (l : List Entry). IsLegalHistory (IsGood count good) n base l) begins.1 after.history.legal in
       subst (λ (x : View). IsLegalHistory (IsGood count good) n base x.seen) (sym is) (prefix_is_legal (IsGood count good) n base next.seen begins.0 whole)
 
-pub load_fits : (count : ℕ) (good : List ℕ → Type 0) (n : ℕ) (base : List ℕ) (a : ℕ) (v w : View) (found : ℕ) → TakenIn (IsSound (IsGood count good) n base) (load_value_action (number v) a v) v found w → MayLoadValue (number v) a v → SomeFits count good w.trace
-load_fits count good n base a v w found t may = fits_after count good n base (LoadValue (number v) a) v w found t may (ap (λ (x : View). is_attempt x.phase) t.view ∙ ap is_attempt may.phase)
+pub load_reads : (good : List ℕ → Type 0) (n : ℕ) (base : List ℕ) (a : ℕ) (v w : View) (found : ℕ) → TakenIn (IsSound good n base) (load_value_action (number v) a v) v found w → MayLoadValue (number v) a v → ReadsHistory good n base w
+load_reads good n base a v w found t may = reads_after good n base (LoadValue (number v) a) v w found t may (ap (λ (x : View). is_attempt x.phase) t.view ∙ ap is_attempt may.phase)
 
-pub begin_fits : (count : ℕ) (good : List ℕ → Type 0) (n : ℕ) (base : List ℕ) (v w : View) (found : ℕ) → TakenIn (IsSound (IsGood count good) n base) (begin_call_action (number v) v) v found w → MayBeginCall (number v) v → SomeFits count good w.trace
-begin_fits count good n base v w found t may = fits_after count good n base (BeginCall (number v)) v w found t may (ap (λ (x : View). is_attempt x.phase) t.view)
+pub begin_reads : (good : List ℕ → Type 0) (n : ℕ) (base : List ℕ) (v w : View) (found : ℕ) → TakenIn (IsSound good n base) (begin_call_action (number v) v) v found w → MayBeginCall (number v) v → ReadsHistory good n base w
+begin_reads good n base v w found t may = reads_after good n base (BeginCall (number v)) v w found t may (ap (λ (x : View). is_attempt x.phase) t.view)
 
 -- a call whose cause is gone makes a new attempt
-pub restart_fits : (count : ℕ) (good : List ℕ → Type 0) (n : ℕ) (base : List ℕ) (i stamp : ℕ) (v w : View) (found : ℕ) → TakenIn (IsSound (IsGood count good) n base) (load_cause_stamp_action (number v) i stamp v) v found w → MayLoadCauseStamp (number v) i stamp v
-    → found ≢ stamp → SomeFits count good w.trace
-restart_fits count good n base i stamp v w found t may ne = fits_after count good n base (LoadCauseStamp (number v) i stamp) v w found t may
+pub restart_reads : (good : List ℕ → Type 0) (n : ℕ) (base : List ℕ) (i stamp : ℕ) (v w : View) (found : ℕ) → TakenIn (IsSound good n base) (load_cause_stamp_action (number v) i stamp v) v found w → MayLoadCauseStamp (number v) i stamp v
+    → found ≢ stamp → ReadsHistory good n base w
+restart_reads good n base i stamp v w found t may ne = reads_after good n base (LoadCauseStamp (number v) i stamp) v w found t may
     (ap (λ (x : View). is_attempt x.phase) (t.view ∙ ap (λ (b : Bool). if b then after_waiting v else after_restarting v) (ne_eqb found stamp ne)))
 
 -- what a store notes is the value that was read last

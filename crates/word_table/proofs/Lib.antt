@@ -19,6 +19,8 @@ pub mod Gathering
 pub mod Judging
 pub mod RunLaws
 pub mod Meetings
+pub mod Dealing
+pub mod Stamped
 pub mod Committing
 -- a desk that a test opens
 pub mod Opened

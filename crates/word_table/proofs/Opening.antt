@@ -90,7 +90,7 @@ abbrev given_of : Me (Unit {0}) View → Me (Unit {0}) View
 given_of x = (given_by_split x.0, [])
 
 -- the numbers without the first
-rest_of_numbers : (j m : ℕ) → without j (j ∷ numbers (suc j) m) ≡ numbers (suc j) m
+pub rest_of_numbers : (j m : ℕ) → without j (j ∷ numbers (suc j) m) ≡ numbers (suc j) m
 unfolding without
 rest_of_numbers j m = rw (eq-eqb j j refl) (without-absent j (numbers (suc j) m) (not_true (has j (numbers (suc j) m)) (λ t. let r = numbers_within (suc j) m j t in absurd (omega arith))))
 
@@ -160,6 +160,7 @@ opening_copy base call locks table me em idle fresh unstamped unannounced others
     claims_are = subst (λ (row : List ℕ). Shows row []) (sym ec) shows_none;
     scans_are = subst (λ (masks : List ℕ). ShowsPairs masks []) (sym es) record { each_lock = zeros_count LOCKS; bits = λ k j near lt. ap (λ (x : ℕ). bit_at x j) (zero_at LOCKS k) ∙ (bit_at-zero j ∙ sym (ap flag (pair-nil k j))) };
   };
+  rests = λ e. record { no_bit = λ k t. differ (has k []) t (has-nil k); no_claim = λ k t. differ (has k []) t (has-nil k) };
 }
 
 -- the first j passes of n

@@ -66,6 +66,8 @@ module _ (good : List ℕ → Type 0) (n : ℕ) (base : List ℕ) (fine : good b
           subst (λ (x : View). slice_index (opening_words n base) (calls_word n j) ≡ x.call) (is_v id u s.knows) (zeros_at (value_word n 0) base (calls_word n j) (omega arith));
       entries_numbered = λ id j q u e s un at own. none_there e q (history_of (v ∷ [])) empty at;
       open_numbered = λ id j q u e s un busy at own. none_there e q (history_of (v ∷ [])) empty at;
+      entries_from_one = λ q e at. none_there e q (history_of (v ∷ [])) empty at;
+      open_from_one = λ id u k busy. absurd (let z : true ≡ false = sym busy ∙ ap is_open (idle id u k) in cc);
       calls_fit = λ j lt. let z : slice_index (opening_words n base) (calls_word n j) ≡ 0 = zeros_at (value_word n 0) base (calls_word n j) (omega arith) in omega arith;
       counted = let none = no_open v refl in let long : length (history_of (v ∷ [])) ≡ 0 = ap (λ (l : List Entry). length l) empty in omega arith;
     };

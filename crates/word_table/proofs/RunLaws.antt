@@ -22,7 +22,7 @@ none_some : (s : TableState) → None ≡ Some s → ⊥
 none_some s e = true≢false (sym (ap there e))
 
 -- a place before one that is in the list is in the list
-before : (run : List TableState) (p : ℕ) (t : TableState) → slice_get run (suc p) ≡ Some t → (s : TableState) × (slice_get run p ≡ Some s)
+pub before : (run : List TableState) (p : ℕ) (t : TableState) → slice_get run (suc p) ≡ Some t → (s : TableState) × (slice_get run p ≡ Some s)
 before [] p t at = absurd (none_some t at)
 before (x ∷ run) zero t at = (x, refl)
 before (x ∷ run) (suc p) t at = before run p t at

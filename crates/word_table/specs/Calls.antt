@@ -13,6 +13,7 @@ use Rattle.history_model.specs.Legal.{IsPrefix, AreAttemptsLegal, IsLegalHistory
 use Rattle.history_model.specs.Locks.{lock_of_word}
 use Rattle.history_model.specs.Sets.{has, without}
 use Rattle.history_model.specs.Table.{Knows}
+use Rattle.history_model.specs.Traces.{IsLegalTrace}
 use Rattle.history_model.specs.Views.{number, HasBit, HasReadGrant, HasClaim, HasWriteGrant, IsGranted}
 use Rattle.locks_rule.specs.Actions.{Action}
 use Rattle.locks_rule.specs.Steps.{is_free, set_read_bit_action, load_writer_action, claim_writer_action, scan_row_action}
@@ -161,3 +162,12 @@ pub record GaveWay (good : List ℕ → Type 0) (n : ℕ) (base : List ℕ) (cau
   pub others : (q : ℕ) (e : Entry) → length old.seen ≤ q → slice_get history q ≡ Some e → e.who ≢ number old
   pub legal : IsLegalHistory good n base history
   pub opaque : AreAttemptsLegal n base history (number old) old.stamp old.floor (length history) new.abandoned
+
+-- what the call's last attempt did is legal on good words that the history leaves of the base, of which the seat has seen
+-- a beginning
+pub record ReadsHistory (good : List ℕ → Type 0) (n : ℕ) (base : List ℕ) (v : View) : Type 0 where
+  pub history : List Entry
+  pub legal : IsLegalHistory good n base history
+  pub begins : IsPrefix v.seen history
+  pub left_good : good (replay base history)
+  pub fits : IsLegalTrace v.trace (replay base history)

@@ -5,8 +5,10 @@ use Rattle.atomic_table.specs.Table.{Me}
 use Rattle.atomic_table.specs.Seated.{TableId}
 use Rattle.history_model.specs.declared.TheConstants.{LOCKS}
 use Rattle.history_model.specs.declared.view.View.{View}
+use Rattle.history_model.specs.declared.view.Phase.TheVariants.{Idle}
 use Rattle.history_model.specs.Sets.{has, has_pair, flag}
 use Rattle.history_model.specs.Table.{row_word, writer_word, table_words}
+use Rattle.history_model.specs.Views.{HasBit, HasClaim}
 use Rattle.word_table.specs.declared.copies.CallCopy.{CallCopy}
 use Rattle.word_table.specs.declared.copies.LockCopy.{LockCopy}
 use Rattle.word_table.specs.declared.limits.TheConstants.{MOST_PASSES, MOST_WORDS}
@@ -49,6 +51,11 @@ pub record IsCallCopy (copy : CallCopy) (v : View) : Type 0 where
   pub stamp_is : v.stamp ≡ copy.stamp
   pub announced_is : v.announced ≡ copy.announced
 
+-- no lock is held, and none is asked for
+pub record HoldsNothing (v : View) : Type 0 where
+  pub no_bit : (k : ℕ) → ¬ HasBit v k
+  pub no_claim : (k : ℕ) → ¬ HasClaim v k
+
 -- what a pass keeps is a copy of what its seat knows
 pub record IsCopy (call : CallCopy) (locks : LockCopy) (table : TableId) (me : Me (Unit {0}) View) : Type 0 where
   pub slots : me.1 ≡ []
@@ -62,3 +69,5 @@ pub record IsCopy (call : CallCopy) (locks : LockCopy) (table : TableId) (me : M
   pub long : table.words ≡ table_words call.seats (length me.0.base)
   pub call_is : IsCallCopy call me.0
   pub locks_are : IsLockCopy locks me.0
+  -- between calls
+  pub rests : me.0.phase ≡ Idle → HoldsNothing me.0

@@ -1,5 +1,5 @@
--- What holds in every state of every run: of who meets whom, and of each call.
-use Rattle.std.specs.Prelude.{◌≡◌, ◌≢◌, ℕ, true, List, [], ◌∷◌, length, Some, slice_get}
+-- What holds in every state of every run: of who meets whom, and of each call. And a state that every table comes to.
+use Rattle.std.specs.Prelude.{◌≡◌, ◌≢◌, ℕ, ◌<◌, ◌≤◌, true, List, [], ◌∷◌, length, Some, slice_get}
 use Rattle.history_model.specs.declared.view.View.{View}
 use Rattle.history_model.specs.declared.view.Phase.TheVariants.{Idle}
 use Rattle.history_model.specs.Conflicts.{Meets, IsAt}
@@ -9,10 +9,12 @@ use Rattle.history_model.specs.Sets.{has}
 use Rattle.history_model.specs.Table.{TableState, Knows, history_of}
 use Rattle.locks_rule.specs.Actions.{found_by}
 use Rattle.locks_rule.specs.Locks.{AskedFor, IsSeat}
+use Rattle.locks_rule.specs.Splits.{opening_view}
 use Rattle.stamps_rule.specs.Stamps.{AreRestartsBounded}
 use Rattle.word_table.specs.declared.step.Step.{Step}
 use Rattle.word_table.specs.Kinds.{action_of, May}
 use Rattle.word_table.specs.Runs.{IsRun}
+use Rattle.word_table.specs.Sound.{opening_words}
 
 -- a state of some run of n seats that begins with the words base
 pub record IsReached (good : List ℕ → Type 0) (n : ℕ) (base : List ℕ) (state : TableState) : Type 0 where
@@ -63,6 +65,26 @@ abbrev pub RestartsFew : (List ℕ → Type 0) → ℕ → List ℕ → Type 0
 RestartsFew good n base =
     (state : TableState) (place j : ℕ) (view : View)
     → IsReached good n base state → Knows state.views place view → view.who ≡ j ∷ [] → AreRestartsBounded n j view
+
+-- a timestamp is drawn once in a call, and kept as long as it lasts: where a seat has one, it has the same in every later
+-- state of the run in which it is in this call
+abbrev pub StampsAreKept : (List ℕ → Type 0) → ℕ → List ℕ → Type 0
+StampsAreKept good n base =
+    (run : List TableState) (p q j : ℕ) (before after : TableState) (place later : ℕ) (v w : View)
+    → good base → IsRun good n base run → slice_get run p ≡ Some before → slice_get run q ≡ Some after → p ≤ q
+    → Knows before.views place v → Knows after.views later w → v.who ≡ j ∷ [] → w.who ≡ j ∷ []
+    → 0 < v.stamp → w.call ≡ v.call → w.phase ≢ Idle → w.stamp ≡ v.stamp
+
+-- n seats that did nothing yet: a view for each number, and no other
+pub record AreDealt (n : ℕ) (base : List ℕ) (views : List View) : Type 0 where
+  pub count : length views ≡ n
+  pub each : (j : ℕ) → j < n → (place : ℕ) × Knows views place (opening_view base n (j ∷ []) [])
+
+-- some run comes to a state in which the words are as they began and the seats are dealt
+abbrev pub SeatsAreDealt : (List ℕ → Type 0) → ℕ → List ℕ → Type 0
+SeatsAreDealt good n base =
+    good base → 0 < n
+    → (state : TableState) × IsReached good n base state × (state.words ≡ opening_words n base) × AreDealt n base state.views
 
 -- each attempt of a call that gave way read one state of the committed history, of which the seat has seen a beginning
 abbrev pub ReadsOneState : (List ℕ → Type 0) → ℕ → List ℕ → Type 0

@@ -5,7 +5,7 @@ ghost use Rattle.history_model.specs.declared.entry.Entry.{Entry};
 ghost use Rattle.history_model.specs.declared.event.Event.{Event};
 ghost use Rattle.history_model.specs.declared.event.Event.TheVariants.{Read};
 ghost use Rattle.history_model.specs.Counts.{is_attempt, is_open};
-ghost use Rattle.history_model.specs.Fitting.{IsGood, SomeFits};
+ghost use Rattle.history_model.specs.Fitting.{IsGood};
 ghost use Rattle.history_model.specs.Histories.{replay};
 ghost use Rattle.history_model.specs.Legal.{IsIn, IsLegalHistory, IsPrefix};
 ghost use Rattle.history_model.specs.Locks.{lock_of_word};
@@ -20,7 +20,7 @@ ghost use Rattle.stamps_rule.specs.Causes.{newest, past_causes};
 ghost use Rattle.stamps_rule.specs.Stamps.{AreRestartsBounded};
 ghost use Rattle.stamps_rule.specs.Steps.{draw_stamp_action, announce_stamp_action, load_cause_stamp_action};
 ghost use Rattle.history_model.specs.Sets.{has, without};
-ghost use Rattle.word_table.specs.Calls.{CommitsAt, JudgedBy, GaveWay, SharedBy, ClaimedBy, ScannedBy, MetOn, SameCall, GrantsStay, with_bit};
+ghost use Rattle.word_table.specs.Calls.{ClaimedBy, CommitsAt, GaveWay, GrantsStay, JudgedBy, MetOn, ReadsHistory, SameCall, ScannedBy, SharedBy, with_bit};
 ghost use Rattle.word_table.specs.Closing.{AreAllPasses, AreOwnersAmong};
 ghost use Rattle.word_table.specs.Copies.{PassView};
 ghost use Rattle.word_table.specs.Desks.{DeskHolds};
@@ -229,7 +229,8 @@ impl<S: Shape> Desk<S> {
         ensures step { pass.new.view ≡ (begin_call_action (number pass.old.view) pass.old.view).view [] 0 }
         ensures taken { (found : ℕ) × TakenIn (DeskHolds S.word_count S.good self.now)
             (begin_call_action (number pass.old.view) pass.old.view) pass.old.view found pass.new.view }
-        ensures fits { SomeFits (S.word_count self.now.shape) (S.good self.now.shape) pass.new.view.trace }
+        ensures fits { ReadsHistory (IsGood (S.word_count self.now.shape) (S.good self.now.shape))
+            self.now.seats self.now.base pass.new.view }
     {
         pass.begin_call(&self.table.shared)
     }
@@ -245,7 +246,8 @@ impl<S: Shape> Desk<S> {
         ensures event { pass.new.view ≡ record pass.old.view { trace = pass.old.view.trace ++ Read a result ∷ [] } }
         ensures taken { TakenIn (DeskHolds S.word_count S.good self.now)
             (load_value_action (number pass.old.view) a pass.old.view) pass.old.view result pass.new.view }
-        ensures fits { SomeFits (S.word_count self.now.shape) (S.good self.now.shape) pass.new.view.trace }
+        ensures fits { ReadsHistory (IsGood (S.word_count self.now.shape) (S.good self.now.shape))
+            self.now.seats self.now.base pass.new.view }
     {
         pass.load_value(&self.table.shared, a)
     }
@@ -396,7 +398,8 @@ impl<S: Shape> Desk<S> {
         ensures restarts { result ≡ true → pass.new.view ≡ record pass.old.view { phase = Phase.Running; trace = [] } }
         ensures waits { result ≡ false → pass.new.view ≡ record pass.old.view { waits = pass.old.view.waits + 1 } }
         ensures fits { result ≡ true
-            → SomeFits (S.word_count self.now.shape) (S.good self.now.shape) pass.new.view.trace }
+            → ReadsHistory (IsGood (S.word_count self.now.shape) (S.good self.now.shape))
+            self.now.seats self.now.base pass.new.view }
     {
         let shown = pass.load_cause_stamp(&self.table.shared, other, stamp);
         shown != stamp

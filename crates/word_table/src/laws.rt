@@ -9,7 +9,7 @@ ghost use Rattle.locks_rule.specs.Joins.{KeepsJoin, MayTakeNote, left_by_note, n
 ghost use Rattle.locks_rule.specs.Splits.{KeepsSplit, MaySplitSeat, left_by_split, given_by_split};
 ghost use Rattle.word_table.specs.declared.step.Step.{Step};
 ghost use Rattle.word_table.specs.Kinds.{action_of, May};
-ghost use Rattle.word_table.specs.Meetings.{MeetsInConflict, NeverMeetsApart, RestartsFew, ReadsOneState};
+ghost use Rattle.word_table.specs.Meetings.{MeetsInConflict, NeverMeetsApart, RestartsFew, ReadsOneState, SeatsAreDealt, StampsAreKept};
 ghost use Rattle.word_table.specs.Runs.{IsOpening, IsRun, Steps};
 ghost use Rattle.word_table.specs.Sound.{IsSound};
 
@@ -63,7 +63,8 @@ pub fn every_meeting<S: Shape>()
 {}
 
 /// Of each call, in every state of every run: it gave way less often than there are seats, each time to another seat,
-/// which it had met, and never twice to the same (`restarts`). And until it ends, what each of its attempts that gave
+/// which it had met, and never twice to the same (`restarts`). It has one timestamp at most: what it drew it keeps in
+/// every later state of the run, until it ends (`stamps`). And until it ends, what each of its attempts that gave
 /// way had read is what some part of the committed history leaves, of which all that its seat had seen as the call
 /// began is a part (`opacity`).
 pub fn every_call<S: Shape>()
@@ -71,6 +72,15 @@ pub fn every_call<S: Shape>()
         → RestartsFew (IsGood (S.word_count shape) (S.good shape)) n base }
     ensures opacity { (shape : _) (n : ℕ) (base : List ℕ)
         → ReadsOneState (IsGood (S.word_count shape) (S.good shape)) n base }
+    ensures stamps { (shape : _) (n : ℕ) (base : List ℕ)
+        → StampsAreKept (IsGood (S.word_count shape) (S.good shape)) n base }
+{}
+
+/// Runs get to where calls begin: for every good memory and every number of seats above 0, some run comes to a state in
+/// which each number has a seat of its own that did nothing yet, and the words are as they began.
+pub fn every_deal<S: Shape>()
+    ensures { (shape : _) (n : ℕ) (base : List ℕ)
+        → SeatsAreDealt (IsGood (S.word_count shape) (S.good shape)) n base }
 {}
 
 /// The opening alone is a run.

@@ -14,7 +14,7 @@ ghost use Rattle.locks_rule.specs.Steps.{released_phase, set_read_bit_action, cl
 ghost use Rattle.history_model.specs.declared.event.Event.{Event};
 ghost use Rattle.history_model.specs.declared.event.Event.TheVariants.{Read};
 ghost use Rattle.history_model.specs.Counts.{is_attempt, is_open};
-ghost use Rattle.history_model.specs.Fitting.{IsGood, SomeFits};
+ghost use Rattle.history_model.specs.Fitting.{IsGood};
 ghost use Rattle.history_model.specs.Legal.{IsLegalHistory};
 ghost use Rattle.history_model.specs.Traces.{after, IsLegalTrace};
 ghost use Rattle.history_model.specs.Undoing.{Notes};
@@ -22,7 +22,8 @@ ghost use Rattle.values_rule.specs.Steps.{undoing_phase, begin_call_action, load
 ghost use Rattle.stamps_rule.specs.Causes.{newest, past_causes};
 ghost use Rattle.stamps_rule.specs.Stamps.{AreRestartsBounded};
 ghost use Rattle.stamps_rule.specs.Steps.{draw_stamp_action, announce_stamp_action, load_cause_stamp_action};
-ghost use Rattle.word_table.specs.Calls.{CommitsAt, JudgedBy, Looked, MakesSeen, ScannedBy, with_bit};
+ghost use Rattle.word_table.specs.Calls.{CommitsAt, JudgedBy, Looked, MakesSeen, ReadsHistory, ScannedBy, with_bit};
+ghost use Rattle.word_table.specs.Copies.{HoldsNothing};
 ghost use Rattle.word_table.specs.Kinds.{TakenIn};
 ghost use Rattle.word_table.specs.Least.{IsLeast};
 ghost use Rattle.word_table.specs.Sound.{GroundHolds};
@@ -153,6 +154,13 @@ impl<S: Shape> Pass<S> {
         ensures { result ≡ self.now.view.phase }
     {
         self.call.phase
+    }
+
+    /// Between calls no lock is held, and none is asked for. The call does nothing: its contract says it.
+    pub fn rests(&self)
+        ensures { self.now.view.phase ≡ Phase.Idle → HoldsNothing self.now.view }
+    {
+        let _seat = &self.seat;
     }
 
     /// The call's timestamp, 0 where none was drawn. A smaller one is earlier.
@@ -489,7 +497,8 @@ impl<S: Shape> Pass<S> {
         ensures view { self.new.view ≡ (begin_call_action (number self.old.view) self.old.view).view [] 0 }
         ensures taken { (found : ℕ) × TakenIn (GroundHolds S.word_count S.good table.now.key)
             (begin_call_action (number self.old.view) self.old.view) self.old.view found self.new.view }
-        ensures fits { SomeFits (S.word_count table.now.key.shape) (S.good table.now.key.shape) self.new.view.trace }
+        ensures fits { ReadsHistory (IsGood (S.word_count table.now.key.shape) (S.good table.now.key.shape))
+            table.now.key.seats table.now.key.base.items self.new.view }
     {
         let next = self.call.calls + 1;
         self.call.calls = next;
@@ -515,7 +524,8 @@ impl<S: Shape> Pass<S> {
         ensures table { self.new.table ≡ self.old.table }
         ensures taken { TakenIn (GroundHolds S.word_count S.good table.now.key)
             (load_value_action (number self.old.view) a self.old.view) self.old.view result self.new.view }
-        ensures fits { SomeFits (S.word_count table.now.key.shape) (S.good table.now.key.shape) self.new.view.trace }
+        ensures fits { ReadsHistory (IsGood (S.word_count table.now.key.shape) (S.good table.now.key.shape))
+            table.now.key.seats table.now.key.base.items self.new.view }
     {
         step::load(
             table,
@@ -792,7 +802,8 @@ impl<S: Shape> Pass<S> {
         ensures table { self.new.table ≡ self.old.table }
         ensures taken { TakenIn (GroundHolds S.word_count S.good table.now.key)
             (load_cause_stamp_action (number self.old.view) other stamp self.old.view) self.old.view result self.new.view }
-        ensures fits { result ≢ stamp → SomeFits (S.word_count table.now.key.shape) (S.good table.now.key.shape) self.new.view.trace }
+        ensures fits { result ≢ stamp → ReadsHistory (IsGood (S.word_count table.now.key.shape) (S.good table.now.key.shape))
+            table.now.key.seats table.now.key.base.items self.new.view }
     {
         let shown = step::load(
             table,

@@ -1,10 +1,12 @@
-use Rattle.std.proofs.Common.{◌≡◌, ℕ, refl, sym, ap, ◌∙◌, subst}
+use Rattle.std.proofs.Common.{◌≡◌, ℕ, Some, refl, sym, ap, ◌∙◌, subst}
 use Rattle.history_model.specs.declared.view.View.{View}
 use Rattle.history_model.specs.Sets.{has}
 use Rattle.history_model.specs.Views.{number}
 use Rattle.locks_rule.specs.Steps.{scan_row_action}
 use Rattle.word_table.specs.Calls.{MetOn}
 use Rattle.word_table.specs.Desks.{DeskHolds}
+use Rattle.word_table.specs.Least.{IsLeast}
+use Rattle.word_table.specs.Unscanned.{IsUnscanned}
 use Rattle.lock_or_yield.proofs.Scanning.{scan_met, scan_clear, clear_more, left_other_seat, left_not_held, fewer_left}
 use Rattle.lock_or_yield.proofs.turn.scan_rest.Goals as goal
 
@@ -17,6 +19,7 @@ returns-in-Met-clause-met g c = let v = c.loop-other.pass.view in
     let m = c.in-Met.ensures.met c.in-Met.seat refl in record {
       before = v;
       clear = c.loop-other.invariant.3;
+      least = subst (λ (i : ℕ). IsLeast (IsUnscanned v c.args.k) (Some i)) (sym m.0) c.in-Some.ensures.least;
       meets = subst (λ (i : ℕ). MetOn (DeskHolds g.S.Shape.word_count g.S.Shape.good c.args.desk.now) (scan_row_action (number v) c.args.k i) v v c.scan.new.pass.view c.args.k c.in-Met.seat) (sym m.0) m.1;
       view = (scan_met (DeskHolds g.S.Shape.word_count g.S.Shape.good c.args.desk.now) v c.args.k c.in-Some.other c.in-Met.seat c.scan.new.pass.view c.in-Met.ensures.step).1;
     }

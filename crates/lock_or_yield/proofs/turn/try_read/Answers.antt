@@ -73,6 +73,7 @@ returns-in-Met-clause-met g c = let v = c.args.pass.now.view in let k : ℕ = lo
     before = v;
     locks = refl;
     asking = with_bit k c.args.a v;
+    step = (c.args.a, refl, refl, refl);
     meets = c.in-Met.ensures.met c.in-Met.other refl;
   };
   judges = c.judge_met.ensures.judged;

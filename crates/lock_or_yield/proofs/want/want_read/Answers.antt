@@ -4,6 +4,7 @@ use Rattle.history_model.specs.Fitting.{IsGood}
 use Rattle.history_model.specs.Locks.{lock_of_word}
 use Rattle.word_table.specs.Desks.{DeskHolds}
 use Rattle.lock_or_yield.specs.Asking.{WentOn}
+use Rattle.lock_or_yield.specs.Turns.{IsReadStep}
 use Rattle.lock_or_yield.proofs.Wanting.{asks_none, reads_none, asks_more, reads_more, went_nobody, went_on, turns_yield, turns_met, turns_bounded}
 use Rattle.lock_or_yield.proofs.want.want_read.Goals as goal
 
@@ -44,7 +45,7 @@ returns-in-Yield-clause-yields g c cause e = let i = c.loop.invariant in let mad
 
 pub returns-in-Yield-clause-met : goal.returns-in-Yield-clause-met
 returns-in-Yield-clause-met g c cause e =
-    turns_met c.args.pass.now.view c.loop.pass.view c.try_read.new.pass.view c.in-Yield.cause c.loop.invariant.6 (DeskHolds g.S.Shape.word_count g.S.Shape.good c.args.desk.now) (lock_of_word c.args.a) cause e c.in-Yield.ensures.met
+    turns_met c.args.pass.now.view c.loop.pass.view c.try_read.new.pass.view c.in-Yield.cause c.loop.invariant.6 IsReadStep (DeskHolds g.S.Shape.word_count g.S.Shape.good c.args.desk.now) (lock_of_word c.args.a) cause e c.in-Yield.ensures.met
 
 pub returns-in-Yield-clause-bounded : goal.returns-in-Yield-clause-bounded
 returns-in-Yield-clause-bounded g c cause e = turns_bounded c.args.pass.now.view c.loop.pass.view c.try_read.new.pass.view c.in-Yield.cause c.loop.invariant.6 c.args.desk.now.seats c.in-Yield.ensures.bounded

@@ -1,20 +1,25 @@
-use Rattle.std.proofs.Common.{◌≡◌, ℕ, ◌<◌, Bool, List, [], ◌∷◌, ◌++◌, length, refl, sym, ap, ◌∙◌, subst, rules}
+use Rattle.std.proofs.Common.{◌≡◌, ℕ, ◌<◌, Bool, Option, None, Some, Result, Ok, Err, List, [], ◌∷◌, ◌++◌, length, refl, sym, ap, ◌∙◌, subst, rules}
 use Rattle.history_model.specs.declared.entry.Abandoned.{Abandoned}
 use Rattle.history_model.specs.declared.entry.Entry.{Entry}
-use Rattle.history_model.specs.declared.view.Phase.TheVariants.{Releasing}
+use Rattle.history_model.specs.declared.view.Phase.TheVariants.{Running, Releasing}
 use Rattle.history_model.specs.declared.view.View.{View}
 use Rattle.history_model.specs.Fitting.{IsGood}
 use Rattle.history_model.specs.Legal.{IsLegalHistory}
 use Rattle.values_rule.specs.Steps.{entry_of}
+use Rattle.txn_words.specs.declared.words.Stop.{Stop}
+use Rattle.txn_words.specs.declared.words.Stop.TheVariants as stop
 use Rattle.txn_words.specs.Verdicts.{is_kept, answer_of}
-use Rattle.word_table.specs.Calls.{CommitsAt}
+use Rattle.word_table.specs.Calls.{CommitsAt, ReadsHistory}
 use Rattle.word_table.specs.Copies.{PassView}
 use Rattle.word_table.specs.Desks.{DeskView}
-use Rattle.txn_commit.specs.Attempts.{start_of}
+use Rattle.txn_commit.specs.declared.attempt.Halt.{Halt}
+use Rattle.txn_commit.specs.declared.attempt.Halt.TheVariants as halt
+use Rattle.txn_commit.specs.Attempts.{StandsAs, start_of, stop_of}
 use Rattle.txn_commit.specs.Inner.Releasing.{Undoes}
-use Rattle.txn_commit.specs.Transactions.{SameSeat}
+use Rattle.txn_commit.specs.Transactions.{LeavesFootprint, SameSeat}
+use Rattle.txn_commit.proofs.Footprints.{commits_footprint, footprint_same}
 use Rattle.txn_commit.proofs.Attempts.{not_halted, same_call}
-use Rattle.txn_commit.proofs.Ending.{same_desk, same_pass, gets_entry, meant, undone_others, one_more, ran_on, still_runs, gave_way}
+use Rattle.txn_commit.proofs.Ending.{same_desk, same_pass, still_reads, gets_entry, meant, undone_others, one_more, ran_on, still_runs, gave_way}
 use Rattle.txn_commit.proofs.transaction.run_attempts.Goals as goal
 
 -- what began from the same has the same name, and its table is the same
@@ -54,6 +59,25 @@ seat_after_undo first old new undone same = record {
 call_after_undo : (old new : View) → Undoes old new → new.call ≡ old.call
 call_after_undo old new undone = ap (λ (v : View). v.call) undone.some.rest
 
+floor_after_undo : (old new : View) → Undoes old new → new.floor ≡ old.floor
+floor_after_undo old new undone = ap (λ (v : View). v.floor) undone.some.rest
+
+footprint_undone : (old new : View) → Undoes old new → LeavesFootprint old → LeavesFootprint new
+footprint_undone old new undone = footprint_same old new (ap (λ (v : View). v.trace) undone.some.rest) (ap (λ (v : View). v.abandoned) undone.some.rest) (ap (λ (v : View). v.meetings) undone.some.rest) (ap (λ (v : View). v.asked) undone.some.rest)
+
+reads_undone : (good : List ℕ → Type 0) (n : ℕ) (base : List ℕ) (old new : View) → Undoes old new → ReadsHistory good n base old → ReadsHistory good n base new
+reads_undone good n base old new undone = still_reads good n base old new (ap (λ (v : View). v.seen) undone.some.rest) (ap (λ (v : View). v.trace) undone.some.rest)
+
+memory_not_yield : {A : Type 0} (r : Result A Stop) → r ≡ Err stop.Memory → r ≡ Err stop.Yield → ⊥
+memory_not_yield (Ok x) m y = cc
+memory_not_yield (Err s) m y = cc
+
+-- an attempt that did not give way still runs
+runs_at_memory : (n : ℕ) (halted : Option Halt) (began now : View) → ¬ (stop_of halted ≡ Some stop.Yield) → StandsAs n halted began now → now.phase ≡ Running
+runs_at_memory n None began now not s = s.phase
+runs_at_memory n (Some (halt.Yield cause)) began now not s = absurd (not refl)
+runs_at_memory n (Some halt.Memory) began now not s = s.phase
+
 pub returns-in-Ok : goal.returns-in-Ok
 returns-in-Ok g c = let inv = c.loop-restarts.invariant in let first = c.args.attempt.now.pass.now.view in let at = c.loop-restarts.attempt in let ran = c.run.new.w in
     let same = ran_on first ran.began.value at.began.value at.pass.now ran.pass.now.view inv.call (same_pass ran.desk.now at.desk.now ran.pass.ghost_name at.pass.ghost_name ran.began.value at.began.value c.run.ensures.origin) inv.began c.run.ensures.sound.call in
@@ -82,7 +106,13 @@ returns-in-Ok g c = let inv = c.loop-restarts.invariant in let first = c.args.at
       few = subst (λ (n : ℕ). n < c.args.attempt.now.desk.now.seats) inv.restarts inv.few;
       committed = phase_after_commit ran.pass.now.view new commits.history c.decision-kept.result.0 commits.view;
       others = search rules;
+      floor = search rules;
       given_up = search rules;
+      footprint =
+          commits_footprint c.decision-kept.result.0 commits.history ran.pass.now.view new (ap (λ (v : View). v.seen) commits.view) (ap (λ (v : View). v.asked) commits.view) (ap (λ (v : View). v.meetings) commits.view)
+          c.run.ensures.sound.footprint;
+      left = search rules;
+      last = search rules;
     }
 
 pub returns-in-Err-Memory : goal.returns-in-Err-Memory
@@ -102,7 +132,14 @@ returns-in-Err-Memory g c = let inv = c.loop-restarts.invariant in let first = c
       few = search rules;
       committed = search rules;
       others = undone_others first ran.pass.now.view c.undo_all.new.pass.view same c.undo_all.ensures.undone;
+      floor = floor_after_undo ran.pass.now.view new undone ∙ same.floor;
       given_up = search rules;
+      footprint = search rules;
+      left = footprint_undone ran.pass.now.view new undone c.run.ensures.sound.footprint;
+      last =
+          subst (λ d. ReadsHistory (IsGood (g.S.Shape.word_count d.shape) (g.S.Shape.good d.shape)) d.seats d.base new) desk
+          (reads_undone (IsGood (g.S.Shape.word_count ran.desk.now.shape) (g.S.Shape.good ran.desk.now.shape)) ran.desk.now.seats ran.desk.now.base ran.pass.now.view new undone
+          (c.run.ensures.sound.current (runs_at_memory ran.desk.now.seats ran.halt ran.began.value.view ran.pass.now.view (λ e. memory_not_yield c.run.result (search rules) (c.run.ensures.yields.1 e)) c.run.ensures.sound.stands)));
     }
 
 pub loop-restarts-preserved : goal.loop-restarts-preserved

@@ -1,8 +1,6 @@
 use Rattle.std.proofs.Common.{◌≡◌, ℕ, ◌+◌, ◌<◌, [], Some, sym, ap, ◌∙◌, subst}
 use Rattle.history_model.specs.declared.view.Phase.TheVariants.{Running, Yielding}
 use Rattle.history_model.specs.declared.view.View.{View}
-use Rattle.history_model.specs.Fitting.{SomeFits}
-use Rattle.history_model.specs.Traces.{Trace}
 use Rattle.history_model.specs.Views.{HasBit, HasClaim}
 use Rattle.stamps_rule.specs.Causes.{newest, past_causes}
 use Rattle.txn_commit.proofs.transaction.wait_out.Goals as goal
@@ -19,9 +17,6 @@ restarted first now new same step =
     step ∙ (ap (λ (v : View). record v { phase = Running; trace = [] }) same
     ∙ ap (λ (n : ℕ). record first { phase = Running; trace = []; waits = n }) (sym (ap (λ (v : View). v.waits) step)))
 
-begins_anew : (now new : View) → new ≡ record now { phase = Running; trace = [] } → new.trace ≡ []
-begins_anew now new step = ap (λ (v : View). v.trace) step
-
 pub gone-requires : goal.gone-requires
 gone-requires g c = let same = sym c.loop.invariant.1 in record {
   desk = c.loop.invariant.0 ∙ c.requires.desk;
@@ -37,9 +32,7 @@ pub returns-then-gone : goal.returns-then-gone
 returns-then-gone g c = let step = c.gone.ensures.restarts c.if-gone.true in record {
   desk = c.gone.ensures.desk ∙ c.loop.invariant.0;
   restarts = restarted c.args.pass.now.view c.loop.pass.view c.gone.new.pass.view c.loop.invariant.1 step;
-  fits =
-      subst (λ (t : Trace). SomeFits (g.S.Shape.word_count c.args.desk.now.shape) (g.S.Shape.good c.args.desk.now.shape) t)
-      (begins_anew c.loop.pass.view c.gone.new.pass.view step) (c.gone.ensures.fits c.if-gone.true);
+  fits = c.gone.ensures.fits c.if-gone.true;
 }
 
 pub loop-preserved : goal.loop-preserved

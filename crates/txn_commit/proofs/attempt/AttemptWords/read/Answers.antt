@@ -2,14 +2,15 @@ use Rattle.std.proofs.Common.{◌≡◌, ℕ, ◌<◌, [], ◌∷◌, ◌++◌, 
 use Rattle.history_model.specs.declared.event.Event.TheVariants.{Read}
 use Rattle.history_model.specs.declared.view.View.{View}
 use Rattle.history_model.specs.Traces.{Trace}
-use Rattle.lock_or_yield.specs.Asking.{Asks, GainsAtMost}
+use Rattle.history_model.specs.Locks.{lock_of_word}
+use Rattle.lock_or_yield.specs.Asking.{Asks, AsksToRead, GainsAtMost}
 use Rattle.txn_commit.specs.declared.attempt.Halt.{Halt}
 use Rattle.txn_commit.specs.Attempts.{IsSound}
-use Rattle.txn_commit.proofs.Attempts.{asks_sound, granted_not_yield, held_not_yield, load_sound, not_halted, yields_sound}
+use Rattle.txn_commit.proofs.Attempts.{asks_table, granted_not_yield, held_not_yield, held_sound, not_halted, yields_sound}
 use Rattle.txn_commit.proofs.attempt.AttemptWords.read.Goals.{in-Held, in-Granted}
 use Rattle.txn_commit.proofs.attempt.AttemptWords.read.Goals as goal
 
--- what asking for a lock, and a load after that, leave of the trace, of the words asked for and of the claims
+-- what asking for a lock, and a load after that, leave of the trace, of the words asked for and of locks
 asks_trace : (a : ℕ) (first asked : View) → Asks a first asked → asked.trace ≡ first.trace
 asks_trace a first asked asks = ap (λ (v : View). v.trace) asks.rest
 
@@ -22,8 +23,9 @@ load_trace a x first asked loaded asks event = ap (λ (v : View). v.trace) event
 load_asked : (a x : ℕ) (first asked loaded : View) → Asks a first asked → Loads a x asked loaded → GainsAtMost a first.asked loaded.asked
 load_asked a x first asked loaded asks event = subst (λ (v : View). GainsAtMost a first.asked v.asked) (sym event) asks.asked
 
-load_claims : (a x : ℕ) (asked loaded : View) → Loads a x asked loaded → loaded.claims ≡ asked.claims
-load_claims a x asked loaded event = ap (λ (v : View). v.claims) event
+load_reads : (a x : ℕ) (first asked loaded : View) → AsksToRead (lock_of_word a) first asked → Loads a x asked loaded → AsksToRead (lock_of_word a) first loaded
+load_reads a x first asked loaded reads event = subst (λ (v : View). AsksToRead (lock_of_word a) first v) (sym event)
+    (record { claims = reads.claims; scans = reads.scans; bits = reads.bits; reads = reads.reads })
 
 pub ask_to_read-requires : goal.ask_to_read-requires
 ask_to_read-requires g c =
@@ -50,10 +52,10 @@ returns-in-Yield g c =
       origin = refl;
       sound =
           yields_sound g.S.Shape.word_count g.S.Shape.good c.args.self.now.desk.now c.args.self.now.began.value c.args.a c.args.self.now.pass.now c.ask_to_read.new.pass c.args.self.now.undo c.in-Yield.cause
-          sound c.in-Yield.ensures.desk asks c.in-Yield.ensures.judged way.0 way.1;
+          sound c.in-Yield.ensures.desk asks c.in-Yield.ensures.judged way.0 way.1 way.2;
       memory = λ e. cc;
       asked = asks.asked;
-      claims = c.in-Yield.ensures.claims;
+      reads = c.in-Yield.ensures.reads;
     }
 
 pub load-requires : goal.load-requires
@@ -61,19 +63,18 @@ load-requires g c =
     let none = not_halted c.args.self.now.halt c.requires.going in
     let sound = subst (λ (h : Option Halt). IsSound g.S.Shape.word_count g.S.Shape.good c.args.self.now.desk.now c.args.self.now.began.value c.args.self.now.pass.now c.args.self.now.undo h) none c.requires.sound in
     let goes_on = c.ask_to_read.ensures.goes_on (elim c.match-ask_to_read.branch [ in-Held w ↦ λ cause e. held_not_yield cause (sym w.in-Held.is ∙ e) | in-Granted w ↦ λ cause e. granted_not_yield cause (sym w.in-Granted.is ∙ e) ]) in
-    let asked = asks_sound g.S.Shape.word_count g.S.Shape.good c.args.self.now.desk.now c.args.self.now.began.value c.args.a c.args.self.now.pass.now c.ask_to_read.new.pass c.args.self.now.undo
-    sound c.ask_to_read.ensures.desk c.ask_to_read.ensures.asks c.ask_to_read.ensures.judged goes_on.1 in
+    let asked = asks_table g.S.Shape.word_count g.S.Shape.good c.args.self.now.desk.now c.args.self.now.began.value c.args.a c.args.self.now.pass.now c.ask_to_read.new.pass c.args.self.now.undo
+    sound c.ask_to_read.ensures.desk c.ask_to_read.ensures.asks goes_on.1 in
     record {
-      desk = asked.table;
-      phase = asked.stands.phase;
-      word = subst (λ (n : ℕ). c.args.a < n) (sym asked.words) c.requires.within;
+      desk = asked.0;
+      phase = asked.1;
+      word = subst (λ (n : ℕ). c.args.a < n) (sym asked.2) c.requires.within;
       granted = goes_on.0;
     }
 
 pub returns : goal.returns
 returns g c =
     let none = not_halted c.args.self.now.halt c.requires.going in
-    let sound = subst (λ (h : Option Halt). IsSound g.S.Shape.word_count g.S.Shape.good c.args.self.now.desk.now c.args.self.now.began.value c.args.self.now.pass.now c.args.self.now.undo h) none c.requires.sound in
     let goes_on = c.ask_to_read.ensures.goes_on (elim c.match-ask_to_read.branch [ in-Held w ↦ λ cause e. held_not_yield cause (sym w.in-Held.is ∙ e) | in-Granted w ↦ λ cause e. granted_not_yield cause (sym w.in-Granted.is ∙ e) ]) in
     let asks = c.ask_to_read.ensures.asks in
     let event = c.load.ensures.event in
@@ -86,11 +87,9 @@ returns g c =
       origin = refl;
       sound =
           subst (λ (h : Option Halt). IsSound g.S.Shape.word_count g.S.Shape.good c.args.self.now.desk.now c.args.self.now.began.value c.load.new.pass c.args.self.now.undo h) (sym none)
-          (load_sound g.S.Shape.word_count g.S.Shape.good c.args.self.now.desk.now c.args.self.now.began.value c.args.a c.load.result c.ask_to_read.new.pass c.load.new.pass c.args.self.now.undo
-          (asks_sound g.S.Shape.word_count g.S.Shape.good c.args.self.now.desk.now c.args.self.now.began.value c.args.a c.args.self.now.pass.now c.ask_to_read.new.pass c.args.self.now.undo
-          sound c.ask_to_read.ensures.desk asks c.ask_to_read.ensures.judged goes_on.1)
-          c.load.ensures.desk event c.load.ensures.fits);
+          (held_sound g.S.Shape.word_count g.S.Shape.good c.args.self.now.desk.now c.args.self.now.began.value c.args.a c.load.result c.args.self.now.pass.now c.ask_to_read.new.pass c.load.new.pass c.args.self.now.undo c.args.self.now.halt
+          c.requires.going c.requires.sound c.ask_to_read.ensures.desk asks c.ask_to_read.ensures.judged goes_on.1 c.load.ensures.desk event c.load.ensures.fits);
       memory = λ e. cc;
       asked = load_asked c.args.a c.load.result c.args.self.now.pass.now.view c.ask_to_read.new.pass.view c.load.new.pass.view asks event;
-      claims = load_claims c.args.a c.load.result c.ask_to_read.new.pass.view c.load.new.pass.view event ∙ c.ask_to_read.ensures.claims;
+      reads = load_reads c.args.a c.load.result c.args.self.now.pass.now.view c.ask_to_read.new.pass.view c.load.new.pass.view c.ask_to_read.ensures.reads event;
     }

@@ -6,11 +6,11 @@ use Rattle.history_model.specs.Traces.{Trace}
 use Rattle.history_model.specs.Views.{number, HasWriteGrant}
 use Rattle.values_rule.specs.Steps.{store_value_action}
 use Rattle.undo_log.specs.Room.{Room}
-use Rattle.lock_or_yield.specs.Asking.{Asks, GainsAtMost}
+use Rattle.lock_or_yield.specs.Asking.{Asks, AsksToWrite, GainsAtMost}
 use Rattle.txn_commit.specs.declared.attempt.Halt.{Halt}
 use Rattle.txn_commit.specs.declared.attempt.Halt.TheVariants as halt
 use Rattle.txn_commit.specs.Attempts.{IsSound}
-use Rattle.txn_commit.proofs.Attempts.{asks_sound, loaded_last, not_halted, of_refused, of_made, refused_when_full, yields_sound, held_sound, memory_sound, store_sound, held_not_yield, granted_not_yield}
+use Rattle.txn_commit.proofs.Attempts.{asks_table, loaded_last, not_halted, of_refused, of_made, refused_when_full, yields_sound, held_sound, memory_sound, store_sound, held_not_yield, granted_not_yield}
 use Rattle.txn_commit.proofs.attempt.AttemptWords.write.Goals.{in-Held, in-Granted}
 use Rattle.txn_commit.proofs.attempt.AttemptWords.write.Goals as goal
 
@@ -35,6 +35,17 @@ store_asked : (a x : ℕ) (first loaded stored : View) → GainsAtMost a first.a
     → stored ≡ (store_value_action (number loaded) a x loaded).view [] 0 → GainsAtMost a first.asked stored.asked
 store_asked a x first loaded stored asked step = subst (λ (v : View). GainsAtMost a first.asked v.asked) (sym step) asked
 
+-- and of locks
+load_writes : (a was : ℕ) (first asked loaded : View) → AsksToWrite (lock_of_word a) first asked → loaded ≡ record asked { trace = asked.trace ++ Read a was ∷ [] }
+    → AsksToWrite (lock_of_word a) first loaded
+load_writes a was first asked loaded writes event = subst (λ (v : View). AsksToWrite (lock_of_word a) first v) (sym event)
+    (record { bits = writes.bits; reads = writes.reads; claims = writes.claims; scans = writes.scans })
+
+store_writes : (a x : ℕ) (first loaded stored : View) → AsksToWrite (lock_of_word a) first loaded
+    → stored ≡ (store_value_action (number loaded) a x loaded).view [] 0 → AsksToWrite (lock_of_word a) first stored
+store_writes a x first loaded stored writes step = subst (λ (v : View). AsksToWrite (lock_of_word a) first v) (sym step)
+    (record { bits = writes.bits; reads = writes.reads; claims = writes.claims; scans = writes.scans })
+
 pub returns-in-Yield : goal.returns-in-Yield
 returns-in-Yield g c =
     let none = not_halted c.args.self.now.halt c.requires.going in
@@ -49,9 +60,10 @@ returns-in-Yield g c =
       origin = refl;
       sound =
           yields_sound g.S.Shape.word_count g.S.Shape.good c.args.self.now.desk.now c.args.self.now.began.value c.args.a c.args.self.now.pass.now c.ask_to_write.new.pass c.args.self.now.undo c.in-Yield.cause
-          sound c.in-Yield.ensures.desk asks c.in-Yield.ensures.judged way.0 way.1;
+          sound c.in-Yield.ensures.desk asks c.in-Yield.ensures.judged way.0 way.1 way.2;
       memory = λ room e. cc;
       asked = asks.asked;
+      writes = c.in-Yield.ensures.writes;
     }
 
 pub load-old-requires : goal.load-old-requires
@@ -59,12 +71,12 @@ load-old-requires g c =
     let none = not_halted c.args.self.now.halt c.requires.going in
     let sound = subst (λ (h : Option Halt). IsSound g.S.Shape.word_count g.S.Shape.good c.args.self.now.desk.now c.args.self.now.began.value c.args.self.now.pass.now c.args.self.now.undo h) none c.requires.sound in
     let goes_on = c.ask_to_write.ensures.goes_on (elim c.match-ask_to_write.branch [ in-Held w ↦ λ cause e. held_not_yield cause (sym w.in-Held.is ∙ e) | in-Granted w ↦ λ cause e. granted_not_yield cause (sym w.in-Granted.is ∙ e) ]) in
-    let asked = asks_sound g.S.Shape.word_count g.S.Shape.good c.args.self.now.desk.now c.args.self.now.began.value c.args.a c.args.self.now.pass.now c.ask_to_write.new.pass c.args.self.now.undo
-    sound c.ask_to_write.ensures.desk c.ask_to_write.ensures.asks c.ask_to_write.ensures.judged goes_on.1 in
+    let asked = asks_table g.S.Shape.word_count g.S.Shape.good c.args.self.now.desk.now c.args.self.now.began.value c.args.a c.args.self.now.pass.now c.ask_to_write.new.pass c.args.self.now.undo
+    sound c.ask_to_write.ensures.desk c.ask_to_write.ensures.asks goes_on.1 in
     record {
-      desk = asked.table;
-      phase = asked.stands.phase;
-      word = subst (λ (n : ℕ). c.args.a < n) (sym asked.words) c.requires.within;
+      desk = asked.0;
+      phase = asked.1;
+      word = subst (λ (n : ℕ). c.args.a < n) (sym asked.2) c.requires.within;
       granted = inr goes_on.0;
     }
 
@@ -107,6 +119,9 @@ returns g c =
       asked =
           store_asked c.args.a c.args.v c.args.self.now.pass.now.view c.load-old.new.pass.view c.store.new.pass.view
           (load_asked c.args.a c.load-old.result c.args.self.now.pass.now.view c.ask_to_write.new.pass.view c.load-old.new.pass.view asks c.load-old.ensures.event) c.store.ensures.step;
+      writes =
+          store_writes c.args.a c.args.v c.args.self.now.pass.now.view c.load-old.new.pass.view c.store.new.pass.view
+          (load_writes c.args.a c.load-old.result c.args.self.now.pass.now.view c.ask_to_write.new.pass.view c.load-old.new.pass.view c.ask_to_write.ensures.writes c.load-old.ensures.event) c.store.ensures.step;
     }
 
 pub returns-then-is_err-clause-sound : goal.returns-then-is_err-clause-sound
@@ -119,3 +134,7 @@ returns-then-is_err-clause-sound g c =
     let room = c.requires.sound.room in
     subst (λ (log : Room). IsSound g.S.Shape.word_count g.S.Shape.good c.args.self.now.desk.now c.args.self.now.began.value c.load-old.new.pass log (Some halt.Memory)) (sym (of_refused c.note.result refused c.note.ensures.err))
     (memory_sound g.S.Shape.word_count g.S.Shape.good c.args.self.now.desk.now c.args.self.now.began.value c.load-old.new.pass c.args.self.now.undo held (omega (arith, full, room)))
+
+pub returns-then-is_err-clause-writes : goal.returns-then-is_err-clause-writes
+returns-then-is_err-clause-writes g c =
+    load_writes c.args.a c.load-old.result c.args.self.now.pass.now.view c.ask_to_write.new.pass.view c.load-old.new.pass.view c.ask_to_write.ensures.writes c.load-old.ensures.event

@@ -6,7 +6,8 @@ use Rattle.word_table.specs.Sound.{IsSound}
 use Rattle.locks_rule.specs.Steps.{clear_read_bit_action, released_phase}
 use Rattle.word_table.proofs.Found.{clear_stores}
 use Rattle.word_table.proofs.Taken.{taken_in}
-use Rattle.word_table.proofs.After.{copy_stored, steady, lock_copy}
+use Rattle.word_table.specs.Copies.{PassView}
+use Rattle.word_table.proofs.After.{copy_stored, steady, lock_copy, busy, releases_on}
 use Rattle.word_table.proofs.pass.Pass.clear_read_bit.Goals as goal
 
 pub store-requires-clause-stored : goal.store-requires-clause-stored
@@ -19,6 +20,7 @@ invariant_of-self g c = let i = c.self.invariant in let p = c.self.inside in let
     c.store.ensures.view
     (steady p.seat.me.0 v refl refl refl refl refl refl refl) (ap (λ (x : Phase). released_phase x) i.call_is.phase_is ∙ sym c.after_release-after_unshare.ensures)
     (lock_copy (record p.locks { bits = c.lower.new.row; reads = c.lower-2.new.row }) v (c.lower.ensures p.seat.me.0.bits l.bits_are) (c.lower-2.ensures p.seat.me.0.reads l.reads_are) l.claims_are l.scans_are)
+    (busy v (releases_on p.seat.me.0.phase (λ e. c.requires.begun (sym (ap (λ (x : PassView). x.view.phase) c.self.view_is) ∙ e))))
 
 pub returns-clause-taken : goal.returns-clause-taken
 returns-clause-taken g c = let p = c.self.inside in let t = c.store.ensures.took in

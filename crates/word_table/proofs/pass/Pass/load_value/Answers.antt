@@ -2,7 +2,7 @@ use Rattle.std.proofs.Common.{refl}
 use Rattle.history_model.specs.Fitting.{IsGood}
 use Rattle.values_rule.specs.Steps.{load_value_action}
 use Rattle.word_table.specs.Sound.{IsSound}
-use Rattle.word_table.proofs.Committing.{load_fits}
+use Rattle.word_table.proofs.Committing.{load_reads}
 use Rattle.word_table.proofs.Taken.{taken_in, own_number, still_none}
 use Rattle.word_table.proofs.pass.Pass.load_value.Goals as goal
 
@@ -12,7 +12,7 @@ returns-clause-taken g c = let p = c.self.inside in
 
 pub returns-clause-fits : goal.returns-clause-fits
 returns-clause-fits g c = let p = c.self.inside in let i = c.self.invariant in
-    load_fits (g.S.Shape.word_count c.args.table.now.key.shape) (g.S.Shape.good c.args.table.now.key.shape) c.args.table.now.key.seats c.args.table.now.key.base.items c.args.a c.args.self.now.view c.load.new.seat.me.0 c.load.result (returns-clause-taken g c) record {
+    load_reads (IsGood (g.S.Shape.word_count c.args.table.now.key.shape) (g.S.Shape.good c.args.table.now.key.shape)) c.args.table.now.key.seats c.args.table.now.key.base.items c.args.a c.args.self.now.view c.load.new.seat.me.0 c.load.result (returns-clause-taken g c) record {
       who = own_number p.call.who p.seat.me.0 p.seat.table_id c.args.self.now c.self.view_is i.call_is.who_is;
       phase = c.requires.phase;
       word = c.requires.word;

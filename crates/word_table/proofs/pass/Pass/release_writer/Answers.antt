@@ -5,7 +5,8 @@ use Rattle.history_model.specs.Fitting.{IsGood}
 use Rattle.word_table.specs.Sound.{IsSound}
 use Rattle.locks_rule.specs.Steps.{release_writer_action, released_phase}
 use Rattle.word_table.proofs.Taken.{taken_in}
-use Rattle.word_table.proofs.After.{copy_stored, steady, lock_copy}
+use Rattle.word_table.specs.Copies.{PassView}
+use Rattle.word_table.proofs.After.{copy_stored, steady, lock_copy, busy, releases_on}
 use Rattle.word_table.proofs.pass.Pass.release_writer.Goals as goal
 
 pub invariant_of-self : goal.invariant_of-self
@@ -14,6 +15,7 @@ invariant_of-self g c = let i = c.self.invariant in let p = c.self.inside in let
     c.store.ensures.view
     (steady p.seat.me.0 v refl refl refl refl refl refl refl) (ap (λ (x : Phase). released_phase x) i.call_is.phase_is ∙ sym c.after_release-after_unclaim.ensures)
     (lock_copy (record p.locks { claims = c.lower.new.row; scans = c.forget_if.new.masks }) v l.bits_are l.reads_are (c.lower.ensures p.seat.me.0.claims l.claims_are) (c.forget_if.ensures p.seat.me.0.scans l.scans_are))
+    (busy v (releases_on p.seat.me.0.phase (λ e. c.requires.begun (sym (ap (λ (x : PassView). x.view.phase) c.self.view_is) ∙ e))))
 
 pub returns-clause-taken : goal.returns-clause-taken
 returns-clause-taken g c = let p = c.self.inside in let t = c.store.ensures.took in

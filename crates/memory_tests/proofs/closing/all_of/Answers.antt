@@ -5,7 +5,7 @@ use Rattle.history_model.specs.Legal.{IsIn}
 use Rattle.values_rule.proofs.Members.{in_join, none_in}
 use Rattle.word_table.specs.Closing.{AreAllPasses}
 use Rattle.word_table.specs.Copies.{PassView}
-use Rattle.memory_tests.proofs.closing.close_pair.Goals as goal
+use Rattle.memory_tests.proofs.closing.all_of.Goals as goal
 
 -- a fact of both passes is one of each
 each : (P : PassView → Type 0) (a b : PassView) → P a → P b → (p : PassView) → IsIn p (a ∷ b ∷ []) → P p
@@ -23,9 +23,8 @@ two_passes table a b ta tb pa pb na nb = record {
     at (suc zero) lt = (b, (1, refl), nb)
     at (suc (suc j)) lt = absurd (omega arith)
 
-pub close_all-requires : goal.close_all-requires
-close_all-requires c = let r = c.requires in record {
-  all = subst (λ (l : List PassView). AreAllPasses c.args.desk.table c.args.desk.seats l) (sym c.in_ok-passes.ensures.items)
-      (subst (λ (n : ℕ). AreAllPasses c.args.desk.table n (c.args.zero ∷ c.args.one ∷ [])) (sym r.seats)
-      (two_passes c.args.desk.table c.args.zero c.args.one r.tables.0 r.tables.1 r.idle.0 r.idle.1 r.numbers.0 r.numbers.1));
-}
+pub returns-clause-all : goal.returns-clause-all
+returns-clause-all c = let r = c.requires in
+    subst (λ (l : List PassView). AreAllPasses c.args.desk.now.table c.args.desk.now.seats l) (sym c.in_ok-passes.ensures.items)
+    (subst (λ (n : ℕ). AreAllPasses c.args.desk.now.table n (c.args.zero ∷ c.args.one ∷ [])) (sym r.seats)
+    (two_passes c.args.desk.now.table c.args.zero c.args.one r.tables.0 r.tables.1 r.idle.0 r.idle.1 r.numbers.0 r.numbers.1))
