@@ -39,7 +39,7 @@ fn empty_books(alloc: Global) -> Result<Plain<BooksShape>, AllocError>
 {
     let mut words = vec![in alloc; 0u64; 285]?;
     words[1] = 1;
-    words[277] = 2;
+    words[2] = 2;
     Ok(Plain::new(alloc, SHAPE, words))
 }
 

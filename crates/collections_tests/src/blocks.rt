@@ -66,7 +66,7 @@ fn take_all<W: Words>(w: &mut W, arena: &Arena) -> Result<[Option<u32>; 3], Stop
 fn take_until_none_and_give_back(rt: HostRuntime) -> Result<(), Fail> {
     let mut words = vec![in rt.alloc(); 0u64; 285]?;
     words[1] = 1;
-    words[277] = 2;
+    words[2] = 2;
     let mut plain = Plain::new(rt.alloc(), TwoBlocks, words);
     let arena = Arena {
         heads: 1,

@@ -11,7 +11,7 @@ const SHAPE: BooksShape = BooksShape {
     ring: 1,
 };
 
-/// The account takes the first block, and the list of the free ones begins with the second.
+/// The account takes the first block, from the list after the last, and the second is free.
 #[test]
 fn what_is_built_is_read(rt: HostRuntime) -> Result<(), Fail> {
     let mut books = Books::new(rt.alloc(), 2, 1, 1);
@@ -19,7 +19,7 @@ fn what_is_built_is_read(rt: HostRuntime) -> Result<(), Fail> {
     let words = build(rt.alloc(), &books)?;
     assert_eq!(rt; words.len(), 285);
     assert_eq!(rt; words[0], 1);
-    assert_eq!(rt; words[1], 2);
+    assert_eq!(rt; [words[1], words[2]], [0, 2]);
     assert_eq!(rt; words[277], 7);
     assert_eq!(rt; words[278], 70);
     let again = read_books(rt.alloc(), &SHAPE, &words)?;

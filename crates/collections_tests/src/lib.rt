@@ -11,6 +11,8 @@ mod building;
 #[cfg(test)]
 mod hash_map;
 #[cfg(test)]
+mod lists;
+#[cfg(test)]
 mod parts;
 #[cfg(test)]
 mod reading;

@@ -84,13 +84,13 @@ fn built(alloc: Global) -> Result<Plain<BooksShape>, OutOfMemory>
     Ok(Plain::new(alloc, SHAPE, words))
 }
 
-/// All is 0 but the head of the free blocks, which names block 0, and what block 0 names, block 1.
+/// All is 0 but the heads of the first two lists of free blocks, which name blocks 0 and 1.
 #[test]
 fn empty_books_are_built_word_by_word(rt: HostRuntime) -> Result<(), Fail> {
     let plain = built(rt.alloc())?;
     let mut words = vec![in rt.alloc(); 0u64; 285]?;
     words[1] = 1;
-    words[277] = 2;
+    words[2] = 2;
     assert_eq!(rt; plain.words(), words.as_slice());
     Ok(())
 }

@@ -94,7 +94,7 @@ fn empty_words(alloc: Global) -> Result<Vec<u64>, AllocError>
 {
     let mut words = vec![in alloc; 0u64; 285]?;
     words[1] = 1;
-    words[277] = 2;
+    words[2] = 2;
     Ok(words)
 }
 

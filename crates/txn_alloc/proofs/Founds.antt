@@ -13,12 +13,12 @@ use Rattle.txn_words.specs.Looks.{Looks}
 use Rattle.txn_words.proofs.Steps.{after_write_end, fits_write_end}
 use Rattle.txn_words.proofs.FrameLaws.{only_more, only_then, only_write}
 use Rattle.txn_words.proofs.ReadLaws.{sees_more, sees_then, sees_write}
-use Rattle.txn_words.proofs.Looks.{looks_read, looks_wider, seen_before}
+use Rattle.txn_words.proofs.Looks.{leads_back, looks_read, looks_wider, seen_before}
 use Rattle.txn_alloc.specs.declared.put.Put.TheVariants.{New, Old, Full}
-use Rattle.txn_alloc.specs.FreeLists.{block_at, IsInBlock, IsHeadOrFirst, IsWrittenByTake, IsReadByTake}
-use Rattle.txn_alloc.specs.EntryMaps.{Entries, Blocks, Part, HasMap, HoldsApart, HasMapApart, Finds, Uses, IsMoved, IsSeen, IsOwn, IsValue, Inserts, MayRead, MayReadToInsert, MayReadToRemove}
-use Rattle.txn_alloc.proofs.Sets.{in_here}
-use Rattle.txn_alloc.proofs.Parts.{IsOne, moved_in, each_held}
+use Rattle.txn_alloc.specs.FreeLists.{block_at, IsInBlock, IsHeadOrFirst, IsNearest, IsWrittenByTake, IsReadByTake}
+use Rattle.txn_alloc.specs.EntryMaps.{Entries, Blocks, Part, HasMap, HoldsApart, HasMapApart, Finds, Uses, IsMoved, IsSeen, IsOwn, IsValue, Inserts, TakesNearest, MayRead, MayReadToInsert, MayReadToRemove}
+use Rattle.txn_alloc.proofs.Sets.{in_here, in_or}
+use Rattle.txn_alloc.proofs.Parts.{IsOne, used_of, moved_in, each_held}
 
 -- what is near a search for the key is what a look for it may read
 abbrev pub IsOwnNear : Part → ℕ → (List ℕ → ℕ → Type 0) → Type 0
@@ -47,13 +47,13 @@ module _ (part : Part) (key n : ℕ) (G : List ℕ → Type 0) (t u : Trace) {Is
       sees_more (IsNear (after t s)) (MayRead part key (after t s) (after u s)) t u (own (after t s) o.entries o.used o.holds) (l.reads s fit)
 
   -- and heads, where no block was free
-  pub sees_none : {P : List ℕ → Type 0} → Looks n G t u IsNear P → InEach n G t (HasMapApart part) → (v : Trace) → Begins u v → AppendsReads u v (IsReadByTake part.arena None)
+  pub sees_none : {P : List ℕ → Type 0} → Looks n G t u IsNear P → InEach n G t (HasMapApart part) → (v : Trace) → Begins u v → AppendsReads u v (IsReadByTake part.arena key None)
       → (s : List ℕ) → Fits n G v s → AppendsReads t v (MayReadToInsert part key Full (after t s) (after v s))
   sees_none l order v bv heads s fit =
       let may : ℕ → Type 0 = MayReadToInsert part key Full (after t s) (after v s) in
       let fit_u : Fits n G u s = fits_begins n G u v s bv fit in
       sees_then may t u v (sees_more (MayRead part key (after t s) (after u s)) may t u (λ a k. inl k) (sees_near l (each_held part n G t order) s fit_u))
-      (sees_more (IsReadByTake part.arena None) may u v (λ a k. inr k) heads)
+      (sees_more (IsReadByTake part.arena key None) may u v (λ a k. inr k) heads)
 
 -- the key was found, and its value is near too
 module _ (part : Part) (key b q : ℕ) {IsNear : List ℕ → ℕ → Type 0} {IsFound : List ℕ → Type 0} (own : IsOwnNear part key IsNear) (block : IsKeysBlock part key b IsFound) (is_value : q ≡ block_at part.arena b + 1) where
@@ -154,6 +154,18 @@ module _ (part : Part) (one : IsOne part) (key x n : ℕ) (G : List ℕ → Type
         let o = order_before s fit in
         moved_in part one (after t s) (after w s) o.entries o.used o.free b o.holds (puts s fit o.entries o.used o.free o.holds).was_free (uses_new s fit)
 
+    -- and it is the one that a take near the key gives
+    pub takes_new : (u v : Trace) {IsNear : List ℕ → ℕ → Type 0} {P : List ℕ → Type 0} → Looks n G t u IsNear P → Begins u v → Begins v w → Leads n G u v (λ x y. IsNearest part.arena key b x) → Leads n G t w (TakesNearest part key)
+    takes_new u v l bv bw nearest = record {
+      at = λ s fit d uses unused.
+          let o = order_before s fit in
+          let near : IsNearest part.arena key b (after t s) = (leads_back n G t u l v (λ x y. IsNearest part.arena key b x) bv nearest).at s (fits_begins n G v w s bw fit) in
+          elim (in_or o.used b d (used_of part one (after w s) (entry_map.insert o.entries key x) (set.insert o.used b) d (puts s fit o.entries o.used o.free o.holds).left.map uses)) [
+            | inl e ↦ subst (λ k. IsNearest part.arena key k (after t s)) (sym e) near
+            | inr m ↦ absurd (unused (o.entries, o.used, o.holds.map, m))
+          ];
+    }
+
     module _ (u v : Trace) {IsNear : List ℕ → ℕ → Type 0} {P : List ℕ → Type 0} (l : Looks n G t u IsNear P) (s : List ℕ) (fit : Fits n G w s) {IsPut : ℕ → Type 0} where
       pub owns_new : AppendsOnly u v (IsWrittenByTake part.arena (Some b)) → AppendsOnly v w IsPut → ((a : ℕ) → IsPut a → IsOwn part key (after t s) (after w s) a) → AppendsOnly t w (IsOwn part key (after t s) (after w s))
       owns_new heads put step =
@@ -161,15 +173,15 @@ module _ (part : Part) (one : IsOne part) (key x n : ℕ) (G : List ℕ → Type
           only_then own t u w (only_more (λ a. ⊥) own t u (λ a k. absurd k) l.writes)
           (only_then own u v w (only_more (IsWrittenByTake part.arena (Some b)) own u v (λ a k. inr (inr (b, moved_new s fit, k))) heads) (only_more IsPut own v w step put))
 
-      pub sees_new : IsOwnNear part key IsNear → Begins u v → Begins v w → AppendsReads u v (IsReadByTake part.arena (Some b)) → AppendsReads v w IsPut
+      pub sees_new : IsOwnNear part key IsNear → Begins u v → Begins v w → AppendsReads u v (IsReadByTake part.arena key (Some b)) → AppendsReads v w IsPut
           → ((a : ℕ) → IsPut a → MayReadToInsert part key New (after t s) (after w s) a) → AppendsReads t w (MayReadToInsert part key New (after t s) (after w s))
       sees_new own bv bw names put step =
           let may : ℕ → Type 0 = MayReadToInsert part key New (after t s) (after w s) in
           let fit_u : Fits n G u s = fits_begins n G u v s bv (fits_begins n G v w s bw fit) in
           let moved : IsMoved part (after t s) (after w s) b = moved_new s fit in
-          let name : (a : ℕ) → IsReadByTake part.arena (Some b) a → may a = λ a k. elim k [ inl e ↦ inr (b, moved, inl e) | inr e ↦ inr (b, moved, inr (record { low = omega (arith, e); high = omega (arith, e) })) ] in
+          let name : (a : ℕ) → IsReadByTake part.arena key (Some b) a → may a = λ a k. elim k [ inl e ↦ inr (b, moved, inl e) | inr e ↦ inr (b, moved, inr (record { low = omega (arith, e); high = omega (arith, e) })) ] in
           sees_then may t u w (sees_more (MayRead part key (after t s) (after u s)) may t u (λ a k. inl k) (sees_near part key n G t u own l (each_held part n G t order) s fit_u))
-          (sees_then may u v w (sees_more (IsReadByTake part.arena (Some b)) may u v name names) (sees_more IsPut may v w step put))
+          (sees_then may u v w (sees_more (IsReadByTake part.arena key (Some b)) may u v name names) (sees_more IsPut may v w step put))
 
 -- a block that was used was given back
 module _ (part : Part) (key y b : ℕ) (before after : List ℕ) (used : Uses part before b) (moved : IsMoved part before after b) where

@@ -1,6 +1,9 @@
 pub mod Sets
+pub mod Rounds
 pub mod Lists
 pub mod Traces
+pub mod Takings
+pub mod Laid
 pub mod Cells
 pub mod Zeros
 pub mod Counting

@@ -22,6 +22,12 @@ new_not_old was e = absurd (cc)
 pub full_not_old : (was : ℕ) → Full ≡ Old was → ⊥
 full_not_old was e = absurd (cc)
 
+pub old_not_new : (was : ℕ) → Old was ≡ New → ⊥
+old_not_new was e = absurd (cc)
+
+pub full_not_new : Full ≡ New → ⊥
+full_not_new e = absurd (cc)
+
 pub new_not_full : New ≡ Full → ⊥
 new_not_full e = absurd (cc)
 

@@ -10,13 +10,13 @@ use Rattle.history_model.proofs.FittingLaws.{fits_front, fits_begins}
 use Rattle.txn_words.specs.Steps.{EndsWithWrite}
 use Rattle.txn_words.proofs.Steps.{after_write_end, fits_write_end}
 use Rattle.txn_alloc.specs.declared.arena.Arena.{Arena}
-use Rattle.txn_alloc.specs.FreeLists.{block_at, IsLaidOut, IsInOrder, FreeListsHold, HasNone, Lacks, TakesBlock, Takes, Gives}
+use Rattle.txn_alloc.specs.FreeLists.{block_at, head_of, IsLaidOut, IsInOrder, FreeListsHold, HasNone, Lacks, TakesBlock, Takes, Gives}
 use Rattle.txn_alloc.proofs.Sets.{out_both, out_less, out_itself, out_empty}
-use Rattle.txn_alloc.proofs.Lists.{one_set, heads_in, block_in, none_free, took, head_names, gave}
+use Rattle.txn_alloc.proofs.Lists.{one_set, head_in, block_in, gave}
 
 -- where an arena lies among n words
 pub record Lies (arena : Arena) (n : ℕ) : Type 0 where
-  pub head : arena.heads < n
+  pub head : (number : ℕ) → head_of arena number < n
   pub block : (b : ℕ) → b < arena.blocks → block_at arena b < n
   pub small : n ≤ 2 ^ 64
 
@@ -36,69 +36,28 @@ module _ (arena : Arena) (n : ℕ) (G : List ℕ → Type 0) (t : Trace) where
       let l : IsLaidOut arena s = ((order.at some.0 some.1).1).laid_out in
       let long : length s ≡ n = length-after t some.0 ∙ some.1.count in
       record {
-        head = omega (arith, long, heads_in arena s l);
+        head = λ number. let k : head_of arena number < length s = head_in arena s number l in omega (arith, long, k);
         block = λ b lt. let k : block_at arena b < length s = block_in arena s b l lt in omega (arith, long, k);
         small = omega (arith, long, l.places);
       }
 
-  module _ (u : Trace) (h : ℕ) (read : u ≡ t ++ Read arena.heads h ∷ []) where
-    -- the read found its value in the state, and left the state
-    pub head_read : (s : List ℕ) → Fits n G u s → (slice_get (after t s) arena.heads ≡ Some h) × (after u s ≡ after t s)
-    head_read s fit =
-        let whole : Fits n G (t ++ Read arena.heads h ∷ []) s = subst (λ w. Fits n G w s) read fit in
-        (read_there t s arena.heads h whole.legal, ap (λ w. after w s) read ∙ after_read t s arena.heads h)
-
-    pub fits_before : (s : List ℕ) → Fits n G u s → Fits n G t s
-    fits_before s fit = fits_front n G t (Read arena.heads h ∷ []) s (subst (λ w. Fits n G w s) read fit)
-
-    -- the number that the head names
-    pub named : (b : ℕ) → h ≡ b + 1 → InEach n G t (IsInOrder arena) → SomeFits n G u → b < arena.blocks
-    named b e order some =
-        let o : IsInOrder arena (after t some.0) = order.at some.0 (fits_before some.0 some.1) in
-        head_names arena (after t some.0) o.0 b ((head_read some.0 some.1).0 ∙ ap (λ k. Some k) e) o.1
-
-    -- nothing was taken
-    pub takes_none : Leads n G t u (Takes arena None)
-    takes_none = record { at = λ s fit. (head_read s fit).1 }
-
-    pub found_none : h ≡ 0 → InEach n G t (IsInOrder arena) → Leads n G t u (λ before after. HasNone arena before)
-    found_none z order = record {
-      at = λ s fit.
-          let o : IsInOrder arena (after t s) = order.at s (fits_before s fit) in
-          subst (λ f. FreeListsHold arena (after t s) f) (none_free arena (after t s) o.0 ((head_read s fit).0 ∙ ap (λ k. Some k) z) o.1) o.1;
-    }
-
-    -- the first block was taken
-    pub takes_some : (v w : Trace) (b p x : ℕ) → h ≡ b + 1 → p ≡ block_at arena b → v ≡ u ++ Read p x ∷ [] → EndsWithWrite v w arena.heads x → Leads n G t w (Takes arena (Some b))
-    takes_some v w b p x e is_p e2 ends = record {
-      at = λ s fit f hold.
-          let fit_v : Fits n G v s = fits_write_end n G v w arena.heads x s ends fit in
-          let fit_v' : Fits n G (u ++ Read p x ∷ []) s = subst (λ z. Fits n G z s) e2 fit_v in
-          let fit_u : Fits n G u s = fits_front n G u (Read p x ∷ []) s fit_v' in
-          let same_u : after u s ≡ after t s = (head_read s fit_u).1 in
-          let same_v : after v s ≡ after t s = ap (λ z. after z s) e2 ∙ after_read u s p x ∙ same_u in
-          let at_p : slice_get (after t s) p ≡ Some x = ap (λ z. slice_get z p) (sym same_u) ∙ read_there u s p x fit_v'.legal in
-          let at_block : slice_get (after t s) (block_at arena b) ≡ Some x = ap (λ k. slice_get (after t s) k) (sym is_p) ∙ at_p in
-          let last : after w s ≡ slice_set (after t s) arena.heads x = after_write_end v w arena.heads x s ends ∙ ap (λ z. slice_set z arena.heads x) same_v in
-          subst (λ z. TakesBlock arena b (after t s) z f) (sym last) (took arena (after t s) f b x ((head_read s fit_u).0 ∙ ap (λ k. Some k) e) at_block hold);
-    }
-
-    -- a block was given back
-    pub gives_back : (v w : Trace) (b p x : ℕ) → p ≡ block_at arena b → EndsWithWrite u v p h → x ≡ b + 1 → EndsWithWrite v w arena.heads x
-        → b < arena.blocks → InEach n G t (Lacks arena b) → Leads n G t w (Gives arena b)
-    gives_back v w b p x is_p ends1 is_x ends2 lt lacks = record {
-      at = λ s fit f hold.
-          let fit_v : Fits n G v s = fits_write_end n G v w arena.heads x s ends2 fit in
-          let fit_u : Fits n G u s = fits_write_end n G u v p h s ends1 fit_v in
-          let fit_t : Fits n G t s = fits_before s fit_u in
-          let same_u : after u s ≡ after t s = (head_read s fit_u).1 in
-          let first : after v s ≡ slice_set (after t s) (block_at arena b) h =
-          after_write_end u v p h s ends1 ∙ ap (λ z. slice_set z p h) same_u ∙ ap (λ k. slice_set (after t s) k h) is_p in
-          let last : after w s ≡ slice_set (slice_set (after t s) (block_at arena b) h) arena.heads (b + 1) =
-          after_write_end v w arena.heads x s ends2 ∙ ap (λ z. slice_set z arena.heads x) first ∙ ap (λ k. slice_set (slice_set (after t s) (block_at arena b) h) arena.heads k) is_x in
-          subst (λ z. FreeListsHold arena z (set.insert f b)) (sym last)
-          (gave arena (after t s) f b h (head_read s fit_u).0 lt (lacks.at s fit_t f hold) hold);
-    }
+  -- a block was given back
+  pub gives_back : (u v w : Trace) (b h p q x : ℕ) → p ≡ head_of arena b → u ≡ t ++ Read p h ∷ [] → q ≡ block_at arena b → EndsWithWrite u v q h → x ≡ b + 1 → EndsWithWrite v w p x
+      → b < arena.blocks → InEach n G t (Lacks arena b) → Leads n G t w (Gives arena b)
+  gives_back u v w b h p q x is_p read is_q ends1 is_x ends2 lt lacks = record {
+    at = λ s fit f hold.
+        let fit_v : Fits n G v s = fits_write_end n G v w p x s ends2 fit in
+        let fit_u : Fits n G u s = fits_write_end n G u v q h s ends1 fit_v in
+        let whole : Fits n G (t ++ Read p h ∷ []) s = subst (λ z. Fits n G z s) read fit_u in
+        let fit_t : Fits n G t s = fits_front n G t (Read p h ∷ []) s whole in
+        let same_u : after u s ≡ after t s = ap (λ z. after z s) read ∙ after_read t s p h in
+        let there : slice_get (after t s) (head_of arena b) ≡ Some h = ap (λ k. slice_get (after t s) k) (sym is_p) ∙ read_there t s p h whole.legal in
+        let first : after v s ≡ slice_set (after t s) (block_at arena b) h = after_write_end u v q h s ends1 ∙ ap (λ z. slice_set z q h) same_u ∙ ap (λ k. slice_set (after t s) k h) is_q in
+        let last : after w s ≡ slice_set (slice_set (after t s) (block_at arena b) h) (head_of arena b) (b + 1) =
+        after_write_end v w p x s ends2 ∙ ap (λ z. slice_set z p x) first ∙ ap (λ k. slice_set (slice_set (after t s) (block_at arena b) h) k x) is_p
+        ∙ ap (λ k. slice_set (slice_set (after t s) (block_at arena b) h) (head_of arena b) k) is_x in
+        subst (λ z. FreeListsHold arena z (set.insert f b)) (sym last) (gave arena (after t s) f b h there lt (lacks.at s fit_t f hold) hold);
+  }
 
   -- where a block was taken, not every state had none
   pub taken_from_some : {A : Type 0} (w : Trace) (b : ℕ) → SomeFits n G w → Leads n G t w (Takes arena (Some b)) → Leads n G t w (λ before after. HasNone arena before) → A

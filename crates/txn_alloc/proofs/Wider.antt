@@ -5,7 +5,7 @@ use Rattle.history_model.specs.Fitting.{Leads}
 use Rattle.txn_words.specs.Frames.{KeepsOthers}
 use Rattle.txn_alloc.specs.declared.arena.Arena.{Arena}
 use Rattle.txn_alloc.specs.FreeLists.{IsHead, IsInBlock, IsHeadFor, IsHeadOrFirst, IsWrittenByTake}
-use Rattle.txn_alloc.proofs.Lists.{first_head}
+use Rattle.txn_alloc.proofs.Rounds.{is_head}
 
 -- a is a head, or a word of block b
 abbrev pub IsAnyHeadOrIn : Arena → ℕ → ℕ → Type 0
@@ -16,7 +16,7 @@ pub keeps_more : (IsOwn IsWider : ℕ → Type 0) (s t : List ℕ) → ((a : ℕ
 keeps_more IsOwn IsWider s t wider k = record { count = k.count; same = λ a out. k.same a (λ o. out (wider a o)) }
 
 pub head_is : (arena : Arena) (b a : ℕ) → IsHeadFor arena b a → IsHead arena a
-head_is arena b a e = subst (λ z. IsHead arena z) (sym e) (first_head arena)
+head_is arena b a e = subst (λ z. IsHead arena z) (sym e) (is_head arena b)
 
 written_head : (arena : Arena) (o : Option ℕ) (a : ℕ) → IsWrittenByTake arena o a → IsHead arena a
 written_head arena None a k = absurd k

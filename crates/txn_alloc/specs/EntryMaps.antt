@@ -7,7 +7,7 @@ use Rattle.std.specs.FinMap as entry_map
 use Rattle.txn_alloc.specs.declared.arena.Arena.{Arena}
 use Rattle.txn_alloc.specs.declared.put.Put.{Put}
 use Rattle.txn_alloc.specs.declared.put.Put.TheVariants.{New, Old, Full}
-use Rattle.txn_alloc.specs.FreeLists.{block_at, IsInBlock, IsHeadFor, FreeListsHold}
+use Rattle.txn_alloc.specs.FreeLists.{block_at, IsHead, IsInBlock, IsHeadFor, IsHeadTo, IsNearest, FreeListsHold}
 
 -- an entry, and the block that holds it
 pub record Cell : Type 0 where
@@ -101,12 +101,17 @@ module _ (part : Part) where
   abbrev pub MayReadRange : ℕ → ℕ → List ℕ → List ℕ → ℕ → Type 0
   MayReadRange low high before after a = IsSeen low (λ k. (low ≤ k) × (k ≤ high)) before a
 
-  -- what an insert may read, by its answer: where a block was taken, its head and its words too; where none was free, heads too
+  -- what an insert may read, by its answer: where a block was taken, the heads from that of the key round to its own, and its
+  -- words, too; where none was free, the heads too
   abbrev pub MayReadToInsert : ℕ → Put → List ℕ → List ℕ → ℕ → Type 0
   MayReadToInsert key New before after a =
-      MayRead key before after a ⊎ ((b : ℕ) × IsMoved before after b × (IsHeadFor part.arena b a ⊎ IsInBlock part.arena b a))
+      MayRead key before after a ⊎ ((b : ℕ) × IsMoved before after b × (IsHeadTo part.arena key b a ⊎ IsInBlock part.arena b a))
   MayReadToInsert key (Old was) before after a = MayRead key before after a
-  MayReadToInsert key Full before after a = MayRead key before after a ⊎ ((b : ℕ) × IsHeadFor part.arena b a)
+  MayReadToInsert key Full before after a = MayRead key before after a ⊎ IsHead part.arena a
+
+  -- from state to state: each block that is used now and was not is the one that a take near the key gives
+  abbrev pub TakesNearest : ℕ → List ℕ → List ℕ → Type 0
+  TakesNearest key before after = (b : ℕ) → Uses after b → ¬ Uses before b → IsNearest part.arena key b before
 
   -- what a removal may read, by its answer: where a block was given back, its head too
   abbrev pub MayReadToRemove : ℕ → Option ℕ → List ℕ → List ℕ → ℕ → Type 0

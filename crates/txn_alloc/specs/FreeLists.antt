@@ -1,7 +1,7 @@
 -- The free blocks of an arena, as a set, and the lists that hold them.
--- A word that names a block holds its number plus 1; 0 names none. Only `HasList` and `FreeListsHold` know
+-- A word that names a block holds its number plus 1; 0 names none. Only `HasList`, `FreeListsHold` and `IsHeadFor` know
 -- how the lists go; all else speaks of the set.
-use Rattle.std.specs.Prelude.{◌≡◌, ℕ, ◌+◌, ◌*◌, ◌^◌, ◌<◌, ◌≤◌, ◌⊎◌, true, false, List, [], ◌∷◌, Option, Some, None, length, slice_get, nat_eq}
+use Rattle.std.specs.Prelude.{◌≡◌, ℕ, ◌+◌, ◌-◌, ◌*◌, ◌%◌, ◌^◌, ◌<◌, ◌≤◌, ◌⊎◌, true, false, List, [], ◌∷◌, Option, Some, None, length, slice_get, nat_eq}
 use Rattle.std.specs.List.{IsDistinct}
 use Rattle.std.specs.Ordering.{nat_cmp}
 use Rattle.std.specs.FinSet as set
@@ -22,23 +22,41 @@ pub record IsInBlock (arena : Arena) (b a : ℕ) : Type 0 where
   pub low : block_at arena b ≤ a
   pub high : a < block_at arena b + 4
 
--- a is the head of the list that block b hangs in while it is free: for every block the first head
+-- the head of the list of a number: blocks hang by their numbers, modulo the number of lists
+abbrev pub head_of : Arena → ℕ → ℕ
+head_of arena number = arena.heads + number % HEADS
+
+-- a is the head of the list that block b hangs in while it is free
 abbrev pub IsHeadFor : Arena → ℕ → ℕ → Type 0
-IsHeadFor arena b a = a ≡ arena.heads
+IsHeadFor arena b a = a ≡ head_of arena b
 
 -- a is the head for block b, or the block's first word, which names the next block while it is free
 abbrev pub IsHeadOrFirst : Arena → ℕ → ℕ → Type 0
 IsHeadOrFirst arena b a = IsHeadFor arena b a ⊎ (a ≡ block_at arena b)
+
+-- how many lists further than that of a number the list of block b stands, where the first follows the last
+abbrev pub steps_to : ℕ → ℕ → ℕ
+steps_to near b = (b + HEADS - near % HEADS) % HEADS
+
+-- a is one of the heads from that of a number round to that of block b
+abbrev pub IsHeadTo : Arena → ℕ → ℕ → ℕ → Type 0
+IsHeadTo arena near b a = (i : ℕ) × (i ≤ steps_to near b) × (a ≡ head_of arena (near + i))
+
+-- block b stands at the head of its list, and the lists from that of a number up to it are empty
+pub record IsNearest (arena : Arena) (near b : ℕ) (words : List ℕ) : Type 0 where
+  pub there : slice_get words (head_of arena b) ≡ Some (b + 1)
+  pub empty : (i : ℕ) → i < steps_to near b → slice_get words (head_of arena (near + i)) ≡ Some 0
 
 -- the word that a take may write, by the block that it takes
 abbrev pub IsWrittenByTake : Arena → Option ℕ → ℕ → Type 0
 IsWrittenByTake arena None a = ⊥
 IsWrittenByTake arena (Some b) a = IsHeadFor arena b a
 
--- the words that a take may read: where it takes none, heads for blocks, and else the block's own head and first word
-abbrev pub IsReadByTake : Arena → Option ℕ → ℕ → Type 0
-IsReadByTake arena None a = (b : ℕ) × IsHeadFor arena b a
-IsReadByTake arena (Some b) a = IsHeadOrFirst arena b a
+-- the words that a take near a number may read: where it takes none, the heads, and else the heads round to the block's own,
+-- and the block's first word
+abbrev pub IsReadByTake : Arena → ℕ → Option ℕ → ℕ → Type 0
+IsReadByTake arena near None a = IsHead arena a
+IsReadByTake arena near (Some b) a = IsHeadTo arena near b a ⊎ (a ≡ block_at arena b)
 
 -- all four words of each block, and the heads, are words of the list, and no head is in a block; a place has 64 bits
 pub record IsLaidOut (arena : Arena) (words : List ℕ) : Type 0 where
@@ -53,14 +71,18 @@ HasList arena words place [] = slice_get words place ≡ Some 0
 HasList arena words place (b ∷ bs) =
     (slice_get words place ≡ Some (b + 1)) × (b < arena.blocks) × HasList arena words (block_at arena b) bs
 
--- exactly these blocks are free: the list at the first head goes through them, each once, and the other heads name none
+-- list h goes through blocks whose number is h modulo the number of lists, each once, and of those through all that are free
+pub record FreeListHolds (arena : Arena) (words : List ℕ) (free : set.FinSet nat_cmp) (h : ℕ) : Type 0 where
+  pub order : List ℕ
+  pub list : HasList arena words (arena.heads + h) order
+  pub once : IsDistinct nat_eq order
+  pub own : (b : ℕ) → set.contains (set.from_list {R = nat_cmp} order) b ≡ true → b % HEADS ≡ h
+  pub all : (b : ℕ) → b % HEADS ≡ h → set.contains free b ≡ set.contains (set.from_list {R = nat_cmp} order) b
+
+-- exactly these blocks are free: each stands in the list of its number
 pub record FreeListsHold (arena : Arena) (words : List ℕ) (free : set.FinSet nat_cmp) : Type 0 where
   pub laid_out : IsLaidOut arena words
-  pub order : List ℕ
-  pub all : free ≡ set.from_list order
-  pub once : IsDistinct nat_eq order
-  pub first : HasList arena words arena.heads order
-  pub others : (a : ℕ) → IsHead arena a → arena.heads < a → slice_get words a ≡ Some 0
+  pub lists : (h : ℕ) → h < HEADS → FreeListHolds arena words free h
 
 -- the free lists hold some set of blocks
 abbrev pub IsInOrder : Arena → List ℕ → Type 0

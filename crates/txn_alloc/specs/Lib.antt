@@ -2,3 +2,4 @@ pub mod FreeLists
 pub mod Statements
 pub mod EntryMaps
 pub mod Spread
+pub mod Laying

@@ -1,11 +1,11 @@
 //! Where blocks lie.
 
 ghost use Rattle.std.specs.Prelude.{◌≡◌, ◌<◌, ◌^◌};
-ghost use Rattle.txn_alloc.specs.FreeLists.{block_at};
+ghost use Rattle.txn_alloc.specs.FreeLists.{block_at, head_of};
 
 use std::marker::Model;
 
-/// How many lists an arena's free blocks may hang in. Their heads are as many words, from `Arena::heads` on.
+/// How many lists an arena's free blocks hang in, each in that of its number modulo this. Their heads are as many words, from `Arena::heads` on.
 pub const HEADS: u64 = 16;
 
 /// How many words a block has.
@@ -41,6 +41,14 @@ impl Arena {
         ensures { result ≡ block_at self.now block }
     {
         self.first + BLOCK_WORDS * u64::from(block)
+    }
+
+    /// The head of the list of a number: block `b` hangs in that of `b` while it is free.
+    pub fn head_of(&self, number: u64) -> u64
+        requires fits { head_of self.now number < 2 ^ 64 }
+        ensures { result ≡ head_of self.now number }
+    {
+        self.heads + number % HEADS
     }
 }
 

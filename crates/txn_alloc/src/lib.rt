@@ -1,7 +1,8 @@
 //! Blocks of four words in any words: taken, given back, and exact about when none is left.
 //!
-//! An `Arena` says where its blocks lie and where the lists of its free blocks begin. `take` and `give` see the
-//! free blocks as a set; how the lists go through them stands in `specs/FreeLists` alone. `laws` has what a
+//! An `Arena` says where its blocks lie and where the lists of its free blocks begin, each block in the list of its
+//! number modulo sixteen. `take_near`, `take` and `give` see the free blocks as a set; how the lists go through them
+//! stands in `specs/FreeLists` alone. `laws` has what a
 //! collection above concludes of them.
 #![tactic(auto)]
 
@@ -9,10 +10,12 @@ pub mod arena;
 pub mod found;
 pub mod free;
 pub mod laws;
+pub mod lay;
 pub mod put;
 pub mod spread;
 
 pub use arena::{Arena, Block};
 pub use found::Found;
-pub use free::{give, take};
+pub use free::{give, take, take_near};
+pub use lay::lay_free;
 pub use put::Put;

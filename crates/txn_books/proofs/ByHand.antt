@@ -18,7 +18,10 @@ use Rattle.books_model.specs.Ranges.{AreInRange}
 use Rattle.books_model.specs.Inner.Keys.{positions_total}
 use Rattle.books_model.proofs.InRange.{empty_books-in_range, put_cash-in_range, put_price-in_range, put_quantity-in_range, put_call-in_range, used_after_insert, used_after_price, used_after_position}
 use Rattle.txn_alloc.specs.EntryMaps.{Cell, value_of, has_block, HasKeysOnce}
-use Rattle.txn_alloc.specs.FreeLists.{FreeListsHold, IsLaidOut}
+use Rattle.txn_alloc.specs.declared.arena.TheConstants.{HEADS}
+use Rattle.txn_alloc.specs.FreeLists.{FreeListHolds, FreeListsHold, IsLaidOut}
+use Rattle.txn_alloc.proofs.Sets.{out_empty, contains-insert_other}
+use Rattle.txn_alloc.proofs.TwoBlocks.{only_one}
 use Rattle.txn_alloc.proofs.Cells.{value_none}
 use Rattle.txn_alloc.proofs.Counting.{times_of}
 use Rattle.txn_alloc.proofs.Zeros.{zero_there}
@@ -273,15 +276,20 @@ hand_queue = record {
     item_stands (suc zero) item e = let same : (8, 4) ≡ item = same_Some (8, 4) item e in subst (λ z. HasItem (queue_of hand_shape) hand_words 0 z) same (record { first = refl; second = refl })
     item_stands (suc (suc i)) item e = absurd (cc)
 
+hand_lists : (h : ℕ) → h < HEADS → FreeListHolds (arena_of hand_shape) hand_words (set.from_list (0 ∷ [])) h
+hand_lists h lt = dite (ℕ_discrete h 0)
+    (λ e. subst (λ k. FreeListHolds (arena_of hand_shape) hand_words (set.from_list (0 ∷ [])) k) (sym e)
+    (record { order = 0 ∷ []; list = (refl, omega arith, refl); once = all_once 0 1; own = λ b m. ap (λ k. k % HEADS) (only_one 0 b m); all = λ b own. refl }))
+    (λ ne. record {
+      order = [];
+      list = head_none hand_zeros refl (1 + h) (omega (arith, ne)) (omega (arith, lt));
+      once = all_once 0 0;
+      own = λ b m. absurd (true≢false (sym m ∙ out_empty b));
+      all = λ b own. contains-insert_other (set.from_list []) 0 b (λ e. ne (omega (arith, own, e)));
+    })
+
 hand_free : FreeListsHold (arena_of hand_shape) hand_words (set.from_list (0 ∷ []))
-hand_free = record {
-  laid_out = hand_laid;
-  order = 0 ∷ [];
-  all = refl;
-  once = all_once 0 1;
-  first = (refl, omega arith, refl);
-  others = λ a head low. head_none hand_zeros refl a (omega (arith, low)) (omega (arith, head.high));
-}
+hand_free = record { laid_out = hand_laid; lists = hand_lists }
 
 hand_parted : (b : ℕ) → b < 4 → times_of (set.from_list (1 ∷ [])) b + times_of (set.from_list (2 ∷ 3 ∷ [])) b + times_of (set.from_list (0 ∷ [])) b ≡ 1
 hand_parted zero lt = grind (members, rules)

@@ -11,7 +11,6 @@ pub mod Visited
 pub mod Filling
 pub mod Queued
 pub mod Stages
-pub mod Laid
 pub mod Emptied
 pub mod Empty
 pub mod ByHand

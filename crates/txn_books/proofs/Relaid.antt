@@ -1,5 +1,6 @@
 -- The list of the free blocks, gone through, and laid anew beside parts that stand.
-use Rattle.std.proofs.Common.{◌≡◌, ◌≢◌, ℕ, zero, suc, ◌+◌, ◌-◌, ◌<◌, ◌≤◌, inl, inr, true, eqb, nat_eq, List, [], ◌∷◌, ◌++◌, length, slice_get, Some, refl, sym, ap, ◌∙◌, subst, arith, rules, length-append, append_assoc}
+use Rattle.std.proofs.Common.{◌≡◌, ◌≢◌, ℕ, zero, suc, ◌+◌, ◌-◌, ◌%◌, ◌<◌, ◌≤◌, ◌⊎◌, inl, inr, Bool, true, false, eqb, nat_eq, List, [], ◌∷◌, ◌++◌, length, slice_get, Some, refl, sym, ap, ◌∙◌, subst, arith, rules, length-append, append_assoc}
+use mathlib.Core.Bool.{true≢false}
 use mathlib.Core.Logic.{dite}
 use native.Mathlib.Decide.{ℕ_discrete}
 use Rattle.std.specs.List.{All, IsDistinct, list_any}
@@ -9,25 +10,27 @@ use Rattle.std.specs.FinSet.{nat_cmp-IsAntisymmetric, contains-from_list_nat}
 use Rattle.std.specs.FinSet as set
 use Rattle.std.specs.List.Sorted.{IsPermutation}
 use Rattle.std.proofs.lemmas.List.Sorted.{All-permutation, list_any-IsPermutation}
-use Rattle.std.proofs.lemmas.Map.Keys.{IsDistinct-IsPermutation}
+use Rattle.std.proofs.lemmas.Map.Keys.{IsDistinct-IsPermutation, IsDistinct-tail}
 use Rattle.std.proofs.lemmas.List.{append-nil}
 use Rattle.std.proofs.lemmas.Option.{same_Some, slice_get_within}
 use Rattle.std.proofs.lemmas.Map.Steps.{length-le_from_distinct_below}
 use Rattle.books_model.specs.Books.{ClearingBooks}
 use Rattle.txn_words.specs.Frames.{KeepsOthers}
 use Rattle.txn_alloc.specs.declared.arena.Arena.{Arena}
-use Rattle.txn_alloc.specs.FreeLists.{block_at, IsHead, IsInBlock, HasList, FreeListsHold}
+use Rattle.txn_alloc.specs.declared.arena.TheConstants.{HEADS}
+use Rattle.txn_alloc.specs.FreeLists.{block_at, IsHead, IsInBlock, HasList, FreeListHolds, FreeListsHold}
+use Rattle.txn_alloc.proofs.Sets.{in_here, in_there, in_or, out_empty, out_rest, distinct_more}
 use Rattle.txn_alloc.specs.EntryMaps.{Blocks}
 use Rattle.txn_alloc.proofs.Counting.{times_of}
-use Rattle.txn_alloc.proofs.Lists.{same_block, one_list}
+use Rattle.txn_alloc.proofs.Lists.{blocks_of, same_block, one_list, free_below}
 use Rattle.txn_tree_map.proofs.Maps.{tree_stands}
 use Rattle.txn_hash_map.proofs.Stands.{chains_stand}
 use Rattle.txn_ring.proofs.Items.{queue_stands}
 use Rattle.txn_books.specs.declared.shape.BooksShape.{BooksShape}
-use Rattle.txn_books.specs.Inner.Building.{IsBuilt}
+use Rattle.txn_books.specs.Inner.Building.{IsBuilt, AreFree}
 use Rattle.txn_books.specs.Layout.{shape_of, arena_of, tree_of, chains_of, queue_of, chained}
 use Rattle.txn_books.specs.Standing.{times_among, HasParts}
-use Rattle.txn_books.specs.Laying.{IsWrittenByLaying}
+use Rattle.txn_alloc.specs.Laying.{IsAmong, IsWrittenByLaying}
 use Rattle.txn_books.proofs.Apart.{member_one, bucket_apart, ring_apart, block_apart, root_apart}
 use Rattle.txn_books.proofs.Changes.{at_once, tree_below, chain_below}
 
@@ -93,6 +96,82 @@ list_all arena words place [] h i d lt = absurd (omega (arith, lt))
 list_all arena words place (b ∷ bs) h zero d lt = h.1
 list_all arena words place (b ∷ bs) h (suc i) d lt = list_all arena words (block_at arena b) bs h.2 i d (omega (arith, lt))
 
+-- what holds of each block among those of a list holds of all of it
+all_among : (P : ℕ → Type 0) (bs : List ℕ) → ((b : ℕ) → IsAmong bs b → P b) → All P bs
+all_among P [] each i d lt = absurd (omega (arith, lt))
+all_among P (b ∷ bs) each zero d lt = each b (in_here (blocks_of bs) b)
+all_among P (b ∷ bs) each (suc i) d lt = all_among P bs (λ c m. each c (in_there (blocks_of bs) b c m)) i d (omega (arith, lt))
+
+-- one list after another
+among_append : (bs cs : List ℕ) (b : ℕ) → IsAmong (bs ++ cs) b → IsAmong bs b ⊎ IsAmong cs b
+among_append [] cs b m = inr m
+among_append (c ∷ bs) cs b m = elim (in_or (blocks_of (bs ++ cs)) c b m) [
+  | inl e ↦ inl (ap (λ k. set.contains (blocks_of (c ∷ bs)) k) e ∙ in_here (blocks_of bs) c)
+  | inr k ↦ elim (among_append bs cs b k) [ inl l ↦ inl (in_there (blocks_of bs) c b l) | inr r ↦ inr r ]
+]
+
+among_first : (bs cs : List ℕ) (b : ℕ) → IsAmong bs b → IsAmong (bs ++ cs) b
+among_first [] cs b m = absurd (true≢false (sym m ∙ out_empty b))
+among_first (c ∷ bs) cs b m = elim (in_or (blocks_of bs) c b m) [
+  | inl e ↦ ap (λ k. set.contains (blocks_of (c ∷ (bs ++ cs))) k) e ∙ in_here (blocks_of (bs ++ cs)) c
+  | inr k ↦ in_there (blocks_of (bs ++ cs)) c b (among_first bs cs b k)
+]
+
+among_last : (bs cs : List ℕ) (b : ℕ) → IsAmong cs b → IsAmong (bs ++ cs) b
+among_last [] cs b m = m
+among_last (c ∷ bs) cs b m = in_there (blocks_of (bs ++ cs)) c b (among_last bs cs b m)
+
+not_among : (bs : List ℕ) (b : ℕ) → ¬ IsAmong bs b → set.contains (blocks_of bs) b ≡ false
+not_among bs b out = at (set.contains (blocks_of bs) b) refl
+  where
+    at : (m : Bool) → set.contains (blocks_of bs) b ≡ m → set.contains (blocks_of bs) b ≡ false
+    at true e = absurd (out e)
+    at false e = e
+
+once_append : (bs cs : List ℕ) → IsDistinct nat_eq bs → IsDistinct nat_eq cs → ((b : ℕ) → IsAmong bs b → ¬ IsAmong cs b) → IsDistinct nat_eq (bs ++ cs)
+once_append [] cs first last apart = last
+once_append (c ∷ bs) cs first last apart =
+    let rest : IsDistinct nat_eq (bs ++ cs) = once_append bs cs (IsDistinct-tail nat_eq c bs first) last (λ b m. apart b (in_there (blocks_of bs) c b m)) in
+    distinct_more c (bs ++ cs)
+    (not_among (bs ++ cs) c (λ m. elim (among_append bs cs c m) [ inl k ↦ true≢false (sym k ∙ out_rest c bs first) | inr k ↦ apart c (in_here (blocks_of bs) c) k ])) rest
+
+-- the free blocks of the lists up to here, each once
+pub record AreFreeBelow (free : Blocks) (n : ℕ) (order : List ℕ) : Type 0 where
+  pub once : IsDistinct nat_eq order
+  pub among : (b : ℕ) → IsAmong order b → (set.contains free b ≡ true) × (b % HEADS < n)
+  pub all : (b : ℕ) → set.contains free b ≡ true → b % HEADS < n → IsAmong order b
+
+pub free_none : (free : Blocks) → AreFreeBelow free 0 []
+unfolding IsDistinct
+free_none free = record { once = tt; among = λ b m. absurd (true≢false (sym m ∙ out_empty b)); all = λ b m lt. absurd (omega (arith, lt)) }
+
+pub free_more : (arena : Arena) (words : List ℕ) (free : Blocks) (n : ℕ) (order bs : List ℕ) → FreeListsHold arena words free → n < HEADS → HasList arena words (arena.heads + n) bs
+    → AreFreeBelow free n order → AreFreeBelow free (n + 1) (order ++ bs)
+free_more arena words free n order bs hold lt list h =
+    let l : FreeListHolds arena words free n = hold.lists n lt in
+    let same : l.order ≡ bs = one_list arena words (arena.heads + n) (arena.heads + n) l.order bs refl l.list list in
+    let back : (b : ℕ) → IsAmong bs b → IsAmong l.order b = λ b m. ap (λ z. set.contains (blocks_of z) b) same ∙ m in
+    record {
+      once = once_append order bs h.once (subst (λ z. IsDistinct nat_eq z) same l.once) (λ b m k. let own = l.own b (back b k) in let low = (h.among b m).1 in omega (arith, own, low));
+      among = λ b m. elim (among_append order bs b m) [
+        | inl k ↦ let r = h.among b k in (r.0, omega (arith, r.1))
+        | inr k ↦ let own : b % HEADS ≡ n = l.own b (back b k) in (l.all b own ∙ back b k, omega (arith, own))
+      ];
+      all = λ b m low. dite (ℕ_discrete (b % HEADS) n)
+          (λ e. among_last order bs b (ap (λ z. set.contains (blocks_of z) b) (sym same) ∙ sym (l.all b e) ∙ m))
+          (λ ne. among_first order bs b (h.all b m (omega (arith, low, ne))));
+    }
+
+pub free_all : (free : Blocks) (n : ℕ) (order : List ℕ) → HEADS ≤ n → AreFreeBelow free n order → AreFree free order
+free_all free n order le h = record {
+  once = h.once;
+  all = set.same_set nat_cmp_total nat_cmp-IsAntisymmetric (set.from_list order) free (λ q. at q (set.contains free q) refl);
+}
+  where
+    at : (q : ℕ) (m : Bool) → set.contains free q ≡ m → set.contains (blocks_of order) q ≡ set.contains free q
+    at q true e = let low : q % HEADS < 16 = omega arith in h.all q e (omega (arith, low, le)) ∙ sym e
+    at q false e = not_among order q (λ m. true≢false (sym (h.among q m).0 ∙ e)) ∙ sym e
+
 -- the free blocks laid anew leave the other parts
 module _ (old new : List ℕ) (books : ClearingBooks) (parts : HasParts old books []) (order : List ℕ) (same : set.from_list {R = nat_cmp} order ≡ parts.free)
     (lists : FreeListsHold (arena_of (shape_of books)) new (set.from_list order)) (kept : KeepsOthers (IsWrittenByLaying (arena_of (shape_of books)) order) old new) where
@@ -134,21 +213,19 @@ module _ (shape : BooksShape) (words : List ℕ) (books : ClearingBooks) (built 
   pub free_held : FreeListsHold (arena_of shape) words built.stands.parts.free
   free_held = subst (λ z. FreeListsHold (arena_of z) words built.stands.parts.free) built.stands.sizes built.stands.parts.free_lists
 
-  module _ (order sorted : List ℕ) (list : HasList (arena_of shape) words (arena_of shape).heads order) (moved : IsPermutation order sorted) where
-    order_is : free_held.order ≡ order
-    order_is = one_list (arena_of shape) words (arena_of shape).heads (arena_of shape).heads free_held.order order refl free_held.first list
-
+  module _ (order sorted : List ℕ) (are : AreFree built.stands.parts.free order) (moved : IsPermutation order sorted) where
     pub sorted_once : IsDistinct nat_eq sorted
-    sorted_once = IsDistinct-IsPermutation nat_eq eqb_flips order sorted moved (subst (λ bs. IsDistinct nat_eq bs) order_is free_held.once)
+    sorted_once = IsDistinct-IsPermutation nat_eq eqb_flips order sorted moved are.once
 
     pub sorted_below : All (λ b. b < shape.blocks) sorted
-    sorted_below = All-permutation (λ b. b < shape.blocks) order sorted moved (list_all (arena_of shape) words (arena_of shape).heads order list)
+    sorted_below = All-permutation (λ b. b < shape.blocks) order sorted moved
+        (all_among (λ b. b < shape.blocks) order (λ b m. free_below (arena_of shape) words built.stands.parts.free b free_held (ap (λ s. set.contains s b) (sym are.all) ∙ m)))
 
     sorted_same : set.from_list {R = nat_cmp} sorted ≡ built.stands.parts.free
     sorted_same =
         set.same_set nat_cmp_total nat_cmp-IsAntisymmetric (set.from_list sorted) (set.from_list order)
         (λ q. contains-from_list_nat sorted q ∙ sym (list_any-IsPermutation (λ y. nat_eq y q) order sorted moved) ∙ sym (contains-from_list_nat order q))
-        ∙ sym (free_held.all ∙ ap (λ bs. set.from_list {R = nat_cmp} bs) order_is)
+        ∙ are.all
 
     pub relaid_built : (new : List ℕ) → FreeListsHold (arena_of shape) new (set.from_list sorted) → KeepsOthers (IsWrittenByLaying (arena_of shape) sorted) words new → IsBuilt shape new books
     relaid_built new lists kept =

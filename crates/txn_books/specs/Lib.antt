@@ -2,7 +2,6 @@ pub mod Layout
 pub mod Standing
 pub mod Statements
 pub mod Access
-pub mod Laying
 pub mod Operating
 pub mod Meaning
 pub mod Inner

@@ -4,19 +4,22 @@
 //! Each entry is put in over a `Plain` of its own, so no trace grows. It is new, and there is room for it, as the
 //! contract of its call asks; so the answer is known, and the words stop only where no memory is left for the trace.
 
-ghost use Rattle.std.specs.Prelude.{◌≡◌, ℕ, ◌<◌, ◌≤◌, None, IsSome, IfOk, length};
+ghost use Rattle.std.specs.Prelude.{◌≡◌, ℕ, ◌+◌, ◌<◌, ◌≤◌, None, IsSome, IfOk, length};
 ghost use Rattle.std.specs.FinMap as map;
 ghost use Rattle.books_model.specs.declared.limits.TheConstants.{GREATEST_CASH, GREATEST_PRICE, GREATEST_QUANTITY};
 ghost use Rattle.books_model.specs.Books.{ClearingBooks, used, put_cash, put_price, put_quantity, put_call};
 ghost use Rattle.books_model.specs.Ranges.{IsWithin, IsAccountNumber, IsCall};
-ghost use Rattle.txn_alloc.specs.FreeLists.{HasList, IsInOrder};
+ghost use Rattle.std.specs.FinSet as set;
+ghost use Rattle.txn_alloc.specs.declared.arena.TheConstants.{HEADS};
+ghost use Rattle.txn_alloc.specs.EntryMaps.{Blocks};
+ghost use Rattle.txn_alloc.specs.FreeLists.{HasList, FreeListsHold, IsInOrder};
 ghost use Rattle.txn_books.specs.Layout.{shape_of, words_of, arena_of};
 ghost use Rattle.txn_books.specs.Standing.{Stands};
-ghost use Rattle.txn_books.specs.Laying.{HasRisingList};
-ghost use Rattle.txn_books.specs.Inner.Building.{IsBuilt};
+ghost use Rattle.txn_alloc.specs.Laying.{HasRisingList};
+ghost use Rattle.txn_books.specs.Inner.Building.{IsBuilt, AreFree};
 ghost use Rattle.txn_books.specs.Inner.Reading.{nothing_yet, with_accounts, with_prices, with_positions};
 
-use crate::lay::{empty_words, lay_free};
+use crate::lay::empty_words;
 use crate::layout::position_key;
 use crate::price::put_price;
 use crate::queue::queue_call;
@@ -24,7 +27,8 @@ use crate::shape::BooksShape;
 use books_model::Books;
 use io_ends::OutOfMemory;
 use std::alloc::Global;
-use txn_alloc::Arena;
+use txn_alloc::arena::HEADS;
+use txn_alloc::{Arena, lay_free};
 use txn_words::Plain;
 
 /// Puts in an account that is new, with its cash.
@@ -199,13 +203,19 @@ fn add_calls(
     Ok(words)
 }
 
-/// The free blocks, as their list goes through them.
-fn free_blocks(alloc: Global, arena: &Arena, words: &[u64]) -> Result<Vec<u32>, OutOfMemory>
-    requires { IsInOrder arena.now words.now }
-    ensures { IfOk result (λ order. HasList arena.now words.now arena.now.heads order.items) }
+/// The blocks of a list of free ones, as it goes through them.
+fn list_blocks(
+    alloc: Global,
+    arena: &Arena,
+    words: &[u64],
+    list: u64,
+) -> Result<Vec<u32>, OutOfMemory>
+    requires order { IsInOrder arena.now words.now }
+    requires list { list < HEADS }
+    ensures { IfOk result (λ order. HasList arena.now words.now (arena.now.heads + list) order.items) }
 {
     let mut order = Vec::new(alloc);
-    let mut name = words[arena.heads as usize];
+    let mut name = words[(arena.heads + list) as usize];
     while name != 0 {
         prove!(name <= u64::from(arena.blocks));
         let block = (name - 1) as u32;
@@ -215,12 +225,25 @@ fn free_blocks(alloc: Global, arena: &Arena, words: &[u64]) -> Result<Vec<u32>, 
     Ok(order)
 }
 
-/// Lists the free blocks by rising number.
+/// The free blocks, list after list.
+fn free_blocks(alloc: Global, arena: &Arena, words: &[u64]) -> Result<Vec<u32>, OutOfMemory>
+    requires { IsInOrder arena.now words.now }
+    ensures { IfOk result (λ order. (free : Blocks) → FreeListsHold arena.now words.now free → AreFree free order.items) }
+{
+    let mut order = Vec::new(alloc);
+    for list in 0..HEADS {
+        let blocks = list_blocks(alloc, arena, words, list)?;
+        order.extend_from_slice(&blocks)?;
+    }
+    Ok(order)
+}
+
+/// Lists the free blocks of each list by rising number.
 fn sort_free(alloc: Global, shape: &BooksShape, words: Vec<u64>) -> Result<Vec<u64>, OutOfMemory>
     requires { (books : ClearingBooks) × IsBuilt shape.now words.items books }
     ensures built { IfOk result (λ left. (books : ClearingBooks) → IsBuilt shape.now words.items books
         → IsBuilt shape.now left.items books) }
-    ensures rising { IfOk result (λ left. HasRisingList (arena_of shape.now) left.items) }
+    ensures rising { IfOk result (λ left. (h : ℕ) → h < HEADS → HasRisingList (arena_of shape.now) left.items h) }
 {
     let arena = shape.arena();
     let mut order = free_blocks(alloc, &arena, &words)?;
@@ -230,11 +253,11 @@ fn sort_free(alloc: Global, shape: &BooksShape, words: Vec<u64>) -> Result<Vec<u
     Ok(words)
 }
 
-/// Words that stand for the books. The free blocks are listed by rising number.
+/// Words that stand for the books. The free blocks of each list are listed by rising number.
 pub fn build(alloc: Global, books: &Books) -> Result<Vec<u64>, OutOfMemory>
     ensures count { IfOk result (λ words. length words.items ≡ words_of (shape_of books.now)) }
     ensures stands { IfOk result (λ words. Stands (shape_of books.now) words.items books.now) }
-    ensures rising { IfOk result (λ words. HasRisingList (arena_of (shape_of books.now)) words.items) }
+    ensures rising { IfOk result (λ words. (h : ℕ) → h < HEADS → HasRisingList (arena_of (shape_of books.now)) words.items h) }
 {
     books.ranges();
     let shape = BooksShape::of(books);

@@ -29,7 +29,7 @@ mod trading;
 
 pub use building::build;
 pub use job::ScriptJob;
-pub use lay::{empty_words, lay_free};
+pub use lay::empty_words;
 pub use on_plain::run_on_plain;
 pub use operations::{Outcome, run_operation};
 pub use read::read_books;

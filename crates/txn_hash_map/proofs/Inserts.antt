@@ -8,8 +8,8 @@ use Rattle.txn_words.specs.Frames.{KeepsOthers, AppendsOnly, AppendsReads}
 use Rattle.txn_words.specs.Looks.{Looks}
 use Rattle.txn_words.proofs.Looks.{leads_back, each_looked, seen_before}
 use Rattle.txn_alloc.specs.declared.put.Put.TheVariants.{New}
-use Rattle.txn_alloc.specs.FreeLists.{IsHead, IsWrittenByTake, IsReadByTake, TakesBlock, Takes}
-use Rattle.txn_alloc.specs.EntryMaps.{Entries, Blocks, HasMapApart, HoldsApart, Inserts, IsOwn, MayReadToInsert}
+use Rattle.txn_alloc.specs.FreeLists.{IsHead, IsNearest, IsWrittenByTake, IsReadByTake, TakesBlock, Takes}
+use Rattle.txn_alloc.specs.EntryMaps.{Entries, Blocks, HasMapApart, HoldsApart, Inserts, TakesNearest, IsOwn, MayReadToInsert}
 use Rattle.txn_alloc.proofs.Parts.{IsOne}
 use Rattle.txn_alloc.proofs.Founds as founds
 use Rattle.txn_hash_map.specs.declared.map.ChainMap.{ChainMap}
@@ -49,11 +49,14 @@ module _ (map : ChainMap) (key x n : ℕ) (G : List ℕ → Type 0) (t u : Trace
     pub inserts_new : Leads n G t w (Inserts (chain_part map) key x New)
     inserts_new = founds.inserts_new (chain_part map) (is_one map) key x n G t w b begins inserted
 
+    pub takes_new : Leads n G u v (λ x y. IsNearest map.arena key b x) → Leads n G t w (TakesNearest (chain_part map) key)
+    takes_new nearest = founds.takes_new (chain_part map) (is_one map) key x n G t w b begins inserted order u v l bv bw nearest
+
     pub owns_new : AppendsOnly u v (IsWrittenByTake map.arena (Some b)) → AppendsOnly v w (IsBucketOrIn map key b) → (s : List ℕ) → Fits n G w s → AppendsOnly t w (IsOwn (chain_part map) key (after t s) (after w s))
     owns_new heads front s fit = founds.owns_new (chain_part map) (is_one map) key x n G t w b begins inserted order u v l s fit heads front
         (λ a k. elim k [ inl m ↦ inl m | inr m ↦ inr (inl (b, inr (founds.uses_new (chain_part map) (is_one map) key x n G t w b begins inserted order s fit), m)) ])
 
-    pub sees_new : AppendsReads u v (IsReadByTake map.arena (Some b)) → AppendsReads v w (IsBucketOrIn map key b)
+    pub sees_new : AppendsReads u v (IsReadByTake map.arena key (Some b)) → AppendsReads v w (IsBucketOrIn map key b)
         → (s : List ℕ) → Fits n G w s → AppendsReads t w (MayReadToInsert (chain_part map) key New (after t s) (after w s))
     sees_new names front s fit = founds.sees_new (chain_part map) (is_one map) key x n G t w b begins inserted order u v l s fit (near_own map key) bv bw names front
         (λ a k. elim k [ inl e ↦ inl (inl e) | inr m ↦ inr (b, founds.moved_new (chain_part map) (is_one map) key x n G t w b begins inserted order s fit, inr m) ])

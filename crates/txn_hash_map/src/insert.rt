@@ -2,25 +2,30 @@
 
 ghost use Rattle.std.specs.Prelude.{◌≡◌, ℕ, IfOk, OnOk};
 ghost use Rattle.txn_words.specs.Calls.{IsReady, GoesOn, ReadsWithin, WritesOnly, WritesWithin, InEachState, LeadsTo};
-ghost use Rattle.txn_alloc.specs.declared.put.Put.TheVariants.{Full, Old};
-ghost use Rattle.txn_alloc.specs.EntryMaps.{HasMapApart, Inserts, LacksRoom, IsOwn, MayReadToInsert, IsValue};
+ghost use Rattle.txn_alloc.specs.declared.put.Put.TheVariants.{New, Full, Old};
+ghost use Rattle.txn_alloc.specs.EntryMaps.{HasMapApart, Inserts, LacksRoom, TakesNearest, IsOwn, MayReadToInsert, IsValue};
 ghost use Rattle.txn_hash_map.specs.Chains.{chain_part};
 
 use crate::find::find;
 use crate::front::put_in_front;
 use crate::map::ChainMap;
 use txn_alloc::arena::VALUE;
-use txn_alloc::{Put, take};
+use txn_alloc::{Put, take_near};
 use txn_words::{Stop, Words};
 
 impl ChainMap {
-    /// Puts the value at the key. A key that is new gets a free block, if there is one.
+    /// Puts the value at the key. A key that is new gets a free block, if there is one: the one that a take near the key
+    /// gives.
     pub fn insert<W: Words>(&self, w: &mut W, key: u64, value: u64) -> Result<Put, Stop>
         requires ready { IsReady W.Words w.old }
         requires order { InEachState W.Words W.Shape.Shape w.old (HasMapApart (chain_part self.now)) }
 
         // The map has the value at the key, and else what it had.
         ensures put { IfOk result (λ put. LeadsTo W.Words W.Shape.Shape w.old w.new (Inserts (chain_part self.now) key value put)) }
+
+        // A key that is new gets the block that a take near the key gives.
+        ensures nearest { IfOk result (λ put. put ≡ New
+            → LeadsTo W.Words W.Shape.Shape w.old w.new (TakesNearest (chain_part self.now) key)) }
 
         // It answers Full exactly where in every state the key is absent and no block is free.
         ensures full { IfOk result (λ put.
@@ -41,8 +46,8 @@ impl ChainMap {
         // Where there is no room, no word is written.
         ensures full_frame { IfOk result (λ put. put ≡ Full → WritesOnly W.Words w.old w.new (λ a. ⊥)) }
 
-        // Of the map's own blocks keys and links are read, and the value of the key; beside them, where a block is taken its
-        // head and its words, and where none is free heads.
+        // Of the map's own blocks keys and links are read, and the value of the key; beside them, where a block is taken the
+        // heads from that of the key round to its own, and its words, and where none is free the heads.
         ensures reads { IfOk result (λ put.
             ReadsWithin W.Words W.Shape.Shape w.old w.new (MayReadToInsert (chain_part self.now) key put)) }
         ensures goes_on { GoesOn W.Words w.old w.new result }
@@ -54,7 +59,7 @@ impl ChainMap {
                 w.write(at, value)?;
                 Ok(Put::Old(old))
             }
-            None => match take(w, &self.arena)? {
+            None => match take_near(w, &self.arena, key)? {
                 Some(block) => {
                     put_in_front(w, self, key, value, block.number())?;
                     Ok(Put::New)

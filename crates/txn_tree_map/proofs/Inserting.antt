@@ -8,8 +8,8 @@ use Rattle.txn_words.specs.Frames.{KeepsOthers, AppendsOnly, AppendsReads}
 use Rattle.txn_words.specs.Looks.{Looks}
 use Rattle.txn_words.proofs.Looks.{leads_back, seen_before}
 use Rattle.txn_alloc.specs.declared.put.Put.TheVariants.{New}
-use Rattle.txn_alloc.specs.FreeLists.{IsHead, IsInBlock, IsWrittenByTake, IsReadByTake, TakesBlock, Takes}
-use Rattle.txn_alloc.specs.EntryMaps.{Entries, Blocks, has_block, HasMapApart, HoldsApart, Uses, IsOwn, MayReadToInsert, Inserts}
+use Rattle.txn_alloc.specs.FreeLists.{IsHead, IsInBlock, IsNearest, IsWrittenByTake, IsReadByTake, TakesBlock, Takes}
+use Rattle.txn_alloc.specs.EntryMaps.{Entries, Blocks, has_block, HasMapApart, HoldsApart, Uses, IsOwn, MayReadToInsert, Inserts, TakesNearest}
 use Rattle.txn_alloc.proofs.Parts.{IsOne}
 use Rattle.txn_alloc.proofs.Founds as founds
 use Rattle.txn_tree_map.specs.declared.map.TreeMap.{TreeMap}
@@ -63,6 +63,9 @@ module _ (map : TreeMap) (key x n : ℕ) (G : List ℕ → Type 0) (t u : Trace)
     pub inserts_new : Leads n G t w (Inserts (tree_part map) key x New)
     inserts_new = founds.inserts_new (tree_part map) (is_one map) key x n G t w b begins inserted
 
+    pub takes_new : Leads n G u v (λ x y. IsNearest map.arena key b x) → Leads n G t w (TakesNearest (tree_part map) key)
+    takes_new nearest = founds.takes_new (tree_part map) (is_one map) key x n G t w b begins inserted order u v l bv bw nearest
+
     -- a block of the tree was used before
     uses_old : (s : List ℕ) (fit : Fits n G w s) (d : ℕ) → (let none = (can_start s (fits_v s fit)).missing in has_block d (before_of none.path ++ after_of none.path) ≡ true) → Uses (tree_part map) (after t s) d
     uses_old s fit d k =
@@ -82,7 +85,7 @@ module _ (map : TreeMap) (key x n : ℕ) (G : List ℕ → Type 0) (t u : Trace)
           ]
         ])
 
-    pub sees_new : AppendsReads u v (IsReadByTake map.arena (Some b)) → ((s : List ℕ) → Fits n G w s → AppendsReads v w (IsPutSeen map key b (after v s) (after w s)))
+    pub sees_new : AppendsReads u v (IsReadByTake map.arena key (Some b)) → ((s : List ℕ) → Fits n G w s → AppendsReads v w (IsPutSeen map key b (after v s) (after w s)))
         → (s : List ℕ) → Fits n G w s → AppendsReads t w (MayReadToInsert (tree_part map) key New (after t s) (after w s))
     sees_new names seen s fit = founds.sees_new (tree_part map) (is_one map) key x n G t w b begins inserted order u v l s fit (near_own map key) bv bw names (seen s fit)
         (λ a k. elim (k (can_start s (fits_v s fit))) [

@@ -1,5 +1,8 @@
 -- What the calls inside a building of words say.
-use Rattle.std.specs.Prelude.{◌≡◌, ℕ, List, length, filter}
+use Rattle.std.specs.Prelude.{◌≡◌, ℕ, List, length, filter, nat_eq}
+use Rattle.std.specs.List.{IsDistinct}
+use Rattle.std.specs.FinSet as set
+use Rattle.txn_alloc.specs.EntryMaps.{Blocks}
 use Rattle.std.specs.declared.cmp.Ordering.{Ordering}
 use Rattle.std.specs.Ordering.{is_lt}
 use Rattle.books_model.specs.Books.{ClearingBooks}
@@ -15,3 +18,8 @@ pub record IsBuilt (shape : BooksShape) (words : List ℕ) (books : ClearingBook
 -- the entries of a map whose keys are above this one
 abbrev pub above : {K : Type 0} → (K → K → Ordering) → K → List (K × ℕ) → List (K × ℕ)
 above R k es = filter (λ e. is_lt (R k e.0)) es
+
+-- these are the free blocks, each once
+pub record AreFree (free : Blocks) (order : List ℕ) : Type 0 where
+  pub once : IsDistinct nat_eq order
+  pub all : set.from_list order ≡ free

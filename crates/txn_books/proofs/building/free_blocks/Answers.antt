@@ -1,45 +1,17 @@
-use Rattle.std.proofs.Common.{◌≡◌, ◌+◌, ◌-◌, ◌<◌, length, get_or, ◌++◌, Some, sym, ap, ◌∙◌, subst, arith, length-append}
-use Rattle.std.proofs.lemmas.Option.{slice_get-get_or}
-use Rattle.txn_alloc.specs.FreeLists.{block_at, HasList}
-use Rattle.txn_alloc.proofs.Lists.{block_in}
-use Rattle.txn_books.proofs.Relaid.{through_none, through_below, through_next, list_there, list_short}
+use Rattle.std.proofs.Common.{◌≡◌, ℕ, ◌+◌, ◌++◌, List, [], sym, ap, ◌∙◌, subst, arith}
+use Rattle.txn_alloc.specs.FreeLists.{HasList, FreeListsHold}
+use Rattle.txn_books.proofs.Relaid.{AreFreeBelow, free_none, free_more, free_all}
 use Rattle.txn_books.proofs.building.free_blocks.Goals as goal
 
-pub loop-name-init : goal.loop-name-init
-loop-name-init c whole list = record {
-  place = c.args.arena.now.heads;
-  rest = whole;
-  named = slice_get-get_or c.args.words.now c.args.arena.now.heads 0 (list_there c.args.arena.now c.args.words.now c.args.arena.now.heads whole list);
-  list = list;
-  all = ap (λ xs. xs ++ whole) c.new-order.ensures.items;
-}
+pub loop-list-init : goal.loop-list-init
+loop-list-init c free hold = subst (λ xs. AreFreeBelow free 0 xs) (sym c.new-order.ensures.items) (free_none free)
 
-pub prove-unreachable-requires : goal.prove-unreachable-requires
-prove-unreachable-requires c =
-    let hold = c.requires.1 in
-    let below = (through_below c.args.arena.now c.args.words.now c.loop-name.order.items hold.order c.loop-name.name c.loop-name-test.true (c.loop-name.invariant hold.order hold.first)).0 in
-    omega (arith, below, c.if-prove.true, c.from.ensures)
-
-pub loop-name-smaller : goal.loop-name-smaller
-loop-name-smaller c =
-    let hold = c.requires.1 in
-    let room = (through_below c.args.arena.now c.args.words.now c.loop-name.order.items hold.order c.loop-name.name c.loop-name-test.true (c.loop-name.invariant hold.order hold.first)).1 in
-    let few = list_short c.args.arena.now c.args.words.now c.args.arena.now.heads hold.order hold.first hold.once in
-    let more : length c.push.new.self.items ≡ length c.loop-name.order.items + 1 = ap length c.in_ok-push.ensures.items ∙ length-append c.loop-name.order.items _ in
-    omega (arith, room, few, more)
-
-pub loop-name-preserved : goal.loop-name-preserved
-loop-name-preserved c whole list =
-    let at = c.loop-name.invariant whole list in
-    let hold = c.requires.1 in
-    let below = (through_below c.args.arena.now c.args.words.now c.loop-name.order.items whole c.loop-name.name c.loop-name-test.true at).0 in
-    let there : block_at c.args.arena.now (c.loop-name.name - 1) < length c.args.words.now = block_in c.args.arena.now c.args.words.now (c.loop-name.name - 1) hold.laid_out (omega (arith, below, c.loop-name-test.true)) in
-    rw c.in_ok-push.ensures.items
-    (through_next c.args.arena.now c.args.words.now c.loop-name.order.items whole c.loop-name.name (get_or c.args.words.now c.place_of.result 0) c.loop-name-test.true
-    (slice_get-get_or c.args.words.now (block_at c.args.arena.now (c.loop-name.name - 1)) 0 there ∙ ap (λ p. Some (get_or c.args.words.now p 0)) (sym c.place_of.ensures)) at)
+pub loop-list-preserved : goal.loop-list-preserved
+loop-list-preserved c free hold =
+    let n = c.loop-list.list in
+    let order = c.loop-list.order.items in
+    let more = free_more c.args.arena.now c.args.words.now free n order c.in_ok-blocks.blocks.items hold c.loop-list-test.true c.in_ok-blocks.ensures (c.loop-list.invariant free hold) in
+    subst (λ xs. AreFreeBelow free (n + 1) xs) (sym (c.in_ok-extend_from_slice.ensures.items ∙ ap (λ ys. order ++ ys) c.deref.ensures.value)) more
 
 pub returns : goal.returns
-returns c =
-    let hold = c.requires.1 in
-    subst (λ bs. HasList c.args.arena.now c.args.words.now c.args.arena.now.heads bs)
-    (sym (through_none c.args.arena.now c.args.words.now c.loop-name.order.items hold.order c.loop-name.name c.loop-name-test.false (c.loop-name.invariant hold.order hold.first))) hold.first
+returns c free hold = free_all free c.loop-list.list c.loop-list.order.items (omega (arith, c.loop-list-test.false)) (c.loop-list.invariant free hold)

@@ -1,11 +1,8 @@
-use Rattle.std.proofs.Common.{ℕ, ◌-◌, List, length}
-use Rattle.txn_alloc.specs.FreeLists.{HasList}
-use Rattle.txn_books.proofs.Relaid.{GoesThrough}
+use Rattle.txn_alloc.specs.EntryMaps.{Blocks}
+use Rattle.txn_alloc.specs.FreeLists.{FreeListsHold}
+use Rattle.txn_books.proofs.Relaid.{AreFreeBelow}
 use Rattle.txn_books.proofs.building.free_blocks.Given as goal
 
--- the blocks that were gone through, and then those from the name on, are the list
-abbrev pub invariant-loop-name : goal.invariant-loop-name
-invariant-loop-name l = (whole : List ℕ) → HasList l.arena l.words l.arena.heads whole → GoesThrough l.arena l.words l.name l.order.items whole
-
-abbrev pub decreases-loop-name : goal.decreases-loop-name
-decreases-loop-name l = l.arena.blocks - length l.order.items
+-- the lists up to here were gone through
+abbrev pub invariant-loop-list : goal.invariant-loop-list
+invariant-loop-list l = (free : Blocks) → FreeListsHold l.arena l.words free → AreFreeBelow free l.list l.order.items

@@ -1,4 +1,4 @@
-use Rattle.std.proofs.Common.{◌≡◌, ℕ, ◌++◌, length, take, drop, replicate, sym, ap, ◌∙◌, subst, arith}
+use Rattle.std.proofs.Common.{◌≡◌, ℕ, ◌+◌, ◌++◌, length, take, drop, replicate, sym, ap, ◌∙◌, subst, arith}
 use Rattle.std.proofs.Math.Seq.{take-append_seam}
 use Rattle.std.proofs.lemmas.List.{length-replicate}
 use Rattle.std.specs.FinSet as set
@@ -7,7 +7,7 @@ use Rattle.txn_words.specs.Frames.{KeepsOthers}
 use Rattle.txn_alloc.specs.FreeLists.{HasList, FreeListsHold}
 use Rattle.txn_books.specs.Layout.{words_of, arena_of}
 use Rattle.txn_books.specs.Standing.{Stands}
-use Rattle.txn_books.specs.Laying.{IsWrittenByLaying}
+use Rattle.txn_alloc.specs.Laying.{IsWrittenByLaying, of_list}
 use Rattle.txn_books.proofs.Emptied.{all_blocks, empty_stands, all_below, all_once}
 use Rattle.txn_books.proofs.lay.empty_words.Goals as goal
 use Rattle.txn_books.proofs.lay.empty_words.Goals.{After-lay_free}
@@ -48,9 +48,9 @@ returns-clause-stands c =
     (subst (λ bs. FreeListsHold (arena_of shape) c.lay_free.new.words (set.from_list bs)) (order d) free))
 
 pub returns-clause-rising : goal.returns-clause-rising
-returns-clause-rising c =
+returns-clause-rising c h lt =
     let d = (goal.at.returns-clause-rising c).After-lay_free in
     let shape = c.args.shape.now in
-    let list = subst (λ a. HasList a c.lay_free.new.words a.heads c.deref.result.now) c.arena.ensures c.lay_free.ensures.list in
-    subst (λ ws. HasList (arena_of shape) ws (arena_of shape).heads (all_blocks shape)) (sym (kept d))
-    (subst (λ bs. HasList (arena_of shape) c.lay_free.new.words (arena_of shape).heads bs) (order d) list)
+    let list = subst (λ a. HasList a c.lay_free.new.words (a.heads + h) (of_list h c.deref.result.now)) c.arena.ensures (c.lay_free.ensures.lists h lt) in
+    subst (λ ws. HasList (arena_of shape) ws ((arena_of shape).heads + h) (of_list h (all_blocks shape))) (sym (kept d))
+    (subst (λ bs. HasList (arena_of shape) c.lay_free.new.words ((arena_of shape).heads + h) (of_list h bs)) (order d) list)

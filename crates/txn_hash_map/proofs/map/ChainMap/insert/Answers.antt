@@ -11,14 +11,14 @@ use Rattle.txn_alloc.specs.FreeLists.{block_at, HasNone}
 use Rattle.txn_alloc.specs.EntryMaps.{HasMapApart, Inserts, LacksRoom}
 use Rattle.txn_hash_map.specs.Chains.{chain_part}
 use Rattle.txn_alloc.proofs.Wider.{take_keeps}
-use Rattle.txn_alloc.proofs.Parts.{order_inserted, lacks_room, not_new, not_old, new_not_old, full_not_old, new_not_full, old_not_full}
+use Rattle.txn_alloc.proofs.Parts.{order_inserted, lacks_room, not_new, not_old, new_not_old, old_not_new, full_not_new, full_not_old, new_not_full, old_not_full}
 use Rattle.txn_words.proofs.Looks.{leads_from, each_from, each_looked, leads_back}
 use Rattle.txn_hash_map.proofs.Steps.{missing_value}
 use Rattle.txn_alloc.proofs.Traces.{laid_block}
 use Rattle.txn_alloc.proofs.Founds.{looks_value, inserts_old, owns_old, owns_value, sees_old, sees_none}
 use Rattle.txn_hash_map.proofs.Looks.{near_own, keys_block}
 use Rattle.txn_hash_map.proofs.Changes.{inserted_old}
-use Rattle.txn_hash_map.proofs.Inserts.{inserts_new, owns_new, sees_new, laid_taken}
+use Rattle.txn_hash_map.proofs.Inserts.{inserts_new, takes_new, owns_new, sees_new, laid_taken}
 use Rattle.txn_hash_map.proofs.map.ChainMap.insert.Goals as goal
 
 pub find-requires-clause-order : goal.find-requires-clause-order
@@ -46,8 +46,8 @@ write-requires-clause-within g c =
     let in_list = laid_block m.arena _ _ _ some c.in-Some.found.block (record { at = λ s fit. (found.holds s fit).laid.arena }) below in
     omega (arith, in_list.0, ap g.W.Shape.Shape.word_count goes.shape, ap g.W.Shape.Shape.word_count c.in_ok-old-in-Some.ensures.shape, c.place_of-at.ensures)
 
-pub take-requires-clause-order : goal.take-requires-clause-order
-take-requires-clause-order g c =
+pub take_near-requires-clause-order : goal.take_near-requires-clause-order
+take_near-requires-clause-order g c =
     let m = c.args.self.now in
     let missing = rw c.in-None.is at c.in_ok-found.ensures.missing in
     let goes = c.in_ok-found.ensures.goes_on in
@@ -60,8 +60,8 @@ put_in_front-requires-clause-laid g c =
     let missing = rw c.in-None.is at c.in_ok-found.ensures.missing in
     let goes = c.in_ok-found.ensures.goes_on in
     let then = c.in_ok-block-in-None.ensures in
-    let keeps = take_keeps m.arena c.in_ok-block-in-None.field-0 _ _ _ _ (leads_from g.W.Words g.W.Shape.Shape c.args.w.now c.find.new.w c.take.new.w _ goes.shape then.others) in
-    each_from g.W.Words g.W.Shape.Shape c.args.w.now c.take.new.w _ (then.goes_on.shape ∙ goes.shape)
+    let keeps = take_keeps m.arena c.in_ok-block-in-None.field-0 _ _ _ _ (leads_from g.W.Words g.W.Shape.Shape c.args.w.now c.find.new.w c.take_near.new.w _ goes.shape then.others) in
+    each_from g.W.Words g.W.Shape.Shape c.args.w.now c.take_near.new.w _ (then.goes_on.shape ∙ goes.shape)
     (laid_taken m c.args.key c.args.value _ _ _ _ (each_plain g.W.Words g.W.Shape.Shape _ _ c.requires.order) missing _ then.goes_on.begins keeps)
 
 pub returns-in_err-put_in_front-in-Some-2-clause-goes_on : goal.returns-in_err-put_in_front-in-Some-2-clause-goes_on
@@ -145,9 +145,9 @@ returns-in_ok-put_in_front-in-Some-2-clause-put g c =
     let put = rw c.number.ensures at c.in_ok-put_in_front-in-Some-2.ensures.put in
     record {
       at = (inserts_new m c.args.key c.args.value _ _ _ _ (each_plain g.W.Words g.W.Shape.Shape _ _ c.requires.order) missing _ then.goes_on.begins _ c.in-Some-2.block c.in_ok-put_in_front-in-Some-2.ensures.goes_on.begins
-          (leads_from g.W.Words g.W.Shape.Shape c.args.w.now c.find.new.w c.take.new.w _ goes.shape taken)
-          (take_keeps m.arena c.in_ok-block-in-None.field-0 _ _ _ _ (leads_from g.W.Words g.W.Shape.Shape c.args.w.now c.find.new.w c.take.new.w _ goes.shape then.others))
-          (leads_from g.W.Words g.W.Shape.Shape c.args.w.now c.take.new.w c.put_in_front.new.w _ (then.goes_on.shape ∙ goes.shape) put)).at;
+          (leads_from g.W.Words g.W.Shape.Shape c.args.w.now c.find.new.w c.take_near.new.w _ goes.shape taken)
+          (take_keeps m.arena c.in_ok-block-in-None.field-0 _ _ _ _ (leads_from g.W.Words g.W.Shape.Shape c.args.w.now c.find.new.w c.take_near.new.w _ goes.shape then.others))
+          (leads_from g.W.Words g.W.Shape.Shape c.args.w.now c.take_near.new.w c.put_in_front.new.w _ (then.goes_on.shape ∙ goes.shape) put)).at;
     }
 
 pub returns-in_ok-put_in_front-in-Some-2-clause-full_if : goal.returns-in_ok-put_in_front-in-Some-2-clause-full_if
@@ -179,9 +179,9 @@ returns-in_ok-put_in_front-in-Some-2-clause-frame g c =
     let front = rw c.number.ensures at c.in_ok-put_in_front-in-Some-2.ensures.frame in
     record {
       at = owns_new m c.args.key c.args.value _ _ _ _ (each_plain g.W.Words g.W.Shape.Shape _ _ c.requires.order) missing _ then.goes_on.begins _ c.in-Some-2.block c.in_ok-put_in_front-in-Some-2.ensures.goes_on.begins
-          (leads_from g.W.Words g.W.Shape.Shape c.args.w.now c.find.new.w c.take.new.w _ goes.shape taken)
-          (take_keeps m.arena c.in_ok-block-in-None.field-0 _ _ _ _ (leads_from g.W.Words g.W.Shape.Shape c.args.w.now c.find.new.w c.take.new.w _ goes.shape then.others))
-          (leads_from g.W.Words g.W.Shape.Shape c.args.w.now c.take.new.w c.put_in_front.new.w _ (then.goes_on.shape ∙ goes.shape) put)
+          (leads_from g.W.Words g.W.Shape.Shape c.args.w.now c.find.new.w c.take_near.new.w _ goes.shape taken)
+          (take_keeps m.arena c.in_ok-block-in-None.field-0 _ _ _ _ (leads_from g.W.Words g.W.Shape.Shape c.args.w.now c.find.new.w c.take_near.new.w _ goes.shape then.others))
+          (leads_from g.W.Words g.W.Shape.Shape c.args.w.now c.take_near.new.w c.put_in_front.new.w _ (then.goes_on.shape ∙ goes.shape) put)
           heads.appended front.appended;
     }
 
@@ -194,7 +194,7 @@ returns-in-None-2-clause-put g c =
     let taken = rw c.in-None-2.is at then.taken in
     record {
       at = (leads_back _ _ _ _ missing _ (λ before after. after ≡ before) then.goes_on.begins
-          (leads_from g.W.Words g.W.Shape.Shape c.args.w.now c.find.new.w c.take.new.w _ goes.shape taken)).at;
+          (leads_from g.W.Words g.W.Shape.Shape c.args.w.now c.find.new.w c.take_near.new.w _ goes.shape taken)).at;
     }
 
 pub returns-in-None-2-clause-full : goal.returns-in-None-2-clause-full
@@ -206,7 +206,7 @@ returns-in-None-2-clause-full g c =
     let none = rw c.in-None-2.is at then.none in
     λ e. record {
       at = (lacks_room (chain_part m) c.args.key _ _ _ _ (λ s f v. missing_value m c.args.key s f v) missing _ then.goes_on.begins
-          (leads_from g.W.Words g.W.Shape.Shape c.args.w.now c.find.new.w c.take.new.w (λ before after. HasNone m.arena before) goes.shape none)).at;
+          (leads_from g.W.Words g.W.Shape.Shape c.args.w.now c.find.new.w c.take_near.new.w (λ before after. HasNone m.arena before) goes.shape none)).at;
     }
 
 pub returns-in-None-2-clause-order : goal.returns-in-None-2-clause-order
@@ -256,9 +256,9 @@ returns-in_ok-put_in_front-in-Some-2-clause-reads g c =
     let front = rw c.number.ensures at c.in_ok-put_in_front-in-Some-2.ensures.reads in
     record {
       at = sees_new m c.args.key c.args.value _ _ _ _ (each_plain g.W.Words g.W.Shape.Shape _ _ c.requires.order) missing _ then.goes_on.begins _ c.in-Some-2.block c.in_ok-put_in_front-in-Some-2.ensures.goes_on.begins
-          (leads_from g.W.Words g.W.Shape.Shape c.args.w.now c.find.new.w c.take.new.w _ goes.shape taken)
-          (take_keeps m.arena c.in_ok-block-in-None.field-0 _ _ _ _ (leads_from g.W.Words g.W.Shape.Shape c.args.w.now c.find.new.w c.take.new.w _ goes.shape then.others))
-          (leads_from g.W.Words g.W.Shape.Shape c.args.w.now c.take.new.w c.put_in_front.new.w _ (then.goes_on.shape ∙ goes.shape) put)
+          (leads_from g.W.Words g.W.Shape.Shape c.args.w.now c.find.new.w c.take_near.new.w _ goes.shape taken)
+          (take_keeps m.arena c.in_ok-block-in-None.field-0 _ _ _ _ (leads_from g.W.Words g.W.Shape.Shape c.args.w.now c.find.new.w c.take_near.new.w _ goes.shape then.others))
+          (leads_from g.W.Words g.W.Shape.Shape c.args.w.now c.take_near.new.w c.put_in_front.new.w _ (then.goes_on.shape ∙ goes.shape) put)
           names front;
     }
 
@@ -297,5 +297,28 @@ returns-in_err-write-in-Some g c =
 pub returns-in_err-block-in-None : goal.returns-in_err-block-in-None
 returns-in_err-block-in-None g c =
     let failed = c.from_residual-in_err-block-in-None.ensures.0 in
-    let on : GoesOn g.W.Words c.args.w.now c.take.new.w c.from_residual-in_err-block-in-None.result = goes_as (goes_then c.in_ok-found.ensures.goes_on c.in_err-block-in-None.ensures.goes_on) (search rules) in
+    let on : GoesOn g.W.Words c.args.w.now c.take_near.new.w c.from_residual-in_err-block-in-None.result = goes_as (goes_then c.in_ok-found.ensures.goes_on c.in_err-block-in-None.ensures.goes_on) (search rules) in
     search IfOk-from_err
+
+pub returns-in_ok-put_in_front-in-Some-2-clause-nearest : goal.returns-in_ok-put_in_front-in-Some-2-clause-nearest
+returns-in_ok-put_in_front-in-Some-2-clause-nearest g c =
+    let m = c.args.self.now in
+    let missing = rw c.in-None.is at c.in_ok-found.ensures.missing in
+    let goes = c.in_ok-found.ensures.goes_on in
+    let then = c.in_ok-block-in-None.ensures in
+    let taken = rw c.in-Some-2.is at then.taken in
+    let nearest = rw c.in-Some-2.is at then.nearest in
+    let put = rw c.number.ensures at c.in_ok-put_in_front-in-Some-2.ensures.put in
+    λ e. record {
+      at = (takes_new m c.args.key c.args.value _ _ _ _ (each_plain g.W.Words g.W.Shape.Shape _ _ c.requires.order) missing _ then.goes_on.begins _ c.in-Some-2.block c.in_ok-put_in_front-in-Some-2.ensures.goes_on.begins
+          (leads_from g.W.Words g.W.Shape.Shape c.args.w.now c.find.new.w c.take_near.new.w _ goes.shape taken)
+          (take_keeps m.arena c.in_ok-block-in-None.field-0 _ _ _ _ (leads_from g.W.Words g.W.Shape.Shape c.args.w.now c.find.new.w c.take_near.new.w _ goes.shape then.others))
+          (leads_from g.W.Words g.W.Shape.Shape c.args.w.now c.take_near.new.w c.put_in_front.new.w _ (then.goes_on.shape ∙ goes.shape) put)
+          (leads_from g.W.Words g.W.Shape.Shape c.args.w.now c.find.new.w c.take_near.new.w _ goes.shape nearest)).at;
+    }
+
+pub returns-in_ok-write-in-Some-clause-nearest : goal.returns-in_ok-write-in-Some-clause-nearest
+returns-in_ok-write-in-Some-clause-nearest g c = λ e. absurd (old_not_new _ e)
+
+pub returns-in-None-2-clause-nearest : goal.returns-in-None-2-clause-nearest
+returns-in-None-2-clause-nearest g c = λ e. absurd (full_not_new e)

@@ -13,13 +13,13 @@ use Rattle.txn_alloc.specs.EntryMaps.{HasMapApart, Inserts, LacksRoom}
 use Rattle.txn_words.proofs.Looks.{each_looked, each_from, leads_from, leads_back, within_from, reads_from}
 use Rattle.txn_tree_map.specs.Trees.{tree_part}
 use Rattle.txn_alloc.proofs.Wider.{take_keeps}
-use Rattle.txn_alloc.proofs.Parts.{order_inserted, lacks_room, not_new, not_old, new_not_old, full_not_old, new_not_full, old_not_full}
+use Rattle.txn_alloc.proofs.Parts.{order_inserted, lacks_room, not_new, not_old, new_not_old, old_not_new, full_not_new, full_not_old, new_not_full, old_not_full}
 use Rattle.txn_tree_map.proofs.Descents.{missing_value}
 use Rattle.txn_alloc.proofs.Traces.{laid_block}
 use Rattle.txn_alloc.proofs.Founds.{looks_value, inserts_old, owns_old, owns_value, sees_old, sees_none}
 use Rattle.txn_tree_map.proofs.Gets.{near_own, keys_block}
 use Rattle.txn_tree_map.proofs.Values.{inserted_old}
-use Rattle.txn_tree_map.proofs.Inserting.{can_put_each, inserts_new, owns_new, sees_new}
+use Rattle.txn_tree_map.proofs.Inserting.{can_put_each, inserts_new, takes_new, owns_new, sees_new}
 use Rattle.txn_tree_map.proofs.map.TreeMap.insert.Goals as goal
 
 pub find-requires-clause-order : goal.find-requires-clause-order
@@ -41,8 +41,8 @@ write-requires-clause-within g c =
     let in_list = laid_block m.arena _ _ _ (g.met.W.Words.fits c.args.w.now c.requires.ready.sound) c.in-Some.found.block (record { at = λ s fit. (c.requires.order.at s fit).holds.map.laid.arena }) below in
     omega (arith, in_list.0, ap g.W.Shape.Shape.word_count goes.shape, ap g.W.Shape.Shape.word_count c.in_ok-old-in-Some.ensures.shape, c.place_of-at.ensures)
 
-pub take-requires-clause-order : goal.take-requires-clause-order
-take-requires-clause-order g c =
+pub take_near-requires-clause-order : goal.take_near-requires-clause-order
+take_near-requires-clause-order g c =
     let m = c.args.self.now in
     let missing = rw c.in-None.is at c.in_ok-found.ensures.missing in
     let goes = c.in_ok-found.ensures.goes_on in
@@ -56,10 +56,10 @@ put_in-requires-clause-missing g c =
     let goes = c.in_ok-found.ensures.goes_on in
     let then = c.in_ok-block-in-None.ensures in
     let taken = rw c.in-Some-2.is at then.taken in
-    rw c.number.ensures (each_from g.W.Words g.W.Shape.Shape c.args.w.now c.take.new.w _ (then.goes_on.shape ∙ goes.shape)
+    rw c.number.ensures (each_from g.W.Words g.W.Shape.Shape c.args.w.now c.take_near.new.w _ (then.goes_on.shape ∙ goes.shape)
     (can_put_each m c.args.key c.args.value _ _ _ _ (each_plain g.W.Words g.W.Shape.Shape _ _ c.requires.order) missing _ then.goes_on.begins c.in-Some-2.block
-    (leads_from g.W.Words g.W.Shape.Shape c.args.w.now c.find.new.w c.take.new.w _ goes.shape taken)
-    (take_keeps m.arena c.in_ok-block-in-None.field-0 _ _ _ _ (leads_from g.W.Words g.W.Shape.Shape c.args.w.now c.find.new.w c.take.new.w _ goes.shape then.others))))
+    (leads_from g.W.Words g.W.Shape.Shape c.args.w.now c.find.new.w c.take_near.new.w _ goes.shape taken)
+    (take_keeps m.arena c.in_ok-block-in-None.field-0 _ _ _ _ (leads_from g.W.Words g.W.Shape.Shape c.args.w.now c.find.new.w c.take_near.new.w _ goes.shape then.others))))
 
 pub returns-in_ok-put_in-in-Some-2-clause-goes_on : goal.returns-in_ok-put_in-in-Some-2-clause-goes_on
 returns-in_ok-put_in-in-Some-2-clause-goes_on g c =
@@ -147,9 +147,9 @@ returns-in_ok-put_in-in-Some-2-clause-put g c =
     let put = rw c.number.ensures at c.in_ok-put_in-in-Some-2.ensures.put in
     record {
       at = (inserts_new m c.args.key c.args.value _ _ _ _ (each_plain g.W.Words g.W.Shape.Shape _ _ c.requires.order) missing _ then.goes_on.begins c.in-Some-2.block
-          (leads_from g.W.Words g.W.Shape.Shape c.args.w.now c.find.new.w c.take.new.w _ goes.shape taken)
-          (take_keeps m.arena c.in_ok-block-in-None.field-0 _ _ _ _ (leads_from g.W.Words g.W.Shape.Shape c.args.w.now c.find.new.w c.take.new.w _ goes.shape then.others)) _ c.in_ok-put_in-in-Some-2.ensures.goes_on.begins
-          (leads_from g.W.Words g.W.Shape.Shape c.args.w.now c.take.new.w c.put_in.new.w _ (then.goes_on.shape ∙ goes.shape) put)).at;
+          (leads_from g.W.Words g.W.Shape.Shape c.args.w.now c.find.new.w c.take_near.new.w _ goes.shape taken)
+          (take_keeps m.arena c.in_ok-block-in-None.field-0 _ _ _ _ (leads_from g.W.Words g.W.Shape.Shape c.args.w.now c.find.new.w c.take_near.new.w _ goes.shape then.others)) _ c.in_ok-put_in-in-Some-2.ensures.goes_on.begins
+          (leads_from g.W.Words g.W.Shape.Shape c.args.w.now c.take_near.new.w c.put_in.new.w _ (then.goes_on.shape ∙ goes.shape) put)).at;
     }
 
 pub returns-in_ok-put_in-in-Some-2-clause-full_if : goal.returns-in_ok-put_in-in-Some-2-clause-full_if
@@ -181,10 +181,10 @@ returns-in_ok-put_in-in-Some-2-clause-frame g c =
     let front = rw c.number.ensures at c.in_ok-put_in-in-Some-2.ensures.frame in
     record {
       at = owns_new m c.args.key c.args.value _ _ _ _ (each_plain g.W.Words g.W.Shape.Shape _ _ c.requires.order) missing _ then.goes_on.begins c.in-Some-2.block
-          (leads_from g.W.Words g.W.Shape.Shape c.args.w.now c.find.new.w c.take.new.w _ goes.shape taken)
-          (take_keeps m.arena c.in_ok-block-in-None.field-0 _ _ _ _ (leads_from g.W.Words g.W.Shape.Shape c.args.w.now c.find.new.w c.take.new.w _ goes.shape then.others)) _ c.in_ok-put_in-in-Some-2.ensures.goes_on.begins
-          (leads_from g.W.Words g.W.Shape.Shape c.args.w.now c.take.new.w c.put_in.new.w _ (then.goes_on.shape ∙ goes.shape) put)
-          heads.appended (within_from g.W.Words g.W.Shape.Shape c.args.w.now c.take.new.w c.put_in.new.w _ (then.goes_on.shape ∙ goes.shape) front);
+          (leads_from g.W.Words g.W.Shape.Shape c.args.w.now c.find.new.w c.take_near.new.w _ goes.shape taken)
+          (take_keeps m.arena c.in_ok-block-in-None.field-0 _ _ _ _ (leads_from g.W.Words g.W.Shape.Shape c.args.w.now c.find.new.w c.take_near.new.w _ goes.shape then.others)) _ c.in_ok-put_in-in-Some-2.ensures.goes_on.begins
+          (leads_from g.W.Words g.W.Shape.Shape c.args.w.now c.take_near.new.w c.put_in.new.w _ (then.goes_on.shape ∙ goes.shape) put)
+          heads.appended (within_from g.W.Words g.W.Shape.Shape c.args.w.now c.take_near.new.w c.put_in.new.w _ (then.goes_on.shape ∙ goes.shape) front);
     }
 
 pub returns-in_ok-put_in-in-Some-2-clause-reads : goal.returns-in_ok-put_in-in-Some-2-clause-reads
@@ -199,10 +199,10 @@ returns-in_ok-put_in-in-Some-2-clause-reads g c =
     let front = rw c.number.ensures at c.in_ok-put_in-in-Some-2.ensures.reads in
     record {
       at = sees_new m c.args.key c.args.value _ _ _ _ (each_plain g.W.Words g.W.Shape.Shape _ _ c.requires.order) missing _ then.goes_on.begins c.in-Some-2.block
-          (leads_from g.W.Words g.W.Shape.Shape c.args.w.now c.find.new.w c.take.new.w _ goes.shape taken)
-          (take_keeps m.arena c.in_ok-block-in-None.field-0 _ _ _ _ (leads_from g.W.Words g.W.Shape.Shape c.args.w.now c.find.new.w c.take.new.w _ goes.shape then.others)) _ c.in_ok-put_in-in-Some-2.ensures.goes_on.begins
-          (leads_from g.W.Words g.W.Shape.Shape c.args.w.now c.take.new.w c.put_in.new.w _ (then.goes_on.shape ∙ goes.shape) put)
-          names (reads_from g.W.Words g.W.Shape.Shape c.args.w.now c.take.new.w c.put_in.new.w _ (then.goes_on.shape ∙ goes.shape) front);
+          (leads_from g.W.Words g.W.Shape.Shape c.args.w.now c.find.new.w c.take_near.new.w _ goes.shape taken)
+          (take_keeps m.arena c.in_ok-block-in-None.field-0 _ _ _ _ (leads_from g.W.Words g.W.Shape.Shape c.args.w.now c.find.new.w c.take_near.new.w _ goes.shape then.others)) _ c.in_ok-put_in-in-Some-2.ensures.goes_on.begins
+          (leads_from g.W.Words g.W.Shape.Shape c.args.w.now c.take_near.new.w c.put_in.new.w _ (then.goes_on.shape ∙ goes.shape) put)
+          names (reads_from g.W.Words g.W.Shape.Shape c.args.w.now c.take_near.new.w c.put_in.new.w _ (then.goes_on.shape ∙ goes.shape) front);
     }
 
 pub returns-in_ok-put_in-in-Some-2-clause-old : goal.returns-in_ok-put_in-in-Some-2-clause-old
@@ -217,7 +217,7 @@ returns-in-None-2-clause-put g c =
     let taken = rw c.in-None-2.is at then.taken in
     record {
       at = (leads_back _ _ _ _ missing _ (λ before after. after ≡ before) then.goes_on.begins
-          (leads_from g.W.Words g.W.Shape.Shape c.args.w.now c.find.new.w c.take.new.w _ goes.shape taken)).at;
+          (leads_from g.W.Words g.W.Shape.Shape c.args.w.now c.find.new.w c.take_near.new.w _ goes.shape taken)).at;
     }
 
 pub returns-in-None-2-clause-full : goal.returns-in-None-2-clause-full
@@ -229,7 +229,7 @@ returns-in-None-2-clause-full g c =
     let none = rw c.in-None-2.is at then.none in
     λ e. record {
       at = (lacks_room (tree_part m) c.args.key _ _ _ _ (λ s f v. missing_value m c.args.key s f v) missing _ then.goes_on.begins
-          (leads_from g.W.Words g.W.Shape.Shape c.args.w.now c.find.new.w c.take.new.w (λ before after. HasNone m.arena before) goes.shape none)).at;
+          (leads_from g.W.Words g.W.Shape.Shape c.args.w.now c.find.new.w c.take_near.new.w (λ before after. HasNone m.arena before) goes.shape none)).at;
     }
 
 pub returns-in-None-2-clause-order : goal.returns-in-None-2-clause-order
@@ -288,7 +288,7 @@ returns-in_err-write-in-Some g c =
 pub returns-in_err-block-in-None : goal.returns-in_err-block-in-None
 returns-in_err-block-in-None g c =
     let failed = c.from_residual-in_err-block-in-None.ensures.0 in
-    let on : GoesOn g.W.Words c.args.w.now c.take.new.w c.from_residual-in_err-block-in-None.result = goes_as (goes_then c.in_ok-found.ensures.goes_on c.in_err-block-in-None.ensures.goes_on) (search rules) in
+    let on : GoesOn g.W.Words c.args.w.now c.take_near.new.w c.from_residual-in_err-block-in-None.result = goes_as (goes_then c.in_ok-found.ensures.goes_on c.in_err-block-in-None.ensures.goes_on) (search rules) in
     search IfOk-from_err
 
 pub returns-in_err-put_in-in-Some-2 : goal.returns-in_err-put_in-in-Some-2
@@ -296,3 +296,26 @@ returns-in_err-put_in-in-Some-2 g c =
     let failed = c.from_residual-in_err-put_in-in-Some-2.ensures.0 in
     let on : GoesOn g.W.Words c.args.w.now c.put_in.new.w c.from_residual-in_err-put_in-in-Some-2.result = goes_as (goes_then (goes_then c.in_ok-found.ensures.goes_on c.in_ok-block-in-None.ensures.goes_on) c.in_err-put_in-in-Some-2.ensures.goes_on) (search rules) in
     search IfOk-from_err
+
+pub returns-in_ok-put_in-in-Some-2-clause-nearest : goal.returns-in_ok-put_in-in-Some-2-clause-nearest
+returns-in_ok-put_in-in-Some-2-clause-nearest g c =
+    let m = c.args.self.now in
+    let missing = rw c.in-None.is at c.in_ok-found.ensures.missing in
+    let goes = c.in_ok-found.ensures.goes_on in
+    let then = c.in_ok-block-in-None.ensures in
+    let taken = rw c.in-Some-2.is at then.taken in
+    let nearest = rw c.in-Some-2.is at then.nearest in
+    let put = rw c.number.ensures at c.in_ok-put_in-in-Some-2.ensures.put in
+    λ e. record {
+      at = (takes_new m c.args.key c.args.value _ _ _ _ (each_plain g.W.Words g.W.Shape.Shape _ _ c.requires.order) missing _ then.goes_on.begins c.in-Some-2.block
+          (leads_from g.W.Words g.W.Shape.Shape c.args.w.now c.find.new.w c.take_near.new.w _ goes.shape taken)
+          (take_keeps m.arena c.in_ok-block-in-None.field-0 _ _ _ _ (leads_from g.W.Words g.W.Shape.Shape c.args.w.now c.find.new.w c.take_near.new.w _ goes.shape then.others)) _ c.in_ok-put_in-in-Some-2.ensures.goes_on.begins
+          (leads_from g.W.Words g.W.Shape.Shape c.args.w.now c.take_near.new.w c.put_in.new.w _ (then.goes_on.shape ∙ goes.shape) put)
+          (leads_from g.W.Words g.W.Shape.Shape c.args.w.now c.find.new.w c.take_near.new.w _ goes.shape nearest)).at;
+    }
+
+pub returns-in_ok-write-in-Some-clause-nearest : goal.returns-in_ok-write-in-Some-clause-nearest
+returns-in_ok-write-in-Some-clause-nearest g c = λ e. absurd (old_not_new _ e)
+
+pub returns-in-None-2-clause-nearest : goal.returns-in-None-2-clause-nearest
+returns-in-None-2-clause-nearest g c = λ e. absurd (full_not_new e)
