@@ -1,5 +1,5 @@
 -- Free blocks that are laid into their lists, from the last on.
-use Rattle.std.proofs.Common.{◌≡◌, ◌≢◌, ℕ, zero, suc, ◌+◌, ◌-◌, ◌%◌, ◌<◌, ◌≤◌, ◌==◌, inl, inr, true, false, if◌then◌else◌, List, [], ◌∷◌, drop, filter, length, get_or, slice_get, slice_set, Some, nat_eq, refl, sym, ap, ◌∙◌, subst, arith, rules}
+use Rattle.std.proofs.Common.{◌≡◌, ◌≢◌, ℕ, zero, suc, ◌+◌, ◌%◌, ◌<◌, ◌≤◌, ◌==◌, inl, inr, false, List, [], ◌∷◌, drop, filter, length, get_or, slice_get, slice_set, Some, nat_eq, refl, sym, ap, ◌∙◌, subst, arith, rules}
 use mathlib.Core.Bool.{true≢false}
 use mathlib.Core.Logic.{dite}
 use native.Mathlib.Decide.{ℕ_discrete}

@@ -15,7 +15,7 @@ use Rattle.history_model.proofs.TraceLaws.{get_set_same, get_set_other}
 use Rattle.txn_alloc.specs.declared.arena.Arena.{Arena}
 use Rattle.txn_alloc.specs.declared.arena.TheConstants.{HEADS}
 use Rattle.txn_alloc.specs.FreeLists.{block_at, head_of, IsHead, IsInBlock, IsLaidOut, HasList, FreeListHolds, FreeListsHold, TakesBlock}
-use Rattle.txn_alloc.proofs.Rounds.{list_lt, is_head, same_head}
+use Rattle.txn_alloc.proofs.Rounds.{list_lt, is_head}
 use Rattle.txn_alloc.proofs.Sets.{Blocks, in_here, in_there, in_or, out_empty, out_rest, out_itself, contains-insert_other, contains-remove_other, distinct_more}
 
 abbrev pub blocks_of : List ℕ → Blocks

@@ -1,5 +1,5 @@
 -- Going round the lists: how far that of a block is from that of a number.
-use Rattle.std.proofs.Common.{◌≡◌, ◌≢◌, ℕ, ◌+◌, ◌-◌, ◌%◌, ◌<◌, ◌≤◌, ap, ◌∙◌, arith}
+use Rattle.std.proofs.Common.{◌≡◌, ℕ, ◌+◌, ◌%◌, ◌<◌, ap, ◌∙◌, arith}
 use Rattle.txn_alloc.specs.declared.arena.Arena.{Arena}
 use Rattle.txn_alloc.specs.declared.arena.TheConstants.{HEADS}
 use Rattle.txn_alloc.specs.FreeLists.{IsHead, IsHeadTo, head_of, steps_to}

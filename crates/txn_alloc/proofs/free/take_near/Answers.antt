@@ -1,4 +1,4 @@
-use Rattle.std.proofs.Common.{◌≡◌, ◌+◌, ◌*◌, ◌<◌, Some, None, inl, inr, arith, ap, ◌∙◌}
+use Rattle.std.proofs.Common.{Some, inl, inr, arith, ap, ◌∙◌}
 use Rattle.history_model.specs.Fitting.{SomeFits}
 use Rattle.history_model.proofs.TraceLaws.{begins_trans}
 use Rattle.history_model.proofs.FittingLaws.{some_at}
@@ -6,7 +6,7 @@ use Rattle.txn_words.proofs.CallLaws.{each_plain, leads_plain, state_after}
 use Rattle.txn_words.proofs.ReadLaws.{sees_read, sees_then, sees_write, sees_more}
 use Rattle.txn_words.proofs.FrameLaws.{only_read, only_write, only_then, only_more, writes_keep}
 use Rattle.txn_words.proofs.Looks.{each_looked, each_from}
-use Rattle.txn_alloc.specs.FreeLists.{block_at, head_of, IsHeadTo, IsHeadOrFirst, IsWrittenByTake, IsReadByTake, IsInOrder, HasNone, Lacks, Takes}
+use Rattle.txn_alloc.specs.FreeLists.{IsHeadTo, IsWrittenByTake, IsReadByTake, IsInOrder, HasNone, Lacks, Takes}
 use Rattle.txn_alloc.proofs.Rounds.{own_head, last_head}
 use Rattle.txn_alloc.proofs.Traces.{lies, taken_from_some, order_taken, lacks_itself}
 use Rattle.txn_alloc.proofs.Takings.{found_none, takes_nearest, takes_some}

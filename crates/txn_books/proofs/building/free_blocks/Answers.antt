@@ -1,5 +1,4 @@
-use Rattle.std.proofs.Common.{◌≡◌, ℕ, ◌+◌, ◌++◌, List, [], sym, ap, ◌∙◌, subst, arith}
-use Rattle.txn_alloc.specs.FreeLists.{HasList, FreeListsHold}
+use Rattle.std.proofs.Common.{◌+◌, ◌++◌, sym, ap, ◌∙◌, subst, arith}
 use Rattle.txn_books.proofs.Relaid.{AreFreeBelow, free_none, free_more, free_all}
 use Rattle.txn_books.proofs.building.free_blocks.Goals as goal
 
