@@ -23,8 +23,10 @@ two_passes table a b ta tb pa pb na nb = record {
     at (suc zero) lt = (b, (1, refl), nb)
     at (suc (suc j)) lt = absurd (omega arith)
 
-pub returns-clause-all : goal.returns-clause-all
-returns-clause-all c = let r = c.requires in
-    subst (λ (l : List PassView). AreAllPasses c.args.desk.now.table c.args.desk.now.seats l) (sym c.in_ok-passes.ensures.items)
-    (subst (λ (n : ℕ). AreAllPasses c.args.desk.now.table n (c.args.zero ∷ c.args.one ∷ [])) (sym r.seats)
-    (two_passes c.args.desk.now.table c.args.zero c.args.one r.tables.0 r.tables.1 r.idle.0 r.idle.1 r.numbers.0 r.numbers.1))
+pub returns : goal.returns
+returns c = let r = c.requires in record {
+  all =
+      subst (λ (l : List PassView). AreAllPasses c.args.desk.now.table c.args.desk.now.seats l) (sym c.in_ok-passes.ensures.items)
+      (subst (λ (n : ℕ). AreAllPasses c.args.desk.now.table n (c.args.zero ∷ c.args.one ∷ [])) (sym r.seats)
+      (two_passes c.args.desk.now.table c.args.zero c.args.one r.tables.0 r.tables.1 r.idle.0 r.idle.1 r.numbers.0 r.numbers.1));
+}
