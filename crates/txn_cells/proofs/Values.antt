@@ -6,10 +6,11 @@ use Rattle.history_model.proofs.ListPlaces.{same_list}
 use Rattle.std.proofs.lemmas.Option.{slice_get_within, slice_get_cases}
 use Rattle.txn_cells.specs.declared.coded.Coded.{Ghosts as Codes}
 use Rattle.txn_cells.specs.Cells.{AreCellValues, AreCells, cell_words}
-use Rattle.txn_cells.specs.Puts.{PutsWords}
+use Rattle.txn_cells.specs.Inner.Puts.{PutsWords}
 use Rattle.txn_cells.proofs.Windows.{window_within, window_stays, window_is, cells_apart, get_set_cases}
 
-module _ {T : Type 0} (code : Codes T) (count : (x : T) → code.is_value x → length (code.words x) ≡ code.WORDS) (one : (x y : T) → code.is_value x → code.is_value y → code.words x ≡ code.words y → x ≡ y) (at len : ℕ) where
+module _ {T : Type 0} (code : Codes T) (count : (x : T) → code.is_value x → length (code.words x) ≡ code.WORDS)
+    (one : (x y : T) → code.is_value x → code.is_value y → code.words x ≡ code.words y → x ≡ y) (at len : ℕ) where
   -- the value at a place
   pub value_at : (s : List ℕ) (values : List T) → AreCellValues code at len s values → (i : ℕ) → i < len
       → (x : T) × (slice_get values i ≡ Some x) × code.is_value x × (cell_words code at i s ≡ code.words x)
@@ -27,7 +28,8 @@ module _ {T : Type 0} (code : Codes T) (count : (x : T) → code.is_value x → 
 
   -- words have one list of values at most
   pub one_values : (s : List ℕ) (xs ys : List T) → AreCellValues code at len s xs → AreCellValues code at len s ys → xs ≡ ys
-  one_values s xs ys v w = same_list xs ys (v.count ∙ sym w.count) (λ i x e. value_is s ys w i (omega (arith, slice_get_within xs i x e, v.count)) x (v.each i x e).0 (v.each i x e).1)
+  one_values s xs ys v w = same_list xs ys (v.count
+      ∙ sym w.count) (λ i x e. value_is s ys w i (omega (arith, slice_get_within xs i x e, v.count)) x (v.each i x e).0 (v.each i x e).1)
 
   -- a cell lies within the words
   pub cell_within : 1 ≤ code.WORDS → (s : List ℕ) → AreCells code at len s → (i : ℕ) → i < len → at + i * code.WORDS + code.WORDS ≤ length s
@@ -43,19 +45,23 @@ module _ {T : Type 0} (code : Codes T) (count : (x : T) → code.is_value x → 
     count = length-set values i x ∙ v.count;
     each = λ j y e. elim (get_set_cases values i j x y e) [
       | inl same ↦
-          let this : cell_words code at i t ≡ code.words x = window_is code.WORDS (at + i * code.WORDS) t (code.words x) (omega (arith, cell_within some s (values, v) i below, puts.count)) (count x is) puts.stand in (
+          let this : cell_words code at i t ≡ code.words x =
+          window_is code.WORDS (at + i * code.WORDS) t (code.words x)
+          (omega (arith, cell_within some s (values, v) i below, puts.count)) (count x is) puts.stand in (
             subst code.is_value (sym same.1) is,
             ap (λ k. cell_words code at k t) same.0 ∙ this ∙ ap code.words (sym same.1),
           )
       | inr other ↦
           let within : j < len = omega (arith, slice_get_within values j y other.1, v.count) in (
             (v.each j y other.1).0,
-            window_stays code.WORDS (at + j * code.WORDS) s t puts.count (cell_within some s (values, v) j within) (λ k small. puts.others (at + j * code.WORDS + k) (apart j k other.0 small)) ∙ (v.each j y other.1).1,
+            window_stays code.WORDS (at + j * code.WORDS) s t puts.count (cell_within some s (values, v) j within)
+                (λ k small. puts.others (at + j * code.WORDS + k) (apart j k other.0 small)) ∙ (v.each j y other.1).1,
           )
     ];
   }
     where
-      apart : (j k : ℕ) → j ≢ i → k < code.WORDS → (at + j * code.WORDS + k < at + i * code.WORDS) ⊎ (at + i * code.WORDS + length (code.words x) ≤ at + j * code.WORDS + k)
+      apart : (j k : ℕ) → j ≢ i → k < code.WORDS → (at + j * code.WORDS + k < at + i * code.WORDS)
+          ⊎ (at + i * code.WORDS + length (code.words x) ≤ at + j * code.WORDS + k)
       apart j k not_same small = elim (cases_order i j) [
         | inl same ↦ absurd (not_same (sym same))
         | inr (inl up) ↦ inr (omega (arith, cells_apart code.WORDS i j up, count x is))

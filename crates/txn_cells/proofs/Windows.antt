@@ -1,11 +1,45 @@
 -- Words from a place on, as a list and one by one.
-use Rattle.std.proofs.Common.{◌≡◌, ◌≢◌, ◌⊎◌, inl, inr, ℕ, zero, suc, ◌+◌, ◌*◌, ◌<◌, ◌≤◌, List, [], ◌∷◌, Some, length, take, drop, get_or, slice_get, slice_set, refl, sym, ap, ◌∙◌, arith, min, ◌-◌, length-take, length-drop, get_or-take, get_or-drop}
+use Rattle.std.proofs.Common.{
+  ◌≡◌,
+  ◌≢◌,
+  ◌⊎◌,
+  inl,
+  inr,
+  ℕ,
+  zero,
+  suc,
+  ◌+◌,
+  ◌*◌,
+  ◌<◌,
+  ◌≤◌,
+  List,
+  [],
+  ◌∷◌,
+  Some,
+  length,
+  take,
+  drop,
+  get_or,
+  slice_get,
+  slice_set,
+  refl,
+  sym,
+  ap,
+  ◌∙◌,
+  arith,
+  min,
+  ◌-◌,
+  length-take,
+  length-drop,
+  get_or-take,
+  get_or-drop,
+}
 use Rattle.std.proofs.lemmas.List.{get_or-set_same, get_or-set_other, length-set}
 use Rattle.std.proofs.lemmas.Grind.{same_number_lists}
 use Rattle.std.proofs.lemmas.Bool.{cases_lt}
 use Rattle.std.proofs.lemmas.Option.{same_Some}
 use Rattle.std.proofs.Math.Nat.{mul-le-mul_right, suc-mul}
-use Rattle.txn_cells.specs.Puts.{HasWords, PutsWords}
+use Rattle.txn_cells.specs.Inner.Puts.{HasWords, PutsWords}
 
 -- so many words from a place on, where they are there
 pub length_window : (n a : ℕ) (s : List ℕ) → a + n ≤ length s → length (take n (drop a s)) ≡ n
@@ -23,16 +57,19 @@ window_at n a s k h = get_or-take n (drop a s) k 0 h ∙ get_or-drop a s k 0
 pub window_is : (n a : ℕ) (s words : List ℕ) → a + n ≤ length s → length words ≡ n → HasWords a words s → take n (drop a s) ≡ words
 window_is n a s words within count stand =
     let long : length (take n (drop a s)) ≡ n = length_window n a s within in
-    same_number_lists _ words (long ∙ sym count) (λ k below. let small : k < n = omega (arith, below, long) in window_at n a s k small ∙ stand k (omega (arith, small, count)))
+    same_number_lists _ words (long ∙ sym count) (λ k below. let small : k < n = omega (arith, below, long) in
+    window_at n a s k small ∙ stand k (omega (arith, small, count)))
 
 pub window_has : (n a : ℕ) (s words : List ℕ) → length words ≡ n → take n (drop a s) ≡ words → HasWords a words s
 window_has n a s words count is k below = sym (window_at n a s k (omega (arith, below, count))) ∙ ap (λ w. get_or w k 0) is
 
 -- a window that other words leave alone
-pub window_stays : (n a : ℕ) (s t : List ℕ) → length t ≡ length s → a + n ≤ length s → ((k : ℕ) → k < n → get_or t (a + k) 0 ≡ get_or s (a + k) 0) → take n (drop a t) ≡ take n (drop a s)
+pub window_stays : (n a : ℕ) (s t : List ℕ) → length t ≡ length s → a + n ≤ length s
+    → ((k : ℕ) → k < n → get_or t (a + k) 0 ≡ get_or s (a + k) 0) → take n (drop a t) ≡ take n (drop a s)
 window_stays n a s t same within each =
     let long : length (take n (drop a s)) ≡ n = length_window n a s within in
-    window_is n a t (take n (drop a s)) (omega (arith, within, same)) long (λ k below. let small : k < n = omega (arith, below, long) in each k small ∙ sym (window_at n a s k small))
+    window_is n a t (take n (drop a s)) (omega (arith, within, same)) long (λ k below. let small : k < n =
+    omega (arith, below, long) in each k small ∙ sym (window_at n a s k small))
 
 -- no word was put in yet
 pub puts_none : (place : ℕ) (s : List ℕ) → PutsWords place [] s s
@@ -43,7 +80,8 @@ length_front : (k : ℕ) (words : List ℕ) → k < length words → length (tak
 length_front k words below = simp length-take (omega (arith, below))
 
 -- one word more was found, of those that stand
-pub has_more : (place k : ℕ) (words s : List ℕ) → k < length words → HasWords place (take k words) s → get_or s (place + k) 0 ≡ get_or words k 0 → HasWords place (take (k + 1) words) s
+pub has_more : (place k : ℕ) (words s : List ℕ) → k < length words → HasWords place (take k words) s
+    → get_or s (place + k) 0 ≡ get_or words k 0 → HasWords place (take (k + 1) words) s
 has_more place k words s below stand this i h =
     let front : length (take k words) ≡ k = length_front k words below in
     let more : length (take (k + 1) words) ≡ k + 1 = simp length-take (omega (arith, below)) in
@@ -62,7 +100,8 @@ puts_more place k words old mid below within puts =
     let front : length (take k words) ≡ k = length_front k words below in
     let more : length (take (k + 1) words) ≡ k + 1 = simp length-take (omega (arith, below)) in
     let there : place + k < length mid = omega (arith, within, below, puts.count) in
-    let other : (a : ℕ) → a ≢ place + k → get_or (slice_set mid (place + k) (get_or words k 0)) a 0 ≡ get_or mid a 0 = λ a apart. get_or-set_other mid (place + k) a (get_or words k 0) 0 apart in
+    let other : (a : ℕ) → a ≢ place + k → get_or (slice_set mid (place + k) (get_or words k 0)) a 0 ≡ get_or mid a 0 =
+    λ a apart. get_or-set_other mid (place + k) a (get_or words k 0) 0 apart in
     record {
       count = length-set mid (place + k) (get_or words k 0) ∙ puts.count;
       stand = has_more place k words (slice_set mid (place + k) (get_or words k 0)) below
@@ -81,7 +120,8 @@ cells_apart n i j h =
     omega (arith, step, suc-mul i n)
 
 -- an element of a list in which one was put
-pub get_set_cases : {X : Type 0} (xs : List X) (i j : ℕ) (x y : X) → slice_get (slice_set xs i x) j ≡ Some y → ((j ≡ i) × (y ≡ x)) ⊎ ((j ≢ i) × (slice_get xs j ≡ Some y))
+pub get_set_cases : {X : Type 0} (xs : List X) (i j : ℕ) (x y : X) → slice_get (slice_set xs i x) j ≡ Some y
+    → ((j ≡ i) × (y ≡ x)) ⊎ ((j ≢ i) × (slice_get xs j ≡ Some y))
 get_set_cases [] i j x y e = absurd (cc e)
 get_set_cases (z ∷ xs) zero zero x y e = inl (refl, sym (same_Some x y e))
 get_set_cases (z ∷ xs) zero (suc j) x y e = inr (λ k. absurd (omega (arith, k)), e)

@@ -2,5 +2,5 @@ pub mod Spelling
 pub mod Pairs
 pub mod Cells
 pub mod Typed
-pub mod Puts
+pub mod Inner
 pub mod Statements

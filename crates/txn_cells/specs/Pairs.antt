@@ -6,7 +6,8 @@ use Rattle.txn_cells.specs.declared.pair.Pair.{Pair}
 pair_of : ℕ → ℕ → Pair
 pair_of first second = record { first = first; second = second }
 
-pub one_pair : (x y : Pair) → (x.first < 2 ^ 64) × (x.second < 2 ^ 128) → (y.first < 2 ^ 64) × (y.second < 2 ^ 128) → x.first ∷ halves_of x.second ≡ y.first ∷ halves_of y.second → x ≡ y
+pub one_pair : (x y : Pair) → (x.first < 2 ^ 64) × (x.second < 2 ^ 128) → (y.first < 2 ^ 64) × (y.second < 2 ^ 128)
+    → x.first ∷ halves_of x.second ≡ y.first ∷ halves_of y.second → x ≡ y
 unfolding pair_of
 one_pair x y p q e =
     let first : x.first ≡ y.first = cc e in

@@ -77,7 +77,7 @@ impl<T: Coded> CellArray<T> {
     ghost use Rattle.txn_cells.specs.declared.typed.TypedEvent.TheVariants.{Get, Set};
     ghost use Rattle.txn_cells.specs.Cells.{AreCells, IsOfCell, cell_words};
     ghost use Rattle.txn_cells.specs.Typed.{DoesTyped};
-    ghost use Rattle.txn_cells.specs.Puts.{PutsWords};
+    ghost use Rattle.txn_cells.specs.Inner.Puts.{PutsWords};
 
     /// The array of `len` cells from word `at` on. A cell takes 1 to 8 words, and all of them end within 1,048,576.
     pub fn new(at: u64, len: u32) -> CellArray<T>

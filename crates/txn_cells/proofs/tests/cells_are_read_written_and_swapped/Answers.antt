@@ -45,5 +45,6 @@ get-requires-clause-cells g c = record {
       let trace : c.new-plain.result.trace ≡ [] = ap (λ (v : PlainView _). v.trace) c.new-plain.ensures.view in
       subst (λ t. AreCells numbers c.new-cells.result.at c.new-cells.result.len (after t s)) (sym trace)
       (cells_at c.new-plain.result.shape.at c.new-cells.result.at c.new-plain.result.shape.len c.new-cells.result.len s s
-      (ap (λ z. z.at) shape ∙ c.new.ensures.at ∙ sym c.new-cells.ensures.at) (ap (λ z. z.len) shape ∙ c.new.ensures.len ∙ sym c.new-cells.ensures.len) refl fit.good);
+      (ap (λ z. z.at) shape ∙ c.new.ensures.at ∙ sym c.new-cells.ensures.at) (ap (λ z. z.len) shape ∙ c.new.ensures.len
+      ∙ sym c.new-cells.ensures.len) refl fit.good);
 }

@@ -2,7 +2,7 @@ use Rattle.std.proofs.Common.{◌≡◌, ◌+◌, ◌*◌, ◌<◌, ◌≤◌, l
 use Rattle.std.proofs.lemmas.List.{length-take-le, length-set}
 use Rattle.txn_words.proofs.CallLaws.{each_plain}
 use Rattle.txn_cells.specs.Cells.{IsOfCell}
-use Rattle.txn_cells.specs.Puts.{HasWords}
+use Rattle.txn_cells.specs.Inner.Puts.{HasWords}
 use Rattle.txn_words.specs.Looks.{Looks}
 use Rattle.txn_cells.proofs.Calls.{cell_lies}
 use Rattle.txn_cells.proofs.Turns.{more_read, cell_read}
@@ -15,7 +15,8 @@ read-requires-clause-within g c =
     let words = g.W.Words in
     let shapes = g.W.Shape.Shape in
     let lies : array.at + c.args.i * code.WORDS + code.WORDS ≤ shapes.word_count (words.shape c.args.w.now) =
-    cell_lies code array.at array.len _ _ g.met.T.Coded.count g.met.T.Coded.one _ array.sizes.some (each_plain words shapes _ _ c.requires.cells) (g.met.W.Words.fits c.args.w.now c.requires.ready.sound) c.args.i c.requires.place in
+    cell_lies code array.at array.len _ _ g.met.T.Coded.count g.met.T.Coded.one _ array.sizes.some
+    (each_plain words shapes _ _ c.requires.cells) (g.met.W.Words.fits c.args.w.now c.requires.ready.sound) c.args.i c.requires.place in
     let shape : shapes.word_count (words.shape c.loop-k.w) ≡ shapes.word_count (words.shape c.args.w.now) = ap shapes.word_count c.loop-k.invariant.shape in
     omega (arith, lies, shape, c.loop-k.invariant.first, c.loop-k-test.true)
 
@@ -26,7 +27,8 @@ loop-k-preserved g c =
     let loop = c.loop-k in
     let read = c.in_ok-words in
     let below : loop.k < length loop.words = omega (arith, loop.invariant.count, c.loop-k-test.true, array.sizes.few) in
-    let own : IsOfCell code.WORDS array.at c.args.i (c.first_word-first.result + c.from.result) = (omega (arith, loop.invariant.first), omega (arith, loop.invariant.first, c.loop-k-test.true)) in
+    let own : IsOfCell code.WORDS array.at c.args.i (c.first_word-first.result + c.from.result) =
+    (omega (arith, loop.invariant.first), omega (arith, loop.invariant.first, c.loop-k-test.true)) in
     record {
       shape = read.ensures.shape ∙ loop.invariant.shape;
       origin = read.ensures.origin ∙ loop.invariant.origin;
@@ -46,6 +48,11 @@ returns-clause-looks g c =
     let shapes = g.W.Shape.Shape in
     let end : loop.k ≡ code.WORDS = omega (arith, c.loop-k-test.false) in
     let long : length (take code.WORDS loop.words) ≡ code.WORDS = length-take-le code.WORDS loop.words (omega (arith, loop.invariant.count, array.sizes.few)) in
-    let looks : Looks (shapes.word_count (words.shape c.args.w.now)) (shapes.good (words.shape c.args.w.now)) (words.trace c.args.w.now) (words.trace loop.w) (λ _. IsOfCell code.WORDS array.at c.args.i) (HasWords (c.first_word-first.result) (take code.WORDS loop.words)) =
-    subst (λ k. Looks (shapes.word_count (words.shape c.args.w.now)) (shapes.good (words.shape c.args.w.now)) (words.trace c.args.w.now) (words.trace loop.w) (λ _. IsOfCell code.WORDS array.at c.args.i) (HasWords (c.first_word-first.result) (take k loop.words))) end loop.invariant.looks in
-    cell_read _ _ _ code g.met.T.Coded.count g.met.T.Coded.one array.at array.len _ c.args.i _ loop.words array.sizes.some (each_plain words shapes _ _ c.requires.cells) c.requires.place loop.invariant.first long looks
+    let looks : Looks (shapes.word_count (words.shape c.args.w.now)) (shapes.good (words.shape c.args.w.now))
+    (words.trace c.args.w.now) (words.trace loop.w) (λ _. IsOfCell code.WORDS array.at c.args.i)
+    (HasWords (c.first_word-first.result) (take code.WORDS loop.words)) =
+    subst (λ k. Looks (shapes.word_count (words.shape c.args.w.now)) (shapes.good (words.shape c.args.w.now))
+    (words.trace c.args.w.now) (words.trace loop.w) (λ _. IsOfCell code.WORDS array.at c.args.i)
+    (HasWords (c.first_word-first.result) (take k loop.words))) end loop.invariant.looks in
+    cell_read _ _ _ code g.met.T.Coded.count g.met.T.Coded.one array.at array.len _ c.args.i _ loop.words
+    array.sizes.some (each_plain words shapes _ _ c.requires.cells) c.requires.place loop.invariant.first long looks

@@ -1,7 +1,7 @@
 use Rattle.std.proofs.Common.{◌≡◌, ◌+◌, ◌*◌, None, length, take}
 use Rattle.txn_words.specs.Looks.{Looks}
 use Rattle.txn_cells.specs.Cells.{IsOfCell}
-use Rattle.txn_cells.specs.Puts.{HasWords}
+use Rattle.txn_cells.specs.Inner.Puts.{HasWords}
 use Rattle.txn_cells.proofs.array.CellArray.read_cell.Given as goal
 
 abbrev pub invariant-loop-k : goal.invariant-loop-k
@@ -15,5 +15,6 @@ invariant-loop-k g l =
       sound : words.is_sound l.w;
       first : l.first ≡ l.self.at + l.i * g.T.Coded.WORDS;
       count : length l.words ≡ 8;
-      looks : Looks (shapes.word_count (words.shape l.fn.w)) (shapes.good (words.shape l.fn.w)) (words.trace l.fn.w) (words.trace l.w) (λ _. IsOfCell g.T.Coded.WORDS l.self.at l.i) (HasWords l.first (take l.k l.words));
+      looks : Looks (shapes.word_count (words.shape l.fn.w)) (shapes.good (words.shape l.fn.w)) (words.trace l.fn.w)
+          (words.trace l.w) (λ _. IsOfCell g.T.Coded.WORDS l.self.at l.i) (HasWords l.first (take l.k l.words));
     }

@@ -3,7 +3,7 @@ use Rattle.history_model.specs.Traces.{Begins}
 use Rattle.history_model.specs.Fitting.{Leads}
 use Rattle.txn_words.specs.Frames.{AppendsOnly, AppendsReads}
 use Rattle.txn_cells.specs.Cells.{IsOfCell}
-use Rattle.txn_cells.specs.Puts.{PutsWords}
+use Rattle.txn_cells.specs.Inner.Puts.{PutsWords}
 use Rattle.txn_cells.proofs.array.CellArray.write_cell.Given as goal
 
 abbrev pub invariant-loop-k : goal.invariant-loop-k
@@ -17,7 +17,8 @@ invariant-loop-k g l =
       stop : words.stop l.w ≡ None;
       sound : words.is_sound l.w;
       first : l.first ≡ l.self.at + l.i * g.T.Coded.WORDS;
-      puts : Leads (shapes.word_count (words.shape l.fn.w)) (shapes.good (words.shape l.fn.w)) (words.trace l.fn.w) (words.trace l.w) (PutsWords l.first (take l.k l.words));
+      puts : Leads (shapes.word_count (words.shape l.fn.w)) (shapes.good (words.shape l.fn.w)) (words.trace l.fn.w)
+          (words.trace l.w) (PutsWords l.first (take l.k l.words));
       frame : AppendsOnly (words.trace l.fn.w) (words.trace l.w) (IsOfCell g.T.Coded.WORDS l.self.at l.i);
       reads : AppendsReads (words.trace l.fn.w) (words.trace l.w) (IsOfCell g.T.Coded.WORDS l.self.at l.i);
     }
