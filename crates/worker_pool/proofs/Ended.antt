@@ -1,5 +1,5 @@
 -- All shares of a day, put together.
-use Rattle.std.proofs.Common.{◌≡◌, ℕ, ◌<◌, List, ◌∷◌, [], All, IsPermutation, flat_map, map, length, get_or, slice_get, Some, refl, sym, ap, ◌++◌, ◌∙◌, subst, arith, zero-add}
+use Rattle.std.proofs.Common.{◌≡◌, ℕ, ◌<◌, ◌≤◌, List, ◌∷◌, [], All, IsPermutation, flat_map, map, length, get_or, slice_get, Some, refl, sym, ap, ◌++◌, ◌∙◌, subst, arith, zero-add}
 use Rattle.std.specs.List.{range_with_len}
 use Rattle.std.specs.List.Sorted.{IsNonDecreasingBy}
 use Rattle.std.proofs.lemmas.List.{get_or-map, length-map}
@@ -17,9 +17,11 @@ use Rattle.word_table.specs.Copies.{PassView}
 use Rattle.word_table.specs.Desks.{DeskView}
 use Rattle.worker_pool.specs.declared.done.Done.{Done}
 use Rattle.worker_pool.specs.declared.worker.Share.{Share}
-use Rattle.worker_pool.specs.Days.{IsDay}
+use Rattle.worker_pool.specs.Days.{AreCallersWhole, IsDay}
 use Rattle.worker_pool.specs.Inner.Workers.{seat_of, share_of, tally_number, AreAllDone, IsDone, Tally}
 use Rattle.worker_pool.proofs.Gathered.{pass_of, items_of, serial_of, day_is}
+use Rattle.worker_pool.proofs.Wholes.{callers_whole}
+use Rattle.worker_pool.specs.Counting.{once_below}
 
 abbrev pub share_pass : Share → PassView
 share_pass share = share.pass
@@ -34,6 +36,9 @@ map_twice f g (x ∷ xs) = λ i. f (g x) ∷ map_twice f g xs i
 flat_map_twice : {X Y Z : Type 0} (f : Y → List Z) (g : X → Y) (xs : List X) → flat_map f (map g xs) ≡ flat_map (λ x. f (g x)) xs
 flat_map_twice f g [] = refl
 flat_map_twice f g (x ∷ xs) = flat_map-cons f (g x) (map g xs) ∙ ap (λ l. f (g x) ++ l) (flat_map_twice f g xs) ∙ sym (flat_map-cons (λ y. f (g y)) x xs)
+
+pub once_at_most : (x n : ℕ) → once_below x n ≤ 1
+once_at_most x n = grind arith
 
 module _ (desk : DeskView BooksShape) (input : ClearingInput) (shares : List Share) (all : AreAllDone desk input shares) where
   abbrev ws : List Tally
@@ -98,3 +103,8 @@ module _ (desk : DeskView BooksShape) (input : ClearingInput) (shares : List Sha
       (subst (λ l. IsPermutation l done) items_are moved) up closed.words words in
       subst (λ (c : ClosedView BooksShape). IsDay input c done)
       (λ i. record { base = sym base i; seats = sym seats i; shape = sym shape i; history = closed.history; words = closed.words }) day
+
+  pub whole_of_all : (gathered done : List Done) → gathered ≡ flat_map share_items shares → IsPermutation gathered done → AreCallersWhole done
+  whole_of_all gathered done are moved =
+      let items_are : gathered ≡ flat_map items_of ws = are ∙ ap (flat_map share_items) (sym all.are) ∙ flat_map_twice share_items share_of ws in
+      callers_whole desk input ws all_worked (λ x. omega (arith, all.once x, once_at_most x (length input.callers))) done (subst (λ l. IsPermutation l done) items_are moved)

@@ -22,7 +22,7 @@ use Rattle.worker_pool.specs.Inner.Finishing.{IsReturning, IsWholeRow, rows_stol
 use Rattle.worker_pool.specs.Inner.Makers.{HasMade, HasRun, RunsEach}
 use Rattle.worker_pool.specs.Inner.Takers.{dealt_to, had, IsDealtOut, Thieves}
 use Rattle.worker_pool.specs.Inner.Workers.{number_of, seat_of, share_of, AreAllDone, HasEnded, HasWorked, IsDone, Tally}
-use Rattle.worker_pool.proofs.Ended.{map_twice}
+use Rattle.worker_pool.proofs.Ended.{map_twice, once_at_most}
 use Rattle.worker_pool.proofs.Gathered.{sum_over}
 use Rattle.worker_pool.specs.Inner.Dealing.{AreDealtInTurn}
 use Rattle.worker_pool.proofs.Opening.{dealt_all, OwnerOf}
@@ -178,9 +178,6 @@ tally_of worker = record { share = worker.share; had = had worker.taker }
 shares_of_tallies : (ws : List Worker) → map share_of (map tally_of ws) ≡ map worker_share ws
 shares_of_tallies [] = refl
 shares_of_tallies (w ∷ ws) = λ i. w.share ∷ shares_of_tallies ws i
-
-once_at_most : (x n : ℕ) → once_below x n ≤ 1
-once_at_most x n = grind arith
 
 -- a share that is done, and those of workers of whom none took a caller twice
 done_at : {thieves : Thieves} {desk : DeskView BooksShape} {input : ClearingInput} (tally : Tally) → IsDone desk input tally → (ws : List Worker) → All (HasWorked thieves desk input) ws

@@ -100,10 +100,10 @@ abbrev InOrder : Done → Done → Type 0
 InOrder x y = x.caller ≡ y.caller → (x.index < y.index) × (x.serial < y.serial)
 
 -- a caller of whom the workers took all scripts once stands in one worker's list alone
-abbrev total_had : List Tally → ℕ → ℕ
+abbrev pub total_had : List Tally → ℕ → ℕ
 total_had ws x = sum_by (λ (w : Tally). w.had x) ws
 
-among_total : (ws : List Tally) → All (λ (w : Tally). All (λ (item : Done). 0 < w.had item.caller) w.share.done.items) ws → All (λ (item : Done). 0 < total_had ws item.caller) (flat_map items_of ws)
+pub among_total : (ws : List Tally) → All (λ (w : Tally). All (λ (item : Done). 0 < w.had item.caller) w.share.done.items) ws → All (λ (item : Done). 0 < total_had ws item.caller) (flat_map items_of ws)
 among_total [] each = All-nil (λ (item : Done). 0 < total_had [] item.caller)
 among_total (w ∷ ws) each =
     let more : (x : ℕ) → total_had (w ∷ ws) x ≡ w.had x + total_had ws x = λ x. sum_by-cons (λ (v : Tally). v.had x) w ws in
