@@ -42,11 +42,11 @@ by_seat (w ∷ ws) seats among once =
     let there = by_seat ws (All-tail AreOfSeat w ws seats) rest (λ x. omega (arith, once x, more x)) in
     let had_there = among_total ws rest in
     let own : All (λ (item : Done). item.seat ≡ seat_by (w ∷ ws) item.caller) w.share.done.items = λ k d lt.
-        let c : ℕ = (get_or w.share.done.items k d).caller in
-        All-head AreOfSeat w ws seats k d lt ∙ sym (seat_here (w.had c) (tally_number w) (seat_by ws c) (All-head AmongHad w ws among k d lt)) in
+    let c : ℕ = (get_or w.share.done.items k d).caller in
+    All-head AreOfSeat w ws seats k d lt ∙ sym (seat_here (w.had c) (tally_number w) (seat_by ws c) (All-head AmongHad w ws among k d lt)) in
     let others : All (λ (item : Done). item.seat ≡ seat_by (w ∷ ws) item.caller) (flat_map items_of ws) = λ k d lt.
-        let c : ℕ = (get_or (flat_map items_of ws) k d).caller in
-        there k d lt ∙ sym (seat_there (w.had c) (tally_number w) (seat_by ws c) (omega (arith, had_there k d lt, once c, more c))) in
+    let c : ℕ = (get_or (flat_map items_of ws) k d).caller in
+    there k d lt ∙ sym (seat_there (w.had c) (tally_number w) (seat_by ws c) (omega (arith, had_there k d lt, once c, more c))) in
     subst (λ l. All (λ (item : Done). item.seat ≡ seat_by (w ∷ ws) item.caller) l) (sym (flat_map-cons items_of w ws))
     (All-append (λ (item : Done). item.seat ≡ seat_by (w ∷ ws) item.caller) w.share.done.items (flat_map items_of ws) own others)
 

@@ -34,10 +34,16 @@ fn pair_of(alloc: Global, callers: u32, room: usize) -> Result<Pair, OutOfMemory
         mut rows,
         left,
     } = deal_out(alloc, callers, 2, room)?;
-    let (Some(second_own), Some(second_row)) = (owners.pop(), rows.pop()) else {
+    let Some(second_own) = owners.pop() else {
         unreachable!()
     };
-    let (Some(first_own), Some(first_row)) = (owners.pop(), rows.pop()) else {
+    let Some(second_row) = rows.pop() else {
+        unreachable!()
+    };
+    let Some(first_own) = owners.pop() else {
+        unreachable!()
+    };
+    let Some(first_row) = rows.pop() else {
         unreachable!()
     };
     let first = Taker {
