@@ -1,6 +1,7 @@
 -- What a day of some workers is, and what is printed of it.
 use Rattle.std.specs.Prelude.{◌≡◌, ℕ, List, map}
 use Rattle.history_model.specs.Fitting.{IsGood}
+use Rattle.history_model.specs.Histories.{replay}
 use Rattle.history_model.specs.Legal.{IsLegalHistory}
 use Rattle.script_reader.specs.Input.{ClearingInput}
 use Rattle.books_report.specs.declared.line.Line.{Line}
@@ -10,7 +11,7 @@ use Rattle.txn_books.specs.Layout.{words_of}
 use Rattle.txn_books.specs.Standing.{Stands, IsGoodFor}
 use Rattle.worker_pool.specs.declared.done.Done.{Done}
 use Rattle.worker_pool.specs.declared.done.DayEnd.{DayEnd}
-use Rattle.worker_pool.specs.Days.{place_of, IsDay}
+use Rattle.worker_pool.specs.Days.{place_of, AreCallersWhole, IsDay}
 use Rattle.worker_pool.specs.Days as days
 
 -- what the journal says of an item
@@ -30,9 +31,11 @@ abbrev pub closing_books : ClearingInput → DayEnd → ClearingBooks
 closing_books input day = books_after input input.books (days.places_of day.done.items)
 
 -- a day of the input by so many workers: a table with a seat for each, whose words stood for the opening books, and a legal
--- history of all that was done on it
+-- history of all that was done on it, whose replay its words are at the end; each caller was run whole by one worker
 pub record IsDayOf (input : ClearingInput) (workers : ℕ) (day : DayEnd) : Type 0 where
   pub seats : day.closed.seats ≡ workers
   pub opening : Stands day.closed.shape day.closed.base input.books
   pub legal : IsLegalHistory (IsGood (words_of day.closed.shape) (IsGoodFor day.closed.shape)) day.closed.seats day.closed.base day.closed.history
+  pub words : day.closed.words ≡ replay day.closed.base day.closed.history
   pub is_day : IsDay input day.closed day.done.items
+  pub whole : AreCallersWhole day.done.items

@@ -23,10 +23,10 @@ pub(crate) const CROSSING: &str =
 /// How often a gate looks before it gives up.
 const LOOKS: u32 = 100_000_000;
 
-// Waits until the mark is set, or gives up, and says so.
-fn await_mark(mark: &AtomicCell<bool>, gave_up: &AtomicCell<bool>) {
+// Waits until the mark is a number from 1 on, or gives up, and says so.
+fn await_mark(mark: &AtomicCell<u64>, gave_up: &AtomicCell<bool>) {
     for _ in 0..LOOKS {
-        if mark.load() {
+        if mark.load() > 0 {
             return;
         }
     }
@@ -37,7 +37,10 @@ fn await_mark(mark: &AtomicCell<bool>, gave_up: &AtomicCell<bool>) {
 #[derive(Drop)]
 struct OtherFirst {
     other: u64,
-    committed: AtomicCell<bool>,
+    /// The seat that committed the other script.
+    seat: AtomicCell<u32>,
+    /// Which of the seat's calls that was, once it is committed.
+    call: AtomicCell<u64>,
     gave_up: AtomicCell<bool>,
 }
 
@@ -45,7 +48,8 @@ impl OtherFirst {
     fn new(other: u64) -> OtherFirst {
         OtherFirst {
             other,
-            committed: AtomicCell::new(false),
+            seat: AtomicCell::new(0),
+            call: AtomicCell::new(0),
             gave_up: AtomicCell::new(false),
         }
     }
@@ -55,9 +59,12 @@ impl Gate for OtherFirst {
     fn at<R: Wait>(&self, _rt: &R, point: Point) {
         match point.stage {
             Stage::Granted { .. } if point.tag == 0 => {
-                await_mark(&self.committed, &self.gave_up);
+                await_mark(&self.call, &self.gave_up);
             }
-            Stage::AfterCommit if point.tag == self.other => self.committed.store(true),
+            Stage::AfterCommit if point.tag == self.other => {
+                self.seat.store(point.seat);
+                self.call.store(u64::from(point.call));
+            }
             _ => {}
         }
     }
@@ -66,16 +73,21 @@ impl Gate for OtherFirst {
 /// Holds each of two callers' scripts at its first lock to write until the other has one too.
 #[derive(Drop)]
 pub(crate) struct BothWrite {
-    first: AtomicCell<bool>,
-    second: AtomicCell<bool>,
+    /// The word that the first caller's script was granted last, to write.
+    first: AtomicCell<u64>,
+    /// That of the second caller's.
+    second: AtomicCell<u64>,
+    /// How often one of two seats gave way to the other.
+    yields: AtomicCell<u64>,
     gave_up: AtomicCell<bool>,
 }
 
 impl BothWrite {
     pub(crate) fn new() -> BothWrite {
         BothWrite {
-            first: AtomicCell::new(false),
-            second: AtomicCell::new(false),
+            first: AtomicCell::new(0),
+            second: AtomicCell::new(0),
+            yields: AtomicCell::new(0),
             gave_up: AtomicCell::new(false),
         }
     }
@@ -83,14 +95,23 @@ impl BothWrite {
 
 impl Gate for BothWrite {
     fn at<R: Wait>(&self, _rt: &R, point: Point) {
-        if let Stage::Granted { write: true, .. } = point.stage {
-            let (own, other) = if point.tag == 0 {
-                (&self.first, &self.second)
-            } else {
-                (&self.second, &self.first)
-            };
-            own.store(true);
-            await_mark(other, &self.gave_up);
+        match point.stage {
+            Stage::Granted { word, write: true } => {
+                let (own, other) = if point.tag == 0 {
+                    (&self.first, &self.second)
+                } else {
+                    (&self.second, &self.first)
+                };
+                own.store(word);
+                await_mark(other, &self.gave_up);
+            }
+            Stage::Yielded { seat: 0, stamp } if point.seat == 1 && stamp > 0 => {
+                let _ = self.yields.fetch_add(1);
+            }
+            Stage::Yielded { seat: 1, stamp } if point.seat == 0 && stamp > 0 => {
+                let _ = self.yields.fetch_add(1);
+            }
+            _ => {}
         }
     }
 }
@@ -123,21 +144,39 @@ fn is_text(text: &[u8], parts: &[&str]) -> bool {
     rest.is_empty()
 }
 
-// The second caller's script is committed while the first's is under way: so the two were run at once, and it comes
-// first in the journal.
-#[test]
-fn two_workers_run_at_once(rt: HostRuntime) -> Result<(), Fail> {
-    let gate = OtherFirst::new(65_536);
+// Whether the second caller's script is committed while the first's is under way, and so comes first in the journal.
+fn second_comes_first<R: Abort + Threads + Wait + Sync>(
+    rt: &R,
+    alloc: Global,
+    command: &str,
+    gate: &OtherFirst,
+) -> Result<bool, OutOfMemory> {
     let input = &[
         TWO_ACCOUNTS,
         "scripts\nscript ann\ndeposit 1 5\nshow 2\nend\nscript bob\ndeposit 2 7\nend\nfinish\n",
     ];
-    let taken = printed(&rt, rt.alloc(), "run 2", input, &gate)?;
+    let taken = printed(rt, alloc, command, input, gate)?;
     let output = &[
         "journal\n1 bob 1 0 done ok\n2 ann 1 0 done ok 7\n",
         "books 1 blocks 2 instruments 1 ring 1\naccount 1 5\naccount 2 7\nfinish\n",
     ];
-    assert!(rt; is_text(&taken, output) && !gate.gave_up.load());
+    Ok(is_text(&taken, output) && !gate.gave_up.load())
+}
+
+// The second worker, whose deque the second caller is dealt to, runs it with its first call: the first worker is held.
+#[test]
+fn two_workers_run_at_once(rt: HostRuntime) -> Result<(), Fail> {
+    let gate = OtherFirst::new(65_536);
+    assert!(rt; second_comes_first(&rt, rt.alloc(), "run 2", &gate)?);
+    assert_eq!(rt; (gate.seat.load(), gate.call.load()), (1, 1));
+    Ok(())
+}
+
+// Two of the four deques hold no caller, and two of the workers find none.
+#[test]
+fn workers_that_find_no_caller_leave_the_day_to_others(rt: HostRuntime) -> Result<(), Fail> {
+    let gate = OtherFirst::new(65_536);
+    assert!(rt; second_comes_first(&rt, rt.alloc(), "run 4", &gate)?);
     Ok(())
 }
 
@@ -182,7 +221,8 @@ fn one_caller_has_nearly_all_scripts(rt: HostRuntime) -> Result<(), Fail> {
     Ok(())
 }
 
-// Each holds an account that the other wants next: one of them gives way, once, and its script comes second.
+// Each holds an account that the other wants next: one of them gives way, once, and its script comes second. The cash
+// of account 1 is word 1 of block 1, which begins at word 281, and that of account 2 word 1 of block 0, at word 277.
 #[test]
 fn of_two_that_cross_one_gives_way(rt: HostRuntime) -> Result<(), Fail> {
     let gate = BothWrite::new();
@@ -198,7 +238,8 @@ fn of_two_that_cross_one_gives_way(rt: HostRuntime) -> Result<(), Fail> {
         closing,
     ];
     assert!(rt; is_text(&taken, first) || is_text(&taken, second));
-    assert!(rt; !gate.gave_up.load());
+    assert_eq!(rt; (gate.first.load(), gate.second.load()), (278, 282));
+    assert_eq!(rt; (gate.yields.load(), gate.gave_up.load()), (1, false));
     Ok(())
 }
 
@@ -282,32 +323,62 @@ fn each_script_of_a_day_is_run_once_in_its_callers_order(rt: HostRuntime) -> Res
     Ok(())
 }
 
-/// Counts the scripts that are committed.
+/// Counts the scripts that are committed, and sums up what it is told of them.
 #[derive(Drop)]
 struct Commits {
-    count: AtomicCell<u64>,
+    /// How many were about to be committed.
+    before: AtomicCell<u64>,
+    /// How many were committed.
+    after: AtomicCell<u64>,
+    tags: AtomicCell<u64>,
+    seats: AtomicCell<u32>,
+    calls: AtomicCell<u32>,
 }
 
-impl Gate for Commits {
-    fn at<R: Wait>(&self, _rt: &R, point: Point) {
-        if let Stage::AfterCommit = point.stage {
-            let _ = self.count.fetch_add(1);
+impl Commits {
+    fn new() -> Commits {
+        Commits {
+            before: AtomicCell::new(0),
+            after: AtomicCell::new(0),
+            tags: AtomicCell::new(0),
+            seats: AtomicCell::new(0),
+            calls: AtomicCell::new(0),
         }
     }
 }
 
-// Four callers with five scripts each.
+impl Gate for Commits {
+    fn at<R: Wait>(&self, _rt: &R, point: Point) {
+        match point.stage {
+            Stage::BeforeCommit => {
+                let _ = self.before.fetch_add(1);
+            }
+            Stage::AfterCommit => {
+                let _ = self.after.fetch_add(1);
+                let _ = self.tags.fetch_add(point.tag);
+                let _ = self.seats.fetch_add(point.seat);
+                let _ = self.calls.fetch_add(point.call);
+            }
+            _ => {}
+        }
+    }
+}
+
+// Four callers with five scripts each: the tags are 65536 c + i for c below 4 and i below 5. Of the two seats each runs
+// its callers whole, and numbers its calls from 1 on: where seat 1 runs 5 scripts of the 20, the numbers sum to 120 + 15.
 #[test]
 fn a_drill_commits_each_script_once(rt: HostRuntime) -> Result<(), Fail> {
     let alloc = rt.alloc();
     let words = words(alloc, "drill 2 0 4 5")?;
     let mut source = MemSource::new(Vec::new(alloc), 1, Vec::new(alloc));
     let mut sink = MemSink::with_room(alloc, 1_000, 1_000, Vec::new(alloc))?;
-    let gate = Commits {
-        count: AtomicCell::new(0),
-    };
+    let gate = Commits::new();
     let served = serve(&rt, alloc, &words, &mut source, &mut sink, &gate);
     assert_eq!(rt; served.status, Status::Done);
-    assert!(rt; served.day.is_some() && gate.count.load() == 20);
+    assert!(rt; served.day.is_some());
+    assert_eq!(rt; (gate.before.load(), gate.after.load()), (20, 20));
+    assert_eq!(rt; gate.tags.load(), 1_966_120);
+    let seats_and_calls = (gate.seats.load(), gate.calls.load());
+    assert!(rt; matches!(seats_and_calls, (0 | 20, 210) | (5 | 15, 135) | (10, 110)));
     Ok(())
 }

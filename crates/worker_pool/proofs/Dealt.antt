@@ -12,7 +12,8 @@ use Rattle.worker_pool.specs.Counting.{times, once_below}
 use Rattle.worker_pool.specs.Inner.Deals.{deal}
 use Rattle.worker_pool.specs.Inner.Dealing.{at_turn, AreDealtInTurn, AreShown, AreStill, DealsOne, HasLess, HaveLess, IsFree, IsNew, IsNewRow, IsShown, IsStill}
 use Rattle.worker_pool.specs.Inner.Ends.{HasOver}
-use Rattle.worker_pool.proofs.Places.{length_set, get_set_here, get_set_else, get_front, get_last, default_of, related_push, related_set}
+use Rattle.worker_pool.proofs.Places.{related_push, related_set}
+use Rattle.std.proofs.lemmas.List.{length-set, get_or-set_other, get_or-set_same, get_or_append_left, get_or_default, get_or_push}
 use Rattle.worker_pool.proofs.Steps.{times_append}
 
 -- 1 where the two are the same, and else 0
@@ -52,9 +53,9 @@ module _ {A P : Type 0} where
 
   still_set : (ws : List (Worker ℕ A Deal P)) (k : ℕ) (o o' : Worker ℕ A Deal P) → o ≡ get_or ws k o → k < length ws → IsStill o o' → AreStill ws (set ws k o')
   still_set ws k o o' here within one =
-      let all = related_set IsStill ws ws k o' refl (λ j d e lt. subst (λ (w : Worker ℕ A Deal P). IsStill (get_or ws j d) w) (default_of ws j d e lt) (record { deque = refl; fifo = refl; parts = refl; taken = refl }))
-      (λ d. subst (λ (w : Worker ℕ A Deal P). IsStill w o') (here ∙ default_of ws k o d within) one) in
-      record { count = length_set ws k o'; each = λ j w lt. all j w w lt }
+      let all = related_set IsStill ws ws k o' refl (λ j d e lt. subst (λ (w : Worker ℕ A Deal P). IsStill (get_or ws j d) w) (get_or_default ws j d e lt) (record { deque = refl; fifo = refl; parts = refl; taken = refl }))
+      (λ d. subst (λ (w : Worker ℕ A Deal P). IsStill w o') (here ∙ get_or_default ws k o d within) one) in
+      record { count = length-set ws k o'; each = λ j w lt. all j w w lt }
 
   -- a caller is dealt to the deque whose turn it is
   module _ (ws : List (Worker ℕ A Deal P)) (turn caller : ℕ) (o o' : Worker ℕ A Deal P) (here : o ≡ get_or ws turn o) (is : turn ≡ caller % length ws) (within : turn < length ws) (same : SameWorker o o') where
@@ -65,10 +66,10 @@ module _ {A P : Type 0} where
     refused_still e = still_set ws turn o o' here within (record { deque = same.0; fifo = same.1; parts = ap (λ (v : Deal). v.parts) e; taken = ap (λ (v : Deal). v.taken) e })
 
     dealt_there : (k : ℕ) (w : Worker ℕ A Deal P) → k ≡ turn → (worker_view (get_or (set ws turn o') k w)).dealt ≡ (worker_view o').dealt
-    dealt_there k w at = ap (λ (v : Worker ℕ A Deal P). (worker_view v).dealt) (ap (λ j. get_or (set ws turn o') j w) at ∙ get_set_here ws turn o' w within)
+    dealt_there k w at = ap (λ (v : Worker ℕ A Deal P). (worker_view v).dealt) (ap (λ j. get_or (set ws turn o') j w) at ∙ get_or-set_same ws turn o' w within)
 
     was_there : (k : ℕ) (w : Worker ℕ A Deal P) → k ≡ turn → (worker_view (get_or ws k w)).dealt ≡ (worker_view o).dealt
-    was_there k w at = ap (λ (v : Worker ℕ A Deal P). (worker_view v).dealt) (ap (λ j. get_or ws j w) at ∙ default_of ws turn w o within ∙ sym here)
+    was_there k w at = ap (λ (v : Worker ℕ A Deal P). (worker_view v).dealt) (ap (λ j. get_or ws j w) at ∙ get_or_default ws turn w o within ∙ sym here)
 
     pub put_dealt : (left : List ℕ) (k : ℕ) (w : Worker ℕ A Deal P) (x : ℕ) → worker_view o' ≡ deal (worker_view o).parts ((worker_view o).dealt ++ caller ∷ []) (worker_view o).taken → k < length ws
         → times x (worker_view (get_or (set ws turn o') k w)).dealt + at_turn (length ws) k x (times x left) ≡ times x (worker_view (get_or ws k w)).dealt + at_turn (length ws) k x (times x left) + at_turn (length ws) k x (one_at caller x)
@@ -79,7 +80,7 @@ module _ {A P : Type 0} where
         omega (arith, ap (times x) (dealt_there k w at), ap (times x) (was_there k w at), more, mine))
         (λ off.
         let others : at_turn (length ws) k x (one_at caller x) ≡ 0 = not_its_turn (x % length ws) k caller x (λ alike rest. off (sym rest ∙ ap (λ y. y % length ws) (sym alike) ∙ sym is)) in
-        omega (arith, ap (λ (v : Worker ℕ A Deal P). times x (worker_view v).dealt) (get_set_else ws turn k o' w off), others))
+        omega (arith, ap (λ (v : Worker ℕ A Deal P). times x (worker_view v).dealt) (get_or-set_other ws turn k o' w off), others))
 
     pub refused_dealt : (left more : List ℕ) (k : ℕ) (w : Worker ℕ A Deal P) (x : ℕ) → worker_view o' ≡ worker_view o → more ≡ left ++ caller ∷ []
         → times x (worker_view (get_or (set ws turn o') k w)).dealt + at_turn (length ws) k x (times x more) ≡ times x (worker_view (get_or ws k w)).dealt + at_turn (length ws) k x (times x left) + at_turn (length ws) k x (one_at caller x)
@@ -88,7 +89,7 @@ module _ {A P : Type 0} where
         ap (at_turn (length ws) k x) (ap (times x) is_more ∙ times_push x caller left) ∙ turn_add (length ws) k x (times x left) (one_at caller x) in
         dite (ℕ_discrete k turn)
         (λ at. omega (arith, ap (times x) (dealt_there k w at), ap (times x) (was_there k w at), ap (λ (v : Deal). times x v.dealt) e, turns))
-        (λ off. omega (arith, ap (λ (v : Worker ℕ A Deal P). times x (worker_view v).dealt) (get_set_else ws turn k o' w off), turns))
+        (λ off. omega (arith, ap (λ (v : Worker ℕ A Deal P). times x (worker_view v).dealt) (get_or-set_other ws turn k o' w off), turns))
 
   pub still_more : (olds mids news : List (Worker ℕ A Deal P)) → AreStill olds mids → AreStill mids news → AreStill olds news
   still_more olds mids news f s = record {
@@ -149,24 +150,24 @@ module _ {A P : Type 0} where
       → Cutting ws0 ws row → Cutting ws0 (set ws k o') more
   cutting_more ws0 ws row more k o o' p is at within here same deque some given left h =
       let long : length more ≡ length row + 1 = ap (λ l. length l) is ∙ length-append row (p ∷ []) in
-      let was : (w : Worker ℕ A Deal P) → o ≡ get_or ws0 k w = λ w. here ∙ default_of ws k o w (omega (arith, within, h.count)) ∙ h.rest k w (omega (arith, at)) in
+      let was : (w : Worker ℕ A Deal P) → o ≡ get_or ws0 k w = λ w. here ∙ get_or_default ws k o w (omega (arith, within, h.count)) ∙ h.rest k w (omega (arith, at)) in
       record {
-        count = length_set ws k o' ∙ h.count;
-        rest = λ j w le. get_set_else ws k j o' w (λ e. omega (arith, e, le, long, at)) ∙ h.rest j w (omega (arith, le, long));
+        count = length-set ws k o' ∙ h.count;
+        rest = λ j w le. get_or-set_other ws k j o' w (λ e. omega (arith, e, le, long, at)) ∙ h.rest j w (omega (arith, le, long));
         less = λ j w lt. dite (ℕ_discrete j k)
             (λ e.
-            let now : get_or (set ws k o') j w ≡ o' = ap (λ i. get_or (set ws k o') i w) e ∙ get_set_here ws k o' w (omega (arith, within, h.count)) in
+            let now : get_or (set ws k o') j w ≡ o' = ap (λ i. get_or (set ws k o') i w) e ∙ get_or-set_same ws k o' w (omega (arith, within, h.count)) in
             let one : HasLess 1 o o' = record { deque = same.0; fifo = same.1; parts = omega (arith, some, ap (λ (v : Deal). v.parts) left); dealt = ap (λ (v : Deal). v.dealt) left; taken = ap (λ (v : Deal). v.taken) left } in
             subst (λ (y : Worker ℕ A Deal P × Worker ℕ A Deal P). HasLess 1 y.0 y.1) (λ i. ((was w ∙ ap (λ q. get_or ws0 q w) (sym e)) i, sym now i)) one)
-            (λ n. subst (λ (y : Worker ℕ A Deal P). HasLess 1 (get_or ws0 j w) y) (sym (get_set_else ws k j o' w n)) (h.less j w (omega (arith, n, lt, long, at))));
+            (λ n. subst (λ (y : Worker ℕ A Deal P). HasLess 1 (get_or ws0 j w) y) (sym (get_or-set_other ws k j o' w n)) (h.less j w (omega (arith, n, lt, long, at))));
         new = λ j w q lt. dite (ℕ_discrete j k)
             (λ e.
-            let now : get_or more j q ≡ p = ap (λ l. get_or l j q) is ∙ ap (λ i. get_or (row ++ p ∷ []) i q) (e ∙ at) ∙ get_last row p q in
+            let now : get_or more j q ≡ p = ap (λ l. get_or l j q) is ∙ ap (λ i. get_or (row ++ p ∷ []) i q) (e ∙ at) ∙ get_or_push row p q (length row) refl in
             let one : IsNew o p = record { deque = deque; view_is = given } in
             subst (λ (y : Worker ℕ A Deal P × Pass ℕ Deal A). IsNew y.0 y.1) (λ i. ((was w ∙ ap (λ z. get_or ws0 z w) (sym e)) i, sym now i)) one)
             (λ n.
             let below : j < length row = omega (arith, n, lt, long, at) in
-            subst (λ (y : Pass ℕ Deal A). IsNew (get_or ws0 j w) y) (sym (ap (λ l. get_or l j q) is ∙ get_front row p j q below)) (h.new j w q below));
+            subst (λ (y : Pass ℕ Deal A). IsNew (get_or ws0 j w) y) (sym (ap (λ l. get_or l j q) is ∙ get_or_append_left row (p ∷ []) q j below)) (h.new j w q below));
       }
 
   -- the next owner has not given a part yet

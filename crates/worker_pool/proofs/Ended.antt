@@ -1,10 +1,11 @@
 -- All shares of a day, put together.
-use Rattle.std.proofs.Common.{◌≡◌, ℕ, ◌<◌, List, ◌∷◌, [], All, IsPermutation, flat_map, map, length, get_or, slice_get, Some, refl, sym, ap, ◌++◌, ◌∙◌, subst, arith, zero-add}
+use Rattle.std.proofs.Common.{◌≡◌, ℕ, ◌<◌, ◌≤◌, List, ◌∷◌, [], All, IsPermutation, flat_map, map, length, get_or, slice_get, Some, sym, ap, ◌∙◌, subst, arith, zero-add}
 use Rattle.std.specs.List.{range_with_len}
 use Rattle.std.specs.List.Sorted.{IsNonDecreasingBy}
 use Rattle.std.proofs.lemmas.List.{get_or-map, length-map}
-use Rattle.std.proofs.lemmas.List.Concat.{flat_map-cons}
 use Rattle.std.proofs.lemmas.List.FromFn.{get_or-range_with_len, length-range_with_len}
+use Rattle.std.proofs.lemmas.List.Folds.{flat_map-map}
+use mathlib.Core.List.{map-map}
 use Rattle.std.proofs.lemmas.Option.{get_or_from_slice_get, slice_get-get_or, slice_get_within}
 use Rattle.history_model.specs.Histories.{replay}
 use Rattle.history_model.specs.Legal.{IsIn, IsPrefix, IsLegalHistory}
@@ -17,9 +18,11 @@ use Rattle.word_table.specs.Copies.{PassView}
 use Rattle.word_table.specs.Desks.{DeskView}
 use Rattle.worker_pool.specs.declared.done.Done.{Done}
 use Rattle.worker_pool.specs.declared.worker.Share.{Share}
-use Rattle.worker_pool.specs.Days.{IsDay}
+use Rattle.worker_pool.specs.Days.{AreCallersWhole, IsDay}
 use Rattle.worker_pool.specs.Inner.Workers.{seat_of, share_of, tally_number, AreAllDone, IsDone, Tally}
 use Rattle.worker_pool.proofs.Gathered.{pass_of, items_of, serial_of, day_is}
+use Rattle.worker_pool.proofs.Wholes.{callers_whole}
+use Rattle.worker_pool.specs.Counting.{once_below}
 
 abbrev pub share_pass : Share → PassView
 share_pass share = share.pass
@@ -27,13 +30,8 @@ share_pass share = share.pass
 abbrev pub share_items : Share → List Done
 share_items share = share.done.items
 
-pub map_twice : {X Y Z : Type 0} (f : Y → Z) (g : X → Y) (xs : List X) → map f (map g xs) ≡ map (λ x. f (g x)) xs
-map_twice f g [] = refl
-map_twice f g (x ∷ xs) = λ i. f (g x) ∷ map_twice f g xs i
-
-flat_map_twice : {X Y Z : Type 0} (f : Y → List Z) (g : X → Y) (xs : List X) → flat_map f (map g xs) ≡ flat_map (λ x. f (g x)) xs
-flat_map_twice f g [] = refl
-flat_map_twice f g (x ∷ xs) = flat_map-cons f (g x) (map g xs) ∙ ap (λ l. f (g x) ++ l) (flat_map_twice f g xs) ∙ sym (flat_map-cons (λ y. f (g y)) x xs)
+pub once_at_most : (x n : ℕ) → once_below x n ≤ 1
+once_at_most x n = grind arith
 
 module _ (desk : DeskView BooksShape) (input : ClearingInput) (shares : List Share) (all : AreAllDone desk input shares) where
   abbrev ws : List Tally
@@ -43,7 +41,7 @@ module _ (desk : DeskView BooksShape) (input : ClearingInput) (shares : List Sha
   all_worked = all.each
 
   numbers : map tally_number ws ≡ range_with_len 0 desk.seats
-  numbers = sym (map_twice seat_of share_of ws) ∙ ap (map seat_of) all.are ∙ all.numbers
+  numbers = sym (map-map seat_of share_of ws) ∙ ap (map seat_of) all.are ∙ all.numbers
 
   its_worker : (pass : PassView) → IsIn pass (map pass_of ws) → (d : Tally) → (k : ℕ) × (k < length ws) × ((get_or ws k d).share.pass ≡ pass)
   its_worker pass (k, is) d =
@@ -55,7 +53,7 @@ module _ (desk : DeskView BooksShape) (input : ClearingInput) (shares : List Sha
   first_of (x ∷ xs) k lt = x
 
   its_passes : (passes : List PassView) → passes ≡ map share_pass shares → passes ≡ map pass_of ws
-  its_passes passes is = is ∙ ap (map share_pass) (sym all.are) ∙ map_twice share_pass share_of ws
+  its_passes passes is = is ∙ ap (map share_pass) (sym all.are) ∙ map-map share_pass share_of ws
 
   pub passes_all : (passes : List PassView) → passes ≡ map share_pass shares → AreAllPasses desk.table desk.seats passes
   passes_all passes are = let is = its_passes passes are in subst (λ l. AreAllPasses desk.table desk.seats l) (sym is) (record {
@@ -90,7 +88,7 @@ module _ (desk : DeskView BooksShape) (input : ClearingInput) (shares : List Sha
       → IsPermutation gathered done → IsNonDecreasingBy serial_of done → IsDay input closed done
   day_of_all good passes gathered done closed are gathered_are base seats shape legal words seen owners refused opening moved up =
       let passes_are = its_passes passes are in
-      let items_are : gathered ≡ flat_map items_of ws = gathered_are ∙ ap (flat_map share_items) (sym all.are) ∙ flat_map_twice share_items share_of ws in
+      let items_are : gathered ≡ flat_map items_of ws = gathered_are ∙ ap (flat_map share_items) (sym all.are) ∙ flat_map-map share_items share_of ws in
       let day = day_is desk input closed.history ws all_worked numbers
       (λ pass at. seen pass (subst (λ l. IsIn pass l) (sym passes_are) at))
       (subst (λ l. AreOwnersAmong l closed.history) passes_are owners)
@@ -98,3 +96,8 @@ module _ (desk : DeskView BooksShape) (input : ClearingInput) (shares : List Sha
       (subst (λ l. IsPermutation l done) items_are moved) up closed.words words in
       subst (λ (c : ClosedView BooksShape). IsDay input c done)
       (λ i. record { base = sym base i; seats = sym seats i; shape = sym shape i; history = closed.history; words = closed.words }) day
+
+  pub whole_of_all : (gathered done : List Done) → gathered ≡ flat_map share_items shares → IsPermutation gathered done → AreCallersWhole done
+  whole_of_all gathered done are moved =
+      let items_are : gathered ≡ flat_map items_of ws = are ∙ ap (flat_map share_items) (sym all.are) ∙ flat_map-map share_items share_of ws in
+      callers_whole desk input ws all_worked (λ x. omega (arith, all.once x, once_at_most x (length input.callers))) done (subst (λ l. IsPermutation l done) items_are moved)

@@ -22,16 +22,16 @@ use Rattle.worker_pool.specs.Inner.Finishing.{IsReturning, IsWholeRow, rows_stol
 use Rattle.worker_pool.specs.Inner.Makers.{HasMade, HasRun, RunsEach}
 use Rattle.worker_pool.specs.Inner.Takers.{dealt_to, had, IsDealtOut, Thieves}
 use Rattle.worker_pool.specs.Inner.Workers.{number_of, seat_of, share_of, AreAllDone, HasEnded, HasWorked, IsDone, Tally}
-use Rattle.worker_pool.proofs.Ended.{map_twice}
+use Rattle.worker_pool.proofs.Sums.{times_cons}
+use Rattle.worker_pool.proofs.Ended.{once_at_most}
+use mathlib.Core.List.{map-map}
 use Rattle.worker_pool.proofs.Gathered.{sum_over}
 use Rattle.worker_pool.specs.Inner.Dealing.{AreDealtInTurn}
 use Rattle.worker_pool.proofs.Opening.{dealt_all, OwnerOf}
+use Rattle.worker_pool.proofs.Seating.{own_of}
 
 abbrev pub RowOf : Type 0
 RowOf = Vec (Pass ℕ Deal Global) Global
-
-abbrev pub own_of : Worker → OwnerOf
-own_of worker = worker.taker.own
 
 abbrev pub row_of : Worker → RowOf
 row_of worker = worker.taker.passes
@@ -59,9 +59,6 @@ all_map P f xs each k y lt =
 without : ℕ → List ℕ → List ℕ
 without n [] = []
 without n (x ∷ xs) = if x == n then without n xs else x ∷ without n xs
-
-times_cons : (x y : ℕ) (ys : List ℕ) → times x (y ∷ ys) ≡ (if y == x then 1 else 0) + times x ys
-times_cons x y ys = sum_by-cons (λ (z : ℕ). if z == x then 1 else 0) y ys
 
 length_if : (b : Bool) (x : ℕ) (xs : List ℕ) → length (if b then xs else x ∷ xs) + (if b then 1 else 0) ≡ length xs + 1
 length_if true x xs = refl
@@ -179,9 +176,6 @@ shares_of_tallies : (ws : List Worker) → map share_of (map tally_of ws) ≡ ma
 shares_of_tallies [] = refl
 shares_of_tallies (w ∷ ws) = λ i. w.share ∷ shares_of_tallies ws i
 
-once_at_most : (x n : ℕ) → once_below x n ≤ 1
-once_at_most x n = grind arith
-
 -- a share that is done, and those of workers of whom none took a caller twice
 done_at : {thieves : Thieves} {desk : DeskView BooksShape} {input : ClearingInput} (tally : Tally) → IsDone desk input tally → (ws : List Worker) → All (HasWorked thieves desk input) ws
     → ((k : ℕ) (d : Worker) → k < length ws → (x : ℕ) → had (get_or ws k d).taker x ≤ 1) → All (IsDone desk input) (tally ∷ map tally_of ws)
@@ -207,7 +201,7 @@ last_done thieves desk input (w ∷ ws) each numbers some left once shares first
     record {
       tallies = tally ∷ map tally_of ws;
       are = (λ i. last ∷ shares_of_tallies ws i) ∙ ap (λ l. set l 0 last) (sym are);
-      numbers = ap (λ l. map seat_of (set l 0 last)) are ∙ (λ i. (number ∙ ap seat_of mine) i ∷ map_twice seat_of worker_share ws i) ∙ numbers;
+      numbers = ap (λ l. map seat_of (set l 0 last)) are ∙ (λ i. (number ∙ ap seat_of mine) i ∷ map-map seat_of worker_share ws i) ∙ numbers;
       each = done_at tally (record { made = subst (λ n. HasMade desk input n last.pass last.done.items) (sym number) made; run = ran }) ws
           (λ k d lt. each (suc k) d (omega arith))
           (λ k d lt x. omega (arith, once x, sum x, once_at_most x (length input.callers), get_or-le-sum_by (λ (worker : Worker). had worker.taker x) ws k d lt));
@@ -227,15 +221,19 @@ module _ (thieves : Thieves) (desk : DeskView BooksShape) (input : ClearingInput
   all_worked : All (HasWorked thieves desk input) ws
   all_worked k d lt = ended k d lt (none_failed k d lt)
 
-  pub owners_back : All (IsReturning (length rows)) owners
+  owners_back : All (IsReturning (length rows)) owners
   owners_back =
       let many : length ws ≡ length rows = sym (ap (λ l. length l) rows_are ∙ length-map ws row_of) in
       subst (λ n. All (IsReturning n) owners) many (subst (λ l. All (IsReturning (length ws)) l) (sym owners_are) (owners_return thieves desk input ws ended none_failed numbers long))
 
-  pub rows_back : All (λ (row : RowOf). IsWholeRow owners row.items) rows
+  rows_back : All (λ (row : RowOf). IsWholeRow owners row.items) rows
   rows_back =
       subst (λ (l : List RowOf). All (λ (row : RowOf). IsWholeRow owners row.items) l) (sym rows_are)
       (subst (λ (l : List OwnerOf). All (λ (row : RowOf). IsWholeRow l row.items) (map row_of ws)) (sym owners_are) (rows_whole thieves desk input ws ended none_failed numbers long))
+
+  -- every owner may take back its passes, and every row has one for each owner
+  pub all_back : All (IsReturning (length rows)) owners × All (λ (row : RowOf). IsWholeRow owners row.items) rows
+  all_back = (owners_back, rows_back)
 
   pub some_shares : 0 < length shares
   some_shares = omega (arith, ap (λ l. length l) shares_are, length-map ws worker_share, some)

@@ -10,7 +10,7 @@ use Rattle.worker_pool.specs.Counting.{times, HadOneMore}
 use Rattle.worker_pool.specs.Inner.Deals.{deal}
 use Rattle.worker_pool.specs.Inner.Ends.{IsAt, Fits, stolen, HadSame}
 use Rattle.worker_pool.proofs.Steps.{times_append}
-use Rattle.worker_pool.proofs.Places.{length_set, get_set_here, get_set_else}
+use Rattle.std.proofs.lemmas.List.{length-set, get_or-set_other, get_or-set_same}
 
 module _ {A P : Type 0} where
   pub still_at : (s : Stealer ℕ A Deal P) (p q : Pass ℕ Deal A) → IsAt s p → SamePass p q → (view q).parts ≡ (view p).parts → (view q).dealt ≡ (view p).dealt → IsAt s q
@@ -24,10 +24,10 @@ module _ {A P : Type 0} where
   pub fits_set : (thieves : List (Stealer ℕ A Deal P)) (ps : List (Pass ℕ Deal A)) (k : ℕ) (q : Pass ℕ Deal A) → Fits thieves ps → k < length thieves
       → ((s : Stealer ℕ A Deal P) → IsAt (get_or thieves k s) q) → Fits thieves (set ps k q)
   fits_set thieves ps k q h lt at = record {
-    count = length_set ps k q ∙ h.count;
+    count = length-set ps k q ∙ h.count;
     each = λ j s p less. dite (ℕ_discrete j k)
-        (λ e. subst (λ (i : ℕ). IsAt (get_or thieves i s) (get_or (set ps k q) i p)) (sym e) (subst (λ (x : Pass ℕ Deal A). IsAt (get_or thieves k s) x) (sym (get_set_here ps k q p (omega (arith, h.count, lt)))) (at s)))
-        (λ n. subst (λ (x : Pass ℕ Deal A). IsAt (get_or thieves j s) x) (sym (get_set_else ps k j q p n)) (h.each j s p less));
+        (λ e. subst (λ (i : ℕ). IsAt (get_or thieves i s) (get_or (set ps k q) i p)) (sym e) (subst (λ (x : Pass ℕ Deal A). IsAt (get_or thieves k s) x) (sym (get_or-set_same ps k q p (omega (arith, h.count, lt)))) (at s)))
+        (λ n. subst (λ (x : Pass ℕ Deal A). IsAt (get_or thieves j s) x) (sym (get_or-set_other ps k j q p n)) (h.each j s p less));
   }
 
 module _ {A P : Type 0} where

@@ -3,7 +3,7 @@ use Rattle.std.proofs.Common.{◌≡◌, ℕ, zero, suc, ◌+◌, ◌<◌, ◌�
 use Rattle.std.specs.Prelude.{sum_by}
 use Rattle.std.specs.List.{range_with_len}
 use Rattle.std.specs.List.Sorted.{IsNonDecreasingBy}
-use Rattle.std.proofs.lemmas.List.{get_or-map, length-map, take_all}
+use Rattle.std.proofs.lemmas.List.{get_or-map, get_or_default, length-map, take_all}
 use Rattle.std.proofs.lemmas.List.Concat.{flat_map-cons}
 use Rattle.std.proofs.lemmas.List.Elements.{All-nil, All-append, All-head, All-map, All-tail, All-weaker}
 use Rattle.std.proofs.lemmas.List.FromFn.{get_or-range_with_len, length-range_with_len}
@@ -56,11 +56,6 @@ pairs-append R (x ∷ xs) ys first second cross =
     let tail : AllPairs R xs = λ i j d lt short. first (suc i) (suc j) d (omega arith) (omega arith) in
     AllPairs-cons R x (xs ++ ys) (All-append (R x) xs ys head (All-head (λ z. All (R z) ys) x xs cross)) (pairs-append R xs ys tail second (All-tail (λ z. All (R z) ys) x xs cross))
 
-default_of : {X : Type 0} (xs : List X) (k : ℕ) (d e : X) → k < length xs → get_or xs k d ≡ get_or xs k e
-default_of [] k d e lt = absurd (omega arith)
-default_of (x ∷ xs) zero d e lt = refl
-default_of (x ∷ xs) (suc k) d e lt = default_of xs k d e (omega arith)
-
 -- what is counted over all shares' items is the sum over the workers
 counted_by : {X : Type 0} (f : Done → ℕ) (items : X → List Done) (ws : List X) → sum_by f (flat_map items ws) ≡ sum_by (λ w. sum_by f (items w)) ws
 counted_by f items [] = refl
@@ -100,10 +95,10 @@ abbrev InOrder : Done → Done → Type 0
 InOrder x y = x.caller ≡ y.caller → (x.index < y.index) × (x.serial < y.serial)
 
 -- a caller of whom the workers took all scripts once stands in one worker's list alone
-abbrev total_had : List Tally → ℕ → ℕ
+abbrev pub total_had : List Tally → ℕ → ℕ
 total_had ws x = sum_by (λ (w : Tally). w.had x) ws
 
-among_total : (ws : List Tally) → All (λ (w : Tally). All (λ (item : Done). 0 < w.had item.caller) w.share.done.items) ws → All (λ (item : Done). 0 < total_had ws item.caller) (flat_map items_of ws)
+pub among_total : (ws : List Tally) → All (λ (w : Tally). All (λ (item : Done). 0 < w.had item.caller) w.share.done.items) ws → All (λ (item : Done). 0 < total_had ws item.caller) (flat_map items_of ws)
 among_total [] each = All-nil (λ (item : Done). 0 < total_had [] item.caller)
 among_total (w ∷ ws) each =
     let more : (x : ℕ) → total_had (w ∷ ws) x ≡ w.had x + total_had ws x = λ x. sum_by-cons (λ (v : Tally). v.had x) w ws in
@@ -137,7 +132,7 @@ module _ (old new : List Done) (moved : IsPermutation old new) (n : ℕ) (serial
       sym (get_or-map serial_of new k d d.serial lt) ∙ ap (λ l. get_or l k d.serial) serials ∙ get_or-range_with_len 1 n k d.serial (omega (arith, long, lt))
 
   found_in_old : (k : ℕ) (d : Done) → k < length new → Contains old (get_or new k d)
-  found_in_old k d lt = Contains-permutation new old (get_or new k d) (IsPermutation-sym old new moved) (k, lt, default_of new k (get_or new k d) d lt)
+  found_in_old k d lt = Contains-permutation new old (get_or new k d) (IsPermutation-sym old new moved) (k, lt, get_or_default new k (get_or new k d) d lt)
 
   rising_indexes : AllPairs (λ (x y : Done). x.caller ≡ y.caller → x.index < y.index) new
   rising_indexes i j d lt short same =
@@ -149,8 +144,8 @@ module _ (old new : List Done) (moved : IsPermutation old new) (n : ℕ) (serial
       let sy : y.serial ≡ 1 + j = serial_of_place j d short in
       let is_x : get_or old at_x.0 x ≡ x = at_x.2 in
       let is_y : get_or old at_y.0 y ≡ y = at_y.2 in
-      let y_by_x : get_or old at_y.0 x ≡ y = default_of old at_y.0 x y at_y.1 ∙ is_y in
-      let x_by_y : get_or old at_x.0 y ≡ x = default_of old at_x.0 y x at_x.1 ∙ is_x in
+      let y_by_x : get_or old at_y.0 x ≡ y = get_or_default old at_y.0 x y at_y.1 ∙ is_y in
+      let x_by_y : get_or old at_x.0 y ≡ x = get_or_default old at_x.0 y x at_x.1 ∙ is_x in
       dite (dec_le at_y.0 at_x.0)
       (λ le. dite (dec_le at_x.0 at_y.0)
       (λ ge.

@@ -15,5 +15,6 @@ pub mod Making
 pub mod Running
 pub mod Replayed
 pub mod Gathered
+pub mod Wholes
 pub mod Ended
 pub mod Ending

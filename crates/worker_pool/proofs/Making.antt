@@ -77,6 +77,7 @@ module _ (desk : DeskView BooksShape) (input : ClearingInput) where
           idle = idle;
           number_is = same ∙ h.number_is;
           calls = omega (arith, called, h.calls, ap length is, length-append done (item ∷ []));
+          seats = subst (λ (l : List Done). All (λ x. x.seat ≡ who) l) (sym is) (All-push (λ (x : Done). x.seat ≡ who) done item h.seats its.seat);
           serials = ap (map (λ (x : Done). x.serial)) is ∙ map_push (λ (x : Done). x.serial) done item ∙ ap (λ n. map (λ (x : Done). x.serial) done ++ n ∷ []) item_serial
               ∙ ap (λ l. l ++ length ((old ++ gets.others) ++ gets.entry ∷ []) ∷ []) (h.serials ∙ ap (serials_by who 1) was)
               ∙ sym (serials-gain who old gets.others gets.entry gets.by_others gets.made_by) ∙ ap (serials_by who 1) (sym gets.seen ∙ sym now);
@@ -96,6 +97,7 @@ module _ (desk : DeskView BooksShape) (input : ClearingInput) where
     idle = idle;
     number_is = number;
     calls = calls ∙ sym (ap length is);
+    seats = subst (λ (l : List Done). All (λ x. x.seat ≡ who) l) (sym is) (All-nil (λ (x : Done). x.seat ≡ who));
     serials = ap (map (λ (x : Done). x.serial)) is ∙ sym (ap (serials_by who 1) seen);
     made = subst (λ (l : List Done). All (IsMade desk input pass.view.seen) l) (sym is) (All-nil (IsMade desk input pass.view.seen));
     below = subst (λ (l : List Done). All (λ x. x.restarts < desk.seats) l) (sym is) (All-nil (λ (x : Done). x.restarts < desk.seats));

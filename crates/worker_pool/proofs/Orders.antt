@@ -2,11 +2,8 @@
 use Rattle.std.proofs.Common.{◌≡◌, ℕ, zero, suc, ◌+◌, ◌<◌, ◌≤◌, Bool, true, false, List, [], ◌∷◌, map, length, get_or, sym, refl, subst, arith, ◌==◌, if◌then◌else◌, eqb-true, eq-eqb, ◌⊎◌, inl, inr, ⊎_elim}
 use Rattle.std.specs.List.{range_with_len}
 use Rattle.std.specs.List.Sorted.{IsNonDecreasingBy}
-use Rattle.std.proofs.lemmas.List.Sums.{sum_by-cons}
 use Rattle.worker_pool.specs.Counting.{times}
-
-times_cons : (x y : ℕ) (ys : List ℕ) → times x (y ∷ ys) ≡ (if y == x then 1 else 0) + times x ys
-times_cons x y ys = sum_by-cons (λ (z : ℕ). if z == x then 1 else 0) y ys
+use Rattle.worker_pool.proofs.Sums.{times_cons}
 
 here : (x : ℕ) (ys : List ℕ) → 0 < times x (x ∷ ys)
 here x ys = let e : (x == x) ≡ true = eq-eqb x x refl in grind (arith, times_cons x x ys, e)

@@ -10,7 +10,7 @@ use Rattle.worker_pool.specs.Counting.{times}
 use Rattle.worker_pool.specs.Inner.Deals.{deal}
 use Rattle.worker_pool.specs.Inner.Ends.{IsGuest, AreGuests, HasMore, HaveMore, owners_took, stolen}
 use Rattle.worker_pool.proofs.Steps.{times_append}
-use Rattle.worker_pool.proofs.Places.{length_set, get_set_here, get_set_else, get_front, get_last, default_of}
+use Rattle.std.proofs.lemmas.List.{length-set, get_or-set_other, get_or-set_same, get_or_append_left, get_or_default, get_or_push}
 
 module _ {A P : Type 0} where
   pub record Taking (ws0 ws : List (Worker ℕ A Deal P)) (ps0 ps : List (Pass ℕ Deal A)) : Type 0 where
@@ -37,20 +37,20 @@ module _ {A P : Type 0} where
   taking_more ws0 ws ps0 ps ps' k o o' p is at here same e t =
       let long : length ps ≡ length ps' + 1 = ap length is ∙ length-append ps' (p ∷ []) in
       let within : k < length ws = omega (arith, long, at, t.match.count) in
-      let last : get_or ps k p ≡ p = ap (λ l. get_or l k p) is ∙ (ap (λ i. get_or (ps' ++ p ∷ []) i p) at ∙ get_last ps' p p) in
+      let last : get_or ps k p ≡ p = ap (λ l. get_or l k p) is ∙ (ap (λ i. get_or (ps' ++ p ∷ []) i p) at ∙ get_or_push ps' p p (length ps') refl) in
       let m : IsGuest o p = subst (λ (y : Worker ℕ A Deal P × Pass ℕ Deal A). IsGuest y.0 y.1) (λ i. (sym here i, last i)) (t.match.each k o p (omega (arith, long, at))) in
       record {
         match = record {
-          count = omega (arith, length_set ws k o', long, t.match.count);
+          count = omega (arith, length-set ws k o', long, t.match.count);
           each = λ j w q lt. let n : j ≢ k = λ e. omega (arith, e, lt, at) in
-              subst (λ (y : Worker ℕ A Deal P × Pass ℕ Deal A). IsGuest y.0 y.1) (λ i. (sym (get_set_else ws k j o' w n) i, (ap (λ l. get_or l j q) is ∙ get_front ps' p j q lt) i)) (t.match.each j w q (omega (arith, long, lt)));
+              subst (λ (y : Worker ℕ A Deal P × Pass ℕ Deal A). IsGuest y.0 y.1) (λ i. (sym (get_or-set_other ws k j o' w n) i, (ap (λ l. get_or l j q) is ∙ get_or_append_left ps' (p ∷ []) q j lt) i)) (t.match.each j w q (omega (arith, long, lt)));
         };
-        count = length_set ws k o' ∙ t.count;
-        rest = λ j w lt. get_set_else ws k j o' w (λ e. omega (arith, e, lt, at)) ∙ t.rest j w (omega (arith, long, lt));
+        count = length-set ws k o' ∙ t.count;
+        rest = λ j w lt. get_or-set_other ws k j o' w (λ e. omega (arith, e, lt, at)) ∙ t.rest j w (omega (arith, long, lt));
         done = λ j w le lt. dite (ℕ_discrete j k)
             (λ e. subst (λ (i : ℕ). HasMore 1 (get_or ws0 i w) (get_or (set ws k o') i w)) (sym e)
-            (subst (λ (y : Worker ℕ A Deal P × Worker ℕ A Deal P). HasMore 1 y.0 y.1) (λ i. ((here ∙ (default_of ws k o w within ∙ t.rest k w (omega (arith, long, at)))) i, sym (get_set_here ws k o' w within) i)) (after_one o o' p m same e'')))
-            (λ n. subst (λ (y : Worker ℕ A Deal P). HasMore 1 (get_or ws0 j w) y) (sym (get_set_else ws k j o' w n)) (t.done j w (omega (arith, long, le, at, n)) lt));
+            (subst (λ (y : Worker ℕ A Deal P × Worker ℕ A Deal P). HasMore 1 y.0 y.1) (λ i. ((here ∙ (get_or_default ws k o w within ∙ t.rest k w (omega (arith, long, at)))) i, sym (get_or-set_same ws k o' w within) i)) (after_one o o' p m same e'')))
+            (λ n. subst (λ (y : Worker ℕ A Deal P). HasMore 1 (get_or ws0 j w) y) (sym (get_or-set_other ws k j o' w n)) (t.done j w (omega (arith, long, le, at, n)) lt));
         had = λ x. let F : Worker ℕ A Deal P → ℕ = λ y. times x (worker_view y).taken in
             let s : owners_took (set ws k o') x + F o ≡ owners_took ws x + F o' = ap (λ (y : Worker ℕ A Deal P). owners_took (set ws k o') x + F y) here ∙ sum_by-set F ws k o' o within in
             let g : F o' ≡ F o + times x (view p).taken = ap (λ (v : Deal). times x v.taken) e ∙ times_append x (worker_view o).taken (view p).taken in

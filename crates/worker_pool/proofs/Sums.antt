@@ -1,7 +1,8 @@
--- Sums over all views of a table, where one view changes, and where one view has all.
-use Rattle.std.proofs.Common.{◌≡◌, ℕ, zero, suc, ◌+◌, ◌<◌, ◌≤◌, List, [], ◌∷◌, set, length, get_or, sym, refl, ap, subst, arith}
+-- Sums over all views of a table, where one view changes, and where one view has all; and a count as such a sum.
+use Rattle.std.proofs.Common.{◌≡◌, ℕ, zero, suc, ◌+◌, ◌<◌, ◌≤◌, ◌==◌, if◌then◌else◌, List, [], ◌∷◌, set, length, get_or, sym, refl, ap, subst, arith}
 use Rattle.std.specs.Prelude.{sum_by}
 use Rattle.std.proofs.lemmas.List.Sums.{sum_by-cons, sum_by-set}
+use Rattle.worker_pool.specs.Counting.{times}
 use mathlib.Core.Option.{some, some-injective, some-ne-none}
 use lib.ListN.{get_elem?}
 
@@ -41,3 +42,7 @@ module _ {X : Type 0} where
       let rest = at_sum_le g xs i v at in
       let c = sum_by-cons g x xs in
       omega (arith, sum_by-cons f x xs, none x (omega (arith, rest, c, all)), alone f g none xs i v at (omega (arith, rest, c, all)))
+
+-- how often a number stands in a list with one more in front
+pub times_cons : (x y : ℕ) (ys : List ℕ) → times x (y ∷ ys) ≡ (if y == x then 1 else 0) + times x ys
+times_cons x y ys = sum_by-cons (λ (z : ℕ). if z == x then 1 else 0) y ys

@@ -38,6 +38,10 @@ pub record AreEntriesOf (done : List Done) (history : List Entry) : Type 0 where
   pub serials : map (λ item. item.serial) done ≡ range_with_len 1 (length history)
   pub each : (k : ℕ) (item : Done) (entry : Entry) → slice_get done k ≡ Some item → slice_get history k ≡ Some entry → IsEntryOf item entry
 
+-- each caller was run whole by one worker: any two items of one caller are of one seat
+abbrev pub AreCallersWhole : List Done → Type 0
+AreCallersWhole done = (j k : ℕ) (x y : Done) → slice_get done j ≡ Some x → slice_get done k ≡ Some y → x.caller ≡ y.caller → x.seat ≡ y.seat
+
 -- a day of the input, over a table that is closed: its items in the order of their serials are a journal with the replies
 -- of the interpreter; each has its entry; and before and after each item the words stand for the books of the interpreter
 pub record IsDay (input : ClearingInput) (closed : ClosedView BooksShape) (done : List Done) : Type 0 where

@@ -108,8 +108,13 @@ fn rows_of(
     Ok(rows)
 }
 
-/// Deals the callers below `callers` to a deque for each worker.
-pub(crate) fn deal_out(alloc: Global, callers: u32, workers: u32) -> Result<Deques, OutOfMemory>
+/// Deals the callers below `callers` to a deque for each worker, each with room for so many.
+pub(crate) fn deal_out(
+    alloc: Global,
+    callers: u32,
+    workers: u32,
+    room: usize,
+) -> Result<Deques, OutOfMemory>
     requires workers { (1 ≤ workers) × (workers < ALL_PARTS) }
     ensures count { IfOk result (λ deques. (length deques.owners.items ≡ workers)
         × (length deques.rows.items ≡ workers)) }
@@ -121,7 +126,6 @@ pub(crate) fn deal_out(alloc: Global, callers: u32, workers: u32) -> Result<Dequ
         AreDealtInTurn callers deques.owners.items deques.left.items) }
 {
     let mut left = Vec::with_capacity(alloc, callers as usize)?;
-    let room = callers as usize / workers as usize + 1;
     let (mut owners, thieves) = make_deques(alloc, workers as usize, room)?;
     deal_all(&mut owners, &mut left, callers)?;
     let rows = rows_of(alloc, &mut owners, workers as usize)?;

@@ -3,13 +3,14 @@
 ghost use Rattle.std.specs.Prelude.{ℕ, ◌≡◌, ◌<◌, ◌≤◌, ◌+◌, ◌*◌, ◌++◌, ◌∷◌, [], length, map, flat_map, All, false, IfOk, OnOk};
 ghost use Rattle.std.specs.List.{range_with_len};
 ghost use Rattle.history_model.specs.Fitting.{IsGood};
+ghost use Rattle.history_model.specs.Histories.{replay};
 ghost use Rattle.history_model.specs.Legal.{IsLegalHistory};
 ghost use Rattle.script_reader.specs.declared.limits.TheConstants.{MOST_CALLERS, MOST_SCRIPTS};
 ghost use Rattle.txn_books.specs.Layout.{shape_of, words_of};
 ghost use Rattle.txn_books.specs.Standing.{IsGoodFor, Stands, StandsFor};
 ghost use Rattle.worker_pool.specs.declared.rule.TheConstants.{ALL_PARTS};
 ghost use Rattle.worker_pool.specs.Counting.{times};
-ghost use Rattle.worker_pool.specs.Days.{AreAllNew, IsDay};
+ghost use Rattle.worker_pool.specs.Days.{AreAllNew, AreCallersWhole, IsDay};
 ghost use Rattle.worker_pool.specs.Inner.Dealing.{AreDealtInTurn, AreShown, IsFree, IsNewRow};
 ghost use Rattle.worker_pool.specs.Inner.Makers.{HasMade, RunsEach};
 ghost use Rattle.worker_pool.specs.Inner.Takers.{dealt_to, IsDealtOut};
@@ -289,7 +290,10 @@ fn end_day(
     ensures legal { IfOk result (λ day. IsLegalHistory
         (IsGood (words_of desk.shape) (IsGoodFor desk.shape))
         desk.seats desk.base day.closed.history) }
+    ensures words { IfOk result (λ day.
+        day.closed.words ≡ replay day.closed.base day.closed.history) }
     ensures day { IfOk result (λ day. IsDay input.now day.closed day.done.items) }
+    ensures whole { IfOk result (λ day. AreCallersWhole day.done.items) }
 {
     refused_changes_nothing();
     let (passes, mut done) = join_shares(alloc, shares)?;
@@ -323,15 +327,23 @@ pub fn run_callers<R: Threads + Wait + Sync, G: Gate>(
     ensures legal { IfOk result (λ day. IsLegalHistory
         (IsGood (words_of desk.shape) (IsGoodFor desk.shape))
         desk.seats desk.base day.closed.history) }
+    // What the table holds at the end is the replay of its history.
+    ensures words { IfOk result (λ day.
+        day.closed.words ≡ replay day.closed.base day.closed.history) }
     // One serial history of all scripts, and what the interpreter says of it.
     ensures day { IfOk result (λ day. IsDay input.now day.closed day.done.items) }
+    // Each caller was run whole by one worker.
+    ensures whole { IfOk result (λ day. AreCallersWhole day.done.items) }
 {
+    let (callers, workers) = (input.callers(), desk.seats());
+    // No deque is dealt more.
+    let room = callers as usize / workers as usize + 1;
     let Deques {
         owners,
         thieves,
         rows,
         left,
-    } = deal_out(alloc, input.callers(), desk.seats())?;
+    } = deal_out(alloc, callers, workers, room)?;
     let shop = Workshop {
         rt,
         alloc,

@@ -1,6 +1,6 @@
 //! One worker: it takes callers and runs their scripts, until it finds none.
 
-ghost use Rattle.std.specs.Prelude.{◌≡◌, ℕ, ◌+◌, ◌<◌, ◌≤◌, List, [], ◌∷◌, ◌++◌, length, IfOk, OnOk};
+ghost use Rattle.std.specs.Prelude.{◌≡◌, ℕ, ◌+◌, ◌*◌, ◌<◌, ◌≤◌, List, [], ◌∷◌, ◌++◌, length, IfOk, OnOk};
 ghost use Rattle.history_model.specs.declared.view.Phase.TheVariants.{Idle};
 ghost use Rattle.history_model.specs.Views.{number};
 ghost use Rattle.script_reader.specs.Input.{caller_at};
@@ -16,6 +16,7 @@ use crate::taker::Taker;
 use crate::workshop::Workshop;
 use books_model::laws::scripts_go_by_instruments;
 use io_ends::OutOfMemory;
+use script_reader::limits::MOST_SCRIPTS;
 use std::sync::Wait;
 use txn_books::{BooksShape, ScriptJob};
 use txn_commit::transact;
@@ -36,6 +37,13 @@ pub(crate) struct Worker {
     pub share: Share,
     /// It found no memory, and ended before its work was done.
     pub failed: bool,
+}
+
+// The number by which a gate knows a script: a caller's own lie side by side.
+fn tag_of(caller: u32, index: u32) -> u64
+    ensures { result ≡ caller * MOST_SCRIPTS + index }
+{
+    u64::from(caller) * MOST_SCRIPTS as u64 + u64::from(index)
 }
 
 // The script of a caller as one transaction: its item.
@@ -60,9 +68,8 @@ fn run_script<R: Wait, G: Gate>(
 {
     // A script for the opening books is one for these sizes.
     scripts_go_by_instruments();
-    let tag = u64::from(caller) * 65_536 + u64::from(index);
     let script = shop.input.script(caller, index);
-    let job = ScriptJob::new(shop.alloc, shop.shape, script, tag);
+    let job = ScriptJob::new(shop.alloc, shop.shape, script, tag_of(caller, index));
     let receipt = transact(shop.rt, shop.alloc, shop.desk, pass, &job, shop.gate)?;
     Ok(Done {
         caller,

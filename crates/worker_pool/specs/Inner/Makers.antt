@@ -35,6 +35,7 @@ pub record HasMade (desk : DeskView BooksShape) (input : ClearingInput) (who : �
   pub idle : pass.view.phase ≡ Idle
   pub number_is : pass.view.who ≡ who ∷ []
   pub calls : pass.view.call ≡ length done
+  pub seats : All (λ item. item.seat ≡ who) done
   pub serials : map (λ item. item.serial) done ≡ serials_by who 1 pass.view.seen
   pub made : All (IsMade desk input pass.view.seen) done
   pub below : All (λ item. item.restarts < desk.seats) done

@@ -1,20 +1,14 @@
 use Rattle.std.proofs.lemmas.Result.{IfOk-from_err}
-use Rattle.worker_pool.proofs.Ending.{all_done, few_left, first_few, first_made, owners_back, rows_back}
+use Rattle.worker_pool.proofs.Ending.{all_back, all_done, few_left, first_few, first_made}
 use Rattle.worker_pool.proofs.run.last_round.Goals as goal
 
-pub settle-requires-clause-owners : goal.settle-requires-clause-owners
-settle-requires-clause-owners g c =
+pub settle-requires : goal.settle-requires
+settle-requires g c =
     let r = c.requires in
     let e = c.in_ok-owners.ensures in
-    owners_back c.args.shop.now.thieves.now c.args.shop.now.desk.now c.args.shop.now.input.now c.args.workers.items r.ended e.none_failed r.numbers r.thieves r.some
-    c.in_ok-owners.field-0.owners.items c.in_ok-owners.field-0.rows.items c.in_ok-owners.field-0.shares.items e.owners e.rows e.shares
-
-pub settle-requires-clause-rows : goal.settle-requires-clause-rows
-settle-requires-clause-rows g c =
-    let r = c.requires in
-    let e = c.in_ok-owners.ensures in
-    rows_back c.args.shop.now.thieves.now c.args.shop.now.desk.now c.args.shop.now.input.now c.args.workers.items r.ended e.none_failed r.numbers r.thieves r.some
-    c.in_ok-owners.field-0.owners.items c.in_ok-owners.field-0.rows.items c.in_ok-owners.field-0.shares.items e.owners e.rows e.shares
+    let back = all_back c.args.shop.now.thieves.now c.args.shop.now.desk.now c.args.shop.now.input.now c.args.workers.items r.ended e.none_failed r.numbers r.thieves r.some
+    c.in_ok-owners.field-0.owners.items c.in_ok-owners.field-0.rows.items c.in_ok-owners.field-0.shares.items e.owners e.rows e.shares in
+    record { owners = back.0; rows = back.1 }
 
 pub run_left-requires-clause-made : goal.run_left-requires-clause-made
 run_left-requires-clause-made g c κs within =
