@@ -712,7 +712,7 @@ impl<S: Shape> Pass<S> {
         requires unjudged { self.old.view.met ≢ [] }
         requires unstamped { self.old.view.stamp ≡ 0 }
         ensures table { self.new.table ≡ self.old.table }
-        ensures view { self.new.view ≡ record self.old.view { stamp = result } }
+        ensures view { self.new.view ≡ record self.old.view { stamp = result; draws = self.old.view.draws + 1 } }
         ensures taken { (found : ℕ) × (result ≡ found + 1) × TakenIn (GroundHolds S.word_count S.good table.now.key)
             (draw_stamp_action (number self.old.view) self.old.view) self.old.view found self.new.view }
     {
