@@ -77,17 +77,33 @@ MeetsNobody old new = new ≡ with_locks new old
 
 -- the call goes on, and met some: its timestamp is drawn and announced
 pub record GoesOn (met : List (ℕ × ℕ)) (old new : View) : Type 0 where
-  pub view : new ≡ record (with_locks new old) { meetings = old.meetings ++ met; stamp = new.stamp; announced = true; draws = draws_once old }
+  pub view : new ≡ record (with_locks new old) {
+    meetings = old.meetings ++ met;
+    stamp = new.stamp;
+    announced = true;
+    draws = draws_once old;
+  }
   pub stamped : 0 < new.stamp
 
 -- the attempt gives way to this cause, whose seat the call met last
 pub record GivesWay (good : List ℕ → Type 0) (n : ℕ) (base : List ℕ) (met : List (ℕ × ℕ)) (cause : Cause) (old new : View) : Type 0 where
   pub gave_way : GaveWay good n base cause
-      (record (with_locks new old) { meetings = old.meetings ++ met; met = cause.seat ∷ []; stamp = new.stamp; announced = true; draws = draws_once old }) new
+      (record (with_locks new old) {
+        meetings = old.meetings ++ met;
+        met = cause.seat ∷ [];
+        stamp = new.stamp;
+        announced = true;
+        draws = draws_once old;
+      }) new
   pub seat : cause.seat < new.seats
   pub earlier : (0 < cause.stamp) × (cause.stamp < new.stamp)
   pub last : newest (past_causes new) ≡ Some cause
 
 -- the call goes on, whomever it met while it asked
 abbrev pub WentOn : View → View → Type 0
-WentOn old new = new ≡ record (with_locks new old) { meetings = new.meetings; stamp = new.stamp; announced = new.announced; draws = new.draws }
+WentOn old new = new ≡ record (with_locks new old) {
+  meetings = new.meetings;
+  stamp = new.stamp;
+  announced = new.announced;
+  draws = new.draws;
+}
