@@ -1,11 +1,11 @@
 -- What a turn comes to, from its steps on locks and the judgement of the seat that it met.
-use Rattle.std.proofs.Common.{◌≡◌, ◌≢◌, ℕ, zero, suc, ◌+◌, ◌<◌, true, List, [], ◌∷◌, ◌++◌, length, Some, slice_get, refl, sym, ap, ◌∙◌, subst, arith, eq-eqb}
+use Rattle.std.proofs.Common.{◌≡◌, ◌≢◌, ℕ, zero, suc, ◌+◌, ◌<◌, true, List, [], ◌∷◌, ◌++◌, length, Some, slice_get, refl, sym, ap, ◌∙◌, subst, arith, eq-eqb, ne_eqb, ◌==◌}
 use Rattle.std.proofs.lemmas.List.{append-nil, length_push}
 use Rattle.history_model.specs.declared.event.Cause.{Cause}
 use Rattle.history_model.specs.declared.view.View.{View}
 use Rattle.history_model.specs.Legal.{IsIn}
 use Rattle.history_model.specs.Locks.{lock_of_word}
-use Rattle.history_model.specs.Sets.{has, without, has_pair}
+use Rattle.history_model.specs.Sets.{has, without, has_pair, flag}
 use Rattle.stamps_rule.specs.Causes.{newest, past_causes}
 use Rattle.stamps_rule.specs.Steps.{after_giving_way}
 use Rattle.word_table.specs.declared.answer.Judged.{Judged}
@@ -14,7 +14,7 @@ use Rattle.word_table.specs.declared.answer.Shared.TheVariants as shared
 use Rattle.word_table.specs.Calls.{SameCall, GrantsStay, GaveWay, SharedBy}
 use Rattle.lock_or_yield.specs.declared.turn.Tried.{Tried}
 use Rattle.lock_or_yield.specs.declared.turn.Tried.TheVariants as tried
-use Rattle.lock_or_yield.specs.Asking.{GainsAtMost, GainsOn, Asks, AsksToRead, AsksToWrite, with_locks, MeetsNobody, GoesOn, GivesWay}
+use Rattle.lock_or_yield.specs.Asking.{GainsAtMost, GainsOn, Asks, AsksToRead, AsksToWrite, draws_once, with_locks, MeetsNobody, GoesOn, GivesWay}
 use Rattle.lock_or_yield.proofs.Steps.{share_leaves}
 use Rattle.lock_or_yield.specs.Turns.{tried_of, JudgesMet, JudgedToWait, JudgedToYield}
 
@@ -50,6 +50,7 @@ changed old new = record old {
   meetings = new.meetings;
   stamp = new.stamp;
   announced = new.announced;
+  draws = new.draws;
   due = new.due;
   abandoned = new.abandoned;
 }
@@ -77,6 +78,7 @@ asks_nobody a old new e asked grants = record {
   rest = rest_of old new (with_locks new old) e refl;
   stamped = λ h. ap (λ (v : View). v.stamp) e;
   unmet = λ h. (ap (λ (v : View). v.stamp) e, ap (λ (v : View). v.announced) e);
+  drawn_once = ap (λ (v : View). draws_once v) e;
   asked = asked;
   meetings = subst (λ (l : List (ℕ × ℕ)). GainsOn (lock_of_word a) old.meetings l) (sym (ap (λ (v : View). v.meetings) e)) (gains_nothing (lock_of_word a) old.meetings);
   grants = grants;
@@ -118,23 +120,28 @@ wait_same i j e = cc
 pub yield_same : (x y : Cause) → tried.Yield x ≡ tried.Yield y → x ≡ y
 yield_same x y e = cc
 
+-- a call that has its timestamp draws no more
+drawn_no_more : (old new : View) → new.draws ≡ draws_once old → 0 < new.stamp → draws_once new ≡ draws_once old
+drawn_no_more old new drew stamped = let has : flag (new.stamp == 0) ≡ 0 = ap flag (ne_eqb new.stamp 0 (λ e. omega arith)) in omega arith
+
 waited : (good : List ℕ → Type 0) (n : ℕ) (base : List ℕ) (a i : ℕ) (old met new : View)
     → old.met ≡ [] → HasMet (lock_of_word a) i old met → GainsAtMost a old.asked met.asked → GrantsStay old met
     → JudgedToWait met new → Turned good n base a old met (tried.Wait i) new
 waited good n base a i old met new none has asked grants w =
     let k : ℕ = lock_of_word a in
     let locks : with_locks new old ≡ with_locks met old = ap (λ (v : View). with_locks v old) w.view in
-    let view : new ≡ record (with_locks new old) { meetings = old.meetings ++ (k, i) ∷ []; stamp = new.stamp; announced = true } =
+    let view : new ≡ record (with_locks new old) { meetings = old.meetings ++ (k, i) ∷ []; stamp = new.stamp; announced = true; draws = draws_once old } =
     w.view
-    ∙ (ap (λ (v : View). record v { met = []; stamp = new.stamp; announced = true }) has
-    ∙ (ap (λ (v : View). record v { met = []; meetings = old.meetings ++ (k, i) ∷ []; stamp = new.stamp; announced = true }) (sym locks)
-    ∙ ap (λ (l : List ℕ). record (with_locks new old) { met = l; meetings = old.meetings ++ (k, i) ∷ []; stamp = new.stamp; announced = true }) (sym none))) in
+    ∙ (ap (λ (v : View). record v { met = []; stamp = new.stamp; announced = true; draws = draws_once v }) has
+    ∙ (ap (λ (v : View). record v { met = []; meetings = old.meetings ++ (k, i) ∷ []; stamp = new.stamp; announced = true; draws = draws_once old }) (sym locks)
+    ∙ ap (λ (l : List ℕ). record (with_locks new old) { met = l; meetings = old.meetings ++ (k, i) ∷ []; stamp = new.stamp; announced = true; draws = draws_once old }) (sym none))) in
     let meetings : new.meetings ≡ old.meetings ++ (k, i) ∷ [] = ap (λ (v : View). v.meetings) view in record {
       locks = locks;
       asks = record {
-        rest = rest_of old new (record (with_locks new old) { meetings = old.meetings ++ (k, i) ∷ []; stamp = new.stamp; announced = true }) view refl;
+        rest = rest_of old new (record (with_locks new old) { meetings = old.meetings ++ (k, i) ∷ []; stamp = new.stamp; announced = true; draws = draws_once old }) view refl;
         stamped = λ h. let same : met.stamp ≡ old.stamp = ap (λ (v : View). v.stamp) has in w.kept (subst (λ (x : ℕ). 0 < x) (sym same) h) ∙ same;
         unmet = λ e. absurd (longer old.meetings (k, i) (sym meetings ∙ e));
+        drawn_once = drawn_no_more old new (ap (λ (v : View). v.draws) view) w.stamped;
         asked = subst (λ (l : List ℕ). GainsAtMost a old.asked l) (sym (ap (λ (v : View). v.asked) locks)) asked;
         meetings = subst (λ (l : List (ℕ × ℕ)). GainsOn k old.meetings l) (sym meetings) (gains_meeting k i old.meetings);
         grants = subst (λ (v : View). GrantsStay old v) (sym view) (stay k i old met new has grants locks);
@@ -151,17 +158,18 @@ yielded : (good : List ℕ → Type 0) (n : ℕ) (base : List ℕ) (a : ℕ) (ca
 yielded good n base a cause old met new none seat has asked grants w =
     let k : ℕ = lock_of_word a in let i : ℕ = cause.seat in let h = w.gave_way in
     let locks : with_locks new old ≡ with_locks met old = ap (λ (v : View). with_locks v old) h.view in
-    let view : new ≡ after_giving_way cause h.history (record (with_locks new old) { meetings = old.meetings ++ (k, i) ∷ []; stamp = new.stamp; announced = true }) =
+    let view : new ≡ after_giving_way cause h.history (record (with_locks new old) { meetings = old.meetings ++ (k, i) ∷ []; stamp = new.stamp; announced = true; draws = draws_once old }) =
     h.view
-    ∙ (ap (λ (v : View). after_giving_way cause h.history (record v { met = without i v.met; stamp = new.stamp; announced = true })) has
-    ∙ (ap (λ (v : View). after_giving_way cause h.history (record v { met = without i (i ∷ []); meetings = old.meetings ++ (k, i) ∷ []; stamp = new.stamp; announced = true })) (sym locks)
-    ∙ ap (λ (l : List ℕ). after_giving_way cause h.history (record (with_locks new old) { met = l; meetings = old.meetings ++ (k, i) ∷ []; stamp = new.stamp; announced = true })) (without_one i ∙ sym none))) in
+    ∙ (ap (λ (v : View). after_giving_way cause h.history (record v { met = without i v.met; stamp = new.stamp; announced = true; draws = draws_once v })) has
+    ∙ (ap (λ (v : View). after_giving_way cause h.history (record v { met = without i (i ∷ []); meetings = old.meetings ++ (k, i) ∷ []; stamp = new.stamp; announced = true; draws = draws_once old })) (sym locks)
+    ∙ ap (λ (l : List ℕ). after_giving_way cause h.history (record (with_locks new old) { met = l; meetings = old.meetings ++ (k, i) ∷ []; stamp = new.stamp; announced = true; draws = draws_once old })) (without_one i ∙ sym none))) in
     let meetings : new.meetings ≡ old.meetings ++ (k, i) ∷ [] = ap (λ (v : View). v.meetings) view in record {
       locks = locks;
       asks = record {
-        rest = rest_of old new (after_giving_way cause h.history (record (with_locks new old) { meetings = old.meetings ++ (k, i) ∷ []; stamp = new.stamp; announced = true })) view refl;
+        rest = rest_of old new (after_giving_way cause h.history (record (with_locks new old) { meetings = old.meetings ++ (k, i) ∷ []; stamp = new.stamp; announced = true; draws = draws_once old })) view refl;
         stamped = λ h. let same : met.stamp ≡ old.stamp = ap (λ (v : View). v.stamp) has in w.kept (subst (λ (x : ℕ). 0 < x) (sym same) h) ∙ same;
         unmet = λ e. absurd (longer old.meetings (k, i) (sym meetings ∙ e));
+        drawn_once = drawn_no_more old new (ap (λ (v : View). v.draws) view) (let low = w.earlier.1 in omega arith);
         asked = subst (λ (l : List ℕ). GainsAtMost a old.asked l) (sym (ap (λ (v : View). v.asked) locks)) asked;
         meetings = subst (λ (l : List (ℕ × ℕ)). GainsOn k old.meetings l) (sym meetings) (gains_meeting k i old.meetings);
         grants = subst (λ (v : View). GrantsStay old v) (sym view) (stay k i old met new has grants locks);
@@ -170,8 +178,8 @@ yielded good n base a cause old met new none seat has asked grants w =
       granted = λ e. cc;
       waits = λ j e. absurd cc;
       yields = λ other e. subst (λ (x : Cause). GivesWay good n base ((k, x.seat) ∷ []) x old new) (yield_same cause other e) record {
-        gave_way = subst (λ (v : View). GaveWay good n base cause (record v { met = i ∷ []; meetings = old.meetings ++ (k, i) ∷ []; stamp = new.stamp; announced = true }) new) (sym locks)
-            (subst (λ (v : View). GaveWay good n base cause (record v { stamp = new.stamp; announced = true }) new) has h);
+        gave_way = subst (λ (v : View). GaveWay good n base cause (record v { met = i ∷ []; meetings = old.meetings ++ (k, i) ∷ []; stamp = new.stamp; announced = true; draws = draws_once old }) new) (sym locks)
+            (subst (λ (v : View). GaveWay good n base cause (record v { stamp = new.stamp; announced = true; draws = draws_once v }) new) has h);
         seat = subst (λ (m : ℕ). cause.seat < m) (sym (ap (λ (v : View). v.seats) view)) seat;
         earlier = w.earlier;
         last = w.last;
@@ -191,31 +199,31 @@ turned good n base a i (judged.Yield stamp) old met r new none seat has asked gr
     subst (λ (x : Tried). Turned good n base a old met x new) (sym e) (yielded good n base a (record { seat = i; stamp = stamp }) old met new none seat has asked grants (yields (record { seat = i; stamp = stamp }) e).1)
 
 -- the timestamp was drawn, where there was none, and shown
-shown_view : (met drawn shown : View) → drawn ≡ record met { stamp = drawn.stamp } → shown ≡ record drawn { announced = true } → shown ≡ record met { stamp = shown.stamp; announced = true }
+shown_view : (met drawn shown : View) → drawn ≡ record met { stamp = drawn.stamp; draws = draws_once met } → shown ≡ record drawn { announced = true } → shown ≡ record met { stamp = shown.stamp; announced = true; draws = draws_once met }
 shown_view met drawn shown draws shows =
     let kept : shown.stamp ≡ drawn.stamp = ap (λ (v : View). v.stamp) shows in
-    shows ∙ (ap (λ (v : View). record v { announced = true }) draws ∙ ap (λ (x : ℕ). record met { stamp = x; announced = true }) (sym kept))
+    shows ∙ (ap (λ (v : View). record v { announced = true }) draws ∙ ap (λ (x : ℕ). record met { stamp = x; announced = true; draws = draws_once met }) (sym kept))
 
-pub settled_to_wait : (i : ℕ) (met drawn shown new : View) → met.met ≡ i ∷ [] → drawn ≡ record met { stamp = drawn.stamp } → 0 < drawn.stamp → (0 < met.stamp → drawn.stamp ≡ met.stamp) → shown ≡ record drawn { announced = true } → new ≡ record shown { met = without i shown.met } → JudgedToWait met new
+pub settled_to_wait : (i : ℕ) (met drawn shown new : View) → met.met ≡ i ∷ [] → drawn ≡ record met { stamp = drawn.stamp; draws = draws_once met } → 0 < drawn.stamp → (0 < met.stamp → drawn.stamp ≡ met.stamp) → shown ≡ record drawn { announced = true } → new ≡ record shown { met = without i shown.met } → JudgedToWait met new
 settled_to_wait i met drawn shown new one draws stamped kept shows waits =
-    let seen : shown ≡ record met { stamp = shown.stamp; announced = true } = shown_view met drawn shown draws shows in
+    let seen : shown ≡ record met { stamp = shown.stamp; announced = true; draws = draws_once met } = shown_view met drawn shown draws shows in
     let last : new.stamp ≡ shown.stamp = ap (λ (v : View). v.stamp) waits in
     let first : shown.stamp ≡ drawn.stamp = ap (λ (v : View). v.stamp) shows in record {
       view = waits ∙ (ap (λ (v : View). record v { met = without i v.met }) seen
-          ∙ (ap (λ (l : List ℕ). record met { met = without i l; stamp = shown.stamp; announced = true }) one
-          ∙ (ap (λ (l : List ℕ). record met { met = l; stamp = shown.stamp; announced = true }) (without_one i)
-          ∙ ap (λ (x : ℕ). record met { met = []; stamp = x; announced = true }) (sym last))));
+          ∙ (ap (λ (l : List ℕ). record met { met = without i l; stamp = shown.stamp; announced = true; draws = draws_once met }) one
+          ∙ (ap (λ (l : List ℕ). record met { met = l; stamp = shown.stamp; announced = true; draws = draws_once met }) (without_one i)
+          ∙ ap (λ (x : ℕ). record met { met = []; stamp = x; announced = true; draws = draws_once met }) (sym last))));
       stamped = subst (λ (x : ℕ). 0 < x) (sym (last ∙ first)) stamped;
       kept = λ h. last ∙ (first ∙ kept h);
     }
 
-pub settled_to_yield : (good : List ℕ → Type 0) (n : ℕ) (base : List ℕ) (cause : Cause) (met drawn shown new : View) → drawn ≡ record met { stamp = drawn.stamp } → (0 < met.stamp → drawn.stamp ≡ met.stamp) → shown ≡ record drawn { announced = true }
+pub settled_to_yield : (good : List ℕ → Type 0) (n : ℕ) (base : List ℕ) (cause : Cause) (met drawn shown new : View) → drawn ≡ record met { stamp = drawn.stamp; draws = draws_once met } → (0 < met.stamp → drawn.stamp ≡ met.stamp) → shown ≡ record drawn { announced = true }
     → 0 < cause.stamp → cause.stamp < shown.stamp → GaveWay good n base cause shown new → newest (past_causes new) ≡ Some cause → JudgedToYield good n base cause met new
 settled_to_yield good n base cause met drawn shown new draws kept shows low high gave newest_is =
-    let seen : shown ≡ record met { stamp = shown.stamp; announced = true } = shown_view met drawn shown draws shows in
+    let seen : shown ≡ record met { stamp = shown.stamp; announced = true; draws = draws_once met } = shown_view met drawn shown draws shows in
     let last : new.stamp ≡ shown.stamp = ap (λ (v : View). v.stamp) gave.view in
     let first : shown.stamp ≡ drawn.stamp = ap (λ (v : View). v.stamp) shows in record {
-      gave_way = subst (λ (v : View). GaveWay good n base cause v new) (seen ∙ ap (λ (x : ℕ). record met { stamp = x; announced = true }) (sym last)) gave;
+      gave_way = subst (λ (v : View). GaveWay good n base cause v new) (seen ∙ ap (λ (x : ℕ). record met { stamp = x; announced = true; draws = draws_once met }) (sym last)) gave;
       earlier = (low, subst (λ (x : ℕ). cause.stamp < x) (sym last) high);
       last = newest_is;
       kept = λ h. last ∙ (first ∙ kept h);

@@ -10,7 +10,7 @@ use Rattle.stamps_rule.specs.Stamps.{AreRestartsBounded}
 use Rattle.word_table.specs.Calls.{GaveWay}
 use Rattle.lock_or_yield.specs.declared.turn.Tried.TheVariants as tried
 use Rattle.lock_or_yield.specs.declared.want.Got.TheVariants as got
-use Rattle.lock_or_yield.specs.Asking.{GainsOn, Asks, AsksToRead, AsksToWrite, with_locks, MeetsNobody, GoesOn, GivesWay, WentOn}
+use Rattle.lock_or_yield.specs.Asking.{GainsOn, Asks, AsksToRead, AsksToWrite, draws_once, with_locks, MeetsNobody, GoesOn, GivesWay, WentOn}
 use Rattle.lock_or_yield.specs.Turns.{MeetsAndJudges}
 use Rattle.locks_rule.specs.Actions.{Action}
 use Rattle.lock_or_yield.proofs.Steps.{gains_none, gains_twice}
@@ -45,6 +45,7 @@ asks_none a v = record {
   rest = refl;
   stamped = λ h. refl;
   unmet = λ h. (refl, refl);
+  drawn_once = refl;
   asked = gains_none a v.asked;
   meetings = gains_nothing (lock_of_word a) v.meetings;
   grants = λ k. (λ t. t, λ t. t);
@@ -56,6 +57,7 @@ asks_more a old mid new f s = record {
   stamped = λ h. s.stamped (subst (λ (x : ℕ). 0 < x) (sym (f.stamped h)) h) ∙ f.stamped h;
   unmet = λ e. let none = none_twice old.meetings mid.meetings new.meetings f.meetings.0 s.meetings.0 f.meetings.1 s.meetings.1 e in
       ((s.unmet none.1).0 ∙ (f.unmet none.0).0, (s.unmet none.1).1 ∙ (f.unmet none.0).1);
+  drawn_once = s.drawn_once ∙ f.drawn_once;
   asked = gains_twice a old.asked mid.asked new.asked f.asked s.asked;
   meetings = gains_on_twice (lock_of_word a) old.meetings mid.meetings new.meetings f.meetings s.meetings;
   grants = λ k. (λ t. (s.grants k).0 ((f.grants k).0 t), λ t. (s.grants k).1 ((f.grants k).1 t));
@@ -85,7 +87,7 @@ writes_more k old mid new f s = record {
 
 -- old with what WentOn lets change as in new
 abbrev wandered : View → View → View
-wandered old new = record (with_locks new old) { meetings = new.meetings; stamp = new.stamp; announced = new.announced }
+wandered old new = record (with_locks new old) { meetings = new.meetings; stamp = new.stamp; announced = new.announced; draws = new.draws }
 
 went : (old mid new x : View) → WentOn old mid → new ≡ x → x ≡ wandered mid x → WentOn old new
 went old mid new x f e r =
@@ -96,15 +98,16 @@ pub went_nobody : (old mid new : View) → WentOn old mid → MeetsNobody mid ne
 went_nobody old mid new f e = went old mid new (with_locks new mid) f e refl
 
 pub went_on : (met : List (ℕ × ℕ)) (old mid new : View) → WentOn old mid → GoesOn met mid new → WentOn old new
-went_on met old mid new f s = went old mid new (record (with_locks new mid) { meetings = mid.meetings ++ met; stamp = new.stamp; announced = true }) f s.view refl
+went_on met old mid new f s = went old mid new (record (with_locks new mid) { meetings = mid.meetings ++ met; stamp = new.stamp; announced = true; draws = draws_once mid }) f s.view refl
 
-gives_way_more : (good : List ℕ → Type 0) (n : ℕ) (base : List ℕ) (k : ℕ) (met : List (ℕ × ℕ)) (cause : Cause) (old mid new : View) → WentOn old mid → GainsOn k old.meetings mid.meetings → GivesWay good n base met cause mid new
+gives_way_more : (good : List ℕ → Type 0) (n : ℕ) (base : List ℕ) (k : ℕ) (met : List (ℕ × ℕ)) (cause : Cause) (old mid new : View) → WentOn old mid → draws_once mid ≡ draws_once old → GainsOn k old.meetings mid.meetings → GivesWay good n base met cause mid new
     → (waited : List (ℕ × ℕ)) × GivesWay good n base (waited ++ met) cause old new
-gives_way_more good n base k met cause old mid new f m s = (
+gives_way_more good n base k met cause old mid new f once m s = (
   m.0,
   record {
-    gave_way = subst (λ (l : List (ℕ × ℕ)). GaveWay good n base cause (record (with_locks new old) { meetings = l; met = cause.seat ∷ []; stamp = new.stamp; announced = true }) new) (both_gained old.meetings mid.meetings (mid.meetings ++ met) m.0 met m.1 refl)
-        (subst (λ (v : View). GaveWay good n base cause (record (with_locks new v) { meetings = mid.meetings ++ met; met = cause.seat ∷ []; stamp = new.stamp; announced = true }) new) f s.gave_way);
+    gave_way = subst (λ (l : List (ℕ × ℕ)). GaveWay good n base cause (record (with_locks new old) { meetings = l; met = cause.seat ∷ []; stamp = new.stamp; announced = true; draws = draws_once old }) new) (both_gained old.meetings mid.meetings (mid.meetings ++ met) m.0 met m.1 refl)
+        (subst (λ (x : ℕ). GaveWay good n base cause (record (with_locks new old) { meetings = mid.meetings ++ met; met = cause.seat ∷ []; stamp = new.stamp; announced = true; draws = x }) new) once
+        (subst (λ (v : View). GaveWay good n base cause (record (with_locks new v) { meetings = mid.meetings ++ met; met = cause.seat ∷ []; stamp = new.stamp; announced = true; draws = draws_once mid }) new) f s.gave_way));
     seat = s.seat;
     earlier = s.earlier;
     last = s.last;
@@ -120,11 +123,11 @@ gave_way x P h = ⊎_elim (λ e. absurd cc) (λ p. p) h
 
 -- the turns went on from the view old to mid, and the last of them gave way at new, to the cause x
 module _ (old mid new : View) (x : Cause) (on : WentOn old mid) where
-  pub turns_yield : (good : List ℕ → Type 0) (n : ℕ) (base : List ℕ) (k : ℕ) (cause : Cause) → got.Yield x ≡ got.Yield cause → GainsOn k old.meetings mid.meetings → GivesWay good n base ((k, x.seat) ∷ []) x mid new
+  pub turns_yield : (good : List ℕ → Type 0) (n : ℕ) (base : List ℕ) (k : ℕ) (cause : Cause) → got.Yield x ≡ got.Yield cause → draws_once mid ≡ draws_once old → GainsOn k old.meetings mid.meetings → GivesWay good n base ((k, x.seat) ∷ []) x mid new
       → (waited : List (ℕ × ℕ)) × GivesWay good n base (waited ++ (k, cause.seat) ∷ []) cause old new
-  turns_yield good n base k cause e more gives =
+  turns_yield good n base k cause e once more gives =
       subst (λ (y : Cause). (waited : List (ℕ × ℕ)) × GivesWay good n base (waited ++ (k, y.seat) ∷ []) y old new) (yield_is x cause e)
-      (gives_way_more good n base k ((k, x.seat) ∷ []) x old mid new on more gives)
+      (gives_way_more good n base k ((k, x.seat) ∷ []) x old mid new on once more gives)
 
   pub turns_met : (is_step : ℕ → ℕ → View → (View → Action) → View → Type 0) (sound : List ℕ → List View → Type 0) (k : ℕ) (cause : Cause) → got.Yield x ≡ got.Yield cause → (tried.Yield x ≡ tried.Granted) ⊎ MeetsAndJudges is_step sound mid k (tried.Yield x) new
       → (before : View) × WentOn old before × MeetsAndJudges is_step sound before k (tried.Yield cause) new

@@ -1,10 +1,10 @@
 -- What asking for the lock of a word may change of what a pass knows, and what its answers leave.
-use Rattle.std.specs.Prelude.{◌≡◌, ◌≢◌, ◌⊎◌, ℕ, ◌<◌, true, List, [], ◌∷◌, ◌++◌, Some}
+use Rattle.std.specs.Prelude.{◌≡◌, ◌≢◌, ◌⊎◌, ℕ, ◌+◌, ◌<◌, true, List, [], ◌∷◌, ◌++◌, Some, ◌==◌}
 use Rattle.history_model.specs.declared.event.Cause.{Cause}
 use Rattle.history_model.specs.declared.view.View.{View}
 use Rattle.history_model.specs.Legal.{IsIn}
 use Rattle.history_model.specs.Locks.{lock_of_word}
-use Rattle.history_model.specs.Sets.{has, has_pair}
+use Rattle.history_model.specs.Sets.{has, has_pair, flag}
 use Rattle.stamps_rule.specs.Causes.{newest, past_causes}
 use Rattle.word_table.specs.Calls.{GrantsStay, GaveWay}
 
@@ -15,6 +15,10 @@ GainsAtMost a old new = (b : ℕ) → (has b old ≡ true → has b new ≡ true
 -- all meetings that the list gained are on lock k
 abbrev pub GainsOn : ℕ → List (ℕ × ℕ) → List (ℕ × ℕ) → Type 0
 GainsOn k old new = (more : List (ℕ × ℕ)) × (new ≡ old ++ more) × ((l j : ℕ) → IsIn (l, j) more → l ≡ k)
+
+-- how many timestamps were drawn behind the view once its call, which met another, has one
+abbrev pub draws_once : View → ℕ
+draws_once v = v.draws + flag (v.stamp == 0)
 
 -- a call asked for the lock of word a, in one turn or in several: what is not told of here is as before, and so are
 -- trace, undo, call and floor
@@ -30,12 +34,14 @@ pub record Asks (a : ℕ) (old new : View) : Type 0 where
     meetings = new.meetings;
     stamp = new.stamp;
     announced = new.announced;
+    draws = new.draws;
     due = new.due;
     abandoned = new.abandoned;
   }
-  -- a timestamp stays, and a call that met nobody draws none
+  -- a timestamp stays, a call that met nobody draws none, and one that draws one draws no more
   pub stamped : 0 < old.stamp → new.stamp ≡ old.stamp
   pub unmet : new.meetings ≡ old.meetings → (new.stamp ≡ old.stamp) × (new.announced ≡ old.announced)
+  pub drawn_once : draws_once new ≡ draws_once old
   pub asked : GainsAtMost a old.asked new.asked
   pub meetings : GainsOn (lock_of_word a) old.meetings new.meetings
   -- a lock that was held still is
@@ -71,17 +77,33 @@ MeetsNobody old new = new ≡ with_locks new old
 
 -- the call goes on, and met some: its timestamp is drawn and announced
 pub record GoesOn (met : List (ℕ × ℕ)) (old new : View) : Type 0 where
-  pub view : new ≡ record (with_locks new old) { meetings = old.meetings ++ met; stamp = new.stamp; announced = true }
+  pub view : new ≡ record (with_locks new old) {
+    meetings = old.meetings ++ met;
+    stamp = new.stamp;
+    announced = true;
+    draws = draws_once old;
+  }
   pub stamped : 0 < new.stamp
 
 -- the attempt gives way to this cause, whose seat the call met last
 pub record GivesWay (good : List ℕ → Type 0) (n : ℕ) (base : List ℕ) (met : List (ℕ × ℕ)) (cause : Cause) (old new : View) : Type 0 where
   pub gave_way : GaveWay good n base cause
-      (record (with_locks new old) { meetings = old.meetings ++ met; met = cause.seat ∷ []; stamp = new.stamp; announced = true }) new
+      (record (with_locks new old) {
+        meetings = old.meetings ++ met;
+        met = cause.seat ∷ [];
+        stamp = new.stamp;
+        announced = true;
+        draws = draws_once old;
+      }) new
   pub seat : cause.seat < new.seats
   pub earlier : (0 < cause.stamp) × (cause.stamp < new.stamp)
   pub last : newest (past_causes new) ≡ Some cause
 
 -- the call goes on, whomever it met while it asked
 abbrev pub WentOn : View → View → Type 0
-WentOn old new = new ≡ record (with_locks new old) { meetings = new.meetings; stamp = new.stamp; announced = new.announced }
+WentOn old new = new ≡ record (with_locks new old) {
+  meetings = new.meetings;
+  stamp = new.stamp;
+  announced = new.announced;
+  draws = new.draws;
+}

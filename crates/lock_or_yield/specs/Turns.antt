@@ -15,7 +15,7 @@ use Rattle.word_table.specs.Least.{IsLeast}
 use Rattle.word_table.specs.Unscanned.{IsUnscanned}
 use Rattle.lock_or_yield.specs.declared.turn.Tried.{Tried}
 use Rattle.lock_or_yield.specs.declared.turn.Tried.TheVariants as tried
-use Rattle.lock_or_yield.specs.Asking.{AsksToWrite, GainsAtMost, with_locks}
+use Rattle.lock_or_yield.specs.Asking.{AsksToWrite, GainsAtMost, draws_once, with_locks}
 
 -- what a turn comes to that met seat j, where judge answers this of it
 abbrev pub tried_of : ℕ → Judged → Tried
@@ -25,7 +25,7 @@ tried_of j (judged.Yield stamp) = tried.Yield (record { seat = j; stamp = stamp 
 -- the call, which met seat j, showed its timestamp and judged that seat
 pub record JudgesMet (sound : List ℕ → List View → Type 0) (met : View) (j : ℕ) (r : Tried) (new : View) : Type 0 where
   pub shown : View
-  pub shows : shown ≡ record met { stamp = shown.stamp; announced = true }
+  pub shows : shown ≡ record met { stamp = shown.stamp; announced = true; draws = draws_once met }
   pub kept : 0 < met.stamp → shown.stamp ≡ met.stamp
   pub answer : Judged
   pub judges : JudgedBy sound shown j answer new
@@ -61,13 +61,14 @@ pub record MeetsAndJudges (is_step : ℕ → ℕ → View → (View → Action) 
 
 -- a call that met a seat and need not give way to it goes on
 pub record JudgedToWait (met new : View) : Type 0 where
-  pub view : new ≡ record met { met = []; stamp = new.stamp; announced = true }
+  pub view : new ≡ record met { met = []; stamp = new.stamp; announced = true; draws = draws_once met }
   pub stamped : 0 < new.stamp
   pub kept : 0 < met.stamp → new.stamp ≡ met.stamp
 
 -- the attempt of a call that met a seat gives way to this cause
 pub record JudgedToYield (good : List ℕ → Type 0) (n : ℕ) (base : List ℕ) (cause : Cause) (met new : View) : Type 0 where
-  pub gave_way : GaveWay good n base cause (record met { stamp = new.stamp; announced = true }) new
+  pub gave_way : GaveWay good n base cause
+      (record met { stamp = new.stamp; announced = true; draws = draws_once met }) new
   pub earlier : (0 < cause.stamp) × (cause.stamp < new.stamp)
   pub last : newest (past_causes new) ≡ Some cause
   pub kept : 0 < met.stamp → new.stamp ≡ met.stamp

@@ -8,7 +8,7 @@ ghost use Rattle.history_model.specs.Views.{number, HasClaim, HasWriteGrant, IsG
 ghost use Rattle.stamps_rule.specs.Stamps.{AreRestartsBounded};
 ghost use Rattle.word_table.specs.Calls.{GrantsStay};
 ghost use Rattle.word_table.specs.Desks.{DeskHolds};
-ghost use Rattle.lock_or_yield.specs.Asking.{Asks, AsksToRead, AsksToWrite, GivesWay, GoesOn, MeetsNobody};
+ghost use Rattle.lock_or_yield.specs.Asking.{Asks, AsksToRead, AsksToWrite, GivesWay, GoesOn, MeetsNobody, draws_once};
 ghost use Rattle.lock_or_yield.specs.Turns.{ClaimsAndScans, IsReadStep, IsWriteStep, JudgedToWait, JudgedToYield, JudgesMet, MeetsAndJudges, MeetsSeat, ScansClear, ScansUpTo};
 
 use history_model::{Cause, LOCKS, Phase, Shape, lock_of};
@@ -31,7 +31,10 @@ fn draw_once<S: Shape>(desk: &Desk<S>, pass: &mut Pass<S>)
     requires phase { pass.old.view.phase ≡ Phase.Running }
     requires unjudged { pass.old.view.met ≢ [] }
     ensures desk { pass.new.table ≡ pass.old.table }
-    ensures view { pass.new.view ≡ record pass.old.view { stamp = pass.new.view.stamp } }
+    ensures view { pass.new.view ≡ record pass.old.view {
+      stamp = pass.new.view.stamp;
+      draws = draws_once pass.old.view;
+    } }
     ensures stamped { 0 < pass.new.view.stamp }
     ensures kept { 0 < pass.old.view.stamp → pass.new.view.stamp ≡ pass.old.view.stamp }
 {

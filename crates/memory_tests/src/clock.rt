@@ -30,7 +30,11 @@ fn show_stamp(desk: &Desk<Pair>, pass: &mut Pass<Pair>)
     requires phase { pass.old.view.phase ≡ Phase.Running }
     requires unjudged { pass.old.view.met ≢ [] }
     ensures desk { pass.new.table ≡ desk.now.table }
-    ensures rest { pass.new.view ≡ record pass.old.view { stamp = pass.new.view.stamp; announced = true } }
+    ensures rest { pass.new.view ≡ record pass.old.view {
+      stamp = pass.new.view.stamp;
+      announced = true;
+      draws = pass.new.view.draws;
+    } }
 {
     draw_once(desk, pass);
     if pass.announced() {
@@ -45,7 +49,10 @@ fn draw_once(desk: &Desk<Pair>, pass: &mut Pass<Pair>)
     requires phase { pass.old.view.phase ≡ Phase.Running }
     requires unjudged { pass.old.view.met ≢ [] }
     ensures desk { pass.new.table ≡ desk.now.table }
-    ensures rest { pass.new.view ≡ record pass.old.view { stamp = pass.new.view.stamp } }
+    ensures rest { pass.new.view ≡ record pass.old.view {
+      stamp = pass.new.view.stamp;
+      draws = pass.new.view.draws;
+    } }
     ensures stamped { 0 < pass.new.view.stamp }
 {
     if pass.stamp() > 0 {

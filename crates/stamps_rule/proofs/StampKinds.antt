@@ -38,7 +38,7 @@ pub draw_stamp_stamps : (j : ℕ) → KeepsStamps (MayDrawStamp j) (draw_stamp_a
 draw_stamp_stamps j n base ws vs id v h q me may =
     let o = own n base ws vs id j v h me may.who in
     let x : ℕ = slice_index ws clock_word + 1 in
-    let w : View = record v { stamp = x } in
+    let w : View = record v { stamp = x; draws = v.draws + 1 } in
     let ws' : List ℕ = slice_set ws clock_word x in
     let here : slice_index ws' clock_word ≡ x = get_or-set_same ws clock_word x 0 (let count = h.word_count in omega arith) in
     let unshown : v.announced ≡ false = not_true v.announced (λ t. let some = q.shown.announced_stamped id v me t in let none = may.unstamped in omega arith) in
@@ -53,6 +53,8 @@ draw_stamp_stamps j n base ws vs id v h q me may =
         announced = λ t. omega arith;
         grows = omega arith;
         goes_on = inr (inr (omega arith, omega arith));
+        drawn = omega arith;
+        unnumbered = λ none. absurd (let z : [] ≡ j ∷ [] = sym none ∙ may.who in cc);
         counted =
             let sums = calls_below-same n n ws ws' (λ l lt. get_or-set_other ws clock_word (calls_word n l) x 0 (λ e. omega arith)) in
             let before = unstamped_running v may.phase may.unstamped in
@@ -79,6 +81,8 @@ announce_stamp_stamps j n base ws vs id v h q me may =
         announced = λ t. may.stamped;
         grows = let same = get_or-set_other ws i clock_word v.stamp 0 (λ e. omega arith) in omega arith;
         goes_on = inr (inl (refl, λ t. refl));
+        drawn = let same = get_or-set_other ws i clock_word v.stamp 0 (λ e. omega arith) in omega arith;
+        unnumbered = λ none. refl;
         counted =
             let same = get_or-set_other ws i clock_word v.stamp 0 (λ e. omega arith) in
             let sums = calls_below-same n n ws ws' (λ l lt. get_or-set_other ws i (calls_word n l) v.stamp 0 (λ e. omega arith)) in
@@ -149,7 +153,7 @@ module _ (n : ℕ) (base ws : List ℕ) (vs : List View) (id j i : ℕ) (v : Vie
   judge_finds : 0 < found → found < v.stamp → StampsHold n (slice_set ws (stamps_word v.seats i) found) (slice_set vs id finds)
   judge_finds some earlier = moves n base ws (slice_set ws (stamps_word v.seats i) found) vs id v finds h q me record {
     who = refl;
-    stamps = stamps_kept n base ws vs id v h q me finds (slice_set ws (stamps_word v.seats i) found) (words_unchanged n ws (stamps_word v.seats i)) refl refl refl;
+    stamps = stamps_kept n base ws vs id v h q me finds (slice_set ws (stamps_word v.seats i) found) (words_unchanged n ws (stamps_word v.seats i)) refl refl refl refl;
     causes = record {
       waited = waited_kept n base ws vs id v h q me finds refl refl;
       pending = λ other u d s ne t.
@@ -179,6 +183,7 @@ module _ (n : ℕ) (base ws : List ℕ) (vs : List View) (id j i : ℕ) (v : Vie
     joined = refl;
     stamp = refl;
     announced = refl;
+    draws = refl;
     due = sym may.no_cause;
     no_cause = may.no_cause;
     abandoned = refl;
@@ -209,7 +214,7 @@ load_serial_at_yield_stamps j n base ws vs id v h q me may =
     yielded (λ (u : View). StampsHold n ws' (slice_set vs id u)) v c may.cause.1 history
     (moves n base ws ws' vs id v w h q me record {
       who = refl;
-      stamps = stamps_kept n base ws vs id v h q me w ws' (words_unchanged n ws serial_word) refl refl (sym (ap is_idle may.phase));
+      stamps = stamps_kept n base ws vs id v h q me w ws' (words_unchanged n ws serial_word) refl refl refl (sym (ap is_idle may.phase));
       causes = all_kept n base ws vs id v h q me w record {
         who = refl;
         joined = refl;
@@ -228,6 +233,7 @@ waits_on n base ws vs id i v h q me none = stands_aside n base ws vs id v h q me
   joined = refl;
   stamp = refl;
   announced = refl;
+  draws = refl;
   due = refl;
   no_cause = none;
   abandoned = refl;
@@ -255,7 +261,7 @@ restarts n base ws vs id j i stamp v h q me may other_stamp =
     (q.pending.stands id other v u c me pending s) in
     moves n base ws ws' vs id v w h q me record {
       who = refl;
-      stamps = stamps_kept n base ws vs id v h q me w ws' (words_unchanged n ws at) refl refl (sym (ap is_idle may.phase));
+      stamps = stamps_kept n base ws vs id v h q me w ws' (words_unchanged n ws at) refl refl refl (sym (ap is_idle may.phase));
       causes = causes_kept n base ws vs id v h q me w record {
         who = refl;
         joined = refl;

@@ -26,7 +26,7 @@ abbrev pub draw_stamp_action : ℕ → View → Action
 draw_stamp_action j v = record {
   at = clock_word;
   writes = λ w. w + 1;
-  view = λ h w. record v { stamp = w + 1 };
+  view = λ h w. record v { stamp = w + 1; draws = v.draws + 1 };
 }
 
 -- the timestamp is stored to the own STAMPS word

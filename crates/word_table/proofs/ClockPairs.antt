@@ -29,11 +29,11 @@ ValuesStay good may action =
     → ValuesHold good n base (words_after (action v) words) (views_after (action v) id words views)
 
 -- a call with another timestamp, or with other notes of whom it met
-abbrev restamped : View → ℕ → Bool → List ℕ → Option Cause → ℕ → View
-restamped v stamp announced met due waits = record v { stamp = stamp; announced = announced; met = met; due = due; waits = waits }
+abbrev restamped : View → ℕ → Bool → ℕ → List ℕ → Option Cause → ℕ → View
+restamped v stamp announced draws met due waits = record v { stamp = stamp; announced = announced; draws = draws; met = met; due = due; waits = waits }
 
-same_values : (v : View) (stamp : ℕ) (announced : Bool) (met : List ℕ) (due : Option Cause) (waits : ℕ) → v.stamp ≤ stamp → SameValues v (restamped v stamp announced met due waits)
-same_values v stamp announced met due waits later = record {
+same_values : (v : View) (stamp : ℕ) (announced : Bool) (draws : ℕ) (met : List ℕ) (due : Option Cause) (waits : ℕ) → v.stamp ≤ stamp → SameValues v (restamped v stamp announced draws met due waits)
+same_values v stamp announced draws met due waits later = record {
   calls = record {
     goes_on = record { who = refl; joined = refl; call = refl; floor = refl; still_open = λ t. t; still_begun = λ busy. busy };
     seen = refl;
@@ -55,20 +55,20 @@ pub draw_stamp_values : (good : List ℕ → Type 0) (j : ℕ) → ValuesStay go
 draw_stamp_values good j n base ws vs id v s me may =
     let zero = may.unstamped in
     aside_keeps good n base ws vs id v (draw_stamp_action j v) s.locks s.values me (record { serial = omega arith; calls = inl (omega arith); values = omega arith })
-    (same_values v (slice_index ws clock_word + 1) v.announced v.met v.due v.waits (omega arith))
+    (same_values v (slice_index ws clock_word + 1) v.announced (v.draws + 1) v.met v.due v.waits (omega arith))
 
 pub announce_stamp_values : (good : List ℕ → Type 0) (j : ℕ) → ValuesStay good (MayAnnounceStamp j) (announce_stamp_action j)
 announce_stamp_values good j n base ws vs id v s me may =
     let o = own n base ws vs id j v s.locks me may.who in
     aside_keeps good n base ws vs id v (announce_stamp_action j v) s.locks s.values me (stamps_aside n v.seats j o.seats o.below)
-    (same_values v v.stamp true v.met v.due v.waits (omega arith))
+    (same_values v v.stamp true v.draws v.met v.due v.waits (omega arith))
 
 pub judge_stamp_values : (good : List ℕ → Type 0) (j i : ℕ) → ValuesStay good (MayJudgeStamp j i) (judge_stamp_action j i)
 judge_stamp_values good j i n base ws vs id v s me may =
     let o = own n base ws vs id j v s.locks me may.who in
     let x : ℕ = slice_index ws (stamps_word v.seats i) in
     aside_keeps good n base ws vs id v (judge_stamp_action j i v) s.locks s.values me (stamps_aside n v.seats i o.seats (s.locks.met_are_others id i v me may.met).0)
-    (same_values v v.stamp v.announced (without i v.met) (judged i x v.stamp) v.waits (omega arith))
+    (same_values v v.stamp v.announced v.draws (without i v.met) (judged i x v.stamp) v.waits (omega arith))
 
 pub load_serial_at_yield_values : (good : List ℕ → Type 0) (j : ℕ) → ValuesStay good (MayLoadSerialAtYield j) (load_serial_at_yield_action j)
 load_serial_at_yield_values good j n base ws vs id v s me may =
@@ -117,5 +117,5 @@ load_cause_stamp_values good j i stamp n base ws vs id v s me may =
       undo = may.undone;
     } in
     picked (λ (u : View). ValuesHold good n base ws' (slice_set vs id u)) (x == stamp) (after_waiting v) (after_restarting v)
-    (values_same good n base ws vs id v s.locks s.values me (after_waiting v) ws' same (same_values v v.stamp v.announced v.met v.due (v.waits + 1) (omega arith)))
+    (values_same good n base ws vs id v s.locks s.values me (after_waiting v) ws' same (same_values v v.stamp v.announced v.draws v.met v.due (v.waits + 1) (omega arith)))
     (values_restart good n base ws vs id v s.locks s.values me (after_restarting v) ws' same again)

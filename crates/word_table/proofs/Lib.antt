@@ -21,6 +21,7 @@ pub mod RunLaws
 pub mod Meetings
 pub mod Dealing
 pub mod Stamped
+pub mod Drawing
 pub mod Committing
 -- a desk that a test opens
 pub mod Opened

@@ -72,7 +72,7 @@ module _ (good : List ℕ → Type 0) (n : ℕ) (base : List ℕ) where
       clock = zeros_at (value_word n 0) base clock_word (omega arith);
       stamps = λ j lt. zeros_at (value_word n 0) base (stamps_word n j) (omega arith);
       unused = λ id v knows. subst (λ (x : View). IsUnused x) (one_view (opening_view base n (numbers 0 n) []) id v knows).1
-          (record { phase = refl; unstamped = refl; unannounced = refl; no_cause = refl; no_attempt = refl; none_met = refl });
+          (record { phase = refl; unstamped = refl; unannounced = refl; undrawn = refl; no_cause = refl; no_attempt = refl; none_met = refl });
     };
   }
 

@@ -1,17 +1,19 @@
--- What holds in every state of every run: of who meets whom, and of each call. And a state that every table comes to.
-use Rattle.std.specs.Prelude.{◌≡◌, ◌≢◌, ℕ, ◌<◌, ◌≤◌, true, List, [], ◌∷◌, length, Some, slice_get}
+-- What holds in every state of every run: of who meets whom, of each call, and of the clock. And a state that every table
+-- comes to.
+use Rattle.std.specs.Prelude.{◌≡◌, ◌≢◌, ℕ, ◌<◌, ◌≤◌, true, List, [], ◌∷◌, length, Some, slice_get, slice_index}
 use Rattle.history_model.specs.declared.view.View.{View}
 use Rattle.history_model.specs.declared.view.Phase.TheVariants.{Idle}
 use Rattle.history_model.specs.Conflicts.{Meets, IsAt}
 use Rattle.history_model.specs.Legal.{IsPrefix, AreAttemptsLegal}
 use Rattle.history_model.specs.Locks.{lock_of_word}
 use Rattle.history_model.specs.Sets.{has}
-use Rattle.history_model.specs.Table.{TableState, Knows, history_of}
-use Rattle.locks_rule.specs.Actions.{found_by}
+use Rattle.history_model.specs.Table.{TableState, Knows, clock_word, history_of}
+use Rattle.locks_rule.specs.Actions.{found_by, words_after}
 use Rattle.locks_rule.specs.Locks.{AskedFor, IsSeat}
 use Rattle.locks_rule.specs.Splits.{opening_view}
-use Rattle.stamps_rule.specs.Stamps.{AreRestartsBounded}
+use Rattle.stamps_rule.specs.Stamps.{AreRestartsBounded, draws_of}
 use Rattle.word_table.specs.declared.step.Step.{Step}
+use Rattle.word_table.specs.declared.step.Step.TheVariants.{DrawStamp}
 use Rattle.word_table.specs.Kinds.{action_of, May}
 use Rattle.word_table.specs.Runs.{IsRun}
 use Rattle.word_table.specs.Sound.{opening_words}
@@ -74,6 +76,18 @@ StampsAreKept good n base =
     → good base → IsRun good n base run → slice_get run p ≡ Some before → slice_get run q ≡ Some after → p ≤ q
     → Knows before.views place v → Knows after.views later w → v.who ≡ j ∷ [] → w.who ≡ j ∷ []
     → 0 < v.stamp → w.call ≡ v.call → w.phase ≢ Idle → w.stamp ≡ v.stamp
+
+-- the clock says how many timestamps were drawn
+abbrev pub ClockCountsDraws : (List ℕ → Type 0) → ℕ → List ℕ → Type 0
+ClockCountsDraws good n base =
+    (state : TableState) → IsReached good n base state → slice_index state.words clock_word ≡ draws_of state.views
+
+-- no step but one that draws a timestamp changes the clock
+abbrev pub OnlyDrawsMoveClock : (List ℕ → Type 0) → ℕ → List ℕ → Type 0
+OnlyDrawsMoveClock good n base =
+    (state : TableState) (place : ℕ) (step : Step) (view : View)
+    → IsReached good n base state → Knows state.views place view → May good step view → ((j : ℕ) → step ≢ DrawStamp j)
+    → slice_index (words_after (action_of step view) state.words) clock_word ≡ slice_index state.words clock_word
 
 -- n seats that did nothing yet: a view for each number, and no other
 pub record AreDealt (n : ℕ) (base : List ℕ) (views : List View) : Type 0 where

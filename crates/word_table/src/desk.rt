@@ -336,7 +336,7 @@ impl<S: Shape> Desk<S> {
         requires unjudged { pass.old.view.met ≢ [] }
         requires unstamped { pass.old.view.stamp ≡ 0 }
         ensures desk { pass.new.table ≡ pass.old.table }
-        ensures step { pass.new.view ≡ record pass.old.view { stamp = result } }
+        ensures step { pass.new.view ≡ record pass.old.view { stamp = result; draws = pass.old.view.draws + 1 } }
         ensures taken { (found : ℕ) × (result ≡ found + 1) × TakenIn (DeskHolds S.word_count S.good self.now)
             (draw_stamp_action (number pass.old.view) pass.old.view) pass.old.view found pass.new.view }
     {

@@ -9,7 +9,7 @@ ghost use Rattle.locks_rule.specs.Joins.{KeepsJoin, MayTakeNote, left_by_note, n
 ghost use Rattle.locks_rule.specs.Splits.{KeepsSplit, MaySplitSeat, left_by_split, given_by_split};
 ghost use Rattle.word_table.specs.declared.step.Step.{Step};
 ghost use Rattle.word_table.specs.Kinds.{action_of, May};
-ghost use Rattle.word_table.specs.Meetings.{MeetsInConflict, NeverMeetsApart, RestartsFew, ReadsOneState, SeatsAreDealt, StampsAreKept};
+ghost use Rattle.word_table.specs.Meetings.{ClockCountsDraws, MeetsInConflict, NeverMeetsApart, OnlyDrawsMoveClock, ReadsOneState, RestartsFew, SeatsAreDealt, StampsAreKept};
 ghost use Rattle.word_table.specs.Runs.{IsOpening, IsRun, Steps};
 ghost use Rattle.word_table.specs.Sound.{IsSound};
 
@@ -74,6 +74,15 @@ pub fn every_call<S: Shape>()
         → ReadsOneState (IsGood (S.word_count shape) (S.good shape)) n base }
     ensures stamps { (shape : _) (n : ℕ) (base : List ℕ)
         → StampsAreKept (IsGood (S.word_count shape) (S.good shape)) n base }
+{}
+
+/// Of the clock, in every state of every run: it says how many timestamps were drawn by all seats (`counts`), and so no
+/// step but one that draws a timestamp changes it (`alone`).
+pub fn every_draw<S: Shape>()
+    ensures counts { (shape : _) (n : ℕ) (base : List ℕ)
+        → ClockCountsDraws (IsGood (S.word_count shape) (S.good shape)) n base }
+    ensures alone { (shape : _) (n : ℕ) (base : List ℕ)
+        → OnlyDrawsMoveClock (IsGood (S.word_count shape) (S.good shape)) n base }
 {}
 
 /// Runs get to where calls begin: for every good memory and every number of seats above 0, some run comes to a state in

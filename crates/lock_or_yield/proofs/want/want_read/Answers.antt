@@ -41,7 +41,7 @@ returns-in-Yield-clause-reads g c = reads_more (lock_of_word c.args.a) c.args.pa
 
 pub returns-in-Yield-clause-yields : goal.returns-in-Yield-clause-yields
 returns-in-Yield-clause-yields g c cause e = let i = c.loop.invariant in let made = c.args.desk.now in
-    turns_yield c.args.pass.now.view c.loop.pass.view c.try_read.new.pass.view c.in-Yield.cause i.6 (IsGood (g.S.Shape.word_count made.shape) (g.S.Shape.good made.shape)) made.seats made.base (lock_of_word c.args.a) cause e i.4.meetings (c.in-Yield.ensures.yields c.in-Yield.cause refl)
+    turns_yield c.args.pass.now.view c.loop.pass.view c.try_read.new.pass.view c.in-Yield.cause i.6 (IsGood (g.S.Shape.word_count made.shape) (g.S.Shape.good made.shape)) made.seats made.base (lock_of_word c.args.a) cause e i.4.drawn_once i.4.meetings (c.in-Yield.ensures.yields c.in-Yield.cause refl)
 
 pub returns-in-Yield-clause-met : goal.returns-in-Yield-clause-met
 returns-in-Yield-clause-met g c cause e =
