@@ -1,7 +1,8 @@
 -- Going back to a mark.
-use Rattle.std.proofs.Common.{◌≡◌, ℕ, zero, suc, ◌+◌, ◌<◌, List, [], ◌∷◌, ◌++◌, length, drop, slice_get, slice_set, slice_index, Option, Some, refl, sym, ap, ◌∙◌, arith, eq-eqb, ◌==◌, if◌then◌else◌}
+use Rattle.std.proofs.Common.{◌≡◌, ℕ, zero, suc, ◌+◌, ◌<◌, List, [], ◌∷◌, ◌++◌, length, drop, slice_get, slice_set, slice_index, Option, Some, refl, sym, ap, ◌∙◌, subst, arith, eq-eqb, ◌==◌, if◌then◌else◌}
 use mathlib.Core.Logic.{dite}
 use native.Mathlib.Decide.{ℕ_discrete}
+use Rattle.std.proofs.lemmas.List.{append_assoc, append-nil}
 use Rattle.std.proofs.lemmas.Option.{get_or_from_slice_get, same_Some}
 use Rattle.history_model.specs.declared.event.Event.TheVariants.{Read, Write}
 use Rattle.history_model.specs.Traces.{Trace, after, IsLegalTrace, Writes, value_after}
@@ -70,3 +71,16 @@ noted_was_written [] s i a was e = cc
 noted_was_written (Read b v ∷ t) s i a was e = let k : Writes t a = noted_was_written t s i a was e in (suc k.0, k.1, k.2)
 noted_was_written (Write b v ∷ t) s zero a was e = (zero, v, ap (λ (note : ℕ × ℕ). Some (Write note.0 v)) (same_Some (b, slice_index s b) (a, was) e))
 noted_was_written (Write b v ∷ t) s (suc i) a was e = let k : Writes t a = noted_was_written t (slice_set s b v) i a was e in (suc k.0, k.1, k.2)
+
+-- a read makes no note
+pub read_unnoted : (t : Trace) (s : List ℕ) (a v : ℕ) → notes_of (t ++ Read a v ∷ []) s ≡ notes_of t s
+unfolding notes_of
+read_unnoted t s a v = notes_by_parts t (Read a v ∷ []) s ∙ append-nil (notes_of t s)
+
+-- a write of the word that was read last
+pub write_noted : (before t : Trace) (s : List ℕ) (a was v : ℕ) → t ≡ before ++ Read a was ∷ [] → IsLegalTrace (t ++ Write a v ∷ []) s → notes_of (t ++ Write a v ∷ []) s ≡ notes_of t s ++ (a, was) ∷ []
+write_noted before t s a was v e h =
+    let whole : t ++ Write a v ∷ [] ≡ before ++ Read a was ∷ Write a v ∷ [] = ap (λ (u : Trace). u ++ Write a v ∷ []) e ∙ append_assoc before (Read a was ∷ []) (Write a v ∷ []) in
+    ap (λ (u : Trace). notes_of u s) whole
+    ∙ one_note_more before s a was v (subst (λ (u : Trace). IsLegalTrace u s) whole h)
+    ∙ ap (λ (l : Notes). l ++ (a, was) ∷ []) (sym (ap (λ (u : Trace). notes_of u s) e ∙ read_unnoted before s a was))
