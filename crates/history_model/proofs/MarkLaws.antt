@@ -1,5 +1,5 @@
 -- Going back to a mark.
-use Rattle.std.proofs.Common.{◌≡◌, ℕ, zero, suc, ◌+◌, ◌<◌, List, [], ◌∷◌, ◌++◌, length, drop, slice_get, slice_set, slice_index, Option, Some, refl, sym, ap, ◌∙◌, subst, arith, eq-eqb, ◌==◌, if◌then◌else◌}
+use Rattle.std.proofs.Common.{◌≡◌, ℕ, zero, suc, ◌+◌, ◌<◌, List, [], ◌∷◌, ◌++◌, length, drop, slice_get, slice_set, slice_index, Option, Some, refl, sym, ap, ◌∙◌, subst, arith, eq-eqb}
 use mathlib.Core.Logic.{dite}
 use native.Mathlib.Decide.{ℕ_discrete}
 use Rattle.std.proofs.lemmas.List.{append_assoc, append-nil}

@@ -1,5 +1,5 @@
 -- Going back to a mark, one write after another.
-use Rattle.std.proofs.Common.{◌≡◌, ℕ, zero, suc, ◌+◌, ◌<◌, ◌≤◌, List, [], ◌∷◌, ◌++◌, ◌⊎◌, inl, inr, length, drop, slice_get, slice_set, Option, Some, refl, sym, ap, ◌∙◌, subst, arith}
+use Rattle.std.proofs.Common.{◌≡◌, ℕ, zero, suc, ◌+◌, ◌<◌, ◌≤◌, List, [], ◌∷◌, ◌++◌, inl, inr, length, drop, slice_get, slice_set, Some, refl, sym, ap, ◌∙◌, subst, arith}
 use Rattle.std.proofs.lemmas.List.{append_assoc}
 use Rattle.history_model.specs.declared.event.Event.TheVariants.{Read, Write}
 use Rattle.history_model.specs.declared.shape.Shape.{Ghosts as Shapes}
@@ -12,7 +12,7 @@ use Rattle.history_model.proofs.FittingLaws.{fits_begins}
 use Rattle.history_model.proofs.HistoryLaws.{get_first}
 use Rattle.history_model.proofs.MarkLaws.{notes_by_parts, notes_counted, rest_undone, written_reads_the_same, noted_was_written}
 use Rattle.txn_words.specs.declared.words.Words.{Ghosts as AnyWords}
-use Rattle.txn_words.specs.Calls.{LeadsTo, SameAsAtMark}
+use Rattle.txn_words.specs.Calls.{SameAsAtMark}
 use Rattle.txn_words.specs.Steps.{EndsWithWrite}
 use Rattle.txn_words.proofs.Steps.{after_write_end}
 use Rattle.txn_words.specs.Marks.{TakesBack, PutsBack}

@@ -1,6 +1,6 @@
 //! Words in a plain list.
 
-ghost use Rattle.std.specs.Prelude.{◌≡◌, ◌<◌, ◌≤◌, ◌++◌, ◌∷◌, ℕ, [], None, length, slice_set, OnOk, OnErr};
+ghost use Rattle.std.specs.Prelude.{◌≡◌, ◌<◌, ◌≤◌, ◌++◌, ◌∷◌, ℕ, [], None, slice_set, OnOk, OnErr};
 ghost use Rattle.history_model.specs.declared.event.Event.TheVariants.{Read, Write};
 ghost use Rattle.history_model.specs.Traces.{after, Begins, IsLegalTrace};
 ghost use Rattle.history_model.specs.Fitting.{Fits, IsGood};

@@ -1,4 +1,4 @@
-use Rattle.std.proofs.Common.{◌≡◌, ◌+◌, ◌<◌, ◌^◌, arith}
+use Rattle.std.proofs.Common.{◌+◌, ◌<◌, ◌^◌, arith}
 use Rattle.counter.proofs.Fitting.{leads_fits, leads_not}
 use Rattle.counter.proofs.pair_or.add_fitting.Goals as goal
 

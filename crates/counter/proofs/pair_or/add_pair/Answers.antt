@@ -1,4 +1,4 @@
-use Rattle.std.proofs.Common.{◌≡◌, ℕ, ◌+◌, ◌≤◌, List, true, false, ◌∙◌, subst}
+use Rattle.std.proofs.Common.{ℕ, true, false, ◌∙◌, subst}
 use Rattle.history_model.specs.Traces.{Trace, Begins}
 use Rattle.history_model.proofs.TraceLaws.{begins_trans}
 use Rattle.history_model.proofs.FittingLaws.{fits_begins}

@@ -1,4 +1,4 @@
-use Rattle.std.proofs.Common.{◌≡◌, ℕ, ◌+◌, ◌-◌, ◌<◌, ◌≤◌, List, length, None, arith, refl, sym, ap, ◌∙◌, subst}
+use Rattle.std.proofs.Common.{◌≡◌, ℕ, ◌+◌, ◌-◌, ◌<◌, ◌≤◌, length, None, arith, refl, sym, ◌∙◌, subst}
 use Rattle.history_model.specs.Marks.{count_writes}
 use Rattle.history_model.proofs.TraceLaws.{begins_trans}
 use Rattle.txn_words.proofs.GoingBack.{GoneBack, all_back, mark_stays, none_back, one_more_back}

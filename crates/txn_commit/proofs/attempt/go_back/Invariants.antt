@@ -1,4 +1,4 @@
-use Rattle.std.proofs.Common.{◌≡◌, ◌≤◌, ◌+◌, None}
+use Rattle.std.proofs.Common.{◌≤◌, ◌+◌, None}
 use Rattle.history_model.specs.Marks.{count_writes}
 use Rattle.txn_words.proofs.GoingBack.{GoneBack}
 use Rattle.txn_commit.specs.Attempts.{DidEvents, IsSound}

@@ -1,4 +1,4 @@
-use Rattle.std.proofs.Common.{◌≡◌, ◌+◌, true, false, subst}
+use Rattle.std.proofs.Common.{◌+◌, true, false, subst}
 use Rattle.std.specs.Prelude.{⊤}
 use Rattle.history_model.specs.Fitting.{Leads}
 use Rattle.history_model.proofs.FittingLaws.{leads_fresh, leads_leads}

@@ -1,4 +1,4 @@
-use Rattle.std.proofs.Common.{◌≡◌, ap, ◌∙◌}
+use Rattle.std.proofs.Common.{ap, ◌∙◌}
 use Rattle.history_model.specs.Marks.{count_writes}
 use Rattle.history_model.specs.Traces.{Trace}
 use Rattle.txn_words.proofs.Listed.{follows_noted, trace_of}

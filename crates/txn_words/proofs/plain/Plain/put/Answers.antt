@@ -1,8 +1,7 @@
-use Rattle.std.proofs.Common.{◌≡◌, ℕ, ◌+◌, ◌<◌, ◌≤◌, ◌++◌, ◌∷◌, [], List, true, arith, length, slice_get, slice_set, Some, ap, refl, ◌∙◌, append_assoc, is_ok, vec_len, vec_capacity}
+use Rattle.std.proofs.Common.{◌≡◌, ◌+◌, ◌<◌, ◌≤◌, ◌++◌, ◌∷◌, [], true, arith, length, slice_get, Some, ap, refl, ◌∙◌, append_assoc, is_ok, vec_len, vec_capacity}
 use Rattle.std.proofs.lemmas.Option.{slice_get_read}
 use Rattle.history_model.specs.declared.event.Event.TheVariants.{Read, Write}
 use Rattle.history_model.specs.Traces.{Trace}
-use Rattle.txn_words.specs.Plainly.{Follows}
 use Rattle.txn_words.proofs.Listed.{follows_count, follows_write, grows, pushed, shape_of}
 use Rattle.txn_words.proofs.plain.Plain.put.Given.{Over}
 use Rattle.txn_words.proofs.plain.Plain.put.Goals as goal

@@ -1,4 +1,4 @@
-use Rattle.std.proofs.Common.{◌≡◌, ℕ, ◌<◌, length, inr, ap, ◌∙◌, subst, arith}
+use Rattle.std.proofs.Common.{◌≡◌, ◌<◌, length, inr, ap, ◌∙◌, subst, arith}
 use Rattle.history_model.specs.Marks.{count_writes}
 use Rattle.history_model.specs.Traces.{Trace}
 use Rattle.txn_words.proofs.Listed.{follows_noted, map_ok, note_within, noted_at, shape_of, trace_of}

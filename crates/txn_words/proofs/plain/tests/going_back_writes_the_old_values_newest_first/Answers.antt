@@ -1,4 +1,4 @@
-use Rattle.std.proofs.Common.{◌≡◌, ap}
+use Rattle.std.proofs.Common.{ap}
 use Rattle.history_model.proofs.TraceLaws.{begins_trans}
 use Rattle.txn_words.proofs.GoingBack.{marked_stays}
 use Rattle.txn_words.proofs.Listed.{trace_of}

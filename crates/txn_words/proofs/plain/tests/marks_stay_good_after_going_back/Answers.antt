@@ -1,4 +1,4 @@
-use Rattle.std.proofs.Common.{◌≡◌, ap, sym, subst}
+use Rattle.std.proofs.Common.{ap, sym, subst}
 use Rattle.history_model.specs.Traces.{Trace, Begins}
 use Rattle.history_model.proofs.TraceLaws.{begins_refl, begins_trans}
 use Rattle.txn_words.proofs.GoingBack.{marked_stays}
