@@ -1,3 +1,4 @@
 pub mod Growing
 pub mod Meaning
 pub mod Sums
+pub mod Fitting

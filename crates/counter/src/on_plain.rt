@@ -42,6 +42,7 @@ pub fn increment_plain(alloc: Global, words: &[u64]) -> Result<Counted, OutOfMem
 mod tests {
     use super::*;
     use crate::add_all::AddAll;
+    use crate::pair_or::AddPairOr;
     use std::test::Fail;
 
     // Whether adding one is kept or not, as asked, answers what the counter was, and leaves it as asked.
@@ -81,6 +82,35 @@ mod tests {
         let (reverted, _) = add_to_ten(rt.alloc(), &[3, u64::MAX])?;
         assert_eq!(rt; (kept, reverted), (Verdict::Keep(()), Verdict::Revert(())));
         assert_eq!(rt; words.as_slice(), [17].as_slice());
+        Ok(())
+    }
+
+    // The verdict on adding 3 and 4, or else 2, to the counter, and the words as the job left them.
+    fn add_pair_to(alloc: Global, was: u64) -> Result<(Verdict<()>, Vec<u64>), OutOfMemory> {
+        let words = Vec::from_slice(alloc, &[was])?;
+        let job = AddPairOr {
+            first: 3,
+            second: 4,
+            other: 2,
+        };
+        let (verdict, plain) = run_on_plain(alloc, CounterShape, words, &job)?;
+        Ok((verdict, plain.into_words()))
+    }
+
+    #[test]
+    fn a_pair_is_added_or_taken_back(rt: HostRuntime) -> Result<(), Fail> {
+        let rows = &[
+            (10, Verdict::Keep(()), 17),
+            (u64::MAX - 7, Verdict::Keep(()), u64::MAX),
+            (u64::MAX - 6, Verdict::Keep(()), u64::MAX - 4),
+            (u64::MAX - 2, Verdict::Keep(()), u64::MAX),
+            (u64::MAX - 1, Verdict::Revert(()), u64::MAX - 1),
+        ];
+        for (was, verdict, left) in rows {
+            let (came, words) = add_pair_to(rt.alloc(), *was)?;
+            assert!(rt; came == *verdict, "at {was}");
+            assert_eq!(rt; words.as_slice(), [*left].as_slice());
+        }
         Ok(())
     }
 }

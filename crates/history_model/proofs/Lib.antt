@@ -3,6 +3,7 @@ pub mod TraceLaws
 pub mod LastEvents
 pub mod FittingLaws
 pub mod UndoLaws
+pub mod MarkLaws
 pub mod ReplayLaws
 pub mod HistoryLaws
 pub mod EndEvents

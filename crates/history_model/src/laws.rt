@@ -3,6 +3,7 @@
 //! A proof cites a law by calling its function, or the lemma of `proofs/` behind it.
 
 ghost use Rattle.history_model.specs.Statements.{AppendedAfter, AppendedLegal, KeptLength, LegalByPlaces, LastEventStands, LastWriteStands, UnwrittenStays, TouchedByLast, WritesUndone, NotedWrite, AppendedReplay, LastReplayed, WordsApart, LongestSeen, LegalPrefix, LegalOneMore, LegalLeavesGood, FewAttempts};
+ghost use Rattle.history_model.specs.Marks.{NotesByParts, NotesCounted, RestUndone, OneNoteMore, WrittenReadsTheSame};
 ghost use Rattle.history_model.specs.ArrangementLaws.{OrderedIsLegal, SameWords, StandsLast, DropsItems};
 ghost use Rattle.std.specs.Prelude.{◌≡◌};
 ghost use Rattle.history_model.specs.declared.TheConstants.{LOCKS};
@@ -57,6 +58,27 @@ pub fn writes_undone()
 /// A write that is noted last and written back first leaves what the earlier notes, written back, leave.
 pub fn noted_write()
     ensures { NotedWrite }
+{}
+
+/// The notes of a trace's front and then those of its rest are the notes of the whole, as many as it has writes.
+pub fn notes_by_parts()
+    ensures parts { NotesByParts }
+    ensures counted { NotesCounted }
+{}
+
+/// The notes of a trace but those of its front, written back newest first, leave what the front leaves.
+pub fn rest_undone()
+    ensures { RestUndone }
+{}
+
+/// A read of a word and a write of it make one note more, of what was read.
+pub fn one_note_more()
+    ensures { OneNoteMore }
+{}
+
+/// A word that a trace wrote is read as the same on every list on which the trace is legal.
+pub fn written_reads_the_same()
+    ensures { WrittenReadsTheSame }
 {}
 
 /// The second part of a history is replayed on what its first part leaves.

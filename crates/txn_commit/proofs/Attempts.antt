@@ -1,20 +1,24 @@
 -- An attempt between two of its calls: what asking for a lock, a load, a store and a halt leave of it.
-use Rattle.std.proofs.Common.{◌≡◌, ◌≢◌, ℕ, zero, suc, ◌+◌, ◌<◌, ◌≤◌, List, [], ◌∷◌, ◌++◌, length, All, true, false, Option, Some, None, Result, Ok, Err, IsOk, OnOk, OnErr, is_err, slice_index, refl, sym, ap, ◌∙◌, subst, arith, length-append}
+use Rattle.std.proofs.Common.{◌≡◌, ◌≢◌, ℕ, zero, suc, ◌+◌, ◌<◌, ◌≤◌, List, [], ◌∷◌, ◌++◌, length, All, true, false, inr, Option, Some, None, Result, Ok, Err, IsOk, OnOk, OnErr, is_err, get_or, slice_get, slice_index, refl, sym, ap, ◌∙◌, subst, arith, length-append}
+use Rattle.std.proofs.lemmas.List.{append-nil}
 use Rattle.std.proofs.lemmas.List.Elements.{All-append}
+use Rattle.std.proofs.lemmas.Option.{slice_get_within, get_or_from_slice_get}
 use Rattle.history_model.specs.declared.entry.Entry.{Entry}
 use Rattle.history_model.specs.declared.entry.Abandoned.{Abandoned}
 use Rattle.history_model.specs.declared.event.Cause.{Cause}
 use Rattle.history_model.specs.declared.event.Event.TheVariants.{Read, Write}
 use Rattle.history_model.specs.declared.view.View.{View}
-use Rattle.history_model.specs.Fitting.{IsGood, SomeFits}
+use Rattle.history_model.specs.Fitting.{Fits, IsGood, SomeFits}
 use Rattle.history_model.specs.Histories.{replay}
 use Rattle.history_model.specs.declared.view.Phase.TheVariants.{Running, Yielding}
 use Rattle.history_model.specs.Locks.{lock_of_word}
+use Rattle.history_model.specs.Marks.{count_writes}
 use Rattle.history_model.specs.Sets.{has_pair}
 use Rattle.history_model.specs.Traces.{Trace}
-use Rattle.history_model.specs.Undoing.{Notes}
-use Rattle.history_model.specs.Views.{number}
-use Rattle.history_model.proofs.FittingLaws.{fits_write}
+use Rattle.history_model.specs.Undoing.{Notes, notes_of}
+use Rattle.history_model.specs.Views.{number, HasWriteGrant}
+use Rattle.history_model.proofs.FittingLaws.{fits_front, fits_write}
+use Rattle.history_model.proofs.MarkLaws.{notes_counted, read_unnoted, write_noted}
 use Rattle.stamps_rule.specs.Stamps.{AreRestartsBounded}
 use Rattle.values_rule.specs.Steps.{store_value_action}
 use Rattle.undo_log.specs.Room.{Room}
@@ -26,7 +30,7 @@ use Rattle.txn_commit.specs.declared.attempt.Asked.TheVariants as asked
 use Rattle.txn_commit.specs.declared.attempt.Halt.{Halt}
 use Rattle.txn_commit.specs.declared.attempt.Halt.TheVariants as halt
 use Rattle.txn_commit.specs.declared.attempt.TheConstants.{UNDO_ROOM}
-use Rattle.txn_commit.specs.Attempts.{GaveWayTo, IsSound, Runs, SameCall, stop_of}
+use Rattle.txn_commit.specs.Attempts.{DidEvents, GaveWayTo, IsSound, Runs, SameCall, stop_of}
 use Rattle.txn_commit.specs.Transactions.{GainsOthers}
 use Rattle.txn_commit.proofs.Footprints.{footprint_events, footprint_loaded, footprint_yields}
 use Rattle.txn_commit.proofs.Others.{gains_history, gains_more, gains_none}
@@ -151,6 +155,48 @@ one_within : (a was n : ℕ) → a < n → All (λ (note : ℕ × ℕ). note.0 <
 one_within a was n lt zero d near = lt
 one_within a was n lt (suc k) d near = absurd (omega arith)
 
+-- each noted word lies under a lock that is held for writing
+abbrev AreGranted : View → Notes → Type 0
+AreGranted v notes = All (λ (note : ℕ × ℕ). HasWriteGrant v (lock_of_word note.0)) notes
+
+one_granted : (v : View) (a was : ℕ) → HasWriteGrant v (lock_of_word a) → AreGranted v ((a, was) ∷ [])
+one_granted v a was granted zero d near = granted
+one_granted v a was granted (suc k) d near = absurd (omega arith)
+
+asks_granted : (a : ℕ) (old new : View) (notes : Notes) → Asks a old new → AreGranted old notes → AreGranted new notes
+asks_granted a old new notes asks granted = λ k d near. (asks.grants (lock_of_word (get_or notes k d).0)).1 (granted k d near)
+
+-- an attempt that loads and stores a word under a lock that it held knows the same of all else
+pub did_load : (events : Trace) (first asked loaded : View) → asked ≡ first → loaded ≡ record asked { trace = events } → DidEvents first loaded
+did_load events first asked loaded same event = subst (λ (v : View). DidEvents first v) (sym (event ∙ ap (λ (v : View). record v { trace = events }) same)) refl
+
+pub did_store : (j a x : ℕ) (first loaded stored : View) → DidEvents first loaded → stored ≡ (store_value_action j a x loaded).view [] 0 → DidEvents first stored
+did_store j a x first loaded stored did step =
+    let more : View = (store_value_action j a x loaded).view [] 0 in
+    subst (λ (v : View). DidEvents first v) (sym step) (ap (λ (v : View). record v { trace = more.trace; undo = more.undo }) did)
+
+pub did_more : (first old new : View) → DidEvents first old → DidEvents old new → DidEvents first new
+did_more first old new did more = more ∙ ap (λ (v : View). record v { trace = new.trace; undo = new.undo }) did
+
+module _ {S : Type 0} (word_count : S → ℕ) (good : S → List ℕ → Type 0) (desk : DeskView S) (began pass : PassView) (log : Room) (halted : Option Halt) (s : IsSound word_count good desk began pass log halted) where
+  -- as many writes are noted as were made
+  pub noted_count : length log.list ≡ count_writes pass.view.trace
+  noted_count = ap (λ (l : Notes). length l) (s.noted s.fits.0 s.fits.1) ∙ notes_counted pass.view.trace s.fits.0
+
+  -- a noted word is one of the shape's, and lies under a lock that is held
+  pub noted_within : (i a was : ℕ) → slice_get log.list i ≡ Some (a, was) → a < word_count desk.shape
+  noted_within i a was e =
+      subst (λ (note : ℕ × ℕ). note.0 < word_count desk.shape) (get_or_from_slice_get log.list i (a, was) (a, was) e) (s.within i (a, was) (slice_get_within log.list i (a, was) e))
+
+  pub noted_granted : (i a was : ℕ) → slice_get log.list i ≡ Some (a, was) → HasWriteGrant pass.view (lock_of_word a)
+  noted_granted i a was e =
+      subst (λ (note : ℕ × ℕ). HasWriteGrant pass.view (lock_of_word note.0)) (get_or_from_slice_get log.list i (a, was) (a, was) e) (s.granted i (a, was) (slice_get_within log.list i (a, was) e))
+
+  -- and the note is that of the write at its place
+  pub noted_there : (i a was : ℕ) → slice_get log.list i ≡ Some (a, was)
+      → (w : List ℕ) → Fits (word_count desk.shape) (good desk.shape) pass.view.trace w → slice_get (notes_of pass.view.trace w) i ≡ Some (a, was)
+  noted_there i a was e w fit = ap (λ (l : Notes). slice_get l i) (sym (s.noted w fit)) ∙ e
+
 module _ {S : Type 0} (word_count : S → ℕ) (good : S → List ℕ → Type 0) (desk : DeskView S) (began : PassView) where
   -- the attempt asked for a lock and gave way
   pub yields_sound : (a : ℕ) (old new : PassView) (log : Room) (cause : Cause) → IsSound word_count good desk began old log None
@@ -165,6 +211,9 @@ module _ {S : Type 0} (word_count : S → ℕ) (good : S → List ℕ → Type 0
     judged = judged;
     log_is = s.log_is ∙ ap (λ (v : View). v.undo) (sym asks.rest);
     within = s.within;
+    noted = λ w fit. s.noted w (subst (λ (t : Trace). Fits (word_count desk.shape) (good desk.shape) t w) (ap (λ (v : View). v.trace) asks.rest) fit)
+        ∙ ap (λ (t : Trace). notes_of t w) (ap (λ (v : View). v.trace) (sym asks.rest));
+    granted = asks_granted a old.view new.view log.list asks s.granted;
     room = s.room;
     memory = λ e. absurd (cc);
     fits = subst (λ (t : Trace). SomeFits (word_count desk.shape) (good desk.shape) t) (ap (λ (v : View). v.trace) (sym asks.rest)) s.fits;
@@ -181,9 +230,10 @@ module _ {S : Type 0} (word_count : S → ℕ) (good : S → List ℕ → Type 0
   -- the attempt did something to words
   pub events_sound : (trace : Trace) (notes : Notes) (old new : PassView) (log later : Room) → IsSound word_count good desk began old log None
       → new.table ≡ old.table → new.view ≡ with_events trace notes old.view → later.list ≡ notes
-      → All (λ note. note.0 < word_count desk.shape) later.list → UNDO_ROOM ≤ later.spare + length later.list
+      → All (λ note. note.0 < word_count desk.shape) later.list
+      → ((w : List ℕ) → Fits (word_count desk.shape) (good desk.shape) trace w → notes ≡ notes_of trace w) → AreGranted old.view notes → UNDO_ROOM ≤ later.spare + length later.list
       → ReadsHistory (IsGood (word_count desk.shape) (good desk.shape)) desk.seats desk.base new.view → (more : Trace) → trace ≡ old.view.trace ++ more → IsSound word_count good desk began new later None
-  events_sound trace notes old new log later s table e list within room fits more longer = record {
+  events_sound trace notes old new log later s table e list within noted granted room fits more longer = record {
     table = table ∙ s.table;
     words = ap (λ (v : View). length v.base) e ∙ s.words;
     call = same_call began.view old.view new.view s.call (events_same_call trace notes old.view new.view e);
@@ -191,6 +241,9 @@ module _ {S : Type 0} (word_count : S → ℕ) (good : S → List ℕ → Type 0
     judged = ap (λ (v : View). v.met) e ∙ s.judged;
     log_is = list ∙ ap (λ (v : View). v.undo) (sym e);
     within = within;
+    noted = λ w fit. list ∙ noted w (subst (λ (t : Trace). Fits (word_count desk.shape) (good desk.shape) t w) (ap (λ (v : View). v.trace) e) fit)
+        ∙ ap (λ (t : Trace). notes_of t w) (sym (ap (λ (v : View). v.trace) e));
+    granted = subst (λ (v : View). AreGranted v later.list) (sym e) (subst (λ (l : Notes). AreGranted old.view l) (sym list) granted);
     room = room;
     memory = λ h. absurd (cc);
     fits = some_fits (word_count desk.shape) (good desk.shape) desk.seats desk.base new.view fits;
@@ -211,6 +264,8 @@ module _ {S : Type 0} (word_count : S → ℕ) (good : S → List ℕ → Type 0
     judged = s.judged;
     log_is = s.log_is;
     within = s.within;
+    noted = s.noted;
+    granted = s.granted;
     room = s.room;
     memory = λ e. full;
     fits = s.fits;
@@ -219,16 +274,19 @@ module _ {S : Type 0} (word_count : S → ℕ) (good : S → List ℕ → Type 0
   }
 
   -- a word that was just loaded was noted and stored
-  pub store_sound : (a x was : ℕ) (before : Trace) (old new : PassView) (log later : Room) → IsSound word_count good desk began old log None → a < word_count desk.shape
+  pub store_sound : (a x was : ℕ) (before : Trace) (old new : PassView) (log later : Room) → IsSound word_count good desk began old log None → a < word_count desk.shape → HasWriteGrant old.view (lock_of_word a)
       → old.view.trace ≡ before ++ Read a was ∷ []
       → new.table ≡ old.table → new.view ≡ (store_value_action (number old.view) a x old.view).view [] 0
       → new.view.undo ≡ old.view.undo ++ (a, was) ∷ []
       → later.list ≡ log.list ++ (a, was) ∷ [] → log.spare ≤ later.spare + 1 → IsSound word_count good desk began new later None
-  store_sound a x was before old new log later s within last table step noted list spare =
+  store_sound a x was before old new log later s within granted last table step noted list spare =
       events_sound (old.view.trace ++ Write a x ∷ []) (old.view.undo ++ (a, was) ∷ []) old new log later s table
       (step ∙ ap (λ (n : Notes). with_events (old.view.trace ++ Write a x ∷ []) n old.view) (sym (ap (λ (v : View). v.undo) step) ∙ noted))
       (list ∙ ap (λ (l : Notes). l ++ (a, was) ∷ []) s.log_is)
       (subst (λ (l : Notes). All (λ note. note.0 < word_count desk.shape) l) (sym list) (All-append (λ note. note.0 < word_count desk.shape) log.list ((a, was) ∷ []) s.within (one_within a was (word_count desk.shape) within)))
+      (λ w fit. ap (λ (l : Notes). l ++ (a, was) ∷ []) (sym s.log_is ∙ s.noted w (fits_front (word_count desk.shape) (good desk.shape) old.view.trace (Write a x ∷ []) w fit))
+      ∙ sym (write_noted before old.view.trace w a was x last fit.legal))
+      (All-append (λ (note : ℕ × ℕ). HasWriteGrant old.view (lock_of_word note.0)) old.view.undo ((a, was) ∷ []) (subst (λ (l : Notes). AreGranted old.view l) s.log_is s.granted) (one_granted old.view a was granted))
       (let long : length later.list ≡ length log.list + 1 = ap (λ (l : Notes). length l) list ∙ length-append log.list ((a, was) ∷ []) in let room = s.room in omega arith)
       (subst (λ (v : View). ReadsHistory (IsGood (word_count desk.shape) (good desk.shape)) desk.seats desk.base v) (sym step)
       (reads_write (word_count desk.shape) (good desk.shape) desk.seats desk.base (number old.view) a x old.view (s.current s.stands.phase))) (Write a x ∷ []) refl
@@ -249,9 +307,25 @@ module _ {S : Type 0} (word_count : S → ℕ) (good : S → List ℕ → Type 0
         judged = ap (λ (v : View). v.met) event ∙ judged;
         log_is = s.log_is ∙ (ap (λ (v : View). v.undo) (sym asks.rest) ∙ ap (λ (v : View). v.undo) (sym event));
         within = s.within;
+        noted = λ w fit.
+            let longer : new.view.trace ≡ old.view.trace ++ Read a x ∷ [] = ap (λ (v : View). v.trace) event ∙ ap (λ (t : Trace). t ++ Read a x ∷ []) (ap (λ (v : View). v.trace) asks.rest) in
+            s.noted w (fits_front (word_count desk.shape) (good desk.shape) old.view.trace (Read a x ∷ []) w (subst (λ (t : Trace). Fits (word_count desk.shape) (good desk.shape) t w) longer fit))
+            ∙ sym (ap (λ (t : Trace). notes_of t w) longer ∙ read_unnoted old.view.trace w a x);
+        granted = subst (λ (v : View). AreGranted v log.list) (sym event) (asks_granted a old.view mid.view log.list asks s.granted);
         room = s.room;
         memory = λ e. absurd (cc);
         fits = some_fits (word_count desk.shape) (good desk.shape) desk.seats desk.base new.view fits;
         current = λ runs. fits;
         footprint = footprint_loaded a x old.view mid.view new.view asks went event s.footprint;
       }
+
+-- an attempt that asks for no lock
+pub asks_none : (a : ℕ) (v : View) → Asks a v v
+asks_none a v = record {
+  rest = refl;
+  stamped = λ drawn. refl;
+  unmet = λ same. (refl, refl);
+  asked = λ b. (λ h. h, λ h. inr h);
+  meetings = ([], sym (append-nil v.meetings), λ l j i. absurd (cc (i.1)));
+  grants = λ k. (λ h. h, λ h. h);
+}

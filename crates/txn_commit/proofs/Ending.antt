@@ -12,8 +12,10 @@ use Rattle.history_model.specs.Legal.{IsPrefix, AreAttemptsLegal}
 use Rattle.history_model.specs.Table.{history_of}
 use Rattle.history_model.specs.Histories.{replay}
 use Rattle.history_model.specs.Traces.{Trace, after, IsLegalTrace}
+use Rattle.history_model.specs.Locks.{lock_of_word}
 use Rattle.history_model.specs.Sets.{has}
-use Rattle.history_model.specs.Views.{number}
+use Rattle.history_model.specs.Undoing.{Notes, notes_of}
+use Rattle.history_model.specs.Views.{number, HasWriteGrant}
 use Rattle.history_model.proofs.SetLemmas.{has-join_same}
 use Rattle.locks_rule.specs.Actions.{Action}
 use Rattle.stamps_rule.specs.Stamps.{AreRestartsBounded}
@@ -91,6 +93,14 @@ still_reads good n base old new seen trace r = record {
 none_within : (n : ℕ) → All (λ (note : ℕ × ℕ). note.0 < n) []
 none_within n k d lt = absurd (omega arith)
 
+-- no note, as no event
+pub none_noted : (n : ℕ) (good : List ℕ → Type 0) (notes : Notes) (t : Trace) → notes ≡ [] → t ≡ [] → (w : List ℕ) → Fits n good t w → notes ≡ notes_of t w
+unfolding notes_of
+none_noted n good notes t none fresh w fit = none ∙ sym (ap (λ (u : Trace). notes_of u w) fresh)
+
+pub none_granted : (v : View) (notes : Notes) → notes ≡ [] → All (λ (note : ℕ × ℕ). HasWriteGrant v (lock_of_word note.0)) notes
+none_granted v notes none = subst (λ (l : Notes). All (λ (note : ℕ × ℕ). HasWriteGrant v (lock_of_word note.0)) l) (sym none) (λ k d lt. absurd (omega arith))
+
 -- a call was begun, and has done nothing yet
 pub begins_sound : {S : Type 0} (word_count : S → ℕ) (good : S → List ℕ → Type 0) (desk : DeskView S) (old : View) (began new : PassView) (log : Room)
     → began ≡ new → new.table ≡ desk.table → length old.base ≡ word_count desk.shape → new.view ≡ (begin_call_action (number old) old).view [] 0
@@ -110,6 +120,8 @@ begins_sound word_count good desk old began new log same table words step empty 
   judged = ap (λ (v : View). v.met) step;
   log_is = empty ∙ ap (λ (v : View). v.undo) (sym step);
   within = subst (λ (l : List (ℕ × ℕ)). All (λ note. note.0 < word_count desk.shape) l) (sym empty) (none_within (word_count desk.shape));
+  noted = none_noted (word_count desk.shape) (good desk.shape) log.list new.view.trace empty (ap (λ (v : View). v.trace) step);
+  granted = none_granted new.view log.list empty;
   room = let none : length log.list ≡ 0 = ap (λ (l : List (ℕ × ℕ)). length l) empty in omega arith;
   memory = λ e. absurd (cc);
   fits = some_fits (word_count desk.shape) (good desk.shape) desk.seats desk.base new.view fits;

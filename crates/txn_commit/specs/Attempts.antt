@@ -4,8 +4,10 @@ use Rattle.history_model.specs.declared.entry.Abandoned.{Abandoned}
 use Rattle.history_model.specs.declared.event.Cause.{Cause}
 use Rattle.history_model.specs.declared.view.View.{View}
 use Rattle.history_model.specs.declared.view.Phase.TheVariants.{Running, Yielding}
-use Rattle.history_model.specs.Fitting.{IsGood, SomeFits}
-use Rattle.history_model.specs.Views.{number}
+use Rattle.history_model.specs.Fitting.{Fits, IsGood, SomeFits}
+use Rattle.history_model.specs.Locks.{lock_of_word}
+use Rattle.history_model.specs.Undoing.{notes_of}
+use Rattle.history_model.specs.Views.{number, HasWriteGrant}
 use Rattle.stamps_rule.specs.Causes.{newest, past_causes}
 use Rattle.stamps_rule.specs.Stamps.{AreRestartsBounded}
 use Rattle.txn_words.specs.declared.words.Stop.{Stop}
@@ -58,6 +60,10 @@ StandsAs n None began now = Runs began now
 StandsAs n (Some (halt.Yield cause)) began now = GaveWayTo n cause began now
 StandsAs n (Some halt.Memory) began now = Runs began now
 
+-- the attempt did something to words, and the pass knows the same of all else: it holds the same locks, and asked for no other
+abbrev pub DidEvents : View → View → Type 0
+DidEvents old new = new ≡ record old { trace = new.trace; undo = new.undo }
+
 -- an attempt over this desk and pass, with this undo log; word_count and good are those of the shape
 pub record IsSound {S : Type 0} (word_count : S → ℕ) (good : S → List ℕ → Type 0) (desk : DeskView S) (began pass : PassView) (log : Room) (halted : Option Halt) : Type 0 where
   pub table : pass.table ≡ desk.table
@@ -68,6 +74,9 @@ pub record IsSound {S : Type 0} (word_count : S → ℕ) (good : S → List ℕ 
   -- the log has the notes of all writes, and room for so many
   pub log_is : log.list ≡ pass.view.undo
   pub within : All (λ note. note.0 < word_count desk.shape) log.list
+  -- on whatever good list the trace is legal, and their words lie under locks that are held for writing
+  pub noted : (s : List ℕ) → Fits (word_count desk.shape) (good desk.shape) pass.view.trace s → log.list ≡ notes_of pass.view.trace s
+  pub granted : All (λ note. HasWriteGrant pass.view (lock_of_word note.0)) log.list
   pub room : UNDO_ROOM ≤ log.spare + length log.list
   -- no memory was found only where that room was full
   pub memory : halted ≡ Some halt.Memory → UNDO_ROOM ≤ length log.list

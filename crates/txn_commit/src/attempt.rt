@@ -1,18 +1,22 @@
 //! One attempt of a transaction, as the words that its job reads and writes.
 
-ghost use Rattle.std.specs.Prelude.{◌≡◌, ◌≢◌, ◌<◌, [], length, true};
+ghost use Rattle.std.specs.Prelude.{◌≡◌, ◌≢◌, ◌+◌, ◌<◌, ◌≤◌, [], None, length, true, OnOk, OnErr};
 ghost use Rattle.history_model.specs.Locks.{lock_of_word};
 ghost use Rattle.history_model.specs.Sets.{has_pair};
 ghost use Rattle.history_model.specs.Views.{number, HasWriteGrant, IsGranted};
 ghost use Rattle.lock_or_yield.specs.Asking.{Asks, AsksToRead, AsksToWrite, WentOn};
-ghost use Rattle.txn_commit.specs.Attempts.{GaveWayTo};
+ghost use Rattle.history_model.specs.Marks.{count_writes};
+ghost use Rattle.history_model.specs.Traces.{Begins};
+ghost use Rattle.txn_words.specs.Marks.{PutsBack, TakesBack};
+ghost use Rattle.txn_commit.specs.Attempts.{DidEvents, GaveWayTo, IsSound};
 ghost use Rattle.txn_commit.specs.Transactions.{GainsOthers};
 
 use history_model::{Cause, Phase, Shape, lock_of};
+use io_ends::OutOfMemory;
 use lock_or_yield::{Got, want_read, want_write};
 use std::snapshot::Snapshot;
 use std::sync::Wait;
-use txn_words::{Stop, Words};
+use txn_words::{Mark, Stop, Words};
 use undo_log::UndoLog;
 use word_table::{Desk, Pass};
 use worker_gate::{Gate, Point, Stage};
@@ -141,14 +145,72 @@ pub(crate) fn tell<S: Shape, G: Gate, R: Wait>(attempt: &Attempt<S, G, R>, stage
     attempt.gate.at(attempt.rt, attempt.caller.at(stage));
 }
 
+// Writes the value back that was noted of one write. Its word lies under a lock that is held, so it asks for none.
+fn put_back<S: Shape>(
+    desk: &Desk<S>,
+    pass: &mut Pass<S>,
+    undo: &mut UndoLog,
+    began: &Snapshot<Pass<S>>,
+    place: usize,
+) -> Result<(), OutOfMemory>
+    requires place { place < count_writes pass.old.view.trace }
+    requires sound { IsSound S.word_count S.good desk.now began.now.value pass.old undo.old None }
+    ensures back { OnOk result (PutsBack (S.word_count desk.now.shape) (S.good desk.now.shape) place
+        pass.old.view.trace pass.new.view.trace) }
+    ensures begins { Begins pass.old.view.trace pass.new.view.trace }
+    ensures sound { IsSound S.word_count S.good desk.now began.now.value pass.new undo.new None }
+    ensures events { DidEvents pass.old.view pass.new.view }
+    ensures full { OnErr result (UNDO_ROOM ≤ length undo.new.list) }
+    ensures memory { OnErr result (undo.old.spare ≡ 0) }
+    ensures spare { undo.old.spare ≤ undo.new.spare + 1 }
+{
+    let (a, old) = undo.at(place);
+    let now = desk.load(pass, a);
+    if undo.note(a, now).is_err() {
+        return Err(OutOfMemory);
+    }
+    desk.store(pass, a, old);
+    Ok(())
+}
+
+// Writes the noted values back down to a place, newest first. It waits for nobody.
+fn go_back<S: Shape>(
+    desk: &Desk<S>,
+    pass: &mut Pass<S>,
+    undo: &mut UndoLog,
+    began: &Snapshot<Pass<S>>,
+    to: usize,
+) -> Result<(), OutOfMemory>
+    requires mark { to ≤ count_writes pass.old.view.trace }
+    requires sound { IsSound S.word_count S.good desk.now began.now.value pass.old undo.old None }
+    ensures back { OnOk result (TakesBack (S.word_count desk.now.shape) (S.good desk.now.shape) to
+        pass.old.view.trace pass.new.view.trace) }
+    ensures begins { Begins pass.old.view.trace pass.new.view.trace }
+    ensures sound { IsSound S.word_count S.good desk.now began.now.value pass.new undo.new None }
+    ensures events { DidEvents pass.old.view pass.new.view }
+    ensures full { OnErr result (UNDO_ROOM ≤ length undo.new.list) }
+    ensures memory { OnErr result (to + undo.old.spare < count_writes pass.old.view.trace) }
+{
+    let mut place = undo.len();
+    while place > to {
+        place -= 1;
+        if put_back(desk, pass, undo, began, place).is_err() {
+            return Err(OutOfMemory);
+        }
+    }
+    Ok(())
+}
+
 impl<'a, S: Shape, G: Gate, R: Wait> Words for Attempt<'a, S, G, R> {
-    ghost use Rattle.std.specs.Prelude.{◌≡◌, ◌≢◌, ◌<◌, ◌++◌, ◌∷◌, [], None, Err, IfOk, OnOk};
+    ghost use Rattle.std.specs.Prelude.{◌≡◌, ◌≢◌, ◌+◌, ◌<◌, ◌≤◌, ◌++◌, ◌∷◌, [], None, Err, IfOk, OnOk};
     ghost use Rattle.history_model.specs.declared.event.Event.TheVariants.{Read};
     ghost use Rattle.history_model.specs.Traces.{Begins};
     ghost use Rattle.lock_or_yield.specs.Asking.{GainsAtMost};
-    ghost use Rattle.txn_words.specs.declared.words.Stop.TheVariants.{Memory};
+    ghost use Rattle.txn_words.specs.declared.words.Stop.TheVariants.{Memory, Yield};
+    ghost use Rattle.history_model.specs.Marks.{count_writes};
+    ghost use Rattle.txn_words.specs.Marks.{TakesBack};
     ghost use Rattle.txn_words.specs.Steps.{EndsWithWrite, stop_after};
-    ghost use Rattle.txn_commit.specs.Attempts.{IsSound, start_of, stop_of};
+    ghost use Rattle.txn_commit.specs.Attempts.{DidEvents, IsSound, start_of, stop_of};
 
     type Shape = S;
 
@@ -243,6 +305,60 @@ impl<'a, S: Shape, G: Gate, R: Wait> Words for Attempt<'a, S, G, R> {
         }
         self.desk.store(self.pass, a, v);
         Ok(())
+    }
+
+    /// How many writes the attempt has noted.
+    fn mark(&mut self) -> Mark
+        requires going { stop_of self.old.halt ≡ None }
+        requires sound { IsSound S.word_count S.good self.old.desk.now self.old.began.value
+            self.old.pass.now self.old.undo self.old.halt }
+        ensures writes { result.writes ≡ count_writes self.old.pass.now.view.trace }
+        ensures trace { self.new.pass.now.view.trace ≡ self.old.pass.now.view.trace }
+        ensures going { stop_of self.new.halt ≡ None }
+        ensures shape { self.new.desk.now.shape ≡ self.old.desk.now.shape }
+        ensures origin { start_of self.new.desk.now self.new.pass.ghost_name self.new.began.value
+            ≡ start_of self.old.desk.now self.old.pass.ghost_name self.old.began.value }
+        ensures sound { IsSound S.word_count S.good self.new.desk.now self.new.began.value
+            self.new.pass.now self.new.undo self.new.halt }
+
+        ensures same { self.new.pass.now ≡ self.old.pass.now }
+        ensures log { self.new.undo ≡ self.old.undo }
+    {
+        Mark {
+            writes: self.undo.len(),
+        }
+    }
+
+    /// Writes the noted values back down to the mark, newest first, each as a write that is noted itself. All these
+    /// words lie under locks that the attempt holds, so it asks for none and gives none up. It finds no memory only
+    /// where the undo log has not the spare room for so many.
+    fn back_to(&mut self, m: Mark) -> Result<(), Stop>
+        requires mark { m.writes ≤ count_writes self.old.pass.now.view.trace }
+        requires going { stop_of self.old.halt ≡ None }
+        requires sound { IsSound S.word_count S.good self.old.desk.now self.old.began.value
+            self.old.pass.now self.old.undo self.old.halt }
+        ensures back { OnOk result (TakesBack (S.word_count self.old.desk.now.shape) (S.good self.old.desk.now.shape)
+            m.writes self.old.pass.now.view.trace self.new.pass.now.view.trace) }
+        ensures begins { Begins self.old.pass.now.view.trace self.new.pass.now.view.trace }
+        ensures stops { stop_of self.new.halt ≡ stop_after result }
+        ensures shape { self.new.desk.now.shape ≡ self.old.desk.now.shape }
+        ensures origin { start_of self.new.desk.now self.new.pass.ghost_name self.new.began.value
+            ≡ start_of self.old.desk.now self.old.pass.ghost_name self.old.began.value }
+        ensures sound { IsSound S.word_count S.good self.new.desk.now self.new.began.value
+            self.new.pass.now self.new.undo self.new.halt }
+        ensures never_yields { result ≢ Err Yield }
+
+        ensures memory { count_writes self.old.pass.now.view.trace ≤ m.writes + self.old.undo.spare
+            → result ≢ Err Memory }
+        ensures events { DidEvents self.old.pass.now.view self.new.pass.now.view }
+    {
+        match go_back(self.desk, self.pass, &mut self.undo, &self.began, m.writes) {
+            Ok(()) => Ok(()),
+            Err(_) => {
+                self.halt = Some(Halt::Memory);
+                Err(Stop::Memory)
+            }
+        }
     }
 
     ghost fits = { λ a h. h.fits };

@@ -1,5 +1,6 @@
 -- From what a call on words did to what holds after it.
 use Rattle.std.proofs.Common.{◌≡◌, ℕ, List, [], Option, Some, None, Result, Ok, Err, refl, sym, ◌∙◌, subst}
+use Rattle.std.proofs.lemmas.List.{append-nil}
 use Rattle.history_model.specs.declared.shape.Shape.{Ghosts as Shapes}
 use Rattle.history_model.specs.Traces.{after, Begins}
 use Rattle.history_model.specs.Fitting.{Fits, InEach, Leads}
@@ -92,3 +93,21 @@ module _ {W S O A B : Type 0} {words : AnyWords W S O} {v w : W} {r : Result A S
     stops = stops;
     sound = goes.sound;
   }
+
+module _ {W S O : Type 0} (words : AnyWords W S O) (shapes : Shapes S) where
+  -- what a call leads to that came right after a mark was taken
+  pub leads_marked : (u v w : W) (R : List ℕ → List ℕ → Type 0) → words.shape v ≡ words.shape u → words.trace v ≡ words.trace u → LeadsTo words shapes v w R → LeadsTo words shapes u w R
+  leads_marked u v w R shape same h = record {
+    at = λ s fit. subst (λ t. R (after t s) (after (words.trace w) s)) same ((leads_at shapes.word_count shapes.good (words.trace v) (words.trace w) R (words.shape v) (words.shape u) shape (leads_plain words shapes v w R h)).at s fit);
+  }
+
+-- taking a mark goes on
+pub goes_marked : {W S O : Type 0} {words : AnyWords W S O} {v w : W} → words.trace w ≡ words.trace v → words.stop w ≡ None → words.shape w ≡ words.shape v → words.origin w ≡ words.origin v → words.is_sound w
+    → GoesOn words v w (answer_with None)
+goes_marked same going shape origin sound = record {
+  shape = shape;
+  origin = origin;
+  begins = ([], same ∙ sym (append-nil _));
+  stops = going;
+  sound = sound;
+}

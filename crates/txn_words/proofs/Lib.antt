@@ -4,3 +4,4 @@ pub mod Listed
 pub mod FrameLaws
 pub mod ReadLaws
 pub mod Looks
+pub mod GoingBack

@@ -1,18 +1,48 @@
 -- Words in a plain list, after one event more.
-use Rattle.std.proofs.Common.{◌≡◌, ℕ, ◌<◌, get_or, refl, List, [], ◌∷◌, ◌++◌, length, slice_get, slice_set, slice_index, Option, Some, sym, ap, ◌∙◌}
-use Rattle.std.proofs.lemmas.Option.{slice_get_read, get_or_from_slice_get}
+use Rattle.std.proofs.Common.{◌≡◌, ℕ, zero, suc, ◌<◌, get_or, refl, List, [], ◌∷◌, ◌++◌, length, All, slice_get, slice_set, slice_index, Option, Some, Bool, true, false, if◌then◌else◌, Result, Ok, Err, OnOk, sym, ap, ◌∙◌, subst, arith}
+use Rattle.std.proofs.lemmas.List.Elements.{All-append}
+use Rattle.std.proofs.lemmas.Option.{slice_get_read, slice_get_within, get_or_from_slice_get}
 use Rattle.txn_words.specs.declared.words.Stop.{Stop}
 use Rattle.history_model.specs.declared.event.Event.TheVariants.{Read, Write}
-use Rattle.history_model.specs.Traces.{Trace}
-use Rattle.history_model.proofs.TraceLaws.{legal_read, legal_write, after_read, after_write, length-after}
-use Rattle.history_model.specs.Undoing.{Notes, written_back}
-use Rattle.history_model.proofs.UndoLaws.{noted_word, noted_write}
+use Rattle.history_model.specs.Traces.{Trace, after, IsLegalTrace}
+use Rattle.history_model.specs.Fitting.{IsGood, Fits}
+use Rattle.history_model.specs.Undoing.{Notes, notes_of, written_back}
+use Rattle.history_model.specs.Marks.{count_writes}
+use Rattle.history_model.proofs.TraceLaws.{legal_read, legal_whole, after_read, after-append, length-after}
+use Rattle.history_model.proofs.FittingLaws.{fits_front}
+use Rattle.history_model.proofs.UndoLaws.{writes_undone}
+use Rattle.history_model.proofs.MarkLaws.{notes_counted, one_note_more, read_unnoted}
 use Rattle.txn_words.specs.Plainly.{PlainView, Follows}
+
+one_within : (a was n : ℕ) → a < n → All (λ (note : ℕ × ℕ). note.0 < n) ((a, was) ∷ [])
+one_within a was n lt zero d near = lt
+one_within a was n lt (suc k) d near = absurd (omega arith)
+
+-- words that nothing was done to
+pub follows_fresh : (n : ℕ) (G : List ℕ → Type 0) (origin : List ℕ) (t : Trace) (notes : Notes) (words : List ℕ) → IsGood n G words → t ≡ [] → notes ≡ [] → origin ≡ words → Follows n G origin t notes words
+unfolding after notes_of IsLegalTrace
+follows_fresh n G origin t notes words good fresh none same = record {
+  fits = subst (λ (u : Trace). Fits n G u origin) (sym fresh) (subst (λ (w : List ℕ). Fits n G [] w) (sym same) (record { count = good.count; good = good.good; legal = tt }));
+  same = sym same ∙ ap (λ (u : Trace). after u origin) (sym fresh);
+  noted = λ s fit. none ∙ ap (λ (u : Trace). notes_of u s) (sym fresh);
+  within = subst (λ (l : Notes). All (λ note. note.0 < n) l) (sym none) (λ k d lt. absurd (omega arith));
+}
 
 module _ (n : ℕ) (G : List ℕ → Type 0) (origin : List ℕ) (t : Trace) (notes : Notes) (words : List ℕ) (f : Follows n G origin t notes words) where
   -- there are as many words as the shape says
   pub follows_count : length words ≡ n
   follows_count = ap length f.same ∙ length-after t origin ∙ f.fits.count
+
+  -- and as many notes as writes
+  pub follows_noted : length notes ≡ count_writes t
+  follows_noted = ap length (f.noted origin f.fits) ∙ notes_counted t origin
+
+  -- written back they restore the list
+  pub follows_restores : written_back notes words ≡ origin
+  follows_restores =
+      ap (λ (l : Notes). written_back l words) (f.noted origin f.fits)
+      ∙ ap (λ (w : List ℕ). written_back (notes_of t origin) w) f.same
+      ∙ writes_undone t origin
 
   -- a read of the value that is there
   pub follows_read : (a v : ℕ) → slice_get words a ≡ Some v → Follows n G origin (t ++ Read a v ∷ []) notes words
@@ -23,23 +53,22 @@ module _ (n : ℕ) (G : List ℕ → Type 0) (origin : List ℕ) (t : Trace) (no
       legal = legal_read t origin a v f.fits.legal (ap (λ xs. slice_get xs a) (sym f.same) ∙ found);
     };
     same = f.same ∙ sym (after_read t origin a v);
-    restores = f.restores;
+    noted = λ s fit. f.noted s (fits_front n G t (Read a v ∷ []) s fit) ∙ sym (read_unnoted t s a v);
+    within = f.within;
   }
 
-  -- the old value noted, and nothing written
-  pub follows_note : (a old : ℕ) → old ≡ slice_index words a → Follows n G origin t (notes ++ (a, old) ∷ []) words
-  follows_note a old is = record {
-    fits = f.fits;
-    same = f.same;
-    restores = ap (λ z. written_back (notes ++ (a, z) ∷ []) words) is ∙ noted_word notes words a ∙ f.restores;
-  }
-
-  -- a write, to the trace, to the notes and to the words
-  pub follows_write : (a old v : ℕ) → old ≡ slice_index words a → Follows n G origin (t ++ Write a v ∷ []) (notes ++ (a, old) ∷ []) (slice_set words a v)
-  follows_write a old v is = record {
-    fits = record { count = f.fits.count; good = f.fits.good; legal = legal_write t origin a v f.fits.legal };
-    same = ap (λ xs. slice_set xs a v) f.same ∙ sym (after_write t origin a v);
-    restores = ap (λ z. written_back (notes ++ (a, z) ∷ []) (slice_set words a v)) is ∙ noted_write notes words a v ∙ f.restores;
+  -- a read of the value that is there and a write, to the trace, to the notes and to the words
+  pub follows_write : (a was v : ℕ) → a < n → slice_get words a ≡ Some was → Follows n G origin (t ++ Read a was ∷ Write a v ∷ []) (notes ++ (a, was) ∷ []) (slice_set words a v)
+  unfolding after IsLegalTrace
+  follows_write a was v lt found = record {
+    fits = record {
+      count = f.fits.count;
+      good = f.fits.good;
+      legal = legal_whole t (Read a was ∷ Write a v ∷ []) origin f.fits.legal (ap (λ xs. slice_get xs a) (sym f.same) ∙ found, tt);
+    };
+    same = ap (λ xs. slice_set xs a v) f.same ∙ sym (after-append t (Read a was ∷ Write a v ∷ []) origin);
+    noted = λ s fit. ap (λ (l : Notes). l ++ (a, was) ∷ []) (f.noted s (fits_front n G t (Read a was ∷ Write a v ∷ []) s fit)) ∙ sym (one_note_more t s a was v fit.legal);
+    within = All-append (λ note. note.0 < n) notes ((a, was) ∷ []) f.within (one_within a was n lt);
   }
 
 -- what an index gave is the number there
@@ -52,3 +81,37 @@ shape_of view = view.shape
 
 abbrev pub stop_of : {S : Type 0} → PlainView S → Option Stop
 stop_of view = view.stop
+
+-- a noted word is one of the shape's
+pub note_within : (n : ℕ) (notes : Notes) (i : ℕ) (note : ℕ × ℕ) → All (λ (x : ℕ × ℕ). x.0 < n) notes → slice_get notes i ≡ Some note → note.0 < n
+note_within n notes i note all e = subst (λ (x : ℕ × ℕ). x.0 < n) (get_or_from_slice_get notes i note note e) (all i note (slice_get_within notes i note e))
+
+abbrev pub trace_of : {S : Type 0} → PlainView S → Trace
+trace_of view = view.trace
+
+abbrev pub origin_of : {S : Type 0} → PlainView S → List ℕ
+origin_of view = view.origin
+
+-- a view whose trace has grown
+pub grows : {S : Type 0} (p q : PlainView S) (t more : Trace) → p ≡ q → t ≡ p.trace ++ more → record p { trace = t } ≡ record q { trace = q.trace ++ more }
+grows {S} p q t more e f = ap (λ (u : Trace). record p { trace = u }) f ∙ ap (λ (z : PlainView S). record z { trace = z.trace ++ more }) e
+
+pub same_more : {S : Type 0} (p q r : PlainView S) → q ≡ record p { trace = q.trace } → r ≡ record q { trace = r.trace } → r ≡ record p { trace = r.trace }
+same_more {S} p q r e f = f ∙ ap (λ (z : PlainView S). record z { trace = r.trace }) e
+
+-- what was noted of a write, on every list on which the trace is legal
+pub noted_at : {S : Type 0} (count : S → ℕ) (good : S → List ℕ → Type 0) (p q : PlainView S) (notes : Notes) (i : ℕ) (note : ℕ × ℕ) → p ≡ q
+    → ((s : List ℕ) → Fits (count p.shape) (good p.shape) p.trace s → notes ≡ notes_of p.trace s) → slice_get notes i ≡ Some note
+    → (s : List ℕ) → Fits (count q.shape) (good q.shape) q.trace s → slice_get (notes_of q.trace s) i ≡ Some note
+noted_at {S} count good p q notes i note e noted there =
+    subst (λ (z : PlainView S). (s : List ℕ) → Fits (count z.shape) (good z.shape) z.trace s → slice_get (notes_of z.trace s) i ≡ Some note) e
+    (λ s fit. ap (λ (l : Notes). slice_get l i) (sym (noted s fit)) ∙ there)
+
+-- a push that found room
+pub pushed : {X : Type 0} (made : Bool) (new old : List X) (x : X) → new ≡ (if made then old ++ x ∷ [] else old) → made ≡ true → new ≡ old ++ x ∷ []
+pushed true new old x e k = e
+pushed false new old x e k = absurd (cc)
+
+pub map_ok : {A E P Q : Type 0} (r : Result A E) → (P → Q) → OnOk r P → OnOk r Q
+map_ok (Ok x) f p = f p
+map_ok (Err x) f p = p

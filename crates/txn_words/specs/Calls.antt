@@ -8,6 +8,8 @@ use Rattle.txn_words.specs.declared.words.Stop.{Stop}
 use Rattle.txn_words.specs.declared.words.Words.{Ghosts as AnyWords}
 use Rattle.txn_words.specs.Steps.{stop_after}
 use Rattle.txn_words.specs.Frames.{AppendsOnly, AppendsReads}
+use Rattle.history_model.specs.Marks.{count_writes}
+use Rattle.txn_words.specs.Marks.{TakesBack}
 
 module _ {W S O : Type 0} (words : AnyWords W S O) where
   -- a call may be made
@@ -48,3 +50,12 @@ module _ {W S O : Type 0} (words : AnyWords W S O) where
     -- what a call reads, likewise
     pub record ReadsWithin (old new : W) (IsSeen : List ℕ → List ℕ → ℕ → Type 0) : Type 0 where
       pub at : (s : List ℕ) → Fits (shapes.word_count (words.shape old)) (shapes.good (words.shape old)) (words.trace new) s → AppendsReads (words.trace old) (words.trace new) (IsSeen (after (words.trace old) s) (after (words.trace new) s))
+
+    -- the law of marks: after going back to a mark that was taken where a front of the trace ended, the words are in each
+    -- state what they were at the mark
+    abbrev pub SameAsAtMark : Type 0
+    SameAsAtMark =
+        (marked old new : W)
+        → words.shape old ≡ words.shape marked → Begins (words.trace marked) (words.trace old) → Begins (words.trace old) (words.trace new)
+        → TakesBack (shapes.word_count (words.shape old)) (shapes.good (words.shape old)) (count_writes (words.trace marked)) (words.trace old) (words.trace new)
+        → LeadsTo marked new (λ before now. now ≡ before)

@@ -14,4 +14,4 @@ pub mod words;
 pub use job::{Job, Verdict};
 pub use on_plain::run_on_plain;
 pub use plain::Plain;
-pub use words::{Stop, Words};
+pub use words::{Mark, Stop, Words};

@@ -1,13 +1,15 @@
 //! Words in a plain list.
 
-ghost use Rattle.std.specs.Prelude.{◌≡◌, ◌<◌, ◌++◌, ◌∷◌, [], None, length, slice_set, OnOk, OnErr};
-ghost use Rattle.history_model.specs.declared.event.Event.TheVariants.{Write};
-ghost use Rattle.history_model.specs.Traces.{after, IsLegalTrace};
-ghost use Rattle.history_model.specs.Fitting.{IsGood};
+ghost use Rattle.std.specs.Prelude.{◌≡◌, ◌<◌, ◌≤◌, ◌++◌, ◌∷◌, ℕ, [], None, slice_set, OnOk, OnErr};
+ghost use Rattle.history_model.specs.declared.event.Event.TheVariants.{Read, Write};
+ghost use Rattle.history_model.specs.Traces.{after, Begins, IsLegalTrace};
+ghost use Rattle.history_model.specs.Fitting.{Fits, IsGood};
 ghost use Rattle.history_model.specs.Undoing.{written_back};
+ghost use Rattle.history_model.specs.Marks.{count_writes};
+ghost use Rattle.txn_words.specs.Marks.{PutsBack, TakesBack};
 ghost use Rattle.txn_words.specs.Plainly.{IsSoundPlain};
 
-use crate::words::{Stop, Words};
+use crate::words::{Mark, Stop, Words};
 use history_model::{Event, Shape};
 use io_ends::OutOfMemory;
 use std::alloc::Global;
@@ -55,7 +57,7 @@ impl<S: Shape> Model for Plain<S> {
 
 impl<S: Shape> Plain<S> {
     /// Words that begin with the list, and no event. The trace grows on `alloc`; nothing is taken of it yet.
-    #[tactic(auto, unfolding(history_model::specs::Traces::after, history_model::specs::Traces::IsLegalTrace, history_model::specs::Undoing::written_back))]
+    #[tactic(auto, unfolding(history_model::specs::Traces::after, history_model::specs::Traces::IsLegalTrace, history_model::specs::Undoing::notes_of))]
     pub fn new(alloc: Global, shape: S, words: Vec<u64>) -> Plain<S>
         requires { IsGood (S.word_count shape) (S.good shape) words.items }
         ensures view { result ≡ record { shape = shape; origin = words.items; trace = []; stop = None } }
@@ -104,18 +106,60 @@ impl<S: Shape> Plain<S> {
 }
 
 impl<S: Shape> Plain<S> {
-    // Notes the old value, and writes. A refusal writes nothing; a note that it leaves restores what is there.
+    // Notes the old value, and writes. A refusal changes nothing.
     fn put(&mut self, a: u64, v: u64) -> Result<(), OutOfMemory>
         requires within { a < S.word_count self.old.shape }
-        ensures ok { OnOk result (self.new ≡ record self.old { trace = self.old.trace ++ Write a v ∷ [] }) }
+        ensures ok { OnOk result ((was : ℕ)
+            × (self.new ≡ record self.old { trace = self.old.trace ++ Read a was ∷ Write a v ∷ [] })) }
         ensures err { OnErr result (self.new ≡ self.old) }
+        ensures fits { Fits (S.word_count self.new.shape) (S.good self.new.shape) self.new.trace self.new.origin }
     {
         let old = self.words[a as usize];
+        self.trace.reserve(2)?;
         self.undo.note(a, old)?;
-        self.trace.push(Event::Write(a, v))?;
+        let _ = self.trace.push(Event::Read(a, old));
+        let _ = self.trace.push(Event::Write(a, v));
         self.words[a as usize] = v;
         Ok(())
     }
+
+    // How many writes were noted.
+    fn noted(&self) -> usize
+        ensures { result ≡ count_writes self.now.trace }
+    {
+        self.undo.len()
+    }
+
+    // Writes the value back that was noted of one write. A refusal changes nothing.
+    fn put_back(&mut self, place: usize) -> Result<(), OutOfMemory>
+        requires place { place < count_writes self.old.trace }
+        ensures back { OnOk result (PutsBack (S.word_count self.old.shape) (S.good self.old.shape) place
+            self.old.trace self.new.trace) }
+        ensures same { self.new ≡ record self.old { trace = self.new.trace } }
+        ensures err { OnErr result (self.new ≡ self.old) }
+        ensures fits { Fits (S.word_count self.new.shape) (S.good self.new.shape) self.new.trace self.new.origin }
+    {
+        let (a, old) = self.undo.at(place);
+        self.put(a, old)
+    }
+}
+
+// Writes the noted values back down to a place, newest first.
+fn go_back<S: Shape>(plain: &mut Plain<S>, to: usize) -> Result<(), OutOfMemory>
+    requires mark { to ≤ count_writes plain.old.trace }
+    requires fits { Fits (S.word_count plain.old.shape) (S.good plain.old.shape) plain.old.trace plain.old.origin }
+    ensures back { OnOk result (TakesBack (S.word_count plain.old.shape) (S.good plain.old.shape) to
+        plain.old.trace plain.new.trace) }
+    ensures same { plain.new ≡ record plain.old { trace = plain.new.trace } }
+    ensures begins { Begins plain.old.trace plain.new.trace }
+    ensures fits { Fits (S.word_count plain.new.shape) (S.good plain.new.shape) plain.new.trace plain.new.origin }
+{
+    let mut place = plain.noted();
+    while place > to {
+        place -= 1;
+        plain.put_back(place)?;
+    }
+    Ok(())
 }
 
 // The words with the log written back, newest first.
@@ -139,9 +183,11 @@ fn set_word(words: &mut Vec<u64>, a: u64, v: u64)
 }
 
 impl<S: Shape> Words for Plain<S> {
-    ghost use Rattle.std.specs.Prelude.{◌≡◌, ◌≢◌, ◌<◌, ◌++◌, ◌∷◌, [], None, Err, IfOk, OnOk};
+    ghost use Rattle.std.specs.Prelude.{◌≡◌, ◌≢◌, ◌<◌, ◌≤◌, ◌++◌, ◌∷◌, [], None, Err, IfOk, OnOk};
     ghost use Rattle.history_model.specs.declared.event.Event.TheVariants.{Read};
     ghost use Rattle.history_model.specs.Traces.{Begins};
+    ghost use Rattle.history_model.specs.Marks.{count_writes};
+    ghost use Rattle.txn_words.specs.Marks.{TakesBack};
     ghost use Rattle.txn_words.specs.Steps.{EndsWithWrite, stop_after};
     ghost use Rattle.txn_words.specs.Plainly.{IsSoundPlain};
 
@@ -202,6 +248,39 @@ impl<S: Shape> Words for Plain<S> {
         }
     }
 
+    fn mark(&mut self) -> Mark
+        requires going { self.old.stop ≡ None }
+        requires sound { IsSoundPlain (S.word_count self.old.shape) (S.good self.old.shape) self.old }
+        ensures writes { result.writes ≡ count_writes self.old.trace }
+        ensures same { self.new ≡ self.old }
+    {
+        Mark {
+            writes: self.noted(),
+        }
+    }
+
+    fn back_to(&mut self, m: Mark) -> Result<(), Stop>
+        requires mark { m.writes ≤ count_writes self.old.trace }
+        requires going { self.old.stop ≡ None }
+        requires sound { IsSoundPlain (S.word_count self.old.shape) (S.good self.old.shape) self.old }
+        ensures back { OnOk result (TakesBack (S.word_count self.old.shape) (S.good self.old.shape)
+            m.writes self.old.trace self.new.trace) }
+        ensures begins { Begins self.old.trace self.new.trace }
+        ensures stops { self.new.stop ≡ stop_after result }
+        ensures shape { self.new.shape ≡ self.old.shape }
+        ensures origin { self.new.origin ≡ self.old.origin }
+        ensures sound { IsSoundPlain (S.word_count self.new.shape) (S.good self.new.shape) self.new }
+        ensures never_yields { result ≢ Err Stop.Yield }
+    {
+        match go_back(self, m.writes) {
+            Ok(()) => Ok(()),
+            Err(OutOfMemory) => {
+                self.stop = Some(Stop::Memory);
+                Err(Stop::Memory)
+            }
+        }
+    }
+
     ghost fits = { λ p h. (p.origin, h.fits) };
 }
 
@@ -231,8 +310,76 @@ mod tests {
         assert_eq!(rt; plain.words(), [5, 9].as_slice());
         assert_eq!(rt;
             plain.trace(),
-            [Event::Read(1, 9), Event::Write(0, 5), Event::Read(0, 5)].as_slice()
+            [
+                Event::Read(1, 9),
+                Event::Read(0, 7),
+                Event::Write(0, 5),
+                Event::Read(0, 5)
+            ]
+            .as_slice()
         );
+        Ok(())
+    }
+
+    /// Three words, which may be any numbers.
+    #[derive(Clone, Copy)]
+    struct Three;
+
+    impl Shape for Three {
+        ghost word_count = { λ _. 3 };
+
+        ghost good = { λ _ _. Unit {0} };
+    }
+
+    #[test]
+    fn going_back_writes_the_old_values_newest_first(rt: HostRuntime) -> Result<(), Fail> {
+        let mut plain = Plain::new(rt.alloc(), Three, vec![in rt.alloc(); 7u64, 8, 9]?);
+        plain.write(0, 1)?;
+        let mark = plain.mark();
+        plain.write(0, 2)?;
+        plain.write(1, 3)?;
+        plain.write(0, 4)?;
+        plain.back_to(mark)?;
+        assert_eq!(rt; mark, Mark { writes: 1 });
+        assert_eq!(rt; plain.words(), [1, 8, 9].as_slice());
+        assert_eq!(rt;
+            plain.trace(),
+            [
+                Event::Read(0, 7),
+                Event::Write(0, 1),
+                Event::Read(0, 1),
+                Event::Write(0, 2),
+                Event::Read(1, 8),
+                Event::Write(1, 3),
+                Event::Read(0, 2),
+                Event::Write(0, 4),
+                Event::Read(0, 4),
+                Event::Write(0, 2),
+                Event::Read(1, 3),
+                Event::Write(1, 8),
+                Event::Read(0, 2),
+                Event::Write(0, 1),
+            ]
+            .as_slice()
+        );
+        Ok(())
+    }
+
+    #[test]
+    fn marks_stay_good_after_going_back(rt: HostRuntime) -> Result<(), Fail> {
+        let mut plain = Plain::new(rt.alloc(), Three, vec![in rt.alloc(); 7u64, 8, 9]?);
+        let first = plain.mark();
+        plain.back_to(first)?;
+        assert_eq!(rt; plain.trace().len(), 0);
+        plain.write(0, 1)?;
+        let second = plain.mark();
+        plain.write(1, 2)?;
+        plain.back_to(second)?;
+        plain.write(2, 3)?;
+        plain.back_to(second)?;
+        assert_eq!(rt; plain.words(), [1, 8, 9].as_slice());
+        plain.back_to(first)?;
+        assert_eq!(rt; plain.words(), [7, 8, 9].as_slice());
         Ok(())
     }
 }

@@ -1,11 +1,13 @@
 //! Words that a transaction reads and writes.
 
-ghost use Rattle.std.specs.Prelude.{◌≡◌, ℕ, ◌<◌, ◌++◌, ◌∷◌, [], List, Option, None, Some, IfOk, OnOk};
+ghost use Rattle.std.specs.Prelude.{◌≡◌, ◌≢◌, ℕ, ◌<◌, ◌≤◌, ◌++◌, ◌∷◌, [], List, Option, None, Some, Err, IfOk, OnOk};
 ghost use Rattle.history_model.specs.declared.event.Event.TheVariants.{Read};
 ghost use Rattle.history_model.specs.Traces.{Trace, Begins};
 ghost use Rattle.history_model.specs.Fitting.{SomeFits};
+ghost use Rattle.history_model.specs.Marks.{count_writes};
 ghost use Rattle.txn_words.specs.declared.words.Stop.{Stop};
 ghost use Rattle.txn_words.specs.Steps.{EndsWithWrite, stop_after};
+ghost use Rattle.txn_words.specs.Marks.{TakesBack};
 
 use history_model::Shape;
 use io_ends::OutOfMemory;
@@ -17,6 +19,13 @@ pub enum Stop {
     Yield,
     /// No memory was found.
     Memory,
+}
+
+/// How far a transaction had come, to go back to.
+#[derive(Clone, Copy, Debug, PartialEq, Eq)]
+pub struct Mark {
+    /// How many writes its trace had.
+    pub writes: usize,
 }
 
 impl From<OutOfMemory> for Stop {
@@ -81,6 +90,36 @@ pub trait Words {
         ensures shape { shape self.new ≡ shape self.old }
         ensures origin { origin self.new ≡ origin self.old }
         ensures sound { is_sound self.new };
+
+    /// Marks where the transaction is, to go back there later. It takes no memory, and does nothing to the words.
+    fn mark(&mut self) -> Mark
+        requires going { stop self.old ≡ None }
+        requires sound { is_sound self.old }
+        ensures writes { result.writes ≡ count_writes (trace self.old) }
+        ensures trace { trace self.new ≡ trace self.old }
+        ensures going { stop self.new ≡ None }
+        ensures shape { shape self.new ≡ shape self.old }
+        ensures origin { origin self.new ≡ origin self.old }
+        ensures sound { is_sound self.new };
+
+    /// Takes back all writes since the mark: it writes the values that they found, the newest first, as any write does. So a
+    /// mark stays good, and one that was taken before it too. It gives way to nobody, since each of these words was
+    /// written before.
+    ///
+    /// A mark that was taken later than what was gone back to since names writes that went back: where the trace has as
+    /// many, going back to it is allowed, and takes back what its number says.
+    fn back_to(&mut self, m: Mark) -> Result<(), Stop>
+        requires mark { m.writes ≤ count_writes (trace self.old) }
+        requires going { stop self.old ≡ None }
+        requires sound { is_sound self.old }
+        ensures back { OnOk result (TakesBack (Self.Shape.word_count (shape self.old)) (Self.Shape.good (shape self.old))
+            m.writes (trace self.old) (trace self.new)) }
+        ensures begins { Begins (trace self.old) (trace self.new) }
+        ensures stops { stop self.new ≡ stop_after result }
+        ensures shape { shape self.new ≡ shape self.old }
+        ensures origin { origin self.new ≡ origin self.old }
+        ensures sound { is_sound self.new }
+        ensures never_yields { result ≢ Err Stop.Yield };
 
     /// Some good list fits the trace, after a `Stop` too.
     ghost fits: { (words : Self) → is_sound words → SomeFits (Self.Shape.word_count (shape words)) (Self.Shape.good (shape words)) (trace words) };

@@ -1,6 +1,6 @@
 //! The list of words with the values that they had.
 
-ghost use Rattle.std.specs.Prelude.{◌≡◌, ℕ, ◌+◌, ◌-◌, ◌<◌, ◌≤◌, ◌++◌, ◌∷◌, [], ◌↔◌, length, slice_get, IsOk, IfOk, OnOk, OnErr, IsNone, IfSome};
+ghost use Rattle.std.specs.Prelude.{◌≡◌, ℕ, ◌+◌, ◌-◌, ◌<◌, ◌≤◌, ◌++◌, ◌∷◌, [], ◌↔◌, length, slice_get, IsOk, IfOk, OnOk, OnErr, IsNone, IfSome, Some};
 ghost use Rattle.undo_log.specs.Room.{older_than_newest};
 
 use io_ends::OutOfMemory;
@@ -28,6 +28,7 @@ impl UndoLog {
     /// An empty log, made without memory. What is noted in it wants memory from the first pair on.
     pub fn new(alloc: Global) -> UndoLog
         ensures empty { result.list ≡ [] }
+        ensures room { result.spare ≡ 0 }
     {
         UndoLog {
             entries: Vec::new(alloc),
@@ -75,6 +76,14 @@ impl UndoLog {
         let _ = self.entries.pop();
     }
 
+    /// The pair at place `i`, where the oldest stands at 0. It stays in the log.
+    pub fn at(&self, i: usize) -> (u64, u64)
+        requires { i < length self.now.list }
+        ensures { slice_get self.now.list i ≡ Some result }
+    {
+        self.entries[i]
+    }
+
     /// How many pairs the log has.
     pub fn len(&self) -> usize
         ensures { result ≡ length self.now.list }
@@ -96,6 +105,8 @@ mod tests {
         log.note(5, 2)?;
         assert_eq!(rt; log.len(), 2);
         assert_eq!(rt; log.newest(), Some((5, 2)));
+        assert_eq!(rt; log.at(0), (5, 1));
+        assert_eq!(rt; log.at(1), (5, 2));
         log.drop_newest();
         assert_eq!(rt; log.newest(), Some((5, 1)));
         log.drop_newest();

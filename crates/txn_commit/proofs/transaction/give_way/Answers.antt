@@ -8,7 +8,7 @@ use Rattle.txn_commit.specs.Attempts.{StandsAs}
 use Rattle.txn_commit.specs.Inner.Releasing.{Releases, Undoes}
 use Rattle.txn_commit.specs.Transactions.{LeavesFootprint}
 use Rattle.txn_commit.proofs.Attempts.{some_fits}
-use Rattle.txn_commit.proofs.Ending.{gave_way}
+use Rattle.txn_commit.proofs.Ending.{gave_way, none_granted, none_noted}
 use Rattle.txn_commit.proofs.Footprints.{footprint_restarts}
 use Rattle.txn_commit.proofs.transaction.give_way.Goals as goal
 
@@ -51,6 +51,10 @@ returns g c = record {
     judged = search rules;
     log_is = search rules;
     within = search rules;
+    noted =
+        none_noted (g.S.Shape.word_count c.args.attempt.now.desk.now.shape) (g.S.Shape.good c.args.attempt.now.desk.now.shape) c.undo_all.new.undo.list c.wait_out.new.pass.view.trace c.undo_all.ensures.notes
+        (ap (λ (v : View). v.trace) c.wait_out.ensures.restarts);
+    granted = none_granted c.wait_out.new.pass.view c.undo_all.new.undo.list c.undo_all.ensures.notes;
     room = search rules;
     memory = search rules;
     fits =

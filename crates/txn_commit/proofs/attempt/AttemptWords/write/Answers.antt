@@ -113,7 +113,7 @@ returns g c =
       sound =
           subst (λ (h : Option Halt). IsSound g.S.Shape.word_count g.S.Shape.good c.args.self.now.desk.now c.args.self.now.began.value c.store.new.pass c.note.new.self h) (sym (not_halted c.args.self.now.halt c.requires.going))
           (store_sound g.S.Shape.word_count g.S.Shape.good c.args.self.now.desk.now c.args.self.now.began.value c.args.a c.args.v c.load-old.result c.ask_to_write.new.pass.view.trace c.load-old.new.pass c.store.new.pass c.args.self.now.undo c.note.new.self
-          held c.requires.within last c.store.ensures.desk c.store.ensures.step (c.store.ensures.noted c.ask_to_write.new.pass.view.trace c.load-old.result last)
+          held c.requires.within (subst (λ (v : View). HasWriteGrant v (lock_of_word c.args.a)) (sym c.load-old.ensures.event) goes_on.0) last c.store.ensures.desk c.store.ensures.step (c.store.ensures.noted c.ask_to_write.new.pass.view.trace c.load-old.result last)
           (of_made c.note.result made c.note.ensures.ok) (of_made c.note.result made c.note.ensures.spare));
       memory = λ room e. cc;
       asked =

@@ -1,0 +1,5 @@
+use Rattle.history_model.proofs.MarkLaws.{rest_undone}
+use Rattle.history_model.proofs.laws.rest_undone.Goals as goal
+
+pub returns : goal.returns
+returns c = rest_undone
