@@ -7,8 +7,8 @@ ghost use Rattle.books_model.specs.declared.limits.TheConstants.{GREATEST_QUANTI
 ghost use Rattle.txn_words.specs.Plainly.{IsSoundPlain};
 ghost use Rattle.txn_words.specs.Calls.{IsReady, GoesOn, InEachState};
 ghost use Rattle.txn_books.specs.Layout.{words_of};
-ghost use Rattle.txn_books.specs.Standing.{IsGoodFor};
-ghost use Rattle.txn_books.specs.Access.{OfBooks};
+ghost use Rattle.txn_books.specs.Standing.{IsGoodFor, Stands};
+ghost use Rattle.txn_words.specs.Access.{OfModel};
 
 use std::alloc::{AllocError, Global};
 use std::test::Fail;
@@ -73,7 +73,7 @@ fn is_opened<W: Words>(w: &mut W, shape: &BooksShape, account: u32) -> Result<bo
     requires stands { InEachState W.Words W.Shape.Shape w.old (IsGoodFor shape.now) }
     requires account { IsAccountNumber account }
     ensures there { IfOk result (λ right. right ≡ true → InEachState W.Words W.Shape.Shape w.new
-        (OfBooks shape.now (λ books. IsSome (map.get books.accounts account)))) }
+        (OfModel (Stands shape.now) (λ books. IsSome (map.get books.accounts account)))) }
     ensures stands { OnOk result (InEachState W.Words W.Shape.Shape w.new (IsGoodFor shape.now)) }
     ensures goes_on { GoesOn W.Words w.old w.new result }
 {
@@ -100,7 +100,7 @@ fn price_and_room<W: Words>(
     requires ready { IsReady W.Words w.old }
     requires stands { InEachState W.Words W.Shape.Shape w.old (IsGoodFor shape.now) }
     requires account { InEachState W.Words W.Shape.Shape w.old
-        (OfBooks shape.now (λ books. IsSome (map.get books.accounts account))) }
+        (OfModel (Stands shape.now) (λ books. IsSome (map.get books.accounts account))) }
     requires instrument { IsWithin 1 shape.now.instruments instrument }
     requires range { quantity ≤ GREATEST_QUANTITY }
 {

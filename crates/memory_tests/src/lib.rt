@@ -13,6 +13,8 @@ mod crossing;
 #[cfg(test)]
 mod locks;
 #[cfg(test)]
+mod marks;
+#[cfg(test)]
 mod runs;
 #[cfg(test)]
 mod third;

@@ -87,7 +87,7 @@ impl Job for Step {
 }
 
 // A desk with 1,030 words, all 0, and two passes.
-fn open_wide(alloc: Global) -> Result<(Desk<Wide>, Pass<Wide>, Pass<Wide>), OutOfMemory>
+pub(crate) fn open_wide(alloc: Global) -> Result<(Desk<Wide>, Pass<Wide>, Pass<Wide>), OutOfMemory>
     ensures seats { IfOk result (λ opened. opened.0.seats ≡ 2) }
     ensures zero { IfOk result (λ opened. opened.1 ≡ record {
       table = opened.0.table;

@@ -19,7 +19,7 @@ use Rattle.txn_tree_map.specs.Trees.{tree_part}
 use Rattle.txn_books.specs.declared.shape.BooksShape.{BooksShape}
 use Rattle.txn_books.specs.Layout.{shape_of, tree_of}
 use Rattle.txn_books.specs.Standing.{Stands, IsGoodFor}
-use Rattle.txn_books.specs.Access.{OfBooks, Tells, Changes, ChangesWithRoom}
+use Rattle.txn_words.specs.Access.{OfModel, Tells, Changes, ChangesWithRoom}
 use Rattle.txn_books.specs.Inner.Rooms.{had_room}
 use Rattle.txn_books.proofs.ChainedChanges.{remove_absent}
 use Rattle.txn_books.proofs.Parts.{good_parts, some_tree, tree_free, tree_new, tree_old, tree_cut}
@@ -50,10 +50,10 @@ module _ (shape : BooksShape) where
   pub tree_there : (x : List ℕ) → IsGoodFor shape x → HasMap (tree_part (tree_of shape)) x
   tree_there x good = held (tree_apart_there x good)
 
-  pub tells_cash : (a : ℕ) (answer : Option ℕ) (x y : List ℕ) → Finds (tree_part (tree_of shape)) a answer x y → Tells shape (λ books. map.get books.accounts a) answer x y
+  pub tells_cash : (a : ℕ) (answer : Option ℕ) (x y : List ℕ) → Finds (tree_part (tree_of shape)) a answer x y → Tells (Stands shape) (λ books. map.get books.accounts a) answer x y
   tells_cash a answer x y finds = record { same = finds.same; told = λ books stand. finds.found books.accounts stand.parts.tree_used (tree_apart shape x books stand).map }
 
-  pub tells_between : (low high total : ℕ) (x y : List ℕ) → SumsRange (tree_part (tree_of shape)) low high total x y → Tells shape (λ books. cash_between books low high) total x y
+  pub tells_between : (low high total : ℕ) (x y : List ℕ) → SumsRange (tree_part (tree_of shape)) low high total x y → Tells (Stands shape) (λ books. cash_between books low high) total x y
   tells_between low high total x y sums = record { same = sums.same; told = λ books stand. sums.sum books.accounts stand.parts.tree_used (tree_apart shape x books stand).map }
 
   -- a sum of cash fits a word
@@ -88,7 +88,7 @@ module _ (shape : BooksShape) (x y : List ℕ) (books : ClearingBooks) (stand : 
       }
 
 -- an account that was absent had no cash
-not_there : {A : Type 0} (shape : BooksShape) (a v was : ℕ) (x y : List ℕ) → OfBooks shape (λ books. map.get books.accounts a ≡ None) x → Inserts (tree_part (tree_of shape)) a v (Old was) x y → (books : ClearingBooks) → Stands shape x books → A
+not_there : {A : Type 0} (shape : BooksShape) (a v was : ℕ) (x y : List ℕ) → OfModel (Stands shape) (λ books. map.get books.accounts a ≡ None) x → Inserts (tree_part (tree_of shape)) a v (Old was) x y → (books : ClearingBooks) → Stands shape x books → A
 not_there shape a v was x y absent inserts books stand =
     let k = inserts books.accounts stand.parts.tree_used stand.parts.free (tree_apart shape x books stand) in
     let e : None ≡ Some was = sym (absent books stand) ∙ k.present in
@@ -96,7 +96,7 @@ not_there shape a v was x y absent inserts books stand =
 
 -- what an insert of an account that was absent did to the books
 module _ (shape : BooksShape) (a : ℕ) (number : IsAccountNumber a) where
-  pub account_opened : (put : Put) (x y : List ℕ) → OfBooks shape (λ books. map.get books.accounts a ≡ None) x → IsPut (tree_part (tree_of shape)) a 0 put x y → ChangesWithRoom shape is_full (λ books. put_cash books a 0) (had_room put) x y
+  pub account_opened : (put : Put) (x y : List ℕ) → OfModel (Stands shape) (λ books. map.get books.accounts a ≡ None) x → IsPut (tree_part (tree_of shape)) a 0 put x y → ChangesWithRoom (Stands shape) is_full (λ books. put_cash books a 0) (had_room put) x y
   account_opened New x y absent put =
       let each : (books : ClearingBooks) → Stands shape x books → (used books < books.blocks) × Stands shape y (put_cash books a 0) = λ books stand. account_new shape x y books stand a put.keeps 0 number (omega arith) put.inserts in
       record { answer = λ books stand. is_below (used books) books.blocks (each books stand).0; left = λ books stand. (each books stand).1 }
@@ -111,8 +111,8 @@ is_there : {A : Type 0} (o : Option ℕ) → IsSome o → o ≡ None → A
 is_there o there none = let no : IsSome {T = ℕ} None = subst (λ (q : Option ℕ). IsSome q) none there in absurd (cc)
 
 -- what an insert of an account that was there did
-pub account_set : (shape : BooksShape) (a v : ℕ) → v ≤ GREATEST_CASH → (put : Put) (x y : List ℕ) → OfBooks shape (λ books. IsSome (map.get books.accounts a)) x → IsPut (tree_part (tree_of shape)) a v put x y
-    → Changes shape (λ books. put_cash books a v) x y
+pub account_set : (shape : BooksShape) (a v : ℕ) → v ≤ GREATEST_CASH → (put : Put) (x y : List ℕ) → OfModel (Stands shape) (λ books. IsSome (map.get books.accounts a)) x → IsPut (tree_part (tree_of shape)) a v put x y
+    → Changes (Stands shape) (λ books. put_cash books a v) x y
 account_set shape a v fits New x y there put = λ books stand.
     let k = put.inserts books.accounts stand.parts.tree_used stand.parts.free (tree_apart shape x books stand) in
     is_there (map.get books.accounts a) (there books stand) k.absent
@@ -121,8 +121,8 @@ account_set shape a v fits Full x y there put = λ books stand.
     is_there (map.get books.accounts a) (there books stand) (put.full refl books.accounts stand.parts.tree_used stand.parts.free (tree_apart shape x books stand)).0
 
 -- what a removal of an account that holds nothing did
-pub account_removed : (shape : BooksShape) (a : ℕ) (answer : Option ℕ) (x y : List ℕ) → OfBooks shape (λ books. holds_any books a ≡ false) x → IsCut (tree_part (tree_of shape)) a answer x y
-    → Changes shape (λ books. record books { accounts = map.remove books.accounts a }) x y
+pub account_removed : (shape : BooksShape) (a : ℕ) (answer : Option ℕ) (x y : List ℕ) → OfModel (Stands shape) (λ books. holds_any books a ≡ false) x → IsCut (tree_part (tree_of shape)) a answer x y
+    → Changes (Stands shape) (λ books. record books { accounts = map.remove books.accounts a }) x y
 account_removed shape a None x y nothing cut = λ books stand.
     let none : map.get books.accounts a ≡ None = sym (cut.removes.found books.accounts stand.parts.tree_used (tree_apart shape x books stand).map) in
     subst (λ m. Stands shape y (record books { accounts = m })) (sym (remove_absent nat_cmp_total map.nat_cmp-IsAntisymmetric books.accounts a none)) (subst (λ z. Stands shape z books) (sym cut.removes.same) stand)

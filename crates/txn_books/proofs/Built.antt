@@ -16,7 +16,8 @@ use Rattle.txn_tree_map.specs.Trees.{tree_part}
 use Rattle.txn_books.specs.declared.shape.BooksShape.{BooksShape}
 use Rattle.txn_books.specs.Layout.{words_of, tree_of}
 use Rattle.txn_books.specs.Standing.{Stands, IsGoodFor}
-use Rattle.txn_books.specs.Access.{ChangesWithRoom, lacks_price_room, lacks_position_room}
+use Rattle.txn_words.specs.Access.{ChangesWithRoom}
+use Rattle.txn_books.specs.Access.{lacks_price_room, lacks_position_room}
 use Rattle.txn_books.specs.Inner.Building.{IsBuilt}
 use Rattle.txn_books.proofs.Calls.{IsPut}
 use Rattle.txn_books.proofs.States.{tree_apart, no_room}
@@ -74,7 +75,7 @@ built_of shape words left change books built long stands others theirs = record 
 }
 
 -- a change that finds room
-pub roomy : (shape : BooksShape) (lacks : ClearingBooks → Bool) (change : ClearingBooks → ClearingBooks) (had : Bool) (x y : List ℕ) → ChangesWithRoom shape lacks change had x y
+pub roomy : (shape : BooksShape) (lacks : ClearingBooks → Bool) (change : ClearingBooks → ClearingBooks) (had : Bool) (x y : List ℕ) → ChangesWithRoom (Stands shape) lacks change had x y
     → (books : ClearingBooks) → Stands shape x books → lacks books ≡ false → Stands shape y (change books)
 roomy shape lacks change had x y changes books stand room =
     let is : had ≡ true = changes.answer books stand ∙ ap not room in

@@ -17,7 +17,7 @@ use Rattle.txn_ring.specs.declared.ring.Ring.{Ring}
 use Rattle.txn_ring.specs.Queues as rings
 use Rattle.txn_books.specs.declared.shape.BooksShape.{BooksShape}
 use Rattle.txn_books.specs.Standing.{Stands, IsGoodFor}
-use Rattle.txn_books.specs.Access.{Tells, Changes, ChangesWithRoom, TellsAndChanges}
+use Rattle.txn_words.specs.Access.{Tells, Changes, ChangesWithRoom, TellsAndChanges}
 
 -- words that stand for books of which this holds
 abbrev pub SomeBooks : BooksShape → (ClearingBooks → Type 0) → List ℕ → Type 0
@@ -89,22 +89,22 @@ module _ {W S O : Type 0} (words : AnyWords W S O) (shapes : Shapes S) where
 
   module _ (shape : BooksShape) (v w : W) (e : words.shape w ≡ words.shape v) (begins : Begins (words.trace v) (words.trace w)) (stand : InEachState words shapes v (IsGoodFor shape)) where
     -- after a look books still stand, and they say what was answered
-    pub each_told : {A : Type 0} (says : ClearingBooks → A) (answer : A) → LeadsTo words shapes v w (Tells shape says answer) → InEachState words shapes w (SomeBooks shape (λ books. answer ≡ says books))
-    each_told says answer tells = state_after words shapes v w (IsGoodFor shape) (SomeBooks shape (λ books. answer ≡ says books)) (Tells shape says answer) e begins stand tells
+    pub each_told : {A : Type 0} (says : ClearingBooks → A) (answer : A) → LeadsTo words shapes v w (Tells (Stands shape) says answer) → InEachState words shapes w (SomeBooks shape (λ books. answer ≡ says books))
+    each_told says answer tells = state_after words shapes v w (IsGoodFor shape) (SomeBooks shape (λ books. answer ≡ says books)) (Tells (Stands shape) says answer) e begins stand tells
         (λ x y good t. (good.0, subst (λ z. Stands shape z good.0) (sym t.same) good.1, t.told good.0 good.1))
 
-    pub looked_stands : {A : Type 0} (says : ClearingBooks → A) (answer : A) → LeadsTo words shapes v w (Tells shape says answer) → InEachState words shapes w (IsGoodFor shape)
-    looked_stands says answer tells = state_after words shapes v w (IsGoodFor shape) (IsGoodFor shape) (Tells shape says answer) e begins stand tells
+    pub looked_stands : {A : Type 0} (says : ClearingBooks → A) (answer : A) → LeadsTo words shapes v w (Tells (Stands shape) says answer) → InEachState words shapes w (IsGoodFor shape)
+    looked_stands says answer tells = state_after words shapes v w (IsGoodFor shape) (IsGoodFor shape) (Tells (Stands shape) says answer) e begins stand tells
         (λ x y good t. subst (IsGoodFor shape) (sym t.same) good)
 
     -- after a change other books stand
-    pub changed_stands : (change : ClearingBooks → ClearingBooks) → LeadsTo words shapes v w (Changes shape change) → InEachState words shapes w (IsGoodFor shape)
-    changed_stands change changes = state_after words shapes v w (IsGoodFor shape) (IsGoodFor shape) (Changes shape change) e begins stand changes (λ x y good c. (change good.0, c good.0 good.1))
+    pub changed_stands : (change : ClearingBooks → ClearingBooks) → LeadsTo words shapes v w (Changes (Stands shape) change) → InEachState words shapes w (IsGoodFor shape)
+    changed_stands change changes = state_after words shapes v w (IsGoodFor shape) (IsGoodFor shape) (Changes (Stands shape) change) e begins stand changes (λ x y good c. (change good.0, c good.0 good.1))
 
-    pub room_stands : (lacks : ClearingBooks → Bool) (change : ClearingBooks → ClearingBooks) (had_room : Bool) → LeadsTo words shapes v w (ChangesWithRoom shape lacks change had_room) → InEachState words shapes w (IsGoodFor shape)
-    room_stands lacks change had_room changes = state_after words shapes v w (IsGoodFor shape) (IsGoodFor shape) (ChangesWithRoom shape lacks change had_room) e begins stand changes
+    pub room_stands : (lacks : ClearingBooks → Bool) (change : ClearingBooks → ClearingBooks) (had_room : Bool) → LeadsTo words shapes v w (ChangesWithRoom (Stands shape) lacks change had_room) → InEachState words shapes w (IsGoodFor shape)
+    room_stands lacks change had_room changes = state_after words shapes v w (IsGoodFor shape) (IsGoodFor shape) (ChangesWithRoom (Stands shape) lacks change had_room) e begins stand changes
         (λ x y good c. (if had_room then change good.0 else good.0, c.left good.0 good.1))
 
-    pub told_stands : {A : Type 0} (says : ClearingBooks → A) (change : ClearingBooks → ClearingBooks) (answer : A) → LeadsTo words shapes v w (TellsAndChanges shape says change answer) → InEachState words shapes w (IsGoodFor shape)
-    told_stands says change answer changes = state_after words shapes v w (IsGoodFor shape) (IsGoodFor shape) (TellsAndChanges shape says change answer) e begins stand changes
+    pub told_stands : {A : Type 0} (says : ClearingBooks → A) (change : ClearingBooks → ClearingBooks) (answer : A) → LeadsTo words shapes v w (TellsAndChanges (Stands shape) says change answer) → InEachState words shapes w (IsGoodFor shape)
+    told_stands says change answer changes = state_after words shapes v w (IsGoodFor shape) (IsGoodFor shape) (TellsAndChanges (Stands shape) says change answer) e begins stand changes
         (λ x y good c. (change good.0, c.left good.0 good.1))

@@ -18,7 +18,8 @@ use Rattle.txn_books.specs.declared.shape.BooksShape.{BooksShape}
 use Rattle.txn_books.specs.Layout.{shape_of, chains_of, price_key_of, position_key_of, chained}
 use Rattle.txn_books.specs.Standing.{Stands, IsGoodFor}
 use Rattle.txn_books.specs.Statements.{IsInstrument}
-use Rattle.txn_books.specs.Access.{OfBooks, Tells, ChangesWithRoom, lacks_price_room, lacks_position_room}
+use Rattle.txn_words.specs.Access.{OfModel, Tells, ChangesWithRoom}
+use Rattle.txn_books.specs.Access.{lacks_price_room, lacks_position_room}
 use Rattle.txn_books.specs.Inner.Rooms.{had_room}
 use Rattle.txn_books.proofs.Chained.{price_in, get_price, get_position}
 use Rattle.txn_books.proofs.ChainedChanges.{price_chained, position_chained, position_unchained, remove_absent}
@@ -66,7 +67,7 @@ module _ (shape : BooksShape) (x : List ℕ) (books : ClearingBooks) (stand : St
   inserted key v put y inserts = subst (λ z. Inserts (chain_part (chains_of z)) key v put x y) (sym stand.sizes) inserts
 
 module _ (shape : BooksShape) (i : ℕ) (within : IsWithin 1 shape.instruments i) where
-  pub tells_price : (answer : Option ℕ) (x y : List ℕ) → Finds (chain_part (chains_of shape)) (price_key_of i) answer x y → Tells shape (λ books. map.get books.prices i) answer x y
+  pub tells_price : (answer : Option ℕ) (x y : List ℕ) → Finds (chain_part (chains_of shape)) (price_key_of i) answer x y → Tells (Stands shape) (λ books. map.get books.prices i) answer x y
   tells_price answer x y finds = record {
     same = finds.same;
     told = λ books stand. finds.found (chained books) stand.parts.chain_used (chains_apart shape x books stand).map ∙ get_price books stand.range i (is_instrument shape x books stand i within);
@@ -111,7 +112,7 @@ module _ (shape : BooksShape) (i : ℕ) (within : IsWithin 1 shape.instruments i
               (price_chained books stand.range i price (is_instrument shape x books stand i within) later);
         }
 
-    pub price_put : (put : Put) (x y : List ℕ) → PricePut put x y → ChangesWithRoom shape (lacks_price_room i) (λ books. put_price books i price) (had_room put) x y
+    pub price_put : (put : Put) (x y : List ℕ) → PricePut put x y → ChangesWithRoom (Stands shape) (lacks_price_room i) (λ books. put_price books i price) (had_room put) x y
     price_put New x y put = record {
       answer = λ books stand. room_new (is_some (map.get books.prices i)) (used books) books.blocks (price_new x y put books stand).0;
       left = λ books stand. (price_new x y put books stand).1;
@@ -136,7 +137,7 @@ pub quantity_most : (books : ClearingBooks) → AreInRange books → (a i : ℕ)
 quantity_most books range a i answer e = quantity-in_range books a i range answer e
 
 pub tells_quantity : (shape : BooksShape) (a i : ℕ) → IsAccountNumber a → IsWithin 1 shape.instruments i → (answer : Option ℕ) (x y : List ℕ) → Finds (chain_part (chains_of shape)) (position_key_of a i) answer x y
-    → Tells shape (λ books. map.get books.positions (a, i)) answer x y
+    → Tells (Stands shape) (λ books. map.get books.positions (a, i)) answer x y
 tells_quantity shape a i number within answer x y finds = record {
   same = finds.same;
   told = λ books stand. finds.found (chained books) stand.parts.chain_used (chains_apart shape x books stand).map ∙ get_position books stand.range a i number.0 (is_instrument shape x books stand i within);
@@ -212,7 +213,7 @@ module _ (shape : BooksShape) (a i : ℕ) where
     lacks : (books : ClearingBooks) → lacks_position_room a i quantity books ≡ (not (is_some (map.get books.positions (a, i))) && is_full books)
     lacks books = ap (λ t. not t && (not (is_some (map.get books.positions (a, i))) && is_full books)) not_zero
 
-    pub quantity_put : (put : Put) (x y : List ℕ) → OfBooks shape (MayHold a i) x → QuantityPut put x y → ChangesWithRoom shape (lacks_position_room a i quantity) (λ books. put_position books a i quantity) (had_room put) x y
+    pub quantity_put : (put : Put) (x y : List ℕ) → OfModel (Stands shape) (MayHold a i) x → QuantityPut put x y → ChangesWithRoom (Stands shape) (lacks_position_room a i quantity) (λ books. put_position books a i quantity) (had_room put) x y
     quantity_put New x y may put = record {
       answer = λ books stand. room_new (is_some (map.get books.positions (a, i))) (used books) books.blocks (quantity_new x y put books stand (may books stand)).0 ∙ ap not (sym (lacks books));
       left = λ books stand. (quantity_new x y put books stand (may books stand)).1;
@@ -255,8 +256,8 @@ module _ (shape : BooksShape) (a i : ℕ) where
               (position_unchained books stand.range a i place.0 place.1 later);
         }
 
-    pub quantity_cut : (answer : Option ℕ) (x y : List ℕ) → OfBooks shape (MayHold a i) x → IsCut (chain_part (chains_of shape)) (position_key_of a i) answer x y
-        → ChangesWithRoom shape (lacks_position_room a i quantity) (λ books. put_position books a i quantity) true x y
+    pub quantity_cut : (answer : Option ℕ) (x y : List ℕ) → OfModel (Stands shape) (MayHold a i) x → IsCut (chain_part (chains_of shape)) (position_key_of a i) answer x y
+        → ChangesWithRoom (Stands shape) (lacks_position_room a i quantity) (λ books. put_position books a i quantity) true x y
     quantity_cut answer x y may cut = record {
       answer = λ books stand. no_block books;
       left = λ books stand. subst (Stands shape y) (is_out books) (quantity_gone answer x y cut books stand (may books stand));

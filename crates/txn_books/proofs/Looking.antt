@@ -10,7 +10,7 @@ use Rattle.books_model.specs.Ranges.{AreInRange}
 use Rattle.txn_books.specs.declared.shape.BooksShape.{BooksShape}
 use Rattle.txn_books.specs.Layout.{shape_of}
 use Rattle.txn_books.specs.Standing.{Stands, IsGoodFor}
-use Rattle.txn_books.specs.Access.{OfBooks, Tells}
+use Rattle.txn_words.specs.Access.{OfModel, Tells}
 use Rattle.txn_books.proofs.Calls.{leads_less}
 
 -- books of the shape's sizes, in range
@@ -24,11 +24,11 @@ pub record Saw (shape : BooksShape) (P : ClearingBooks → Type 0) (old new : Li
 
 module _ {W S O : Type 0} (words : AnyWords W S O) (shapes : Shapes S) (shape : BooksShape) where
   -- what was told was seen, and the other way round
-  pub saw_told : {A : Type 0} (v w : W) (says : ClearingBooks → A) (answer : A) → LeadsTo words shapes v w (Tells shape says answer) → LeadsTo words shapes v w (Saw shape (λ books. answer ≡ says books))
+  pub saw_told : {A : Type 0} (v w : W) (says : ClearingBooks → A) (answer : A) → LeadsTo words shapes v w (Tells (Stands shape) says answer) → LeadsTo words shapes v w (Saw shape (λ books. answer ≡ says books))
   saw_told v w says answer h = leads_less words shapes v w _ _ (λ x y t. record { same = t.same; saw = t.told }) h
 
   pub told_saw : {A : Type 0} (v w : W) (says : ClearingBooks → A) (answer : A) (P : ClearingBooks → Type 0) → ((books : ClearingBooks) → IsSized shape books → P books → answer ≡ says books)
-      → LeadsTo words shapes v w (Saw shape P) → LeadsTo words shapes v w (Tells shape says answer)
+      → LeadsTo words shapes v w (Saw shape P) → LeadsTo words shapes v w (Tells (Stands shape) says answer)
   told_saw v w says answer P means h = leads_less words shapes v w _ _ (λ x y k. record { same = k.same; told = λ books stand. means books (stand.sizes, stand.range) (k.saw books stand) }) h
 
   -- before the first look
@@ -51,12 +51,12 @@ module _ {W S O : Type 0} (words : AnyWords W S O) (shapes : Shapes S) (shape : 
   saw_stands u v P e begins stand looks = state_after words shapes u v (IsGoodFor shape) (IsGoodFor shape) (Saw shape P) e begins stand looks (λ x y good k. subst (IsGoodFor shape) (sym k.same) good)
 
   -- after a look the books say what was told
-  pub each_says : {A : Type 0} (v w : W) (says : ClearingBooks → A) (answer : A) → words.shape w ≡ words.shape v → LeadsTo words shapes v w (Tells shape says answer) → InEachState words shapes w (OfBooks shape (λ books. answer ≡ says books))
-  each_says v w says answer e tells = state_at words shapes v w (OfBooks shape (λ books. answer ≡ says books)) e
+  pub each_says : {A : Type 0} (v w : W) (says : ClearingBooks → A) (answer : A) → words.shape w ≡ words.shape v → LeadsTo words shapes v w (Tells (Stands shape) says answer) → InEachState words shapes w (OfModel (Stands shape) (λ books. answer ≡ says books))
+  each_says v w says answer e tells = state_at words shapes v w (OfModel (Stands shape) (λ books. answer ≡ says books)) e
       (record { at = λ s fit books stand. let t = tells.at s fit in t.told books (subst (λ z. Stands shape z books) t.same stand) })
 
   -- and what was known of them before it
-  pub still_says : {A : Type 0} (v w : W) (says : ClearingBooks → A) (answer : A) (P : ClearingBooks → Type 0) → words.shape w ≡ words.shape v → Begins (words.trace v) (words.trace w) → LeadsTo words shapes v w (Tells shape says answer)
-      → InEachState words shapes v (OfBooks shape P) → InEachState words shapes w (OfBooks shape P)
-  still_says v w says answer P e begins tells known = state_after words shapes v w (OfBooks shape P) (OfBooks shape P) (Tells shape says answer) e begins known tells
+  pub still_says : {A : Type 0} (v w : W) (says : ClearingBooks → A) (answer : A) (P : ClearingBooks → Type 0) → words.shape w ≡ words.shape v → Begins (words.trace v) (words.trace w) → LeadsTo words shapes v w (Tells (Stands shape) says answer)
+      → InEachState words shapes v (OfModel (Stands shape) P) → InEachState words shapes w (OfModel (Stands shape) P)
+  still_says v w says answer P e begins tells known = state_after words shapes v w (OfModel (Stands shape) P) (OfModel (Stands shape) P) (Tells (Stands shape) says answer) e begins known tells
       (λ x y h t books stand. h books (subst (λ z. Stands shape z books) t.same stand))

@@ -10,7 +10,7 @@ use Rattle.txn_ring.proofs.Items.{one_queue}
 use Rattle.txn_books.specs.declared.shape.BooksShape.{BooksShape}
 use Rattle.txn_books.specs.Layout.{queue_of}
 use Rattle.txn_books.specs.Standing.{Stands, IsGoodFor}
-use Rattle.txn_books.specs.Access.{ChangesWithRoom, TellsAndChanges}
+use Rattle.txn_words.specs.Access.{ChangesWithRoom, TellsAndChanges}
 use Rattle.txn_books.proofs.Changes.{queue_change}
 use Rattle.txn_books.proofs.States.{queue_held, is_below, is_at}
 use Rattle.txn_books.proofs.Calls.{IsPushed, IsPopped}
@@ -29,7 +29,7 @@ module _ (shape : BooksShape) where
   }
 
   pub call_queued : (a shortfall : ℕ) → IsCall (a, shortfall) → (answer : Bool) (x y : List ℕ) → IsPushed (queue_of shape) (a, shortfall) answer x y
-      → ChangesWithRoom shape (λ books. length books.calls == books.ring) (λ books. put_call books a shortfall) answer x y
+      → ChangesWithRoom (Stands shape) (λ books. length books.calls == books.ring) (λ books. put_call books a shortfall) answer x y
   call_queued a shortfall call true x y pushed =
       let held : (books : ClearingBooks) → Stands shape x books → QueueHolds (queue_of shape) y (books.calls ++ (a, shortfall) ∷ []) = λ books stand. pushed.pushes books.calls (queue_held shape x books stand) in
       let room : (books : ClearingBooks) → Stands shape x books → length books.calls < books.ring = λ books stand.
@@ -48,7 +48,7 @@ module _ (shape : BooksShape) where
       }
 
   -- no front was there
-  pub front_lacking : (x y : List ℕ) → IsEmpty (queue_of shape) x → Pops (queue_of shape) None x y → TellsAndChanges shape (λ books. slice_get books.calls 0) (λ books. record books { calls = drop 1 books.calls }) None x y
+  pub front_lacking : (x y : List ℕ) → IsEmpty (queue_of shape) x → Pops (queue_of shape) None x y → TellsAndChanges (Stands shape) (λ books. slice_get books.calls 0) (λ books. record books { calls = drop 1 books.calls }) None x y
   front_lacking x y empty same =
       let none : (books : ClearingBooks) → Stands shape x books → [] ≡ books.calls = λ books stand. one_queue (queue_of shape) x [] books.calls empty (queue_held shape x books stand) in
       record {
@@ -59,7 +59,7 @@ module _ (shape : BooksShape) where
       }
 
   -- the front was taken
-  pub front_taken : (item : ℕ × ℕ) (x y : List ℕ) → IsPopped (queue_of shape) item x y → TellsAndChanges shape (λ books. slice_get books.calls 0) (λ books. record books { calls = drop 1 books.calls }) (Some item) x y
+  pub front_taken : (item : ℕ × ℕ) (x y : List ℕ) → IsPopped (queue_of shape) item x y → TellsAndChanges (Stands shape) (λ books. slice_get books.calls 0) (λ books. record books { calls = drop 1 books.calls }) (Some item) x y
   front_taken item x y popped =
       let takes : (books : ClearingBooks) → Stands shape x books → TakesFront (queue_of shape) item y books.calls = λ books stand. popped.pops books.calls (queue_held shape x books stand) in
       record {

@@ -16,7 +16,8 @@ use Rattle.txn_words.specs.Calls.{GoesOn, InEachState, LeadsTo}
 use Rattle.txn_books.specs.declared.shape.BooksShape.{BooksShape}
 use Rattle.txn_books.specs.declared.trading.Side.{Side}
 use Rattle.txn_books.specs.Standing.{Stands}
-use Rattle.txn_books.specs.Access.{OfBooks, ChangesWithRoom, lacks_position_room}
+use Rattle.txn_words.specs.Access.{OfModel, ChangesWithRoom}
+use Rattle.txn_books.specs.Access.{lacks_position_room}
 use Rattle.txn_books.specs.Inner.Trading.{side_with, MayExchange, Exchanges, sold, exchanged}
 use Rattle.txn_books.proofs.Calls.{leads_less}
 use Rattle.txn_books.proofs.Turning.{Turns, Turned, known, look_turn, turn_then, turned_less, of_room}
@@ -159,14 +160,14 @@ left_exchanged i buys sells books after had_room had e = sym (e ∙ ap (λ t. if
 
 module _ {W S O : Type 0} {words : AnyWords W S O} {shapes : Shapes S} {shape : BooksShape} {v w : W} {i : ℕ} {buys sells : Side} {had_room : Bool} where
   -- the seller's position is lowered
-  pub has_sold : {A : Type 0} {r : Result A Stop} → InEachState words shapes v (OfBooks shape (MayExchange i buys sells)) → GoesOn words v w r
-      → LeadsTo words shapes v w (ChangesWithRoom shape (lacks_position_room sells.account i sells.held) (λ books. put_position books sells.account i sells.held) had_room) → Turned words shapes shape v w (Sold i buys sells)
+  pub has_sold : {A : Type 0} {r : Result A Stop} → InEachState words shapes v (OfModel (Stands shape) (MayExchange i buys sells)) → GoesOn words v w r
+      → LeadsTo words shapes v w (ChangesWithRoom (Stands shape) (lacks_position_room sells.account i sells.held) (λ books. put_position books sells.account i sells.held) had_room) → Turned words shapes shape v w (Sold i buys sells)
   has_sold may goes held = turned_less (look_turn goes (known words shapes shape v _ may) (of_room held))
       (λ books after sized k. (k.0, always_sold i buys sells books after had_room k.0 k.1.0 k.1.1))
 
   -- and the buyer has its position, if there is room
   pub has_bought : {A : Type 0} {r : Result A Stop} {u : W} → Turned words shapes shape u v (Sold i buys sells) → GoesOn words v w r
-      → LeadsTo words shapes v w (ChangesWithRoom shape (lacks_position_room buys.account i buys.held) (λ books. put_position books buys.account i buys.held) had_room) → Turned words shapes shape u w (Bought i buys sells had_room)
+      → LeadsTo words shapes v w (ChangesWithRoom (Stands shape) (lacks_position_room buys.account i buys.held) (λ books. put_position books buys.account i buys.held) had_room) → Turned words shapes shape u w (Bought i buys sells had_room)
   has_bought before goes held = turned_less (turn_then goes before (of_room held))
       (λ books last sized k. (k.1.0, k.2.0 ∙ ap (λ z. not (lacks_position_room buys.account i buys.held z)) k.1.1, k.2.1 ∙ ap (λ z. if had_room then put_position z buys.account i buys.held else z) k.1.1))
 

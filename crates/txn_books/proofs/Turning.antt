@@ -13,7 +13,7 @@ use Rattle.txn_words.proofs.CallLaws.{state_after, leads_then}
 use Rattle.txn_books.specs.declared.shape.BooksShape.{BooksShape}
 use Rattle.txn_books.specs.declared.operations.Outcome.{Outcome}
 use Rattle.txn_books.specs.Standing.{Stands, IsGoodFor}
-use Rattle.txn_books.specs.Access.{OfBooks, Tells, Changes, ChangesWithRoom, TellsAndChanges}
+use Rattle.txn_words.specs.Access.{OfModel, Tells, Changes, ChangesWithRoom, TellsAndChanges}
 use Rattle.txn_books.specs.Operating.{step_with, Steps}
 use Rattle.txn_books.proofs.Calls.{leads_less}
 use Rattle.txn_books.proofs.Looking.{IsSized, Saw, saw_first, saw_told, saw_then, told_saw}
@@ -41,16 +41,16 @@ module _ {W S O : Type 0} (words : AnyWords W S O) (shapes : Shapes S) (shape : 
   unlooked v = record { kept = refl; begins = begins_refl _; saw = saw_first words shapes shape v _ (λ books sized. tt) }
 
   -- what is known before any call
-  pub known : (v : W) (P : ClearingBooks → Type 0) → InEachState words shapes v (OfBooks shape P) → Looked v v P
+  pub known : (v : W) (P : ClearingBooks → Type 0) → InEachState words shapes v (OfModel (Stands shape) P) → Looked v v P
   known v P each = record { kept = refl; begins = begins_refl _; saw = record { at = λ s fit. record { same = refl; saw = each.at s fit } } }
 
 module _ {W S O A : Type 0} {words : AnyWords W S O} {shapes : Shapes S} {shape : BooksShape} {v w : W} {r : Result A Stop} (goes : GoesOn words v w r) where
   -- the first look
-  pub looked : {B : Type 0} {says : ClearingBooks → B} {answer : B} → LeadsTo words shapes v w (Tells shape says answer) → Looked words shapes shape v w (λ books. answer ≡ says books)
+  pub looked : {B : Type 0} {says : ClearingBooks → B} {answer : B} → LeadsTo words shapes v w (Tells (Stands shape) says answer) → Looked words shapes shape v w (λ books. answer ≡ says books)
   looked told = record { kept = goes.shape; begins = goes.begins; saw = saw_told words shapes shape v w _ _ told }
 
   -- one look more
-  pub look_then : {B : Type 0} {u : W} {P : ClearingBooks → Type 0} {says : ClearingBooks → B} {answer : B} → Looked words shapes shape u v P → LeadsTo words shapes v w (Tells shape says answer)
+  pub look_then : {B : Type 0} {u : W} {P : ClearingBooks → Type 0} {says : ClearingBooks → B} {answer : B} → Looked words shapes shape u v P → LeadsTo words shapes v w (Tells (Stands shape) says answer)
       → Looked words shapes shape u w (λ books. P books × (answer ≡ says books))
   look_then {P = P} {says = says} {answer = answer} before told = record {
     kept = goes.shape ∙ before.kept;
@@ -95,20 +95,20 @@ module _ {W S O A : Type 0} {words : AnyWords W S O} {shapes : Shapes S} {shape 
 
 module _ {W S O : Type 0} {words : AnyWords W S O} {shapes : Shapes S} {shape : BooksShape} {v w : W} where
   -- what each kind of change turns
-  pub of_change : {change : ClearingBooks → ClearingBooks} → LeadsTo words shapes v w (Changes shape change) → LeadsTo words shapes v w (Turns shape (λ books after. after ≡ change books))
+  pub of_change : {change : ClearingBooks → ClearingBooks} → LeadsTo words shapes v w (Changes (Stands shape) change) → LeadsTo words shapes v w (Turns shape (λ books after. after ≡ change books))
   of_change {change = change} h = leads_less words shapes v w _ _ (λ x y c. record { at = λ books stand. (change books, c books stand, refl) }) h
 
-  pub of_room : {lacks : ClearingBooks → Bool} {change : ClearingBooks → ClearingBooks} {had_room : Bool} → LeadsTo words shapes v w (ChangesWithRoom shape lacks change had_room)
+  pub of_room : {lacks : ClearingBooks → Bool} {change : ClearingBooks → ClearingBooks} {had_room : Bool} → LeadsTo words shapes v w (ChangesWithRoom (Stands shape) lacks change had_room)
       → LeadsTo words shapes v w (Turns shape (λ books after. (had_room ≡ not (lacks books)) × (after ≡ (if had_room then change books else books))))
   of_room {change = change} {had_room = had_room} h = leads_less words shapes v w _ _ (λ x y c. record { at = λ books stand. ((if had_room then change books else books), c.left books stand, (c.answer books stand, refl)) }) h
 
-  pub of_taking : {A : Type 0} {says : ClearingBooks → A} {change : ClearingBooks → ClearingBooks} {answer : A} → LeadsTo words shapes v w (TellsAndChanges shape says change answer)
+  pub of_taking : {A : Type 0} {says : ClearingBooks → A} {change : ClearingBooks → ClearingBooks} {answer : A} → LeadsTo words shapes v w (TellsAndChanges (Stands shape) says change answer)
       → LeadsTo words shapes v w (Turns shape (λ books after. (answer ≡ says books) × (after ≡ change books)))
   of_taking {change = change} h = leads_less words shapes v w _ _ (λ x y c. record { at = λ books stand. (change books, c.left books stand, (c.told books stand, refl)) }) h
 
   -- what looks tell together
   pub tells : {A : Type 0} {says : ClearingBooks → A} {answer : A} {P : ClearingBooks → Type 0} → Looked words shapes shape v w P → ((books : ClearingBooks) → IsSized shape books → P books → answer ≡ says books)
-      → LeadsTo words shapes v w (Tells shape says answer)
+      → LeadsTo words shapes v w (Tells (Stands shape) says answer)
   tells {says = says} {answer = answer} {P = P} h means = told_saw words shapes shape v w says answer P means h.saw
 
   -- less of what changes did
@@ -134,14 +134,14 @@ module _ {W S O : Type 0} {words : AnyWords W S O} {shapes : Shapes S} {shape : 
 
   -- what was seen holds of the books that stand after looks
   pub each_looked : {P Q : ClearingBooks → Type 0} → Looked words shapes shape v w P → InEachState words shapes v (IsGoodFor shape) → ((books : ClearingBooks) → IsSized shape books → P books → Q books)
-      → InEachState words shapes w (OfBooks shape Q)
-  each_looked {P = P} {Q = Q} h stand means = state_after words shapes v w (IsGoodFor shape) (OfBooks shape Q) (Saw shape P) h.kept h.begins stand h.saw
+      → InEachState words shapes w (OfModel (Stands shape) Q)
+  each_looked {P = P} {Q = Q} h stand means = state_after words shapes v w (IsGoodFor shape) (OfModel (Stands shape) Q) (Saw shape P) h.kept h.begins stand h.saw
       (λ x y good k books there. means books (there.sizes, there.range) (k.saw books (subst (λ z. Stands shape z books) k.same there)))
 
   -- and of those that stand after a change, what R says of them
   pub each_turned : {R : ClearingBooks → ClearingBooks → Type 0} {Q : ClearingBooks → Type 0} → Turned words shapes shape v w R → InEachState words shapes v (IsGoodFor shape)
-      → ((books after : ClearingBooks) → IsSized shape books → R books after → Q after) → InEachState words shapes w (OfBooks shape Q)
-  each_turned {R = R} {Q = Q} h stand means = state_after words shapes v w (IsGoodFor shape) (OfBooks shape Q) (Turns shape R) h.kept h.begins stand h.turns
+      → ((books after : ClearingBooks) → IsSized shape books → R books after → Q after) → InEachState words shapes w (OfModel (Stands shape) Q)
+  each_turned {R = R} {Q = Q} h stand means = state_after words shapes v w (IsGoodFor shape) (OfModel (Stands shape) Q) (Turns shape R) h.kept h.begins stand h.turns
       (λ x y good k others there.
       let last = k.at good.0 good.1 in
       subst Q (one_books shape y last.0 others last.1 there) (means good.0 last.0 (good.1.sizes, good.1.range) last.2))

@@ -7,8 +7,8 @@ ghost use Rattle.books_model.specs.Books.{put_cash};
 ghost use Rattle.books_model.specs.Interpreter.{is_full, holds_any, cash_between};
 ghost use Rattle.books_model.specs.Ranges.{IsAccountNumber};
 ghost use Rattle.txn_words.specs.Calls.{IsReady, GoesOn, InEachState, LeadsTo};
-ghost use Rattle.txn_books.specs.Standing.{IsGoodFor};
-ghost use Rattle.txn_books.specs.Access.{OfBooks, Tells, Changes, ChangesWithRoom};
+ghost use Rattle.txn_books.specs.Standing.{IsGoodFor, Stands};
+ghost use Rattle.txn_words.specs.Access.{OfModel, Tells, Changes, ChangesWithRoom};
 
 use crate::room::has_room;
 use crate::shape::BooksShape;
@@ -19,7 +19,7 @@ pub fn cash<W: Words>(w: &mut W, shape: &BooksShape, account: u32) -> Result<Opt
     requires ready { IsReady W.Words w.old }
     requires stands { InEachState W.Words W.Shape.Shape w.old (IsGoodFor shape.now) }
     ensures told { IfOk result (λ answer. LeadsTo W.Words W.Shape.Shape w.old w.new
-        (Tells shape.now (λ books. map.get books.accounts account) answer)) }
+        (Tells (Stands shape.now) (λ books. map.get books.accounts account) answer)) }
     ensures range { IfOk result (λ answer. IfSome answer (λ cash. cash ≤ GREATEST_CASH)) }
     ensures stands { OnOk result (InEachState W.Words W.Shape.Shape w.new (IsGoodFor shape.now)) }
     ensures goes_on { GoesOn W.Words w.old w.new result }
@@ -37,10 +37,10 @@ pub fn set_cash<W: Words>(
     requires ready { IsReady W.Words w.old }
     requires stands { InEachState W.Words W.Shape.Shape w.old (IsGoodFor shape.now) }
     requires account { InEachState W.Words W.Shape.Shape w.old
-        (OfBooks shape.now (λ books. IsSome (map.get books.accounts account))) }
+        (OfModel (Stands shape.now) (λ books. IsSome (map.get books.accounts account))) }
     requires range { amount ≤ GREATEST_CASH }
     ensures changed { OnOk result (LeadsTo W.Words W.Shape.Shape w.old w.new
-        (Changes shape.now (λ books. put_cash books account amount))) }
+        (Changes (Stands shape.now) (λ books. put_cash books account amount))) }
     ensures stands { OnOk result (InEachState W.Words W.Shape.Shape w.new (IsGoodFor shape.now)) }
     ensures goes_on { GoesOn W.Words w.old w.new result }
 {
@@ -54,9 +54,9 @@ pub fn open_account<W: Words>(w: &mut W, shape: &BooksShape, account: u32) -> Re
     requires stands { InEachState W.Words W.Shape.Shape w.old (IsGoodFor shape.now) }
     requires account { IsAccountNumber account }
     requires absent { InEachState W.Words W.Shape.Shape w.old
-        (OfBooks shape.now (λ books. map.get books.accounts account ≡ None)) }
+        (OfModel (Stands shape.now) (λ books. map.get books.accounts account ≡ None)) }
     ensures opened { IfOk result (λ had_room. LeadsTo W.Words W.Shape.Shape w.old w.new
-        (ChangesWithRoom shape.now is_full (λ books. put_cash books account 0) had_room)) }
+        (ChangesWithRoom (Stands shape.now) is_full (λ books. put_cash books account 0) had_room)) }
     ensures stands { OnOk result (InEachState W.Words W.Shape.Shape w.new (IsGoodFor shape.now)) }
     ensures goes_on { GoesOn W.Words w.old w.new result }
 {
@@ -69,8 +69,8 @@ pub fn remove_account<W: Words>(w: &mut W, shape: &BooksShape, account: u32) -> 
     requires ready { IsReady W.Words w.old }
     requires stands { InEachState W.Words W.Shape.Shape w.old (IsGoodFor shape.now) }
     requires nothing { InEachState W.Words W.Shape.Shape w.old
-        (OfBooks shape.now (λ books. holds_any books account ≡ false)) }
-    ensures changed { OnOk result (LeadsTo W.Words W.Shape.Shape w.old w.new (Changes shape.now
+        (OfModel (Stands shape.now) (λ books. holds_any books account ≡ false)) }
+    ensures changed { OnOk result (LeadsTo W.Words W.Shape.Shape w.old w.new (Changes (Stands shape.now)
         (λ books. record books { accounts = map.remove books.accounts account }))) }
     ensures stands { OnOk result (InEachState W.Words W.Shape.Shape w.new (IsGoodFor shape.now)) }
     ensures goes_on { GoesOn W.Words w.old w.new result }
@@ -89,7 +89,7 @@ pub fn cash_between<W: Words>(
     requires ready { IsReady W.Words w.old }
     requires stands { InEachState W.Words W.Shape.Shape w.old (IsGoodFor shape.now) }
     ensures told { IfOk result (λ answer. LeadsTo W.Words W.Shape.Shape w.old w.new
-        (Tells shape.now (λ books. cash_between books low high) answer)) }
+        (Tells (Stands shape.now) (λ books. cash_between books low high) answer)) }
     ensures stands { OnOk result (InEachState W.Words W.Shape.Shape w.new (IsGoodFor shape.now)) }
     ensures goes_on { GoesOn W.Words w.old w.new result }
 {

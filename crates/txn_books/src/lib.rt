@@ -5,7 +5,7 @@
 //! books is `Stands` in `specs/Standing`; `laws` has what an operation on the words concludes when it changes one part.
 //!
 //! `cash`, `price`, `quantity` and `queue` have a call for each thing that an operation looks up or changes. Their
-//! contracts say by `specs/Access` what it answers and does, whatever books the words stand for. `operations` has the
+//! contracts say by `specs/Access` of txn_words what it answers and does, whatever books the words stand for. `operations` has the
 //! operations of scripts, and `specs/Operating` says what they come to. `ScriptJob` is a script as a job over any words
 //! of a shape, and `specs/Meaning` says what it means.
 #![tactic(auto)]

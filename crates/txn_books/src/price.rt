@@ -6,8 +6,9 @@ ghost use Rattle.books_model.specs.declared.limits.TheConstants.{GREATEST_PRICE}
 ghost use Rattle.books_model.specs.Books.{put_price};
 ghost use Rattle.books_model.specs.Ranges.{IsWithin};
 ghost use Rattle.txn_words.specs.Calls.{IsReady, GoesOn, InEachState, LeadsTo};
-ghost use Rattle.txn_books.specs.Standing.{IsGoodFor};
-ghost use Rattle.txn_books.specs.Access.{Tells, ChangesWithRoom, lacks_price_room};
+ghost use Rattle.txn_books.specs.Standing.{IsGoodFor, Stands};
+ghost use Rattle.txn_words.specs.Access.{Tells, ChangesWithRoom};
+ghost use Rattle.txn_books.specs.Access.{lacks_price_room};
 
 use crate::layout::price_key;
 use crate::room::has_room;
@@ -20,7 +21,7 @@ pub fn price<W: Words>(w: &mut W, shape: &BooksShape, instrument: u32) -> Result
     requires stands { InEachState W.Words W.Shape.Shape w.old (IsGoodFor shape.now) }
     requires instrument { IsWithin 1 shape.now.instruments instrument }
     ensures told { IfOk result (λ answer. LeadsTo W.Words W.Shape.Shape w.old w.new
-        (Tells shape.now (λ books. map.get books.prices instrument) answer)) }
+        (Tells (Stands shape.now) (λ books. map.get books.prices instrument) answer)) }
     ensures range { IfOk result (λ answer. IfSome answer (IsWithin 1 GREATEST_PRICE)) }
     ensures stands { OnOk result (InEachState W.Words W.Shape.Shape w.new (IsGoodFor shape.now)) }
     ensures goes_on { GoesOn W.Words w.old w.new result }
@@ -40,7 +41,7 @@ pub fn put_price<W: Words>(
     requires instrument { IsWithin 1 shape.now.instruments instrument }
     requires range { IsWithin 1 GREATEST_PRICE price }
     ensures priced { IfOk result (λ had_room. LeadsTo W.Words W.Shape.Shape w.old w.new
-        (ChangesWithRoom shape.now (lacks_price_room instrument)
+        (ChangesWithRoom (Stands shape.now) (lacks_price_room instrument)
         (λ books. put_price books instrument price) had_room)) }
     ensures stands { OnOk result (InEachState W.Words W.Shape.Shape w.new (IsGoodFor shape.now)) }
     ensures goes_on { GoesOn W.Words w.old w.new result }

@@ -7,8 +7,9 @@ ghost use Rattle.books_model.specs.Books.{position_of, price_of};
 ghost use Rattle.books_model.specs.Interpreter.{holds_any, put_position, worth_of};
 ghost use Rattle.books_model.specs.Ranges.{IsAccountNumber, IsWithin};
 ghost use Rattle.txn_words.specs.Calls.{IsReady, GoesOn, InEachState, LeadsTo};
-ghost use Rattle.txn_books.specs.Standing.{IsGoodFor};
-ghost use Rattle.txn_books.specs.Access.{OfBooks, Tells, ChangesWithRoom, lacks_position_room};
+ghost use Rattle.txn_books.specs.Standing.{IsGoodFor, Stands};
+ghost use Rattle.txn_words.specs.Access.{OfModel, Tells, ChangesWithRoom};
+ghost use Rattle.txn_books.specs.Access.{lacks_position_room};
 
 use crate::layout::position_key;
 use crate::price::price;
@@ -28,7 +29,7 @@ pub fn quantity<W: Words>(
     requires account { IsAccountNumber account }
     requires instrument { IsWithin 1 shape.now.instruments instrument }
     ensures told { IfOk result (λ answer. LeadsTo W.Words W.Shape.Shape w.old w.new
-        (Tells shape.now (λ books. map.get books.positions (account, instrument)) answer)) }
+        (Tells (Stands shape.now) (λ books. map.get books.positions (account, instrument)) answer)) }
     ensures range { IfOk result (λ answer. IfSome answer (IsWithin 1 GREATEST_QUANTITY)) }
     ensures stands { OnOk result (InEachState W.Words W.Shape.Shape w.new (IsGoodFor shape.now)) }
     ensures goes_on { GoesOn W.Words w.old w.new result }
@@ -48,12 +49,12 @@ pub fn set_quantity<W: Words>(
     requires ready { IsReady W.Words w.old }
     requires stands { InEachState W.Words W.Shape.Shape w.old (IsGoodFor shape.now) }
     requires account { InEachState W.Words W.Shape.Shape w.old
-        (OfBooks shape.now (λ books. IsSome (map.get books.accounts account))) }
+        (OfModel (Stands shape.now) (λ books. IsSome (map.get books.accounts account))) }
     requires price { InEachState W.Words W.Shape.Shape w.old
-        (OfBooks shape.now (λ books. IsSome (map.get books.prices instrument))) }
+        (OfModel (Stands shape.now) (λ books. IsSome (map.get books.prices instrument))) }
     requires range { quantity ≤ GREATEST_QUANTITY }
     ensures held { IfOk result (λ had_room. LeadsTo W.Words W.Shape.Shape w.old w.new
-        (ChangesWithRoom shape.now (lacks_position_room account instrument quantity)
+        (ChangesWithRoom (Stands shape.now) (lacks_position_room account instrument quantity)
         (λ books. put_position books account instrument quantity) had_room)) }
     ensures stands { OnOk result (InEachState W.Words W.Shape.Shape w.new (IsGoodFor shape.now)) }
     ensures goes_on { GoesOn W.Words w.old w.new result }
@@ -73,7 +74,7 @@ pub fn holds_any<W: Words>(w: &mut W, shape: &BooksShape, account: u32) -> Resul
     requires stands { InEachState W.Words W.Shape.Shape w.old (IsGoodFor shape.now) }
     requires account { IsAccountNumber account }
     ensures told { IfOk result (λ answer. LeadsTo W.Words W.Shape.Shape w.old w.new
-        (Tells shape.now (λ books. holds_any books account) answer)) }
+        (Tells (Stands shape.now) (λ books. holds_any books account) answer)) }
     ensures stands { OnOk result (InEachState W.Words W.Shape.Shape w.new (IsGoodFor shape.now)) }
     ensures goes_on { GoesOn W.Words w.old w.new result }
 {
@@ -96,7 +97,7 @@ fn worth_in<W: Words>(
     requires stands { InEachState W.Words W.Shape.Shape w.old (IsGoodFor shape.now) }
     requires account { IsAccountNumber account }
     requires instrument { IsWithin 1 shape.now.instruments instrument }
-    ensures told { IfOk result (λ answer. LeadsTo W.Words W.Shape.Shape w.old w.new (Tells shape.now
+    ensures told { IfOk result (λ answer. LeadsTo W.Words W.Shape.Shape w.old w.new (Tells (Stands shape.now)
         (λ books. position_of books account instrument * price_of books instrument) answer)) }
     ensures range { IfOk result (λ answer. answer ≤ GREATEST_QUANTITY * GREATEST_PRICE) }
     ensures stands { OnOk result (InEachState W.Words W.Shape.Shape w.new (IsGoodFor shape.now)) }
@@ -115,7 +116,7 @@ pub fn worth<W: Words>(w: &mut W, shape: &BooksShape, account: u32) -> Result<u6
     requires stands { InEachState W.Words W.Shape.Shape w.old (IsGoodFor shape.now) }
     requires account { IsAccountNumber account }
     ensures told { IfOk result (λ answer. LeadsTo W.Words W.Shape.Shape w.old w.new
-        (Tells shape.now (λ books. worth_of books account) answer)) }
+        (Tells (Stands shape.now) (λ books. worth_of books account) answer)) }
     ensures range { IfOk result (λ answer. answer ≤ GREATEST_SHORTFALL) }
     ensures stands { OnOk result (InEachState W.Words W.Shape.Shape w.new (IsGoodFor shape.now)) }
     ensures goes_on { GoesOn W.Words w.old w.new result }

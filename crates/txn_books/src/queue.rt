@@ -4,8 +4,8 @@ ghost use Rattle.std.specs.Prelude.{◌==◌, IfOk, OnOk, drop, length, slice_ge
 ghost use Rattle.books_model.specs.Books.{put_call};
 ghost use Rattle.books_model.specs.Ranges.{IsCall};
 ghost use Rattle.txn_words.specs.Calls.{IsReady, GoesOn, InEachState, LeadsTo};
-ghost use Rattle.txn_books.specs.Standing.{IsGoodFor};
-ghost use Rattle.txn_books.specs.Access.{ChangesWithRoom, TellsAndChanges};
+ghost use Rattle.txn_books.specs.Standing.{IsGoodFor, Stands};
+ghost use Rattle.txn_words.specs.Access.{ChangesWithRoom, TellsAndChanges};
 
 use crate::shape::BooksShape;
 use txn_words::{Stop, Words};
@@ -21,7 +21,7 @@ pub fn queue_call<W: Words>(
     requires stands { InEachState W.Words W.Shape.Shape w.old (IsGoodFor shape.now) }
     requires call { IsCall (account, shortfall) }
     ensures queued { IfOk result (λ had_room. LeadsTo W.Words W.Shape.Shape w.old w.new
-        (ChangesWithRoom shape.now (λ books. length books.calls == books.ring)
+        (ChangesWithRoom (Stands shape.now) (λ books. length books.calls == books.ring)
         (λ books. put_call books account shortfall) had_room)) }
     ensures stands { OnOk result (InEachState W.Words W.Shape.Shape w.new (IsGoodFor shape.now)) }
     ensures goes_on { GoesOn W.Words w.old w.new result }
@@ -34,7 +34,7 @@ pub fn take_front<W: Words>(w: &mut W, shape: &BooksShape) -> Result<Option<(u32
     requires ready { IsReady W.Words w.old }
     requires stands { InEachState W.Words W.Shape.Shape w.old (IsGoodFor shape.now) }
     ensures taken { IfOk result (λ answer. LeadsTo W.Words W.Shape.Shape w.old w.new
-        (TellsAndChanges shape.now (λ books. slice_get books.calls 0)
+        (TellsAndChanges (Stands shape.now) (λ books. slice_get books.calls 0)
         (λ books. record books { calls = drop 1 books.calls }) answer)) }
     ensures stands { OnOk result (InEachState W.Words W.Shape.Shape w.new (IsGoodFor shape.now)) }
     ensures goes_on { GoesOn W.Words w.old w.new result }

@@ -3,8 +3,8 @@
 ghost use Rattle.std.specs.Prelude.{IfOk, IfSome, OnOk};
 ghost use Rattle.books_model.specs.Ranges.{IsAccountNumber, IsWithin};
 ghost use Rattle.txn_words.specs.Calls.{IsReady, GoesOn, InEachState, LeadsTo};
-ghost use Rattle.txn_books.specs.Standing.{IsGoodFor};
-ghost use Rattle.txn_books.specs.Access.{OfBooks, Tells};
+ghost use Rattle.txn_books.specs.Standing.{IsGoodFor, Stands};
+ghost use Rattle.txn_words.specs.Access.{OfModel, Tells};
 ghost use Rattle.txn_books.specs.Inner.Trading.{side_of, IsSideInRange, MayExchange, Exchanges};
 
 use crate::cash::{cash, set_cash};
@@ -32,7 +32,7 @@ pub(crate) fn side_at<W: Words>(
     requires account { IsAccountNumber account }
     requires instrument { IsWithin 1 shape.now.instruments instrument }
     ensures told { IfOk result (λ answer. LeadsTo W.Words W.Shape.Shape w.old w.new
-        (Tells shape.now (λ books. side_of books account instrument) answer)) }
+        (Tells (Stands shape.now) (λ books. side_of books account instrument) answer)) }
     ensures range { IfOk result (λ answer. IfSome answer IsSideInRange) }
     ensures stands { OnOk result (InEachState W.Words W.Shape.Shape w.new (IsGoodFor shape.now)) }
     ensures goes_on { GoesOn W.Words w.old w.new result }
@@ -60,7 +60,7 @@ pub(crate) fn exchange<W: Words>(
     requires ready { IsReady W.Words w.old }
     requires stands { InEachState W.Words W.Shape.Shape w.old (IsGoodFor shape.now) }
     requires may { InEachState W.Words W.Shape.Shape w.old
-        (OfBooks shape.now (MayExchange instrument buys sells)) }
+        (OfModel (Stands shape.now) (MayExchange instrument buys sells)) }
     requires buyer { IsSideInRange buys }
     requires seller { IsSideInRange sells }
     ensures exchanged { IfOk result (λ had_room. LeadsTo W.Words W.Shape.Shape w.old w.new

@@ -1,6 +1,6 @@
 use Rattle.std.proofs.Common.{◌==◌, length, sym, ap, ◌∙◌, subst}
 use Rattle.books_model.specs.Books.{put_call}
-use Rattle.txn_books.specs.Access.{ChangesWithRoom}
+use Rattle.txn_words.specs.Access.{ChangesWithRoom}
 use Rattle.txn_books.specs.Standing.{Stands, IsGoodFor}
 use Rattle.txn_books.proofs.Built.{built_good, led, fresh, as_many, roomy, call_room, built_of}
 use Rattle.txn_books.proofs.building.add_call.Goals as goal
@@ -17,7 +17,7 @@ returns-in-Ok c =
     let first = c.requires.books.0 in
     let goes = c.in-Ok.ensures.goes_on in
     let view = c.new-plain.ensures.view in
-    let did = led (ChangesWithRoom shape (λ b. length b.calls == b.ring) (λ b. put_call b c.args.account c.args.shortfall) c.in-Ok.field-0) shape c.args.words.items c.new-plain.result c.queue_call.new.w view goes.shape goes.origin goes.sound
+    let did = led (ChangesWithRoom (Stands shape) (λ b. length b.calls == b.ring) (λ b. put_call b c.args.account c.args.shortfall) c.in-Ok.field-0) shape c.args.words.items c.new-plain.result c.queue_call.new.w view goes.shape goes.origin goes.sound
     (c.in-Ok.ensures.queued).at in
     let long = as_many shape c.args.words.items c.new-plain.result c.queue_call.new.w view goes.origin in
     let stands = roomy shape (λ b. length b.calls == b.ring) (λ b. put_call b c.args.account c.args.shortfall) c.in-Ok.field-0 c.args.words.items _ did first c.requires.books.1.stands (call_room first c.requires.books.2) in

@@ -7,7 +7,8 @@ use Rattle.txn_alloc.specs.EntryMaps.{HasMapApart}
 use Rattle.txn_hash_map.specs.Chains.{chain_part}
 use Rattle.txn_books.specs.Layout.{chains_of, position_key_of}
 use Rattle.txn_books.specs.Standing.{Stands}
-use Rattle.txn_books.specs.Access.{OfBooks, lacks_position_room}
+use Rattle.txn_words.specs.Access.{OfModel}
+use Rattle.txn_books.specs.Access.{lacks_position_room}
 use Rattle.txn_books.specs.Inner.Rooms.{had_room}
 use Rattle.txn_books.proofs.Whole.{one_books}
 use Rattle.txn_books.proofs.Calls.{IsPut}
@@ -39,7 +40,7 @@ returns-in-Ok c =
     let did = led (IsPut (chain_part (chains_of shape)) key c.args.quantity c.in-Ok.field-0) shape c.args.words.items c.new-plain.result c.insert.new.w view goes.shape goes.origin goes.sound
     (λ s fit. record { inserts = put.at s fit; full = λ e. (full e).at s fit; keeps = only_keeps _ c.new-plain.result.trace c.insert.new.w.trace s (frame.at s fit) }) in
     let long = as_many shape c.args.words.items c.new-plain.result c.insert.new.w view goes.origin in
-    let may : OfBooks shape (MayHold c.args.account c.args.instrument) c.args.words.items = λ b stand.
+    let may : OfModel (Stands shape) (MayHold c.args.account c.args.instrument) c.args.words.items = λ b stand.
     subst (MayHold c.args.account c.args.instrument) (one_books shape c.args.words.items first b built.stands stand) (c.requires.books.2, c.requires.books.3) in
     let some : c.args.quantity ≢ 0 = λ e. absurd (omega (arith, e, c.requires.quantity.0)) in
     let changes = quantity_put shape c.args.account c.args.instrument c.args.quantity some c.requires.quantity.1 c.in-Ok.field-0 c.args.words.items _ may did in

@@ -3,7 +3,8 @@ use Rattle.std.specs.FinMap as map
 use Rattle.txn_alloc.specs.EntryMaps.{Finds}
 use Rattle.txn_tree_map.specs.Trees.{tree_part}
 use Rattle.txn_books.specs.Layout.{tree_of}
-use Rattle.txn_books.specs.Access.{Tells}
+use Rattle.txn_words.specs.Access.{Tells}
+use Rattle.txn_books.specs.Standing.{Stands}
 use Rattle.txn_books.proofs.Calls.{leads_less, in_some, each_told, looked_stands}
 use Rattle.txn_books.proofs.Accounts.{tree_there, tells_cash, cash_most}
 use Rattle.txn_books.proofs.cash.cash.Goals as goal
@@ -15,7 +16,7 @@ pub returns-clause-told : goal.returns-clause-told
 returns-clause-told g c =
     let shape = c.args.shape.now in
     IfOk-weaker c.get.result _ _
-    (λ answer. leads_less g.W.Words g.W.Shape.Shape _ _ (Finds (tree_part (tree_of shape)) c.args.account answer) (Tells shape (λ books. map.get books.accounts c.args.account) answer) (tells_cash shape c.args.account answer))
+    (λ answer. leads_less g.W.Words g.W.Shape.Shape _ _ (Finds (tree_part (tree_of shape)) c.args.account answer) (Tells (Stands shape) (λ books. map.get books.accounts c.args.account) answer) (tells_cash shape c.args.account answer))
     (rw c.from.ensures at rw c.tree.ensures at c.get.ensures.found)
 
 pub returns-clause-range : goal.returns-clause-range

@@ -5,7 +5,8 @@ use Rattle.history_model.proofs.FittingLaws.{some_at, fits_begins}
 use Rattle.txn_alloc.specs.EntryMaps.{SumsRange}
 use Rattle.txn_tree_map.specs.Trees.{tree_part}
 use Rattle.txn_books.specs.Layout.{tree_of}
-use Rattle.txn_books.specs.Access.{Tells}
+use Rattle.txn_words.specs.Access.{Tells}
+use Rattle.txn_books.specs.Standing.{Stands}
 use Rattle.txn_books.proofs.Calls.{leads_less, looked_stands}
 use Rattle.txn_books.proofs.Accounts.{tree_there, between_small, tells_between}
 use Rattle.txn_books.proofs.cash.cash_between.Goals as goal
@@ -27,7 +28,7 @@ pub returns-clause-told : goal.returns-clause-told
 returns-clause-told g c =
     let shape = c.args.shape.now in
     let sums = rw c.from.ensures at rw c.from-2.ensures at rw c.tree.ensures at c.in_ok-total.ensures.sum in
-    leads_less g.W.Words g.W.Shape.Shape _ _ (SumsRange (tree_part (tree_of shape)) c.args.low c.args.high c.in_ok-total.total) (Tells shape (λ books. cash_between books c.args.low c.args.high) c.in_ok-total.total)
+    leads_less g.W.Words g.W.Shape.Shape _ _ (SumsRange (tree_part (tree_of shape)) c.args.low c.args.high c.in_ok-total.total) (Tells (Stands shape) (λ books. cash_between books c.args.low c.args.high) c.in_ok-total.total)
     (tells_between shape c.args.low c.args.high c.in_ok-total.total) sums
 
 pub returns-clause-stands : goal.returns-clause-stands

@@ -3,7 +3,8 @@ use Rattle.std.specs.FinMap as map
 use Rattle.txn_alloc.specs.EntryMaps.{Finds}
 use Rattle.txn_hash_map.specs.Chains.{chain_part}
 use Rattle.txn_books.specs.Layout.{chains_of, price_key_of}
-use Rattle.txn_books.specs.Access.{Tells}
+use Rattle.txn_words.specs.Access.{Tells}
+use Rattle.txn_books.specs.Standing.{Stands}
 use Rattle.txn_books.proofs.Calls.{leads_less, in_some, each_told, looked_stands}
 use Rattle.txn_books.proofs.Holdings.{chains_there, tells_price, price_most}
 use Rattle.txn_books.proofs.price.price.Goals as goal
@@ -16,7 +17,7 @@ returns-clause-told g c =
     let shape = c.args.shape.now in
     let i = c.args.instrument in
     IfOk-weaker c.get.result _ _
-    (λ answer. leads_less g.W.Words g.W.Shape.Shape _ _ (Finds (chain_part (chains_of shape)) (price_key_of i) answer) (Tells shape (λ books. map.get books.prices i) answer) (tells_price shape i c.requires.instrument answer))
+    (λ answer. leads_less g.W.Words g.W.Shape.Shape _ _ (Finds (chain_part (chains_of shape)) (price_key_of i) answer) (Tells (Stands shape) (λ books. map.get books.prices i) answer) (tells_price shape i c.requires.instrument answer))
     (rw c.price_key.ensures at rw c.chains.ensures at c.get.ensures.found)
 
 pub returns-clause-range : goal.returns-clause-range

@@ -4,8 +4,8 @@ use Rattle.std.specs.FinMap as map
 use Rattle.txn_alloc.specs.EntryMaps.{Finds}
 use Rattle.txn_hash_map.specs.Chains.{chain_part}
 use Rattle.txn_books.specs.Layout.{chains_of, position_key_of}
-use Rattle.txn_books.specs.Standing.{IsGoodFor}
-use Rattle.txn_books.specs.Access.{Tells}
+use Rattle.txn_books.specs.Standing.{IsGoodFor, Stands}
+use Rattle.txn_words.specs.Access.{Tells}
 use Rattle.txn_books.proofs.Calls.{leads_less, in_some, each_told, looked_stands}
 use Rattle.txn_books.proofs.Holdings.{chains_there, instruments_most, tells_quantity, quantity_most}
 use Rattle.txn_books.proofs.quantity.quantity.Goals as goal
@@ -17,7 +17,7 @@ pub returns-clause-told : goal.returns-clause-told
 returns-clause-told g c =
     let shape = c.args.shape.now in
     IfOk-weaker c.get.result _ _
-    (λ answer. leads_less g.W.Words g.W.Shape.Shape _ _ (Finds (chain_part (chains_of shape)) (position_key_of c.args.account c.args.instrument) answer) (Tells shape (λ books. map.get books.positions (c.args.account, c.args.instrument)) answer)
+    (λ answer. leads_less g.W.Words g.W.Shape.Shape _ _ (Finds (chain_part (chains_of shape)) (position_key_of c.args.account c.args.instrument) answer) (Tells (Stands shape) (λ books. map.get books.positions (c.args.account, c.args.instrument)) answer)
     (tells_quantity shape c.args.account c.args.instrument c.requires.account c.requires.instrument answer))
     (rw c.position_key.ensures at rw c.chains.ensures at c.get.ensures.found)
 

@@ -1,6 +1,7 @@
 use Rattle.txn_hash_map.specs.Chains.{chain_part}
 use Rattle.txn_books.specs.Layout.{chains_of, position_key_of}
-use Rattle.txn_books.specs.Access.{OfBooks}
+use Rattle.txn_words.specs.Access.{OfModel}
+use Rattle.txn_books.specs.Standing.{Stands}
 use Rattle.txn_books.proofs.Calls.{leads_when, leads_put, leads_cut, room_stands}
 use Rattle.txn_books.proofs.Holdings.{MayHold, chains_apart_there, place_of, quantity_put, quantity_cut}
 use Rattle.txn_books.proofs.quantity.set_quantity.Goals as goal
@@ -19,7 +20,7 @@ pub returns-then-quantity-eq0-clause-held : goal.returns-then-quantity-eq0-claus
 returns-then-quantity-eq0-clause-held g c =
     let removed = rw c.position_key-key.ensures at rw c.chains.ensures at c.in_ok-remove.ensures.removed in
     let frame = rw c.position_key-key.ensures at rw c.chains.ensures at c.in_ok-remove.ensures.frame in
-    leads_when g.W.Words g.W.Shape.Shape _ _ (OfBooks c.args.shape.now (MayHold c.args.account c.args.instrument)) _ _ c.in_ok-remove.ensures.goes_on.begins
+    leads_when g.W.Words g.W.Shape.Shape _ _ (OfModel (Stands c.args.shape.now) (MayHold c.args.account c.args.instrument)) _ _ c.in_ok-remove.ensures.goes_on.begins
     (record { at = λ s fit books stand. (c.requires.account.at s fit books stand, c.requires.price.at s fit books stand) })
     (quantity_cut c.args.shape.now c.args.account c.args.instrument c.args.quantity c.if-quantity-eq0.true c.in_ok-remove.field-0)
     (leads_cut g.W.Words g.W.Shape.Shape _ _ (chain_part (chains_of c.args.shape.now)) (position_key_of c.args.account c.args.instrument) c.in_ok-remove.field-0 removed frame)
@@ -37,7 +38,7 @@ returns-clause-held g c =
     let put = rw c.position_key-key.ensures at rw c.chains-2.ensures at c.in_ok-put.ensures.put in
     let full = rw c.position_key-key.ensures at rw c.chains-2.ensures at c.in_ok-put.ensures.full in
     let frame = rw c.position_key-key.ensures at rw c.chains-2.ensures at c.in_ok-put.ensures.frame in
-    rw c.has_room.ensures (leads_when g.W.Words g.W.Shape.Shape _ _ (OfBooks c.args.shape.now (MayHold c.args.account c.args.instrument)) _ _ c.in_ok-put.ensures.goes_on.begins
+    rw c.has_room.ensures (leads_when g.W.Words g.W.Shape.Shape _ _ (OfModel (Stands c.args.shape.now) (MayHold c.args.account c.args.instrument)) _ _ c.in_ok-put.ensures.goes_on.begins
     (record { at = λ s fit books stand. (c.requires.account.at s fit books stand, c.requires.price.at s fit books stand) })
     (quantity_put c.args.shape.now c.args.account c.args.instrument c.args.quantity c.if-quantity-eq0.false c.requires.range c.in_ok-put.put)
     (leads_put g.W.Words g.W.Shape.Shape _ _ (chain_part (chains_of c.args.shape.now)) (position_key_of c.args.account c.args.instrument) c.args.quantity c.in_ok-put.put put full frame))
