@@ -1,9 +1,11 @@
-//! Transactions on threads: two that cross, of which one gives way once, and four that add to both words in either order.
+//! Transactions on threads: two that cross, of which one gives way once, also where one takes back what it tried, and four
+//! that add to both words in either order.
 
-ghost use Rattle.std.specs.Prelude.{◌≡◌, ◌<◌, [], ◌∷◌, IfOk};
+ghost use Rattle.std.specs.Prelude.{◌≡◌, ◌<◌, [], ◌∷◌, None, IfOk};
 ghost use Rattle.history_model.specs.declared.view.Phase.TheVariants.{Idle};
 ghost use Rattle.locks_rule.specs.Splits.{opening_view};
 ghost use Rattle.std.specs.Thread.{IsSync};
+ghost use Rattle.txn_words.specs.Steps.{stop_after};
 
 use crate::transactions::close_two;
 use crossbeam_utils::atomic::AtomicCell;
@@ -36,6 +38,23 @@ impl Shape for Pair {
 enum AddToBoth {
     LeftFirst,
     RightFirst,
+    /// The left one first. Then both are written, and that is taken back.
+    TryLeftFirst,
+}
+
+// Writes both words, and takes that back.
+fn try_both<W: Words<Shape = Pair>>(w: &mut W) -> Result<(), Stop>
+    requires going { W.stop w.old ≡ None }
+    requires sound { W.is_sound w.old }
+    ensures stops { W.stop w.new ≡ stop_after result }
+    ensures shape { W.shape w.new ≡ W.shape w.old }
+    ensures origin { W.origin w.new ≡ W.origin w.old }
+    ensures sound { W.is_sound w.new }
+{
+    let mark = w.mark();
+    w.write(0, 50)?;
+    w.write(1, 60)?;
+    w.back_to(mark)
 }
 
 impl Job for AddToBoth {
@@ -55,11 +74,14 @@ impl Job for AddToBoth {
 
     fn run<W: Words<Shape = Pair>>(&self, w: &mut W) -> Result<Verdict<()>, Stop> {
         let (first, second) = match self {
-            AddToBoth::LeftFirst => (0, 1),
+            AddToBoth::LeftFirst | AddToBoth::TryLeftFirst => (0, 1),
             AddToBoth::RightFirst => (1, 0),
         };
         let value = w.read(first)?;
         w.write(first, value.wrapping_add(1))?;
+        if let AddToBoth::TryLeftFirst = self {
+            try_both(w)?;
+        }
         let value = w.read(second)?;
         w.write(second, value.wrapping_add(1))?;
         Ok(Verdict::Keep(()))
@@ -167,6 +189,7 @@ fn cross<R: Threads + Wait + Sync, G: Gate>(
     desk: &Desk<Pair>,
     zero: Pass<Pair>,
     one: Pass<Pair>,
+    left: AddToBoth,
     calls: u16,
     gate: &G,
 ) -> (Ended, Ended)
@@ -186,7 +209,7 @@ fn cross<R: Threads + Wait + Sync, G: Gate>(
             ensures { (result.0.table ≡ desk.entry.now.table) × (result.0.view.phase ≡ Idle)
                 × (result.0.view.who ≡ zero.view.who)
                 × (0 < desk.entry.now.seats → IfOk result.1 (λ most. most < desk.entry.now.seats)) }
-        { add_all(rt, alloc, desk, zero, AddToBoth::LeftFirst, calls, gate) },
+        { add_all(rt, alloc, desk, zero, left, calls, gate) },
         move || -> Ended
             requires { (one.table ≡ desk.now.table) × (one.view.phase ≡ Idle) × (one.view.call ≡ 0) }
             ensures { (result.0.table ≡ desk.entry.now.table) × (result.0.view.phase ≡ Idle)
@@ -230,7 +253,7 @@ fn cross_twice<R: Threads + Wait + Sync>(
                 × (result.0.0.view.who ≡ zero.view.who)
                 × (result.1.0.table ≡ desk.entry.now.table) × (result.1.0.view.phase ≡ Idle)
                 × (result.1.0.view.who ≡ one.view.who) }
-        { cross(rt, alloc, desk, zero, one, calls, &OpenGate) },
+        { cross(rt, alloc, desk, zero, one, AddToBoth::LeftFirst, calls, &OpenGate) },
         move || -> (Ended, Ended)
             requires { IsSync R.row
                 × (two.table ≡ desk.now.table) × (two.view.phase ≡ Idle) × (two.view.call ≡ 0)
@@ -239,7 +262,7 @@ fn cross_twice<R: Threads + Wait + Sync>(
                 × (result.0.0.view.who ≡ two.view.who)
                 × (result.1.0.table ≡ desk.entry.now.table) × (result.1.0.view.phase ≡ Idle)
                 × (result.1.0.view.who ≡ three.view.who) }
-        { cross(rt, alloc, desk, two, three, calls, &OpenGate) },
+        { cross(rt, alloc, desk, two, three, AddToBoth::LeftFirst, calls, &OpenGate) },
     )
 }
 
@@ -304,19 +327,36 @@ fn close_four(
     }
 }
 
-#[test]
-fn of_two_calls_that_cross_one_gives_way_once(rt: HostRuntime) -> Result<(), Fail> {
-    let (desk, zero, one) = open_pair(rt.alloc())?;
+// What two calls come to that cross and wait for each other with their first words, of which the one that has the left
+// word first is this: how many restarts they had, how often the gate was told that one gave way, and the words.
+fn crossed<R: Threads + Wait + Sync>(
+    rt: &R,
+    alloc: Global,
+    left: AddToBoth,
+) -> Result<(u32, u32, Vec<u64>), OutOfMemory> {
+    let (desk, zero, one) = open_pair(alloc)?;
     let gate = Meeting {
         arrived: AtomicCell::new(0),
         yielded: AtomicCell::new(0),
     };
-    let ((zero, left), (one, right)) = cross(&rt, rt.alloc(), &desk, zero, one, 1, &gate);
-    let words = close_two(rt.alloc(), desk, zero, one)?;
-    assert_eq!(rt;
-        (left? + right?, gate.yielded.load(), words.as_slice()),
-        (1, 1, [2, 2].as_slice())
-    );
+    let ((zero, first), (one, second)) = cross(rt, alloc, &desk, zero, one, left, 1, &gate);
+    let words = close_two(alloc, desk, zero, one)?;
+    Ok((first? + second?, gate.yielded.load(), words))
+}
+
+#[test]
+fn of_two_calls_that_cross_one_gives_way_once(rt: HostRuntime) -> Result<(), Fail> {
+    let (restarts, yielded, words) = crossed(&rt, rt.alloc(), AddToBoth::LeftFirst)?;
+    assert_eq!(rt; (restarts, yielded, words.as_slice()), (1, 1, [2, 2].as_slice()));
+    Ok(())
+}
+
+// Whoever has the left word tries to write the right one, for which the other holds the lock, and takes it back when it
+// has it; the other waits for the left word, or gives way.
+#[test]
+fn a_call_goes_back_beside_one_that_waits(rt: HostRuntime) -> Result<(), Fail> {
+    let (restarts, yielded, words) = crossed(&rt, rt.alloc(), AddToBoth::TryLeftFirst)?;
+    assert_eq!(rt; (restarts, yielded, words.as_slice()), (1, 1, [2, 2].as_slice()));
     Ok(())
 }
 
