@@ -325,6 +325,7 @@ asks_none a v = record {
   rest = refl;
   stamped = λ drawn. refl;
   unmet = λ same. (refl, refl);
+  drawn_once = refl;
   asked = λ b. (λ h. h, λ h. inr h);
   meetings = ([], sym (append-nil v.meetings), λ l j i. absurd (cc (i.1)));
   grants = λ k. (λ h. h, λ h. h);
