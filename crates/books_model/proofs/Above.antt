@@ -34,7 +34,8 @@ module _ {K : Type 0} {R : K → K → Ordering} (o : IsTotalOrder R) (later : K
     get-tree k = ap (λ m. map.get m k) (sym from) ∙ get-lookup o values.entries k
 
     -- the first entry of the map above a key is the first of the range
-    pub first_above : tree.IsOrdered R values → above ≡ entries_between R (Excluded a) Unbounded values.entries → find (λ e. later a e.0) (map.entries m) ≡ slice_get above 0
+    pub first_above : tree.IsOrdered R values → above ≡ entries_between R (Excluded a) Unbounded values.entries
+        → find (λ e. later a e.0) (map.entries m) ≡ slice_get above 0
     first_above ordered between =
         ap (λ m. find (λ e. later a e.0) (map.entries m)) (sym from)
         ∙ ap (find (λ e. later a e.0)) (entries-from_entries o values.entries ordered)
@@ -43,7 +44,8 @@ module _ {K : Type 0} {R : K → K → Ordering} (o : IsTotalOrder R) (later : K
 
     module _ (range : IsRangeOf R (Excluded a) Unbounded values above) where
       -- the first of the range is the least key above the given one, with its value
-      pub least_above : (e : K × ℕ) (rest : List (K × ℕ)) → above ≡ e ∷ rest → IsLtBy R a e.0 × (map.get m e.0 ≡ Some e.1) × ((k : K) → IsLtBy R a k → IsSome (map.get m k) → IsLeBy R e.0 k)
+      pub least_above : (e : K × ℕ) (rest : List (K × ℕ)) → above ≡ e ∷ rest → IsLtBy R a e.0
+          × (map.get m e.0 ≡ Some e.1) × ((k : K) → IsLtBy R a k → IsSome (map.get m k) → IsLeBy R e.0 k)
       least_above e rest first =
           let least = rw first at range.2 in
           ((rw first at range.1).0.0, get-tree e.0 ∙ (rw first at range.1).1, λ k more there. least k (more, tt) (subst IsSome (get-tree k) there))
@@ -58,9 +60,11 @@ module _ {K : Type 0} {R : K → K → Ordering} (o : IsTotalOrder R) (later : K
         | Greater ↦ λ less. ap is_gt (o.antisymm k a ∙ ap ordering_reverse less)
       ] refl
 
-module _ (a : ℕ) (values : tree.BTreeMap ℕ ℕ) (m : map.FinMap nat_cmp ℕ) (from : map.from_entries values.entries ≡ m) (above : List (ℕ × ℕ)) (range : IsRangeOf nat_cmp (Excluded a) Unbounded values above) where
+module _ (a : ℕ) (values : tree.BTreeMap ℕ ℕ) (m : map.FinMap nat_cmp ℕ) (from : map.from_entries values.entries ≡ m)
+    (above : List (ℕ × ℕ)) (range : IsRangeOf nat_cmp (Excluded a) Unbounded values above) where
   -- the first of the range is the least number above the given one, with its value
-  pub least_number_above : (e : ℕ × ℕ) (rest : List (ℕ × ℕ)) → above ≡ e ∷ rest → (a < e.0) × (map.get m e.0 ≡ Some e.1) × ((k : ℕ) → a < k → IsSome (map.get m k) → e.0 ≤ k)
+  pub least_number_above : (e : ℕ × ℕ) (rest : List (ℕ × ℕ)) → above ≡ e ∷ rest → (a < e.0) × (map.get m e.0 ≡ Some e.1)
+      × ((k : ℕ) → a < k → IsSome (map.get m k) → e.0 ≤ k)
   least_number_above e rest first =
       let least = least_above nat_cmp_total nat_lt is_lt-nat_cmp a values m from above range e rest first in
       (ranked a e.0 Less (sym least.0), least.1, λ k more there. le_from_not_gt e.0 k (least.2 k (sym (nat_cmp_is a k Less more)) there))

@@ -1,5 +1,6 @@
 -- What operations do to all cash, and to all that is held of an instrument.
-use Rattle.std.proofs.Common.{◌≡◌, ℕ, ◌+◌, ◌-◌, ◌*◌, ◌≤◌, Bool, true, false, cond, not, ◌&&◌, ◌||◌, ◌==◌, nat_lt, Option, Some, None, unwrap_or, refl, sym, ap, ◌∙◌, arith}
+use Rattle.std.proofs.Common.{◌≡◌, ℕ, ◌+◌, ◌-◌, ◌*◌, ◌≤◌, Bool, true, false, cond, not, ◌&&◌, ◌||◌, ◌==◌, nat_lt, Option, Some, None, unwrap_or, refl, sym, ap}
+use Rattle.std.proofs.Common.{◌∙◌, arith}
 use Rattle.std.specs.Cmp.{nat_cmp_total}
 use Rattle.std.specs.Ordering.{nat_cmp, eq_by_cmp}
 use Rattle.std.specs.FinMap as map
@@ -32,13 +33,15 @@ all_cash-put_cash books a cash =
 
 -- other cash of one account leaves that of another
 cash_of-apart : (books : ClearingBooks) (a b cash : ℕ) → (a == b) ≡ false → cash_of (put_cash books a cash) b ≡ cash_of books b
-cash_of-apart books a b cash apart = ap (λ x. unwrap_or x 0) (map.get-insert nat_cmp_total books.accounts a cash b ∙ ap (λ t. cond t (Some cash) (map.get books.accounts b)) (other (eq_by_cmp nat_cmp b a) refl)) where
-  other : (t : Bool) → eq_by_cmp nat_cmp b a ≡ t → eq_by_cmp nat_cmp b a ≡ false
-  other true at = let same : b ≡ a = tells_apart exact_unsigned b a at in absurd (not_apart a b (sym same) apart)
-  other false at = at
+cash_of-apart books a b cash apart = ap (λ x. unwrap_or x 0) (map.get-insert nat_cmp_total books.accounts a cash b
+    ∙ ap (λ t. cond t (Some cash) (map.get books.accounts b)) (other (eq_by_cmp nat_cmp b a) refl)) where
+      other : (t : Bool) → eq_by_cmp nat_cmp b a ≡ t → eq_by_cmp nat_cmp b a ≡ false
+      other true at = let same : b ≡ a = tells_apart exact_unsigned b a at in absurd (not_apart a b (sym same) apart)
+      other false at = at
 
 -- what one account gives to another is all there still
-pub given : (books : ClearingBooks) (a b x : ℕ) → (a == b) ≡ false → x ≤ cash_of books a → all_cash (put_cash (put_cash books a (cash_of books a - x)) b (cash_of books b + x)) ≡ all_cash books
+pub given : (books : ClearingBooks) (a b x : ℕ) → (a == b) ≡ false → x ≤ cash_of books a
+    → all_cash (put_cash (put_cash books a (cash_of books a - x)) b (cash_of books b + x)) ≡ all_cash books
 given books a b x apart fits =
     let first = all_cash-put_cash books a (cash_of books a - x) in
     let second = all_cash-put_cash (put_cash books a (cash_of books a - x)) b (cash_of books b + x) in
@@ -47,26 +50,36 @@ given books a b x apart fits =
 
 -- a deposit adds its amount
 pub deposited : (books : ClearingBooks) (a x : ℕ) → WhereDone (λ _ after. all_cash after ≡ all_cash books + x) (step_of (op.Deposit a x) books)
-deposited books a x = choice _ (not (is_account books a)) _ _ (λ _. declines _ _) (λ _. choice _ (nat_lt GREATEST_CASH (cash_of books a + x)) _ _ (λ _. declines _ _) (λ _. gives _ _ _ (omega (arith, all_cash-put_cash books a (cash_of books a + x)))))
+deposited books a x = choice _ (not (is_account books a)) _ _ (λ _. declines _ _)
+    (λ _. choice _ (nat_lt GREATEST_CASH (cash_of books a + x)) _ _ (λ _. declines _ _)
+    (λ _. gives _ _ _ (omega (arith, all_cash-put_cash books a (cash_of books a + x)))))
 
 -- a withdrawal takes its amount
 pub withdrawn : (books : ClearingBooks) (a x : ℕ) → WhereDone (λ _ after. all_cash after + x ≡ all_cash books) (step_of (op.Withdraw a x) books)
-withdrawn books a x = choice _ (not (is_account books a)) _ _ (λ _. declines _ _) (λ _. choice _ (nat_lt (cash_of books a) x) _ _ (λ _. declines _ _) (λ test. gives _ _ _ (omega (arith, all_cash-put_cash books a (cash_of books a - x), enough (cash_of books a) x test))))
+withdrawn books a x = choice _ (not (is_account books a)) _ _ (λ _. declines _ _)
+    (λ _. choice _ (nat_lt (cash_of books a) x) _ _ (λ _. declines _ _)
+    (λ test. gives _ _ _ (omega (arith, all_cash-put_cash books a (cash_of books a - x), enough (cash_of books a) x test))))
 
 -- a move keeps all cash
 pub moved : (books : ClearingBooks) (a b x : ℕ) → WhereDone (λ _ after. all_cash after ≡ all_cash books) (step_of (op.Move a b x) books)
-moved books a b x = choice _ (a == b) _ _ (λ _. declines _ _) (λ apart. choice _ (not (is_account books a && is_account books b)) _ _ (λ _. declines _ _) (λ _. choice _ (nat_lt (cash_of books a) x) _ _ (λ _. declines _ _) (λ test. choice _ (nat_lt GREATEST_CASH (cash_of books b + x)) _ _ (λ _. declines _ _) (λ _. gives _ _ _ (given books a b x apart (enough (cash_of books a) x test))))))
+moved books a b x = choice _ (a == b) _ _ (λ _. declines _ _)
+    (λ apart. choice _ (not (is_account books a && is_account books b)) _ _ (λ _. declines _ _)
+    (λ _. choice _ (nat_lt (cash_of books a) x) _ _ (λ _. declines _ _)
+    (λ test. choice _ (nat_lt GREATEST_CASH (cash_of books b + x)) _ _ (λ _. declines _ _)
+    (λ _. gives _ _ _ (given books a b x apart (enough (cash_of books a) x test))))))
 
 -- what holds of each trade that is done, from what is tested before it
 pub traded : (C : Value → ClearingBooks → Type 0) (books : ClearingBooks) (a b i q : ℕ)
     → ((a == b) ≡ false → q ≤ position_of books b i → q * price_of books i ≤ cash_of books a
-    → C value.Done (put_cash (put_cash (put_position (put_position books b i (position_of books b i - q)) a i (position_of books a i + q)) a (cash_of books a - q * price_of books i)) b (cash_of books b + q * price_of books i)))
+    → C value.Done (put_cash (put_cash (put_position (put_position books b i (position_of books b i - q)) a i
+    (position_of books a i + q)) a (cash_of books a - q * price_of books i)) b (cash_of books b + q * price_of books i)))
     → WhereDone C (step_of (op.Trade a b i q) books)
 traded C books a b i q h =
     choice C (a == b) _ _ (λ _. declines _ _) (λ apart. choice C (not (is_account books a && is_account books b)) _ _ (λ _. declines _ _) (λ _.
     choice C (not (map.contains_key books.prices i)) _ _ (λ _. declines _ _) (λ _. choice C (nat_lt (position_of books b i) q) _ _ (λ _. declines _ _) (λ sells.
     choice C (nat_lt (cash_of books a) (q * price_of books i)) _ _ (λ _. declines _ _) (λ pays.
-    choice C (nat_lt GREATEST_CASH (cash_of books b + q * price_of books i) || nat_lt GREATEST_QUANTITY (position_of books a i + q)) _ _ (λ _. declines _ _) (λ _.
+    choice C (nat_lt GREATEST_CASH (cash_of books b + q * price_of books i) || nat_lt GREATEST_QUANTITY
+    (position_of books a i + q)) _ _ (λ _. declines _ _) (λ _.
     choice C (not (map.contains_key books.positions (a, i)) && is_full (put_position books b i (position_of books b i - q))) _ _ (λ _. finds_no_block _) (λ _.
     gives _ _ _ (h apart (enough (position_of books b i) q sells) (enough (cash_of books a) (q * price_of books i) pays)))))))))
 
@@ -77,11 +90,17 @@ traded_cash books a b i q = traded _ books a b i q (λ apart _ pays.
     given exchanged a b (q * price_of books i) apart pays)
 
 -- what is held of an instrument, where one account holds another quantity
-all_held-put_position : (books : ClearingBooks) (a i quantity j : ℕ) → all_held (put_position books a i quantity) j + cond (i == j) (position_of books a i) 0 ≡ all_held books j + cond (i == j) quantity 0
+all_held-put_position : (books : ClearingBooks) (a i quantity j : ℕ)
+    → all_held (put_position books a i quantity) j + cond (i == j) (position_of books a i) 0 ≡ all_held books j + cond (i == j) quantity 0
 all_held-put_position books a i quantity j =
     let f : (ℕ × ℕ) × ℕ → ℕ = λ e. cond (e.0.1 == j) e.1 0 in
     let was = weighed (map.get books.positions (a, i)) in
-    elim (quantity == 0) as (λ t. (quantity == 0) ≡ t → all_held (record books { positions = cond t (map.remove books.positions (a, i)) (map.insert books.positions (a, i) quantity) }) j + cond (i == j) (position_of books a i) 0 ≡ all_held books j + cond (i == j) quantity 0) [
+    elim (quantity == 0) as (λ t. (quantity == 0) ≡ t
+    → all_held (record books {
+      positions =
+          cond t (map.remove books.positions (a, i)) (map.insert books.positions (a, i) quantity);
+    }) j
+    + cond (i == j) (position_of books a i) 0 ≡ all_held books j + cond (i == j) quantity 0) [
       | true ↦ λ test.
           let none : quantity ≡ 0 = grind (arith, nat_tests, test) in
           let zero : cond (i == j) quantity 0 ≡ 0 = ap (λ n. cond (i == j) n 0) none ∙ nothing (i == j) in
@@ -103,9 +122,12 @@ traded_quantities books a b i q j = traded _ books a b i q (λ apart fits _.
     let lowered = put_position books b i (position_of books b i - q) in
     let sold = all_held-put_position books b i (position_of books b i - q) j in
     let bought = all_held-put_position lowered a i (position_of books a i + q) j in
-    let same : position_of lowered a i ≡ position_of books a i = ap (λ x. unwrap_or x 0) (put_position-apart books a b i (position_of books b i - q) (λ e. not_apart a b e apart)) in
-    in_all (i == j) (position_of books a i) (position_of books b i) q (all_held books j) (all_held lowered j) _ fits sold (ap (λ n. all_held (put_position lowered a i (position_of books a i + q)) j + cond (i == j) n 0) (sym same) ∙ bought))
+    let same : position_of lowered a i ≡ position_of books a i =
+    ap (λ x. unwrap_or x 0) (put_position-apart books a b i (position_of books b i - q) (λ e. not_apart a b e apart)) in
+    in_all (i == j) (position_of books a i) (position_of books b i) q (all_held books j) (all_held lowered j) _ fits
+    sold (ap (λ n. all_held (put_position lowered a i (position_of books a i + q)) j + cond (i == j) n 0) (sym same) ∙ bought))
   where
-    in_all : (t : Bool) (pa pb q before lowered after : ℕ) → q ≤ pb → lowered + cond t pb 0 ≡ before + cond t (pb - q) 0 → after + cond t pa 0 ≡ lowered + cond t (pa + q) 0 → after ≡ before
+    in_all : (t : Bool) (pa pb q before lowered after : ℕ) → q ≤ pb → lowered + cond t pb 0 ≡ before + cond t (pb - q) 0
+        → after + cond t pa 0 ≡ lowered + cond t (pa + q) 0 → after ≡ before
     in_all true pa pb q before lowered after fits sold bought = omega arith
     in_all false pa pb q before lowered after fits sold bought = omega arith

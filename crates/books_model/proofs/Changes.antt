@@ -1,5 +1,6 @@
 -- Changes of a map, and how they are put into it.
-use Rattle.std.proofs.Common.{◌≡◌, ℕ, Bool, true, false, cond, List, [], ◌∷◌, Option, Some, None, IsSome, IfSome, IfNone, is_some, ◌⊎◌, inl, inr, refl, sym, ap, subst, ◌∙◌}
+use Rattle.std.proofs.Common.{◌≡◌, ℕ, Bool, true, false, cond, List, [], ◌∷◌, Option, Some, None, IsSome, IfSome, IfNone, is_some, ◌⊎◌, inl, inr, refl, sym, ap}
+use Rattle.std.proofs.Common.{subst, ◌∙◌}
 use Rattle.std.specs.declared.cmp.Ordering.{Ordering}
 use Rattle.std.specs.Cmp.{IsTotalOrder, eq_by_cmp_equiv, tied_itself}
 use Rattle.std.specs.Ordering.{eq_by_cmp, is_eq}
@@ -18,17 +19,20 @@ use Rattle.books_model.specs.declared.overlay.Change.{Change}
 use Rattle.books_model.specs.Inner.Changes.{set_at, changed, change_at, new_value, now_or, KnowBefore, HasRoomFor, IsRoomier}
 
 -- a change in front of others
-now_or-cond : (b : Bool) (change : Change) (others : Option Change) (was : Option ℕ) → cond b change.now (now_or others was) ≡ now_or (cond b (Some change) others) was
+now_or-cond : (b : Bool) (change : Change) (others : Option Change) (was : Option ℕ)
+    → cond b change.now (now_or others was) ≡ now_or (cond b (Some change) others) was
 now_or-cond true change others was = refl
 now_or-cond false change others was = refl
 
 -- a change behind others, none of which is where it is
-now_or-last : (b : Bool) (w : Option ℕ) (others : Option Change) (was : Option ℕ) → (b ≡ true → others ≡ None) → now_or others (cond b w was) ≡ cond b w (now_or others was)
+now_or-last : (b : Bool) (w : Option ℕ) (others : Option Change) (was : Option ℕ) → (b ≡ true → others ≡ None)
+    → now_or others (cond b w was) ≡ cond b w (now_or others was)
 now_or-last true w others was none = ap (λ x. now_or x w) (none refl)
 now_or-last false w others was none = refl
 
 -- making room: what is left of the changes are changes, and each key that changes give a value is in the map or among those that are left
-pub record IsMaking {K : Type 0} {R : K → K → Ordering} (before : FinMap R ℕ) (all : List (K × Change)) (now : FinMap R ℕ) (es : List (K × Change)) : Type 0 where
+pub record IsMaking {K : Type 0} {R : K → K → Ordering} (before : FinMap R ℕ) (all : List (K × Change))
+    (now : FinMap R ℕ) (es : List (K × Change)) : Type 0 where
   pub left : (q : K) (change : Change) → change_at R es q ≡ Some change → change_at R all q ≡ Some change
   pub roomier : IsRoomier all before now
   pub room : (q : K) (change : Change) → change_at R all q ≡ Some change → IsSome change.now → IsSome (get now q) ⊎ (change_at R es q ≡ Some change)
@@ -48,12 +52,14 @@ module _ {K : Type 0} {R : K → K → Ordering} (o : IsTotalOrder R) where
       ∙ now_or-cond (eq_by_cmp R q e.0) e.1 (change_at R es q) (get m q)
 
   -- a change that is found is what its key has afterwards
-  pub changed-found : (es : List (K × Change)) (q : K) (found : Option Change) → found ≡ change_at R es q → IfSome found (λ change. (m : FinMap R ℕ) → get (changed m es) q ≡ change.now)
+  pub changed-found : (es : List (K × Change)) (q : K) (found : Option Change) → found ≡ change_at R es q
+      → IfSome found (λ change. (m : FinMap R ℕ) → get (changed m es) q ≡ change.now)
   changed-found es q None is = tt
   changed-found es q (Some change) is = λ m. get-changed m es q ∙ ap (λ x. now_or x (get m q)) (sym is)
 
   -- a key for which none is found has afterwards what it had
-  pub changed-missed : (es : List (K × Change)) (q : K) (found : Option Change) → found ≡ change_at R es q → IfNone found ((m : FinMap R ℕ) → get (changed m es) q ≡ get m q)
+  pub changed-missed : (es : List (K × Change)) (q : K) (found : Option Change) → found ≡ change_at R es q
+      → IfNone found ((m : FinMap R ℕ) → get (changed m es) q ≡ get m q)
   changed-missed es q None is = λ m. get-changed m es q ∙ ap (λ x. now_or x (get m q)) (sym is)
   changed-missed es q (Some change) is = tt
 
@@ -62,32 +68,40 @@ module _ {K : Type 0} {R : K → K → Ordering} (o : IsTotalOrder R) where
   change_at_first e es = lookup_head (is_at (R e.0)) e es (ap is_eq (tied_itself o e.0))
 
   -- where keys rise, nothing further on is changed at the first one
-  pub none_further : (e : K × Change) (es : List (K × Change)) (q : K) → IsStrictlySortedBy R (keys_of (e ∷ es)) → eq_by_cmp R q e.0 ≡ true → change_at R es q ≡ None
-  none_further e es q sorted at = lookup-none (is_at (R q)) es (none_past_head (eq_by_cmp_equiv o) q e es (IsDistinct-from_sorted R (keys_of (e ∷ es)) sorted) at)
+  pub none_further : (e : K × Change) (es : List (K × Change)) (q : K) → IsStrictlySortedBy R (keys_of (e ∷ es))
+      → eq_by_cmp R q e.0 ≡ true → change_at R es q ≡ None
+  none_further e es q sorted at =
+      lookup-none (is_at (R q)) es (none_past_head (eq_by_cmp_equiv o) q e es (IsDistinct-from_sorted R (keys_of (e ∷ es)) sorted) at)
 
   -- where keys rise, a key that is changed further on is not the first one
-  pub apart_further : (e : K × Change) (es : List (K × Change)) (q : K) (change : Change) → IsStrictlySortedBy R (keys_of (e ∷ es)) → change_at R es q ≡ Some change → eq_by_cmp R q e.0 ≡ false
+  pub apart_further : (e : K × Change) (es : List (K × Change)) (q : K) (change : Change)
+      → IsStrictlySortedBy R (keys_of (e ∷ es)) → change_at R es q ≡ Some change → eq_by_cmp R q e.0 ≡ false
   apart_further e es q change sorted there = elim (eq_by_cmp R q e.0) as (λ b. eq_by_cmp R q e.0 ≡ b → eq_by_cmp R q e.0 ≡ false) [
     | true ↦ λ at. let none = none_further e es q sorted at in absurd (cc)
     | false ↦ λ apart. apart
   ] refl
 
   -- where keys rise, a change further on is one of all
-  pub change_further : (e : K × Change) (es : List (K × Change)) (q : K) (change : Change) → IsStrictlySortedBy R (keys_of (e ∷ es)) → change_at R es q ≡ Some change → change_at R (e ∷ es) q ≡ Some change
+  pub change_further : (e : K × Change) (es : List (K × Change)) (q : K) (change : Change)
+      → IsStrictlySortedBy R (keys_of (e ∷ es)) → change_at R es q ≡ Some change → change_at R (e ∷ es) q ≡ Some change
   change_further e es q change sorted there = ap (λ b. cond b (Some e.1) (change_at R es q)) (apart_further e es q change sorted there) ∙ there
 
   -- changes further on know what their keys had before too
-  pub KnowBefore-further : (m : FinMap R ℕ) (e : K × Change) (es : List (K × Change)) → IsStrictlySortedBy R (keys_of (e ∷ es)) → KnowBefore m (e ∷ es) → KnowBefore m es
+  pub KnowBefore-further : (m : FinMap R ℕ) (e : K × Change) (es : List (K × Change))
+      → IsStrictlySortedBy R (keys_of (e ∷ es)) → KnowBefore m (e ∷ es) → KnowBefore m es
   KnowBefore-further m e es sorted known = λ q change there. known q change (change_further e es q change sorted there)
 
   -- changes further on know what their keys have in a map changed at the first one
-  pub KnowBefore-past : (m : FinMap R ℕ) (e : K × Change) (es : List (K × Change)) (w : Option ℕ) → IsStrictlySortedBy R (keys_of (e ∷ es)) → KnowBefore m (e ∷ es) → KnowBefore (set_at m e.0 w) es
+  pub KnowBefore-past : (m : FinMap R ℕ) (e : K × Change) (es : List (K × Change)) (w : Option ℕ)
+      → IsStrictlySortedBy R (keys_of (e ∷ es)) → KnowBefore m (e ∷ es) → KnowBefore (set_at m e.0 w) es
   KnowBefore-past m e es w sorted known = λ q change there.
-      known q change (change_further e es q change sorted there) ∙ sym (get-set_at m e.0 w q ∙ ap (λ b. cond b w (get m q)) (apart_further e es q change sorted there))
+      known q change (change_further e es q change sorted there)
+      ∙ sym (get-set_at m e.0 w q ∙ ap (λ b. cond b w (get m q)) (apart_further e es q change sorted there))
 
   module _ (exact : CmpEqualImpliesEq R) where
     -- changes in order may be put in from the first to the last
-    pub changed-first : (m : FinMap R ℕ) (e : K × Change) (es : List (K × Change)) → IsStrictlySortedBy R (keys_of (e ∷ es)) → changed (set_at m e.0 e.1.now) es ≡ changed m (e ∷ es)
+    pub changed-first : (m : FinMap R ℕ) (e : K × Change) (es : List (K × Change))
+        → IsStrictlySortedBy R (keys_of (e ∷ es)) → changed (set_at m e.0 e.1.now) es ≡ changed m (e ∷ es)
     changed-first m e es sorted = same_map o exact (changed (set_at m e.0 e.1.now) es) (changed m (e ∷ es)) (λ q.
         get-changed (set_at m e.0 e.1.now) es q
         ∙ ap (now_or (change_at R es q)) (get-set_at m e.0 e.1.now q)
@@ -95,7 +109,8 @@ module _ {K : Type 0} {R : K → K → Ordering} (o : IsTotalOrder R) where
         ∙ ap (cond (eq_by_cmp R q e.0) e.1.now) (sym (get-changed m es q))
         ∙ sym (get-set_at (changed m es) e.0 e.1.now q))
 
-    module _ (es fs : List (K × Change)) (k : K) (change : Change) (noted : (q : K) → change_at R fs q ≡ cond (is_at (R k) q) (Some change) (change_at R es q)) where
+    module _ (es fs : List (K × Change)) (k : K) (change : Change) (noted : (q : K)
+        → change_at R fs q ≡ cond (is_at (R k) q) (Some change) (change_at R es q)) where
       -- one more change is a change of the changed map
       pub changed-noted : (m : FinMap R ℕ) → changed m fs ≡ set_at (changed m es) k change.now
       changed-noted m = same_map o exact (changed m fs) (set_at (changed m es) k change.now) (λ q.
@@ -108,10 +123,11 @@ module _ {K : Type 0} {R : K → K → Ordering} (o : IsTotalOrder R) where
 
       -- a change that knows what its key had joins others that do
       pub KnowBefore-noted : (m : FinMap R ℕ) → change.before ≡ get m k → KnowBefore m es → KnowBefore m fs
-      KnowBefore-noted m was known = λ q found there. elim (is_at (R k) q) as (λ b. is_at (R k) q ≡ b → cond b (Some change) (change_at R es q) ≡ Some found → found.before ≡ get m q) [
-        | true ↦ λ at f. let same : change ≡ found = cc in ap (λ (c : Change). c.before) (sym same) ∙ was ∙ ap (get m) (tells_apart exact k q at)
-        | false ↦ λ at f. known q found f
-      ] refl (sym (noted q) ∙ there)
+      KnowBefore-noted m was known = λ q found there. elim (is_at (R k) q) as (λ b. is_at (R k) q ≡ b
+          → cond b (Some change) (change_at R es q) ≡ Some found → found.before ≡ get m q) [
+            | true ↦ λ at f. let same : change ≡ found = cc in ap (λ (c : Change). c.before) (sym same) ∙ was ∙ ap (get m) (tells_apart exact k q at)
+            | false ↦ λ at f. known q found f
+          ] refl (sym (noted q) ∙ there)
 
     -- changes have one result on a map and on it with room for them
     pub changed-roomier : (m n : FinMap R ℕ) (es : List (K × Change)) → IsRoomier es m n → changed n es ≡ changed m es
@@ -124,16 +140,20 @@ module _ {K : Type 0} {R : K → K → Ordering} (o : IsTotalOrder R) where
         ∙ sym (get-changed m es q))
 
     -- what the cases of a change in front of others are
-    change_cases : (e : K × Change) (es : List (K × Change)) (q : K) (change : Change) → change_at R (e ∷ es) q ≡ Some change → ((q ≡ e.0) × (change ≡ e.1)) ⊎ (change_at R es q ≡ Some change)
-    change_cases e es q change found = elim (eq_by_cmp R q e.0) as (λ b. eq_by_cmp R q e.0 ≡ b → cond b (Some e.1) (change_at R es q) ≡ Some change → ((q ≡ e.0) × (change ≡ e.1)) ⊎ (change_at R es q ≡ Some change)) [
-      | true ↦ λ at f. inl (tells_apart exact q e.0 at, cc)
-      | false ↦ λ at f. inr f
-    ] refl found
+    change_cases : (e : K × Change) (es : List (K × Change)) (q : K) (change : Change)
+        → change_at R (e ∷ es) q ≡ Some change → ((q ≡ e.0) × (change ≡ e.1)) ⊎ (change_at R es q ≡ Some change)
+    change_cases e es q change found = elim (eq_by_cmp R q e.0) as (λ b. eq_by_cmp R q e.0 ≡ b
+        → cond b (Some e.1) (change_at R es q) ≡ Some change → ((q ≡ e.0) × (change ≡ e.1)) ⊎ (change_at R es q ≡ Some change)) [
+          | true ↦ λ at f. inl (tells_apart exact q e.0 at, cc)
+          | false ↦ λ at f. inr f
+        ] refl found
 
     -- after a change at a key that had room, there is room for those further on
-    pub HasRoomFor-further : (m : FinMap R ℕ) (e : K × Change) (es : List (K × Change)) → IsStrictlySortedBy R (keys_of (e ∷ es)) → HasRoomFor m (e ∷ es) → HasRoomFor (set_at m e.0 e.1.now) es
+    pub HasRoomFor-further : (m : FinMap R ℕ) (e : K × Change) (es : List (K × Change))
+        → IsStrictlySortedBy R (keys_of (e ∷ es)) → HasRoomFor m (e ∷ es) → HasRoomFor (set_at m e.0 e.1.now) es
     HasRoomFor-further m e es sorted room = λ q change there some.
-        subst IsSome (sym (get-set_at m e.0 e.1.now q ∙ ap (λ b. cond b e.1.now (get m q)) (apart_further e es q change sorted there))) (room q change (change_further e es q change sorted there) some)
+        subst IsSome (sym (get-set_at m e.0 e.1.now q
+        ∙ ap (λ b. cond b e.1.now (get m q)) (apart_further e es q change sorted there))) (room q change (change_further e es q change sorted there) some)
 
     -- at most one of two maps at a key
     at_or_apart : (q k : K) → (q ≡ k) ⊎ (eq_by_cmp R q k ≡ false)
@@ -144,7 +164,8 @@ module _ {K : Type 0} {R : K → K → Ordering} (o : IsTotalOrder R) where
 
     module _ (before : FinMap R ℕ) (all : List (K × Change)) (known : KnowBefore before all) (now : FinMap R ℕ) (e : K × Change) (es : List (K × Change)) where
       -- a key with a new value gets room
-      pub making-new : (v : ℕ) → IsStrictlySortedBy R (keys_of (e ∷ es)) → IsMaking before all now (e ∷ es) → new_value e.1 ≡ Some v → IsMaking before all (insert now e.0 v) es
+      pub making-new : (v : ℕ) → IsStrictlySortedBy R (keys_of (e ∷ es)) → IsMaking before all now (e ∷ es)
+          → new_value e.1 ≡ Some v → IsMaking before all (insert now e.0 v) es
       making-new v sorted h new =
           let first : change_at R all e.0 ≡ Some e.1 = h.left e.0 e.1 (change_at_first e es) in
           let absent : get before e.0 ≡ None = sym (known e.0 e.1 first) ∙ was_none e.1 v new in
@@ -152,7 +173,8 @@ module _ {K : Type 0} {R : K → K → Ordering} (o : IsTotalOrder R) where
             left = λ q change there. h.left q change (change_further e es q change sorted there);
             roomier = record {
               kept = λ q there. elim (at_or_apart q e.0) [
-                | inl same ↦ let none : get before q ≡ None = ap (get before) same ∙ absent in let found : IsSome {T = ℕ} None = subst IsSome none there in absurd (cc)
+                | inl same ↦ let none : get before q ≡ None = ap (get before) same ∙ absent in
+                    let found : IsSome {T = ℕ} None = subst IsSome none there in absurd (cc)
                 | inr apart ↦ get-insert o now e.0 v q ∙ ap (λ b. cond b (Some v) (get now q)) apart ∙ h.roomier.kept q there
               ];
               others = λ q none. elim (at_or_apart q e.0) [
@@ -163,7 +185,8 @@ module _ {K : Type 0} {R : K → K → Ordering} (o : IsTotalOrder R) where
             room = λ q change there some. elim (h.room q change there some) [
               | inl was ↦ inl (stays_after_insert o now e.0 q v was)
               | inr ahead ↦ elim (change_cases e es q change ahead) [
-                | inl this ↦ inl (subst (λ k. IsSome (get (insert now e.0 v) k)) (sym this.0) (subst IsSome (sym (get-insert o now e.0 v e.0 ∙ ap (λ r. cond (is_eq r) (Some v) (get now e.0)) (tied_itself o e.0))) refl))
+                | inl this ↦ inl (subst (λ k. IsSome (get (insert now e.0 v) k)) (sym this.0)
+                    (subst IsSome (sym (get-insert o now e.0 v e.0 ∙ ap (λ r. cond (is_eq r) (Some v) (get now e.0)) (tied_itself o e.0))) refl))
                 | inr further ↦ inr further
               ]
             ];
@@ -223,11 +246,13 @@ module _ {K : Type 0} {R : K → K → Ordering} (o : IsTotalOrder R) where
           let absent : get before e.0 ≡ None = none_of (get before e.0) (ap is_some (sym was) ∙ new) in
           record {
             kept = λ q there. elim (at_or_apart q e.0) [
-              | inl here ↦ let none : get before q ≡ None = ap (get before) here ∙ absent in let found : IsSome {T = ℕ} None = subst IsSome none there in absurd (cc)
+              | inl here ↦ let none : get before q ≡ None = ap (get before) here ∙ absent in
+                  let found : IsSome {T = ℕ} None = subst IsSome none there in absurd (cc)
               | inr apart ↦ get-remove o now e.0 q ∙ ap (λ b. cond b None (get now q)) apart ∙ h.kept q there
             ];
             others = λ q no. elim (at_or_apart q e.0) [
-              | inl here ↦ get-remove o now e.0 q ∙ ap (λ k. cond (eq_by_cmp R k e.0) None (get now q)) here ∙ ap (λ r. cond (is_eq r) None (get now q)) (tied_itself o e.0) ∙ sym (ap (get before) here ∙ absent)
+              | inl here ↦ get-remove o now e.0 q ∙ ap (λ k. cond (eq_by_cmp R k e.0) None (get now q)) here
+                  ∙ ap (λ r. cond (is_eq r) None (get now q)) (tied_itself o e.0) ∙ sym (ap (get before) here ∙ absent)
               | inr apart ↦ get-remove o now e.0 q ∙ ap (λ b. cond b None (get now q)) apart ∙ h.others q (none_left q apart no)
             ];
           }

@@ -1,11 +1,13 @@
 -- The entries of a finite map: what holds of them all, and sums over them.
-use Rattle.std.proofs.Common.{◌≡◌, ℕ, ◌+◌, ◌*◌, ◌-◌, ◌||◌, ◌<◌, ◌≤◌, Bool, true, false, cond, T, List, [], ◌∷◌, length, filter, Option, Some, None, IsSome, is_some, inl, inr, refl, sym, ap, subst, ◌∙◌, arith}
+use Rattle.std.proofs.Common.{◌≡◌, ℕ, ◌+◌, ◌*◌, ◌-◌, ◌||◌, ◌<◌, ◌≤◌, Bool, true, false, cond, T, List, [], ◌∷◌, length, filter, Option, Some, None, IsSome}
+use Rattle.std.proofs.Common.{is_some, inl, inr, refl, sym, ap, subst, ◌∙◌, arith}
 use Rattle.std.specs.declared.cmp.Ordering.{Ordering}
 use Rattle.std.specs.declared.cmp.Ordering.TheVariants.{Less, Equal, Greater}
 use Rattle.std.specs.Cmp.{IsTotalOrder, tied_itself}
 use Rattle.std.specs.Ordering.{eq_by_cmp, is_eq}
 use Rattle.std.specs.List.{AllByRecursion, sum_by, list_any}
-use Rattle.std.specs.FinMap.{FinMap, get, insert, remove, len, entries, get-entries, get-empty, get-insert, get-remove, entries-insert, entries_sorted, len-insert, len-remove, empty_of_len, same_map}
+use Rattle.std.specs.FinMap.{FinMap, get, insert, remove, len, entries, get-entries, get-empty, get-insert, get-remove, entries-insert, entries_sorted}
+use Rattle.std.specs.FinMap.{len-insert, len-remove, empty_of_len, same_map}
 use Rattle.std.specs.FinMap.Entries.{find, put, is_sorted, below_all, by_order}
 use Rattle.std.proofs.lemmas.Bool.{cases_lt}
 use Rattle.std.proofs.lemmas.List.Sums.{sum_by-cons}
@@ -32,7 +34,8 @@ sum_by-plus f g h is (x ∷ xs) = let e = is x in let rest = sum_by-plus f g h i
 -- a sum of terms that are at most some number
 pub sum_by-most : {X : Type 0} (f : X → ℕ) (most : ℕ) (xs : List X) → AllByRecursion (λ x. f x ≤ most) xs → sum_by f xs ≤ length xs * most
 sum_by-most f most [] h = omega arith
-sum_by-most f most (x ∷ xs) h = let e = h.0 in let rest = sum_by-most f most xs h.1 in let s : length (x ∷ xs) * most ≡ most + length xs * most = omega arith in omega (arith, sum_by-cons f x xs)
+sum_by-most f most (x ∷ xs) h = let e = h.0 in let rest = sum_by-most f most xs h.1 in
+    let s : length (x ∷ xs) * most ≡ most + length xs * most = omega arith in omega (arith, sum_by-cons f x xs)
 
 -- a sum over what passes a test
 pub sum_by-filter : {X : Type 0} (p : X → Bool) (f : X → ℕ) (xs : List X) → sum_by f (filter p xs) ≡ sum_by (λ x. cond (p x) (f x) 0) xs
@@ -40,7 +43,8 @@ sum_by-filter p f [] = refl
 sum_by-filter p f (x ∷ xs) =
     let rest = sum_by-filter p f xs in
     elim (p x) as (λ b. p x ≡ b → sum_by f (cond b (x ∷ filter p xs) (filter p xs)) ≡ sum_by (λ x. cond (p x) (f x) 0) (x ∷ xs)) [
-      | true ↦ λ e. let t : cond (p x) (f x) 0 ≡ f x = ap (λ b. cond b (f x) 0) e in omega (arith, sum_by-cons f x (filter p xs), sum_by-cons (λ x. cond (p x) (f x) 0) x xs)
+      | true ↦ λ e. let t : cond (p x) (f x) 0 ≡ f x = ap (λ b. cond b (f x) 0) e in
+          omega (arith, sum_by-cons f x (filter p xs), sum_by-cons (λ x. cond (p x) (f x) 0) x xs)
       | false ↦ λ e. let t : cond (p x) (f x) 0 ≡ 0 = ap (λ b. cond b (f x) 0) e in omega (arith, sum_by-cons (λ x. cond (p x) (f x) 0) x xs)
     ] refl
 
@@ -61,7 +65,8 @@ module _ {K : Type 0} {R : K → K → Ordering} (o : IsTotalOrder R) where
     none_found p q [] passes none = refl
     none_found p q (e ∷ es) passes none =
         elim (eq_by_cmp R q e.0) as (λ b. eq_by_cmp R q e.0 ≡ b → cond b (Some e.1) (find R q es) ≡ None) [
-          | true ↦ λ at. let this : p e ≡ true = ap (λ k. p (k, e.1)) (sym (tells_apart exact q e.0 at)) ∙ passes e.1 in absurd (not_both (p e) (list_any p es) this none)
+          | true ↦ λ at. let this : p e ≡ true = ap (λ k. p (k, e.1)) (sym (tells_apart exact q e.0 at)) ∙ passes e.1 in
+              absurd (not_both (p e) (list_any p es) this none)
           | false ↦ λ _. none_found p q es passes (not_later (p e) (list_any p es) none)
         ] refl
       where
@@ -78,7 +83,8 @@ module _ {K : Type 0} {R : K → K → Ordering} (o : IsTotalOrder R) where
     some_found p q v [] found passes = absurd (cc)
     some_found p q v (e ∷ es) found passes =
         elim (eq_by_cmp R q e.0) as (λ b. eq_by_cmp R q e.0 ≡ b → cond b (Some e.1) (find R q es) ≡ Some v → list_any p (e ∷ es) ≡ true) [
-          | true ↦ λ at f. let value : e.1 ≡ v = cc in let this : p e ≡ true = ap (λ k. p (k, e.1)) (sym (tells_apart exact q e.0 at)) ∙ ap (λ w. p (q, w)) value ∙ passes in ap (λ b. b || list_any p es) this
+          | true ↦ λ at f. let value : e.1 ≡ v = cc in let this : p e ≡ true =
+              ap (λ k. p (k, e.1)) (sym (tells_apart exact q e.0 at)) ∙ ap (λ w. p (q, w)) value ∙ passes in ap (λ b. b || list_any p es) this
           | false ↦ λ _ f. or_later (p e) (list_any p es) (some_found p q v es f passes)
         ] refl found
       where
@@ -87,7 +93,8 @@ module _ {K : Type 0} {R : K → K → Ordering} (o : IsTotalOrder R) where
         or_later false b e = e
 
     -- what holds of each key with its value holds of all entries
-    all_entries : {X : Type 0} (P : K × X → Type 0) (es : List (K × X)) → T (is_sorted R es) → ((k : K) (v : X) → find R k es ≡ Some v → P (k, v)) → AllByRecursion P es
+    all_entries : {X : Type 0} (P : K × X → Type 0) (es : List (K × X)) → T (is_sorted R es)
+        → ((k : K) (v : X) → find R k es ≡ Some v → P (k, v)) → AllByRecursion P es
     all_entries P [] sorted each = tt
     all_entries P (e ∷ es) sorted each = (
       each e.0 e.1 (ap (λ r. cond (is_eq r) (Some e.1) (find R e.0 es)) (tied_itself o e.0)),
@@ -96,7 +103,8 @@ module _ {K : Type 0} {R : K → K → Ordering} (o : IsTotalOrder R) where
       where
         further : (k : K) (v : _) → find R k es ≡ Some v → find R k (e ∷ es) ≡ Some v
         further k v found = elim (eq_by_cmp R k e.0) as (λ b. eq_by_cmp R k e.0 ≡ b → cond b (Some e.1) (find R k es) ≡ Some v) [
-          | true ↦ λ at. let none : find R k es ≡ None = ap (λ q. find R q es) (tells_apart exact k e.0 at) ∙ find_below e.0 es (sorted_first R e es sorted) in absurd (cc)
+          | true ↦ λ at. let none : find R k es ≡ None = ap (λ q. find R q es) (tells_apart exact k e.0 at)
+              ∙ find_below e.0 es (sorted_first R e es sorted) in absurd (cc)
           | false ↦ λ _. found
         ] refl
 
@@ -104,10 +112,12 @@ module _ {K : Type 0} {R : K → K → Ordering} (o : IsTotalOrder R) where
     All-entries P m each = all_entries P (entries m) (entries_sorted m) (λ k v found. each k v (get-entries m k ∙ found))
 
     -- the sum after a value is put in its place
-    sum_by-put : (f : K × ℕ → ℕ) (k : K) (v : ℕ) (es : List (K × ℕ)) → T (is_sorted R es) → sum_by f (put R k v es) + weigh f k (find R k es) ≡ sum_by f es + f (k, v)
+    sum_by-put : (f : K × ℕ → ℕ) (k : K) (v : ℕ) (es : List (K × ℕ)) → T (is_sorted R es)
+        → sum_by f (put R k v es) + weigh f k (find R k es) ≡ sum_by f es + f (k, v)
     sum_by-put f k v [] sorted = omega (arith, sum_by-cons f (k, v) [])
     sum_by-put f k v (e ∷ es) sorted =
-        elim (R k e.0) as (λ r. R k e.0 ≡ r → sum_by f (by_order r ((k, v) ∷ e ∷ es) ((e.0, v) ∷ es) (e ∷ put R k v es)) + weigh f k (cond (is_eq r) (Some e.1) (find R k es)) ≡ sum_by f (e ∷ es) + f (k, v)) [
+        elim (R k e.0) as (λ r. R k e.0 ≡ r → sum_by f (by_order r ((k, v) ∷ e ∷ es) ((e.0, v) ∷ es) (e ∷ put R k v es))
+        + weigh f k (cond (is_eq r) (Some e.1) (find R k es)) ≡ sum_by f (e ∷ es) + f (k, v)) [
           | Less ↦ λ less.
               let none : weigh f k (find R k es) ≡ 0 = ap (weigh f k) (find_below k es (below_less R o k e.0 es less (sorted_first R e es sorted))) in
               omega (arith, sum_by-cons f (k, v) (e ∷ es))
@@ -148,7 +158,8 @@ module _ {K : Type 0} {R : K → K → Ordering} (o : IsTotalOrder R) where
     get_removed m k = get-remove o m k k ∙ ap (λ r. cond (is_eq r) None (get m k)) (tied_itself o k)
 
     -- the sum after a change at a key
-    pub sum_by-set_at : (f : K × ℕ → ℕ) (m : FinMap R ℕ) (k : K) (w : Option ℕ) → sum_by f (entries (set_at m k w)) + weigh f k (get m k) ≡ sum_by f (entries m) + weigh f k w
+    pub sum_by-set_at : (f : K × ℕ → ℕ) (m : FinMap R ℕ) (k : K) (w : Option ℕ)
+        → sum_by f (entries (set_at m k w)) + weigh f k (get m k) ≡ sum_by f (entries m) + weigh f k w
     sum_by-set_at f m k (Some v) = sum_by-insert f m k v
     sum_by-set_at f m k None = elim (get m k) as (λ x. get m k ≡ x → sum_by f (entries (remove m k)) + weigh f k x ≡ sum_by f (entries m) + 0) [
       | Some v ↦ λ there.
@@ -159,9 +170,12 @@ module _ {K : Type 0} {R : K → K → Ordering} (o : IsTotalOrder R) where
     ] refl
 
     -- a sum whose terms are 0 but at one key is its term
-    pub sum_by-one : (f : K × ℕ → ℕ) (m : FinMap R ℕ) (k : K) → ((q : K) (v : ℕ) → eq_by_cmp R q k ≡ false → f (q, v) ≡ 0) → sum_by f (entries m) ≡ weigh f k (get m k)
+    pub sum_by-one : (f : K × ℕ → ℕ) (m : FinMap R ℕ) (k : K)
+        → ((q : K) (v : ℕ) → eq_by_cmp R q k ≡ false → f (q, v) ≡ 0) → sum_by f (entries m) ≡ weigh f k (get m k)
     sum_by-one f m k apart =
-        let zero : sum_by f (entries (remove m k)) ≡ 0 = all_zero f (entries (remove m k)) (All-entries (λ e. f e ≡ 0) (remove m k) (λ q v there. elim (eq_by_cmp R q k) as (λ b. eq_by_cmp R q k ≡ b → f (q, v) ≡ 0) [
+        let zero : sum_by f (entries (remove m k)) ≡ 0 =
+        all_zero f (entries (remove m k))
+        (All-entries (λ e. f e ≡ 0) (remove m k) (λ q v there. elim (eq_by_cmp R q k) as (λ b. eq_by_cmp R q k ≡ b → f (q, v) ≡ 0) [
           | true ↦ λ at. let none : get (remove m k) q ≡ None = ap (get (remove m k)) (tells_apart exact q k at) ∙ get_removed m k in absurd (cc)
           | false ↦ λ e. apart q v e
         ] refl)) in
@@ -187,7 +201,8 @@ module _ {K : Type 0} {R : K → K → Ordering} (o : IsTotalOrder R) where
     | true ↦ λ e. omega arith
     | false ↦ λ e. omega arith
   ] (len-insert o m k v)
-  len-set_at m k None = elim (is_some (get m k)) as (λ b. is_some (get m k) ≡ b → len (remove m k) ≡ cond b (len m - 1) (len m) → len (remove m k) + cond b 1 0 ≡ len m + 0) [
-    | true ↦ λ there e. let more = len_positive m k there in omega arith
-    | false ↦ λ _ e. omega arith
-  ] refl (len-remove o m k)
+  len-set_at m k None = elim (is_some (get m k)) as (λ b. is_some (get m k) ≡ b
+      → len (remove m k) ≡ cond b (len m - 1) (len m) → len (remove m k) + cond b 1 0 ≡ len m + 0) [
+        | true ↦ λ there e. let more = len_positive m k there in omega arith
+        | false ↦ λ _ e. omega arith
+      ] refl (len-remove o m k)

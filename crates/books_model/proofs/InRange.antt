@@ -12,7 +12,8 @@ use Rattle.books_model.specs.Books.{ClearingBooks, empty_books, put_call, put_ca
 use Rattle.books_model.specs.Ranges.{AreInRange, IsWithin, IsAccountNumber, IsCall, IsInstrumentOf}
 
 -- empty books are in range
-pub empty_books-in_range : (blocks instruments ring : ℕ) → IsWithin 1 MOST_BLOCKS blocks → IsWithin 1 MOST_INSTRUMENTS instruments → IsWithin 1 MOST_RING ring → AreInRange (empty_books blocks instruments ring)
+pub empty_books-in_range : (blocks instruments ring : ℕ) → IsWithin 1 MOST_BLOCKS blocks
+    → IsWithin 1 MOST_INSTRUMENTS instruments → IsWithin 1 MOST_RING ring → AreInRange (empty_books blocks instruments ring)
 empty_books-in_range b i r hb hi hr = record {
   blocks = hb;
   instruments = hi;
@@ -26,7 +27,8 @@ empty_books-in_range b i r hb hi hr = record {
 }
 
 -- books in range stay so when an account that may be new has other cash, if its block is counted
-pub put_cash-in_range : (books : ClearingBooks) (a cash : ℕ) → AreInRange books → IsAccountNumber a → cash ≤ GREATEST_CASH → used (put_cash books a cash) ≤ books.blocks → AreInRange (put_cash books a cash)
+pub put_cash-in_range : (books : ClearingBooks) (a cash : ℕ) → AreInRange books → IsAccountNumber a
+    → cash ≤ GREATEST_CASH → used (put_cash books a cash) ≤ books.blocks → AreInRange (put_cash books a cash)
 put_cash-in_range books a cash h number fits room = record {
   blocks = h.blocks;
   instruments = h.instruments;
@@ -45,7 +47,8 @@ put_cash-in_range books a cash h number fits room = record {
 }
 
 -- books in range stay so when an instrument that may have none has another price, if its block is counted
-pub put_price-in_range : (books : ClearingBooks) (i price : ℕ) → AreInRange books → IsInstrumentOf books i → IsWithin 1 GREATEST_PRICE price → used (put_price books i price) ≤ books.blocks → AreInRange (put_price books i price)
+pub put_price-in_range : (books : ClearingBooks) (i price : ℕ) → AreInRange books → IsInstrumentOf books i
+    → IsWithin 1 GREATEST_PRICE price → used (put_price books i price) ≤ books.blocks → AreInRange (put_price books i price)
 put_price-in_range books i price h number fits room = record {
   blocks = h.blocks;
   instruments = h.instruments;
@@ -64,7 +67,9 @@ put_price-in_range books i price h number fits room = record {
 }
 
 -- books in range stay so when an account holds another quantity of an instrument, if its block is counted
-pub put_quantity-in_range : (books : ClearingBooks) (a i quantity : ℕ) → AreInRange books → IsSome (map.get books.accounts a) → IsSome (map.get books.prices i) → IsWithin 1 GREATEST_QUANTITY quantity → used (put_quantity books a i quantity) ≤ books.blocks → AreInRange (put_quantity books a i quantity)
+pub put_quantity-in_range : (books : ClearingBooks) (a i quantity : ℕ) → AreInRange books
+    → IsSome (map.get books.accounts a) → IsSome (map.get books.prices i) → IsWithin 1 GREATEST_QUANTITY quantity
+    → used (put_quantity books a i quantity) ≤ books.blocks → AreInRange (put_quantity books a i quantity)
 put_quantity-in_range books a i quantity h account price fits room = record {
   blocks = h.blocks;
   instruments = h.instruments;
@@ -85,7 +90,8 @@ put_quantity-in_range books a i quantity h account price fits room = record {
 }
 
 -- books in range stay so when a margin call for which there is room is queued
-pub put_call-in_range : (books : ClearingBooks) (a shortfall : ℕ) → AreInRange books → IsCall (a, shortfall) → length books.calls < books.ring → AreInRange (put_call books a shortfall)
+pub put_call-in_range : (books : ClearingBooks) (a shortfall : ℕ) → AreInRange books → IsCall (a, shortfall)
+    → length books.calls < books.ring → AreInRange (put_call books a shortfall)
 put_call-in_range books a shortfall h call room = record {
   blocks = h.blocks;
   instruments = h.instruments;
@@ -107,7 +113,8 @@ pub used_after_price : (books : ClearingBooks) (i price : ℕ) → map.get books
 used_after_price books i price absent = omega (arith, len_after_insert nat_cmp_total books.prices i price absent)
 
 -- a new position takes a block
-pub used_after_position : (books : ClearingBooks) (a i quantity : ℕ) → map.get books.positions (a, i) ≡ None → used (put_quantity books a i quantity) ≡ used books + 1
+pub used_after_position : (books : ClearingBooks) (a i quantity : ℕ) → map.get books.positions (a, i) ≡ None
+    → used (put_quantity books a i quantity) ≡ used books + 1
 used_after_position books a i quantity absent = omega (arith, len_after_insert positions_total books.positions (a, i) quantity absent)
 
 -- other cash of an account takes no block
@@ -115,12 +122,14 @@ pub used_after_change : (books : ClearingBooks) (a cash : ℕ) → IsSome (map.g
 used_after_change books a cash there = omega (arith, len_after_change nat_cmp_total books.accounts a cash there)
 
 -- an account has an account's number
-pub number-in_range : (books : ClearingBooks) (a : ℕ) → AreInRange books → (found : Option ℕ) → found ≡ map.get books.accounts a → IsSome found → IsAccountNumber a
+pub number-in_range : (books : ClearingBooks) (a : ℕ) → AreInRange books → (found : Option ℕ)
+    → found ≡ map.get books.accounts a → IsSome found → IsAccountNumber a
 number-in_range books a h None is there = absurd (cc)
 number-in_range books a h (Some cash) is there = (h.accounts a cash (sym is)).0
 
 -- books in range stay so when an account has other cash
-pub change-in_range : (books : ClearingBooks) (a cash : ℕ) → AreInRange books → IsSome (map.get books.accounts a) → cash ≤ GREATEST_CASH → AreInRange (put_cash books a cash)
+pub change-in_range : (books : ClearingBooks) (a cash : ℕ) → AreInRange books → IsSome (map.get books.accounts a)
+    → cash ≤ GREATEST_CASH → AreInRange (put_cash books a cash)
 change-in_range books a cash h there fits =
     let room : used (put_cash books a cash) ≤ books.blocks = omega (arith, used_after_change books a cash there, h.blocks_used) in
     put_cash-in_range books a cash h (number-in_range books a h (map.get books.accounts a) refl there) fits room

@@ -49,4 +49,5 @@ module _ {K X : Type 0} (R : K → K → Ordering) where
   -- a key below one that is below all is below all
   pub below_less : IsTotalOrder R → (x y : K) (es : List (K × X)) → R x y ≡ Less → T (below_all R y es) → T (below_all R x es)
   below_less o x y [] less h = tt
-  below_less o x y (e ∷ es) less h = subst (λ r. T (is_lt r && below_all R x es)) (sym (o.trans x y e.0 less (below_first y e es h))) (below_less o x y es less (below_rest y e es h))
+  below_less o x y (e ∷ es) less h =
+      subst (λ r. T (is_lt r && below_all R x es)) (sym (o.trans x y e.0 less (below_first y e es h))) (below_less o x y es less (below_rest y e es h))

@@ -1,5 +1,6 @@
 -- What ties a `BTreeMap`, by its entries, to the finite map that the entries make.
-use Rattle.std.proofs.Common.{◌≡◌, Bool, true, false, cond, List, [], ◌∷◌, length, ◌+◌, ◌⊎◌, inl, inr, Option, Some, None, IsSome, is_some, refl, sym, ap, subst, ◌∙◌}
+use Rattle.std.proofs.Common.{◌≡◌, Bool, true, false, cond, List, [], ◌∷◌, length, ◌+◌, ◌⊎◌, inl, inr, Option, Some, None, IsSome, is_some, refl, sym, ap}
+use Rattle.std.proofs.Common.{subst, ◌∙◌}
 use Rattle.std.specs.declared.cmp.Ordering.{Ordering}
 use Rattle.std.specs.declared.cmp.Ordering.TheVariants.{Less}
 use Rattle.std.specs.Cmp.{IsTotalOrder, eq_by_cmp_equiv}
@@ -8,7 +9,8 @@ use Rattle.std.specs.BTreeMap.{is_at}
 use Rattle.std.specs.Map.{lookup, keys_of}
 use Rattle.std.specs.List.{AllByRecursion}
 use Rattle.std.specs.List.Sorted.{IsStrictlySortedBy}
-use Rattle.std.specs.FinMap.{FinMap, find, put, from_entries, entries, get, insert, remove, len, empty, get-from_entries, entries-insert, len-entries, len-empty, len-insert, same_map, get-insert, get-remove}
+use Rattle.std.specs.FinMap.{FinMap, find, put, from_entries, entries, get, insert, remove, len, empty, get-from_entries, entries-insert, len-entries}
+use Rattle.std.specs.FinMap.{len-empty, len-insert, same_map, get-insert, get-remove}
 use Rattle.std.proofs.lemmas.List.{nil_from_length}
 use Rattle.std.proofs.lemmas.Map.Keys.{sorted_head, sorted_tail}
 use Rattle.std.proofs.lemmas.Map.Lookups.{CmpEqualImpliesEq}
@@ -54,7 +56,8 @@ module _ {K X : Type 0} {R : K → K → Ordering} (o : IsTotalOrder R) where
         → ((q : K) → get changed q ≡ cond (eq_by_cmp R q k) w (get m q))
         → ((q : K) → get n q ≡ cond (is_at (R k) q) w (get m q))
         → n ≡ changed
-    is_changed m n changed k w there here = same_map o exact n changed (λ q. here q ∙ ap (λ b. cond b w (get m q)) ((eq_by_cmp_equiv o).symm k q) ∙ sym (there q))
+    is_changed m n changed k w there here =
+        same_map o exact n changed (λ q. here q ∙ ap (λ b. cond b w (get m q)) ((eq_by_cmp_equiv o).symm k q) ∙ sym (there q))
 
     -- a map with a value put at a key
     pub is_insert : (m n : FinMap R X) (k : K) (v : X) → ((q : K) → get n q ≡ cond (is_at (R k) q) (Some v) (get m q)) → n ≡ insert m k v
@@ -83,7 +86,8 @@ module _ {K X : Type 0} {R : K → K → Ordering} (o : IsTotalOrder R) where
     from_entries-removed es fs k changed = is_remove (from_entries es) (from_entries fs) k (from_entries-changed es fs k None changed)
 
     -- the cases of what is found after an insertion
-    found_cases : (m : FinMap R X) (k q : K) (v w : X) (b : Bool) → eq_by_cmp R q k ≡ b → cond b (Some v) (get m q) ≡ Some w → ((q ≡ k) × (v ≡ w)) ⊎ (get m q ≡ Some w)
+    found_cases : (m : FinMap R X) (k q : K) (v w : X) (b : Bool) → eq_by_cmp R q k ≡ b
+        → cond b (Some v) (get m q) ≡ Some w → ((q ≡ k) × (v ≡ w)) ⊎ (get m q ≡ Some w)
     found_cases m k q v w true at found = inl (tells_apart exact q k at, same_Some v w found)
     found_cases m k q v w false at found = inr found
 
@@ -93,7 +97,8 @@ module _ {K X : Type 0} {R : K → K → Ordering} (o : IsTotalOrder R) where
 
   -- an insertion takes no key out
   pub stays_after_insert : (m : FinMap R X) (k q : K) (v : X) → IsSome (get m q) → IsSome (get (insert m k v) q)
-  stays_after_insert m k q v there = subst IsSome (sym (get-insert o m k v q)) (elim (eq_by_cmp R q k) as (λ b. IsSome (cond b (Some v) (get m q))) [ true ↦ refl | false ↦ there ])
+  stays_after_insert m k q v there =
+      subst IsSome (sym (get-insert o m k v q)) (elim (eq_by_cmp R q k) as (λ b. IsSome (cond b (Some v) (get m q))) [ true ↦ refl | false ↦ there ])
 
   -- an insertion at a key that is there keeps the length
   pub len_after_change : (m : FinMap R X) (k : K) (v : X) → IsSome (get m k) → len (insert m k v) ≡ len m

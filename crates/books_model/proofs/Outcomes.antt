@@ -30,7 +30,8 @@ unfolding WhereDone
 finds_no_block C = tt
 
 -- a choice of steps
-pub choice : (C : Value → ClearingBooks → Type 0) (b : Bool) (x y : Step) → (b ≡ true → WhereDone C x) → (b ≡ false → WhereDone C y) → WhereDone C (if b then x else y)
+pub choice : (C : Value → ClearingBooks → Type 0) (b : Bool) (x y : Step) → (b ≡ true → WhereDone C x)
+    → (b ≡ false → WhereDone C y) → WhereDone C (if b then x else y)
 choice C true x y p q = p refl
 choice C false x y p q = q refl
 
@@ -44,13 +45,16 @@ abbrev pub WhereEnds : (List Value → ClearingBooks → Type 0) → Run → Typ
 WhereEnds C (Ends values after) = C values after
 WhereEnds C (Stops stop) = Unit {0}
 
-value_first : (C D : List Value → ClearingBooks → Type 0) (v : Value) (r : Run) → ((values : List Value) (after : ClearingBooks) → D values after → C (v ∷ values) after) → WhereEnds D r → WhereEnds C (after_value v r)
+value_first : (C D : List Value → ClearingBooks → Type 0) (v : Value) (r : Run)
+    → ((values : List Value) (after : ClearingBooks) → D values after → C (v ∷ values) after) → WhereEnds D r → WhereEnds C (after_value v r)
 value_first C D v (Ends values after) f h = f values after h
 value_first C D v (Stops stop) f h = tt
 
 -- a step, and the run of what follows
-pub step_first : (C : List Value → ClearingBooks → Type 0) (S : Value → ClearingBooks → Type 0) (k : ℕ) (s : Step) (follows : ClearingBooks → Run) → WhereDone S s
-    → ((v : Value) (next : ClearingBooks) → S v next → (D : List Value → ClearingBooks → Type 0) × (WhereEnds D (follows next)) × ((values : List Value) (after : ClearingBooks) → D values after → C (v ∷ values) after))
+pub step_first : (C : List Value → ClearingBooks → Type 0) (S : Value → ClearingBooks → Type 0) (k : ℕ) (s : Step)
+    (follows : ClearingBooks → Run) → WhereDone S s
+    → ((v : Value) (next : ClearingBooks) → S v next → (D : List Value → ClearingBooks → Type 0)
+    × (WhereEnds D (follows next)) × ((values : List Value) (after : ClearingBooks) → D values after → C (v ∷ values) after))
     → WhereEnds C (after_step k s follows)
 unfolding WhereDone
 step_first C S k (Gives v next) follows h f = let g = f v next h in value_first C g.0 v (follows next) g.2 g.1
@@ -63,12 +67,15 @@ outcome_holds C before (Ends values after) h k = k
 outcome_holds C before (Stops stop) h k = h
 
 -- a run that stops has no values
-pub stops_refused : (before : ClearingBooks) (r : Run) → ((values : List Value) → (outcome_from before r).0 ≢ reply.Done values) → (outcome_from before r).1 ≡ before
+pub stops_refused : (before : ClearingBooks) (r : Run)
+    → ((values : List Value) → (outcome_from before r).0 ≢ reply.Done values) → (outcome_from before r).1 ≡ before
 stops_refused before (Ends values after) refused = absurd (refused values refl)
 stops_refused before (Stops stop) refused = refl
 
 -- what holds where a run ends holds where its reply is Done, if no stop is
-pub ends_done : (C : List Value → ClearingBooks → Type 0) (before : ClearingBooks) (r : Run) (values : List Value) (after : ClearingBooks) → WhereEnds C r → ((stop : Reply) → r ≡ Stops stop → stop ≢ reply.Done values) → outcome_from before r ≡ (reply.Done values, after) → C values after
+pub ends_done : (C : List Value → ClearingBooks → Type 0) (before : ClearingBooks) (r : Run) (values : List Value)
+    (after : ClearingBooks) → WhereEnds C r → ((stop : Reply) → r ≡ Stops stop → stop ≢ reply.Done values)
+    → outcome_from before r ≡ (reply.Done values, after) → C values after
 ends_done C before (Ends found left) values after h no_stop is =
     let same : reply.Done found ≡ reply.Done values = ap (λ (p : Reply × ClearingBooks). p.0) is in
     let v : found ≡ values = cc in
@@ -76,15 +83,18 @@ ends_done C before (Ends found left) values after h no_stop is =
     subst (C values) b (subst (λ vs. C vs left) v h)
 ends_done C before (Stops stop) values after h no_stop is = absurd (no_stop stop refl (ap (λ (p : Reply × ClearingBooks). p.0) is))
 
-value_no_done : (v : Value) (r : Run) (stop : Reply) (values : List Value) → ((stop : Reply) → r ≡ Stops stop → stop ≢ reply.Done values) → after_value v r ≡ Stops stop → stop ≢ reply.Done values
+value_no_done : (v : Value) (r : Run) (stop : Reply) (values : List Value)
+    → ((stop : Reply) → r ≡ Stops stop → stop ≢ reply.Done values) → after_value v r ≡ Stops stop → stop ≢ reply.Done values
 value_no_done v (Ends found after) stop values no_stop is = absurd (cc)
 value_no_done v (Stops other) stop values no_stop is = no_stop stop is
 
 -- a run that stops has a reply that is not Done
-pub stops_no_done : (k : ℕ) (ops : List Op) (books : ClearingBooks) (values : List Value) (stop : Reply) → run_from k ops books ≡ Stops stop → stop ≢ reply.Done values
+pub stops_no_done : (k : ℕ) (ops : List Op) (books : ClearingBooks) (values : List Value) (stop : Reply)
+    → run_from k ops books ≡ Stops stop → stop ≢ reply.Done values
 stops_no_done k [] books values stop is = absurd (cc)
 stops_no_done k (o ∷ ops) books values stop is = of_step (step_of o books) (λ next s e. stops_no_done (k + 1) ops next values s e) is where
-  of_step : (s : Step) → ((next : ClearingBooks) (stop : Reply) → run_from (k + 1) ops next ≡ Stops stop → stop ≢ reply.Done values) → after_step k s (λ next. run_from (k + 1) ops next) ≡ Stops stop → stop ≢ reply.Done values
+  of_step : (s : Step) → ((next : ClearingBooks) (stop : Reply) → run_from (k + 1) ops next ≡ Stops stop
+      → stop ≢ reply.Done values) → after_step k s (λ next. run_from (k + 1) ops next) ≡ Stops stop → stop ≢ reply.Done values
   of_step (Gives v next) more is = value_no_done v (run_from (k + 1) ops next) stop values (more next) is
   of_step (Declines why) more is = λ done. let e : reply.Declined k why ≡ reply.Done values = (let f : reply.Declined k why ≡ stop = cc in f ∙ done) in cc
   of_step FindsNoBlock more is = λ done. let e : reply.Full k ≡ reply.Done values = (let f : reply.Full k ≡ stop = cc in f ∙ done) in cc

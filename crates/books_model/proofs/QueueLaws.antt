@@ -29,30 +29,41 @@ margin_in_order books a m shortfall =
 
 -- each operation keeps the order
 step_in_order : (o : Op) (books : ClearingBooks) → WhereDone (InOrder o books) (step_of o books)
-step_in_order (op.OpenAccount a) books = choice _ (is_account books a) _ _ (λ _. declines _ _) (λ _. choice _ (is_full books) _ _ (λ _. finds_no_block _) (λ _. gives _ _ _ (append-nil books.calls)))
+step_in_order (op.OpenAccount a) books =
+    choice _ (is_account books a) _ _ (λ _. declines _ _) (λ _. choice _ (is_full books) _ _ (λ _. finds_no_block _)
+    (λ _. gives _ _ _ (append-nil books.calls)))
 step_in_order (op.Close a) books =
-    choice _ (not (is_account books a)) _ _ (λ _. declines _ _) (λ _. choice _ (not (cash_of books a == 0)) _ _ (λ _. declines _ _) (λ _. choice _ (holds_any books a) _ _ (λ _. declines _ _) (λ _. gives _ _ _ (append-nil books.calls))))
+    choice _ (not (is_account books a)) _ _ (λ _. declines _ _)
+    (λ _. choice _ (not (cash_of books a == 0)) _ _ (λ _. declines _ _)
+    (λ _. choice _ (holds_any books a) _ _ (λ _. declines _ _) (λ _. gives _ _ _ (append-nil books.calls))))
 step_in_order (op.Deposit a x) books =
-    choice _ (not (is_account books a)) _ _ (λ _. declines _ _) (λ _. choice _ (nat_lt GREATEST_CASH (cash_of books a + x)) _ _ (λ _. declines _ _) (λ _. gives _ _ _ (append-nil books.calls)))
+    choice _ (not (is_account books a)) _ _ (λ _. declines _ _)
+    (λ _. choice _ (nat_lt GREATEST_CASH (cash_of books a + x)) _ _ (λ _. declines _ _) (λ _. gives _ _ _ (append-nil books.calls)))
 step_in_order (op.Withdraw a x) books =
-    choice _ (not (is_account books a)) _ _ (λ _. declines _ _) (λ _. choice _ (nat_lt (cash_of books a) x) _ _ (λ _. declines _ _) (λ _. gives _ _ _ (append-nil books.calls)))
+    choice _ (not (is_account books a)) _ _ (λ _. declines _ _)
+    (λ _. choice _ (nat_lt (cash_of books a) x) _ _ (λ _. declines _ _) (λ _. gives _ _ _ (append-nil books.calls)))
 step_in_order (op.Move a b x) books =
     choice _ (a == b) _ _ (λ _. declines _ _) (λ _. choice _ (not (is_account books a && is_account books b)) _ _ (λ _. declines _ _) (λ _.
-    choice _ (nat_lt (cash_of books a) x) _ _ (λ _. declines _ _) (λ _. choice _ (nat_lt GREATEST_CASH (cash_of books b + x)) _ _ (λ _. declines _ _) (λ _. gives _ _ _ (append-nil books.calls)))))
-step_in_order (op.Price i p) books = choice _ (not (map.contains_key books.prices i) && is_full books) _ _ (λ _. finds_no_block _) (λ _. gives _ _ _ (append-nil books.calls))
+    choice _ (nat_lt (cash_of books a) x) _ _ (λ _. declines _ _)
+    (λ _. choice _ (nat_lt GREATEST_CASH (cash_of books b + x)) _ _ (λ _. declines _ _) (λ _. gives _ _ _ (append-nil books.calls)))))
+step_in_order (op.Price i p) books =
+    choice _ (not (map.contains_key books.prices i) && is_full books) _ _ (λ _. finds_no_block _) (λ _. gives _ _ _ (append-nil books.calls))
 step_in_order (op.Trade a b i q) books = traded _ books a b i q (λ _ _ _. append-nil books.calls)
 step_in_order (op.Margin a m) books =
     choice _ (not (is_account books a)) _ _ (λ _. declines _ _) (λ _.
-    choice _ (not (shortfall_of books a m == 0) && (length books.calls == books.ring)) _ _ (λ _. declines _ _) (λ _. margin_in_order books a m (shortfall_of books a m)))
+    choice _ (not (shortfall_of books a m == 0) && (length books.calls == books.ring)) _ _ (λ _. declines _ _)
+    (λ _. margin_in_order books a m (shortfall_of books a m)))
 step_in_order op.Next books = next_in_order books books.calls refl
 step_in_order (op.Show a) books = choice _ (not (is_account books a)) _ _ (λ _. declines _ _) (λ _. gives _ _ _ (append-nil books.calls))
 step_in_order (op.Sum a b) books = gives _ _ _ (append-nil books.calls)
 
 -- each run keeps the order
-pub run_in_order : (k : ℕ) (ops : List Op) (books : ClearingBooks) → WhereEnds (λ values after. books.calls ++ queued ops values ≡ flat_map taken_by values ++ after.calls) (run_from k ops books)
+pub run_in_order : (k : ℕ) (ops : List Op) (books : ClearingBooks)
+    → WhereEnds (λ values after. books.calls ++ queued ops values ≡ flat_map taken_by values ++ after.calls) (run_from k ops books)
 run_in_order k [] books = append-nil books.calls
 run_in_order k (o ∷ ops) books =
-    step_first (λ values after. books.calls ++ queued (o ∷ ops) values ≡ flat_map taken_by values ++ after.calls) (InOrder o books) k (step_of o books) (λ next. run_from (k + 1) ops next) (step_in_order o books)
+    step_first (λ values after. books.calls ++ queued (o ∷ ops) values ≡ flat_map taken_by values ++ after.calls)
+    (InOrder o books) k (step_of o books) (λ next. run_from (k + 1) ops next) (step_in_order o books)
     (λ v next first. (
       λ values after. next.calls ++ queued ops values ≡ flat_map taken_by values ++ after.calls,
       run_in_order (k + 1) ops next,

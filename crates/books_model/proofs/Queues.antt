@@ -1,5 +1,6 @@
 -- Queues from which some were taken at the front.
-use Rattle.std.proofs.Common.{◌≡◌, ℕ, ◌+◌, ◌-◌, ◌<◌, ◌≤◌, zero, suc, List, [], ◌∷◌, ◌++◌, length, drop, Some, None, refl, sym, ap, ◌∙◌, arith, append_assoc, length-append}
+use Rattle.std.proofs.Common.{◌≡◌, ℕ, ◌+◌, ◌-◌, ◌<◌, ◌≤◌, zero, suc, List, [], ◌∷◌, ◌++◌, length, drop, Some, None, refl, sym, ap, ◌∙◌, arith, append_assoc}
+use Rattle.std.proofs.Common.{length-append}
 use Rattle.std.specs.List.{slice_get}
 use Rattle.std.proofs.lemmas.List.{drop-append-le, drop-drop}
 
@@ -30,7 +31,8 @@ at_first (suc t) (x ∷ xs) ys within = at_first t xs ys (omega arith)
 pub at_second : {X : Type 0} (t : ℕ) (xs ys : List X) → length xs ≤ t → slice_get (xs ++ ys) t ≡ slice_get ys (t - length xs)
 at_second t [] ys past = ap (slice_get ys) (omega arith)
 at_second zero (x ∷ xs) ys past = absurd (omega arith)
-at_second (suc t) (x ∷ xs) ys past = let e : suc t - suc (length xs) ≡ t - length xs = omega arith in at_second t xs ys (omega arith) ∙ ap (slice_get ys) (sym e)
+at_second (suc t) (x ∷ xs) ys past = let e : suc t - suc (length xs) ≡ t - length xs = omega arith in
+    at_second t xs ys (omega arith) ∙ ap (slice_get ys) (sym e)
 
 -- a list that has a front is its front and the rest
 pub front_first : {X : Type 0} (xs : List X) (x : X) → slice_get xs 0 ≡ Some x → xs ≡ x ∷ drop 1 xs

@@ -1,5 +1,6 @@
 -- Books stay in range, whatever is run on them.
-use Rattle.std.proofs.Common.{◌≡◌, ℕ, zero, suc, ◌+◌, ◌-◌, ◌*◌, ◌<◌, ◌≤◌, Bool, true, false, cond, not, ◌&&◌, ◌||◌, ◌==◌, nat_lt, List, [], ◌∷◌, length, drop, Option, Some, None, IsSome, is_some, unwrap_or, refl, sym, ap, subst, ◌∙◌, arith}
+use Rattle.std.proofs.Common.{◌≡◌, ℕ, zero, suc, ◌+◌, ◌-◌, ◌*◌, ◌<◌, ◌≤◌, Bool, true, false, cond, not, ◌&&◌, ◌||◌, ◌==◌, nat_lt, List, [], ◌∷◌, length, drop}
+use Rattle.std.proofs.Common.{Option, Some, None, IsSome, is_some, unwrap_or, refl, sym, ap, subst, ◌∙◌, arith}
 use Rattle.std.proofs.Math.Nat.{mul-le-mul_left}
 use Rattle.std.specs.Cmp.{nat_cmp_total}
 use Rattle.std.specs.List.{AllByRecursion}
@@ -14,7 +15,8 @@ use Rattle.books_model.specs.Interpreter.{holds_any, is_account, is_full, margin
 use Rattle.books_model.proofs.Comparing.{at_least_one, below_most, enough, none_of, not_apart}
 use Rattle.books_model.proofs.Maps.{stays_after_insert}
 use Rattle.books_model.proofs.InRange.{put_cash-in_range, put_call-in_range, change-in_range, used_after_insert}
-use Rattle.books_model.proofs.Drafts.{room_left, quantity-in_range, price-in_range, priced-in_range, held-in_range, unheld-in_range, closed-in_range, taken-in_range, put_position-apart}
+use Rattle.books_model.proofs.Drafts.{room_left, quantity-in_range, price-in_range, priced-in_range, held-in_range, unheld-in_range, closed-in_range}
+use Rattle.books_model.proofs.Drafts.{taken-in_range, put_position-apart}
 use Rattle.books_model.proofs.Entries.{AllByRecursion-weaker}
 use Rattle.books_model.proofs.Sums.{worth_below, worth_first, worth_next, worth_last, price_of_most}
 use Rattle.books_model.proofs.Outcomes.{WhereDone, WhereEnds, choice, gives, declines, finds_no_block, step_first}
@@ -42,29 +44,39 @@ held_most books a i h = of_found (map.get books.positions (a, i)) refl where
   of_found (Some v) is = (h.positions a i v is).2.1
 
 -- books stay in range when an account holds another quantity, or none, with a block for it where it held none
-positioned : (books : ClearingBooks) (a i quantity : ℕ) → AreInRange books → IsSome (map.get books.accounts a) → IsSome (map.get books.prices i) → quantity ≤ GREATEST_QUANTITY → (map.get books.positions (a, i) ≡ None → used books < books.blocks)
+positioned : (books : ClearingBooks) (a i quantity : ℕ) → AreInRange books → IsSome (map.get books.accounts a)
+    → IsSome (map.get books.prices i) → quantity ≤ GREATEST_QUANTITY → (map.get books.positions (a, i) ≡ None → used books < books.blocks)
     → AreInRange (put_position books a i quantity)
-positioned books a i quantity h account price fits room = elim (quantity == 0) as (λ t. (quantity == 0) ≡ t → AreInRange (record books { positions = cond t (map.remove books.positions (a, i)) (map.insert books.positions (a, i) quantity) })) [
-  | true ↦ λ _. unheld-in_range books a i h
-  | false ↦ λ test. held-in_range books a i quantity h account price (at_least_one quantity test, fits) room
-] refl
+positioned books a i quantity h account price fits room =
+    elim (quantity == 0) as (λ t. (quantity == 0) ≡ t
+    → AreInRange (record books { positions = cond t (map.remove books.positions (a, i)) (map.insert books.positions (a, i) quantity) })) [
+      | true ↦ λ _. unheld-in_range books a i h
+      | false ↦ λ test. held-in_range books a i quantity h account price (at_least_one quantity test, fits) room
+    ] refl
 
 -- books stay in range after a trade
-exchanged : (books : ClearingBooks) (a b i q : ℕ) → AreInRange books → 1 ≤ q → (a == b) ≡ false → IsSome (map.get books.accounts a) → IsSome (map.get books.accounts b) → IsSome (map.get books.prices i) → q ≤ position_of books b i
+exchanged : (books : ClearingBooks) (a b i q : ℕ) → AreInRange books → 1 ≤ q → (a == b) ≡ false
+    → IsSome (map.get books.accounts a) → IsSome (map.get books.accounts b) → IsSome (map.get books.prices i) → q ≤ position_of books b i
     → (nat_lt GREATEST_CASH (cash_of books b + q * price_of books i) || nat_lt GREATEST_QUANTITY (position_of books a i + q)) ≡ false
     → WhereDone (λ _ after. Stays books after) (trade_of books (put_position books b i (position_of books b i - q)) a b i q (q * price_of books i))
 exchanged books a b i q h some apart buyer seller price sells limit =
     let cost = q * price_of books i in
     let lowered = put_position books b i (position_of books b i - q) in
     let fits = held_most books b i h in
-    let low : AreInRange lowered = positioned books b i (position_of books b i - q) h seller price (omega (arith, fits)) (λ none. let zero : position_of books b i ≡ 0 = ap (λ x. unwrap_or x 0) none in absurd (omega (arith, zero, sells, some))) in
+    let low : AreInRange lowered = positioned books b i (position_of books b i - q) h seller price (omega (arith, fits))
+    (λ none. let zero : position_of books b i ≡ 0 = ap (λ x. unwrap_or x 0) none in absurd (omega (arith, zero, sells, some))) in
     let same = put_position-apart books a b i (position_of books b i - q) (λ e. not_apart a b e apart) in
     choice _ (not (map.contains_key books.positions (a, i)) && is_full lowered) _ _ (λ _. finds_no_block _) (λ block.
     let most = or_parts (nat_lt GREATEST_CASH (cash_of books b + cost)) (nat_lt GREATEST_QUANTITY (position_of books a i + q)) limit in
     let both : AreInRange (put_position lowered a i (position_of books a i + q)) =
-    positioned lowered a i (position_of books a i + q) low buyer price (enough GREATEST_QUANTITY (position_of books a i + q) most.1) (λ none. room_left lowered low (full (map.get books.positions (a, i)) (is_full lowered) (sym same ∙ none) block)) in
-    let paid = change-in_range (put_position lowered a i (position_of books a i + q)) a (cash_of books a - cost) both buyer (omega (arith, cash_most books a h)) in
-    let taken = change-in_range (put_cash (put_position lowered a i (position_of books a i + q)) a (cash_of books a - cost)) b (cash_of books b + cost) paid (stays_after_insert nat_cmp_total books.accounts a b (cash_of books a - cost) seller) (enough GREATEST_CASH (cash_of books b + cost) most.0) in
+    positioned lowered a i (position_of books a i + q) low buyer price
+    (enough GREATEST_QUANTITY (position_of books a i + q) most.1)
+    (λ none. room_left lowered low (full (map.get books.positions (a, i)) (is_full lowered) (sym same ∙ none) block)) in
+    let paid = change-in_range (put_position lowered a i (position_of books a i + q)) a (cash_of books a - cost) both
+    buyer (omega (arith, cash_most books a h)) in
+    let taken = change-in_range (put_cash (put_position lowered a i (position_of books a i + q)) a
+    (cash_of books a - cost)) b (cash_of books b + cost) paid (stays_after_insert nat_cmp_total books.accounts a b
+    (cash_of books a - cost) seller) (enough GREATEST_CASH (cash_of books b + cost) most.0) in
     gives _ _ _ (taken, refl))
   where
     or_parts : (s t : Bool) → (s || t) ≡ false → (s ≡ false) × (t ≡ false)
@@ -80,7 +92,8 @@ worth_most books a zero h = omega (arith, worth_first books a h)
 worth_most books a (suc n) h =
     let before = worth_most books a n h in
     let i = n + 1 in
-    let here = price_of_most (map.get books.positions (a, i)) (map.get books.prices i) _ _ (quantity-in_range books a i h _ refl) (price-in_range books i h _ refl) refl refl in
+    let here = price_of_most (map.get books.positions (a, i)) (map.get books.prices i) _ _
+    (quantity-in_range books a i h _ refl) (price-in_range books i h _ refl) refl refl in
     let next : suc n + 1 ≡ i + 1 = omega arith in
     let e : worth_below books a (suc n + 1) ≡ worth_below books a (i + 1) = ap (worth_below books a) next in
     omega (arith, before, here, e, worth_next books a i)
@@ -94,25 +107,37 @@ shortfall_most books a rate h fits =
     omega (arith, most, last, product, h.instruments.1)
 
 -- the queue's front is taken, or there is none
-next_stays : (books : ClearingBooks) (calls : List (ℕ × ℕ)) → books.calls ≡ calls → AreInRange books → WhereDone (λ _ after. Stays books after) (next_of books calls)
+next_stays : (books : ClearingBooks) (calls : List (ℕ × ℕ)) → books.calls ≡ calls → AreInRange books
+    → WhereDone (λ _ after. Stays books after) (next_of books calls)
 next_stays books [] is h = gives _ _ _ (h, refl)
 next_stays books (call ∷ calls) is h = gives _ _ _ (subst AreInRange (ap (λ cs. record books { calls = drop 1 cs }) is) (taken-in_range books h), refl)
 
 -- a margin call is queued, or none
-margin_stays : (books : ClearingBooks) (a shortfall : ℕ) → AreInRange books → IsAccountNumber a → shortfall ≤ GREATEST_SHORTFALL → (not (shortfall == 0) && (length books.calls == books.ring)) ≡ false → WhereDone (λ _ after. Stays books after) (margin_of books a shortfall)
+margin_stays : (books : ClearingBooks) (a shortfall : ℕ) → AreInRange books → IsAccountNumber a
+    → shortfall ≤ GREATEST_SHORTFALL → (not (shortfall == 0) && (length books.calls == books.ring)) ≡ false
+    → WhereDone (λ _ after. Stays books after) (margin_of books a shortfall)
 margin_stays books a shortfall h number most test =
     choice _ (shortfall == 0) _ _ (λ _. gives _ _ _ (h, refl)) (λ some.
     let room : (length books.calls == books.ring) ≡ false = ap (λ t. not t && (length books.calls == books.ring)) (sym some) ∙ test in
-    gives _ _ _ (put_call-in_range books a shortfall h (number, (at_least_one shortfall some, most)) (below_most (length books.calls) books.ring h.queue room), refl))
+    gives _ _ _ (
+      put_call-in_range books a shortfall h (number, (at_least_one shortfall some, most))
+          (below_most (length books.calls) books.ring h.queue room),
+      refl,
+    ))
 
 -- books in range stay so after each step
 step_stays : (o : Op) (books : ClearingBooks) → AreInRange books → IsOperationFor books o → WhereDone (λ _ after. Stays books after) (step_of o books)
 step_stays (op.OpenAccount a) books h number =
     choice _ (is_account books a) _ _ (λ _. declines _ _) (λ absent. choice _ (is_full books) _ _ (λ _. finds_no_block _) (λ room.
     let more = room_left books h room in
-    gives _ _ _ (put_cash-in_range books a 0 h number (omega arith) (omega (arith, more, used_after_insert books a 0 (none_of (map.get books.accounts a) absent))), refl)))
+    gives _ _ _ (
+      put_cash-in_range books a 0 h number (omega arith)
+          (omega (arith, more, used_after_insert books a 0 (none_of (map.get books.accounts a) absent))),
+      refl,
+    )))
 step_stays (op.Close a) books h number =
-    choice _ (not (is_account books a)) _ _ (λ _. declines _ _) (λ _. choice _ (not (cash_of books a == 0)) _ _ (λ _. declines _ _) (λ _. choice _ (holds_any books a) _ _ (λ _. declines _ _) (λ none.
+    choice _ (not (is_account books a)) _ _ (λ _. declines _ _)
+    (λ _. choice _ (not (cash_of books a == 0)) _ _ (λ _. declines _ _) (λ _. choice _ (holds_any books a) _ _ (λ _. declines _ _) (λ none.
     gives _ _ _ (closed-in_range books a h none, refl))))
 step_stays (op.Deposit a x) books h within =
     choice _ (not (is_account books a)) _ _ (λ _. declines _ _) (λ there. choice _ (nat_lt GREATEST_CASH (cash_of books a + x)) _ _ (λ _. declines _ _) (λ fits.
@@ -125,17 +150,28 @@ step_stays (op.Move a b x) books h within =
     choice _ (nat_lt (cash_of books a) x) _ _ (λ _. declines _ _) (λ _. choice _ (nat_lt GREATEST_CASH (cash_of books b + x)) _ _ (λ _. declines _ _) (λ fits.
     let both = and_parts (is_account books a) (is_account books b) (is_true (is_account books a && is_account books b) there) in
     let paid = change-in_range books a (cash_of books a - x) h both.0 (omega (arith, cash_most books a h)) in
-    gives _ _ _ (change-in_range (put_cash books a (cash_of books a - x)) b (cash_of books b + x) paid (stays_after_insert nat_cmp_total books.accounts a b (cash_of books a - x) both.1) (enough GREATEST_CASH (cash_of books b + x) fits), refl)))))
+    gives _ _ _ (
+      change-in_range (put_cash books a (cash_of books a - x)) b (cash_of books b + x) paid
+          (stays_after_insert nat_cmp_total books.accounts a b (cash_of books a - x) both.1) (enough GREATEST_CASH (cash_of books b + x) fits),
+      refl,
+    )))))
 step_stays (op.Price i p) books h within =
     choice _ (not (map.contains_key books.prices i) && is_full books) _ _ (λ _. finds_no_block _) (λ block.
-    gives _ _ _ (priced-in_range books i p h within.0 within.1 (λ none. room_left books h (ap (λ x. not (is_some {T = ℕ} x) && is_full books) (sym none) ∙ block)), refl))
+    gives _ _ _ (
+      priced-in_range books i p h within.0 within.1
+          (λ none. room_left books h (ap (λ x. not (is_some {T = ℕ} x) && is_full books) (sym none) ∙ block)),
+      refl,
+    ))
 step_stays (op.Trade a b i q) books h within =
     choice _ (a == b) _ _ (λ _. declines _ _) (λ apart. choice _ (not (is_account books a && is_account books b)) _ _ (λ _. declines _ _) (λ there.
-    choice _ (not (map.contains_key books.prices i)) _ _ (λ _. declines _ _) (λ priced. choice _ (nat_lt (position_of books b i) q) _ _ (λ _. declines _ _) (λ sells.
+    choice _ (not (map.contains_key books.prices i)) _ _ (λ _. declines _ _)
+    (λ priced. choice _ (nat_lt (position_of books b i) q) _ _ (λ _. declines _ _) (λ sells.
     choice _ (nat_lt (cash_of books a) (q * price_of books i)) _ _ (λ _. declines _ _) (λ _.
-    choice _ (nat_lt GREATEST_CASH (cash_of books b + q * price_of books i) || nat_lt GREATEST_QUANTITY (position_of books a i + q)) _ _ (λ _. declines _ _) (λ limit.
+    choice _ (nat_lt GREATEST_CASH (cash_of books b + q * price_of books i) || nat_lt GREATEST_QUANTITY
+    (position_of books a i + q)) _ _ (λ _. declines _ _) (λ limit.
     let both = and_parts (is_account books a) (is_account books b) (is_true (is_account books a && is_account books b) there) in
-    exchanged books a b i q h within.3.0 apart both.0 both.1 (is_true (map.contains_key books.prices i) priced) (enough (position_of books b i) q sells) limit))))))
+    exchanged books a b i q h within.3.0 apart both.0 both.1 (is_true (map.contains_key books.prices i) priced)
+    (enough (position_of books b i) q sells) limit))))))
 step_stays (op.Margin a m) books h within =
     choice _ (not (is_account books a)) _ _ (λ _. declines _ _) (λ _.
     choice _ (not (shortfall_of books a m == 0) && (length books.calls == books.ring)) _ _ (λ _. declines _ _) (λ room.
@@ -159,8 +195,15 @@ operation_for a b e (op.Show x) h = h
 operation_for a b e (op.Sum x y) h = h
 
 -- books in range stay so after a run
-pub run_stays : (k : ℕ) (ops : List Op) (books : ClearingBooks) → AreInRange books → AllByRecursion (IsOperationFor books) ops → WhereEnds (λ _ after. AreInRange after) (run_from k ops books)
+pub run_stays : (k : ℕ) (ops : List Op) (books : ClearingBooks) → AreInRange books
+    → AllByRecursion (IsOperationFor books) ops → WhereEnds (λ _ after. AreInRange after) (run_from k ops books)
 run_stays k [] books h each = h
 run_stays k (o ∷ ops) books h each =
-    step_first (λ _ after. AreInRange after) (λ _ after. Stays books after) k (step_of o books) (λ next. run_from (k + 1) ops next) (step_stays o books h each.0)
-    (λ v next stays. (λ _ after. AreInRange after, run_stays (k + 1) ops next stays.0 (AllByRecursion-weaker (IsOperationFor books) (IsOperationFor next) (operation_for books next stays.1) ops each.1), λ values after i. i))
+    step_first (λ _ after. AreInRange after) (λ _ after. Stays books after) k (step_of o books)
+    (λ next. run_from (k + 1) ops next) (step_stays o books h each.0)
+    (λ v next stays. (
+      λ _ after. AreInRange after,
+      run_stays (k + 1) ops next stays.0 (AllByRecursion-weaker (IsOperationFor books) (IsOperationFor next)
+          (operation_for books next stays.1) ops each.1),
+      λ values after i. i,
+    ))

@@ -28,7 +28,8 @@ pub after_values-stops : (vs : List Value) (reply : Reply) → after_values vs (
 after_values-stops [] reply = refl
 after_values-stops (v ∷ vs) reply = ap (after_value v) (after_values-stops vs reply)
 
-module _ (op : Op) (rest : List Op) (whole : Run) (values : List Value) (k : ℕ) (books : ClearingBooks) (so_far : after_values values (run_from k (op ∷ rest) books) ≡ whole) where
+module _ (op : Op) (rest : List Op) (whole : Run) (values : List Value) (k : ℕ) (books : ClearingBooks)
+    (so_far : after_values values (run_from k (op ∷ rest) books) ≡ whole) where
   -- the run of what is left begins with the step of its first operation
   from_step : (step : Step) → step_of op books ≡ step → after_values values (after_step k step (λ next. run_from (k + 1) rest next)) ≡ whole
   from_step step is = sym (ap (λ s. after_values values (after_step k s (λ next. run_from (k + 1) rest next))) is) ∙ so_far

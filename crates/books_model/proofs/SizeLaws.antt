@@ -30,27 +30,32 @@ next_keeps books (call ∷ calls) = gives _ _ _ (record { blocks = refl; instrum
 -- each operation keeps the sizes
 step_keeps : (o : Op) (books : ClearingBooks) → WhereDone (Keeps books) (step_of o books)
 step_keeps (op.OpenAccount a) books =
-    choice _ (is_account books a) _ _ (λ _. declines _ _) (λ _. choice _ (is_full books) _ _ (λ _. finds_no_block _) (λ _. gives _ _ _ (record { blocks = refl; instruments = refl; ring = refl })))
+    choice _ (is_account books a) _ _ (λ _. declines _ _) (λ _. choice _ (is_full books) _ _ (λ _. finds_no_block _)
+    (λ _. gives _ _ _ (record { blocks = refl; instruments = refl; ring = refl })))
 step_keeps (op.Close a) books =
     choice _ (not (is_account books a)) _ _ (λ _. declines _ _) (λ _. choice _ (not (cash_of books a == 0)) _ _ (λ _. declines _ _) (λ _.
     choice _ (holds_any books a) _ _ (λ _. declines _ _) (λ _. gives _ _ _ (record { blocks = refl; instruments = refl; ring = refl }))))
 step_keeps (op.Deposit a x) books =
     choice _ (not (is_account books a)) _ _ (λ _. declines _ _) (λ _.
-    choice _ (nat_lt GREATEST_CASH (cash_of books a + x)) _ _ (λ _. declines _ _) (λ _. gives _ _ _ (record { blocks = refl; instruments = refl; ring = refl })))
+    choice _ (nat_lt GREATEST_CASH (cash_of books a + x)) _ _ (λ _. declines _ _)
+    (λ _. gives _ _ _ (record { blocks = refl; instruments = refl; ring = refl })))
 step_keeps (op.Withdraw a x) books =
     choice _ (not (is_account books a)) _ _ (λ _. declines _ _) (λ _.
     choice _ (nat_lt (cash_of books a) x) _ _ (λ _. declines _ _) (λ _. gives _ _ _ (record { blocks = refl; instruments = refl; ring = refl })))
 step_keeps (op.Move a b x) books =
     choice _ (a == b) _ _ (λ _. declines _ _) (λ _. choice _ (not (is_account books a && is_account books b)) _ _ (λ _. declines _ _) (λ _.
     choice _ (nat_lt (cash_of books a) x) _ _ (λ _. declines _ _) (λ _.
-    choice _ (nat_lt GREATEST_CASH (cash_of books b + x)) _ _ (λ _. declines _ _) (λ _. gives _ _ _ (record { blocks = refl; instruments = refl; ring = refl })))))
+    choice _ (nat_lt GREATEST_CASH (cash_of books b + x)) _ _ (λ _. declines _ _)
+    (λ _. gives _ _ _ (record { blocks = refl; instruments = refl; ring = refl })))))
 step_keeps (op.Price i p) books =
-    choice _ (not (map.contains_key books.prices i) && is_full books) _ _ (λ _. finds_no_block _) (λ _. gives _ _ _ (record { blocks = refl; instruments = refl; ring = refl }))
+    choice _ (not (map.contains_key books.prices i) && is_full books) _ _ (λ _. finds_no_block _)
+    (λ _. gives _ _ _ (record { blocks = refl; instruments = refl; ring = refl }))
 step_keeps (op.Trade a b i q) books = traded _ books a b i q (λ _ _ _. record { blocks = refl; instruments = refl; ring = refl })
 step_keeps (op.Margin a m) books =
     choice _ (not (is_account books a)) _ _ (λ _. declines _ _) (λ _.
     choice _ (not (shortfall_of books a m == 0) && (length books.calls == books.ring)) _ _ (λ _. declines _ _) (λ _.
-    choice _ (shortfall_of books a m == 0) _ _ (λ _. gives _ _ _ (same_sizes books)) (λ _. gives _ _ _ (record { blocks = refl; instruments = refl; ring = refl }))))
+    choice _ (shortfall_of books a m == 0) _ _ (λ _. gives _ _ _ (same_sizes books))
+    (λ _. gives _ _ _ (record { blocks = refl; instruments = refl; ring = refl }))))
 step_keeps op.Next books = next_keeps books books.calls
 step_keeps (op.Show a) books = choice _ (not (is_account books a)) _ _ (λ _. declines _ _) (λ _. gives _ _ _ (same_sizes books))
 step_keeps (op.Sum a b) books = gives _ _ _ (same_sizes books)

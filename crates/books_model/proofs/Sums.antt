@@ -1,5 +1,6 @@
 -- Sums over books: cash between two accounts, and what positions are worth.
-use Rattle.std.proofs.Common.{◌≡◌, ℕ, ◌+◌, ◌*◌, ◌<◌, ◌≤◌, Bool, true, false, cond, ◌&&◌, not, ◌==◌, nat_lt, nat_le, List, [], ◌∷◌, length, Option, Some, None, IsSome, IfSome, unwrap_or, refl, sym, ap, ◌∙◌, arith, eq-eqb}
+use Rattle.std.proofs.Common.{◌≡◌, ℕ, ◌+◌, ◌*◌, ◌<◌, ◌≤◌, Bool, true, false, cond, ◌&&◌, not, ◌==◌, nat_lt, nat_le, List, [], ◌∷◌, length, Option, Some, None}
+use Rattle.std.proofs.Common.{IsSome, IfSome, unwrap_or, refl, sym, ap, ◌∙◌, arith, eq-eqb}
 use Rattle.std.proofs.Math.Nat.{mul-le-mul}
 use Rattle.std.specs.Cmp.{IsTotalOrder, nat_cmp_total, tied_itself}
 use Rattle.std.specs.declared.cmp.Ordering.{Ordering}
@@ -28,7 +29,8 @@ use Rattle.books_model.proofs.Entries.{weigh, All-entries, some_found, sum_by-fi
 -- the tests of a range are those of its ends
 tests_of : (a b k : ℕ) → (is_le (nat_cmp a k) && not (is_lt (nat_cmp b k))) ≡ (nat_le a k && nat_le k b)
 tests_of a b k = λ i. low i && high i where
-  le_of : (less same le : Bool) → (less ≡ true → le ≡ true) → (same ≡ true → le ≡ true) → (less ≡ false → same ≡ false → le ≡ false) → is_le (cond less Less (cond same Equal Greater)) ≡ le
+  le_of : (less same le : Bool) → (less ≡ true → le ≡ true) → (same ≡ true → le ≡ true)
+      → (less ≡ false → same ≡ false → le ≡ false) → is_le (cond less Less (cond same Equal Greater)) ≡ le
   le_of true same le f g h = sym (f refl)
   le_of false true le f g h = sym (g refl)
   le_of false false le f g h = sym (h refl refl)
@@ -55,13 +57,16 @@ zeros [] = refl
 zeros (x ∷ xs) = let rest = zeros xs in omega (arith, sum_by-cons (λ _. 0) x xs)
 
 -- the sum over a range is that of what lies between its ends
-pub sum_between : {X : Type 0} (f : ℕ × X → ℕ) (a b : ℕ) (es : List (ℕ × X)) → sum_by f (entries_between nat_cmp (Included a) (Included b) es) ≡ sum_by (λ e. cond (nat_le a e.0 && nat_le e.0 b) (f e) 0) es
+pub sum_between : {X : Type 0} (f : ℕ × X → ℕ) (a b : ℕ) (es : List (ℕ × X))
+    → sum_by f (entries_between nat_cmp (Included a) (Included b) es) ≡ sum_by (λ e. cond (nat_le a e.0 && nat_le e.0 b) (f e) 0) es
 sum_between f a b es =
     sum_by-filter (λ e. is_le (nat_cmp a e.0) && not (is_lt (nat_cmp b e.0))) f es
-    ∙ sum_by-same (λ e. cond (is_le (nat_cmp a e.0) && not (is_lt (nat_cmp b e.0))) (f e) 0) (λ e. cond (nat_le a e.0 && nat_le e.0 b) (f e) 0) es (all_of _ (λ e. ap (λ t. cond t (f e) 0) (tests_of a b e.0)) es)
+    ∙ sum_by-same (λ e. cond (is_le (nat_cmp a e.0) && not (is_lt (nat_cmp b e.0))) (f e) 0)
+    (λ e. cond (nat_le a e.0 && nat_le e.0 b) (f e) 0) es (all_of _ (λ e. ap (λ t. cond t (f e) 0) (tests_of a b e.0)) es)
 
 -- the cash of the accounts in a range
-pub range_cash : (books : ClearingBooks) (a b : ℕ) (es above : List (ℕ × ℕ)) → map.from_entries es ≡ books.accounts → IsStrictlySortedBy nat_cmp (keys_of es) → above ≡ entries_between nat_cmp (Included a) (Included b) es
+pub range_cash : (books : ClearingBooks) (a b : ℕ) (es above : List (ℕ × ℕ)) → map.from_entries es ≡ books.accounts
+    → IsStrictlySortedBy nat_cmp (keys_of es) → above ≡ entries_between nat_cmp (Included a) (Included b) es
     → sum_by (λ e. e.1) above ≡ cash_between books a b
 range_cash books a b es above from sorted is =
     ap (sum_by (λ e. e.1)) is ∙ sum_between (λ e. e.1) a b es
@@ -70,7 +75,8 @@ range_cash books a b es above from sorted is =
 -- the cash of accounts fits 64 bits
 pub cash-fits : (books : ClearingBooks) (a b : ℕ) → AreInRange books → cash_between books a b < 18446744073709551616
 cash-fits books a b h =
-    let most : cash_between books a b ≤ length (map.entries books.accounts) * GREATEST_CASH = sum_by-most (λ e. cond (nat_le a e.0 && nat_le e.0 b) e.1 0) GREATEST_CASH (map.entries books.accounts)
+    let most : cash_between books a b ≤ length (map.entries books.accounts) * GREATEST_CASH =
+    sum_by-most (λ e. cond (nat_le a e.0 && nat_le e.0 b) e.1 0) GREATEST_CASH (map.entries books.accounts)
     (All-entries nat_cmp_total exact_unsigned _ books.accounts (λ k v there. at_most (nat_le a k && nat_le k b) v GREATEST_CASH (h.accounts k v there).1)) in
     omega (arith, most, map.len-entries books.accounts, h.blocks_used, h.blocks.1)
   where
@@ -80,7 +86,8 @@ cash-fits books a b h =
 
 module _ {K : Type 0} {R : K → K → Ordering} (o : IsTotalOrder R) (exact : CmpEqualImpliesEq R) (f : K × ℕ → ℕ) where
   -- what changed keys had is a part of the whole
-  pub before-le : (m : map.FinMap R ℕ) (es : List (K × Change)) → IsStrictlySortedBy R (keys_of es) → KnowBefore m es → sum_by (λ e. weigh f e.0 e.1.before) es ≤ sum_by f (map.entries m)
+  pub before-le : (m : map.FinMap R ℕ) (es : List (K × Change)) → IsStrictlySortedBy R (keys_of es) → KnowBefore m es
+      → sum_by (λ e. weigh f e.0 e.1.before) es ≤ sum_by f (map.entries m)
   before-le m [] sorted known = omega arith
   before-le m (e ∷ es) sorted known =
       let rest = before-le (set_at m e.0 None) es (sorted_tail R e.0 (keys_of es) sorted) (KnowBefore-past o m e es None sorted known) in
@@ -94,9 +101,17 @@ module _ {K : Type 0} {R : K → K → Ordering} (o : IsTotalOrder R) (exact : C
   sum_by-changed m (e ∷ es) sorted known =
       let rest = sum_by-changed m es (sorted_tail R e.0 (keys_of es) sorted) (KnowBefore-further o m e es sorted known) in
       let was : map.get (changed m es) e.0 ≡ e.1.before =
-      get-changed o m es e.0 ∙ ap (λ x. now_or x (map.get m e.0)) (none_further o e es e.0 sorted (ap is_eq (tied_itself o e.0))) ∙ sym (known e.0 e.1 (change_at_first o e es)) in
+      get-changed o m es e.0 ∙ ap (λ x. now_or x (map.get m e.0))
+      (none_further o e es e.0 sorted (ap is_eq (tied_itself o e.0))) ∙ sym (known e.0 e.1 (change_at_first o e es)) in
       let here : weigh f e.0 (map.get (changed m es) e.0) ≡ weigh f e.0 e.1.before = ap (weigh f e.0) was in
-      omega (arith, rest, here, sum_by-set_at o exact f (changed m es) e.0 e.1.now, sum_by-cons (λ e. weigh f e.0 e.1.before) e es, sum_by-cons (λ e. weigh f e.0 e.1.now) e es)
+      omega (
+        arith,
+        rest,
+        here,
+        sum_by-set_at o exact f (changed m es) e.0 e.1.now,
+        sum_by-cons (λ e. weigh f e.0 e.1.before) e es,
+        sum_by-cons (λ e. weigh f e.0 e.1.now) e es,
+      )
 
 -- the cash of an account that lies between two numbers
 abbrev between : ℕ → ℕ → ℕ × ℕ → ℕ
@@ -115,7 +130,8 @@ weigh-before a b es = sum_by-same _ _ es (all_of _ (λ e. weigh-between a b e.0 
 weigh-now : (a b : ℕ) (es : List (ℕ × Change)) → sum_by (λ e. weigh (between a b) e.0 e.1.now) es ≡ now_between es a b
 weigh-now a b es = sum_by-same _ _ es (all_of _ (λ e. weigh-between a b e.0 e.1.now) es)
 
-module _ (books after : ClearingBooks) (es : List (ℕ × Change)) (is : after.accounts ≡ changed books.accounts es) (sorted : IsStrictlySortedBy nat_cmp (keys_of es)) (known : KnowBefore books.accounts es) (a b : ℕ) where
+module _ (books after : ClearingBooks) (es : List (ℕ × Change)) (is : after.accounts ≡ changed books.accounts es)
+    (sorted : IsStrictlySortedBy nat_cmp (keys_of es)) (known : KnowBefore books.accounts es) (a b : ℕ) where
   -- what changed accounts had is a part of all cash before
   pub before_between-le : before_between es a b ≤ cash_between books a b
   before_between-le = let le = before-le nat_cmp_total exact_unsigned (between a b) books.accounts es sorted known in omega (arith, le, weigh-before a b es)
@@ -167,15 +183,23 @@ pair_test q k apart = elim (q.0 == k.0) as (λ b. (q.0 == k.0) ≡ b → (b && q
 ] refl
 
 -- the worth with one more instrument
-pub worth_next : (books : ClearingBooks) (a i : ℕ) → worth_below books a (i + 1) ≡ worth_below books a i + unwrap_or (map.get books.positions (a, i)) 0 * unwrap_or (map.get books.prices i) 0
+pub worth_next : (books : ClearingBooks) (a i : ℕ)
+    → worth_below books a (i + 1) ≡ worth_below books a i + unwrap_or (map.get books.positions (a, i)) 0 * unwrap_or (map.get books.prices i) 0
 worth_next books a i =
     let here : (ℕ × ℕ) × ℕ → ℕ = λ e. cond (e.0.0 == a && e.0.1 == i) (e.1 * price_of books e.0.1) 0 in
-    let split = sum_by-plus (λ e. cond (e.0.0 == a && nat_lt e.0.1 (i + 1)) (e.1 * price_of books e.0.1) 0) (λ e. cond (e.0.0 == a && nat_lt e.0.1 i) (e.1 * price_of books e.0.1) 0) here (λ e. one_more (e.0.0 == a) e.0.1 i (e.1 * price_of books e.0.1)) (map.entries books.positions) in
-    let one = sum_by-one positions_total exact_positions here books.positions (a, i) (λ q v apart. ap (λ t. cond t (v * price_of books q.1) 0) (pair_test q (a, i) apart)) in
-    let is : weigh here (a, i) (map.get books.positions (a, i)) ≡ unwrap_or (map.get books.positions (a, i)) 0 * price_of books i = at_pair (map.get books.positions (a, i)) in
+    let split = sum_by-plus (λ e. cond (e.0.0 == a && nat_lt e.0.1 (i + 1)) (e.1 * price_of books e.0.1) 0)
+    (λ e. cond (e.0.0 == a && nat_lt e.0.1 i) (e.1 * price_of books e.0.1) 0) here
+    (λ e. one_more (e.0.0 == a) e.0.1 i (e.1 * price_of books e.0.1)) (map.entries books.positions) in
+    let one = sum_by-one positions_total exact_positions here books.positions (
+      a,
+      i,
+    ) (λ q v apart. ap (λ t. cond t (v * price_of books q.1) 0) (pair_test q (a, i) apart)) in
+    let is : weigh here (a, i) (map.get books.positions (a, i)) ≡ unwrap_or (map.get books.positions (a, i)) 0 *
+    price_of books i = at_pair (map.get books.positions (a, i)) in
     omega (arith, split, one, is)
   where
-    at_pair : (w : Option ℕ) → weigh (λ (e : (ℕ × ℕ) × ℕ). cond (e.0.0 == a && e.0.1 == i) (e.1 * price_of books e.0.1) 0) (a, i) w ≡ unwrap_or w 0 * price_of books i
+    at_pair : (w : Option ℕ) → weigh (λ (e : (ℕ × ℕ) × ℕ). cond (e.0.0 == a && e.0.1 == i) (e.1 * price_of books e.0.1)
+        0) (a, i) w ≡ unwrap_or w 0 * price_of books i
     at_pair None = sym (zero_times (price_of books i)) where
       zero_times : (n : ℕ) → 0 * n ≡ 0
       zero_times n = omega arith
@@ -184,7 +208,8 @@ worth_next books a i =
       both e f = λ j. e j && f j
 
 -- the instrument of a position is one of the books
-instrument_of : (books : ClearingBooks) (a i quantity : ℕ) → AreInRange books → map.get books.positions (a, i) ≡ Some quantity → (1 ≤ i) × (i ≤ books.instruments)
+instrument_of : (books : ClearingBooks) (a i quantity : ℕ) → AreInRange books
+    → map.get books.positions (a, i) ≡ Some quantity → (1 ≤ i) × (i ≤ books.instruments)
 instrument_of books a i quantity h there = priced (map.get books.prices i) refl (h.positions a i quantity there).1 where
   priced : (p : Option ℕ) → map.get books.prices i ≡ p → IsSome p → (1 ≤ i) × (i ≤ books.instruments)
   priced None is some = absurd (cc)
@@ -215,8 +240,11 @@ worth_last books a h = sum_by-same _ _ (map.entries books.positions) (All-entrie
     whole false v = refl
 
 -- an account with no position in any instrument holds nothing
-pub holds_nothing : (books : ClearingBooks) (a : ℕ) → AreInRange books → ((i : ℕ) → 1 ≤ i → i < books.instruments + 1 → map.get books.positions (a, i) ≡ None) → holds_any books a ≡ false
-holds_nothing books a h none = no_entry (λ e. e.0.0 == a) (map.entries books.positions) (All-entries positions_total exact_positions (λ e. (e.0.0 == a) ≡ false) books.positions (λ k v there.
+pub holds_nothing : (books : ClearingBooks) (a : ℕ) → AreInRange books
+    → ((i : ℕ) → 1 ≤ i → i < books.instruments + 1 → map.get books.positions (a, i) ≡ None) → holds_any books a ≡ false
+holds_nothing books a h none =
+    no_entry (λ e. e.0.0 == a) (map.entries books.positions)
+    (All-entries positions_total exact_positions (λ e. (e.0.0 == a) ≡ false) books.positions (λ k v there.
     elim (k.0 == a) as (λ b. (k.0 == a) ≡ b → b ≡ false) [
       | true ↦ λ e.
           let within = instrument_of books k.0 k.1 v h there in
@@ -234,10 +262,12 @@ holds_nothing books a h none = no_entry (λ e. e.0.0 == a) (map.entries books.po
 pub holds_one : (books : ClearingBooks) (a i : ℕ) (found : Option ℕ) → found ≡ map.get books.positions (a, i) → IsSome found → true ≡ holds_any books a
 holds_one books a i None is some = absurd (cc)
 holds_one books a i (Some v) is some =
-    sym (some_found positions_total exact_positions (λ e. e.0.0 == a) (a, i) v (map.entries books.positions) (sym (map.get-entries books.positions (a, i)) ∙ sym is) (eq-eqb a a refl))
+    sym (some_found positions_total exact_positions (λ e. e.0.0 == a) (a, i) v (map.entries books.positions)
+    (sym (map.get-entries books.positions (a, i)) ∙ sym is) (eq-eqb a a refl))
 
 -- the most that a position is worth
-pub price_of_most : (quantity price : Option ℕ) (q p : ℕ) → IfSome quantity (IsWithin 1 GREATEST_QUANTITY) → IfSome price (IsWithin 1 GREATEST_PRICE) → q ≡ unwrap_or quantity 0 → p ≡ unwrap_or price 0 → q * p ≤ 1000000000000000
+pub price_of_most : (quantity price : Option ℕ) (q p : ℕ) → IfSome quantity (IsWithin 1 GREATEST_QUANTITY)
+    → IfSome price (IsWithin 1 GREATEST_PRICE) → q ≡ unwrap_or quantity 0 → p ≡ unwrap_or price 0 → q * p ≤ 1000000000000000
 price_of_most quantity price q p most_quantity most_price e f =
     times q p (e_most quantity q GREATEST_QUANTITY most_quantity e) (e_most price p GREATEST_PRICE most_price f)
   where
@@ -250,11 +280,14 @@ price_of_most quantity price q p most_quantity most_price e f =
 
 -- no account lies between a number and one below it
 pub none_between : (books : ClearingBooks) (a b : ℕ) → b < a → 0 ≡ cash_between books a b
-none_between books a b above = sym (sum_by-same (between a b) (λ _. 0) (map.entries books.accounts) (all_of _ (λ e. ap (λ t. cond t e.1 0) (never (nat_le a e.0) (nat_le e.0 b) (λ low high. absurd (apart e.0 low high)))) (map.entries books.accounts)) ∙ zeros (map.entries books.accounts)) where
-  never : (s t : Bool) → (s ≡ true → t ≡ true → ⊥) → (s && t) ≡ false
-  never true true h = absurd (h refl refl)
-  never true false h = refl
-  never false t h = refl
+none_between books a b above =
+    sym (sum_by-same (between a b) (λ _. 0) (map.entries books.accounts)
+    (all_of _ (λ e. ap (λ t. cond t e.1 0)
+    (never (nat_le a e.0) (nat_le e.0 b) (λ low high. absurd (apart e.0 low high)))) (map.entries books.accounts)) ∙ zeros (map.entries books.accounts)) where
+      never : (s t : Bool) → (s ≡ true → t ≡ true → ⊥) → (s && t) ≡ false
+      never true true h = absurd (h refl refl)
+      never true false h = refl
+      never false t h = refl
 
-  apart : (k : ℕ) → nat_le a k ≡ true → nat_le k b ≡ true → ⊥
-  apart k low high = let x : a ≤ k = grind (arith, nat_tests, low) in let y : k ≤ b = grind (arith, nat_tests, high) in omega arith
+      apart : (k : ℕ) → nat_le a k ≡ true → nat_le k b ≡ true → ⊥
+      apart k low high = let x : a ≤ k = grind (arith, nat_tests, low) in let y : k ≤ b = grind (arith, nat_tests, high) in omega arith

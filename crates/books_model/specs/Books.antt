@@ -24,7 +24,16 @@ pub record ClearingBooks : Type 0 where
 
 -- books of these sizes with nothing in them
 abbrev pub empty_books : ℕ → ℕ → ℕ → ClearingBooks
-empty_books blocks instruments ring = record { blocks = blocks; instruments = instruments; ring = ring; accounts = map.empty; positions = map.empty; prices = map.empty; calls = [] }
+empty_books blocks instruments ring = record {
+  blocks = blocks;
+  instruments = instruments;
+  ring = ring;
+  accounts =
+      map.empty;
+  positions = map.empty;
+  prices = map.empty;
+  calls = [];
+}
 
 -- how many blocks are used: each account, position and price takes one
 abbrev pub used : ClearingBooks → ℕ

@@ -25,7 +25,8 @@ Leads o before after = (v : Value) × (step_of o before ≡ Gives v after)
 
 -- a script whose reply is not Done leaves the books
 abbrev pub RefusedChangesNothing : Type 0
-RefusedChangesNothing = (script : List Op) (books : ClearingBooks) → ((values : List Value) → (outcome_of script books).0 ≢ reply.Done values) → (outcome_of script books).1 ≡ books
+RefusedChangesNothing = (script : List Op) (books : ClearingBooks)
+    → ((values : List Value) → (outcome_of script books).0 ≢ reply.Done values) → (outcome_of script books).1 ≡ books
 
 -- a move keeps all cash
 abbrev pub MoveKeepsAllCash : Type 0
@@ -57,7 +58,8 @@ ScriptsKeepSizes = (script : List Op) (books : ClearingBooks) → HaveSameSizes 
 
 -- a script for books is one for others with as many instruments
 abbrev pub ScriptsGoByInstruments : Type 0
-ScriptsGoByInstruments = (script : List Op) (books others : ClearingBooks) → others.instruments ≡ books.instruments → IsScriptFor books script → IsScriptFor others script
+ScriptsGoByInstruments = (script : List Op) (books others : ClearingBooks) → others.instruments ≡ books.instruments
+    → IsScriptFor books script → IsScriptFor others script
 
 -- the margin call that an operation queues, from what it tells
 abbrev pub queued_by : Op → Value → List (ℕ × ℕ)

@@ -1,7 +1,8 @@
 -- The ranges of sizes, of the numbers in books, and of the numbers in scripts.
 use Rattle.std.specs.Prelude.{◌≡◌, ℕ, ◌≤◌, List, length, All, Some, IsSome}
 use Rattle.std.specs.FinMap as map
-use Rattle.books_model.specs.declared.limits.TheConstants.{MOST_BLOCKS, MOST_INSTRUMENTS, MOST_RING, GREATEST_ACCOUNT, GREATEST_CASH, GREATEST_AMOUNT, GREATEST_PRICE, GREATEST_QUANTITY, GREATEST_RATE, GREATEST_SHORTFALL, MOST_OPERATIONS}
+use Rattle.books_model.specs.declared.limits.TheConstants.{MOST_BLOCKS, MOST_INSTRUMENTS, MOST_RING, GREATEST_ACCOUNT, GREATEST_CASH, GREATEST_AMOUNT}
+use Rattle.books_model.specs.declared.limits.TheConstants.{GREATEST_PRICE, GREATEST_QUANTITY, GREATEST_RATE, GREATEST_SHORTFALL, MOST_OPERATIONS}
 use Rattle.books_model.specs.declared.script.Op.{Op}
 use Rattle.books_model.specs.declared.script.Op.TheVariants as op
 use Rattle.books_model.specs.Books.{ClearingBooks, used}
@@ -21,7 +22,8 @@ IsInstrumentOf books i = IsWithin 1 books.instruments i
 abbrev pub IsCall : ℕ × ℕ → Type 0
 IsCall call = IsAccountNumber call.0 × IsWithin 1 GREATEST_SHORTFALL call.1
 
--- sizes and numbers are in their ranges, each position is of an account and of an instrument with a price, and neither the blocks nor the queue hold more than they can
+-- sizes and numbers are in their ranges, each position is of an account and of an instrument with a price, and neither
+-- the blocks nor the queue hold more than they can
 pub record AreInRange (books : ClearingBooks) : Type 0 where
   pub blocks : IsWithin 1 MOST_BLOCKS books.blocks
   pub instruments : IsWithin 1 MOST_INSTRUMENTS books.instruments

@@ -28,7 +28,8 @@ some_words (reply.Declined k why) = (_, (_, refl))
 some_words (reply.Full k) = (_, (_, refl))
 
 -- a line of more than four words begins with four words
-line_words : (a b c d w : List ℕ) (words : List (List ℕ)) (after : List ℕ) → line (a ∷ b ∷ c ∷ d ∷ w ∷ words) ++ after ≡ four_words a b c d (join_with_byte SPACE (w ∷ words) ++ LINE_FEED ∷ after)
+line_words : (a b c d w : List ℕ) (words : List (List ℕ)) (after : List ℕ) → line (a ∷ b ∷ c ∷ d ∷ w ∷ words) ++ after
+    ≡ four_words a b c d (join_with_byte SPACE (w ∷ words) ++ LINE_FEED ∷ after)
 line_words a b c d w words after =
     let rest = join_with_byte SPACE (w ∷ words) in
     let end = LINE_FEED ∷ after in
@@ -59,17 +60,22 @@ module _ (input : ClearingInput) (scripts : List Ran) (books : ClearingBooks) (d
     pub left : slice_index done ran.place.caller < length (caller_at input ran.place.caller).scripts
     pub below : ran.restarts < RESTARTS_BELOW
     pub rest : List ℕ
-    pub text_is : text ≡ four_words (number (length scripts + 1)) (caller_at input ran.place.caller).name (number (ran.place.index + 1)) (number ran.restarts) rest
+    pub text_is : text ≡ four_words (number (length scripts + 1)) (caller_at input ran.place.caller).name
+        (number (ran.place.index + 1)) (number ran.restarts) rest
 
-  pub named : (text : List ℕ) (ran : Ran) (after : List ℕ) → MayFollow input RESTARTS_BELOW scripts ran → text ≡ journal_line (length scripts + 1) (caller_at input ran.place.caller).name ran ++ after → Named text ran
+  pub named : (text : List ℕ) (ran : Ran) (after : List ℕ) → MayFollow input RESTARTS_BELOW scripts ran
+      → text ≡ journal_line (length scripts + 1) (caller_at input ran.place.caller).name ran ++ after → Named text ran
   named text ran after m is =
       let words = words_of_line (length scripts + 1) (caller_at input ran.place.caller).name ran after in
       record { within = m.next.left.0; left = omega (arith, done_of ran m, m.next.left.1); below = m.below; rest = words.0; text_is = is ∙ words.1 }
 
-  module _ (l : Line) (answer : Reply) (after : ClearingBooks) (new : List ℕ) (even : length done ≡ length input.callers) (found : IsPlace input (place_of l)) (index_is : l.index ≡ slice_index done l.caller)
-      (replied : answer ≡ (outcome_of (script_at input l.caller l.index) books).0) (left_are : after ≡ (outcome_of (script_at input l.caller l.index) books).1) (new_are : new ≡ set done l.caller (l.index + 1)) where
+  module _ (l : Line) (answer : Reply) (after : ClearingBooks) (new : List ℕ) (even : length done
+      ≡ length input.callers) (found : IsPlace input (place_of l)) (index_is : l.index ≡ slice_index done l.caller)
+      (replied : answer ≡ (outcome_of (script_at input l.caller l.index) books).0) (left_are : after
+      ≡ (outcome_of (script_at input l.caller l.index) books).1) (new_are : new ≡ set done l.caller (l.index + 1)) where
     -- a script that may follow, and that the line names, is the line's
-    same_ran : (ran : Ran) → MayFollow input RESTARTS_BELOW scripts ran → l ≡ record { caller = ran.place.caller; index = slice_index done ran.place.caller; restarts = ran.restarts } → ran ≡ ran_of l answer
+    same_ran : (ran : Ran) → MayFollow input RESTARTS_BELOW scripts ran
+        → l ≡ record { caller = ran.place.caller; index = slice_index done ran.place.caller; restarts = ran.restarts } → ran ≡ ran_of l answer
     same_ran ran m is = λ i. record { place = place i; restarts = restarts i; reply = reply i }
       where
         place : ran.place ≡ place_of l
@@ -79,25 +85,33 @@ module _ (input : ClearingInput) (scripts : List Ran) (books : ClearingBooks) (d
         restarts = sym (ap (λ (x : Line). x.restarts) is)
 
         reply : ran.reply ≡ answer
-        reply = m.reply ∙ ap (reply_to input (books_after input input.books (places_of scripts))) place ∙ ap (λ b. reply_to input b (place_of l)) (sym run.books_are) ∙ sym replied
+        reply = m.reply ∙ ap (reply_to input (books_after input input.books (places_of scripts))) place
+            ∙ ap (λ b. reply_to input b (place_of l)) (sym run.books_are) ∙ sym replied
 
     -- so the text begins with the line that is expected
-    pub expected_begins : (serial : ℕ) (text name expected : List ℕ) (ran : Ran) (behind : List ℕ) → length scripts + 1 ≡ serial → name ≡ (caller_at input l.caller).name → expected ≡ journal_line serial name (ran_of l answer)
-        → MayFollow input RESTARTS_BELOW scripts ran → l ≡ record { caller = ran.place.caller; index = slice_index done ran.place.caller; restarts = ran.restarts }
+    pub expected_begins : (serial : ℕ) (text name expected : List ℕ) (ran : Ran) (behind : List ℕ)
+        → length scripts + 1 ≡ serial → name ≡ (caller_at input l.caller).name → expected ≡ journal_line serial name (ran_of l answer)
+        → MayFollow input RESTARTS_BELOW scripts ran
+        → l ≡ record { caller = ran.place.caller; index = slice_index done ran.place.caller; restarts = ran.restarts }
         → text ≡ journal_line (length scripts + 1) (caller_at input ran.place.caller).name ran ++ behind → text ≡ expected ++ behind
     expected_begins serial text name expected ran behind at named written m is e =
         let same = same_ran ran m is in
-        e ∙ ap (λ l. l ++ behind) ((λ i. journal_line (at i) (caller_at input (same i).place.caller).name (same i)) ∙ ap (λ n. journal_line serial n (ran_of l answer)) (sym named) ∙ sym written)
+        e ∙ ap (λ l. l ++ behind) ((λ i. journal_line (at i) (caller_at input (same i).place.caller).name (same i))
+        ∙ ap (λ n. journal_line serial n (ran_of l answer)) (sym named) ∙ sym written)
 
     -- where it begins with the line that is expected, one more script was run
     done_after : (c : ℕ) → c < length input.callers → slice_index new c ≡ turns (places_of scripts) c + cond (l.caller == c) 1 0
     done_after c within = elim (eqb_tells l.caller c) [
-      | inl same ↦ ap (λ xs. slice_index xs c) new_are ∙ ap (λ k. slice_index (set done k (l.index + 1)) c) same.1 ∙ get_or-set_same done c (l.index + 1) 0 (omega (arith, even, within))
+      | inl same ↦ ap (λ xs. slice_index xs c) new_are ∙ ap (λ k. slice_index (set done k (l.index + 1)) c) same.1
+          ∙ get_or-set_same done c (l.index + 1) 0 (omega (arith, even, within))
           ∙ omega (arith, index_is, ap (slice_index done) same.1, run.done_are c within, ap {B = ℕ} (λ b. cond b 1 0) same.0)
-      | inr apart ↦ ap (λ xs. slice_index xs c) new_are ∙ get_or-set_other done l.caller c (l.index + 1) 0 (λ same. apart.1 (sym same)) ∙ omega (arith, run.done_are c within, ap {B = ℕ} (λ b. cond b 1 0) apart.0)
+      | inr apart ↦ ap (λ xs. slice_index xs c) new_are
+          ∙ get_or-set_other done l.caller c (l.index + 1) 0 (λ same. apart.1 (sym same))
+          ∙ omega (arith, run.done_are c within, ap {B = ℕ} (λ b. cond b 1 0) apart.0)
     ]
 
-    pub begins_with_line : (serial : ℕ) (text name expected behind : List ℕ) → length scripts + 1 ≡ serial → name ≡ (caller_at input l.caller).name → expected ≡ journal_line serial name (ran_of l answer)
+    pub begins_with_line : (serial : ℕ) (text name expected behind : List ℕ) → length scripts + 1 ≡ serial
+        → name ≡ (caller_at input l.caller).name → expected ≡ journal_line serial name (ran_of l answer)
         → l.restarts < RESTARTS_BELOW → text ≡ expected ++ behind → BeginsWithLine input scripts text behind after new
     begins_with_line serial text name expected behind at named written below e = record {
       ran = ran_of l answer;
@@ -118,4 +132,5 @@ module _ (input : ClearingInput) (scripts : List Ran) (books : ClearingBooks) (d
         }
 
         turns_of_more : (c : ℕ) → turns (places_of (scripts ++ ran_of l answer ∷ [])) c ≡ turns (places_of scripts) c + cond (l.caller == c) 1 0
-        turns_of_more c = ap (λ places. turns places c) (map_push (λ (r : Ran). r.place) scripts (ran_of l answer)) ∙ turns-push (places_of scripts) (place_of l) c
+        turns_of_more c = ap (λ places. turns places c) (map_push (λ (r : Ran). r.place) scripts (ran_of l answer))
+            ∙ turns-push (places_of scripts) (place_of l) c

@@ -1,5 +1,6 @@
 -- Sums over a list, class by class.
-use Rattle.std.proofs.Common.{◌≡◌, ℕ, zero, suc, ◌+◌, ◌<◌, ◌≤◌, ◌==◌, ◌&&◌, Bool, true, false, cond, List, [], ◌∷◌, length, take, get_or, sum_by, count_by, inl, inr, refl, sym, ap, ◌∙◌, subst, arith}
+use Rattle.std.proofs.Common.{◌≡◌, ℕ, zero, suc, ◌+◌, ◌<◌, ◌≤◌, ◌==◌, ◌&&◌, Bool, true, false, cond, List, [], ◌∷◌, length, take, get_or, sum_by, count_by, inl}
+use Rattle.std.proofs.Common.{inr, refl, sym, ap, ◌∙◌, subst, arith}
 use Rattle.std.specs.List.{AllByRecursion}
 use Rattle.std.proofs.lemmas.List.{take_all}
 use Rattle.std.proofs.lemmas.List.Sums.{sum_by-cons, sum_by_more}
@@ -53,7 +54,11 @@ one_class w k true n within = by k (within refl)
   where
     before : (k : ℕ) → k ≤ n → sums k (λ i. cond (n == i) w 0) ≡ 0
     before zero le = refl
-    before (suc k) le = elim (eqb_tells n k) [ inl at ↦ absurd (omega (arith, at.1, le)) | inr apart ↦ omega (arith, before k (omega arith), ap {B = ℕ} (λ b. cond b w 0) apart.0) ]
+    before (suc k) le = elim (eqb_tells n k) [
+      | inl at ↦ absurd (omega (arith, at.1, le))
+      | inr apart ↦
+          omega (arith, before k (omega arith), ap {B = ℕ} (λ b. cond b w 0) apart.0)
+    ]
 
     by : (k : ℕ) → n < k → sums k (λ i. cond (n == i) w 0) ≡ w
     by zero less = absurd (omega arith)
@@ -73,7 +78,8 @@ by_weights p f w k (x ∷ xs) all =
     ∙ sums-same k _ _ (λ i less. sym (sum_by-cons (λ y. cond (p y && f y == i) (w y) 0) x xs))
 
 -- and they are as many as those of each class together
-pub by_classes : {A : Type 0} (p : A → Bool) (f : A → ℕ) (k : ℕ) (xs : List A) → AllByRecursion (λ x. p x ≡ true → f x < k) xs → count_by p xs ≡ sums k (λ i. count_by (λ x. p x && f x == i) xs)
+pub by_classes : {A : Type 0} (p : A → Bool) (f : A → ℕ) (k : ℕ) (xs : List A)
+    → AllByRecursion (λ x. p x ≡ true → f x < k) xs → count_by p xs ≡ sums k (λ i. count_by (λ x. p x && f x == i) xs)
 by_classes p f k xs all = by_weights p f (λ x. 1) k xs all
 
 -- the sum over the first elements of a list, by their places

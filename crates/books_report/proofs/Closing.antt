@@ -11,12 +11,14 @@ use Rattle.books_report.specs.Output.{books_left, books_after}
 use Rattle.books_report.specs.Statements.{ClosingBooksOpen}
 
 -- the script of a place can be given to the opening books
-pub script_of_place : (input : ClearingInput) (caller index : ℕ) → IsInput input → caller < length input.callers → index < length (caller_at input caller).scripts → IsScriptFor input.books (script_at input caller index)
+pub script_of_place : (input : ClearingInput) (caller index : ℕ) → IsInput input → caller < length input.callers
+    → index < length (caller_at input caller).scripts → IsScriptFor input.books (script_at input caller index)
 script_of_place input caller index valid within at = valid.callers.scripts caller (record { name = []; scripts = [] }) within index [] at
 
 module _ (in_range : BooksStayInRange) (keep_sizes : ScriptsKeepSizes) (by_instruments : ScriptsGoByInstruments) where
   -- scripts of places leave books in range, with as many instruments
-  along : (input : ClearingInput) → IsInput input → (order : List Place) → AllByRecursion (IsPlace input) order → (books : ClearingBooks) → AreInRange books → books.instruments ≡ input.books.instruments
+  along : (input : ClearingInput) → IsInput input → (order : List Place) → AllByRecursion (IsPlace input) order
+      → (books : ClearingBooks) → AreInRange books → books.instruments ≡ input.books.instruments
       → AreInRange (books_after input books order) × ((books_after input books order).instruments ≡ input.books.instruments)
   along input valid [] each books range same = (range, same)
   along input valid (p ∷ order) each books range same =
@@ -25,7 +27,8 @@ module _ (in_range : BooksStayInRange) (keep_sizes : ScriptsKeepSizes) (by_instr
       along input valid order each.1 (books_left input books p) (in_range script books range fits) ((keep_sizes script books).instruments ∙ same)
 
   -- callers with scripts for books are such for others with as many instruments
-  callers_for : (books others : ClearingBooks) → others.instruments ≡ books.instruments → (callers : List Caller) → AreCallersFor books callers → AreCallersFor others callers
+  callers_for : (books others : ClearingBooks) → others.instruments ≡ books.instruments → (callers : List Caller)
+      → AreCallersFor books callers → AreCallersFor others callers
   callers_for books others same callers h = record {
     few = h.few;
     few_scripts = h.few_scripts;

@@ -1,5 +1,6 @@
 -- A text is an output, or has a first wrong line.
-use Rattle.std.proofs.Common.{◌≡◌, ◌≢◌, ◌⊎◌, inl, inr, ℕ, zero, suc, ◌+◌, ◌<◌, ◌≤◌, List, [], ◌∷◌, ◌++◌, codes, length, refl, sym, ap, ◌∙◌, subst, append_assoc, append-nil, length-append, arith}
+use Rattle.std.proofs.Common.{◌≡◌, ◌≢◌, ◌⊎◌, inl, inr, ℕ, zero, suc, ◌+◌, ◌<◌, ◌≤◌, List, [], ◌∷◌, ◌++◌, codes, length, refl, sym, ap, ◌∙◌, subst, append_assoc}
+use Rattle.std.proofs.Common.{append-nil, length-append, arith}
 use Rattle.std.specs.List.{concat}
 use Rattle.std.proofs.lemmas.Bool.{cases_lt}
 use Rattle.std.proofs.lemmas.Bool.Decides.{eqb_tells}
@@ -20,7 +21,8 @@ begins_or_not [] s = inl (s, refl)
 begins_or_not (b ∷ p) [] = inr (λ after e. cc)
 begins_or_not (b ∷ p) (c ∷ s) = elim (eqb_tells c b) [ inl same ↦ by same.1 (begins_or_not p s) | inr apart ↦ inr (λ after e. apart.1 cc) ]
   where
-    by : c ≡ b → ((after : List ℕ) × (s ≡ p ++ after)) ⊎ ((after : List ℕ) → s ≢ p ++ after) → ((after : List ℕ) × (c ∷ s ≡ b ∷ p ++ after)) ⊎ ((after : List ℕ) → c ∷ s ≢ b ∷ p ++ after)
+    by : c ≡ b → ((after : List ℕ) × (s ≡ p ++ after)) ⊎ ((after : List ℕ) → s ≢ p ++ after)
+        → ((after : List ℕ) × (c ∷ s ≡ b ∷ p ++ after)) ⊎ ((after : List ℕ) → c ∷ s ≢ b ∷ p ++ after)
     by same (inl rest) = inl (rest.0, λ i. same i ∷ rest.1 i)
     by same (inr none) = inr (λ after e. none after cc)
 
@@ -35,7 +37,8 @@ some_below P tells (suc k) = by (tells k) (some_below P tells k)
     by (inr not) (inr none) = inr (λ i less p. elim (eqb_tells i k) [ inl at ↦ not (subst P at.1 p) | inr apart ↦ none i (omega (arith, less, apart.1)) p ])
 
 -- one line more is right
-pub stops_later : (line : List ℕ) (lines : List (List ℕ)) (text left : List ℕ) (count : ℕ) → text ≡ line ++ left → StopsAfter lines left count → StopsAfter (line ∷ lines) text (count + 1)
+pub stops_later : (line : List ℕ) (lines : List (List ℕ)) (text left : List ℕ) (count : ℕ) → text ≡ line ++ left
+    → StopsAfter lines left count → StopsAfter (line ∷ lines) text (count + 1)
 stops_later line lines text left count is s = record {
   done = line ∷ s.done;
   rest = s.rest;
@@ -56,11 +59,13 @@ lines_or_not [] [] = inl refl
 lines_or_not [] (b ∷ text) = inr (0, stops_here [] (b ∷ text) (λ e. cc))
 lines_or_not (line ∷ lines) text = by (begins_or_not line text) (lines_or_not lines)
   where
-    by : ((left : List ℕ) × (text ≡ line ++ left)) ⊎ ((left : List ℕ) → text ≢ line ++ left) → ((left : List ℕ) → (left ≡ concat lines) ⊎ ((count : ℕ) × StopsAfter lines left count))
+    by : ((left : List ℕ) × (text ≡ line ++ left)) ⊎ ((left : List ℕ) → text ≢ line ++ left)
+        → ((left : List ℕ) → (left ≡ concat lines) ⊎ ((count : ℕ) × StopsAfter lines left count))
         → (text ≡ concat (line ∷ lines)) ⊎ ((count : ℕ) × StopsAfter (line ∷ lines) text count)
     by (inl begins) more = on (more begins.0)
       where
-        on : (begins.0 ≡ concat lines) ⊎ ((count : ℕ) × StopsAfter lines begins.0 count) → (text ≡ concat (line ∷ lines)) ⊎ ((count : ℕ) × StopsAfter (line ∷ lines) text count)
+        on : (begins.0 ≡ concat lines) ⊎ ((count : ℕ) × StopsAfter lines begins.0 count)
+            → (text ≡ concat (line ∷ lines)) ⊎ ((count : ℕ) × StopsAfter (line ∷ lines) text count)
         on (inl same) = inl (begins.1 ∙ ap (λ l. line ++ l) same)
         on (inr (count, stops)) = inr (count + 1, stops_later line lines text begins.0 count begins.1 stops)
     by (inr none) more = inr (0, stops_here (line ∷ lines) text none)
@@ -68,7 +73,8 @@ lines_or_not (line ∷ lines) text = by (begins_or_not line text) (lines_or_not 
 module _ (input : ClearingInput) (limit : ℕ) (ours : List Ran) (left : List ℕ) where
   -- the next script of a caller, with so many restarts
   abbrev next_of : ℕ → ℕ → Ran
-  next_of c r = let place : Place = record { caller = c; index = turns (places_of ours) c } in record { place = place; restarts = r; reply = reply_to input (books_after input input.books (places_of ours)) place }
+  next_of c r = let place : Place = record { caller = c; index = turns (places_of ours) c } in
+      record { place = place; restarts = r; reply = reply_to input (books_after input input.books (places_of ours)) place }
 
   abbrev its_line : Ran → List ℕ
   its_line ran = journal_line (length ours + 1) (caller_at input ran.place.caller).name ran
@@ -86,7 +92,9 @@ module _ (input : ClearingInput) (limit : ℕ) (ours : List Ran) (left : List �
   line_tells : (c : ℕ) → HasLine c ⊎ ¬ HasLine c
   line_tells c = by (cases_lt (turns (places_of ours) c) (length (caller_at input c).scripts)) (some_below (Begins c) (begins_tells c) limit)
     where
-      by : (turns (places_of ours) c < length (caller_at input c).scripts) ⊎ (length (caller_at input c).scripts ≤ turns (places_of ours) c) → ((r : ℕ) × (r < limit) × Begins c r) ⊎ ((r : ℕ) → r < limit → Begins c r → ⊥) → HasLine c ⊎ ¬ HasLine c
+      by : (turns (places_of ours) c < length (caller_at input c).scripts)
+          ⊎ (length (caller_at input c).scripts ≤ turns (places_of ours) c) → ((r : ℕ) × (r < limit) × Begins c r)
+          ⊎ ((r : ℕ) → r < limit → Begins c r → ⊥) → HasLine c ⊎ ¬ HasLine c
       by (inl less) (inl found) = inl (less, found)
       by (inl less) (inr none) = inr (λ h. none h.1.0 h.1.1 h.1.2)
       by (inr past) found = inr (λ h. omega (arith, past, h.0))
@@ -106,10 +114,12 @@ module _ (input : ClearingInput) (limit : ℕ) (ours : List Ran) (left : List �
       same_line ran m = λ i. journal_line (length ours + 1) (caller_at input ran.place.caller).name (record {
         place = record { caller = ran.place.caller; index = m.next.next i };
         restarts = ran.restarts;
-        reply = (m.reply ∙ ap (λ n. reply_to input (books_after input input.books (places_of ours)) (record { caller = ran.place.caller; index = n })) m.next.next) i;
+        reply = (m.reply ∙ ap (λ n. reply_to input (books_after input input.books (places_of ours))
+            (record { caller = ran.place.caller; index = n })) m.next.next) i;
       })
 
-      by : ((c : ℕ) × (c < length input.callers) × HasLine c) ⊎ ((c : ℕ) → c < length input.callers → HasLine c → ⊥) → Follows ⊎ ((ran : Ran) (after : List ℕ) → MayFollow input limit ours ran → left ≢ its_line ran ++ after)
+      by : ((c : ℕ) × (c < length input.callers) × HasLine c) ⊎ ((c : ℕ) → c < length input.callers → HasLine c → ⊥)
+          → Follows ⊎ ((ran : Ran) (after : List ℕ) → MayFollow input limit ours ran → left ≢ its_line ran ++ after)
       by (inl (c, within, (less, (r, below, (after, is))))) = inl (record {
         ran = next_of c r;
         after = after;
@@ -123,31 +133,38 @@ module _ (input : ClearingInput) (limit : ℕ) (ours : List Ran) (left : List �
           ))
 
 -- the journal with one line more
-pub journal_more : (input : ClearingInput) (ours : List Ran) (ran : Ran) → concat (journal_so_far input (ours ++ ran ∷ [])) ≡ concat (journal_so_far input ours) ++ journal_line (length ours + 1) (caller_at input ran.place.caller).name ran
+pub journal_more : (input : ClearingInput) (ours : List Ran) (ran : Ran)
+    → concat (journal_so_far input (ours ++ ran ∷ [])) ≡ concat (journal_so_far input ours)
+    ++ journal_line (length ours + 1) (caller_at input ran.place.caller).name ran
 journal_more input ours ran =
     ap (λ l. line (codes "journal" ∷ []) ++ l) (behind ours 1)
-    ∙ sym (append_assoc (line (codes "journal" ∷ [])) (concat (lines_of input 1 ours)) (journal_line (1 + length ours) (caller_at input ran.place.caller).name ran))
+    ∙ sym (append_assoc (line (codes "journal" ∷ [])) (concat (lines_of input 1 ours))
+    (journal_line (1 + length ours) (caller_at input ran.place.caller).name ran))
     ∙ ap (λ n. concat (journal_so_far input ours) ++ journal_line n (caller_at input ran.place.caller).name ran) number
   where
     number : 1 + length ours ≡ length ours + 1
     number = omega arith
 
-    behind : (scripts : List Ran) (serial : ℕ) → concat (lines_of input serial (scripts ++ ran ∷ [])) ≡ concat (lines_of input serial scripts) ++ journal_line (serial + length scripts) (caller_at input ran.place.caller).name ran
-    behind [] serial = append-nil (journal_line serial (caller_at input ran.place.caller).name ran) ∙ ap (λ n. journal_line n (caller_at input ran.place.caller).name ran) nothing
+    behind : (scripts : List Ran) (serial : ℕ) → concat (lines_of input serial (scripts ++ ran ∷ []))
+        ≡ concat (lines_of input serial scripts) ++ journal_line (serial + length scripts) (caller_at input ran.place.caller).name ran
+    behind [] serial = append-nil (journal_line serial (caller_at input ran.place.caller).name ran)
+        ∙ ap (λ n. journal_line n (caller_at input ran.place.caller).name ran) nothing
       where
         nothing : serial ≡ serial + 0
         nothing = omega arith
     behind (r ∷ scripts) serial =
         let first = journal_line serial (caller_at input r.place.caller).name r in
         ap (λ l. first ++ l) (behind scripts (serial + 1))
-        ∙ sym (append_assoc first (concat (lines_of input (serial + 1) scripts)) (journal_line (serial + 1 + length scripts) (caller_at input ran.place.caller).name ran))
+        ∙ sym (append_assoc first (concat (lines_of input (serial + 1) scripts))
+        (journal_line (serial + 1 + length scripts) (caller_at input ran.place.caller).name ran))
         ∙ ap (λ n. (first ++ concat (lines_of input (serial + 1) scripts)) ++ journal_line n (caller_at input ran.place.caller).name ran) later
       where
         later : serial + 1 + length scripts ≡ serial + length (r ∷ scripts)
         later = omega arith
 
 -- and what is left behind it
-pub text_more : (input : ClearingInput) (ours : List Ran) (ran : Ran) (text left after : List ℕ) → text ≡ concat (journal_so_far input ours) ++ left → left ≡ journal_line (length ours + 1) (caller_at input ran.place.caller).name ran ++ after
+pub text_more : (input : ClearingInput) (ours : List Ran) (ran : Ran) (text left after : List ℕ)
+    → text ≡ concat (journal_so_far input ours) ++ left → left ≡ journal_line (length ours + 1) (caller_at input ran.place.caller).name ran ++ after
     → text ≡ concat (journal_so_far input (ours ++ ran ∷ [])) ++ after
 text_more input ours ran text left after e is =
     e ∙ ap (λ l. concat (journal_so_far input ours) ++ l) is
@@ -156,28 +173,37 @@ text_more input ours ran text left after e is =
 
 module _ (input : ClearingInput) (limit : ℕ) (valid : IsInput input) (text : List ℕ) where
   -- behind scripts in turn
-  decided_behind : (fuel : ℕ) (ours : List Ran) (left : List ℕ) → FollowInTurn input limit [] ours → text ≡ concat (journal_so_far input ours) ++ left → fuel + length ours ≡ count_scripts input.callers
+  decided_behind : (fuel : ℕ) (ours : List Ran) (left : List ℕ) → FollowInTurn input limit [] ours
+      → text ≡ concat (journal_so_far input ours) ++ left → fuel + length ours ≡ count_scripts input.callers
       → IsOutput input limit text ⊎ HasWrongLine input limit text
   decided_behind zero ours left t e all = by (lines_or_not (closing_lines (books_after input input.books (places_of ours))) left)
     where
       run : length ours ≡ count_scripts input.callers
       run = omega (arith, all)
 
-      by : (left ≡ concat (closing_lines (books_after input input.books (places_of ours)))) ⊎ ((count : ℕ) × StopsAfter (closing_lines (books_after input input.books (places_of ours))) left count) → IsOutput input limit text ⊎ HasWrongLine input limit text
+      by : (left ≡ concat (closing_lines (books_after input input.books (places_of ours))))
+          ⊎ ((count : ℕ) × StopsAfter (closing_lines (books_after input input.books (places_of ours))) left count)
+          → IsOutput input limit text ⊎ HasWrongLine input limit text
       by (inl same) = inl (is_output input limit valid text ours left t e run same)
       by (inr (count, s)) = inr (length ours + count + 2, wrong_closing input limit valid text ours left t e run count s)
   decided_behind (suc fuel) ours left t e all = by (decided_behind fuel) (follows_or_not input limit ours left)
     where
-      by : ((scripts : List Ran) (left : List ℕ) → FollowInTurn input limit [] scripts → text ≡ concat (journal_so_far input scripts) ++ left → fuel + length scripts ≡ count_scripts input.callers → IsOutput input limit text ⊎ HasWrongLine input limit text)
-          → Follows input limit ours left ⊎ ((ran : Ran) (after : List ℕ) → MayFollow input limit ours ran → left ≢ journal_line (length ours + 1) (caller_at input ran.place.caller).name ran ++ after)
+      by : ((scripts : List Ran) (left : List ℕ) → FollowInTurn input limit [] scripts
+          → text ≡ concat (journal_so_far input scripts) ++ left → fuel + length scripts ≡ count_scripts input.callers
+          → IsOutput input limit text ⊎ HasWrongLine input limit text)
+          → Follows input limit ours left ⊎ ((ran : Ran) (after : List ℕ) → MayFollow input limit ours ran
+          → left ≢ journal_line (length ours + 1) (caller_at input ran.place.caller).name ran ++ after)
           → IsOutput input limit text ⊎ HasWrongLine input limit text
-      by more (inl f) = more (ours ++ f.ran ∷ []) f.after (turns_more input limit [] ours f.ran t f.may) (text_more input ours f.ran text left f.after e f.is) (omega (arith, all, length-append ours (f.ran ∷ [])))
+      by more (inl f) = more (ours ++ f.ran ∷ []) f.after (turns_more input limit [] ours f.ran t f.may)
+          (text_more input ours f.ran text left f.after e f.is) (omega (arith, all, length-append ours (f.ran ∷ [])))
       by more (inr none) = inr (length ours + 2, wrong_script input limit valid text ours left t e (omega (arith, all)) none)
 
   -- a text is an output, or has a first wrong line
   pub decided : IsOutput input limit text ⊎ HasWrongLine input limit text
   decided = by (begins_or_not (line (codes "journal" ∷ [])) text)
     where
-      by : ((after : List ℕ) × (text ≡ line (codes "journal" ∷ []) ++ after)) ⊎ ((after : List ℕ) → text ≢ line (codes "journal" ∷ []) ++ after) → IsOutput input limit text ⊎ HasWrongLine input limit text
-      by (inl begins) = decided_behind (count_scripts input.callers) [] begins.0 tt (begins.1 ∙ ap (λ l. l ++ begins.0) (sym (append-nil (line (codes "journal" ∷ []))))) (omega arith)
+      by : ((after : List ℕ) × (text ≡ line (codes "journal" ∷ []) ++ after))
+          ⊎ ((after : List ℕ) → text ≢ line (codes "journal" ∷ []) ++ after) → IsOutput input limit text ⊎ HasWrongLine input limit text
+      by (inl begins) = decided_behind (count_scripts input.callers) [] begins.0 tt (begins.1
+          ∙ ap (λ l. l ++ begins.0) (sym (append-nil (line (codes "journal" ∷ []))))) (omega arith)
       by (inr none) = inr (1, wrong_title input limit valid text none)

@@ -26,6 +26,8 @@ number-more n great fits =
     let c : n % 10 ≡ n % 100 % 10 = omega arith in
     rw (decimal_step n (omega arith) fits, decimal_step (n / 10) (omega arith) (omega arith), append_assoc, a, b, ← c)
 
-pub two_more : (before hundredth now : List ℕ) (n : ℕ) → 100 ≤ n → n < 2 ^ 64 → hundredth ≡ before ++ number (n / 100) → now ≡ hundredth ++ pair (n % 100) → now ≡ before ++ number n
+pub two_more : (before hundredth now : List ℕ) (n : ℕ) → 100 ≤ n → n < 2 ^ 64 → hundredth ≡ before ++ number (n / 100)
+    → now ≡ hundredth ++ pair (n % 100) → now ≡ before ++ number n
 two_more before hundredth now n great fits first last =
-    last ∙ ap (λ ds. ds ++ pair (n % 100)) first ∙ append_assoc before (number (n / 100)) (pair (n % 100)) ∙ ap (λ ds. before ++ ds) (sym (number-more n great fits))
+    last ∙ ap (λ ds. ds ++ pair (n % 100)) first ∙ append_assoc before (number (n / 100)) (pair (n % 100))
+    ∙ ap (λ ds. before ++ ds) (sym (number-more n great fits))

@@ -44,7 +44,8 @@ done_values text pushed now values word rest =
     ∙ ap (λ xs. text ++ xs) (sym (join-map SPACE value_word (codes "done") values))
 
 -- one more line is written, and the others are left
-pub line_next : (input : ClearingInput) (whole before now name : List ℕ) (serial : ℕ) (lines left : List Line) (replies others : List Reply) (l : Line) (answer : Reply)
+pub line_next : (input : ClearingInput) (whole before now name : List ℕ) (serial : ℕ) (lines left : List Line)
+    (replies others : List Reply) (l : Line) (answer : Reply)
     → before ++ journal_lines input serial (scripts_of lines replies) ≡ whole → lines ≡ l ∷ left → replies ≡ answer ∷ others
     → name ≡ (caller_at input l.caller).name → now ≡ before ++ journal_line serial name (ran_of l answer)
     → now ++ journal_lines input (serial + 1) (scripts_of left others) ≡ whole

@@ -1,5 +1,6 @@
 -- The lines of outputs: each is one line, and joined they are the text.
-use Rattle.std.proofs.Common.{◌≡◌, ◌≢◌, ℕ, zero, suc, ◌+◌, ◌<◌, ◌/◌, ◌%◌, ◌==◌, Bool, true, false, if◌then◌else◌, List, [], ◌∷◌, ◌++◌, codes, length, map, refl, sym, ap, ◌∙◌, append_assoc, append-nil, length-append, lit<, arith}
+use Rattle.std.proofs.Common.{◌≡◌, ◌≢◌, ℕ, zero, suc, ◌+◌, ◌<◌, ◌/◌, ◌%◌, ◌==◌, Bool, true, false, if◌then◌else◌, List, [], ◌∷◌, ◌++◌, codes, length, map, refl}
+use Rattle.std.proofs.Common.{sym, ap, ◌∙◌, append_assoc, append-nil, length-append, lit<, arith}
 use Rattle.std.specs.List.{AllByRecursion, concat, flat_map, join_with_byte}
 use Rattle.std.specs.Fmt.{digits, digits_onto, digit_glyph}
 use Rattle.std.specs.FinMap as finmap
@@ -15,7 +16,8 @@ use Rattle.books_model.specs.Books.{ClearingBooks}
 use Rattle.books_model.specs.Words.{value_word, decline_word}
 use Rattle.script_reader.specs.declared.words.TheConstants.{SPACE, LINE_FEED}
 use Rattle.script_reader.specs.Lines.{IsFreeOf, IsWord, AreWords}
-use Rattle.script_reader.specs.Text.{line, number, header_words, header_line, account_line, account_words, price_line, price_words, position_line, position_words, call_line, call_words, finish_line, books_lines}
+use Rattle.script_reader.specs.Text.{line, number, header_words, header_line, account_line, account_words, price_line, price_words, position_line}
+use Rattle.script_reader.specs.Text.{position_words, call_line, call_words, finish_line, books_lines}
 use Rattle.script_reader.specs.Input.{ClearingInput, IsInput, IsName, caller_at, count_scripts}
 use Rattle.script_reader.proofs.Cutting.{free-append, line_once, word_from_test}
 use Rattle.script_reader.proofs.Submitting.{caller-AreWords}
@@ -45,7 +47,8 @@ digits_free : (c k n : ℕ) (acc : List ℕ) → c < 48 → IsFreeOf c acc → I
 digits_free c zero n acc low f = f
 digits_free c (suc k) n acc low f = by (n / 10 == 0) (digits_free c k (n / 10) (digit_glyph false (n % 10) ∷ acc) low (digit_is c (n % 10) low, f))
   where
-    by : (last : Bool) → IsFreeOf c (digits_onto k 10 false (n / 10) (digit_glyph false (n % 10) ∷ acc)) → IsFreeOf c (if last then digit_glyph false (n % 10) ∷ acc else digits_onto k 10 false (n / 10) (digit_glyph false (n % 10) ∷ acc))
+    by : (last : Bool) → IsFreeOf c (digits_onto k 10 false (n / 10) (digit_glyph false (n % 10) ∷ acc))
+        → IsFreeOf c (if last then digit_glyph false (n % 10) ∷ acc else digits_onto k 10 false (n / 10) (digit_glyph false (n % 10) ∷ acc))
     by true more = (digit_is c (n % 10) low, f)
     by false more = more
 
@@ -93,7 +96,13 @@ journal_words serial name ran = number serial ∷ name ∷ number (ran.place.ind
 pub journal-AreWords : (serial : ℕ) (name : List ℕ) (ran : Ran) → IsName name → AreWords (journal_words serial name ran)
 journal-AreWords serial name ran named = record {
   some = omega arith;
-  each = (number-word serial, ((caller-AreWords name named).each.1.0, (number-word (ran.place.index + 1), (number-word ran.restarts, reply-are_words ran.reply))));
+  each = (
+    number-word serial,
+    (
+      (caller-AreWords name named).each.1.0,
+      (number-word (ran.place.index + 1), (number-word ran.restarts, reply-are_words ran.reply)),
+    ),
+  );
 }
 
 -- it is one line
@@ -128,7 +137,16 @@ header_row b = (
       word_from_test (codes "books") refl,
       (
         word_from_test (codes "1") refl,
-        (word_from_test (codes "blocks") refl, (number-word b.blocks, (word_from_test (codes "instruments") refl, (number-word b.instruments, (word_from_test (codes "ring") refl, (number-word b.ring, tt)))))),
+        (
+          word_from_test (codes "blocks") refl,
+          (
+            number-word b.blocks,
+            (
+              word_from_test (codes "instruments") refl,
+              (number-word b.instruments, (word_from_test (codes "ring") refl, (number-word b.ring, tt))),
+            ),
+          ),
+        ),
       ),
     );
   },
@@ -142,7 +160,15 @@ price_row : (e : ℕ × ℕ) → IsRow (price_line e)
 price_row e = (price_words e, record { some = omega arith; each = (word_from_test (codes "price") refl, (number-word e.0, (number-word e.1, tt))) }, refl)
 
 position_row : (e : (ℕ × ℕ) × ℕ) → IsRow (position_line e)
-position_row e = (position_words e, record { some = omega arith; each = (word_from_test (codes "position") refl, (number-word e.0.0, (number-word e.0.1, (number-word e.1, tt)))) }, refl)
+position_row e = (
+  position_words e,
+  record {
+    some = omega arith;
+    each =
+        (word_from_test (codes "position") refl, (number-word e.0.0, (number-word e.0.1, (number-word e.1, tt))));
+  },
+  refl,
+)
 
 call_row : (e : ℕ × ℕ) → IsRow (call_line e)
 call_row e = (call_words e, record { some = omega arith; each = (word_from_test (codes "call") refl, (number-word e.0, (number-word e.1, tt))) }, refl)
@@ -183,15 +209,23 @@ module _ (input : ClearingInput) (limit : ℕ) (valid : IsInput input) where
 
   -- the lines of an output
   pub output_rows : (scripts : List Ran) → FollowInTurn input limit [] scripts → AllByRecursion IsRow (output_lines input scripts)
-  output_rows scripts t = (title_row, all_both IsRow (lines_of input 1 scripts) (lines_behind input scripts) (journal_rows [] scripts 1 t) (behind_rows scripts))
+  output_rows scripts t = (
+    title_row,
+    all_both IsRow (lines_of input 1 scripts) (lines_behind input scripts)
+        (journal_rows [] scripts 1 t) (behind_rows scripts),
+  )
 
 -- behind all scripts stand the closing lines
-pub behind_all : (input : ClearingInput) (scripts : List Ran) → length scripts ≡ count_scripts input.callers → lines_behind input scripts ≡ closing_lines (books_after input input.books (places_of scripts))
-behind_all input scripts all = ap (λ b. if b then closing_lines (books_after input input.books (places_of scripts)) else []) (eq-eqb (length scripts) (count_scripts input.callers) all)
+pub behind_all : (input : ClearingInput) (scripts : List Ran) → length scripts ≡ count_scripts input.callers
+    → lines_behind input scripts ≡ closing_lines (books_after input input.books (places_of scripts))
+behind_all input scripts all =
+    ap (λ b. if b then closing_lines (books_after input input.books (places_of scripts)) else []) (eq-eqb (length scripts) (count_scripts input.callers) all)
 
 -- and none as long as one is left
 pub behind_some : (input : ClearingInput) (scripts : List Ran) → length scripts < count_scripts input.callers → lines_behind input scripts ≡ []
-behind_some input scripts less = ap (λ b. if b then closing_lines (books_after input input.books (places_of scripts)) else []) (ne_eqb (length scripts) (count_scripts input.callers) (λ same. omega (arith, same, less)))
+behind_some input scripts less =
+    ap (λ b. if b then closing_lines (books_after input input.books (places_of scripts)) else [])
+    (ne_eqb (length scripts) (count_scripts input.callers) (λ same. omega (arith, same, less)))
 
 -- the texts of two lists of lines together
 pub concat-both : (xs ys : List (List ℕ)) → concat (xs ++ ys) ≡ concat xs ++ concat ys
@@ -221,15 +255,18 @@ closing_text b =
     ∙ sym (grouped (header_line b) accounts prices positions calls finish_line)
   where
     grouped : (h a p q c f : List ℕ) → ((((h ++ a) ++ p) ++ q) ++ c) ++ f ≡ h ++ (a ++ (p ++ (q ++ (c ++ f))))
-    grouped h a p q c f = append_assoc (((h ++ a) ++ p) ++ q) c f ∙ append_assoc ((h ++ a) ++ p) q (c ++ f) ∙ append_assoc (h ++ a) p (q ++ (c ++ f)) ∙ append_assoc h a (p ++ (q ++ (c ++ f)))
+    grouped h a p q c f = append_assoc (((h ++ a) ++ p) ++ q) c f ∙ append_assoc ((h ++ a) ++ p) q (c ++ f)
+        ∙ append_assoc (h ++ a) p (q ++ (c ++ f)) ∙ append_assoc h a (p ++ (q ++ (c ++ f)))
 
 -- the text of a journal's lines
 journal_text : (input : ClearingInput) (serial : ℕ) (scripts : List Ran) → concat (lines_of input serial scripts) ≡ journal_lines input serial scripts
 journal_text input serial [] = refl
-journal_text input serial (ran ∷ scripts) = ap (λ l. journal_line serial (caller_at input ran.place.caller).name ran ++ l) (journal_text input (serial + 1) scripts)
+journal_text input serial (ran ∷ scripts) =
+    ap (λ l. journal_line serial (caller_at input ran.place.caller).name ran ++ l) (journal_text input (serial + 1) scripts)
 
 -- all lines of an output are its text
-pub output_text : (input : ClearingInput) (scripts : List Ran) → length scripts ≡ count_scripts input.callers → concat (output_lines input scripts) ≡ output_of input scripts
+pub output_text : (input : ClearingInput) (scripts : List Ran) → length scripts ≡ count_scripts input.callers
+    → concat (output_lines input scripts) ≡ output_of input scripts
 output_text input scripts all =
     let title = line (codes "journal" ∷ []) in
     let journal = journal_lines input 1 scripts in

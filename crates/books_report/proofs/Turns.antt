@@ -1,5 +1,6 @@
 -- Scripts that follow in turn are those of a journal, and those of a journal follow in turn.
-use Rattle.std.proofs.Common.{◌≡◌, ◌≢◌, ℕ, suc, ◌+◌, ◌<◌, ◌≤◌, ◌==◌, ◌&&◌, Bool, true, false, cond, nat_lt, List, [], ◌∷◌, ◌++◌, length, map, get_or, count_by, All, AllPairs, inl, inr, refl, sym, ap, ◌∙◌, subst, append_assoc, append-nil, length-append, arith}
+use Rattle.std.proofs.Common.{◌≡◌, ◌≢◌, ℕ, suc, ◌+◌, ◌<◌, ◌≤◌, ◌==◌, ◌&&◌, Bool, true, false, cond, nat_lt, List, [], ◌∷◌, ◌++◌, length, map, get_or, count_by}
+use Rattle.std.proofs.Common.{All, AllPairs, inl, inr, refl, sym, ap, ◌∙◌, subst, append_assoc, append-nil, length-append, arith}
 use Rattle.std.specs.List.{AllByRecursion}
 use Rattle.std.proofs.lemmas.List.{map_push, get_or_append_left, get_or_at, get_or-append-add, map-append}
 use Rattle.std.proofs.lemmas.List.Sums.{sum_by_push, sum_by-append}
@@ -44,7 +45,8 @@ once_more : (same : Bool) (pi i t : ℕ) → (same ≡ true → pi ≡ t) → co
 once_more false pi i t at = grind (arith, nat_tests)
 once_more true pi i t at = let is = at refl in grind (arith, nat_tests, is)
 
-few_more : (input : ClearingInput) (done : List Place) (p : Place) → Gone input done → IsNext input done p → (c : ℕ) → turns (done ++ p ∷ []) c ≤ length (caller_at input c).scripts
+few_more : (input : ClearingInput) (done : List Place) (p : Place) → Gone input done → IsNext input done p → (c : ℕ)
+    → turns (done ++ p ∷ []) c ≤ length (caller_at input c).scripts
 few_more input done p h n c = elim (eqb_tells p.caller c) [
   | inl same ↦ subst (λ x. turns (done ++ p ∷ []) x ≤ length (caller_at input x).scripts) same.1 (omega (arith, its_turn done p, n.next, n.left.1))
   | inr apart ↦ omega (arith, turns-push done p c, ap {B = ℕ} (λ b. cond b 1 0) apart.0, h.few c)
@@ -54,14 +56,16 @@ few_more input done p h n c = elim (eqb_tells p.caller c) [
 pub gone_more : (input : ClearingInput) (done : List Place) (p : Place) → Gone input done → IsNext input done p → Gone input (done ++ p ∷ [])
 gone_more input done p h n = record {
   only = All-push (IsPlace input) done p h.only n.left;
-  rising = all_pairs_push (λ p q. p.caller ≡ q.caller → p.index < q.index) done p h.rising (λ k d less same. omega (arith, h.every k d less, ap (turns done) same, n.next));
+  rising = all_pairs_push (λ p q. p.caller ≡ q.caller → p.index < q.index) done p h.rising (λ k d less same.
+      omega (arith, h.every k d less, ap (turns done) same, n.next));
   once = λ c i.
       sum_by_push (λ q. cond (q.caller == c && q.index == i) 1 0) done p
       ∙ ap (λ m. m + cond (p.caller == c && p.index == i) 1 0) (h.once c i)
       ∙ once_more (p.caller == c) p.index i (turns done c) (λ same. n.next ∙ ap (turns done) (eqb-true p.caller c same))
       ∙ ap {B = ℕ} (λ t. cond (nat_lt i t) 1 0) (sym (turns-push done p c));
   every = All-push (λ q. q.index < turns (done ++ p ∷ []) q.caller) done p
-      (All-weaker (λ q. q.index < turns done q.caller) (λ q. q.index < turns (done ++ p ∷ []) q.caller) (λ q less. omega (arith, less, turns-push done p q.caller)) done h.every)
+      (All-weaker (λ q. q.index < turns done q.caller) (λ q. q.index < turns (done ++ p ∷ []) q.caller)
+      (λ q less. omega (arith, less, turns-push done p q.caller)) done h.every)
       (omega (arith, its_turn done p, n.next));
   few = few_more input done p h n;
 }
@@ -77,10 +81,12 @@ gone_none input = record {
 }
 
 -- scripts in turn, behind others
-pub gone_by_turns : (input : ClearingInput) (limit : ℕ) (before scripts : List Ran) → Gone input (places_of before) → FollowInTurn input limit before scripts → Gone input (places_of (before ++ scripts))
+pub gone_by_turns : (input : ClearingInput) (limit : ℕ) (before scripts : List Ran) → Gone input (places_of before)
+    → FollowInTurn input limit before scripts → Gone input (places_of (before ++ scripts))
 gone_by_turns input limit before [] h t = subst (λ l. Gone input (places_of l)) (sym (append-nil before)) h
 gone_by_turns input limit before (ran ∷ scripts) h t =
-    let more : Gone input (places_of (before ++ ran ∷ [])) = subst (Gone input) (sym (map_push (λ (r : Ran). r.place) before ran)) (gone_more input (places_of before) ran.place h t.0.next) in
+    let more : Gone input (places_of (before ++ ran ∷ [])) =
+    subst (Gone input) (sym (map_push (λ (r : Ran). r.place) before ran)) (gone_more input (places_of before) ran.place h t.0.next) in
     subst (λ l. Gone input (places_of l)) (append_assoc before (ran ∷ []) scripts) (gone_by_turns input limit (before ++ ran ∷ []) scripts more t.1)
 
 -- scripts in turn, from the first
@@ -103,8 +109,11 @@ scripts_together : (input : ClearingInput) → count_scripts input.callers ≡ s
 scripts_together input = sum_by_all (λ (c : Caller). length c.scripts) (record { name = []; scripts = [] }) input.callers
 
 -- where as many were run as there are, no caller has one left
-pub finished : (input : ClearingInput) (done : List Place) → Gone input done → length done ≡ count_scripts input.callers → (c : ℕ) → c < length input.callers → turns done c ≡ length (caller_at input c).scripts
-finished input done h all c within = sums-tight (length input.callers) (turns done) (λ c. length (caller_at input c).scripts) (λ c less. h.few c) (sym (turns_together input done h.only) ∙ all ∙ scripts_together input) c within
+pub finished : (input : ClearingInput) (done : List Place) → Gone input done → length done ≡ count_scripts input.callers
+    → (c : ℕ) → c < length input.callers → turns done c ≡ length (caller_at input c).scripts
+finished input done h all c within =
+    sums-tight (length input.callers) (turns done) (λ c. length (caller_at input c).scripts) (λ c less. h.few c)
+    (sym (turns_together input done h.only) ∙ all ∙ scripts_together input) c within
 
 -- so none comes next
 pub none_left : (input : ClearingInput) (done : List Place) (p : Place) → Gone input done → length done ≡ count_scripts input.callers → IsNext input done p → ⊥
@@ -114,7 +123,8 @@ none_left input done p h all n = omega (arith, finished input done h all p.calle
 pub journal_of_turns : (input : ClearingInput) (done : List Place) → Gone input done → length done ≡ count_scripts input.callers → IsJournal input done
 journal_of_turns input done h all = record {
   only = h.only;
-  once = λ place there. h.once place.caller place.index ∙ by place.index (turns done place.caller) (omega (arith, finished input done h all place.caller there.0, there.1));
+  once = λ place there. h.once place.caller place.index
+      ∙ by place.index (turns done place.caller) (omega (arith, finished input done h all place.caller there.0, there.1));
   rising = h.rising;
 }
   where
@@ -122,12 +132,17 @@ journal_of_turns input done h all = record {
     by i t less = grind (arith, nat_tests, less)
 
 -- what holds of pairs holds of an element and those before it, and of it and those behind it
-around : {A : Type 0} (R : A → A → Type 0) (xs : List A) (y : A) (ys : List A) → AllPairs R (xs ++ y ∷ ys) → AllByRecursion (λ x. R x y) xs × AllByRecursion (λ z. R y z) ys
+around : {A : Type 0} (R : A → A → Type 0) (xs : List A) (y : A) (ys : List A) → AllPairs R (xs ++ y ∷ ys)
+    → AllByRecursion (λ x. R x y) xs × AllByRecursion (λ z. R y z) ys
 around {A} R xs y ys h = (
   recursion_from_All (λ x. R x y) xs (λ k d less.
-      subst (λ x. R x y) (get_or_append_left xs (y ∷ ys) d k less) (subst (λ z. R (get_or (xs ++ y ∷ ys) k d) z) (get_or_at xs y ys d (length xs) refl) (h k (length xs) d less (omega (arith, length-append xs (y ∷ ys)))))),
+      subst (λ x. R x y) (get_or_append_left xs (y ∷ ys) d k less)
+      (subst (λ z. R (get_or (xs ++ y ∷ ys) k d) z) (get_or_at xs y ys d (length xs) refl)
+      (h k (length xs) d less (omega (arith, length-append xs (y ∷ ys)))))),
   recursion_from_All (λ z. R y z) ys (λ k d less.
-      subst (λ z. R y z) (get_or-append-add xs (y ∷ ys) (suc k) d) (subst (λ x. R x (get_or (xs ++ y ∷ ys) (length xs + suc k) d)) (get_or_at xs y ys d (length xs) refl) (h (length xs) (length xs + suc k) d (omega arith) (omega (arith, length-append xs (y ∷ ys)))))),
+      subst (λ z. R y z) (get_or-append-add xs (y ∷ ys) (suc k) d)
+      (subst (λ x. R x (get_or (xs ++ y ∷ ys) (length xs + suc k) d)) (get_or_at xs y ys d (length xs) refl)
+      (h (length xs) (length xs + suc k) d (omega arith) (omega (arith, length-append xs (y ∷ ys)))))),
 )
 
 -- none of those that fail a test counts
@@ -157,13 +172,22 @@ next_of_journal input done p rest j = record { left = here; next = sym counted }
         let whole = j.once (record { caller = p.caller; index = i }) (here.0, omega (arith, here.1, less)) in
         let itself = other_index p.caller p.caller p.index i (λ same at. omega (arith, at, less)) in
         let behind = none_counts (λ q. q.caller == p.caller && q.index == i) rest
-        (all_follow (λ q. p.caller ≡ q.caller → p.index < q.index) (λ q. (q.caller == p.caller && q.index == i) ≡ false) rest (λ q above. other_index q.caller p.caller q.index i (λ same at. omega (arith, above (sym same), at, less))) sides.1) in
-        omega (arith, whole, sum_by-append (λ q. cond (q.caller == p.caller && q.index == i) 1 0) done (p ∷ rest), sum_by-append (λ q. cond (q.caller == p.caller && q.index == i) 1 0) (p ∷ []) rest, ap {B = ℕ} (λ b. cond b 1 0) itself, behind)
+        (all_follow (λ q. p.caller ≡ q.caller → p.index < q.index) (λ q. (q.caller == p.caller && q.index == i) ≡ false)
+        rest (λ q above. other_index q.caller p.caller q.index i (λ same at. omega (arith, above (sym same), at, less))) sides.1) in
+        omega (
+          arith,
+          whole,
+          sum_by-append (λ q. cond (q.caller == p.caller && q.index == i) 1 0) done (p ∷ rest),
+          sum_by-append (λ q. cond (q.caller == p.caller && q.index == i) 1 0) (p ∷ []) rest,
+          ap {B = ℕ} (λ b. cond b 1 0) itself,
+          behind,
+        )
 
     counted : turns done p.caller ≡ p.index
     counted =
         by_classes (λ q. q.caller == p.caller) (λ q. q.index) p.index done
-        (all_follow (λ q. q.caller ≡ p.caller → q.index < p.index) (λ q. (q.caller == p.caller) ≡ true → q.index < p.index) done (λ q below same. below (eqb-true q.caller p.caller same)) sides.0)
+        (all_follow (λ q. q.caller ≡ p.caller → q.index < p.index) (λ q. (q.caller == p.caller) ≡ true
+        → q.index < p.index) done (λ q below same. below (eqb-true q.caller p.caller same)) sides.0)
         ∙ sums-ones p.index (λ i. times done p.caller i) once
 
 -- a journal has as many scripts as the input
@@ -176,7 +200,9 @@ length_of_journal input order j =
     each : (c : ℕ) → c < length input.callers → turns order c ≡ length (caller_at input c).scripts
     each c within =
         by_classes (λ q. q.caller == c) (λ q. q.index) (length (caller_at input c).scripts) order
-        (recursion_from_All (λ q. (q.caller == c) ≡ true → q.index < length (caller_at input c).scripts) order (λ k d less same. subst (λ x. (get_or order k d).index < length (caller_at input x).scripts) (eqb-true (get_or order k d).caller c same) (j.only k d less).1))
+        (recursion_from_All (λ q. (q.caller == c) ≡ true → q.index < length (caller_at input c).scripts) order
+        (λ k d less same. subst (λ x. (get_or order k d).index < length (caller_at input x).scripts)
+        (eqb-true (get_or order k d).caller c same) (j.only k d less).1))
         ∙ sums-ones (length (caller_at input c).scripts) (λ i. times order c i) (λ i less. j.once (record { caller = c; index = i }) (within, less))
 
 -- the books after one more script
@@ -188,15 +214,19 @@ books_after-push input books (q ∷ places) p = books_after-push input (books_le
 -- the books after one more script that was run
 pub books_after_ran : (input : ClearingInput) (before : List Ran) (ran : Ran)
     → books_after input input.books (places_of (before ++ ran ∷ [])) ≡ books_left input (books_after input input.books (places_of before)) ran.place
-books_after_ran input before ran = ap (books_after input input.books) (map_push (λ (r : Ran). r.place) before ran) ∙ books_after-push input input.books (places_of before) ran.place
+books_after_ran input before ran = ap (books_after input input.books) (map_push (λ (r : Ran). r.place) before ran)
+    ∙ books_after-push input input.books (places_of before) ran.place
 
 -- the scripts of an output follow in turn
-pub turns_of_journal : (input : ClearingInput) (limit : ℕ) (before scripts : List Ran) → IsJournal input (places_of (before ++ scripts)) → All (λ ran. ran.restarts < limit) scripts
-    → map (λ ran. ran.reply) scripts ≡ replies_of input (books_after input input.books (places_of before)) (places_of scripts) → FollowInTurn input limit before scripts
+pub turns_of_journal : (input : ClearingInput) (limit : ℕ) (before scripts : List Ran)
+    → IsJournal input (places_of (before ++ scripts)) → All (λ ran. ran.restarts < limit) scripts
+    → map (λ ran. ran.reply) scripts ≡ replies_of input (books_after input input.books (places_of before))
+    (places_of scripts) → FollowInTurn input limit before scripts
 turns_of_journal input limit before [] j below replies = tt
 turns_of_journal input limit before (ran ∷ scripts) j below replies = (
   record {
-    next = next_of_journal input (places_of before) ran.place (places_of scripts) (subst (IsJournal input) (map-append (λ (r : Ran). r.place) before (ran ∷ scripts)) j);
+    next = next_of_journal input (places_of before) ran.place (places_of scripts)
+        (subst (IsJournal input) (map-append (λ (r : Ran). r.place) before (ran ∷ scripts)) j);
     below = All-head (λ (r : Ran). r.restarts < limit) ran scripts below;
     reply = cc;
   },
@@ -210,7 +240,8 @@ turns_of_journal input limit before (ran ∷ scripts) j below replies = (
     rest = cc
 
 -- what scripts in turn say of their restarts and replies
-pub below_of_turns : (input : ClearingInput) (limit : ℕ) (before scripts : List Ran) → FollowInTurn input limit before scripts → AllByRecursion (λ ran. ran.restarts < limit) scripts
+pub below_of_turns : (input : ClearingInput) (limit : ℕ) (before scripts : List Ran)
+    → FollowInTurn input limit before scripts → AllByRecursion (λ ran. ran.restarts < limit) scripts
 below_of_turns input limit before [] t = tt
 below_of_turns input limit before (ran ∷ scripts) t = (t.0.below, below_of_turns input limit (before ++ ran ∷ []) scripts t.1)
 
@@ -218,9 +249,12 @@ pub replies_of_turns : (input : ClearingInput) (limit : ℕ) (before scripts : L
     → map (λ ran. ran.reply) scripts ≡ replies_of input (books_after input input.books (places_of before)) (places_of scripts)
 replies_of_turns input limit before [] t = refl
 replies_of_turns input limit before (ran ∷ scripts) t = λ i.
-    t.0.reply i ∷ (replies_of_turns input limit (before ++ ran ∷ []) scripts t.1 ∙ ap (λ books. replies_of input books (places_of scripts)) (books_after_ran input before ran)) i
+    t.0.reply i ∷ (replies_of_turns input limit (before ++ ran ∷ []) scripts t.1
+    ∙ ap (λ books. replies_of input books (places_of scripts)) (books_after_ran input before ran)) i
 
 -- one more script in turn, behind some
-pub turns_more : (input : ClearingInput) (limit : ℕ) (before scripts : List Ran) (ran : Ran) → FollowInTurn input limit before scripts → MayFollow input limit (before ++ scripts) ran → FollowInTurn input limit before (scripts ++ ran ∷ [])
+pub turns_more : (input : ClearingInput) (limit : ℕ) (before scripts : List Ran) (ran : Ran)
+    → FollowInTurn input limit before scripts → MayFollow input limit (before ++ scripts) ran → FollowInTurn input limit before (scripts ++ ran ∷ [])
 turns_more input limit before [] ran t m = (subst (λ l. MayFollow input limit l ran) (append-nil before) m, tt)
-turns_more input limit before (r ∷ scripts) ran t m = (t.0, turns_more input limit (before ++ r ∷ []) scripts ran t.1 (subst (λ l. MayFollow input limit l ran) (sym (append_assoc before (r ∷ []) scripts)) m))
+turns_more input limit before (r ∷ scripts) ran t m =
+    (t.0, turns_more input limit (before ++ r ∷ []) scripts ran t.1 (subst (λ l. MayFollow input limit l ran) (sym (append_assoc before (r ∷ []) scripts)) m))

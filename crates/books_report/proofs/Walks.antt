@@ -1,5 +1,6 @@
 -- A walk over entries in the order of their keys: each is the first above the one before.
-use Rattle.std.proofs.Common.{◌≡◌, ◌-◌, ◌<◌, ◌≤◌, ℕ, Bool, true, false, cond, ◌&&◌, not, T, List, [], ◌∷◌, ◌++◌, length, Some, None, filter, refl, sym, ap, ◌∙◌, subst, arith, length-append}
+use Rattle.std.proofs.Common.{◌≡◌, ◌-◌, ◌<◌, ◌≤◌, ℕ, Bool, true, false, cond, ◌&&◌, not, T, List, [], ◌∷◌, ◌++◌, length, Some, None, filter, refl, sym, ap, ◌∙◌}
+use Rattle.std.proofs.Common.{subst, arith, length-append}
 use Rattle.std.specs.List.{find, flat_map}
 use Rattle.std.specs.Ordering.{is_eq, is_lt, ordering_reverse}
 use Rattle.std.specs.Cmp.{IsTotalOrder, tied_itself}
@@ -23,7 +24,8 @@ written_next text before now write done more e h k next =
 
 module _ {K X : Type 0} {R : K → K → Ordering} (o : IsTotalOrder R) where
   -- a key below each key that is found is below all
-  pub below_found : (first : K) (es : List (K × X)) → T (is_sorted R es) → ((k : K) (v : X) → entries.find R k es ≡ Some v → R first k ≡ Less) → T (below_all R first es)
+  pub below_found : (first : K) (es : List (K × X)) → T (is_sorted R es)
+      → ((k : K) (v : X) → entries.find R k es ≡ Some v → R first k ≡ Less) → T (below_all R first es)
   below_found first [] sorted each = tt
   below_found first (e ∷ es) sorted each =
       let here = each e.0 e.1 (ap (λ r. cond (is_eq r) (Some e.1) (entries.find R e.0 es)) (tied_itself o e.0)) in
@@ -39,7 +41,8 @@ module _ {K X : Type 0} {R : K → K → Ordering} (o : IsTotalOrder R) (later :
   -- below all keys there are none of them
   pub none_up_to : (last : K) (es : List (K × X)) → T (below_all R last es) → up_to later last es ≡ []
   none_up_to last [] h = refl
-  none_up_to last (e ∷ es) h = left_out (later last e.0) e (up_to later last es) (is last e.0 ∙ ap is_lt (below_first R last e es h)) ∙ none_up_to last es (below_rest R last e es h)
+  none_up_to last (e ∷ es) h = left_out (later last e.0) e (up_to later last es) (is last e.0
+      ∙ ap is_lt (below_first R last e es h)) ∙ none_up_to last es (below_rest R last e es h)
 
   -- what a search finds is above the last one
   found_above : (last : K) (es : List (K × X)) (e : K × X) → find (λ x. later last x.0) es ≡ Some e → later last e.0 ≡ true
@@ -60,11 +63,13 @@ module _ {K X : Type 0} {R : K → K → Ordering} (o : IsTotalOrder R) (later :
       ] found
 
   -- the first entry above the last one is the next that is put in
-  pub up_to-next : (last : K) (es : List (K × X)) (e : K × X) → T (is_sorted R es) → find (λ x. later last x.0) es ≡ Some e → up_to later e.0 es ≡ up_to later last es ++ e ∷ []
+  pub up_to-next : (last : K) (es : List (K × X)) (e : K × X) → T (is_sorted R es)
+      → find (λ x. later last x.0) es ≡ Some e → up_to later e.0 es ≡ up_to later last es ++ e ∷ []
   up_to-next last [] e sorted found = absurd cc
   up_to-next last (x ∷ es) e sorted found =
       let below = sorted_first R x es sorted in
-      elim (later last x.0) as (λ b. later last x.0 ≡ b → cond b (Some x) (find (λ x. later last x.0) es) ≡ Some e → up_to later e.0 (x ∷ es) ≡ up_to later last (x ∷ es) ++ e ∷ []) [
+      elim (later last x.0) as (λ b. later last x.0 ≡ b → cond b (Some x) (find (λ x. later last x.0) es) ≡ Some e
+      → up_to later e.0 (x ∷ es) ≡ up_to later last (x ∷ es) ++ e ∷ []) [
         | true ↦ λ at f.
             let same : x ≡ e = cc in
             let less = less_of (R last x.0) (subst T (sym (sym (is last x.0) ∙ at)) tt) in
@@ -88,7 +93,8 @@ module _ {K X : Type 0} {R : K → K → Ordering} (o : IsTotalOrder R) (later :
       ] refl none
 
   -- fewer entries are left after each step
-  pub fewer_left : (last : K) (es : List (K × X)) (e : K × X) → T (is_sorted R es) → find (λ x. later last x.0) es ≡ Some e → length es - length (up_to later e.0 es) < length es - length (up_to later last es)
+  pub fewer_left : (last : K) (es : List (K × X)) (e : K × X) → T (is_sorted R es)
+      → find (λ x. later last x.0) es ≡ Some e → length es - length (up_to later e.0 es) < length es - length (up_to later last es)
   fewer_left last es e sorted found =
       let next = ap length (up_to-next last es e sorted found) in
       omega (arith, next, length-append (up_to later last es) (e ∷ []), at_most (λ x. not (later e.0 x.0)) es)

@@ -27,4 +27,5 @@ pub record OutputOrWrong : Type 0 where
 
 -- a text has one first wrong line at most
 abbrev pub OneWrongLine : Type 0
-OneWrongLine = (input : ClearingInput) (limit : ℕ) (text : List ℕ) (number other : ℕ) → IsInput input → IsFirstWrongLine input limit text number → IsFirstWrongLine input limit text other → number ≡ other
+OneWrongLine = (input : ClearingInput) (limit : ℕ) (text : List ℕ) (number other : ℕ) → IsInput input
+    → IsFirstWrongLine input limit text number → IsFirstWrongLine input limit text other → number ≡ other

@@ -66,8 +66,10 @@ module _ (n : ℕ) (G : List ℕ → Type 0) (t u : Trace) (x by : ℕ) (read : 
     at = λ s fit. record {
       at = λ k is.
           let fit_u : Fits n G (t ++ Read 0 x ∷ []) s = subst (λ z. Fits n G z s) read fit in
-          let same : x ≡ k = same_Some x k (sym (read_there t s 0 x fit_u.legal) ∙ is) in
-          ((λ e. cc, λ (lt : k + by < 2 ^ 64). absurd (omega (arith, lt, over, same))), ap (λ z. slice_get z 0) (ap (λ z. after z s) read ∙ after_read t s 0 x) ∙ is);
+          let same : x ≡ k = same_Some x k (sym (read_there t s 0 x fit_u.legal) ∙ is) in (
+            (λ e. cc, λ (lt : k + by < 2 ^ 64). absurd (omega (arith, lt, over, same))),
+            ap (λ z. slice_get z 0) (ap (λ z. after z s) read ∙ after_read t s 0 x) ∙ is,
+          );
     };
   }
 
@@ -79,7 +81,10 @@ module _ (n : ℕ) (G : List ℕ → Type 0) (t u : Trace) (x by : ℕ) (read : 
           let fit_u : Fits n G (t ++ Read 0 x ∷ []) s = subst (λ z. Fits n G z s) read (fits_write_end n G u v 0 (x + by) s ends fit) in
           let same : x ≡ k = same_Some x k (sym (read_there t s 0 x fit_u.legal) ∙ is) in
           let same_u : after u s ≡ after t s = ap (λ z. after z s) read ∙ after_read t s 0 x in
-          let last : after v s ≡ slice_set (after t s) 0 (x + by) = after_write_end u v 0 (x + by) s ends ∙ ap (λ z. slice_set z 0 (x + by)) same_u in
-          ((λ e. omega (arith, room, same), λ e. refl), ap (λ z. slice_get z 0) last ∙ get_set_same (after t s) 0 (x + by) (slice_get_within (after t s) 0 k is) ∙ ap (λ z. Some (z + by)) same);
+          let last : after v s ≡ slice_set (after t s) 0 (x + by) = after_write_end u v 0 (x + by) s ends ∙ ap (λ z. slice_set z 0 (x + by)) same_u in (
+            (λ e. omega (arith, room, same), λ e. refl),
+            ap (λ z. slice_get z 0) last
+                ∙ get_set_same (after t s) 0 (x + by) (slice_get_within (after t s) 0 k is) ∙ ap (λ z. Some (z + by)) same,
+          );
     };
   }

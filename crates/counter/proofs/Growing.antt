@@ -15,7 +15,8 @@ pub record Grown (m : ℕ) (s t : List ℕ) : Type 0 where
 
 -- what was read last is the counter as it has grown
 pub grown_read : (n : ℕ) (G : List ℕ → Type 0) (t0 t u : Trace) (x m : ℕ)
-    → Leads n G t0 t (Grown m) → u ≡ t ++ Read 0 x ∷ [] → (s : List ℕ) → Fits n G u s → (k : ℕ) → slice_get (after t0 s) 0 ≡ Some k → k < 2 ^ 64 → (x ≡ k + m) × (slice_get (after t s) 0 ≡ Some x)
+    → Leads n G t0 t (Grown m) → u ≡ t ++ Read 0 x ∷ [] → (s : List ℕ) → Fits n G u s → (k : ℕ)
+    → slice_get (after t0 s) 0 ≡ Some k → k < 2 ^ 64 → (x ≡ k + m) × (slice_get (after t s) 0 ≡ Some x)
 grown_read n G t0 t u x m grown e s fit k is small =
     let fit_u : Fits n G (t ++ Read 0 x ∷ []) s = subst (λ z. Fits n G z s) e fit in
     let there : slice_get (after t s) 0 ≡ Some x = read_there t s 0 x fit_u.legal in

@@ -16,7 +16,8 @@ place keep [] i = i
 place keep (x ∷ xs) zero = if keep x then zero else suc (place keep xs zero)
 place keep (x ∷ xs) (suc i) = if keep x then suc (place keep xs i) else suc (place keep xs (suc i))
 
-passing-at : (keep : Item → Bool) (xs : List Item) (i : ℕ) (z : Item) → slice_get (passing keep xs) i ≡ Some z → (slice_get xs (place keep xs i) ≡ Some z) × (keep z ≡ true)
+passing-at : (keep : Item → Bool) (xs : List Item) (i : ℕ) (z : Item) → slice_get (passing keep xs) i ≡ Some z
+    → (slice_get xs (place keep xs i) ≡ Some z) × (keep z ≡ true)
 unfolding passing place
 passing-at keep [] i z e = cc
 passing-at keep (x ∷ xs) zero z e = ⊎_elim
@@ -46,12 +47,14 @@ unfolding passing
 in-passing keep [] z m k = let e = m.1 in cc
 in-passing keep (x ∷ xs) z m k = go (λ i e. in-passing keep xs z (i, e) k) (m.0) (m.1)
   where
-    go : ((i : ℕ) → slice_get xs i ≡ Some z → IsIn z (passing keep xs)) → (i : ℕ) → slice_get (x ∷ xs) i ≡ Some z → IsIn z (if keep x then x ∷ passing keep xs else passing keep xs)
+    go : ((i : ℕ) → slice_get xs i ≡ Some z → IsIn z (passing keep xs)) → (i : ℕ) → slice_get (x ∷ xs) i ≡ Some z
+        → IsIn z (if keep x then x ∷ passing keep xs else passing keep xs)
     go rest zero e = let q : x ≡ z = cc in let t : keep x ≡ true = rw q k in rw t (zero, e)
     go rest (suc i) e = let r = rest i e in ⊎_elim (λ t. rw t (suc r.0, r.1)) (λ t. rw t r) (cases_Bool (keep x))
 
 module _ (good : List ℕ → Type 0) (base : List ℕ) (next : ℕ → ℕ) (items less order : List Item) (keep : Item → Bool)
-    (held : AgreeWithVersions good base next items) (arrangement : IsArrangement items order) (entries : (z : Item) → IsIn z items → z.entry ≡ true → keep z ≡ true) (drops : Drops keep items less) where
+    (held : AgreeWithVersions good base next items) (arrangement : IsArrangement items order) (entries : (z : Item)
+    → IsIn z items → z.entry ≡ true → keep z ≡ true) (drops : Drops keep items less) where
   pub drops_arranged : IsArrangement less (passing keep order)
   drops_arranged = record {
     same = λ z. (
@@ -61,11 +64,13 @@ module _ (good : List ℕ → Type 0) (base : List ℕ) (next : ℕ → ℕ) (it
     no_repeat = λ i j z e f.
         let q = arrangement.no_repeat (place keep order i) (place keep order j) z (passing-at keep order i z e).0 (passing-at keep order j z f).0 in
         same_place i j q;
-    in_order = λ i j y z e f l. arrangement.in_order (place keep order i) (place keep order j) y z (passing-at keep order i y e).0 (passing-at keep order j z f).0 (place-up keep order i j l);
+    in_order = λ i j y z e f l. arrangement.in_order (place keep order i) (place keep order j) y z
+        (passing-at keep order i y e).0 (passing-at keep order j z f).0 (place-up keep order i j l);
   }
     where
       same_place : (i j : ℕ) → place keep order i ≡ place keep order j → i ≡ j
-      same_place i j q = tri i j (λ l. let u = place-up keep order i j l in absurd (omega arith)) (λ l. let u = place-up keep order j i l in absurd (omega arith))
+      same_place i j q = tri i j (λ l. let u = place-up keep order i j l in absurd (omega arith)) (λ l. let u =
+          place-up keep order j i l in absurd (omega arith))
         where
           tri : (i j : ℕ) → (i < j → ⊥) → (j < i → ⊥) → i ≡ j
           tri i j a b = grind arith
@@ -78,7 +83,8 @@ module _ (good : List ℕ → Type 0) (base : List ℕ) (next : ℕ → ℕ) (it
 
   pub drops_values : KeepsValues base next items less
   drops_values a v l = values_agree base less items a v (λ w lt. let y = held.whole (lock_of_word a) w (omega arith) in
-      writers_agree (lock_of_word a) w less items y.0 (stays y.0 (lock_of_word a) w y.1 y.2) y.1 y.2 (λ z n t. held.once z y.0 (lock_of_word a) w (old z n) y.1 t y.2) (λ z n t. held.once z y.0 (lock_of_word a) w n y.1 t y.2))
+      writers_agree (lock_of_word a) w less items y.0 (stays y.0 (lock_of_word a) w y.1 y.2) y.1 y.2
+      (λ z n t. held.once z y.0 (lock_of_word a) w (old z n) y.1 t y.2) (λ z n t. held.once z y.0 (lock_of_word a) w n y.1 t y.2))
 
   pub drops_agree : AgreeWithVersions good base next less
   drops_agree = record {

@@ -1,10 +1,12 @@
 -- Every list of the items in the order of their uses is legal.
-use Rattle.std.proofs.Common.{◌≡◌, ℕ, zero, suc, ◌<◌, ◌≤◌, Bool, true, false, ◌⊎◌, inl, inr, ⊎_elim, List, [], ◌∷◌, ◌++◌, length, slice_get, take, Some, refl, sym, ap, ◌∙◌, subst, arith, add-one}
+use Rattle.std.proofs.Common.{◌≡◌, ℕ, zero, suc, ◌<◌, ◌≤◌, Bool, true, false, ◌⊎◌, inl, inr, ⊎_elim, List, [], ◌∷◌, ◌++◌, length, slice_get, take, Some, refl}
+use Rattle.std.proofs.Common.{sym, ap, ◌∙◌, subst, arith, add-one}
 use mathlib.Core.Logic.{dite}
 use native.Mathlib.Decide.{ℕ_discrete, dec_lt}
 use Rattle.history_model.specs.declared.item.Item.{Item}
 use Rattle.history_model.specs.Traces.{IsLegalTrace, Writes}
-use Rattle.history_model.specs.Items.{Uses, IsItem, item_effect, LegalOnValues, writer_at, value_at, AgreeWithVersions, KeepsUses, replay_items, LegalOrder, IsNewest}
+use Rattle.history_model.specs.Items.{Uses, IsItem, item_effect, LegalOnValues, writer_at, value_at, AgreeWithVersions, KeepsUses, replay_items, LegalOrder}
+use Rattle.history_model.specs.Items.{IsNewest}
 use Rattle.std.proofs.lemmas.Bool.{cases_Bool}
 use Rattle.std.proofs.lemmas.List.{take_all}
 use Rattle.std.proofs.lemmas.Option.{slice_get_within}
@@ -46,7 +48,8 @@ pub record Stands (k c : ℕ) (xs : List Item) : Type 0 where
   pub below : (x : Item) (v : ℕ) → IsIn x xs → Uses x k v true → v < c
   pub whole : (v : ℕ) → v < c → (x : Item) × IsIn x xs × Uses x k v true
 
-module _ (good : List ℕ → Type 0) (base : List ℕ) (next : ℕ → ℕ) (items order : List Item) (held : AgreeWithVersions good base next items) (ordered : KeepsUses items order) where
+module _ (good : List ℕ → Type 0) (base : List ℕ) (next : ℕ → ℕ) (items order : List Item)
+    (held : AgreeWithVersions good base next items) (ordered : KeepsUses items order) where
   in_items : (i : ℕ) (x : Item) → slice_get order i ≡ Some x → IsIn x items
   in_items i x e = ordered.of_items x (i, e)
 
@@ -60,14 +63,34 @@ module _ (good : List ℕ → Type 0) (base : List ℕ) (next : ℕ → ℕ) (it
           let u1 : Uses x k v true = subst (λ (c : Bool). Uses x k v c) y u in
           let same : z ≡ x = held.once z x k v (in_items i z f) (in_items p x e) t1 u1 in
           let place : i ≡ p = ordered.no_repeat i p x (f ∙ ap Some same) e in absurd (omega arith)
-      both z i w f lt t q false y = ordered.in_order i p z x f e lt (record { lock = k; found = v; other = w; wrote = b; other_wrote = true; uses = u; other_uses = t; earlier = inr (q, y, refl) })
+      both z i w f lt t q false y = ordered.in_order i p z x f e lt (record {
+        lock = k;
+        found = v;
+        other = w;
+        wrote =
+            b;
+        other_wrote = true;
+        uses = u;
+        other_uses = t;
+        earlier = inr (q, y, refl);
+      })
 
       below : (z : Item) (w : ℕ) → IsIn z (take p order) → Uses z k w true → w < v
       below z w m t =
           let front = get-front p m.0 order z m.1 in
           dite (dec_lt w v) (λ h. h) (λ n. dite (ℕ_discrete v w)
           (λ q. absurd (both z m.0 w front.1 front.0 t q b refl))
-          (λ ne. absurd (ordered.in_order m.0 p z x front.1 e front.0 (record { lock = k; found = v; other = w; wrote = b; other_wrote = true; uses = u; other_uses = t; earlier = inl (omega arith) }))))
+          (λ ne. absurd (ordered.in_order m.0 p z x front.1 e front.0 (record {
+            lock = k;
+            found = v;
+            other = w;
+            wrote =
+                b;
+            other_wrote = true;
+            uses = u;
+            other_uses = t;
+            earlier = inl (omega arith);
+          }))))
 
       whole : (w : ℕ) → w < v → (y : Item) × IsIn y (take p order) × Uses y k w true
       whole w lt =
@@ -82,7 +105,17 @@ module _ (good : List ℕ → Type 0) (base : List ℕ) (next : ℕ → ℕ) (it
           let same : y.0 ≡ x = cc in
           let at = (held.formed x (in_items p x e)).one_each k w v true b (subst (λ (z : Item). Uses z k w true) same y.2) u in
           let eq = at.0 in absurd (omega arith))
-          (λ ne. absurd (ordered.in_order p there.0 x y.0 e there.1 (omega arith) (record { lock = k; found = w; other = v; wrote = true; other_wrote = b; uses = y.2; other_uses = u; earlier = inl lt }))))
+          (λ ne. absurd (ordered.in_order p there.0 x y.0 e there.1 (omega arith) (record {
+            lock = k;
+            found = w;
+            other =
+                v;
+            wrote = true;
+            other_wrote = b;
+            uses = y.2;
+            other_uses = u;
+            earlier = inl lt;
+          }))))
 
   -- each word has the value of the version at which its lock stands
   abbrev Valued : List Item → Type 0
@@ -98,14 +131,16 @@ module _ (good : List ℕ → Type 0) (base : List ℕ) (next : ℕ → ℕ) (it
 
   -- the item is legal where it stands
   legal_at : (p : ℕ) (x : Item) → slice_get order p ≡ Some x → Valued (take p order) → IsLegalTrace x.trace (replay_items base (take p order))
-  legal_at p x e h = held.legal x (in_items p x e) (replay_items base (take p order)) (length-replay_items base (take p order)) (λ a v b lt u. h a v lt (stands_at p x (lock_of_word a) v b e u))
+  legal_at p x e h = held.legal x (in_items p x e) (replay_items base (take p order))
+      (length-replay_items base (take p order)) (λ a v b lt u. h a v lt (stands_at p x (lock_of_word a) v b e u))
 
   -- an item of the front with one item more is in the front, or is the new one
   more_cases : (p : ℕ) (x y : Item) → slice_get order p ≡ Some x → IsIn y (take (suc p) order) → IsIn y (take p order) ⊎ (y ≡ x)
   more_cases p x y e m =
       let f = get-front (suc p) m.0 order y m.1 in
       dite (ℕ_discrete m.0 p)
-      (λ q. let g : slice_get order p ≡ Some y = subst (λ (i : ℕ). slice_get order i ≡ Some y) q f.1 in let s : Some y ≡ Some x = sym g ∙ e in let same : y ≡ x = cc in inr same)
+      (λ q. let g : slice_get order p ≡ Some y = subst (λ (i : ℕ). slice_get order i ≡ Some y) q f.1 in
+      let s : Some y ≡ Some x = sym g ∙ e in let same : y ≡ x = cc in inr same)
       (λ ne. inl (m.0, front-get p m.0 order y (omega (arith, f.0)) f.1))
 
   more_old : (p : ℕ) (y : Item) → IsIn y (take p order) → IsIn y (take (suc p) order)
@@ -115,7 +150,8 @@ module _ (good : List ℕ → Type 0) (base : List ℕ) (next : ℕ → ℕ) (it
   more_new p x e = (p, front-get (suc p) p order x (omega arith) e)
 
   -- the words after one item more
-  next_valued : (p : ℕ) (x : Item) → slice_get order p ≡ Some x → Valued (take p order) → (a c : ℕ) → a < length base → Stands (lock_of_word a) c (take (suc p) order)
+  next_valued : (p : ℕ) (x : Item) → slice_get order p ≡ Some x → Valued (take p order) → (a c : ℕ) → a < length base
+      → Stands (lock_of_word a) c (take (suc p) order)
       → slice_get (next_words x (replay_items base (take p order))) a ≡ Some (value_at base items a c)
   next_valued p x e h a c lt st = ⊎_elim (λ w. wrote w.0 w.1) (λ none. left none) (wrote_some (lock_of_word a) x.uses)
     where
@@ -127,22 +163,29 @@ module _ (good : List ℕ → Type 0) (base : List ℕ) (next : ℕ → ℕ) (it
           let eq : c ≡ suc v = dite (ℕ_discrete c (suc v)) (λ q. q) (λ ne.
           let y = st.whole (suc v) (omega arith) in
           ⊎_elim (λ m. let l = old.below y.0 (suc v) m y.2 in absurd (omega arith))
-          (λ same. let o = (held.formed x (in_items p x e)).one_each (lock_of_word a) (suc v) v true true (subst (λ (z : Item). Uses z (lock_of_word a) (suc v) true) same y.2) u in let o0 = o.0 in absurd (omega arith))
+          (λ same. let o = (held.formed x (in_items p x e)).one_each (lock_of_word a) (suc v) v true true
+          (subst (λ (z : Item). Uses z (lock_of_word a) (suc v) true) same y.2) u in let o0 = o.0 in absurd (omega arith))
           (more_cases p x y.0 e y.1)) in
-          let is : writer_at (lock_of_word a) v items ≡ Some x = writer_is (lock_of_word a) v items x (in_items p x e) u (λ z m t. held.once z x (lock_of_word a) v m (in_items p x e) t u) in
+          let is : writer_at (lock_of_word a) v items ≡ Some x =
+          writer_is (lock_of_word a) v items x (in_items p x e) u (λ z m t. held.once z x (lock_of_word a) v m (in_items p x e) t u) in
           let k : x.kept ≡ true = (kept_wrote x (lock_of_word a) v (held.formed x (in_items p x e)) u).0 in
-          rw (k, eq, value_at-next base items a v x is) (get-after-last_written x.trace (replay_items base (take p order)) a (value_at base items a v) (h a v lt old))
+          rw (k, eq, value_at-next base items a v x is)
+          (get-after-last_written x.trace (replay_items base (take p order)) a (value_at base items a v) (h a v lt old))
 
       -- x wrote nothing under the lock of a
       left : ((v : ℕ) → Uses x (lock_of_word a) v true → ⊥) → slice_get (next_words x (replay_items base (take p order))) a ≡ Some (value_at base items a c)
       left none =
           let old : Stands (lock_of_word a) c (take p order) = record {
             below = λ y v m u. st.below y v (more_old p y m) u;
-            whole = λ v l. let y = st.whole v l in ⊎_elim (λ m. (y.0, m, y.2)) (λ same. absurd (none v (subst (λ (z : Item). Uses z (lock_of_word a) v true) same y.2))) (more_cases p x y.0 e y.1);
+            whole = λ v l. let y = st.whole v l in
+                ⊎_elim (λ m. (y.0, m, y.2)) (λ same.
+                absurd (none v (subst (λ (z : Item). Uses z (lock_of_word a) v true) same y.2))) (more_cases p x y.0 e y.1);
           } in
           let was = h a c lt old in
           ⊎_elim
-          (λ k. rw k (get-after-last_written x.trace (replay_items base (take p order)) a (value_at base items a c) was ∙ ap Some (last_written-unwritten x.trace a (value_at base items a c) (λ w. let u = wrote_all x a (held.formed x (in_items p x e)) k w in none u.0 u.1))))
+          (λ k. rw k (get-after-last_written x.trace (replay_items base (take p order)) a (value_at base items a c) was
+          ∙ ap Some (last_written-unwritten x.trace a (value_at base items a c) (λ w. let u =
+          wrote_all x a (held.formed x (in_items p x e)) k w in none u.0 u.1))))
           (λ k. rw k was)
           (cases_Bool x.kept)
 
@@ -155,7 +198,8 @@ module _ (good : List ℕ → Type 0) (base : List ℕ) (next : ℕ → ℕ) (it
   front_more p x e h = record {
     valued = λ a c lt st. rw (take-more p order x e, replay_items-append) (next_valued p x e h.valued a c lt st);
     fine = rw (take-more p order x e, replay_items-append) (⊎_elim
-        (λ k. rw k (held.stays_good x (in_items p x e) k (replay_items base (take p order)) (length-replay_items base (take p order)) h.fine (legal_at p x e h.valued)))
+        (λ k. rw k (held.stays_good x (in_items p x e) k (replay_items base (take p order))
+        (length-replay_items base (take p order)) h.fine (legal_at p x e h.valued)))
         (λ k. rw k h.fine)
         (cases_Bool x.kept));
   }
@@ -176,20 +220,26 @@ module _ (good : List ℕ → Type 0) (base : List ℕ) (next : ℕ → ℕ) (it
       let h = at_front (length order) (omega arith) in
       let st : Stands (lock_of_word a) (next (lock_of_word a)) order = record {
         below = λ x v m u. held.below x (lock_of_word a) v (ordered.of_items x m) u;
-        whole = λ v l. let y = held.whole (lock_of_word a) v l in (y.0, ordered.has_entries y.0 y.1 (kept_wrote y.0 (lock_of_word a) v (held.formed y.0 y.1) y.2).1, y.2);
+        whole = λ v l. let y = held.whole (lock_of_word a) v l in
+            (y.0, ordered.has_entries y.0 y.1 (kept_wrote y.0 (lock_of_word a) v (held.formed y.0 y.1) y.2).1, y.2);
       } in
-      subst (λ (l : List Item). slice_get (replay_items base l) a ≡ Some (value_at base items a (next (lock_of_word a)))) (take_all (length order) order (omega arith))
-      (h.valued a (next (lock_of_word a)) lt (subst (λ (l : List Item). Stands (lock_of_word a) (next (lock_of_word a)) l) (sym (take_all (length order) order (omega arith))) st))
+      subst (λ (l : List Item). slice_get (replay_items base l) a
+      ≡ Some (value_at base items a (next (lock_of_word a)))) (take_all (length order) order (omega arith))
+      (h.valued a (next (lock_of_word a)) lt
+      (subst (λ (l : List Item). Stands (lock_of_word a) (next (lock_of_word a)) l) (sym (take_all (length order) order (omega arith))) st))
 
   pub end_good : good (replay_items base order)
   end_good = subst (λ (l : List Item). good (replay_items base l)) (take_all (length order) order (omega arith)) (at_front (length order) (omega arith)).fine
 
   -- a trace that uses the newest values is legal on the words at the end
   pub open_legal : (x : Item) → LegalOnValues base items x → ((k v : ℕ) (b : Bool) → Uses x k v b → v ≡ next k) → IsLegalTrace x.trace (replay_items base order)
-  open_legal x legal now = legal (replay_items base order) (length-replay_items base order) (λ a v b lt u. is_newest a lt ∙ ap (λ (w : ℕ). Some (value_at base items a w)) (sym (now (lock_of_word a) v b u)))
+  open_legal x legal now = legal (replay_items base order) (length-replay_items base order) (λ a v b lt u.
+      is_newest a lt ∙ ap (λ (w : ℕ). Some (value_at base items a w)) (sym (now (lock_of_word a) v b u)))
 
-pub same_end : (good : List ℕ → Type 0) (base : List ℕ) (next : ℕ → ℕ) (items one two : List Item) → AgreeWithVersions good base next items → KeepsUses items one → KeepsUses items two → replay_items base one ≡ replay_items base two
-same_end good base next items one two held o t = same_list (replay_items base one) (replay_items base two) (length-replay_items base one ∙ sym (length-replay_items base two))
+pub same_end : (good : List ℕ → Type 0) (base : List ℕ) (next : ℕ → ℕ) (items one two : List Item)
+    → AgreeWithVersions good base next items → KeepsUses items one → KeepsUses items two → replay_items base one ≡ replay_items base two
+same_end good base next items one two held o t =
+    same_list (replay_items base one) (replay_items base two) (length-replay_items base one ∙ sym (length-replay_items base two))
     (λ i x e. let lt = slice_get_within (replay_items base one) i x e in
     let low : i < length base = subst (λ (n : ℕ). i < n) (length-replay_items base one) lt in
     is_newest good base next items two held t i low ∙ sym (is_newest good base next items one held o i low) ∙ e)

@@ -1,5 +1,6 @@
 -- Who wrote a lock at a version, and the values of a word.
-use Rattle.std.proofs.Common.{◌≡◌, ℕ, zero, suc, ◌<◌, Bool, true, false, ◌&&◌, ◌⊎◌, inl, inr, ⊎_elim, List, [], ◌∷◌, length, slice_get, Some, refl, sym, ap, ◌∙◌, arith, eq-eqb}
+use Rattle.std.proofs.Common.{◌≡◌, ℕ, zero, suc, ◌<◌, Bool, true, false, ◌&&◌, ◌⊎◌, inl, inr, ⊎_elim, List, [], ◌∷◌, length, slice_get, Some, refl, sym, ap}
+use Rattle.std.proofs.Common.{◌∙◌, arith, eq-eqb}
 use Rattle.std.proofs.lemmas.Bool.{eqb-true, and_parts, or_cases}
 use Rattle.std.proofs.lemmas.Option.{slice_get-get_or}
 use Rattle.std.specs.Prelude.{if◌then◌else◌, ◌==◌}
@@ -18,10 +19,12 @@ use_is u k v b l w e = rw (← l, ← w, ← e) refl
 pub used_more : (k v : ℕ) (b : Bool) (u : LockUse) (us : List LockUse) → HasUse us k v b → HasUse (u ∷ us) k v b
 used_more k v b u us h = (suc h.0, h.1)
 
-pub used_cases : (k v : ℕ) (b : Bool) (u : LockUse) (us : List LockUse) → HasUse (u ∷ us) k v b → ((u.lock ≡ k) × (u.version ≡ v) × (u.wrote ≡ b)) ⊎ HasUse us k v b
+pub used_cases : (k v : ℕ) (b : Bool) (u : LockUse) (us : List LockUse) → HasUse (u ∷ us) k v b
+    → ((u.lock ≡ k) × (u.version ≡ v) × (u.wrote ≡ b)) ⊎ HasUse us k v b
 used_cases k v b u us h = at (h.0) (h.1)
   where
-    at : (i : ℕ) → slice_get (u ∷ us) i ≡ Some (record { lock = k; version = v; wrote = b }) → ((u.lock ≡ k) × (u.version ≡ v) × (u.wrote ≡ b)) ⊎ HasUse us k v b
+    at : (i : ℕ) → slice_get (u ∷ us) i ≡ Some (record { lock = k; version = v; wrote = b })
+        → ((u.lock ≡ k) × (u.version ≡ v) × (u.wrote ≡ b)) ⊎ HasUse us k v b
     at zero e = inl (cc, cc, cc)
     at (suc i) e = inr (i, e)
 
@@ -35,7 +38,8 @@ wrote_some k (u ∷ us) = elim (wrote_some k us) [
       (λ ne. inr (λ v h. ⊎_elim (λ t. ne t.0) (none v) (used_cases k v true u us h)))
 ]
   where
-    at_first : (b : Bool) → u.wrote ≡ b → u.lock ≡ k → ((v : ℕ) → HasUse us k v true → ⊥) → ((v : ℕ) × HasUse (u ∷ us) k v true) ⊎ ((v : ℕ) → HasUse (u ∷ us) k v true → ⊥)
+    at_first : (b : Bool) → u.wrote ≡ b → u.lock ≡ k → ((v : ℕ) → HasUse us k v true → ⊥)
+        → ((v : ℕ) × HasUse (u ∷ us) k v true) ⊎ ((v : ℕ) → HasUse (u ∷ us) k v true → ⊥)
     at_first true w e none = inl (u.version, (zero, use_is u k u.version true e refl w))
     at_first false w e none = inr (λ v h. ⊎_elim (λ t. let z : true ≡ false = sym t.2 ∙ w in cc) (none v) (used_cases k v true u us h))
 
@@ -58,17 +62,20 @@ used_test k v (u ∷ us) e = ⊎_elim
     (or_cases (u.lock == k && u.version == v && u.wrote) (wrote_at k v us) e)
 
 -- the only item that wrote the lock at the version is the writer
-pub writer_is : (k v : ℕ) (items : List Item) (x : Item) → IsIn x items → Uses x k v true → ((y : Item) → IsIn y items → Uses y k v true → y ≡ x) → writer_at k v items ≡ Some x
+pub writer_is : (k v : ℕ) (items : List Item) (x : Item) → IsIn x items → Uses x k v true
+    → ((y : Item) → IsIn y items → Uses y k v true → y ≡ x) → writer_at k v items ≡ Some x
 unfolding writer_at
 writer_is k v [] x h u only = let e = h.1 in cc
 writer_is k v (y ∷ ys) x h u only = go (λ i e. writer_is k v ys x (i, e) u (λ z m. only z (suc m.0, m.1))) (wrote_at k v y.uses) refl (h.0) (h.1)
   where
-    go : ((i : ℕ) → slice_get ys i ≡ Some x → writer_at k v ys ≡ Some x) → (b : Bool) → wrote_at k v y.uses ≡ b → (i : ℕ) → slice_get (y ∷ ys) i ≡ Some x → (if wrote_at k v y.uses then Some y else writer_at k v ys) ≡ Some x
+    go : ((i : ℕ) → slice_get ys i ≡ Some x → writer_at k v ys ≡ Some x) → (b : Bool) → wrote_at k v y.uses ≡ b
+        → (i : ℕ) → slice_get (y ∷ ys) i ≡ Some x → (if wrote_at k v y.uses then Some y else writer_at k v ys) ≡ Some x
     go rest true t i e = rw t (ap Some (only y (zero, refl) (used_test k v y.uses t)))
     go rest false t zero e = let q : y ≡ x = cc in let z : wrote_at k v y.uses ≡ true = rw q (test_used k v x.uses u) in cc
     go rest false t (suc i) e = rw t (rest i e)
 
-pub value_at-next : (base : List ℕ) (items : List Item) (a v : ℕ) (x : Item) → writer_at (lock_of_word a) v items ≡ Some x → value_at base items a (suc v) ≡ last_written x.trace a (value_at base items a v)
+pub value_at-next : (base : List ℕ) (items : List Item) (a v : ℕ) (x : Item)
+    → writer_at (lock_of_word a) v items ≡ Some x → value_at base items a (suc v) ≡ last_written x.trace a (value_at base items a v)
 unfolding value_at
 value_at-next base items a v x e = rw e refl
 

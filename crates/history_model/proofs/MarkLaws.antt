@@ -1,5 +1,6 @@
 -- Going back to a mark.
-use Rattle.std.proofs.Common.{◌≡◌, ℕ, zero, suc, ◌+◌, ◌<◌, List, [], ◌∷◌, ◌++◌, length, drop, slice_get, slice_set, slice_index, Option, Some, refl, sym, ap, ◌∙◌, subst, arith, eq-eqb}
+use Rattle.std.proofs.Common.{◌≡◌, ℕ, zero, suc, ◌+◌, ◌<◌, List, [], ◌∷◌, ◌++◌, length, drop, slice_get, slice_set, slice_index, Option, Some, refl, sym, ap}
+use Rattle.std.proofs.Common.{◌∙◌, subst, arith, eq-eqb}
 use mathlib.Core.Logic.{dite}
 use native.Mathlib.Decide.{ℕ_discrete}
 use Rattle.std.proofs.lemmas.List.{append_assoc, append-nil}
@@ -31,14 +32,17 @@ drop_front [] ys (suc n) e = absurd (omega (arith, e))
 drop_front (x ∷ xs) ys zero e = absurd (omega (arith, e))
 drop_front (x ∷ xs) ys (suc n) e = drop_front xs ys n (omega (arith, e))
 
-pub rest_undone : (front rest : Trace) (s : List ℕ) → written_back (drop (count_writes front) (notes_of (front ++ rest) s)) (after (front ++ rest) s) ≡ after front s
+pub rest_undone : (front rest : Trace) (s : List ℕ)
+    → written_back (drop (count_writes front) (notes_of (front ++ rest) s)) (after (front ++ rest) s) ≡ after front s
 rest_undone front rest s =
     ap (λ (l : Notes). written_back (drop (count_writes front) l) (after (front ++ rest) s)) (notes_by_parts front rest s)
-    ∙ ap (λ (l : Notes). written_back l (after (front ++ rest) s)) (drop_front (notes_of front s) (notes_of rest (after front s)) (count_writes front) (notes_counted front s))
+    ∙ ap (λ (l : Notes). written_back l (after (front ++ rest) s))
+    (drop_front (notes_of front s) (notes_of rest (after front s)) (count_writes front) (notes_counted front s))
     ∙ ap (λ (w : List ℕ). written_back (notes_of rest (after front s)) w) (after-append front rest s)
     ∙ writes_undone rest (after front s)
 
-pub one_note_more : (t : Trace) (s : List ℕ) (a was v : ℕ) → IsLegalTrace (t ++ Read a was ∷ Write a v ∷ []) s → notes_of (t ++ Read a was ∷ Write a v ∷ []) s ≡ notes_of t s ++ (a, was) ∷ []
+pub one_note_more : (t : Trace) (s : List ℕ) (a was v : ℕ) → IsLegalTrace (t ++ Read a was ∷ Write a v ∷ []) s
+    → notes_of (t ++ Read a was ∷ Write a v ∷ []) s ≡ notes_of t s ++ (a, was) ∷ []
 unfolding notes_of after IsLegalTrace
 one_note_more t s a was v h =
     let there : slice_get (after t s) a ≡ Some was = (legal_parts t (Read a was ∷ Write a v ∷ []) s h).1.0 in
@@ -56,7 +60,8 @@ last_of_written (Write b v ∷ t) a o p (zero, x, e) = dite (ℕ_discrete a b)
     (λ n. absurd (n cc))
 last_of_written (Write b v ∷ t) a o p (suc i, x, e) = last_of_written t a _ _ (i, x, e)
 
-pub written_reads_the_same : (t : Trace) (a v : ℕ) (r s : List ℕ) → IsLegalTrace (t ++ Read a v ∷ []) r → length r ≡ length s → Writes t a → a < length s → IsLegalTrace t s → IsLegalTrace (t ++ Read a v ∷ []) s
+pub written_reads_the_same : (t : Trace) (a v : ℕ) (r s : List ℕ) → IsLegalTrace (t ++ Read a v ∷ []) r
+    → length r ≡ length s → Writes t a → a < length s → IsLegalTrace t s → IsLegalTrace (t ++ Read a v ∷ []) s
 written_reads_the_same t a v r s k long w lt h =
     let legal : IsLegalTrace t r = (legal_parts t (Read a v ∷ []) r k).0 in
     let here : slice_get (after t r) a ≡ Some v = read_there t r a v k in
@@ -78,9 +83,11 @@ unfolding notes_of
 read_unnoted t s a v = notes_by_parts t (Read a v ∷ []) s ∙ append-nil (notes_of t s)
 
 -- a write of the word that was read last
-pub write_noted : (before t : Trace) (s : List ℕ) (a was v : ℕ) → t ≡ before ++ Read a was ∷ [] → IsLegalTrace (t ++ Write a v ∷ []) s → notes_of (t ++ Write a v ∷ []) s ≡ notes_of t s ++ (a, was) ∷ []
+pub write_noted : (before t : Trace) (s : List ℕ) (a was v : ℕ) → t ≡ before ++ Read a was ∷ []
+    → IsLegalTrace (t ++ Write a v ∷ []) s → notes_of (t ++ Write a v ∷ []) s ≡ notes_of t s ++ (a, was) ∷ []
 write_noted before t s a was v e h =
-    let whole : t ++ Write a v ∷ [] ≡ before ++ Read a was ∷ Write a v ∷ [] = ap (λ (u : Trace). u ++ Write a v ∷ []) e ∙ append_assoc before (Read a was ∷ []) (Write a v ∷ []) in
+    let whole : t ++ Write a v ∷ [] ≡ before ++ Read a was ∷ Write a v ∷ [] = ap (λ (u : Trace). u ++ Write a v ∷ []) e
+    ∙ append_assoc before (Read a was ∷ []) (Write a v ∷ []) in
     ap (λ (u : Trace). notes_of u s) whole
     ∙ one_note_more before s a was v (subst (λ (u : Trace). IsLegalTrace u s) whole h)
     ∙ ap (λ (l : Notes). l ++ (a, was) ∷ []) (sym (ap (λ (u : Trace). notes_of u s) e ∙ read_unnoted before s a was))

@@ -47,7 +47,8 @@ RaisesVersions x next raised = (k : ℕ) → (((v : ℕ) × Uses x k v true) × 
 
 -- then the newest value of each word is what x wrote there, or the newest before x
 abbrev pub WritesNewest : List ℕ → Item → (ℕ → ℕ) → (ℕ → ℕ) → List Item → List Item → Type 0
-WritesNewest base x next raised items more = (a : ℕ) → value_at base more a (raised (lock_of_word a)) ≡ (if x.kept then last_written x.trace a (value_at base items a (next (lock_of_word a))) else value_at base items a (next (lock_of_word a)))
+WritesNewest base x next raised items more = (a : ℕ) → value_at base more a (raised (lock_of_word a))
+    ≡ (if x.kept then last_written x.trace a (value_at base items a (next (lock_of_word a))) else value_at base items a (next (lock_of_word a)))
 
 -- the values up to the present version stay
 abbrev pub KeepsValues : List ℕ → (ℕ → ℕ) → List Item → List Item → Type 0

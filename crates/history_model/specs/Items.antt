@@ -1,5 +1,6 @@
 -- Items of a history, the order of their uses, and the values of a word by version.
-use Rattle.std.specs.Prelude.{◌≡◌, ◌↔◌, ℕ, zero, suc, ◌+◌, ◌<◌, ◌≤◌, ◌⊎◌, Bool, true, false, ◌||◌, ◌&&◌, ◌==◌, List, [], ◌∷◌, length, map, slice_get, slice_index, take, Option, Some, None, if◌then◌else◌}
+use Rattle.std.specs.Prelude.{◌≡◌, ◌↔◌, ℕ, zero, suc, ◌+◌, ◌<◌, ◌≤◌, ◌⊎◌, Bool, true, false, ◌||◌, ◌&&◌, ◌==◌, List, [], ◌∷◌, length, map, slice_get}
+use Rattle.std.specs.Prelude.{slice_index, take, Option, Some, None, if◌then◌else◌}
 use Rattle.history_model.specs.declared.item.Item.{Item}
 use Rattle.history_model.specs.declared.item.LockUse.{LockUse}
 use Rattle.history_model.specs.Traces.{after, IsLegalTrace, last_written, Writes, Touches}

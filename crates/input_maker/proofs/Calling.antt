@@ -1,5 +1,6 @@
 -- The scripts are for the opening books, and their callers are few.
-use Rattle.std.proofs.Common.{◌≡◌, ℕ, zero, suc, ◌+◌, ◌*◌, ◌/◌, ◌%◌, ◌<◌, ◌≤◌, Bool, true, false, ◌&&◌, ◌||◌, nat_le, List, [], ◌∷◌, ◌++◌, map, length, if◌then◌else◌, inl, inr, refl, sym, ap, subst, ◌∙◌, add-one, length-append, true≢false, arith}
+use Rattle.std.proofs.Common.{◌≡◌, ℕ, zero, suc, ◌+◌, ◌*◌, ◌/◌, ◌%◌, ◌<◌, ◌≤◌, Bool, true, false, ◌&&◌, ◌||◌, nat_le, List, [], ◌∷◌, ◌++◌, map, length}
+use Rattle.std.proofs.Common.{if◌then◌else◌, inl, inr, refl, sym, ap, subst, ◌∙◌, add-one, length-append, true≢false, arith}
 use Rattle.std.specs.List.{list_any}
 use Rattle.std.specs.Str.{bytes_eq}
 use Rattle.std.specs.Cmp.{IsEquivalence}
@@ -50,7 +51,8 @@ one_seen callers n seen some h = by (list_any (bytes_eq (caller_name (n % caller
     own : n < callers → caller_name (n % callers) ≡ caller_name n
     own less = ap caller_name (mod-eq_of_lt less)
 
-    by : (there : Bool) → list_any (bytes_eq (caller_name (n % callers))) seen ≡ there → Seen callers (n + 1) (if there then seen else seen ++ caller_name (n % callers) ∷ [])
+    by : (there : Bool) → list_any (bytes_eq (caller_name (n % callers))) seen ≡ there
+        → Seen callers (n + 1) (if there then seen else seen ++ caller_name (n % callers) ∷ [])
     by true e = record {
       few = omega (arith, h.few);
       most = h.most;
@@ -67,7 +69,8 @@ one_seen callers n seen some h = by (list_any (bytes_eq (caller_name (n % caller
         | inl before ↦ ap (λ (b : Bool). b || (bytes_eq (caller_name j) (caller_name (n % callers)) || false)) (h.all j before within)
         | inr past ↦ let same : j ≡ n = omega (arith, past, less) in let here : n < callers = omega (arith, same, within) in
             or_right (list_any (bytes_eq (caller_name j)) seen) (bytes_eq (caller_name j) (caller_name (n % callers)) || false)
-            (ap (λ (c : List ℕ). bytes_eq (caller_name j) c || false) (own here ∙ ap caller_name (sym same)) ∙ ap (λ (b : Bool). b || false) (laws.refl (caller_name j)))
+            (ap (λ (c : List ℕ). bytes_eq (caller_name j) c || false) (own here ∙ ap caller_name (sym same))
+            ∙ ap (λ (b : Bool). b || false) (laws.refl (caller_name j)))
       ];
     }
       where
@@ -83,7 +86,8 @@ names subs = first_seen (map (λ s. s.caller) subs)
 
 seen_in : (seed callers n : ℕ) → 1 ≤ callers → Seen callers n (names (submissions_to seed callers n))
 seen_in seed callers zero some =
-    subst (λ subs. Seen callers 0 (names subs)) (sym (submissions-none seed callers)) (record { few = omega arith; most = omega arith; all = λ j less within. absurd (omega (arith, less)) })
+    subst (λ subs. Seen callers 0 (names subs)) (sym (submissions-none seed callers))
+    (record { few = omega arith; most = omega arith; all = λ j less within. absurd (omega (arith, less)) })
 seen_in seed callers (suc n) some =
     let subs = submissions_to seed callers n in
     let s = made_submission seed callers n in
@@ -99,7 +103,8 @@ unfolding submissions_to
 submissions_length seed callers n = length-map-range_with_len (made_submission seed callers) 0 n
 
 -- the callers of the first n scripts are for the opening books
-callers_fit : (seed callers n : ℕ) → 1 ≤ callers → callers ≤ MOST_CALLERS → n ≤ MOST_SCRIPTS → AreCallersFor made_books (callers_of (submissions_to seed callers n))
+callers_fit : (seed callers n : ℕ) → 1 ≤ callers → callers ≤ MOST_CALLERS → n ≤ MOST_SCRIPTS
+    → AreCallersFor made_books (callers_of (submissions_to seed callers n))
 callers_fit seed callers zero some few room =
     subst (λ subs. AreCallersFor made_books (callers_of subs)) (sym (submissions-none seed callers)) (record {
       few = omega arith;

@@ -1,5 +1,6 @@
 -- Sums of weights that are all the same, and how many entries a map has at most.
-use Rattle.std.proofs.Common.{◌≡◌, ◌≢◌, ℕ, zero, suc, ◌+◌, ◌*◌, ◌<◌, ◌≤◌, ◌==◌, ◌&&◌, Bool, true, false, cond, List, [], ◌∷◌, Option, Some, None, sum_by, count_by, inl, inr, refl, sym, ap, ◌∙◌, true≢false, arith}
+use Rattle.std.proofs.Common.{◌≡◌, ◌≢◌, ℕ, zero, suc, ◌+◌, ◌*◌, ◌<◌, ◌≤◌, ◌==◌, ◌&&◌, Bool, true, false, cond, List, [], ◌∷◌, Option, Some, None, sum_by}
+use Rattle.std.proofs.Common.{count_by, inl, inr, refl, sym, ap, ◌∙◌, true≢false, arith}
 use Rattle.std.specs.declared.cmp.Ordering.{Ordering}
 use Rattle.std.specs.Cmp.{IsTotalOrder, nat_cmp_total, tied_itself}
 use Rattle.std.specs.Ordering.{nat_cmp, eq_by_cmp, is_eq}
@@ -15,7 +16,8 @@ use Rattle.script_reader.proofs.Conditions.{count_always}
 use Rattle.books_report.proofs.Classes.{sums, by_classes}
 
 -- what those weigh that pass a test, where each of them weighs the same
-pub same_weight : {A : Type 0} (t : A → Bool) (w : A → ℕ) (d : ℕ) (xs : List A) → ((x : A) → t x ≡ true → w x ≡ d) → sum_by (λ x. cond (t x) (w x) 0) xs ≡ count_by t xs * d
+pub same_weight : {A : Type 0} (t : A → Bool) (w : A → ℕ) (d : ℕ) (xs : List A) → ((x : A) → t x ≡ true → w x ≡ d)
+    → sum_by (λ x. cond (t x) (w x) 0) xs ≡ count_by t xs * d
 same_weight t w d [] each = omega arith
 same_weight t w d (x ∷ xs) each =
     sum_by-cons (λ y. cond (t y) (w y) 0) x xs
@@ -37,7 +39,8 @@ module _ {K : Type 0} {R : K → K → Ordering} (o : IsTotalOrder R) where
   differ q k apart same = true≢false (sym (ap (λ p. eq_by_cmp R q p) (sym same) ∙ ap is_eq (tied_itself o q)) ∙ apart)
 
   -- a test that one key alone passes is passed by one entry at most
-  once_found : (exact : CmpEqualImpliesEq R) (t : K → Bool) (m : map.FinMap R ℕ) (k : K) → ((q : K) → q ≢ k → t q ≡ false) → count_by (λ e. t e.0) (map.entries m) ≤ 1
+  once_found : (exact : CmpEqualImpliesEq R) (t : K → Bool) (m : map.FinMap R ℕ) (k : K)
+      → ((q : K) → q ≢ k → t q ≡ false) → count_by (λ e. t e.0) (map.entries m) ≤ 1
   once_found exact t m k apart =
       let one = sum_by-one o exact (λ e. cond (t e.0) 1 0) m k (λ q v tied. ap (λ b. cond b 1 0) (apart q (differ q k tied))) in
       omega (arith, one, most (map.get m k))
@@ -54,18 +57,32 @@ module _ {K : Type 0} {R : K → K → Ordering} (o : IsTotalOrder R) where
 pub numbers_most : (n : ℕ) (m : map.FinMap nat_cmp ℕ) → ((q v : ℕ) → map.get m q ≡ Some v → q < n) → map.len m ≤ n
 numbers_most n m below =
     let es = map.entries m in
-    let split = by_classes (λ e. true) (λ e. e.0) n es (AllByRecursion-weaker (λ e. e.0 < n) (λ e. true ≡ true → e.0 < n) (λ e less _. less) es (All-entries nat_cmp_total exact_unsigned (λ e. e.0 < n) m below)) in
-    omega (arith, map.len-entries m, count_always es, split, sums-most n 1 (λ i. count_by (λ e. e.0 == i) es) (λ i. once_found nat_cmp_total exact_unsigned (λ q. q == i) m i (λ q. ne_eqb q i)))
+    let split = by_classes (λ e. true) (λ e. e.0) n es (AllByRecursion-weaker (λ e. e.0 < n) (λ e. true ≡ true
+    → e.0 < n) (λ e less _. less) es (All-entries nat_cmp_total exact_unsigned (λ e. e.0 < n) m below)) in
+    omega (
+      arith,
+      map.len-entries m,
+      count_always es,
+      split,
+      sums-most n 1 (λ i. count_by (λ e. e.0 == i) es) (λ i. once_found nat_cmp_total exact_unsigned (λ q. q == i) m i (λ q. ne_eqb q i)),
+    )
 
 -- and one whose keys are pairs, as many as there are pairs
 pub pairs_most : (n l : ℕ) (m : map.FinMap position_cmp ℕ) → ((q : ℕ × ℕ) (v : ℕ) → map.get m q ≡ Some v → (q.0 < n) × (q.1 < l)) → map.len m ≤ n * l
 pairs_most n l m below =
     let es = map.entries m in
     let all = All-entries positions_total exact_positions (λ e. (e.0.0 < n) × (e.0.1 < l)) m below in
-    let first = by_classes (λ e. true) (λ e. e.0.0) n es (AllByRecursion-weaker (λ e. (e.0.0 < n) × (e.0.1 < l)) (λ e. true ≡ true → e.0.0 < n) (λ e h _. h.0) es all) in
+    let first = by_classes (λ e. true) (λ e. e.0.0) n es (AllByRecursion-weaker (λ e. (e.0.0 < n)
+    × (e.0.1 < l)) (λ e. true ≡ true → e.0.0 < n) (λ e h _. h.0) es all) in
     let each : (a : ℕ) → count_by (λ e. e.0.0 == a) es ≤ l = λ a.
-    let second = by_classes (λ e. e.0.0 == a) (λ e. e.0.1) l es (AllByRecursion-weaker (λ e. (e.0.0 < n) × (e.0.1 < l)) (λ e. (e.0.0 == a) ≡ true → e.0.1 < l) (λ e h _. h.1) es all) in
-    omega (arith, second, sums-most l 1 (λ i. count_by (λ e. e.0.0 == a && e.0.1 == i) es) (λ i. once_found positions_total exact_positions (λ q. q.0 == a && q.1 == i) m (a, i) (other_pair (a, i)))) in
+    let second = by_classes (λ e. e.0.0 == a) (λ e. e.0.1) l es (AllByRecursion-weaker (λ e. (e.0.0 < n)
+    × (e.0.1 < l)) (λ e. (e.0.0 == a) ≡ true → e.0.1 < l) (λ e h _. h.1) es all) in
+    omega (
+      arith,
+      second,
+      sums-most l 1 (λ i. count_by (λ e. e.0.0 == a && e.0.1 == i) es)
+          (λ i. once_found positions_total exact_positions (λ q. q.0 == a && q.1 == i) m (a, i) (other_pair (a, i))),
+    ) in
     omega (arith, map.len-entries m, count_always es, first, sums-most n l (λ a. count_by (λ e. e.0.0 == a) es) each)
   where
     other_pair : (k q : ℕ × ℕ) → q ≢ k → (q.0 == k.0 && q.1 == k.1) ≡ false

@@ -45,14 +45,17 @@ module _ (input : ClearingInput) (h : HasMade input) where
     -- the scripts in front of an order are made and not too many, and have so few deposits
     front_made : AllByRecursion (λ p. IsMadeOnce (script_at input p.caller p.index)) before
     front_made = recursion_from_All (λ p. IsMadeOnce (script_at input p.caller p.index)) before (λ k d less.
-        let there : IsPlace input (get_or before k d) = subst (IsPlace input) (get_or_append_left before behind d k less) (j.only k d (omega (arith, less, length-append before behind))) in
+        let there : IsPlace input (get_or before k d) =
+        subst (IsPlace input) (get_or_append_left before behind d k less) (j.only k d (omega (arith, less, length-append before behind))) in
         h.made (get_or before k d) there)
 
     front_few : length before ≤ MOST_SCRIPTS
     front_few = omega (arith, length_of_journal input (before ++ behind) j, length-append before behind, h.few)
 
     front_deposits : sum_by (deposits_at input) before ≤ length before * 300
-    front_deposits = sum_by-most (deposits_at input) 300 before (AllByRecursion-weaker (λ p. IsMadeOnce (script_at input p.caller p.index)) (λ p. deposits_at input p ≤ 300) (λ p m. deposits_most m.0 (script_at input p.caller p.index) m.1) before front_made)
+    front_deposits = sum_by-most (deposits_at input) 300 before
+        (AllByRecursion-weaker (λ p. IsMadeOnce (script_at input p.caller p.index)) (λ p. deposits_at input p ≤ 300)
+        (λ p m. deposits_most m.0 (script_at input p.caller p.index) m.1) before front_made)
 
     -- what they leave
     front_leaves : Leave (sum_by (deposits_at input) before) made_books (books_after input made_books before)
@@ -61,7 +64,8 @@ module _ (input : ClearingInput) (h : HasMade input) where
   -- and the script behind them
   next_goes : (before : List Place) (place : Place) (behind : List Place) → IsJournal input (before ++ place ∷ behind)
       → (first : Bool) × IsMadeScript first (script_at input place.caller place.index)
-      × IsOutcome first (deposits_at input place) (books_after input made_books before) (outcome_of (script_at input place.caller place.index) (books_after input made_books before))
+      × IsOutcome first (deposits_at input place) (books_after input made_books before)
+      (outcome_of (script_at input place.caller place.index) (books_after input made_books before))
   next_goes before place behind j =
       let made = h.made place (next_of_journal input before place behind j).left in
       let front = front_leaves before (place ∷ behind) j in (
@@ -83,7 +87,8 @@ made_cash seed callers scripts order h j =
     left.cash ∙ ap (λ n. n + all_deposits (made_input seed callers scripts)) opening_cash
 
 pub made_quantities : MadeQuantities
-made_quantities seed callers scripts order h j = (all_leave (made_input seed callers scripts) (input_made seed callers scripts h) order j).quantities ∙ opening_quantities
+made_quantities seed callers scripts order h j =
+    (all_leave (made_input seed callers scripts) (input_made seed callers scripts h) order j).quantities ∙ opening_quantities
 
 pub first_kind_is_done : FirstKindIsDone
 first_kind_is_done seed callers scripts before place behind s first =
@@ -100,4 +105,5 @@ second_kind_keeps_cash seed callers scripts before place behind s second =
     omega (arith, next.2.left.cash, none)
 
 pub none_is_full : NoneIsFull
-none_is_full seed callers scripts before place behind s = (next_goes (made_input seed callers scripts) (input_made seed callers scripts s.range) before place behind s.journal).2.not_full
+none_is_full seed callers scripts before place behind s =
+    (next_goes (made_input seed callers scripts) (input_made seed callers scripts s.range) before place behind s.journal).2.not_full

@@ -9,7 +9,8 @@ use Rattle.books_model.specs.declared.reply.Reply.{Reply}
 use Rattle.books_model.specs.declared.reply.Reply.TheVariants as reply
 use Rattle.books_model.specs.Books.{ClearingBooks, HaveSameSizes}
 use Rattle.books_model.specs.Ranges.{AreInRange, IsOperationFor}
-use Rattle.books_model.specs.Interpreter.{Step, Gives, Declines, FindsNoBlock, Run, Ends, Stops, step_of, run_from, after_value, after_step, outcome_from, outcome_of}
+use Rattle.books_model.specs.Interpreter.{Step, Gives, Declines, FindsNoBlock, Run, Ends, Stops, step_of, run_from, after_value, after_step, outcome_from}
+use Rattle.books_model.specs.Interpreter.{outcome_of}
 use Rattle.books_model.specs.Laws.{all_cash, all_held}
 use Rattle.books_model.proofs.Outcomes.{WhereEnds}
 use Rattle.books_model.proofs.RangeLaws.{operation_for, run_stays}
@@ -39,7 +40,8 @@ leave_both : (paid more all : ℕ) (books next after : ClearingBooks) → Leave 
 leave_both paid more all books next after f g is = record { day = g.day; cash = omega (arith, f.cash, g.cash, is); quantities = g.quantities ∙ f.quantities }
 
 -- an operation that is done leaves books of the day
-step_leaves : (books : ClearingBooks) (o : Op) (v : Value) (next : ClearingBooks) → AreOfDay books → IsOperationFor made_books o → step_of o books ≡ Gives v next → Follow o books next → Leave (paid_in_by o) books next
+step_leaves : (books : ClearingBooks) (o : Op) (v : Value) (next : ClearingBooks) → AreOfDay books
+    → IsOperationFor made_books o → step_of o books ≡ Gives v next → Follow o books next → Leave (paid_in_by o) books next
 step_leaves books o v next h fits is f = record {
   day = day;
   cash = f.cash;
@@ -51,7 +53,8 @@ step_leaves books o v next h fits is f = record {
 
     day : AreOfDay next
     day = record {
-      range = subst (λ s. WhereEnds (λ _ after. AreInRange after) (after_step 1 s (λ next. run_from 2 [] next))) is (run_stays 1 (o ∷ []) books h.range (operation_for made_books books h.instruments o fits, tt));
+      range = subst (λ s. WhereEnds (λ _ after. AreInRange after) (after_step 1 s (λ next. run_from 2 [] next))) is
+          (run_stays 1 (o ∷ []) books h.range (operation_for made_books books h.instruments o fits, tt));
       blocks = sizes.blocks ∙ h.blocks;
       instruments = sizes.instruments ∙ h.instruments;
       accounts = f.accounts;
@@ -63,12 +66,14 @@ RunGoes first C (Ends values after) = C after
 RunGoes first C (Stops stop) = (first ≡ false) × ((k : ℕ) → stop ≢ reply.Full k)
 
 -- a value in front of those of a run
-value_goes : (first : Bool) (C D : ClearingBooks → Type 0) (v : Value) (r : Run) → RunGoes first D r → ((after : ClearingBooks) → D after → C after) → RunGoes first C (after_value v r)
+value_goes : (first : Bool) (C D : ClearingBooks → Type 0) (v : Value) (r : Run) → RunGoes first D r
+    → ((after : ClearingBooks) → D after → C after) → RunGoes first C (after_value v r)
 value_goes first C D v (Ends values after) h f = f after h
 value_goes first C D v (Stops stop) h f = h
 
 -- the run of what is left of a made script
-run_goes : (first : Bool) (k : ℕ) (ops : List Op) (books : ClearingBooks) → AreOfDay books → all_cash books + length ops * 100 ≤ GREATEST_CASH → AllByRecursion (IsMade first) ops
+run_goes : (first : Bool) (k : ℕ) (ops : List Op) (books : ClearingBooks) → AreOfDay books
+    → all_cash books + length ops * 100 ≤ GREATEST_CASH → AllByRecursion (IsMade first) ops
     → RunGoes first (Leave (deposits_of ops) books) (run_from k ops books)
 unfolding Goes
 run_goes first k [] books h room each = leave_all books h
@@ -76,7 +81,8 @@ run_goes first k (o ∷ ops) books h room each =
     by (step_of o books) refl (step_goes books h (omega (arith, room)) first o each.0) (λ next day enough. run_goes first (k + 1) ops next day enough each.1)
   where
     by : (s : Step) → step_of o books ≡ s → Goes first (Follow o books) s
-        → ((next : ClearingBooks) → AreOfDay next → all_cash next + length ops * 100 ≤ GREATEST_CASH → RunGoes first (Leave (deposits_of ops) next) (run_from (k + 1) ops next))
+        → ((next : ClearingBooks) → AreOfDay next → all_cash next + length ops * 100 ≤ GREATEST_CASH
+        → RunGoes first (Leave (deposits_of ops) next) (run_from (k + 1) ops next))
         → RunGoes first (Leave (deposits_of (o ∷ ops)) books) (after_step k s (λ next. run_from (k + 1) ops next))
     by (Gives v next) is g rest =
         let left = step_leaves books o v next h (operation_fits first o each.0) is g in
@@ -93,7 +99,8 @@ pub record IsOutcome (first : Bool) (paid : ℕ) (books : ClearingBooks) (outcom
   pub not_full : (k : ℕ) → outcome.0 ≢ reply.Full k
 
 -- the outcome of a run
-run_outcome : (first : Bool) (paid : ℕ) (books : ClearingBooks) (r : Run) → AreOfDay books → (first ≡ false → paid ≡ 0) → RunGoes first (Leave paid books) r → IsOutcome first paid books (outcome_from books r)
+run_outcome : (first : Bool) (paid : ℕ) (books : ClearingBooks) (r : Run) → AreOfDay books → (first ≡ false → paid ≡ 0)
+    → RunGoes first (Leave paid books) r → IsOutcome first paid books (outcome_from books r)
 run_outcome first paid books (Ends values after) h none g = record { left = g; done = λ _. (values, refl); not_full = λ k e. cc }
 run_outcome first paid books (Stops stop) h none g = record {
   left = subst (λ n. Leave n books books) (sym (none g.0)) (leave_all books h);
@@ -102,7 +109,8 @@ run_outcome first paid books (Stops stop) h none g = record {
 }
 
 -- a made script
-pub script_goes : (first : Bool) (script : List Op) (books : ClearingBooks) → AreOfDay books → all_cash books + 300 ≤ GREATEST_CASH → IsMadeScript first script → IsOutcome first (deposits_of script) books (outcome_of script books)
+pub script_goes : (first : Bool) (script : List Op) (books : ClearingBooks) → AreOfDay books
+    → all_cash books + 300 ≤ GREATEST_CASH → IsMadeScript first script → IsOutcome first (deposits_of script) books (outcome_of script books)
 script_goes first script books h room m =
     run_outcome first (deposits_of script) books (run_from 1 script books) h (deposits_none first script m.each)
     (run_goes first 1 script books h (omega (arith, room, m.few)) m.each)
@@ -113,7 +121,8 @@ module _ (input : ClearingInput) where
   deposits_at place = deposits_of (script_at input place.caller place.index)
 
   -- made scripts, one after the other
-  pub scripts_leave : (books : ClearingBooks) (places : List Place) → AllByRecursion (λ p. IsMadeOnce (script_at input p.caller p.index)) places → AreOfDay books → all_cash books + length places * 300 ≤ GREATEST_CASH
+  pub scripts_leave : (books : ClearingBooks) (places : List Place)
+      → AllByRecursion (λ p. IsMadeOnce (script_at input p.caller p.index)) places → AreOfDay books → all_cash books + length places * 300 ≤ GREATEST_CASH
       → Leave (sum_by deposits_at places) books (books_after input books places)
   scripts_leave books [] each h room = leave_all books h
   scripts_leave books (p ∷ places) each h room =
@@ -121,4 +130,5 @@ module _ (input : ClearingInput) where
       let script = script_at input p.caller p.index in
       let left = (script_goes made.0 script books h (omega (arith, room)) made.1).left in
       let more = scripts_leave (books_left input books p) places each.1 left.day (omega (arith, room, left.cash, deposits_most made.0 script made.1)) in
-      leave_both (deposits_at p) (sum_by deposits_at places) (sum_by deposits_at (p ∷ places)) books (books_left input books p) (books_after input books (p ∷ places)) left more (sum_by-cons deposits_at p places)
+      leave_both (deposits_at p) (sum_by deposits_at places) (sum_by deposits_at (p ∷ places)) books
+      (books_left input books p) (books_after input books (p ∷ places)) left more (sum_by-cons deposits_at p places)

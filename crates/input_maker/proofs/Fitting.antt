@@ -1,5 +1,6 @@
 -- A generated text is small enough to be read.
-use Rattle.std.proofs.Common.{◌≡◌, ℕ, Bool, ◌+◌, ◌*◌, ◌%◌, ◌<◌, ◌≤◌, ◌^◌, List, [], ◌∷◌, ◌++◌, codes, map, length, refl, sym, ap, subst, ◌∙◌, length-append, arith}
+use Rattle.std.proofs.Common.{◌≡◌, ℕ, Bool, ◌+◌, ◌*◌, ◌%◌, ◌<◌, ◌≤◌, ◌^◌, List, [], ◌∷◌, ◌++◌, codes, map, length, refl, sym, ap, subst, ◌∙◌, length-append}
+use Rattle.std.proofs.Common.{arith}
 use Rattle.std.specs.List.{AllByRecursion, All, flat_map, join_with_byte, range_with_len}
 use Rattle.std.proofs.lemmas.Fmt.{length-decimal-le}
 use Rattle.std.proofs.lemmas.List.Concat.{length-flat_map}
@@ -10,13 +11,15 @@ use Rattle.books_model.specs.declared.script.Op.TheVariants as op
 use Rattle.books_model.specs.Ranges.{IsWithin}
 use Rattle.books_model.proofs.Entries.{AllByRecursion-weaker, sum_by-most}
 use Rattle.script_reader.specs.declared.words.TheConstants.{SPACE, LINE_FEED}
-use Rattle.script_reader.specs.Text.{line, number, header_line, account_line, price_line, position_line, books_lines, operation_words, operation_lines, scripts_line, end_line, finish_line}
+use Rattle.script_reader.specs.Text.{line, number, header_line, account_line, price_line, position_line, books_lines, operation_words, operation_lines}
+use Rattle.script_reader.specs.Text.{scripts_line, end_line, finish_line}
 use Rattle.script_reader.specs.Input.{Submission}
 use Rattle.script_reader.specs.Grammar.{submission_lines}
 use Rattle.input_maker.specs.Made.{made_books, accounts_to, prices_to, positions_to, caller_name, script_from, state_of_script, made_submission, submissions_to}
 use Rattle.input_maker.specs.Statements.{AreForMake, MadeInputsFit}
 use Rattle.input_maker.proofs.Opening.{all_mapped, accounts_length, prices_length, positions_length, IsPosition, positions_hold, opening_lines}
-use Rattle.input_maker.proofs.Making.{IsMade, IsMadeOnce, IsMadeScript, made_deposit, made_price, made_next, made_sum, made_move, made_trade, made_margin, made_show, script_made}
+use Rattle.input_maker.proofs.Making.{IsMade, IsMadeOnce, IsMadeScript, made_deposit, made_price, made_next, made_sum, made_move, made_trade, made_margin}
+use Rattle.input_maker.proofs.Making.{made_show, script_made}
 
 -- the bytes of words, with one behind each
 abbrev size_of : List (List ℕ) → ℕ
@@ -80,7 +83,8 @@ seven : (n : ℕ) → n < 10000000 → length (number n) ≤ 7
 seven n few = length-decimal-le 7 n (omega arith) few (omega (arith, few))
 
 -- lines of which each is so long at most
-lines_most : {X : Type 0} (write : X → List ℕ) (most : ℕ) (xs : List X) → AllByRecursion (λ x. length (write x) ≤ most) xs → length (flat_map write xs) ≤ length xs * most
+lines_most : {X : Type 0} (write : X → List ℕ) (most : ℕ) (xs : List X)
+    → AllByRecursion (λ x. length (write x) ≤ most) xs → length (flat_map write xs) ≤ length xs * most
 lines_most write most xs each = omega (arith, length-flat_map write xs, sum_by-most (λ x. length (write x)) most xs each)
 
 -- the line of an operation
@@ -97,15 +101,31 @@ operation_short first o (made_sum a b from to) =
     omega (arith, k, line3 (codes "sum") (number a) (number b), three a (omega (arith, from.1)), three b (omega (arith, to.1)))
 operation_short first o (made_move a b x payer payee amount) =
     let k : length (codes "move") ≡ 4 = refl in
-    omega (arith, k, line4 (codes "move") (number a) (number b) (number x), three a (omega (arith, payer.1)), three b (omega (arith, payee.1)), three x (omega (arith, amount.1)))
+    omega (
+      arith,
+      k,
+      line4 (codes "move") (number a) (number b) (number x),
+      three a (omega (arith, payer.1)),
+      three b (omega (arith, payee.1)),
+      three x (omega (arith, amount.1)),
+    )
 operation_short first o (made_trade a b i q buyer seller instrument quantity) =
     let k : length (codes "trade") ≡ 5 = refl in
     let five = line5 (codes "trade") (number a) (number b) (number i) (number q) in
-    omega (arith, k, five, three a (omega (arith, buyer.1)), three b (omega (arith, seller.1)), three i (omega (arith, instrument.1)), three q (omega (arith, quantity.1)))
+    omega (
+      arith,
+      k,
+      five,
+      three a (omega (arith, buyer.1)),
+      three b (omega (arith, seller.1)),
+      three i (omega (arith, instrument.1)),
+      three q (omega (arith, quantity.1)),
+    )
 operation_short first o (made_margin a m account rate) =
     let k : length (codes "margin") ≡ 6 = refl in
     omega (arith, k, line3 (codes "margin") (number a) (number m), three a (omega (arith, account.1)), three m (omega (arith, rate.1)))
-operation_short first o (made_show a account) = let k : length (codes "show") ≡ 4 = refl in omega (arith, k, line2 (codes "show") (number a), three a (omega (arith, account.1)))
+operation_short first o (made_show a account) = let k : length (codes "show") ≡ 4 = refl in
+    omega (arith, k, line2 (codes "show") (number a), three a (omega (arith, account.1)))
 
 -- those of a script
 script_short : (script : List Op) → IsMadeOnce script → length (operation_lines script) ≤ 78
@@ -148,18 +168,27 @@ price_short i price few most =
 position_short : (a i quantity : ℕ) → a ≤ 200 → i ≤ 8 → quantity ≤ 100 → length (position_line ((a, i), quantity)) ≤ 22
 position_short a i quantity few less most =
     let k : length (codes "position") ≡ 8 = refl in
-    omega (arith, k, line4 (codes "position") (number a) (number i) (number quantity), three a (omega (arith, few)), three i (omega (arith, less)), three quantity (omega (arith, most)))
+    omega (
+      arith,
+      k,
+      line4 (codes "position") (number a) (number i) (number quantity),
+      three a (omega (arith, few)),
+      three i (omega (arith, less)),
+      three quantity (omega (arith, most)),
+    )
 
 accounts_short : length (flat_map account_line (accounts_to 200)) ≤ 4000
 unfolding accounts_to
 accounts_short =
-    let each = all_mapped {X = ℕ × ℕ} (λ e. length (account_line e) ≤ 20) (λ a. (a, 1000000)) 1 200 (λ a low high. account_short a 1000000 (omega (arith, high)) (omega arith)) in
+    let each = all_mapped {X = ℕ × ℕ} (λ e. length (account_line e) ≤ 20) (λ a. (a, 1000000)) 1 200 (λ a low high.
+    account_short a 1000000 (omega (arith, high)) (omega arith)) in
     omega (arith, accounts_length, lines_most account_line 20 (accounts_to 200) each)
 
 prices_short : length (flat_map price_line (prices_to 8)) ≤ 120
 unfolding prices_to
 prices_short =
-    let each = all_mapped {X = ℕ × ℕ} (λ e. length (price_line e) ≤ 15) (λ i. (i, 100 * i)) 1 8 (λ i low high. price_short i (100 * i) (omega (arith, high)) (omega (arith, high))) in
+    let each = all_mapped {X = ℕ × ℕ} (λ e. length (price_line e) ≤ 15) (λ i. (i, 100 * i)) 1 8 (λ i low high.
+    price_short i (100 * i) (omega (arith, high)) (omega (arith, high))) in
     omega (arith, prices_length, lines_most price_line 15 (prices_to 8) each)
 
 positions_short : length (flat_map position_line (positions_to 200)) ≤ 35200
@@ -172,7 +201,8 @@ positions_short =
 header_short : length (header_line made_books) ≤ 60
 header_short =
     let words : List (List ℕ) = codes "1" ∷ codes "blocks" ∷ number 4096 ∷ codes "instruments" ∷ number 8 ∷ codes "ring" ∷ number 64 ∷ [] in
-    let sizes : size_of (codes "books" ∷ words) ≡ 5 + 1 + (1 + 1 + (6 + 1 + (length (number 4096) + 1 + (11 + 1 + (length (number 8) + 1 + (4 + 1 + (length (number 64) + 1 + 0))))))) = refl in
+    let sizes : size_of (codes "books" ∷ words)
+    ≡ 5 + 1 + (1 + 1 + (6 + 1 + (length (number 4096) + 1 + (11 + 1 + (length (number 8) + 1 + (4 + 1 + (length (number 64) + 1 + 0))))))) = refl in
     omega (arith, sizes, line_length (codes "books") words, four 4096 (omega arith), four 8 (omega arith), four 64 (omega arith))
 
 books_short : length (books_lines made_books) ≤ 40000

@@ -6,7 +6,8 @@ use Rattle.std.proofs.lemmas.List.Concat.{flat_map-append}
 use Rattle.std.proofs.lemmas.List.FromFn.{map-range_with_len_more}
 use Rattle.script_reader.specs.Text.{position_line}
 use Rattle.input_maker.specs.Generator.{state_after}
-use Rattle.input_maker.specs.Made.{accounts_to, prices_to, positions_in, positions_to, operation_from, operations_from, state_after_operations, state_after_script, state_of_script, made_submission, submissions_to}
+use Rattle.input_maker.specs.Made.{accounts_to, prices_to, positions_in, positions_to, operation_from, operations_from, state_after_operations}
+use Rattle.input_maker.specs.Made.{state_after_script, state_of_script, made_submission, submissions_to}
 
 -- one number more
 range-more : (a n : ℕ) → range_with_len a (suc n) ≡ range_with_len a n ++ (a + n) ∷ []

@@ -1,5 +1,6 @@
 -- The operations and scripts that are made, of the first kind and of the second, and that each script of a made input is one.
-use Rattle.std.proofs.Common.{◌≡◌, ℕ, ◌+◌, ◌*◌, ◌/◌, ◌<◌, ◌≤◌, ◌==◌, ◌&&◌, Bool, true, false, if◌then◌else◌, List, [], ◌∷◌, map, filter, length, refl, sym, ap, ◌∙◌, true≢false, arith}
+use Rattle.std.proofs.Common.{◌≡◌, ℕ, ◌+◌, ◌*◌, ◌/◌, ◌<◌, ◌≤◌, ◌==◌, ◌&&◌, Bool, true, false, if◌then◌else◌, List, [], ◌∷◌, map, filter, length, refl, sym, ap}
+use Rattle.std.proofs.Common.{◌∙◌, true≢false, arith}
 use Rattle.std.specs.List.{All, AllByRecursion, list_all, range_with_len}
 use Rattle.std.specs.Str.{bytes_eq}
 use Rattle.std.proofs.Math.Nat.{mod-lt}
@@ -12,7 +13,8 @@ use Rattle.books_model.specs.Ranges.{IsWithin, IsOperationFor, IsScriptFor}
 use Rattle.books_model.proofs.Entries.{AllByRecursion-weaker, sum_by-most}
 use Rattle.script_reader.specs.Input.{Submission, first_seen, scripts_by, callers_of}
 use Rattle.input_maker.specs.Generator.{drawn, next_state, state_after}
-use Rattle.input_maker.specs.Made.{made_books, first_kind, second_kind, operation_from, operations_from, script_from, made_submission, submissions_to, state_of_script, state_after_operations}
+use Rattle.input_maker.specs.Made.{made_books, first_kind, second_kind, operation_from, operations_from, script_from, made_submission, submissions_to}
+use Rattle.input_maker.specs.Made.{state_of_script, state_after_operations}
 use Rattle.input_maker.specs.Days.{IsOfFirstKind, deposits_of, is_of_first_kind, paid_in_by}
 use Rattle.input_maker.proofs.Opening.{all_mapped}
 
@@ -37,8 +39,10 @@ operation_fits first o (made_deposit a x account amount) = (wider 1 200 _ a (ome
 operation_fits first o (made_price i p instrument price) = (instrument, wider 1 1000 _ p (omega arith) price)
 operation_fits first o made_next = tt
 operation_fits first o (made_sum a b from to) = (wider 1 200 _ a (omega arith) from, wider 1 200 _ b (omega arith) to)
-operation_fits first o (made_move a b x payer payee amount) = (wider 1 200 _ a (omega arith) payer, wider 1 200 _ b (omega arith) payee, wider 1 100 _ x (omega arith) amount)
-operation_fits first o (made_trade a b i q buyer seller instrument quantity) = (wider 1 200 _ a (omega arith) buyer, wider 1 200 _ b (omega arith) seller, instrument, wider 1 100 _ q (omega arith) quantity)
+operation_fits first o (made_move a b x payer payee amount) =
+    (wider 1 200 _ a (omega arith) payer, wider 1 200 _ b (omega arith) payee, wider 1 100 _ x (omega arith) amount)
+operation_fits first o (made_trade a b i q buyer seller instrument quantity) =
+    (wider 1 200 _ a (omega arith) buyer, wider 1 200 _ b (omega arith) seller, instrument, wider 1 100 _ q (omega arith) quantity)
 operation_fits first o (made_margin a m account rate) = (wider 1 200 _ a (omega arith) account, rate)
 operation_fits first o (made_show a account) = wider 1 200 _ a (omega arith) account
 
@@ -71,7 +75,8 @@ IsMadeOnce script = (first : Bool) × IsMadeScript first script
 pub script_fits : (first : Bool) (script : List Op) → IsMadeScript first script → IsScriptFor made_books script
 script_fits first script m = record {
   few = omega (arith, m.few);
-  each = All-from_recursion (IsOperationFor made_books) script (AllByRecursion-weaker (IsMade first) (IsOperationFor made_books) (operation_fits first) script m.each);
+  each = All-from_recursion (IsOperationFor made_books) script
+      (AllByRecursion-weaker (IsMade first) (IsOperationFor made_books) (operation_fits first) script m.each);
 }
 
 -- a script of such operations
@@ -95,10 +100,12 @@ kind_is_not false script m is_not = refl
 -- one of the second kind has no deposits
 pub deposits_none : (first : Bool) (ops : List Op) → AllByRecursion (IsMade first) ops → first ≡ false → deposits_of ops ≡ 0
 deposits_none first [] each second = refl
-deposits_none first (o ∷ ops) each second = omega (arith, sum_by-cons paid_in_by o ops, pays_nothing o (tells_kind first o each.0 ∙ second), deposits_none first ops each.1 second)
+deposits_none first (o ∷ ops) each second =
+    omega (arith, sum_by-cons paid_in_by o ops, pays_nothing o (tells_kind first o each.0 ∙ second), deposits_none first ops each.1 second)
 
 pub deposits_most : (first : Bool) (script : List Op) → IsMadeScript first script → deposits_of script ≤ 300
-deposits_most first script m = omega (arith, m.few, sum_by-most paid_in_by 100 script (AllByRecursion-weaker (IsMade first) (λ o. paid_in_by o ≤ 100) (pays_little first) script m.each))
+deposits_most first script m =
+    omega (arith, m.few, sum_by-most paid_in_by 100 script (AllByRecursion-weaker (IsMade first) (λ o. paid_in_by o ≤ 100) (pays_little first) script m.each))
 
 -- a draw is below its bound
 drawn_below : (n x : ℕ) → 0 < n → drawn n x < n
@@ -115,7 +122,8 @@ chosen P true x y p q = p
 chosen P false x y p q = q
 
 -- what is chosen by its first draw
-operation_made : (first : Bool) (t a b i q : ℕ) → IsWithin 1 200 a → IsWithin 1 200 b → IsWithin 1 8 i → IsWithin 1 100 q → IsMade first (if first then first_kind t a b i q else second_kind t a b i q)
+operation_made : (first : Bool) (t a b i q : ℕ) → IsWithin 1 200 a → IsWithin 1 200 b → IsWithin 1 8 i
+    → IsWithin 1 100 q → IsMade first (if first then first_kind t a b i q else second_kind t a b i q)
 operation_made true t a b i q account other instrument amount =
     chosen (IsMade true) (t == 0) _ _ (made_deposit a q account amount)
     (chosen (IsMade true) (t == 1) _ _ (made_price i (10 * q) instrument (omega (arith, amount.0), omega (arith, amount.1)))
@@ -128,8 +136,10 @@ operation_made false t a b i q account other instrument amount =
 operation_from_made : (g x : ℕ) → IsMade (g == 0) (operation_from g x)
 unfolding operation_from
 operation_from_made g x =
-    operation_made (g == 0) (drawn 4 x) (1 + drawn 200 (state_after 1 x)) (1 + drawn 200 (state_after 2 x)) (1 + drawn 8 (state_after 3 x)) (1 + drawn 100 (state_after 4 x))
-    (within_one 200 (state_after 1 x) (omega arith)) (within_one 200 (state_after 2 x) (omega arith)) (within_one 8 (state_after 3 x) (omega arith)) (within_one 100 (state_after 4 x) (omega arith))
+    operation_made (g == 0) (drawn 4 x) (1 + drawn 200 (state_after 1 x)) (1 + drawn 200 (state_after 2 x))
+    (1 + drawn 8 (state_after 3 x)) (1 + drawn 100 (state_after 4 x))
+    (within_one 200 (state_after 1 x) (omega arith)) (within_one 200 (state_after 2 x) (omega arith))
+    (within_one 8 (state_after 3 x) (omega arith)) (within_one 100 (state_after 4 x) (omega arith))
 
 -- a script of the generator is made
 pub script_made : (x : ℕ) → IsMadeOnce (script_from x)
@@ -139,7 +149,8 @@ script_made x =
     let count = length-map-range_with_len make 0 (1 + drawn 3 (state_after 1 x)) in (
       drawn 2 x == 0,
       record {
-        each = all_mapped (IsMade (drawn 2 x == 0)) make 0 (1 + drawn 3 (state_after 1 x)) (λ k low high. operation_from_made (drawn 2 x) (state_after_operations k (state_after 2 x)));
+        each = all_mapped (IsMade (drawn 2 x == 0)) make 0 (1 + drawn 3 (state_after 1 x)) (λ k low high.
+            operation_from_made (drawn 2 x) (state_after_operations k (state_after 2 x)));
         some = omega (arith, count);
         few = omega (arith, count, drawn_below 3 (state_after 1 x) (omega arith));
       },

@@ -1,5 +1,6 @@
 -- The opening books are in their ranges.
-use Rattle.std.proofs.Common.{◌≡◌, ℕ, zero, suc, ◌+◌, ◌*◌, ◌<◌, ◌≤◌, Bool, true, false, cond, ◌&&◌, T, List, [], ◌∷◌, ◌++◌, map, length, Option, Some, IsSome, refl, sym, ap, subst, ◌∙◌, length-append, append_assoc, true≢false, arith}
+use Rattle.std.proofs.Common.{◌≡◌, ℕ, zero, suc, ◌+◌, ◌*◌, ◌<◌, ◌≤◌, Bool, true, false, cond, ◌&&◌, T, List, [], ◌∷◌, ◌++◌, map, length, Option, Some, IsSome}
+use Rattle.std.proofs.Common.{refl, sym, ap, subst, ◌∙◌, length-append, append_assoc, true≢false, arith}
 use Rattle.std.specs.List.{AllByRecursion, flat_map, range_with_len}
 use Rattle.std.specs.declared.cmp.Ordering.{Ordering}
 use Rattle.std.specs.declared.cmp.Ordering.TheVariants.{Less, Equal, Greater}
@@ -45,7 +46,8 @@ keyed_found v q a zero low high = absurd (omega arith)
 keyed_found v q a (suc n) low high =
     elim (eq_by_cmp nat_cmp q a) as (λ b. eq_by_cmp nat_cmp q a ≡ b → cond b (Some (v a)) (find nat_cmp q (keyed v (a + 1) n)) ≡ Some (v q)) [
       | true ↦ λ is. ap (λ k. Some (v k)) (sym (nat_cmp-IsAntisymmetric q a ((Equal-is (nat_cmp q a)).0 is)))
-      | false ↦ λ is. let apart : q ≡ a → ⊥ = λ same. true≢false (sym ((Equal-is (nat_cmp q a)).1 (equal_of q a same)) ∙ is) in keyed_found v q (a + 1) n (omega (arith, apart)) (omega arith)
+      | false ↦ λ is. let apart : q ≡ a → ⊥ = λ same. true≢false (sym ((Equal-is (nat_cmp q a)).1 (equal_of q a same))
+          ∙ is) in keyed_found v q (a + 1) n (omega (arith, apart)) (omega arith)
     ] refl
 
 -- what holds of a row's numbers holds of what is made of them
@@ -84,11 +86,13 @@ same_position x y e =
 abbrev row : ℕ → ℕ → ℕ → List ((ℕ × ℕ) × ℕ) → List ((ℕ × ℕ) × ℕ)
 row a i n rest = map (λ j. ((a, j), 100)) (range_with_len i n) ++ rest
 
-row_below : (k : ℕ × ℕ) (a i n : ℕ) (rest : List ((ℕ × ℕ) × ℕ)) → ((j : ℕ) → i ≤ j → position_cmp k (a, j) ≡ Less) → T (below_all position_cmp k rest) → T (below_all position_cmp k (row a i n rest))
+row_below : (k : ℕ × ℕ) (a i n : ℕ) (rest : List ((ℕ × ℕ) × ℕ)) → ((j : ℕ) → i ≤ j → position_cmp k (a, j) ≡ Less)
+    → T (below_all position_cmp k rest) → T (below_all position_cmp k (row a i n rest))
 row_below k a i zero rest each h = h
 row_below k a i (suc n) rest each h = and_T (position_cmp k (a, i)) _ (each i (omega arith)) (row_below k a (i + 1) n rest (λ j le. each j (omega arith)) h)
 
-row_sorted : (a i n : ℕ) (rest : List ((ℕ × ℕ) × ℕ)) → ((j : ℕ) → T (below_all position_cmp (a, j) rest)) → T (is_sorted position_cmp rest) → T (is_sorted position_cmp (row a i n rest))
+row_sorted : (a i n : ℕ) (rest : List ((ℕ × ℕ) × ℕ)) → ((j : ℕ) → T (below_all position_cmp (a, j) rest))
+    → T (is_sorted position_cmp rest) → T (is_sorted position_cmp (row a i n rest))
 row_sorted a i zero rest each h = h
 row_sorted a i (suc n) rest each h =
     both_T _ _ (row_below (a, i) a (i + 1) n rest (λ j le. own_position a i j (omega arith)) (each i)) (row_sorted a (i + 1) n rest each h)
@@ -177,13 +181,15 @@ position_found a i quantity found =
 pub account_there : (a : ℕ) → IsWithin 1 200 a → IsSome (finmap.get made_books.accounts a)
 unfolding accounts_to
 account_there a within =
-    let e : finmap.get made_books.accounts a ≡ Some 1000000 = get-from_sorted nat_cmp (accounts_to 200) a accounts_sorted ∙ keyed_found {X = ℕ} (λ a. 1000000) a 1 200 within.0 (omega arith) in
+    let e : finmap.get made_books.accounts a ≡ Some 1000000 =
+    get-from_sorted nat_cmp (accounts_to 200) a accounts_sorted ∙ keyed_found {X = ℕ} (λ a. 1000000) a 1 200 within.0 (omega arith) in
     subst (λ (o : Option ℕ). IsSome o) (sym e) refl
 
 price_there : (i : ℕ) → IsWithin 1 8 i → IsSome (finmap.get made_books.prices i)
 unfolding prices_to
 price_there i within =
-    let e : finmap.get made_books.prices i ≡ Some (100 * i) = get-from_sorted nat_cmp (prices_to 8) i prices_sorted ∙ keyed_found {X = ℕ} (λ i. 100 * i) i 1 8 within.0 (omega arith) in
+    let e : finmap.get made_books.prices i ≡ Some (100 * i) = get-from_sorted nat_cmp (prices_to 8) i prices_sorted
+    ∙ keyed_found {X = ℕ} (λ i. 100 * i) i 1 8 within.0 (omega arith) in
     subst (λ (o : Option ℕ). IsSome o) (sym e) refl
 
 pub accounts_length : length (accounts_to 200) ≡ 200
@@ -213,21 +219,26 @@ made_books_in_range = record {
   ring = (omega arith, omega arith);
   accounts = λ a cash found. let h = account_found a cash found in ((h.0.0, omega (arith, h.0.1)), omega (arith, h.1));
   prices = λ i price found. let h = price_found i price found in (h.0, (omega (arith, h.0.0, h.1), omega (arith, h.0.1, h.1)));
-  positions = λ a i quantity found. let h = position_found a i quantity found in (account_there a h.0, price_there i h.1, (omega (arith, h.2), omega (arith, h.2)));
+  positions = λ a i quantity found. let h = position_found a i quantity found in
+      (account_there a h.0, price_there i h.1, (omega (arith, h.2), omega (arith, h.2)));
   calls = λ k d less. absurd (omega arith);
   queue = omega arith;
   blocks_used = omega (arith, blocks_used);
 }
 
 -- the lines of the opening books
-pub opening_lines : books_lines made_books ≡ header_line made_books ++ flat_map account_line (accounts_to 200) ++ flat_map price_line (prices_to 8) ++ flat_map position_line (positions_to 200)
+pub opening_lines : books_lines made_books ≡ header_line made_books ++ flat_map account_line (accounts_to 200)
+    ++ flat_map price_line (prices_to 8) ++ flat_map position_line (positions_to 200)
 opening_lines =
     append-nil _
-    ∙ (λ t. header_line made_books ++ flat_map account_line (accounts_entries t) ++ flat_map price_line (prices_entries t) ++ flat_map position_line (positions_entries t))
+    ∙ (λ t. header_line made_books ++ flat_map account_line (accounts_entries t) ++ flat_map price_line
+    (prices_entries t) ++ flat_map position_line (positions_entries t))
 
 -- and they are written one kind after the other
-pub opening_written : (text header accounts prices positions : List ℕ) → header ≡ text ++ header_line made_books → accounts ≡ header ++ flat_map account_line (accounts_to 200)
-    → prices ≡ accounts ++ flat_map price_line (prices_to 8) → positions ≡ prices ++ flat_map position_line (positions_to 200) → positions ≡ text ++ books_lines made_books
+pub opening_written : (text header accounts prices positions : List ℕ) → header ≡ text ++ header_line made_books
+    → accounts ≡ header ++ flat_map account_line (accounts_to 200)
+    → prices ≡ accounts ++ flat_map price_line (prices_to 8)
+    → positions ≡ prices ++ flat_map position_line (positions_to 200) → positions ≡ text ++ books_lines made_books
 opening_written text header accounts prices positions h a p q =
     let H = header_line made_books in
     let A = flat_map account_line (accounts_to 200) in

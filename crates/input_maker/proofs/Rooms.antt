@@ -64,10 +64,12 @@ module _ (books : ClearingBooks) (h : AreOfDay books) where
 
   -- also where a position was changed
   pub not_full_after : (a i quantity : ℕ) → is_full (put_position books a i quantity) ≡ false
-  not_full_after a i quantity = elim (quantity == 0) as (λ t. is_full (record books { positions = cond t (map.remove books.positions (a, i)) (map.insert books.positions (a, i) quantity) }) ≡ false) [
-    | true ↦ ne_eqb (used (set_position books a i None)) books.blocks (λ same. omega (arith, same, used_position books a i None, used_most, h.blocks))
-    | false ↦ ne_eqb (used (set_position books a i (Some quantity))) books.blocks (λ same. omega (arith, same, used_position books a i (Some quantity), used_most, h.blocks))
-  ]
+  not_full_after a i quantity = elim (quantity == 0) as
+      (λ t. is_full (record books { positions = cond t (map.remove books.positions (a, i)) (map.insert books.positions (a, i) quantity) }) ≡ false) [
+        | true ↦ ne_eqb (used (set_position books a i None)) books.blocks (λ same. omega (arith, same, used_position books a i None, used_most, h.blocks))
+        | false ↦ ne_eqb (used (set_position books a i (Some quantity))) books.blocks
+            (λ same. omega (arith, same, used_position books a i (Some quantity), used_most, h.blocks))
+      ]
 
   -- all quantities are those of each instrument together
   pub quantities_together : all_quantities books ≡ sums 9 (all_held books)

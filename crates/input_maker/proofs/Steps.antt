@@ -1,5 +1,6 @@
 -- What an operation of a generated script does on the books of a day.
-use Rattle.std.proofs.Common.{◌≡◌, ℕ, ◌+◌, ◌-◌, ◌*◌, ◌≤◌, ◌==◌, ◌&&◌, ◌||◌, Bool, true, false, cond, not, nat_lt, if◌then◌else◌, List, [], ◌∷◌, length, sum_by, refl, sym, ap, subst, ◌∙◌, arith}
+use Rattle.std.proofs.Common.{◌≡◌, ℕ, ◌+◌, ◌-◌, ◌*◌, ◌≤◌, ◌==◌, ◌&&◌, ◌||◌, Bool, true, false, cond, not, nat_lt, if◌then◌else◌, List, [], ◌∷◌, length, sum_by}
+use Rattle.std.proofs.Common.{refl, sym, ap, subst, ◌∙◌, arith}
 use Rattle.std.specs.FinMap as map
 use Rattle.std.proofs.lemmas.Bool.{and_right, le-ltb}
 use Rattle.books_model.specs.declared.limits.TheConstants.{GREATEST_CASH, GREATEST_QUANTITY}
@@ -37,7 +38,8 @@ or_declined C true why y h = refl
 or_declined C false why y h = h
 
 -- more is known of the books that a step leaves
-known : (first : Bool) (C D : ClearingBooks → Type 0) (s : Step) → Goes first C s → ((v : Value) (after : ClearingBooks) → s ≡ Gives v after → C after → D after) → Goes first D s
+known : (first : Bool) (C D : ClearingBooks → Type 0) (s : Step) → Goes first C s
+    → ((v : Value) (after : ClearingBooks) → s ≡ Gives v after → C after → D after) → Goes first D s
 unfolding Goes
 known first C D (Gives v after) h more = more v after refl h
 known first C D (Declines why) h more = h
@@ -79,7 +81,8 @@ module _ (books : ClearingBooks) (h : AreOfDay books) where
   step_goes room first o (made_deposit a x account amount) =
       known true (Pays books) (Follow (op.Deposit a x) books) (step_of (op.Deposit a x) books)
       (past true (Pays books) (not (is_account books a)) _ _ (ap not (h.accounts.every a account))
-      (past true (Pays books) (nat_lt GREATEST_CASH (cash_of books a + x)) _ _ (le-ltb GREATEST_CASH (cash_of books a + x) (omega (arith, room, amount.1, cash_within books a)))
+      (past true (Pays books) (nat_lt GREATEST_CASH (cash_of books a + x)) _ _
+      (le-ltb GREATEST_CASH (cash_of books a + x) (omega (arith, room, amount.1, cash_within books a)))
       (gives _ _ _ _ (other_cash books.accounts a (cash_of books a + x) h.accounts account, refl))))
       (λ v after is k. record {
         accounts = k.0;
@@ -87,15 +90,19 @@ module _ (books : ClearingBooks) (h : AreOfDay books) where
         held = held_same books after k.1;
       })
   step_goes room first o (made_price i p instrument price) =
-      past true (Follow (op.Price i p) books) (not (map.contains_key books.prices i) && is_full books) _ _ (and_right (not (map.contains_key books.prices i)) (is_full books) (not_full books h))
+      past true (Follow (op.Price i p) books) (not (map.contains_key books.prices i) && is_full books) _ _
+      (and_right (not (map.contains_key books.prices i)) (is_full books) (not_full books h))
       (gives _ _ _ _ (alone _ _ refl refl refl))
   step_goes room first o made_next = next_goes books.calls
   step_goes room first o (made_sum a b from to) = gives _ _ _ _ (alone _ _ refl refl refl)
   step_goes room first o (made_move a b x payer payee amount) =
       known false (Pays books) (Follow (op.Move a b x) books) (step_of (op.Move a b x) books)
       (or_declined _ (a == b) _ _ (or_declined _ (not (is_account books a && is_account books b)) _ _
-      (or_declined _ (nat_lt (cash_of books a) x) _ _ (or_declined _ (nat_lt GREATEST_CASH (cash_of books b + x)) _ _ (gives _ _ _ _
-      (other_cash (map.insert books.accounts a (cash_of books a - x)) b (cash_of books b + x) (other_cash books.accounts a (cash_of books a - x) h.accounts payer) payee, refl))))))
+      (or_declined _ (nat_lt (cash_of books a) x) _ _ (or_declined _ (nat_lt GREATEST_CASH (cash_of books b + x)) _ _ (gives _ _ _ _ (
+        other_cash (map.insert books.accounts a (cash_of books a - x)) b (cash_of books b + x)
+            (other_cash books.accounts a (cash_of books a - x) h.accounts payer) payee,
+        refl,
+      ))))))
       (λ v after is k. record {
         accounts = k.0;
         cash = done _ _ v after (moved books a b x) is ∙ no_more (all_cash books);
@@ -108,7 +115,8 @@ module _ (books : ClearingBooks) (h : AreOfDay books) where
       (or_declined _ (not (map.contains_key books.prices i)) _ _ (or_declined _ (nat_lt (position_of books b i) q) _ _
       (or_declined _ (nat_lt (cash_of books a) (q * price_of books i)) _ _
       (or_declined _ (nat_lt GREATEST_CASH (cash_of books b + q * price_of books i) || nat_lt GREATEST_QUANTITY (position_of books a i + q)) _ _
-      (past _ _ (not (map.contains_key books.positions (a, i)) && is_full lowered) _ _ (and_right (not (map.contains_key books.positions (a, i))) (is_full lowered) (not_full_after books h b i (position_of books b i - q))) (gives _ _ _ _
+      (past _ _ (not (map.contains_key books.positions (a, i)) && is_full lowered) _ _
+      (and_right (not (map.contains_key books.positions (a, i))) (is_full lowered) (not_full_after books h b i (position_of books b i - q))) (gives _ _ _ _
       (other_cash (map.insert books.accounts a (cash_of books a - q * price_of books i)) b (cash_of books b + q * price_of books i)
       (other_cash books.accounts a (cash_of books a - q * price_of books i) h.accounts buyer) seller)))))))))
       (λ v after is k. record {
@@ -117,7 +125,9 @@ module _ (books : ClearingBooks) (h : AreOfDay books) where
         held = λ j. done _ _ v after (traded_quantities books a b i q j) is;
       })
   step_goes room first o (made_margin a m account rate) =
-      or_declined _ (not (is_account books a)) _ _ (or_declined _ (not (shortfall_of books a m == 0) && (length books.calls == books.ring)) _ _ (chosen (Goes false (Follow (op.Margin a m) books)) (shortfall_of books a m == 0) _ _
+      or_declined _ (not (is_account books a)) _ _
+      (or_declined _ (not (shortfall_of books a m == 0) && (length books.calls == books.ring)) _ _
+      (chosen (Goes false (Follow (op.Margin a m) books)) (shortfall_of books a m == 0) _ _
       (gives _ _ _ _ (alone _ _ refl refl refl))
       (gives _ _ _ _ (alone _ _ refl refl refl))))
   step_goes room first o (made_show a account) = or_declined _ (not (is_account books a)) _ _ (gives _ _ _ _ (alone _ _ refl refl refl))

@@ -1,5 +1,6 @@
 -- Sums over the scripts of an input, in whatever order they stand, and over its opening books.
-use Rattle.std.proofs.Common.{◌≡◌, ℕ, zero, suc, ◌+◌, ◌*◌, ◌<◌, ◌==◌, ◌&&◌, true, cond, List, [], length, map, get_or, sum_by, refl, sym, ap, subst, ◌∙◌, eqb-true, arith}
+use Rattle.std.proofs.Common.{◌≡◌, ℕ, zero, suc, ◌+◌, ◌*◌, ◌<◌, ◌==◌, ◌&&◌, true, cond, List, [], length, map, get_or, sum_by, refl, sym, ap, subst, ◌∙◌}
+use Rattle.std.proofs.Common.{eqb-true, arith}
 use Rattle.std.specs.List.{flat_map, range_with_len}
 use Rattle.std.proofs.lemmas.Bool.{and_parts}
 use Rattle.std.proofs.lemmas.List.Elements.{recursion_from_All}
@@ -26,22 +27,28 @@ sum_of_order input w order j =
     at : Place → ℕ
     at p = w (script_at input p.caller p.index)
 
-    one : (c i : ℕ) → c < length input.callers → i < length (caller_at input c).scripts → sum_by (λ p. cond (p.caller == c && p.index == i) (at p) 0) order ≡ w (script_at input c i)
+    one : (c i : ℕ) → c < length input.callers → i < length (caller_at input c).scripts
+        → sum_by (λ p. cond (p.caller == c && p.index == i) (at p) 0) order ≡ w (script_at input c i)
     one c i within less =
         same_weight (λ p. p.caller == c && p.index == i) at (w (script_at input c i)) order
-        (λ p both. let parts = and_parts (p.caller == c) (p.index == i) both in λ t. w (script_at input (eqb-true p.caller c parts.0 t) (eqb-true p.index i parts.1 t)))
+        (λ p both. let parts = and_parts (p.caller == c) (p.index == i) both in
+        λ t. w (script_at input (eqb-true p.caller c parts.0 t) (eqb-true p.index i parts.1 t)))
         ∙ ap (λ n. n * w (script_at input c i)) (j.once (record { caller = c; index = i }) (within, less))
         ∙ omega arith
 
     each : (c : ℕ) → c < length input.callers → sum_by (λ p. cond (p.caller == c) (at p) 0) order ≡ sum_by w (caller_at input c).scripts
     each c within =
         by_weights (λ p. p.caller == c) (λ p. p.index) at (length (caller_at input c).scripts) order
-        (recursion_from_All (λ p. (p.caller == c) ≡ true → p.index < length (caller_at input c).scripts) order (λ k d less same. subst (λ x. (get_or order k d).index < length (caller_at input x).scripts) (eqb-true (get_or order k d).caller c same) (j.only k d less).1))
-        ∙ sums-same (length (caller_at input c).scripts) (λ i. sum_by (λ p. cond (p.caller == c && p.index == i) (at p) 0) order) (λ i. w (script_at input c i)) (λ i less. one c i within less)
+        (recursion_from_All (λ p. (p.caller == c) ≡ true → p.index < length (caller_at input c).scripts) order
+        (λ k d less same. subst (λ x. (get_or order k d).index < length (caller_at input x).scripts)
+        (eqb-true (get_or order k d).caller c same) (j.only k d less).1))
+        ∙ sums-same (length (caller_at input c).scripts)
+        (λ i. sum_by (λ p. cond (p.caller == c && p.index == i) (at p) 0) order) (λ i. w (script_at input c i)) (λ i less. one c i within less)
         ∙ sym (sum_by_all w [] (caller_at input c).scripts)
 
 -- a sum over what is made of the numbers of a row, where each adds as much
-sum_by-even : {X : Type 0} (f : X → ℕ) (make : ℕ → X) (each : ℕ) → ((k : ℕ) → f (make k) ≡ each) → (a n : ℕ) → sum_by f (map make (range_with_len a n)) ≡ n * each
+sum_by-even : {X : Type 0} (f : X → ℕ) (make : ℕ → X) (each : ℕ) → ((k : ℕ) → f (make k) ≡ each) → (a n : ℕ)
+    → sum_by f (map make (range_with_len a n)) ≡ n * each
 sum_by-even f make each is a zero = omega arith
 sum_by-even f make each is a (suc n) = omega (arith, sum_by-cons f (make a) (map make (range_with_len (a + 1) n)), is a, sum_by-even f make each is (a + 1) n)
 
@@ -57,7 +64,12 @@ one_holds a = sum_by-even {X = (ℕ × ℕ) × ℕ} (λ e. e.1) (λ i. ((a, i), 
 
 all_hold : (a n : ℕ) → sum_by (λ e. e.1) (flat_map (λ a. positions_in a 8) (range_with_len a n)) ≡ n * 800
 all_hold a zero = omega arith
-all_hold a (suc n) = omega (arith, sum_by-append (λ e. e.1) (positions_in a 8) (flat_map (λ a. positions_in a 8) (range_with_len (a + 1) n)), one_holds a, all_hold (a + 1) n)
+all_hold a (suc n) = omega (
+  arith,
+  sum_by-append (λ e. e.1) (positions_in a 8) (flat_map (λ a. positions_in a 8) (range_with_len (a + 1) n)),
+  one_holds a,
+  all_hold (a + 1) n,
+)
 
 -- and a hundred of each of 8 instruments
 pub opening_quantities : all_quantities made_books ≡ 160000

@@ -62,7 +62,8 @@ made_operation g t a b i q = if g == 0 then first_kind t a b i q else second_kin
 -- the operation whose draws begin at a state
 unfoldable pub operation_from : ℕ → ℕ → Op
 operation_from g x =
-    made_operation g (drawn 4 x) (1 + drawn 200 (state_after 1 x)) (1 + drawn 200 (state_after 2 x)) (1 + drawn 8 (state_after 3 x)) (1 + drawn 100 (state_after 4 x))
+    made_operation g (drawn 4 x) (1 + drawn 200 (state_after 1 x)) (1 + drawn 200 (state_after 2 x))
+    (1 + drawn 8 (state_after 3 x)) (1 + drawn 100 (state_after 4 x))
 
 -- the state after so many operations, five draws each
 unfoldable pub state_after_operations : ℕ → ℕ → ℕ

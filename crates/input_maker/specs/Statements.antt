@@ -15,7 +15,8 @@ pub record AreForMake (seed callers scripts : ℕ) : Type 0 where
 
 -- each generated text is the text of an input
 abbrev pub MadeInputsAreInputs : Type 0
-MadeInputsAreInputs = (seed callers scripts : ℕ) → AreForMake seed callers scripts → Spells (made_input_text seed callers scripts) (made_input seed callers scripts)
+MadeInputsAreInputs = (seed callers scripts : ℕ) → AreForMake seed callers scripts
+    → Spells (made_input_text seed callers scripts) (made_input seed callers scripts)
 
 -- and it is small enough to be read
 abbrev pub MadeInputsFit : Type 0

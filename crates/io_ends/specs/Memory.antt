@@ -9,7 +9,8 @@ pub record MemorySource : Type 0 where
   pub reads : ℕ
   pub faults : ℕ
 
--- the bytes that were taken, how many there is room for, the most that one call takes, the numbers of the calls that fail, how many calls there were, and how many of them failed
+-- the bytes that were taken, how many there is room for, the most that one call takes, the numbers of the calls that
+-- fail, how many calls there were, and how many of them failed
 pub record MemorySink : Type 0 where
   pub taken : List ℕ
   pub room : ℕ

@@ -1,4 +1,5 @@
--- Readers and writers of std as a source and a sink, as contracts see them: they tell no bytes themselves, and what they do to the inner stream is said in std's own words.
+-- Readers and writers of std as a source and a sink, as contracts see them: they tell no bytes themselves, and what
+-- they do to the inner stream is said in std's own words.
 use Rattle.std.specs.Prelude.{ℕ}
 
 -- the reader, how many reads there were, and how many of them failed

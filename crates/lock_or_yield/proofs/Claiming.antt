@@ -1,5 +1,6 @@
 -- What claim leaves of what a pass knows, and what it comes to with the scans.
-use Rattle.std.proofs.Common.{◌≡◌, ℕ, ◌-◌, ◌<◌, Bool, true, false, inl, inr, List, Option, Some, None, IsNone, IfSome, [], ◌∷◌, ◌++◌, refl, sym, ap, ◌∙◌, subst, ◌==◌, if◌then◌else◌}
+use Rattle.std.proofs.Common.{◌≡◌, ℕ, ◌-◌, ◌<◌, Bool, true, false, inl, inr, List, Option, Some, None, IsNone, IfSome, [], ◌∷◌, ◌++◌, refl, sym, ap, ◌∙◌, subst}
+use Rattle.std.proofs.Common.{◌==◌, if◌then◌else◌}
 use Rattle.history_model.specs.declared.view.View.{View}
 use Rattle.history_model.specs.Locks.{lock_of_word}
 use Rattle.history_model.specs.Sets.{has, has_pair, without_first}
@@ -28,9 +29,19 @@ not_pending : (r : Claimed) (j : ℕ) → r ≡ claimed.Met j → r ≡ claimed.
 not_pending r j m p = let e : claimed.Pending ≡ claimed.Met j = sym p ∙ m in cc
 
 claim_after : (a i : ℕ) (r : Claimed) (v : View) (b : Bool) → r ≡ (if b then claimed.Pending else claimed.Met i)
-    → ClaimLeaves a v r (if b then record (after_asking v a) { claims = lock_of_word a ∷ v.claims; scans = without_first (lock_of_word a) v.scans } else after_meeting (after_asking v a) (lock_of_word a) i)
+    → ClaimLeaves a v r (if b then record (after_asking v a) {
+      claims = lock_of_word a ∷ v.claims;
+      scans =
+          without_first (lock_of_word a) v.scans;
+    } else after_meeting (after_asking v a) (lock_of_word a) i)
 claim_after a i r v true e = record {
-  writes = record { bits = refl; reads = refl; claims = λ l n. has-join_other l (lock_of_word a) v.claims n; scans = λ l j n. pair-without_other l j (lock_of_word a) v.scans n };
+  writes = record {
+    bits = refl;
+    reads = refl;
+    claims = λ l n. has-join_other l (lock_of_word a) v.claims n;
+    scans =
+        λ l j n. pair-without_other l j (lock_of_word a) v.scans n;
+  };
   asked = gains_one a v.asked;
   nobody = λ p. (refl, refl);
   somebody = λ j m. absurd (not_pending r j m e);
@@ -53,7 +64,9 @@ claim_leaves sound v a r u (inr t) = let s = t.1 in
     subst (λ (y : View). ClaimLeaves a v r y) (sym s.taken.view) (claim_after a (s.found - 1) r v (s.found == 0) s.answer)
 
 -- the lock was claimed, and then no seat was met
-pub claims_clear : (a : ℕ) (old claimed_view new : View) → SameCall old claimed_view → GrantsStay old claimed_view → AsksToWrite (lock_of_word a) old claimed_view → GainsAtMost a old.asked claimed_view.asked → ScansClear (lock_of_word a) claimed_view new → ClaimsAndScans a old new
+pub claims_clear : (a : ℕ) (old claimed_view new : View) → SameCall old claimed_view → GrantsStay old claimed_view
+    → AsksToWrite (lock_of_word a) old claimed_view → GainsAtMost a old.asked claimed_view.asked
+    → ScansClear (lock_of_word a) claimed_view new → ClaimsAndScans a old new
 claims_clear a old mid new call grants writes asked c = record {
   call = c.view ∙ (ap (λ (x : View). record x { scans = new.scans }) call ∙ agree);
   writes = record {
@@ -79,7 +92,9 @@ same_call : (old new x : View) → new ≡ x → x ≡ like old x → SameCall o
 same_call old new x e r = e ∙ (r ∙ ap (λ (y : View). like old y) (sym e))
 
 -- or one was
-pub claims_up_to : (sound : List ℕ → List View → Type 0) (a j : ℕ) (old mid new : View) → SameCall old mid → GrantsStay old mid → AsksToWrite (lock_of_word a) old mid → GainsAtMost a old.asked mid.asked → ScansUpTo sound (lock_of_word a) j mid new → ClaimsAndScans a old new
+pub claims_up_to : (sound : List ℕ → List View → Type 0) (a j : ℕ) (old mid new : View) → SameCall old mid
+    → GrantsStay old mid → AsksToWrite (lock_of_word a) old mid → GainsAtMost a old.asked mid.asked
+    → ScansUpTo sound (lock_of_word a) j mid new → ClaimsAndScans a old new
 claims_up_to sound a j old mid new call grants writes asked u =
     let before : View = u.before in
     let b = claims_clear a old mid before call grants writes asked u.clear in
@@ -97,7 +112,8 @@ claims_up_to sound a j old mid new call grants writes asked u =
     }
 
 -- the lock was claimed, and the scans came to this
-pub claims_and_scans : (sound : List ℕ → List View → Type 0) (a k : ℕ) (r : Option ℕ) (old mid new : View) → k ≡ lock_of_word a → SameCall old mid → GrantsStay old mid → ClaimedBy sound old a claimed.Pending mid
+pub claims_and_scans : (sound : List ℕ → List View → Type 0) (a k : ℕ) (r : Option ℕ) (old mid new : View)
+    → k ≡ lock_of_word a → SameCall old mid → GrantsStay old mid → ClaimedBy sound old a claimed.Pending mid
     → (IsNone r → ScansClear k mid new × HasWriteGrant new k) → IfSome r (λ j. ScansUpTo sound k j mid new) → ClaimsAndScans a old new
 claims_and_scans sound a k None old mid new e call grants claims clear met =
     let left = claim_leaves sound old a claimed.Pending mid claims in
@@ -106,7 +122,8 @@ claims_and_scans sound a k (Some j) old mid new e call grants claims clear met =
     let left = claim_leaves sound old a claimed.Pending mid claims in
     claims_up_to sound a j old mid new call grants left.writes left.asked (subst (λ (l : ℕ). ScansUpTo sound l j mid new) e met)
 
-pub scans_nobody : (sound : List ℕ → List View → Type 0) (a k : ℕ) (old mid new : View) → k ≡ lock_of_word a → ClaimedBy sound old a claimed.Pending mid → ScansClear k mid new × HasWriteGrant new k
+pub scans_nobody : (sound : List ℕ → List View → Type 0) (a k : ℕ) (old mid new : View) → k ≡ lock_of_word a
+    → ClaimedBy sound old a claimed.Pending mid → ScansClear k mid new × HasWriteGrant new k
     → HasWriteGrant new (lock_of_word a) × (new.met ≡ old.met) × (new.meetings ≡ old.meetings)
 scans_nobody sound a k old mid new e claims clear =
     let same = (claim_leaves sound old a claimed.Pending mid claims).nobody refl in (
@@ -115,7 +132,8 @@ scans_nobody sound a k old mid new e claims clear =
       ap (λ (x : View). x.meetings) clear.0.view ∙ same.1,
     )
 
-scans_meet : (sound : List ℕ → List View → Type 0) (a j : ℕ) (old mid new : View) → SameCall old mid → ClaimedBy sound old a claimed.Pending mid → ScansUpTo sound (lock_of_word a) j mid new → MeetsSeat sound (lock_of_word a) j old new
+scans_meet : (sound : List ℕ → List View → Type 0) (a j : ℕ) (old mid new : View) → SameCall old mid
+    → ClaimedBy sound old a claimed.Pending mid → ScansUpTo sound (lock_of_word a) j mid new → MeetsSeat sound (lock_of_word a) j old new
 scans_meet sound a j old mid new call claims u =
     let k : ℕ = lock_of_word a in let before : View = u.before in
     let same = (claim_leaves sound old a claimed.Pending mid claims).nobody refl in
@@ -137,16 +155,27 @@ scans_meet sound a j old mid new call claims u =
       };
     }
 
-pub scans_met : (sound : List ℕ → List View → Type 0) (a k : ℕ) (r : Option ℕ) (old mid new : View) → k ≡ lock_of_word a → SameCall old mid → ClaimedBy sound old a claimed.Pending mid → IfSome r (λ j. ScansUpTo sound k j mid new)
+pub scans_met : (sound : List ℕ → List View → Type 0) (a k : ℕ) (r : Option ℕ) (old mid new : View) → k ≡ lock_of_word a
+    → SameCall old mid → ClaimedBy sound old a claimed.Pending mid → IfSome r (λ j. ScansUpTo sound k j mid new)
     → IfSome r (λ j. MeetsSeat sound (lock_of_word a) j old new)
 scans_met sound a k None old mid new e call claims met = met
 scans_met sound a k (Some j) old mid new e call claims met = scans_meet sound a j old mid new call claims (subst (λ (l : ℕ). ScansUpTo sound l j mid new) e met)
 
 -- the lock was claimed by another
-pub claim_meets : (sound : List ℕ → List View → Type 0) (a j : ℕ) (old new : View) → ClaimedBy sound old a (claimed.Met j) new → MetOn sound (claim_writer_action (number old) (lock_of_word a) a) old old new (lock_of_word a) j → MeetsSeat sound (lock_of_word a) j old new
+pub claim_meets : (sound : List ℕ → List View → Type 0) (a j : ℕ) (old new : View)
+    → ClaimedBy sound old a (claimed.Met j) new
+    → MetOn sound (claim_writer_action (number old) (lock_of_word a) a) old old new (lock_of_word a) j → MeetsSeat sound (lock_of_word a) j old new
 claim_meets sound a j old new claims m = record {
   seat = m.seat;
   met = (claim_leaves sound old a (claimed.Met j) new claims).somebody j refl;
   meetings = m.conflict.0.1;
-  meets = record { action = claim_writer_action (number old) (lock_of_word a) a; before = old; locks = refl; asking = old; step = (refl, inl (a, refl, refl)); meets = m };
+  meets = record {
+    action = claim_writer_action (number old) (lock_of_word a) a;
+    before = old;
+    locks = refl;
+    asking =
+        old;
+    step = (refl, inl (a, refl, refl));
+    meets = m;
+  };
 }

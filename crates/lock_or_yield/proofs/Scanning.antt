@@ -1,5 +1,6 @@
 -- What scan leaves of what a pass knows, and how many seats a claim still has to scan.
-use Rattle.std.proofs.Common.{◌≡◌, ◌≢◌, ℕ, zero, suc, ◌+◌, ◌%◌, ◌<◌, ◌≤◌, Bool, true, false, ◌||◌, inl, inr, List, [], ◌∷◌, refl, sym, ap, ◌∙◌, subst, arith, ◌==◌, if◌then◌else◌, slice_index}
+use Rattle.std.proofs.Common.{◌≡◌, ◌≢◌, ℕ, zero, suc, ◌+◌, ◌%◌, ◌<◌, ◌≤◌, Bool, true, false, ◌||◌, inl, inr, List, [], ◌∷◌, refl, sym, ap, ◌∙◌, subst, arith}
+use Rattle.std.proofs.Common.{◌==◌, if◌then◌else◌, slice_index}
 use mathlib.Core.Logic.{dite}
 use native.Mathlib.Decide.{ℕ_discrete}
 use Rattle.std.specs.Int.{bit_at}
@@ -33,7 +34,8 @@ left_same (suc n) i k who scans low =
     let rest = left_same n i k who scans (omega arith) in omega arith
 
 -- and so there is one less
-pub left_fewer : (n i k : ℕ) (who : List ℕ) (scans : List (ℕ × ℕ)) → i < n → has i who ≡ false → has_pair k i scans ≡ false → left_below n k who ((k, i) ∷ scans) < left_below n k who scans
+pub left_fewer : (n i k : ℕ) (who : List ℕ) (scans : List (ℕ × ℕ)) → i < n → has i who ≡ false
+    → has_pair k i scans ≡ false → left_below n k who ((k, i) ∷ scans) < left_below n k who scans
 left_fewer zero i k who scans low other fresh = absurd (omega arith)
 left_fewer (suc n) i k who scans low other fresh = dite (ℕ_discrete i n)
     (λ e. let rest = left_same n i k who scans (omega arith) in
@@ -43,17 +45,20 @@ left_fewer (suc n) i k who scans low other fresh = dite (ℕ_discrete i n)
     let rest = left_fewer n i k who scans (omega arith) other fresh in omega arith)
 
 -- a seat that was met changes nothing but that
-pub scan_met : (sound : List ℕ → List View → Type 0) (v : View) (k i j : ℕ) (u : View) → ScannedBy sound v k i (scanned.Met j) u → (j ≡ i) × (u ≡ after_meeting v k j)
+pub scan_met : (sound : List ℕ → List View → Type 0) (v : View) (k i j : ℕ) (u : View)
+    → ScannedBy sound v k i (scanned.Met j) u → (j ≡ i) × (u ≡ after_meeting v k j)
 scan_met sound v k i j u s =
     let met = s.met_set j refl in
     let clear : View = record v { scans = (k, i) ∷ v.scans } in
     (met.0, s.taken.view ∙ (ap (λ (x : ℕ). if x == 0 then clear else after_meeting v k i) met.1 ∙ ap (λ (x : ℕ). after_meeting v k x) (sym met.0)))
 
 -- a seat that was not met is found clear
-pub scan_clear : (sound : List ℕ → List View → Type 0) (v : View) (k i : ℕ) (u : View) → ScannedBy sound v k i scanned.Clear u → u ≡ record v { scans = (k, i) ∷ v.scans }
+pub scan_clear : (sound : List ℕ → List View → Type 0) (v : View) (k i : ℕ) (u : View)
+    → ScannedBy sound v k i scanned.Clear u → u ≡ record v { scans = (k, i) ∷ v.scans }
 scan_clear sound v k i u s =
     let clear : View = record v { scans = (k, i) ∷ v.scans } in
-    s.taken.view ∙ (elim (bit_at s.found (k % 64) == 0) as (λ (b : Bool). scanned.Clear ≡ (if b then scanned.Clear else scanned.Met i) → (if b then clear else after_meeting v k i) ≡ clear) [
+    s.taken.view ∙ (elim (bit_at s.found (k % 64) == 0) as (λ (b : Bool). scanned.Clear
+    ≡ (if b then scanned.Clear else scanned.Met i) → (if b then clear else after_meeting v k i) ≡ clear) [
       | true ↦ λ e. refl
       | false ↦ λ e. absurd cc
     ] s.answer)
@@ -80,5 +85,7 @@ pub left_not_held : (old v : View) (k i : ℕ) → ScansClear k old v → IsUnsc
 left_not_held old v k i c left held = differ (has_pair k i v.scans) (((c.grants k).1 held).1 i left.seat left.other) left.unscanned
 
 -- one that was found clear is one less
-pub fewer_left : (k i : ℕ) (v new : View) → IsUnscanned v k i → new ≡ record v { scans = (k, i) ∷ v.scans } → left_below new.seats k new.who new.scans < left_below v.seats k v.who v.scans
-fewer_left k i v new left e = subst (λ (x : View). left_below x.seats k x.who x.scans < left_below v.seats k v.who v.scans) (sym e) (left_fewer v.seats i k v.who v.scans left.seat left.other left.unscanned)
+pub fewer_left : (k i : ℕ) (v new : View) → IsUnscanned v k i → new ≡ record v { scans = (k, i) ∷ v.scans }
+    → left_below new.seats k new.who new.scans < left_below v.seats k v.who v.scans
+fewer_left k i v new left e = subst (λ (x : View). left_below x.seats k x.who x.scans
+    < left_below v.seats k v.who v.scans) (sym e) (left_fewer v.seats i k v.who v.scans left.seat left.other left.unscanned)

@@ -73,4 +73,10 @@ share_leaves sound v a r u (inr t) =
     subst (λ (y : View). ShareLeaves a v r y) (sym s.taken.view)
     (with_bit_cases k a v (λ m. ShareLeaves a v r ((load_writer_action j k a m).view [] s.found))
     (λ held. share_after a (s.found - 1) r v v (is_free j s.found) (same_reads k v) (gains_none a v.asked) refl refl s.answer)
-    (share_after a (s.found - 1) r v set (is_free j s.found) record { claims = refl; scans = refl; bits = λ l n. has-join_other l k v.bits n; reads = λ l n. refl } (gains_one a v.asked) refl refl s.answer))
+    (share_after a (s.found - 1) r v set (is_free j s.found) record {
+      claims = refl;
+      scans = refl;
+      bits =
+          λ l n. has-join_other l k v.bits n;
+      reads = λ l n. refl;
+    } (gains_one a v.asked) refl refl s.answer))

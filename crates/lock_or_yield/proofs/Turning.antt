@@ -1,5 +1,6 @@
 -- What a turn comes to, from its steps on locks and the judgement of the seat that it met.
-use Rattle.std.proofs.Common.{◌≡◌, ◌≢◌, ℕ, zero, suc, ◌+◌, ◌<◌, true, List, [], ◌∷◌, ◌++◌, length, Some, slice_get, refl, sym, ap, ◌∙◌, subst, arith, eq-eqb, ne_eqb, ◌==◌}
+use Rattle.std.proofs.Common.{◌≡◌, ◌≢◌, ℕ, zero, suc, ◌+◌, ◌<◌, true, List, [], ◌∷◌, ◌++◌, length, Some, slice_get, refl, sym, ap, ◌∙◌, subst, arith, eq-eqb}
+use Rattle.std.proofs.Common.{ne_eqb, ◌==◌}
 use Rattle.std.proofs.lemmas.List.{append-nil, length_push}
 use Rattle.history_model.specs.declared.event.Cause.{Cause}
 use Rattle.history_model.specs.declared.view.View.{View}
@@ -32,7 +33,8 @@ nobody_met old new same met meetings = same
 abbrev pub HasMet : ℕ → ℕ → View → View → Type 0
 HasMet k i old new = new ≡ record (with_locks new old) { met = i ∷ []; meetings = old.meetings ++ (k, i) ∷ [] }
 
-pub somebody_met : (k i : ℕ) (old new : View) → SameCall old new → new.met ≡ i ∷ old.met → new.meetings ≡ old.meetings ++ (k, i) ∷ [] → old.met ≡ [] → HasMet k i old new
+pub somebody_met : (k i : ℕ) (old new : View) → SameCall old new → new.met ≡ i ∷ old.met
+    → new.meetings ≡ old.meetings ++ (k, i) ∷ [] → old.met ≡ [] → HasMet k i old new
 somebody_met k i old new same met meetings none = same
     ∙ (ap (λ (l : List ℕ). record (with_locks new old) { met = l; meetings = new.meetings }) (met ∙ ap (λ (l : List ℕ). i ∷ l) none)
     ∙ ap (λ (l : List (ℕ × ℕ)). record (with_locks new old) { met = i ∷ []; meetings = l }) meetings)
@@ -59,7 +61,8 @@ pub rest_of : (old new x : View) → new ≡ x → x ≡ changed old x → new �
 rest_of old new x e r = e ∙ (r ∙ ap (λ (y : View). changed old y) (sym e))
 
 longer : (l : List (ℕ × ℕ)) (p : ℕ × ℕ) → l ++ p ∷ [] ≢ l
-longer l p e = let more : length (l ++ p ∷ []) ≡ length l + 1 = length_push l p in let same : length (l ++ p ∷ []) ≡ length l = ap (λ (x : List (ℕ × ℕ)). length x) e in omega arith
+longer l p e = let more : length (l ++ p ∷ []) ≡ length l + 1 = length_push l p in
+    let same : length (l ++ p ∷ []) ≡ length l = ap (λ (x : List (ℕ × ℕ)). length x) e in omega arith
 
 gains_meeting : (k i : ℕ) (l : List (ℕ × ℕ)) → GainsOn k l (l ++ (k, i) ∷ [])
 gains_meeting k i l = ((k, i) ∷ [], refl, λ x j is. only k i (x, j) is.0 is.1) where
@@ -80,7 +83,8 @@ asks_nobody a old new e asked grants = record {
   unmet = λ h. (ap (λ (v : View). v.stamp) e, ap (λ (v : View). v.announced) e);
   drawn_once = ap (λ (v : View). draws_once v) e;
   asked = asked;
-  meetings = subst (λ (l : List (ℕ × ℕ)). GainsOn (lock_of_word a) old.meetings l) (sym (ap (λ (v : View). v.meetings) e)) (gains_nothing (lock_of_word a) old.meetings);
+  meetings = subst (λ (l : List (ℕ × ℕ)). GainsOn (lock_of_word a) old.meetings l)
+      (sym (ap (λ (v : View). v.meetings) e)) (gains_nothing (lock_of_word a) old.meetings);
   grants = grants;
 }
 
@@ -134,11 +138,24 @@ waited good n base a i old met new none has asked grants w =
     w.view
     ∙ (ap (λ (v : View). record v { met = []; stamp = new.stamp; announced = true; draws = draws_once v }) has
     ∙ (ap (λ (v : View). record v { met = []; meetings = old.meetings ++ (k, i) ∷ []; stamp = new.stamp; announced = true; draws = draws_once old }) (sym locks)
-    ∙ ap (λ (l : List ℕ). record (with_locks new old) { met = l; meetings = old.meetings ++ (k, i) ∷ []; stamp = new.stamp; announced = true; draws = draws_once old }) (sym none))) in
+    ∙ ap (λ (l : List ℕ). record (with_locks new old) {
+      met = l;
+      meetings = old.meetings ++ (k, i) ∷ [];
+      stamp =
+          new.stamp;
+      announced = true;
+      draws = draws_once old;
+    }) (sym none))) in
     let meetings : new.meetings ≡ old.meetings ++ (k, i) ∷ [] = ap (λ (v : View). v.meetings) view in record {
       locks = locks;
       asks = record {
-        rest = rest_of old new (record (with_locks new old) { meetings = old.meetings ++ (k, i) ∷ []; stamp = new.stamp; announced = true; draws = draws_once old }) view refl;
+        rest = rest_of old new (record (with_locks new old) {
+          meetings = old.meetings ++ (k, i) ∷ [];
+          stamp =
+              new.stamp;
+          announced = true;
+          draws = draws_once old;
+        }) view refl;
         stamped = λ h. let same : met.stamp ≡ old.stamp = ap (λ (v : View). v.stamp) has in w.kept (subst (λ (x : ℕ). 0 < x) (sym same) h) ∙ same;
         unmet = λ e. absurd (longer old.meetings (k, i) (sym meetings ∙ e));
         drawn_once = drawn_no_more old new (ap (λ (v : View). v.draws) view) w.stamped;
@@ -158,15 +175,41 @@ yielded : (good : List ℕ → Type 0) (n : ℕ) (base : List ℕ) (a : ℕ) (ca
 yielded good n base a cause old met new none seat has asked grants w =
     let k : ℕ = lock_of_word a in let i : ℕ = cause.seat in let h = w.gave_way in
     let locks : with_locks new old ≡ with_locks met old = ap (λ (v : View). with_locks v old) h.view in
-    let view : new ≡ after_giving_way cause h.history (record (with_locks new old) { meetings = old.meetings ++ (k, i) ∷ []; stamp = new.stamp; announced = true; draws = draws_once old }) =
+    let view : new ≡ after_giving_way cause h.history (record (with_locks new old) {
+      meetings =
+          old.meetings ++ (k, i) ∷ [];
+      stamp = new.stamp;
+      announced = true;
+      draws = draws_once old;
+    }) =
     h.view
     ∙ (ap (λ (v : View). after_giving_way cause h.history (record v { met = without i v.met; stamp = new.stamp; announced = true; draws = draws_once v })) has
-    ∙ (ap (λ (v : View). after_giving_way cause h.history (record v { met = without i (i ∷ []); meetings = old.meetings ++ (k, i) ∷ []; stamp = new.stamp; announced = true; draws = draws_once old })) (sym locks)
-    ∙ ap (λ (l : List ℕ). after_giving_way cause h.history (record (with_locks new old) { met = l; meetings = old.meetings ++ (k, i) ∷ []; stamp = new.stamp; announced = true; draws = draws_once old })) (without_one i ∙ sym none))) in
+    ∙ (ap (λ (v : View). after_giving_way cause h.history (record v {
+      met = without i (i ∷ []);
+      meetings =
+          old.meetings ++ (k, i) ∷ [];
+      stamp = new.stamp;
+      announced = true;
+      draws = draws_once old;
+    })) (sym locks)
+    ∙ ap (λ (l : List ℕ). after_giving_way cause h.history (record (with_locks new old) {
+      met = l;
+      meetings =
+          old.meetings ++ (k, i) ∷ [];
+      stamp = new.stamp;
+      announced = true;
+      draws = draws_once old;
+    })) (without_one i ∙ sym none))) in
     let meetings : new.meetings ≡ old.meetings ++ (k, i) ∷ [] = ap (λ (v : View). v.meetings) view in record {
       locks = locks;
       asks = record {
-        rest = rest_of old new (after_giving_way cause h.history (record (with_locks new old) { meetings = old.meetings ++ (k, i) ∷ []; stamp = new.stamp; announced = true; draws = draws_once old })) view refl;
+        rest = rest_of old new (after_giving_way cause h.history (record (with_locks new old) {
+          meetings =
+              old.meetings ++ (k, i) ∷ [];
+          stamp = new.stamp;
+          announced = true;
+          draws = draws_once old;
+        })) view refl;
         stamped = λ h. let same : met.stamp ≡ old.stamp = ap (λ (v : View). v.stamp) has in w.kept (subst (λ (x : ℕ). 0 < x) (sym same) h) ∙ same;
         unmet = λ e. absurd (longer old.meetings (k, i) (sym meetings ∙ e));
         drawn_once = drawn_no_more old new (ap (λ (v : View). v.draws) view) (let low = w.earlier.1 in omega arith);
@@ -178,7 +221,14 @@ yielded good n base a cause old met new none seat has asked grants w =
       granted = λ e. cc;
       waits = λ j e. absurd cc;
       yields = λ other e. subst (λ (x : Cause). GivesWay good n base ((k, x.seat) ∷ []) x old new) (yield_same cause other e) record {
-        gave_way = subst (λ (v : View). GaveWay good n base cause (record v { met = i ∷ []; meetings = old.meetings ++ (k, i) ∷ []; stamp = new.stamp; announced = true; draws = draws_once old }) new) (sym locks)
+        gave_way = subst (λ (v : View). GaveWay good n base cause (record v {
+          met = i ∷ [];
+          meetings =
+              old.meetings ++ (k, i) ∷ [];
+          stamp = new.stamp;
+          announced = true;
+          draws = draws_once old;
+        }) new) (sym locks)
             (subst (λ (v : View). GaveWay good n base cause (record v { stamp = new.stamp; announced = true; draws = draws_once v }) new) has h);
         seat = subst (λ (m : ℕ). cause.seat < m) (sym (ap (λ (v : View). v.seats) view)) seat;
         earlier = w.earlier;
@@ -196,15 +246,21 @@ pub turned : (good : List ℕ → Type 0) (n : ℕ) (base : List ℕ) (a i : ℕ
 turned good n base a i judged.Wait old met r new none seat has asked grants e waits yields =
     subst (λ (x : Tried). Turned good n base a old met x new) (sym e) (waited good n base a i old met new none has asked grants (waits i e).1)
 turned good n base a i (judged.Yield stamp) old met r new none seat has asked grants e waits yields =
-    subst (λ (x : Tried). Turned good n base a old met x new) (sym e) (yielded good n base a (record { seat = i; stamp = stamp }) old met new none seat has asked grants (yields (record { seat = i; stamp = stamp }) e).1)
+    subst (λ (x : Tried). Turned good n base a old met x new) (sym e)
+    (yielded good n base a (record { seat = i; stamp = stamp }) old met new none seat has asked grants (yields (record { seat = i; stamp = stamp }) e).1)
 
 -- the timestamp was drawn, where there was none, and shown
-shown_view : (met drawn shown : View) → drawn ≡ record met { stamp = drawn.stamp; draws = draws_once met } → shown ≡ record drawn { announced = true } → shown ≡ record met { stamp = shown.stamp; announced = true; draws = draws_once met }
+shown_view : (met drawn shown : View) → drawn ≡ record met { stamp = drawn.stamp; draws = draws_once met }
+    → shown ≡ record drawn { announced = true } → shown ≡ record met { stamp = shown.stamp; announced = true; draws = draws_once met }
 shown_view met drawn shown draws shows =
     let kept : shown.stamp ≡ drawn.stamp = ap (λ (v : View). v.stamp) shows in
-    shows ∙ (ap (λ (v : View). record v { announced = true }) draws ∙ ap (λ (x : ℕ). record met { stamp = x; announced = true; draws = draws_once met }) (sym kept))
+    shows ∙ (ap (λ (v : View). record v { announced = true }) draws
+    ∙ ap (λ (x : ℕ). record met { stamp = x; announced = true; draws = draws_once met }) (sym kept))
 
-pub settled_to_wait : (i : ℕ) (met drawn shown new : View) → met.met ≡ i ∷ [] → drawn ≡ record met { stamp = drawn.stamp; draws = draws_once met } → 0 < drawn.stamp → (0 < met.stamp → drawn.stamp ≡ met.stamp) → shown ≡ record drawn { announced = true } → new ≡ record shown { met = without i shown.met } → JudgedToWait met new
+pub settled_to_wait : (i : ℕ) (met drawn shown new : View) → met.met ≡ i ∷ []
+    → drawn ≡ record met { stamp = drawn.stamp; draws = draws_once met } → 0 < drawn.stamp
+    → (0 < met.stamp → drawn.stamp ≡ met.stamp) → shown ≡ record drawn { announced = true }
+    → new ≡ record shown { met = without i shown.met } → JudgedToWait met new
 settled_to_wait i met drawn shown new one draws stamped kept shows waits =
     let seen : shown ≡ record met { stamp = shown.stamp; announced = true; draws = draws_once met } = shown_view met drawn shown draws shows in
     let last : new.stamp ≡ shown.stamp = ap (λ (v : View). v.stamp) waits in
@@ -217,13 +273,16 @@ settled_to_wait i met drawn shown new one draws stamped kept shows waits =
       kept = λ h. last ∙ (first ∙ kept h);
     }
 
-pub settled_to_yield : (good : List ℕ → Type 0) (n : ℕ) (base : List ℕ) (cause : Cause) (met drawn shown new : View) → drawn ≡ record met { stamp = drawn.stamp; draws = draws_once met } → (0 < met.stamp → drawn.stamp ≡ met.stamp) → shown ≡ record drawn { announced = true }
-    → 0 < cause.stamp → cause.stamp < shown.stamp → GaveWay good n base cause shown new → newest (past_causes new) ≡ Some cause → JudgedToYield good n base cause met new
+pub settled_to_yield : (good : List ℕ → Type 0) (n : ℕ) (base : List ℕ) (cause : Cause) (met drawn shown new : View)
+    → drawn ≡ record met { stamp = drawn.stamp; draws = draws_once met } → (0 < met.stamp → drawn.stamp ≡ met.stamp) → shown ≡ record drawn { announced = true }
+    → 0 < cause.stamp → cause.stamp < shown.stamp → GaveWay good n base cause shown new
+    → newest (past_causes new) ≡ Some cause → JudgedToYield good n base cause met new
 settled_to_yield good n base cause met drawn shown new draws kept shows low high gave newest_is =
     let seen : shown ≡ record met { stamp = shown.stamp; announced = true; draws = draws_once met } = shown_view met drawn shown draws shows in
     let last : new.stamp ≡ shown.stamp = ap (λ (v : View). v.stamp) gave.view in
     let first : shown.stamp ≡ drawn.stamp = ap (λ (v : View). v.stamp) shows in record {
-      gave_way = subst (λ (v : View). GaveWay good n base cause v new) (seen ∙ ap (λ (x : ℕ). record met { stamp = x; announced = true; draws = draws_once met }) (sym last)) gave;
+      gave_way = subst (λ (v : View). GaveWay good n base cause v new) (seen
+          ∙ ap (λ (x : ℕ). record met { stamp = x; announced = true; draws = draws_once met }) (sym last)) gave;
       earlier = (low, subst (λ (x : ℕ). cause.stamp < x) (sym last) high);
       last = newest_is;
       kept = λ h. last ∙ (first ∙ kept h);
@@ -231,11 +290,13 @@ settled_to_yield good n base cause met drawn shown new draws kept shows low high
 
 -- a read that met somebody
 pub read_turned : (sound : List ℕ → List View → Type 0) (good : List ℕ → Type 0) (n : ℕ) (base : List ℕ) (a i : ℕ) (old met : View) (r : Tried) (new : View)
-    → old.met ≡ [] → i < old.seats → SharedBy sound old a (shared.Met i) met → SameCall old met → GrantsStay old met → met.meetings ≡ old.meetings ++ (lock_of_word a, i) ∷ []
+    → old.met ≡ [] → i < old.seats → SharedBy sound old a (shared.Met i) met → SameCall old met → GrantsStay old met
+    → met.meetings ≡ old.meetings ++ (lock_of_word a, i) ∷ []
     → JudgesMet sound met i r new
     → ((j : ℕ) → r ≡ tried.Wait j → (j ≡ i) × JudgedToWait met new)
     → ((cause : Cause) → r ≡ tried.Yield cause → (cause.seat ≡ i) × JudgedToYield good n base cause met new)
     → Turned good n base a old met r new
 read_turned sound good n base a i old met r new none seat shares call grants meetings judges waits yields =
     let left = share_leaves sound old a (shared.Met i) met shares in
-    turned good n base a i judges.answer old met r new none seat (somebody_met (lock_of_word a) i old met call (left.somebody i refl) meetings none) left.asked grants judges.comes_to waits yields
+    turned good n base a i judges.answer old met r new none seat
+    (somebody_met (lock_of_word a) i old met call (left.somebody i refl) meetings none) left.asked grants judges.comes_to waits yields

@@ -11,7 +11,8 @@ use Rattle.word_table.specs.Desks.{DeskView}
 each : (P : PassView → Type 0) (a b : PassView) → P a → P b → (p : PassView) → IsIn p (a ∷ b ∷ []) → P p
 each P a b x y p t = ⊎_elim (λ e. subst P e x) (λ s. ⊎_elim (λ e. subst P e y) (λ n. absurd (none_in p n)) (in_join b [] p s)) (in_join a (b ∷ []) p t)
 
-pub two_passes : {S : Type 0} (desk : DeskView S) (a b : PassView) → (a.table ≡ desk.table) × (a.view.who ≡ 0 ∷ []) × (a.view.phase ≡ Idle) → (b.table ≡ desk.table) × (b.view.who ≡ 1 ∷ []) × (b.view.phase ≡ Idle) → AreAllPasses desk.table 2 (a ∷ b ∷ [])
+pub two_passes : {S : Type 0} (desk : DeskView S) (a b : PassView) → (a.table ≡ desk.table) × (a.view.who ≡ 0 ∷ [])
+    × (a.view.phase ≡ Idle) → (b.table ≡ desk.table) × (b.view.who ≡ 1 ∷ []) × (b.view.phase ≡ Idle) → AreAllPasses desk.table 2 (a ∷ b ∷ [])
 two_passes desk a b x y = record {
   of_table = each (λ p. p.table ≡ desk.table) a b x.0 y.0;
   idle = each (λ p. p.view.phase ≡ Idle) a b x.2 y.2;
@@ -24,6 +25,8 @@ two_passes desk a b x y = record {
     at (suc (suc j)) lt = absurd (omega arith)
 
 -- the same of a list and a number that are those
-pub closes_two : {S : Type 0} (desk : DeskView S) (passes : List PassView) (a b : PassView) → desk.seats ≡ 2 → passes ≡ a ∷ b ∷ [] → (a.table ≡ desk.table) × (a.view.who ≡ 0 ∷ []) × (a.view.phase ≡ Idle) → (b.table ≡ desk.table) × (b.view.who ≡ 1 ∷ []) × (b.view.phase ≡ Idle) → AreAllPasses desk.table desk.seats passes
+pub closes_two : {S : Type 0} (desk : DeskView S) (passes : List PassView) (a b : PassView) → desk.seats ≡ 2
+    → passes ≡ a ∷ b ∷ [] → (a.table ≡ desk.table) × (a.view.who ≡ 0 ∷ []) × (a.view.phase ≡ Idle)
+    → (b.table ≡ desk.table) × (b.view.who ≡ 1 ∷ []) × (b.view.phase ≡ Idle) → AreAllPasses desk.table desk.seats passes
 closes_two desk passes a b two are x y = subst (λ (l : List PassView). AreAllPasses desk.table desk.seats l) (sym are)
     (subst (λ (n : ℕ). AreAllPasses desk.table n (a ∷ b ∷ [])) (sym two) (two_passes desk a b x y))

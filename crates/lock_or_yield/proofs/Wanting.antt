@@ -1,5 +1,6 @@
 -- What several turns of asking for a lock come to.
-use Rattle.std.proofs.Common.{◌≡◌, ℕ, zero, suc, ◌+◌, ◌<◌, true, ◌⊎◌, inl, inr, ⊎_elim, List, [], ◌∷◌, ◌++◌, length, length-append, refl, sym, ap, ◌∙◌, subst, arith}
+use Rattle.std.proofs.Common.{◌≡◌, ℕ, zero, suc, ◌+◌, ◌<◌, true, ◌⊎◌, inl, inr, ⊎_elim, List, [], ◌∷◌, ◌++◌, length, length-append, refl, sym, ap, ◌∙◌, subst}
+use Rattle.std.proofs.Common.{arith}
 use Rattle.std.proofs.lemmas.List.{append-nil, append_assoc}
 use Rattle.history_model.specs.declared.event.Cause.{Cause}
 use Rattle.history_model.specs.declared.view.View.{View}
@@ -25,7 +26,11 @@ both_gained : (old mid new m w : List (ℕ × ℕ)) → mid ≡ old ++ m → new
 both_gained old mid new m w e f = f ∙ (ap (λ (l : List (ℕ × ℕ)). l ++ w) e ∙ append_assoc old m w)
 
 gains_on_twice : (k : ℕ) (old mid new : List (ℕ × ℕ)) → GainsOn k old mid → GainsOn k mid new → GainsOn k old new
-gains_on_twice k old mid new f s = (f.0 ++ s.0, both_gained old mid new f.0 s.0 f.1 s.1, λ l j is. ⊎_elim (λ (t : IsIn (l, j) f.0). f.2 l j t) (λ (t : IsIn (l, j) s.0). s.2 l j t) (in_either f.0 s.0 (l, j) is))
+gains_on_twice k old mid new f s = (
+  f.0 ++ s.0,
+  both_gained old mid new f.0 s.0 f.1 s.1,
+  λ l j is. ⊎_elim (λ (t : IsIn (l, j) f.0). f.2 l j t) (λ (t : IsIn (l, j) s.0). s.2 l j t) (in_either f.0 s.0 (l, j) is),
+)
 
 -- nothing was gained in two turns where nothing was gained in each
 none_twice : (old mid new m w : List (ℕ × ℕ)) → mid ≡ old ++ m → new ≡ mid ++ w → new ≡ old → (mid ≡ old) × (new ≡ mid)
@@ -98,16 +103,43 @@ pub went_nobody : (old mid new : View) → WentOn old mid → MeetsNobody mid ne
 went_nobody old mid new f e = went old mid new (with_locks new mid) f e refl
 
 pub went_on : (met : List (ℕ × ℕ)) (old mid new : View) → WentOn old mid → GoesOn met mid new → WentOn old new
-went_on met old mid new f s = went old mid new (record (with_locks new mid) { meetings = mid.meetings ++ met; stamp = new.stamp; announced = true; draws = draws_once mid }) f s.view refl
+went_on met old mid new f s = went old mid new (record (with_locks new mid) {
+  meetings = mid.meetings ++ met;
+  stamp =
+      new.stamp;
+  announced = true;
+  draws = draws_once mid;
+}) f s.view refl
 
-gives_way_more : (good : List ℕ → Type 0) (n : ℕ) (base : List ℕ) (k : ℕ) (met : List (ℕ × ℕ)) (cause : Cause) (old mid new : View) → WentOn old mid → draws_once mid ≡ draws_once old → GainsOn k old.meetings mid.meetings → GivesWay good n base met cause mid new
+gives_way_more : (good : List ℕ → Type 0) (n : ℕ) (base : List ℕ) (k : ℕ) (met : List (ℕ × ℕ)) (cause : Cause)
+    (old mid new : View) → WentOn old mid → draws_once mid ≡ draws_once old → GainsOn k old.meetings mid.meetings → GivesWay good n base met cause mid new
     → (waited : List (ℕ × ℕ)) × GivesWay good n base (waited ++ met) cause old new
 gives_way_more good n base k met cause old mid new f once m s = (
   m.0,
   record {
-    gave_way = subst (λ (l : List (ℕ × ℕ)). GaveWay good n base cause (record (with_locks new old) { meetings = l; met = cause.seat ∷ []; stamp = new.stamp; announced = true; draws = draws_once old }) new) (both_gained old.meetings mid.meetings (mid.meetings ++ met) m.0 met m.1 refl)
-        (subst (λ (x : ℕ). GaveWay good n base cause (record (with_locks new old) { meetings = mid.meetings ++ met; met = cause.seat ∷ []; stamp = new.stamp; announced = true; draws = x }) new) once
-        (subst (λ (v : View). GaveWay good n base cause (record (with_locks new v) { meetings = mid.meetings ++ met; met = cause.seat ∷ []; stamp = new.stamp; announced = true; draws = draws_once mid }) new) f s.gave_way));
+    gave_way = subst (λ (l : List (ℕ × ℕ)). GaveWay good n base cause (record (with_locks new old) {
+      meetings = l;
+      met =
+          cause.seat ∷ [];
+      stamp = new.stamp;
+      announced = true;
+      draws = draws_once old;
+    }) new)
+        (both_gained old.meetings mid.meetings (mid.meetings ++ met) m.0 met m.1 refl)
+        (subst (λ (x : ℕ). GaveWay good n base cause (record (with_locks new old) {
+          meetings = mid.meetings ++ met;
+          met = cause.seat ∷ [];
+          stamp = new.stamp;
+          announced = true;
+          draws = x;
+        }) new) once
+        (subst (λ (v : View). GaveWay good n base cause (record (with_locks new v) {
+          meetings = mid.meetings ++ met;
+          met = cause.seat ∷ [];
+          stamp = new.stamp;
+          announced = true;
+          draws = draws_once mid;
+        }) new) f s.gave_way));
     seat = s.seat;
     earlier = s.earlier;
     last = s.last;
@@ -123,16 +155,24 @@ gave_way x P h = ⊎_elim (λ e. absurd cc) (λ p. p) h
 
 -- the turns went on from the view old to mid, and the last of them gave way at new, to the cause x
 module _ (old mid new : View) (x : Cause) (on : WentOn old mid) where
-  pub turns_yield : (good : List ℕ → Type 0) (n : ℕ) (base : List ℕ) (k : ℕ) (cause : Cause) → got.Yield x ≡ got.Yield cause → draws_once mid ≡ draws_once old → GainsOn k old.meetings mid.meetings → GivesWay good n base ((k, x.seat) ∷ []) x mid new
+  pub turns_yield : (good : List ℕ → Type 0) (n : ℕ) (base : List ℕ) (k : ℕ) (cause : Cause)
+      → got.Yield x ≡ got.Yield cause → draws_once mid ≡ draws_once old → GainsOn k old.meetings mid.meetings
+      → GivesWay good n base ((k, x.seat) ∷ []) x mid new
       → (waited : List (ℕ × ℕ)) × GivesWay good n base (waited ++ (k, cause.seat) ∷ []) cause old new
   turns_yield good n base k cause e once more gives =
       subst (λ (y : Cause). (waited : List (ℕ × ℕ)) × GivesWay good n base (waited ++ (k, y.seat) ∷ []) y old new) (yield_is x cause e)
       (gives_way_more good n base k ((k, x.seat) ∷ []) x old mid new on once more gives)
 
-  pub turns_met : (is_step : ℕ → ℕ → View → (View → Action) → View → Type 0) (sound : List ℕ → List View → Type 0) (k : ℕ) (cause : Cause) → got.Yield x ≡ got.Yield cause → (tried.Yield x ≡ tried.Granted) ⊎ MeetsAndJudges is_step sound mid k (tried.Yield x) new
+  pub turns_met : (is_step : ℕ → ℕ → View → (View → Action) → View → Type 0) (sound : List ℕ → List View
+      → Type 0) (k : ℕ) (cause : Cause) → got.Yield x ≡ got.Yield cause → (tried.Yield x ≡ tried.Granted)
+      ⊎ MeetsAndJudges is_step sound mid k (tried.Yield x) new
       → (before : View) × WentOn old before × MeetsAndJudges is_step sound before k (tried.Yield cause) new
-  turns_met is_step sound k cause e met =
-      (mid, on, subst (λ (y : Cause). MeetsAndJudges is_step sound mid k (tried.Yield y) new) (yield_is x cause e) (gave_way x (MeetsAndJudges is_step sound mid k (tried.Yield x) new) met))
+  turns_met is_step sound k cause e met = (
+    mid,
+    on,
+    subst (λ (y : Cause). MeetsAndJudges is_step sound mid k (tried.Yield y) new) (yield_is x cause e)
+        (gave_way x (MeetsAndJudges is_step sound mid k (tried.Yield x) new) met),
+  )
 
   -- the restart bound, of a call that went on before
   pub turns_bounded : (n : ℕ) → (tried.Yield x ≡ tried.Granted) ⊎ AreRestartsBounded n (number mid) new → AreRestartsBounded n (number old) new

@@ -253,7 +253,18 @@ fn cross_twice<R: Threads + Wait + Sync>(
                 × (result.0.0.view.who ≡ zero.view.who)
                 × (result.1.0.table ≡ desk.entry.now.table) × (result.1.0.view.phase ≡ Idle)
                 × (result.1.0.view.who ≡ one.view.who) }
-        { cross(rt, alloc, desk, zero, one, AddToBoth::LeftFirst, calls, &OpenGate) },
+        {
+            cross(
+                rt,
+                alloc,
+                desk,
+                zero,
+                one,
+                AddToBoth::LeftFirst,
+                calls,
+                &OpenGate,
+            )
+        },
         move || -> (Ended, Ended)
             requires { IsSync R.row
                 × (two.table ≡ desk.now.table) × (two.view.phase ≡ Idle) × (two.view.call ≡ 0)
@@ -262,7 +273,18 @@ fn cross_twice<R: Threads + Wait + Sync>(
                 × (result.0.0.view.who ≡ two.view.who)
                 × (result.1.0.table ≡ desk.entry.now.table) × (result.1.0.view.phase ≡ Idle)
                 × (result.1.0.view.who ≡ three.view.who) }
-        { cross(rt, alloc, desk, two, three, AddToBoth::LeftFirst, calls, &OpenGate) },
+        {
+            cross(
+                rt,
+                alloc,
+                desk,
+                two,
+                three,
+                AddToBoth::LeftFirst,
+                calls,
+                &OpenGate,
+            )
+        },
     )
 }
 
@@ -347,7 +369,10 @@ fn crossed<R: Threads + Wait + Sync>(
 #[test]
 fn of_two_calls_that_cross_one_gives_way_once(rt: HostRuntime) -> Result<(), Fail> {
     let (restarts, yielded, words) = crossed(&rt, rt.alloc(), AddToBoth::LeftFirst)?;
-    assert_eq!(rt; (restarts, yielded, words.as_slice()), (1, 1, [2, 2].as_slice()));
+    assert_eq!(rt;
+        (restarts, yielded, words.as_slice()),
+        (1, 1, [2, 2].as_slice())
+    );
     Ok(())
 }
 
@@ -356,7 +381,10 @@ fn of_two_calls_that_cross_one_gives_way_once(rt: HostRuntime) -> Result<(), Fai
 #[test]
 fn a_call_goes_back_beside_one_that_waits(rt: HostRuntime) -> Result<(), Fail> {
     let (restarts, yielded, words) = crossed(&rt, rt.alloc(), AddToBoth::TryLeftFirst)?;
-    assert_eq!(rt; (restarts, yielded, words.as_slice()), (1, 1, [2, 2].as_slice()));
+    assert_eq!(rt;
+        (restarts, yielded, words.as_slice()),
+        (1, 1, [2, 2].as_slice())
+    );
     Ok(())
 }
 

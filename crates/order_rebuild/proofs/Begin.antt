@@ -26,7 +26,8 @@ heap_first : IsHeap comer_cmp []
 unfolding IsHeap
 heap_first = λ p k d a b e f. absurd (omega arith)
 
-pub first_ready : (l : Lines) → AreRows l → (left : List Bool) (wait : List ℕ) (ready : List Comer) → wait ≡ l.last.items → ((q : ℕ) → q < items l → slice_get left q ≡ Some true) → ready ≡ [] → AreReady l left wait ready
+pub first_ready : (l : Lines) → AreRows l → (left : List Bool) (wait : List ℕ) (ready : List Comer)
+    → wait ≡ l.last.items → ((q : ℕ) → q < items l → slice_get left q ≡ Some true) → ready ≡ [] → AreReady l left wait ready
 first_ready l rows left wait [] is all empty = record {
   ordered = heap_first;
   known = λ k d lt. absurd (omega arith);
@@ -37,21 +38,26 @@ first_ready l rows left wait [] is all empty = record {
 }
 first_ready l rows left wait (x ∷ ready) is all empty = absurd (let z : x ∷ ready ≡ [] = empty in cc)
 
-pub first_gone : (l : Lines) (left : List Bool) (next : List ℕ) → length next ≡ places l → ((i : ℕ) → i < places l → slice_index next i ≡ i) → AreGone l left next
+pub first_gone : (l : Lines) (left : List Bool) (next : List ℕ) → length next ≡ places l
+    → ((i : ℕ) → i < places l → slice_index next i ≡ i) → AreGone l left next
 first_gone l left next count each = record {
   count = count;
   from = λ b lt is. let e = each b lt in omega arith;
   gone = λ b j lt is low high. absurd (let e = each b lt in omega arith);
 }
 
-pub first_stopped : (l : Lines) → AreRows l → (left : List Bool) (next : List ℕ) → ((q : ℕ) → q < items l → slice_get left q ≡ Some true) → (p : ℕ) → AreStopped l left next p 0
-first_stopped l rows left next all p b lt is go = absurd (go (λ a c m. no (slice_get left (item_at l (slice_index next b))) (all (item_at l (slice_index next b)) (rows.within (slice_index next b) a)) m))
+pub first_stopped : (l : Lines) → AreRows l → (left : List Bool) (next : List ℕ)
+    → ((q : ℕ) → q < items l → slice_get left q ≡ Some true) → (p : ℕ) → AreStopped l left next p 0
+first_stopped l rows left next all p b lt is go =
+    absurd (go (λ a c m. no (slice_get left (item_at l (slice_index next b))) (all (item_at l (slice_index next b)) (rows.within (slice_index next b) a)) m))
   where
     no : (m : _) → m ≡ Some true → m ≡ Some false → ⊥
     no m a b = cc
 
-pub state_first : (l : Lines) → AreRows l → (left : List Bool) (next old new : List ℕ) (ready more : List Comer) → old ≡ l.last.items → ((q : ℕ) → q < items l → slice_get left q ≡ Some true) → ready ≡ []
-    → length next ≡ places l → ((i : ℕ) → i < places l → slice_index next i ≡ i) → AreWaits l next new → AreClosed l next new (λ e. ⊥) → KeepsReady l old ready new more → IsState l left next new more
+pub state_first : (l : Lines) → AreRows l → (left : List Bool) (next old new : List ℕ) (ready more : List Comer)
+    → old ≡ l.last.items → ((q : ℕ) → q < items l → slice_get left q ≡ Some true) → ready ≡ []
+    → length next ≡ places l → ((i : ℕ) → i < places l → slice_index next i ≡ i) → AreWaits l next new
+    → AreClosed l next new (λ e. ⊥) → KeepsReady l old ready new more → IsState l left next new more
 state_first l rows left next old new ready more is all empty count each waits closed keeps = record {
   gone = first_gone l left next count each;
   stopped = first_stopped l rows left next all;

@@ -1,5 +1,6 @@
 -- Places in lines: one item has one place in a line, and the order of places is the order of uses.
-use Rattle.std.proofs.Common.{◌≡◌, ◌≢◌, ℕ, ◌+◌, ◌*◌, ◌/◌, ◌<◌, ◌≤◌, Bool, true, false, ◌⊎◌, inl, inr, ⊎_elim, List, slice_get, Some, refl, sym, ap, ◌∙◌, subst, arith}
+use Rattle.std.proofs.Common.{◌≡◌, ◌≢◌, ℕ, ◌+◌, ◌*◌, ◌/◌, ◌<◌, ◌≤◌, Bool, true, false, ◌⊎◌, inl, inr, ⊎_elim, List, slice_get, Some, refl, sym, ap, ◌∙◌, subst}
+use Rattle.std.proofs.Common.{arith}
 use mathlib.Core.Logic.{dite}
 use native.Mathlib.Decide.{dec_lt}
 use Rattle.std.proofs.lemmas.Bool.{cases_Bool}
@@ -37,7 +38,8 @@ lower v w false false (inr e) = let f = e.2 in cc
 use_of : (u : LockUse) (k : ℕ) → u.lock ≡ k → Some u ≡ Some (record { lock = k; version = u.version; wrote = u.wrote })
 use_of u k e = rw (← e) refl
 
-pub used_from : (us vs : List LockUse) (i j k : ℕ) (u v : LockUse) → slice_get us i ≡ Some u → slice_get vs j ≡ Some v → u.lock ≡ k → v.lock ≡ k → key_of u < key_of v → UsedBefore us vs
+pub used_from : (us vs : List LockUse) (i j k : ℕ) (u v : LockUse) → slice_get us i ≡ Some u → slice_get vs j ≡ Some v
+    → u.lock ≡ k → v.lock ≡ k → key_of u < key_of v → UsedBefore us vs
 used_from us vs i j k u v e f a b l = record {
   lock = k;
   found = u.version;
@@ -62,7 +64,9 @@ flag_false b e = rw e refl
 -- the place of an item in the line of a lock is one alone
 pub code_same : (us : List LockUse) (k c d : ℕ) → IsLockCode us k c → IsLockCode us k d → c ≡ d
 code_same us k c d x y =
-    let low : x.low ≡ y.low = both x.low y.low (λ l. let h = y.least.least x.least.has.0 x.least.has.1 x.least.has.2 x.least.has.3 in let e = x.least.has.4 in omega arith) (λ l. let h = x.least.least y.least.has.0 y.least.has.1 y.least.has.2 y.least.has.3 in let e = y.least.has.4 in omega arith) in
+    let low : x.low ≡ y.low = both x.low y.low (λ l. let h =
+    y.least.least x.least.has.0 x.least.has.1 x.least.has.2 x.least.has.3 in let e = x.least.has.4 in
+    omega arith) (λ l. let h = x.least.least y.least.has.0 y.least.has.1 y.least.has.2 y.least.has.3 in let e = y.least.has.4 in omega arith) in
     let wide : flag x.wide ≡ flag y.wide = flags x.wide y.wide
     (λ t. y.above.1 (subst (λ (n : ℕ). HasAbove us k n) low (x.above.0 t)))
     (λ t. x.above.1 (subst (λ (n : ℕ). HasAbove us k n) (sym low) (y.above.0 t))) in
@@ -82,9 +86,11 @@ code_same us k c d x y =
 -- the items' places in the line of a lock are in the order of their uses
 pub codes_before : (us vs : List LockUse) (k c d : ℕ) → IsLockCode us k c → IsLockCode vs k d → c < d → UsedBefore us vs
 codes_before us vs k c d x y l = dite (dec_lt x.low y.low)
-    (λ lt. used_from us vs x.least.has.0 y.least.has.0 k x.least.has.1 y.least.has.1 x.least.has.2 y.least.has.2 x.least.has.3 y.least.has.3 (let a = x.least.has.4 in let b = y.least.has.4 in omega arith))
+    (λ lt. used_from us vs x.least.has.0 y.least.has.0 k x.least.has.1 y.least.has.1 x.least.has.2 y.least.has.2
+    x.least.has.3 y.least.has.3 (let a = x.least.has.4 in let b = y.least.has.4 in omega arith))
     (λ n. ⊎_elim
-    (λ t. let h = y.above.0 t in used_from us vs x.least.has.0 h.0 k x.least.has.1 h.1 x.least.has.2 h.2 x.least.has.3 h.3 (let a = x.least.has.4 in let b = h.4 in let low = same n in omega arith))
+    (λ t. let h = y.above.0 t in used_from us vs x.least.has.0 h.0 k x.least.has.1 h.1 x.least.has.2 h.2 x.least.has.3
+    h.3 (let a = x.least.has.4 in let b = h.4 in let low = same n in omega arith))
     (λ t. absurd (let e = flag_false y.wide t in let a = x.is in let b = y.is in let f = flag_up x.wide in omega arith))
     (cases_Bool y.wide))
   where
@@ -102,7 +108,9 @@ before_codes us vs k c d i j u v x y never eu ev lu lv l =
     (λ lt. absurd (never (used_from vs us y.least.has.0 i k y.least.has.1 u y.least.has.2 eu y.least.has.3 lu (let h = y.least.has.4 in omega arith))))
     (λ m. let wide : y.wide ≡ true = y.above.1 (j, v, ev, lv, omega arith) in let fy = flag_true y.wide wide in
     ⊎_elim
-    (λ t. absurd (let h = x.above.0 t in never (used_from vs us y.least.has.0 h.0 k y.least.has.1 h.1 y.least.has.2 h.2 y.least.has.3 h.3 (let g = y.least.has.4 in let z = h.4 in omega arith))))
+    (λ t. absurd (let h = x.above.0 t in
+    never (used_from vs us y.least.has.0 h.0 k y.least.has.1 h.1 y.least.has.2 h.2 y.least.has.3 h.3 (let g =
+    y.least.has.4 in let z = h.4 in omega arith))))
     (λ t. let fz = flag_false x.wide t in omega arith)
     (cases_Bool x.wide)))
 
@@ -117,12 +125,14 @@ pub caller_line : (caller index : ℕ) → index < LINE → caller_code caller i
 caller_line caller index l = line_is (2 * caller + 1) index l
 
 -- two places of items in one line
-pub turns_before : (list : List Spot) (p q c d : ℕ) (x y : Spot) → slice_get list p ≡ Some x → slice_get list q ≡ Some y → IsTurnOf list p c → IsTurnOf list q d → c / LINE ≡ d / LINE → c < d → Precedes x y
+pub turns_before : (list : List Spot) (p q c d : ℕ) (x y : Spot) → slice_get list p ≡ Some x → slice_get list q ≡ Some y
+    → IsTurnOf list p c → IsTurnOf list q d → c / LINE ≡ d / LINE → c < d → Precedes x y
 turns_before list p q c d x y ex ey s t line l = ⊎_elim
     (λ a. ⊎_elim
     (λ b. let k : a.0 ≡ b.0 = (let f = lock_line s.0.uses a.0 c a.1 in let g = lock_line t.0.uses b.0 d b.1 in omega arith) in
     let u = codes_before s.0.uses t.0.uses b.0 c d (subst (λ (n : ℕ). IsLockCode s.0.uses n c) k a.1) b.1 l in
-    inl (subst (λ (z : Spot). UsedBefore z.uses y.uses) (same_spot list p s.0 x s.1 ex) (subst (λ (z : Spot). UsedBefore s.0.uses z.uses) (same_spot list q t.0 y t.1 ey) u)))
+    inl (subst (λ (z : Spot). UsedBefore z.uses y.uses) (same_spot list p s.0 x s.1 ex)
+    (subst (λ (z : Spot). UsedBefore s.0.uses z.uses) (same_spot list q t.0 y t.1 ey) u)))
     (λ b. absurd (let f = lock_line s.0.uses a.0 c a.1 in let g = caller_line t.0.caller t.0.index b.1 in let h = ap (λ (n : ℕ). n / LINE) b.0 in omega arith))
     t.2)
     (λ a. ⊎_elim
@@ -132,7 +142,8 @@ turns_before list p q c d x y ex ey s t line l = ⊎_elim
     let same : s.0.caller ≡ t.0.caller = omega arith in
     let m = ap (λ (n : ℕ). (2 * n + 1) * LINE) same in let aa = a.0 in let bb = b.0 in
     let low : s.0.index < t.0.index = omega arith in
-    inr (subst (λ (z : Spot). (z.caller ≡ y.caller) × (z.index < y.index)) (same_spot list p s.0 x s.1 ex) (subst (λ (z : Spot). (s.0.caller ≡ z.caller) × (s.0.index < z.index)) (same_spot list q t.0 y t.1 ey) (same, low))))
+    inr (subst (λ (z : Spot). (z.caller ≡ y.caller) × (z.index < y.index)) (same_spot list p s.0 x s.1 ex)
+    (subst (λ (z : Spot). (s.0.caller ≡ z.caller) × (s.0.index < z.index)) (same_spot list q t.0 y t.1 ey) (same, low))))
     t.2)
     s.2
 
@@ -151,7 +162,8 @@ turns_same list p c d s t line =
     s.2
 
 -- of two items at most one has to come before the other
-pub one_way : (list : List Spot) → Orderable list → (p q : ℕ) (x y : Spot) → slice_get list p ≡ Some x → slice_get list q ≡ Some y → p ≢ q → Precedes x y → Precedes y x → ⊥
+pub one_way : (list : List Spot) → Orderable list → (p q : ℕ) (x y : Spot) → slice_get list p ≡ Some x
+    → slice_get list q ≡ Some y → p ≢ q → Precedes x y → Precedes y x → ⊥
 one_way list o p q x y ex ey n a b = dite (dec_lt (o.number p) (o.number q))
     (λ l. o.in_order p q x y ex ey l b)
     (λ m. dite (dec_lt (o.number q) (o.number p))
@@ -159,7 +171,8 @@ one_way list o p q x y ex ey n a b = dite (dec_lt (o.number p) (o.number q))
     (λ k. n (o.own p q (slice_get_within list p x ex) (slice_get_within list q y ey) (omega arith))))
 
 -- where locks rise there is one use of each
-pub rising_code : (us : List LockUse) (i c : ℕ) (u : LockUse) → IsRising us → slice_get us i ≡ Some u → c ≡ (2 * u.lock) * LINE + (2 * key_of u + flag false) → 2 * key_of u + flag false < LINE → IsLockCode us u.lock c
+pub rising_code : (us : List LockUse) (i c : ℕ) (u : LockUse) → IsRising us → slice_get us i ≡ Some u
+    → c ≡ (2 * u.lock) * LINE + (2 * key_of u + flag false) → 2 * key_of u + flag false < LINE → IsLockCode us u.lock c
 rising_code us i c u rising at is fits = record {
   low = key_of u;
   wide = false;

@@ -1,5 +1,6 @@
 -- The items that wait nowhere are those that may come, and the list gives the one of the least caller.
-use Rattle.std.proofs.Common.{◌≡◌, ◌≢◌, ℕ, zero, suc, ◌<◌, ◌≤◌, Bool, true, false, ◌⊎◌, inl, inr, ⊎_elim, List, [], ◌∷◌, length, slice_get, slice_index, slice_set, Some, refl, sym, ap, ◌∙◌, subst, arith}
+use Rattle.std.proofs.Common.{◌≡◌, ◌≢◌, ℕ, zero, suc, ◌<◌, ◌≤◌, Bool, true, false, ◌⊎◌, inl, inr, ⊎_elim, List, [], ◌∷◌, length, slice_get, slice_index}
+use Rattle.std.proofs.Common.{slice_set, Some, refl, sym, ap, ◌∙◌, subst, arith}
 use mathlib.Core.Logic.{dite}
 use native.Mathlib.Decide.{ℕ_discrete, dec_lt}
 use Rattle.std.specs.List.{All, AllByRecursion}
@@ -37,8 +38,10 @@ pub record IsState (l : Lines) (left : List Bool) (next wait : List ℕ) (ready 
   pub closed : AreClosed l next wait (λ e. ⊥)
   pub ready_is : AreReady l left wait ready
 
-module _ (list : List Spot) (l : Lines) (lines : AreLines list l) (left : List Bool) (next wait : List ℕ) (ready : List Comer) (sized : length left ≡ length list) (state : IsState l left next wait ready) where
-  stops : (b : ℕ) → b < places l → base_at l b ≡ b → slice_index next b < places l → base_at l (slice_index next b) ≡ b → slice_get left (item_at l (slice_index next b)) ≡ Some false → ⊥
+module _ (list : List Spot) (l : Lines) (lines : AreLines list l) (left : List Bool) (next wait : List ℕ)
+    (ready : List Comer) (sized : length left ≡ length list) (state : IsState l left next wait ready) where
+  stops : (b : ℕ) → b < places l → base_at l b ≡ b → slice_index next b < places l → base_at l (slice_index next b) ≡ b
+      → slice_get left (item_at l (slice_index next b)) ≡ Some false → ⊥
   stops b lt is a c d = let k = state.stopped 0 b lt is (λ st. st a c d) in let z = k.1 in absurd (omega arith)
 
   pub open_waits : (q : ℕ) (s : Spot) → slice_get list q ≡ Some s → slice_get left q ≡ Some true → slice_index wait q ≡ 0 → OpenAt list left q s
@@ -67,7 +70,8 @@ module _ (list : List Spot) (l : Lines) (lines : AreLines list l) (left : List B
       waiting e is =
           let own = state.waits.own q e inside is in
           let low = lines.rows.low e own.0 in let up = lines.rows.up e own.0 in
-          let shut : slice_index next (base_at l e) < first_at l e = dite (dec_lt (slice_index next (base_at l e)) (first_at l e)) (λ h. h) (λ h. absurd (state.closed q e inside is (omega arith))) in
+          let shut : slice_index next (base_at l e) < first_at l e =
+          dite (dec_lt (slice_index next (base_at l e)) (first_at l e)) (λ h. h) (λ h. absurd (state.closed q e inside is (omega arith))) in
           let base = lines.rows.same e (base_at l e) own.0 (omega arith) (omega arith) in
           let from = state.gone.from (base_at l e) (omega arith) base in
           let here = lines.rows.same e (slice_index next (base_at l e)) own.0 from (omega arith) in
@@ -75,7 +79,8 @@ module _ (list : List Spot) (l : Lines) (lines : AreLines list l) (left : List B
           let c = lines.count in
           let other = below_get (item_at l (slice_index next (base_at l e))) list (omega arith) in
           let ap_ = lines.apart (slice_index next (base_at l e)) e own.0 from shut in
-          let before = lines.from (slice_index next (base_at l e)) e other.0 s own.0 from shut other.1 (subst (λ (k : ℕ). slice_get list k ≡ Some s) (sym own.1) o.at) in
+          let before = lines.from (slice_index next (base_at l e)) e other.0 s own.0 from shut other.1
+          (subst (λ (k : ℕ). slice_get list k ≡ Some s) (sym own.1) o.at) in
           ⊎_elim
           (λ m. o.first (item_at l (slice_index next (base_at l e))) other.0 other.1 m (λ z. ap_ (z ∙ sym own.1)) before)
           (λ m. stops (base_at l e) (omega arith) base (omega arith) here m)
@@ -93,12 +98,14 @@ module _ (list : List Spot) (l : Lines) (lines : AreLines list l) (left : List B
 
 -- of two in order the caller of the first is no greater
 no_less : (x y : Comer) → is_lt (comer_cmp x y) ≡ false → x.0.0 ≤ y.0.0
-no_less x y e = dite (dec_lt y.0.0 x.0.0) (λ lt. absurd (let t = lt-ltb y.0.0 x.0.0 lt in let f : is_lt (comer_cmp x y) ≡ true = rw t refl in no e f)) (λ n. omega arith)
+no_less x y e = dite (dec_lt y.0.0 x.0.0) (λ lt. absurd (let t = lt-ltb y.0.0 x.0.0 lt in
+    let f : is_lt (comer_cmp x y) ≡ true = rw t refl in no e f)) (λ n. omega arith)
   where
     no : {b : Bool} → b ≡ false → b ≡ true → ⊥
     no a c = cc
 
-least_of : (l : Lines) (x : Comer) (q : ℕ) (xs : List Comer) → All (IsKnown l) xs → AllByRecursion (λ y. is_lt (comer_cmp x y) ≡ false) xs → 0 < count_of q xs → x.0.0 ≤ caller_of l q
+least_of : (l : Lines) (x : Comer) (q : ℕ) (xs : List Comer) → All (IsKnown l) xs
+    → AllByRecursion (λ y. is_lt (comer_cmp x y) ≡ false) xs → 0 < count_of q xs → x.0.0 ≤ caller_of l q
 least_of l x q [] known above some = absurd (omega arith)
 least_of l x q (y ∷ xs) known above some = dite (ℕ_discrete y.0.1 q)
     (λ s. let c = no_less x y above.0 in let k = known 0 y (omega arith) in let e = k.1 in let f = ap (caller_of l) s in omega arith)
@@ -116,7 +123,8 @@ module _ (l : Lines) (left : List Bool) (wait : List ℕ) (ready : List Comer) (
       mark : slice_get left q ≡ Some true
       mark = ⊎_elim (λ m. m) (λ m. absurd (let n = is.not_placed q lt m in omega arith)) (mark_cases left q (omega arith))
 
-module _ (l : Lines) (left : List Bool) (next wait : List ℕ) (ready rest : List Comer) (x : Comer) (sized : length left ≡ items l) (state : IsState l left next wait ready)
+module _ (l : Lines) (left : List Bool) (next wait : List ℕ) (ready rest : List Comer) (x : Comer) (sized : length left
+    ≡ items l) (state : IsState l left next wait ready)
     (moved : IsPermutation ready (x ∷ rest)) (pops : PopsGreatest comer_cmp ready x rest) where
   known : All (IsKnown l) (x ∷ rest)
   known = All-permutation (IsKnown l) ready (x ∷ rest) moved state.ready_is.known
@@ -165,7 +173,8 @@ module _ (l : Lines) (left : List Bool) (next wait : List ℕ) (ready rest : Lis
       (λ a. dite (ℕ_discrete (base_at l (slice_index next b)) b)
       (λ c. dite (ℕ_discrete (item_at l (slice_index next b)) x.0.1)
       (λ d. (slice_index next b, a, d, c))
-      (λ d. absurd (go (λ a1 c1 m. let k = state.stopped 0 b lt is (λ st. st a c (sym (stays (item_at l (slice_index next b)) d) ∙ m)) in let z = k.1 in absurd (omega arith)))))
+      (λ d. absurd (go (λ a1 c1 m. let k =
+      state.stopped 0 b lt is (λ st. st a c (sym (stays (item_at l (slice_index next b)) d) ∙ m)) in let z = k.1 in absurd (omega arith)))))
       (λ c. absurd (go (λ a1 c1 m. c c1))))
       (λ a. absurd (go (λ a1 c1 m. a a1)))
 
@@ -192,5 +201,6 @@ module _ (l : Lines) (left : List Bool) (next wait : List ℕ) (ready rest : Lis
 
       one : (q : ℕ) → q < items l → q ≡ x.0.1 → count_of q rest ≡ 0
       one q lt s =
-          let h = state.ready_is.here q lt (ap (λ (k : ℕ). slice_index wait k) s ∙ comer_here.0) (subst (λ (k : ℕ). slice_get left k ≡ Some true) (sym s) comer_here.1) in
+          let h = state.ready_is.here q lt (ap (λ (k : ℕ). slice_index wait k) s
+          ∙ comer_here.0) (subst (λ (k : ℕ). slice_get left k ≡ Some true) (sym s) comer_here.1) in
           let m = count_moved q ready (x ∷ rest) moved in let d = count_same q x rest (sym s) in omega arith

@@ -41,7 +41,8 @@ same_back us vs e k v b = ((e k v b).1, (e k v b).0)
 
 module _ (list : List Spot) (items entries : List Item) (out : List ℕ) (d : Item) (rows : AreEntries list items entries) (order : IsOrder list out) where
   -- the place and the call of an entry in the order
-  at_place : (i : ℕ) (x : Item) → slice_get (entries_at d entries out) i ≡ Some x → (p : ℕ) × (s : Spot) × (slice_get out i ≡ Some p) × (slice_get list p ≡ Some s) × (slice_get entries p ≡ Some x)
+  at_place : (i : ℕ) (x : Item) → slice_get (entries_at d entries out) i ≡ Some x → (p : ℕ) × (s : Spot)
+      × (slice_get out i ≡ Some p) × (slice_get list p ≡ Some s) × (slice_get entries p ≡ Some x)
   at_place i x e =
       let m = map_at (λ p. get_or entries p d) out i x e in
       let n = order.each i m.0 m.1 in
@@ -50,7 +51,8 @@ module _ (list : List Spot) (items entries : List Item) (out : List ℕ) (d : It
       (m.0, n.spot, m.1, n.may.at, slice_get-get_or entries m.0 d (omega arith) ∙ ap Some m.2)
 
   one_place : (i j p : ℕ) → slice_get out i ≡ Some p → slice_get out j ≡ Some p → i ≡ j
-  one_place i j p e f = dite (ℕ_discrete i j) (λ q. q) (λ ne. dite (dec_lt i j) (λ l. absurd (order_once list out order i j p e f l)) (λ n. absurd (order_once list out order j i p f e (omega arith))))
+  one_place i j p e f = dite (ℕ_discrete i j) (λ q. q)
+      (λ ne. dite (dec_lt i j) (λ l. absurd (order_once list out order i j p e f l)) (λ n. absurd (order_once list out order j i p f e (omega arith))))
 
   pub entries_ordered : KeepsUses items (entries_at d entries out)
   entries_ordered = record {
@@ -85,7 +87,8 @@ pick_is P (no n) f b h = absurd (n b)
 -- the number of a call is the place of its entry in the arrangement
 pub orderable : (items entries order : List Item) (list : List Spot) → IsArrangement items order → AreEntries list items entries
     → ((p q : ℕ) (x y : Spot) → slice_get list p ≡ Some x → slice_get list q ≡ Some y → x.caller ≡ y.caller → x.index ≡ y.index → p ≡ q)
-    → ((p q : ℕ) (x y : Spot) (i j : Item) → slice_get list p ≡ Some x → slice_get list q ≡ Some y → slice_get entries p ≡ Some i → slice_get entries q ≡ Some j → x.caller ≡ y.caller → x.index < y.index → WasSeenBefore i j)
+    → ((p q : ℕ) (x y : Spot) (i j : Item) → slice_get list p ≡ Some x → slice_get list q ≡ Some y
+    → slice_get entries p ≡ Some i → slice_get entries q ≡ Some j → x.caller ≡ y.caller → x.index < y.index → WasSeenBefore i j)
     → Orderable list
 orderable items entries order list arrangement rows apart saw = record {
   apart = apart;
@@ -98,7 +101,8 @@ orderable items entries order list arrangement rows apart saw = record {
       let lp = slice_get_within list p x e in let lq = slice_get_within list q y f in
       let a = entry p lp in let b = entry q lq in
       arrangement.in_order (number p) (number q) a.0 b.0 (placed p lp) (placed q lq) l (⊎_elim
-      (λ u. inl (before_same y.uses x.uses b.0.uses a.0.uses (same_back b.0.uses y.uses (rows.uses q y b.0 f b.1)) (same_back a.0.uses x.uses (rows.uses p x a.0 e a.1)) u))
+      (λ u. inl (before_same y.uses x.uses b.0.uses a.0.uses (same_back b.0.uses y.uses (rows.uses q y b.0 f b.1))
+      (same_back a.0.uses x.uses (rows.uses p x a.0 e a.1)) u))
       (λ c. inr (inr (saw q p y x b.0 a.0 f e b.1 a.1 c.0 c.1)))
       before);
 }
@@ -113,4 +117,5 @@ orderable items entries order list arrangement rows apart saw = record {
     number p = pick (dec_lt p (length list)) (λ l. (place p l).0)
 
     placed : (p : ℕ) (l : p < length list) → slice_get order (number p) ≡ Some (entry p l).0
-    placed p l = pick_is (λ (i : ℕ). slice_get order i ≡ Some (entry p l).0) (dec_lt p (length list)) (λ l. (place p l).0) l (λ m. (place p m).1 ∙ (sym (entry p m).1 ∙ (entry p l).1))
+    placed p l = pick_is (λ (i : ℕ). slice_get order i ≡ Some (entry p l).0) (dec_lt p (length list))
+        (λ l. (place p l).0) l (λ m. (place p m).1 ∙ (sym (entry p m).1 ∙ (entry p l).1))

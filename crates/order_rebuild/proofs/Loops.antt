@@ -12,14 +12,17 @@ IsRisingBelow us n = (i j : ℕ) (u v : LockUse) → slice_get us i ≡ Some u �
 one_use : (us : List LockUse) (i : ℕ) (u v : LockUse) → slice_get us i ≡ Some u → slice_get us i ≡ Some v → u ≡ v
 one_use us i u v e f = let q : Some u ≡ Some v = sym e ∙ f in cc
 
-pub rising_more : (us : List LockUse) (i : ℕ) (d : LockUse) → 1 ≤ i → i < length us → IsRisingBelow us i → (get_or us (i - 1) d).lock < (get_or us i d).lock → IsRisingBelow us (i + 1)
+pub rising_more : (us : List LockUse) (i : ℕ) (d : LockUse) → 1 ≤ i → i < length us → IsRisingBelow us i
+    → (get_or us (i - 1) d).lock < (get_or us i d).lock → IsRisingBelow us (i + 1)
 rising_more us i d one lt below step a b u v eu ev ab bi = dite (ℕ_discrete b i)
     (λ s.
     let v_is : get_or us i d ≡ v = one_use us i (get_or us i d) v (slice_get-get_or us i d lt) (ap (λ (k : ℕ). slice_get us k) (sym s) ∙ ev) in
     let at : slice_get us (i - 1) ≡ Some (get_or us (i - 1) d) = slice_get-get_or us (i - 1) d (omega arith) in
     let lv = ap (λ (w : LockUse). w.lock) v_is in
     dite (ℕ_discrete a (i - 1))
-    (λ t. let u_is : get_or us (i - 1) d ≡ u = one_use us (i - 1) (get_or us (i - 1) d) u at (ap (λ (k : ℕ). slice_get us k) (sym t) ∙ eu) in let lu = ap (λ (w : LockUse). w.lock) u_is in omega arith)
+    (λ t. let u_is : get_or us (i - 1) d ≡ u =
+    one_use us (i - 1) (get_or us (i - 1) d) u at (ap (λ (k : ℕ). slice_get us k) (sym t) ∙ eu) in let lu =
+    ap (λ (w : LockUse). w.lock) u_is in omega arith)
     (λ n. let h = below a (i - 1) u (get_or us (i - 1) d) eu at (omega arith) (omega arith) in omega arith))
     (λ n. below a b u v eu ev ab (omega arith))
 
@@ -32,9 +35,11 @@ rising_first us i j u v eu ev a b = absurd (omega arith)
 abbrev pub IsLeastBelow : List LockUse → ℕ → ℕ → ℕ → Type 0
 IsLeastBelow us k low n = (i : ℕ) (u : LockUse) → i < n → slice_get us i ≡ Some u → u.lock ≡ k → low ≤ key_of u
 
-pub least_more : (us : List LockUse) (k old low n : ℕ) (w : LockUse) → IsLeastBelow us k old n → low ≤ old → slice_get us n ≡ Some w → (w.lock ≡ k → low ≤ key_of w) → IsLeastBelow us k low (n + 1)
+pub least_more : (us : List LockUse) (k old low n : ℕ) (w : LockUse) → IsLeastBelow us k old n → low ≤ old
+    → slice_get us n ≡ Some w → (w.lock ≡ k → low ≤ key_of w) → IsLeastBelow us k low (n + 1)
 least_more us k old low n w below le at here i u lt e l = dite (ℕ_discrete i n)
-    (λ s. let same : w ≡ u = one_use us n w u at (ap (λ (j : ℕ). slice_get us j) (sym s) ∙ e) in let h = here (ap (λ (z : LockUse). z.lock) same ∙ l) in let q = ap key_of same in omega arith)
+    (λ s. let same : w ≡ u = one_use us n w u at (ap (λ (j : ℕ). slice_get us j) (sym s) ∙ e) in let h =
+    here (ap (λ (z : LockUse). z.lock) same ∙ l) in let q = ap key_of same in omega arith)
     (λ m. let h = below i u (omega arith) e l in omega arith)
 
 pub least_all : (us : List LockUse) (k low n : ℕ) → length us ≤ n → HasKey us k low → IsLeastBelow us k low n → IsLeastKey us k low
@@ -43,9 +48,11 @@ least_all us k low n le has below = record { has = has; least = λ i u e l. belo
 abbrev pub NoneAboveBelow : List LockUse → ℕ → ℕ → ℕ → Type 0
 NoneAboveBelow us k low n = (i : ℕ) (u : LockUse) → i < n → slice_get us i ≡ Some u → u.lock ≡ k → low < key_of u → ⊥
 
-pub none_more : (us : List LockUse) (k low n : ℕ) (w : LockUse) → NoneAboveBelow us k low n → slice_get us n ≡ Some w → (w.lock ≡ k → low < key_of w → ⊥) → NoneAboveBelow us k low (n + 1)
+pub none_more : (us : List LockUse) (k low n : ℕ) (w : LockUse) → NoneAboveBelow us k low n → slice_get us n ≡ Some w
+    → (w.lock ≡ k → low < key_of w → ⊥) → NoneAboveBelow us k low (n + 1)
 none_more us k low n w below at here i u lt e l high = dite (ℕ_discrete i n)
-    (λ s. let same : w ≡ u = one_use us n w u at (ap (λ (j : ℕ). slice_get us j) (sym s) ∙ e) in here (ap (λ (z : LockUse). z.lock) same ∙ l) (let q = ap key_of same in omega arith))
+    (λ s. let same : w ≡ u = one_use us n w u at (ap (λ (j : ℕ). slice_get us j) (sym s) ∙ e) in
+    here (ap (λ (z : LockUse). z.lock) same ∙ l) (let q = ap key_of same in omega arith))
     (λ m. below i u (omega arith) e l high)
 
 pub none_all : (us : List LockUse) (k low n : ℕ) → length us ≤ n → NoneAboveBelow us k low n → HasAbove us k low → ⊥

@@ -1,5 +1,6 @@
 -- The lists that lines are made of, one place more.
-use Rattle.std.proofs.Common.{◌≡◌, ◌≢◌, ℕ, zero, suc, ◌+◌, ◌<◌, ◌≤◌, ◌⊎◌, inl, inr, ⊎_elim, List, [], ◌∷◌, ◌++◌, length, slice_get, slice_index, slice_set, Some, refl, sym, ap, ◌∙◌, subst, arith, get_or-set_same, get_or-set_other}
+use Rattle.std.proofs.Common.{◌≡◌, ◌≢◌, ℕ, zero, suc, ◌+◌, ◌<◌, ◌≤◌, ◌⊎◌, inl, inr, ⊎_elim, List, [], ◌∷◌, ◌++◌, length, slice_get, slice_index, slice_set}
+use Rattle.std.proofs.Common.{Some, refl, sym, ap, ◌∙◌, subst, arith, get_or-set_same, get_or-set_other}
 use mathlib.Core.Logic.{dite}
 use native.Mathlib.Decide.{ℕ_discrete, dec_lt}
 use Rattle.std.specs.List.Sorted.{IsPermutation}
@@ -37,19 +38,26 @@ pub run_first : (f : ℕ → ℕ) → IsRun f 0 0
 run_first f = record { low = omega arith; same = λ j a b. absurd (omega arith); less = λ j a. absurd (omega arith) }
 
 pub run_on : (f : ℕ → ℕ) (i start : ℕ) → IsRun f i start → f i ≡ f start → IsRun f (i + 1) start
-run_on f i start r e = record { low = let l = r.low in omega arith; same = λ j a b. dite (ℕ_discrete j i) (λ s. ap f s ∙ e) (λ n. r.same j a (omega arith)); less = r.less }
+run_on f i start r e = record {
+  low = let l = r.low in omega arith;
+  same =
+      λ j a b. dite (ℕ_discrete j i) (λ s. ap f s ∙ e) (λ n. r.same j a (omega arith));
+  less = r.less;
+}
 
 pub run_new : (f : ℕ → ℕ) (i start : ℕ) → IsRun f i start → (f start ≤ f i) → (f i ≡ f start → ⊥) → IsRun f (i + 1) i
 run_new f i start r up n = record {
   low = omega arith;
   same = λ j a b. ap f (omega arith);
-  less = λ j a. dite (dec_lt j start) (λ l. let h = r.less j l in omega arith) (λ l. let h = r.same j (omega arith) a in dite (dec_lt (f j) (f i)) (λ z. z) (λ z. absurd (n (omega arith))));
+  less = λ j a. dite (dec_lt j start) (λ l. let h = r.less j l in omega arith) (λ l. let h = r.same j (omega arith) a in
+      dite (dec_lt (f j) (f i)) (λ z. z) (λ z. absurd (n (omega arith))));
 }
 
 pub starts_first : (f : ℕ → ℕ) → AreStarts f 0 []
 starts_first f = record { count = refl; low = λ i l. absurd (omega arith); same = λ i j l. absurd (omega arith); less = λ i j l. absurd (omega arith) }
 
-pub starts_more : (f : ℕ → ℕ) (i start : ℕ) (starts : List ℕ) → AreStarts f i starts → IsRun f (i + 1) start → start ≤ i → AreStarts f (i + 1) (starts ++ start ∷ [])
+pub starts_more : (f : ℕ → ℕ) (i start : ℕ) (starts : List ℕ) → AreStarts f i starts → IsRun f (i + 1) start → start ≤ i
+    → AreStarts f (i + 1) (starts ++ start ∷ [])
 starts_more f i start starts s r le = record {
   count = let c = s.count in let e = length_end starts start in omega arith;
   low = λ k lt. ⊎_elim (λ t. let h = s.low k t.0 in let e = t.1 in omega arith) (λ t. let e = t.1 in let z = t.0 in omega arith) (at k lt);
@@ -63,8 +71,10 @@ starts_more f i start starts s r le = record {
       (at k lt);
 }
   where
-    at : (k : ℕ) → k < i + 1 → ((k < i) × (slice_index (starts ++ start ∷ []) k ≡ slice_index starts k)) ⊎ ((k ≡ i) × (slice_index (starts ++ start ∷ []) k ≡ start))
-    at k lt = let c = s.count in dite (dec_lt k i) (λ l. inl (l, index_left starts start k (omega arith))) (λ n. inr (omega arith, index_end starts start k (omega arith)))
+    at : (k : ℕ) → k < i + 1 → ((k < i) × (slice_index (starts ++ start ∷ []) k ≡ slice_index starts k))
+        ⊎ ((k ≡ i) × (slice_index (starts ++ start ∷ []) k ≡ start))
+    at k lt = let c = s.count in dite (dec_lt k i) (λ l. inl (l, index_left starts start k (omega arith)))
+        (λ n. inr (omega arith, index_end starts start k (omega arith)))
 
 pub chains_first : (item last : List ℕ) (n : ℕ) → ((p : ℕ) → slice_index last p ≡ 0) → AreChains item 0 n [] last
 chains_first item last n empty = record {
@@ -81,7 +91,8 @@ pub chains_more : (item : List ℕ) (i n p : ℕ) (before last : List ℕ) → A
     → AreChains item (i + 1) n (before ++ slice_index last p ∷ []) (slice_set last p (i + 1))
 chains_more item i n p before last c is inside long = record {
   count = let n = c.count in let e = length_end before (slice_index last p) in omega arith;
-  below = λ k lt. ⊎_elim (λ t. let h = c.below k t.0 in let e = t.1 in omega arith) (λ t. let e = t.1 in let z = t.0 in let m = c.last_most p inside in omega arith) (at k lt);
+  below = λ k lt. ⊎_elim (λ t. let h = c.below k t.0 in let e = t.1 in omega arith) (λ t. let e = t.1 in let z = t.0 in
+      let m = c.last_most p inside in omega arith) (at k lt);
   own = λ k j lt e. ⊎_elim
       (λ t. c.own k j t.0 (sym t.1 ∙ e))
       (λ t. c.last_own p j inside (sym t.1 ∙ e) ∙ (is ∙ ap (λ (n : ℕ). slice_index item n) (sym t.0)))
@@ -103,10 +114,13 @@ chains_more item i n p before last c is inside long = record {
       (last_at q);
 }
   where
-    at : (k : ℕ) → k < i + 1 → ((k < i) × (slice_index (before ++ slice_index last p ∷ []) k ≡ slice_index before k)) ⊎ ((k ≡ i) × (slice_index (before ++ slice_index last p ∷ []) k ≡ slice_index last p))
-    at k lt = let n = c.count in dite (dec_lt k i) (λ l. inl (l, index_left before (slice_index last p) k (omega arith))) (λ m. inr (omega arith, index_end before (slice_index last p) k (omega arith)))
+    at : (k : ℕ) → k < i + 1 → ((k < i) × (slice_index (before ++ slice_index last p ∷ []) k ≡ slice_index before k))
+        ⊎ ((k ≡ i) × (slice_index (before ++ slice_index last p ∷ []) k ≡ slice_index last p))
+    at k lt = let n = c.count in dite (dec_lt k i)
+        (λ l. inl (l, index_left before (slice_index last p) k (omega arith))) (λ m. inr (omega arith, index_end before (slice_index last p) k (omega arith)))
 
-    last_at : (q : ℕ) → ((q ≡ p) × (slice_index (slice_set last p (i + 1)) q ≡ i + 1)) ⊎ ((q ≢ p) × (slice_index (slice_set last p (i + 1)) q ≡ slice_index last q))
+    last_at : (q : ℕ) → ((q ≡ p) × (slice_index (slice_set last p (i + 1)) q ≡ i + 1))
+        ⊎ ((q ≢ p) × (slice_index (slice_set last p (i + 1)) q ≡ slice_index last q))
     last_at q = dite (ℕ_discrete q p)
         (λ s. inl (s, ap (λ (n : ℕ). slice_index (slice_set last p (i + 1)) n) s ∙ get_or-set_same last p (i + 1) 0 (omega arith)))
         (λ n. inr (n, get_or-set_other last p q (i + 1) 0 n))
@@ -121,7 +135,8 @@ has_kept xs ys p c kept h = (h.0, kept h.0 (record { code = c; item = p }) h.1)
 pub get_kept : (xs : List Turn) (y : Turn) (i : ℕ) (t : Turn) → slice_get xs i ≡ Some t → slice_get (xs ++ y ∷ []) i ≡ Some t
 get_kept xs y i t e = get_first xs (y ∷ []) i (slice_get_within xs i t e) ∙ e
 
-pub gain_more : (us : List LockUse) (p n c : ℕ) (u : LockUse) (old new : List Turn) → GainTurns us p n old new → slice_get us n ≡ Some u → IsLockCode us u.lock c
+pub gain_more : (us : List LockUse) (p n c : ℕ) (u : LockUse) (old new : List Turn) → GainTurns us p n old new
+    → slice_get us n ≡ Some u → IsLockCode us u.lock c
     → GainTurns us p (n + 1) old (new ++ record { code = c; item = p } ∷ [])
 gain_more us p n c u old new g e code = record {
   kept = λ i t f. get_kept new (record { code = c; item = p }) i t (g.kept i t f);
@@ -131,7 +146,8 @@ gain_more us p n c u old new g e code = record {
   whole = λ j v l f. dite (ℕ_discrete j n)
       (λ s. let same : u ≡ v = one (sym e ∙ (ap (λ (k : ℕ). slice_get us k) (sym s) ∙ f)) in
       (c, subst (λ (w : LockUse). IsLockCode us w.lock c) same code, (length new, get_last new (record { code = c; item = p }))))
-      (λ m. let w = g.whole j v (omega arith) f in (w.0, w.1, has_kept new (new ++ record { code = c; item = p } ∷ []) p w.0 (get_kept new (record { code = c; item = p })) w.2));
+      (λ m. let w = g.whole j v (omega arith) f in
+      (w.0, w.1, has_kept new (new ++ record { code = c; item = p } ∷ []) p w.0 (get_kept new (record { code = c; item = p })) w.2));
 }
   where
     one : {a b : LockUse} → Some a ≡ Some b → a ≡ b
@@ -147,7 +163,8 @@ with_caller turns s p = turns ++ turn_of_caller s p ∷ []
 pub turns_first : (list : List Spot) → AreTurns list 0 []
 turns_first list = record { sound = λ i t e. absurd (cc); of_uses = λ p s j u l. absurd (omega arith); of_caller = λ p s l. absurd (omega arith) }
 
-pub turns_more : (list : List Spot) (p : ℕ) (s : Spot) (old new : List Turn) → AreTurns list p old → slice_get list p ≡ Some s → GainTurns s.uses p (length s.uses) old new → s.index < LINE
+pub turns_more : (list : List Spot) (p : ℕ) (s : Spot) (old new : List Turn) → AreTurns list p old
+    → slice_get list p ≡ Some s → GainTurns s.uses p (length s.uses) old new → s.index < LINE
     → AreTurns list (p + 1) (new ++ record { code = caller_code s.caller s.index; item = p } ∷ [])
 turns_more list p s old new are at g fits = record {
   sound = λ i t e. ⊎_elim
@@ -160,12 +177,16 @@ turns_more list p s old new are at g fits = record {
   of_uses = λ q x j u l e f. dite (ℕ_discrete q p)
       (λ z. let same : s ≡ x = one (sym at ∙ (ap (λ (k : ℕ). slice_get list k) (sym z) ∙ e)) in
       let h : slice_get s.uses j ≡ Some u = subst (λ (w : Spot). slice_get w.uses j ≡ Some u) (sym same) f in
-      let w = g.whole j u (slice_get_within s.uses j u h) h in
-      (w.0, subst (λ (v : Spot). IsLockCode v.uses u.lock w.0) same w.1, subst (λ (k : ℕ). HasTurn (with_caller new s p) k w.0) (sym z) (has_kept new (with_caller new s p) p w.0 (get_kept new (turn_of_caller s p)) w.2)))
+      let w = g.whole j u (slice_get_within s.uses j u h) h in (
+        w.0,
+        subst (λ (v : Spot). IsLockCode v.uses u.lock w.0) same w.1,
+        subst (λ (k : ℕ). HasTurn (with_caller new s p) k w.0) (sym z) (has_kept new (with_caller new s p) p w.0 (get_kept new (turn_of_caller s p)) w.2),
+      ))
       (λ n. let w = are.of_uses q x j u (omega arith) e f in (w.0, w.1, old_kept q w.0 w.2));
   of_caller = λ q x l e. dite (ℕ_discrete q p)
       (λ z. let same : s ≡ x = one (sym at ∙ (ap (λ (k : ℕ). slice_get list k) (sym z) ∙ e)) in
-      subst (λ (v : Spot). (v.index < LINE) × HasTurn (with_caller new s p) q (caller_code v.caller v.index)) same (fits, subst (λ (k : ℕ). HasTurn (with_caller new s p) k (caller_code s.caller s.index)) (sym z) (length new, get_last new (turn_of_caller s p))))
+      subst (λ (v : Spot). (v.index < LINE) × HasTurn (with_caller new s p) q (caller_code v.caller v.index)) same
+      (fits, subst (λ (k : ℕ). HasTurn (with_caller new s p) k (caller_code s.caller s.index)) (sym z) (length new, get_last new (turn_of_caller s p))))
       (λ n. let w = are.of_caller q x (omega arith) e in (w.0, old_kept q (caller_code x.caller x.index) w.1));
 }
   where

@@ -1,5 +1,6 @@
 -- The lines that are made of turns in order.
-use Rattle.std.proofs.Common.{◌≡◌, ◌≢◌, ℕ, zero, suc, ◌+◌, ◌*◌, ◌/◌, ◌<◌, ◌≤◌, inl, ⊎_elim, List, [], ◌∷◌, length, slice_get, slice_index, get_or, map, vec_len, Some, refl, sym, ap, ◌∙◌, subst, arith}
+use Rattle.std.proofs.Common.{◌≡◌, ◌≢◌, ℕ, zero, suc, ◌+◌, ◌*◌, ◌/◌, ◌<◌, ◌≤◌, inl, ⊎_elim, List, [], ◌∷◌, length, slice_get, slice_index, get_or, map, vec_len}
+use Rattle.std.proofs.Common.{Some, refl, sym, ap, ◌∙◌, subst, arith}
 use mathlib.Core.Logic.{dite}
 use native.Mathlib.Decide.{dec_lt}
 use Rattle.std.specs.List.Sorted.{IsNonDecreasing, IsNonDecreasingBy}
@@ -25,7 +26,8 @@ map_count f [] = refl
 map_count f (x ∷ xs) = ap suc (map_count f xs)
 
 -- the codes of turns in order never fall
-pub codes_rise : (xs : List Turn) → IsNonDecreasingBy (λ (t : Turn). t.code) xs → (i j : ℕ) → i ≤ j → j < length xs → slice_index (map (λ (t : Turn). t.code) xs) i ≤ slice_index (map (λ (t : Turn). t.code) xs) j
+pub codes_rise : (xs : List Turn) → IsNonDecreasingBy (λ (t : Turn). t.code) xs → (i j : ℕ) → i ≤ j → j < length xs
+    → slice_index (map (λ (t : Turn). t.code) xs) i ≤ slice_index (map (λ (t : Turn). t.code) xs) j
 codes_rise xs sorted i j le lt =
     let d : Turn = record { code = 0; item = 0 } in
     let s = sorted i j d le lt in
@@ -44,21 +46,26 @@ codes_sorted xs sorted i j d le lt =
     any (y ∷ ys) (suc k) d e h = any ys k d e (omega arith)
 
 -- those between a place and its start have the same start
-pub starts_same : (f : ℕ → ℕ) (m : ℕ) (starts : List ℕ) → AreStarts f m starts → (i j : ℕ) → i < m → slice_index starts i ≤ j → j ≤ i → slice_index starts j ≡ slice_index starts i
+pub starts_same : (f : ℕ → ℕ) (m : ℕ) (starts : List ℕ) → AreStarts f m starts → (i j : ℕ) → i < m
+    → slice_index starts i ≤ j → j ≤ i → slice_index starts j ≡ slice_index starts i
 starts_same f m starts s i j lt low up =
     let e = s.same i j lt low up in
     dite (dec_lt (slice_index starts j) (slice_index starts i))
-    (λ h. absurd (let a = s.less i (slice_index starts j) lt h in let l = s.low j (omega arith) in let b = s.same j (slice_index starts j) (omega arith) (omega arith) l in omega arith))
+    (λ h. absurd (let a = s.less i (slice_index starts j) lt h in let l = s.low j (omega arith) in let b =
+    s.same j (slice_index starts j) (omega arith) (omega arith) l in omega arith))
     (λ n. dite (dec_lt (slice_index starts i) (slice_index starts j))
-    (λ h. absurd (let a = s.less j (slice_index starts i) (omega arith) h in let b = s.same i (slice_index starts i) lt (omega arith) (omega arith) in omega arith))
+    (λ h. absurd (let a = s.less j (slice_index starts i) (omega arith) h in let b =
+    s.same i (slice_index starts i) lt (omega arith) (omega arith) in omega arith))
     (λ k. omega arith))
 
 module _ (list : List Spot) (turns : List Turn) (are : AreTurns list (length list) turns) (sorted : IsNonDecreasingBy (λ (t : Turn). t.code) turns)
     (l : Lines) (codes : List ℕ) (codes_is : codes ≡ map (λ (t : Turn). t.code) turns) (item_is : l.item.items ≡ map (λ (t : Turn). t.item) turns)
-    (bases : AreStarts (λ i. slice_index codes i / LINE) (length codes) l.base.items) (firsts : AreStarts (λ i. slice_index codes i) (length codes) l.first.items)
+    (bases : AreStarts (λ i. slice_index codes i / LINE) (length codes) l.base.items)
+    (firsts : AreStarts (λ i. slice_index codes i) (length codes) l.first.items)
     (chains : AreChains l.item.items (length l.item.items) (items l) l.before.items l.last.items) (count : items l ≡ length list)
     (callers : length l.callers.items ≡ length list) (caller : (p : ℕ) (s : Spot) → slice_get list p ≡ Some s → caller_of l p ≡ s.caller)
-    (item_len : places l ≡ length l.item.items) (base_len : vec_len l.base ≡ length l.base.items) (first_len : vec_len l.first ≡ length l.first.items) (callers_len : vec_len l.callers ≡ length l.callers.items) where
+    (item_len : places l ≡ length l.item.items) (base_len : vec_len l.base ≡ length l.base.items)
+    (first_len : vec_len l.first ≡ length l.first.items) (callers_len : vec_len l.callers ≡ length l.callers.items) where
   m_codes : length codes ≡ length turns
   m_codes = ap length codes_is ∙ map_count (λ (t : Turn). t.code) turns
 
@@ -97,12 +104,14 @@ module _ (list : List Spot) (turns : List Turn) (are : AreTurns list (length lis
 
   lows : (i : ℕ) → i < places l → base_at l i ≤ first_at l i
   lows i lt = dite (dec_lt (first_at l i) (base_at l i))
-      (λ h. absurd (let a = bases.less i (first_at l i) (in_codes i lt) h in let b = firsts.same i (first_at l i) (in_codes i lt) (omega arith) (firsts.low i (in_codes i lt)) in let c = ap (λ (n : ℕ). n / LINE) b in omega arith))
+      (λ h. absurd (let a = bases.less i (first_at l i) (in_codes i lt) h in let b =
+      firsts.same i (first_at l i) (in_codes i lt) (omega arith) (firsts.low i (in_codes i lt)) in let c = ap (λ (n : ℕ). n / LINE) b in omega arith))
       (λ n. omega arith)
 
   rises_ : (i j : ℕ) → i < places l → j ≤ i → base_at l j ≡ base_at l i → first_at l j ≤ first_at l i
   rises_ i j lt le e = dite (dec_lt (first_at l i) (first_at l j))
-      (λ h. absurd (let a = firsts.less j (first_at l i) (in_codes j (omega arith)) h in let b = firsts.same i (first_at l i) (in_codes i lt) (omega arith) (firsts.low i (in_codes i lt)) in let c = rise j i le lt in omega arith))
+      (λ h. absurd (let a = firsts.less j (first_at l i) (in_codes j (omega arith)) h in let b =
+      firsts.same i (first_at l i) (in_codes i lt) (omega arith) (firsts.low i (in_codes i lt)) in let c = rise j i le lt in omega arith))
       (λ n. omega arith)
 
   last_there : (p : ℕ) → p < items l → 0 < last_of l p
@@ -151,7 +160,8 @@ module _ (list : List Spot) (turns : List Turn) (are : AreTurns list (length lis
         a.0,
         b.0,
         j_in,
-        dite (dec_lt a.0 (base_at l b.0)) (λ h. absurd (let x = bases.less b.0 a.0 (in_codes b.0 j_in) h in let y = ap (λ (n : ℕ). n / LINE) ca in let z = ap (λ (n : ℕ). n / LINE) cb in omega arith)) (λ n. omega arith),
+        dite (dec_lt a.0 (base_at l b.0)) (λ h. absurd (let x = bases.less b.0 a.0 (in_codes b.0 j_in) h in let y =
+            ap (λ (n : ℕ). n / LINE) ca in let z = ap (λ (n : ℕ). n / LINE) cb in omega arith)) (λ n. omega arith),
         dite (dec_lt a.0 (first_at l b.0)) (λ h. h) (λ n. absurd (dite (dec_lt b.0 a.0)
             (λ h. let r = rise b.0 a.0 (omega arith) i_in in omega arith)
             (λ k. let x = firsts.same b.0 a.0 (in_codes b.0 j_in) (omega arith) (omega arith) in omega arith))),
@@ -167,22 +177,27 @@ module _ (list : List Spot) (turns : List Turn) (are : AreTurns list (length lis
       let v : LockUse = record { lock = b.lock; version = b.other; wrote = b.other_wrote } in
       let a = are.of_uses p x b.uses.0 u (slice_get_within list p x ex) ex b.uses.1 in
       let c = are.of_uses q y b.other_uses.0 v (slice_get_within list q y ey) ey b.other_uses.1 in
-      let lt = before_codes x.uses y.uses b.lock a.0 c.0 b.uses.0 b.other_uses.0 u v a.1 c.1 (λ w. one_way list orderable p q x y ex ey ne before (inl w)) b.uses.1 b.other_uses.1 refl refl (lower b.found b.other b.wrote b.other_wrote b.earlier) in
+      let lt = before_codes x.uses y.uses b.lock a.0 c.0 b.uses.0 b.other_uses.0 u v a.1 c.1
+      (λ w. one_way list orderable p q x y ex ey ne before (inl w)) b.uses.1 b.other_uses.1 refl refl
+      (lower b.found b.other b.wrote b.other_wrote b.earlier) in
       stands p q a.0 c.0 a.2 c.2 (let k = lock_line x.uses b.lock a.0 a.1 in let m = lock_line y.uses b.lock c.0 c.1 in omega arith) lt)
       (λ b.
       let a = are.of_caller p x (slice_get_within list p x ex) ex in
       let c = are.of_caller q y (slice_get_within list q y ey) ey in
       let s = ap (λ (n : ℕ). 2 * n + 1) b.0 in let r = ap (λ (n : ℕ). (2 * n + 1) * LINE) b.0 in let low = b.1 in
-      stands p q (caller_code x.caller x.index) (caller_code y.caller y.index) a.1 c.1 (caller_line x.caller x.index a.0 ∙ (s ∙ sym (caller_line y.caller y.index c.0))) (omega arith))
+      stands p q (caller_code x.caller x.index) (caller_code y.caller y.index) a.1 c.1 (caller_line x.caller x.index a.0
+      ∙ (s ∙ sym (caller_line y.caller y.index c.0))) (omega arith))
       before
 
   -- of two places in one line, the first before those that stand level with the second
-  behind : (i j : ℕ) → j < places l → base_at l j ≤ i → i < first_at l j → (slice_index codes i / LINE ≡ slice_index codes j / LINE) × (slice_index codes i < slice_index codes j)
+  behind : (i j : ℕ) → j < places l → base_at l j ≤ i → i < first_at l j
+      → (slice_index codes i / LINE ≡ slice_index codes j / LINE) × (slice_index codes i < slice_index codes j)
   behind i j lt low up = (bases.same j i (in_codes j lt) low (let f = firsts.low j (in_codes j lt) in omega arith), firsts.less j i (in_codes j lt) up)
 
   turn_in : (i : ℕ) → i < places l → IsTurnOf list (item_at l i) (slice_index codes i)
   turn_in i lt = let t = turn_at i lt in
-      subst (λ (n : ℕ). IsTurnOf list n (slice_index codes i)) (sym t.item_is_) (subst (λ (n : ℕ). IsTurnOf list t.turn.item n) (sym t.code_is) (are.sound i t.turn t.at).1)
+      subst (λ (n : ℕ). IsTurnOf list n (slice_index codes i)) (sym t.item_is_)
+      (subst (λ (n : ℕ). IsTurnOf list t.turn.item n) (sym t.code_is) (are.sound i t.turn t.at).1)
 
   pub lines_are : Orderable list → AreLines list l
   lines_are orderable = record {
@@ -193,27 +208,35 @@ module _ (list : List Spot) (turns : List Turn) (are : AreTurns list (length lis
     from = λ i j x y lt low up ex ey. let b = behind i j lt low up in let f = firsts.low j (in_codes j lt) in
         turns_before list (item_at l i) (item_at l j) (slice_index codes i) (slice_index codes j) x y ex ey (turn_in i (omega arith)) (turn_in j lt) b.0 b.1;
     apart = λ i j lt low up same. let b = behind i j lt low up in let f = firsts.low j (in_codes j lt) in
-        let z = turns_same list (item_at l i) (slice_index codes i) (slice_index codes j) (turn_in i (omega arith)) (subst (λ (n : ℕ). IsTurnOf list n (slice_index codes j)) (sym same) (turn_in j lt)) b.0 in let c = b.1 in omega arith;
+        let z = turns_same list (item_at l i) (slice_index codes i) (slice_index codes j) (turn_in i (omega arith))
+        (subst (λ (n : ℕ). IsTurnOf list n (slice_index codes j)) (sym same) (turn_in j lt)) b.0 in let c = b.1 in omega arith;
   }
 
-pub items_within : (list : List Spot) (n : ℕ) (turns : List Turn) (item : List ℕ) → AreTurns list n turns → item ≡ map (λ (t : Turn). t.item) turns → (i : ℕ) → i < length item → slice_index item i < n
+pub items_within : (list : List Spot) (n : ℕ) (turns : List Turn) (item : List ℕ) → AreTurns list n turns
+    → item ≡ map (λ (t : Turn). t.item) turns → (i : ℕ) → i < length item → slice_index item i < n
 items_within list n turns item are is i lt =
     let m = map_count (λ (t : Turn). t.item) turns in let k = ap length is in
     let t = below_get i turns (omega arith) in
     let e = ap (λ (xs : List ℕ). slice_index xs i) is ∙ map_index (λ (t : Turn). t.item) turns i t.0 t.1 in let s = (are.sound i t.0 t.1).0 in omega arith
 
-callers_there : {A : Type 0} (spot : A → Spot) (xs : List A) (p : ℕ) (s : Spot) → slice_get (map spot xs) p ≡ Some s → slice_index (map (λ (x : A). (spot x).caller) xs) p ≡ s.caller
+callers_there : {A : Type 0} (spot : A → Spot) (xs : List A) (p : ℕ) (s : Spot) → slice_get (map spot xs) p ≡ Some s
+    → slice_index (map (λ (x : A). (spot x).caller) xs) p ≡ s.caller
 callers_there spot [] p s e = cc
 callers_there spot (x ∷ xs) zero s e = let q : spot x ≡ s = cc in ap (λ (z : Spot). z.caller) q
 callers_there spot (x ∷ xs) (suc p) s e = callers_there spot xs p s e
 
-pub made : {A : Type 0} (spot : A → Spot) (done : List A) (turns : List Turn) (l : Lines) (codes : List ℕ) → AreTurns (map spot done) (length done) turns → IsNonDecreasingBy (λ (t : Turn). t.code) turns
-    → codes ≡ map (λ (t : Turn). t.code) turns → l.item.items ≡ map (λ (t : Turn). t.item) turns → AreStarts (λ i. slice_index codes i / LINE) (length codes) l.base.items → AreStarts (λ i. slice_index codes i) (length codes) l.first.items
-    → AreChains l.item.items (length l.item.items) (length done) l.before.items l.last.items → items l ≡ length done → l.callers.items ≡ map (λ (x : A). (spot x).caller) done → AreLinesOf (map spot done) l
+pub made : {A : Type 0} (spot : A → Spot) (done : List A) (turns : List Turn) (l : Lines) (codes : List ℕ)
+    → AreTurns (map spot done) (length done) turns → IsNonDecreasingBy (λ (t : Turn). t.code) turns
+    → codes ≡ map (λ (t : Turn). t.code) turns → l.item.items ≡ map (λ (t : Turn). t.item) turns
+    → AreStarts (λ i. slice_index codes i / LINE) (length codes) l.base.items → AreStarts (λ i. slice_index codes i) (length codes) l.first.items
+    → AreChains l.item.items (length l.item.items) (length done) l.before.items l.last.items → items l ≡ length done
+    → l.callers.items ≡ map (λ (x : A). (spot x).caller) done → AreLinesOf (map spot done) l
 made {A} spot done turns l codes are sorted codes_is item_is bases firsts chains count callers = record {
-  rows = rows_are (map spot done) turns all sorted l codes codes_is item_is bases firsts chain many long caller l.item.ok.0 l.base.ok.0 l.first.ok.0 l.callers.ok.0;
+  rows = rows_are (map spot done) turns all sorted l codes codes_is item_is bases firsts chain many long caller
+      l.item.ok.0 l.base.ok.0 l.first.ok.0 l.callers.ok.0;
   count = many;
-  lines = lines_are (map spot done) turns all sorted l codes codes_is item_is bases firsts chain many long caller l.item.ok.0 l.base.ok.0 l.first.ok.0 l.callers.ok.0;
+  lines = lines_are (map spot done) turns all sorted l codes codes_is item_is bases firsts chain many long caller
+      l.item.ok.0 l.base.ok.0 l.first.ok.0 l.callers.ok.0;
 }
   where
     same : length (map spot done) ≡ length done

@@ -1,5 +1,6 @@
 -- On an orderable list some item may always come, and the order is one alone.
-use Rattle.std.proofs.Common.{◌≡◌, ◌≢◌, ℕ, zero, suc, ◌<◌, ◌≤◌, ◌⊎◌, inl, inr, ⊎_elim, List, [], ◌∷◌, length, slice_get, take, Some, refl, sym, ap, ◌∙◌, subst, arith}
+use Rattle.std.proofs.Common.{◌≡◌, ◌≢◌, ℕ, zero, suc, ◌<◌, ◌≤◌, ◌⊎◌, inl, inr, ⊎_elim, List, [], ◌∷◌, length, slice_get, take, Some, refl, sym, ap, ◌∙◌, subst}
+use Rattle.std.proofs.Common.{arith}
 use mathlib.Core.Logic.{dite}
 use native.Mathlib.Decide.{ℕ_discrete, dec_lt}
 use Rattle.history_model.specs.Legal.{IsIn}
@@ -21,23 +22,42 @@ is_in p (x ∷ xs) = dite (ℕ_discrete x p)
     no_place ne none (suc i) e = none (i, e)
 
 -- of the numbers below n that are not in the list, one whose `number` is least
-least_left : (number : ℕ → ℕ) (placed : List ℕ) (n : ℕ) → ((p : ℕ) × (p < n) × (IsIn p placed → ⊥) × ((q : ℕ) → q < n → (IsIn q placed → ⊥) → number p ≤ number q)) ⊎ ((q : ℕ) → q < n → IsIn q placed)
+least_left : (number : ℕ → ℕ) (placed : List ℕ) (n : ℕ)
+    → ((p : ℕ) × (p < n) × (IsIn p placed → ⊥) × ((q : ℕ) → q < n → (IsIn q placed → ⊥) → number p ≤ number q)) ⊎ ((q : ℕ) → q < n → IsIn q placed)
 least_left number placed zero = inr (λ q l. absurd (omega arith))
 least_left number placed (suc n) = ⊎_elim
     (λ f. ⊎_elim
-    (λ m. inl (f.0, omega (arith, f.1), f.2, λ q l free. dite (ℕ_discrete q n) (λ e. absurd (free (subst (λ (i : ℕ). IsIn i placed) (sym e) m))) (λ ne. f.3 q (omega arith) free)))
+    (λ m. inl (
+      f.0,
+      omega (arith, f.1),
+      f.2,
+      λ q l free. dite (ℕ_discrete q n) (λ e. absurd (free (subst (λ (i : ℕ). IsIn i placed) (sym e) m))) (λ ne. f.3 q (omega arith) free),
+    ))
     (λ free. dite (dec_lt (number n) (number f.0))
-    (λ l. inl (n, omega arith, free, λ q k none. dite (ℕ_discrete q n) (λ e. let s = ap number e in omega arith) (λ ne. let h = f.3 q (omega arith) none in omega arith)))
+    (λ l. inl (
+      n,
+      omega arith,
+      free,
+      λ q k none. dite (ℕ_discrete q n) (λ e. let s = ap number e in
+          omega arith) (λ ne. let h = f.3 q (omega arith) none in omega arith),
+    ))
     (λ l. inl (f.0, omega (arith, f.1), f.2, λ q k none. dite (ℕ_discrete q n) (λ e. let s = ap number e in omega arith) (λ ne. f.3 q (omega arith) none))))
     (is_in n placed))
     (λ all. ⊎_elim
     (λ m. inr (λ q l. dite (ℕ_discrete q n) (λ e. subst (λ (i : ℕ). IsIn i placed) (sym e) m) (λ ne. all q (omega arith))))
-    (λ free. inl (n, omega arith, free, λ q l none. dite (ℕ_discrete q n) (λ e. let s = ap number e in omega arith) (λ ne. absurd (none (all q (omega arith))))))
+    (λ free. inl (
+      n,
+      omega arith,
+      free,
+      λ q l none. dite (ℕ_discrete q n) (λ e. let s = ap number e in
+          omega arith) (λ ne. absurd (none (all q (omega arith)))),
+    ))
     (is_in n placed))
     (least_left number placed n)
 
 -- never stuck: while an item is left, one may come
-pub not_stuck : (list : List Spot) → Orderable list → (placed : List ℕ) (p : ℕ) → p < length list → (IsIn p placed → ⊥) → (q : ℕ) × (spot : Spot) × MayCome list placed q spot
+pub not_stuck : (list : List Spot) → Orderable list → (placed : List ℕ) (p : ℕ) → p < length list → (IsIn p placed → ⊥)
+    → (q : ℕ) × (spot : Spot) × MayCome list placed q spot
 not_stuck list o placed p lt fresh = ⊎_elim
     (λ f. let s = below_get f.0 list f.1 in (
       f.0,
@@ -65,7 +85,8 @@ next_same list o placed p q a b = dite (ℕ_discrete p q) (λ e. e) (λ ne.
     (λ l. absurd (a.may.first q b.spot b.may.at b.may.fresh (λ e. ne (sym e)) (inr (sym same, omega arith))))))
 
 -- so is the order
-fronts : (list : List Spot) → Orderable list → (one two : List ℕ) → IsOrder list one → IsOrder list two → (i : ℕ) → i ≤ length one → i ≤ length two → take i one ≡ take i two
+fronts : (list : List Spot) → Orderable list → (one two : List ℕ) → IsOrder list one → IsOrder list two → (i : ℕ)
+    → i ≤ length one → i ≤ length two → take i one ≡ take i two
 fronts list o one two a b zero l m = refl
 fronts list o one two a b (suc i) l m =
     let x = below_get i one (omega arith) in
@@ -79,13 +100,15 @@ not_longer list o one two a b l =
     let y = below_get (length one) two l in
     let n = b.each (length one) y.0 y.1 in
     let low = slice_get_within list y.0 n.spot n.may.at in
-    let same : one ≡ take (length one) two = sym (take_all (length one) one (omega arith)) ∙ fronts list o one two a b (length one) (omega arith) (omega arith) in
+    let same : one ≡ take (length one) two = sym (take_all (length one) one (omega arith))
+    ∙ fronts list o one two a b (length one) (omega arith) (omega arith) in
     n.may.fresh (subst (λ (t : List ℕ). IsIn y.0 t) same (a.whole y.0 low))
 
 pub order_same : (list : List Spot) → Orderable list → (one two : List ℕ) → IsOrder list one → IsOrder list two → one ≡ two
 order_same list o one two a b =
     let m : length one ≡ length two = equal (length one) (length two) (not_longer list o one two a b) (not_longer list o two one b a) in
-    sym (take_all (length one) one (omega arith)) ∙ (fronts list o one two a b (length one) (omega arith) (omega arith) ∙ (ap (λ (n : ℕ). take n two) m ∙ take_all (length two) two (omega arith)))
+    sym (take_all (length one) one (omega arith)) ∙ (fronts list o one two a b (length one) (omega arith) (omega arith)
+    ∙ (ap (λ (n : ℕ). take n two) m ∙ take_all (length two) two (omega arith)))
   where
     equal : (i j : ℕ) → (i < j → ⊥) → (j < i → ⊥) → i ≡ j
     equal i j a b = grind arith
@@ -94,7 +117,8 @@ order_same list o one two a b =
 pub order_once : (list : List Spot) (out : List ℕ) → IsOrder list out → (i j p : ℕ) → slice_get out i ≡ Some p → slice_get out j ≡ Some p → i < j → ⊥
 order_once list out o i j p e f l = (o.each j p f).may.fresh (i, front-get j i out p l e)
 
-pub order_keeps : (list : List Spot) (out : List ℕ) → IsOrder list out → (i j p q : ℕ) (x y : Spot) → slice_get out i ≡ Some p → slice_get out j ≡ Some q → slice_get list p ≡ Some x → slice_get list q ≡ Some y → i < j → Precedes y x → ⊥
+pub order_keeps : (list : List Spot) (out : List ℕ) → IsOrder list out → (i j p q : ℕ) (x y : Spot)
+    → slice_get out i ≡ Some p → slice_get out j ≡ Some q → slice_get list p ≡ Some x → slice_get list q ≡ Some y → i < j → Precedes y x → ⊥
 order_keeps list out o i j p q x y e f a b l before =
     let n = o.each i p e in
     let same : n.spot ≡ x = some_same n.spot x (sym n.may.at ∙ a) in

@@ -1,5 +1,6 @@
 -- Where items wait, as one of them settles and as a line goes on.
-use Rattle.std.proofs.Common.{◌≡◌, ◌≢◌, ℕ, suc, ◌+◌, ◌<◌, ◌≤◌, Bool, true, false, ◌⊎◌, inl, inr, ⊎_elim, List, ◌∷◌, length, slice_get, get_or, slice_index, slice_set, Some, refl, sym, ap, ◌∙◌, subst, arith, get_or-set_same, get_or-set_other, length-set, eq-eqb, ne_eqb, ◌==◌}
+use Rattle.std.proofs.Common.{◌≡◌, ◌≢◌, ℕ, suc, ◌+◌, ◌<◌, ◌≤◌, Bool, true, false, ◌⊎◌, inl, inr, ⊎_elim, List, ◌∷◌, length, slice_get, get_or, slice_index}
+use Rattle.std.proofs.Common.{slice_set, Some, refl, sym, ap, ◌∙◌, subst, arith, get_or-set_same, get_or-set_other, length-set, eq-eqb, ne_eqb, ◌==◌}
 use mathlib.Core.Logic.{dite}
 use native.Mathlib.Decide.{ℕ_discrete, dec_lt}
 use Rattle.std.specs.List.Sorted.{IsPermutation}
@@ -47,7 +48,8 @@ module _ (l : Lines) (rows : AreRows l) (next wait : List ℕ) (waits : AreWaits
         (λ s. let o = own e (sym here ∙ (ap (λ (i : ℕ). slice_index (slice_set wait q at) i) (sym s) ∙ is)) in (o.0, o.1 ∙ sym s))
         (λ n. waits.own p e lt (sym (other_there wait q p at n) ∙ is));
     above = λ i lt le. dite (ℕ_discrete (item_at l i) q)
-        (λ s. above i lt s (let h : slice_index (slice_set wait q at) (item_at l i) ≡ at = ap (λ (j : ℕ). slice_index (slice_set wait q at) j) s ∙ here in omega arith))
+        (λ s. above i lt s (let h : slice_index (slice_set wait q at) (item_at l i) ≡ at =
+        ap (λ (j : ℕ). slice_index (slice_set wait q at) j) s ∙ here in omega arith))
         (λ n. waits.above i lt (let h = other_there wait q (item_at l i) at n in omega arith));
   }
 
@@ -73,9 +75,11 @@ module _ (l : Lines) (rows : AreRows l) (next wait : List ℕ) (waits : AreWaits
       → IsPermutation (x ∷ ready) more → KeepsHeap comer_cmp ready more → KeepsReady l wait ready (slice_set wait q at) more
   ready_comes from x ready more was is it caller moved heap left r = record {
     ordered = heap r.ordered;
-    known = All-permutation (IsKnown l) (x ∷ ready) more moved (All-cons (IsKnown l) x ready (subst (λ (j : ℕ). j < items l) (sym it) inside, caller ∙ ap (λ (j : ℕ). caller_of l j) (sym it)) r.known);
+    known = All-permutation (IsKnown l) (x ∷ ready) more moved
+        (All-cons (IsKnown l) x ready (subst (λ (j : ℕ). j < items l) (sym it) inside, caller ∙ ap (λ (j : ℕ). caller_of l j) (sym it)) r.known);
     here = λ p lt z mark. dite (ℕ_discrete p q)
-        (λ s. count_moved p (x ∷ ready) more moved ∙ (count_same p x ready (it ∙ sym s) ∙ ap suc (r.not_waiting p from lt (ap (λ (j : ℕ). slice_index wait j) s ∙ was))))
+        (λ s. count_moved p (x ∷ ready) more moved
+        ∙ (count_same p x ready (it ∙ sym s) ∙ ap suc (r.not_waiting p from lt (ap (λ (j : ℕ). slice_index wait j) s ∙ was))))
         (λ n. others p n ∙ r.here p lt (sym (other_there wait q p at n) ∙ z) mark);
     not_waiting = λ p e lt z. dite (ℕ_discrete p q)
         (λ s. absurd (let h : slice_index (slice_set wait q at) p ≡ at = ap (λ (j : ℕ). slice_index (slice_set wait q at) j) s ∙ here in omega arith))
@@ -114,36 +118,46 @@ closed_more l next old new i q Due After at waits closed settled others more p e
     (λ n. let o = waits.own p e lt is in more e o.0 (λ s. n (sym o.1 ∙ (ap (item_at l) s ∙ sym at))) (closed p e lt (sym (others p n) ∙ is) opened))
 
 -- one of the places that stand level from `start` is settled
-pub level_more : (l : Lines) (next old new : List ℕ) (i q start : ℕ) → q ≡ item_at l i → AreWaits l next new → AreClosed l next old (λ e. (first_at l e ≡ start) × (i ≤ e))
+pub level_more : (l : Lines) (next old new : List ℕ) (i q start : ℕ) → q ≡ item_at l i → AreWaits l next new
+    → AreClosed l next old (λ e. (first_at l e ≡ start) × (i ≤ e))
     → ((e : ℕ) → slice_index new q ≡ suc e → IsOpen l next e → ⊥) → ((p : ℕ) → p ≢ q → slice_index new p ≡ slice_index old p)
     → AreClosed l next new (λ e. (first_at l e ≡ start) × (i + 1 ≤ e))
-level_more l next old new i q start at waits closed settled others = closed_more l next old new i q (λ e. (first_at l e ≡ start) × (i ≤ e)) (λ e. (first_at l e ≡ start) × (i + 1 ≤ e)) at waits closed settled others
+level_more l next old new i q start at waits closed settled others =
+    closed_more l next old new i q (λ e. (first_at l e ≡ start) × (i ≤ e)) (λ e. (first_at l e ≡ start) × (i + 1 ≤ e)) at waits closed settled others
     (λ e lt n d. (d.0, let k = d.1 in omega arith))
 
 pub all_more : (l : Lines) (next old new : List ℕ) (i q : ℕ) → q ≡ item_at l i → AreWaits l next new → AreClosed l next old (λ e. i ≤ e)
     → ((e : ℕ) → slice_index new q ≡ suc e → IsOpen l next e → ⊥) → ((p : ℕ) → p ≢ q → slice_index new p ≡ slice_index old p)
     → AreClosed l next new (λ e. i + 1 ≤ e)
-all_more l next old new i q at waits closed settled others = closed_more l next old new i q (λ e. i ≤ e) (λ e. i + 1 ≤ e) at waits closed settled others (λ e lt n d. omega arith)
+all_more l next old new i q at waits closed settled others =
+    closed_more l next old new i q (λ e. i ≤ e) (λ e. i + 1 ≤ e) at waits closed settled others (λ e lt n d. omega arith)
 
 -- before the first, and behind the last
-pub level_first : (l : Lines) → AreRows l → (next wait : List ℕ) (start : ℕ) → AreWaits l next wait → AreClosed l next wait (λ e. first_at l e ≡ start) → AreClosed l next wait (λ e. (first_at l e ≡ start) × (start ≤ e))
-level_first l rows next wait start waits closed p e lt is opened = let f = closed p e lt is opened in let o = waits.own p e lt is in let up = rows.up e o.0 in (f, omega arith)
+pub level_first : (l : Lines) → AreRows l → (next wait : List ℕ) (start : ℕ) → AreWaits l next wait
+    → AreClosed l next wait (λ e. first_at l e ≡ start) → AreClosed l next wait (λ e. (first_at l e ≡ start) × (start ≤ e))
+level_first l rows next wait start waits closed p e lt is opened = let f = closed p e lt is opened in let o =
+    waits.own p e lt is in let up = rows.up e o.0 in (f, omega arith)
 
-pub level_left : (l : Lines) → AreRows l → (next wait : List ℕ) (i start : ℕ) → start ≤ i → AreWaits l next wait → AreClosed l next wait (λ e. (first_at l e ≡ start) × (i ≤ e)) → (first_at l i ≡ start → ⊥) → AreClosed l next wait (λ e. ⊥)
+pub level_left : (l : Lines) → AreRows l → (next wait : List ℕ) (i start : ℕ) → start ≤ i → AreWaits l next wait
+    → AreClosed l next wait (λ e. (first_at l e ≡ start) × (i ≤ e)) → (first_at l i ≡ start → ⊥) → AreClosed l next wait (λ e. ⊥)
 level_left l rows next wait i start le waits closed other p e lt is opened =
     let d = closed p e lt is opened in let o = waits.own p e lt is in let f = d.0 in let k = d.1 in
     other (rows.level e i o.0 (omega arith) k ∙ f)
 
-pub level_last : (l : Lines) (next wait : List ℕ) (i start : ℕ) → places l ≤ i → AreWaits l next wait → AreClosed l next wait (λ e. (first_at l e ≡ start) × (i ≤ e)) → AreClosed l next wait (λ e. ⊥)
-level_last l next wait i start le waits closed p e lt is opened = let d = closed p e lt is opened in let o = waits.own p e lt is in let a = o.0 in let k = d.1 in omega arith
+pub level_last : (l : Lines) (next wait : List ℕ) (i start : ℕ) → places l ≤ i → AreWaits l next wait
+    → AreClosed l next wait (λ e. (first_at l e ≡ start) × (i ≤ e)) → AreClosed l next wait (λ e. ⊥)
+level_last l next wait i start le waits closed p e lt is opened = let d = closed p e lt is opened in let o =
+    waits.own p e lt is in let a = o.0 in let k = d.1 in omega arith
 
-pub all_last : (l : Lines) (next wait : List ℕ) (i : ℕ) → places l ≤ i → AreWaits l next wait → AreClosed l next wait (λ e. i ≤ e) → AreClosed l next wait (λ e. ⊥)
+pub all_last : (l : Lines) (next wait : List ℕ) (i : ℕ) → places l ≤ i → AreWaits l next wait
+    → AreClosed l next wait (λ e. i ≤ e) → AreClosed l next wait (λ e. ⊥)
 all_last l next wait i le waits closed p e lt is opened = let d = closed p e lt is opened in let o = waits.own p e lt is in let a = o.0 in omega arith
 
 -- a line goes on by one place
 module _ (l : Lines) (rows : AreRows l) (left : List Bool) (next wait : List ℕ) (gone : AreGone l left next) (waits : AreWaits l next wait) (line : ℕ)
     (inside : line < places l) (begins : base_at l line ≡ line)
-    (passed : (slice_index next line < places l) × (base_at l (slice_index next line) ≡ line) × (slice_get left (item_at l (slice_index next line)) ≡ Some false)) where
+    (passed : (slice_index next line < places l) × (base_at l (slice_index next line) ≡ line)
+    × (slice_get left (item_at l (slice_index next line)) ≡ Some false)) where
   at : ℕ
   at = slice_index next line
 
@@ -161,7 +175,8 @@ module _ (l : Lines) (rows : AreRows l) (left : List Bool) (next wait : List ℕ
   pub gone_on : AreGone l left moved
   gone_on = record {
     count = length-set next line (slice_index next line + 1) ∙ gone.count;
-    from = λ b lt is. let f = gone.from b lt is in ⊎_elim (λ e. omega arith) (λ e. let g = e.1 in let s = ap (λ (j : ℕ). slice_index next j) e.0 in omega arith) (moved_at b);
+    from = λ b lt is. let f = gone.from b lt is in ⊎_elim (λ e. omega arith) (λ e. let g = e.1 in let s =
+        ap (λ (j : ℕ). slice_index next j) e.0 in omega arith) (moved_at b);
     gone = λ b j lt is low high. ⊎_elim
         (λ e. gone.gone b j lt is low (omega arith))
         (λ e. dite (ℕ_discrete j (slice_index next line))
@@ -183,7 +198,8 @@ module _ (l : Lines) (rows : AreRows l) (left : List Bool) (next wait : List ℕ
   pub closed_on : AreClosed l next wait (λ e. ⊥) → AreClosed l moved wait (λ e. first_at l e ≡ slice_index next line + 1)
   closed_on closed p e lt is opened = ⊎_elim
       (λ s. absurd (closed p e lt is (omega arith)))
-      (λ s. let g = s.1 in let h = ap (λ (j : ℕ). slice_index next j) s.0 in dite (ℕ_discrete (first_at l e) (slice_index next line + 1)) (λ f. f) (λ n. absurd (closed p e lt is (omega arith))))
+      (λ s. let g = s.1 in let h = ap (λ (j : ℕ). slice_index next j) s.0 in
+      dite (ℕ_discrete (first_at l e) (slice_index next line + 1)) (λ f. f) (λ n. absurd (closed p e lt is (omega arith))))
       (moved_at (base_at l e))
 
   pub others_on : (b : ℕ) → b ≢ line → slice_index moved b ≡ slice_index next b
@@ -209,7 +225,8 @@ module _ (l : Lines) (rows : AreRows l) (left : List Bool) (p : ℕ) where
       → ((b : ℕ) → b ≢ base_at l e → slice_index new b ≡ slice_index old b) → AreStopped l left new p (before_at l e)
   stopped_down old new e o stopped now others b lt is go = dite (ℕ_discrete b (base_at l e))
       (λ s. absurd (go (subst (λ (i : ℕ). IsStopped l left new i) (sym s) now)))
-      (λ n. let k = stopped b lt is (λ st. go (subst (λ (i : ℕ). i < places l → base_at l i ≡ b → slice_get left (item_at l i) ≡ Some false → ⊥) (sym (others b n)) st)) in (
+      (λ n. let k = stopped b lt is (λ st.
+      go (subst (λ (i : ℕ). i < places l → base_at l i ≡ b → slice_get left (item_at l i) ≡ Some false → ⊥) (sym (others b n)) st)) in (
         k.0,
         dite (dec_lt k.0 (before_at l e)) (λ h. h) (λ h. absurd (dite (ℕ_discrete k.0 e)
             (λ s. n (sym k.3 ∙ ap (base_at l) s))

@@ -23,7 +23,8 @@ IsOpen l next i = first_at l i ≤ slice_index next (base_at l i)
 pub record AreGone (l : Lines) (left : List Bool) (next : List ℕ) : Type 0 where
   pub count : length next ≡ places l
   pub from : (b : ℕ) → b < places l → base_at l b ≡ b → b ≤ slice_index next b
-  pub gone : (b j : ℕ) → b < places l → base_at l b ≡ b → b ≤ j → j < slice_index next b → (j < places l) × (base_at l j ≡ b) × (slice_get left (item_at l j) ≡ Some false)
+  pub gone : (b j : ℕ) → b < places l → base_at l b ≡ b → b ≤ j → j < slice_index next b → (j < places l)
+      × (base_at l j ≡ b) × (slice_get left (item_at l j) ≡ Some false)
 
 -- the line can go no further
 abbrev pub IsStopped : Lines → List Bool → List ℕ → ℕ → Type 0

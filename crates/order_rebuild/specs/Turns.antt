@@ -42,7 +42,8 @@ caller_code caller index = (2 * caller + 1) * LINE + index
 
 -- the item at p stands there in one of its lines
 abbrev pub IsTurnOf : List Spot → ℕ → ℕ → Type 0
-IsTurnOf list p code = (s : Spot) × (slice_get list p ≡ Some s) × (((k : ℕ) × IsLockCode s.uses k code) ⊎ ((code ≡ caller_code s.caller s.index) × (s.index < LINE)))
+IsTurnOf list p code = (s : Spot) × (slice_get list p ≡ Some s)
+    × (((k : ℕ) × IsLockCode s.uses k code) ⊎ ((code ≡ caller_code s.caller s.index) × (s.index < LINE)))
 
 -- the item p stands there, by the turns
 abbrev pub HasTurn : List Turn → ℕ → ℕ → Type 0
@@ -51,7 +52,8 @@ HasTurn turns p code = (i : ℕ) × (slice_get turns i ≡ Some (record { code =
 -- these are the turns of the items below n, in any order
 pub record AreTurns (list : List Spot) (n : ℕ) (turns : List Turn) : Type 0 where
   pub sound : (i : ℕ) (t : Turn) → slice_get turns i ≡ Some t → (t.item < n) × IsTurnOf list t.item t.code
-  pub of_uses : (p : ℕ) (s : Spot) (j : ℕ) (u : LockUse) → p < n → slice_get list p ≡ Some s → slice_get s.uses j ≡ Some u → (code : ℕ) × IsLockCode s.uses u.lock code × HasTurn turns p code
+  pub of_uses : (p : ℕ) (s : Spot) (j : ℕ) (u : LockUse) → p < n → slice_get list p ≡ Some s
+      → slice_get s.uses j ≡ Some u → (code : ℕ) × IsLockCode s.uses u.lock code × HasTurn turns p code
   pub of_caller : (p : ℕ) (s : Spot) → p < n → slice_get list p ≡ Some s → (s.index < LINE) × HasTurn turns p (caller_code s.caller s.index)
 
 -- the turns gain those of the first n uses of the item p

@@ -1,5 +1,6 @@
 -- Callers by their numbers.
-use Rattle.std.proofs.Common.{◌≡◌, ℕ, suc, zero, ◌<◌, ◌≤◌, List, [], ◌∷◌, map, length, slice_get, slice_index_or, Some, None, refl, sym, ap, ◌∙◌, true≢false, arith}
+use Rattle.std.proofs.Common.{◌≡◌, ℕ, suc, zero, ◌<◌, ◌≤◌, List, [], ◌∷◌, map, length, slice_get, slice_index_or, Some, None, refl, sym, ap, ◌∙◌, true≢false}
+use Rattle.std.proofs.Common.{arith}
 use Rattle.std.specs.List.{position, position_or_len}
 use Rattle.std.specs.Str.{bytes_eq}
 use Rattle.std.proofs.lemmas.List.{get_or-map, length-map}
@@ -14,14 +15,16 @@ use Rattle.script_reader.specs.Inner.Callers.{beside}
 
 module _ {K V : Type 0} (bytes : K → List ℕ) (view : V → List (List Op)) where
   -- the name of a caller is that of its key
-  pub name_beside : (keys : List K) (xs : List V) (i : ℕ) (k : K) (d : Caller) → length keys ≡ length xs → slice_get keys i ≡ Some k → (slice_index_or (beside (map bytes keys) (map view xs)) i d).name ≡ bytes k
+  pub name_beside : (keys : List K) (xs : List V) (i : ℕ) (k : K) (d : Caller) → length keys ≡ length xs
+      → slice_get keys i ≡ Some k → (slice_index_or (beside (map bytes keys) (map view xs)) i d).name ≡ bytes k
   name_beside [] xs i k d even at = absurd (none-some _ at)
   name_beside (x ∷ keys) [] i k d even at = absurd (omega arith)
   name_beside (x ∷ keys) (v ∷ xs) zero k d even at = ap bytes (same_Some x k at)
   name_beside (x ∷ keys) (v ∷ xs) (suc i) k d even at = name_beside keys xs i k d (omega arith) at
 
   -- and its scripts are those beside its key
-  pub scripts_beside : (keys : List K) (xs : List V) (i : ℕ) (v : V) (d : Caller) → length keys ≡ length xs → i < length xs → slice_index_or xs i v ≡ v → (slice_index_or (beside (map bytes keys) (map view xs)) i d).scripts ≡ view v
+  pub scripts_beside : (keys : List K) (xs : List V) (i : ℕ) (v : V) (d : Caller) → length keys ≡ length xs
+      → i < length xs → slice_index_or xs i v ≡ v → (slice_index_or (beside (map bytes keys) (map view xs)) i d).scripts ≡ view v
   scripts_beside [] [] i v d even less at = absurd (omega arith)
   scripts_beside [] (y ∷ xs) i v d even less at = absurd (omega arith)
   scripts_beside (x ∷ keys) [] i v d even less at = absurd (omega arith)
@@ -55,17 +58,20 @@ module _ {K V : Type 0} (bytes : K → List ℕ) (view : V → List (List Op)) (
       ∙ ap (λ l. slice_index_or l i []) names_are ∙ get_or-map bytes keys i k [] less
 
   -- where a name is found, the caller has it
-  pub named_where_found : (i : ℕ) (d : Caller) → position (λ k. bytes_eq name (bytes k)) keys ≡ Some i → (i < length (beside (map bytes keys) (map view xs))) × ((slice_index_or (beside (map bytes keys) (map view xs)) i d).name ≡ name)
+  pub named_where_found : (i : ℕ) (d : Caller) → position (λ k. bytes_eq name (bytes k)) keys ≡ Some i
+      → (i < length (beside (map bytes keys) (map view xs))) × ((slice_index_or (beside (map bytes keys) (map view xs)) i d).name ≡ name)
   named_where_found i d found = by keys refl found
     where
-      by : (ks : List K) → ks ≡ keys → position (λ k. bytes_eq name (bytes k)) ks ≡ Some i → (i < length (beside (map bytes keys) (map view xs))) × ((slice_index_or (beside (map bytes keys) (map view xs)) i d).name ≡ name)
+      by : (ks : List K) → ks ≡ keys → position (λ k. bytes_eq name (bytes k)) ks ≡ Some i
+          → (i < length (beside (map bytes keys) (map view xs))) × ((slice_index_or (beside (map bytes keys) (map view xs)) i d).name ≡ name)
       by [] e nothing = absurd (none-some _ nothing)
       by (k ∷ ks) e here =
           let at = position-Some (λ k. bytes_eq name (bytes k)) keys i k found in
           (omega (arith, at.0, as_many), name_at i d k at.0 ∙ sym ((bytes_eq-Decides name (bytes (slice_index_or keys i k))).0 at.1))
 
   -- where none is found, no caller has it
-  pub no_caller_named : position (λ k. bytes_eq name (bytes k)) keys ≡ None → (i : ℕ) (d : Caller) → i < length (beside (map bytes keys) (map view xs)) → (slice_index_or (beside (map bytes keys) (map view xs)) i d).name ≡ name → ⊥
+  pub no_caller_named : position (λ k. bytes_eq name (bytes k)) keys ≡ None → (i : ℕ) (d : Caller)
+      → i < length (beside (map bytes keys) (map view xs)) → (slice_index_or (beside (map bytes keys) (map view xs)) i d).name ≡ name → ⊥
   no_caller_named found i d less same = by keys refl
     where
       past : length keys ≤ position_or_len (λ k. bytes_eq name (bytes k)) keys
@@ -75,4 +81,5 @@ module _ {K V : Type 0} (bytes : K → List ℕ) (view : V → List (List Op)) (
       by [] e = omega (arith, as_many, less, ap length e)
       by (k ∷ ks) e =
           let within : i < length keys = omega (arith, as_many, less) in
-          true≢false (sym ((bytes_eq-Decides name (bytes (slice_index_or keys i k))).1 (sym same ∙ name_at i d k within)) ∙ fails_before_first (λ k. bytes_eq name (bytes k)) keys i k (omega (arith, within, past)))
+          true≢false (sym ((bytes_eq-Decides name (bytes (slice_index_or keys i k))).1 (sym same
+          ∙ name_at i d k within)) ∙ fails_before_first (λ k. bytes_eq name (bytes k)) keys i k (omega (arith, within, past)))

@@ -1,5 +1,6 @@
 -- How many lines are read, and which of them is faulty.
-use Rattle.std.proofs.Common.{◌≡◌, ◌≢◌, ◌⊎◌, inl, inr, ℕ, ◌+◌, ◌-◌, ◌*◌, ◌<◌, ◌≤◌, ◌^◌, ◌==◌, Bool, true, false, not, ◌&&◌, ◌||◌, nat_le, if◌then◌else◌, List, [], ◌∷◌, ◌++◌, codes, map, take, drop, length, Option, Some, None, refl, sym, ap, ◌∙◌, append_assoc, length-append, arith}
+use Rattle.std.proofs.Common.{◌≡◌, ◌≢◌, ◌⊎◌, inl, inr, ℕ, ◌+◌, ◌-◌, ◌*◌, ◌<◌, ◌≤◌, ◌^◌, ◌==◌, Bool, true, false, not, ◌&&◌, ◌||◌, nat_le, if◌then◌else◌, List}
+use Rattle.std.proofs.Common.{[], ◌∷◌, ◌++◌, codes, map, take, drop, length, Option, Some, None, refl, sym, ap, ◌∙◌, append_assoc, length-append, arith}
 use Rattle.std.specs.List.{flat_map, list_any, count_by, AllByRecursion}
 use Rattle.std.specs.FinMap as finmap
 use Rattle.std.specs.FinMap.{len-entries}
@@ -15,7 +16,8 @@ use Rattle.script_reader.specs.Inner.LinesAsWords.{books_words, submission_words
 use Rattle.script_reader.specs.Input.{ClearingInput, Submission, AreCallersFor, callers_of}
 use Rattle.script_reader.specs.Grammar.{Spells}
 use Rattle.script_reader.specs.Forms.{Words, is_only, begins, value_at, are_numbers, are_in_range, ranges_of, form_of, books_forms}
-use Rattle.script_reader.specs.Faults.{StartsFaulty, IsFaultyBehind, fault_of, books_fault, inside_fault, outside_fault, is_inside, is_late, is_low, is_given, takes_block, size_at}
+use Rattle.script_reader.specs.Faults.{StartsFaulty, IsFaultyBehind, fault_of, books_fault, inside_fault, outside_fault, is_inside, is_late, is_low, is_given}
+use Rattle.script_reader.specs.Faults.{takes_block, size_at}
 use Rattle.script_reader.proofs.Submitting.{IsGoodScript, scripts_are_good}
 use Rattle.script_reader.proofs.Scripted.{opened}
 use Rattle.script_reader.proofs.Reaching.{IsReached, AtStart, InBooks, Outside, WithinScript, reach_all, scripts_counted}
@@ -27,7 +29,8 @@ use Rattle.script_reader.proofs.Deciding.{spelled}
 few_of_books : (b : ClearingBooks) → AreInRange b → length (books_words b) ≤ 20000
 few_of_books b range = omega (
   arith,
-  length-append (map account_words (finmap.entries b.accounts)) (map price_words (finmap.entries b.prices) ++ (map position_words (finmap.entries b.positions) ++ map call_words b.calls)),
+  length-append (map account_words (finmap.entries b.accounts)) (map price_words (finmap.entries b.prices)
+      ++ (map position_words (finmap.entries b.positions) ++ map call_words b.calls)),
   length-append (map price_words (finmap.entries b.prices)) (map position_words (finmap.entries b.positions) ++ map call_words b.calls),
   length-append (map position_words (finmap.entries b.positions)) (map call_words b.calls),
   length-map (finmap.entries b.accounts) account_words,
@@ -92,8 +95,11 @@ no_more = λ e. cc
 not_missing : (before : List Words) (words : Words) → fault_of before words ≢ Some fault.End
 not_missing [] words = other _ fault.Header _ (λ e. cc) (other _ fault.Number _ (λ e. cc) (other _ fault.Limit _ (λ e. cc) no_more))
 not_missing (header ∷ lines) words = by (list_any (is_only (codes "scripts")) (header ∷ lines)) (is_inside (header ∷ lines))
-    (other _ fault.Word _ (λ e. cc) (other (is_late before words) fault.Order _ (λ e. cc) (other (not (are_numbers (drop 1 words))) fault.Number _ (λ e. cc) (other is_beyond_limits fault.Limit _ (λ e. cc)
-    (other (is_low before words) fault.Order _ (λ e. cc) (other (lacks (codes "account") 1) fault.Account _ (λ e. cc) (other (lacks (codes "price") 2) fault.Price _ (λ e. cc) (other (takes_block words && nat_le (size_at before 3) (count_by takes_block before)) fault.Blocks _ (λ e. cc) no_more))))))))
+    (other _ fault.Word _ (λ e. cc) (other (is_late before words) fault.Order _ (λ e. cc)
+    (other (not (are_numbers (drop 1 words))) fault.Number _ (λ e. cc) (other is_beyond_limits fault.Limit _ (λ e. cc)
+    (other (is_low before words) fault.Order _ (λ e. cc) (other (lacks (codes "account") 1) fault.Account _ (λ e. cc)
+    (other (lacks (codes "price") 2) fault.Price _ (λ e. cc)
+    (other (takes_block words && nat_le (size_at before 3) (count_by takes_block before)) fault.Blocks _ (λ e. cc) no_more))))))))
     (other _ fault.Word _ (λ e. cc) (other _ fault.Number _ (λ e. cc) (other _ fault.Limit _ (λ e. cc) no_more)))
     (other _ fault.Word _ (λ e. cc) (other _ fault.Limit _ (λ e. cc) no_more))
   where
@@ -101,13 +107,16 @@ not_missing (header ∷ lines) words = by (list_any (is_only (codes "scripts")) 
     before = header ∷ lines
 
     is_beyond_limits : Bool
-    is_beyond_limits = not (are_in_range (drop 1 words) (ranges_of (form_of (books_forms (size_at before 5)) words))) || (begins (codes "call") words && nat_le (size_at before 7) (count_by (begins (codes "call")) before))
+    is_beyond_limits = not (are_in_range (drop 1 words) (ranges_of (form_of (books_forms (size_at before 5)) words))) ||
+        (begins (codes "call") words && nat_le (size_at before 7) (count_by (begins (codes "call")) before))
 
     lacks : List ℕ → ℕ → Bool
     lacks keyword place = begins (codes "position") words && not (is_given before keyword (value_at words place))
 
-    by : (scripts inside : Bool) → books_fault (header ∷ lines) words ≢ Some fault.End → inside_fault (header ∷ lines) words ≢ Some fault.End → outside_fault (header ∷ lines) words ≢ Some fault.End
-        → (if not scripts then books_fault (header ∷ lines) words else (if inside then inside_fault (header ∷ lines) words else outside_fault (header ∷ lines) words)) ≢ Some fault.End
+    by : (scripts inside : Bool) → books_fault (header ∷ lines) words ≢ Some fault.End
+        → inside_fault (header ∷ lines) words ≢ Some fault.End → outside_fault (header ∷ lines) words ≢ Some fault.End
+        → (if not scripts then books_fault (header ∷ lines) words else
+        (if inside then inside_fault (header ∷ lines) words else outside_fault (header ∷ lines) words)) ≢ Some fault.End
     by false inside in_books within between = in_books
     by true true in_books within between = within
     by true false in_books within between = between
@@ -149,7 +158,8 @@ told text left why h = by h.here
         }
     by (inr (free, same, is_end)) =
         let e : text ≡ lines ++ left = h.text_is ∙ ap (λ l. lines ++ l) (sym same) in
-        let counted : feeds text left ≡ length h.more = ap (count_by (λ b. b == LINE_FEED)) (take_front text lines left _ e refl) ∙ count_lines [] h.more h.faultless in
+        let counted : feeds text left ≡ length h.more =
+        ap (count_by (λ b. b == LINE_FEED)) (take_front text lines left _ e refl) ∙ count_lines [] h.more h.faultless in
         record {
           shorter = omega (arith, ap length e, length-append lines left);
           few = omega (arith, counted, few);

@@ -1,5 +1,6 @@
 -- A line of books to which no reason applies adds to the books.
-use Rattle.std.proofs.Common.{lit<, ◌≡◌, ℕ, ◌+◌, ◌<◌, ◌≤◌, ◌^◌, Bool, true, false, not, ◌&&◌, ◌||◌, ◌==◌, nat_le, nat_lt, cond, List, [], ◌∷◌, ◌++◌, codes, map, drop, length, Some, None, IsSome, refl, sym, ap, subst, ◌∙◌, arith}
+use Rattle.std.proofs.Common.{lit<, ◌≡◌, ℕ, ◌+◌, ◌<◌, ◌≤◌, ◌^◌, Bool, true, false, not, ◌&&◌, ◌||◌, ◌==◌, nat_le, nat_lt, cond, List, [], ◌∷◌, ◌++◌, codes, map}
+use Rattle.std.proofs.Common.{drop, length, Some, None, IsSome, refl, sym, ap, subst, ◌∙◌, arith}
 use Rattle.std.specs.List.{list_any, AllByRecursion}
 use Rattle.std.specs.Cmp.{nat_cmp_total}
 use Rattle.std.specs.Ordering.{nat_cmp, is_eq}
@@ -12,7 +13,8 @@ use Rattle.std.proofs.lemmas.Cmp.{ranked}
 use Rattle.books_model.specs.Books.{ClearingBooks, empty_books, position_cmp, put_cash, put_price, put_quantity, put_call, used}
 use Rattle.books_model.specs.Ranges.{AreInRange, IsWithin, IsAccountNumber, IsInstrumentOf, IsCall}
 use Rattle.books_model.proofs.Maps.{positions_total}
-use Rattle.books_model.proofs.InRange.{empty_books-in_range, put_cash-in_range, put_price-in_range, put_quantity-in_range, put_call-in_range, used_after_insert, used_after_price, used_after_position}
+use Rattle.books_model.proofs.InRange.{empty_books-in_range, put_cash-in_range, put_price-in_range, put_quantity-in_range, put_call-in_range, used_after_insert}
+use Rattle.books_model.proofs.InRange.{used_after_price, used_after_position}
 use Rattle.std.specs.Str.{bytes_eq}
 use Rattle.std.proofs.lemmas.Slice.Eq.{bytes_eq-Decides}
 use Rattle.script_reader.specs.Lines.{word_at}
@@ -36,7 +38,8 @@ no_elements [] h = refl
 no_elements (x ∷ xs) h = cc
 
 -- where none is not below, all are below
-pub all_are_below : {A : Type 0} (f : A → ℕ × ℕ) (key : ℕ × ℕ) (es : List A) → list_any (λ e. not (is_below (f e) key)) es ≡ false → AllByRecursion (λ e. is_below (f e) key ≡ true) es
+pub all_are_below : {A : Type 0} (f : A → ℕ × ℕ) (key : ℕ × ℕ) (es : List A)
+    → list_any (λ e. not (is_below (f e) key)) es ≡ false → AllByRecursion (λ e. is_below (f e) key ≡ true) es
 all_are_below f key [] h = tt
 all_are_below f key (e ∷ es) h = let parts = neither h in (passed parts.0, all_are_below f key es parts.1)
 
@@ -80,7 +83,18 @@ has_no_fault p words none =
     let n6 = none_applies _ fault.Account _ n5.1 in
     let n7 = none_applies _ fault.Price _ n6.1 in
     let n8 = none_applies _ fault.Blocks _ n7.1 in
-    record { formed = n1.0; in_order = n2.0; numbers = passed n3.0; ranges = passed limit.0; queued = limit.1; rises = n5.0; account = n6.0; price = n7.0; room = n8.0 }
+    record {
+      formed = n1.0;
+      in_order = n2.0;
+      numbers = passed n3.0;
+      ranges = passed limit.0;
+      queued = limit.1;
+      rises =
+          n5.0;
+      account = n6.0;
+      price = n7.0;
+      room = n8.0;
+    }
 
 -- a key among those of a map is found
 pub key_found : (m : finmap.FinMap nat_cmp ℕ) (a : ℕ) → list_any (λ x. x.0 == a) (finmap.entries m) ≡ true → IsSome (finmap.get m a)
@@ -90,7 +104,9 @@ key_found m a h = subst IsSome (sym (get-entries m a)) (by (finmap.entries m) h)
     by [] g = absurd (false≢true g)
     by (e ∷ es) g = here (nat_cmp a e.0) refl (e.0 == a) refl g (by es)
       where
-        here : (r : Ordering) → nat_cmp a e.0 ≡ r → (c : Bool) → (e.0 == a) ≡ c → (c || list_any (λ x. x.0 == a) es) ≡ true → (list_any (λ x. x.0 == a) es ≡ true → IsSome (find nat_cmp a es)) → IsSome (cond (is_eq r) (Some e.1) (find nat_cmp a es))
+        here : (r : Ordering) → nat_cmp a e.0 ≡ r → (c : Bool) → (e.0 == a) ≡ c
+            → (c || list_any (λ x. x.0 == a) es) ≡ true
+            → (list_any (λ x. x.0 == a) es ≡ true → IsSome (find nat_cmp a es)) → IsSome (cond (is_eq r) (Some e.1) (find nat_cmp a es))
         here Equal q c f g rest = refl
         here Less q true f g rest = absurd (omega (arith, ranked a e.0 Less (sym q), eqb-true e.0 a f))
         here Less q false f g rest = rest g
@@ -99,8 +115,16 @@ key_found m a h = subst IsSome (sym (get-entries m a)) (by (finmap.entries m) h)
 
 module _ (b : ClearingBooks) (range : AreInRange b) where
   -- a block is left where no reason says otherwise
-  free : nat_le b.blocks (length (finmap.entries b.accounts) + length (finmap.entries b.prices) + length (finmap.entries b.positions)) ≡ false → used b < b.blocks
-  free h = omega (arith, leb-false b.blocks (length (finmap.entries b.accounts) + length (finmap.entries b.prices) + length (finmap.entries b.positions)) h, len-entries b.accounts, len-entries b.prices, len-entries b.positions)
+  free : nat_le b.blocks (length (finmap.entries b.accounts) + length (finmap.entries b.prices)
+      + length (finmap.entries b.positions)) ≡ false → used b < b.blocks
+  free h = omega (
+    arith,
+    leb-false b.blocks (length (finmap.entries b.accounts) + length (finmap.entries b.prices)
+        + length (finmap.entries b.positions)) h,
+    len-entries b.accounts,
+    len-entries b.prices,
+    len-entries b.positions,
+  )
 
   -- what an account's line adds
   pub record AddsAccount (a cash : List ℕ) : Type 0 where
@@ -122,7 +146,8 @@ module _ (b : ClearingBooks) (range : AreInRange b) where
       let no_calls = no_elements b.calls (neither late.1).1 in
       let read = read_two a cash (1, 4294967295) (0, 1000000000000000) (lit< tt) (lit< tt) none.numbers none.ranges in
       let low = all_are_below (λ e. (e.0, 0)) (value_of a, 0) (finmap.entries b.accounts) (sym (or_false _) ∙ none.rises) in
-      let behind = all_follow (λ e. is_below (e.0, 0) (value_of a, 0) ≡ true) (λ e. nat_cmp e.0 (value_of a) ≡ Less) (finmap.entries b.accounts) (λ e g. less_number e.0 (value_of a) (below_is_less e.0 (value_of a) g)) low in
+      let behind = all_follow (λ e. is_below (e.0, 0) (value_of a, 0) ≡ true) (λ e. nat_cmp e.0 (value_of a) ≡ Less)
+      (finmap.entries b.accounts) (λ e g. less_number e.0 (value_of a) (below_is_less e.0 (value_of a) g)) low in
       let absent = absent_above nat_cmp nat_cmp_total b.accounts (value_of a) behind in
       let room = free none.room in
       record {
@@ -132,10 +157,13 @@ module _ (b : ClearingBooks) (range : AreInRange b) where
         fits = read.3.1;
         absent = absent;
         room = room;
-        in_range = put_cash-in_range b (value_of a) (value_of cash) range read.1 read.3.1 (omega (arith, used_after_insert b (value_of a) (value_of cash) absent, room));
+        in_range = put_cash-in_range b (value_of a) (value_of cash) range read.1 read.3.1
+            (omega (arith, used_after_insert b (value_of a) (value_of cash) absent, room));
         lines = ap (λ l. header_words b ∷ l) (
-            (λ i. map account_words (entries_above nat_cmp nat_cmp_total b.accounts (value_of a) (value_of cash) behind i) ++ (map price_words (finmap.entries b.prices) ++ (map position_words (finmap.entries b.positions) ++ map call_words b.calls)))
-            ∙ account_more (finmap.entries b.accounts) (finmap.entries b.prices) (finmap.entries b.positions) b.calls (value_of a, value_of cash) no_prices no_positions no_calls
+            (λ i. map account_words (entries_above nat_cmp nat_cmp_total b.accounts (value_of a) (value_of cash) behind
+            i) ++ (map price_words (finmap.entries b.prices) ++ (map position_words (finmap.entries b.positions) ++ map call_words b.calls)))
+            ∙ account_more (finmap.entries b.accounts) (finmap.entries b.prices) (finmap.entries b.positions) b.calls
+            (value_of a, value_of cash) no_prices no_positions no_calls
             )
             ∙ (λ i. books_words b ++ (codes "account" ∷ sym read.0 i ∷ sym read.2 i ∷ []) ∷ []);
       }
@@ -159,7 +187,8 @@ module _ (b : ClearingBooks) (range : AreInRange b) where
       let no_calls = no_elements b.calls late.1 in
       let read = read_two i price (1, b.instruments) (1, 1000000000) (instruments_fit b range) (lit< tt) none.numbers none.ranges in
       let low = all_are_below (λ e. (e.0, 0)) (value_of i, 0) (finmap.entries b.prices) (sym (or_false _) ∙ none.rises) in
-      let behind = all_follow (λ e. is_below (e.0, 0) (value_of i, 0) ≡ true) (λ e. nat_cmp e.0 (value_of i) ≡ Less) (finmap.entries b.prices) (λ e g. less_number e.0 (value_of i) (below_is_less e.0 (value_of i) g)) low in
+      let behind = all_follow (λ e. is_below (e.0, 0) (value_of i, 0) ≡ true) (λ e. nat_cmp e.0 (value_of i) ≡ Less)
+      (finmap.entries b.prices) (λ e g. less_number e.0 (value_of i) (below_is_less e.0 (value_of i) g)) low in
       let absent = absent_above nat_cmp nat_cmp_total b.prices (value_of i) behind in
       let room = free none.room in
       record {
@@ -169,10 +198,14 @@ module _ (b : ClearingBooks) (range : AreInRange b) where
         fits = read.3;
         absent = absent;
         room = room;
-        in_range = put_price-in_range b (value_of i) (value_of price) range read.1 read.3 (omega (arith, used_after_price b (value_of i) (value_of price) absent, room));
+        in_range = put_price-in_range b (value_of i) (value_of price) range read.1 read.3
+            (omega (arith, used_after_price b (value_of i) (value_of price) absent, room));
         lines = ap (λ l. header_words b ∷ l) (
-            (λ t. map account_words (finmap.entries b.accounts) ++ (map price_words (entries_above nat_cmp nat_cmp_total b.prices (value_of i) (value_of price) behind t) ++ (map position_words (finmap.entries b.positions) ++ map call_words b.calls)))
-            ∙ price_more (finmap.entries b.accounts) (finmap.entries b.prices) (finmap.entries b.positions) b.calls (value_of i, value_of price) no_positions no_calls
+            (λ t. map account_words (finmap.entries b.accounts)
+            ++ (map price_words (entries_above nat_cmp nat_cmp_total b.prices (value_of i) (value_of price) behind
+            t) ++ (map position_words (finmap.entries b.positions) ++ map call_words b.calls)))
+            ∙ price_more (finmap.entries b.accounts) (finmap.entries b.prices) (finmap.entries b.positions) b.calls
+            (value_of i, value_of price) no_positions no_calls
             )
             ∙ (λ t. books_words b ++ (codes "price" ∷ sym read.0 t ∷ sym read.2 t ∷ []) ∷ []);
       }
@@ -197,7 +230,8 @@ module _ (b : ClearingBooks) (range : AreInRange b) where
       let first = ranged a 1 4294967295 (lit< tt) (both none.numbers).0 (both none.ranges).0 in
       let read = read_two i quantity (1, b.instruments) (1, 1000000) (instruments_fit b range) (lit< tt) (both none.numbers).1 (both none.ranges).1 in
       let low = all_are_below (λ e. e.0) (value_of a, value_of i) (finmap.entries b.positions) none.rises in
-      let behind = all_follow (λ e. is_below e.0 (value_of a, value_of i) ≡ true) (λ e. position_cmp e.0 (value_of a, value_of i) ≡ Less) (finmap.entries b.positions) (λ e g. less_pair e.0 (value_of a, value_of i) g) low in
+      let behind = all_follow (λ e. is_below e.0 (value_of a, value_of i) ≡ true)
+      (λ e. position_cmp e.0 (value_of a, value_of i) ≡ Less) (finmap.entries b.positions) (λ e g. less_pair e.0 (value_of a, value_of i) g) low in
       let absent = absent_above position_cmp positions_total b.positions (value_of a, value_of i) behind in
       let given = key_found b.accounts (value_of a) (passed none.account) in
       let priced = key_found b.prices (value_of i) (passed none.price) in
@@ -211,10 +245,15 @@ module _ (b : ClearingBooks) (range : AreInRange b) where
         priced = priced;
         absent = absent;
         room = room;
-        in_range = put_quantity-in_range b (value_of a) (value_of i) (value_of quantity) range given priced read.3 (omega (arith, used_after_position b (value_of a) (value_of i) (value_of quantity) absent, room));
+        in_range = put_quantity-in_range b (value_of a) (value_of i) (value_of quantity) range given priced read.3
+            (omega (arith, used_after_position b (value_of a) (value_of i) (value_of quantity) absent, room));
         lines = ap (λ l. header_words b ∷ l) (
-            (λ t. map account_words (finmap.entries b.accounts) ++ (map price_words (finmap.entries b.prices) ++ (map position_words (entries_above position_cmp positions_total b.positions (value_of a, value_of i) (value_of quantity) behind t) ++ map call_words b.calls)))
-            ∙ position_more (finmap.entries b.accounts) (finmap.entries b.prices) (finmap.entries b.positions) b.calls ((value_of a, value_of i), value_of quantity) no_calls
+            (λ t. map account_words (finmap.entries b.accounts)
+            ++ (map price_words (finmap.entries b.prices)
+            ++ (map position_words (entries_above position_cmp positions_total b.positions (value_of a, value_of i)
+            (value_of quantity) behind t) ++ map call_words b.calls)))
+            ∙ position_more (finmap.entries b.accounts) (finmap.entries b.prices) (finmap.entries b.positions) b.calls
+            ((value_of a, value_of i), value_of quantity) no_calls
             )
             ∙ (λ t. books_words b ++ (codes "position" ∷ sym first.0 t ∷ sym read.0 t ∷ sym read.2 t ∷ []) ∷ []);
       }
@@ -239,12 +278,14 @@ module _ (b : ClearingBooks) (range : AreInRange b) where
         call = (read.1, read.3);
         room = room;
         in_range = put_call-in_range b (value_of a) (value_of shortfall) range (read.1, read.3) room;
-        lines = ap (λ l. header_words b ∷ l) (call_more (finmap.entries b.accounts) (finmap.entries b.prices) (finmap.entries b.positions) b.calls (value_of a, value_of shortfall))
+        lines = ap (λ l. header_words b ∷ l) (call_more (finmap.entries b.accounts) (finmap.entries b.prices)
+            (finmap.entries b.positions) b.calls (value_of a, value_of shortfall))
             ∙ (λ t. books_words b ++ (codes "call" ∷ sym read.0 t ∷ sym read.2 t ∷ []) ∷ []);
       }
 
 -- eight words, one by one
-pub eight_words : (words : Words) → length words ≡ 8 → words ≡ word_at words 0 ∷ word_at words 1 ∷ word_at words 2 ∷ word_at words 3 ∷ word_at words 4 ∷ word_at words 5 ∷ word_at words 6 ∷ word_at words 7 ∷ []
+pub eight_words : (words : Words) → length words ≡ 8 → words ≡ word_at words 0 ∷ word_at words 1 ∷ word_at words 2
+    ∷ word_at words 3 ∷ word_at words 4 ∷ word_at words 5 ∷ word_at words 6 ∷ word_at words 7 ∷ []
 eight_words (a ∷ b ∷ c ∷ d ∷ e ∷ f ∷ g ∷ h ∷ []) is = refl
 eight_words words is = absurd (omega arith)
 
@@ -276,11 +317,14 @@ header_adds words none =
     let same : (i : ℕ) (k : List ℕ) → bytes_eq (word_at words i) k ≡ true → word_at words i ≡ k = λ i k e. (bytes_eq-Decides (word_at words i) k).0 e in
     let is : words ≡ header_words (books_of_header words) =
     eight_words words (eqb-true (length words) 8 form4.0)
-    ∙ (λ t. same 0 (codes "books") form4.1 t ∷ same 1 (codes "1") form3.1 t ∷ same 2 (codes "blocks") form2.1 t ∷ blocks.0 t ∷ same 4 (codes "instruments") form1.1 t ∷ instruments.0 t ∷ same 6 (codes "ring") form.1 t ∷ ring.0 t ∷ []) in
+    ∙ (λ t. same 0 (codes "books") form4.1 t ∷ same 1 (codes "1") form3.1 t ∷ same 2 (codes "blocks") form2.1 t
+    ∷ blocks.0 t ∷ same 4 (codes "instruments") form1.1 t ∷ instruments.0 t ∷ same 6 (codes "ring") form.1 t ∷ ring.0 t ∷ []) in
     record {
       in_range = empty_books-in_range (value_at words 3) (value_at words 5) (value_at words 7) blocks.1 instruments.1 ring.1;
       words_are = is;
-      lines = (λ t. header_words (books_of_header words) ∷ (map account_words (no_entries nat_cmp t) ++ (map price_words (no_entries nat_cmp t) ++ (map position_words (no_entries position_cmp t) ++ [])))) ∙ ap (λ w. w ∷ []) (sym is);
+      lines = (λ t. header_words (books_of_header words)
+          ∷ (map account_words (no_entries nat_cmp t)
+          ++ (map price_words (no_entries nat_cmp t) ++ (map position_words (no_entries position_cmp t) ++ [])))) ∙ ap (λ w. w ∷ []) (sym is);
     }
   where
     no_entries : {K : Type 0} (R : K → K → Ordering) → finmap.entries (finmap.empty {X = ℕ} {R = R}) ≡ []

@@ -1,5 +1,6 @@
 -- Whether a search finds an element.
-use Rattle.std.proofs.Common.{◌≡◌, ◌⊎◌, inl, inr, ℕ, ◌-◌, ◌<◌, ◌≤◌, Bool, true, false, not, cond, ◌&&◌, ◌||◌, ◌==◌, nat_lt, List, [], ◌∷◌, Option, Some, None, IsSome, refl, sym, ap, subst, ◌∙◌, arith}
+use Rattle.std.proofs.Common.{◌≡◌, ◌⊎◌, inl, inr, ℕ, ◌-◌, ◌<◌, ◌≤◌, Bool, true, false, not, cond, ◌&&◌, ◌||◌, ◌==◌, nat_lt, List, [], ◌∷◌, Option, Some, None}
+use Rattle.std.proofs.Common.{IsSome, refl, sym, ap, subst, ◌∙◌, arith}
 use Rattle.std.specs.List.{find, list_any, AllByRecursion}
 use Rattle.std.specs.Option.{is_some, option_map}
 use Rattle.std.proofs.lemmas.Bool.{lt-ltb, le-ltb, ltb-true, ltb-false, eq-eqb, ne_eqb}
@@ -70,9 +71,11 @@ lt_is_below p x = by (is_lt (position_cmp p x)) refl (is_below p x) refl
 -- the position before another is below all that are not below that other
 before_position : (a i v w : ℕ) (x : ℕ × ℕ) → 1 ≤ i → a ≡ v → i ≡ w → is_below (a, i - 1) x ≡ not (is_below x (v, w))
 before_position a i v w x some same also = elim (below_or_not a x.0) [
-  | inl up ↦ (λ t. up.0 t || ((a == x.0) && nat_lt (i - 1) x.1)) ∙ sym (λ t. not (le-ltb x.0 v (omega (arith, up.1, same)) t || (ne_eqb x.0 v (λ e. omega (arith, up.1, same, e)) t && nat_lt x.1 w)))
+  | inl up ↦ (λ t. up.0 t || ((a == x.0) && nat_lt (i - 1) x.1))
+      ∙ sym (λ t. not (le-ltb x.0 v (omega (arith, up.1, same)) t || (ne_eqb x.0 v (λ e. omega (arith, up.1, same, e)) t && nat_lt x.1 w)))
   | inr not_up ↦ elim (below_or_not x.0 a) [
-    | inl down ↦ (λ t. not_up.0 t || (ne_eqb a x.0 (λ e. omega (arith, down.1, e)) t && nat_lt (i - 1) x.1)) ∙ sym (λ t. not (lt-ltb x.0 v (omega (arith, down.1, same)) t || ((x.0 == v) && nat_lt x.1 w)))
+    | inl down ↦ (λ t. not_up.0 t || (ne_eqb a x.0 (λ e. omega (arith, down.1, e)) t && nat_lt (i - 1) x.1))
+        ∙ sym (λ t. not (lt-ltb x.0 v (omega (arith, down.1, same)) t || ((x.0 == v) && nat_lt x.1 w)))
     | inr not_down ↦
         let tie : a ≡ x.0 = omega (arith, not_up.1, not_down.1) in
         (λ t. not_up.0 t || (eq-eqb a x.0 tie t && nat_lt (i - 1) x.1))
@@ -90,7 +93,8 @@ pub low_position_found : {B : Type 0} (f : (ℕ × ℕ) × ℕ → B) (a i v w :
     → is_some (option_map f (find (λ e. is_lt (position_cmp (a, i - 1) e.0)) es)) ≡ list_any (λ e. not (is_below e.0 (v, w))) es
 low_position_found f a i v w es some same also =
     map_found f (find (λ e. is_lt (position_cmp (a, i - 1) e.0)) es)
-    ∙ found_any (λ e. is_lt (position_cmp (a, i - 1) e.0)) (λ e. not (is_below e.0 (v, w))) es (all_of _ es (λ e. lt_is_below (a, i - 1) e.0 ∙ before_position a i v w e.0 some same also))
+    ∙ found_any (λ e. is_lt (position_cmp (a, i - 1) e.0)) (λ e. not (is_below e.0 (v, w))) es
+    (all_of _ es (λ e. lt_is_below (a, i - 1) e.0 ∙ before_position a i v w e.0 some same also))
 
 -- a key is one of the keys where it is found
 pub given_is_found : (m : map.FinMap nat_cmp ℕ) (a v : ℕ) → a ≡ v → (o : Option ℕ) → o ≡ map.get m a → list_any (λ x. x.0 == v) (map.entries m) ≡ is_some o
@@ -99,4 +103,5 @@ given_is_found m a v same None at = by (list_any (λ x. x.0 == v) (map.entries m
     by : (c : Bool) → list_any (λ x. x.0 == v) (map.entries m) ≡ c → c ≡ false
     by false f = refl
     by true f = absurd (none-some _ (at ∙ (some_of (map.get m a) (subst (λ n. IsSome (map.get m n)) (sym same) (key_found m v f))).1))
-given_is_found m a v same (Some x) at = found_is_given v (map.entries m) (subst IsSome (get-entries m v) (subst (λ n. IsSome (map.get m n)) same (subst IsSome at refl)))
+given_is_found m a v same (Some x) at =
+    found_is_given v (map.entries m) (subst IsSome (get-entries m v) (subst (λ n. IsSome (map.get m n)) same (subst IsSome at refl)))

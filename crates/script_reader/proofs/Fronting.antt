@@ -23,14 +23,17 @@ use Rattle.script_reader.proofs.Reaching.{no_callers}
 use Rattle.script_reader.proofs.Following.{behind_more}
 
 -- a fault behind books that were read
-pub behind_books : (b : ClearingBooks) (range : AreInRange b) (start left after : List ℕ) (why : Fault) → start ≡ flat_map line (books_words b) ++ (scripts_line ++ left) → IsFaultyBehind (lines_so_far b []) left after why → IsFaultyBehind [] start after why
+pub behind_books : (b : ClearingBooks) (range : AreInRange b) (start left after : List ℕ) (why : Fault)
+    → start ≡ flat_map line (books_words b) ++ (scripts_line ++ left) → IsFaultyBehind (lines_so_far b []) left after why → IsFaultyBehind [] start after why
 behind_books b range start left after why text h =
     behind_more [] (lines_so_far b []) start left after why (input_faultless b range [] (no_callers b))
     (text ∙ sym (append_assoc (flat_map line (books_words b)) scripts_line left)
-    ∙ ap (λ l. l ++ left) (ap (λ l. flat_map line (books_words b) ++ l) (sym (append-nil scripts_line)) ∙ sym (flat_map-append line (books_words b) ((codes "scripts" ∷ []) ∷ [])))) h
+    ∙ ap (λ l. l ++ left) (ap (λ l. flat_map line (books_words b) ++ l) (sym (append-nil scripts_line))
+    ∙ sym (flat_map-append line (books_words b) ((codes "scripts" ∷ []) ∷ [])))) h
 
 -- the front of books and scripts that were read
-pub front_of : (b : ClearingBooks) (callers : List Caller) (start middle after : List ℕ) → AreInRange b → start ≡ flat_map line (books_words b) ++ (scripts_line ++ middle) → IsReadOf b callers middle after
+pub front_of : (b : ClearingBooks) (callers : List Caller) (start middle after : List ℕ) → AreInRange b
+    → start ≡ flat_map line (books_words b) ++ (scripts_line ++ middle) → IsReadOf b callers middle after
     → HasFront (record { books = b; callers = callers }) start after
 front_of b callers start middle after range text rest =
     let S : List ℕ = flat_map submission_lines rest.submissions in

@@ -1,5 +1,6 @@
 -- Callers that are gathered one script at a time.
-use Rattle.std.proofs.Common.{◌≡◌, ℕ, suc, zero, ◌+◌, ◌<◌, ◌≤◌, Bool, true, false, not, cond, ◌||◌, List, [], ◌∷◌, ◌++◌, map, length, set, slice_index_or, if◌then◌else◌, nat_lt, Some, None, refl, sym, ap, ◌∙◌, length-append, arith}
+use Rattle.std.proofs.Common.{◌≡◌, ℕ, suc, zero, ◌+◌, ◌<◌, ◌≤◌, Bool, true, false, not, cond, ◌||◌, List, [], ◌∷◌, ◌++◌, map, length, set, slice_index_or}
+use Rattle.std.proofs.Common.{if◌then◌else◌, nat_lt, Some, None, refl, sym, ap, ◌∙◌, length-append, arith}
 use Rattle.std.specs.List.{list_any, position, position_or_len}
 use Rattle.std.specs.Str.{bytes_eq}
 use Rattle.std.proofs.lemmas.List.{map-append, length-map}
@@ -17,7 +18,8 @@ length-beside (n ∷ names) [] e = absurd (omega arith)
 length-beside (n ∷ names) (x ∷ scripts) e = omega (arith, length-beside names scripts (omega arith))
 
 -- and each name is that of a caller
-pub is_caller-beside : (name : List ℕ) (names : List (List ℕ)) (scripts : List (List (List Op))) → length names ≡ length scripts → is_caller name (beside names scripts) ≡ list_any (bytes_eq name) names
+pub is_caller-beside : (name : List ℕ) (names : List (List ℕ)) (scripts : List (List (List Op)))
+    → length names ≡ length scripts → is_caller name (beside names scripts) ≡ list_any (bytes_eq name) names
 is_caller-beside name [] scripts e = refl
 is_caller-beside name (n ∷ names) [] e = absurd (omega arith)
 is_caller-beside name (n ∷ names) (x ∷ scripts) e = ap (λ b. bytes_eq name n || b) (is_caller-beside name names scripts (omega arith))
@@ -33,12 +35,17 @@ pub beside-add : (names : List (List ℕ)) (scripts : List (List (List Op))) (s 
 beside-add [] [] s e = refl
 beside-add [] (x ∷ scripts) s e = absurd (omega arith)
 beside-add (n ∷ names) [] s e = absurd (omega arith)
-beside-add (n ∷ names) (x ∷ scripts) s e = by (bytes_eq s.caller n) (list_any (bytes_eq s.caller) names) (position_or_len (bytes_eq s.caller) names) (beside-add names scripts s (omega arith))
+beside-add (n ∷ names) (x ∷ scripts) s e =
+    by (bytes_eq s.caller n) (list_any (bytes_eq s.caller) names) (position_or_len (bytes_eq s.caller) names) (beside-add names scripts s (omega arith))
   where
     by : (here there : Bool) (place : ℕ)
         → beside (if there then names else names ++ s.caller ∷ []) (put_script scripts place s.script) ≡ add_submission (beside names scripts) s
         → beside (if here || there then n ∷ names else (n ∷ names) ++ s.caller ∷ []) (put_script (x ∷ scripts) (cond (not here) (1 + place) 0) s.script)
-        ≡ (if here then record { name = n; scripts = x ++ s.script ∷ [] } ∷ beside names scripts else record { name = n; scripts = x } ∷ add_submission (beside names scripts) s)
+        ≡ (if here then record { name = n; scripts = x ++ s.script ∷ [] } ∷ beside names scripts else record {
+          name =
+              n;
+          scripts = x;
+        } ∷ add_submission (beside names scripts) s)
     by true there place rest = refl
     by false there place rest =
         let later : 1 + place ≡ suc place = omega arith in
@@ -52,7 +59,8 @@ pub length-add : (names : List (List ℕ)) (scripts : List (List (List Op))) (na
 length-add [] [] name script e = refl
 length-add [] (x ∷ scripts) name script e = absurd (omega arith)
 length-add (n ∷ names) [] name script e = absurd (omega arith)
-length-add (n ∷ names) (x ∷ scripts) name script e = by (bytes_eq name n) (list_any (bytes_eq name) names) (position_or_len (bytes_eq name) names) (length-add names scripts name script (omega arith))
+length-add (n ∷ names) (x ∷ scripts) name script e =
+    by (bytes_eq name n) (list_any (bytes_eq name) names) (position_or_len (bytes_eq name) names) (length-add names scripts name script (omega arith))
   where
     by : (here there : Bool) (place : ℕ)
         → length (if there then names else names ++ name ∷ []) ≡ length (put_script scripts place script)
@@ -68,9 +76,21 @@ count-add [] s = refl
 count-add (c ∷ callers) s = by (bytes_eq s.caller c.name) (count-add callers s)
   where
     by : (here : Bool) → count_scripts (add_submission callers s) ≡ count_scripts callers + 1
-        → count_scripts (if here then record { name = c.name; scripts = c.scripts ++ s.script ∷ [] } ∷ callers else c ∷ add_submission callers s) ≡ count_scripts (c ∷ callers) + 1
-    by true rest = omega (arith, sum_by-cons (λ (c : Caller). length c.scripts) c callers, sum_by-cons (λ (c : Caller). length c.scripts) (record { name = c.name; scripts = c.scripts ++ s.script ∷ [] }) callers, length-append c.scripts (s.script ∷ []))
-    by false rest = omega (arith, rest, sum_by-cons (λ (c : Caller). length c.scripts) c callers, sum_by-cons (λ (c : Caller). length c.scripts) c (add_submission callers s))
+        → count_scripts (if here then record { name = c.name; scripts = c.scripts ++ s.script ∷ [] } ∷ callers else c
+        ∷ add_submission callers s) ≡ count_scripts (c ∷ callers) + 1
+    by true rest = omega (
+      arith,
+      sum_by-cons (λ (c : Caller). length c.scripts) c callers,
+      sum_by-cons (λ (c : Caller). length c.scripts) (record { name = c.name; scripts = c.scripts ++ s.script ∷ [] })
+          callers,
+      length-append c.scripts (s.script ∷ []),
+    )
+    by false rest = omega (
+      arith,
+      rest,
+      sum_by-cons (λ (c : Caller). length c.scripts) c callers,
+      sum_by-cons (λ (c : Caller). length c.scripts) c (add_submission callers s),
+    )
 
 -- a list of scripts with one more at a place
 pub map-set-put : {V : Type 0} (view : V → List (List Op)) (xs : List V) (i : ℕ) (old new : V) (script : List Op)
@@ -87,12 +107,14 @@ map-push-put view (x ∷ xs) zero new script past e = absurd (omega arith)
 map-push-put view (x ∷ xs) (suc i) new script past e = ap (λ l. view x ∷ l) (map-push-put view xs i new script (omega arith) e)
 
 -- the place of a name among keys is that of its bytes
-pub position-map : {K : Type 0} (bytes : K → List ℕ) (name : List ℕ) (keys : List K) → position_or_len (λ k. bytes_eq name (bytes k)) keys ≡ position_or_len (bytes_eq name) (map bytes keys)
+pub position-map : {K : Type 0} (bytes : K → List ℕ) (name : List ℕ) (keys : List K)
+    → position_or_len (λ k. bytes_eq name (bytes k)) keys ≡ position_or_len (bytes_eq name) (map bytes keys)
 position-map bytes name [] = refl
 position-map bytes name (k ∷ keys) = ap (λ n. cond (not (bytes_eq name (bytes k))) (1 + n) 0) (position-map bytes name keys)
 
 -- a name is among keys where its bytes are
-pub any-map : {K : Type 0} (bytes : K → List ℕ) (name : List ℕ) (keys : List K) → list_any (λ k. bytes_eq name (bytes k)) keys ≡ list_any (bytes_eq name) (map bytes keys)
+pub any-map : {K : Type 0} (bytes : K → List ℕ) (name : List ℕ) (keys : List K)
+    → list_any (λ k. bytes_eq name (bytes k)) keys ≡ list_any (bytes_eq name) (map bytes keys)
 any-map bytes name [] = refl
 any-map bytes name (k ∷ keys) = ap (λ b. bytes_eq name (bytes k) || b) (any-map bytes name keys)
 
@@ -111,7 +133,8 @@ name-known names name known = sym (ap (λ b. if b then names else names ++ name 
 -- a new key is a new name
 pub keys-add : {K : Type 0} (bytes : K → List ℕ) (keys : List K) (key : K)
     → map bytes (if list_any (λ k. bytes_eq (bytes key) (bytes k)) keys then keys else keys ++ key ∷ []) ≡ add_name (map bytes keys) (bytes key)
-keys-add bytes keys key = by (list_any (λ k. bytes_eq (bytes key) (bytes k)) keys) ∙ ap (λ b. if b then map bytes keys else map bytes keys ++ bytes key ∷ []) (any-map bytes (bytes key) keys)
+keys-add bytes keys key = by (list_any (λ k. bytes_eq (bytes key) (bytes k)) keys)
+    ∙ ap (λ b. if b then map bytes keys else map bytes keys ++ bytes key ∷ []) (any-map bytes (bytes key) keys)
   where
     by : (b : Bool) → map bytes (if b then keys else keys ++ key ∷ []) ≡ (if b then map bytes keys else map bytes keys ++ bytes key ∷ [])
     by true = refl
@@ -140,10 +163,13 @@ module _ {K V : Type 0} (bytes : K → List ℕ) (view : V → List (List Op)) (
 
     -- an insertion and a script that is put at the name's place add a script of the caller
     pub store-add : beside (map bytes keys') (map view xs') ≡ add_submission (beside (map bytes keys) (map view xs)) (record { caller = name; script = script })
-    store-add = ap (λ n. beside n (map view xs')) names_after ∙ ap (beside (add_name (map bytes keys) name)) scripts_after ∙ beside-add (map bytes keys) (map view xs) (record { caller = name; script = script }) even_views
+    store-add = ap (λ n. beside n (map view xs')) names_after
+        ∙ ap (beside (add_name (map bytes keys) name)) scripts_after
+        ∙ beside-add (map bytes keys) (map view xs) (record { caller = name; script = script }) even_views
 
     -- and leave names and scripts beside each other
     pub even_after : length keys' ≡ length xs'
     even_after =
-        let views : length (map bytes keys') ≡ length (map view xs') = ap length names_after ∙ length-add (map bytes keys) (map view xs) name script even_views ∙ sym (ap length scripts_after) in
+        let views : length (map bytes keys') ≡ length (map view xs') = ap length names_after
+        ∙ length-add (map bytes keys) (map view xs) name script even_views ∙ sym (ap length scripts_after) in
         simp length-map at views

@@ -1,5 +1,6 @@
 -- The callers of a text's scripts are those that are gathered one script at a time.
-use Rattle.std.proofs.Common.{◌≡◌, ℕ, Bool, true, false, cond, ◌||◌, List, [], ◌∷◌, ◌++◌, map, filter, fold, if◌then◌else◌, refl, sym, ap, ◌∙◌, append_assoc, true≢false}
+use Rattle.std.proofs.Common.{◌≡◌, ℕ, Bool, true, false, cond, ◌||◌, List, [], ◌∷◌, ◌++◌, map, filter, fold, if◌then◌else◌, refl, sym, ap, ◌∙◌, append_assoc}
+use Rattle.std.proofs.Common.{true≢false}
 use Rattle.std.specs.List.{list_any, AllByRecursion, IsDistinct}
 use Rattle.std.specs.Str.{bytes_eq}
 use Rattle.std.specs.Cmp.{IsEquivalence}
@@ -49,13 +50,15 @@ any-add_name c x seen = by (list_any (bytes_eq x) seen) refl (bytes_eq c x) refl
         right_false false = refl
 
 -- the names that are first seen are all the names
-any-seen : (c : List ℕ) (names seen : List (List ℕ)) → list_any (bytes_eq c) (fold add_name seen names) ≡ (list_any (bytes_eq c) seen || list_any (bytes_eq c) names)
+any-seen : (c : List ℕ) (names seen : List (List ℕ)) → list_any (bytes_eq c) (fold add_name seen names)
+    ≡ (list_any (bytes_eq c) seen || list_any (bytes_eq c) names)
 any-seen c [] seen = by (list_any (bytes_eq c) seen)
   where
     by : (b : Bool) → b ≡ (b || false)
     by true = refl
     by false = refl
-any-seen c (x ∷ names) seen = any-seen c names (add_name seen x) ∙ ap (λ b. b || list_any (bytes_eq c) names) (any-add_name c x seen) ∙ by (list_any (bytes_eq c) seen) (bytes_eq c x) (list_any (bytes_eq c) names)
+any-seen c (x ∷ names) seen = any-seen c names (add_name seen x)
+    ∙ ap (λ b. b || list_any (bytes_eq c) names) (any-add_name c x seen) ∙ by (list_any (bytes_eq c) seen) (bytes_eq c x) (list_any (bytes_eq c) names)
   where
     by : (p q r : Bool) → ((p || q) || r) ≡ (p || (q || r))
     by true q r = refl
@@ -84,13 +87,15 @@ no-scripts : (c : List ℕ) (subs : List Submission) → list_any (bytes_eq c) (
 no-scripts c [] none = refl
 no-scripts c (s ∷ subs) none = by (bytes_eq c s.caller) none (no-scripts c subs)
   where
-    by : (b : Bool) → (b || list_any (bytes_eq c) (map (λ s. s.caller) subs)) ≡ false → (list_any (bytes_eq c) (map (λ s. s.caller) subs) ≡ false → scripts_by c subs ≡ [])
+    by : (b : Bool) → (b || list_any (bytes_eq c) (map (λ s. s.caller) subs)) ≡ false
+        → (list_any (bytes_eq c) (map (λ s. s.caller) subs) ≡ false → scripts_by c subs ≡ [])
         → map (λ s. s.script) (cond b (s ∷ filter (λ s. bytes_eq c s.caller) subs) (filter (λ s. bytes_eq c s.caller) subs)) ≡ []
     by true there rest = absurd (true≢false there)
     by false there rest = rest there
 
 -- the scripts of a caller after one more script
-scripts_by-push : (n : List ℕ) (subs : List Submission) (s : Submission) → scripts_by n (subs ++ s ∷ []) ≡ scripts_by n subs ++ (if bytes_eq n s.caller then s.script ∷ [] else [])
+scripts_by-push : (n : List ℕ) (subs : List Submission) (s : Submission)
+    → scripts_by n (subs ++ s ∷ []) ≡ scripts_by n subs ++ (if bytes_eq n s.caller then s.script ∷ [] else [])
 scripts_by-push n subs s =
     ap (map (λ s. s.script)) (filter-append (λ s. bytes_eq n s.caller) subs (s ∷ []))
     ∙ map-append (λ s. s.script) (filter (λ s. bytes_eq n s.caller) subs) (filter (λ s. bytes_eq n s.caller) (s ∷ []))
@@ -111,7 +116,8 @@ module _ (scripts : List ℕ → List (List Op)) (s : Submission) where
 
   -- another caller has what it had
   other : (n : List ℕ) → bytes_eq n s.caller ≡ false → has n ≡ had n
-  other n apart = ap (λ b. record { name = n; scripts = scripts n ++ (if b then s.script ∷ [] else []) }) apart ∙ ap (λ l. record { name = n; scripts = l }) (append-nil (scripts n))
+  other n apart = ap (λ b. record { name = n; scripts = scripts n ++ (if b then s.script ∷ [] else []) }) apart
+      ∙ ap (λ l. record { name = n; scripts = l }) (append-nil (scripts n))
 
   -- and so do all others
   others : (c : List ℕ) → c ≡ s.caller → (names : List (List ℕ)) → AllByRecursion (λ m. bytes_eq c m ≡ false) names → map has names ≡ map had names
@@ -122,25 +128,40 @@ module _ (scripts : List ℕ → List (List Op)) (s : Submission) where
 
   -- one more script, among distinct names
   add-had : (names : List (List ℕ)) → IsDistinct bytes_eq names
-      → map has names ++ (if list_any (bytes_eq s.caller) names then [] else record { name = s.caller; scripts = s.script ∷ [] } ∷ []) ≡ add_submission (map had names) s
+      → map has names ++ (if list_any (bytes_eq s.caller) names then [] else record {
+        name = s.caller;
+        scripts =
+            s.script ∷ [];
+      } ∷ []) ≡ add_submission (map had names) s
   add-had [] apart = refl
   add-had (n ∷ names) apart = by (bytes_eq s.caller n) refl (add-had names (IsDistinct-tail bytes_eq n names apart))
     where
       by : (b : Bool) → bytes_eq s.caller n ≡ b
-          → map has names ++ (if list_any (bytes_eq s.caller) names then [] else record { name = s.caller; scripts = s.script ∷ [] } ∷ []) ≡ add_submission (map had names) s
+          → map has names ++ (if list_any (bytes_eq s.caller) names then [] else record {
+            name = s.caller;
+            scripts =
+                s.script ∷ [];
+          } ∷ []) ≡ add_submission (map had names) s
           → (has n ∷ map has names) ++ (if b || list_any (bytes_eq s.caller) names then [] else record { name = s.caller; scripts = s.script ∷ [] } ∷ [])
           ≡ (if b then record { name = n; scripts = scripts n ++ s.script ∷ [] } ∷ map had names else had n ∷ add_submission (map had names) s)
       by true e rest =
-          let own : has n ≡ record { name = n; scripts = scripts n ++ s.script ∷ [] } = ap (λ b. record { name = n; scripts = scripts n ++ (if b then s.script ∷ [] else []) }) (laws.symm n s.caller ∙ e) in
+          let own : has n ≡ record { name = n; scripts = scripts n ++ s.script ∷ [] } =
+          ap (λ b. record { name = n; scripts = scripts n ++ (if b then s.script ∷ [] else []) }) (laws.symm n s.caller ∙ e) in
           append-nil (has n ∷ map has names)
           ∙ ap (λ x. x ∷ map has names) own
-          ∙ ap (λ l. record { name = n; scripts = scripts n ++ s.script ∷ [] } ∷ l) (others n (sym ((bytes_eq-Decides s.caller n).0 e)) names (IsDistinct-head bytes_eq n names apart))
+          ∙ ap (λ l. record { name = n; scripts = scripts n ++ s.script ∷ [] } ∷ l)
+          (others n (sym ((bytes_eq-Decides s.caller n).0 e)) names (IsDistinct-head bytes_eq n names apart))
       by false e rest =
-          ap (λ x. x ∷ (map has names ++ (if list_any (bytes_eq s.caller) names then [] else record { name = s.caller; scripts = s.script ∷ [] } ∷ []))) (other n (laws.symm n s.caller ∙ e))
+          ap (λ x. x ∷ (map has names ++ (if list_any (bytes_eq s.caller) names then [] else record {
+            name =
+                s.caller;
+            scripts = s.script ∷ [];
+          } ∷ []))) (other n (laws.symm n s.caller ∙ e))
           ∙ ap (λ l. had n ∷ l) rest
 
   -- one more script, where a new caller had none
-  has-added : (names : List (List ℕ)) → IsDistinct bytes_eq names → (list_any (bytes_eq s.caller) names ≡ false → scripts s.caller ≡ []) → map has (add_name names s.caller) ≡ add_submission (map had names) s
+  has-added : (names : List (List ℕ)) → IsDistinct bytes_eq names
+      → (list_any (bytes_eq s.caller) names ≡ false → scripts s.caller ≡ []) → map has (add_name names s.caller) ≡ add_submission (map had names) s
   has-added names apart none = by (list_any (bytes_eq s.caller) names) refl (add-had names apart)
     where
       by : (there : Bool) → list_any (bytes_eq s.caller) names ≡ there
@@ -166,7 +187,12 @@ callers_of-push subs s =
   where
     each : (names : List (List ℕ)) → map (λ n. record { name = n; scripts = scripts_by n (subs ++ s ∷ []) }) names ≡ map (has (λ n. scripts_by n subs) s) names
     each [] = refl
-    each (n ∷ names) = ap (λ l. record { name = n; scripts = l } ∷ map (λ n. record { name = n; scripts = scripts_by n (subs ++ s ∷ []) }) names) (scripts_by-push n subs s) ∙ ap (λ l. has (λ n. scripts_by n subs) s n ∷ l) (each names)
+    each (n ∷ names) = ap (λ l. record {
+      name = n;
+      scripts =
+          l;
+    } ∷ map (λ n. record { name = n; scripts = scripts_by n (subs ++ s ∷ []) }) names) (scripts_by-push n subs s)
+        ∙ ap (λ l. has (λ n. scripts_by n subs) s n ∷ l) (each names)
 
 -- and of any more scripts
 callers_of-more : (done more : List Submission) → callers_of (done ++ more) ≡ fold add_submission (callers_of done) more

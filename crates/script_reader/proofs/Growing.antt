@@ -33,7 +33,8 @@ module _ (accounts : List (ℕ × ℕ)) where
 
     module _ (positions : List ((ℕ × ℕ) × ℕ)) where
       -- a position behind positions
-      pub position_more : (calls : List (ℕ × ℕ)) (e : (ℕ × ℕ) × ℕ) → calls ≡ [] → lines_of accounts prices (positions ++ e ∷ []) calls ≡ lines_of accounts prices positions calls ++ position_words e ∷ []
+      pub position_more : (calls : List (ℕ × ℕ)) (e : (ℕ × ℕ) × ℕ) → calls ≡ []
+          → lines_of accounts prices (positions ++ e ∷ []) calls ≡ lines_of accounts prices positions calls ++ position_words e ∷ []
       position_more calls e c =
           (λ i. lines_of accounts prices (positions ++ e ∷ []) (c i))
           ∙ ap (λ l. map account_words accounts ++ (map price_words prices ++ l)) (part_more position_words positions e)
@@ -42,9 +43,13 @@ module _ (accounts : List (ℕ × ℕ)) where
           ∙ sym (λ i. lines_of accounts prices positions (c i) ++ position_words e ∷ [])
 
       -- a margin call behind all
-      pub call_more : (calls : List (ℕ × ℕ)) (e : ℕ × ℕ) → lines_of accounts prices positions (calls ++ e ∷ []) ≡ lines_of accounts prices positions calls ++ call_words e ∷ []
+      pub call_more : (calls : List (ℕ × ℕ)) (e : ℕ × ℕ) → lines_of accounts prices positions (calls ++ e ∷ [])
+          ≡ lines_of accounts prices positions calls ++ call_words e ∷ []
       call_more calls e =
           ap (λ l. map account_words accounts ++ (map price_words prices ++ (map position_words positions ++ l))) (map-append call_words calls (e ∷ []))
-          ∙ ap (λ l. map account_words accounts ++ (map price_words prices ++ l)) (sym (append_assoc (map position_words positions) (map call_words calls) (call_words e ∷ [])))
-          ∙ ap (λ l. map account_words accounts ++ l) (sym (append_assoc (map price_words prices) (map position_words positions ++ map call_words calls) (call_words e ∷ [])))
-          ∙ sym (append_assoc (map account_words accounts) (map price_words prices ++ (map position_words positions ++ map call_words calls)) (call_words e ∷ []))
+          ∙ ap (λ l. map account_words accounts ++ (map price_words prices ++ l))
+          (sym (append_assoc (map position_words positions) (map call_words calls) (call_words e ∷ [])))
+          ∙ ap (λ l. map account_words accounts ++ l)
+          (sym (append_assoc (map price_words prices) (map position_words positions ++ map call_words calls) (call_words e ∷ [])))
+          ∙ sym (append_assoc (map account_words accounts)
+          (map price_words prices ++ (map position_words positions ++ map call_words calls)) (call_words e ∷ []))

@@ -1,5 +1,6 @@
 -- Lines that have no fault.
-use Rattle.std.proofs.Common.{lit<, ◌≡◌, ℕ, ◌+◌, ◌<◌, ◌^◌, Bool, true, false, not, ◌&&◌, ◌||◌, ◌==◌, nat_le, nat_lt, if◌then◌else◌, List, [], ◌∷◌, codes, map, length, Some, None, refl, sym, ap, subst, ◌∙◌, arith}
+use Rattle.std.proofs.Common.{lit<, ◌≡◌, ℕ, ◌+◌, ◌<◌, ◌^◌, Bool, true, false, not, ◌&&◌, ◌||◌, ◌==◌, nat_le, nat_lt, if◌then◌else◌, List, [], ◌∷◌, codes, map}
+use Rattle.std.proofs.Common.{length, Some, None, refl, sym, ap, subst, ◌∙◌, arith}
 use Rattle.std.specs.List.{list_any, AllByRecursion}
 use Rattle.std.proofs.lemmas.Bool.{le-leb, lt-leb, lt-ltb}
 use Rattle.books_model.specs.declared.limits.TheConstants.{MOST_OPERATIONS}
@@ -37,7 +38,8 @@ texts_are_in_range (n ∷ ns) (r ∷ ranges) h =
     and_true (and_true (ap (nat_le r.0) value ∙ le-leb r.0 n h.0.0) (ap (λ v. nat_le v r.1) value ∙ le-leb n r.1 h.0.1)) (texts_are_in_range ns ranges h.2)
 
 -- no key of some is at or above one that all are below
-pub none_above : {A : Type 0} (f : A → ℕ × ℕ) (key : ℕ × ℕ) (es : List A) → AllByRecursion (λ e. is_below (f e) key ≡ true) es → list_any (λ e. not (is_below (f e) key)) es ≡ false
+pub none_above : {A : Type 0} (f : A → ℕ × ℕ) (key : ℕ × ℕ) (es : List A)
+    → AllByRecursion (λ e. is_below (f e) key ≡ true) es → list_any (λ e. not (is_below (f e) key)) es ≡ false
 none_above f key [] all = refl
 none_above f key (e ∷ es) all = (λ i. not (all.0 i) || list_any (λ e. not (is_below (f e) key)) es) ∙ none_above f key es all.1
 
@@ -73,14 +75,17 @@ module _ (p : Printed) (small : IsSmall p) where
       late i = is_some_list (no_prices i) || (is_some_list (no_positions i) || is_some_list (no_calls i))
 
       low : is_low_in 0 (value_of (number e.0), 0) p ≡ false
-      low = or_false _ ∙ none_above (λ x. (x.0, 0)) (value_of (number e.0), 0) p.accounts (subst (λ n. AllByRecursion (λ x. is_below (x.0, 0) (n, 0) ≡ true) p.accounts) (sym (value_of_number e.0 (omega (arith, within.0.1)))) (all_below e.0 p.accounts rises))
+      low = or_false _ ∙ none_above (λ x. (x.0, 0)) (value_of (number e.0), 0) p.accounts
+          (subst (λ n. AllByRecursion (λ x. is_below (x.0, 0) (n, 0) ≡ true) p.accounts)
+          (sym (value_of_number e.0 (omega (arith, within.0.1)))) (all_below e.0 p.accounts rises))
 
       full : nat_le p.blocks (length p.accounts + length p.prices + length p.positions) ≡ false
       full = lt-leb p.blocks _ (omega (arith, ap length no_prices, ap length no_positions))
 
   -- a price likewise
   pub price_has_none : (e : ℕ × ℕ) → p.positions ≡ [] → p.calls ≡ []
-      → AreWithin (e.0 ∷ e.1 ∷ []) ((1, p.instruments) ∷ (1, 1000000000) ∷ []) → AllByRecursion (λ x. x.0 < e.0) p.prices → length p.accounts + length p.prices < p.blocks
+      → AreWithin (e.0 ∷ e.1 ∷ []) ((1, p.instruments) ∷ (1, 1000000000) ∷ [])
+      → AllByRecursion (λ x. x.0 < e.0) p.prices → length p.accounts + length p.prices < p.blocks
       → fault_of (print p) (price_words e) ≡ None
   price_has_none e no_positions no_calls within rises room =
       in_books p (price_words e) ∙ books_fault_is p (price_words e) small
@@ -97,14 +102,17 @@ module _ (p : Printed) (small : IsSmall p) where
       ))
     where
       low : is_low_in 1 (value_of (number e.0), 0) p ≡ false
-      low = or_false _ ∙ none_above (λ x. (x.0, 0)) (value_of (number e.0), 0) p.prices (subst (λ n. AllByRecursion (λ x. is_below (x.0, 0) (n, 0) ≡ true) p.prices) (sym (value_of_number e.0 (omega (arith, within.0.1, within.1)))) (all_below e.0 p.prices rises))
+      low = or_false _ ∙ none_above (λ x. (x.0, 0)) (value_of (number e.0), 0) p.prices
+          (subst (λ n. AllByRecursion (λ x. is_below (x.0, 0) (n, 0) ≡ true) p.prices)
+          (sym (value_of_number e.0 (omega (arith, within.0.1, within.1)))) (all_below e.0 p.prices rises))
 
       full : nat_le p.blocks (length p.accounts + length p.prices + length p.positions) ≡ false
       full = lt-leb p.blocks _ (omega (arith, ap length no_positions))
 
   -- a position likewise, of an account and of an instrument with a price that are given
   pub position_has_none : (e : (ℕ × ℕ) × ℕ) → p.calls ≡ []
-      → AreWithin (e.0.0 ∷ e.0.1 ∷ e.1 ∷ []) ((1, 4294967295) ∷ (1, p.instruments) ∷ (1, 1000000) ∷ []) → AllByRecursion (λ x. is_below x.0 e.0 ≡ true) p.positions
+      → AreWithin (e.0.0 ∷ e.0.1 ∷ e.1 ∷ []) ((1, 4294967295) ∷ (1, p.instruments) ∷ (1, 1000000) ∷ [])
+      → AllByRecursion (λ x. is_below x.0 e.0 ≡ true) p.positions
       → list_any (λ x. x.0 == e.0.0) p.accounts ≡ true → list_any (λ x. x.0 == e.0.1) p.prices ≡ true
       → length p.accounts + length p.prices + length p.positions < p.blocks
       → fault_of (print p) (position_words e) ≡ None
@@ -138,14 +146,19 @@ module _ (p : Printed) (small : IsSmall p) where
       priced = (λ i. list_any (λ x. x.0 == second i) p.prices) ∙ price
 
   -- a margin call, where the queue has room
-  pub call_has_none : (e : ℕ × ℕ) → AreWithin (e.0 ∷ e.1 ∷ []) ((1, 4294967295) ∷ (1, 64000000000000000) ∷ []) → length p.calls < p.ring → fault_of (print p) (call_words e) ≡ None
+  pub call_has_none : (e : ℕ × ℕ) → AreWithin (e.0 ∷ e.1 ∷ []) ((1, 4294967295) ∷ (1, 64000000000000000) ∷ [])
+      → length p.calls < p.ring → fault_of (print p) (call_words e) ≡ None
   call_has_none e within room =
       in_books p (call_words e) ∙ books_fault_is p (call_words e) small
       ∙ (λ i. first_reason (
       (false, fault.Word)
       ∷ (false, fault.Order)
       ∷ (not (texts_are_numbers (e.0 ∷ e.1 ∷ []) ((1, 4294967295) ∷ (1, 64000000000000000) ∷ []) refl within i), fault.Number)
-      ∷ (not (texts_are_in_range (e.0 ∷ e.1 ∷ []) ((1, 4294967295) ∷ (1, 64000000000000000) ∷ []) within i) || lt-leb p.ring (length p.calls) room i, fault.Limit)
+      ∷ (
+        not (texts_are_in_range (e.0 ∷ e.1 ∷ []) ((1, 4294967295) ∷ (1, 64000000000000000) ∷ []) within i) || lt-leb
+            p.ring (length p.calls) room i,
+        fault.Limit,
+      )
       ∷ (false, fault.Order)
       ∷ (false, fault.Account)
       ∷ (false, fault.Price)
@@ -160,7 +173,8 @@ module _ (p : Printed) (small : IsSmall p) where
 module _ (books : ClearingBooks) (fits : books.instruments < 2 ^ 64) (ops : List Op) (full : Bool) (is_full : nat_le MOST_OPERATIONS (length ops) ≡ full) where
   -- a line with numbers in their ranges, behind operations
   row : (ns : List ℕ) (ranges : List (ℕ × ℕ)) → length ns ≡ length ranges → AreWithin ns ranges
-      → first_reason ((false, fault.Word) ∷ (not (are_numbers (map number ns)), fault.Number) ∷ (not (are_in_range (map number ns) ranges) || nat_le MOST_OPERATIONS (length ops), fault.Limit) ∷ []) ≡ (if full then Some fault.Limit else None)
+      → first_reason ((false, fault.Word) ∷ (not (are_numbers (map number ns)), fault.Number)
+      ∷ (not (are_in_range (map number ns) ranges) || nat_le MOST_OPERATIONS (length ops), fault.Limit) ∷ []) ≡ (if full then Some fault.Limit else None)
   row ns ranges e within i = first_reason (
       (false, fault.Word)
       ∷ (not (texts_are_numbers ns ranges e within i), fault.Number)
@@ -174,15 +188,19 @@ module _ (books : ClearingBooks) (fits : books.instruments < 2 ^ 64) (ops : List
   operation_fault (op.Close a) h = row (a ∷ []) ((1, 4294967295) ∷ []) refl (h, lit< tt, tt)
   operation_fault (op.Deposit a x) h = row (a ∷ x ∷ []) ((1, 4294967295) ∷ (1, 1000000000000000) ∷ []) refl (h.0, lit< tt, (h.1, lit< tt, tt))
   operation_fault (op.Withdraw a x) h = row (a ∷ x ∷ []) ((1, 4294967295) ∷ (1, 1000000000000000) ∷ []) refl (h.0, lit< tt, (h.1, lit< tt, tt))
-  operation_fault (op.Move a b x) h = row (a ∷ b ∷ x ∷ []) ((1, 4294967295) ∷ (1, 4294967295) ∷ (1, 1000000000000000) ∷ []) refl (h.0, lit< tt, (h.1, lit< tt, (h.2, lit< tt, tt)))
+  operation_fault (op.Move a b x) h =
+      row (a ∷ b ∷ x ∷ []) ((1, 4294967295) ∷ (1, 4294967295) ∷ (1, 1000000000000000) ∷ []) refl (h.0, lit< tt, (h.1, lit< tt, (h.2, lit< tt, tt)))
   operation_fault (op.Price i q) h = row (i ∷ q ∷ []) ((1, books.instruments) ∷ (1, 1000000000) ∷ []) refl (h.0, fits, (h.1, lit< tt, tt))
-  operation_fault (op.Trade a b i q) h = row (a ∷ b ∷ i ∷ q ∷ []) ((1, 4294967295) ∷ (1, 4294967295) ∷ (1, books.instruments) ∷ (1, 1000000) ∷ []) refl (h.0, lit< tt, (h.1, lit< tt, (h.2, fits, (h.3, lit< tt, tt))))
+  operation_fault (op.Trade a b i q) h =
+      row (a ∷ b ∷ i ∷ q ∷ []) ((1, 4294967295) ∷ (1, 4294967295) ∷ (1, books.instruments) ∷ (1, 1000000) ∷ []) refl
+      (h.0, lit< tt, (h.1, lit< tt, (h.2, fits, (h.3, lit< tt, tt))))
   operation_fault (op.Margin a m) h = row (a ∷ m ∷ []) ((1, 4294967295) ∷ (1, 100) ∷ []) refl (h.0, lit< tt, (h.1, lit< tt, tt))
   operation_fault op.Next h = row [] [] refl tt
   operation_fault (op.Show a) h = row (a ∷ []) ((1, 4294967295) ∷ []) refl (h, lit< tt, tt)
   operation_fault (op.Sum a b) h = row (a ∷ b ∷ []) ((1, 4294967295) ∷ (1, 4294967295) ∷ []) refl (h.0, lit< tt, (h.1, lit< tt, tt))
 
-pub operation_has_none : (books : ClearingBooks) → books.instruments < 2 ^ 64 → (ops : List Op) → length ops < MOST_OPERATIONS → (o : Op) → IsOperationFor books o → inside_at books.instruments ops (operation_words o) ≡ None
+pub operation_has_none : (books : ClearingBooks) → books.instruments < 2 ^ 64 → (ops : List Op)
+    → length ops < MOST_OPERATIONS → (o : Op) → IsOperationFor books o → inside_at books.instruments ops (operation_words o) ≡ None
 operation_has_none books fits ops room = operation_fault books fits ops false (lt-leb MOST_OPERATIONS (length ops) room)
 
 -- the line that ends a script

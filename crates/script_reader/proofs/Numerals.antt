@@ -1,5 +1,6 @@
 -- What words that are numbers say.
-use Rattle.std.proofs.Common.{refl, ◌≡◌, ℕ, ◌^◌, ◌<◌, true, not, ◌||◌, ◌==◌, min, Option, Some, None, List, [], ◌∷◌, length, slice_index, sym, ap, subst, ◌∙◌, lit<, inl, inr, arith}
+use Rattle.std.proofs.Common.{refl, ◌≡◌, ℕ, ◌^◌, ◌<◌, true, not, ◌||◌, ◌==◌, min, Option, Some, None, List, [], ◌∷◌, length, slice_index, sym, ap, subst, ◌∙◌}
+use Rattle.std.proofs.Common.{lit<, inl, inr, arith}
 use Rattle.std.specs.Option.{SomeIff}
 use Rattle.std.specs.Str.{all_ascii_digits}
 use Rattle.std.specs.Str.Parse.{digits_value}
@@ -45,7 +46,8 @@ number-IsNumber n small = and_true (and_true (le-leb 1 (length (number n)) (deci
     front : (not (slice_index (number n) 0 == 48) || length (number n) == 1) ≡ true
     front = elim (cases_lt 0 n) [
       | inl more ↦ rw (ne_eqb (slice_index (number n) 0) 48 (λ first. omega (arith, first_decimal n more small))) refl
-      | inr none ↦ or_right (not (slice_index (number n) 0 == 48)) (eq-eqb (length (number n)) 1 (omega (arith, length-decimal-le 1 n (omega arith) (omega arith) small, decimal_nonempty n small)))
+      | inr none ↦ or_right (not (slice_index (number n) 0 == 48))
+          (eq-eqb (length (number n)) 1 (omega (arith, length-decimal-le 1 n (omega arith) (omega arith) small, decimal_nonempty n small)))
     ]
 
 -- with its value
@@ -68,7 +70,8 @@ pub read_is : (word : List ℕ) (n : ℕ) → IsNumber word × (min (digits_valu
 read_is word n h small = let same : digits_value 10 word ≡ n = omega arith in text_of_number word h.0 (omega arith) ∙ ap number same
 
 -- a number is read as itself
-pub number_is_read : (r : Option ℕ) (word : List ℕ) (n : ℕ) → SomeIff r (IsNumber word) (min (digits_value 10 word) 18446744073709551615) → n < 18446744073709551615 → word ≡ number n → r ≡ Some n
+pub number_is_read : (r : Option ℕ) (word : List ℕ) (n : ℕ)
+    → SomeIff r (IsNumber word) (min (digits_value 10 word) 18446744073709551615) → n < 18446744073709551615 → word ≡ number n → r ≡ Some n
 number_is_read None word n h small e = absurd (h (subst IsNumber (sym e) (number-IsNumber n (omega arith))))
 number_is_read (Some x) word n h small e =
     let value : digits_value 10 word ≡ n = ap (digits_value 10) e ∙ value_of_number n (omega arith) in
@@ -76,6 +79,7 @@ number_is_read (Some x) word n h small e =
     ap Some same
 
 -- what was read, or a fault, is the word's number
-pub read_found : {E : Type 0} (r : Option ℕ) (word : List ℕ) (fault : E) → SomeIff r (IsNumber word) (min (digits_value 10 word) 18446744073709551615) → IfOk (ok_or r fault) (λ n. n < 18446744073709551615 → word ≡ number n)
+pub read_found : {E : Type 0} (r : Option ℕ) (word : List ℕ) (fault : E)
+    → SomeIff r (IsNumber word) (min (digits_value 10 word) 18446744073709551615) → IfOk (ok_or r fault) (λ n. n < 18446744073709551615 → word ≡ number n)
 read_found None word fault h = tt
 read_found (Some x) word fault h = λ small. read_is word x (h.0, sym h.1) small

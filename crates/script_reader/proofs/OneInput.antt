@@ -1,5 +1,6 @@
 -- A text is of one input at most.
-use Rattle.std.proofs.Common.{◌≡◌, ℕ, ◌<◌, ◌^◌, Bool, true, false, not, if◌then◌else◌, List, [], ◌∷◌, ◌++◌, codes, map, refl, sym, ap, subst, ◌∙◌, append_assoc, true≢false, arith}
+use Rattle.std.proofs.Common.{◌≡◌, ℕ, ◌<◌, ◌^◌, Bool, true, false, not, if◌then◌else◌, List, [], ◌∷◌, ◌++◌, codes, map, refl, sym, ap, subst, ◌∙◌, append_assoc}
+use Rattle.std.proofs.Common.{true≢false, arith}
 use Rattle.std.specs.List.{flat_map, AllByRecursion}
 use Rattle.std.specs.FinMap as finmap
 use Rattle.std.specs.FinMap.{same_entries_map}
@@ -35,13 +36,16 @@ StopsAt t [] = Unit {0}
 StopsAt t (w ∷ ws) = t w ≡ false
 
 -- so it is behind lines that fail
-stops_behind : {A : Type 0} (t : Words → Bool) (f : A → Words) (xs : List A) (ys : List Words) → ((x : A) → t (f x) ≡ false) → StopsAt t ys → StopsAt t (map f xs ++ ys)
+stops_behind : {A : Type 0} (t : Words → Bool) (f : A → Words) (xs : List A) (ys : List Words)
+    → ((x : A) → t (f x) ≡ false) → StopsAt t ys → StopsAt t (map f xs ++ ys)
 stops_behind t f [] ys fails stops = stops
 stops_behind t f (x ∷ xs) ys fails stops = fails x
 
-module _ {A : Type 0} (t : Words → Bool) (f : A → Words) (P : A → Type 0) (once : (x y : A) → P x → P y → f x ≡ f y → x ≡ y) (passes : (x : A) → t (f x) ≡ true) where
+module _ {A : Type 0} (t : Words → Bool) (f : A → Words) (P : A → Type 0) (once : (x y : A) → P x → P y → f x ≡ f y
+    → x ≡ y) (passes : (x : A) → t (f x) ≡ true) where
   -- lines that pass, in front of one that does not, are the same
-  pub part_once : (xs us : List A) (ys vs : List Words) → AllByRecursion P xs → AllByRecursion P us → StopsAt t ys → StopsAt t vs → map f xs ++ ys ≡ map f us ++ vs → (xs ≡ us) × (ys ≡ vs)
+  pub part_once : (xs us : List A) (ys vs : List Words) → AllByRecursion P xs → AllByRecursion P us → StopsAt t ys
+      → StopsAt t vs → map f xs ++ ys ≡ map f us ++ vs → (xs ≡ us) × (ys ≡ vs)
   part_once [] [] ys vs p q s r e = (refl, e)
   part_once [] (u ∷ us) ys vs p q s r e = absurd (true≢false (sym (passes u) ∙ subst (λ l. StopsAt t l) e s))
   part_once (x ∷ xs) [] ys vs p q s r e = absurd (true≢false (sym (passes x) ∙ subst (λ l. StopsAt t l) (sym e) r))
@@ -71,10 +75,12 @@ module _ (b : ClearingBooks) (r : AreInRange b) where
   small_accounts = all_follow IsAccount AreSmall (finmap.entries b.accounts) (λ e h. (omega (arith, h.0.1), omega (arith, h.2.0.1))) (accounts_are b r)
 
   small_prices : AllByRecursion AreSmall (finmap.entries b.prices)
-  small_prices = all_follow (IsPrice b.instruments) AreSmall (finmap.entries b.prices) (λ e h. (omega (arith, h.0.1, h.1), omega (arith, h.2.0.1))) (prices_are b r)
+  small_prices = all_follow (IsPrice b.instruments) AreSmall (finmap.entries b.prices)
+      (λ e h. (omega (arith, h.0.1, h.1), omega (arith, h.2.0.1))) (prices_are b r)
 
   small_positions : AllByRecursion AllSmall (finmap.entries b.positions)
-  small_positions = all_follow (IsPosition b.instruments) AllSmall (finmap.entries b.positions) (λ e h. ((omega (arith, h.0.1), omega (arith, h.2.0.1, h.2.1)), omega (arith, h.2.2.0.1))) (positions_are b r)
+  small_positions = all_follow (IsPosition b.instruments) AllSmall (finmap.entries b.positions)
+      (λ e h. ((omega (arith, h.0.1), omega (arith, h.2.0.1, h.2.1)), omega (arith, h.2.2.0.1))) (positions_are b r)
 
   small_calls : AllByRecursion AreSmall b.calls
   small_calls = all_follow IsMarginCall AreSmall b.calls (λ e h. (omega (arith, h.0.1), omega (arith, h.2.0.1))) (calls_are b r)
@@ -100,9 +106,12 @@ module _ (b : ClearingBooks) (fits : b.instruments < 2 ^ 64) where
   is_operation_of (op.Close a) h i = op.Close (value_of_number a (omega (arith, h.1)) i)
   is_operation_of (op.Deposit a x) h i = op.Deposit (value_of_number a (omega (arith, h.0.1)) i) (value_of_number x (omega (arith, h.1.1)) i)
   is_operation_of (op.Withdraw a x) h i = op.Withdraw (value_of_number a (omega (arith, h.0.1)) i) (value_of_number x (omega (arith, h.1.1)) i)
-  is_operation_of (op.Move a c x) h i = op.Move (value_of_number a (omega (arith, h.0.1)) i) (value_of_number c (omega (arith, h.1.1)) i) (value_of_number x (omega (arith, h.2.1)) i)
+  is_operation_of (op.Move a c x) h i =
+      op.Move (value_of_number a (omega (arith, h.0.1)) i) (value_of_number c (omega (arith, h.1.1)) i) (value_of_number x (omega (arith, h.2.1)) i)
   is_operation_of (op.Price n q) h i = op.Price (value_of_number n (omega (arith, h.0.1, fits)) i) (value_of_number q (omega (arith, h.1.1)) i)
-  is_operation_of (op.Trade a c n q) h i = op.Trade (value_of_number a (omega (arith, h.0.1)) i) (value_of_number c (omega (arith, h.1.1)) i) (value_of_number n (omega (arith, h.2.1, fits)) i) (value_of_number q (omega (arith, h.3.1)) i)
+  is_operation_of (op.Trade a c n q) h i =
+      op.Trade (value_of_number a (omega (arith, h.0.1)) i) (value_of_number c (omega (arith, h.1.1)) i)
+      (value_of_number n (omega (arith, h.2.1, fits)) i) (value_of_number q (omega (arith, h.3.1)) i)
   is_operation_of (op.Margin a m) h i = op.Margin (value_of_number a (omega (arith, h.0.1)) i) (value_of_number m (omega (arith, h.1.1)) i)
   is_operation_of op.Next h i = op.Next
   is_operation_of (op.Show a) h i = op.Show (value_of_number a (omega (arith, h.1)) i)
@@ -112,17 +121,21 @@ module _ (b : ClearingBooks) (fits : b.instruments < 2 ^ 64) where
   operation_once o q h k e = sym (is_operation_of o h) ∙ ap operation_of e ∙ is_operation_of q k
 
   -- scripts with the same lines are the same
-  scripts_once : (subs vs : List Submission) → AllByRecursion (IsGoodScript b) subs → AllByRecursion (IsGoodScript b) vs → flat_map submission_words subs ≡ flat_map submission_words vs → subs ≡ vs
+  scripts_once : (subs vs : List Submission) → AllByRecursion (IsGoodScript b) subs → AllByRecursion (IsGoodScript b) vs
+      → flat_map submission_words subs ≡ flat_map submission_words vs → subs ≡ vs
   scripts_once [] [] p q e = refl
   scripts_once [] (v ∷ vs) p q e = cc
   scripts_once (s ∷ subs) [] p q e = cc
   scripts_once (s ∷ subs) (v ∷ vs) p q e =
       let end : Words = codes "end" ∷ [] in
       let heads : codes "script" ∷ s.caller ∷ [] ≡ codes "script" ∷ v.caller ∷ [] = cc in
-      let tails : (map operation_words s.script ++ end ∷ []) ++ flat_map submission_words subs ≡ (map operation_words v.script ++ end ∷ []) ++ flat_map submission_words vs = cc in
-      let parts = part_once (λ w. not (is_only (codes "end") w)) operation_words (IsOperationFor b) operation_once (λ o. ap not (operation_goes_on o)) s.script v.script (end ∷ flat_map submission_words subs) (end ∷ flat_map submission_words vs)
+      let tails : (map operation_words s.script ++ end ∷ []) ++ flat_map submission_words subs
+      ≡ (map operation_words v.script ++ end ∷ []) ++ flat_map submission_words vs = cc in
+      let parts = part_once (λ w. not (is_only (codes "end") w)) operation_words (IsOperationFor b) operation_once
+      (λ o. ap not (operation_goes_on o)) s.script v.script (end ∷ flat_map submission_words subs) (end ∷ flat_map submission_words vs)
       (recursion_from_All _ _ p.0.script.each) (recursion_from_All _ _ q.0.script.each) refl refl
-      (sym (append_assoc (map operation_words s.script) (end ∷ []) (flat_map submission_words subs)) ∙ tails ∙ append_assoc (map operation_words v.script) (end ∷ []) (flat_map submission_words vs)) in
+      (sym (append_assoc (map operation_words s.script) (end ∷ []) (flat_map submission_words subs)) ∙ tails
+      ∙ append_assoc (map operation_words v.script) (end ∷ []) (flat_map submission_words vs)) in
       let more : flat_map submission_words subs ≡ flat_map submission_words vs = cc in
       let rest = scripts_once subs vs p.1 q.1 more in
       let names : s.caller ≡ v.caller = ap (λ w. word_at w 1) heads in
@@ -130,15 +143,18 @@ module _ (b : ClearingBooks) (fits : b.instruments < 2 ^ 64) where
 
 -- the lines of books in front of others
 tail_form : (b : ClearingBooks) (rest : List Words) → books_words b ++ rest
-    ≡ header_words b ∷ (map account_words (finmap.entries b.accounts) ++ (map price_words (finmap.entries b.prices) ++ (map position_words (finmap.entries b.positions) ++ (map call_words b.calls ++ rest))))
+    ≡ header_words b ∷ (map account_words (finmap.entries b.accounts)
+    ++ (map price_words (finmap.entries b.prices) ++ (map position_words (finmap.entries b.positions) ++ (map call_words b.calls ++ rest))))
 tail_form b rest = ap (λ l. header_words b ∷ l) (
     append_assoc (map account_words (finmap.entries b.accounts)) _ rest
     ∙ ap (λ l. map account_words (finmap.entries b.accounts) ++ l) (append_assoc (map price_words (finmap.entries b.prices)) _ rest)
-    ∙ ap (λ l. map account_words (finmap.entries b.accounts) ++ (map price_words (finmap.entries b.prices) ++ l)) (append_assoc (map position_words (finmap.entries b.positions)) _ rest)
+    ∙ ap (λ l. map account_words (finmap.entries b.accounts) ++ (map price_words (finmap.entries b.prices) ++ l))
+    (append_assoc (map position_words (finmap.entries b.positions)) _ rest)
     )
 
 -- books and scripts with the same lines are the same
-lines_once : (b c : ClearingBooks) (subs vs : List Submission) → AreInRange b → AreInRange c → AreCallersFor b (callers_of subs) → AreCallersFor c (callers_of vs) → lines_so_far b subs ≡ lines_so_far c vs → (b ≡ c) × (subs ≡ vs)
+lines_once : (b c : ClearingBooks) (subs vs : List Submission) → AreInRange b → AreInRange c
+    → AreCallersFor b (callers_of subs) → AreCallersFor c (callers_of vs) → lines_so_far b subs ≡ lines_so_far c vs → (b ≡ c) × (subs ≡ vs)
 lines_once b c subs vs r s valid also e =
     let S : List Words = ended subs in
     let V : List Words = ended vs in
@@ -147,19 +163,29 @@ lines_once b c subs vs r s valid also e =
     let blocks = number_once b.blocks c.blocks (blocks_fit b r) (blocks_fit c s) (ap (λ w. word_at w 3) heads) in
     let instruments = number_once b.instruments c.instruments (instruments_fit b r) (instruments_fit c s) (ap (λ w. word_at w 5) heads) in
     let ring = number_once b.ring c.ring (ring_fits b r) (ring_fits c s) (ap (λ w. word_at w 7) heads) in
-    let accounts = part_once (begins (codes "account")) account_words AreSmall (pair_once (codes "account")) (λ x. refl) (finmap.entries b.accounts) (finmap.entries c.accounts) _ _ (small_accounts b r) (small_accounts c s)
-    (stops_behind (begins (codes "account")) price_words (finmap.entries b.prices) _ (λ x. refl) (stops_behind (begins (codes "account")) position_words (finmap.entries b.positions) _ (λ x. refl) (stops_behind (begins (codes "account")) call_words b.calls S (λ x. refl) refl)))
-    (stops_behind (begins (codes "account")) price_words (finmap.entries c.prices) _ (λ x. refl) (stops_behind (begins (codes "account")) position_words (finmap.entries c.positions) _ (λ x. refl) (stops_behind (begins (codes "account")) call_words c.calls V (λ x. refl) refl)))
+    let accounts = part_once (begins (codes "account")) account_words AreSmall (pair_once (codes "account")) (λ x. refl)
+    (finmap.entries b.accounts) (finmap.entries c.accounts) _ _ (small_accounts b r) (small_accounts c s)
+    (stops_behind (begins (codes "account")) price_words (finmap.entries b.prices) _ (λ x. refl)
+    (stops_behind (begins (codes "account")) position_words (finmap.entries b.positions) _ (λ x. refl)
+    (stops_behind (begins (codes "account")) call_words b.calls S (λ x. refl) refl)))
+    (stops_behind (begins (codes "account")) price_words (finmap.entries c.prices) _ (λ x. refl)
+    (stops_behind (begins (codes "account")) position_words (finmap.entries c.positions) _ (λ x. refl)
+    (stops_behind (begins (codes "account")) call_words c.calls V (λ x. refl) refl)))
     cc in
-    let prices = part_once (begins (codes "price")) price_words AreSmall (pair_once (codes "price")) (λ x. refl) (finmap.entries b.prices) (finmap.entries c.prices) _ _ (small_prices b r) (small_prices c s)
-    (stops_behind (begins (codes "price")) position_words (finmap.entries b.positions) _ (λ x. refl) (stops_behind (begins (codes "price")) call_words b.calls S (λ x. refl) refl))
-    (stops_behind (begins (codes "price")) position_words (finmap.entries c.positions) _ (λ x. refl) (stops_behind (begins (codes "price")) call_words c.calls V (λ x. refl) refl))
+    let prices = part_once (begins (codes "price")) price_words AreSmall (pair_once (codes "price")) (λ x. refl)
+    (finmap.entries b.prices) (finmap.entries c.prices) _ _ (small_prices b r) (small_prices c s)
+    (stops_behind (begins (codes "price")) position_words (finmap.entries b.positions) _ (λ x. refl)
+    (stops_behind (begins (codes "price")) call_words b.calls S (λ x. refl) refl))
+    (stops_behind (begins (codes "price")) position_words (finmap.entries c.positions) _ (λ x. refl)
+    (stops_behind (begins (codes "price")) call_words c.calls V (λ x. refl) refl))
     accounts.1 in
-    let positions = part_once (begins (codes "position")) position_words AllSmall position_once (λ x. refl) (finmap.entries b.positions) (finmap.entries c.positions) _ _ (small_positions b r) (small_positions c s)
+    let positions = part_once (begins (codes "position")) position_words AllSmall position_once (λ x. refl)
+    (finmap.entries b.positions) (finmap.entries c.positions) _ _ (small_positions b r) (small_positions c s)
     (stops_behind (begins (codes "position")) call_words b.calls S (λ x. refl) refl)
     (stops_behind (begins (codes "position")) call_words c.calls V (λ x. refl) refl)
     prices.1 in
-    let calls = part_once (begins (codes "call")) call_words AreSmall (pair_once (codes "call")) (λ x. refl) b.calls c.calls S V (small_calls b r) (small_calls c s) refl refl positions.1 in
+    let calls = part_once (begins (codes "call")) call_words AreSmall (pair_once (codes "call")) (λ x. refl) b.calls
+    c.calls S V (small_calls b r) (small_calls c s) refl refl positions.1 in
     let books : b ≡ c = λ t. record {
       blocks = blocks t;
       instruments = instruments t;
@@ -169,14 +195,20 @@ lines_once b c subs vs r s valid also e =
       prices = same_entries_map b.prices c.prices prices.0 t;
       calls = calls.0 t;
     } in
-    let scripts : flat_map submission_words subs ≡ flat_map submission_words vs = let rest : S ≡ V = calls.1 in cc in
-    (books, scripts_once b (instruments_fit b r) subs vs (scripts_are_good b subs valid) (subst (λ d. AllByRecursion (IsGoodScript d) vs) (sym books) (scripts_are_good c vs also)) scripts)
+    let scripts : flat_map submission_words subs ≡ flat_map submission_words vs = let rest : S ≡ V = calls.1 in cc in (
+      books,
+      scripts_once b (instruments_fit b r) subs vs (scripts_are_good b subs valid)
+          (subst (λ d. AllByRecursion (IsGoodScript d) vs) (sym books) (scripts_are_good c vs also)) scripts,
+    )
 
 pub one_input : (text : List ℕ) (input other : ClearingInput) → Spells text input → Spells text other → input ≡ other
 one_input text input other h k =
     let s = spelled text input h in
     let t = spelled text other k in
     let lines = finish_once [] s.lines t.lines [] [] s.faultless t.faultless
-    (ap (λ l. flat_map line s.lines ++ l) (append-nil finish_line) ∙ sym s.text_is ∙ t.text_is ∙ ap (λ l. flat_map line t.lines ++ l) (sym (append-nil finish_line))) in
-    let same = lines_once input.books other.books h.submissions k.submissions h.valid.books k.valid.books (subst (AreCallersFor input.books) h.callers h.valid.callers) (subst (AreCallersFor other.books) k.callers k.valid.callers) (sym (spelled_lines text input h) ∙ lines.0 ∙ spelled_lines text other k) in
+    (ap (λ l. flat_map line s.lines ++ l) (append-nil finish_line) ∙ sym s.text_is ∙ t.text_is
+    ∙ ap (λ l. flat_map line t.lines ++ l) (sym (append-nil finish_line))) in
+    let same = lines_once input.books other.books h.submissions k.submissions h.valid.books k.valid.books
+    (subst (AreCallersFor input.books) h.callers h.valid.callers)
+    (subst (AreCallersFor other.books) k.callers k.valid.callers) (sym (spelled_lines text input h) ∙ lines.0 ∙ spelled_lines text other k) in
     (λ t. record { books = same.0 t; callers = (h.callers ∙ ap callers_of same.1 ∙ sym k.callers) t })

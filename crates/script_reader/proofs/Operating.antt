@@ -9,11 +9,13 @@ use Rattle.script_reader.proofs.Conditions.{both}
 use Rattle.script_reader.proofs.LineKinds.{behind_keyword, one_word, two_words, three_words, four_words, ranged}
 
 -- a number and its text
-read : (word : List ℕ) (r : ℕ × ℕ) (n : ℕ) → r.1 < 2 ^ 64 → n ≡ value_of word → is_number word ≡ true → is_in_range (word, r) ≡ true → IsWithin r.0 r.1 n × (word ≡ number n)
+read : (word : List ℕ) (r : ℕ × ℕ) (n : ℕ) → r.1 < 2 ^ 64 → n ≡ value_of word → is_number word ≡ true
+    → is_in_range (word, r) ≡ true → IsWithin r.0 r.1 n × (word ≡ number n)
 read word r n fits e is within = let h = ranged word r.0 r.1 fits is within in (subst (IsWithin r.0 r.1) (sym e) h.1, h.0 ∙ ap number (sym e))
 
 -- a line of one number
-pub row_one : (k : List ℕ) (words : Words) (r : ℕ × ℕ) (n : ℕ) → (begins k words && length words == 2) ≡ true → r.1 < 2 ^ 64 → HasNumbers words (r ∷ []) → n ≡ value_at words 1
+pub row_one : (k : List ℕ) (words : Words) (r : ℕ × ℕ) (n : ℕ) → (begins k words && length words == 2) ≡ true
+    → r.1 < 2 ^ 64 → HasNumbers words (r ∷ []) → n ≡ value_at words 1
     → IsWithin r.0 r.1 n × (words ≡ k ∷ number n ∷ [])
 row_one k words r n row f0 h e0 =
     let behind = behind_keyword k 1 words row in
@@ -27,7 +29,8 @@ row_one k words r n row f0 h e0 =
     (a0.0, is ∙ (λ i. k ∷ a0.1 i ∷ []))
 
 -- a line of two numbers
-pub row_two : (k : List ℕ) (words : Words) (r : ℕ × ℕ) (s : ℕ × ℕ) (n m : ℕ) → (begins k words && length words == 3) ≡ true → r.1 < 2 ^ 64 → s.1 < 2 ^ 64 → HasNumbers words (r ∷ s ∷ []) → n ≡ value_at words 1 → m ≡ value_at words 2
+pub row_two : (k : List ℕ) (words : Words) (r : ℕ × ℕ) (s : ℕ × ℕ) (n m : ℕ) → (begins k words && length words == 3)
+    ≡ true → r.1 < 2 ^ 64 → s.1 < 2 ^ 64 → HasNumbers words (r ∷ s ∷ []) → n ≡ value_at words 1 → m ≡ value_at words 2
     → (IsWithin r.0 r.1 n × IsWithin s.0 s.1 m) × (words ≡ k ∷ number n ∷ number m ∷ [])
 row_two k words r s n m row f0 f1 h e0 e1 =
     let behind = behind_keyword k 2 words row in
@@ -44,7 +47,9 @@ row_two k words r s n m row f0 f1 h e0 e1 =
     ((a0.0, a1.0), is ∙ (λ i. k ∷ a0.1 i ∷ a1.1 i ∷ []))
 
 -- a line of three numbers
-pub row_three : (k : List ℕ) (words : Words) (r : ℕ × ℕ) (s : ℕ × ℕ) (t : ℕ × ℕ) (n m l : ℕ) → (begins k words && length words == 4) ≡ true → r.1 < 2 ^ 64 → s.1 < 2 ^ 64 → t.1 < 2 ^ 64 → HasNumbers words (r ∷ s ∷ t ∷ []) → n ≡ value_at words 1 → m ≡ value_at words 2 → l ≡ value_at words 3
+pub row_three : (k : List ℕ) (words : Words) (r : ℕ × ℕ) (s : ℕ × ℕ) (t : ℕ × ℕ) (n m l : ℕ)
+    → (begins k words && length words == 4) ≡ true → r.1 < 2 ^ 64 → s.1 < 2 ^ 64 → t.1 < 2 ^ 64
+    → HasNumbers words (r ∷ s ∷ t ∷ []) → n ≡ value_at words 1 → m ≡ value_at words 2 → l ≡ value_at words 3
     → (IsWithin r.0 r.1 n × IsWithin s.0 s.1 m × IsWithin t.0 t.1 l) × (words ≡ k ∷ number n ∷ number m ∷ number l ∷ [])
 row_three k words r s t n m l row f0 f1 f2 h e0 e1 e2 =
     let behind = behind_keyword k 3 words row in
@@ -64,7 +69,9 @@ row_three k words r s t n m l row f0 f1 f2 h e0 e1 e2 =
     ((a0.0, a1.0, a2.0), is ∙ (λ i. k ∷ a0.1 i ∷ a1.1 i ∷ a2.1 i ∷ []))
 
 -- a line of four numbers
-pub row_four : (k : List ℕ) (words : Words) (r : ℕ × ℕ) (s : ℕ × ℕ) (t : ℕ × ℕ) (u : ℕ × ℕ) (n m l o : ℕ) → (begins k words && length words == 5) ≡ true → r.1 < 2 ^ 64 → s.1 < 2 ^ 64 → t.1 < 2 ^ 64 → u.1 < 2 ^ 64 → HasNumbers words (r ∷ s ∷ t ∷ u ∷ []) → n ≡ value_at words 1 → m ≡ value_at words 2 → l ≡ value_at words 3 → o ≡ value_at words 4
+pub row_four : (k : List ℕ) (words : Words) (r : ℕ × ℕ) (s : ℕ × ℕ) (t : ℕ × ℕ) (u : ℕ × ℕ) (n m l o : ℕ)
+    → (begins k words && length words == 5) ≡ true → r.1 < 2 ^ 64 → s.1 < 2 ^ 64 → t.1 < 2 ^ 64 → u.1 < 2 ^ 64
+    → HasNumbers words (r ∷ s ∷ t ∷ u ∷ []) → n ≡ value_at words 1 → m ≡ value_at words 2 → l ≡ value_at words 3 → o ≡ value_at words 4
     → (IsWithin r.0 r.1 n × IsWithin s.0 s.1 m × IsWithin t.0 t.1 l × IsWithin u.0 u.1 o) × (words ≡ k ∷ number n ∷ number m ∷ number l ∷ number o ∷ [])
 row_four k words r s t u n m l o row f0 f1 f2 f3 h e0 e1 e2 e3 =
     let behind = behind_keyword k 4 words row in

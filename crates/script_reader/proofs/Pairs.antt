@@ -16,7 +16,8 @@ not_both true false more h = refl
 not_both false b more h = refl
 
 -- a word that is in a range, and the number that was read of it
-within_of : (word : List ℕ) (r : ℕ × ℕ) (n : ℕ) → r.1 < 18446744073709551615 → n ≡ min (value_of word) 18446744073709551615 → is_in_range (word, r) ≡ true → IsWithin r.0 r.1 n
+within_of : (word : List ℕ) (r : ℕ × ℕ) (n : ℕ) → r.1 < 18446744073709551615
+    → n ≡ min (value_of word) 18446744073709551615 → is_in_range (word, r) ≡ true → IsWithin r.0 r.1 n
 within_of word r n exact e is =
     let parts = both is in
     let above = leb-true r.0 (value_of word) parts.0 in
@@ -24,7 +25,8 @@ within_of word r n exact e is =
     (omega (arith, e, above, below, exact), omega (arith, e, above, below, exact))
 
 -- two numbers that are not both in their ranges, as their words
-pub pair_false : (w v : List ℕ) (r s : ℕ × ℕ) (n m : ℕ) → r.1 < 18446744073709551615 → s.1 < 18446744073709551615 → n ≡ min (value_of w) 18446744073709551615 → m ≡ min (value_of v) 18446744073709551615
+pub pair_false : (w v : List ℕ) (r s : ℕ × ℕ) (n m : ℕ) → r.1 < 18446744073709551615 → s.1 < 18446744073709551615
+    → n ≡ min (value_of w) 18446744073709551615 → m ≡ min (value_of v) 18446744073709551615
     → (IsWithin r.0 r.1 n × IsWithin s.0 s.1 m → ⊥) → (is_in_range (w, r) && is_in_range (v, s)) ≡ false
 pair_false w v r s n m exact_r exact_s e f out = by (is_in_range (w, r)) (is_in_range (v, s)) refl refl
   where
@@ -34,8 +36,10 @@ pair_false w v r s n m exact_r exact_s e f out = by (is_in_range (w, r)) (is_in_
     by false b g h = refl
 
 -- a word that is no number
-pub number_fault : (words rest : Words) (ranges : List (ℕ × ℕ)) → drop 1 words ≡ rest → are_numbers rest ≡ false → numbers_fault words ranges ≡ Some fault.Number
-number_fault words rest ranges e none i = first_reason ((not ((ap are_numbers e ∙ none) i), fault.Number) ∷ (not (are_in_range (drop 1 words) ranges), fault.Limit) ∷ [])
+pub number_fault : (words rest : Words) (ranges : List (ℕ × ℕ)) → drop 1 words ≡ rest → are_numbers rest ≡ false
+    → numbers_fault words ranges ≡ Some fault.Number
+number_fault words rest ranges e none i =
+    first_reason ((not ((ap are_numbers e ∙ none) i), fault.Number) ∷ (not (are_in_range (drop 1 words) ranges), fault.Limit) ∷ [])
 
 -- the words behind the first of three
 pub behind_three : (words : Words) → length words ≡ 3 → drop 1 words ≡ word_at words 1 ∷ word_at words 2 ∷ []

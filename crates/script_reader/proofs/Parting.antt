@@ -1,5 +1,6 @@
 -- Words, cut out of their line where they end.
-use Rattle.std.proofs.Common.{◌≡◌, ◌+◌, ◌-◌, ◌<◌, ◌≤◌, ◌==◌, ℕ, suc, zero, Bool, true, false, cond, List, [], ◌∷◌, ◌++◌, length, take, drop, get_or, refl, sym, ap, ◌∙◌, arith}
+use Rattle.std.proofs.Common.{◌≡◌, ◌+◌, ◌-◌, ◌<◌, ◌≤◌, ◌==◌, ℕ, suc, zero, Bool, true, false, cond, List, [], ◌∷◌, ◌++◌, length, take, drop, get_or, refl, sym}
+use Rattle.std.proofs.Common.{ap, ◌∙◌, arith}
 use Rattle.std.specs.List.{slice_split, onto_first, count_by}
 use Rattle.std.proofs.lemmas.List.Sums.{sum_by-cons}
 use Rattle.std.proofs.lemmas.List.Splits.{length-slice_split}
@@ -30,12 +31,14 @@ first_word [] = refl
 first_word (b ∷ line) = by (is_space b) (first_word line)
   where
     by : (here : Bool) → word_at (slice_split is_space line) 0 ≡ take (word_end line 0) line
-        → word_at (cond here ([] ∷ slice_split is_space line) (onto_first b (slice_split is_space line))) 0 ≡ take (cond here 0 (suc (word_end line 0))) (b ∷ line)
+        → word_at (cond here ([] ∷ slice_split is_space line) (onto_first b (slice_split is_space line))) 0
+        ≡ take (cond here 0 (suc (word_end line 0))) (b ∷ line)
     by true rest = refl
     by false rest = onto_here b (slice_split is_space line) ∙ ap (λ word. b ∷ word) rest
 
 -- each other goes from behind the end of the one before to its own
-later_word : (line : List ℕ) (k : ℕ) → word_at (slice_split is_space line) (suc k) ≡ take (word_end line (suc k) - suc (word_end line k)) (drop (suc (word_end line k)) line)
+later_word : (line : List ℕ) (k : ℕ) → word_at (slice_split is_space line) (suc k)
+    ≡ take (word_end line (suc k) - suc (word_end line k)) (drop (suc (word_end line k)) line)
 later_word [] k = refl
 later_word (b ∷ line) zero = by (is_space b) (later_word line 0)
   where
@@ -48,14 +51,17 @@ later_word (b ∷ line) zero = by (is_space b) (later_word line 0)
         onto_later b (slice_split is_space line) 0 ∙ rest ∙ ap (λ n. take n (drop (suc (word_end line 0)) line)) same
 later_word (b ∷ line) (suc k) = by (is_space b) (λ j. later_word line j)
   where
-    by : (here : Bool) → ((j : ℕ) → word_at (slice_split is_space line) (suc j) ≡ take (word_end line (suc j) - suc (word_end line j)) (drop (suc (word_end line j)) line))
+    by : (here : Bool) → ((j : ℕ) → word_at (slice_split is_space line) (suc j)
+        ≡ take (word_end line (suc j) - suc (word_end line j)) (drop (suc (word_end line j)) line))
         → word_at (cond here ([] ∷ slice_split is_space line) (onto_first b (slice_split is_space line))) (suc (suc k))
-        ≡ take (suc (word_end line (cond here (suc k) (suc (suc k)))) - suc (suc (word_end line (cond here k (suc k))))) (drop (suc (suc (word_end line (cond here k (suc k))))) (b ∷ line))
+        ≡ take (suc (word_end line (cond here (suc k) (suc (suc k)))) - suc (suc (word_end line (cond here k (suc k)))))
+        (drop (suc (suc (word_end line (cond here k (suc k))))) (b ∷ line))
     by true rest =
         let same : word_end line (suc k) - suc (word_end line k) ≡ suc (word_end line (suc k)) - suc (suc (word_end line k)) = omega arith in
         rest k ∙ ap (λ n. take n (drop (suc (word_end line k)) line)) same
     by false rest =
-        let same : word_end line (suc (suc k)) - suc (word_end line (suc k)) ≡ suc (word_end line (suc (suc k))) - suc (suc (word_end line (suc k))) = omega arith in
+        let same : word_end line (suc (suc k)) - suc (word_end line (suc k)) ≡ suc (word_end line (suc (suc k))) - suc
+        (suc (word_end line (suc k))) = omega arith in
         onto_later b (slice_split is_space line) (suc k) ∙ rest (suc k) ∙ ap (λ n. take n (drop (suc (word_end line (suc k))) line)) same
 
 -- no word ends behind its line
@@ -140,7 +146,8 @@ pub record IsPart (line : List ℕ) (words : List (List ℕ)) (start end i : ℕ
   pub word : take (end - start) (drop start line) ≡ word_at words i
 
 -- a line that is cut has its first word up to the first end
-pub cut_first : (line : List ℕ) (spaces : ℕ) (ends : List ℕ) → IsCut line spaces ends → (words : List (List ℕ)) → slice_split is_space line ≡ words → IsPart line words 0 (get_or ends 0 0) 0
+pub cut_first : (line : List ℕ) (spaces : ℕ) (ends : List ℕ) → IsCut line spaces ends → (words : List (List ℕ))
+    → slice_split is_space line ≡ words → IsPart line words 0 (get_or ends 0 0) 0
 cut_first line spaces ends cut words are =
     let same = cut.each 0 (omega arith) (omega arith) in
     let size : get_or ends 0 0 - 0 ≡ word_end line 0 = omega (arith, same) in
@@ -157,7 +164,8 @@ cut_later line spaces ends cut words are zero some early there = absurd (some re
 cut_later line spaces ends cut words are (suc k) some early there =
     let before : suc k - 1 ≡ k = omega arith in
     let few : suc k ≤ spaces = omega (arith, there, ap length are, length-slice_split is_space line, cut.counted) in
-    let from : get_or ends (suc k - 1) 0 + 1 ≡ suc (word_end line k) = omega (arith, ap (λ j. get_or ends j 0) before, cut.each k (omega (arith, few)) (omega (arith, early))) in
+    let from : get_or ends (suc k - 1) 0 + 1 ≡ suc (word_end line k) =
+    omega (arith, ap (λ j. get_or ends j 0) before, cut.each k (omega (arith, few)) (omega (arith, early))) in
     let to = cut.each (suc k) few early in
     record {
       rises = omega (arith, from, to, end_rises line k (omega (arith, there, ap length are, length-slice_split is_space line)));

@@ -1,5 +1,6 @@
 -- What the lines of books say of a line behind them.
-use Rattle.std.proofs.Common.{◌≡◌, ℕ, ◌+◌, ◌<◌, ◌^◌, Bool, not, ◌&&◌, ◌||◌, ◌==◌, nat_lt, nat_le, List, [], ◌∷◌, ◌++◌, codes, map, drop, length, cond, Option, ap, ◌∙◌, arith}
+use Rattle.std.proofs.Common.{◌≡◌, ℕ, ◌+◌, ◌<◌, ◌^◌, Bool, not, ◌&&◌, ◌||◌, ◌==◌, nat_lt, nat_le, List, [], ◌∷◌, ◌++◌, codes, map, drop, length, cond, Option}
+use Rattle.std.proofs.Common.{ap, ◌∙◌, arith}
 use Rattle.std.specs.List.{list_any, count_by, AllByRecursion}
 use Rattle.std.specs.Option.{is_none}
 use Rattle.std.proofs.lemmas.List.Sums.{sum_by-cons}
@@ -9,7 +10,8 @@ use Rattle.script_reader.specs.Text.{number, account_words, price_words, positio
 use Rattle.script_reader.specs.Forms.{Words, books_forms, begins, form_of, ranges_of, value_of, value_at, are_numbers, are_in_range}
 use Rattle.script_reader.specs.Faults.{first_reason, kind_of, takes_block, key_of, is_below, is_late, is_low, is_given, books_fault}
 use Rattle.script_reader.proofs.Numerals.{value_of_number}
-use Rattle.script_reader.proofs.Conditions.{is_some_list, any_part, any_last, count_part, count_last, any_never, any_fixed, any_agree, any_and, or_false, count_never, count_always}
+use Rattle.script_reader.proofs.Conditions.{is_some_list, any_part, any_last, count_part, count_last, any_never, any_fixed, any_agree, any_and, or_false}
+use Rattle.script_reader.proofs.Conditions.{count_never, count_always}
 
 -- books as lists, in the order in which they are printed
 pub record Printed : Type 0 where
@@ -42,16 +44,19 @@ pub record IsSmall (p : Printed) : Type 0 where
 
 -- some line behind the header passes
 pub any_entry : (t : Words → Bool) (p : Printed) → list_any t (entries_of p)
-    ≡ (list_any (λ e. t (account_words e)) p.accounts || (list_any (λ e. t (price_words e)) p.prices || (list_any (λ e. t (position_words e)) p.positions || list_any (λ e. t (call_words e)) p.calls)))
+    ≡ (list_any (λ e. t (account_words e)) p.accounts ||
+    (list_any (λ e. t (price_words e)) p.prices || (list_any (λ e. t (position_words e)) p.positions || list_any (λ e. t (call_words e)) p.calls)))
 any_entry t p =
     any_part t account_words p.accounts _
     ∙ ap (λ b. list_any (λ e. t (account_words e)) p.accounts || b) (any_part t price_words p.prices _)
     ∙ ap (λ b. list_any (λ e. t (account_words e)) p.accounts || (list_any (λ e. t (price_words e)) p.prices || b)) (any_part t position_words p.positions _)
-    ∙ ap (λ b. list_any (λ e. t (account_words e)) p.accounts || (list_any (λ e. t (price_words e)) p.prices || (list_any (λ e. t (position_words e)) p.positions || b))) (any_last t call_words p.calls)
+    ∙ ap (λ b. list_any (λ e. t (account_words e)) p.accounts ||
+    (list_any (λ e. t (price_words e)) p.prices || (list_any (λ e. t (position_words e)) p.positions || b))) (any_last t call_words p.calls)
 
 -- so many lines behind the header pass
 pub count_entries : (t : Words → Bool) (p : Printed) → count_by t (entries_of p)
-    ≡ count_by (λ e. t (account_words e)) p.accounts + (count_by (λ e. t (price_words e)) p.prices + (count_by (λ e. t (position_words e)) p.positions + count_by (λ e. t (call_words e)) p.calls))
+    ≡ count_by (λ e. t (account_words e)) p.accounts
+    + (count_by (λ e. t (price_words e)) p.prices + (count_by (λ e. t (position_words e)) p.positions + count_by (λ e. t (call_words e)) p.calls))
 count_entries t p = omega (
   arith,
   count_part t account_words p.accounts (map price_words p.prices ++ (map position_words p.positions ++ map call_words p.calls)),
@@ -70,7 +75,8 @@ pub late : (p : Printed) (words : Words) → is_late (print p) words ≡ is_late
 late p words =
     any_entry (λ w. nat_lt (kind_of words) (kind_of w)) p
     ∙ (λ t. any_fixed (nat_lt (kind_of words) 0) p.accounts t
-    || (any_fixed (nat_lt (kind_of words) 1) p.prices t || (any_fixed (nat_lt (kind_of words) 2) p.positions t || any_fixed (nat_lt (kind_of words) 3) p.calls t)))
+    || (any_fixed (nat_lt (kind_of words) 1) p.prices t || (any_fixed (nat_lt (kind_of words) 2) p.positions t ||
+    any_fixed (nat_lt (kind_of words) 3) p.calls t)))
 
 -- a line of kind k with this key does not rise
 abbrev pub is_low_in : ℕ → ℕ × ℕ → Printed → Bool
@@ -99,7 +105,8 @@ low p words small =
     || (any_and (2 == k) (λ e. t (value_of (number e.0.0), value_of (number e.0.1))) p.positions i || any_never p.calls i)))
     ∙ (λ i. ((0 == k) && any_agree (λ e. t (value_of (number e.0), 0)) (λ e. t (e.0, 0)) p.accounts (single t p.accounts small.accounts) i)
     || (((1 == k) && any_agree (λ e. t (value_of (number e.0), 0)) (λ e. t (e.0, 0)) p.prices (single t p.prices small.prices) i)
-    || or_false ((2 == k) && any_agree (λ e. t (value_of (number e.0.0), value_of (number e.0.1))) (λ e. t e.0) p.positions (pairs t p.positions small.positions) i) i))
+    || or_false ((2 == k) && any_agree (λ e. t (value_of (number e.0.0), value_of (number e.0.1))) (λ e. t e.0)
+    p.positions (pairs t p.positions small.positions) i) i))
 
 -- an account, or a price, was given
 numbered : (n : ℕ) (es : List (ℕ × ℕ)) → AllByRecursion (λ e. e.0 < 2 ^ 64) es → AllByRecursion (λ e. (value_of (number e.0) == n) ≡ (e.0 == n)) es
@@ -117,7 +124,8 @@ pub price_given : (p : Printed) (n : ℕ) → IsSmall p → is_given (print p) (
 price_given p n small =
     any_entry (λ w. begins (codes "price") w && value_at w 1 == n) p
     ∙ (λ i. any_never p.accounts i
-    || (any_agree (λ e. value_of (number e.0) == n) (λ e. e.0 == n) p.prices (numbered n p.prices small.prices) i || (any_never p.positions i || any_never p.calls i)))
+    || (any_agree (λ e. value_of (number e.0) == n) (λ e. e.0 == n) p.prices (numbered n p.prices small.prices) i ||
+    (any_never p.positions i || any_never p.calls i)))
     ∙ or_false (list_any (λ e. e.0 == n) p.prices)
 
 -- how many calls there are, and how many blocks are taken
@@ -166,7 +174,11 @@ books_fault_is p words small i =
     (is_none form, fault.Word)
     ∷ (late p words i, fault.Order)
     ∷ (not (are_numbers (drop 1 words)), fault.Number)
-    ∷ (not (are_in_range (drop 1 words) (ranges_of form)) || (begins (codes "call") words && nat_le (value_of_number p.ring small.ring i) (call_count p i)), fault.Limit)
+    ∷ (
+      not (are_in_range (drop 1 words) (ranges_of form)) ||
+          (begins (codes "call") words && nat_le (value_of_number p.ring small.ring i) (call_count p i)),
+      fault.Limit,
+    )
     ∷ (low p words small i, fault.Order)
     ∷ (begins (codes "position") words && not (account_given p (value_at words 1) small i), fault.Account)
     ∷ (begins (codes "position") words && not (price_given p (value_at words 2) small i), fault.Price)

@@ -1,5 +1,6 @@
 -- Lines without fault are those of books and scripts, as far as they go.
-use Rattle.std.proofs.Common.{◌≡◌, ◌⊎◌, inl, inr, ℕ, ◌<◌, Bool, true, false, not, ◌&&◌, ◌||◌, nat_le, List, [], ◌∷◌, ◌++◌, codes, map, drop, length, None, refl, sym, ap, subst, ◌∙◌, append_assoc, length-append, arith}
+use Rattle.std.proofs.Common.{◌≡◌, ◌⊎◌, inl, inr, ℕ, ◌<◌, Bool, true, false, not, ◌&&◌, ◌||◌, nat_le, List, [], ◌∷◌, ◌++◌, codes, map, drop, length, None, refl}
+use Rattle.std.proofs.Common.{sym, ap, subst, ◌∙◌, append_assoc, length-append, arith}
 use Rattle.std.specs.List.{list_any, flat_map}
 use Rattle.std.specs.Option.{is_none}
 use Rattle.std.specs.Str.{bytes_eq}
@@ -24,7 +25,8 @@ use Rattle.script_reader.specs.Faults.{AreFaultless, fault_of}
 use Rattle.script_reader.proofs.Conditions.{both, passed, neither, any_last}
 use Rattle.script_reader.proofs.Printed.{books_fault_is, fault_at}
 use Rattle.script_reader.proofs.Scripted.{ended, opened, in_books, is_beyond_at, outside_at, outside_fault_is, inside_at, inside_fault_is}
-use Rattle.script_reader.proofs.LineKinds.{none_applies, books_line, BooksLine, AccountLine, PriceLine, PositionLine, CallLine, ScriptsLine, line_words, one_word, behind_keyword, operation_line}
+use Rattle.script_reader.proofs.LineKinds.{none_applies, books_line, BooksLine, AccountLine, PriceLine, PositionLine, CallLine, ScriptsLine, line_words}
+use Rattle.script_reader.proofs.LineKinds.{one_word, behind_keyword, operation_line}
 use Rattle.script_reader.proofs.BooksFaultless.{printed, printed_small, instruments_fit}
 use Rattle.script_reader.proofs.Submitting.{callers_more, count-fold}
 use Rattle.script_reader.proofs.Grouping.{callers_of-push, callers_of-gathered, no-names}
@@ -78,7 +80,8 @@ scripts_counted subs = ap count_scripts (callers_of-gathered subs) ∙ count-fol
 pub callers_counted : (subs : List Submission) → length (callers_of subs) ≡ length (first_seen (map (λ s. s.caller) subs))
 callers_counted subs = simp length-map
 
-pub caller_named : (name : List ℕ) (subs : List Submission) → is_caller name (callers_of subs) ≡ list_any (bytes_eq name) (first_seen (map (λ s. s.caller) subs))
+pub caller_named : (name : List ℕ) (subs : List Submission)
+    → is_caller name (callers_of subs) ≡ list_any (bytes_eq name) (first_seen (map (λ s. s.caller) subs))
 caller_named name subs = any_last (λ c. bytes_eq name c.name) (λ n. record { name = n; scripts = scripts_by n subs }) (first_seen (map (λ s. s.caller) subs))
 
 -- a line of books
@@ -89,14 +92,23 @@ books_step b range words none = by (books_line b.instruments words (has_no_fault
     at = sym (in_books (printed b) words ∙ books_fault_is (printed b) words (printed_small b range)) ∙ none
 
     by : (l : BooksLine) × (words ≡ line_words l) → IsReached (books_words b ++ words ∷ [])
-    by (AccountLine a cash, e) = let adds = adds_account b range a cash (subst (λ w. fault_at (printed b) w ≡ None) e at) in InBooks (put_cash b (value_of a) (value_of cash)) adds.in_range (ap (λ w. books_words b ++ w ∷ []) e ∙ sym adds.lines)
-    by (PriceLine i price, e) = let adds = adds_price b range i price (subst (λ w. fault_at (printed b) w ≡ None) e at) in InBooks (put_price b (value_of i) (value_of price)) adds.in_range (ap (λ w. books_words b ++ w ∷ []) e ∙ sym adds.lines)
-    by (PositionLine a i quantity, e) = let adds = adds_position b range a i quantity (subst (λ w. fault_at (printed b) w ≡ None) e at) in InBooks (put_quantity b (value_of a) (value_of i) (value_of quantity)) adds.in_range (ap (λ w. books_words b ++ w ∷ []) e ∙ sym adds.lines)
-    by (CallLine a shortfall, e) = let adds = adds_call b range a shortfall (subst (λ w. fault_at (printed b) w ≡ None) e at) in InBooks (put_call b (value_of a) (value_of shortfall)) adds.in_range (ap (λ w. books_words b ++ w ∷ []) e ∙ sym adds.lines)
+    by (AccountLine a cash, e) = let adds =
+        adds_account b range a cash (subst (λ w. fault_at (printed b) w ≡ None) e at) in
+        InBooks (put_cash b (value_of a) (value_of cash)) adds.in_range (ap (λ w. books_words b ++ w ∷ []) e ∙ sym adds.lines)
+    by (PriceLine i price, e) = let adds =
+        adds_price b range i price (subst (λ w. fault_at (printed b) w ≡ None) e at) in
+        InBooks (put_price b (value_of i) (value_of price)) adds.in_range (ap (λ w. books_words b ++ w ∷ []) e ∙ sym adds.lines)
+    by (PositionLine a i quantity, e) = let adds =
+        adds_position b range a i quantity (subst (λ w. fault_at (printed b) w ≡ None) e at) in
+        InBooks (put_quantity b (value_of a) (value_of i) (value_of quantity)) adds.in_range (ap (λ w. books_words b ++ w ∷ []) e ∙ sym adds.lines)
+    by (CallLine a shortfall, e) = let adds =
+        adds_call b range a shortfall (subst (λ w. fault_at (printed b) w ≡ None) e at) in
+        InBooks (put_call b (value_of a) (value_of shortfall)) adds.in_range (ap (λ w. books_words b ++ w ∷ []) e ∙ sym adds.lines)
     by (ScriptsLine, e) = Outside (record { books = b; subs = []; range = range; valid = no_callers b; lines_are = ap (λ w. books_words b ++ w ∷ []) e })
 
 -- a line between scripts, which is not the last one
-outside_step : (lines : List Words) (words : Words) → (r : Between lines) → fault_of lines words ≡ None → is_only (codes "finish") words ≡ false → IsReached (lines ++ words ∷ [])
+outside_step : (lines : List Words) (words : Words) → (r : Between lines) → fault_of lines words ≡ None
+    → is_only (codes "finish") words ≡ false → IsReached (lines ++ words ∷ [])
 outside_step lines words r none more =
     let at : outside_at r.subs words ≡ None = sym (ap (λ l. fault_of l words) r.lines_are ∙ outside_fault_is (printed r.books) r.subs words) ∙ none in
     let n1 = none_applies _ fault.Word _ at in
@@ -107,7 +119,8 @@ outside_step lines words r none more =
     let name = one_word (drop 1 words) k.1 in
     let is : words ≡ codes "script" ∷ name.0 ∷ [] = k.0 ∙ ap (λ l. codes "script" ∷ l) name.1 in
     let named : IsName name.0 = subst (λ w. is_name (word_at w 1) ≡ true) is form.1 in
-    let beyond : is_beyond_at r.subs name.0 ≡ false = subst (λ w. is_beyond_at r.subs (word_at w 1) ≡ false) is (sym (ap (λ c. c && is_beyond_at r.subs (word_at words 1)) begins_script) ∙ n2.0) in
+    let beyond : is_beyond_at r.subs name.0 ≡ false =
+    subst (λ w. is_beyond_at r.subs (word_at w 1) ≡ false) is (sym (ap (λ c. c && is_beyond_at r.subs (word_at words 1)) begins_script) ∙ n2.0) in
     let limits = neither beyond in
     WithinScript (record {
       books = r.books;
@@ -189,7 +202,8 @@ within_step lines words r none = by (operation_line r.books words (instruments_f
       books = r.books;
       subs = r.subs ++ s ∷ [];
       range = r.range;
-      valid = subst (AreCallersFor r.books) (sym (callers_of-push r.subs s)) (callers_more r.books (callers_of r.subs) s r.valid r.is_name r.script r.room r.space);
+      valid = subst (AreCallersFor r.books) (sym (callers_of-push r.subs s))
+          (callers_more r.books (callers_of r.subs) s r.valid r.is_name r.script r.room r.space);
       lines_are = (λ t. r.lines_are t ++ e t ∷ []) ∙ ended_more r.books r.subs r.name r.ops;
     })
     by (inr o) = WithinScript (record {
@@ -202,7 +216,8 @@ within_step lines words r none = by (operation_line r.books words (instruments_f
       is_name = r.is_name;
       script = record {
         few =
-            let room : nat_le MOST_OPERATIONS (length r.ops) ≡ false = sym (ap (λ c. not c && nat_le MOST_OPERATIONS (length r.ops)) (ap (is_only (codes "end")) o.2 ∙ operation_goes_on o.0)) ∙ n.few in
+            let room : nat_le MOST_OPERATIONS (length r.ops) ≡ false =
+            sym (ap (λ c. not c && nat_le MOST_OPERATIONS (length r.ops)) (ap (is_only (codes "end")) o.2 ∙ operation_goes_on o.0)) ∙ n.few in
             omega (arith, leb-false MOST_OPERATIONS (length r.ops) room, length-append r.ops (o.0 ∷ []));
         each = All-push (IsOperationFor r.books) r.ops o.0 r.script.each o.1;
       };
@@ -213,11 +228,13 @@ within_step lines words r none = by (operation_line r.books words (instruments_f
     })
 
 -- one more line without fault
-pub reach : (lines : List Words) (words : Words) → IsReached lines → fault_of lines words ≡ None → is_only (codes "finish") words ≡ false → IsReached (lines ++ words ∷ [])
+pub reach : (lines : List Words) (words : Words) → IsReached lines → fault_of lines words ≡ None
+    → is_only (codes "finish") words ≡ false → IsReached (lines ++ words ∷ [])
 reach lines words (AtStart e) none more = subst (λ l. IsReached (l ++ words ∷ [])) (sym e) (
     let h = header_adds words (sym (ap (λ l. fault_of l words) e) ∙ none) in InBooks (books_of_header words) h.in_range (sym h.lines)
     )
-reach lines words (InBooks b range e) none more = subst (λ l. IsReached (l ++ words ∷ [])) (sym e) (books_step b range words (sym (ap (λ l. fault_of l words) e) ∙ none))
+reach lines words (InBooks b range e) none more =
+    subst (λ l. IsReached (l ++ words ∷ [])) (sym e) (books_step b range words (sym (ap (λ l. fault_of l words) e) ∙ none))
 reach lines words (Outside r) none more = outside_step lines words r none more
 reach lines words (WithinScript r) none more = within_step lines words r none
 

@@ -1,5 +1,6 @@
 -- Why a line of books is refused, by its kind.
-use Rattle.std.proofs.Common.{◌≡◌, ℕ, ◌+◌, ◌<◌, ◌≤◌, Bool, true, false, not, ◌&&◌, ◌||◌, ◌==◌, nat_le, cond, List, [], ◌∷◌, ◌++◌, codes, drop, length, Option, Some, None, IsSome, subst, refl, sym, ap, ◌∙◌}
+use Rattle.std.proofs.Common.{◌≡◌, ℕ, ◌+◌, ◌<◌, ◌≤◌, Bool, true, false, not, ◌&&◌, ◌||◌, ◌==◌, nat_le, cond, List, [], ◌∷◌, ◌++◌, codes, drop, length, Option}
+use Rattle.std.proofs.Common.{Some, None, IsSome, subst, refl, sym, ap, ◌∙◌}
 use Rattle.std.specs.List.{list_any}
 use Rattle.std.specs.Option.{is_none}
 use Rattle.std.proofs.lemmas.Option.{none-some}
@@ -34,13 +35,17 @@ reasons word late number limit low account price full = first_reason (
     )
 
 -- what is wrong with numbers comes first where the line has its form and its place
-pub numbers_first : (number limit more low account price full : Bool) (why : Fault) → first_reason ((number, fault.Number) ∷ (limit, fault.Limit) ∷ []) ≡ Some why → reasons false false number (limit || more) low account price full ≡ Some why
+pub numbers_first : (number limit more low account price full : Bool) (why : Fault)
+    → first_reason ((number, fault.Number) ∷ (limit, fault.Limit) ∷ []) ≡ Some why
+    → reasons false false number (limit || more) low account price full ≡ Some why
 numbers_first true limit more low account price full why h = h
 numbers_first false true more low account price full why h = h
 numbers_first false false more low account price full why h = absurd (none-some _ h)
 
 -- what is wrong with a row is wrong with it where there may be too many
-pub row_first : (word number limit more : Bool) (why : Fault) → first_reason ((word, fault.Word) ∷ (number, fault.Number) ∷ (limit, fault.Limit) ∷ []) ≡ Some why → first_reason ((word, fault.Word) ∷ (number, fault.Number) ∷ (limit || more, fault.Limit) ∷ []) ≡ Some why
+pub row_first : (word number limit more : Bool) (why : Fault)
+    → first_reason ((word, fault.Word) ∷ (number, fault.Number) ∷ (limit, fault.Limit) ∷ []) ≡ Some why
+    → first_reason ((word, fault.Word) ∷ (number, fault.Number) ∷ (limit || more, fault.Limit) ∷ []) ≡ Some why
 row_first true number limit more why h = h
 row_first false true limit more why h = h
 row_first false false true more why h = h
@@ -57,51 +62,77 @@ has_no_block b = nat_le b.blocks (length (printed b).accounts + length (printed 
 module _ (b : ClearingBooks) (range : AreInRange b) (words : Words) where
   -- what is wrong with a line of a kind
   by_kind : (f : Form) (kind : ℕ) (key : ℕ × ℕ) (call position block : Bool)
-      → form_of (books_forms b.instruments) words ≡ Some f → kind_of words ≡ kind → key_of words ≡ key → begins (codes "call") words ≡ call → begins (codes "position") words ≡ position → takes_block words ≡ block
-      → fault_of (books_words b) words ≡ reasons false (is_late_in kind (printed b)) (not (are_numbers (drop 1 words))) (not (are_in_range (drop 1 words) f.ranges) || (call && nat_le b.ring (length b.calls))) (is_low_in kind key (printed b))
-      (position && not (list_any (λ e. e.0 == value_at words 1) (printed b).accounts)) (position && not (list_any (λ e. e.0 == value_at words 2) (printed b).prices)) (block && has_no_block b)
+      → form_of (books_forms b.instruments) words ≡ Some f → kind_of words ≡ kind → key_of words ≡ key
+      → begins (codes "call") words ≡ call → begins (codes "position") words ≡ position → takes_block words ≡ block
+      → fault_of (books_words b) words ≡ reasons false (is_late_in kind (printed b)) (not (are_numbers (drop 1 words)))
+      (not (are_in_range (drop 1 words) f.ranges) || (call && nat_le b.ring (length b.calls))) (is_low_in kind key (printed b))
+      (position && not (list_any (λ e. e.0 == value_at words 1) (printed b).accounts))
+      (position && not (list_any (λ e. e.0 == value_at words 2) (printed b).prices)) (block && has_no_block b)
   by_kind f kind key call position block form_is kind_is key_is call_is position_is block_is =
       in_books (printed b) words ∙ books_fault_is (printed b) words (printed_small b range)
-      ∙ (λ i. reasons (is_none (form_is i)) (is_late_in (kind_is i) (printed b)) (not (are_numbers (drop 1 words))) (not (are_in_range (drop 1 words) (ranges_of (form_is i))) || (call_is i && nat_le b.ring (length b.calls))) (is_low_in (kind_is i) (key_is i) (printed b))
-      (position_is i && not (list_any (λ e. e.0 == value_at words 1) (printed b).accounts)) (position_is i && not (list_any (λ e. e.0 == value_at words 2) (printed b).prices)) (block_is i && has_no_block b))
+      ∙ (λ i. reasons (is_none (form_is i)) (is_late_in (kind_is i) (printed b)) (not (are_numbers (drop 1 words)))
+      (not (are_in_range (drop 1 words) (ranges_of (form_is i))) || (call_is i && nat_le b.ring (length b.calls)))
+      (is_low_in (kind_is i) (key_is i) (printed b))
+      (position_is i && not (list_any (λ e. e.0 == value_at words 1) (printed b).accounts))
+      (position_is i && not (list_any (λ e. e.0 == value_at words 2) (printed b).prices)) (block_is i && has_no_block b))
 
   pub account_fault : (begins (codes "account") words && length words == 3) ≡ true
-      → fault_of (books_words b) words ≡ reasons false (is_late_in 0 (printed b)) (not (are_numbers (drop 1 words))) (not (are_in_range (drop 1 words) ((1, 4294967295) ∷ (0, 1000000000000000) ∷ [])) || false) (is_low_in 0 (value_at words 1, 0) (printed b)) false false (has_no_block b)
+      → fault_of (books_words b) words ≡ reasons false (is_late_in 0 (printed b)) (not (are_numbers (drop 1 words)))
+      (not (are_in_range (drop 1 words) ((1, 4294967295) ∷ (0, 1000000000000000) ∷ [])) || false)
+      (is_low_in 0 (value_at words 1, 0) (printed b)) false false (has_no_block b)
   account_fault row =
       let k = behind_keyword (codes "account") 2 words row in
       let rest = two_words (drop 1 words) k.1 in
       let e : words ≡ codes "account" ∷ rest.0 ∷ rest.1 ∷ [] = k.0 ∙ ap (λ l. codes "account" ∷ l) rest.2 in
-      by_kind (form (codes "account") ((1, 4294967295) ∷ (0, 1000000000000000) ∷ [])) 0 (value_at words 1, 0) false false true (ap (form_of (books_forms b.instruments)) e) (ap kind_of e) (ap key_of e ∙ sym (ap (λ w. (value_at w 1, 0)) e)) (ap (begins (codes "call")) e) (ap (begins (codes "position")) e) (ap takes_block e)
+      by_kind (form (codes "account") ((1, 4294967295) ∷ (0, 1000000000000000) ∷ [])) 0 (value_at words 1, 0) false
+      false true (ap (form_of (books_forms b.instruments)) e) (ap kind_of e) (ap key_of e
+      ∙ sym (ap (λ w. (value_at w 1, 0)) e)) (ap (begins (codes "call")) e) (ap (begins (codes "position")) e) (ap takes_block e)
 
   pub price_fault : (begins (codes "price") words && length words == 3) ≡ true
-      → fault_of (books_words b) words ≡ reasons false (is_late_in 1 (printed b)) (not (are_numbers (drop 1 words))) (not (are_in_range (drop 1 words) ((1, b.instruments) ∷ (1, 1000000000) ∷ [])) || false) (is_low_in 1 (value_at words 1, 0) (printed b)) false false (has_no_block b)
+      → fault_of (books_words b) words ≡ reasons false (is_late_in 1 (printed b)) (not (are_numbers (drop 1 words)))
+      (not (are_in_range (drop 1 words) ((1, b.instruments) ∷ (1, 1000000000) ∷ [])) || false)
+      (is_low_in 1 (value_at words 1, 0) (printed b)) false false (has_no_block b)
   price_fault row =
       let k = behind_keyword (codes "price") 2 words row in
       let rest = two_words (drop 1 words) k.1 in
       let e : words ≡ codes "price" ∷ rest.0 ∷ rest.1 ∷ [] = k.0 ∙ ap (λ l. codes "price" ∷ l) rest.2 in
-      by_kind (form (codes "price") ((1, b.instruments) ∷ (1, 1000000000) ∷ [])) 1 (value_at words 1, 0) false false true (ap (form_of (books_forms b.instruments)) e) (ap kind_of e) (ap key_of e ∙ sym (ap (λ w. (value_at w 1, 0)) e)) (ap (begins (codes "call")) e) (ap (begins (codes "position")) e) (ap takes_block e)
+      by_kind (form (codes "price") ((1, b.instruments) ∷ (1, 1000000000) ∷ [])) 1 (value_at words 1, 0) false false
+      true (ap (form_of (books_forms b.instruments)) e) (ap kind_of e) (ap key_of e
+      ∙ sym (ap (λ w. (value_at w 1, 0)) e)) (ap (begins (codes "call")) e) (ap (begins (codes "position")) e) (ap takes_block e)
 
   pub position_fault : (begins (codes "position") words && length words == 4) ≡ true
-      → fault_of (books_words b) words ≡ reasons false (is_late_in 2 (printed b)) (not (are_numbers (drop 1 words))) (not (are_in_range (drop 1 words) ((1, 4294967295) ∷ (1, b.instruments) ∷ (1, 1000000) ∷ [])) || false) (is_low_in 2 (value_at words 1, value_at words 2) (printed b))
+      → fault_of (books_words b) words ≡ reasons false (is_late_in 2 (printed b)) (not (are_numbers (drop 1 words)))
+      (not (are_in_range (drop 1 words) ((1, 4294967295) ∷ (1, b.instruments) ∷ (1, 1000000) ∷ [])) || false)
+      (is_low_in 2 (value_at words 1, value_at words 2) (printed b))
       (not (list_any (λ e. e.0 == value_at words 1) (printed b).accounts)) (not (list_any (λ e. e.0 == value_at words 2) (printed b).prices)) (has_no_block b)
   position_fault row =
       let k = behind_keyword (codes "position") 3 words row in
       let rest = three_words (drop 1 words) k.1 in
       let e : words ≡ codes "position" ∷ rest.0 ∷ rest.1 ∷ rest.2 ∷ [] = k.0 ∙ ap (λ l. codes "position" ∷ l) rest.3 in
-      by_kind (form (codes "position") ((1, 4294967295) ∷ (1, b.instruments) ∷ (1, 1000000) ∷ [])) 2 (value_at words 1, value_at words 2) false true true (ap (form_of (books_forms b.instruments)) e) (ap kind_of e) (ap key_of e ∙ sym (ap (λ w. (value_at w 1, value_at w 2)) e)) (ap (begins (codes "call")) e) (ap (begins (codes "position")) e) (ap takes_block e)
+      by_kind (form (codes "position") ((1, 4294967295) ∷ (1, b.instruments) ∷ (1, 1000000) ∷ [])) 2 (
+        value_at words 1,
+        value_at words 2,
+      ) false true true (ap (form_of (books_forms b.instruments)) e) (ap kind_of e) (ap key_of e
+      ∙ sym (ap (λ w. (value_at w 1, value_at w 2)) e)) (ap (begins (codes "call")) e) (ap (begins (codes "position")) e) (ap takes_block e)
 
   pub call_fault : (begins (codes "call") words && length words == 3) ≡ true
-      → fault_of (books_words b) words ≡ reasons false false (not (are_numbers (drop 1 words))) (not (are_in_range (drop 1 words) ((1, 4294967295) ∷ (1, 64000000000000000) ∷ [])) || nat_le b.ring (length b.calls)) false false false false
+      → fault_of (books_words b) words ≡ reasons false false (not (are_numbers (drop 1 words)))
+      (not (are_in_range (drop 1 words) ((1, 4294967295) ∷ (1, 64000000000000000) ∷ [])) || nat_le b.ring (length b.calls)) false false false false
   call_fault row =
       let k = behind_keyword (codes "call") 2 words row in
       let rest = two_words (drop 1 words) k.1 in
       let e : words ≡ codes "call" ∷ rest.0 ∷ rest.1 ∷ [] = k.0 ∙ ap (λ l. codes "call" ∷ l) rest.2 in
-      by_kind (form (codes "call") ((1, 4294967295) ∷ (1, 64000000000000000) ∷ [])) 3 (value_at words 1, 0) true false false (ap (form_of (books_forms b.instruments)) e) (ap kind_of e) (ap key_of e ∙ sym (ap (λ w. (value_at w 1, 0)) e)) (ap (begins (codes "call")) e) (ap (begins (codes "position")) e) (ap takes_block e)
+      by_kind (form (codes "call") ((1, 4294967295) ∷ (1, 64000000000000000) ∷ [])) 3 (value_at words 1, 0) true false
+      false (ap (form_of (books_forms b.instruments)) e) (ap kind_of e) (ap key_of e
+      ∙ sym (ap (λ w. (value_at w 1, 0)) e)) (ap (begins (codes "call")) e) (ap (begins (codes "position")) e) (ap takes_block e)
 
   -- no kind is that of the line
-  pub word_fault : (begins (codes "account") words && length words == 3) ≡ false → (begins (codes "price") words && length words == 3) ≡ false → (begins (codes "position") words && length words == 4) ≡ false → (begins (codes "call") words && length words == 3) ≡ false
+  pub word_fault : (begins (codes "account") words && length words == 3) ≡ false
+      → (begins (codes "price") words && length words == 3) ≡ false
+      → (begins (codes "position") words && length words == 4) ≡ false → (begins (codes "call") words && length words == 3) ≡ false
       → (begins (codes "scripts") words && length words == 1) ≡ false → fault_of (books_words b) words ≡ Some fault.Word
-  word_fault a p q c s = in_books (printed b) words ∙ books_fault_is (printed b) words (printed_small b range) ∙ by (form_of (books_forms b.instruments) words) none
+  word_fault a p q c s = in_books (printed b) words ∙ books_fault_is (printed b) words (printed_small b range)
+      ∙ by (form_of (books_forms b.instruments) words) none
     where
       none : form_of (books_forms b.instruments) words ≡ None
       none i = cond (a i) (Some (form (codes "account") ((1, 4294967295) ∷ (0, 1000000000000000) ∷ [])))
@@ -111,19 +142,27 @@ module _ (b : ClearingBooks) (range : AreInRange b) (words : Words) where
           (cond (s i) (Some (form (codes "scripts") [])) None))))
 
       by : (o : Option Form) → o ≡ None
-          → reasons (is_none o) (is_late_in (kind_of words) (printed b)) (not (are_numbers (drop 1 words))) (not (are_in_range (drop 1 words) (ranges_of o)) || (begins (codes "call") words && nat_le b.ring (length b.calls))) (is_low_in (kind_of words) (key_of words) (printed b))
-          (begins (codes "position") words && not (list_any (λ e. e.0 == value_at words 1) (printed b).accounts)) (begins (codes "position") words && not (list_any (λ e. e.0 == value_at words 2) (printed b).prices)) (takes_block words && has_no_block b) ≡ Some fault.Word
+          → reasons (is_none o) (is_late_in (kind_of words) (printed b)) (not (are_numbers (drop 1 words)))
+          (not (are_in_range (drop 1 words) (ranges_of o)) ||
+          (begins (codes "call") words && nat_le b.ring (length b.calls))) (is_low_in (kind_of words) (key_of words) (printed b))
+          (begins (codes "position") words && not (list_any (λ e. e.0 == value_at words 1) (printed b).accounts))
+          (begins (codes "position") words && not (list_any (λ e. e.0 == value_at words 2) (printed b).prices))
+          (takes_block words && has_no_block b) ≡ Some fault.Word
       by None e = refl
       by (Some f) e = absurd (none-some _ (sym e))
 
 -- what is wrong with a position whose numbers are read
 pub position_reasons : (b : ClearingBooks) (range : AreInRange b) (words : Words) (low account price full : Bool)
-    → (begins (codes "position") words && length words == 4) ≡ true → list_any (λ _. true) b.calls ≡ false → HasNumbers words ((1, 4294967295) ∷ (1, b.instruments) ∷ (1, 1000000) ∷ [])
-    → is_low_in 2 (value_at words 1, value_at words 2) (printed b) ≡ low → list_any (λ e. e.0 == value_at words 1) (printed b).accounts ≡ account → list_any (λ e. e.0 == value_at words 2) (printed b).prices ≡ price → has_no_block b ≡ full
+    → (begins (codes "position") words && length words == 4) ≡ true → list_any (λ _. true) b.calls ≡ false
+    → HasNumbers words ((1, 4294967295) ∷ (1, b.instruments) ∷ (1, 1000000) ∷ [])
+    → is_low_in 2 (value_at words 1, value_at words 2) (printed b) ≡ low
+    → list_any (λ e. e.0 == value_at words 1) (printed b).accounts ≡ account
+    → list_any (λ e. e.0 == value_at words 2) (printed b).prices ≡ price → has_no_block b ≡ full
     → fault_of (books_words b) words ≡ reasons false false false false low (not account) (not price) full
 position_reasons b range words low account price full row late numbers low_is account_is price_is full_is =
     position_fault b range words row
-    ∙ (λ i. reasons false ((sym (some_is b.calls) ∙ late) i) (not (numbers.numbers i)) (not (numbers.in_range i) || false) (low_is i) (not (account_is i)) (not (price_is i)) (full_is i))
+    ∙ (λ i. reasons false ((sym (some_is b.calls) ∙ late) i) (not (numbers.numbers i))
+    (not (numbers.in_range i) || false) (low_is i) (not (account_is i)) (not (price_is i)) (full_is i))
 
 module _ (b : ClearingBooks) (range : AreInRange b) where
   -- no reason applies to a line behind the lines of books
@@ -138,7 +177,8 @@ module _ (b : ClearingBooks) (range : AreInRange b) where
     pub room : used b < b.blocks
     pub lines : books_words (put_cash b (value_at words 1) (value_at words 2)) ≡ books_words b ++ words ∷ []
 
-  pub gives_account : (words : Words) → (begins (codes "account") words && length words == 3) ≡ true → fault_of (books_words b) words ≡ None → GivesAccount words
+  pub gives_account : (words : Words) → (begins (codes "account") words && length words == 3) ≡ true
+      → fault_of (books_words b) words ≡ None → GivesAccount words
   gives_account words row none =
       let k = behind_keyword (codes "account") 2 words row in
       let rest = two_words (drop 1 words) k.1 in
@@ -169,7 +209,8 @@ module _ (b : ClearingBooks) (range : AreInRange b) where
     pub room : used b < b.blocks
     pub lines : books_words (put_quantity b (value_at words 1) (value_at words 2) (value_at words 3)) ≡ books_words b ++ words ∷ []
 
-  pub gives_position : (words : Words) → (begins (codes "position") words && length words == 4) ≡ true → fault_of (books_words b) words ≡ None → GivesPosition words
+  pub gives_position : (words : Words) → (begins (codes "position") words && length words == 4) ≡ true
+      → fault_of (books_words b) words ≡ None → GivesPosition words
   gives_position words row none =
       let k = behind_keyword (codes "position") 3 words row in
       let rest = three_words (drop 1 words) k.1 in

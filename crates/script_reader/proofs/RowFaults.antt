@@ -63,7 +63,8 @@ module _ (forms : List Form) (words : Words) where
       let rest = three_words (drop 1 words) behind.1 in
       numbers_wrong (form k (r ∷ s ∷ t ∷ [])) why (ap (form_of forms) (behind.0 ∙ ap (λ l. k ∷ l) rest.3) ∙ is rest.0 rest.1 rest.2) h
 
-  pub four_wrong : (k : List ℕ) (r s t u : ℕ × ℕ) (why : Fault) → ((a b c d : List ℕ) → form_of forms (k ∷ a ∷ b ∷ c ∷ d ∷ []) ≡ Some (form k (r ∷ s ∷ t ∷ u ∷ [])))
+  pub four_wrong : (k : List ℕ) (r s t u : ℕ × ℕ) (why : Fault)
+      → ((a b c d : List ℕ) → form_of forms (k ∷ a ∷ b ∷ c ∷ d ∷ []) ≡ Some (form k (r ∷ s ∷ t ∷ u ∷ [])))
       → (begins k words && length words == 5) ≡ true → numbers_fault words (r ∷ s ∷ t ∷ u ∷ []) ≡ Some why → row_fault forms words ≡ Some why
   four_wrong k r s t u why is row h =
       let behind = behind_keyword k 4 words row in

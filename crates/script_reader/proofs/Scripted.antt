@@ -1,5 +1,6 @@
 -- What the lines of books and of scripts say of a line behind them.
-use Rattle.std.proofs.Common.{◌≡◌, ℕ, suc, ◌+◌, Bool, true, false, not, ◌&&◌, ◌||◌, nat_le, cond, if◌then◌else◌, List, [], ◌∷◌, ◌++◌, codes, map, filter, fold, drop, length, Option, refl, ap, ◌∙◌, arith}
+use Rattle.std.proofs.Common.{◌≡◌, ℕ, suc, ◌+◌, Bool, true, false, not, ◌&&◌, ◌||◌, nat_le, cond, if◌then◌else◌, List, [], ◌∷◌, ◌++◌, codes, map, filter, fold}
+use Rattle.std.proofs.Common.{drop, length, Option, refl, ap, ◌∙◌, arith}
 use Rattle.std.specs.List.{list_any, count_by, flat_map}
 use Rattle.std.specs.Option.{is_none}
 use Rattle.std.specs.Str.{bytes_eq}
@@ -46,12 +47,14 @@ fold_same f g c [] same = refl
 fold_same f g c (x ∷ xs) same = ap (λ d. fold f d (map g xs)) (same x) ∙ fold_same f g c xs same
 
 fold_print : {C : Type 0} (f : C → Words → C) (c : C) (p : Printed)
-    → f c (header_of p) ≡ c → ((e : ℕ × ℕ) → f c (account_words e) ≡ c) → ((e : ℕ × ℕ) → f c (price_words e) ≡ c) → ((e : (ℕ × ℕ) × ℕ) → f c (position_words e) ≡ c) → ((e : ℕ × ℕ) → f c (call_words e) ≡ c)
+    → f c (header_of p) ≡ c → ((e : ℕ × ℕ) → f c (account_words e) ≡ c) → ((e : ℕ × ℕ) → f c (price_words e) ≡ c)
+    → ((e : (ℕ × ℕ) × ℕ) → f c (position_words e) ≡ c) → ((e : ℕ × ℕ) → f c (call_words e) ≡ c)
     → fold f c (print p) ≡ c
 fold_print f c p header accounts prices positions calls =
     ap (λ d. fold f d (entries_of p)) header
     ∙ fold-append f c (map account_words p.accounts) _
-    ∙ ap (λ d. fold f d (map price_words p.prices ++ (map position_words p.positions ++ map call_words p.calls))) (fold_same f account_words c p.accounts accounts)
+    ∙ ap (λ d. fold f d (map price_words p.prices ++ (map position_words p.positions ++ map call_words p.calls)))
+    (fold_same f account_words c p.accounts accounts)
     ∙ fold-append f c (map price_words p.prices) _
     ∙ ap (λ d. fold f d (map position_words p.positions ++ map call_words p.calls)) (fold_same f price_words c p.prices prices)
     ∙ fold-append f c (map position_words p.positions) _
@@ -94,11 +97,13 @@ inside_opened : (b : Bool) (name : List ℕ) (ops : List Op) → fold opens b (o
 inside_opened b name ops = fold_same opens operation_words true ops operation_stays
 
 inside_submission : (b : Bool) (s : Submission) → fold opens b (submission_words s) ≡ false
-inside_submission b s = fold-append opens b (opened s.caller s.script) ((codes "end" ∷ []) ∷ []) ∙ ap (λ c. opens c (codes "end" ∷ [])) (inside_opened b s.caller s.script)
+inside_submission b s = fold-append opens b (opened s.caller s.script) ((codes "end" ∷ []) ∷ [])
+    ∙ ap (λ c. opens c (codes "end" ∷ [])) (inside_opened b s.caller s.script)
 
 inside_ended : (subs : List Submission) → fold opens false (flat_map submission_words subs) ≡ false
 inside_ended [] = refl
-inside_ended (s ∷ subs) = fold-append opens false (submission_words s) (flat_map submission_words subs) ∙ ap (λ b. fold opens b (flat_map submission_words subs)) (inside_submission false s) ∙ inside_ended subs
+inside_ended (s ∷ subs) = fold-append opens false (submission_words s) (flat_map submission_words subs)
+    ∙ ap (λ b. fold opens b (flat_map submission_words subs)) (inside_submission false s) ∙ inside_ended subs
 
 inside_so_far : (p : Printed) (subs : List Submission) → is_inside (print p ++ ended subs) ≡ false
 inside_so_far p subs =
@@ -107,7 +112,8 @@ inside_so_far p subs =
     ∙ inside_ended subs
 
 inside_open : (p : Printed) (subs : List Submission) (name : List ℕ) (ops : List Op) → is_inside (print p ++ ended subs ++ opened name ops) ≡ true
-inside_open p subs name ops = fold-append opens false (print p ++ ended subs) (opened name ops) ∙ inside_opened (fold opens false (print p ++ ended subs)) name ops
+inside_open p subs name ops = fold-append opens false (print p ++ ended subs) (opened name ops)
+    ∙ inside_opened (fold opens false (print p ++ ended subs)) name ops
 
 -- how many operations an open script has
 count_operations : (n : ℕ) (ops : List Op) → fold (λ n w. if begins (codes "script") w then 0 else n + 1) n (map operation_words ops) ≡ n + length ops
@@ -116,17 +122,22 @@ count_operations n (o ∷ ops) =
     let next : (if begins (codes "script") (operation_words o) then 0 else n + 1) ≡ n + 1 = ap (λ b. if b then 0 else n + 1) (no_script o) in
     ap (λ m. fold (λ n w. if begins (codes "script") w then 0 else n + 1) m (map operation_words ops)) next ∙ count_operations (n + 1) ops ∙ omega arith
 
-operations_open : (p : Printed) (subs : List Submission) (name : List ℕ) (ops : List Op) → operations_before (print p ++ ended subs ++ opened name ops) ≡ length ops
-operations_open p subs name ops = fold-append (λ n w. if begins (codes "script") w then 0 else n + 1) 0 (print p ++ ended subs) (opened name ops) ∙ count_operations 0 ops ∙ omega arith
+operations_open : (p : Printed) (subs : List Submission) (name : List ℕ) (ops : List Op)
+    → operations_before (print p ++ ended subs ++ opened name ops) ≡ length ops
+operations_open p subs name ops =
+    fold-append (λ n w. if begins (codes "script") w then 0 else n + 1) 0 (print p ++ ended subs) (opened name ops) ∙ count_operations 0 ops ∙ omega arith
 
 -- the lines that begin a script
 filter_operations : (ops : List Op) → filter (begins (codes "script")) (map operation_words ops) ≡ []
 filter_operations [] = refl
-filter_operations (o ∷ ops) = ap (λ b. cond b (operation_words o ∷ filter (begins (codes "script")) (map operation_words ops)) (filter (begins (codes "script")) (map operation_words ops))) (no_script o) ∙ filter_operations ops
+filter_operations (o ∷ ops) = ap
+    (λ b. cond b (operation_words o ∷ filter (begins (codes "script")) (map operation_words ops))
+    (filter (begins (codes "script")) (map operation_words ops))) (no_script o) ∙ filter_operations ops
 
 filter_submission : (s : Submission) → filter (begins (codes "script")) (submission_words s) ≡ (codes "script" ∷ s.caller ∷ []) ∷ []
 filter_submission s =
-    ap (λ l. (codes "script" ∷ s.caller ∷ []) ∷ l) (filter-append (begins (codes "script")) (map operation_words s.script) ((codes "end" ∷ []) ∷ []) ∙ ap (λ l. l ++ []) (filter_operations s.script))
+    ap (λ l. (codes "script" ∷ s.caller ∷ []) ∷ l)
+    (filter-append (begins (codes "script")) (map operation_words s.script) ((codes "end" ∷ []) ∷ []) ∙ ap (λ l. l ++ []) (filter_operations s.script))
 
 filter_ended : (subs : List Submission) → filter (begins (codes "script")) (flat_map submission_words subs) ≡ map (λ s. codes "script" ∷ s.caller ∷ []) subs
 filter_ended [] = refl
@@ -137,13 +148,16 @@ filter_ended (s ∷ subs) =
 -- a filter that a part does not pass
 filter_none : {A : Type 0} (g : A → Words) (xs : List A) → ((x : A) → begins (codes "script") (g x) ≡ false) → filter (begins (codes "script")) (map g xs) ≡ []
 filter_none g [] none = refl
-filter_none g (x ∷ xs) none = ap (λ b. cond b (g x ∷ filter (begins (codes "script")) (map g xs)) (filter (begins (codes "script")) (map g xs))) (none x) ∙ filter_none g xs none
+filter_none g (x ∷ xs) none = ap (λ b. cond b (g x ∷ filter (begins (codes "script")) (map g xs))
+    (filter (begins (codes "script")) (map g xs))) (none x) ∙ filter_none g xs none
 
 filter_entries : (p : Printed) → filter (begins (codes "script")) (entries_of p) ≡ []
 filter_entries p =
     filter-append (begins (codes "script")) (map account_words p.accounts) _
-    ∙ (λ i. filter_none account_words p.accounts (λ e. refl) i ++ filter-append (begins (codes "script")) (map price_words p.prices) (map position_words p.positions ++ map call_words p.calls) i)
-    ∙ (λ i. filter_none price_words p.prices (λ e. refl) i ++ filter-append (begins (codes "script")) (map position_words p.positions) (map call_words p.calls) i)
+    ∙ (λ i. filter_none account_words p.accounts (λ e. refl) i ++ filter-append (begins (codes "script"))
+    (map price_words p.prices) (map position_words p.positions ++ map call_words p.calls) i)
+    ∙ (λ i. filter_none price_words p.prices (λ e. refl) i ++ filter-append (begins (codes "script"))
+    (map position_words p.positions) (map call_words p.calls) i)
     ∙ (λ i. filter_none position_words p.positions (λ e. refl) i ++ filter_none call_words p.calls (λ e. refl) i)
 
 begun : (p : Printed) (subs : List Submission) → filter (begins (codes "script")) (print p ++ ended subs) ≡ map (λ s. codes "script" ∷ s.caller ∷ []) subs
@@ -186,9 +200,15 @@ outside_at subs words = first_reason (
     )
 
 pub outside_fault_is : (p : Printed) (subs : List Submission) (words : Words) → fault_of (print p ++ ended subs) words ≡ outside_at subs words
-outside_fault_is p subs words = (λ i. if not (some_scripts p (flat_map submission_words subs) i) then books_fault lines words else (if inside_so_far p subs i then inside_fault lines words else outside_fault lines words)) ∙ (λ i. first_reason (
+outside_fault_is p subs words =
+    (λ i. if not (some_scripts p (flat_map submission_words subs) i) then books_fault lines words else
+    (if inside_so_far p subs i then inside_fault lines words else outside_fault lines words)) ∙ (λ i. first_reason (
     (not (is_only (codes "finish") words || is_script_line words), fault.Word)
-    ∷ (is_script_line words && (nat_le MOST_SCRIPTS (count i) || (not (list_any (bytes_eq (word_at words 1)) (callers_so_far p subs i)) && nat_le MOST_CALLERS (length (callers_so_far p subs i)))), fault.Limit)
+    ∷ (
+      is_script_line words && (nat_le MOST_SCRIPTS (count i) ||
+          (not (list_any (bytes_eq (word_at words 1)) (callers_so_far p subs i)) && nat_le MOST_CALLERS (length (callers_so_far p subs i)))),
+      fault.Limit,
+    )
     ∷ []
     ))
   where
@@ -209,12 +229,19 @@ inside_at instruments ops words =
     ∷ []
     )
 
-pub inside_fault_is : (p : Printed) (subs : List Submission) (name : List ℕ) (ops : List Op) (words : Words) → IsSmall p → fault_of (print p ++ ended subs ++ opened name ops) words ≡ inside_at p.instruments ops words
-inside_fault_is p subs name ops words small = (λ i. if not (scripts i) then books_fault lines words else (if inside_open p subs name ops i then inside_fault lines words else outside_fault lines words)) ∙ (λ i. let form = form_of (script_forms (value_of_number p.instruments small.instruments i)) words in
+pub inside_fault_is : (p : Printed) (subs : List Submission) (name : List ℕ) (ops : List Op) (words : Words) → IsSmall p
+    → fault_of (print p ++ ended subs ++ opened name ops) words ≡ inside_at p.instruments ops words
+inside_fault_is p subs name ops words small =
+    (λ i. if not (scripts i) then books_fault lines words else (if inside_open p subs name ops i then inside_fault lines
+    words else outside_fault lines words)) ∙ (λ i. let form = form_of (script_forms (value_of_number p.instruments small.instruments i)) words in
     first_reason (
     (is_none form, fault.Word)
     ∷ (not (are_numbers (drop 1 words)), fault.Number)
-    ∷ (not (are_in_range (drop 1 words) (ranges_of form)) || (not (is_only (codes "end") words) && nat_le MOST_OPERATIONS (operations_open p subs name ops i)), fault.Limit)
+    ∷ (
+      not (are_in_range (drop 1 words) (ranges_of form)) ||
+          (not (is_only (codes "end") words) && nat_le MOST_OPERATIONS (operations_open p subs name ops i)),
+      fault.Limit,
+    )
     ∷ []
     ))
   where
@@ -227,4 +254,5 @@ inside_fault_is p subs name ops words small = (λ i. if not (scripts i) then boo
         ∙ ap (λ b. b || list_any (is_only (codes "scripts")) (opened name ops)) (some_scripts p (flat_map submission_words subs))
 
 pub in_books : (p : Printed) (words : Words) → fault_of (print p) words ≡ books_fault (print p) words
-in_books p words i = if not (no_scripts p i) then books_fault (print p) words else (if is_inside (print p) then inside_fault (print p) words else outside_fault (print p) words)
+in_books p words i = if not (no_scripts p i) then books_fault (print p) words else
+    (if is_inside (print p) then inside_fault (print p) words else outside_fault (print p) words)

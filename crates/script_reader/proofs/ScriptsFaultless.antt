@@ -1,5 +1,6 @@
 -- The lines of scripts have no fault.
-use Rattle.std.proofs.Common.{lit<, ◌≡◌, ℕ, ◌+◌, ◌<◌, ◌≤◌, ◌^◌, Bool, true, false, not, ◌&&◌, ◌||◌, nat_le, if◌then◌else◌, List, [], ◌∷◌, ◌++◌, codes, map, fold, length, refl, sym, ap, subst, ◌∙◌, append_assoc, length-append, arith}
+use Rattle.std.proofs.Common.{lit<, ◌≡◌, ℕ, ◌+◌, ◌<◌, ◌≤◌, ◌^◌, Bool, true, false, not, ◌&&◌, ◌||◌, nat_le, if◌then◌else◌, List, [], ◌∷◌, ◌++◌, codes, map}
+use Rattle.std.proofs.Common.{fold, length, refl, sym, ap, subst, ◌∙◌, append_assoc, length-append, arith}
 use Rattle.std.specs.List.{list_any, flat_map, AllByRecursion}
 use Rattle.std.specs.Str.{bytes_eq}
 use Rattle.std.proofs.lemmas.Bool.{lt-leb}
@@ -30,17 +31,33 @@ use Rattle.script_reader.proofs.Grouping.{callers_of-gathered}
 
 -- the words of an operation are those of a line
 pub operation-AreWords : (books : ClearingBooks) → books.instruments < 2 ^ 64 → (o : Op) → IsOperationFor books o → AreWords (operation_words o)
-operation-AreWords books fits (op.OpenAccount a) h = row_are_words (codes "open") (a ∷ []) ((1, 4294967295) ∷ []) (word_from_test (codes "open") refl) refl (h, lit< tt, tt)
-operation-AreWords books fits (op.Close a) h = row_are_words (codes "close") (a ∷ []) ((1, 4294967295) ∷ []) (word_from_test (codes "close") refl) refl (h, lit< tt, tt)
-operation-AreWords books fits (op.Deposit a x) h = row_are_words (codes "deposit") (a ∷ x ∷ []) ((1, 4294967295) ∷ (1, 1000000000000000) ∷ []) (word_from_test (codes "deposit") refl) refl (h.0, lit< tt, (h.1, lit< tt, tt))
-operation-AreWords books fits (op.Withdraw a x) h = row_are_words (codes "withdraw") (a ∷ x ∷ []) ((1, 4294967295) ∷ (1, 1000000000000000) ∷ []) (word_from_test (codes "withdraw") refl) refl (h.0, lit< tt, (h.1, lit< tt, tt))
-operation-AreWords books fits (op.Move a b x) h = row_are_words (codes "move") (a ∷ b ∷ x ∷ []) ((1, 4294967295) ∷ (1, 4294967295) ∷ (1, 1000000000000000) ∷ []) (word_from_test (codes "move") refl) refl (h.0, lit< tt, (h.1, lit< tt, (h.2, lit< tt, tt)))
-operation-AreWords books fits (op.Price i q) h = row_are_words (codes "price") (i ∷ q ∷ []) ((1, books.instruments) ∷ (1, 1000000000) ∷ []) (word_from_test (codes "price") refl) refl (h.0, fits, (h.1, lit< tt, tt))
-operation-AreWords books fits (op.Trade a b i q) h = row_are_words (codes "trade") (a ∷ b ∷ i ∷ q ∷ []) ((1, 4294967295) ∷ (1, 4294967295) ∷ (1, books.instruments) ∷ (1, 1000000) ∷ []) (word_from_test (codes "trade") refl) refl (h.0, lit< tt, (h.1, lit< tt, (h.2, fits, (h.3, lit< tt, tt))))
-operation-AreWords books fits (op.Margin a m) h = row_are_words (codes "margin") (a ∷ m ∷ []) ((1, 4294967295) ∷ (1, 100) ∷ []) (word_from_test (codes "margin") refl) refl (h.0, lit< tt, (h.1, lit< tt, tt))
+operation-AreWords books fits (op.OpenAccount a) h =
+    row_are_words (codes "open") (a ∷ []) ((1, 4294967295) ∷ []) (word_from_test (codes "open") refl) refl (h, lit< tt, tt)
+operation-AreWords books fits (op.Close a) h =
+    row_are_words (codes "close") (a ∷ []) ((1, 4294967295) ∷ []) (word_from_test (codes "close") refl) refl (h, lit< tt, tt)
+operation-AreWords books fits (op.Deposit a x) h =
+    row_are_words (codes "deposit") (a ∷ x ∷ []) ((1, 4294967295) ∷ (1, 1000000000000000) ∷ [])
+    (word_from_test (codes "deposit") refl) refl (h.0, lit< tt, (h.1, lit< tt, tt))
+operation-AreWords books fits (op.Withdraw a x) h =
+    row_are_words (codes "withdraw") (a ∷ x ∷ []) ((1, 4294967295) ∷ (1, 1000000000000000) ∷ [])
+    (word_from_test (codes "withdraw") refl) refl (h.0, lit< tt, (h.1, lit< tt, tt))
+operation-AreWords books fits (op.Move a b x) h =
+    row_are_words (codes "move") (a ∷ b ∷ x ∷ []) ((1, 4294967295) ∷ (1, 4294967295) ∷ (1, 1000000000000000) ∷ [])
+    (word_from_test (codes "move") refl) refl (h.0, lit< tt, (h.1, lit< tt, (h.2, lit< tt, tt)))
+operation-AreWords books fits (op.Price i q) h =
+    row_are_words (codes "price") (i ∷ q ∷ []) ((1, books.instruments) ∷ (1, 1000000000) ∷ [])
+    (word_from_test (codes "price") refl) refl (h.0, fits, (h.1, lit< tt, tt))
+operation-AreWords books fits (op.Trade a b i q) h =
+    row_are_words (codes "trade") (a ∷ b ∷ i ∷ q ∷ []) ((1, 4294967295) ∷ (1, 4294967295) ∷ (1, books.instruments)
+    ∷ (1, 1000000) ∷ []) (word_from_test (codes "trade") refl) refl (h.0, lit< tt, (h.1, lit< tt, (h.2, fits, (h.3, lit< tt, tt))))
+operation-AreWords books fits (op.Margin a m) h =
+    row_are_words (codes "margin") (a ∷ m ∷ []) ((1, 4294967295) ∷ (1, 100) ∷ []) (word_from_test (codes "margin") refl) refl (h.0, lit< tt, (h.1, lit< tt, tt))
 operation-AreWords books fits op.Next h = row_are_words (codes "next") [] [] (word_from_test (codes "next") refl) refl tt
-operation-AreWords books fits (op.Show a) h = row_are_words (codes "show") (a ∷ []) ((1, 4294967295) ∷ []) (word_from_test (codes "show") refl) refl (h, lit< tt, tt)
-operation-AreWords books fits (op.Sum a b) h = row_are_words (codes "sum") (a ∷ b ∷ []) ((1, 4294967295) ∷ (1, 4294967295) ∷ []) (word_from_test (codes "sum") refl) refl (h.0, lit< tt, (h.1, lit< tt, tt))
+operation-AreWords books fits (op.Show a) h =
+    row_are_words (codes "show") (a ∷ []) ((1, 4294967295) ∷ []) (word_from_test (codes "show") refl) refl (h, lit< tt, tt)
+operation-AreWords books fits (op.Sum a b) h =
+    row_are_words (codes "sum") (a ∷ b ∷ []) ((1, 4294967295) ∷ (1, 4294967295) ∷ [])
+    (word_from_test (codes "sum") refl) refl (h.0, lit< tt, (h.1, lit< tt, tt))
 
 -- no operation is the line `finish`
 operation_unfinished : (o : Op) → is_only (codes "finish") (operation_words o) ≡ false
@@ -74,16 +91,20 @@ module _ (b : ClearingBooks) (range : AreInRange b) where
   before subs = books_words b ++ ended subs
 
   -- operations, behind those of an open script
-  pub operations_faultless : (subs : List Submission) (name : List ℕ) (done rest : List Op) → AllByRecursion (IsOperationFor b) rest → length done + length rest ≤ MOST_OPERATIONS
+  pub operations_faultless : (subs : List Submission) (name : List ℕ) (done rest : List Op)
+      → AllByRecursion (IsOperationFor b) rest → length done + length rest ≤ MOST_OPERATIONS
       → AreFaultless (lines_inside b subs name done) (map operation_words rest)
   operations_faultless subs name done [] all room = tt
   operations_faultless subs name done (o ∷ rest) all room =
       let more : lines_inside b subs name done ++ operation_words o ∷ [] ≡ lines_inside b subs name (done ++ o ∷ []) =
-      append_assoc (lines_so_far b subs) (opened name done) (operation_words o ∷ []) ∙ ap (λ l. lines_so_far b subs ++ ((codes "script" ∷ name ∷ []) ∷ l)) (sym (map-append operation_words done (o ∷ []))) in (
+      append_assoc (lines_so_far b subs) (opened name done) (operation_words o ∷ [])
+      ∙ ap (λ l. lines_so_far b subs ++ ((codes "script" ∷ name ∷ []) ∷ l)) (sym (map-append operation_words done (o ∷ []))) in (
         operation-AreWords b (instruments_fit b range) o all.0,
-        inside_fault_is (printed b) subs name done (operation_words o) (printed_small b range) ∙ operation_has_none b (instruments_fit b range) done (omega (arith, room)) o all.0,
+        inside_fault_is (printed b) subs name done (operation_words o) (printed_small b range)
+            ∙ operation_has_none b (instruments_fit b range) done (omega (arith, room)) o all.0,
         operation_unfinished o,
-        subst (λ ls. AreFaultless ls (map operation_words rest)) (sym more) (operations_faultless subs name (done ++ o ∷ []) rest all.1 (omega (arith, room, length-append done (o ∷ [])))),
+        subst (λ ls. AreFaultless ls (map operation_words rest)) (sym more)
+            (operations_faultless subs name (done ++ o ∷ []) rest all.1 (omega (arith, room, length-append done (o ∷ [])))),
       )
 
   -- the names of the callers of scripts
@@ -91,7 +112,8 @@ module _ (b : ClearingBooks) (range : AreInRange b) where
   names_of subs = map (λ s. s.caller) subs
 
   -- a script that may follow is not beyond
-  not_beyond : (done rest : List Submission) (s : Submission) → length done + length (s ∷ rest) ≤ MOST_SCRIPTS → length (first_seen (map (λ s. s.caller) (done ++ s ∷ rest))) ≤ MOST_CALLERS → is_beyond_at done s.caller ≡ false
+  not_beyond : (done rest : List Submission) (s : Submission) → length done + length (s ∷ rest) ≤ MOST_SCRIPTS
+      → length (first_seen (map (λ s. s.caller) (done ++ s ∷ rest))) ≤ MOST_CALLERS → is_beyond_at done s.caller ≡ false
   not_beyond done rest s room space =
       ap (λ c. c || (not (list_any (bytes_eq s.caller) seen) && nat_le MOST_CALLERS (length seen))) (lt-leb MOST_SCRIPTS (length done) (omega (arith, room)))
       ∙ by (list_any (bytes_eq s.caller) seen) refl
@@ -100,16 +122,19 @@ module _ (b : ClearingBooks) (range : AreInRange b) where
       seen = first_seen (map (λ s. s.caller) done)
 
       whole : first_seen (map (λ s. s.caller) (done ++ s ∷ rest)) ≡ fold add_name (add_name seen s.caller) (map (λ s. s.caller) rest)
-      whole = ap first_seen (map-append (λ s. s.caller) done (s ∷ rest)) ∙ fold-append add_name [] (map (λ s. s.caller) done) (s.caller ∷ map (λ s. s.caller) rest)
+      whole = ap first_seen (map-append (λ s. s.caller) done (s ∷ rest))
+          ∙ fold-append add_name [] (map (λ s. s.caller) done) (s.caller ∷ map (λ s. s.caller) rest)
 
       by : (c : Bool) → list_any (bytes_eq s.caller) seen ≡ c → (not c && nat_le MOST_CALLERS (length seen)) ≡ false
       by true e = refl
       by false e =
-          let more : length (add_name seen s.caller) ≡ length seen + 1 = ap (λ c. length (if c then seen else seen ++ s.caller ∷ [])) e ∙ length-append seen (s.caller ∷ []) in
+          let more : length (add_name seen s.caller) ≡ length seen + 1 =
+          ap (λ c. length (if c then seen else seen ++ s.caller ∷ [])) e ∙ length-append seen (s.caller ∷ []) in
           lt-leb MOST_CALLERS (length seen) (omega (arith, more, space, ap length whole, length-seen (map (λ s. s.caller) rest) (add_name seen s.caller)))
 
   -- a script behind others
-  submission_faultless : (done rest : List Submission) (s : Submission) → IsGoodScript b s → length done + length (s ∷ rest) ≤ MOST_SCRIPTS → length (first_seen (map (λ s. s.caller) (done ++ s ∷ rest))) ≤ MOST_CALLERS
+  submission_faultless : (done rest : List Submission) (s : Submission) → IsGoodScript b s
+      → length done + length (s ∷ rest) ≤ MOST_SCRIPTS → length (first_seen (map (λ s. s.caller) (done ++ s ∷ rest))) ≤ MOST_CALLERS
       → AreFaultless (lines_so_far b done) (submission_words s)
   submission_faultless done rest s good room space = (
     caller-AreWords s.caller good.name,
@@ -118,18 +143,25 @@ module _ (b : ClearingBooks) (range : AreInRange b) where
     refl,
     faultless_append (lines_inside b done s.caller []) (map operation_words s.script) ((codes "end" ∷ []) ∷ [])
         (operations_faultless done s.caller [] s.script (recursion_from_All (IsOperationFor b) s.script good.script.each) (omega (arith, good.script.few)))
-        (subst (λ ls. AreFaultless ls ((codes "end" ∷ []) ∷ [])) (sym (append_assoc (lines_so_far b done) ((codes "script" ∷ s.caller ∷ []) ∷ []) (map operation_words s.script)))
-        (record { some = omega arith; each = (word_from_test (codes "end") refl, tt) }, inside_fault_is (printed b) done s.caller s.script (codes "end" ∷ []) (printed_small b range) ∙ end_has_none b.instruments s.script, refl, tt)),
+        (subst (λ ls. AreFaultless ls ((codes "end" ∷ []) ∷ []))
+        (sym (append_assoc (lines_so_far b done) ((codes "script" ∷ s.caller ∷ []) ∷ []) (map operation_words s.script))) (
+          record { some = omega arith; each = (word_from_test (codes "end") refl, tt) },
+          inside_fault_is (printed b) done s.caller s.script (codes "end" ∷ []) (printed_small b range) ∙ end_has_none b.instruments s.script,
+          refl,
+          tt,
+        )),
   )
 
-  pub submissions_faultless : (done rest : List Submission) → AllByRecursion (IsGoodScript b) rest → length done + length rest ≤ MOST_SCRIPTS → length (first_seen (map (λ s. s.caller) (done ++ rest))) ≤ MOST_CALLERS
+  pub submissions_faultless : (done rest : List Submission) → AllByRecursion (IsGoodScript b) rest
+      → length done + length rest ≤ MOST_SCRIPTS → length (first_seen (map (λ s. s.caller) (done ++ rest))) ≤ MOST_CALLERS
       → AreFaultless (lines_so_far b done) (flat_map submission_words rest)
   submissions_faultless done [] all room space = tt
   submissions_faultless done (s ∷ rest) all room space =
       let one : flat_map submission_words (s ∷ []) ≡ submission_words s = append-nil (submission_words s) in
       let more : lines_so_far b done ++ submission_words s ≡ lines_so_far b (done ++ s ∷ []) =
       append_assoc (books_words b) (ended done) (submission_words s)
-      ∙ ap (λ l. books_words b ++ ((codes "scripts" ∷ []) ∷ l)) (ap (λ l. flat_map submission_words done ++ l) (sym one) ∙ sym (flat_map-append submission_words done (s ∷ []))) in
+      ∙ ap (λ l. books_words b ++ ((codes "scripts" ∷ []) ∷ l)) (ap (λ l. flat_map submission_words done ++ l) (sym one)
+      ∙ sym (flat_map-append submission_words done (s ∷ []))) in
       faultless_append (lines_so_far b done) (submission_words s) (flat_map submission_words rest)
       (submission_faultless done rest s all.0 room space)
       (subst (λ ls. AreFaultless ls (flat_map submission_words rest)) (sym more)

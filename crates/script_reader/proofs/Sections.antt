@@ -1,5 +1,6 @@
 -- Keys that rise, and what stands behind them.
-use Rattle.std.proofs.Common.{T, ◌≡◌, ℕ, ◌<◌, Bool, true, false, ◌&&◌, ◌||◌, ◌==◌, cond, nat_lt, List, [], ◌∷◌, ◌++◌, refl, sym, ap, subst, ◌∙◌, append_assoc, Some, None}
+use Rattle.std.proofs.Common.{T, ◌≡◌, ℕ, ◌<◌, Bool, true, false, ◌&&◌, ◌||◌, ◌==◌, cond, nat_lt, List, [], ◌∷◌, ◌++◌, refl, sym, ap, subst, ◌∙◌, append_assoc}
+use Rattle.std.proofs.Common.{Some, None}
 use Rattle.std.specs.List.{AllByRecursion}
 use Rattle.std.specs.Cmp.{IsTotalOrder, nat_cmp_is}
 use Rattle.std.specs.Ordering.{nat_cmp, is_eq, is_lt, ordering_then, ordering_reverse}
@@ -45,7 +46,8 @@ module _ {K X : Type 0} (R : K → K → Ordering) where
   rises_sorted : (done rest : List (K × X)) → is_sorted R (done ++ rest) ≡ true → Rises (λ x e. R x.0 e.0 ≡ Less) done rest
   unfolding Rises
   rises_sorted done [] h = tt
-  rises_sorted done (e ∷ rest) h = (sorted_before done e rest h, rises_sorted (done ++ e ∷ []) rest (subst (λ es. is_sorted R es ≡ true) (sym (append_assoc done (e ∷ []) rest)) h))
+  rises_sorted done (e ∷ rest) h =
+      (sorted_before done e rest h, rises_sorted (done ++ e ∷ []) rest (subst (λ es. is_sorted R es ≡ true) (sym (append_assoc done (e ∷ []) rest)) h))
 
   pub rises_entries : (m : map.FinMap R X) → Rises (λ x e. R x.0 e.0 ≡ Less) [] (map.entries m)
   rises_entries m = rises_sorted [] (map.entries m) (passes _ (entries_sorted m))
@@ -59,7 +61,8 @@ module _ {K X : Type 0} (R : K → K → Ordering) where
   above o k [] all = tt
   above o k (e ∷ es) all = (o.antisymm k e.0 ∙ ap ordering_reverse all.0, above o k es all.1)
 
-  pub entries_above : (o : IsTotalOrder R) (m : map.FinMap R X) (k : K) (v : X) → AllByRecursion (λ e. R e.0 k ≡ Less) (map.entries m) → map.entries (map.insert m k v) ≡ map.entries m ++ (k, v) ∷ []
+  pub entries_above : (o : IsTotalOrder R) (m : map.FinMap R X) (k : K) (v : X)
+      → AllByRecursion (λ e. R e.0 k ≡ Less) (map.entries m) → map.entries (map.insert m k v) ≡ map.entries m ++ (k, v) ∷ []
   entries_above o m k v all = entries-insert o m k v ∙ put_above k v (map.entries m) (above o k (map.entries m) all)
 
   find_above : (k : K) (es : List (K × X)) → AllByRecursion (λ e. R k e.0 ≡ Greater) es → find R k es ≡ None
@@ -77,7 +80,10 @@ all_follow P Q (x ∷ xs) follows all = (follows x all.0, all_follow P Q xs foll
 pub rises_follow : {A : Type 0} (P Q : A → A → Type 0) (done rest : List A) → ((x e : A) → P x e → Q x e) → Rises P done rest → Rises Q done rest
 unfolding Rises
 rises_follow P Q done [] follows all = tt
-rises_follow P Q done (e ∷ rest) follows all = (all_follow (λ x. P x e) (λ x. Q x e) done (λ x h. follows x e h) all.0, rises_follow P Q (done ++ e ∷ []) rest follows all.1)
+rises_follow P Q done (e ∷ rest) follows all = (
+  all_follow (λ x. P x e) (λ x. Q x e) done (λ x h. follows x e h) all.0,
+  rises_follow P Q (done ++ e ∷ []) rest follows all.1,
+)
 
 -- less by the order of numbers is below, and the other way round
 pub number_less : (x y : ℕ) → nat_cmp x y ≡ Less → x < y
@@ -118,9 +124,11 @@ module _ {K X : Type 0} (R : K → K → Ordering) (o : IsTotalOrder R) where
   -- an entry behind lower keys is found
   find_middle : (done : List (K × X)) (y : K × X) (rest : List (K × X)) → AllByRecursion (λ e. R e.0 y.0 ≡ Less) done → find R y.0 (done ++ y ∷ rest) ≡ Some y.1
   find_middle [] y rest all = ap (λ r. cond (is_eq r) (Some y.1) (find R y.0 rest)) (itself R o y.0)
-  find_middle (e ∷ done) y rest all = ap (λ r. cond (is_eq r) (Some e.1) (find R y.0 (done ++ y ∷ rest))) (o.antisymm y.0 e.0 ∙ ap ordering_reverse all.0) ∙ find_middle done y rest all.1
+  find_middle (e ∷ done) y rest all =
+      ap (λ r. cond (is_eq r) (Some e.1) (find R y.0 (done ++ y ∷ rest))) (o.antisymm y.0 e.0 ∙ ap ordering_reverse all.0) ∙ find_middle done y rest all.1
 
-  each_found : (P : K × X → Type 0) (m : map.FinMap R X) → ((e : K × X) → map.get m e.0 ≡ Some e.1 → P e) → (done rest : List (K × X)) → map.entries m ≡ done ++ rest
+  each_found : (P : K × X → Type 0) (m : map.FinMap R X) → ((e : K × X) → map.get m e.0 ≡ Some e.1 → P e)
+      → (done rest : List (K × X)) → map.entries m ≡ done ++ rest
       → Rises (λ x e. R x.0 e.0 ≡ Less) done rest → AllByRecursion P rest
   unfolding Rises
   each_found P m each done [] whole rises = tt

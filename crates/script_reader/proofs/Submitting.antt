@@ -1,5 +1,6 @@
 -- Callers with one more script, and the scripts of callers.
-use Rattle.std.proofs.Common.{◌≡◌, ℕ, ◌+◌, ◌<◌, ◌≤◌, Bool, true, false, ◌||◌, ◌&&◌, nat_le, List, [], ◌∷◌, ◌++◌, map, fold, length, codes, if◌then◌else◌, inl, inr, refl, sym, ap, subst, ◌∙◌, length-append, true≢false, lit<, arith}
+use Rattle.std.proofs.Common.{◌≡◌, ℕ, ◌+◌, ◌<◌, ◌≤◌, Bool, true, false, ◌||◌, ◌&&◌, nat_le, List, [], ◌∷◌, ◌++◌, map, fold, length, codes, if◌then◌else◌, inl}
+use Rattle.std.proofs.Common.{inr, refl, sym, ap, subst, ◌∙◌, length-append, true≢false, lit<, arith}
 use Rattle.std.specs.List.{list_any, list_all, All, AllByRecursion, IsDistinct}
 use Rattle.std.specs.Str.{bytes_eq}
 use Rattle.std.proofs.lemmas.Bool.{leb-true}
@@ -20,12 +21,14 @@ use Rattle.script_reader.proofs.Gathering.{choice-cons, any-map, count-add}
 use Rattle.script_reader.proofs.Grouping.{add_name-distinct, callers_of-gathered}
 
 -- what holds of callers holds after one more script, if it holds of a caller with it
-all-add : (P : Caller → Type 0) (s : Submission) → ((c : Caller) → P c → P (record { name = c.name; scripts = c.scripts ++ s.script ∷ [] })) → P (record { name = s.caller; scripts = s.script ∷ [] })
+all-add : (P : Caller → Type 0) (s : Submission)
+    → ((c : Caller) → P c → P (record { name = c.name; scripts = c.scripts ++ s.script ∷ [] })) → P (record { name = s.caller; scripts = s.script ∷ [] })
     → (callers : List Caller) → AllByRecursion P callers → AllByRecursion P (add_submission callers s)
 all-add P s keeps new [] all = (new, tt)
 all-add P s keeps new (c ∷ callers) all = by (bytes_eq s.caller c.name) (all-add P s keeps new callers all.1)
   where
-    by : (b : Bool) → AllByRecursion P (add_submission callers s) → AllByRecursion P (if b then record { name = c.name; scripts = c.scripts ++ s.script ∷ [] } ∷ callers else c ∷ add_submission callers s)
+    by : (b : Bool) → AllByRecursion P (add_submission callers s)
+        → AllByRecursion P (if b then record { name = c.name; scripts = c.scripts ++ s.script ∷ [] } ∷ callers else c ∷ add_submission callers s)
     by true rest = (keeps c all.0, all.1)
     by false rest = (all.0, rest)
 
@@ -42,16 +45,19 @@ names-add (c ∷ callers) s = by (bytes_eq s.caller c.name) (list_any (bytes_eq 
     by false there rest = ap (λ l. c.name ∷ l) rest ∙ sym (choice-cons there c.name (map (λ c. c.name) callers) (map (λ c. c.name) callers ++ s.caller ∷ []))
 
 -- how many names there are after one more, which may be new
-length-add_name : (most : ℕ) (names : List (List ℕ)) (name : List ℕ) (there : Bool) → (there ≡ false → length names < most) → length names ≤ most → length (if there then names else names ++ name ∷ []) ≤ most
+length-add_name : (most : ℕ) (names : List (List ℕ)) (name : List ℕ) (there : Bool)
+    → (there ≡ false → length names < most) → length names ≤ most → length (if there then names else names ++ name ∷ []) ≤ most
 length-add_name most names name true room few = few
 length-add_name most names name false room few = omega (arith, room refl, length-append names (name ∷ []))
 
 -- callers with one more script
 pub callers_more : (books : ClearingBooks) (callers : List Caller) (s : Submission) → AreCallersFor books callers → IsName s.caller → IsScriptFor books s.script
-    → count_scripts callers < MOST_SCRIPTS → (is_caller s.caller callers ≡ false → length callers < MOST_CALLERS) → AreCallersFor books (add_submission callers s)
+    → count_scripts callers < MOST_SCRIPTS → (is_caller s.caller callers ≡ false → length callers < MOST_CALLERS)
+    → AreCallersFor books (add_submission callers s)
 callers_more books callers s h name script room space = record {
   few =
-      let names : length (map (λ c. c.name) (add_submission callers s)) ≡ length (add_name (map (λ c. c.name) callers) s.caller) = ap length (names-add callers s) in
+      let names : length (map (λ c. c.name) (add_submission callers s))
+      ≡ length (add_name (map (λ c. c.name) callers) s.caller) = ap length (names-add callers s) in
       let many : length (map (λ (c : Caller). c.name) callers) ≡ length callers = simp length-map in
       let as_many : length (map (λ (c : Caller). c.name) (add_submission callers s)) ≡ length (add_submission callers s) = simp length-map in
       omega (
@@ -60,14 +66,17 @@ callers_more books callers s h name script room space = record {
         many,
         as_many,
         length-add_name MOST_CALLERS (map (λ c. c.name) callers) s.caller (list_any (bytes_eq s.caller) (map (λ c. c.name) callers))
-            (λ absent. subst (λ n. n < MOST_CALLERS) (sym many) (space (any-map (λ c. c.name) s.caller callers ∙ absent))) (subst (λ n. n ≤ MOST_CALLERS) (sym many) h.few),
+            (λ absent. subst (λ n. n < MOST_CALLERS) (sym many) (space (any-map (λ c. c.name) s.caller callers
+            ∙ absent))) (subst (λ n. n ≤ MOST_CALLERS) (sym many) h.few),
       );
   few_scripts = omega (arith, count-add callers s);
   names = All-from_recursion _ _ (all-add (λ c. IsName c.name) s (λ c n. n) name callers (recursion_from_All _ _ h.names));
   names_differ = subst (IsDistinct bytes_eq) (sym (names-add callers s)) (add_name-distinct (map (λ c. c.name) callers) s.caller h.names_differ);
   scripts = All-from_recursion _ _ (all-add (λ c. All (IsScriptFor books) c.scripts) s (λ c all. All-push (IsScriptFor books) c.scripts s.script all script)
       (All-push (IsScriptFor books) [] s.script (λ k d less. absurd (omega arith)) script) callers (recursion_from_All _ _ h.scripts));
-  some_scripts = All-from_recursion _ _ (all-add (λ c. 1 ≤ length c.scripts) s (λ c some. omega (arith, some, length-append c.scripts (s.script ∷ []))) (omega arith) callers (recursion_from_All _ _ h.some_scripts));
+  some_scripts = All-from_recursion _ _
+      (all-add (λ c. 1 ≤ length c.scripts) s (λ c some. omega (arith, some, length-append c.scripts (s.script ∷ [])))
+      (omega arith) callers (recursion_from_All _ _ h.some_scripts));
 }
 
 -- what holds of each element of two lists holds of the first, and of an element behind it
@@ -86,7 +95,8 @@ pub record IsGoodScript (books : ClearingBooks) (s : Submission) : Type 0 where
   pub script : IsScriptFor books s.script
 
 -- callers that are good after one more script were good before, and so is the script
-good-add : (books : ClearingBooks) (callers : List Caller) (s : Submission) → AllByRecursion (IsGood books) (add_submission callers s) → AllByRecursion (IsGood books) callers × IsGoodScript books s
+good-add : (books : ClearingBooks) (callers : List Caller) (s : Submission)
+    → AllByRecursion (IsGood books) (add_submission callers s) → AllByRecursion (IsGood books) callers × IsGoodScript books s
 good-add books [] s all = (tt, record { name = all.0.name; script = all.0.scripts.0 })
 good-add books (c ∷ callers) s all = by (bytes_eq s.caller c.name) refl all (good-add books callers s)
   where
@@ -111,14 +121,19 @@ good-scripts books callers (s ∷ subs) all =
     (here.0, (here.1, rest.1))
 
 -- callers with scripts for the books are good
-good_callers : (books : ClearingBooks) (callers : List Caller) → AllByRecursion (λ c. IsName c.name) callers → AllByRecursion (λ c. All (IsScriptFor books) c.scripts) callers → AllByRecursion (IsGood books) callers
+good_callers : (books : ClearingBooks) (callers : List Caller) → AllByRecursion (λ c. IsName c.name) callers
+    → AllByRecursion (λ c. All (IsScriptFor books) c.scripts) callers → AllByRecursion (IsGood books) callers
 good_callers books [] names scripts = tt
-good_callers books (c ∷ callers) names scripts = (record { name = names.0; scripts = recursion_from_All _ _ scripts.0 }, good_callers books callers names.1 scripts.1)
+good_callers books (c ∷ callers) names scripts = (
+  record { name = names.0; scripts = recursion_from_All _ _ scripts.0 },
+  good_callers books callers names.1 scripts.1,
+)
 
 -- so each script of theirs is good
 pub scripts_are_good : (books : ClearingBooks) (subs : List Submission) → AreCallersFor books (callers_of subs) → AllByRecursion (IsGoodScript books) subs
 scripts_are_good books subs valid =
-    (good-scripts books [] subs (subst (AllByRecursion (IsGood books)) (callers_of-gathered subs) (good_callers books (callers_of subs) (recursion_from_All _ _ valid.names) (recursion_from_All _ _ valid.scripts)))).1
+    (good-scripts books [] subs (subst (AllByRecursion (IsGood books)) (callers_of-gathered subs)
+    (good_callers books (callers_of subs) (recursion_from_All _ _ valid.names) (recursion_from_All _ _ valid.scripts)))).1
 
 -- how many scripts there are
 pub count-fold : (callers : List Caller) (subs : List Submission) → count_scripts (fold add_submission callers subs) ≡ count_scripts callers + length subs
@@ -130,7 +145,8 @@ length-add-ge : (callers : List Caller) (s : Submission) → length callers ≤ 
 length-add-ge [] s = omega arith
 length-add-ge (c ∷ callers) s = by (bytes_eq s.caller c.name) (length-add-ge callers s)
   where
-    by : (b : Bool) → length callers ≤ length (add_submission callers s) → length (c ∷ callers) ≤ length (if b then record { name = c.name; scripts = c.scripts ++ s.script ∷ [] } ∷ callers else c ∷ add_submission callers s)
+    by : (b : Bool) → length callers ≤ length (add_submission callers s)
+        → length (c ∷ callers) ≤ length (if b then record { name = c.name; scripts = c.scripts ++ s.script ∷ [] } ∷ callers else c ∷ add_submission callers s)
     by true rest = omega arith
     by false rest = omega arith
 
@@ -156,8 +172,21 @@ letters_of name h = (both h).1
 -- a name can stand as a word
 letters-free : (c : ℕ) (name : List ℕ) → c < 97 → list_all (λ c. nat_le 97 c && nat_le c 122) name ≡ true → IsFreeOf c name
 letters-free c [] low letters = tt
-letters-free c (b ∷ name) low letters = (elim (eqb_tells b c) [ inl same ↦ absurd (omega (arith, leb-true 97 b (both (both letters).0).0)) | inr apart ↦ apart.0 ], letters-free c name low (both letters).1)
+letters-free c (b ∷ name) low letters = (
+  elim (eqb_tells b c) [
+    | inl same ↦ absurd (omega (arith, leb-true 97 b (both (both letters).0).0))
+    | inr apart ↦
+        apart.0
+  ],
+  letters-free c name low (both letters).1,
+)
 
 -- the words of the line that begins a script are those of a line
 pub caller-AreWords : (name : List ℕ) → IsName name → AreWords (codes "script" ∷ name ∷ [])
-caller-AreWords name h = record { some = omega arith; each = (word_from_test (codes "script") refl, ((letters-free SPACE name (lit< tt) (letters_of name h), letters-free LINE_FEED name (lit< tt) (letters_of name h)), tt)) }
+caller-AreWords name h = record {
+  some = omega arith;
+  each = (
+    word_from_test (codes "script") refl,
+    ((letters-free SPACE name (lit< tt) (letters_of name h), letters-free LINE_FEED name (lit< tt) (letters_of name h)), tt),
+  );
+}

@@ -1,7 +1,8 @@
 -- The first fault of a text: its line, and the first reason that applies to that line beside those before it.
 -- Reasons are tried in this order, each where it can apply: header, word, order of kinds, number, limit, order of lines,
 -- account, price, blocks. `IsFirstFault` has what is beside them: a line that does not exist, or comes after the last.
-use Rattle.std.specs.Prelude.{◌≡◌, ◌≢◌, ◌⊎◌, ℕ, ◌+◌, Bool, true, false, not, ◌&&◌, ◌||◌, ◌==◌, nat_lt, nat_le, if◌then◌else◌, List, [], ◌∷◌, ◌++◌, Option, Some, None, codes, length, drop, map, filter, fold, count_by, slice_index_or}
+use Rattle.std.specs.Prelude.{◌≡◌, ◌≢◌, ◌⊎◌, ℕ, ◌+◌, Bool, true, false, not, ◌&&◌, ◌||◌, ◌==◌, nat_lt, nat_le, if◌then◌else◌, List, [], ◌∷◌, ◌++◌, Option, Some}
+use Rattle.std.specs.Prelude.{None, codes, length, drop, map, filter, fold, count_by, slice_index_or}
 use Rattle.std.specs.List.{list_any, flat_map, position_or_len}
 use Rattle.std.specs.Option.{is_none}
 use Rattle.std.specs.Str.{bytes_eq}
@@ -14,7 +15,8 @@ use Rattle.script_reader.specs.Lines.{IsFreeOf, AreWords, word_at}
 use Rattle.script_reader.specs.Text.{line}
 use Rattle.script_reader.specs.Input.{ClearingInput, first_seen}
 use Rattle.script_reader.specs.Grammar.{Spells}
-use Rattle.script_reader.specs.Forms.{Words, sizes, books_forms, script_forms, begins, is_only, form_of, ranges_of, is_header, is_script_line, size_words, value_at, are_numbers, are_in_range}
+use Rattle.script_reader.specs.Forms.{Words, sizes, books_forms, script_forms, begins, is_only, form_of, ranges_of, is_header, is_script_line, size_words}
+use Rattle.script_reader.specs.Forms.{value_at, are_numbers, are_in_range}
 
 -- the first reason of a list that applies
 abbrev pub first_reason : List (Bool × Fault) → Option Fault
@@ -69,7 +71,11 @@ books_fault before words =
     (is_none form, fault.Word)
     ∷ (is_late before words, fault.Order)
     ∷ (not (are_numbers (drop 1 words)), fault.Number)
-    ∷ (not (are_in_range (drop 1 words) (ranges_of form)) || (begins (codes "call") words && nat_le (size_at before 7) (count_by (begins (codes "call")) before)), fault.Limit)
+    ∷ (
+      not (are_in_range (drop 1 words) (ranges_of form)) || (begins (codes "call") words && nat_le (size_at before 7)
+          (count_by (begins (codes "call")) before)),
+      fault.Limit,
+    )
     ∷ (is_low before words, fault.Order)
     ∷ (begins (codes "position") words && not (is_given before (codes "account") (value_at words 1)), fault.Account)
     ∷ (begins (codes "position") words && not (is_given before (codes "price") (value_at words 2)), fault.Price)
@@ -106,7 +112,11 @@ inside_fault before words =
     first_reason (
     (is_none form, fault.Word)
     ∷ (not (are_numbers (drop 1 words)), fault.Number)
-    ∷ (not (are_in_range (drop 1 words) (ranges_of form)) || (not (is_only (codes "end") words) && nat_le MOST_OPERATIONS (operations_before before)), fault.Limit)
+    ∷ (
+      not (are_in_range (drop 1 words) (ranges_of form)) ||
+          (not (is_only (codes "end") words) && nat_le MOST_OPERATIONS (operations_before before)),
+      fault.Limit,
+    )
     ∷ []
     )
 
@@ -125,7 +135,8 @@ fault_of (header ∷ lines) words =
 -- no line of a list is faulty beside the lines before it and those of the list ahead of it, and none is the last of a text
 abbrev pub AreFaultless : List Words → List Words → Type 0
 AreFaultless before [] = Unit {0}
-AreFaultless before (words ∷ more) = AreWords words × (fault_of before words ≡ None) × (is_only (codes "finish") words ≡ false) × AreFaultless (before ++ words ∷ []) more
+AreFaultless before (words ∷ more) = AreWords words × (fault_of before words ≡ None)
+    × (is_only (codes "finish") words ≡ false) × AreFaultless (before ++ words ∷ []) more
 
 -- the text begins with a line with this fault, and goes on; or it has no whole line, which is a fault too
 abbrev pub StartsFaulty : List Words → List ℕ → List ℕ → Fault → Type 0

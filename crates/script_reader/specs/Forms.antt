@@ -3,7 +3,8 @@ use Rattle.std.specs.Prelude.{ℕ, ◌+◌, Bool, ◌&&◌, ◌==◌, nat_le, Li
 use Rattle.std.specs.List.{list_all, zip}
 use Rattle.std.specs.Str.{bytes_eq}
 use Rattle.std.specs.Str.Parse.{digits_value}
-use Rattle.books_model.specs.declared.limits.TheConstants.{MOST_BLOCKS, MOST_INSTRUMENTS, MOST_RING, GREATEST_ACCOUNT, GREATEST_CASH, GREATEST_AMOUNT, GREATEST_PRICE, GREATEST_QUANTITY, GREATEST_RATE, GREATEST_SHORTFALL}
+use Rattle.books_model.specs.declared.limits.TheConstants.{MOST_BLOCKS, MOST_INSTRUMENTS, MOST_RING, GREATEST_ACCOUNT, GREATEST_CASH, GREATEST_AMOUNT}
+use Rattle.books_model.specs.declared.limits.TheConstants.{GREATEST_PRICE, GREATEST_QUANTITY, GREATEST_RATE, GREATEST_SHORTFALL}
 use Rattle.script_reader.specs.Lines.{word_at}
 use Rattle.script_reader.specs.Number.{is_number}
 use Rattle.script_reader.specs.Input.{is_name}

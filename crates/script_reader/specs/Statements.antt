@@ -20,7 +20,8 @@ OneInput = (text : List ℕ) (input other : ClearingInput) → Spells text input
 
 -- a text has one first fault at most
 abbrev pub OneFault : Type 0
-OneFault = (text : List ℕ) (number other : ℕ) (why reason : Fault) → IsFirstFault text number why → IsFirstFault text other reason → (number ≡ other) × (why ≡ reason)
+OneFault = (text : List ℕ) (number other : ℕ) (why reason : Fault) → IsFirstFault text number why
+    → IsFirstFault text other reason → (number ≡ other) × (why ≡ reason)
 
 -- the text has a first fault up to its line `finish`
 abbrev pub HasFrontFault : List ℕ → Type 0

@@ -1,5 +1,7 @@
 -- The kinds of step on timestamps keep the timestamp invariant.
-use Rattle.std.proofs.Common.{◌≡◌, ◌≢◌, ℕ, suc, ◌+◌, ◌<◌, ◌≤◌, Bool, true, false, ◌&&◌, ◌⊎◌, inl, inr, ⊎_elim, List, [], ◌∷◌, ◌++◌, length, Option, Some, None, nat_lt, if◌then◌else◌, slice_index, slice_set, refl, sym, ap, ◌∙◌, subst, arith, eq-eqb, ne_eqb, get_or-set_other, get_or-set_same}
+use Rattle.std.proofs.Common.{◌≡◌, ◌≢◌, ℕ, suc, ◌+◌, ◌<◌, ◌≤◌, Bool, true, false, ◌&&◌, ◌⊎◌, inl, inr, ⊎_elim, List, [], ◌∷◌, ◌++◌, length, Option, Some, None}
+use Rattle.std.proofs.Common.{nat_lt, if◌then◌else◌, slice_index, slice_set, refl, sym, ap, ◌∙◌, subst, arith, eq-eqb, ne_eqb, get_or-set_other}
+use Rattle.std.proofs.Common.{get_or-set_same}
 use Rattle.std.proofs.lemmas.Bool.Decides.{leb_tells}
 use Rattle.std.proofs.lemmas.Option.{same_Some}
 use mathlib.Core.Logic.{dite}
@@ -17,9 +19,13 @@ use Rattle.locks_rule.proofs.Own.{own}
 use Rattle.stamps_rule.specs.Causes.{past_causes, newest, older, listed, causes_of, pending_of, waited_of}
 use Rattle.stamps_rule.specs.Keeping.{KeepsStamps}
 use Rattle.stamps_rule.specs.Stamps.{is_idle, is_unstamped, shown_stamp, Shows, GoesAfter, AreSeatsDistinct, WasMet, StampsHold}
-use Rattle.stamps_rule.specs.Steps.{MayDrawStamp, MayAnnounceStamp, MayJudgeStamp, MayLoadSerialAtYield, MayLoadCauseStamp, draw_stamp_action, announce_stamp_action, judge_stamp_action, load_serial_at_yield_action, load_cause_stamp_action, judged, attempt_of, after_giving_way, after_waiting, after_restarting}
-use Rattle.stamps_rule.proofs.Asides.{words_unchanged, notes_same, no_due, stamps_kept, all_kept, causes_kept, causes_empty, waited_kept, earlier_kept, stands_aside}
-use Rattle.stamps_rule.proofs.CauseLists.{newest_added, older_added, newest_last, past_added, in_added, pending_running, waited_running, pending_yielding, waited_yielding, causes_past, empty_list, distinct_added}
+use Rattle.stamps_rule.specs.Steps.{MayDrawStamp, MayAnnounceStamp, MayJudgeStamp, MayLoadSerialAtYield, MayLoadCauseStamp, draw_stamp_action}
+use Rattle.stamps_rule.specs.Steps.{announce_stamp_action, judge_stamp_action, load_serial_at_yield_action, load_cause_stamp_action, judged, attempt_of}
+use Rattle.stamps_rule.specs.Steps.{after_giving_way, after_waiting, after_restarting}
+use Rattle.stamps_rule.proofs.Asides.{words_unchanged, notes_same, no_due, stamps_kept, all_kept, causes_kept, causes_empty, waited_kept, earlier_kept}
+use Rattle.stamps_rule.proofs.Asides.{stands_aside}
+use Rattle.stamps_rule.proofs.CauseLists.{newest_added, older_added, newest_last, past_added, in_added, pending_running, waited_running, pending_yielding}
+use Rattle.stamps_rule.proofs.CauseLists.{waited_yielding, causes_past, empty_list, distinct_added}
 use Rattle.stamps_rule.proofs.Counting.{unstamped_stamped, unstamped_running}
 use Rattle.stamps_rule.proofs.Frames.{moves}
 use Rattle.stamps_rule.proofs.LocksStand.{runs, yields, yielded}
@@ -42,12 +48,14 @@ draw_stamp_stamps j n base ws vs id v h q me may =
     let ws' : List ℕ = slice_set ws clock_word x in
     let here : slice_index ws' clock_word ≡ x = get_or-set_same ws clock_word x 0 (let count = h.word_count in omega arith) in
     let unshown : v.announced ≡ false = not_true v.announced (λ t. let some = q.shown.announced_stamped id v me t in let none = may.unstamped in omega arith) in
-    let none : causes_of w ≡ [] = empty_list (causes_of v) (λ c t. let e = (q.grounds.earlier id v c me (runs v may.phase) t).1 in let zero = may.unstamped in omega arith) in
+    let none : causes_of w ≡ [] = empty_list (causes_of v) (λ c t. let e =
+    (q.grounds.earlier id v c me (runs v may.phase) t).1 in let zero = may.unstamped in omega arith) in
     moves n base ws ws' vs id v w h q me record {
       who = refl;
       stamps = record {
         own_word = λ l t. let seat : IsSeat vs id v l = record { knows = me; named = t } in
-            get_or-set_other ws clock_word (stamps_word n l) x 0 (λ e. omega arith) ∙ (q.shown.words_show id l v seat ∙ (hidden v unshown ∙ sym (hidden w unshown)));
+            get_or-set_other ws clock_word (stamps_word n l) x 0 (λ e. omega arith)
+            ∙ (q.shown.words_show id l v seat ∙ (hidden v unshown ∙ sym (hidden w unshown)));
         other_word = λ l away lt. get_or-set_other ws clock_word (stamps_word n l) x 0 (λ e. omega arith);
         idle = λ e. absurd (runs v may.phase e);
         announced = λ t. omega arith;
@@ -61,7 +69,8 @@ draw_stamp_stamps j n base ws vs id v h q me may =
             let after = unstamped_stamped w (omega arith) in
             omega arith;
       };
-      causes = causes_empty n base ws vs id v h q me w none (λ l t. q.grounds.met_were_met id l v me t) (λ c t. absurd (no_due v c may.no_cause t)) (λ busy. (j, may.who));
+      causes = causes_empty n base ws vs id v h q me w none (λ l t. q.grounds.met_were_met id l v me t)
+          (λ c t. absurd (no_due v c may.no_cause t)) (λ busy. (j, may.who));
     }
 
 pub announce_stamp_stamps : (j : ℕ) → KeepsStamps (MayAnnounceStamp j) (announce_stamp_action j)
@@ -71,7 +80,9 @@ announce_stamp_stamps j n base ws vs id v h q me may =
     let w : View = record v { announced = true } in
     let ws' : List ℕ = slice_set ws i v.stamp in
     let place : i ≡ stamps_word n j = ap (λ (m : ℕ). stamps_word m j) o.seats in
-    let here : slice_index ws' (stamps_word n j) ≡ v.stamp = subst (λ (k : ℕ). slice_index ws' k ≡ v.stamp) place (get_or-set_same ws i v.stamp 0 (let count = h.word_count in let below = o.below in omega arith)) in
+    let here : slice_index ws' (stamps_word n j) ≡ v.stamp =
+    subst (λ (k : ℕ). slice_index ws' k ≡ v.stamp) place (get_or-set_same ws i v.stamp 0 (let count =
+    h.word_count in let below = o.below in omega arith)) in
     moves n base ws ws' vs id v w h q me record {
       who = refl;
       stamps = record {
@@ -100,19 +111,22 @@ announce_stamp_stamps j n base ws vs id v h q me may =
     }
 
 -- a seat that showed a number is a cause, or is none
-judged_cases : (i shown stamp : ℕ) → (judged i shown stamp ≡ None) ⊎ ((judged i shown stamp ≡ Some (record { seat = i; stamp = shown })) × (0 < shown) × (shown < stamp))
+judged_cases : (i shown stamp : ℕ) → (judged i shown stamp ≡ None)
+    ⊎ ((judged i shown stamp ≡ Some (record { seat = i; stamp = shown })) × (0 < shown) × (shown < stamp))
 judged_cases i shown stamp =
     let found : Option Cause = Some (record { seat = i; stamp = shown }) in
     ⊎_elim
     (λ (a : (nat_lt 0 shown ≡ true) × (1 ≤ shown)). ⊎_elim
     (λ (b : (nat_lt shown stamp ≡ true) × (suc shown ≤ stamp)). let low = a.1 in let high = b.1 in
     inr (ap (λ (t : Bool). if t && nat_lt shown stamp then found else None) a.0 ∙ ap (λ (t : Bool). if t then found else None) b.0, omega arith, omega arith))
-    (λ (b : (nat_lt shown stamp ≡ false) × (stamp < suc shown)). inl (ap (λ (t : Bool). if t && nat_lt shown stamp then found else None) a.0 ∙ ap (λ (t : Bool). if t then found else None) b.0))
+    (λ (b : (nat_lt shown stamp ≡ false) × (stamp < suc shown)). inl
+    (ap (λ (t : Bool). if t && nat_lt shown stamp then found else None) a.0 ∙ ap (λ (t : Bool). if t then found else None) b.0))
     (leb_tells (suc shown) stamp))
     (λ (a : (nat_lt 0 shown ≡ false) × (shown < 1)). inl (ap (λ (t : Bool). if t && nat_lt shown stamp then found else None) a.0))
     (leb_tells 1 shown)
 
-module _ (n : ℕ) (base ws : List ℕ) (vs : List View) (id j i : ℕ) (v : View) (h : LocksHold n base ws vs) (q : StampsHold n ws vs) (me : Knows vs id v) (may : MayJudgeStamp j i v) where
+module _ (n : ℕ) (base ws : List ℕ) (vs : List View) (id j i : ℕ) (v : View) (h : LocksHold n base ws vs)
+    (q : StampsHold n ws vs) (me : Knows vs id v) (may : MayJudgeStamp j i v) where
   abbrev found : ℕ
   found = slice_index ws (stamps_word v.seats i)
 
@@ -140,7 +154,8 @@ module _ (n : ℕ) (base ws : List ℕ) (vs : List View) (id j i : ℕ) (v : Vie
   not_waited some earlier d t e =
       let p = h.numbers_placed i other_seat.0 in
       let s = shows p.1 found (shown_there p.0 p.1 p.2) some in
-      let a = q.waited.waited_out id p.0 v p.1 d me (subst (λ (l : List Cause). IsIn d l) (sym (waited_running v may.phase)) t) (subst (λ (l : ℕ). IsSeat vs p.0 p.1 l) (sym e) p.2) in
+      let a = q.waited.waited_out id p.0 v p.1 d me
+      (subst (λ (l : List Cause). IsIn d l) (sym (waited_running v may.phase)) t) (subst (λ (l : ℕ). IsSeat vs p.0 p.1 l) (sym e) p.2) in
       let has_stamp = s.0 in
       ⊎_elim (λ (z : p.1.stamp ≡ 0). omega arith) (λ (z : v.stamp < p.1.stamp). omega arith) a
 
@@ -153,20 +168,26 @@ module _ (n : ℕ) (base ws : List ℕ) (vs : List View) (id j i : ℕ) (v : Vie
   judge_finds : 0 < found → found < v.stamp → StampsHold n (slice_set ws (stamps_word v.seats i) found) (slice_set vs id finds)
   judge_finds some earlier = moves n base ws (slice_set ws (stamps_word v.seats i) found) vs id v finds h q me record {
     who = refl;
-    stamps = stamps_kept n base ws vs id v h q me finds (slice_set ws (stamps_word v.seats i) found) (words_unchanged n ws (stamps_word v.seats i)) refl refl refl refl;
+    stamps = stamps_kept n base ws vs id v h q me finds (slice_set ws (stamps_word v.seats i) found)
+        (words_unchanged n ws (stamps_word v.seats i)) refl refl refl refl;
     causes = record {
       waited = waited_kept n base ws vs id v h q me finds refl refl;
       pending = λ other u d s ne t.
           let is : the_cause ≡ d = same_Some the_cause d (sym (pending_running finds may.phase) ∙ t) in
-          subst (λ (c : Cause). Shows u c.stamp ⊎ GoesAfter u v.stamp) is (inl (shows u found (shown_there other u (subst (λ (c : Cause). IsSeat vs other u c.seat) (sym is) s)) some));
-      distinct = distinct_added (past_causes v) the_cause (subst (λ (l : List Cause). AreSeatsDistinct l) (causes_past v may.no_cause) (q.seats.distinct id v me)) (not_waited some earlier);
+          subst (λ (c : Cause). Shows u c.stamp ⊎ GoesAfter u v.stamp) is
+          (inl (shows u found (shown_there other u (subst (λ (c : Cause). IsSeat vs other u c.seat) (sym is) s)) some));
+      distinct = distinct_added (past_causes v) the_cause
+          (subst (λ (l : List Cause). AreSeatsDistinct l) (causes_past v may.no_cause) (q.seats.distinct id v me)) (not_waited some earlier);
       earlier = λ d busy t. ⊎_elim
           (λ z. q.grounds.earlier id v d me (runs v may.phase) (was_cause d z))
           (λ z. subst (λ (c : Cause). (0 < c.stamp) × (c.stamp < v.stamp)) z (some, earlier)) (cause_cases d t);
       elsewhere = λ l d single t. ⊎_elim
           (λ z. q.grounds.elsewhere id l v d me single (was_cause d z))
-          (λ z. subst (λ (c : Cause). (c.seat < n) × (c.seat ≢ l)) z
-          (other_seat.0, λ e. differ (has i v.who) (subst (λ (k : ℕ). has k v.who ≡ true) (sym e) (own n base ws vs id l v h me single).seat.named) other_seat.1)) (cause_cases d t);
+          (λ z. subst (λ (c : Cause). (c.seat < n) × (c.seat ≢ l)) z (
+            other_seat.0,
+            λ e. differ (has i v.who)
+                (subst (λ (k : ℕ). has k v.who ≡ true) (sym e) (own n base ws vs id l v h me single).seat.named) other_seat.1,
+          )) (cause_cases d t);
       were_met = λ d t. ⊎_elim
           (λ z. q.grounds.were_met id v d me (was_cause d z))
           (λ z. subst (λ (c : Cause). WasMet v c.seat) z (q.grounds.met_were_met id i v me may.met)) (cause_cases d t);
@@ -194,8 +215,10 @@ module _ (n : ℕ) (base ws : List ℕ) (vs : List View) (id j i : ℕ) (v : Vie
 
   judge_keeps : StampsHold n (slice_set ws (stamps_word v.seats i) found) (slice_set vs id (record v { met = without i v.met; due = judged i found v.stamp }))
   judge_keeps = ⊎_elim
-      (λ t. subst (λ (due : Option Cause). StampsHold n (slice_set ws (stamps_word v.seats i) found) (slice_set vs id (record v { met = without i v.met; due = due }))) (sym t) judge_passes)
-      (λ t. subst (λ (due : Option Cause). StampsHold n (slice_set ws (stamps_word v.seats i) found) (slice_set vs id (record v { met = without i v.met; due = due }))) (sym t.0) (judge_finds t.1 t.2))
+      (λ t. subst (λ (due : Option Cause). StampsHold n (slice_set ws (stamps_word v.seats i) found)
+      (slice_set vs id (record v { met = without i v.met; due = due }))) (sym t) judge_passes)
+      (λ t. subst (λ (due : Option Cause). StampsHold n (slice_set ws (stamps_word v.seats i) found)
+      (slice_set vs id (record v { met = without i v.met; due = due }))) (sym t.0) (judge_finds t.1 t.2))
       (judged_cases i found v.stamp)
 
 pub judge_stamp_stamps : (j i : ℕ) → KeepsStamps (MayJudgeStamp j i) (judge_stamp_action j i)
@@ -243,7 +266,8 @@ waits_on n base ws vs id i v h q me none = stands_aside n base ws vs id v h q me
 }
 
 -- the cause is gone
-restarts : (n : ℕ) (base ws : List ℕ) (vs : List View) (id j i stamp : ℕ) (v : View) → LocksHold n base ws vs → StampsHold n ws vs → Knows vs id v → MayLoadCauseStamp j i stamp v
+restarts : (n : ℕ) (base ws : List ℕ) (vs : List View) (id j i stamp : ℕ) (v : View) → LocksHold n base ws vs
+    → StampsHold n ws vs → Knows vs id v → MayLoadCauseStamp j i stamp v
     → slice_index ws (stamps_word v.seats i) ≢ stamp
     → StampsHold n (slice_set ws (stamps_word v.seats i) (slice_index ws (stamps_word v.seats i))) (slice_set vs id (after_restarting v))
 restarts n base ws vs id j i stamp v h q me may other_stamp =

@@ -11,7 +11,9 @@ use Rattle.transfers.specs.Moving.{HasSum}
 
 -- of good words a legal history leaves good ones
 pub leaves_good : (desk : DeskView Vault) (left : List ℕ) (history : List Entry)
-    → IsGood desk.shape.words (HasSum desk.shape.total) desk.base → IsLegalHistory (IsGood desk.shape.words (HasSum desk.shape.total)) desk.seats desk.base history
+    → IsGood desk.shape.words (HasSum desk.shape.total) desk.base
+    → IsLegalHistory (IsGood desk.shape.words (HasSum desk.shape.total)) desk.seats desk.base history
     → left ≡ replay desk.base history → IsGood desk.shape.words (HasSum desk.shape.total) left
 leaves_good desk left history good legal is =
-    subst (λ l. IsGood desk.shape.words (HasSum desk.shape.total) l) (sym is) (replay_is_good (IsGood desk.shape.words (HasSum desk.shape.total)) desk.seats desk.base history good legal)
+    subst (λ l. IsGood desk.shape.words (HasSum desk.shape.total) l) (sym is)
+    (replay_is_good (IsGood desk.shape.words (HasSum desk.shape.total)) desk.seats desk.base history good legal)

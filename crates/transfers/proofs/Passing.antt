@@ -20,7 +20,8 @@ is_next a b x y old new next = subst (λ p. IsNext p y) old (subst (λ q. IsNext
 
 -- where each pass is the same as before, they are all passes still
 pub all_next : {S : Type 0} (desk : DeskView S) (seats : ℕ) (old new : List PassView) → length new ≡ length old
-    → ((k : ℕ) (d : PassView) → k < length old → IsNext (get_or old k d) (get_or new k d)) → AreAllPasses desk.table seats old → AreAllPasses desk.table seats new
+    → ((k : ℕ) (d : PassView) → k < length old → IsNext (get_or old k d) (get_or new k d))
+    → AreAllPasses desk.table seats old → AreAllPasses desk.table seats new
 all_next desk seats old new count next all = record {
   of_table = λ p is. let n = before p is in n.2.table_stays ∙ all.of_table n.0 n.1;
   idle = λ p is. (before p is).2.idle;
@@ -44,5 +45,7 @@ all_next desk seats old new count next all = record {
         )
 
 -- a list that was written back over one of its length
-pub written_back_all : {S : Type 0} (desk : DeskView S) (seats len : ℕ) (new rest : List PassView) → length new ≡ len → AreAllPasses desk.table seats new → AreAllPasses desk.table seats (take len (new ++ rest))
-written_back_all desk seats len new rest is all = subst (λ (l : List PassView). AreAllPasses desk.table seats l) (sym (take-append_seam new rest) ∙ ap (λ m. take m (new ++ rest)) is) all
+pub written_back_all : {S : Type 0} (desk : DeskView S) (seats len : ℕ) (new rest : List PassView) → length new ≡ len
+    → AreAllPasses desk.table seats new → AreAllPasses desk.table seats (take len (new ++ rest))
+written_back_all desk seats len new rest is all =
+    subst (λ (l : List PassView). AreAllPasses desk.table seats l) (sym (take-append_seam new rest) ∙ ap (λ m. take m (new ++ rest)) is) all

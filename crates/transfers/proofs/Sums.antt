@@ -19,7 +19,8 @@ two_within s i j differ within_i within_j =
     omega (arith, zeroed, same, rest)
 
 -- what is moved stays in the sum
-pub moved_sum : (from to amount : ℕ) (s : List ℕ) → to ≢ from → from < length s → to < length s → amount ≤ slice_index s from → sum (moved from to amount s) ≡ sum s
+pub moved_sum : (from to amount : ℕ) (s : List ℕ) → to ≢ from → from < length s → to < length s
+    → amount ≤ slice_index s from → sum (moved from to amount s) ≡ sum s
 moved_sum from to amount s differ within_from within_to enough =
     let less : ℕ = slice_index s from - amount in
     let taken : sum (slice_set s from less) + slice_index s from ≡ sum s + less = sum_by-set (λ n. n) s from less 0 within_from in

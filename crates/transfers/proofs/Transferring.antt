@@ -1,5 +1,6 @@
 -- What a transfer's trace says of the lists that fit it.
-use Rattle.std.proofs.Common.{◌≡◌, ◌≢◌, ℕ, ◌+◌, ◌-◌, ◌<◌, ◌≤◌, ◌^◌, List, [], ◌∷◌, ◌++◌, true, false, sum, length, slice_get, slice_index, slice_set, Some, refl, sym, ap, ◌∙◌, arith}
+use Rattle.std.proofs.Common.{◌≡◌, ◌≢◌, ℕ, ◌+◌, ◌-◌, ◌<◌, ◌≤◌, ◌^◌, List, [], ◌∷◌, ◌++◌, true, false, sum, length, slice_get, slice_index, slice_set, Some}
+use Rattle.std.proofs.Common.{refl, sym, ap, ◌∙◌, arith}
 use Rattle.std.proofs.lemmas.Option.{get_or_from_slice_get, slice_get_within}
 use Rattle.history_model.specs.declared.event.Event.TheVariants.{Read}
 use Rattle.history_model.specs.Traces.{Trace, after}
@@ -29,7 +30,11 @@ module _ (n total from to amount held : ℕ) (t u : Trace) (fresh : t ≡ []) (f
   too_little less s fit =
       let is : slice_index s from ≡ held = get_or_from_slice_get s from held 0 (first_read s fit).0 in
       record {
-        covered = (λ no. cc, λ (covered : IsCovered from to amount s). let enough : amount ≤ slice_index s from = covered.enough in absurd (omega (arith, is, less, enough)));
+        covered = (
+          λ no. cc,
+          λ (covered : IsCovered from to amount s). let enough : amount ≤ slice_index s from =
+              covered.enough in absurd (omega (arith, is, less, enough)),
+        );
         moves = λ no. cc;
       }
 
@@ -62,7 +67,8 @@ module _ (n total from to amount held : ℕ) (t u : Trace) (fresh : t ≡ []) (f
         let within : slice_index some.0 from + slice_index some.0 to ≤ sum some.0 = two_within some.0 from to differ b.from_there b.to_there in
         omega (arith, within, b.from_is, b.to_is, some.1.good, enough, small)
 
-    module _ (differ : to ≢ from) (enough : amount ≤ held) (w x : Trace) (taken : EndsWithWrite v w from (held - amount)) (put : EndsWithWrite w x to (target + amount)) where
+    module _ (differ : to ≢ from) (enough : amount ≤ held) (w x : Trace)
+        (taken : EndsWithWrite v w from (held - amount)) (put : EndsWithWrite w x to (target + amount)) where
       -- what is left, of a list on which all this was done
       record Done (s : List ℕ) : Type 0 where
         read : Both s
@@ -76,9 +82,11 @@ module _ (n total from to amount held : ℕ) (t u : Trace) (fresh : t ≡ []) (f
           let fit_v : Fits n (HasSum total) v s = fits_write_end n (HasSum total) v w from (held - amount) s taken fit_w in
           let b : Both s = both s fit_v in
           let left_w : after w s ≡ slice_set s from (slice_index s from - amount) =
-          after_write_end v w from (held - amount) s taken ∙ ap (λ z. slice_set z from (held - amount)) b.same ∙ ap (λ z. slice_set s from (z - amount)) (sym b.from_is) in
+          after_write_end v w from (held - amount) s taken ∙ ap (λ z. slice_set z from (held - amount)) b.same
+          ∙ ap (λ z. slice_set s from (z - amount)) (sym b.from_is) in
           let left_x : after x s ≡ moved from to amount s =
-          after_write_end w x to (target + amount) s put ∙ ap (λ z. slice_set z to (target + amount)) left_w ∙ ap (λ z. slice_set (slice_set s from (slice_index s from - amount)) to (z + amount)) (sym b.to_is) in
+          after_write_end w x to (target + amount) s put ∙ ap (λ z. slice_set z to (target + amount)) left_w
+          ∙ ap (λ z. slice_set (slice_set s from (slice_index s from - amount)) to (z + amount)) (sym b.to_is) in
           record {
             read = b;
             covered = record {

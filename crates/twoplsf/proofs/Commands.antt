@@ -20,29 +20,35 @@ pub two_of : {A : Type 0} (f : A → List ℕ) (xs : List A) (x y : A) → lengt
 two_of f [] x y two first second = absurd (omega arith)
 two_of f (a ∷ xs) x y two first second = rw (sym first) (ap (λ ws. f x ∷ ws) (one_of f xs y (omega arith) second))
 
-three_of : {A : Type 0} (f : A → List ℕ) (xs : List A) (x y z : A) → length xs ≡ 3 → x ≡ get_or xs 0 x → y ≡ get_or xs 1 y → z ≡ get_or xs 2 z → map f xs ≡ f x ∷ f y ∷ f z ∷ []
+three_of : {A : Type 0} (f : A → List ℕ) (xs : List A) (x y z : A) → length xs ≡ 3 → x ≡ get_or xs 0 x
+    → y ≡ get_or xs 1 y → z ≡ get_or xs 2 z → map f xs ≡ f x ∷ f y ∷ f z ∷ []
 three_of f [] x y z three first second third = absurd (omega arith)
 three_of f (a ∷ xs) x y z three first second third = rw (sym first) (ap (λ ws. f x ∷ ws) (two_of f xs y z (omega arith) second third))
 
-pub four_of : {A : Type 0} (f : A → List ℕ) (xs : List A) (x y z u : A) → length xs ≡ 4 → x ≡ get_or xs 0 x → y ≡ get_or xs 1 y → z ≡ get_or xs 2 z → u ≡ get_or xs 3 u
+pub four_of : {A : Type 0} (f : A → List ℕ) (xs : List A) (x y z u : A) → length xs ≡ 4 → x ≡ get_or xs 0 x
+    → y ≡ get_or xs 1 y → z ≡ get_or xs 2 z → u ≡ get_or xs 3 u
     → map f xs ≡ f x ∷ f y ∷ f z ∷ f u ∷ []
 four_of f [] x y z u four first second third fourth = absurd (omega arith)
 four_of f (a ∷ xs) x y z u four first second third fourth = rw (sym first) (ap (λ ws. f x ∷ ws) (three_of f xs y z u (omega arith) second third fourth))
 
-pub five_of : {A : Type 0} (f : A → List ℕ) (xs : List A) (x y z u v : A) → length xs ≡ 5 → x ≡ get_or xs 0 x → y ≡ get_or xs 1 y → z ≡ get_or xs 2 z → u ≡ get_or xs 3 u → v ≡ get_or xs 4 v
+pub five_of : {A : Type 0} (f : A → List ℕ) (xs : List A) (x y z u v : A) → length xs ≡ 5 → x ≡ get_or xs 0 x
+    → y ≡ get_or xs 1 y → z ≡ get_or xs 2 z → u ≡ get_or xs 3 u → v ≡ get_or xs 4 v
     → map f xs ≡ f x ∷ f y ∷ f z ∷ f u ∷ f v ∷ []
 five_of f [] x y z u v five first second third fourth fifth = absurd (omega arith)
-five_of f (a ∷ xs) x y z u v five first second third fourth fifth = rw (sym first) (ap (λ ws. f x ∷ ws) (four_of f xs y z u v (omega arith) second third fourth fifth))
+five_of f (a ∷ xs) x y z u v five first second third fourth fifth =
+    rw (sym first) (ap (λ ws. f x ∷ ws) (four_of f xs y z u v (omega arith) second third fourth fifth))
 
 -- what was read of a word is its number
-pub number_of : (r : Option ℕ) (word : List ℕ) (w : ℕ) → SomeIff r (IsNumber word) (min (digits_value 10 word) 18446744073709551615) → r ≡ Some w → w < 18446744073709551615 → word ≡ number w
+pub number_of : (r : Option ℕ) (word : List ℕ) (w : ℕ)
+    → SomeIff r (IsNumber word) (min (digits_value 10 word) 18446744073709551615) → r ≡ Some w → w < 18446744073709551615 → word ≡ number w
 number_of r word w reads is few = by_some (subst (λ o. SomeIff o (IsNumber word) (min (digits_value 10 word) 18446744073709551615)) is reads)
   where
     by_some : IsNumber word × (w ≡ min (digits_value 10 word) 18446744073709551615) → word ≡ number w
     by_some h = read_is word w (h.0, sym h.1) few
 
 -- the words of `run`, and of commands that make their input
-pub run_command : (words : List (List ℕ)) (word : List ℕ) → words ≡ codes "run" ∷ word ∷ [] → (w : ℕ) → (word ≡ number w) × IsWithin 1 MOST_WORKERS w → IsRunCommand words w
+pub run_command : (words : List (List ℕ)) (word : List ℕ) → words ≡ codes "run" ∷ word ∷ [] → (w : ℕ)
+    → (word ≡ number w) × IsWithin 1 MOST_WORKERS w → IsRunCommand words w
 run_command words word are w h = record { words_are = are ∙ (λ i. codes "run" ∷ h.0 i ∷ []); range = h.1 }
 
 pub run_word : (words : List (List ℕ)) (word : List ℕ) → words ≡ codes "run" ∷ word ∷ [] → (w : ℕ) → IsRunCommand words w → word ≡ number w
@@ -67,12 +73,14 @@ module _ (words : List (List ℕ)) (seed callers scripts : List ℕ) where
 
     pub drill_workers : (w s c n : ℕ) → IsDrillCommand words w s c n → workers ≡ number w
     drill_workers w s c n is =
-        let same : codes "drill" ∷ workers ∷ seed ∷ callers ∷ scripts ∷ [] ≡ codes "drill" ∷ number w ∷ number s ∷ number c ∷ number n ∷ [] = sym are ∙ is.words_are in
+        let same : codes "drill" ∷ workers ∷ seed ∷ callers ∷ scripts ∷ [] ≡ codes "drill" ∷ number w ∷ number s
+        ∷ number c ∷ number n ∷ [] = sym are ∙ is.words_are in
         cc
 
     pub drill_plan : (w s c n : ℕ) → IsDrillCommand words w s c n → ArePlanned seed callers scripts s c n
     drill_plan w s c n is =
-        let same : codes "drill" ∷ workers ∷ seed ∷ callers ∷ scripts ∷ [] ≡ codes "drill" ∷ number w ∷ number s ∷ number c ∷ number n ∷ [] = sym are ∙ is.words_are in
+        let same : codes "drill" ∷ workers ∷ seed ∷ callers ∷ scripts ∷ [] ≡ codes "drill" ∷ number w ∷ number s
+        ∷ number c ∷ number n ∷ [] = sym are ∙ is.words_are in
         record { seed_is = cc; callers_is = cc; scripts_is = cc; range = is.range }
 
 -- what follows where there is no value

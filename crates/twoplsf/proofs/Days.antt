@@ -41,7 +41,8 @@ module _ (input : ClearingInput) (workers : ℕ) (day : DayEnd) (is : IsDayOf in
       (All-from_map day.done.items is.is_day.journal.only)
     where
       All-from_map : (done : List Done) → All (IsPlace input) (days.places_of done) → All (λ (item : Done). IsPlace input (days.place_of item)) done
-      All-from_map done all k d lt = subst (IsPlace input) (get_or-map days.place_of done k d (days.place_of d) lt) (all k (days.place_of d) (subst (λ n. k < n) (sym (length-map done days.place_of)) lt))
+      All-from_map done all k d lt = subst (IsPlace input) (get_or-map days.place_of done k d (days.place_of d) lt)
+          (all k (days.place_of d) (subst (λ n. k < n) (sym (length-map done days.place_of)) lt))
 
   -- the books that it left close the output
   pub text_is : (text : List ℕ) (lines : List Line) (replies : List Reply) (closing : ClearingBooks)
@@ -49,7 +50,8 @@ module _ (input : ClearingInput) (workers : ℕ) (day : DayEnd) (is : IsDayOf in
       → text ≡ text_of input (scripts_of lines replies) closing → text ≡ output_of input (journal_of day)
   text_is text lines replies closing lines_are replies_are closed told =
       let scripts : scripts_of lines replies ≡ journal_of day = (λ i. scripts_of (lines_are i) (replies_are i)) ∙ beside day.done.items in
-      let books : closing ≡ books_after input input.books (places_of (journal_of day)) = closed ∙ ap (books_after input input.books) (sym (places_same day.done.items)) in
+      let books : closing ≡ books_after input input.books (places_of (journal_of day)) = closed
+      ∙ ap (books_after input input.books) (sym (places_same day.done.items)) in
       told ∙ (λ i. text_of input (scripts i) (books i))
 
   -- the text for the items of a day is an output, with each number of restarts below that of the workers
@@ -59,7 +61,8 @@ module _ (input : ClearingInput) (workers : ℕ) (day : DayEnd) (is : IsDayOf in
       record {
         scripts = journal_of day;
         journal = subst (IsJournal input) (sym (places_same done)) is.is_day.journal;
-        below = All-map (λ (ran : Ran). ran.restarts < workers) ran_of done (subst (λ n. All (λ (item : Done). item.restarts < n) done) is.seats is.is_day.below);
+        below = All-map (λ (ran : Ran). ran.restarts < workers) ran_of done
+            (subst (λ n. All (λ (item : Done). item.restarts < n) done) is.seats is.is_day.below);
         replies = replies_same done ∙ is.is_day.replies ∙ ap (replies_of input input.books) (sym (places_same done));
         text_is = told;
       }

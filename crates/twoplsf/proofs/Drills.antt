@@ -43,6 +43,9 @@ module _ (seed callers scripts workers : ℕ) (day : DayEnd) (is : IsDayOf (made
       → text ≡ drill_text seed callers scripts
   summary_is cash_law quantity_law range text told =
       let places = places_of day.done.items in
-      let cash_all : all_cash (closing_books (made_input seed callers scripts) day) ≡ 200000000 + all_deposits (made_input seed callers scripts) = cash_law seed callers scripts places range is.is_day.journal in
-      let quantity_all : all_quantities (closing_books (made_input seed callers scripts) day) ≡ 160000 = quantity_law seed callers scripts places range is.is_day.journal in
-      told ∙ (λ i. sum_line (codes "scripts") (scripts_run i) ++ sum_line (codes "cash") (cash_all i) ++ sum_line (codes "quantity") (quantity_all i) ++ agrees_line)
+      let cash_all : all_cash (closing_books (made_input seed callers scripts) day)
+      ≡ 200000000 + all_deposits (made_input seed callers scripts) = cash_law seed callers scripts places range is.is_day.journal in
+      let quantity_all : all_quantities (closing_books (made_input seed callers scripts) day) ≡ 160000 =
+      quantity_law seed callers scripts places range is.is_day.journal in
+      told ∙ (λ i. sum_line (codes "scripts") (scripts_run i) ++ sum_line (codes "cash") (cash_all i)
+      ++ sum_line (codes "quantity") (quantity_all i) ++ agrees_line)

@@ -52,9 +52,12 @@ where_ok P is h = subst (λ r. IfOk r P) (sym is) h
 pub ends_in_two : (Begin : List ℕ → Type 0) (Read Write : Type 0) (n : ℕ) (s a b : Status) (left : Option (List ℕ)) → n ≡ exit_status s
     → IfSome left (λ bytes. length bytes ≤ MOST_INPUT_BYTES → Begin bytes → (¬ Read) → (¬ Write) → (s ≡ a) ⊎ (s ≡ b))
     → IfSome left (λ bytes. length bytes ≤ MOST_INPUT_BYTES → Begin bytes → (¬ Read) → (¬ Write) → (n ≡ exit_status a) ⊎ (n ≡ exit_status b))
-ends_in_two Begin Read Write n s a b left this h = IfSome_then left h (λ bytes ends within begins read write. one_of_two n s a b this (ends within begins read write))
+ends_in_two Begin Read Write n s a b left this h =
+    IfSome_then left h (λ bytes ends within begins read write. one_of_two n s a b this (ends within begins read write))
 
 pub ends_in_three : (Begin : List ℕ → Type 0) (Read Write : Type 0) (n : ℕ) (s a b c : Status) (left : Option (List ℕ)) → n ≡ exit_status s
     → IfSome left (λ bytes. length bytes ≤ MOST_INPUT_BYTES → Begin bytes → (¬ Read) → (¬ Write) → (s ≡ a) ⊎ (s ≡ b) ⊎ (s ≡ c))
-    → IfSome left (λ bytes. length bytes ≤ MOST_INPUT_BYTES → Begin bytes → (¬ Read) → (¬ Write) → (n ≡ exit_status a) ⊎ (n ≡ exit_status b) ⊎ (n ≡ exit_status c))
-ends_in_three Begin Read Write n s a b c left this h = IfSome_then left h (λ bytes ends within begins read write. one_of_three n s a b c this (ends within begins read write))
+    → IfSome left (λ bytes. length bytes ≤ MOST_INPUT_BYTES → Begin bytes → (¬ Read) → (¬ Write) → (n ≡ exit_status a)
+    ⊎ (n ≡ exit_status b) ⊎ (n ≡ exit_status c))
+ends_in_three Begin Read Write n s a b c left this h =
+    IfSome_then left h (λ bytes ends within begins read write. one_of_three n s a b c this (ends within begins read write))

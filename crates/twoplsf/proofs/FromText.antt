@@ -17,7 +17,8 @@ use Rattle.twoplsf.specs.Command.{IsRun, IsCheck, IsMaking, IsReading, IsValidCo
 use Rattle.twoplsf.specs.Check.{differs_line}
 use Rattle.twoplsf.specs.Made.{IsMadeText, PrintsMade}
 use Rattle.twoplsf.specs.Answer.{IsDoneText, IsDifferenceFor, IsRefusalFor, HaveInputFor, OfBytesRead, PrintsOutput, TookText, refused_line}
-use Rattle.twoplsf.proofs.Served.{of_left, run_not_check, read_not_made, output_of_run, done_input, difference_input, done_is_output, refused_none, first_refused, front_refused, wrong_is_none, wrong_is_first}
+use Rattle.twoplsf.proofs.Served.{of_left, run_not_check, read_not_made, output_of_run, done_input, difference_input, done_is_output, refused_none}
+use Rattle.twoplsf.proofs.Served.{first_refused, front_refused, wrong_is_none, wrong_is_first}
 
 -- the status stands for trouble outside
 abbrev pub Failed : Status → Type 0
@@ -37,7 +38,8 @@ always None P h = tt
 always (Some bytes) P h = h bytes
 
 -- where one byte too many was taken, more were left than an input may have
-above_most : (left now : Option (List ℕ)) → TakesAtMost left now (MOST_INPUT_BYTES + 1) → IfSome (count_taken left now) (λ n. n ≡ MOST_INPUT_BYTES + 1) → IfSome left (λ bytes. MOST_INPUT_BYTES < length bytes)
+above_most : (left now : Option (List ℕ)) → TakesAtMost left now (MOST_INPUT_BYTES + 1)
+    → IfSome (count_taken left now) (λ n. n ≡ MOST_INPUT_BYTES + 1) → IfSome left (λ bytes. MOST_INPUT_BYTES < length bytes)
 above_most None now taken above = tt
 above_most (Some bytes) None taken above = absurd taken.1
 above_most (Some bytes) (Some rest) taken above = omega arith
@@ -48,14 +50,16 @@ made_text_is words text (inl input) = inl (input.seed, input.callers, input.scri
 made_text_is words text (inr sums) = inr (sums.workers, sums.seed, sums.callers, sums.scripts, sums.command)
 
 -- a command that reads ends in one of these ways
-ends : (result : Status) (words : List (List ℕ)) (left now before after : Option (List ℕ)) → TookText result words left now before after → TakesAtMost left now (MOST_INPUT_BYTES + 1) → IsReading words
+ends : (result : Status) (words : List (List ℕ)) (left now before after : Option (List ℕ))
+    → TookText result words left now before after → TakesAtMost left now (MOST_INPUT_BYTES + 1) → IsReading words
     → IfSome left (EndsOn result words)
 ends status.Done words left now before after (text, inl h, printed) taken reading = of_left left h.2 (λ bytes is. IsDone refl is.0 text is.1)
 ends status.Done words left now before after (text, inr made, printed) taken reading = absurd (read_not_made words reading (made_text_is words text made))
 ends status.Differs words left now before after (text, h, printed) taken reading = of_left left h.2 (λ bytes is. IsOther refl is.0 text is.1)
 ends status.BadWords words left now before after (text, h, printed) taken reading = absurd (h.0 (inl reading))
 ends status.BadInput words left now before after (text, h, printed) taken reading = of_left left h.2 (λ bytes is. IsRefused refl is.0 text is.1)
-ends status.TooLarge words left now before after (text, h, printed) taken reading = IfSome_then left (above_most left now taken h.1) (λ bytes many. IsTooLarge refl many)
+ends status.TooLarge words left now before after (text, h, printed) taken reading =
+    IfSome_then left (above_most left now taken h.1) (λ bytes many. IsTooLarge refl many)
 ends status.ReadFault words left now before after h taken reading = always left (EndsOn status.ReadFault words) (λ bytes. HasFailed (inl refl))
 ends status.WriteFault words left now before after h taken reading = always left (EndsOn status.WriteFault words) (λ bytes. HasFailed (inr (inl refl)))
 ends status.OutOfMemory words left now before after h taken reading = always left (EndsOn status.OutOfMemory words) (λ bytes. HasFailed (inr (inr refl)))
@@ -78,11 +82,13 @@ module _ (result : Status) (words : List (List ℕ)) (bytes : List ℕ) where
   on_no_input (HasFailed failed) within none = inr failed
 
   -- on a text that is no output of the input in front
-  on_no_output : IsCheck words → EndsOn result words bytes → length bytes ≤ MOST_INPUT_BYTES → (input : ClearingInput) (other : List ℕ) → AreTwoTexts bytes input other
+  on_no_output : IsCheck words → EndsOn result words bytes → length bytes ≤ MOST_INPUT_BYTES
+      → (input : ClearingInput) (other : List ℕ) → AreTwoTexts bytes input other
       → (IsOutput input RESTARTS_BELOW other → ⊥) → (result ≡ status.Differs) ⊎ Failed result
   on_no_output check (IsDone is few text h) within input other two none = absurd (none (done_is_output words bytes text check h input other two))
   on_no_output check (IsOther is few text h) within input other two none = inl is
-  on_no_output check (IsRefused is few text h) within input other two none = absurd (refused_none words bytes text h (inr (check, record { input = input; text = other; two = two })))
+  on_no_output check (IsRefused is few text h) within input other two none =
+      absurd (refused_none words bytes text h (inr (check, record { input = input; text = other; two = two })))
   on_no_output check (IsTooLarge is above) within input other two none = absurd (omega arith)
   on_no_output check (HasFailed failed) within input other two none = inr failed
 
@@ -105,7 +111,8 @@ module _ (result : Status) (words : List (List ℕ)) (bytes : List ℕ) where
   on_run only run (inr (inr memory)) = inr memory
 
 -- a command that makes its input ends so where no fault came
-makes : (result : Status) (words : List (List ℕ)) (left now before after : Option (List ℕ)) → TookText result words left now before after → (result ≡ status.ReadFault → IsReading words) → result ≢ status.WriteFault → IsMaking words
+makes : (result : Status) (words : List (List ℕ)) (left now before after : Option (List ℕ))
+    → TookText result words left now before after → (result ≡ status.ReadFault → IsReading words) → result ≢ status.WriteFault → IsMaking words
     → (result ≡ status.Done) ⊎ (result ≡ status.OutOfMemory)
 makes status.Done words left now before after h read write making = inl refl
 makes status.Differs words left now before after (text, h, printed) read write making = absurd (read_not_made words h.0 making)
@@ -123,7 +130,8 @@ pub record HasEnded (result : Status) (words : List (List ℕ)) (left now before
   pub read : result ≡ status.ReadFault → IsReading words × Read
   pub write : result ≡ status.WriteFault → Write
 
-module _ {result : Status} {words : List (List ℕ)} {left now before after : Option (List ℕ)} {Read Write : Type 0} (h : HasEnded result words left now before after Read Write) where
+module _ {result : Status} {words : List (List ℕ)} {left now before after : Option (List ℕ)} {Read Write : Type 0}
+    (h : HasEnded result words left now before after Read Write) where
   -- the text of the status that it is
   text_of : (is : Status) → result ≡ is → TookText is words left now before after
   text_of is same = subst (λ s. TookText s words left now before after) same h.text
@@ -135,7 +143,12 @@ module _ {result : Status} {words : List (List ℕ)} {left now before after : Op
       by : TookText status.Done words left now before after → OfBytesRead left (λ bytes. PrintsOutput words bytes before after)
       by (text, inl t, printed) =
           let read = t.2 in
-          record { bytes = read.bytes; told = read.told; holds = record { text = text; output = output_of_run words read.bytes text run read.holds.1; printed = printed } }
+          record {
+            bytes = read.bytes;
+            told = read.told;
+            holds =
+                record { text = text; output = output_of_run words read.bytes text run read.holds.1; printed = printed };
+          }
       by (text, inr made, printed) = absurd (read_not_made words (inl run) (made_text_is words text made))
 
   -- and by a command that makes its input
@@ -158,12 +171,14 @@ module _ {result : Status} {words : List (List ℕ)} {left now before after : Op
   too_many reading = IfSome_then left (ends result words left now before after h.text h.taken reading) (on_many result words)
 
   -- bytes are refused that do not have the input, and their first fault is named
-  pub first_fault : IsRun words → result ≡ status.BadInput → IfSome left (λ bytes. (number : ℕ) (why : Fault) → IsFirstFault bytes number why → Appends before after (refused_line number why))
+  pub first_fault : IsRun words → result ≡ status.BadInput → IfSome left (λ bytes. (number : ℕ) (why : Fault)
+      → IsFirstFault bytes number why → Appends before after (refused_line number why))
   first_fault run is =
       let t = text_of status.BadInput is in
       of_left left t.1.2 (λ bytes refused number why fault. subst (Appends before after) (first_refused words bytes t.0 run refused.1 number why fault) t.2)
 
-  pub first_fault_in_front : IsCheck words → result ≡ status.BadInput → IfSome left (λ bytes. (number : ℕ) (why : Fault) → IsFrontFault bytes number why → Appends before after (refused_line number why))
+  pub first_fault_in_front : IsCheck words → result ≡ status.BadInput → IfSome left (λ bytes. (number : ℕ) (why : Fault)
+      → IsFrontFault bytes number why → Appends before after (refused_line number why))
   first_fault_in_front check is =
       let t = text_of status.BadInput is in
       of_left left t.1.2 (λ bytes refused number why fault. subst (Appends before after) (front_refused words bytes t.0 check refused.1 number why fault) t.2)
@@ -171,21 +186,26 @@ module _ {result : Status} {words : List (List ℕ)} {left now before after : Op
   pub bad_input : result ≡ status.BadInput → IfSome left (λ bytes. HaveInputFor words bytes → ⊥)
   bad_input is = let t = text_of status.BadInput is in of_left left t.1.2 (λ bytes refused. refused_none words bytes t.0 refused.1)
 
-  pub no_input : IsReading words → IfSome left (λ bytes. length bytes ≤ MOST_INPUT_BYTES → (HaveInputFor words bytes → ⊥) → (result ≡ status.BadInput) ⊎ Failed result)
+  pub no_input : IsReading words → IfSome left (λ bytes. length bytes ≤ MOST_INPUT_BYTES
+      → (HaveInputFor words bytes → ⊥) → (result ≡ status.BadInput) ⊎ Failed result)
   no_input reading = IfSome_then left (ends result words left now before after h.text h.taken reading) (on_no_input result words)
 
   -- a text differs that is no output, and its first wrong line is named
-  pub differs : result ≡ status.Differs → IfSome left (λ bytes. (input : ClearingInput) (other : List ℕ) → AreTwoTexts bytes input other → IsOutput input RESTARTS_BELOW other → ⊥)
+  pub differs : result ≡ status.Differs → IfSome left (λ bytes. (input : ClearingInput) (other : List ℕ)
+      → AreTwoTexts bytes input other → IsOutput input RESTARTS_BELOW other → ⊥)
   differs is = let t = text_of status.Differs is in of_left left t.1.2 (λ bytes difference. wrong_is_none words bytes t.0 difference.1)
 
   pub first_wrong : result ≡ status.Differs
-      → IfSome left (λ bytes. (input : ClearingInput) (other : List ℕ) (number : ℕ) → AreTwoTexts bytes input other → IsFirstWrongLine input RESTARTS_BELOW other number → Appends before after (differs_line number))
+      → IfSome left (λ bytes. (input : ClearingInput) (other : List ℕ) (number : ℕ) → AreTwoTexts bytes input other
+      → IsFirstWrongLine input RESTARTS_BELOW other number → Appends before after (differs_line number))
   first_wrong is =
       let t = text_of status.Differs is in
-      of_left left t.1.2 (λ bytes difference input other number two wrong. subst (Appends before after) (wrong_is_first words bytes t.0 difference.1 input other number two wrong) t.2)
+      of_left left t.1.2 (λ bytes difference input other number two wrong.
+      subst (Appends before after) (wrong_is_first words bytes t.0 difference.1 input other number two wrong) t.2)
 
   pub no_output : IsCheck words
-      → IfSome left (λ bytes. length bytes ≤ MOST_INPUT_BYTES → (input : ClearingInput) (other : List ℕ) → AreTwoTexts bytes input other → (IsOutput input RESTARTS_BELOW other → ⊥) → (result ≡ status.Differs) ⊎ Failed result)
+      → IfSome left (λ bytes. length bytes ≤ MOST_INPUT_BYTES → (input : ClearingInput) (other : List ℕ)
+      → AreTwoTexts bytes input other → (IsOutput input RESTARTS_BELOW other → ⊥) → (result ≡ status.Differs) ⊎ Failed result)
   no_output check = IfSome_then left (ends result words left now before after h.text h.taken (inr check)) (λ bytes. on_no_output result words bytes check)
 
   -- no command but `check` finds that a text differs
@@ -193,13 +213,16 @@ module _ {result : Status} {words : List (List ℕ)} {left now before after : Op
   only_check is = (text_of status.Differs is).1.2.holds.1.0
 
   -- where nothing is wrong, the work is done
-  pub complete : IsRun words → IfSome left (λ bytes. length bytes ≤ MOST_INPUT_BYTES → IsValidInput bytes → (Read → ⊥) → (Write → ⊥) → (result ≡ status.Done) ⊎ (result ≡ status.OutOfMemory))
+  pub complete : IsRun words → IfSome left (λ bytes. length bytes ≤ MOST_INPUT_BYTES → IsValidInput bytes → (Read → ⊥)
+      → (Write → ⊥) → (result ≡ status.Done) ⊎ (result ≡ status.OutOfMemory))
   complete run =
       IfSome_then left (ends result words left now before after h.text h.taken (inl run))
-      (λ bytes end within valid read write. on_run result words bytes only_check run (on_input result words bytes end within (inl (run, valid)) (λ is. read (h.read is).1) (λ is. write (h.write is))))
+      (λ bytes end within valid read write. on_run result words bytes only_check run
+      (on_input result words bytes end within (inl (run, valid)) (λ is. read (h.read is).1) (λ is. write (h.write is))))
 
   pub complete_check : IsCheck words
-      → IfSome left (λ bytes. length bytes ≤ MOST_INPUT_BYTES → BeginWithInput bytes → (Read → ⊥) → (Write → ⊥) → (result ≡ status.Done) ⊎ (result ≡ status.Differs) ⊎ (result ≡ status.OutOfMemory))
+      → IfSome left (λ bytes. length bytes ≤ MOST_INPUT_BYTES → BeginWithInput bytes → (Read → ⊥) → (Write → ⊥)
+      → (result ≡ status.Done) ⊎ (result ≡ status.Differs) ⊎ (result ≡ status.OutOfMemory))
   complete_check check =
       IfSome_then left (ends result words left now before after h.text h.taken (inr check))
       (λ bytes end within begins read write. on_input result words bytes end within (inr (check, begins)) (λ is. read (h.read is).1) (λ is. write (h.write is)))

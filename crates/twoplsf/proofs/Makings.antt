@@ -54,22 +54,35 @@ runs_of words (Drill workers plan) is = (λ runs. inr (workers, plan.seed, plan.
 -- its text is the one for the words
 text_of_making : (words : List (List ℕ)) (making : Making) → IsMakingBy words making → IsMadeText words (making_text making)
 text_of_making words (Input plan) is = inl (record { seed = plan.seed; callers = plan.callers; scripts = plan.scripts; command = is; text_is = refl })
-text_of_making words (Drill workers plan) is = inr (record { workers = workers; seed = plan.seed; callers = plan.callers; scripts = plan.scripts; command = is; text_is = refl })
+text_of_making words (Drill workers plan) is =
+    inr (record { workers = workers; seed = plan.seed; callers = plan.callers; scripts = plan.scripts; command = is; text_is = refl })
 
 -- and its day
 pub day_of_making : (words : List (List ℕ)) (making : Making) (day : DayEnd) → IsMakingBy words making → IsMakingDay making day → IsDrillDay words day
 day_of_making words (Input plan) day is none = absurd none
-day_of_making words (Drill workers plan) day is day_is = record { workers = workers; seed = plan.seed; callers = plan.callers; scripts = plan.scripts; command = is; day_is = day_is }
+day_of_making words (Drill workers plan) day is day_is = record {
+  workers = workers;
+  seed = plan.seed;
+  callers =
+      plan.callers;
+  scripts = plan.scripts;
+  command = is;
+  day_is = day_is;
+}
 
 -- what was written of it is its text, whole or not
 pub took_making : (result : Status) (words : List (List ℕ)) (making : Making) (left now before after : Option (List ℕ)) (R S : Type 0) → IsMakingBy words making
-    → (result ≡ status.Done × Appends before after (making_text making)) ⊎ (result ≡ status.WriteFault × R × AppendsPrefix before after (making_text making)) ⊎ (result ≡ status.OutOfMemory × S)
+    → (result ≡ status.Done × Appends before after (making_text making))
+    ⊎ (result ≡ status.WriteFault × R × AppendsPrefix before after (making_text making)) ⊎ (result ≡ status.OutOfMemory × S)
     → TookText result words left now before after
-took_making result words making left now before after R S is (inl whole) = took_text result status.Done words left now before after (making_text making) R (inr (text_of_making words making is)) (inl whole)
-took_making result words making left now before after R S is (inr (inl front)) = took_text result status.Done words left now before after (making_text making) R (inr (text_of_making words making is)) (inr front)
+took_making result words making left now before after R S is (inl whole) =
+    took_text result status.Done words left now before after (making_text making) R (inr (text_of_making words making is)) (inl whole)
+took_making result words making left now before after R S is (inr (inl front)) =
+    took_text result status.Done words left now before after (making_text making) R (inr (text_of_making words making is)) (inr front)
 took_making result words making left now before after R S is (inr (inr none)) = subst (λ (s : Status). TookText s words left now before after) (sym none.0) tt
 
-module _ (result : Status) (W R F S : Type 0) (ends : (result ≡ status.Done × W) ⊎ (result ≡ status.WriteFault × R × F) ⊎ (result ≡ status.OutOfMemory × S)) where
+module _ (result : Status) (W R F S : Type 0) (ends : (result ≡ status.Done × W) ⊎ (result ≡ status.WriteFault × R × F)
+    ⊎ (result ≡ status.OutOfMemory × S)) where
   -- it ends in no other way
   pub no_other_end : (other : Status) → other ≢ status.Done → other ≢ status.WriteFault → other ≢ status.OutOfMemory → result ≡ other → ⊥
   no_other_end other done write memory is = by ends
@@ -83,7 +96,8 @@ module _ (result : Status) (W R F S : Type 0) (ends : (result ≡ status.Done ×
   pub none_of_making : (result ≡ status.ReadFault) ⊎ (result ≡ status.OutOfMemory) → S
   none_of_making is = by ends is
     where
-      by : (result ≡ status.Done × W) ⊎ (result ≡ status.WriteFault × R × F) ⊎ (result ≡ status.OutOfMemory × S) → (result ≡ status.ReadFault) ⊎ (result ≡ status.OutOfMemory) → S
+      by : (result ≡ status.Done × W) ⊎ (result ≡ status.WriteFault × R × F) ⊎ (result ≡ status.OutOfMemory × S)
+          → (result ≡ status.ReadFault) ⊎ (result ≡ status.OutOfMemory) → S
       by ends (inl read) = absurd (no_other_end status.ReadFault (λ e. cc) (λ e. cc) (λ e. cc) read)
       by (inl whole) (inr memory) = let same : status.Done ≡ status.OutOfMemory = sym whole.0 ∙ memory in absurd (cc)
       by (inr (inl front)) (inr memory) = let same : status.WriteFault ≡ status.OutOfMemory = sym front.0 ∙ memory in absurd (cc)

@@ -1,5 +1,6 @@
 -- What was printed, put together.
-use Rattle.std.proofs.Common.{Vec, Global, ◌≡◌, ◌≢◌, ◌≤◌, ◌⊎◌, ◌++◌, ℕ, List, length, refl, Option, Some, None, IfSome, IsSome, ◌↔◌, sym, ap, ◌∙◌, subst, inl, inr, arith, append-nil, true≢false}
+use Rattle.std.proofs.Common.{Vec, Global, ◌≡◌, ◌≢◌, ◌≤◌, ◌⊎◌, ◌++◌, ℕ, List, length, refl, Option, Some, None, IfSome, IsSome, ◌↔◌, sym, ap, ◌∙◌, subst, inl}
+use Rattle.std.proofs.Common.{inr, arith, append-nil, true≢false}
 use Rattle.std.specs.Io.KnownBytes.{Appends, Consumes, IsAtEnd}
 use Rattle.std.proofs.lemmas.Option.{IfSome_then}
 use Rattle.io_ends.specs.Taken.{AppendsPrefix}
@@ -27,7 +28,8 @@ use Rattle.twoplsf.specs.Commands.{IsCommand, IsReadingBy}
 use Rattle.twoplsf.specs.Check.{differs_line}
 use Rattle.twoplsf.specs.declared.status.Status.{Status}
 use Rattle.twoplsf.specs.declared.status.Status.TheVariants as status
-use Rattle.twoplsf.specs.Answer.{OfBytesRead, IsDayFor, IsOutputFor, IsAnswerBy, IsDoneText, IsDifferenceFor, IsRefusalOf, IsRefusalOfFront, IsRefusalFor, HaveInputFor, IsTextFor, TookText, day_of, refused_line, status_of, text_of}
+use Rattle.twoplsf.specs.Answer.{OfBytesRead, IsDayFor, IsOutputFor, IsAnswerBy, IsDoneText, IsDifferenceFor, IsRefusalOf, IsRefusalOfFront, IsRefusalFor}
+use Rattle.twoplsf.specs.Answer.{HaveInputFor, IsTextFor, TookText, day_of, refused_line, status_of, text_of}
 
 -- what was read to the end is all that was left
 all_read : (left now : Option (List ℕ)) (bytes : List ℕ) → Consumes left now bytes → IsAtEnd now → IfSome left (λ all. all ≡ bytes)
@@ -68,12 +70,21 @@ pub not_made : (words : List (List ℕ)) {o : Command} {r : Reading} → o ≡ R
 not_made words is h making = read_not_made words (read_is words is h) making
 
 -- the answer to the bytes that were read, by the words
-output_text : (words : List (List ℕ)) (r : Reading) (bytes : List ℕ) (text : Vec ℕ Global) (day : DayEnd) → IsReadingBy words r → IsAnswerBy r bytes (Output text day) → IsDoneText words bytes text.items
+output_text : (words : List (List ℕ)) (r : Reading) (bytes : List ℕ) (text : Vec ℕ Global) (day : DayEnd)
+    → IsReadingBy words r → IsAnswerBy r bytes (Output text day) → IsDoneText words bytes text.items
 output_text words (reading.Run w) bytes text day is answer =
-    inl (record { workers = w; command = is; input = answer.0; spelled = answer.1; output = day_output answer.0 w day answer.2.of_input text.items answer.2.text_is })
+    inl (record {
+      workers = w;
+      command = is;
+      input = answer.0;
+      spelled = answer.1;
+      output =
+          day_output answer.0 w day answer.2.of_input text.items answer.2.text_is;
+    })
 output_text words reading.Check bytes text day is answer = absurd answer
 
-agrees_text : (words : List (List ℕ)) (r : Reading) (bytes : List ℕ) (text : Vec ℕ Global) → IsReadingBy words r → IsAnswerBy r bytes (Agrees text) → IsDoneText words bytes text.items
+agrees_text : (words : List (List ℕ)) (r : Reading) (bytes : List ℕ) (text : Vec ℕ Global) → IsReadingBy words r
+    → IsAnswerBy r bytes (Agrees text) → IsDoneText words bytes text.items
 agrees_text words (reading.Run w) bytes text is answer = absurd answer
 agrees_text words reading.Check bytes text is answer = inr (is, answer.0, answer.1)
 
@@ -83,7 +94,8 @@ done_input words bytes text (inl output) = inl ((output.workers, output.command)
 done_input words bytes text (inr (check, h, line)) = inr (check, record { input = h.input; text = h.text; two = h.two })
 
 -- the day of an output is one for the words, and its text the output
-output_day : (words : List (List ℕ)) (r : Reading) (bytes : List ℕ) (text : Vec ℕ Global) (day : DayEnd) (before now : Option (List ℕ)) → IsReadingBy words r → IsAnswerBy r bytes (Output text day)
+output_day : (words : List (List ℕ)) (r : Reading) (bytes : List ℕ) (text : Vec ℕ Global) (day : DayEnd)
+    (before now : Option (List ℕ)) → IsReadingBy words r → IsAnswerBy r bytes (Output text day)
     → Appends before now text.items → IsDayFor words bytes before now day
 output_day words (reading.Run w) bytes text day before now is answer printed = record {
   workers = w;
@@ -96,11 +108,13 @@ output_day words (reading.Run w) bytes text day before now is answer printed = r
 output_day words reading.Check bytes text day before now is answer printed = absurd answer
 
 -- an output is that of a run, and no other answer is to `run W` where the work was done
-output_runs : (words : List (List ℕ)) (r : Reading) (bytes : List ℕ) (text : Vec ℕ Global) (day : DayEnd) → IsReadingBy words r → IsAnswerBy r bytes (Output text day) → IsRun words
+output_runs : (words : List (List ℕ)) (r : Reading) (bytes : List ℕ) (text : Vec ℕ Global) (day : DayEnd)
+    → IsReadingBy words r → IsAnswerBy r bytes (Output text day) → IsRun words
 output_runs words (reading.Run w) bytes text day is answer = (w, is)
 output_runs words reading.Check bytes text day is answer = absurd answer
 
-agrees_runs_not : (words : List (List ℕ)) (r : Reading) (bytes : List ℕ) (text : Vec ℕ Global) → IsReadingBy words r → IsAnswerBy r bytes (Agrees text) → IsRun words ⊎ IsDrill words → ⊥
+agrees_runs_not : (words : List (List ℕ)) (r : Reading) (bytes : List ℕ) (text : Vec ℕ Global) → IsReadingBy words r
+    → IsAnswerBy r bytes (Agrees text) → IsRun words ⊎ IsDrill words → ⊥
 agrees_runs_not words (reading.Run w) bytes text is answer runs = absurd answer
 agrees_runs_not words reading.Check bytes text is answer (inl run) = run_not_check words run is
 agrees_runs_not words reading.Check bytes text is answer (inr drill) = read_not_made words (inr is) (inr drill)
@@ -109,25 +123,33 @@ pub none_there : IsSome {T = DayEnd} None → ⊥
 none_there h = true≢false (sym h)
 
 -- after a text was written or not, the day is there only where it was
-pub day_kept : (result : Status) (day kept : Option DayEnd) (W R F : Type 0) (P : DayEnd → Type 0) → (result ≡ status.Done → kept ≡ day) → (result ≢ status.Done → kept ≡ None)
+pub day_kept : (result : Status) (day kept : Option DayEnd) (W R F : Type 0) (P : DayEnd → Type 0)
+    → (result ≡ status.Done → kept ≡ day) → (result ≢ status.Done → kept ≡ None)
     → (result ≡ status.Done × W) ⊎ (result ≡ status.WriteFault × R × F) → (result ≡ status.Done → IfSome day P) → IfSome kept P
 day_kept result day kept W R F P done other (inl h) holds = subst (λ (d : Option DayEnd). IfSome d P) (sym (done h.0)) (holds h.0)
-day_kept result day kept W R F P done other (inr h) holds = subst (λ (d : Option DayEnd). IfSome d P) (sym (other (λ e. let same : status.WriteFault ≡ status.Done = sym h.0 ∙ e in cc))) tt
+day_kept result day kept W R F P done other (inr h) holds =
+    subst (λ (d : Option DayEnd). IfSome d P) (sym (other (λ e. let same : status.WriteFault ≡ status.Done = sym h.0 ∙ e in cc))) tt
 
 pub day_there : (result : Status) (day kept : Option DayEnd) (W R F run : Type 0) → (result ≡ status.Done → kept ≡ day) → (result ≢ status.Done → kept ≡ None)
     → (result ≡ status.Done × W) ⊎ (result ≡ status.WriteFault × R × F) → IsSome day ↔ run → IsSome kept ↔ (run × (result ≡ status.Done))
-day_there result day kept W R F run done other (inl h) has = (λ some. (has.0 (subst IsSome (done h.0) some), h.0), λ both. subst IsSome (sym (done both.1)) (has.1 both.0))
-day_there result day kept W R F run done other (inr h) has =
-    (λ some. absurd (none_there (subst IsSome (other (λ e. let same : status.WriteFault ≡ status.Done = sym h.0 ∙ e in cc)) some)), λ both. subst IsSome (sym (done both.1)) (has.1 both.0))
+day_there result day kept W R F run done other (inl h) has =
+    (λ some. (has.0 (subst IsSome (done h.0) some), h.0), λ both. subst IsSome (sym (done both.1)) (has.1 both.0))
+day_there result day kept W R F run done other (inr h) has = (
+  λ some. absurd (none_there (subst IsSome (other (λ e. let same : status.WriteFault ≡ status.Done = sym h.0 ∙ e in
+      cc)) some)),
+  λ both. subst IsSome (sym (done both.1)) (has.1 both.0),
+)
 
-difference_text : (words : List (List ℕ)) (r : Reading) (bytes : List ℕ) (text : Vec ℕ Global) → IsReadingBy words r → IsAnswerBy r bytes (Difference text) → IsDifferenceFor words bytes text.items
+difference_text : (words : List (List ℕ)) (r : Reading) (bytes : List ℕ) (text : Vec ℕ Global) → IsReadingBy words r
+    → IsAnswerBy r bytes (Difference text) → IsDifferenceFor words bytes text.items
 difference_text words (reading.Run w) bytes text is answer = absurd answer
 difference_text words reading.Check bytes text is answer = (is, answer)
 
 pub difference_input : (words : List (List ℕ)) (bytes text : List ℕ) → IsDifferenceFor words bytes text → HaveInputFor words bytes
 difference_input words bytes text d = inr (d.0, record { input = d.1.1.input; text = d.1.1.text; two = d.1.1.two })
 
-refusal_text : (words : List (List ℕ)) (r : Reading) (bytes : List ℕ) (text : Vec ℕ Global) → IsReadingBy words r → IsAnswerBy r bytes (Refusal text) → IsRefusalFor words bytes text.items
+refusal_text : (words : List (List ℕ)) (r : Reading) (bytes : List ℕ) (text : Vec ℕ Global) → IsReadingBy words r
+    → IsAnswerBy r bytes (Refusal text) → IsRefusalFor words bytes text.items
 refusal_text words (reading.Run w) bytes text is answer = inl ((w, is), answer)
 refusal_text words reading.Check bytes text is answer = inr (is, answer)
 
@@ -146,13 +168,15 @@ refusal_of_check words bytes text check (inl run) = absurd (run_not_check words 
 refusal_of_check words bytes text check (inr refusal) = refusal.1
 
 -- the first faulty line that is refused for `run W`, and for `check`
-pub first_refused : (words : List (List ℕ)) (bytes text : List ℕ) → IsRun words → IsRefusalFor words bytes text → (number : ℕ) (why : Fault) → IsFirstFault bytes number why → text ≡ refused_line number why
+pub first_refused : (words : List (List ℕ)) (bytes text : List ℕ) → IsRun words → IsRefusalFor words bytes text
+    → (number : ℕ) (why : Fault) → IsFirstFault bytes number why → text ≡ refused_line number why
 first_refused words bytes text run refusal number why fault =
     let first = refusal_of_run words bytes text run refusal in
     let same = one_fault bytes first.number number first.why why first.first fault in
     first.text_is ∙ (λ i. refused_line (same.0 i) (same.1 i))
 
-pub front_refused : (words : List (List ℕ)) (bytes text : List ℕ) → IsCheck words → IsRefusalFor words bytes text → (number : ℕ) (why : Fault) → IsFrontFault bytes number why → text ≡ refused_line number why
+pub front_refused : (words : List (List ℕ)) (bytes text : List ℕ) → IsCheck words → IsRefusalFor words bytes text
+    → (number : ℕ) (why : Fault) → IsFrontFault bytes number why → text ≡ refused_line number why
 front_refused words bytes text check refusal number why fault =
     let first = refusal_of_check words bytes text check refusal in
     let same = one_fault bytes first.number number first.why why (inl first.first) (inl fault) in
@@ -166,19 +190,25 @@ refused_none words bytes text (inr (check, r)) (inl (run, valid)) = run_not_chec
 refused_none words bytes text (inr (check, r)) (inr (check', begins)) = never_both bytes begins (r.number, r.why, r.first)
 
 -- a text with a wrong line is no output of its input
-pub wrong_is_none : (words : List (List ℕ)) (bytes printed : List ℕ) → IsDifferenceFor words bytes printed → (input : ClearingInput) (text : List ℕ) → AreTwoTexts bytes input text → IsOutput input RESTARTS_BELOW text → ⊥
+pub wrong_is_none : (words : List (List ℕ)) (bytes printed : List ℕ) → IsDifferenceFor words bytes printed
+    → (input : ClearingInput) (text : List ℕ) → AreTwoTexts bytes input text → IsOutput input RESTARTS_BELOW text → ⊥
 wrong_is_none words bytes printed (check, (n, h, is)) input text two output =
     let same = one_front bytes h.input input h.text text h.two two in
-    none_of_output input RESTARTS_BELOW two.spelled.valid text n output (subst (λ t. IsFirstWrongLine input RESTARTS_BELOW t n) same.2 (subst (λ i. IsFirstWrongLine i RESTARTS_BELOW h.text n) same.1 h.wrong))
+    none_of_output input RESTARTS_BELOW two.spelled.valid text n output
+    (subst (λ t. IsFirstWrongLine input RESTARTS_BELOW t n) same.2 (subst (λ i. IsFirstWrongLine i RESTARTS_BELOW h.text n) same.1 h.wrong))
 
 -- and that line is its first wrong one
-pub wrong_is_first : (words : List (List ℕ)) (bytes printed : List ℕ) → IsDifferenceFor words bytes printed → (input : ClearingInput) (text : List ℕ) (number : ℕ) → AreTwoTexts bytes input text → IsFirstWrongLine input RESTARTS_BELOW text number → printed ≡ differs_line number
+pub wrong_is_first : (words : List (List ℕ)) (bytes printed : List ℕ) → IsDifferenceFor words bytes printed
+    → (input : ClearingInput) (text : List ℕ) (number : ℕ) → AreTwoTexts bytes input text
+    → IsFirstWrongLine input RESTARTS_BELOW text number → printed ≡ differs_line number
 wrong_is_first words bytes printed (check, (n, h, is)) input text number two wrong =
     let same = one_front bytes h.input input h.text text h.two two in
-    is ∙ ap differs_line (one_wrong input RESTARTS_BELOW two.spelled.valid text n number (subst (λ t. IsFirstWrongLine input RESTARTS_BELOW t n) same.2 (subst (λ i. IsFirstWrongLine i RESTARTS_BELOW h.text n) same.1 h.wrong)) wrong)
+    is ∙ ap differs_line (one_wrong input RESTARTS_BELOW two.spelled.valid text n number
+    (subst (λ t. IsFirstWrongLine input RESTARTS_BELOW t n) same.2 (subst (λ i. IsFirstWrongLine i RESTARTS_BELOW h.text n) same.1 h.wrong)) wrong)
 
 -- a text that agrees is an output of its input
-pub done_is_output : (words : List (List ℕ)) (bytes printed : List ℕ) → IsCheck words → IsDoneText words bytes printed → (input : ClearingInput) (text : List ℕ) → AreTwoTexts bytes input text → IsOutput input RESTARTS_BELOW text
+pub done_is_output : (words : List (List ℕ)) (bytes printed : List ℕ) → IsCheck words → IsDoneText words bytes printed
+    → (input : ClearingInput) (text : List ℕ) → AreTwoTexts bytes input text → IsOutput input RESTARTS_BELOW text
 done_is_output words bytes printed check (inl run) input text two = absurd (run_not_check words (run.workers, run.command) check)
 done_is_output words bytes printed check (inr (is, h, line)) input text two =
     let same = one_front bytes h.input input h.text text h.two two in
@@ -190,7 +220,8 @@ written result is W R F (inl h) other = h.1
 written result is W R F (inr h) other = absurd (other h.0)
 
 -- the sink took a text that goes with a status, whole
-took_whole : (is : Status) (words : List (List ℕ)) (left now before after : Option (List ℕ)) (text : List ℕ) → IsTextFor is words left now text → Appends before after text → TookText is words left now before after
+took_whole : (is : Status) (words : List (List ℕ)) (left now before after : Option (List ℕ)) (text : List ℕ)
+    → IsTextFor is words left now text → Appends before after text → TookText is words left now before after
 took_whole status.Done words left now before after text h k = (text, h, k)
 took_whole status.BadWords words left now before after text h k = (text, h, k)
 took_whole status.BadInput words left now before after text h k = (text, h, k)
@@ -201,9 +232,12 @@ took_whole status.WriteFault words left now before after text h k = absurd h
 took_whole status.OutOfMemory words left now before after text h k = absurd h
 
 -- what was written, whole or not, is the text that goes with the status
-pub took_text : (result is : Status) (words : List (List ℕ)) (left now before after : Option (List ℕ)) (text : List ℕ) (R : Type 0) → IsTextFor is words left now text
-    → (result ≡ is × Appends before after text) ⊎ (result ≡ status.WriteFault × R × AppendsPrefix before after text) → TookText result words left now before after
-took_text result is words left now before after text R h (inl w) = subst (λ s. TookText s words left now before after) (sym w.0) (took_whole is words left now before after text h w.1)
+pub took_text : (result is : Status) (words : List (List ℕ)) (left now before after : Option (List ℕ)) (text : List ℕ)
+    (R : Type 0) → IsTextFor is words left now text
+    → (result ≡ is × Appends before after text) ⊎ (result ≡ status.WriteFault × R × AppendsPrefix before after text)
+    → TookText result words left now before after
+took_text result is words left now before after text R h (inl w) =
+    subst (λ s. TookText s words left now before after) (sym w.0) (took_whole is words left now before after text h w.1)
 took_text result is words left now before after text R h (inr f) = subst (λ s. TookText s words left now before after) (sym f.0) (is, text, h, f.2)
 
 -- a command has read all that was left, which was not too much, and this is its answer
@@ -214,7 +248,8 @@ pub record HasAnswered (words : List (List ℕ)) (r : Reading) (left now : Optio
   pub few : length bytes ≤ MOST_INPUT_BYTES
   pub answers : IsAnswerBy r bytes answer
 
-module _ {words : List (List ℕ)} {r : Reading} {left now : Option (List ℕ)} {bytes : List ℕ} {answer : Answer} (h : HasAnswered words r left now bytes answer) where
+module _ {words : List (List ℕ)} {r : Reading} {left now : Option (List ℕ)} {bytes : List ℕ} {answer : Answer}
+    (h : HasAnswered words r left now bytes answer) where
   -- what holds of the bytes holds of those that were read
   of_read : (P : List ℕ → Type 0) → P bytes → OfBytesRead left P
   of_read P p = record { bytes = bytes; told = all_read left now bytes h.taken h.end; holds = p }
@@ -223,30 +258,38 @@ module _ {words : List (List ℕ)} {r : Reading} {left now : Option (List ℕ)} 
   told P p = (reading_is words r h.is, h.end, of_read (λ all. (length all ≤ MOST_INPUT_BYTES) × P all) (h.few, p))
 
 -- the text of an answer goes with its status
-text_is_for : (words : List (List ℕ)) (r : Reading) (left now : Option (List ℕ)) (bytes : List ℕ) (answer : Answer) → HasAnswered words r left now bytes answer → IsTextFor (status_of answer) words left now (text_of answer)
-text_is_for words r left now bytes (Output text day) h = inl (told h (λ all. IsDoneText words all text.items) (output_text words r bytes text day h.is h.answers))
+text_is_for : (words : List (List ℕ)) (r : Reading) (left now : Option (List ℕ)) (bytes : List ℕ) (answer : Answer)
+    → HasAnswered words r left now bytes answer → IsTextFor (status_of answer) words left now (text_of answer)
+text_is_for words r left now bytes (Output text day) h =
+    inl (told h (λ all. IsDoneText words all text.items) (output_text words r bytes text day h.is h.answers))
 text_is_for words r left now bytes (Agrees text) h = inl (told h (λ all. IsDoneText words all text.items) (agrees_text words r bytes text h.is h.answers))
-text_is_for words r left now bytes (Difference text) h = told h (λ all. IsDifferenceFor words all text.items) (difference_text words r bytes text h.is h.answers)
+text_is_for words r left now bytes (Difference text) h =
+    told h (λ all. IsDifferenceFor words all text.items) (difference_text words r bytes text h.is h.answers)
 text_is_for words r left now bytes (Refusal text) h = told h (λ all. IsRefusalFor words all text.items) (refusal_text words r bytes text h.is h.answers)
 
 -- an answer was printed or not, with its day where it was
 pub record HasPrinted (answer : Answer) (result : Status) (kept : Option DayEnd) (before after : Option (List ℕ)) (R : Type 0) : Type 0 where
-  pub wrote : (result ≡ status_of answer × Appends before after (text_of answer)) ⊎ (result ≡ status.WriteFault × R × AppendsPrefix before after (text_of answer))
+  pub wrote : (result ≡ status_of answer × Appends before after (text_of answer))
+      ⊎ (result ≡ status.WriteFault × R × AppendsPrefix before after (text_of answer))
   pub done : result ≡ status.Done → kept ≡ day_of answer
   pub other : result ≢ status.Done → kept ≡ None
 
 -- then the sink took the text that goes with the status
-pub printed_text : (words : List (List ℕ)) (r : Reading) (left now : Option (List ℕ)) (bytes : List ℕ) (answer : Answer) (result : Status) (kept : Option DayEnd) (before after : Option (List ℕ)) (R : Type 0)
+pub printed_text : (words : List (List ℕ)) (r : Reading) (left now : Option (List ℕ)) (bytes : List ℕ) (answer : Answer)
+    (result : Status) (kept : Option DayEnd) (before after : Option (List ℕ)) (R : Type 0)
     → HasAnswered words r left now bytes answer → HasPrinted answer result kept before after R → TookText result words left now before after
-printed_text words r left now bytes answer result kept before after R h p = took_text result (status_of answer) words left now before after (text_of answer) R (text_is_for words r left now bytes answer h) p.wrote
+printed_text words r left now bytes answer result kept before after R h p =
+    took_text result (status_of answer) words left now before after (text_of answer) R (text_is_for words r left now bytes answer h) p.wrote
 
 -- no day is told but that of an output
 none_kept : (result is : Status) (kept : Option DayEnd) → result ≡ is → is ≢ status.Done → (result ≢ status.Done → kept ≡ None) → kept ≡ None
 none_kept result is kept same differs other = other (λ done. differs (sym same ∙ done))
 
 -- the day that is told is that of the bytes
-pub printed_day : (words : List (List ℕ)) (r : Reading) (left now : Option (List ℕ)) (bytes : List ℕ) (answer : Answer) (result : Status) (kept : Option DayEnd) (before after : Option (List ℕ)) (R : Type 0)
-    → HasAnswered words r left now bytes answer → HasPrinted answer result kept before after R → IfSome kept (λ d. OfBytesRead left (λ all. IsDayFor words all before after d))
+pub printed_day : (words : List (List ℕ)) (r : Reading) (left now : Option (List ℕ)) (bytes : List ℕ) (answer : Answer)
+    (result : Status) (kept : Option DayEnd) (before after : Option (List ℕ)) (R : Type 0)
+    → HasAnswered words r left now bytes answer → HasPrinted answer result kept before after R
+    → IfSome kept (λ d. OfBytesRead left (λ all. IsDayFor words all before after d))
 printed_day words r left now bytes answer result kept before after R h p = by answer h p p.wrote
   where
     Told : Option DayEnd → Type 0
@@ -259,14 +302,17 @@ printed_day words r left now bytes answer result kept before after R h p = by an
         → (result ≡ status_of a × Appends before after (text_of a)) ⊎ (result ≡ status.WriteFault × R × AppendsPrefix before after (text_of a)) → Told kept
     by a h p (inr fault) = none (none_kept result status.WriteFault kept fault.0 (λ e. cc) p.other)
     by (Output text day) h p (inl wrote) =
-        subst Told (sym (p.done wrote.0)) (of_read h (λ all. IsDayFor words all before after day) (output_day words r bytes text day before after h.is h.answers wrote.1))
+        subst Told (sym (p.done wrote.0)) (of_read h (λ all. IsDayFor words all before after day)
+        (output_day words r bytes text day before after h.is h.answers wrote.1))
     by (Agrees text) h p (inl wrote) = none (p.done wrote.0)
     by (Difference text) h p (inl wrote) = none (none_kept result status.Differs kept wrote.0 (λ e. cc) p.other)
     by (Refusal text) h p (inl wrote) = none (none_kept result status.BadInput kept wrote.0 (λ e. cc) p.other)
 
 -- it is told exactly where scripts were run, and the work was done
-pub printed_has_day : (words : List (List ℕ)) (r : Reading) (left now : Option (List ℕ)) (bytes : List ℕ) (answer : Answer) (result : Status) (kept : Option DayEnd) (before after : Option (List ℕ)) (R : Type 0)
-    → HasAnswered words r left now bytes answer → HasPrinted answer result kept before after R → IsSome kept ↔ ((IsRun words ⊎ IsDrill words) × (result ≡ status.Done))
+pub printed_has_day : (words : List (List ℕ)) (r : Reading) (left now : Option (List ℕ)) (bytes : List ℕ)
+    (answer : Answer) (result : Status) (kept : Option DayEnd) (before after : Option (List ℕ)) (R : Type 0)
+    → HasAnswered words r left now bytes answer → HasPrinted answer result kept before after R → IsSome kept
+    ↔ ((IsRun words ⊎ IsDrill words) × (result ≡ status.Done))
 printed_has_day words r left now bytes answer result kept before after R h p = by answer h p p.wrote
   where
     Runs : Type 0
@@ -279,9 +325,13 @@ printed_has_day words r left now bytes answer result kept before after R h p = b
     unlike is same differs other = never (none_kept result is kept same differs other) (λ runs. differs (sym same ∙ runs.1))
 
     by : (a : Answer) → HasAnswered words r left now bytes a → HasPrinted a result kept before after R
-        → (result ≡ status_of a × Appends before after (text_of a)) ⊎ (result ≡ status.WriteFault × R × AppendsPrefix before after (text_of a)) → IsSome kept ↔ Runs
+        → (result ≡ status_of a × Appends before after (text_of a))
+        ⊎ (result ≡ status.WriteFault × R × AppendsPrefix before after (text_of a)) → IsSome kept ↔ Runs
     by a h p (inr fault) = unlike status.WriteFault fault.0 (λ e. cc) p.other
-    by (Output text day) h p (inl wrote) = (λ some. (inl (output_runs words r bytes text day h.is h.answers), wrote.0), λ runs. subst IsSome (sym (p.done wrote.0)) refl)
+    by (Output text day) h p (inl wrote) = (
+      λ some. (inl (output_runs words r bytes text day h.is h.answers), wrote.0),
+      λ runs. subst IsSome (sym (p.done wrote.0)) refl,
+    )
     by (Agrees text) h p (inl wrote) = never (p.done wrote.0) (λ runs. agrees_runs_not words r bytes text h.is h.answers runs.0)
     by (Difference text) h p (inl wrote) = unlike status.Differs wrote.0 (λ e. cc) p.other
     by (Refusal text) h p (inl wrote) = unlike status.BadInput wrote.0 (λ e. cc) p.other

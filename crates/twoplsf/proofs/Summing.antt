@@ -18,7 +18,8 @@ use Rattle.books_report.proofs.Walks.{up_to, up_to-next}
 -- what some of the terms add up to is no more than all of them could
 sum_of_some : {X : Type 0} (p : X → Bool) (f : X → ℕ) (most : ℕ) (xs : List X) → AllByRecursion (λ x. f x ≤ most) xs → sum_by f (filter p xs) ≤ length xs * most
 sum_of_some {X} p f most xs all =
-    let few = sum_by-most (λ x. cond (p x) (f x) 0) most xs (AllByRecursion-weaker (λ x. f x ≤ most) (λ x. cond (p x) (f x) 0 ≤ most) (λ x h. chosen (p x) (f x) h) xs all) in
+    let few = sum_by-most (λ x. cond (p x) (f x) 0) most xs
+    (AllByRecursion-weaker (λ x. f x ≤ most) (λ x. cond (p x) (f x) 0 ≤ most) (λ x h. chosen (p x) (f x) h) xs all) in
     omega (arith, few, sum_by-filter p f xs)
   where
     chosen : (b : Bool) (n : ℕ) → n ≤ most → cond b n 0 ≤ most
@@ -26,12 +27,15 @@ sum_of_some {X} p f most xs all =
     chosen false n h = omega arith
 
 -- the sum up to a key is one term more than that up to the key before it
-pub summed_next : {K : Type 0} {R : K → K → Ordering} (o : IsTotalOrder R) (later : K → K → Bool) (is : (a b : K) → later a b ≡ is_lt (R a b)) (last : K) (es : List (K × ℕ)) (e : K × ℕ)
+pub summed_next : {K : Type 0} {R : K → K → Ordering} (o : IsTotalOrder R) (later : K → K → Bool) (is : (a b : K)
+    → later a b ≡ is_lt (R a b)) (last : K) (es : List (K × ℕ)) (e : K × ℕ)
     → T (is_sorted R es) → find (λ x. later last x.0) es ≡ Some e → sum_by (λ x. x.1) (up_to later e.0 es) ≡ sum_by (λ x. x.1) (up_to later last es) + e.1
-summed_next o later is last es e sorted found = ap (λ xs. sum_by (λ x. x.1) xs) (up_to-next o later is last es e sorted found) ∙ sum_by_push (λ x. x.1) (up_to later last es) e
+summed_next o later is last es e sorted found =
+    ap (λ xs. sum_by (λ x. x.1) xs) (up_to-next o later is last es e sorted found) ∙ sum_by_push (λ x. x.1) (up_to later last es) e
 
 -- the cash of some accounts
-pub some_cash : (books : ClearingBooks) (p : ℕ × ℕ → Bool) → AreInRange books → sum_by (λ e. e.1) (filter p (map.entries books.accounts)) ≤ MOST_BLOCKS * GREATEST_CASH
+pub some_cash : (books : ClearingBooks) (p : ℕ × ℕ → Bool) → AreInRange books
+    → sum_by (λ e. e.1) (filter p (map.entries books.accounts)) ≤ MOST_BLOCKS * GREATEST_CASH
 some_cash books p h =
     let each = All-entries nat_cmp_total exact_unsigned (λ e. e.1 ≤ GREATEST_CASH) books.accounts (λ a cash there. (h.accounts a cash there).1) in
     let some = sum_of_some p (λ e. e.1) GREATEST_CASH (map.entries books.accounts) each in
@@ -39,9 +43,11 @@ some_cash books p h =
     omega arith
 
 -- what some positions hold
-pub some_quantity : (books : ClearingBooks) (p : (ℕ × ℕ) × ℕ → Bool) → AreInRange books → sum_by (λ e. e.1) (filter p (map.entries books.positions)) ≤ MOST_BLOCKS * GREATEST_QUANTITY
+pub some_quantity : (books : ClearingBooks) (p : (ℕ × ℕ) × ℕ → Bool) → AreInRange books
+    → sum_by (λ e. e.1) (filter p (map.entries books.positions)) ≤ MOST_BLOCKS * GREATEST_QUANTITY
 some_quantity books p h =
-    let each = All-entries positions_total exact_positions (λ e. e.1 ≤ GREATEST_QUANTITY) books.positions (λ k quantity there. (h.positions k.0 k.1 quantity there).2.1) in
+    let each = All-entries positions_total exact_positions (λ e. e.1 ≤ GREATEST_QUANTITY) books.positions
+    (λ k quantity there. (h.positions k.0 k.1 quantity there).2.1) in
     let some = sum_of_some p (λ e. e.1) GREATEST_QUANTITY (map.entries books.positions) each in
     let count : length (map.entries books.positions) ≤ MOST_BLOCKS = omega (arith, h.blocks_used, h.blocks, map.len-entries books.positions) in
     omega arith

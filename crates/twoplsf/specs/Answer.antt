@@ -153,15 +153,18 @@ abbrev pub IsTextFor : Status → List (List ℕ) → Option (List ℕ) → Opti
 IsTextFor status.Done words left now text =
     (IsReading words × IsAtEnd now × OfBytesRead left (λ bytes. (length bytes ≤ MOST_INPUT_BYTES) × IsDoneText words bytes text))
     ⊎ IsMadeText words text
-IsTextFor status.Differs words left now text = IsReading words × IsAtEnd now × OfBytesRead left (λ bytes. (length bytes ≤ MOST_INPUT_BYTES) × IsDifferenceFor words bytes text)
+IsTextFor status.Differs words left now text = IsReading words × IsAtEnd now
+    × OfBytesRead left (λ bytes. (length bytes ≤ MOST_INPUT_BYTES) × IsDifferenceFor words bytes text)
 IsTextFor status.BadWords words left now text = (¬ IsValidCommand words) × (text ≡ refused_words)
-IsTextFor status.BadInput words left now text = IsReading words × IsAtEnd now × OfBytesRead left (λ bytes. (length bytes ≤ MOST_INPUT_BYTES) × IsRefusalFor words bytes text)
+IsTextFor status.BadInput words left now text = IsReading words × IsAtEnd now
+    × OfBytesRead left (λ bytes. (length bytes ≤ MOST_INPUT_BYTES) × IsRefusalFor words bytes text)
 IsTextFor status.TooLarge words left now text = IsReading words × IfSome (count_taken left now) (λ n. n ≡ MOST_INPUT_BYTES + 1) × (text ≡ refused_size)
 IsTextFor status.ReadFault words left now text = ⊥
 IsTextFor status.WriteFault words left now text = ⊥
 IsTextFor status.OutOfMemory words left now text = ⊥
 
--- the sink took a whole text that goes with the status; after a write fault a prefix of one that goes with another; and nothing is said of it after a read fault and out of memory
+-- the sink took a whole text that goes with the status; after a write fault a prefix of one that goes with another; and
+-- nothing is said of it after a read fault and out of memory
 abbrev pub TookText : Status → List (List ℕ) → Option (List ℕ) → Option (List ℕ) → Option (List ℕ) → Option (List ℕ) → Type 0
 TookText status.Done words left now before after = (text : List ℕ) × IsTextFor status.Done words left now text × Appends before after text
 TookText status.Differs words left now before after = (text : List ℕ) × IsTextFor status.Differs words left now text × Appends before after text

@@ -1,5 +1,6 @@
 -- How many blocks sets have.
-use Rattle.std.proofs.Common.{◌≡◌, ◌≢◌, ℕ, zero, suc, ◌+◌, ◌-◌, ◌*◌, ◌<◌, ◌≤◌, Bool, true, false, List, [], ◌∷◌, Some, None, length, slice_get, is_some, cond, eqb, refl, sym, ap, ◌∙◌, subst, arith, rules}
+use Rattle.std.proofs.Common.{◌≡◌, ◌≢◌, ℕ, zero, suc, ◌+◌, ◌-◌, ◌*◌, ◌<◌, ◌≤◌, Bool, true, false, List, [], ◌∷◌, Some, None, length, slice_get, is_some, cond}
+use Rattle.std.proofs.Common.{eqb, refl, sym, ap, ◌∙◌, subst, arith, rules}
 use mathlib.Core.Bool.{true≢false}
 use mathlib.Core.Logic.{dite}
 use native.Mathlib.Decide.{ℕ_discrete}
@@ -57,7 +58,8 @@ less_outside n s none b le = dite (ℕ_discrete b n)
     (λ e. ap (λ k. set.contains (set.remove s n) k) e ∙ out_itself s n)
     (λ ne. contains-remove_other s n b ne ∙ none b (omega (arith, le, ne)))
 
-one_more : (n : ℕ) (s : Blocks) → ((b : ℕ) → suc n ≤ b → set.contains s b ≡ false) → sum_below n (times_of (set.remove s n)) ≡ set.len (set.remove s n) → sum_below (suc n) (times_of s) ≡ set.len s
+one_more : (n : ℕ) (s : Blocks) → ((b : ℕ) → suc n ≤ b → set.contains s b ≡ false)
+    → sum_below n (times_of (set.remove s n)) ≡ set.len (set.remove s n) → sum_below (suc n) (times_of s) ≡ set.len s
 one_more n s none below = at (set.contains s n) refl
   where
     rest : Blocks
@@ -91,12 +93,14 @@ sums_swap : (n : ℕ) (sets : List Blocks) → sum_below n (λ b. count_by (λ s
 sums_swap n [] = let zeros : sum_below n (λ b. 0) ≡ n * 0 = sum_const n 0 in omega (arith, zeros)
 sums_swap n (s ∷ sets) =
     let parts : sum_below n (λ b. count_by (λ u. set.contains u b) (s ∷ sets)) ≡ sum_below n (λ b. times_of s b + count_by (λ u. set.contains u b) sets) =
-    sum_alike n (λ b. count_by (λ u. set.contains u b) (s ∷ sets)) (λ b. times_of s b + count_by (λ u. set.contains u b) sets) (λ k lt. sum_by-cons (λ u. times_of u k) s sets) in
+    sum_alike n (λ b. count_by (λ u. set.contains u b) (s ∷ sets)) (λ b. times_of s b + count_by (λ u. set.contains u b)
+    sets) (λ k lt. sum_by-cons (λ u. times_of u k) s sets) in
     parts ∙ sum_both n (times_of s) (λ b. count_by (λ u. set.contains u b) sets) ∙ ap (λ k. sum_below n (times_of s) + k) (sums_swap n sets)
     ∙ sym (sum_by-cons (λ u. sum_below n (times_of u)) s sets)
 
 -- a set of which no block is counted has none
-out_of_count : (b : ℕ) (s : Blocks) (sets : List Blocks) → count_by (λ u. set.contains u b) (s ∷ sets) ≡ 0 → (set.contains s b ≡ false) × (count_by (λ u. set.contains u b) sets ≡ 0)
+out_of_count : (b : ℕ) (s : Blocks) (sets : List Blocks) → count_by (λ u. set.contains u b) (s ∷ sets) ≡ 0
+    → (set.contains s b ≡ false) × (count_by (λ u. set.contains u b) sets ≡ 0)
 out_of_count b s sets h = at (set.contains s b) refl
   where
     parts : count_by (λ u. set.contains u b) (s ∷ sets) ≡ times_of s b + count_by (λ u. set.contains u b) sets
@@ -106,7 +110,8 @@ out_of_count b s sets h = at (set.contains s b) refl
     at true e = let one : times_of s b ≡ 1 = ap (λ k. cond k 1 0) e in absurd (omega (arith, one, parts, h))
     at false e = (e, omega (arith, parts, h))
 
-lengths_below : (n : ℕ) (sets : List Blocks) → ((b : ℕ) → n ≤ b → count_by (λ s. set.contains s b) sets ≡ 0) → sum_by (λ s. sum_below n (times_of s)) sets ≡ sum_by (λ s. set.len s) sets
+lengths_below : (n : ℕ) (sets : List Blocks) → ((b : ℕ) → n ≤ b → count_by (λ s. set.contains s b) sets ≡ 0)
+    → sum_by (λ s. sum_below n (times_of s)) sets ≡ sum_by (λ s. set.len s) sets
 lengths_below n [] none = refl
 lengths_below n (s ∷ sets) none =
     sum_by-cons (λ u. sum_below n (times_of u)) s sets
@@ -115,10 +120,12 @@ lengths_below n (s ∷ sets) none =
     ∙ sym (sum_by-cons (λ u. set.len u) s sets)
 
 -- sets that share no block and together have all blocks below a number have that many
-pub lengths_sum : (n : ℕ) (sets : List Blocks) → ((b : ℕ) → b < n → count_by (λ s. set.contains s b) sets ≡ 1) → ((b : ℕ) → n ≤ b → count_by (λ s. set.contains s b) sets ≡ 0)
+pub lengths_sum : (n : ℕ) (sets : List Blocks) → ((b : ℕ) → b < n → count_by (λ s. set.contains s b) sets ≡ 1)
+    → ((b : ℕ) → n ≤ b → count_by (λ s. set.contains s b) sets ≡ 0)
     → sum_by (λ s. set.len s) sets ≡ n
 lengths_sum n sets one none =
-    let ones : sum_below n (λ b. count_by (λ s. set.contains s b) sets) ≡ sum_below n (λ b. 1) = sum_alike n (λ b. count_by (λ s. set.contains s b) sets) (λ b. 1) one in
+    let ones : sum_below n (λ b. count_by (λ s. set.contains s b) sets) ≡ sum_below n (λ b. 1) =
+    sum_alike n (λ b. count_by (λ s. set.contains s b) sets) (λ b. 1) one in
     sym (lengths_below n sets none) ∙ sym (sums_swap n sets) ∙ ones ∙ sum_const n 1 ∙ omega arith
 
 -- entries that have what cells say of each key, and each key in one cell alone, are as many as the cells
@@ -131,14 +138,16 @@ some_entry f k v h = at (entry_map.len f) refl
 
 pub len_cells : (cs : List Cell) (f : Entries) → ((key : ℕ) → entry_map.get f key ≡ value_of key cs) → HasKeysOnce cs → entry_map.len f ≡ length cs
 len_cells [] f is once =
-    ap entry_map.len (entry_map.same_map nat_cmp_total nat_cmp-IsAntisymmetric f entry_map.empty (λ q. is q ∙ sym (entry_map.get-empty nat_cmp q))) ∙ entry_map.len-empty nat_cmp ℕ
+    ap entry_map.len (entry_map.same_map nat_cmp_total nat_cmp-IsAntisymmetric f entry_map.empty (λ q. is q
+    ∙ sym (entry_map.get-empty nat_cmp q))) ∙ entry_map.len-empty nat_cmp ℕ
 len_cells (c ∷ cs) f is once =
     let there : entry_map.get f c.key ≡ Some c.value = is c.key ∙ value_first c.key c cs refl in
     let rest : entry_map.len (entry_map.remove f c.key) ≡ length cs = len_cells cs (entry_map.remove f c.key)
     (λ k. dite (ℕ_discrete k c.key)
     (λ e. ap (λ z. entry_map.get (entry_map.remove f c.key) z) e ∙ remove_same f c.key ∙ sym once.0 ∙ ap (λ z. value_of z cs) (sym e))
     (λ ne. remove_other f c.key k ne ∙ is k ∙ value_later k c cs (λ e. ne (sym e)))) once.1 in
-    let less : entry_map.len (entry_map.remove f c.key) ≡ entry_map.len f - 1 = entry_map.len-remove nat_cmp_total f c.key ∙ ap (λ o. cond (is_some o) (entry_map.len f - 1) (entry_map.len f)) there in
+    let less : entry_map.len (entry_map.remove f c.key) ≡ entry_map.len f - 1 =
+    entry_map.len-remove nat_cmp_total f c.key ∙ ap (λ o. cond (is_some o) (entry_map.len f - 1) (entry_map.len f)) there in
     let some : 1 ≤ entry_map.len f = some_entry f c.key c.value there in
     omega (arith, rest, less, some)
 
@@ -165,7 +174,8 @@ len_blocks (c ∷ cs) u is once =
 abbrev pub AreKeyed : Arena → List ℕ → List Cell → Type 0
 AreKeyed arena s cs = AllByRecursion (λ c. slice_get s (block_at arena c.block) ≡ Some c.key) cs
 
-none_keyed : (arena : Arena) (s : List ℕ) (b k : ℕ) (cs : List Cell) → slice_get s (block_at arena b) ≡ Some k → AreKeyed arena s cs → value_of k cs ≡ None → times_in b cs ≡ 0
+none_keyed : (arena : Arena) (s : List ℕ) (b k : ℕ) (cs : List Cell) → slice_get s (block_at arena b) ≡ Some k
+    → AreKeyed arena s cs → value_of k cs ≡ None → times_in b cs ≡ 0
 none_keyed arena s b k [] e keys none = refl
 none_keyed arena s b k (c ∷ cs) e keys none =
     let other_key : c.key ≢ k = λ same. absurd (cc (value_first k c cs same)) in

@@ -16,7 +16,8 @@ use Rattle.txn_words.proofs.ReadLaws.{sees_more, sees_then, sees_write}
 use Rattle.txn_words.proofs.Looks.{leads_back, looks_read, looks_wider, seen_before}
 use Rattle.txn_alloc.specs.declared.put.Put.TheVariants.{New, Old, Full}
 use Rattle.txn_alloc.specs.FreeLists.{block_at, IsInBlock, IsHeadOrFirst, IsNearest, IsWrittenByTake, IsReadByTake}
-use Rattle.txn_alloc.specs.EntryMaps.{Entries, Blocks, Part, HasMap, HoldsApart, HasMapApart, Finds, Uses, IsMoved, IsSeen, IsOwn, IsValue, Inserts, TakesNearest, MayRead, MayReadToInsert, MayReadToRemove}
+use Rattle.txn_alloc.specs.EntryMaps.{Entries, Blocks, Part, HasMap, HoldsApart, HasMapApart, Finds, Uses, IsMoved, IsSeen, IsOwn, IsValue, Inserts}
+use Rattle.txn_alloc.specs.EntryMaps.{TakesNearest, MayRead, MayReadToInsert, MayReadToRemove}
 use Rattle.txn_alloc.proofs.Sets.{in_here, in_or}
 use Rattle.txn_alloc.proofs.Parts.{IsOne, used_of, moved_in, each_held}
 
@@ -32,22 +33,26 @@ IsNearOr IsNear q s a = IsNear s a ⊎ (a ≡ q)
 pub record IsKeysBlock (part : Part) (key b : ℕ) (IsFound : List ℕ → Type 0) : Type 0 where
   pub used : (s : List ℕ) (f : Entries) (u : Blocks) → IsFound s → part.Holds s f u → set.contains u b ≡ true
   pub key_there : (s : List ℕ) → IsFound s → slice_get s (block_at part.arena b) ≡ Some key
-  pub value : (s : List ℕ) (f : Entries) (u : Blocks) (x : ℕ) → IsFound s → slice_get s (block_at part.arena b + 1) ≡ Some x → part.Holds s f u → entry_map.get f key ≡ Some x
+  pub value : (s : List ℕ) (f : Entries) (u : Blocks) (x : ℕ) → IsFound s → slice_get s (block_at part.arena b + 1)
+      ≡ Some x → part.Holds s f u → entry_map.get f key ≡ Some x
 
 -- the value was read too
 module _ (n : ℕ) (G : List ℕ → Type 0) (t u : Trace) {IsNear : List ℕ → ℕ → Type 0} {P : List ℕ → Type 0} (l : Looks n G t u IsNear P) where
   pub looks_value : (v : Trace) (q x : ℕ) → v ≡ u ++ Read q x ∷ [] → Looks n G t v (IsNearOr IsNear q) (λ s. P s × (slice_get s q ≡ Some x))
-  looks_value v q x e = looks_read n G t (IsNearOr IsNear q) u v q x P (looks_wider n G t u IsNear (IsNearOr IsNear q) P (λ s h a k. inl k) l) e (λ s h. inr refl)
+  looks_value v q x e = looks_read n G t (IsNearOr IsNear q) u v q x P
+      (looks_wider n G t u IsNear (IsNearOr IsNear q) P (λ s h a k. inl k) l) e (λ s h. inr refl)
 
 module _ (part : Part) (key n : ℕ) (G : List ℕ → Type 0) (t u : Trace) {IsNear : List ℕ → ℕ → Type 0} (own : IsOwnNear part key IsNear) where
   -- the map's own words alone were read
-  pub sees_near : {P : List ℕ → Type 0} → Looks n G t u IsNear P → InEach n G t (HasMap part) → (s : List ℕ) → Fits n G u s → AppendsReads t u (MayRead part key (after t s) (after u s))
+  pub sees_near : {P : List ℕ → Type 0} → Looks n G t u IsNear P → InEach n G t (HasMap part) → (s : List ℕ)
+      → Fits n G u s → AppendsReads t u (MayRead part key (after t s) (after u s))
   sees_near l order s fit =
       let o = order.at s (fits_begins n G t u s l.begins fit) in
       sees_more (IsNear (after t s)) (MayRead part key (after t s) (after u s)) t u (own (after t s) o.entries o.used o.holds) (l.reads s fit)
 
   -- and heads, where no block was free
-  pub sees_none : {P : List ℕ → Type 0} → Looks n G t u IsNear P → InEach n G t (HasMapApart part) → (v : Trace) → Begins u v → AppendsReads u v (IsReadByTake part.arena key None)
+  pub sees_none : {P : List ℕ → Type 0} → Looks n G t u IsNear P → InEach n G t (HasMapApart part) → (v : Trace)
+      → Begins u v → AppendsReads u v (IsReadByTake part.arena key None)
       → (s : List ℕ) → Fits n G v s → AppendsReads t v (MayReadToInsert part key Full (after t s) (after v s))
   sees_none l order v bv heads s fit =
       let may : ℕ → Type 0 = MayReadToInsert part key Full (after t s) (after v s) in
@@ -56,13 +61,15 @@ module _ (part : Part) (key n : ℕ) (G : List ℕ → Type 0) (t u : Trace) {Is
       (sees_more (IsReadByTake part.arena key None) may u v (λ a k. inr k) heads)
 
 -- the key was found, and its value is near too
-module _ (part : Part) (key b q : ℕ) {IsNear : List ℕ → ℕ → Type 0} {IsFound : List ℕ → Type 0} (own : IsOwnNear part key IsNear) (block : IsKeysBlock part key b IsFound) (is_value : q ≡ block_at part.arena b + 1) where
+module _ (part : Part) (key b q : ℕ) {IsNear : List ℕ → ℕ → Type 0} {IsFound : List ℕ
+    → Type 0} (own : IsOwnNear part key IsNear) (block : IsKeysBlock part key b IsFound) (is_value : q ≡ block_at part.arena b + 1) where
   pub value_seen : (s : List ℕ) (f : Entries) (v : Blocks) → IsFound s → part.Holds s f v → (a : ℕ) → IsNearOr IsNear q s a → IsSeen part key (λ k. k ≡ key) s a
   value_seen s f v m hold a (inl k) = own s f v hold a k
   value_seen s f v m hold a (inr e) = inr (b, (f, v, hold, block.used s f v m hold), inr (inr (e ∙ is_value, (key, refl, block.key_there s m))))
 
 -- the key was found, and its value read
-module _ (part : Part) (key n : ℕ) (G : List ℕ → Type 0) (t u : Trace) {IsNear : List ℕ → ℕ → Type 0} {IsFound : List ℕ → Type 0} (b q was : ℕ) (is_value : q ≡ block_at part.arena b + 1)
+module _ (part : Part) (key n : ℕ) (G : List ℕ → Type 0) (t u : Trace) {IsNear : List ℕ → ℕ → Type 0} {IsFound : List ℕ
+    → Type 0} (b q was : ℕ) (is_value : q ≡ block_at part.arena b + 1)
     (block : IsKeysBlock part key b IsFound) (l : Looks n G t u (IsNearOr IsNear q) (λ s. IsFound s × (slice_get s q ≡ Some was))) where
   pub finds_some : Leads n G t u (Finds part key (Some was))
   finds_some = record {
@@ -74,10 +81,12 @@ module _ (part : Part) (key n : ℕ) (G : List ℕ → Type 0) (t u : Trace) {Is
         };
   }
 
-  pub sees_value : IsOwnNear part key IsNear → InEach n G t (HasMap part) → (s : List ℕ) → Fits n G u s → AppendsReads t u (MayRead part key (after t s) (after u s))
+  pub sees_value : IsOwnNear part key IsNear → InEach n G t (HasMap part) → (s : List ℕ) → Fits n G u s
+      → AppendsReads t u (MayRead part key (after t s) (after u s))
   sees_value own order s fit =
       let o = order.at s (fits_begins n G t u s l.begins fit) in
-      sees_more (IsNearOr IsNear q (after t s)) (MayRead part key (after t s) (after u s)) t u (value_seen part key b q own block is_value (after t s) o.entries o.used (seen_before n G t u l s fit).0 o.holds) (l.reads s fit)
+      sees_more (IsNearOr IsNear q (after t s)) (MayRead part key (after t s) (after u s)) t u
+      (value_seen part key b q own block is_value (after t s) o.entries o.used (seen_before n G t u l s fit).0 o.holds) (l.reads s fit)
 
   -- and then written
   module _ (order : InEach n G t (HasMapApart part)) (v : Trace) (x : ℕ) (e : EndsWithWrite u v q x) where
@@ -95,11 +104,13 @@ module _ (part : Part) (key n : ℕ) (G : List ℕ → Type 0) (t u : Trace) {Is
         let o : HasMapApart part (after t s) = order_start s fit in
         (o.entries, o.used, o.holds.map, block.used (after t s) o.entries o.used (found_start s fit) o.holds.map)
 
-    pub inserts_old : ((s : List ℕ) (f : Entries) (used free : Blocks) → HoldsApart part s f used free → IsFound s → HoldsApart part (slice_set s (block_at part.arena b + 1) x) (entry_map.insert f key x) used free)
+    pub inserts_old : ((s : List ℕ) (f : Entries) (used free : Blocks) → HoldsApart part s f used free → IsFound s
+        → HoldsApart part (slice_set s (block_at part.arena b + 1) x) (entry_map.insert f key x) used free)
         → Leads n G t v (Inserts part key x (Old was))
     inserts_old revalue = record {
       at = λ s fit f used free hold.
-          let last : after v s ≡ slice_set (after t s) (block_at part.arena b + 1) x = after_write_end u v q x s e ∙ ap (λ z. slice_set z q x) (l.same s (fits_u s fit)) ∙ ap (λ z. slice_set (after t s) z x) is_value in
+          let last : after v s ≡ slice_set (after t s) (block_at part.arena b + 1) x = after_write_end u v q x s e
+          ∙ ap (λ z. slice_set z q x) (l.same s (fits_u s fit)) ∙ ap (λ z. slice_set (after t s) z x) is_value in
           record {
             present = sym ((finds_some.at s (fits_u s fit)).found f used hold.map);
             left = subst (λ z. HoldsApart part z (entry_map.insert f key x) used free) (sym last) (revalue (after t s) f used free hold (found_start s fit));
@@ -116,7 +127,8 @@ module _ (part : Part) (key n : ℕ) (G : List ℕ → Type 0) (t u : Trace) {Is
     pub owns_value : (s : List ℕ) → Fits n G v s → AppendsOnly t v (IsValue part key (after t s) (after v s))
     owns_value s fit =
         let own : ℕ → Type 0 = IsValue part key (after t s) (after v s) in
-        only_then own t u v (only_more (λ a. ⊥) own t u (λ a k. absurd k) l.writes) (only_write own u v q x e (b, uses_start s fit, block.key_there (after t s) (found_start s fit), is_value))
+        only_then own t u v (only_more (λ a. ⊥) own t u (λ a k. absurd k) l.writes)
+        (only_write own u v q x e (b, uses_start s fit, block.key_there (after t s) (found_start s fit), is_value))
 
     pub sees_old : IsOwnNear part key IsNear → (s : List ℕ) → Fits n G v s → AppendsReads t v (MayReadToInsert part key (Old was) (after t s) (after v s))
     sees_old own s fit =
@@ -133,7 +145,8 @@ pub record InsertsIn (part : Part) (key x b : ℕ) (new : List ℕ) (f : Entries
 
 -- the key was missed, a block taken, and the key put into it
 module _ (part : Part) (one : IsOne part) (key x n : ℕ) (G : List ℕ → Type 0) (t w : Trace) (b : ℕ) (begins : Begins t w)
-    (puts : (s : List ℕ) → Fits n G w s → (f : Entries) (used free : Blocks) → HoldsApart part (after t s) f used free → InsertsIn part key x b (after w s) f used free) where
+    (puts : (s : List ℕ) → Fits n G w s → (f : Entries) (used free : Blocks) → HoldsApart part (after t s) f used free
+    → InsertsIn part key x b (after w s) f used free) where
   pub inserts_new : Leads n G t w (Inserts part key x New)
   inserts_new = record {
     at = λ s fit f used free hold. let k = puts s fit f used free hold in record { absent = k.absent; block = b; was_free = k.was_free; left = k.left };
@@ -155,32 +168,41 @@ module _ (part : Part) (one : IsOne part) (key x n : ℕ) (G : List ℕ → Type
         moved_in part one (after t s) (after w s) o.entries o.used o.free b o.holds (puts s fit o.entries o.used o.free o.holds).was_free (uses_new s fit)
 
     -- and it is the one that a take near the key gives
-    pub takes_new : (u v : Trace) {IsNear : List ℕ → ℕ → Type 0} {P : List ℕ → Type 0} → Looks n G t u IsNear P → Begins u v → Begins v w → Leads n G u v (λ x y. IsNearest part.arena key b x) → Leads n G t w (TakesNearest part key)
+    pub takes_new : (u v : Trace) {IsNear : List ℕ → ℕ → Type 0} {P : List ℕ → Type 0} → Looks n G t u IsNear P
+        → Begins u v → Begins v w → Leads n G u v (λ x y. IsNearest part.arena key b x) → Leads n G t w (TakesNearest part key)
     takes_new u v l bv bw nearest = record {
       at = λ s fit d uses unused.
           let o = order_before s fit in
-          let near : IsNearest part.arena key b (after t s) = (leads_back n G t u l v (λ x y. IsNearest part.arena key b x) bv nearest).at s (fits_begins n G v w s bw fit) in
-          elim (in_or o.used b d (used_of part one (after w s) (entry_map.insert o.entries key x) (set.insert o.used b) d (puts s fit o.entries o.used o.free o.holds).left.map uses)) [
+          let near : IsNearest part.arena key b (after t s) =
+          (leads_back n G t u l v (λ x y. IsNearest part.arena key b x) bv nearest).at s (fits_begins n G v w s bw fit) in
+          elim (in_or o.used b d (used_of part one (after w s) (entry_map.insert o.entries key x) (set.insert o.used b)
+          d (puts s fit o.entries o.used o.free o.holds).left.map uses)) [
             | inl e ↦ subst (λ k. IsNearest part.arena key k (after t s)) (sym e) near
             | inr m ↦ absurd (unused (o.entries, o.used, o.holds.map, m))
           ];
     }
 
-    module _ (u v : Trace) {IsNear : List ℕ → ℕ → Type 0} {P : List ℕ → Type 0} (l : Looks n G t u IsNear P) (s : List ℕ) (fit : Fits n G w s) {IsPut : ℕ → Type 0} where
-      pub owns_new : AppendsOnly u v (IsWrittenByTake part.arena (Some b)) → AppendsOnly v w IsPut → ((a : ℕ) → IsPut a → IsOwn part key (after t s) (after w s) a) → AppendsOnly t w (IsOwn part key (after t s) (after w s))
+    module _ (u v : Trace) {IsNear : List ℕ → ℕ → Type 0} {P : List ℕ → Type 0} (l : Looks n G t u IsNear P)
+        (s : List ℕ) (fit : Fits n G w s) {IsPut : ℕ → Type 0} where
+      pub owns_new : AppendsOnly u v (IsWrittenByTake part.arena (Some b)) → AppendsOnly v w IsPut
+          → ((a : ℕ) → IsPut a → IsOwn part key (after t s) (after w s) a) → AppendsOnly t w (IsOwn part key (after t s) (after w s))
       owns_new heads put step =
           let own : ℕ → Type 0 = IsOwn part key (after t s) (after w s) in
           only_then own t u w (only_more (λ a. ⊥) own t u (λ a k. absurd k) l.writes)
-          (only_then own u v w (only_more (IsWrittenByTake part.arena (Some b)) own u v (λ a k. inr (inr (b, moved_new s fit, k))) heads) (only_more IsPut own v w step put))
+          (only_then own u v w (only_more (IsWrittenByTake part.arena (Some b)) own u v
+          (λ a k. inr (inr (b, moved_new s fit, k))) heads) (only_more IsPut own v w step put))
 
       pub sees_new : IsOwnNear part key IsNear → Begins u v → Begins v w → AppendsReads u v (IsReadByTake part.arena key (Some b)) → AppendsReads v w IsPut
-          → ((a : ℕ) → IsPut a → MayReadToInsert part key New (after t s) (after w s) a) → AppendsReads t w (MayReadToInsert part key New (after t s) (after w s))
+          → ((a : ℕ) → IsPut a → MayReadToInsert part key New (after t s) (after w s) a)
+          → AppendsReads t w (MayReadToInsert part key New (after t s) (after w s))
       sees_new own bv bw names put step =
           let may : ℕ → Type 0 = MayReadToInsert part key New (after t s) (after w s) in
           let fit_u : Fits n G u s = fits_begins n G u v s bv (fits_begins n G v w s bw fit) in
           let moved : IsMoved part (after t s) (after w s) b = moved_new s fit in
-          let name : (a : ℕ) → IsReadByTake part.arena key (Some b) a → may a = λ a k. elim k [ inl e ↦ inr (b, moved, inl e) | inr e ↦ inr (b, moved, inr (record { low = omega (arith, e); high = omega (arith, e) })) ] in
-          sees_then may t u w (sees_more (MayRead part key (after t s) (after u s)) may t u (λ a k. inl k) (sees_near part key n G t u own l (each_held part n G t order) s fit_u))
+          let name : (a : ℕ) → IsReadByTake part.arena key (Some b) a → may a =
+          λ a k. elim k [ inl e ↦ inr (b, moved, inl e) | inr e ↦ inr (b, moved, inr (record { low = omega (arith, e); high = omega (arith, e) })) ] in
+          sees_then may t u w (sees_more (MayRead part key (after t s) (after u s)) may t u (λ a k. inl k)
+          (sees_near part key n G t u own l (each_held part n G t order) s fit_u))
           (sees_then may u v w (sees_more (IsReadByTake part.arena key (Some b)) may u v name names) (sees_more IsPut may v w step put))
 
 -- a block that was used was given back

@@ -1,5 +1,6 @@
 -- Free blocks that are laid into their lists, from the last on.
-use Rattle.std.proofs.Common.{◌≡◌, ◌≢◌, ℕ, zero, suc, ◌+◌, ◌%◌, ◌<◌, ◌≤◌, ◌==◌, inl, inr, false, List, [], ◌∷◌, drop, filter, length, get_or, slice_get, slice_set, Some, nat_eq, refl, sym, ap, ◌∙◌, subst, arith, rules}
+use Rattle.std.proofs.Common.{◌≡◌, ◌≢◌, ℕ, zero, suc, ◌+◌, ◌%◌, ◌<◌, ◌≤◌, ◌==◌, inl, inr, false, List, [], ◌∷◌, drop, filter, length, get_or, slice_get}
+use Rattle.std.proofs.Common.{slice_set, Some, nat_eq, refl, sym, ap, ◌∙◌, subst, arith, rules}
 use mathlib.Core.Bool.{true≢false}
 use mathlib.Core.Logic.{dite}
 use native.Mathlib.Decide.{ℕ_discrete}
@@ -43,10 +44,14 @@ pub of_all : (h b : ℕ) (bs : List ℕ) → b % HEADS ≡ h → set.contains (b
 of_all h b [] own = refl
 of_all h b (c ∷ bs) own = dite (ℕ_discrete (c % HEADS) h)
     (λ e. dite (ℕ_discrete b c)
-    (λ is. ap (λ z. set.contains (blocks_of (c ∷ bs)) z) is ∙ in_here (blocks_of bs) c ∙ sym (ap (λ z. set.contains (blocks_of z) b) (of_here h c bs e) ∙ ap (λ z. set.contains (blocks_of (c ∷ of_list h bs)) z) is ∙ in_here (blocks_of (of_list h bs)) c))
-    (λ ne. contains-insert_other (blocks_of bs) c b ne ∙ of_all h b bs own ∙ sym (ap (λ z. set.contains (blocks_of z) b) (of_here h c bs e) ∙ contains-insert_other (blocks_of (of_list h bs)) c b ne)))
+    (λ is. ap (λ z. set.contains (blocks_of (c ∷ bs)) z) is ∙ in_here (blocks_of bs) c
+    ∙ sym (ap (λ z. set.contains (blocks_of z) b) (of_here h c bs e)
+    ∙ ap (λ z. set.contains (blocks_of (c ∷ of_list h bs)) z) is ∙ in_here (blocks_of (of_list h bs)) c))
+    (λ ne. contains-insert_other (blocks_of bs) c b ne ∙ of_all h b bs own
+    ∙ sym (ap (λ z. set.contains (blocks_of z) b) (of_here h c bs e) ∙ contains-insert_other (blocks_of (of_list h bs)) c b ne)))
     (λ other.
-    contains-insert_other (blocks_of bs) c b (λ is. other (ap (λ z. z % HEADS) (sym is) ∙ own)) ∙ of_all h b bs own ∙ ap (λ z. set.contains (blocks_of z) b) (sym (of_there h c bs other)))
+    contains-insert_other (blocks_of bs) c b (λ is. other (ap (λ z. z % HEADS) (sym is) ∙ own)) ∙ of_all h b bs own
+    ∙ ap (λ z. set.contains (blocks_of z) b) (sym (of_there h c bs other)))
 
 pub of_once : (h : ℕ) (bs : List ℕ) → IsDistinct nat_eq bs → IsDistinct nat_eq (of_list h bs)
 of_once h [] once = once
@@ -65,7 +70,8 @@ pub record IsLaidFrom (arena : Arena) (order first left words : List ℕ) : Type
 
 module _ (arena : Arena) (order first : List ℕ) (laid : IsLaidOut arena first) where
   -- after the heads were cleared nothing is laid
-  pub laid_none : (words : List ℕ) → KeepsOthers (IsHead arena) first words → ((a : ℕ) → IsHead arena a → slice_get words a ≡ Some 0) → IsLaidFrom arena order first [] words
+  pub laid_none : (words : List ℕ) → KeepsOthers (IsHead arena) first words
+      → ((a : ℕ) → IsHead arena a → slice_get words a ≡ Some 0) → IsLaidFrom arena order first [] words
   laid_none words kept none = record {
     count = kept.count;
     same = λ a other. kept.same a (λ head. other (inl head));
@@ -73,7 +79,8 @@ module _ (arena : Arena) (order first : List ℕ) (laid : IsLaidOut arena first)
   }
 
   -- one block more is in front of its list
-  module _ (b : ℕ) (left words : List ℕ) (h : IsLaidFrom arena order first left words) (among : IsAmong order b) (lt_b : b < arena.blocks) (out : set.contains (blocks_of left) b ≡ false)
+  module _ (b : ℕ) (left words : List ℕ) (h : IsLaidFrom arena order first left words) (among : IsAmong order b)
+      (lt_b : b < arena.blocks) (out : set.contains (blocks_of left) b ≡ false)
       (below : (c : ℕ) → IsAmong left c → c < arena.blocks) where
     abbrev linked : List ℕ
     linked = slice_set words (block_at arena b) (get_or words (head_of arena b) 0)
@@ -88,7 +95,8 @@ module _ (arena : Arena) (order first : List ℕ) (laid : IsLaidOut arena first)
     head_there = slice_get-get_or words (head_of arena b) 0 (omega (arith, head_in arena first b laid, h.count))
 
     heads_stay : (a : ℕ) → IsHead arena a → a ≢ head_of arena b → slice_get new a ≡ slice_get words a
-    heads_stay a head ne = get_set_other linked (head_of arena b) a (b + 1) ne ∙ get_set_other words (block_at arena b) a (get_or words (head_of arena b) 0) (λ e. no_head arena first b a laid lt_b head (sym e))
+    heads_stay a head ne = get_set_other linked (head_of arena b) a (b + 1) ne
+        ∙ get_set_other words (block_at arena b) a (get_or words (head_of arena b) 0) (λ e. no_head arena first b a laid lt_b head (sym e))
 
     blocks_stay : (d : ℕ) → IsAmong left d → slice_get new (block_at arena d) ≡ slice_get words (block_at arena d)
     blocks_stay d m =
@@ -100,23 +108,28 @@ module _ (arena : Arena) (order first : List ℕ) (laid : IsLaidOut arena first)
     own_list =
         let link : slice_get new (block_at arena b) ≡ slice_get words (head_of arena b) =
         get_set_other linked (head_of arena b) (block_at arena b) (b + 1) (no_head arena first b (head_of arena b) laid lt_b (is_head arena b))
-        ∙ get_set_same words (block_at arena b) (get_or words (head_of arena b) 0) (omega (arith, block_in arena first b laid lt_b, h.count)) ∙ sym head_there in
+        ∙ get_set_same words (block_at arena b) (get_or words (head_of arena b) 0)
+        (omega (arith, block_in arena first b laid lt_b, h.count)) ∙ sym head_there in
         let small : b % 16 < 16 = omega arith in (
           get_set_same linked (head_of arena b) (b + 1) (omega (arith, head_in arena first b laid, long_linked)),
           lt_b,
-          list_kept arena words new (head_of arena b) (block_at arena b) (of_list (b % HEADS) left) link (λ d m. blocks_stay d (of_among (b % HEADS) d left m).0) (h.lists (b % HEADS) small),
+          list_kept arena words new (head_of arena b) (block_at arena b) (of_list (b % HEADS) left) link
+              (λ d m. blocks_stay d (of_among (b % HEADS) d left m).0) (h.lists (b % HEADS) small),
         )
 
     lists_more : (k : ℕ) → k < HEADS → HasList arena new (arena.heads + k) (of_list k (b ∷ left))
     lists_more k lt = dite (ℕ_discrete (b % HEADS) k)
-        (λ e. subst (λ z. HasList arena new (arena.heads + k) z) (sym (of_here k b left e)) (subst (λ z. HasList arena new (arena.heads + z) (b ∷ of_list z left)) e own_list))
+        (λ e. subst (λ z. HasList arena new (arena.heads + k) z) (sym (of_here k b left e))
+        (subst (λ z. HasList arena new (arena.heads + z) (b ∷ of_list z left)) e own_list))
         (λ ne.
         let apart : arena.heads + k ≢ head_of arena b = λ e. ne (omega (arith, e)) in
         subst (λ z. HasList arena new (arena.heads + k) z) (sym (of_there k b left ne))
-        (list_kept arena words new (arena.heads + k) (arena.heads + k) (of_list k left) (heads_stay (arena.heads + k) (record { low = omega arith; high = omega (arith, lt) }) apart)
+        (list_kept arena words new (arena.heads + k) (arena.heads + k) (of_list k left)
+        (heads_stay (arena.heads + k) (record { low = omega arith; high = omega (arith, lt) }) apart)
         (λ d m. blocks_stay d (of_among k d left m).0) (h.lists k lt)))
 
-    pub laid_more : IsLaidFrom arena order first (b ∷ left) (slice_set (slice_set words (block_at arena b) (get_or words (head_of arena b) 0)) (head_of arena b) (b + 1))
+    pub laid_more : IsLaidFrom arena order first (b ∷ left)
+        (slice_set (slice_set words (block_at arena b) (get_or words (head_of arena b) 0)) (head_of arena b) (b + 1))
     laid_more = record {
       count = length-set linked (head_of arena b) (b + 1) ∙ long_linked;
       same = λ a other.
@@ -166,7 +179,8 @@ pub record AreCleared (arena : Arena) (first : List ℕ) (n : ℕ) (words : List
   pub kept : KeepsOthers (IsHead arena) first words
   pub none : (a : ℕ) → arena.heads ≤ a → a < arena.heads + n → slice_get words a ≡ Some 0
 
-pub cleared_more : (arena : Arena) (first words : List ℕ) (n : ℕ) → IsLaidOut arena first → n < HEADS → AreCleared arena first n words → AreCleared arena first (n + 1) (slice_set words (arena.heads + n) 0)
+pub cleared_more : (arena : Arena) (first words : List ℕ) (n : ℕ) → IsLaidOut arena first → n < HEADS
+    → AreCleared arena first n words → AreCleared arena first (n + 1) (slice_set words (arena.heads + n) 0)
 cleared_more arena first words n laid lt h =
     let place : ℕ = arena.heads + n in
     let head : IsHead arena place = record { low = omega arith; high = omega (arith, lt) } in
@@ -176,14 +190,18 @@ cleared_more arena first words n laid lt h =
         same = λ a other. get_set_other words place a 0 (λ e. other (subst (λ z. IsHead arena z) (sym e) head)) ∙ h.kept.same a other;
       };
       none = λ a low high. dite (ℕ_discrete a place)
-          (λ e. ap (λ z. slice_get (slice_set words place 0) z) e ∙ get_set_same words place 0 (let there : arena.heads + HEADS ≤ length first = laid.heads in omega (arith, there, lt, h.kept.count)))
+          (λ e. ap (λ z. slice_get (slice_set words place 0) z) e
+          ∙ get_set_same words place 0 (let there : arena.heads + HEADS ≤ length first = laid.heads in omega (arith, there, lt, h.kept.count)))
           (λ ne. get_set_other words place a 0 ne ∙ h.none a low (omega (arith, high, ne)));
     }
 
 -- a block of the order is put in front, where those behind it are laid
-pub laid_back : (arena : Arena) (order first : List ℕ) → IsLaidOut arena first → IsDistinct nat_eq order → All (λ b. b < arena.blocks) order → (words : List ℕ) (n : ℕ) → n < length order
+pub laid_back : (arena : Arena) (order first : List ℕ) → IsLaidOut arena first → IsDistinct nat_eq order
+    → All (λ b. b < arena.blocks) order → (words : List ℕ) (n : ℕ) → n < length order
     → IsLaidFrom arena order first (drop (suc n) order) words
-    → (let b = get_or order n 0 in IsLaidFrom arena order first (drop n order) (slice_set (slice_set words (block_at arena b) (get_or words (head_of arena b) 0)) (head_of arena b) (b + 1)))
+    → (let b = get_or order n 0 in
+    IsLaidFrom arena order first (drop n order)
+    (slice_set (slice_set words (block_at arena b) (get_or words (head_of arena b) 0)) (head_of arena b) (b + 1)))
 laid_back arena order first laid once all words n lt h =
     let b : ℕ = get_or order n 0 in
     let left : List ℕ = drop (suc n) order in
@@ -192,8 +210,10 @@ laid_back arena order first laid once all words n lt h =
     let among : (c : ℕ) → IsAmong (b ∷ left) c → IsAmong order c = λ c m. rest_among n c order (ap (λ z. set.contains (blocks_of z) c) next ∙ m) in
     let below : (c : ℕ) → IsAmong (b ∷ left) c → c < arena.blocks = λ c m. among_all (λ d. d < arena.blocks) order all c (among c m) in
     let here : IsAmong (b ∷ left) b = in_here (blocks_of left) b in
-    subst (λ z. IsLaidFrom arena order first z (slice_set (slice_set words (block_at arena b) (get_or words (head_of arena b) 0)) (head_of arena b) (b + 1))) (sym next)
-    (laid_more arena order first laid b left words h (among b here) (below b here) (out_rest b left distinct) (λ c m. below c (in_there (blocks_of left) b c m)))
+    subst (λ z. IsLaidFrom arena order first z
+    (slice_set (slice_set words (block_at arena b) (get_or words (head_of arena b) 0)) (head_of arena b) (b + 1))) (sym next)
+    (laid_more arena order first laid b left words h (among b here) (below b here) (out_rest b left distinct)
+    (λ c m. below c (in_there (blocks_of left) b c m)))
 
 -- a part of numbers that rise rises
 of_filter : (h : ℕ) (bs : List ℕ) → of_list h bs ≡ filter (λ b. b % HEADS == h) bs

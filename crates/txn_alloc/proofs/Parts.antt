@@ -61,7 +61,13 @@ pub order_inserted : (part : Part) (key x : ℕ) (put : Put) (s t : List ℕ) �
 order_inserted part key x New s t o h =
     let k = h o.entries o.used o.free o.holds in
     record { entries = entry_map.insert o.entries key x; used = set.insert o.used k.block; free = set.remove o.free k.block; holds = k.left }
-order_inserted part key x (Old was) s t o h = record { entries = entry_map.insert o.entries key x; used = o.used; free = o.free; holds = (h o.entries o.used o.free o.holds).left }
+order_inserted part key x (Old was) s t o h = record {
+  entries = entry_map.insert o.entries key x;
+  used = o.used;
+  free =
+      o.free;
+  holds = (h o.entries o.used o.free o.holds).left;
+}
 order_inserted part key x Full s t o h = subst (λ z. HasMapApart part z) (sym h) o
 
 pub order_removed : (part : Part) (key : ℕ) (answer : Option ℕ) (s t : List ℕ) → HasMapApart part s → Removes part key answer s t → HasMapApart part t
@@ -88,7 +94,8 @@ module _ (part : Part) (one : IsOne part) where
   moved_out s t g u b uses hold = inl (uses, λ k. true≢false (sym (used_of t g (set.remove u b) b hold k) ∙ out_itself u b))
 
 -- where there was room, not every state had none
-module _ (part : Part) (key x n : ℕ) (G : List ℕ → Type 0) (t w : Trace) (order : InEach n G t (HasMapApart part)) (b : Begins t w) (some : SomeFits n G w) (lacks : Leads n G t w (λ before after. LacksRoom part key before)) where
+module _ (part : Part) (key x n : ℕ) (G : List ℕ → Type 0) (t w : Trace) (order : InEach n G t (HasMapApart part))
+    (b : Begins t w) (some : SomeFits n G w) (lacks : Leads n G t w (λ before after. LacksRoom part key before)) where
   pub not_new : {A : Type 0} → Leads n G t w (Inserts part key x New) → A
   not_new h =
       let o : HasMapApart part (after t some.0) = order.at some.0 (fits_begins n G t w some.0 b some.1) in
@@ -104,13 +111,15 @@ module _ (part : Part) (key x n : ℕ) (G : List ℕ → Type 0) (t w : Trace) (
       absurd (cc)
 
 -- a search that missed the key, and what it says of the entries
-module _ (part : Part) (key n : ℕ) (G : List ℕ → Type 0) (t u : Trace) {IsNear : List ℕ → ℕ → Type 0} {Missing : List ℕ → Type 0} (absent : (s : List ℕ) (f : Entries) (v : Blocks) → Missing s → part.Holds s f v → entry_map.get f key ≡ None)
+module _ (part : Part) (key n : ℕ) (G : List ℕ → Type 0) (t u : Trace) {IsNear : List ℕ → ℕ → Type 0} {Missing : List ℕ
+    → Type 0} (absent : (s : List ℕ) (f : Entries) (v : Blocks) → Missing s → part.Holds s f v → entry_map.get f key ≡ None)
     (l : Looks n G t u IsNear Missing) where
   pub finds_none : Leads n G t u (Finds part key None)
   finds_none = record { at = λ s fit. record { same = l.same s fit; found = λ f used h. sym (absent (after t s) f used (seen_before n G t u l s fit) h) } }
 
   -- no block was free
-  pub lacks_room : (v : Trace) → Begins u v → Leads n G u v (λ before after. HasNone part.arena before) → Leads n G t v (λ before after. LacksRoom part key before)
+  pub lacks_room : (v : Trace) → Begins u v → Leads n G u v (λ before after. HasNone part.arena before)
+      → Leads n G t v (λ before after. LacksRoom part key before)
   lacks_room v b none = record {
     at = λ s fit f used free hold. (
       absent (after t s) f used (seen_before n G t u l s (fits_begins n G u v s b fit)) hold.map,

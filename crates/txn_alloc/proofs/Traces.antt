@@ -1,5 +1,6 @@
 -- What holds in every fitting state at once, as blocks are taken and given back.
-use Rattle.std.proofs.Common.{◌≡◌, ◌≢◌, ℕ, ◌+◌, ◌^◌, ◌<◌, ◌≤◌, List, [], ◌∷◌, ◌++◌, length, slice_get, slice_set, Option, Some, None, sym, ap, ◌∙◌, subst, arith}
+use Rattle.std.proofs.Common.{◌≡◌, ◌≢◌, ℕ, ◌+◌, ◌^◌, ◌<◌, ◌≤◌, List, [], ◌∷◌, ◌++◌, length, slice_get, slice_set, Option, Some, None, sym, ap, ◌∙◌, subst}
+use Rattle.std.proofs.Common.{arith}
 use mathlib.Core.Bool.{true≢false}
 use Rattle.std.specs.FinSet as set
 use Rattle.history_model.specs.declared.event.Event.TheVariants.{Read}
@@ -21,7 +22,8 @@ pub record Lies (arena : Arena) (n : ℕ) : Type 0 where
   pub small : n ≤ 2 ^ 64
 
 -- a block of an arena that is laid out so in every state
-pub laid_block : (arena : Arena) (n : ℕ) (G : List ℕ → Type 0) (t : Trace) → SomeFits n G t → (b : ℕ) → InEach n G t (IsLaidOut arena) → b < arena.blocks → (block_at arena b + 4 ≤ n) × (n ≤ 2 ^ 64)
+pub laid_block : (arena : Arena) (n : ℕ) (G : List ℕ → Type 0) (t : Trace) → SomeFits n G t → (b : ℕ)
+    → InEach n G t (IsLaidOut arena) → b < arena.blocks → (block_at arena b + 4 ≤ n) × (n ≤ 2 ^ 64)
 laid_block arena n G t some b laid lt =
     let s : List ℕ = after t some.0 in
     let l : IsLaidOut arena s = laid.at some.0 some.1 in
@@ -42,7 +44,8 @@ module _ (arena : Arena) (n : ℕ) (G : List ℕ → Type 0) (t : Trace) where
       }
 
   -- a block was given back
-  pub gives_back : (u v w : Trace) (b h p q x : ℕ) → p ≡ head_of arena b → u ≡ t ++ Read p h ∷ [] → q ≡ block_at arena b → EndsWithWrite u v q h → x ≡ b + 1 → EndsWithWrite v w p x
+  pub gives_back : (u v w : Trace) (b h p q x : ℕ) → p ≡ head_of arena b → u ≡ t ++ Read p h ∷ [] → q ≡ block_at arena b
+      → EndsWithWrite u v q h → x ≡ b + 1 → EndsWithWrite v w p x
       → b < arena.blocks → InEach n G t (Lacks arena b) → Leads n G t w (Gives arena b)
   gives_back u v w b h p q x is_p read is_q ends1 is_x ends2 lt lacks = record {
     at = λ s fit f hold.
@@ -52,7 +55,8 @@ module _ (arena : Arena) (n : ℕ) (G : List ℕ → Type 0) (t : Trace) where
         let fit_t : Fits n G t s = fits_front n G t (Read p h ∷ []) s whole in
         let same_u : after u s ≡ after t s = ap (λ z. after z s) read ∙ after_read t s p h in
         let there : slice_get (after t s) (head_of arena b) ≡ Some h = ap (λ k. slice_get (after t s) k) (sym is_p) ∙ read_there t s p h whole.legal in
-        let first : after v s ≡ slice_set (after t s) (block_at arena b) h = after_write_end u v q h s ends1 ∙ ap (λ z. slice_set z q h) same_u ∙ ap (λ k. slice_set (after t s) k h) is_q in
+        let first : after v s ≡ slice_set (after t s) (block_at arena b) h = after_write_end u v q h s ends1
+        ∙ ap (λ z. slice_set z q h) same_u ∙ ap (λ k. slice_set (after t s) k h) is_q in
         let last : after w s ≡ slice_set (slice_set (after t s) (block_at arena b) h) (head_of arena b) (b + 1) =
         after_write_end v w p x s ends2 ∙ ap (λ z. slice_set z p x) first ∙ ap (λ k. slice_set (slice_set (after t s) (block_at arena b) h) k x) is_p
         ∙ ap (λ k. slice_set (slice_set (after t s) (block_at arena b) h) (head_of arena b) k) is_x in
@@ -60,7 +64,8 @@ module _ (arena : Arena) (n : ℕ) (G : List ℕ → Type 0) (t : Trace) where
   }
 
   -- where a block was taken, not every state had none
-  pub taken_from_some : {A : Type 0} (w : Trace) (b : ℕ) → SomeFits n G w → Leads n G t w (Takes arena (Some b)) → Leads n G t w (λ before after. HasNone arena before) → A
+  pub taken_from_some : {A : Type 0} (w : Trace) (b : ℕ) → SomeFits n G w → Leads n G t w (Takes arena (Some b))
+      → Leads n G t w (λ before after. HasNone arena before) → A
   taken_from_some w b some takes none =
       let k : TakesBlock arena b (after t some.0) (after w some.0) set.empty = takes.at some.0 some.1 set.empty (none.at some.0 some.1) in
       absurd (true≢false (sym k.was_free ∙ out_empty b))

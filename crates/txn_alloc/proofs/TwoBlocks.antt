@@ -1,5 +1,6 @@
 -- The words of tests: 285 zeros but for the two that link two free blocks.
-use Rattle.std.proofs.Common.{◌≡◌, ◌≢◌, ℕ, ◌+◌, ◌%◌, ◌<◌, inl, inr, true, List, [], ◌∷◌, length, slice_get, slice_set, Some, replicate, sym, ap, ◌∙◌, subst, arith}
+use Rattle.std.proofs.Common.{◌≡◌, ◌≢◌, ℕ, ◌+◌, ◌%◌, ◌<◌, inl, inr, true, List, [], ◌∷◌, length, slice_get, slice_set, Some, replicate, sym, ap, ◌∙◌, subst}
+use Rattle.std.proofs.Common.{arith}
 use Rattle.std.proofs.lemmas.List.{length-set, length-replicate}
 use Rattle.std.specs.List.{IsDistinct}
 use Rattle.std.specs.Ordering.{nat_cmp}
@@ -38,17 +39,21 @@ only_one b c m = elim (in_or (set.from_list []) b c m) [ inl e ↦ e | inr k ↦
 
 free_first : (b : ℕ) → b % HEADS ≡ 0 → set.contains both_free b ≡ set.contains (set.from_list {R = nat_cmp} (0 ∷ [])) b
 free_first b own = dite (ℕ_discrete b 0)
-    (λ e. ap (λ k. set.contains both_free k) e ∙ in_here (set.from_list (1 ∷ [])) 0 ∙ sym (ap (λ k. set.contains (set.from_list {R = nat_cmp} (0 ∷ [])) k) e ∙ in_here (set.from_list []) 0))
-    (λ ne. contains-insert_other (set.from_list (1 ∷ [])) 0 b ne ∙ contains-insert_other (set.from_list []) 1 b (λ e. absurd (omega (arith, own, e))) ∙ sym (contains-insert_other (set.from_list []) 0 b ne))
+    (λ e. ap (λ k. set.contains both_free k) e ∙ in_here (set.from_list (1 ∷ [])) 0
+    ∙ sym (ap (λ k. set.contains (set.from_list {R = nat_cmp} (0 ∷ [])) k) e ∙ in_here (set.from_list []) 0))
+    (λ ne. contains-insert_other (set.from_list (1 ∷ [])) 0 b ne
+    ∙ contains-insert_other (set.from_list []) 1 b (λ e. absurd (omega (arith, own, e))) ∙ sym (contains-insert_other (set.from_list []) 0 b ne))
 
 free_second : (b : ℕ) → b % HEADS ≡ 1 → set.contains both_free b ≡ set.contains (set.from_list {R = nat_cmp} (1 ∷ [])) b
 free_second b own = contains-insert_other (set.from_list (1 ∷ [])) 0 b (λ e. absurd (omega (arith, own, e)))
 
 free_other : (h b : ℕ) → h ≢ 0 → h ≢ 1 → b % HEADS ≡ h → set.contains both_free b ≡ set.contains (set.from_list {R = nat_cmp} []) b
 free_other h b first second own =
-    contains-insert_other (set.from_list (1 ∷ [])) 0 b (λ e. first (omega (arith, own, e))) ∙ contains-insert_other (set.from_list []) 1 b (λ e. second (omega (arith, own, e)))
+    contains-insert_other (set.from_list (1 ∷ [])) 0 b (λ e. first (omega (arith, own, e)))
+    ∙ contains-insert_other (set.from_list []) 1 b (λ e. second (omega (arith, own, e)))
 
-two_lists : (s : List ℕ) → slice_get s 1 ≡ Some 1 → slice_get s 2 ≡ Some 2 → ((i : ℕ) → i < 285 → i ≢ 1 → i ≢ 2 → slice_get s i ≡ Some 0) → (h : ℕ) → h < HEADS → FreeListHolds two s both_free h
+two_lists : (s : List ℕ) → slice_get s 1 ≡ Some 1 → slice_get s 2 ≡ Some 2
+    → ((i : ℕ) → i < 285 → i ≢ 1 → i ≢ 2 → slice_get s i ≡ Some 0) → (h : ℕ) → h < HEADS → FreeListHolds two s both_free h
 unfolding IsDistinct
 two_lists s one last rest h lt = dite (ℕ_discrete h 0)
     (λ e. subst (λ k. FreeListHolds two s both_free k) (sym e) (record {
@@ -95,7 +100,8 @@ linked n ws is_n e =
       laid_out = laid;
       free_lists = record {
         laid_out = laid;
-        lists = two_lists s (get_set_other t 2 1 2 (λ k. absurd (omega (arith, k))) ∙ get_set_same ws 1 1 (omega (arith, long, is_n))) (get_set_same t 2 2 (omega (arith, long_t, long, is_n))) rest;
+        lists = two_lists s (get_set_other t 2 1 2 (λ k. absurd (omega (arith, k)))
+            ∙ get_set_same ws 1 1 (omega (arith, long, is_n))) (get_set_same t 2 2 (omega (arith, long_t, long, is_n))) rest;
       };
       zeros = rest;
     }

@@ -26,8 +26,10 @@ given_in : (arena : Arena) (b a : ℕ) → IsHeadOrFirst arena b a → IsAnyHead
 given_in arena b a (inl e) = inl (head_is arena b a e)
 given_in arena b a (inr e) = inr (record { low = omega (arith, e); high = omega (arith, e) })
 
-pub take_keeps : (arena : Arena) (o : Option ℕ) (n : ℕ) (G : List ℕ → Type 0) (t u : Trace) → Leads n G t u (KeepsOthers (IsWrittenByTake arena o)) → Leads n G t u (KeepsOthers (IsHead arena))
+pub take_keeps : (arena : Arena) (o : Option ℕ) (n : ℕ) (G : List ℕ → Type 0) (t u : Trace)
+    → Leads n G t u (KeepsOthers (IsWrittenByTake arena o)) → Leads n G t u (KeepsOthers (IsHead arena))
 take_keeps arena o n G t u k = record { at = λ s fit. keeps_more (IsWrittenByTake arena o) (IsHead arena) _ _ (written_head arena o) (k.at s fit) }
 
-pub give_keeps : (arena : Arena) (b n : ℕ) (G : List ℕ → Type 0) (t u : Trace) → Leads n G t u (KeepsOthers (IsHeadOrFirst arena b)) → Leads n G t u (KeepsOthers (IsAnyHeadOrIn arena b))
+pub give_keeps : (arena : Arena) (b n : ℕ) (G : List ℕ → Type 0) (t u : Trace)
+    → Leads n G t u (KeepsOthers (IsHeadOrFirst arena b)) → Leads n G t u (KeepsOthers (IsAnyHeadOrIn arena b))
 give_keeps arena b n G t u k = record { at = λ s fit. keeps_more (IsHeadOrFirst arena b) (IsAnyHeadOrIn arena b) _ _ (given_in arena b) (k.at s fit) }

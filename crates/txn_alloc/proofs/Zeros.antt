@@ -8,4 +8,5 @@ pub zero_there : (n i : ℕ) (ws : List ℕ) → ws ≡ replicate n 0 → i < n 
 zero_there n i ws e lt =
     let nil : ℕ = 0 in
     let zeros : List ℕ = replicate n nil in
-    ap (λ xs. slice_get xs i) e ∙ slice_get-get_or zeros i 0 (let long : length zeros ≡ n = length-replicate n nil in omega (arith, long, lt)) ∙ ap (λ k. Some k) (get_or-replicate n i nil nil lt)
+    ap (λ xs. slice_get xs i) e ∙ slice_get-get_or zeros i 0 (let long : length zeros ≡ n = length-replicate n nil in
+    omega (arith, long, lt)) ∙ ap (λ k. Some k) (get_or-replicate n i nil nil lt)

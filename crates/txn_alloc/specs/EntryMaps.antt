@@ -146,7 +146,8 @@ module _ (part : Part) where
   -- from state to state: the key has the value, or there was no room for it, and then nothing changes
   abbrev pub Inserts : ℕ → ℕ → Put → List ℕ → List ℕ → Type 0
   Inserts key value New old new = (entries : Entries) (used free : Blocks) → HoldsApart old entries used free → InsertsNew key value new entries used free
-  Inserts key value (Old was) old new = (entries : Entries) (used free : Blocks) → HoldsApart old entries used free → InsertsOld key value was new entries used free
+  Inserts key value (Old was) old new = (entries : Entries) (used free : Blocks) → HoldsApart old entries used free
+      → InsertsOld key value was new entries used free
   Inserts key value Full old new = new ≡ old
 
   -- the key is absent, and no block is free

@@ -67,8 +67,10 @@ adds_cells (c ∷ cs) f g once new is = (
       (λ ne. insert_other f c.key c.value key (λ e. ne (sym e)) ∙ new key (λ none. some (sym (value_later key c cs ne) ∙ none))))
       (λ key. dite (ℕ_discrete c.key key)
       (λ e. is key ∙ ap (λ p. or_else p (entry_map.get f key)) (value_first key c cs e)
-      ∙ sym (ap (λ p. or_else p (entry_map.get (entry_map.insert f c.key c.value) key)) (ap (λ k. value_of k cs) (sym e) ∙ once.0) ∙ ap (λ k. entry_map.get (entry_map.insert f c.key c.value) k) (sym e) ∙ insert_same f c.key c.value))
-      (λ ne. is key ∙ ap (λ p. or_else p (entry_map.get f key)) (value_later key c cs ne) ∙ ap (λ p. or_else (value_of key cs) p) (sym (insert_other f c.key c.value key (λ e. ne (sym e)))))),
+      ∙ sym (ap (λ p. or_else p (entry_map.get (entry_map.insert f c.key c.value) key)) (ap (λ k. value_of k cs) (sym e)
+      ∙ once.0) ∙ ap (λ k. entry_map.get (entry_map.insert f c.key c.value) k) (sym e) ∙ insert_same f c.key c.value))
+      (λ ne. is key ∙ ap (λ p. or_else p (entry_map.get f key)) (value_later key c cs ne)
+      ∙ ap (λ p. or_else (value_of key cs) p) (sym (insert_other f c.key c.value key (λ e. ne (sym e)))))),
 )
 
 -- a map with the cells put in
@@ -79,5 +81,7 @@ put_all (c ∷ cs) f = entry_map.insert (put_all cs f) c.key c.value
 pub get_all : (key : ℕ) (cs : List Cell) (f : Entries) → entry_map.get (put_all cs f) key ≡ or_else (value_of key cs) (entry_map.get f key)
 get_all key [] f = refl
 get_all key (c ∷ cs) f = dite (ℕ_discrete c.key key)
-    (λ e. ap (λ k. entry_map.get (put_all (c ∷ cs) f) k) (sym e) ∙ insert_same (put_all cs f) c.key c.value ∙ sym (ap (λ p. or_else p (entry_map.get f key)) (value_first key c cs e)))
-    (λ ne. insert_other (put_all cs f) c.key c.value key (λ e. ne (sym e)) ∙ get_all key cs f ∙ ap (λ p. or_else p (entry_map.get f key)) (sym (value_later key c cs ne)))
+    (λ e. ap (λ k. entry_map.get (put_all (c ∷ cs) f) k) (sym e) ∙ insert_same (put_all cs f) c.key c.value
+    ∙ sym (ap (λ p. or_else p (entry_map.get f key)) (value_first key c cs e)))
+    (λ ne. insert_other (put_all cs f) c.key c.value key (λ e. ne (sym e)) ∙ get_all key cs f
+    ∙ ap (λ p. or_else p (entry_map.get f key)) (sym (value_later key c cs ne)))

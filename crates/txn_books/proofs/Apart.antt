@@ -34,7 +34,8 @@ module _ (shape : BooksShape) where
   bucket_apart a k = (λ e. omega (arith, k.low, e), λ head. omega (arith, k.low, head.high), λ d mine. omega (arith, k.high, mine.low))
 
   -- and so with a word of the ring, which is no bucket either
-  pub ring_apart : (a : ℕ) → ring.IsOwn (queue_of shape) a → (a ≢ ROOT) × (¬ IsHead (arena_of shape) a) × (¬ IsBucket (chains_of shape) a) × ((d : ℕ) → ¬ IsInBlock (arena_of shape) d a)
+  pub ring_apart : (a : ℕ) → ring.IsOwn (queue_of shape) a → (a ≢ ROOT) × (¬ IsHead (arena_of shape) a)
+      × (¬ IsBucket (chains_of shape) a) × ((d : ℕ) → ¬ IsInBlock (arena_of shape) d a)
   ring_apart a k = (
     λ e. omega (arith, k.low, e),
     λ head. omega (arith, k.low, head.high),
@@ -43,7 +44,8 @@ module _ (shape : BooksShape) where
   )
 
   -- a block's word is not the root, no head, no bucket and none of the ring's
-  pub block_apart : (d a : ℕ) → IsInBlock (arena_of shape) d a → (a ≢ ROOT) × (¬ IsHead (arena_of shape) a) × (¬ IsBucket (chains_of shape) a) × (¬ ring.IsOwn (queue_of shape) a)
+  pub block_apart : (d a : ℕ) → IsInBlock (arena_of shape) d a → (a ≢ ROOT) × (¬ IsHead (arena_of shape) a)
+      × (¬ IsBucket (chains_of shape) a) × (¬ ring.IsOwn (queue_of shape) a)
   block_apart d a mine = (
     λ e. omega (arith, mine.low, e),
     λ head. omega (arith, mine.low, head.high),
@@ -55,20 +57,24 @@ module _ (shape : BooksShape) where
   pub head_apart : (a : ℕ) → IsHead (arena_of shape) a → ¬ ring.IsOwn (queue_of shape) a
   head_apart a head own = omega (arith, head.high, own.low)
 
-  pub root_apart : (¬ IsHead (arena_of shape) ROOT) × (¬ IsBucket (chains_of shape) ROOT) × (¬ ring.IsOwn (queue_of shape) ROOT) × ((d : ℕ) → ¬ IsInBlock (arena_of shape) d ROOT)
+  pub root_apart : (¬ IsHead (arena_of shape) ROOT) × (¬ IsBucket (chains_of shape) ROOT)
+      × (¬ ring.IsOwn (queue_of shape) ROOT) × ((d : ℕ) → ¬ IsInBlock (arena_of shape) d ROOT)
   root_apart = (λ head. omega (arith, head.low), λ bucket. omega (arith, bucket.low), λ own. omega (arith, own.low), λ d mine. omega (arith, mine.low))
 
 -- a word that a map's call may not write: it is no root of the map, no head, and in no block that the map uses before or after
 pub not_own : (part : Part) → IsOne part → (key : ℕ) (old new : List ℕ) (f g : Entries) (u v : Blocks) → part.Holds old f u → part.Holds new g v → (a : ℕ)
-    → ¬ part.IsRoot key a → ¬ IsHead part.arena a → ((d : ℕ) → (set.contains u d ≡ true) ⊎ (set.contains v d ≡ true) → ¬ IsInBlock part.arena d a) → ¬ IsOwn part key old new a
+    → ¬ part.IsRoot key a → ¬ IsHead part.arena a → ((d : ℕ) → (set.contains u d ≡ true) ⊎ (set.contains v d ≡ true)
+    → ¬ IsInBlock part.arena d a) → ¬ IsOwn part key old new a
 not_own part one key old new f g u v before after a root head out (inl k) = root k
 not_own part one key old new f g u v before after a root head out (inr (inl k)) =
     out k.0 (elim (k.1) [ inl w ↦ inl (used_of part one old f u k.0 before w) | inr w ↦ inr (used_of part one new g v k.0 after w) ]) k.2
 not_own part one key old new f g u v before after a root head out (inr (inr k)) = head (head_is part.arena k.0 a k.2)
 
 -- a block of one set is in no block that another part used before, or uses after a change in which its blocks and the free ones stayed as many
-pub other_out : (arena : Arena) (theirs before free after now : Blocks) (d a e : ℕ) → set.contains theirs d ≡ true → times_of theirs d + times_of before d + times_of free d ≤ 1
-    → times_of after d + times_of now d ≡ times_of before d + times_of free d → IsInBlock arena d a → (set.contains before e ≡ true) ⊎ (set.contains after e ≡ true) → ¬ IsInBlock arena e a
+pub other_out : (arena : Arena) (theirs before free after now : Blocks) (d a e : ℕ) → set.contains theirs d ≡ true
+    → times_of theirs d + times_of before d + times_of free d ≤ 1
+    → times_of after d + times_of now d ≡ times_of before d + times_of free d → IsInBlock arena d a
+    → (set.contains before e ≡ true) ⊎ (set.contains after e ≡ true) → ¬ IsInBlock arena e a
 other_out arena theirs before free after now d a e k once many mine uses other =
     let same : e ≡ d = same_block arena e d a other mine in
     let one : times_of theirs d ≡ 1 = member_one theirs d k in

@@ -1,5 +1,6 @@
 -- What one call on words in a plain list leaves of books that the words stood for.
-use Rattle.std.proofs.Common.{◌≡◌, ℕ, ◌<◌, ◌≤◌, Bool, true, false, not, ◌&&◌, ◌==◌, if◌then◌else◌, List, [], length, Some, None, refl, sym, ap, ◌∙◌, subst, arith}
+use Rattle.std.proofs.Common.{◌≡◌, ℕ, ◌<◌, ◌≤◌, Bool, true, false, not, ◌&&◌, ◌==◌, if◌then◌else◌, List, [], length, Some, None, refl, sym, ap, ◌∙◌, subst}
+use Rattle.std.proofs.Common.{arith}
 use Rattle.std.specs.FinMap as entry_map
 use Rattle.std.proofs.lemmas.Bool.Decides.{nat_tests}
 use Rattle.history_model.specs.Traces.{after}
@@ -29,18 +30,21 @@ pub built_good : (shape : BooksShape) (words : List ℕ) (books : ClearingBooks)
 built_good shape words books built = record { count = built.count; good = (books, built.stands) }
 
 -- a call on a list that nothing was done to yet leads from the list to what is left of it
-pub led : (R : List ℕ → List ℕ → Type 0) (shape : BooksShape) (words : List ℕ) (v w : PlainView BooksShape) → v ≡ record { shape = shape; origin = words; trace = []; stop = None }
+pub led : (R : List ℕ → List ℕ → Type 0) (shape : BooksShape) (words : List ℕ) (v w : PlainView BooksShape)
+    → v ≡ record { shape = shape; origin = words; trace = []; stop = None }
     → w.shape ≡ v.shape → w.origin ≡ v.origin → IsSoundPlain (words_of w.shape) (IsGoodFor w.shape) w
     → ((s : List ℕ) → Fits (words_of v.shape) (IsGoodFor v.shape) w.trace s → R (after v.trace s) (after w.trace s))
     → R words (after w.trace w.origin)
 unfolding after
 led R shape words v w view shapes origins sound leads =
     let fits : Fits (words_of v.shape) (IsGoodFor v.shape) w.trace w.origin = subst (λ z. Fits (words_of z) (IsGoodFor z) w.trace w.origin) shapes sound.fits in
-    let first : after v.trace w.origin ≡ words = ap (λ (z : PlainView BooksShape). after z.trace w.origin) view ∙ origins ∙ ap (λ (z : PlainView BooksShape). z.origin) view in
+    let first : after v.trace w.origin ≡ words = ap (λ (z : PlainView BooksShape). after z.trace w.origin) view
+    ∙ origins ∙ ap (λ (z : PlainView BooksShape). z.origin) view in
     subst (λ z. R z (after w.trace w.origin)) first (leads w.origin fits)
 
 -- before it what holds of all good words holds in each state
-pub fresh : (P : List ℕ → Type 0) (shape : BooksShape) (words : List ℕ) (v : PlainView BooksShape) → v ≡ record { shape = shape; origin = words; trace = []; stop = None } → ((x : List ℕ) → IsGoodFor shape x → P x)
+pub fresh : (P : List ℕ → Type 0) (shape : BooksShape) (words : List ℕ) (v : PlainView BooksShape)
+    → v ≡ record { shape = shape; origin = words; trace = []; stop = None } → ((x : List ℕ) → IsGoodFor shape x → P x)
     → (s : List ℕ) → Fits (words_of v.shape) (IsGoodFor v.shape) v.trace s → P (after v.trace s)
 unfolding after
 fresh P shape words v view step s fit =
@@ -48,7 +52,8 @@ fresh P shape words v view step s fit =
     subst P (sym first) (step s (subst (λ z. IsGoodFor z s) (ap (λ (z : PlainView BooksShape). z.shape) view) fit.good))
 
 -- as many words are left
-pub as_many : (shape : BooksShape) (words : List ℕ) (v w : PlainView BooksShape) → v ≡ record { shape = shape; origin = words; trace = []; stop = None } → w.origin ≡ v.origin
+pub as_many : (shape : BooksShape) (words : List ℕ) (v w : PlainView BooksShape)
+    → v ≡ record { shape = shape; origin = words; trace = []; stop = None } → w.origin ≡ v.origin
     → length (after w.trace w.origin) ≡ length words
 as_many shape words v w view origins = length-after w.trace w.origin ∙ ap length origins ∙ ap (λ (z : PlainView BooksShape). length z.origin) view
 
@@ -67,7 +72,8 @@ module _ (shape : BooksShape) (x y : List ℕ) (books : ClearingBooks) (stand : 
       absurd (omega (arith, all, room))
 
 -- what is built of the one books that the words stand for is built of any
-pub built_of : (shape : BooksShape) (words left : List ℕ) (change : ClearingBooks → ClearingBooks) (books : ClearingBooks) → IsBuilt shape words books → length left ≡ length words → Stands shape left (change books)
+pub built_of : (shape : BooksShape) (words left : List ℕ) (change : ClearingBooks
+    → ClearingBooks) (books : ClearingBooks) → IsBuilt shape words books → length left ≡ length words → Stands shape left (change books)
     → (others : ClearingBooks) → IsBuilt shape words others → IsBuilt shape left (change others)
 built_of shape words left change books built long stands others theirs = record {
   count = long ∙ built.count;
@@ -75,7 +81,8 @@ built_of shape words left change books built long stands others theirs = record 
 }
 
 -- a change that finds room
-pub roomy : (shape : BooksShape) (lacks : ClearingBooks → Bool) (change : ClearingBooks → ClearingBooks) (had : Bool) (x y : List ℕ) → ChangesWithRoom (Stands shape) lacks change had x y
+pub roomy : (shape : BooksShape) (lacks : ClearingBooks → Bool) (change : ClearingBooks → ClearingBooks) (had : Bool)
+    (x y : List ℕ) → ChangesWithRoom (Stands shape) lacks change had x y
     → (books : ClearingBooks) → Stands shape x books → lacks books ≡ false → Stands shape y (change books)
 roomy shape lacks change had x y changes books stand room =
     let is : had ≡ true = changes.answer books stand ∙ ap not room in
@@ -93,7 +100,8 @@ price_room books i lt = and_false (not (entry_map.contains_key books.prices i)) 
 
 pub position_room : (books : ClearingBooks) (a i quantity : ℕ) → used books < books.blocks → lacks_position_room a i quantity books ≡ false
 position_room books a i quantity lt =
-    and_false (not (quantity == 0)) (not (entry_map.contains_key books.positions (a, i)) && is_full books) (and_false (not (entry_map.contains_key books.positions (a, i))) (is_full books) (not_full (used books) books.blocks lt))
+    and_false (not (quantity == 0)) (not (entry_map.contains_key books.positions (a, i)) && is_full books)
+    (and_false (not (entry_map.contains_key books.positions (a, i))) (is_full books) (not_full (used books) books.blocks lt))
 
 pub call_room : (books : ClearingBooks) → length books.calls < books.ring → (length books.calls == books.ring) ≡ false
 call_room books lt = not_full (length books.calls) books.ring lt

@@ -1,5 +1,6 @@
 -- Words that a test lays by hand: an account, a price, a position, and a queue that goes round its ring.
-use Rattle.std.proofs.Common.{◌≡◌, ◌≢◌, ℕ, zero, suc, ◌+◌, ◌%◌, ◌<◌, true, List, [], ◌∷◌, ◌++◌, map, length, slice_get, slice_set, Some, None, IsSome, replicate, refl, sym, ap, ◌∙◌, subst, arith, rules, ◌==◌, if◌then◌else◌}
+use Rattle.std.proofs.Common.{◌≡◌, ◌≢◌, ℕ, zero, suc, ◌+◌, ◌%◌, ◌<◌, true, List, [], ◌∷◌, ◌++◌, map, length, slice_get, slice_set, Some, None, IsSome}
+use Rattle.std.proofs.Common.{replicate, refl, sym, ap, ◌∙◌, subst, arith, rules, ◌==◌, if◌then◌else◌}
 use mathlib.Core.Bool.{true≢false}
 use mathlib.Core.Logic.{dite}
 use native.Mathlib.Decide.{ℕ_discrete}
@@ -16,7 +17,8 @@ use Rattle.history_model.proofs.TraceLaws.{get_set_other}
 use Rattle.books_model.specs.Books.{ClearingBooks, position_cmp, empty_books, put_cash, put_price, put_quantity, put_call, used}
 use Rattle.books_model.specs.Ranges.{AreInRange}
 use Rattle.books_model.specs.Inner.Keys.{positions_total}
-use Rattle.books_model.proofs.InRange.{empty_books-in_range, put_cash-in_range, put_price-in_range, put_quantity-in_range, put_call-in_range, used_after_insert, used_after_price, used_after_position}
+use Rattle.books_model.proofs.InRange.{empty_books-in_range, put_cash-in_range, put_price-in_range, put_quantity-in_range, put_call-in_range, used_after_insert}
+use Rattle.books_model.proofs.InRange.{used_after_price, used_after_position}
 use Rattle.txn_alloc.specs.EntryMaps.{Cell, value_of, has_block, HasKeysOnce}
 use Rattle.txn_alloc.specs.declared.arena.TheConstants.{HEADS}
 use Rattle.txn_alloc.specs.FreeLists.{FreeListHolds, FreeListsHold, IsLaidOut}
@@ -79,7 +81,8 @@ set_elsewhere a (e ∷ es) ws h = set_elsewhere a es (slice_set ws e.0 e.1) h.1 
 bucket_none : (ws : List ℕ) → ws ≡ replicate 295 0 → (a : ℕ) → 17 < a → a < 273 → a ≢ 242 → slice_get (laid_by_hand ws) a ≡ Some 0
 bucket_none ws e a low high ne =
     set_elsewhere a
-    ((0, 2) ∷ (1, 1) ∷ (17, 3) ∷ (242, 4) ∷ (273, 1) ∷ (274, 2) ∷ (275, 8) ∷ (276, 4) ∷ (277, 7) ∷ (278, 9) ∷ (283, 7) ∷ (284, 70) ∷ (288, 5) ∷ (291, 448) ∷ (292, 3) ∷ [])
+    ((0, 2) ∷ (1, 1) ∷ (17, 3) ∷ (242, 4) ∷ (273, 1) ∷ (274, 2) ∷ (275, 8) ∷ (276, 4) ∷ (277, 7) ∷ (278, 9) ∷ (283, 7)
+    ∷ (284, 70) ∷ (288, 5) ∷ (291, 448) ∷ (292, 3) ∷ [])
     ws (
       λ k. omega (arith, k, low),
       (
@@ -128,7 +131,8 @@ bucket_none ws e a low high ne =
 head_none : (ws : List ℕ) → ws ≡ replicate 295 0 → (a : ℕ) → 1 < a → a < 17 → slice_get (laid_by_hand ws) a ≡ Some 0
 head_none ws e a low high =
     set_elsewhere a
-    ((0, 2) ∷ (1, 1) ∷ (17, 3) ∷ (242, 4) ∷ (273, 1) ∷ (274, 2) ∷ (275, 8) ∷ (276, 4) ∷ (277, 7) ∷ (278, 9) ∷ (283, 7) ∷ (284, 70) ∷ (288, 5) ∷ (291, 448) ∷ (292, 3) ∷ [])
+    ((0, 2) ∷ (1, 1) ∷ (17, 3) ∷ (242, 4) ∷ (273, 1) ∷ (274, 2) ∷ (275, 8) ∷ (276, 4) ∷ (277, 7) ∷ (278, 9) ∷ (283, 7)
+    ∷ (284, 70) ∷ (288, 5) ∷ (291, 448) ∷ (292, 3) ∷ [])
     ws (
       λ k. omega (arith, k, low),
       (
@@ -188,7 +192,12 @@ hand_laid = record {
 
 hand_tree : TreeHolds (tree_of hand_shape) hand_words hand_books.accounts (set.from_list (1 ∷ []))
 hand_tree = record {
-  laid = record { arena = hand_laid; root = omega (arith, hand_long); no_head = λ head. omega (arith, head.low); outside = λ b lt mine. omega (arith, mine.low) };
+  laid = record {
+    arena = hand_laid;
+    root = omega (arith, hand_long);
+    no_head = λ head. omega (arith, head.low);
+    outside = λ b lt mine. omega (arith, mine.low);
+  };
   tree = Node Leaf account_cell Leaf;
   spelled = (refl, (record { below = omega arith; key = refl; value = refl; left_there = refl; right_there = refl }, tt, tt));
   search = (tt, tt);
@@ -210,7 +219,8 @@ unfolding bucket_of
 bucket_of_position = refl
 
 -- what holds of the two buckets that have a cell, and of those that have none, holds of all
-each_bucket : (P : ℕ → List Cell → Type 0) → P 0 (price_cell ∷ []) → P 225 (position_cell ∷ []) → ((i : ℕ) → i < 256 → i ≢ 0 → i ≢ 225 → P i []) → (i : ℕ) → i < 256 → P i (hand_cells i)
+each_bucket : (P : ℕ → List Cell → Type 0) → P 0 (price_cell ∷ []) → P 225 (position_cell ∷ [])
+    → ((i : ℕ) → i < 256 → i ≢ 0 → i ≢ 225 → P i []) → (i : ℕ) → i < 256 → P i (hand_cells i)
 each_bucket P price position other i lt = dite (ℕ_discrete i 0)
     (λ e. subst (λ j. P j (hand_cells j)) (sym e) price)
     (λ not_first. dite (ℕ_discrete i 225)
@@ -225,17 +235,21 @@ position_entries = entry_map.entries-insert positions_total entry_map.empty (7, 
 
 hand_chained : (key : ℕ) → entry_map.get (chained hand_books) key ≡ find nat_cmp key ((0, 5) ∷ (448, 3) ∷ [])
 hand_chained key =
-    (λ i. entry_map.get (entry_map.from_sorted {R = nat_cmp} (map (λ e. (price_key_of e.0, e.1)) (price_entries i) ++ map (λ e. (position_key_of e.0.0 e.0.1, e.1)) (position_entries i))) key)
+    (λ i. entry_map.get (entry_map.from_sorted {R = nat_cmp} (map (λ e. (price_key_of e.0, e.1)) (price_entries i)
+    ++ map (λ e. (position_key_of e.0.0 e.0.1, e.1)) (position_entries i))) key)
     ∙ entry_map.get-from_sorted nat_cmp ((0, 5) ∷ (448, 3) ∷ []) key tt
 
 hand_values : (key : ℕ) → find nat_cmp key ((0, 5) ∷ (448, 3) ∷ []) ≡ value_of key (hand_cells (bucket_of key))
 hand_values key = dite (ℕ_discrete key 0)
-    (λ e. subst (λ k. find nat_cmp k ((0, 5) ∷ (448, 3) ∷ []) ≡ value_of k (hand_cells (bucket_of k))) (sym e) (ap (λ i. value_of 0 (hand_cells i)) (sym bucket_of_price)))
+    (λ e. subst (λ k. find nat_cmp k ((0, 5) ∷ (448, 3) ∷ []) ≡ value_of k (hand_cells (bucket_of k))) (sym e)
+    (ap (λ i. value_of 0 (hand_cells i)) (sym bucket_of_price)))
     (λ no_price. dite (ℕ_discrete key 448)
-    (λ e. subst (λ k. find nat_cmp k ((0, 5) ∷ (448, 3) ∷ []) ≡ value_of k (hand_cells (bucket_of k))) (sym e) (ap (λ i. value_of 448 (hand_cells i)) (sym bucket_of_position)))
+    (λ e. subst (λ k. find nat_cmp k ((0, 5) ∷ (448, 3) ∷ []) ≡ value_of k (hand_cells (bucket_of k))) (sym e)
+    (ap (λ i. value_of 448 (hand_cells i)) (sym bucket_of_position)))
     (λ no_position.
     find_none key ((0, 5) ∷ (448, 3) ∷ []) (no_price, (no_position, tt))
-    ∙ sym (each_bucket (λ i cs. value_of key cs ≡ None) (value_none key (price_cell ∷ []) (λ e. no_price (sym e), tt)) (value_none key (position_cell ∷ []) (λ e. no_position (sym e), tt)) (λ i lt a b. refl) (bucket_of key) (bucket_below key))))
+    ∙ sym (each_bucket (λ i cs. value_of key cs ≡ None) (value_none key (price_cell ∷ []) (λ e. no_price (sym e), tt))
+    (value_none key (position_cell ∷ []) (λ e. no_position (sym e), tt)) (λ i lt a b. refl) (bucket_of key) (bucket_below key))))
 
 hand_chains : ChainsHold (chains_of hand_shape) hand_words (chained hand_books) (set.from_list (2 ∷ 3 ∷ []))
 hand_chains = record {
@@ -246,13 +260,21 @@ hand_chains = record {
     outside = λ b a lt mine is. omega (arith, mine.low, is.high);
   };
   cells = hand_cells;
-  chain = each_bucket (λ i cs. HasChain (arena_of hand_shape) hand_words (17 + i) cs) (refl, omega arith, refl, refl, refl) (refl, omega arith, refl, refl, refl)
+  chain = each_bucket (λ i cs. HasChain (arena_of hand_shape) hand_words (17 + i) cs) (
+    refl,
+    omega arith,
+    refl,
+    refl,
+    refl,
+  ) (refl, omega arith, refl, refl, refl)
       (λ i lt a b. bucket_none hand_zeros refl (17 + i) (omega (arith, a)) (omega (arith, lt)) (λ e. b (omega (arith, e))));
   own = each_bucket (λ i cs. HasKeysIn i cs) (bucket_of_price, tt) (bucket_of_position, tt) (λ i lt a b. tt);
   once = each_bucket (λ i cs. HasKeysOnce cs) (refl, tt) (refl, tt) (λ i lt a b. tt);
   entries_are = λ key. hand_chained key ∙ hand_values key;
   used_in = λ b m. used_bucket b m;
-  in_used = λ b i lt. each_bucket (λ j cs. has_block b cs ≡ true → set.contains (set.from_list {R = nat_cmp} (2 ∷ 3 ∷ [])) b ≡ true) (λ m. grind (members, rules, m)) (λ m. grind (members, rules, m)) (λ j lt a c m. absurd (true≢false (sym m))) i lt;
+  in_used = λ b i lt. each_bucket (λ j cs. has_block b cs ≡ true
+      → set.contains (set.from_list {R = nat_cmp} (2 ∷ 3 ∷ [])) b ≡ true) (λ m. grind (members, rules, m))
+      (λ m. grind (members, rules, m)) (λ j lt a c m. absurd (true≢false (sym m))) i lt;
 }
   where
     used_bucket : (b : ℕ) → set.contains (set.from_list {R = nat_cmp} (2 ∷ 3 ∷ [])) b ≡ true → (i : ℕ) × (i < 256) × (has_block b (hand_cells i) ≡ true)
@@ -272,8 +294,10 @@ hand_queue = record {
 }
   where
     item_stands : (i : ℕ) (item : ℕ × ℕ) → slice_get ((7, 9) ∷ (8, 4) ∷ []) i ≡ Some item → HasItem (queue_of hand_shape) hand_words ((1 + i) % 2) item
-    item_stands zero item e = let same : (7, 9) ≡ item = same_Some (7, 9) item e in subst (λ z. HasItem (queue_of hand_shape) hand_words 1 z) same (record { first = refl; second = refl })
-    item_stands (suc zero) item e = let same : (8, 4) ≡ item = same_Some (8, 4) item e in subst (λ z. HasItem (queue_of hand_shape) hand_words 0 z) same (record { first = refl; second = refl })
+    item_stands zero item e = let same : (7, 9) ≡ item = same_Some (7, 9) item e in
+        subst (λ z. HasItem (queue_of hand_shape) hand_words 1 z) same (record { first = refl; second = refl })
+    item_stands (suc zero) item e = let same : (8, 4) ≡ item = same_Some (8, 4) item e in
+        subst (λ z. HasItem (queue_of hand_shape) hand_words 0 z) same (record { first = refl; second = refl })
     item_stands (suc (suc i)) item e = absurd (cc)
 
 hand_lists : (h : ℕ) → h < HEADS → FreeListHolds (arena_of hand_shape) hand_words (set.from_list (0 ∷ [])) h
@@ -316,8 +340,12 @@ hand_range =
     let two : used with_price ≡ used with_account + 1 = used_after_price with_account 1 5 (entry_map.get-empty nat_cmp 1) in
     let three : used with_position ≡ used with_price + 1 = used_after_position with_price 7 1 3 (entry_map.get-empty position_cmp (7, 1)) in
     let empty_range = empty_books-in_range 4 1 2 (omega arith, omega arith) (omega arith, omega arith) (omega arith, omega arith) in
-    let account_range = put_cash-in_range (empty_books 4 1 2) 7 70 empty_range (omega arith, omega arith) (omega arith) (omega (arith, one, nat_none, pair_none)) in
-    let price_range = put_price-in_range with_account 1 5 account_range (omega arith, omega arith) (omega arith, omega arith) (omega (arith, one, two, nat_none, pair_none)) in
+    let account_range = put_cash-in_range (empty_books 4 1 2) 7 70 empty_range (omega arith, omega arith) (omega arith)
+    (omega (arith, one, nat_none, pair_none)) in
+    let price_range = put_price-in_range with_account 1 5 account_range (omega arith, omega arith) (
+      omega arith,
+      omega arith,
+    ) (omega (arith, one, two, nat_none, pair_none)) in
     let position_range = put_quantity-in_range with_price 7 1 3 price_range
     (subst IsSome (sym (put_here nat_cmp_total nat_cmp-IsAntisymmetric entry_map.empty 7 70)) refl)
     (subst IsSome (sym (put_here nat_cmp_total nat_cmp-IsAntisymmetric entry_map.empty 1 5)) refl)
@@ -342,7 +370,8 @@ hand_good ws e = subst (λ z. IsGoodFor hand_shape (laid_by_hand z)) (sym e) (
       queue = hand_queue;
       free_lists = hand_free;
       hand_below = λ k d lt. absurd (omega (arith, lt));
-      parted = λ b lt. let one = hand_parted b lt in omega (arith, one, three_among b (set.from_list (1 ∷ [])) (set.from_list (2 ∷ 3 ∷ [])) (set.from_list (0 ∷ [])));
+      parted = λ b lt. let one = hand_parted b lt in
+          omega (arith, one, three_among b (set.from_list (1 ∷ [])) (set.from_list (2 ∷ 3 ∷ [])) (set.from_list (0 ∷ [])));
     };
   },
 )

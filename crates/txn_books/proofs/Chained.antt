@@ -1,5 +1,6 @@
 -- What the chains hold, by keys: the price of each instrument, and each position; and how many entries that are.
-use Rattle.std.proofs.Common.{◌≡◌, ◌≢◌, ℕ, ◌+◌, ◌<◌, ◌≤◌, true, T, List, ◌++◌, map, length, Option, Some, None, IsSome, refl, sym, ap, ◌∙◌, subst, arith, length-append}
+use Rattle.std.proofs.Common.{◌≡◌, ◌≢◌, ℕ, ◌+◌, ◌<◌, ◌≤◌, true, T, List, ◌++◌, map, length, Option, Some, None, IsSome, refl, sym, ap, ◌∙◌, subst, arith}
+use Rattle.std.proofs.Common.{length-append}
 use Rattle.std.specs.declared.cmp.Ordering.{Ordering}
 use Rattle.std.specs.declared.cmp.Ordering.TheVariants.{Less, Equal, Greater}
 use Rattle.std.specs.Cmp.{nat_cmp_total}
@@ -101,7 +102,8 @@ module _ (books : ClearingBooks) (range : AreInRange books) where
       entry_map.get-from_sorted nat_cmp (by_price ++ by_position) (price_key_of i) is_list
       ∙ find_front (price_key_of i) by_price by_position (find_none (price_key_of i) by_position
       (all_keyed key_of IsPlace (λ k. price_key_of i ≢ k) (λ x q e. omega (arith, p.0, p.1, q.0, e)) (entry_map.entries books.positions) all_positions))
-      ∙ find_keyed price_key_of IsInstrument nat_cmp_total nat_cmp-IsAntisymmetric (λ x y q r e. price_differs x y q.0 r.0 e) i p (entry_map.entries books.prices) all_prices
+      ∙ find_keyed price_key_of IsInstrument nat_cmp_total nat_cmp-IsAntisymmetric (λ x y q r e.
+      price_differs x y q.0 r.0 e) i p (entry_map.entries books.prices) all_prices
       ∙ sym (entry_map.get-entries books.prices i)
 
   -- and under a position's
@@ -110,7 +112,8 @@ module _ (books : ClearingBooks) (range : AreInRange books) where
   get_position a i le p =
       entry_map.get-from_sorted nat_cmp (by_price ++ by_position) (position_key_of a i) is_list
       ∙ find_past (position_key_of a i) by_price by_position (find_none (position_key_of a i) by_price
-      (all_keyed price_key_of IsInstrument (λ k. position_key_of a i ≢ k) (λ j q e. omega (arith, q.0, q.1, le, e)) (entry_map.entries books.prices) all_prices))
+      (all_keyed price_key_of IsInstrument (λ k. position_key_of a i ≢ k) (λ j q e. omega (arith, q.0, q.1, le, e))
+      (entry_map.entries books.prices) all_prices))
       ∙ find_keyed key_of IsPlace positions_total exact_positions
       (λ x y q r e. let same = key_differs x y q.1 r.1 e in λ z. (same.0 z, same.1 z)) (a, i) (le, p) (entry_map.entries books.positions) all_positions
       ∙ sym (entry_map.get-entries books.positions (a, i))
@@ -120,7 +123,9 @@ module _ (books : ClearingBooks) (range : AreInRange books) where
   unfolding by_price by_position
   len_chained =
       let prices : length by_price ≡ length (entry_map.entries books.prices) = length-map (entry_map.entries books.prices) (λ e. (price_key_of e.0, e.1)) in
-      let positions : length by_position ≡ length (entry_map.entries books.positions) = length-map (entry_map.entries books.positions) (λ e. (position_key_of e.0.0 e.0.1, e.1)) in
+      let positions : length by_position ≡ length (entry_map.entries books.positions) =
+      length-map (entry_map.entries books.positions) (λ e. (position_key_of e.0.0 e.0.1, e.1)) in
       let whole : entry_map.len (chained books) ≡ length by_price + length by_position =
-      entry_map.len-entries (chained books) ∙ ap length (entry_map.entries-from_sorted nat_cmp (by_price ++ by_position) is_list) ∙ length-append by_price by_position in
+      entry_map.len-entries (chained books)
+      ∙ ap length (entry_map.entries-from_sorted nat_cmp (by_price ++ by_position) is_list) ∙ length-append by_price by_position in
       omega (arith, whole, prices, positions, entry_map.len-entries books.prices, entry_map.len-entries books.positions)

@@ -41,7 +41,8 @@ module _ {K : Type 0} {R : K → K → Ordering} (total : IsTotalOrder R) (exact
   out_there q ne = entry_map.get-remove total m k q ∙ ap (λ b. cond b None (entry_map.get m q)) (apart q ne)
 
 -- a map from which an absent key is taken is the same
-pub remove_absent : {K : Type 0} {R : K → K → Ordering} → IsTotalOrder R → CmpEqualImpliesEq R → (m : entry_map.FinMap R ℕ) (k : K) → entry_map.get m k ≡ None → entry_map.remove m k ≡ m
+pub remove_absent : {K : Type 0} {R : K → K → Ordering} → IsTotalOrder R → CmpEqualImpliesEq R
+    → (m : entry_map.FinMap R ℕ) (k : K) → entry_map.get m k ≡ None → entry_map.remove m k ≡ m
 remove_absent {K} {R} total exact m k none = entry_map.same_map total exact (entry_map.remove m k) m (λ q. at q (eq_by_cmp R q k) refl)
   where
     at : (q : K) (b : Bool) → eq_by_cmp R q k ≡ b → entry_map.get (entry_map.remove m k) q ≡ entry_map.get m q
@@ -63,20 +64,25 @@ module _ (books : ClearingBooks) (range : AreInRange books) (f : Entries)
       let is : IsInstrument (k % 64 + 1) = (omega arith, omega arith) in
       let account : 1 ≤ k / 64 = omega (arith, le) in
       let key : position_key_of (k / 64) (k % 64 + 1) ≡ k = omega arith in
-      sym (ap (entry_map.get f) key) ∙ positions (k / 64) (k % 64 + 1) account is ∙ sym (get_position books range (k / 64) (k % 64 + 1) account is) ∙ ap (entry_map.get (chained books)) key
+      sym (ap (entry_map.get f) key) ∙ positions (k / 64) (k % 64 + 1) account is
+      ∙ sym (get_position books range (k / 64) (k % 64 + 1) account is) ∙ ap (entry_map.get (chained books)) key
 
   pub chained_is : f ≡ chained books
-  chained_is = entry_map.same_map nat_cmp_total nat_cmp-IsAntisymmetric f (chained books) (λ k. elim (cases_lt k MOST_INSTRUMENTS) [ inl lt ↦ at_price k lt | inr le ↦ at_position k le ])
+  chained_is = entry_map.same_map nat_cmp_total nat_cmp-IsAntisymmetric f (chained books)
+      (λ k. elim (cases_lt k MOST_INSTRUMENTS) [ inl lt ↦ at_price k lt | inr le ↦ at_position k le ])
 
 module _ (books : ClearingBooks) (range : AreInRange books) where
-  pub price_chained : (i v : ℕ) → IsInstrument i → AreInRange (put_price books i v) → entry_map.insert (chained books) (price_key_of i) v ≡ chained (put_price books i v)
+  pub price_chained : (i v : ℕ) → IsInstrument i → AreInRange (put_price books i v)
+      → entry_map.insert (chained books) (price_key_of i) v ≡ chained (put_price books i v)
   price_chained i v is later = chained_is (put_price books i v) later (entry_map.insert (chained books) (price_key_of i) v)
       (λ j p. dite (ℕ_discrete j i)
-      (λ e. ap (λ z. entry_map.get (entry_map.insert (chained books) (price_key_of i) v) (price_key_of z)) e ∙ put_here nat_cmp_total nat_cmp-IsAntisymmetric (chained books) (price_key_of i) v
+      (λ e. ap (λ z. entry_map.get (entry_map.insert (chained books) (price_key_of i) v) (price_key_of z)) e
+      ∙ put_here nat_cmp_total nat_cmp-IsAntisymmetric (chained books) (price_key_of i) v
       ∙ sym (ap (λ z. entry_map.get (entry_map.insert books.prices i v) z) e ∙ put_here nat_cmp_total nat_cmp-IsAntisymmetric books.prices i v))
       (λ ne. put_there nat_cmp_total nat_cmp-IsAntisymmetric (chained books) (price_key_of i) v (price_key_of j) (λ e. ne (price_differs j i p.0 is.0 e))
       ∙ get_price books range j p ∙ sym (put_there nat_cmp_total nat_cmp-IsAntisymmetric books.prices i v j ne)))
-      (λ a j le p. put_there nat_cmp_total nat_cmp-IsAntisymmetric (chained books) (price_key_of i) v (position_key_of a j) (λ e. omega (arith, is.0, is.1, le, p.0, e)) ∙ get_position books range a j le p)
+      (λ a j le p. put_there nat_cmp_total nat_cmp-IsAntisymmetric (chained books) (price_key_of i) v
+      (position_key_of a j) (λ e. omega (arith, is.0, is.1, le, p.0, e)) ∙ get_position books range a j le p)
 
   -- a change at a position's key leaves what stands at other keys
   module _ (a i : ℕ) (account : 1 ≤ a) (is : IsInstrument i) where
@@ -86,21 +92,31 @@ module _ (books : ClearingBooks) (range : AreInRange books) where
     no_price : (j : ℕ) → IsInstrument j → price_key_of j ≢ position_key_of a i
     no_price j p e = omega (arith, p.0, p.1, account, is.0, e)
 
-    pub position_chained : (v : ℕ) → AreInRange (put_quantity books a i v) → entry_map.insert (chained books) (position_key_of a i) v ≡ chained (put_quantity books a i v)
+    pub position_chained : (v : ℕ) → AreInRange (put_quantity books a i v)
+        → entry_map.insert (chained books) (position_key_of a i) v ≡ chained (put_quantity books a i v)
     position_chained v later = chained_is (put_quantity books a i v) later (entry_map.insert (chained books) (position_key_of a i) v)
-        (λ j p. put_there nat_cmp_total nat_cmp-IsAntisymmetric (chained books) (position_key_of a i) v (price_key_of j) (no_price j p) ∙ get_price books range j p)
+        (λ j p. put_there nat_cmp_total nat_cmp-IsAntisymmetric (chained books) (position_key_of a i) v (price_key_of j)
+        (no_price j p) ∙ get_price books range j p)
         (λ b j le p. dite (ℕ_discrete (position_key_of b j) (position_key_of a i))
-        (λ e. ap (entry_map.get (entry_map.insert (chained books) (position_key_of a i) v)) e ∙ put_here nat_cmp_total nat_cmp-IsAntisymmetric (chained books) (position_key_of a i) v
-        ∙ sym (ap (λ z. entry_map.get (entry_map.insert books.positions (a, i) v) z) (pair_is b j p e) ∙ put_here positions_total exact_positions books.positions (a, i) v))
-        (λ ne. put_there nat_cmp_total nat_cmp-IsAntisymmetric (chained books) (position_key_of a i) v (position_key_of b j) ne ∙ get_position books range b j le p
+        (λ e. ap (entry_map.get (entry_map.insert (chained books) (position_key_of a i) v)) e
+        ∙ put_here nat_cmp_total nat_cmp-IsAntisymmetric (chained books) (position_key_of a i) v
+        ∙ sym (ap (λ z. entry_map.get (entry_map.insert books.positions (a, i) v) z) (pair_is b j p e)
+        ∙ put_here positions_total exact_positions books.positions (a, i) v))
+        (λ ne. put_there nat_cmp_total nat_cmp-IsAntisymmetric (chained books) (position_key_of a i) v
+        (position_key_of b j) ne ∙ get_position books range b j le p
         ∙ sym (put_there positions_total exact_positions books.positions (a, i) v (b, j) (λ e. ne (ap (λ (z : ℕ × ℕ). position_key_of z.0 z.1) e)))))
 
     pub position_unchained : AreInRange (record books { positions = entry_map.remove books.positions (a, i) })
         → entry_map.remove (chained books) (position_key_of a i) ≡ chained (record books { positions = entry_map.remove books.positions (a, i) })
-    position_unchained later = chained_is (record books { positions = entry_map.remove books.positions (a, i) }) later (entry_map.remove (chained books) (position_key_of a i))
-        (λ j p. out_there nat_cmp_total nat_cmp-IsAntisymmetric (chained books) (position_key_of a i) (price_key_of j) (no_price j p) ∙ get_price books range j p)
+    position_unchained later = chained_is (record books { positions = entry_map.remove books.positions (a, i) }) later
+        (entry_map.remove (chained books) (position_key_of a i))
+        (λ j p. out_there nat_cmp_total nat_cmp-IsAntisymmetric (chained books) (position_key_of a i) (price_key_of j)
+        (no_price j p) ∙ get_price books range j p)
         (λ b j le p. dite (ℕ_discrete (position_key_of b j) (position_key_of a i))
-        (λ e. ap (entry_map.get (entry_map.remove (chained books) (position_key_of a i))) e ∙ out_here nat_cmp_total nat_cmp-IsAntisymmetric (chained books) (position_key_of a i)
-        ∙ sym (ap (λ z. entry_map.get (entry_map.remove books.positions (a, i)) z) (pair_is b j p e) ∙ out_here positions_total exact_positions books.positions (a, i)))
-        (λ ne. out_there nat_cmp_total nat_cmp-IsAntisymmetric (chained books) (position_key_of a i) (position_key_of b j) ne ∙ get_position books range b j le p
+        (λ e. ap (entry_map.get (entry_map.remove (chained books) (position_key_of a i))) e
+        ∙ out_here nat_cmp_total nat_cmp-IsAntisymmetric (chained books) (position_key_of a i)
+        ∙ sym (ap (λ z. entry_map.get (entry_map.remove books.positions (a, i)) z) (pair_is b j p e)
+        ∙ out_here positions_total exact_positions books.positions (a, i)))
+        (λ ne. out_there nat_cmp_total nat_cmp-IsAntisymmetric (chained books) (position_key_of a i)
+        (position_key_of b j) ne ∙ get_position books range b j le p
         ∙ sym (out_there positions_total exact_positions books.positions (a, i) (b, j) (λ e. ne (ap (λ (z : ℕ × ℕ). position_key_of z.0 z.1) e)))))

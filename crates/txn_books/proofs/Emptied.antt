@@ -1,5 +1,6 @@
 -- The words of empty books: zeros, but for the list of the free blocks.
-use Rattle.std.proofs.Common.{◌≡◌, ◌≢◌, ℕ, zero, suc, ◌+◌, ◌*◌, ◌<◌, ◌≤◌, inl, inr, true, false, List, [], ◌++◌, map, length, slice_get, Some, None, nat_eq, replicate, refl, sym, ap, ◌∙◌, arith, rules}
+use Rattle.std.proofs.Common.{◌≡◌, ◌≢◌, ℕ, zero, suc, ◌+◌, ◌*◌, ◌<◌, ◌≤◌, inl, inr, true, false, List, [], ◌++◌, map, length, slice_get, Some, None, nat_eq}
+use Rattle.std.proofs.Common.{replicate, refl, sym, ap, ◌∙◌, arith, rules}
 use mathlib.Core.Bool.{true≢false}
 use mathlib.Core.Logic.{dite}
 use native.Mathlib.Decide.{ℕ_discrete}
@@ -54,13 +55,15 @@ any_there : (b a n : ℕ) → a ≤ b → b < a + n → list_any (λ y. nat_eq y
 any_there b a zero le lt = absurd (omega (arith, le, lt))
 any_there b a (suc n) le lt = dite (ℕ_discrete a b)
     (λ e. grind (rules, e))
-    (λ ne. let rest : list_any (λ y. nat_eq y b) (range_with_len (a + 1) n) ≡ true = any_there b (a + 1) n (omega (arith, le, ne)) (omega (arith, lt)) in grind (rules, ne, rest))
+    (λ ne. let rest : list_any (λ y. nat_eq y b) (range_with_len (a + 1) n) ≡ true =
+    any_there b (a + 1) n (omega (arith, le, ne)) (omega (arith, lt)) in grind (rules, ne, rest))
 
 pub all_among : (n b : ℕ) → b < n → IsAmong (range_with_len 0 n) b
 all_among n b lt = contains-from_list_nat (range_with_len 0 n) b ∙ any_there b 0 n (omega arith) (omega (arith, lt))
 
 -- where the blocks lie
-pub blocks_lie : (shape : BooksShape) (words : List ℕ) → IsWithin 1 MOST_BLOCKS shape.blocks → IsWithin 1 MOST_RING shape.ring → length words ≡ words_of shape → IsLaidOut (arena_of shape) words
+pub blocks_lie : (shape : BooksShape) (words : List ℕ) → IsWithin 1 MOST_BLOCKS shape.blocks
+    → IsWithin 1 MOST_RING shape.ring → length words ≡ words_of shape → IsLaidOut (arena_of shape) words
 blocks_lie shape words blocks ring long = record {
   places = omega (arith, long, blocks.1, ring.1);
   blocks = λ b lt. omega (arith, long, lt);
@@ -74,12 +77,16 @@ no_entries R = nil_from_length (entry_map.entries entry_map.empty) (sym (entry_m
 -- the chains hold nothing
 pub none_chained : (b i r : ℕ) (key : ℕ) → entry_map.get (chained (empty_books b i r)) key ≡ None
 none_chained b i r key =
-    ap (λ es. entry_map.get (entry_map.from_sorted {R = nat_cmp} (map (λ e. (price_key_of e.0, e.1)) es ++ map (λ e. (position_key_of e.0.0 e.0.1, e.1)) (entry_map.entries (empty_books b i r).positions))) key) (no_entries nat_cmp)
+    ap (λ es. entry_map.get (entry_map.from_sorted {R =
+    nat_cmp} (map (λ e. (price_key_of e.0, e.1)) es ++ map (λ e. (position_key_of e.0.0 e.0.1, e.1))
+    (entry_map.entries (empty_books b i r).positions))) key) (no_entries nat_cmp)
     ∙ ap (λ es. entry_map.get (entry_map.from_sorted {R = nat_cmp} (map (λ e. (position_key_of e.0.0 e.0.1, e.1)) es)) key) (no_entries position_cmp)
     ∙ entry_map.get-from_sorted nat_cmp [] key tt
 
-module _ (shape : BooksShape) (blocks : IsWithin 1 MOST_BLOCKS shape.blocks) (instruments : IsWithin 1 MOST_INSTRUMENTS shape.instruments) (ring : IsWithin 1 MOST_RING shape.ring)
-    (first words : List ℕ) (zeros : first ≡ replicate (words_of shape) 0) (kept : KeepsOthers (IsWrittenByLaying (arena_of shape) (all_blocks shape)) first words)
+module _ (shape : BooksShape) (blocks : IsWithin 1 MOST_BLOCKS shape.blocks)
+    (instruments : IsWithin 1 MOST_INSTRUMENTS shape.instruments) (ring : IsWithin 1 MOST_RING shape.ring)
+    (first words : List ℕ) (zeros : first ≡ replicate (words_of shape) 0)
+    (kept : KeepsOthers (IsWrittenByLaying (arena_of shape) (all_blocks shape)) first words)
     (free : FreeListsHold (arena_of shape) words (set.from_list (all_blocks shape))) where
   count : length words ≡ words_of shape
   count = let nil : ℕ = 0 in kept.count ∙ ap length zeros ∙ length-replicate (words_of shape) nil
@@ -87,11 +94,17 @@ module _ (shape : BooksShape) (blocks : IsWithin 1 MOST_BLOCKS shape.blocks) (in
   -- a word that is no head and in no block is 0
   zero_at : (a : ℕ) → a < 275 + 2 * shape.ring → ¬ IsHead (arena_of shape) a → slice_get words a ≡ Some 0
   zero_at a lt no_head =
-      kept.same a (λ own. elim own [ inl head ↦ no_head head | inr k ↦ let e = k.2 in omega (arith, lt, e) ]) ∙ zero_there (words_of shape) a first zeros (omega (arith, lt))
+      kept.same a (λ own. elim own [ inl head ↦ no_head head | inr k ↦ let e = k.2 in omega (arith, lt, e) ])
+      ∙ zero_there (words_of shape) a first zeros (omega (arith, lt))
 
   tree_none : TreeHolds (tree_of shape) words entry_map.empty set.empty
   tree_none = record {
-    laid = record { arena = free.laid_out; root = omega (arith, count); no_head = λ head. omega (arith, head.low); outside = λ b lt mine. omega (arith, mine.low) };
+    laid = record {
+      arena = free.laid_out;
+      root = omega (arith, count);
+      no_head = λ head. omega (arith, head.low);
+      outside = λ b lt mine. omega (arith, mine.low);
+    };
     tree = Leaf;
     spelled = (zero_at 0 (omega arith) (λ head. omega (arith, head.low)), tt);
     search = tt;

@@ -60,4 +60,15 @@ parts words are =
 pub stands : (n : ℕ) (ws : List ℕ) → n ≡ 285 → ws ≡ replicate n 0 → IsGood 285 (IsGoodFor small) (with_links ws)
 stands n ws is_n e =
     let are = linked n ws is_n e in
-    record { count = are.count; good = (nothing, record { sizes = refl; range = empty_books-in_range 2 1 1 (omega arith, omega arith) (omega arith, omega arith) (omega arith, omega arith); parts = parts (with_links ws) are }) }
+    record {
+      count = are.count;
+      good = (
+        nothing,
+        record {
+          sizes = refl;
+          range =
+              empty_books-in_range 2 1 1 (omega arith, omega arith) (omega arith, omega arith) (omega arith, omega arith);
+          parts = parts (with_links ws) are;
+        },
+      );
+    }

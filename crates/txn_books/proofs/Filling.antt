@@ -1,5 +1,6 @@
 -- Books to which one entry after another is added.
-use Rattle.std.proofs.Common.{◌≡◌, ℕ, suc, get_or, drop, ◌+◌, ◌/◌, ◌%◌, ◌<◌, ◌≤◌, true, false, cond, List, [], ◌∷◌, length, map, filter, not, Option, Some, None, IsSome, refl, sym, ap, ◌∙◌, subst, arith, rules}
+use Rattle.std.proofs.Common.{◌≡◌, ℕ, suc, get_or, drop, ◌+◌, ◌/◌, ◌%◌, ◌<◌, ◌≤◌, true, false, cond, List, [], ◌∷◌, length, map, filter, not, Option, Some}
+use Rattle.std.proofs.Common.{None, IsSome, refl, sym, ap, ◌∙◌, subst, arith, rules}
 use Rattle.std.proofs.Math.Seq.{drop-cons}
 use Rattle.std.specs.Cmp.{nat_cmp_total}
 use Rattle.std.specs.FinMap.{nat_cmp-IsAntisymmetric}
@@ -31,14 +32,22 @@ pub record NewPrice (i price : ℕ) (books : ClearingBooks) : Type 0 where
   pub absent : entry_map.get books.prices i ≡ None
   pub room : used books < books.blocks
 
-pub new_price : (i price : ℕ) (rest : List (ℕ × ℕ)) (books after : ClearingBooks) → AddsUp books.prices ((i, price) ∷ rest) after.prices → after ≡ record books { prices = after.prices } → AreInRange after → NewPrice i price books
+pub new_price : (i price : ℕ) (rest : List (ℕ × ℕ)) (books after : ClearingBooks)
+    → AddsUp books.prices ((i, price) ∷ rest) after.prices → after ≡ record books { prices = after.prices } → AreInRange after → NewPrice i price books
 new_price i price rest books after adds same range =
     let there = range.prices i price (adds_first nat_cmp_total nat_cmp-IsAntisymmetric (i, price) rest books.prices after.prices adds) in
-    let long : entry_map.len books.prices + length ((i, price) ∷ rest) ≡ entry_map.len after.prices = adds_length nat_cmp_total nat_cmp-IsAntisymmetric ((i, price) ∷ rest) books.prices after.prices adds in
+    let long : entry_map.len books.prices + length ((i, price) ∷ rest) ≡ entry_map.len after.prices =
+    adds_length nat_cmp_total nat_cmp-IsAntisymmetric ((i, price) ∷ rest) books.prices after.prices adds in
     let uses : used after ≡ used (record books { prices = after.prices }) = ap (λ b. used b) same in
     let blocks : after.blocks ≡ books.blocks = ap (λ (b : ClearingBooks). b.blocks) same in
     let instruments : after.instruments ≡ books.instruments = ap (λ (b : ClearingBooks). b.instruments) same in
-    record { number = (there.0.0, omega (arith, there.0.1, instruments)); price_range = there.1; absent = adds.0; room = omega (arith, long, uses, blocks, range.blocks_used) }
+    record {
+      number = (there.0.0, omega (arith, there.0.1, instruments));
+      price_range = there.1;
+      absent = adds.0;
+      room =
+          omega (arith, long, uses, blocks, range.blocks_used);
+    }
 
 some_in : (o : Option ℕ) → IsSome o → (x : ℕ) × (o ≡ Some x)
 some_in None h = absurd (cc)
@@ -53,11 +62,13 @@ pub record NewPosition (a i quantity : ℕ) (books : ClearingBooks) : Type 0 whe
   pub absent : entry_map.get books.positions (a, i) ≡ None
   pub room : used books < books.blocks
 
-pub new_position : (a i quantity : ℕ) (rest : List ((ℕ × ℕ) × ℕ)) (books after : ClearingBooks) → AddsUp books.positions (((a, i), quantity) ∷ rest) after.positions → after ≡ record books { positions = after.positions } → AreInRange after
+pub new_position : (a i quantity : ℕ) (rest : List ((ℕ × ℕ) × ℕ)) (books after : ClearingBooks)
+    → AddsUp books.positions (((a, i), quantity) ∷ rest) after.positions → after ≡ record books { positions = after.positions } → AreInRange after
     → NewPosition a i quantity books
 new_position a i quantity rest books after adds same range =
     let there = range.positions a i quantity (adds_first positions_total exact_positions ((a, i), quantity) rest books.positions after.positions adds) in
-    let long : entry_map.len books.positions + length (((a, i), quantity) ∷ rest) ≡ entry_map.len after.positions = adds_length positions_total exact_positions (((a, i), quantity) ∷ rest) books.positions after.positions adds in
+    let long : entry_map.len books.positions + length (((a, i), quantity) ∷ rest) ≡ entry_map.len after.positions =
+    adds_length positions_total exact_positions (((a, i), quantity) ∷ rest) books.positions after.positions adds in
     let uses : used after ≡ used (record books { positions = after.positions }) = ap (λ b. used b) same in
     let blocks : after.blocks ≡ books.blocks = ap (λ (b : ClearingBooks). b.blocks) same in
     let some = some_in (entry_map.get after.accounts a) there.0 in
@@ -82,7 +93,8 @@ module _ (e : ℕ × ℕ) (es : List (ℕ × ℕ)) (books after : ClearingBooks)
   pub account_next : AddsAccounts (e ∷ es) books after → NextAccount
   account_next h =
       let there = h.range.accounts e.0 e.1 (adds_first nat_cmp_total nat_cmp-IsAntisymmetric e es books.accounts after.accounts h.adds) in
-      let long : entry_map.len books.accounts + length (e ∷ es) ≡ entry_map.len after.accounts = adds_length nat_cmp_total nat_cmp-IsAntisymmetric (e ∷ es) books.accounts after.accounts h.adds in
+      let long : entry_map.len books.accounts + length (e ∷ es) ≡ entry_map.len after.accounts =
+      adds_length nat_cmp_total nat_cmp-IsAntisymmetric (e ∷ es) books.accounts after.accounts h.adds in
       let uses : used after ≡ used (record books { accounts = after.accounts }) = ap (λ b. used b) h.same in
       let blocks : after.blocks ≡ books.blocks = ap (λ (b : ClearingBooks). b.blocks) h.same in
       record {
@@ -104,13 +116,15 @@ module _ (e : ℕ × ℕ) (es : List (ℕ × ℕ)) (books after : ClearingBooks)
   pub price_next : is_price_key e.0 ≡ true → AddsPrices (e ∷ es) books after → NextPrice
   price_next is h =
       let adds : AddsUp books.prices ((e.0 + 1, e.1) ∷ prices_in es) after.prices =
-      subst (λ b. AddsUp books.prices (map (λ d. (d.0 + 1, d.1)) (cond b (e ∷ filter (λ d. is_price_key d.0) es) (filter (λ d. is_price_key d.0) es))) after.prices) is h.adds in
+      subst (λ b. AddsUp books.prices
+      (map (λ d. (d.0 + 1, d.1)) (cond b (e ∷ filter (λ d. is_price_key d.0) es) (filter (λ d. is_price_key d.0) es))) after.prices) is h.adds in
       let k = new_price (e.0 + 1) e.1 (prices_in es) books after adds h.same h.range in
       record { number = k.number; price = k.price_range; absent = k.absent; room = k.room; rest = record { adds = adds.1; same = h.same; range = h.range } }
 
   pub price_skip : is_price_key e.0 ≡ false → AddsPrices (e ∷ es) books after → AddsPrices es books after
   price_skip is h = record {
-    adds = subst (λ b. AddsUp books.prices (map (λ d. (d.0 + 1, d.1)) (cond b (e ∷ filter (λ d. is_price_key d.0) es) (filter (λ d. is_price_key d.0) es))) after.prices) is h.adds;
+    adds = subst (λ b. AddsUp books.prices
+        (map (λ d. (d.0 + 1, d.1)) (cond b (e ∷ filter (λ d. is_price_key d.0) es) (filter (λ d. is_price_key d.0) es))) after.prices) is h.adds;
     same = h.same;
     range = h.range;
   }
@@ -132,16 +146,27 @@ module _ (e : ℕ × ℕ) (es : List (ℕ × ℕ)) (books after : ClearingBooks)
     pub rest : AddsPositions es (put_quantity books account instrument e.1) after
 
   positions_of : (b : _) → not (is_price_key e.0) ≡ b → AddsPositions (e ∷ es) books after
-      → AddsUp books.positions (map (λ d. ((d.0 / MOST_INSTRUMENTS, d.0 % MOST_INSTRUMENTS + 1), d.1)) (cond b (e ∷ filter (λ d. not (is_price_key d.0)) es) (filter (λ d. not (is_price_key d.0)) es))) after.positions
+      → AddsUp books.positions (map (λ d. ((d.0 / MOST_INSTRUMENTS, d.0 % MOST_INSTRUMENTS + 1), d.1))
+      (cond b (e ∷ filter (λ d. not (is_price_key d.0)) es) (filter (λ d. not (is_price_key d.0)) es))) after.positions
   positions_of b is h =
-      subst (λ b. AddsUp books.positions (map (λ d. ((d.0 / MOST_INSTRUMENTS, d.0 % MOST_INSTRUMENTS + 1), d.1)) (cond b (e ∷ filter (λ d. not (is_price_key d.0)) es) (filter (λ d. not (is_price_key d.0)) es))) after.positions) is h.adds
+      subst (λ b. AddsUp books.positions (map (λ d. ((d.0 / MOST_INSTRUMENTS, d.0 % MOST_INSTRUMENTS + 1), d.1))
+      (cond b (e ∷ filter (λ d. not (is_price_key d.0)) es) (filter (λ d. not (is_price_key d.0)) es))) after.positions) is h.adds
 
   pub position_next : is_price_key e.0 ≡ false → AddsPositions (e ∷ es) books after → NextPosition
   position_next is h =
       let place : ℕ × ℕ = (account, instrument) in
       let adds : AddsUp books.positions ((place, e.1) ∷ positions_in es) after.positions = positions_of true (ap not is) h in
       let k = new_position account instrument e.1 (positions_in es) books after adds h.same h.range in
-      record { owner = k.owner; number = k.number; price = k.price; quantity = k.quantity_range; absent = k.absent; room = k.room; rest = record { adds = adds.1; same = h.same; range = h.range } }
+      record {
+        owner = k.owner;
+        number = k.number;
+        price = k.price;
+        quantity = k.quantity_range;
+        absent =
+            k.absent;
+        room = k.room;
+        rest = record { adds = adds.1; same = h.same; range = h.range };
+      }
 
   pub position_skip : is_price_key e.0 ≡ true → AddsPositions (e ∷ es) books after → AddsPositions es books after
   position_skip is h = record { adds = positions_of false (ap not is) h; same = h.same; range = h.range }

@@ -21,8 +21,10 @@ use Rattle.txn_books.proofs.Stages.{accounts_range, prices_range, positions_rang
 use Rattle.txn_books.proofs.Walking.{above_next, above_end, walk_all, above_zero}
 
 -- the first entry above a number, and none
-pub number_next : (k : ℕ) (e : ℕ × ℕ) (m : Entries) → Some e ≡ find (λ d. nat_lt k d.0) (entry_map.entries m) → above nat_cmp k (entry_map.entries m) ≡ e ∷ above nat_cmp e.0 (entry_map.entries m)
-number_next k e m f = above_next nat_cmp_total k e (entry_map.entries m) (entry_map.entries_sorted m) ((λ i. find (λ d. sym (is_lt-nat_cmp k d.0) i) (entry_map.entries m)) ∙ sym f)
+pub number_next : (k : ℕ) (e : ℕ × ℕ) (m : Entries) → Some e ≡ find (λ d. nat_lt k d.0) (entry_map.entries m)
+    → above nat_cmp k (entry_map.entries m) ≡ e ∷ above nat_cmp e.0 (entry_map.entries m)
+number_next k e m f = above_next nat_cmp_total k e (entry_map.entries m) (entry_map.entries_sorted m)
+    ((λ i. find (λ d. sym (is_lt-nat_cmp k d.0) i) (entry_map.entries m)) ∙ sym f)
 
 pub number_end : (k : ℕ) (m : Entries) → None ≡ find (λ d. nat_lt k d.0) (entry_map.entries m) → above nat_cmp k (entry_map.entries m) ≡ []
 number_end k m f = above_end nat_cmp_total k (entry_map.entries m) ((λ i. find (λ d. sym (is_lt-nat_cmp k d.0) i) (entry_map.entries m)) ∙ sym f)
@@ -58,32 +60,47 @@ module _ (books : ClearingBooks) (range : AreInRange books) where
   module _ (done : Entries) (last : ℕ) (left : AddsUp done (above nat_cmp last (entry_map.entries books.accounts)) books.accounts) where
     pub account_step : (e : ℕ × ℕ) → Some e ≡ find (λ d. nat_lt last d.0) (entry_map.entries books.accounts)
         → NextAccount e (above nat_cmp e.0 (entry_map.entries books.accounts)) (record (nothing_yet books) { accounts = done }) (with_accounts books)
-    account_step e f = account_next e (above nat_cmp e.0 (entry_map.entries books.accounts)) (record (nothing_yet books) { accounts = done }) (with_accounts books)
-        (record { adds = subst (λ es. AddsUp done es books.accounts) (number_next last e books.accounts f) left; same = refl; range = accounts_range books range })
+    account_step e f = account_next e (above nat_cmp e.0 (entry_map.entries books.accounts))
+        (record (nothing_yet books) { accounts = done }) (with_accounts books)
+        (record {
+          adds = subst (λ es. AddsUp done es books.accounts) (number_next last e books.accounts f) left;
+          same =
+              refl;
+          range = accounts_range books range;
+        })
 
     pub accounts_done : None ≡ find (λ d. nat_lt last d.0) (entry_map.entries books.accounts) → done ≡ books.accounts
     accounts_done f = subst (λ es. AddsUp done es books.accounts) (number_end last books.accounts f) left
 
   module _ (done : Entries) (last : ℕ) (left : AddsUp done (above nat_cmp last (entry_map.entries books.prices)) books.prices) where
-    price_more : (e : ℕ × ℕ) → Some e ≡ find (λ d. nat_lt last d.0) (entry_map.entries books.prices) → AddsUp done (e ∷ above nat_cmp e.0 (entry_map.entries books.prices)) books.prices
+    price_more : (e : ℕ × ℕ) → Some e ≡ find (λ d. nat_lt last d.0) (entry_map.entries books.prices)
+        → AddsUp done (e ∷ above nat_cmp e.0 (entry_map.entries books.prices)) books.prices
     price_more e f = subst (λ es. AddsUp done es books.prices) (number_next last e books.prices f) left
 
     pub price_step : (e : ℕ × ℕ) → Some e ≡ find (λ d. nat_lt last d.0) (entry_map.entries books.prices)
-        → NewPrice e.0 e.1 (record (with_accounts books) { prices = done }) × AddsUp (entry_map.insert done e.0 e.1) (above nat_cmp e.0 (entry_map.entries books.prices)) books.prices
+        → NewPrice e.0 e.1 (record (with_accounts books) { prices = done })
+        × AddsUp (entry_map.insert done e.0 e.1) (above nat_cmp e.0 (entry_map.entries books.prices)) books.prices
     price_step e f =
-        let more = price_more e f in
-        (new_price e.0 e.1 (above nat_cmp e.0 (entry_map.entries books.prices)) (record (with_accounts books) { prices = done }) (with_prices books) more refl (prices_range books range), more.1)
+        let more = price_more e f in (
+          new_price e.0 e.1 (above nat_cmp e.0 (entry_map.entries books.prices)) (record (with_accounts books) {
+            prices =
+                done;
+          }) (with_prices books) more refl (prices_range books range),
+          more.1,
+        )
 
     pub prices_done : None ≡ find (λ d. nat_lt last d.0) (entry_map.entries books.prices) → done ≡ books.prices
     prices_done f = subst (λ es. AddsUp done es books.prices) (number_end last books.prices f) left
 
-  module _ (done : entry_map.FinMap position_cmp ℕ) (last : ℕ × ℕ) (left : AddsUp done (above position_cmp last (entry_map.entries books.positions)) books.positions) where
+  module _ (done : entry_map.FinMap position_cmp ℕ) (last : ℕ
+      × ℕ) (left : AddsUp done (above position_cmp last (entry_map.entries books.positions)) books.positions) where
     -- the first position above one
     pub position_found : (a i quantity : ℕ) → flat_is a i quantity ≡ flat_found (find (λ e. is_lt (position_cmp last e.0)) (entry_map.entries books.positions))
         → above position_cmp last (entry_map.entries books.positions) ≡ ((a, i), quantity) ∷ above position_cmp (a, i) (entry_map.entries books.positions)
     position_found a i quantity f = at (find (λ e. is_lt (position_cmp last e.0)) (entry_map.entries books.positions)) refl f
       where
-        at : (o : Option ((ℕ × ℕ) × ℕ)) → find (λ e. is_lt (position_cmp last e.0)) (entry_map.entries books.positions) ≡ o → flat_is a i quantity ≡ flat_found o
+        at : (o : Option ((ℕ × ℕ) × ℕ)) → find (λ e. is_lt (position_cmp last e.0)) (entry_map.entries books.positions)
+            ≡ o → flat_is a i quantity ≡ flat_found o
             → above position_cmp last (entry_map.entries books.positions) ≡ ((a, i), quantity) ∷ above position_cmp (a, i) (entry_map.entries books.positions)
         at None e g = absurd (cc)
         at (Some d) e g =
@@ -96,15 +113,20 @@ module _ (books : ClearingBooks) (range : AreInRange books) where
             ∙ (λ j. ((sym first j, sym second j), sym third j) ∷ above position_cmp (sym first j, sym second j) (entry_map.entries books.positions))
 
     pub position_step : (a i quantity : ℕ) → flat_is a i quantity ≡ flat_found (find (λ e. is_lt (position_cmp last e.0)) (entry_map.entries books.positions))
-        → NewPosition a i quantity (record (with_prices books) { positions = done }) × AddsUp (entry_map.insert done (a, i) quantity) (above position_cmp (a, i) (entry_map.entries books.positions)) books.positions
+        → NewPosition a i quantity (record (with_prices books) { positions = done })
+        × AddsUp (entry_map.insert done (a, i) quantity) (above position_cmp (a, i) (entry_map.entries books.positions)) books.positions
     position_step a i quantity f =
-        let more = subst (λ es. AddsUp done es books.positions) (position_found a i quantity f) left in
-        (new_position a i quantity (above position_cmp (a, i) (entry_map.entries books.positions)) (record (with_prices books) { positions = done }) (with_positions books) more refl (positions_range books range), more.1)
+        let more = subst (λ es. AddsUp done es books.positions) (position_found a i quantity f) left in (
+          new_position a i quantity (above position_cmp (a, i) (entry_map.entries books.positions))
+              (record (with_prices books) { positions = done }) (with_positions books) more refl (positions_range books range),
+          more.1,
+        )
 
     pub positions_done : none_flat ≡ flat_found (find (λ e. is_lt (position_cmp last e.0)) (entry_map.entries books.positions)) → done ≡ books.positions
     positions_done f = at (find (λ e. is_lt (position_cmp last e.0)) (entry_map.entries books.positions)) refl f
       where
-        at : (o : Option ((ℕ × ℕ) × ℕ)) → find (λ e. is_lt (position_cmp last e.0)) (entry_map.entries books.positions) ≡ o → none_flat ≡ flat_found o → done ≡ books.positions
+        at : (o : Option ((ℕ × ℕ) × ℕ)) → find (λ e. is_lt (position_cmp last e.0)) (entry_map.entries books.positions)
+            ≡ o → none_flat ≡ flat_found o → done ≡ books.positions
         at None e g = subst (λ es. AddsUp done es books.positions) (above_end positions_total last (entry_map.entries books.positions) e) left
         at (Some d) e g = absurd (cc)
 
@@ -120,4 +142,5 @@ module _ (books : ClearingBooks) (range : AreInRange books) where
         omega (arith, lt, long, range.queue)
 
     pub call_step : take n books.calls ++ call ∷ [] ≡ take (n + 1) books.calls
-    call_step = sym (take_more books.calls n call (slice_get_within books.calls n call there) ∙ ap (λ c. take n books.calls ++ c ∷ []) (get_or_from_slice_get books.calls n call call there))
+    call_step = sym (take_more books.calls n call (slice_get_within books.calls n call there)
+        ∙ ap (λ c. take n books.calls ++ c ∷ []) (get_or_from_slice_get books.calls n call call there))

@@ -61,7 +61,8 @@ below_append : (x n : ℕ) (xs ys : List (ℕ × ℕ)) → x < n → AreFrom n y
 below_append x n [] ys lt from h = all_below x n ys lt from
 below_append x n (e ∷ xs) ys lt from h = grind (rules, below_append x n xs ys lt from, h)
 
-pub sorted_append : (n : ℕ) (xs ys : List (ℕ × ℕ)) → AreBelow n xs → AreFrom n ys → is_sorted nat_cmp xs ≡ true → is_sorted nat_cmp ys ≡ true → is_sorted nat_cmp (xs ++ ys) ≡ true
+pub sorted_append : (n : ℕ) (xs ys : List (ℕ × ℕ)) → AreBelow n xs → AreFrom n ys → is_sorted nat_cmp xs ≡ true
+    → is_sorted nat_cmp ys ≡ true → is_sorted nat_cmp (xs ++ ys) ≡ true
 sorted_append n [] ys below from h k = k
 sorted_append n (e ∷ xs) ys below from h k = grind (rules, below_append e.0 n xs ys below.0 from, sorted_append n xs ys below.1 from, h, k)
 
@@ -70,7 +71,8 @@ abbrev pub keyed : {K : Type 0} → (K → ℕ) → List (K × ℕ) → List (�
 keyed f es = map (λ e. (f e.0, e.1)) es
 
 -- what holds of each key holds of each other key
-pub all_keyed : {K : Type 0} (f : K → ℕ) (P : K → Type 0) (Q : ℕ → Type 0) → ((k : K) → P k → Q (f k)) → (es : List (K × ℕ)) → AllByRecursion (λ e. P e.0) es → AllByRecursion (λ e. Q e.0) (keyed f es)
+pub all_keyed : {K : Type 0} (f : K → ℕ) (P : K → Type 0) (Q : ℕ → Type 0) → ((k : K) → P k → Q (f k))
+    → (es : List (K × ℕ)) → AllByRecursion (λ e. P e.0) es → AllByRecursion (λ e. Q e.0) (keyed f es)
 all_keyed f P Q step [] h = tt
 all_keyed f P Q step (e ∷ es) h = (step e.0 h.0, all_keyed f P Q step es h.1)
 
@@ -78,7 +80,8 @@ module _ {K : Type 0} {R : K → K → Ordering} (f : K → ℕ) (P : K → Type
   module _ (rises : (x y : K) → P x → P y → R x y ≡ Less → f x < f y) where
     below_keyed : (x : K) → P x → (es : List (K × ℕ)) → AllByRecursion (λ e. P e.0) es → T (below_all R x es) → below_all nat_cmp (f x) (keyed f es) ≡ true
     below_keyed x p [] h below = refl
-    below_keyed x p (e ∷ es) h below = grind (rules, lower (f x) (f e.0) (rises x e.0 p h.0 (below_first R x e es below)), below_keyed x p es h.1 (below_rest R x e es below))
+    below_keyed x p (e ∷ es) h below =
+        grind (rules, lower (f x) (f e.0) (rises x e.0 p h.0 (below_first R x e es below)), below_keyed x p es h.1 (below_rest R x e es below))
 
     pub sorted_keyed : (es : List (K × ℕ)) → AllByRecursion (λ e. P e.0) es → T (is_sorted R es) → is_sorted nat_cmp (keyed f es) ≡ true
     sorted_keyed [] h sorted = refl
@@ -94,4 +97,5 @@ module _ {K : Type 0} {R : K → K → Ordering} (f : K → ℕ) (P : K → Type
     pub find_keyed : (q : K) → P q → (es : List (K × ℕ)) → AllByRecursion (λ e. P e.0) es → find nat_cmp (f q) (keyed f es) ≡ find R q es
     find_keyed q p [] h = refl
     find_keyed q p (e ∷ es) h =
-        ap (λ b. cond b (Some e.1) (find nat_cmp (f q) (keyed f es))) (alike q e.0 p h.0) ∙ ap (λ o. cond (eq_by_cmp R q e.0) (Some e.1) o) (find_keyed q p es h.1)
+        ap (λ b. cond b (Some e.1) (find nat_cmp (f q) (keyed f es))) (alike q e.0 p h.0)
+        ∙ ap (λ o. cond (eq_by_cmp R q e.0) (Some e.1) o) (find_keyed q p es h.1)

@@ -31,21 +31,24 @@ module _ (words : List ℕ) (books : ClearingBooks) (in_hand : List ℕ) (parts 
   tree_free = record {
     map = parts.accounts;
     free_lists = parts.free_lists;
-    apart = λ b k. let once = at_once words words books in_hand parts b (tree_below words books in_hand parts b k) in out_other parts.tree_used parts.free b k (omega (arith, once));
+    apart = λ b k. let once = at_once words words books in_hand parts b (tree_below words books in_hand parts b k) in
+        out_other parts.tree_used parts.free b k (omega (arith, once));
   }
 
   pub chains_free : HoldsApart (chain_part (chains_of (shape_of books))) words (chained books) parts.chain_used parts.free
   chains_free = record {
     map = parts.chains;
     free_lists = parts.free_lists;
-    apart = λ b k. let once = at_once words words books in_hand parts b (chain_below words books in_hand parts b k) in out_other parts.chain_used parts.free b k (omega (arith, once));
+    apart = λ b k. let once = at_once words words books in_hand parts b (chain_below words books in_hand parts b k) in
+        out_other parts.chain_used parts.free b k (omega (arith, once));
   }
 
 abbrev times_by : Bool → ℕ
 times_by m = cond m 1 0
 
 -- a block that goes from one set to another is in as many as before
-pub moved_among : (used free : Blocks) (c : ℕ) → set.contains used c ≡ false → set.contains free c ≡ true → (b : ℕ) → times_among b (set.insert used c ∷ set.remove free c ∷ []) ≡ times_among b (used ∷ free ∷ [])
+pub moved_among : (used free : Blocks) (c : ℕ) → set.contains used c ≡ false → set.contains free c ≡ true → (b : ℕ)
+    → times_among b (set.insert used c ∷ set.remove free c ∷ []) ≡ times_among b (used ∷ free ∷ [])
 moved_among used free c out member b = dite (ℕ_discrete b c)
     (λ e. subst (λ z. times_among z (set.insert used c ∷ set.remove free c ∷ []) ≡ times_among z (used ∷ free ∷ [])) (sym e) (
     let in_new : times_of (set.insert used c) c ≡ 1 = member_one (set.insert used c) c (in_here used c) in
@@ -59,10 +62,18 @@ moved_among used free c out member b = dite (ℕ_discrete b c)
     omega (arith, here, there, two_among b (set.insert used c) (set.remove free c), two_among b used free))
 
 -- and one that goes back too
-pub back_among : (used free : Blocks) (c : ℕ) → set.contains used c ≡ true → set.contains free c ≡ false → (b : ℕ) → times_among b (set.remove used c ∷ set.insert free c ∷ []) ≡ times_among b (used ∷ free ∷ [])
+pub back_among : (used free : Blocks) (c : ℕ) → set.contains used c ≡ true → set.contains free c ≡ false → (b : ℕ)
+    → times_among b (set.remove used c ∷ set.insert free c ∷ []) ≡ times_among b (used ∷ free ∷ [])
 back_among used free c member out b =
     let moved = moved_among free used c out member b in
-    omega (arith, moved, two_among b (set.remove used c) (set.insert free c), two_among b (set.insert free c) (set.remove used c), two_among b used free, two_among b free used)
+    omega (
+      arith,
+      moved,
+      two_among b (set.remove used c) (set.insert free c),
+      two_among b (set.insert free c) (set.remove used c),
+      two_among b used free,
+      two_among b free used,
+    )
 
 -- words that hold the parts of some books of these sizes
 abbrev pub HasSomeParts : BooksShape → List ℕ → Type 0
@@ -81,61 +92,86 @@ some_chains shape words some = subst (λ z. HasMapApart (chain_part (chains_of z
 
 -- an insert into the tree leaves books with one account more, or with other cash, or as they were
 module _ (old new : List ℕ) (books : ClearingBooks) (in_hand : List ℕ) (parts : HasParts old books in_hand) (key x : ℕ) where
-  pub tree_new : InsertsNew (tree_part (tree_of (shape_of books))) key x new books.accounts parts.tree_used parts.free → KeepsOthers (IsOwn (tree_part (tree_of (shape_of books))) key old new) old new
+  pub tree_new : InsertsNew (tree_part (tree_of (shape_of books))) key x new books.accounts parts.tree_used parts.free
+      → KeepsOthers (IsOwn (tree_part (tree_of (shape_of books))) key old new) old new
       → HasParts new (record books { accounts = entry_map.insert books.accounts key x }) in_hand
   tree_new k kept =
-      let out = free_unused (tree_part (tree_of (shape_of books))) old books.accounts parts.tree_used parts.free k.block (tree_free old books in_hand parts) k.was_free in
-      tree_change old new books in_hand parts (entry_map.insert books.accounts key x) (set.insert parts.tree_used k.block) (set.remove parts.free k.block) key k.left.map k.left.free_lists
+      let out = free_unused (tree_part (tree_of (shape_of books))) old books.accounts parts.tree_used parts.free k.block
+      (tree_free old books in_hand parts) k.was_free in
+      tree_change old new books in_hand parts (entry_map.insert books.accounts key x)
+      (set.insert parts.tree_used k.block) (set.remove parts.free k.block) key k.left.map k.left.free_lists
       (moved_among parts.tree_used parts.free k.block out k.was_free) kept
 
-  pub tree_old : (was : ℕ) → InsertsOld (tree_part (tree_of (shape_of books))) key x was new books.accounts parts.tree_used parts.free → KeepsOthers (IsOwn (tree_part (tree_of (shape_of books))) key old new) old new
+  pub tree_old : (was : ℕ) → InsertsOld (tree_part (tree_of (shape_of books))) key x was new books.accounts
+      parts.tree_used parts.free → KeepsOthers (IsOwn (tree_part (tree_of (shape_of books))) key old new) old new
       → HasParts new (record books { accounts = entry_map.insert books.accounts key x }) in_hand
-  tree_old was k kept = tree_change old new books in_hand parts (entry_map.insert books.accounts key x) parts.tree_used parts.free key k.left.map k.left.free_lists (λ b. refl) kept
+  tree_old was k kept = tree_change old new books in_hand parts (entry_map.insert books.accounts key x) parts.tree_used
+      parts.free key k.left.map k.left.free_lists (λ b. refl) kept
 
-  pub tree_inserted : (put : Put) → Inserts (tree_part (tree_of (shape_of books))) key x put old new → KeepsOthers (IsOwn (tree_part (tree_of (shape_of books))) key old new) old new
+  pub tree_inserted : (put : Put) → Inserts (tree_part (tree_of (shape_of books))) key x put old new
+      → KeepsOthers (IsOwn (tree_part (tree_of (shape_of books))) key old new) old new
       → (after : ClearingBooks) × (shape_of after ≡ shape_of books) × HasParts new after in_hand
-  tree_inserted New inserts kept =
-      (record books { accounts = entry_map.insert books.accounts key x }, refl, tree_new (inserts books.accounts parts.tree_used parts.free (tree_free old books in_hand parts)) kept)
-  tree_inserted (Old was) inserts kept =
-      (record books { accounts = entry_map.insert books.accounts key x }, refl, tree_old was (inserts books.accounts parts.tree_used parts.free (tree_free old books in_hand parts)) kept)
+  tree_inserted New inserts kept = (
+    record books { accounts = entry_map.insert books.accounts key x },
+    refl,
+    tree_new (inserts books.accounts parts.tree_used parts.free (tree_free old books in_hand parts)) kept,
+  )
+  tree_inserted (Old was) inserts kept = (
+    record books { accounts = entry_map.insert books.accounts key x },
+    refl,
+    tree_old was (inserts books.accounts parts.tree_used parts.free (tree_free old books in_hand parts)) kept,
+  )
   tree_inserted Full inserts kept = (books, refl, subst (λ z. HasParts z books in_hand) (sym inserts) parts)
 
 -- a removal from the tree leaves books with one account less
-pub tree_cut : (old new : List ℕ) (books : ClearingBooks) (in_hand : List ℕ) (parts : HasParts old books in_hand) (key was : ℕ) → RemovesOne (tree_part (tree_of (shape_of books))) key was new books.accounts parts.tree_used parts.free
-    → KeepsOthers (IsOwn (tree_part (tree_of (shape_of books))) key old new) old new → HasParts new (record books { accounts = entry_map.remove books.accounts key }) in_hand
+pub tree_cut : (old new : List ℕ) (books : ClearingBooks) (in_hand : List ℕ) (parts : HasParts old books in_hand)
+    (key was : ℕ) → RemovesOne (tree_part (tree_of (shape_of books))) key was new books.accounts parts.tree_used parts.free
+    → KeepsOthers (IsOwn (tree_part (tree_of (shape_of books))) key old new) old new
+    → HasParts new (record books { accounts = entry_map.remove books.accounts key }) in_hand
 tree_cut old new books in_hand parts key was k kept =
     let out = (tree_free old books in_hand parts).apart k.block k.was_used in
-    tree_change old new books in_hand parts (entry_map.remove books.accounts key) (set.remove parts.tree_used k.block) (set.insert parts.free k.block) key k.left.map k.left.free_lists
+    tree_change old new books in_hand parts (entry_map.remove books.accounts key) (set.remove parts.tree_used k.block)
+    (set.insert parts.free k.block) key k.left.map k.left.free_lists
     (back_among parts.tree_used parts.free k.block k.was_used out) kept
 
 -- a call on the chains leaves books with other positions and prices, those that the chains then hold
-module _ (old new : List ℕ) (books : ClearingBooks) (in_hand : List ℕ) (parts : HasParts old books in_hand) (positions : entry_map.FinMap position_cmp ℕ) (prices : entry_map.FinMap nat_cmp ℕ) (key : ℕ)
+module _ (old new : List ℕ) (books : ClearingBooks) (in_hand : List ℕ) (parts : HasParts old books in_hand)
+    (positions : entry_map.FinMap position_cmp ℕ) (prices : entry_map.FinMap nat_cmp ℕ) (key : ℕ)
     (kept : KeepsOthers (IsOwn (chain_part (chains_of (shape_of books))) key old new) old new) where
   pub chain_new : (x : ℕ) → InsertsNew (chain_part (chains_of (shape_of books))) key x new (chained books) parts.chain_used parts.free
-      → entry_map.insert (chained books) key x ≡ chained (record books { positions = positions; prices = prices }) → HasParts new (record books { positions = positions; prices = prices }) in_hand
+      → entry_map.insert (chained books) key x ≡ chained (record books { positions = positions; prices = prices })
+      → HasParts new (record books { positions = positions; prices = prices }) in_hand
   chain_new x k e =
-      let out = free_unused (chain_part (chains_of (shape_of books))) old (chained books) parts.chain_used parts.free k.block (chains_free old books in_hand parts) k.was_free in
+      let out = free_unused (chain_part (chains_of (shape_of books))) old (chained books) parts.chain_used parts.free
+      k.block (chains_free old books in_hand parts) k.was_free in
       chain_change old new books in_hand parts positions prices (set.insert parts.chain_used k.block) (set.remove parts.free k.block) key
-      (subst (λ f. ChainsHold (chains_of (shape_of books)) new f (set.insert parts.chain_used k.block)) e k.left.map) k.left.free_lists (moved_among parts.chain_used parts.free k.block out k.was_free) kept
+      (subst (λ f. ChainsHold (chains_of (shape_of books)) new f (set.insert parts.chain_used k.block)) e k.left.map)
+      k.left.free_lists (moved_among parts.chain_used parts.free k.block out k.was_free) kept
 
   pub chain_old : (x was : ℕ) → InsertsOld (chain_part (chains_of (shape_of books))) key x was new (chained books) parts.chain_used parts.free
-      → entry_map.insert (chained books) key x ≡ chained (record books { positions = positions; prices = prices }) → HasParts new (record books { positions = positions; prices = prices }) in_hand
+      → entry_map.insert (chained books) key x ≡ chained (record books { positions = positions; prices = prices })
+      → HasParts new (record books { positions = positions; prices = prices }) in_hand
   chain_old x was k e =
       chain_change old new books in_hand parts positions prices parts.chain_used parts.free key
       (subst (λ f. ChainsHold (chains_of (shape_of books)) new f parts.chain_used) e k.left.map) k.left.free_lists (λ b. refl) kept
 
   pub chain_cut : (was : ℕ) → RemovesOne (chain_part (chains_of (shape_of books))) key was new (chained books) parts.chain_used parts.free
-      → entry_map.remove (chained books) key ≡ chained (record books { positions = positions; prices = prices }) → HasParts new (record books { positions = positions; prices = prices }) in_hand
+      → entry_map.remove (chained books) key ≡ chained (record books { positions = positions; prices = prices })
+      → HasParts new (record books { positions = positions; prices = prices }) in_hand
   chain_cut was k e =
       let out = (chains_free old books in_hand parts).apart k.block k.was_used in
       chain_change old new books in_hand parts positions prices (set.remove parts.chain_used k.block) (set.insert parts.free k.block) key
-      (subst (λ f. ChainsHold (chains_of (shape_of books)) new f (set.remove parts.chain_used k.block)) e k.left.map) k.left.free_lists (back_among parts.chain_used parts.free k.block k.was_used out) kept
+      (subst (λ f. ChainsHold (chains_of (shape_of books)) new f (set.remove parts.chain_used k.block)) e k.left.map)
+      k.left.free_lists (back_among parts.chain_used parts.free k.block k.was_used out) kept
 
-pub some_inserted : (shape : BooksShape) (old new : List ℕ) (key x : ℕ) (put : Put) → HasSomeParts shape old → Inserts (tree_part (tree_of shape)) key x put old new → KeepsOthers (IsOwn (tree_part (tree_of shape)) key old new) old new
+pub some_inserted : (shape : BooksShape) (old new : List ℕ) (key x : ℕ) (put : Put) → HasSomeParts shape old
+    → Inserts (tree_part (tree_of shape)) key x put old new → KeepsOthers (IsOwn (tree_part (tree_of shape)) key old new) old new
     → HasSomeParts shape new
 some_inserted shape old new key x put some inserts kept =
     let back : shape ≡ shape_of some.0 = sym some.1 in
-    let k = tree_inserted old new some.0 [] some.2 key x put (subst (λ z. Inserts (tree_part (tree_of z)) key x put old new) back inserts) (subst (λ z. KeepsOthers (IsOwn (tree_part (tree_of z)) key old new) old new) back kept) in
+    let k = tree_inserted old new some.0 [] some.2 key x put
+    (subst (λ z. Inserts (tree_part (tree_of z)) key x put old new) back inserts)
+    (subst (λ z. KeepsOthers (IsOwn (tree_part (tree_of z)) key old new) old new) back kept) in
     (k.0, k.1 ∙ some.1, k.2)
 
 -- words at which nothing was done yet stand for some books, and hold their parts
@@ -147,7 +183,8 @@ fresh_parts shape other t e is = record { at = λ s fit. good_parts other (after
 
 -- after an insert into the tree each state holds the parts of some books
 pub each_inserted : (shape : BooksShape) (n : ℕ) (G : List ℕ → Type 0) (t u : Trace) (key x : ℕ) (put : Put) → Begins t u → InEach n G t (HasSomeParts shape)
-    → Leads n G t u (Inserts (tree_part (tree_of shape)) key x put) → ((s : List ℕ) → Fits n G u s → AppendsOnly t u (IsOwn (tree_part (tree_of shape)) key (after t s) (after u s))) → InEach n G u (HasSomeParts shape)
+    → Leads n G t u (Inserts (tree_part (tree_of shape)) key x put)
+    → ((s : List ℕ) → Fits n G u s → AppendsOnly t u (IsOwn (tree_part (tree_of shape)) key (after t s) (after u s))) → InEach n G u (HasSomeParts shape)
 each_inserted shape n G t u key x put begins some inserts own = record {
   at = λ s fit.
       some_inserted shape (after t s) (after u s) key x put (some.at s (fits_begins n G t u s begins fit)) (inserts.at s fit)

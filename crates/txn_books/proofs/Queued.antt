@@ -32,7 +32,8 @@ module _ (ring : Ring) (words : List ℕ) (books after : ClearingBooks) (h : Add
     pub call_next : put_call (so_far n) call.0 call.1 ≡ so_far (n + 1)
     call_next =
         let lt : n < length after.calls = slice_get_within after.calls n call there in
-        ap (λ cs. record books { calls = cs }) (sym (take_more after.calls n call lt ∙ ap (λ c. take n after.calls ++ c ∷ []) (get_or_from_slice_get after.calls n call call there)))
+        ap (λ cs. record books { calls = cs }) (sym (take_more after.calls n call lt
+        ∙ ap (λ c. take n after.calls ++ c ∷ []) (get_or_from_slice_get after.calls n call call there)))
 
   pub calls_end : (n : ℕ) → length after.calls ≤ n → so_far n ≡ after
   calls_end n le = ap (λ cs. record books { calls = cs }) (take_all n after.calls le) ∙ sym h.same

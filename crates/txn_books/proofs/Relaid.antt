@@ -1,5 +1,6 @@
 -- The list of the free blocks, gone through, and laid anew beside parts that stand.
-use Rattle.std.proofs.Common.{◌≡◌, ◌≢◌, ℕ, zero, suc, ◌+◌, ◌-◌, ◌%◌, ◌<◌, ◌≤◌, ◌⊎◌, inl, inr, Bool, true, false, eqb, nat_eq, List, [], ◌∷◌, ◌++◌, length, slice_get, Some, refl, sym, ap, ◌∙◌, subst, arith, rules, length-append, append_assoc}
+use Rattle.std.proofs.Common.{◌≡◌, ◌≢◌, ℕ, zero, suc, ◌+◌, ◌-◌, ◌%◌, ◌<◌, ◌≤◌, ◌⊎◌, inl, inr, Bool, true, false, eqb, nat_eq, List, [], ◌∷◌, ◌++◌, length}
+use Rattle.std.proofs.Common.{slice_get, Some, refl, sym, ap, ◌∙◌, subst, arith, rules, length-append, append_assoc}
 use mathlib.Core.Bool.{true≢false}
 use mathlib.Core.Logic.{dite}
 use native.Mathlib.Decide.{ℕ_discrete}
@@ -60,7 +61,8 @@ module _ (arena : Arena) (words gone whole : List ℕ) where
           let long : length gone + length (b ∷ bs) ≡ length whole = sym (length-append gone (b ∷ bs)) ∙ ap length all in
           (omega (arith, e, list.1), omega (arith, long))
 
-  pub through_next : (name next : ℕ) → name ≢ 0 → slice_get words (block_at arena (name - 1)) ≡ Some next → GoesThrough arena words name gone whole → GoesThrough arena words next (gone ++ (name - 1) ∷ []) whole
+  pub through_next : (name next : ℕ) → name ≢ 0 → slice_get words (block_at arena (name - 1)) ≡ Some next
+      → GoesThrough arena words name gone whole → GoesThrough arena words next (gone ++ (name - 1) ∷ []) whole
   through_next name next some word h = at (h.rest) h.list h.all
     where
       at : (rest : List ℕ) → HasList arena words h.place rest → gone ++ rest ≡ whole → GoesThrough arena words next (gone ++ (name - 1) ∷ []) whole
@@ -133,7 +135,11 @@ once_append [] cs first last apart = last
 once_append (c ∷ bs) cs first last apart =
     let rest : IsDistinct nat_eq (bs ++ cs) = once_append bs cs (IsDistinct-tail nat_eq c bs first) last (λ b m. apart b (in_there (blocks_of bs) c b m)) in
     distinct_more c (bs ++ cs)
-    (not_among (bs ++ cs) c (λ m. elim (among_append bs cs c m) [ inl k ↦ true≢false (sym k ∙ out_rest c bs first) | inr k ↦ apart c (in_here (blocks_of bs) c) k ])) rest
+    (not_among (bs ++ cs) c (λ m. elim (among_append bs cs c m) [
+      | inl k ↦
+          true≢false (sym k ∙ out_rest c bs first)
+      | inr k ↦ apart c (in_here (blocks_of bs) c) k
+    ])) rest
 
 -- the free blocks of the lists up to here, each once
 pub record AreFreeBelow (free : Blocks) (n : ℕ) (order : List ℕ) : Type 0 where
@@ -145,14 +151,16 @@ pub free_none : (free : Blocks) → AreFreeBelow free 0 []
 unfolding IsDistinct
 free_none free = record { once = tt; among = λ b m. absurd (true≢false (sym m ∙ out_empty b)); all = λ b m lt. absurd (omega (arith, lt)) }
 
-pub free_more : (arena : Arena) (words : List ℕ) (free : Blocks) (n : ℕ) (order bs : List ℕ) → FreeListsHold arena words free → n < HEADS → HasList arena words (arena.heads + n) bs
+pub free_more : (arena : Arena) (words : List ℕ) (free : Blocks) (n : ℕ) (order bs : List ℕ)
+    → FreeListsHold arena words free → n < HEADS → HasList arena words (arena.heads + n) bs
     → AreFreeBelow free n order → AreFreeBelow free (n + 1) (order ++ bs)
 free_more arena words free n order bs hold lt list h =
     let l : FreeListHolds arena words free n = hold.lists n lt in
     let same : l.order ≡ bs = one_list arena words (arena.heads + n) (arena.heads + n) l.order bs refl l.list list in
     let back : (b : ℕ) → IsAmong bs b → IsAmong l.order b = λ b m. ap (λ z. set.contains (blocks_of z) b) same ∙ m in
     record {
-      once = once_append order bs h.once (subst (λ z. IsDistinct nat_eq z) same l.once) (λ b m k. let own = l.own b (back b k) in let low = (h.among b m).1 in omega (arith, own, low));
+      once = once_append order bs h.once (subst (λ z. IsDistinct nat_eq z) same l.once) (λ b m k. let own =
+          l.own b (back b k) in let low = (h.among b m).1 in omega (arith, own, low));
       among = λ b m. elim (among_append order bs b m) [
         | inl k ↦ let r = h.among b k in (r.0, omega (arith, r.1))
         | inr k ↦ let own : b % HEADS ≡ n = l.own b (back b k) in (l.all b own ∙ back b k, omega (arith, own))
@@ -174,14 +182,17 @@ free_all free n order le h = record {
 
 -- the free blocks laid anew leave the other parts
 module _ (old new : List ℕ) (books : ClearingBooks) (parts : HasParts old books []) (order : List ℕ) (same : set.from_list {R = nat_cmp} order ≡ parts.free)
-    (lists : FreeListsHold (arena_of (shape_of books)) new (set.from_list order)) (kept : KeepsOthers (IsWrittenByLaying (arena_of (shape_of books)) order) old new) where
-  stays : (a : ℕ) → ¬ IsHead (arena_of (shape_of books)) a → ((b : ℕ) → set.contains parts.free b ≡ true → ¬ IsInBlock (arena_of (shape_of books)) b a) → slice_get new a ≡ slice_get old a
+    (lists : FreeListsHold (arena_of (shape_of books)) new (set.from_list order))
+    (kept : KeepsOthers (IsWrittenByLaying (arena_of (shape_of books)) order) old new) where
+  stays : (a : ℕ) → ¬ IsHead (arena_of (shape_of books)) a
+      → ((b : ℕ) → set.contains parts.free b ≡ true → ¬ IsInBlock (arena_of (shape_of books)) b a) → slice_get new a ≡ slice_get old a
   stays a head out = kept.same a (λ own. elim own [
     | inl is ↦ head is
     | inr k ↦ let e = k.2 in out k.0 (ap (λ s. set.contains s k.0) (sym same) ∙ k.1) (record { low = omega (arith, e); high = omega (arith, e) })
   ])
 
-  free_out : (theirs : Blocks) (d a : ℕ) → set.contains theirs d ≡ true → times_of theirs d + times_of parts.free d ≤ 1 → IsInBlock (arena_of (shape_of books)) d a → (b : ℕ) → set.contains parts.free b ≡ true → ¬ IsInBlock (arena_of (shape_of books)) b a
+  free_out : (theirs : Blocks) (d a : ℕ) → set.contains theirs d ≡ true → times_of theirs d + times_of parts.free d ≤ 1
+      → IsInBlock (arena_of (shape_of books)) d a → (b : ℕ) → set.contains parts.free b ≡ true → ¬ IsInBlock (arena_of (shape_of books)) b a
   free_out theirs d a k once mine b free other =
       let is : b ≡ d = same_block (arena_of (shape_of books)) b d a other mine in
       let here : times_of parts.free d ≡ 1 = member_one parts.free d (ap (λ z. set.contains parts.free z) (sym is) ∙ free) in
@@ -195,11 +206,14 @@ module _ (old new : List ℕ) (books : ClearingBooks) (parts : HasParts old book
     free = set.from_list order;
     accounts = let k = root_apart (shape_of books) in tree_stands (tree_of (shape_of books)) old new books.accounts parts.tree_used parts.accounts kept.count
         (stays (tree_of (shape_of books)).root k.0 (λ b free. k.3 b))
-        (λ d a m mine. stays a (block_apart (shape_of books) d a mine).1 (free_out parts.tree_used d a m (let once = at_once old old books [] parts d (tree_below old books [] parts d m) in omega (arith, once)) mine));
+        (λ d a m mine. stays a (block_apart (shape_of books) d a mine).1 (free_out parts.tree_used d a m (let once =
+        at_once old old books [] parts d (tree_below old books [] parts d m) in omega (arith, once)) mine));
     chains = chains_stand (chains_of (shape_of books)) old new (chained books) parts.chain_used parts.chains kept.count
         (λ a bucket. let k = bucket_apart (shape_of books) a bucket in stays a k.1 (λ b free. k.2 b))
-        (λ d a m mine. stays a (block_apart (shape_of books) d a mine).1 (free_out parts.chain_used d a m (let once = at_once old old books [] parts d (chain_below old books [] parts d m) in omega (arith, once)) mine));
-    queue = queue_stands (queue_of (shape_of books)) old new books.calls parts.queue kept.count (λ a own. let k = ring_apart (shape_of books) a own in stays a k.1 (λ b free. k.3 b));
+        (λ d a m mine. stays a (block_apart (shape_of books) d a mine).1 (free_out parts.chain_used d a m (let once =
+        at_once old old books [] parts d (chain_below old books [] parts d m) in omega (arith, once)) mine));
+    queue = queue_stands (queue_of (shape_of books)) old new books.calls parts.queue kept.count (λ a own. let k =
+        ring_apart (shape_of books) a own in stays a k.1 (λ b free. k.3 b));
     free_lists = lists;
     hand_below = parts.hand_below;
     parted = λ b lt. subst (λ s. times_among b (parts.tree_used ∷ parts.chain_used ∷ s ∷ []) + 0 ≡ 1) (sym same) (parts.parted b lt);
@@ -219,7 +233,8 @@ module _ (shape : BooksShape) (words : List ℕ) (books : ClearingBooks) (built 
 
     pub sorted_below : All (λ b. b < shape.blocks) sorted
     sorted_below = All-permutation (λ b. b < shape.blocks) order sorted moved
-        (all_among (λ b. b < shape.blocks) order (λ b m. free_below (arena_of shape) words built.stands.parts.free b free_held (ap (λ s. set.contains s b) (sym are.all) ∙ m)))
+        (all_among (λ b. b < shape.blocks) order (λ b m. free_below (arena_of shape) words built.stands.parts.free b
+        free_held (ap (λ s. set.contains s b) (sym are.all) ∙ m)))
 
     sorted_same : set.from_list {R = nat_cmp} sorted ≡ built.stands.parts.free
     sorted_same =
@@ -227,7 +242,8 @@ module _ (shape : BooksShape) (words : List ℕ) (books : ClearingBooks) (built 
         (λ q. contains-from_list_nat sorted q ∙ sym (list_any-IsPermutation (λ y. nat_eq y q) order sorted moved) ∙ sym (contains-from_list_nat order q))
         ∙ are.all
 
-    pub relaid_built : (new : List ℕ) → FreeListsHold (arena_of shape) new (set.from_list sorted) → KeepsOthers (IsWrittenByLaying (arena_of shape) sorted) words new → IsBuilt shape new books
+    pub relaid_built : (new : List ℕ) → FreeListsHold (arena_of shape) new (set.from_list sorted)
+        → KeepsOthers (IsWrittenByLaying (arena_of shape) sorted) words new → IsBuilt shape new books
     relaid_built new lists kept =
         let back : shape ≡ shape_of books = sym built.stands.sizes in
         record {
@@ -235,6 +251,8 @@ module _ (shape : BooksShape) (words : List ℕ) (books : ClearingBooks) (built 
           stands = record {
             sizes = built.stands.sizes;
             range = built.stands.range;
-            parts = relaid words new books built.stands.parts sorted sorted_same (subst (λ z. FreeListsHold (arena_of z) new (set.from_list sorted)) back lists) (subst (λ z. KeepsOthers (IsWrittenByLaying (arena_of z) sorted) words new) back kept);
+            parts = relaid words new books built.stands.parts sorted sorted_same
+                (subst (λ z. FreeListsHold (arena_of z) new (set.from_list sorted)) back lists)
+                (subst (λ z. KeepsOthers (IsWrittenByLaying (arena_of z) sorted) words new) back kept);
           };
         }

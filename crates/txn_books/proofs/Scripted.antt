@@ -39,27 +39,36 @@ module _ {W S O : Type 0} {words : AnyWords W S O} {shapes : Shapes S} {shape : 
 
 module _ {W S O : Type 0} {words : AnyWords W S O} {shapes : Shapes S} {shape : BooksShape} {u v : W} where
   -- what an operation turns
-  pub of_steps : {op : Op} {come : Outcome} → LeadsTo words shapes u v (Steps shape op come) → LeadsTo words shapes u v (Turns shape (λ books after. step_of op books ≡ step_with come after))
+  pub of_steps : {op : Op} {come : Outcome} → LeadsTo words shapes u v (Steps shape op come)
+      → LeadsTo words shapes u v (Turns shape (λ books after. step_of op books ≡ step_with come after))
   of_steps h = leads_less words shapes u v _ _ (λ x y k. record { at = λ books stand. let last = k.comes books stand in (last.0, last.2, last.1) }) h
 
   -- books stand after changes
-  pub turned_stands : {R : ClearingBooks → ClearingBooks → Type 0} → Turned words shapes shape u v R → InEachState words shapes u (IsGoodFor shape) → InEachState words shapes v (IsGoodFor shape)
+  pub turned_stands : {R : ClearingBooks → ClearingBooks → Type 0} → Turned words shapes shape u v R
+      → InEachState words shapes u (IsGoodFor shape) → InEachState words shapes v (IsGoodFor shape)
   turned_stands {R = R} h stand = state_after words shapes u v (IsGoodFor shape) (IsGoodFor shape) (Turns shape R) h.kept h.begins stand h.turns
       (λ x y good k. let last = k.at good.0 good.1 in (last.0, last.1))
 
   -- a run, from what changes came to
   pub turned_runs : {script : List Op} {answer : Reply} {R : ClearingBooks → ClearingBooks → Type 0} → Turned words shapes shape u v R
       → ((books after : ClearingBooks) → R books after → run_from 1 script books ≡ run_with answer after) → LeadsTo words shapes u v (Runs shape script answer)
-  turned_runs h means = leads_less words shapes u v _ _ (λ x y k. record { comes = λ books stand. let last = k.at books stand in (last.0, means books last.0 last.2, last.1) }) h.turns
+  turned_runs h means = leads_less words shapes u v _ _ (λ x y k. record {
+    comes = λ books stand. let last =
+        k.at books stand in (last.0, means books last.0 last.2, last.1);
+  }) h.turns
 
   -- no operation is left
-  pub run_ends : {script : List Op} (values : List Value) (number : ℕ) → Turned words shapes shape u v (SoFar script values number []) → LeadsTo words shapes u v (Runs shape script (reply.Done values))
+  pub run_ends : {script : List Op} (values : List Value) (number : ℕ)
+      → Turned words shapes shape u v (SoFar script values number []) → LeadsTo words shapes u v (Runs shape script (reply.Done values))
   run_ends values number h = turned_runs h (λ books now so_far. ends _ values number now so_far)
 
-module _ {W S O A : Type 0} {words : AnyWords W S O} {shapes : Shapes S} {shape : BooksShape} {u v w : W} {r : Result A Stop} {op : Op} {come : Outcome} (script : List Op) (values : List Value) (number : ℕ) (rest : List Op)
-    (goes : GoesOn words v w r) (before : Turned words shapes shape u v (SoFar script values number (op ∷ rest))) (steps : LeadsTo words shapes v w (Steps shape op come)) where
+module _ {W S O A : Type 0} {words : AnyWords W S O} {shapes : Shapes S} {shape : BooksShape} {u v w : W} {r : Result A
+    Stop} {op : Op} {come : Outcome} (script : List Op) (values : List Value) (number : ℕ) (rest : List Op)
+    (goes : GoesOn words v w r) (before : Turned words shapes shape u v (SoFar script values number (op ∷ rest)))
+    (steps : LeadsTo words shapes v w (Steps shape op come)) where
   -- one operation more
-  stepped : Turned words shapes shape u w (λ books last. (now : ClearingBooks) × SoFar script values number (op ∷ rest) books now × (step_of op now ≡ step_with come last))
+  stepped : Turned words shapes shape u w (λ books last. (now : ClearingBooks)
+      × SoFar script values number (op ∷ rest) books now × (step_of op now ≡ step_with come last))
   stepped = turn_then goes before (of_steps steps)
 
   -- it gives a value
@@ -87,7 +96,8 @@ outcome_left books after (reply.Declined k why) is = cc
 outcome_left books after (reply.Full k) is = cc
 
 -- a run is what its script means
-pub run_means : (shape : BooksShape) (script : List Op) (answer : Reply) (kept : Bool) (old new : List ℕ) → kept ≡ is_done answer → Runs shape script answer old new → ScriptMeans shape script old kept answer new
+pub run_means : (shape : BooksShape) (script : List Op) (answer : Reply) (kept : Bool) (old new : List ℕ)
+    → kept ≡ is_done answer → Runs shape script answer old new → ScriptMeans shape script old kept answer new
 run_means shape script answer kept old new where_done runs = record {
   replies = λ books stand.
       let last = runs.comes books stand in
@@ -95,7 +105,8 @@ run_means shape script answer kept old new where_done runs = record {
   kept_where_done = where_done;
   leaves = λ is_kept books stand.
       let last = runs.comes books stand in
-      let left : (outcome_of script books).1 ≡ last.0 = ap (λ (run : Run). (outcome_from books run).1) last.1 ∙ outcome_left books last.0 answer (sym where_done ∙ is_kept) in
+      let left : (outcome_of script books).1 ≡ last.0 = ap (λ (run : Run). (outcome_from books run).1) last.1
+      ∙ outcome_left books last.0 answer (sym where_done ∙ is_kept) in
       subst (λ z. Stands shape new z) (sym left) last.2;
 }
 
@@ -105,7 +116,8 @@ run_stays books (Ends values after) is = cc
 run_stays books (Stops stop) is = refl
 
 -- words whose script is not kept stand for the interpreter's books as they are
-pub refused_stands : (shape : BooksShape) (script : List Op) (words : List ℕ) (kept : Bool) (answer : Reply) (left : List ℕ) → ScriptMeans shape script words kept answer left → kept ≡ false
+pub refused_stands : (shape : BooksShape) (script : List Op) (words : List ℕ) (kept : Bool) (answer : Reply)
+    (left : List ℕ) → ScriptMeans shape script words kept answer left → kept ≡ false
     → (books : ClearingBooks) → Stands shape words books → Stands shape words (outcome_of script books).1
 refused_stands shape script words kept answer left means is_reverted books stand =
     let not_done : is_done (outcome_of script books).0 ≡ false = sym (ap is_done (means.replies books stand)) ∙ sym means.kept_where_done ∙ is_reverted in
@@ -122,8 +134,10 @@ module _ {W O : Type 0} (words : AnyWords W BooksShape O) (shapes : Shapes Books
         → (s : List ℕ) → Fits (shapes.word_count shape) (shapes.good shape) (words.trace w) s → ScriptMeans shape script s kept answer (after (words.trace w) s)
     fresh_means script answer kept where_done runs s fit =
         run_means shape script answer kept s (after (words.trace w) s) where_done
-        (leads_from_start words shapes v w (Runs shape script answer) fresh runs s (subst (λ z. Fits (shapes.word_count z) (shapes.good z) (words.trace w) s) (sym e) fit))
+        (leads_from_start words shapes v w (Runs shape script answer) fresh runs s
+        (subst (λ z. Fits (shapes.word_count z) (shapes.good z) (words.trace w) s) (sym e) fit))
 
     -- what it leaves is good
-    pub fresh_leaves : (P : List ℕ → Type 0) → words.shape w ≡ words.shape v → InEachState words shapes w P → (s : List ℕ) → Fits (shapes.word_count shape) (shapes.good shape) (words.trace w) s → P (after (words.trace w) s)
+    pub fresh_leaves : (P : List ℕ → Type 0) → words.shape w ≡ words.shape v → InEachState words shapes w P
+        → (s : List ℕ) → Fits (shapes.word_count shape) (shapes.good shape) (words.trace w) s → P (after (words.trace w) s)
     fresh_leaves P same stand s fit = stand.at s (subst (λ z. Fits (shapes.word_count z) (shapes.good z) (words.trace w) s) (sym (same ∙ e)) fit)

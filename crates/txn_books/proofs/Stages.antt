@@ -1,5 +1,6 @@
 -- From empty books to those that words stand for: accounts, prices, positions, and margin calls.
-use Rattle.std.proofs.Common.{◌≡◌, ℕ, ◌+◌, ◌/◌, ◌%◌, ◌<◌, ◌≤◌, Bool, true, false, cond, List, [], ◌∷◌, map, filter, not, Option, Some, None, ◌⊎◌, inl, inr, refl, sym, ap, ◌∙◌, subst, arith}
+use Rattle.std.proofs.Common.{◌≡◌, ℕ, ◌+◌, ◌/◌, ◌%◌, ◌<◌, ◌≤◌, Bool, true, false, cond, List, [], ◌∷◌, map, filter, not, Option, Some, None, ◌⊎◌, inl, inr}
+use Rattle.std.proofs.Common.{refl, sym, ap, ◌∙◌, subst, arith}
 use mathlib.Core.Logic.{dite}
 use native.Mathlib.Decide.{ℕ_discrete}
 use Rattle.std.specs.Cmp.{nat_cmp_total}
@@ -20,7 +21,8 @@ use Rattle.txn_books.specs.declared.shape.BooksShape.{BooksShape}
 use Rattle.txn_books.specs.Layout.{tree_of, chains_of, queue_of, price_key_of, position_key_of, chained}
 use Rattle.txn_books.specs.Standing.{Stands}
 use Rattle.txn_books.specs.Statements.{IsInstrument}
-use Rattle.txn_books.specs.Inner.Reading.{AddsUp, is_price_key, prices_in, positions_in, AddsAccounts, AddsPrices, AddsPositions, AddsCalls, nothing_yet, with_accounts, with_prices, with_positions}
+use Rattle.txn_books.specs.Inner.Reading.{AddsUp, is_price_key, prices_in, positions_in, AddsAccounts, AddsPrices, AddsPositions, AddsCalls, nothing_yet}
+use Rattle.txn_books.specs.Inner.Reading.{with_accounts, with_prices, with_positions}
 use Rattle.txn_books.proofs.ChainedChanges.{put_here, put_there}
 use Rattle.txn_books.proofs.Chained.{IsPlace, price_in, position_in, get_price, get_position}
 use Rattle.txn_books.proofs.Filling.{price_below, price_above}
@@ -36,11 +38,13 @@ module _ (whole : ClearingBooks) (range : AreInRange whole) where
   AlikePrices have prices =
       ((i : ℕ) → IsInstrument i → entry_map.get prices i ≡ entry_map.get have (price_key_of i)) × ((i x : ℕ) → entry_map.get prices i ≡ Some x → IsInstrument i)
 
-  prices_put : (key x : ℕ) (have : Entries) (prices : entry_map.FinMap nat_cmp ℕ) → key < MOST_INSTRUMENTS → AlikePrices have prices → AlikePrices (entry_map.insert have key x) (entry_map.insert prices (key + 1) x)
+  prices_put : (key x : ℕ) (have : Entries) (prices : entry_map.FinMap nat_cmp ℕ) → key < MOST_INSTRUMENTS
+      → AlikePrices have prices → AlikePrices (entry_map.insert have key x) (entry_map.insert prices (key + 1) x)
   prices_put key x have prices lt h = (
     λ i is. dite (ℕ_discrete i (key + 1))
         (λ e. ap (λ j. entry_map.get (entry_map.insert prices (key + 1) x) j) e ∙ put_here nat_cmp_total nat_cmp-IsAntisymmetric prices (key + 1) x
-        ∙ sym (ap (λ k. entry_map.get (entry_map.insert have key x) k) (let k : price_key_of i ≡ key = omega (arith, e) in k) ∙ put_here nat_cmp_total nat_cmp-IsAntisymmetric have key x))
+        ∙ sym (ap (λ k. entry_map.get (entry_map.insert have key x) k) (let k : price_key_of i ≡ key =
+        omega (arith, e) in k) ∙ put_here nat_cmp_total nat_cmp-IsAntisymmetric have key x))
         (λ ne. put_there nat_cmp_total nat_cmp-IsAntisymmetric prices (key + 1) x i ne ∙ h.0 i is
         ∙ sym (put_there nat_cmp_total nat_cmp-IsAntisymmetric have key x (price_key_of i) (λ e. ne (omega (arith, e, is.0))))),
     λ i y there. elim (found_after_insert nat_cmp_total nat_cmp-IsAntisymmetric prices (key + 1) i x y there) [
@@ -49,7 +53,8 @@ module _ (whole : ClearingBooks) (range : AreInRange whole) where
     ],
   )
 
-  prices_past : (key x : ℕ) (have : Entries) (prices : entry_map.FinMap nat_cmp ℕ) → MOST_INSTRUMENTS ≤ key → AlikePrices have prices → AlikePrices (entry_map.insert have key x) prices
+  prices_past : (key x : ℕ) (have : Entries) (prices : entry_map.FinMap nat_cmp ℕ) → MOST_INSTRUMENTS ≤ key
+      → AlikePrices have prices → AlikePrices (entry_map.insert have key x) prices
   prices_past key x have prices le h = (
     λ i is. h.0 i is ∙ sym (put_there nat_cmp_total nat_cmp-IsAntisymmetric have key x (price_key_of i) (λ e. omega (arith, e, le, is.0, is.1))),
     h.1,
@@ -66,9 +71,11 @@ module _ (whole : ClearingBooks) (range : AreInRange whole) where
       ])
 
   abbrev PricesIf : entry_map.FinMap nat_cmp ℕ → ℕ × ℕ → List (ℕ × ℕ) → Bool → Type 0
-  PricesIf prices e es b = AddsUp prices (map (λ d. (d.0 + 1, d.1)) (cond b (e ∷ filter (λ d. is_price_key d.0) es) (filter (λ d. is_price_key d.0) es))) whole.prices
+  PricesIf prices e es b = AddsUp prices
+      (map (λ d. (d.0 + 1, d.1)) (cond b (e ∷ filter (λ d. is_price_key d.0) es) (filter (λ d. is_price_key d.0) es))) whole.prices
 
-  prices_add : (es : List (ℕ × ℕ)) (have : Entries) (prices : entry_map.FinMap nat_cmp ℕ) → AlikePrices have prices → AddsUp have es (chained whole) → AddsUp prices (prices_in es) whole.prices
+  prices_add : (es : List (ℕ × ℕ)) (have : Entries) (prices : entry_map.FinMap nat_cmp ℕ) → AlikePrices have prices
+      → AddsUp have es (chained whole) → AddsUp prices (prices_in es) whole.prices
   prices_add [] have prices h adds = all_prices prices (subst (λ m. AlikePrices m prices) adds h)
   prices_add (e ∷ es) have prices h adds = elim (is_price_key e.0) as (λ b. is_price_key e.0 ≡ b → AddsUp prices (prices_in (e ∷ es)) whole.prices) [
     | true ↦ λ is.
@@ -79,13 +86,15 @@ module _ (whole : ClearingBooks) (range : AreInRange whole) where
           h.0 (e.0 + 1) number ∙ ap (entry_map.get have) key ∙ adds.0,
           prices_add es (entry_map.insert have e.0 e.1) (entry_map.insert prices (e.0 + 1) e.1) (prices_put e.0 e.1 have prices lt h) adds.1,
         )
-    | false ↦ λ is. subst (PricesIf prices e es) (sym is) (prices_add es (entry_map.insert have e.0 e.1) prices (prices_past e.0 e.1 have prices (price_above e.0 is) h) adds.1)
+    | false ↦ λ is. subst (PricesIf prices e es) (sym is) (prices_add es (entry_map.insert have e.0 e.1) prices
+        (prices_past e.0 e.1 have prices (price_above e.0 is) h) adds.1)
   ] refl
 
   -- positions that were put in, beside the entries of the chains
   abbrev AlikePositions : Entries → entry_map.FinMap position_cmp ℕ → Type 0
   AlikePositions have positions =
-      ((a i : ℕ) → 1 ≤ a → IsInstrument i → entry_map.get positions (a, i) ≡ entry_map.get have (position_key_of a i)) × ((p : ℕ × ℕ) (x : ℕ) → entry_map.get positions p ≡ Some x → IsPlace p)
+      ((a i : ℕ) → 1 ≤ a → IsInstrument i → entry_map.get positions (a, i) ≡ entry_map.get have (position_key_of a i))
+      × ((p : ℕ × ℕ) (x : ℕ) → entry_map.get positions p ≡ Some x → IsPlace p)
 
   abbrev place_of : ℕ → ℕ × ℕ
   place_of key = (key / MOST_INSTRUMENTS, key % MOST_INSTRUMENTS + 1)
@@ -116,7 +125,8 @@ module _ (whole : ClearingBooks) (range : AreInRange whole) where
     ],
   )
 
-  positions_before : (key x : ℕ) (have : Entries) (positions : entry_map.FinMap position_cmp ℕ) → key < MOST_INSTRUMENTS → AlikePositions have positions → AlikePositions (entry_map.insert have key x) positions
+  positions_before : (key x : ℕ) (have : Entries) (positions : entry_map.FinMap position_cmp ℕ) → key < MOST_INSTRUMENTS
+      → AlikePositions have positions → AlikePositions (entry_map.insert have key x) positions
   positions_before key x have positions lt h = (
     λ a i one is. h.0 a i one is ∙ sym (put_there nat_cmp_total nat_cmp-IsAntisymmetric have key x (position_key_of a i) (λ e. omega (arith, e, lt, one))),
     h.1,
@@ -133,30 +143,39 @@ module _ (whole : ClearingBooks) (range : AreInRange whole) where
       ])
 
   abbrev PositionsIf : entry_map.FinMap position_cmp ℕ → ℕ × ℕ → List (ℕ × ℕ) → Bool → Type 0
-  PositionsIf positions e es b = AddsUp positions (map (λ d. (place_of d.0, d.1)) (cond b (e ∷ filter (λ d. not (is_price_key d.0)) es) (filter (λ d. not (is_price_key d.0)) es))) whole.positions
+  PositionsIf positions e es b =
+      AddsUp positions (map (λ d. (place_of d.0, d.1)) (cond b (e ∷ filter (λ d. not (is_price_key d.0)) es)
+      (filter (λ d. not (is_price_key d.0)) es))) whole.positions
 
-  positions_add : (es : List (ℕ × ℕ)) (have : Entries) (positions : entry_map.FinMap position_cmp ℕ) → AlikePositions have positions → AddsUp have es (chained whole) → AddsUp positions (positions_in es) whole.positions
+  positions_add : (es : List (ℕ × ℕ)) (have : Entries) (positions : entry_map.FinMap position_cmp ℕ)
+      → AlikePositions have positions → AddsUp have es (chained whole) → AddsUp positions (positions_in es) whole.positions
   positions_add [] have positions h adds = all_positions positions (subst (λ m. AlikePositions m positions) adds h)
-  positions_add (e ∷ es) have positions h adds = elim (is_price_key e.0) as (λ b. is_price_key e.0 ≡ b → AddsUp positions (positions_in (e ∷ es)) whole.positions) [
-    | true ↦ λ is. subst (PositionsIf positions e es) (sym (ap not is)) (positions_add es (entry_map.insert have e.0 e.1) positions (positions_before e.0 e.1 have positions (price_below e.0 is) h) adds.1)
-    | false ↦ λ is.
-        let le : MOST_INSTRUMENTS ≤ e.0 = price_above e.0 is in
-        let place : IsPlace (place_of e.0) = is_place e.0 le in
-        let key : position_key_of (e.0 / MOST_INSTRUMENTS) (e.0 % MOST_INSTRUMENTS + 1) ≡ e.0 = omega arith in
-        subst (PositionsIf positions e es) (sym (ap not is)) (
-          h.0 (e.0 / MOST_INSTRUMENTS) (e.0 % MOST_INSTRUMENTS + 1) place.0 place.1 ∙ ap (entry_map.get have) key ∙ adds.0,
-          positions_add es (entry_map.insert have e.0 e.1) (entry_map.insert positions (place_of e.0) e.1) (positions_put e.0 e.1 have positions le h) adds.1,
-        )
-  ] refl
+  positions_add (e ∷ es) have positions h adds = elim (is_price_key e.0) as (λ b. is_price_key e.0 ≡ b
+      → AddsUp positions (positions_in (e ∷ es)) whole.positions) [
+        | true ↦ λ is. subst (PositionsIf positions e es) (sym (ap not is))
+            (positions_add es (entry_map.insert have e.0 e.1) positions (positions_before e.0 e.1 have positions (price_below e.0 is) h) adds.1)
+        | false ↦ λ is.
+            let le : MOST_INSTRUMENTS ≤ e.0 = price_above e.0 is in
+            let place : IsPlace (place_of e.0) = is_place e.0 le in
+            let key : position_key_of (e.0 / MOST_INSTRUMENTS) (e.0 % MOST_INSTRUMENTS + 1) ≡ e.0 = omega arith in
+            subst (PositionsIf positions e es) (sym (ap not is)) (
+              h.0 (e.0 / MOST_INSTRUMENTS) (e.0 % MOST_INSTRUMENTS + 1) place.0 place.1 ∙ ap (entry_map.get have) key ∙ adds.0,
+              positions_add es (entry_map.insert have e.0 e.1) (entry_map.insert positions (place_of e.0) e.1) (positions_put e.0 e.1 have positions le h) adds.1,
+            )
+      ] refl
 
   -- the entries of the chains have the prices and the positions
   pub all_prices_add : (es : List (ℕ × ℕ)) → AddsUp entry_map.empty es (chained whole) → AddsUp entry_map.empty (prices_in es) whole.prices
-  all_prices_add es adds = prices_add es entry_map.empty entry_map.empty
-      (λ i is. entry_map.get-empty nat_cmp i ∙ sym (entry_map.get-empty nat_cmp (price_key_of i)), λ i x there. absurd (none-some x (sym (entry_map.get-empty nat_cmp i) ∙ there))) adds
+  all_prices_add es adds = prices_add es entry_map.empty entry_map.empty (
+    λ i is. entry_map.get-empty nat_cmp i ∙ sym (entry_map.get-empty nat_cmp (price_key_of i)),
+    λ i x there. absurd (none-some x (sym (entry_map.get-empty nat_cmp i) ∙ there)),
+  ) adds
 
   pub all_positions_add : (es : List (ℕ × ℕ)) → AddsUp entry_map.empty es (chained whole) → AddsUp entry_map.empty (positions_in es) whole.positions
-  all_positions_add es adds = positions_add es entry_map.empty entry_map.empty
-      (λ a i one is. entry_map.get-empty position_cmp (a, i) ∙ sym (entry_map.get-empty nat_cmp (position_key_of a i)), λ p x there. absurd (none-some x (sym (entry_map.get-empty position_cmp p) ∙ there))) adds
+  all_positions_add es adds = positions_add es entry_map.empty entry_map.empty (
+    λ a i one is. entry_map.get-empty position_cmp (a, i) ∙ sym (entry_map.get-empty nat_cmp (position_key_of a i)),
+    λ p x there. absurd (none-some x (sym (entry_map.get-empty position_cmp p) ∙ there)),
+  ) adds
 
   -- the stages are in range
   pub accounts_range : AreInRange (with_accounts whole)
@@ -222,7 +241,8 @@ module _ (shape : BooksShape) (words : List ℕ) (whole : ClearingBooks) (stands
   has_chains = record { entries = chained whole; used = stands.parts.chain_used; holds = chains_are }
 
   module _ (books : ClearingBooks) (listed : List (ℕ × ℕ)) where
-    pub first_stage : books ≡ empty_books shape.blocks shape.instruments shape.ring → ((entries : Entries) (used : Blocks) → TreeHolds (tree_of shape) words entries used → AddsUp entry_map.empty listed entries)
+    pub first_stage : books ≡ empty_books shape.blocks shape.instruments shape.ring
+        → ((entries : Entries) (used : Blocks) → TreeHolds (tree_of shape) words entries used → AddsUp entry_map.empty listed entries)
         → AddsAccounts listed books (with_accounts whole)
     first_stage e adds =
         subst (λ b. AddsAccounts listed b (with_accounts whole)) (ap (λ (z : BooksShape). empty_books z.blocks z.instruments z.ring) stands.sizes ∙ sym e)
@@ -230,10 +250,12 @@ module _ (shape : BooksShape) (words : List ℕ) (whole : ClearingBooks) (stands
 
     module _ (adds : (entries : Entries) (used : Blocks) → ChainsHold (chains_of shape) words entries used → AddsUp entry_map.empty listed entries) where
       pub second_stage : books ≡ with_accounts whole → AddsPrices listed books (with_prices whole)
-      second_stage e = subst (λ b. AddsPrices listed b (with_prices whole)) (sym e) (prices_stage whole stands.range listed (adds (chained whole) stands.parts.chain_used chains_are))
+      second_stage e = subst (λ b. AddsPrices listed b (with_prices whole)) (sym e)
+          (prices_stage whole stands.range listed (adds (chained whole) stands.parts.chain_used chains_are))
 
       pub third_stage : books ≡ with_prices whole → AddsPositions listed books (with_positions whole)
-      third_stage e = subst (λ b. AddsPositions listed b (with_positions whole)) (sym e) (positions_stage whole stands.range listed (adds (chained whole) stands.parts.chain_used chains_are))
+      third_stage e = subst (λ b. AddsPositions listed b (with_positions whole)) (sym e)
+          (positions_stage whole stands.range listed (adds (chained whole) stands.parts.chain_used chains_are))
 
   pub last_stage : (books : ClearingBooks) → books ≡ with_positions whole → AddsCalls (queue_of shape) words books whole
   last_stage books e = subst (λ b. AddsCalls (queue_of shape) words b whole) (sym e) (record {

@@ -19,10 +19,12 @@ use Rattle.txn_books.proofs.Parts.{tree_free, chains_free}
 
 module _ (shape : BooksShape) (words : List ℕ) (books : ClearingBooks) (stand : Stands shape words books) where
   pub tree_apart : HoldsApart (tree_part (tree_of shape)) words books.accounts stand.parts.tree_used stand.parts.free
-  tree_apart = subst (λ z. HoldsApart (tree_part (tree_of z)) words books.accounts stand.parts.tree_used stand.parts.free) stand.sizes (tree_free words books [] stand.parts)
+  tree_apart = subst (λ z. HoldsApart (tree_part (tree_of z)) words books.accounts stand.parts.tree_used
+      stand.parts.free) stand.sizes (tree_free words books [] stand.parts)
 
   pub chains_apart : HoldsApart (chain_part (chains_of shape)) words (chained books) stand.parts.chain_used stand.parts.free
-  chains_apart = subst (λ z. HoldsApart (chain_part (chains_of z)) words (chained books) stand.parts.chain_used stand.parts.free) stand.sizes (chains_free words books [] stand.parts)
+  chains_apart = subst (λ z. HoldsApart (chain_part (chains_of z)) words (chained books) stand.parts.chain_used
+      stand.parts.free) stand.sizes (chains_free words books [] stand.parts)
 
   pub queue_held : QueueHolds (queue_of shape) words books.calls
   queue_held = subst (λ z. QueueHolds (queue_of z) words books.calls) stand.sizes stand.parts.queue

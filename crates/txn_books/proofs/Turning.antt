@@ -46,16 +46,19 @@ module _ {W S O : Type 0} (words : AnyWords W S O) (shapes : Shapes S) (shape : 
 
 module _ {W S O A : Type 0} {words : AnyWords W S O} {shapes : Shapes S} {shape : BooksShape} {v w : W} {r : Result A Stop} (goes : GoesOn words v w r) where
   -- the first look
-  pub looked : {B : Type 0} {says : ClearingBooks → B} {answer : B} → LeadsTo words shapes v w (Tells (Stands shape) says answer) → Looked words shapes shape v w (λ books. answer ≡ says books)
+  pub looked : {B : Type 0} {says : ClearingBooks → B} {answer : B}
+      → LeadsTo words shapes v w (Tells (Stands shape) says answer) → Looked words shapes shape v w (λ books. answer ≡ says books)
   looked told = record { kept = goes.shape; begins = goes.begins; saw = saw_told words shapes shape v w _ _ told }
 
   -- one look more
-  pub look_then : {B : Type 0} {u : W} {P : ClearingBooks → Type 0} {says : ClearingBooks → B} {answer : B} → Looked words shapes shape u v P → LeadsTo words shapes v w (Tells (Stands shape) says answer)
+  pub look_then : {B : Type 0} {u : W} {P : ClearingBooks → Type 0} {says : ClearingBooks → B} {answer : B}
+      → Looked words shapes shape u v P → LeadsTo words shapes v w (Tells (Stands shape) says answer)
       → Looked words shapes shape u w (λ books. P books × (answer ≡ says books))
   look_then {P = P} {says = says} {answer = answer} before told = record {
     kept = goes.shape ∙ before.kept;
     begins = begins_trans _ _ _ before.begins goes.begins;
-    saw = saw_then words shapes shape _ _ _ P (λ books. answer ≡ says books) _ before.kept goes.begins (λ books sized p q. (p, q)) before.saw (saw_told words shapes shape v w says answer told);
+    saw = saw_then words shapes shape _ _ _ P (λ books. answer ≡ says books) _ before.kept goes.begins
+        (λ books sized p q. (p, q)) before.saw (saw_told words shapes shape v w says answer told);
   }
 
   -- a first change
@@ -63,7 +66,8 @@ module _ {W S O A : Type 0} {words : AnyWords W S O} {shapes : Shapes S} {shape 
   turned turns = record { kept = goes.shape; begins = goes.begins; turns = turns }
 
   -- a change after looks
-  pub look_turn : {u : W} {P : ClearingBooks → Type 0} {R : ClearingBooks → ClearingBooks → Type 0} → Looked words shapes shape u v P → LeadsTo words shapes v w (Turns shape R)
+  pub look_turn : {u : W} {P : ClearingBooks → Type 0} {R : ClearingBooks → ClearingBooks → Type 0}
+      → Looked words shapes shape u v P → LeadsTo words shapes v w (Turns shape R)
       → Turned words shapes shape u w (λ books after. P books × R books after)
   look_turn {u = u} {P = P} {R = R} before turns = record {
     kept = goes.shape ∙ before.kept;
@@ -95,24 +99,32 @@ module _ {W S O A : Type 0} {words : AnyWords W S O} {shapes : Shapes S} {shape 
 
 module _ {W S O : Type 0} {words : AnyWords W S O} {shapes : Shapes S} {shape : BooksShape} {v w : W} where
   -- what each kind of change turns
-  pub of_change : {change : ClearingBooks → ClearingBooks} → LeadsTo words shapes v w (Changes (Stands shape) change) → LeadsTo words shapes v w (Turns shape (λ books after. after ≡ change books))
+  pub of_change : {change : ClearingBooks → ClearingBooks} → LeadsTo words shapes v w (Changes (Stands shape) change)
+      → LeadsTo words shapes v w (Turns shape (λ books after. after ≡ change books))
   of_change {change = change} h = leads_less words shapes v w _ _ (λ x y c. record { at = λ books stand. (change books, c books stand, refl) }) h
 
-  pub of_room : {lacks : ClearingBooks → Bool} {change : ClearingBooks → ClearingBooks} {had_room : Bool} → LeadsTo words shapes v w (ChangesWithRoom (Stands shape) lacks change had_room)
+  pub of_room : {lacks : ClearingBooks → Bool} {change : ClearingBooks → ClearingBooks} {had_room : Bool}
+      → LeadsTo words shapes v w (ChangesWithRoom (Stands shape) lacks change had_room)
       → LeadsTo words shapes v w (Turns shape (λ books after. (had_room ≡ not (lacks books)) × (after ≡ (if had_room then change books else books))))
-  of_room {change = change} {had_room = had_room} h = leads_less words shapes v w _ _ (λ x y c. record { at = λ books stand. ((if had_room then change books else books), c.left books stand, (c.answer books stand, refl)) }) h
+  of_room {change = change} {had_room = had_room} h =
+      leads_less words shapes v w _ _
+      (λ x y c. record { at = λ books stand. ((if had_room then change books else books), c.left books stand, (c.answer books stand, refl)) }) h
 
-  pub of_taking : {A : Type 0} {says : ClearingBooks → A} {change : ClearingBooks → ClearingBooks} {answer : A} → LeadsTo words shapes v w (TellsAndChanges (Stands shape) says change answer)
+  pub of_taking : {A : Type 0} {says : ClearingBooks → A} {change : ClearingBooks → ClearingBooks} {answer : A}
+      → LeadsTo words shapes v w (TellsAndChanges (Stands shape) says change answer)
       → LeadsTo words shapes v w (Turns shape (λ books after. (answer ≡ says books) × (after ≡ change books)))
-  of_taking {change = change} h = leads_less words shapes v w _ _ (λ x y c. record { at = λ books stand. (change books, c.left books stand, (c.told books stand, refl)) }) h
+  of_taking {change = change} h =
+      leads_less words shapes v w _ _ (λ x y c. record { at = λ books stand. (change books, c.left books stand, (c.told books stand, refl)) }) h
 
   -- what looks tell together
-  pub tells : {A : Type 0} {says : ClearingBooks → A} {answer : A} {P : ClearingBooks → Type 0} → Looked words shapes shape v w P → ((books : ClearingBooks) → IsSized shape books → P books → answer ≡ says books)
+  pub tells : {A : Type 0} {says : ClearingBooks → A} {answer : A} {P : ClearingBooks → Type 0}
+      → Looked words shapes shape v w P → ((books : ClearingBooks) → IsSized shape books → P books → answer ≡ says books)
       → LeadsTo words shapes v w (Tells (Stands shape) says answer)
   tells {says = says} {answer = answer} {P = P} h means = told_saw words shapes shape v w says answer P means h.saw
 
   -- less of what changes did
-  pub turned_less : {R T : ClearingBooks → ClearingBooks → Type 0} → Turned words shapes shape v w R → ((books after : ClearingBooks) → IsSized shape books → R books after → T books after) → Turned words shapes shape v w T
+  pub turned_less : {R T : ClearingBooks → ClearingBooks → Type 0} → Turned words shapes shape v w R
+      → ((books after : ClearingBooks) → IsSized shape books → R books after → T books after) → Turned words shapes shape v w T
   turned_less h less = record {
     kept = h.kept;
     begins = h.begins;
@@ -121,27 +133,39 @@ module _ {W S O : Type 0} {words : AnyWords W S O} {shapes : Shapes S} {shape : 
   }
 
   -- an operation that only looked
-  pub answers : {op : Op} {outcome : Outcome} {P : ClearingBooks → Type 0} → Looked words shapes shape v w P → ((books : ClearingBooks) → IsSized shape books → P books → step_of op books ≡ step_with outcome books)
+  pub answers : {op : Op} {outcome : Outcome} {P : ClearingBooks → Type 0} → Looked words shapes shape v w P
+      → ((books : ClearingBooks) → IsSized shape books → P books → step_of op books ≡ step_with outcome books)
       → LeadsTo words shapes v w (Steps shape op outcome)
   answers h means = leads_less words shapes v w _ _
-      (λ x y k. record { comes = λ books stand. (books, means books (stand.sizes, stand.range) (k.saw books stand), subst (λ z. Stands shape z books) (sym k.same) stand) }) h.saw
+      (λ x y k. record {
+        comes = λ books stand. (
+          books,
+          means books (stand.sizes, stand.range) (k.saw books stand),
+          subst (λ z. Stands shape z books) (sym k.same) stand,
+        );
+      }) h.saw
 
   -- an operation that changed the books
   pub comes : {op : Op} {outcome : Outcome} {R : ClearingBooks → ClearingBooks → Type 0} → Turned words shapes shape v w R
-      → ((books after : ClearingBooks) → IsSized shape books → R books after → step_of op books ≡ step_with outcome after) → LeadsTo words shapes v w (Steps shape op outcome)
+      → ((books after : ClearingBooks) → IsSized shape books → R books after
+      → step_of op books ≡ step_with outcome after) → LeadsTo words shapes v w (Steps shape op outcome)
   comes h means = leads_less words shapes v w _ _
       (λ x y k. record { comes = λ books stand. let last = k.at books stand in (last.0, means books last.0 (stand.sizes, stand.range) last.2, last.1) }) h.turns
 
   -- what was seen holds of the books that stand after looks
-  pub each_looked : {P Q : ClearingBooks → Type 0} → Looked words shapes shape v w P → InEachState words shapes v (IsGoodFor shape) → ((books : ClearingBooks) → IsSized shape books → P books → Q books)
+  pub each_looked : {P Q : ClearingBooks → Type 0} → Looked words shapes shape v w P
+      → InEachState words shapes v (IsGoodFor shape) → ((books : ClearingBooks) → IsSized shape books → P books → Q books)
       → InEachState words shapes w (OfModel (Stands shape) Q)
-  each_looked {P = P} {Q = Q} h stand means = state_after words shapes v w (IsGoodFor shape) (OfModel (Stands shape) Q) (Saw shape P) h.kept h.begins stand h.saw
+  each_looked {P = P} {Q = Q} h stand means =
+      state_after words shapes v w (IsGoodFor shape) (OfModel (Stands shape) Q) (Saw shape P) h.kept h.begins stand h.saw
       (λ x y good k books there. means books (there.sizes, there.range) (k.saw books (subst (λ z. Stands shape z books) k.same there)))
 
   -- and of those that stand after a change, what R says of them
-  pub each_turned : {R : ClearingBooks → ClearingBooks → Type 0} {Q : ClearingBooks → Type 0} → Turned words shapes shape v w R → InEachState words shapes v (IsGoodFor shape)
+  pub each_turned : {R : ClearingBooks → ClearingBooks → Type 0} {Q : ClearingBooks → Type 0}
+      → Turned words shapes shape v w R → InEachState words shapes v (IsGoodFor shape)
       → ((books after : ClearingBooks) → IsSized shape books → R books after → Q after) → InEachState words shapes w (OfModel (Stands shape) Q)
-  each_turned {R = R} {Q = Q} h stand means = state_after words shapes v w (IsGoodFor shape) (OfModel (Stands shape) Q) (Turns shape R) h.kept h.begins stand h.turns
+  each_turned {R = R} {Q = Q} h stand means =
+      state_after words shapes v w (IsGoodFor shape) (OfModel (Stands shape) Q) (Turns shape R) h.kept h.begins stand h.turns
       (λ x y good k others there.
       let last = k.at good.0 good.1 in
       subst Q (one_books shape y last.0 others last.1 there) (means good.0 last.0 (good.1.sizes, good.1.range) last.2))

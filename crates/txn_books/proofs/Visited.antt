@@ -1,5 +1,6 @@
 -- A tree whose nodes are visited from the top down, with the names of the subtrees that are left on a list.
-use Rattle.std.proofs.Common.{◌≡◌, ◌≢◌, ℕ, ◌+◌, ◌-◌, ◌<◌, ◌≤◌, List, [], ◌∷◌, ◌++◌, length, slice_get, Option, Some, None, refl, sym, ap, ◌∙◌, subst, arith, length-append, append_assoc}
+use Rattle.std.proofs.Common.{◌≡◌, ◌≢◌, ℕ, ◌+◌, ◌-◌, ◌<◌, ◌≤◌, List, [], ◌∷◌, ◌++◌, length, slice_get, Option, Some, None, refl, sym, ap, ◌∙◌, subst, arith}
+use Rattle.std.proofs.Common.{length-append, append_assoc}
 use mathlib.Core.Logic.{dite}
 use native.Mathlib.Decide.{ℕ_discrete}
 use Rattle.std.specs.List.{AllByRecursion}
@@ -79,7 +80,8 @@ module _ (arena : Arena) (words names : List ℕ) (listed whole : List (ℕ × �
     pub visits_none : name ≡ 0 → Visits arena words names listed whole → Visits arena words rest listed whole
     visits_none none h = at (h.trees) h.named h.spelled h.all
       where
-        at : (trees : List Tree) → names ≡ names_of trees → AreSpelled arena words trees → listed ++ entries_in (down_all trees) ≡ whole → Visits arena words rest listed whole
+        at : (trees : List Tree) → names ≡ names_of trees → AreSpelled arena words trees
+            → listed ++ entries_in (down_all trees) ≡ whole → Visits arena words rest listed whole
         at [] named spelled all =
             let long : length (rest ++ name ∷ []) ≡ length rest + 1 = length-append rest (name ∷ []) in
             let same : length (rest ++ name ∷ []) ≡ length {A = ℕ} [] = ap length (sym last ∙ named) in
@@ -144,13 +146,15 @@ module _ (arena : Arena) (words names : List ℕ) (listed whole : List (ℕ × �
         (omega (arith, below, block, some), omega (arith, long))
 
     -- a node is listed, and its subtrees are left
-    pub visits_node : (key value left right : ℕ) → name ≢ 0 → slice_get words (block_at arena (name - 1)) ≡ Some key → slice_get words (block_at arena (name - 1) + 1) ≡ Some value
+    pub visits_node : (key value left right : ℕ) → name ≢ 0 → slice_get words (block_at arena (name - 1)) ≡ Some key
+        → slice_get words (block_at arena (name - 1) + 1) ≡ Some value
         → slice_get words (block_at arena (name - 1) + 2) ≡ Some left → slice_get words (block_at arena (name - 1) + 3) ≡ Some right
         → Visits arena words names listed whole → Visits arena words ((rest ++ right ∷ []) ++ left ∷ []) (listed ++ (key, value) ∷ []) whole
     visits_node key value left right some first second third fourth h =
         let t : Tops = tops some h in
         let back : name - 1 ≡ t.cell.block = sym t.block in
-        let at : (j : ℕ) → slice_get words (block_at arena t.cell.block + j) ≡ slice_get words (block_at arena (name - 1) + j) = λ j. ap (λ b. slice_get words (block_at arena b + j)) (sym back) in
+        let at : (j : ℕ) → slice_get words (block_at arena t.cell.block + j)
+        ≡ slice_get words (block_at arena (name - 1) + j) = λ j. ap (λ b. slice_get words (block_at arena b + j)) (sym back) in
         let keys : t.cell.key ≡ key = same_Some t.cell.key key (sym t.node.key ∙ ap (λ b. slice_get words (block_at arena b)) (sym back) ∙ first) in
         let values : t.cell.value ≡ value = same_Some t.cell.value value (sym t.node.value ∙ at 1 ∙ second) in
         let lefts : left ≡ name_of t.left = same_Some left (name_of t.left) (sym third ∙ sym (at 2) ∙ t.node.left_there) in
@@ -159,7 +163,8 @@ module _ (arena : Arena) (words names : List ℕ) (listed whole : List (ℕ × �
           trees = t.left ∷ t.right ∷ t.trees;
           named = λ i. (t.others i ++ rights i ∷ []) ++ lefts i ∷ [];
           spelled = (t.spelled_left, (t.spelled_right, t.spelled));
-          all = append_assoc listed ((key, value) ∷ []) (entries_in (down t.left (down t.right (down_all t.trees)))) ∙ (λ i. listed ++ (sym keys i, sym values i) ∷ entries_in (down t.left (down t.right (down_all t.trees)))) ∙ t.all;
+          all = append_assoc listed ((key, value) ∷ []) (entries_in (down t.left (down t.right (down_all t.trees))))
+              ∙ (λ i. listed ++ (sym keys i, sym values i) ∷ entries_in (down t.left (down t.right (down_all t.trees)))) ∙ t.all;
         }
 
 -- the first visit is that of the whole tree
@@ -179,11 +184,14 @@ or_assoc None p q = refl
 or_assoc (Some x) p q = refl
 
 -- cells say the same of a key in that order
-value_down : (key : ℕ) (tree : Tree) (cs : List Cell) → IsRising (cells_of tree) → value_of key (down tree cs) ≡ or_else (value_of key (cells_of tree)) (value_of key cs)
+value_down : (key : ℕ) (tree : Tree) (cs : List Cell) → IsRising (cells_of tree)
+    → value_of key (down tree cs) ≡ or_else (value_of key (cells_of tree)) (value_of key cs)
 value_down key Leaf cs rising = refl
 value_down key (Node left c right) cs rising = dite (ℕ_discrete c.key key)
     (λ e. value_first key c (down left (down right cs)) e
-    ∙ ap (λ p. or_else p (value_of key cs)) (sym (value_there key (cells_of left) (cells_of right) c e (subst (λ k. IsBelow k (cells_of left)) e (rising_below (cells_of left) (cells_of right) c rising)))))
+    ∙ ap (λ p. or_else p (value_of key cs))
+    (sym (value_there key (cells_of left) (cells_of right) c e
+    (subst (λ k. IsBelow k (cells_of left)) e (rising_below (cells_of left) (cells_of right) c rising)))))
     (λ ne. value_later key c (down left (down right cs)) ne
     ∙ value_down key left (down right cs) (rising_first (cells_of left) (c ∷ cells_of right) rising)
     ∙ ap (λ p. or_else (value_of key (cells_of left)) p) (value_down key right cs (rising_last (cells_of left) (c ∷ cells_of right) rising).1)
@@ -195,7 +203,8 @@ both_all P Q [] h k = tt
 both_all P Q (x ∷ xs) h k = ((h.0, k.0), both_all P Q xs h.1 k.1)
 
 -- and each key stands once
-once_down : (tree : Tree) (cs : List Cell) → IsRising (cells_of tree) → HasKeysOnce cs → AllByRecursion (λ d. value_of d.key cs ≡ None) (cells_of tree) → HasKeysOnce (down tree cs)
+once_down : (tree : Tree) (cs : List Cell) → IsRising (cells_of tree) → HasKeysOnce cs
+    → AllByRecursion (λ d. value_of d.key cs ≡ None) (cells_of tree) → HasKeysOnce (down tree cs)
 once_down Leaf cs rising once apart = once
 once_down (Node left c right) cs rising once apart =
     let ls : List Cell = cells_of left in
@@ -224,7 +233,8 @@ length_down Leaf cs = omega arith
 length_down (Node left c right) cs =
     let outer : length (down left (down right cs)) ≡ length (cells_of left) + length (down right cs) = length_down left (down right cs) in
     let inner : length (down right cs) ≡ length (cells_of right) + length cs = length_down right cs in
-    let whole : length (cells_of left ++ c ∷ cells_of right) ≡ length (cells_of left) + length (c ∷ cells_of right) = length-append (cells_of left) (c ∷ cells_of right) in
+    let whole : length (cells_of left ++ c ∷ cells_of right) ≡ length (cells_of left) + length (c ∷ cells_of right) =
+    length-append (cells_of left) (c ∷ cells_of right) in
     omega (arith, outer, inner, whole)
 
 none_apart : (xs : List Cell) → AllByRecursion (λ d. value_of d.key [] ≡ None) xs

@@ -1,5 +1,6 @@
 -- Trees and chains that are walked block by block.
-use Rattle.std.proofs.Common.{◌≡◌, ◌≢◌, ℕ, zero, suc, ◌+◌, ◌-◌, ◌<◌, ◌≤◌, List, [], ◌∷◌, ◌++◌, length, get_or, slice_get, Option, Some, None, ◌⊎◌, inl, inr, refl, sym, ap, ◌∙◌, subst, arith}
+use Rattle.std.proofs.Common.{◌≡◌, ◌≢◌, ℕ, zero, suc, ◌+◌, ◌-◌, ◌<◌, ◌≤◌, List, [], ◌∷◌, ◌++◌, length, get_or, slice_get, Option, Some, None, ◌⊎◌, inl, inr}
+use Rattle.std.proofs.Common.{refl, sym, ap, ◌∙◌, subst, arith}
 use Rattle.std.proofs.Common.{length-append, append_assoc}
 use Rattle.std.proofs.lemmas.List.{append-nil}
 use Rattle.std.proofs.lemmas.Option.{slice_get-get_or, slice_get_within, same_Some}
@@ -54,18 +55,22 @@ module _ (arena : Arena) (words : List ℕ) (listed whole : List (ℕ × ℕ)) w
   pub follows_below : (name : ℕ) → name ≢ 0 → Follows arena words name listed whole → (name ≤ arena.blocks) × (length listed + 1 ≤ length whole)
   follows_below name some h = at (h.rest) h.chain h.all
     where
-      at : (rest : List Cell) → HasChain arena words h.place rest → listed ++ entries_in rest ≡ whole → (name ≤ arena.blocks) × (length listed + 1 ≤ length whole)
+      at : (rest : List Cell) → HasChain arena words h.place rest → listed ++ entries_in rest ≡ whole
+          → (name ≤ arena.blocks) × (length listed + 1 ≤ length whole)
       at [] chain all = absurd (some (same_Some name 0 (sym h.named ∙ chain)))
       at (c ∷ cs) chain all =
           let e : name ≡ c.block + 1 = same_Some name (c.block + 1) (sym h.named ∙ chain.0) in
           let long : length listed + length (entries_in (c ∷ cs)) ≡ length whole = sym (length-append listed (entries_in (c ∷ cs))) ∙ ap length all in
           (omega (arith, e, chain.1), omega (arith, long))
 
-  pub follows_next : (name key value next : ℕ) → name ≢ 0 → slice_get words (block_at arena (name - 1)) ≡ Some key → slice_get words (block_at arena (name - 1) + 1) ≡ Some value
-      → slice_get words (block_at arena (name - 1) + 2) ≡ Some next → Follows arena words name listed whole → Follows arena words next (listed ++ (key, value) ∷ []) whole
+  pub follows_next : (name key value next : ℕ) → name ≢ 0 → slice_get words (block_at arena (name - 1)) ≡ Some key
+      → slice_get words (block_at arena (name - 1) + 1) ≡ Some value
+      → slice_get words (block_at arena (name - 1) + 2) ≡ Some next → Follows arena words name listed whole
+      → Follows arena words next (listed ++ (key, value) ∷ []) whole
   follows_next name key value next some first second third h = at (h.rest) h.chain h.all
     where
-      at : (rest : List Cell) → HasChain arena words h.place rest → listed ++ entries_in rest ≡ whole → Follows arena words next (listed ++ (key, value) ∷ []) whole
+      at : (rest : List Cell) → HasChain arena words h.place rest → listed ++ entries_in rest ≡ whole
+          → Follows arena words next (listed ++ (key, value) ∷ []) whole
       at [] chain all = absurd (some (same_Some name 0 (sym h.named ∙ chain)))
       at (c ∷ cs) chain all =
           let e : name ≡ c.block + 1 = same_Some name (c.block + 1) (sym h.named ∙ chain.0) in
@@ -115,7 +120,8 @@ module _ (map : ChainMap) (words : List ℕ) (entries : Entries) (used : Blocks)
       record {
         part = all;
         adds = adds_append nat_cmp_total nat_cmp-IsAntisymmetric listed (entries_in cs) entry_map.empty k.part all k.adds
-            (adds_cells cs k.part all (h.once n lt) (λ key some. k.high key (let same : bucket_of key ≡ n = key_own n key cs own some in omega (arith, same))) is);
+            (adds_cells cs k.part all (h.once n lt) (λ key some. k.high key (let same : bucket_of key ≡ n =
+            key_own n key cs own some in omega (arith, same))) is);
         low = λ key less. dite (ℕ_discrete (bucket_of key) n)
             (λ e. is key ∙ ap (λ p. or_else (value_of key cs) p) (k.high key (omega (arith, e))) ∙ or_none (value_of key cs)
             ∙ ap (λ i. value_of key (h.cells i)) (sym e) ∙ sym (h.entries_are key))
@@ -126,7 +132,8 @@ module _ (map : ChainMap) (words : List ℕ) (entries : Entries) (used : Blocks)
   -- what all buckets hold is the map
   pub gathers_all : (n : ℕ) (listed : List (ℕ × ℕ)) → n ≡ BUCKETS → Gathers n entries listed → AddsUp entry_map.empty listed entries
   gathers_all n listed e k =
-      let same : k.part ≡ entries = entry_map.same_map nat_cmp_total nat_cmp-IsAntisymmetric k.part entries (λ key. k.low key (omega (arith, e, bucket_below key))) in
+      let same : k.part ≡ entries = entry_map.same_map nat_cmp_total nat_cmp-IsAntisymmetric k.part entries
+      (λ key. k.low key (omega (arith, e, bucket_below key))) in
       subst (λ m. AddsUp entry_map.empty listed m) same k.adds
 
   pub bucket_chain : (n : ℕ) → n < BUCKETS → (cells : List Cell) × HasChain map.arena words (map.buckets + n) cells × (length cells ≤ map.arena.blocks)

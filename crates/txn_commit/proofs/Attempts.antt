@@ -1,5 +1,6 @@
 -- An attempt between two of its calls: what asking for a lock, a load, a store and a halt leave of it.
-use Rattle.std.proofs.Common.{◌≡◌, ◌≢◌, ℕ, zero, suc, ◌+◌, ◌<◌, ◌≤◌, List, [], ◌∷◌, ◌++◌, length, All, true, false, inr, Option, Some, None, Result, Ok, Err, IsOk, OnOk, OnErr, is_err, get_or, slice_get, slice_index, refl, sym, ap, ◌∙◌, subst, arith, length-append}
+use Rattle.std.proofs.Common.{◌≡◌, ◌≢◌, ℕ, zero, suc, ◌+◌, ◌<◌, ◌≤◌, List, [], ◌∷◌, ◌++◌, length, All, true, false, inr, Option, Some, None, Result, Ok, Err}
+use Rattle.std.proofs.Common.{IsOk, OnOk, OnErr, is_err, get_or, slice_get, slice_index, refl, sym, ap, ◌∙◌, subst, arith, length-append}
 use Rattle.std.proofs.lemmas.List.{append-nil}
 use Rattle.std.proofs.lemmas.List.Elements.{All-append}
 use Rattle.std.proofs.lemmas.Option.{slice_get_within, get_or_from_slice_get}
@@ -134,7 +135,8 @@ events_same_call trace notes old new e = record {
 }
 
 -- what is legal on what the history leaves fits some good list
-pub some_fits : (count : ℕ) (good : List ℕ → Type 0) (n : ℕ) (base : List ℕ) (v : View) → ReadsHistory (IsGood count good) n base v → SomeFits count good v.trace
+pub some_fits : (count : ℕ) (good : List ℕ → Type 0) (n : ℕ) (base : List ℕ) (v : View)
+    → ReadsHistory (IsGood count good) n base v → SomeFits count good v.trace
 some_fits count good n base v r = (replay base r.history, record { count = r.left_good.count; good = r.left_good.good; legal = r.fits })
 
 -- a write is legal on every list
@@ -170,7 +172,8 @@ asks_granted a old new notes asks granted = λ k d near. (asks.grants (lock_of_w
 pub did_load : (events : Trace) (first asked loaded : View) → asked ≡ first → loaded ≡ record asked { trace = events } → DidEvents first loaded
 did_load events first asked loaded same event = subst (λ (v : View). DidEvents first v) (sym (event ∙ ap (λ (v : View). record v { trace = events }) same)) refl
 
-pub did_store : (j a x : ℕ) (first loaded stored : View) → DidEvents first loaded → stored ≡ (store_value_action j a x loaded).view [] 0 → DidEvents first stored
+pub did_store : (j a x : ℕ) (first loaded stored : View) → DidEvents first loaded
+    → stored ≡ (store_value_action j a x loaded).view [] 0 → DidEvents first stored
 did_store j a x first loaded stored did step =
     let more : View = (store_value_action j a x loaded).view [] 0 in
     subst (λ (v : View). DidEvents first v) (sym step) (ap (λ (v : View). record v { trace = more.trace; undo = more.undo }) did)
@@ -178,7 +181,8 @@ did_store j a x first loaded stored did step =
 pub did_more : (first old new : View) → DidEvents first old → DidEvents old new → DidEvents first new
 did_more first old new did more = more ∙ ap (λ (v : View). record v { trace = new.trace; undo = new.undo }) did
 
-module _ {S : Type 0} (word_count : S → ℕ) (good : S → List ℕ → Type 0) (desk : DeskView S) (began pass : PassView) (log : Room) (halted : Option Halt) (s : IsSound word_count good desk began pass log halted) where
+module _ {S : Type 0} (word_count : S → ℕ) (good : S → List ℕ → Type 0) (desk : DeskView S) (began pass : PassView)
+    (log : Room) (halted : Option Halt) (s : IsSound word_count good desk began pass log halted) where
   -- as many writes are noted as were made
   pub noted_count : length log.list ≡ count_writes pass.view.trace
   noted_count = ap (λ (l : Notes). length l) (s.noted s.fits.0 s.fits.1) ∙ notes_counted pass.view.trace s.fits.0
@@ -186,11 +190,13 @@ module _ {S : Type 0} (word_count : S → ℕ) (good : S → List ℕ → Type 0
   -- a noted word is one of the shape's, and lies under a lock that is held
   pub noted_within : (i a was : ℕ) → slice_get log.list i ≡ Some (a, was) → a < word_count desk.shape
   noted_within i a was e =
-      subst (λ (note : ℕ × ℕ). note.0 < word_count desk.shape) (get_or_from_slice_get log.list i (a, was) (a, was) e) (s.within i (a, was) (slice_get_within log.list i (a, was) e))
+      subst (λ (note : ℕ × ℕ). note.0 < word_count desk.shape) (get_or_from_slice_get log.list i (a, was) (a, was) e)
+      (s.within i (a, was) (slice_get_within log.list i (a, was) e))
 
   pub noted_granted : (i a was : ℕ) → slice_get log.list i ≡ Some (a, was) → HasWriteGrant pass.view (lock_of_word a)
   noted_granted i a was e =
-      subst (λ (note : ℕ × ℕ). HasWriteGrant pass.view (lock_of_word note.0)) (get_or_from_slice_get log.list i (a, was) (a, was) e) (s.granted i (a, was) (slice_get_within log.list i (a, was) e))
+      subst (λ (note : ℕ × ℕ). HasWriteGrant pass.view (lock_of_word note.0))
+      (get_or_from_slice_get log.list i (a, was) (a, was) e) (s.granted i (a, was) (slice_get_within log.list i (a, was) e))
 
   -- and the note is that of the write at its place
   pub noted_there : (i a was : ℕ) → slice_get log.list i ≡ Some (a, was)
@@ -201,7 +207,8 @@ module _ {S : Type 0} (word_count : S → ℕ) (good : S → List ℕ → Type 0
   -- the attempt asked for a lock and gave way
   pub yields_sound : (a : ℕ) (old new : PassView) (log : Room) (cause : Cause) → IsSound word_count good desk began old log None
       → new.table ≡ old.table → Asks a old.view new.view → new.view.met ≡ []
-      → GaveWayTo desk.seats cause old.view new.view → GainsOthers (number old.view) old.view.seen new.view.seen → has_pair (lock_of_word a) cause.seat new.view.meetings ≡ true
+      → GaveWayTo desk.seats cause old.view new.view → GainsOthers (number old.view) old.view.seen new.view.seen
+      → has_pair (lock_of_word a) cause.seat new.view.meetings ≡ true
       → IsSound word_count good desk began new log (Some (halt.Yield cause))
   yields_sound a old new log cause s table asks judged gave gains met = record {
     table = table ∙ s.table;
@@ -222,7 +229,8 @@ module _ {S : Type 0} (word_count : S → ℕ) (good : S → List ℕ → Type 0
   }
 
   -- the attempt asked for a lock, and goes on with a load
-  pub asks_table : (a : ℕ) (old new : PassView) (log : Room) → IsSound word_count good desk began old log None → new.table ≡ old.table → Asks a old.view new.view → WentOn old.view new.view
+  pub asks_table : (a : ℕ) (old new : PassView) (log : Room) → IsSound word_count good desk began old log None
+      → new.table ≡ old.table → Asks a old.view new.view → WentOn old.view new.view
       → (new.table ≡ desk.table) × (new.view.phase ≡ Running) × (length new.view.base ≡ word_count desk.shape)
   asks_table a old new log s table asks went =
       (table ∙ s.table, ap (λ (v : View). v.phase) went ∙ s.stands.phase, ap (λ (v : View). length v.base) asks.rest ∙ s.words)
@@ -231,8 +239,10 @@ module _ {S : Type 0} (word_count : S → ℕ) (good : S → List ℕ → Type 0
   pub events_sound : (trace : Trace) (notes : Notes) (old new : PassView) (log later : Room) → IsSound word_count good desk began old log None
       → new.table ≡ old.table → new.view ≡ with_events trace notes old.view → later.list ≡ notes
       → All (λ note. note.0 < word_count desk.shape) later.list
-      → ((w : List ℕ) → Fits (word_count desk.shape) (good desk.shape) trace w → notes ≡ notes_of trace w) → AreGranted old.view notes → UNDO_ROOM ≤ later.spare + length later.list
-      → ReadsHistory (IsGood (word_count desk.shape) (good desk.shape)) desk.seats desk.base new.view → (more : Trace) → trace ≡ old.view.trace ++ more → IsSound word_count good desk began new later None
+      → ((w : List ℕ) → Fits (word_count desk.shape) (good desk.shape) trace w → notes ≡ notes_of trace w)
+      → AreGranted old.view notes → UNDO_ROOM ≤ later.spare + length later.list
+      → ReadsHistory (IsGood (word_count desk.shape) (good desk.shape)) desk.seats desk.base new.view → (more : Trace)
+      → trace ≡ old.view.trace ++ more → IsSound word_count good desk began new later None
   events_sound trace notes old new log later s table e list within noted granted room fits more longer = record {
     table = table ∙ s.table;
     words = ap (λ (v : View). length v.base) e ∙ s.words;
@@ -249,7 +259,8 @@ module _ {S : Type 0} (word_count : S → ℕ) (good : S → List ℕ → Type 0
     fits = some_fits (word_count desk.shape) (good desk.shape) desk.seats desk.base new.view fits;
     current = λ runs. fits;
     footprint =
-        footprint_events old.view new.view more (ap (λ (v : View). v.trace) e ∙ longer) (ap (λ (v : View). v.abandoned) e) (ap (λ (v : View). v.meetings) e) (ap (λ (v : View). v.asked) e)
+        footprint_events old.view new.view more (ap (λ (v : View). v.trace) e
+        ∙ longer) (ap (λ (v : View). v.abandoned) e) (ap (λ (v : View). v.meetings) e) (ap (λ (v : View). v.asked) e)
         s.footprint;
   }
 
@@ -274,7 +285,8 @@ module _ {S : Type 0} (word_count : S → ℕ) (good : S → List ℕ → Type 0
   }
 
   -- a word that was just loaded was noted and stored
-  pub store_sound : (a x was : ℕ) (before : Trace) (old new : PassView) (log later : Room) → IsSound word_count good desk began old log None → a < word_count desk.shape → HasWriteGrant old.view (lock_of_word a)
+  pub store_sound : (a x was : ℕ) (before : Trace) (old new : PassView) (log later : Room)
+      → IsSound word_count good desk began old log None → a < word_count desk.shape → HasWriteGrant old.view (lock_of_word a)
       → old.view.trace ≡ before ++ Read a was ∷ []
       → new.table ≡ old.table → new.view ≡ (store_value_action (number old.view) a x old.view).view [] 0
       → new.view.undo ≡ old.view.undo ++ (a, was) ∷ []
@@ -283,33 +295,44 @@ module _ {S : Type 0} (word_count : S → ℕ) (good : S → List ℕ → Type 0
       events_sound (old.view.trace ++ Write a x ∷ []) (old.view.undo ++ (a, was) ∷ []) old new log later s table
       (step ∙ ap (λ (n : Notes). with_events (old.view.trace ++ Write a x ∷ []) n old.view) (sym (ap (λ (v : View). v.undo) step) ∙ noted))
       (list ∙ ap (λ (l : Notes). l ++ (a, was) ∷ []) s.log_is)
-      (subst (λ (l : Notes). All (λ note. note.0 < word_count desk.shape) l) (sym list) (All-append (λ note. note.0 < word_count desk.shape) log.list ((a, was) ∷ []) s.within (one_within a was (word_count desk.shape) within)))
-      (λ w fit. ap (λ (l : Notes). l ++ (a, was) ∷ []) (sym s.log_is ∙ s.noted w (fits_front (word_count desk.shape) (good desk.shape) old.view.trace (Write a x ∷ []) w fit))
+      (subst (λ (l : Notes). All (λ note. note.0 < word_count desk.shape) l) (sym list)
+      (All-append (λ note. note.0 < word_count desk.shape) log.list ((a, was) ∷ []) s.within (one_within a was (word_count desk.shape) within)))
+      (λ w fit. ap (λ (l : Notes). l ++ (a, was) ∷ []) (sym s.log_is
+      ∙ s.noted w (fits_front (word_count desk.shape) (good desk.shape) old.view.trace (Write a x ∷ []) w fit))
       ∙ sym (write_noted before old.view.trace w a was x last fit.legal))
-      (All-append (λ (note : ℕ × ℕ). HasWriteGrant old.view (lock_of_word note.0)) old.view.undo ((a, was) ∷ []) (subst (λ (l : Notes). AreGranted old.view l) s.log_is s.granted) (one_granted old.view a was granted))
-      (let long : length later.list ≡ length log.list + 1 = ap (λ (l : Notes). length l) list ∙ length-append log.list ((a, was) ∷ []) in let room = s.room in omega arith)
+      (All-append (λ (note : ℕ × ℕ). HasWriteGrant old.view (lock_of_word note.0)) old.view.undo ((a, was) ∷ [])
+      (subst (λ (l : Notes). AreGranted old.view l) s.log_is s.granted) (one_granted old.view a was granted))
+      (let long : length later.list ≡ length log.list + 1 = ap (λ (l : Notes). length l) list
+      ∙ length-append log.list ((a, was) ∷ []) in let room = s.room in omega arith)
       (subst (λ (v : View). ReadsHistory (IsGood (word_count desk.shape) (good desk.shape)) desk.seats desk.base v) (sym step)
-      (reads_write (word_count desk.shape) (good desk.shape) desk.seats desk.base (number old.view) a x old.view (s.current s.stands.phase))) (Write a x ∷ []) refl
+      (reads_write (word_count desk.shape) (good desk.shape) desk.seats desk.base (number old.view) a x old.view
+      (s.current s.stands.phase))) (Write a x ∷ []) refl
 
   -- the lock was asked for and is held, and the word was loaded
-  pub held_sound : (a x : ℕ) (old mid new : PassView) (log : Room) (halted : Option Halt) → stop_of halted ≡ None → IsSound word_count good desk began old log halted
+  pub held_sound : (a x : ℕ) (old mid new : PassView) (log : Room) (halted : Option Halt) → stop_of halted ≡ None
+      → IsSound word_count good desk began old log halted
       → mid.table ≡ old.table → Asks a old.view mid.view → mid.view.met ≡ [] → WentOn old.view mid.view
       → new.table ≡ mid.table → new.view ≡ record mid.view { trace = mid.view.trace ++ Read a x ∷ [] }
       → ReadsHistory (IsGood (word_count desk.shape) (good desk.shape)) desk.seats desk.base new.view → IsSound word_count good desk began new log None
   held_sound a x old mid new log halted going held table asks judged went same event fits =
-      let s : IsSound word_count good desk began old log None = subst (λ (h : Option Halt). IsSound word_count good desk began old log h) (not_halted halted going) held in
+      let s : IsSound word_count good desk began old log None =
+      subst (λ (h : Option Halt). IsSound word_count good desk began old log h) (not_halted halted going) held in
       let on = events_same_call (mid.view.trace ++ Read a x ∷ []) mid.view.undo mid.view new.view event in record {
         table = same ∙ (table ∙ s.table);
         words = ap (λ (v : View). length v.base) event ∙ (ap (λ (v : View). length v.base) asks.rest ∙ s.words);
         call = same_call began.view mid.view new.view
-            (same_call began.view old.view mid.view s.call (asks_same_call a old.view mid.view asks (saw_same (number old.view) old.view.seen mid.view.seen (ap (λ (v : View). v.seen) went)))) on;
-        stands = runs_on began.view old.view new.view s.stands (ap (λ (v : View). v.phase) event ∙ ap (λ (v : View). v.phase) went) (ap (λ (v : View). v.abandoned) event ∙ ap (λ (v : View). v.abandoned) went);
+            (same_call began.view old.view mid.view s.call
+            (asks_same_call a old.view mid.view asks (saw_same (number old.view) old.view.seen mid.view.seen (ap (λ (v : View). v.seen) went)))) on;
+        stands = runs_on began.view old.view new.view s.stands (ap (λ (v : View). v.phase) event
+            ∙ ap (λ (v : View). v.phase) went) (ap (λ (v : View). v.abandoned) event ∙ ap (λ (v : View). v.abandoned) went);
         judged = ap (λ (v : View). v.met) event ∙ judged;
         log_is = s.log_is ∙ (ap (λ (v : View). v.undo) (sym asks.rest) ∙ ap (λ (v : View). v.undo) (sym event));
         within = s.within;
         noted = λ w fit.
-            let longer : new.view.trace ≡ old.view.trace ++ Read a x ∷ [] = ap (λ (v : View). v.trace) event ∙ ap (λ (t : Trace). t ++ Read a x ∷ []) (ap (λ (v : View). v.trace) asks.rest) in
-            s.noted w (fits_front (word_count desk.shape) (good desk.shape) old.view.trace (Read a x ∷ []) w (subst (λ (t : Trace). Fits (word_count desk.shape) (good desk.shape) t w) longer fit))
+            let longer : new.view.trace ≡ old.view.trace ++ Read a x ∷ [] = ap (λ (v : View). v.trace) event
+            ∙ ap (λ (t : Trace). t ++ Read a x ∷ []) (ap (λ (v : View). v.trace) asks.rest) in
+            s.noted w (fits_front (word_count desk.shape) (good desk.shape) old.view.trace (Read a x ∷ []) w
+            (subst (λ (t : Trace). Fits (word_count desk.shape) (good desk.shape) t w) longer fit))
             ∙ sym (ap (λ (t : Trace). notes_of t w) longer ∙ read_unnoted old.view.trace w a x);
         granted = subst (λ (v : View). AreGranted v log.list) (sym event) (asks_granted a old.view mid.view log.list asks s.granted);
         room = s.room;

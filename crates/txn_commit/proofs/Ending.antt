@@ -1,5 +1,6 @@
 -- How a transaction begins and ends.
-use Rattle.std.proofs.Common.{◌≡◌, ◌≢◌, ℕ, ◌+◌, ◌<◌, ◌≤◌, Bool, true, false, List, [], ◌∷◌, ◌++◌, length, length-append, slice_index, All, Option, None, Some, Result, Ok, Err, OnErr, refl, sym, ap, ◌∙◌, subst, arith}
+use Rattle.std.proofs.Common.{◌≡◌, ◌≢◌, ℕ, ◌+◌, ◌<◌, ◌≤◌, Bool, true, false, List, [], ◌∷◌, ◌++◌, length, length-append, slice_index, All, Option, None, Some}
+use Rattle.std.proofs.Common.{Result, Ok, Err, OnErr, refl, sym, ap, ◌∙◌, subst, arith}
 use Rattle.history_model.specs.declared.entry.Abandoned.{Abandoned}
 use Rattle.history_model.specs.declared.entry.Entry.{Entry}
 use Rattle.history_model.specs.declared.view.View.{View}
@@ -38,7 +39,8 @@ use Rattle.txn_commit.proofs.Releasing.{still_begun}
 use Rattle.txn_commit.proofs.Others.{gains_history, gains_more, gains_none}
 
 -- a call that is over has as few attempts that gave way as before
-pub ends_bounded : (n j : ℕ) (old new : View) → AreRestartsBounded n (number old) old → new ≡ (clear_stamp_action j old).view [] 0 → AreRestartsBounded n (number new) new
+pub ends_bounded : (n j : ℕ) (old new : View) → AreRestartsBounded n (number old) old
+    → new ≡ (clear_stamp_action j old).view [] 0 → AreRestartsBounded n (number new) new
 ends_bounded n j old new b e = subst (λ (v : View). AreRestartsBounded n (number v) v) (sym e) (record {
   few = b.few;
   elsewhere = b.elsewhere;
@@ -53,11 +55,13 @@ named v j e = subst (λ (l : List ℕ). has j l ≡ true) (sym e) (has-join_same
 module _ {S : Type 0} (word_count : S → ℕ) (good : S → List ℕ → Type 0) (desk : DeskView S) (action : Action) (old : View) (found : ℕ) (new : View) where
   -- who took a step at the table has a seat there
   pub some_seats : (j : ℕ) → TakenIn (DeskHolds word_count good desk) action old found new → old.who ≡ j ∷ [] → 0 < desk.seats
-  some_seats j t one = let below : j < desk.seats = t.holds.locks.numbers_below t.place j old (record { knows = t.knows; named = named old j one }) in omega arith
+  some_seats j t one = let below : j < desk.seats =
+      t.holds.locks.numbers_below t.place j old (record { knows = t.knows; named = named old j one }) in omega arith
 
   -- and knows as many words as the desk's shape says
   pub words_counted : (j : ℕ) → TakenIn (DeskHolds word_count good desk) action old found new → old.who ≡ j ∷ [] → length old.base ≡ word_count desk.shape
-  words_counted j t one = ap (λ (l : List ℕ). length l) (t.holds.locks.bases_alike t.place j old (record { knows = t.knows; named = named old j one })) ∙ t.holds.values.history.base_good.count
+  words_counted j t one = ap (λ (l : List ℕ). length l)
+      (t.holds.locks.bases_alike t.place j old (record { knows = t.knows; named = named old j one })) ∙ t.holds.values.history.base_good.count
 
   -- and its attempts that gave way read one state each
   pub one_state : TakenIn (DeskHolds word_count good desk) action old found new → old.phase ≢ Idle
@@ -81,7 +85,8 @@ attempt_begun : (p : Phase) → is_attempt p ≡ true → p ≢ Idle
 attempt_begun p t e = let z : true ≡ false = sym t ∙ ap is_attempt e in cc
 
 -- a view that has seen the same and whose attempt did the same
-pub still_reads : (good : List ℕ → Type 0) (n : ℕ) (base : List ℕ) (old new : View) → new.seen ≡ old.seen → new.trace ≡ old.trace → ReadsHistory good n base old → ReadsHistory good n base new
+pub still_reads : (good : List ℕ → Type 0) (n : ℕ) (base : List ℕ) (old new : View) → new.seen ≡ old.seen
+    → new.trace ≡ old.trace → ReadsHistory good n base old → ReadsHistory good n base new
 still_reads good n base old new seen trace r = record {
   history = r.history;
   legal = r.legal;
@@ -130,11 +135,16 @@ begins_sound word_count good desk old began new log same table words step empty 
 }
 
 pub ends_holding_nothing : (j : ℕ) (old new : View) → HoldsNothing old → new ≡ (clear_stamp_action j old).view [] 0 → HoldsNothing new
-ends_holding_nothing j old new nothing clear = subst (λ (v : View). HoldsNothing v) (sym clear) (record { no_bit = nothing.no_bit; no_claim = nothing.no_claim })
+ends_holding_nothing j old new nothing clear =
+    subst (λ (v : View). HoldsNothing v) (sym clear) (record { no_bit = nothing.no_bit; no_claim = nothing.no_claim })
 
 -- a call ended without an entry: its locks were released, and it is over
-pub ends_without : {S : Type 0} (word_count : S → ℕ) (good : S → List ℕ → Type 0) (desk : DeskView S) (j found : ℕ) (old began given_up released new : View) → began ≡ (begin_call_action (number old) old).view [] 0
-    → GainsOthers (number began) began.seen given_up.seen × (given_up.floor ≡ began.floor) × (is_attempt given_up.phase ≡ true) × LeavesFootprint given_up × ReadsHistory (IsGood (word_count desk.shape) (good desk.shape)) desk.seats desk.base given_up → given_up.call ≡ old.call + 1 → Releases given_up released
+pub ends_without : {S : Type 0} (word_count : S → ℕ) (good : S → List ℕ → Type 0) (desk : DeskView S) (j found : ℕ)
+    (old began given_up released new : View) → began ≡ (begin_call_action (number old) old).view [] 0
+    → GainsOthers (number began) began.seen given_up.seen × (given_up.floor ≡ began.floor)
+    × (is_attempt given_up.phase ≡ true) × LeavesFootprint given_up
+    × ReadsHistory (IsGood (word_count desk.shape) (good desk.shape)) desk.seats desk.base given_up
+    → given_up.call ≡ old.call + 1 → Releases given_up released
     → HoldsNothing released → AreRestartsBounded desk.seats (number released) released → new ≡ (clear_stamp_action j released).view [] 0
     → TakenIn (DeskHolds word_count good desk) (clear_stamp_action j released) released found new
     → EndsWithoutEntry (IsGood (word_count desk.shape) (good desk.shape)) desk.seats desk.base old new
@@ -146,25 +156,31 @@ ends_without word_count good desk j found old began given_up released new begin 
   nothing = ends_holding_nothing j released new nothing clear;
   bounded = ends_bounded desk.seats j released new bounded clear;
   opaque =
-      let one = one_state word_count good desk (clear_stamp_action j released) released found new taken (still_begun given_up released rel (attempt_begun given_up.phase up.2)) in
+      let one = one_state word_count good desk (clear_stamp_action j released) released found new taken
+      (still_begun given_up released rel (attempt_begun given_up.phase up.2)) in
       subst (λ (v : View). ReadOneState (IsGood (word_count desk.shape) (good desk.shape)) desk.seats desk.base v) (sym clear)
       (record { history = one.history; legal = one.legal; begins = one.begins; stamp = one.stamp; attempts = one.attempts });
   footprint =
-      footprint_same given_up new (ap (λ (v : View). v.trace) clear ∙ ap (λ (v : View). v.trace) rel.rest) (ap (λ (v : View). v.abandoned) clear ∙ ap (λ (v : View). v.abandoned) rel.rest)
-      (ap (λ (v : View). v.meetings) clear ∙ ap (λ (v : View). v.meetings) rel.rest) (ap (λ (v : View). v.asked) clear ∙ ap (λ (v : View). v.asked) rel.rest) up.3;
+      footprint_same given_up new (ap (λ (v : View). v.trace) clear ∙ ap (λ (v : View). v.trace) rel.rest)
+      (ap (λ (v : View). v.abandoned) clear ∙ ap (λ (v : View). v.abandoned) rel.rest)
+      (ap (λ (v : View). v.meetings) clear ∙ ap (λ (v : View). v.meetings) rel.rest) (ap (λ (v : View). v.asked) clear
+      ∙ ap (λ (v : View). v.asked) rel.rest) up.3;
   last =
-      still_reads (IsGood (word_count desk.shape) (good desk.shape)) desk.seats desk.base given_up new (ap (λ (v : View). v.seen) clear ∙ ap (λ (v : View). v.seen) rel.rest)
+      still_reads (IsGood (word_count desk.shape) (good desk.shape)) desk.seats desk.base given_up new
+      (ap (λ (v : View). v.seen) clear ∙ ap (λ (v : View). v.seen) rel.rest)
       (ap (λ (v : View). v.trace) clear ∙ ap (λ (v : View). v.trace) rel.rest) up.4;
 }
 
 -- a call that has its entry was over, once its locks were released
-pub ends_with_footprint : (j : ℕ) (committed released new : View) → Releases committed released → new ≡ (clear_stamp_action j released).view [] 0 → AsksItsFootprint committed → AsksItsFootprint new
+pub ends_with_footprint : (j : ℕ) (committed released new : View) → Releases committed released
+    → new ≡ (clear_stamp_action j released).view [] 0 → AsksItsFootprint committed → AsksItsFootprint new
 ends_with_footprint j committed released new rel clear = still_its_footprint committed new
     (ap (λ (v : View). v.seen) clear ∙ ap (λ (v : View). v.seen) rel.rest) (ap (λ (v : View). v.asked) clear ∙ ap (λ (v : View). v.asked) rel.rest)
     (ap (λ (v : View). v.meetings) clear ∙ ap (λ (v : View). v.meetings) rel.rest)
 
 -- an attempt was committed
-pub gets_entry : {A : Type 0} (word_count : ℕ) (good : List ℕ → Type 0) (base : List ℕ) (means : List ℕ → Bool → A → List ℕ → Type 0) (kept : Bool) (call : ℕ) (first old new : View) (receipt : Receipt A)
+pub gets_entry : {A : Type 0} (word_count : ℕ) (good : List ℕ → Type 0) (base : List ℕ) (means : List ℕ → Bool → A
+    → List ℕ → Type 0) (kept : Bool) (call : ℕ) (first old new : View) (receipt : Receipt A)
     → SameCall first old → first.floor ≡ length first.seen → first.call ≡ call
     → CommitsAt word_count good base kept old new receipt.serial → receipt.call ≡ call → length old.abandoned ≡ receipt.restarts
     → ((s : List ℕ) → Fits word_count good old.trace s → means s kept receipt.answer (after old.trace s))
@@ -183,18 +199,22 @@ gets_entry word_count good base means kept call first old new receipt same floor
       floor_is = same.floor ∙ floor;
       serial_is = commits.place_is ∙ sym (ap (λ (h : List Entry). length h) seen ∙ length-append commits.history (entry_of kept old ∷ []));
       restarts_are = sym restarts;
-      meaning = subst (λ (h : List Entry). means (replay base h) kept receipt.answer (after old.trace (replay base h))) all.seen (meaning (replay base commits.history) commits.fits);
+      meaning = subst (λ (h : List Entry). means (replay base h) kept receipt.answer (after old.trace (replay base h)))
+          all.seen (meaning (replay base commits.history) commits.fits);
     }
 
 -- an attempt was undone
 pub undone_others : (first old new : View) → SameCall first old → Undoes old new → GainsOthers (number first) first.seen new.seen
-undone_others first old new same undone = subst (λ (l : List Entry). GainsOthers (number first) first.seen l) (sym (ap (λ (v : View). v.seen) undone.some.rest)) same.seen
+undone_others first old new same undone =
+    subst (λ (l : List Entry). GainsOthers (number first) first.seen l) (sym (ap (λ (v : View). v.seen) undone.some.rest)) same.seen
 
 -- an attempt gave way, and the call makes another
-pub one_more : (n m : ℕ) (cause : Cause) (first began old new : View) → began ≡ first → length first.abandoned ≡ m → GaveWayTo n cause began old → new.abandoned ≡ old.abandoned
+pub one_more : (n m : ℕ) (cause : Cause) (first began old new : View) → began ≡ first → length first.abandoned ≡ m
+    → GaveWayTo n cause began old → new.abandoned ≡ old.abandoned
     → (length new.abandoned ≡ m + 1) × (length new.abandoned < n)
 one_more n m cause first began old new same count gave kept =
-    let long : length old.abandoned ≡ length began.abandoned + 1 = ap (λ (l : List Abandoned). length l) gave.abandoned.1 ∙ length-append began.abandoned (gave.abandoned.0 ∷ []) in
+    let long : length old.abandoned ≡ length began.abandoned + 1 =
+    ap (λ (l : List Abandoned). length l) gave.abandoned.1 ∙ length-append began.abandoned (gave.abandoned.0 ∷ []) in
     let still : length new.abandoned ≡ length old.abandoned = ap (λ (l : List Abandoned). length l) kept in
     let before : length began.abandoned ≡ length first.abandoned = ap (λ (v : View). length v.abandoned) same in
     let few = gave.bounded.few in
@@ -208,19 +228,23 @@ pub same_pass : {S : Type 0} (d e : DeskView S) (m n : ℕ) (p q : PassView) →
 same_pass d e m n p q s = ap (λ o. o.pass) s
 
 -- a job ran on the attempt that began here
-pub ran_on : (first : View) (kept began pass : PassView) (old : View) → SameCall first pass.view → kept ≡ began → began ≡ pass → SameCall kept.view old → SameCall first old
+pub ran_on : (first : View) (kept began pass : PassView) (old : View) → SameCall first pass.view → kept ≡ began
+    → began ≡ pass → SameCall kept.view old → SameCall first old
 ran_on first kept began pass old before same fresh ran = same_call first pass.view old before (subst (λ (p : PassView). SameCall p.view old) (same ∙ fresh) ran)
 
 pub still_runs : (n : ℕ) (halted : Option Halt) (began now : View) → halted ≡ None → StandsAs n halted began now → Runs began now
 still_runs n halted began now e = subst (λ (h : Option Halt). StandsAs n h began now → Runs began now) (sym e) (λ r. r)
 
-pub gave_way : (n : ℕ) (halted : Option Halt) (cause : Cause) (began now : View) → halted ≡ Some (halt.Yield cause) → StandsAs n halted began now → GaveWayTo n cause began now
+pub gave_way : (n : ℕ) (halted : Option Halt) (cause : Cause) (began now : View) → halted ≡ Some (halt.Yield cause)
+    → StandsAs n halted began now → GaveWayTo n cause began now
 gave_way n halted cause began now e = subst (λ (h : Option Halt). StandsAs n h began now → GaveWayTo n cause began now) (sym e) (λ r. r)
 
 -- what a job means, of the shape of the desk, and by its parts
-pub meant : {A S : Type 0} (means : List ℕ → Bool → A → List ℕ → Type 0) (word_count : S → ℕ) (good : S → List ℕ → Type 0) (shape own : S) (trace : Trace) (k kept : Bool) (a answer : A)
+pub meant : {A S : Type 0} (means : List ℕ → Bool → A → List ℕ → Type 0) (word_count : S → ℕ) (good : S → List ℕ
+    → Type 0) (shape own : S) (trace : Trace) (k kept : Bool) (a answer : A)
     → shape ≡ own → kept ≡ k → answer ≡ a
     → ((s : List ℕ) → Fits (word_count own) (good own) trace s → means s k a (after trace s))
     → (s : List ℕ) → Fits (word_count shape) (good shape) trace s → means s kept answer (after trace s)
 meant means word_count good shape own trace k kept a answer e f h meaning s fits =
-    subst (λ x. means s kept x (after trace s)) (sym h) (subst (λ (b : Bool). means s b a (after trace s)) (sym f) (meaning s (subst (λ x. Fits (word_count x) (good x) trace s) e fits)))
+    subst (λ x. means s kept x (after trace s)) (sym h) (subst (λ (b : Bool). means s b a (after trace s)) (sym f)
+    (meaning s (subst (λ x. Fits (word_count x) (good x) trace s) e fits)))

@@ -57,7 +57,8 @@ footprint_same old new trace abandoned meetings asked = footprint_on old new
     (λ a t. inr (subst (λ (l : List ℕ). has a l ≡ true) asked t))
 
 -- the attempt did more to words
-pub footprint_events : (old new : View) (more : Trace) → new.trace ≡ old.trace ++ more → new.abandoned ≡ old.abandoned → new.meetings ≡ old.meetings → new.asked ≡ old.asked
+pub footprint_events : (old new : View) (more : Trace) → new.trace ≡ old.trace ++ more → new.abandoned ≡ old.abandoned
+    → new.meetings ≡ old.meetings → new.asked ≡ old.asked
     → LeavesFootprint old → LeavesFootprint new
 footprint_events old new more trace abandoned meetings asked = footprint_on old new
     (λ a k. inl (subst (λ (t : Trace). Touches t a) (sym trace) (touches_first old.trace more a k)))
@@ -71,7 +72,8 @@ met_more a old new asks k j m = subst (λ (l : List (ℕ × ℕ)). has_pair k j 
 -- it asked for a word's lock, and loaded the word
 pub footprint_loaded : (a x : ℕ) (old mid new : View) → Asks a old mid → WentOn old mid → new ≡ record mid { trace = mid.trace ++ Read a x ∷ [] }
     → LeavesFootprint old → LeavesFootprint new
-footprint_loaded a x old mid new asks went event = subst (λ (v : View). LeavesFootprint old → LeavesFootprint v) (sym event) (footprint_on old (record mid { trace = mid.trace ++ Read a x ∷ [] })
+footprint_loaded a x old mid new asks went event =
+    subst (λ (v : View). LeavesFootprint old → LeavesFootprint v) (sym event) (footprint_on old (record mid { trace = mid.trace ++ Read a x ∷ [] })
     (λ b k. inl (touches_first mid.trace (Read a x ∷ []) b (subst (λ (t : Trace). Touches t b) (ap (λ (v : View). v.trace) (sym asks.rest)) k)))
     (λ y i. subst (λ (l : List Abandoned). IsIn y l) (ap (λ (v : View). v.abandoned) (sym went)) i)
     (met_more a old mid asks)
@@ -80,7 +82,8 @@ footprint_loaded a x old mid new asks went event = subst (λ (v : View). LeavesF
     inr ((asks.asked b).1 t)))
 
 -- it asked for a word's lock, and gave way there
-pub footprint_yields : (n a : ℕ) (cause : Cause) (old new : View) → Asks a old new → GaveWayTo n cause old new → has_pair (lock_of_word a) cause.seat new.meetings ≡ true
+pub footprint_yields : (n a : ℕ) (cause : Cause) (old new : View) → Asks a old new → GaveWayTo n cause old new
+    → has_pair (lock_of_word a) cause.seat new.meetings ≡ true
     → LeavesFootprint old → LeavesFootprint new
 footprint_yields n a cause old new asks gave met =
     let attempt : Abandoned = gave.abandoned.0 in
@@ -99,11 +102,13 @@ footprint_yields n a cause old new asks gave met =
     inr ((asks.asked b).1 t))
 
 -- another attempt begins, where the last gave way
-pub footprint_restarts : (n : ℕ) (cause : Cause) (began old new : View) → GaveWayTo n cause began old → new.abandoned ≡ old.abandoned → new.meetings ≡ old.meetings → new.asked ≡ old.asked
+pub footprint_restarts : (n : ℕ) (cause : Cause) (began old new : View) → GaveWayTo n cause began old
+    → new.abandoned ≡ old.abandoned → new.meetings ≡ old.meetings → new.asked ≡ old.asked
     → LeavesFootprint old → LeavesFootprint new
 footprint_restarts n cause began old new gave abandoned meetings asked =
     let attempt : Abandoned = gave.abandoned.0 in
-    let there : IsIn attempt new.abandoned = subst (λ (l : List Abandoned). IsIn attempt l) (sym (abandoned ∙ gave.abandoned.1)) (last_in began.abandoned attempt) in
+    let there : IsIn attempt new.abandoned =
+    subst (λ (l : List Abandoned). IsIn attempt l) (sym (abandoned ∙ gave.abandoned.1)) (last_in began.abandoned attempt) in
     footprint_on old new
     (λ a k. inr (attempt, there, inl (subst (λ (t : Trace). Touches t a) (sym gave.abandoned.3) k)))
     (λ x i. subst (λ (l : List Abandoned). IsIn x l) (sym abandoned) i)
@@ -118,20 +123,24 @@ met_cause good n base k waited cause old new g = subst (λ (l : List (ℕ × ℕ
     (pair-append_last k cause.seat (old.meetings ++ waited))
 
 -- the attempt was committed
-pub commits_footprint : (kept : Bool) (history : List Entry) (old new : View) → new.seen ≡ history ++ entry_of kept old ∷ [] → new.asked ≡ old.asked → new.meetings ≡ old.meetings
+pub commits_footprint : (kept : Bool) (history : List Entry) (old new : View)
+    → new.seen ≡ history ++ entry_of kept old ∷ [] → new.asked ≡ old.asked → new.meetings ≡ old.meetings
     → LeavesFootprint old → AsksItsFootprint new
 commits_footprint kept history old new seen asked meetings before = record {
   earlier = history;
   entry = entry_of kept old;
   last = seen;
-  asked = λ a t. subst (λ (l : List (ℕ × ℕ)). IsFootprint old.trace old.abandoned l a) (sym meetings) (before a (subst (λ (l : List ℕ). has a l ≡ true) asked t));
+  asked = λ a t. subst (λ (l : List (ℕ × ℕ)). IsFootprint old.trace old.abandoned l a) (sym meetings)
+      (before a (subst (λ (l : List ℕ). has a l ≡ true) asked t));
 }
 
 -- and then only its locks were given up
-pub still_its_footprint : (old new : View) → new.seen ≡ old.seen → new.asked ≡ old.asked → new.meetings ≡ old.meetings → AsksItsFootprint old → AsksItsFootprint new
+pub still_its_footprint : (old new : View) → new.seen ≡ old.seen → new.asked ≡ old.asked → new.meetings ≡ old.meetings
+    → AsksItsFootprint old → AsksItsFootprint new
 still_its_footprint old new seen asked meetings f = record {
   earlier = f.earlier;
   entry = f.entry;
   last = seen ∙ f.last;
-  asked = λ a t. subst (λ (l : List (ℕ × ℕ)). IsFootprint f.entry.trace f.entry.abandoned l a) (sym meetings) (f.asked a (subst (λ (l : List ℕ). has a l ≡ true) asked t));
+  asked = λ a t. subst (λ (l : List (ℕ × ℕ)). IsFootprint f.entry.trace f.entry.abandoned l a) (sym meetings)
+      (f.asked a (subst (λ (l : List ℕ). has a l ≡ true) asked t));
 }

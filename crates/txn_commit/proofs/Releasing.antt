@@ -35,7 +35,8 @@ not_same P lock j gone at = ⊎_elim (λ lt. lt) (λ le. absurd (gone (subst P (
   back a b = omega arith
 
 -- the next one comes later
-pub fewer_left : (P : ℕ → Type 0) (lock : ℕ) (next : Option ℕ) → lock < LOCKS → ¬ P lock → IsLeast (λ k. (lock ≤ k) × P k) next → IfSome next (λ k. k < LOCKS) → turns_left next < turns_left (Some lock)
+pub fewer_left : (P : ℕ → Type 0) (lock : ℕ) (next : Option ℕ) → lock < LOCKS → ¬ P lock
+    → IsLeast (λ k. (lock ≤ k) × P k) next → IfSome next (λ k. k < LOCKS) → turns_left next < turns_left (Some lock)
 fewer_left P lock None lt gone least near = omega arith
 fewer_left P lock (Some j) lt gone least near = let far : lock < j = not_same P lock j gone least.0 in omega arith
 

@@ -65,7 +65,8 @@ abbrev pub DidEvents : View → View → Type 0
 DidEvents old new = new ≡ record old { trace = new.trace; undo = new.undo }
 
 -- an attempt over this desk and pass, with this undo log; word_count and good are those of the shape
-pub record IsSound {S : Type 0} (word_count : S → ℕ) (good : S → List ℕ → Type 0) (desk : DeskView S) (began pass : PassView) (log : Room) (halted : Option Halt) : Type 0 where
+pub record IsSound {S : Type 0} (word_count : S → ℕ) (good : S → List ℕ → Type 0) (desk : DeskView S)
+    (began pass : PassView) (log : Room) (halted : Option Halt) : Type 0 where
   pub table : pass.table ≡ desk.table
   pub words : length pass.view.base ≡ word_count desk.shape
   pub call : SameCall began.view pass.view

@@ -27,7 +27,8 @@ pub record GainsOthers (who : ℕ) (old new : List Entry) : Type 0 where
 -- a call of this seat got one entry, behind what the seat had seen and then entries of others alone; and of the words
 -- that all these leave of the base, the job's meaning holds: whether its writes are kept, its answer, and what its trace
 -- leaves
-pub record GetsEntry {A : Type 0} (base : List ℕ) (means : List ℕ → Bool → A → List ℕ → Type 0) (who call : ℕ) (old new : List Entry) (receipt : Receipt A) : Type 0 where
+pub record GetsEntry {A : Type 0} (base : List ℕ) (means : List ℕ → Bool → A → List ℕ
+    → Type 0) (who call : ℕ) (old new : List Entry) (receipt : Receipt A) : Type 0 where
   pub others : List Entry
   pub entry : Entry
   pub seen : new ≡ (old ++ others) ++ entry ∷ []

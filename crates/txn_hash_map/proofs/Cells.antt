@@ -1,5 +1,6 @@
 -- Chains of cells in one word list.
-use Rattle.std.proofs.Common.{◌≡◌, ◌≢◌, ℕ, ◌+◌, ◌*◌, ◌/◌, ◌%◌, ◌^◌, ◌<◌, ◌≤◌, ◌⊎◌, inl, inr, true, false, List, [], ◌∷◌, ◌++◌, length, slice_get, Some, None, refl, sym, ap, ◌∙◌, subst, arith, rules}
+use Rattle.std.proofs.Common.{◌≡◌, ◌≢◌, ℕ, ◌+◌, ◌*◌, ◌/◌, ◌%◌, ◌^◌, ◌<◌, ◌≤◌, ◌⊎◌, inl, inr, true, false, List, [], ◌∷◌, ◌++◌, length, slice_get, Some, None}
+use Rattle.std.proofs.Common.{refl, sym, ap, ◌∙◌, subst, arith, rules}
 use mathlib.Core.Bool.{true≢false}
 use mathlib.Core.Logic.{dite}
 use native.Mathlib.Decide.{ℕ_discrete}
@@ -28,20 +29,24 @@ same_cell : (c d : Cell) → c.block ≡ d.block → c.key ≡ d.key → c.value
 same_cell c d p q r = λ i. record { block = p i; key = q i; value = r i }
 
 -- a place heads one chain
-pub one_chain : (arena : Arena) (s : List ℕ) (p q : ℕ) (cs ds : List Cell) → slice_get s p ≡ slice_get s q → HasChain arena s p cs → HasChain arena s q ds → cs ≡ ds
+pub one_chain : (arena : Arena) (s : List ℕ) (p q : ℕ) (cs ds : List Cell) → slice_get s p ≡ slice_get s q
+    → HasChain arena s p cs → HasChain arena s q ds → cs ≡ ds
 one_chain arena s p q [] [] e h k = refl
 one_chain arena s p q [] (d ∷ ds) e h k = let z : 0 ≡ d.block + 1 = same_Some 0 (d.block + 1) (sym h ∙ e ∙ k.0) in absurd (omega arith)
 one_chain arena s p q (c ∷ cs) [] e h k = let z : 0 ≡ c.block + 1 = same_Some 0 (c.block + 1) (sym k ∙ sym e ∙ h.0) in absurd (omega arith)
 one_chain arena s p q (c ∷ cs) (d ∷ ds) e h k =
     let z : c.block + 1 ≡ d.block + 1 = same_Some (c.block + 1) (d.block + 1) (sym h.0 ∙ e ∙ k.0) in
     let same : c.block ≡ d.block = omega arith in
-    let at : (j : ℕ) → slice_get s (block_at arena c.block + j) ≡ slice_get s (block_at arena d.block + j) = λ j. ap (λ b. slice_get s (block_at arena b + j)) same in
+    let at : (j : ℕ) → slice_get s (block_at arena c.block + j) ≡ slice_get s (block_at arena d.block + j) =
+    λ j. ap (λ b. slice_get s (block_at arena b + j)) same in
     let keys : c.key ≡ d.key = same_Some c.key d.key (sym h.2 ∙ ap (λ b. slice_get s (block_at arena b)) same ∙ k.2) in
     let values : c.value ≡ d.value = same_Some c.value d.value (sym h.3 ∙ at 1 ∙ k.3) in
-    ap (λ x. x ∷ cs) (same_cell c d same keys values) ∙ ap (λ xs. d ∷ xs) (one_chain arena s (block_at arena c.block + 2) (block_at arena d.block + 2) cs ds (at 2) h.4 k.4)
+    ap (λ x. x ∷ cs) (same_cell c d same keys values)
+    ∙ ap (λ xs. d ∷ xs) (one_chain arena s (block_at arena c.block + 2) (block_at arena d.block + 2) cs ds (at 2) h.4 k.4)
 
 -- a chain from a place on
-pub chain_rest : (arena : Arena) (s : List ℕ) (p : ℕ) (front rest : List Cell) → HasChain arena s p (front ++ rest) → HasChain arena s (place_after arena p front) rest
+pub chain_rest : (arena : Arena) (s : List ℕ) (p : ℕ) (front rest : List Cell) → HasChain arena s p (front ++ rest)
+    → HasChain arena s (place_after arena p front) rest
 chain_rest arena s p [] rest h = h
 chain_rest arena s p (c ∷ front) rest h = chain_rest arena s (block_at arena c.block + 2) front rest h.4
 
@@ -50,7 +55,8 @@ place_after_more arena p [] c = refl
 place_after_more arena p (d ∷ front) c = place_after_more arena (block_at arena d.block + 2) front c
 
 -- the first word of a block of a chain is a key that its cells have
-pub block_key : (arena : Arena) (s : List ℕ) (p b k : ℕ) (cs : List Cell) → HasChain arena s p cs → has_block b cs ≡ true → slice_get s (block_at arena b) ≡ Some k → value_of k cs ≢ None
+pub block_key : (arena : Arena) (s : List ℕ) (p b k : ℕ) (cs : List Cell) → HasChain arena s p cs
+    → has_block b cs ≡ true → slice_get s (block_at arena b) ≡ Some k → value_of k cs ≢ None
 block_key arena s p b k [] h m e = absurd (true≢false (sym m))
 block_key arena s p b k (c ∷ cs) h m e = dite (ℕ_discrete c.block b)
     (λ same.
@@ -79,7 +85,8 @@ chain_keyed arena s p [] h = tt
 chain_keyed arena s p (c ∷ cs) h = (h.2, chain_keyed arena s (block_at arena c.block + 2) cs h.4)
 
 -- so a cell's block is in none of the others
-pub block_once : (arena : Arena) (s : List ℕ) (p : ℕ) (c : Cell) (cs : List Cell) → HasChain arena s p (c ∷ cs) → HasKeysOnce (c ∷ cs) → has_block c.block cs ≡ false
+pub block_once : (arena : Arena) (s : List ℕ) (p : ℕ) (c : Cell) (cs : List Cell) → HasChain arena s p (c ∷ cs)
+    → HasKeysOnce (c ∷ cs) → has_block c.block cs ≡ false
 block_once arena s p c cs h once =
     let one : one_in c.block c ≡ 1 = one_here c.block c refl in
     let k : one_in c.block c + times_in c.block cs ≤ 1 = keyed_once arena s c.block (c ∷ cs) (chain_keyed arena s p (c ∷ cs) h) once in

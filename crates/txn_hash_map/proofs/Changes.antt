@@ -1,5 +1,6 @@
 -- What an insert leaves.
-use Rattle.std.proofs.Common.{◌≡◌, ◌≢◌, ℕ, ◌+◌, ◌<◌, ◌≤◌, ◌⊎◌, inl, inr, true, false, List, [], ◌∷◌, ◌++◌, length, slice_get, slice_set, Some, None, eqb, cond, refl, sym, ap, ◌∙◌, subst, arith, rules}
+use Rattle.std.proofs.Common.{◌≡◌, ◌≢◌, ℕ, ◌+◌, ◌<◌, ◌≤◌, ◌⊎◌, inl, inr, true, false, List, [], ◌∷◌, ◌++◌, length, slice_get, slice_set, Some, None, eqb, cond}
+use Rattle.std.proofs.Common.{refl, sym, ap, ◌∙◌, subst, arith, rules}
 use mathlib.Core.Bool.{true≢false}
 use mathlib.Core.Logic.{dite}
 use native.Mathlib.Decide.{ℕ_discrete}
@@ -42,15 +43,18 @@ revalued b x [] = []
 revalued b x (c ∷ cs) = record { block = c.block; key = c.key; value = if_block b x c.block c.value } ∷ revalued b x cs
 
 module _ (arena : Arena) (s : List ℕ) (b x : ℕ) (within : block_at arena b + 1 < length s) where
-  revalued_chain : (p : ℕ) (cs : List Cell) → p ≢ block_at arena b + 1 → HasChain arena s p cs → HasChain arena (slice_set s (block_at arena b + 1) x) p (revalued b x cs)
+  revalued_chain : (p : ℕ) (cs : List Cell) → p ≢ block_at arena b + 1 → HasChain arena s p cs
+      → HasChain arena (slice_set s (block_at arena b + 1) x) p (revalued b x cs)
   revalued_chain p [] ne h = get_set_other s (block_at arena b + 1) p x ne ∙ h
   revalued_chain p (c ∷ cs) ne h = (
     get_set_other s (block_at arena b + 1) p x ne ∙ h.0,
     h.1,
     get_set_other s (block_at arena b + 1) (block_at arena c.block) x (λ e. absurd (omega (arith, e))) ∙ h.2,
     dite (ℕ_discrete c.block b)
-        (λ e. ap (λ d. slice_get (slice_set s (block_at arena b + 1) x) (block_at arena d + 1)) e ∙ get_set_same s (block_at arena b + 1) x within ∙ ap (λ k. Some k) (sym (if_here b x c.block c.value e)))
-        (λ e. get_set_other s (block_at arena b + 1) (block_at arena c.block + 1) x (λ k. e (omega (arith, k))) ∙ h.3 ∙ ap (λ k. Some k) (sym (if_there b x c.block c.value e))),
+        (λ e. ap (λ d. slice_get (slice_set s (block_at arena b + 1) x) (block_at arena d + 1)) e
+        ∙ get_set_same s (block_at arena b + 1) x within ∙ ap (λ k. Some k) (sym (if_here b x c.block c.value e)))
+        (λ e. get_set_other s (block_at arena b + 1) (block_at arena c.block + 1) x (λ k. e (omega (arith, k))) ∙ h.3
+        ∙ ap (λ k. Some k) (sym (if_there b x c.block c.value e))),
     revalued_chain (block_at arena c.block + 2) cs (λ e. absurd (omega (arith, e))) h.4,
   )
 
@@ -62,7 +66,8 @@ revalued_none : (k b x : ℕ) (cs : List Cell) → value_of k cs ≡ None → va
 revalued_none k b x [] h = refl
 revalued_none k b x (c ∷ cs) h = dite (ℕ_discrete c.key k)
     (λ e. absurd (cc (value_first k c cs e)))
-    (λ e. value_later k (record { block = c.block; key = c.key; value = if_block b x c.block c.value }) (revalued b x cs) e ∙ revalued_none k b x cs (sym (value_later k c cs e) ∙ h))
+    (λ e. value_later k (record { block = c.block; key = c.key; value = if_block b x c.block c.value })
+    (revalued b x cs) e ∙ revalued_none k b x cs (sym (value_later k c cs e) ∙ h))
 
 revalued_once : (b x : ℕ) (cs : List Cell) → HasKeysOnce cs → HasKeysOnce (revalued b x cs)
 revalued_once b x [] h = tt
@@ -73,7 +78,8 @@ revalued_blocks d b x [] = refl
 revalued_blocks d b x (c ∷ cs) = grind (rules, revalued_blocks d b x cs)
 
 -- other keys keep their values
-revalued_other : (arena : Arena) (s : List ℕ) (p b x key k : ℕ) (cs : List Cell) → HasChain arena s p cs → slice_get s (block_at arena b) ≡ Some key → k ≢ key → value_of k (revalued b x cs) ≡ value_of k cs
+revalued_other : (arena : Arena) (s : List ℕ) (p b x key k : ℕ) (cs : List Cell) → HasChain arena s p cs
+    → slice_get s (block_at arena b) ≡ Some key → k ≢ key → value_of k (revalued b x cs) ≡ value_of k cs
 revalued_other arena s p b x key k [] h e ne = refl
 revalued_other arena s p b x key k (c ∷ cs) h e ne =
     let d : Cell = record { block = c.block; key = c.key; value = if_block b x c.block c.value } in
@@ -81,10 +87,12 @@ revalued_other arena s p b x key k (c ∷ cs) h e ne =
     (λ is_key.
     let other : c.block ≢ b = λ same. ne (sym is_key ∙ same_Some c.key key (sym h.2 ∙ ap (λ j. slice_get s (block_at arena j)) same ∙ e)) in
     value_first k d (revalued b x cs) is_key ∙ ap (λ y. Some y) (if_there b x c.block c.value other) ∙ sym (value_first k c cs is_key))
-    (λ is_other. value_later k d (revalued b x cs) is_other ∙ revalued_other arena s (block_at arena c.block + 2) b x key k cs h.4 e ne ∙ sym (value_later k c cs is_other))
+    (λ is_other. value_later k d (revalued b x cs) is_other
+    ∙ revalued_other arena s (block_at arena c.block + 2) b x key k cs h.4 e ne ∙ sym (value_later k c cs is_other))
 
 -- the key of the block has the new one
-revalued_same : (arena : Arena) (s : List ℕ) (p b x key : ℕ) (cs : List Cell) → HasChain arena s p cs → HasKeysOnce cs → slice_get s (block_at arena b) ≡ Some key → has_block b cs ≡ true → value_of key (revalued b x cs) ≡ Some x
+revalued_same : (arena : Arena) (s : List ℕ) (p b x key : ℕ) (cs : List Cell) → HasChain arena s p cs → HasKeysOnce cs
+    → slice_get s (block_at arena b) ≡ Some key → has_block b cs ≡ true → value_of key (revalued b x cs) ≡ Some x
 revalued_same arena s p b x key [] h once e m = absurd (true≢false (sym m))
 revalued_same arena s p b x key (c ∷ cs) h once e m =
     let d : Cell = record { block = c.block; key = c.key; value = if_block b x c.block c.value } in
@@ -95,24 +103,28 @@ revalued_same arena s p b x key (c ∷ cs) h once e m =
     (λ other.
     let there : has_block b cs ≡ true = grind rules in
     let not_none : value_of key cs ≢ None = block_key arena s (block_at arena c.block + 2) b key cs h.4 there e in
-    value_later key d (revalued b x cs) (λ k. not_none (ap (λ j. value_of j cs) (sym k) ∙ once.0)) ∙ revalued_same arena s (block_at arena c.block + 2) b x key cs h.4 once.1 e there)
+    value_later key d (revalued b x cs) (λ k. not_none (ap (λ j. value_of j cs) (sym k) ∙ once.0))
+    ∙ revalued_same arena s (block_at arena c.block + 2) b x key cs h.4 once.1 e there)
 
 module _ (map : ChainMap) (key : ℕ) (s : List ℕ) (f : Entries) (u v : Blocks) (hold : HoldsApart (chain_part map) s f u v) where
   -- the block where the key was found is in the chain of its bucket
   pub found_block : (p b : ℕ) → IsFoundAt map key p b s → has_block b (hold.map.cells (bucket_of key)) ≡ true
   found_block p b m =
       let i : ℕ = bucket_of key in
-      ap (λ cs. has_block b cs) (one_chain map.arena s (map.buckets + i) (map.buckets + i) (hold.map.cells i) (m.front ++ m.cell ∷ m.rest) refl (hold.map.chain i (bucket_below key)) m.chain)
+      ap (λ cs. has_block b cs) (one_chain map.arena s (map.buckets + i) (map.buckets + i) (hold.map.cells i)
+      (m.front ++ m.cell ∷ m.rest) refl (hold.map.chain i (bucket_below key)) m.chain)
       ∙ has_middle b m.front m.rest m.cell m.is_block
 
   pub found_used : (p b : ℕ) → IsFoundAt map key p b s → set.contains u b ≡ true
   found_used p b m = hold.map.in_used b (bucket_of key) (bucket_below key) (found_block p b m)
 
   pub found_below : (p b : ℕ) → IsFoundAt map key p b s → b < map.arena.blocks
-  found_below p b m = let i : ℕ = bucket_of key in block_below map.arena s (map.buckets + i) b (hold.map.cells i) (hold.map.chain i (bucket_below key)) (found_block p b m)
+  found_below p b m = let i : ℕ = bucket_of key in
+      block_below map.arena s (map.buckets + i) b (hold.map.cells i) (hold.map.chain i (bucket_below key)) (found_block p b m)
 
   -- the value is another
-  pub inserted_old : (p b x : ℕ) → IsFoundAt map key p b s → HoldsApart (chain_part map) (slice_set s (block_at map.arena b + 1) x) (entry_map.insert f key x) u v
+  pub inserted_old : (p b x : ℕ) → IsFoundAt map key p b s
+      → HoldsApart (chain_part map) (slice_set s (block_at map.arena b + 1) x) (entry_map.insert f key x) u v
   inserted_old p b x m =
       let a : Arena = map.arena in
       let t : List ℕ = slice_set s (block_at a b + 1) x in
@@ -133,13 +145,17 @@ module _ (map : ChainMap) (key : ℕ) (s : List ℕ) (f : Entries) (u v : Blocks
           once = λ i lt. revalued_once b x (h.cells i) (h.once i lt);
           entries_are = λ k. dite (ℕ_discrete k key)
               (λ e. subst (λ j. entry_map.get (entry_map.insert f key x) j ≡ value_of j (revalued b x (h.cells (bucket_of j)))) (sym e)
-              (insert_same f key x ∙ sym (revalued_same a s (map.buckets + bucket_of key) b x key (h.cells (bucket_of key)) (h.chain (bucket_of key) (bucket_below key)) (h.once (bucket_of key) (bucket_below key)) is_key (found_block p b m))))
-              (λ e. insert_other f key x k e ∙ h.entries_are k ∙ sym (revalued_other a s (map.buckets + bucket_of k) b x key k (h.cells (bucket_of k)) (h.chain (bucket_of k) (bucket_below k)) is_key e));
+              (insert_same f key x ∙ sym (revalued_same a s (map.buckets + bucket_of key) b x key
+              (h.cells (bucket_of key)) (h.chain (bucket_of key) (bucket_below key))
+              (h.once (bucket_of key) (bucket_below key)) is_key (found_block p b m))))
+              (λ e. insert_other f key x k e ∙ h.entries_are k
+              ∙ sym (revalued_other a s (map.buckets + bucket_of k) b x key k (h.cells (bucket_of k)) (h.chain (bucket_of k) (bucket_below k)) is_key e));
           used_in = λ d k. let q = h.used_in d k in (q.0, q.1, revalued_blocks d b x (h.cells q.0) ∙ q.2);
           in_used = λ d i lt k. h.in_used d i lt (sym (revalued_blocks d b x (h.cells i)) ∙ k);
         };
         free_lists = free_kept a s t v hold.free_lists long
-            (λ c head. get_set_other s (block_at a b + 1) c x (λ e. h.laid.arena.outside b c below (record { low = omega (arith, e); high = omega (arith, e) }) head))
+            (λ c head. get_set_other s (block_at a b + 1) c x
+            (λ e. h.laid.arena.outside b c below (record { low = omega (arith, e); high = omega (arith, e) }) head))
             (λ d c free k. get_set_other s (block_at a b + 1) c x (λ e.
             let same : d ≡ b = omega (arith, e, k.low, k.high) in
             true≢false (sym free ∙ ap (λ j. set.contains v j) same ∙ hold.apart b (found_used p b m))));
@@ -159,7 +175,8 @@ unfolding hung
 hung_there j i c cells e = grind (rules, e)
 
 -- what holds of the new cells of bucket j, and of the others, holds of each
-hung_all : (P : ℕ → List Cell → Type 0) (j : ℕ) (c : Cell) (cells : ℕ → List Cell) → P j (c ∷ cells j) → (i : ℕ) → (i ≢ j → P i (cells i)) → P i (hung j c cells i)
+hung_all : (P : ℕ → List Cell → Type 0) (j : ℕ) (c : Cell) (cells : ℕ → List Cell) → P j (c ∷ cells j) → (i : ℕ)
+    → (i ≢ j → P i (cells i)) → P i (hung j c cells i)
 hung_all P j c cells here i there = dite (ℕ_discrete i j)
     (λ e. subst (λ k. P k (hung j c cells k)) (sym e) (subst (P j) (sym (hung_here j c cells)) here))
     (λ e. subst (P i) (sym (hung_there j i c cells e)) (there e))
@@ -174,7 +191,8 @@ first_or : (d : ℕ) (c : Cell) (cs : List Cell) → has_block d (c ∷ cs) ≡ 
 first_or d c cs m = dite (ℕ_discrete c.block d) (λ e. inl (sym e)) (λ e. inr (grind rules))
 
 hung_or : (d j i : ℕ) (c : Cell) (cells : ℕ → List Cell) → has_block d (hung j c cells i) ≡ true → (d ≡ c.block) ⊎ (has_block d (cells i) ≡ true)
-hung_or d j i c cells = hung_all (λ l cs. has_block d cs ≡ true → (d ≡ c.block) ⊎ (has_block d (cells l) ≡ true)) j c cells (first_or d c (cells j)) i (λ e m. inr m)
+hung_or d j i c cells = hung_all (λ l cs. has_block d cs ≡ true → (d ≡ c.block) ⊎ (has_block d (cells l) ≡ true)) j c
+    cells (first_or d c (cells j)) i (λ e m. inr m)
 
 module _ (map : ChainMap) (s : List ℕ) (f : Entries) (u v : Blocks) (hold : HoldsApart (chain_part map) s f u v) where
   pub used_below : (d : ℕ) → set.contains u d ≡ true → d < map.arena.blocks
@@ -190,7 +208,8 @@ left_new map key x b s r t f u v hold missing taken kept put =
     let a : Arena = map.arena in
     let j : ℕ = bucket_of key in
     let l : IsLaid map s = hold.map.laid in
-    let h : ChainsHold map r f u = chains_stand map s r f u hold.map kept.count (λ c k. kept.same c (l.no_head c k)) (λ d c m k. kept.same c (l.arena.outside d c (used_below map s f u v hold d m) k)) in
+    let h : ChainsHold map r f u = chains_stand map s r f u hold.map kept.count (λ c k. kept.same c (l.no_head c k))
+    (λ d c m k. kept.same c (l.arena.outside d c (used_below map s f u v hold d m) k)) in
     let absent : entry_map.get f key ≡ None = missing_value map key s f u missing hold.map in
     let below : b < a.blocks = free_below a s v b hold.free_lists taken.was_free in
     let unused : set.contains u b ≡ false = free_unused (chain_part map) s f u v b hold taken.was_free in
@@ -204,8 +223,14 @@ left_new map key x b s r t f u v hold missing taken kept put =
       map = record {
         laid = laid_alike map r t put.count h.laid;
         cells = hung j c h.cells;
-        chain = λ i lt. hung_all (λ k cs. HasChain a t (map.buckets + k) cs) j c h.cells
-            (put.name, below, put.key_there, put.value_there, chain_kept a r t (map.buckets + j) (block_at a b + 2) (h.cells j) put.next_there (λ d e m k. keep d e (h.in_used d j (bucket_below key) m) k) (h.chain j (bucket_below key)))
+        chain = λ i lt. hung_all (λ k cs. HasChain a t (map.buckets + k) cs) j c h.cells (
+          put.name,
+          below,
+          put.key_there,
+          put.value_there,
+          chain_kept a r t (map.buckets + j) (block_at a b + 2) (h.cells j) put.next_there
+              (λ d e m k. keep d e (h.in_used d j (bucket_below key) m) k) (h.chain j (bucket_below key)),
+        )
             i
             (λ ne. chain_kept a r t (map.buckets + i) (map.buckets + i) (h.cells i)
             (put.others (map.buckets + i) (λ e. ne (omega (arith, e))) (λ k. l.outside b (map.buckets + i) below k (bucket i lt)))

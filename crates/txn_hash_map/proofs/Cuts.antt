@@ -1,5 +1,6 @@
 -- A cell cut out of its chain.
-use Rattle.std.proofs.Common.{◌≡◌, ◌≢◌, ℕ, ◌+◌, ◌<◌, ◌⊎◌, inl, inr, Bool, true, false, List, [], ◌∷◌, ◌++◌, length, slice_get, slice_set, Some, None, eqb, cond, refl, sym, ap, ◌∙◌, subst, arith, rules}
+use Rattle.std.proofs.Common.{◌≡◌, ◌≢◌, ℕ, ◌+◌, ◌<◌, ◌⊎◌, inl, inr, Bool, true, false, List, [], ◌∷◌, ◌++◌, length, slice_get, slice_set, Some, None, eqb, cond}
+use Rattle.std.proofs.Common.{refl, sym, ap, ◌∙◌, subst, arith, rules}
 use mathlib.Core.Bool.{true≢false}
 use mathlib.Core.Logic.{dite}
 use native.Mathlib.Decide.{ℕ_discrete}
@@ -15,7 +16,8 @@ use Rattle.txn_alloc.specs.FreeLists.{block_at, IsHead, IsInBlock, Lacks, Gives}
 use Rattle.txn_alloc.proofs.Wider.{IsAnyHeadOrIn}
 use Rattle.txn_alloc.proofs.Lists.{free_kept, free_below, one_set, same_block}
 use Rattle.txn_alloc.proofs.Sets.{out_both, out_itself}
-use Rattle.txn_alloc.proofs.Cells.{value_past, value_first, value_later, value_less, has_middle, first_block, later_block, less_block, remove_same, remove_other}
+use Rattle.txn_alloc.proofs.Cells.{value_past, value_first, value_later, value_less, has_middle, first_block, later_block, less_block, remove_same}
+use Rattle.txn_alloc.proofs.Cells.{remove_other}
 use Rattle.txn_hash_map.specs.declared.map.ChainMap.{ChainMap}
 use Rattle.txn_hash_map.specs.declared.map.TheConstants.{BUCKETS}
 use Rattle.txn_alloc.specs.EntryMaps.{Cell, value_of, has_block, Entries, Blocks, HoldsApart, RemovesOne, HasKeysOnce}
@@ -67,13 +69,15 @@ swapped_there : (j i : ℕ) (ds : List Cell) (cells : ℕ → List Cell) → i �
 unfolding swapped
 swapped_there j i ds cells e = grind (rules, e)
 
-swapped_all : (P : ℕ → List Cell → Type 0) (j : ℕ) (ds : List Cell) (cells : ℕ → List Cell) → P j ds → (i : ℕ) → (i ≢ j → P i (cells i)) → P i (swapped j ds cells i)
+swapped_all : (P : ℕ → List Cell → Type 0) (j : ℕ) (ds : List Cell) (cells : ℕ → List Cell) → P j ds → (i : ℕ)
+    → (i ≢ j → P i (cells i)) → P i (swapped j ds cells i)
 swapped_all P j ds cells here i there = dite (ℕ_discrete i j)
     (λ e. subst (λ k. P k (swapped j ds cells k)) (sym e) (subst (P j) (sym (swapped_here j ds cells)) here))
     (λ e. subst (P i) (sym (swapped_there j i ds cells e)) (there e))
 
 -- the word at p, which named block b, now names what x names
-module _ (arena : Arena) (s : List ℕ) (p b x : ℕ) (names : slice_get s p ≡ Some (b + 1)) (no_key : (d : ℕ) → d < arena.blocks → block_at arena d ≢ p) (no_value : (d : ℕ) → d < arena.blocks → block_at arena d + 1 ≢ p) where
+module _ (arena : Arena) (s : List ℕ) (p b x : ℕ) (names : slice_get s p ≡ Some (b + 1)) (no_key : (d : ℕ)
+    → d < arena.blocks → block_at arena d ≢ p) (no_value : (d : ℕ) → d < arena.blocks → block_at arena d + 1 ≢ p) where
   not_named : (q : ℕ) (cs : List Cell) → HasChain arena s q cs → has_block b cs ≡ false → q ≢ p
   not_named q [] h m e = let z : 0 ≡ b + 1 = same_Some 0 (b + 1) (sym h ∙ ap (λ k. slice_get s k) e ∙ names) in absurd (omega arith)
   not_named q (c ∷ cs) h m e =
@@ -82,7 +86,8 @@ module _ (arena : Arena) (s : List ℕ) (p b x : ℕ) (names : slice_get s p ≡
       absurd (true≢false (sym (first_block b c cs same) ∙ m))
 
   -- a chain without the block stays
-  cut_kept : (q r : ℕ) (cs : List Cell) → slice_get (slice_set s p x) r ≡ slice_get s q → has_block b cs ≡ false → HasChain arena s q cs → HasChain arena (slice_set s p x) r cs
+  cut_kept : (q r : ℕ) (cs : List Cell) → slice_get (slice_set s p x) r ≡ slice_get s q → has_block b cs ≡ false
+      → HasChain arena s q cs → HasChain arena (slice_set s p x) r cs
   cut_kept q r [] e m h = e ∙ h
   cut_kept q r (c ∷ cs) e m h =
       let other : c.block ≢ b = λ k. true≢false (sym (first_block b c cs k) ∙ m) in
@@ -91,20 +96,25 @@ module _ (arena : Arena) (s : List ℕ) (p b x : ℕ) (names : slice_get s p ≡
         h.1,
         get_set_other s p (block_at arena c.block) x (no_key c.block h.1) ∙ h.2,
         get_set_other s p (block_at arena c.block + 1) x (no_value c.block h.1) ∙ h.3,
-        cut_kept (block_at arena c.block + 2) (block_at arena c.block + 2) cs (get_set_other s p (block_at arena c.block + 2) x (not_named (block_at arena c.block + 2) cs h.4 later)) later h.4,
+        cut_kept (block_at arena c.block + 2) (block_at arena c.block + 2) cs
+            (get_set_other s p (block_at arena c.block + 2) x (not_named (block_at arena c.block + 2) cs h.4 later)) later h.4,
       )
 
   -- the chain of the block goes on after it
-  cut_chain : (q : ℕ) (front rest : List Cell) (c : Cell) → c.block ≡ b → p ≡ place_after arena q front → slice_get s (block_at arena b + 2) ≡ Some x → HasKeysOnce (front ++ c ∷ rest) → HasChain arena s q (front ++ c ∷ rest)
+  cut_chain : (q : ℕ) (front rest : List Cell) (c : Cell) → c.block ≡ b → p ≡ place_after arena q front
+      → slice_get s (block_at arena b + 2) ≡ Some x → HasKeysOnce (front ++ c ∷ rest) → HasChain arena s q (front ++ c ∷ rest)
       → HasChain arena (slice_set s p x) q (front ++ rest)
   cut_chain q [] rest c is_block at next once h =
       let link : slice_get (slice_set s p x) q ≡ slice_get s (block_at arena c.block + 2) =
-      ap (λ k. slice_get (slice_set s p x) k) (sym at) ∙ get_set_same s p x (slice_get_within s p (b + 1) names) ∙ sym next ∙ ap (λ d. slice_get s (block_at arena d + 2)) (sym is_block) in
+      ap (λ k. slice_get (slice_set s p x) k) (sym at) ∙ get_set_same s p x (slice_get_within s p (b + 1) names)
+      ∙ sym next ∙ ap (λ d. slice_get s (block_at arena d + 2)) (sym is_block) in
       cut_kept (block_at arena c.block + 2) q rest link (ap (λ d. has_block d rest) (sym is_block) ∙ block_once arena s q c rest h once) h.4
   cut_chain q (d ∷ front) rest c is_block at next once h =
       let there : has_block b (front ++ c ∷ rest) ≡ true = has_middle b front rest c is_block in
-      let other : d.block ≢ b = λ e. true≢false (sym there ∙ ap (λ k. has_block k (front ++ c ∷ rest)) (sym e) ∙ block_once arena s q d (front ++ c ∷ rest) h once) in
-      let apart : q ≢ p = λ e. let z : d.block + 1 ≡ b + 1 = same_Some (d.block + 1) (b + 1) (sym h.0 ∙ ap (λ k. slice_get s k) e ∙ names) in other (omega arith) in (
+      let other : d.block ≢ b = λ e. true≢false (sym there ∙ ap (λ k. has_block k (front ++ c ∷ rest)) (sym e)
+      ∙ block_once arena s q d (front ++ c ∷ rest) h once) in
+      let apart : q ≢ p = λ e. let z : d.block + 1 ≡ b + 1 =
+      same_Some (d.block + 1) (b + 1) (sym h.0 ∙ ap (λ k. slice_get s k) e ∙ names) in other (omega arith) in (
         get_set_other s p q x apart ∙ h.0,
         h.1,
         get_set_other s p (block_at arena d.block) x (no_key d.block h.1) ∙ h.2,
@@ -112,12 +122,15 @@ module _ (arena : Arena) (s : List ℕ) (p b x : ℕ) (names : slice_get s p ≡
         cut_chain (block_at arena d.block + 2) front rest c is_block at next once.1 h.4,
       )
 
-module _ (map : ChainMap) (key : ℕ) (s : List ℕ) (f : Entries) (u v : Blocks) (hold : HoldsApart (chain_part map) s f u v) (p b : ℕ) (m : IsFoundAt map key p b s) where
+module _ (map : ChainMap) (key : ℕ) (s : List ℕ) (f : Entries) (u v : Blocks)
+    (hold : HoldsApart (chain_part map) s f u v) (p b : ℕ) (m : IsFoundAt map key p b s) where
   -- the place is the bucket's word or in a used block
   pub place_used : (p ≡ map.buckets + bucket_of key) ⊎ ((e : ℕ) × (set.contains u e ≡ true) × (p ≡ block_at map.arena e + 2))
   place_used =
       let j : ℕ = bucket_of key in
-      let same : hold.map.cells j ≡ m.front ++ m.cell ∷ m.rest = one_chain map.arena s (map.buckets + j) (map.buckets + j) (hold.map.cells j) (m.front ++ m.cell ∷ m.rest) refl (hold.map.chain j (bucket_below key)) m.chain in
+      let same : hold.map.cells j ≡ m.front ++ m.cell ∷ m.rest =
+      one_chain map.arena s (map.buckets + j) (map.buckets + j) (hold.map.cells j) (m.front ++ m.cell ∷ m.rest) refl
+      (hold.map.chain j (bucket_below key)) m.chain in
       elim (place_kind map.arena s (map.buckets + j) m.front (m.cell ∷ m.rest) m.chain) [
         | inl e ↦ inl (m.at ∙ e)
         | inr k ↦ inr (k.0, hold.map.in_used k.0 j (bucket_below key) (ap (λ cs. has_block k.0 cs) same ∙ k.1), m.at ∙ k.2)
@@ -139,7 +152,8 @@ module _ (map : ChainMap) (key : ℕ) (s : List ℕ) (f : Entries) (u v : Blocks
   ]
 
   -- the cell is out, and its block neither used nor free
-  pub cut : (x : ℕ) → slice_get s (block_at map.arena b + 2) ≡ Some x → HoldsApart (chain_part map) (slice_set s p x) (entry_map.remove f key) (set.remove u b) v
+  pub cut : (x : ℕ) → slice_get s (block_at map.arena b + 2) ≡ Some x
+      → HoldsApart (chain_part map) (slice_set s p x) (entry_map.remove f key) (set.remove u b) v
   cut x next =
       let a : Arena = map.arena in
       let j : ℕ = bucket_of key in
@@ -150,14 +164,21 @@ module _ (map : ChainMap) (key : ℕ) (s : List ℕ) (f : Entries) (u v : Blocks
       let names : slice_get s p ≡ Some (b + 1) = found_names map key s p b m in
       let is_key : slice_get s (block_at a b) ≡ Some key = found_key map key s p b m in
       let below : b < a.blocks = found_below map key s f u v hold p b m in
-      let no_key : (d : ℕ) → d < a.blocks → block_at a d ≢ p = λ d lt. place_apart d (block_at a d) lt (record { low = omega arith; high = omega arith }) (λ k e. absurd (omega (arith, e))) in
-      let no_value : (d : ℕ) → d < a.blocks → block_at a d + 1 ≢ p = λ d lt. place_apart d (block_at a d + 1) lt (record { low = omega arith; high = omega arith }) (λ k e. absurd (omega (arith, e))) in
+      let no_key : (d : ℕ) → d < a.blocks → block_at a d ≢ p =
+      λ d lt. place_apart d (block_at a d) lt (record { low = omega arith; high = omega arith }) (λ k e. absurd (omega (arith, e))) in
+      let no_value : (d : ℕ) → d < a.blocks → block_at a d + 1 ≢ p =
+      λ d lt. place_apart d (block_at a d + 1) lt (record { low = omega arith; high = omega arith }) (λ k e. absurd (omega (arith, e))) in
       let ds : List Cell = m.front ++ m.rest in
-      let same : h.cells j ≡ m.front ++ m.cell ∷ m.rest = one_chain a s (map.buckets + j) (map.buckets + j) (h.cells j) (m.front ++ m.cell ∷ m.rest) refl (h.chain j jt) m.chain in
+      let same : h.cells j ≡ m.front ++ m.cell ∷ m.rest =
+      one_chain a s (map.buckets + j) (map.buckets + j) (h.cells j) (m.front ++ m.cell ∷ m.rest) refl (h.chain j jt) m.chain in
       let elsewhere : (i : ℕ) → i < BUCKETS → i ≢ j → has_block b (h.cells i) ≡ false = λ i lt ne. not_elsewhere h i lt ne (has_block b (h.cells i)) refl in
-      let gone : value_of key ds ≡ None = value_past key m.front m.rest m.lacking ∙ ap (λ k. value_of k m.rest) (sym m.is_key) ∙ once_rest m.front m.rest m.cell m.once in
-      let own : (i : ℕ) → i < BUCKETS → HasKeysIn i (swapped j ds h.cells i) = λ i lt. swapped_all (λ k cs. HasKeysIn k cs) j ds h.cells (less_own j m.front m.rest m.cell (subst (λ cs. HasKeysIn j cs) same (h.own j jt))) i (λ ne. h.own i lt) in
-      let chain : (i : ℕ) → i < BUCKETS → HasChain a t (map.buckets + i) (swapped j ds h.cells i) = λ i lt. swapped_all (λ k cs. HasChain a t (map.buckets + k) cs) j ds h.cells
+      let gone : value_of key ds ≡ None = value_past key m.front m.rest m.lacking
+      ∙ ap (λ k. value_of k m.rest) (sym m.is_key) ∙ once_rest m.front m.rest m.cell m.once in
+      let own : (i : ℕ) → i < BUCKETS → HasKeysIn i (swapped j ds h.cells i) =
+      λ i lt. swapped_all (λ k cs. HasKeysIn k cs) j ds h.cells
+      (less_own j m.front m.rest m.cell (subst (λ cs. HasKeysIn j cs) same (h.own j jt))) i (λ ne. h.own i lt) in
+      let chain : (i : ℕ) → i < BUCKETS → HasChain a t (map.buckets + i) (swapped j ds h.cells i) =
+      λ i lt. swapped_all (λ k cs. HasChain a t (map.buckets + k) cs) j ds h.cells
       (cut_chain a s p b x names no_key no_value (map.buckets + j) m.front m.rest m.cell m.is_block m.at next m.once m.chain) i
       (λ ne. cut_kept a s p b x names no_key no_value (map.buckets + i) (map.buckets + i) (h.cells i)
       (get_set_other s p (map.buckets + i) x (not_named a s p b x names no_key no_value (map.buckets + i) (h.cells i) (h.chain i lt) (elsewhere i lt ne)))
@@ -195,14 +216,17 @@ module _ (map : ChainMap) (key : ℕ) (s : List ℕ) (f : Entries) (u v : Blocks
         };
         free_lists = free_kept a s t v hold.free_lists long
             (λ c head. get_set_other s p c x (λ e. place_no_head (subst (λ q. IsHead a q) e head)))
-            (λ d c free k. get_set_other s p c x (place_apart d c (free_below a s v d hold.free_lists free) k (λ w. absurd (true≢false (sym free ∙ hold.apart d w)))));
+            (λ d c free k. get_set_other s p c x (place_apart d c (free_below a s v d hold.free_lists free) k
+            (λ w. absurd (true≢false (sym free ∙ hold.apart d w)))));
         apart = λ d k. hold.apart d (less_in u b d k);
       }
     where
-      not_elsewhere : (h : ChainsHold map s f u) (i : ℕ) → i < BUCKETS → i ≢ bucket_of key → (k : Bool) → has_block b (h.cells i) ≡ k → has_block b (h.cells i) ≡ false
+      not_elsewhere : (h : ChainsHold map s f u) (i : ℕ) → i < BUCKETS → i ≢ bucket_of key → (k : Bool)
+          → has_block b (h.cells i) ≡ k → has_block b (h.cells i) ≡ false
       not_elsewhere h i lt ne false e = e
       not_elsewhere h i lt ne true e =
-          absurd (ne (sym (key_own i key (h.cells i) (h.own i lt) (block_key map.arena s (map.buckets + i) b key (h.cells i) (h.chain i lt) e (found_key map key s p b m)))))
+          absurd (ne (sym (key_own i key (h.cells i) (h.own i lt)
+          (block_key map.arena s (map.buckets + i) b key (h.cells i) (h.chain i lt) e (found_key map key s p b m)))))
 
   -- in between, the block is in no list
   pub cut_lacks : (x : ℕ) → slice_get s (block_at map.arena b + 2) ≡ Some x → Lacks map.arena b (slice_set s p x)
@@ -229,4 +253,10 @@ module _ (map : ChainMap) (key : ℕ) (s : List ℕ) (f : Entries) (u v : Blocks
         }
 
     pub removed : RemovesOne (chain_part map) key y t f u v
-    removed = record { present = found_value map key s f u p b y m value hold.map; block = b; was_used = found_used map key s f u v hold p b m; left = removed_left }
+    removed = record {
+      present = found_value map key s f u p b y m value hold.map;
+      block = b;
+      was_used =
+          found_used map key s f u v hold p b m;
+      left = removed_left;
+    }

@@ -26,7 +26,8 @@ pub record Room (map : ChainMap) (key b n : ℕ) : Type 0 where
   pub block : block_at map.arena b + 4 ≤ n
   pub small : n ≤ 2 ^ 64
 
-pub room : (map : ChainMap) (key b n : ℕ) (G : List ℕ → Type 0) (t : Trace) → InEach n G t (IsLaid map) → SomeFits n G t → b < map.arena.blocks → Room map key b n
+pub room : (map : ChainMap) (key b n : ℕ) (G : List ℕ → Type 0) (t : Trace) → InEach n G t (IsLaid map) → SomeFits n G t
+    → b < map.arena.blocks → Room map key b n
 room map key b n G t laid some lt =
     let s : List ℕ = after t some.0 in
     let l : IsLaid map s = laid.at some.0 some.1 in
@@ -36,7 +37,8 @@ room map key b n G t laid some lt =
 
 put_state : (map : ChainMap) (key x b z : ℕ) (s : List ℕ) → IsLaid map s → b < map.arena.blocks → slice_get s (map.buckets + bucket_of key) ≡ Some z
     → IsPutInFront map key x b s
-    (slice_set (slice_set (slice_set (slice_set s (block_at map.arena b) key) (block_at map.arena b + 1) x) (block_at map.arena b + 2) z) (map.buckets + bucket_of key) (b + 1))
+    (slice_set (slice_set (slice_set (slice_set s (block_at map.arena b) key) (block_at map.arena b + 1) x)
+    (block_at map.arena b + 2) z) (map.buckets + bucket_of key) (b + 1))
 put_state map key x b z s l lt e =
     let p : ℕ = map.buckets + bucket_of key in
     let a : ℕ = block_at map.arena b in
@@ -56,7 +58,8 @@ put_state map key x b z s l lt e =
       name = get_set_same s3 p (b + 1) (omega (arith, long3, l.buckets, bucket_below key));
       key_there = get_set_other s3 p a (b + 1) (no a (omega arith) (omega arith)) ∙ get_set_other s2 (a + 2) a z (λ w. absurd (omega (arith, w)))
           ∙ get_set_other s1 (a + 1) a x (λ w. absurd (omega (arith, w))) ∙ get_set_same s a key (omega (arith, room));
-      value_there = get_set_other s3 p (a + 1) (b + 1) (no (a + 1) (omega arith) (omega arith)) ∙ get_set_other s2 (a + 2) (a + 1) z (λ w. absurd (omega (arith, w)))
+      value_there = get_set_other s3 p (a + 1) (b + 1) (no (a + 1) (omega arith) (omega arith))
+          ∙ get_set_other s2 (a + 2) (a + 1) z (λ w. absurd (omega (arith, w)))
           ∙ get_set_same s1 (a + 1) x (omega (arith, room, long1));
       next_there = get_set_other s3 p (a + 2) (b + 1) (no (a + 2) (omega arith) (omega arith)) ∙ get_set_same s2 (a + 2) z (omega (arith, room, long2)) ∙ sym e;
       others = λ q ne out.
@@ -66,22 +69,28 @@ put_state map key x b z s l lt e =
           ∙ get_set_other s a q key (λ w. out (record { low = omega (arith, w); high = omega (arith, w) }));
     }
 
-module _ (map : ChainMap) (key x b n : ℕ) (G : List ℕ → Type 0) (t t1 t2 t3 t4 t5 : Trace) (p q z y : ℕ) (is_bucket : p ≡ map.buckets + bucket_of key) (is_block : q ≡ block_at map.arena b) (is_name : y ≡ b + 1)
-    (e1 : t1 ≡ t ++ Read p z ∷ []) (e2 : EndsWithWrite t1 t2 q key) (e3 : EndsWithWrite t2 t3 (q + 1) x) (e4 : EndsWithWrite t3 t4 (q + 2) z) (e5 : EndsWithWrite t4 t5 p y) where
+module _ (map : ChainMap) (key x b n : ℕ) (G : List ℕ → Type 0) (t t1 t2 t3 t4 t5 : Trace) (p q z y : ℕ) (is_bucket : p
+    ≡ map.buckets + bucket_of key) (is_block : q ≡ block_at map.arena b) (is_name : y ≡ b + 1)
+    (e1 : t1 ≡ t ++ Read p z ∷ []) (e2 : EndsWithWrite t1 t2 q key) (e3 : EndsWithWrite t2 t3 (q + 1) x)
+    (e4 : EndsWithWrite t3 t4 (q + 2) z) (e5 : EndsWithWrite t4 t5 p y) where
   pub puts_front : InEach n G t (IsLaid map) → b < map.arena.blocks → Leads n G t t5 (IsPutInFront map key x b)
   puts_front laid lt = record {
     at = λ s fit.
         let a : ℕ = block_at map.arena b in
-        let fit1 : Fits n G t1 s = fits_write_end n G t1 t2 q key s e2 (fits_write_end n G t2 t3 (q + 1) x s e3 (fits_write_end n G t3 t4 (q + 2) z s e4 (fits_write_end n G t4 t5 p y s e5 fit))) in
+        let fit1 : Fits n G t1 s = fits_write_end n G t1 t2 q key s e2
+        (fits_write_end n G t2 t3 (q + 1) x s e3 (fits_write_end n G t3 t4 (q + 2) z s e4 (fits_write_end n G t4 t5 p y s e5 fit))) in
         let whole : Fits n G (t ++ Read p z ∷ []) s = subst (λ w. Fits n G w s) e1 fit1 in
         let fit0 : Fits n G t s = fits_front n G t (Read p z ∷ []) s whole in
-        let there : slice_get (after t s) (map.buckets + bucket_of key) ≡ Some z = ap (λ w. slice_get (after t s) w) (sym is_bucket) ∙ read_there t s p z whole.legal in
+        let there : slice_get (after t s) (map.buckets + bucket_of key) ≡ Some z =
+        ap (λ w. slice_get (after t s) w) (sym is_bucket) ∙ read_there t s p z whole.legal in
         let r1 : after t1 s ≡ after t s = ap (λ w. after w s) e1 ∙ after_read t s p z in
-        let r2 : after t2 s ≡ slice_set (after t s) a key = after_write_end t1 t2 q key s e2 ∙ ap (λ w. slice_set w q key) r1 ∙ ap (λ w. slice_set (after t s) w key) is_block in
+        let r2 : after t2 s ≡ slice_set (after t s) a key = after_write_end t1 t2 q key s e2
+        ∙ ap (λ w. slice_set w q key) r1 ∙ ap (λ w. slice_set (after t s) w key) is_block in
         let r3 : after t3 s ≡ slice_set (slice_set (after t s) a key) (a + 1) x =
         after_write_end t2 t3 (q + 1) x s e3 ∙ ap (λ w. slice_set w (q + 1) x) r2 ∙ ap (λ w. slice_set (slice_set (after t s) a key) (w + 1) x) is_block in
         let r4 : after t4 s ≡ slice_set (slice_set (slice_set (after t s) a key) (a + 1) x) (a + 2) z =
-        after_write_end t3 t4 (q + 2) z s e4 ∙ ap (λ w. slice_set w (q + 2) z) r3 ∙ ap (λ w. slice_set (slice_set (slice_set (after t s) a key) (a + 1) x) (w + 2) z) is_block in
+        after_write_end t3 t4 (q + 2) z s e4 ∙ ap (λ w. slice_set w (q + 2) z) r3
+        ∙ ap (λ w. slice_set (slice_set (slice_set (after t s) a key) (a + 1) x) (w + 2) z) is_block in
         let r5 : after t5 s ≡ slice_set (slice_set (slice_set (slice_set (after t s) a key) (a + 1) x) (a + 2) z) (map.buckets + bucket_of key) (b + 1) =
         after_write_end t4 t5 p y s e5 ∙ ap (λ w. slice_set w p y) r4
         ∙ ap (λ w. slice_set (slice_set (slice_set (slice_set (after t s) a key) (a + 1) x) (a + 2) z) w y) is_bucket

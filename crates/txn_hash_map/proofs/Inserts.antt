@@ -25,11 +25,14 @@ use Rattle.txn_hash_map.proofs.Changes.{left_new}
 pub is_one : (map : ChainMap) → IsOne (chain_part map)
 is_one map = λ s f g u v. one_map map s f g u v
 
-module _ (map : ChainMap) (key x n : ℕ) (G : List ℕ → Type 0) (t u : Trace) (order : InEach n G t (HasMapApart (chain_part map))) (l : Looks n G t u (IsLink map key) (IsMissing map key)) (v : Trace) (bv : Begins u v) where
+module _ (map : ChainMap) (key x n : ℕ) (G : List ℕ
+    → Type 0) (t u : Trace) (order : InEach n G t (HasMapApart (chain_part map)))
+    (l : Looks n G t u (IsLink map key) (IsMissing map key)) (v : Trace) (bv : Begins u v) where
   -- the map lies as before
   pub laid_taken : Leads n G u v (KeepsOthers (IsHead map.arena)) → InEach n G v (IsLaid map)
   laid_taken keeps = record {
-    at = λ s fit. laid_alike map (after u s) (after v s) ((keeps.at s fit).count) (((each_looked n G t u l (HasMapApart (chain_part map)) order).at s (fits_begins n G u v s bv fit)).holds.map.laid);
+    at = λ s fit. laid_alike map (after u s) (after v s) ((keeps.at s fit).count)
+        (((each_looked n G t u l (HasMapApart (chain_part map)) order).at s (fits_begins n G u v s bv fit)).holds.map.laid);
   }
 
   -- a block was taken, and put in front of the chain
@@ -38,13 +41,20 @@ module _ (map : ChainMap) (key x n : ℕ) (G : List ℕ → Type 0) (t u : Trace
     begins : Begins t w
     begins = begins_trans t u w l.begins (begins_trans u v w bv bw)
 
-    inserted : (s : List ℕ) → Fits n G w s → (f : Entries) (used free : Blocks) → HoldsApart (chain_part map) (after t s) f used free → founds.InsertsIn (chain_part map) key x b (after w s) f used free
+    inserted : (s : List ℕ) → Fits n G w s → (f : Entries) (used free : Blocks)
+        → HoldsApart (chain_part map) (after t s) f used free → founds.InsertsIn (chain_part map) key x b (after w s) f used free
     inserted s fit f used free hold =
         let fit_v : Fits n G v s = fits_begins n G v w s bw fit in
         let missing : IsMissing map key (after t s) = seen_before n G t u l s (fits_begins n G u v s bv fit_v) in
-        let taken : TakesBlock map.arena b (after t s) (after v s) free = (leads_back n G t u l v (Takes map.arena (Some b)) bv takes).at s fit_v free hold.free_lists in
+        let taken : TakesBlock map.arena b (after t s) (after v s) free =
+        (leads_back n G t u l v (Takes map.arena (Some b)) bv takes).at s fit_v free hold.free_lists in
         let kept : KeepsOthers (IsHead map.arena) (after t s) (after v s) = (leads_back n G t u l v (KeepsOthers (IsHead map.arena)) bv keeps).at s fit_v in
-        record { absent = missing_value map key (after t s) f used missing hold.map; was_free = taken.was_free; left = left_new map key x b (after t s) (after v s) (after w s) f used free hold missing taken kept (puts.at s fit) }
+        record {
+          absent = missing_value map key (after t s) f used missing hold.map;
+          was_free = taken.was_free;
+          left =
+              left_new map key x b (after t s) (after v s) (after w s) f used free hold missing taken kept (puts.at s fit);
+        }
 
     pub inserts_new : Leads n G t w (Inserts (chain_part map) key x New)
     inserts_new = founds.inserts_new (chain_part map) (is_one map) key x n G t w b begins inserted
@@ -52,11 +62,21 @@ module _ (map : ChainMap) (key x n : ℕ) (G : List ℕ → Type 0) (t u : Trace
     pub takes_new : Leads n G u v (λ x y. IsNearest map.arena key b x) → Leads n G t w (TakesNearest (chain_part map) key)
     takes_new nearest = founds.takes_new (chain_part map) (is_one map) key x n G t w b begins inserted order u v l bv bw nearest
 
-    pub owns_new : AppendsOnly u v (IsWrittenByTake map.arena (Some b)) → AppendsOnly v w (IsBucketOrIn map key b) → (s : List ℕ) → Fits n G w s → AppendsOnly t w (IsOwn (chain_part map) key (after t s) (after w s))
+    pub owns_new : AppendsOnly u v (IsWrittenByTake map.arena (Some b)) → AppendsOnly v w (IsBucketOrIn map key b)
+        → (s : List ℕ) → Fits n G w s → AppendsOnly t w (IsOwn (chain_part map) key (after t s) (after w s))
     owns_new heads front s fit = founds.owns_new (chain_part map) (is_one map) key x n G t w b begins inserted order u v l s fit heads front
-        (λ a k. elim k [ inl m ↦ inl m | inr m ↦ inr (inl (b, inr (founds.uses_new (chain_part map) (is_one map) key x n G t w b begins inserted order s fit), m)) ])
+        (λ a k. elim k [
+          | inl m ↦ inl m
+          | inr m ↦
+              inr (inl (b, inr (founds.uses_new (chain_part map) (is_one map) key x n G t w b begins inserted order s fit), m))
+        ])
 
     pub sees_new : AppendsReads u v (IsReadByTake map.arena key (Some b)) → AppendsReads v w (IsBucketOrIn map key b)
         → (s : List ℕ) → Fits n G w s → AppendsReads t w (MayReadToInsert (chain_part map) key New (after t s) (after w s))
-    sees_new names front s fit = founds.sees_new (chain_part map) (is_one map) key x n G t w b begins inserted order u v l s fit (near_own map key) bv bw names front
-        (λ a k. elim k [ inl e ↦ inl (inl e) | inr m ↦ inr (b, founds.moved_new (chain_part map) (is_one map) key x n G t w b begins inserted order s fit, inr m) ])
+    sees_new names front s fit = founds.sees_new (chain_part map) (is_one map) key x n G t w b begins inserted order u v
+        l s fit (near_own map key) bv bw names front
+        (λ a k. elim k [
+          | inl e ↦ inl (inl e)
+          | inr m ↦
+              inr (b, founds.moved_new (chain_part map) (is_one map) key x n G t w b begins inserted order s fit, inr m)
+        ])

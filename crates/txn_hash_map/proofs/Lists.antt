@@ -16,7 +16,8 @@ abbrev pub small : ChainMap
 small = record { buckets = 17; arena = record { heads = 1; first = 277; blocks = 2 } }
 
 -- no entry is held where all other words are 0
-pub none_held : (words : List ℕ) (entries : Entries) → ((key : ℕ) → entry_map.get entries key ≡ None) → AreLinked words → ChainsHold small words entries set.empty
+pub none_held : (words : List ℕ) (entries : Entries) → ((key : ℕ) → entry_map.get entries key ≡ None) → AreLinked words
+    → ChainsHold small words entries set.empty
 none_held words entries none are =
     let count = are.count in
     record {

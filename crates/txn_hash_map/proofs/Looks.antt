@@ -22,18 +22,21 @@ module _ (n : ℕ) (G : List ℕ → Type 0) (t : Trace) (IsSeen : List ℕ → 
         let long : length s ≡ n = length-after u some.0 ∙ some.1.count in
         omega (arith, long, passed_within map key s p k (l.holds some.0 some.1))
 
-    pub looks_names : (u : Trace) (p k h b : ℕ) → Looks n G t u IsSeen (λ s. IsPassed map key p k s × (slice_get s p ≡ Some h)) → h ≡ b + 1 → SomeFits n G u → b < map.arena.blocks
+    pub looks_names : (u : Trace) (p k h b : ℕ) → Looks n G t u IsSeen (λ s. IsPassed map key p k s
+        × (slice_get s p ≡ Some h)) → h ≡ b + 1 → SomeFits n G u → b < map.arena.blocks
     looks_names u p k h b l e some =
         let q = l.holds some.0 some.1 in
         passed_names map key (after u some.0) p k b q.0 (q.1 ∙ ap (λ z. Some z) e)
 
 -- the name at the place was read
-pub looks_name : (map : ChainMap) (key n : ℕ) (G : List ℕ → Type 0) (t u v : Trace) (p k h : ℕ) → Looks n G t u (IsLink map key) (IsPassed map key p k) → v ≡ u ++ Read p h ∷ []
+pub looks_name : (map : ChainMap) (key n : ℕ) (G : List ℕ → Type 0) (t u v : Trace) (p k h : ℕ)
+    → Looks n G t u (IsLink map key) (IsPassed map key p k) → v ≡ u ++ Read p h ∷ []
     → Looks n G t v (IsLink map key) (λ s. IsPassed map key p k s × (slice_get s p ≡ Some h))
 looks_name map key n G t u v p k h l e = looks_read n G t (IsLink map key) u v p h (IsPassed map key p k) l e (λ s q. passed_link map key s p k q)
 
 -- and then the key of the block that it names
-pub looks_key : (map : ChainMap) (key n : ℕ) (G : List ℕ → Type 0) (t u v w : Trace) (p k h b a x : ℕ) → Looks n G t u (IsLink map key) (IsPassed map key p k) → v ≡ u ++ Read p h ∷ [] → w ≡ v ++ Read a x ∷ []
+pub looks_key : (map : ChainMap) (key n : ℕ) (G : List ℕ → Type 0) (t u v w : Trace) (p k h b a x : ℕ)
+    → Looks n G t u (IsLink map key) (IsPassed map key p k) → v ≡ u ++ Read p h ∷ [] → w ≡ v ++ Read a x ∷ []
     → h ≡ b + 1 → a ≡ block_at map.arena b
     → Looks n G t w (IsLink map key) (λ s. IsPassed map key p k s × (slice_get s p ≡ Some (b + 1)) × (slice_get s (block_at map.arena b) ≡ Some x))
 looks_key map key n G t u v w p k h b a x l e f is_name is_block =

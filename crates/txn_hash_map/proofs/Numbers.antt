@@ -1,5 +1,6 @@
 -- How many blocks a map uses: the cells of all buckets in one list.
-use Rattle.std.proofs.Common.{◌≡◌, ◌≢◌, ℕ, zero, suc, ◌+◌, ◌<◌, ◌≤◌, ◌⊎◌, inl, inr, true, List, [], ◌∷◌, ◌++◌, slice_get, Option, Some, None, refl, sym, ap, ◌∙◌, arith}
+use Rattle.std.proofs.Common.{◌≡◌, ◌≢◌, ℕ, zero, suc, ◌+◌, ◌<◌, ◌≤◌, ◌⊎◌, inl, inr, true, List, [], ◌∷◌, ◌++◌, slice_get, Option, Some, None, refl, sym, ap}
+use Rattle.std.proofs.Common.{◌∙◌, arith}
 use mathlib.Core.Bool.{true≢false}
 use mathlib.Core.Logic.{dite}
 use native.Mathlib.Decide.{ℕ_discrete}
@@ -64,7 +65,8 @@ module _ (map : ChainMap) (s : List ℕ) (cells : ℕ → List Cell) where
   unfolding gathered
   keyed zero chain = tt
   keyed (suc n) chain =
-      all_append (λ c. slice_get s (block_at map.arena c.block) ≡ Some c.key) (gathered n cells) (cells n) (keyed n (λ i lt. chain i (omega (arith, lt)))) (chain_keyed map.arena s (map.buckets + n) (cells n) (chain n (omega arith)))
+      all_append (λ c. slice_get s (block_at map.arena c.block) ≡ Some c.key) (gathered n cells) (cells n)
+      (keyed n (λ i lt. chain i (omega (arith, lt)))) (chain_keyed map.arena s (map.buckets + n) (cells n) (chain n (omega arith)))
 
 module _ (cells : ℕ → List Cell) where
   buckets_below : (n : ℕ) → ((i : ℕ) → i < n → HasKeysIn i (cells i)) → AllByRecursion (λ c. bucket_of c.key < n) (gathered n cells)
@@ -72,7 +74,8 @@ module _ (cells : ℕ → List Cell) where
   buckets_below zero own = tt
   buckets_below (suc n) own =
       all_append (λ c. bucket_of c.key < suc n) (gathered n cells) (cells n)
-      (all_map (λ c. bucket_of c.key < n) (λ c. bucket_of c.key < suc n) (gathered n cells) (λ c lt. omega (arith, lt)) (buckets_below n (λ i lt. own i (omega (arith, lt)))))
+      (all_map (λ c. bucket_of c.key < n) (λ c. bucket_of c.key < suc n) (gathered n cells) (λ c lt. omega (arith, lt))
+      (buckets_below n (λ i lt. own i (omega (arith, lt)))))
       (own_buckets (suc n) n (cells n) (omega arith) (own n (omega arith)))
 
   once_all : (n : ℕ) → ((i : ℕ) → i < n → HasKeysIn i (cells i)) → ((i : ℕ) → i < n → HasKeysOnce (cells i)) → HasKeysOnce (gathered n cells)
@@ -81,21 +84,26 @@ module _ (cells : ℕ → List Cell) where
   once_all (suc n) own once =
       let own_n : (i : ℕ) → i < n → HasKeysIn i (cells i) = λ i lt. own i (omega (arith, lt)) in
       once_append (gathered n cells) (cells n) (once_all n own_n (λ i lt. once i (omega (arith, lt)))) (once n (omega arith))
-      (all_map (λ c. bucket_of c.key < n) (λ c. value_of c.key (cells n) ≡ None) (gathered n cells) (λ c lt. absent_in n c.key (cells n) (own n (omega arith)) (λ e. absurd (omega (arith, lt, e)))) (buckets_below n own_n))
+      (all_map (λ c. bucket_of c.key < n) (λ c. value_of c.key (cells n) ≡ None) (gathered n cells)
+      (λ c lt. absent_in n c.key (cells n) (own n (omega arith)) (λ e. absurd (omega (arith, lt, e)))) (buckets_below n own_n))
 
   value_above : (n key : ℕ) → ((i : ℕ) → i < n → HasKeysIn i (cells i)) → n ≤ bucket_of key → value_of key (gathered n cells) ≡ None
   unfolding gathered
   value_above zero key own le = refl
   value_above (suc n) key own le =
-      value_past key (gathered n cells) (cells n) (value_above n key (λ i lt. own i (omega (arith, lt))) (omega (arith, le))) ∙ absent_in n key (cells n) (own n (omega arith)) (λ e. absurd (omega (arith, le, e)))
+      value_past key (gathered n cells) (cells n) (value_above n key (λ i lt. own i (omega (arith, lt)))
+      (omega (arith, le))) ∙ absent_in n key (cells n) (own n (omega arith)) (λ e. absurd (omega (arith, le, e)))
 
   -- what they say of a key is what its own bucket says
-  value_all : (n key : ℕ) → ((i : ℕ) → i < n → HasKeysIn i (cells i)) → bucket_of key < n → value_of key (gathered n cells) ≡ value_of key (cells (bucket_of key))
+  value_all : (n key : ℕ) → ((i : ℕ) → i < n → HasKeysIn i (cells i)) → bucket_of key < n
+      → value_of key (gathered n cells) ≡ value_of key (cells (bucket_of key))
   unfolding gathered
   value_all zero key own lt = absurd (omega (arith, lt))
   value_all (suc n) key own lt = dite (ℕ_discrete (bucket_of key) n)
-      (λ e. value_past key (gathered n cells) (cells n) (value_above n key (λ i k. own i (omega (arith, k))) (omega (arith, e))) ∙ ap (λ i. value_of key (cells i)) (sym e))
-      (λ ne. value_front key (gathered n cells) (cells n) (absent_in n key (cells n) (own n (omega arith)) ne) ∙ value_all n key (λ i k. own i (omega (arith, k))) (omega (arith, lt, ne)))
+      (λ e. value_past key (gathered n cells) (cells n) (value_above n key (λ i k. own i (omega (arith, k)))
+      (omega (arith, e))) ∙ ap (λ i. value_of key (cells i)) (sym e))
+      (λ ne. value_front key (gathered n cells) (cells n) (absent_in n key (cells n) (own n (omega arith)) ne)
+      ∙ value_all n key (λ i k. own i (omega (arith, k))) (omega (arith, lt, ne)))
 
   -- and a block of one bucket is one of theirs
   has_in : (n i b : ℕ) → i < n → has_block b (cells i) ≡ true → has_block b (gathered n cells) ≡ true
@@ -116,12 +124,15 @@ module _ (cells : ℕ → List Cell) where
 pub as_many_blocks : (map : ChainMap) (s : List ℕ) (f : Entries) (u : Blocks) → ChainsHold map s f u → set.len u ≡ entry_map.len f
 as_many_blocks map s f u h = at BUCKETS h.chain h.own h.once bucket_below h.used_in h.in_used
   where
-    at : (n : ℕ) → ((i : ℕ) → i < n → HasChain map.arena s (map.buckets + i) (h.cells i)) → ((i : ℕ) → i < n → HasKeysIn i (h.cells i)) → ((i : ℕ) → i < n → HasKeysOnce (h.cells i)) → ((key : ℕ) → bucket_of key < n)
-        → ((b : ℕ) → set.contains u b ≡ true → (i : ℕ) × (i < n) × (has_block b (h.cells i) ≡ true)) → ((b i : ℕ) → i < n → has_block b (h.cells i) ≡ true → set.contains u b ≡ true) → set.len u ≡ entry_map.len f
+    at : (n : ℕ) → ((i : ℕ) → i < n → HasChain map.arena s (map.buckets + i) (h.cells i))
+        → ((i : ℕ) → i < n → HasKeysIn i (h.cells i)) → ((i : ℕ) → i < n → HasKeysOnce (h.cells i)) → ((key : ℕ) → bucket_of key < n)
+        → ((b : ℕ) → set.contains u b ≡ true → (i : ℕ) × (i < n) × (has_block b (h.cells i) ≡ true))
+        → ((b i : ℕ) → i < n → has_block b (h.cells i) ≡ true → set.contains u b ≡ true) → set.len u ≡ entry_map.len f
     at n chain own once below used_in in_used =
         let cs : List Cell = gathered n h.cells in
         let keys : HasKeysOnce cs = once_all h.cells n own once in
         len_blocks cs u
-        (λ b. both (set.contains u b) (has_block b cs) (λ m. let q = used_in b m in has_in h.cells n q.0 b q.1 q.2) (λ m. let q = has_out h.cells n b m in in_used b q.0 q.1 q.2))
+        (λ b. both (set.contains u b) (has_block b cs) (λ m. let q = used_in b m in has_in h.cells n q.0 b q.1 q.2)
+        (λ m. let q = has_out h.cells n b m in in_used b q.0 q.1 q.2))
         (λ b. keyed_once map.arena s b cs (keyed map s h.cells n chain) keys)
         ∙ sym (len_cells cs f (λ key. h.entries_are key ∙ sym (value_all h.cells n key own (below key))) keys)

@@ -21,7 +21,8 @@ module _ (map : ChainMap) (s : List ℕ) (f g : Entries) (u w : Blocks) (h : Cha
 
   pub one_map : (f ≡ g) × (u ≡ w)
   one_map = (
-    entry_map.same_map nat_cmp_total nat_cmp-IsAntisymmetric f g (λ q. h.entries_are q ∙ ap (λ cs. value_of q cs) (same_cells (bucket_of q) (bucket_below q)) ∙ sym (k.entries_are q)),
+    entry_map.same_map nat_cmp_total nat_cmp-IsAntisymmetric f g (λ q. h.entries_are q
+        ∙ ap (λ cs. value_of q cs) (same_cells (bucket_of q) (bucket_below q)) ∙ sym (k.entries_are q)),
     set.same_set nat_cmp_total nat_cmp-IsAntisymmetric u w (λ q. both (set.contains u q) (set.contains w q)
         (λ m. let d = h.used_in q m in k.in_used q d.0 d.1 (ap (λ cs. has_block q cs) (sym (same_cells d.0 d.1)) ∙ d.2))
         (λ m. let d = k.used_in q m in h.in_used q d.0 d.1 (ap (λ cs. has_block q cs) (same_cells d.0 d.1) ∙ d.2))),

@@ -19,7 +19,8 @@ chain_kept arena s t p q (c ∷ cs) e keep h =
       h.1,
       here (block_at arena c.block) (record { low = omega arith; high = omega arith }) ∙ h.2,
       here (block_at arena c.block + 1) (record { low = omega arith; high = omega arith }) ∙ h.3,
-      chain_kept arena s t (block_at arena c.block + 2) (block_at arena c.block + 2) cs (here (block_at arena c.block + 2) (record { low = omega arith; high = omega arith }))
+      chain_kept arena s t (block_at arena c.block + 2) (block_at arena c.block + 2) cs
+          (here (block_at arena c.block + 2) (record { low = omega arith; high = omega arith }))
           (λ b a m k. keep b a (has_later b c cs m) k) h.4,
     )
 
@@ -39,7 +40,8 @@ pub chains_stand : (map : ChainMap) (s t : List ℕ) (f : Entries) (u : Blocks) 
 chains_stand map s t f u h e buckets blocks = record {
   laid = laid_alike map s t e h.laid;
   cells = h.cells;
-  chain = λ i lt. chain_kept map.arena s t (map.buckets + i) (map.buckets + i) (h.cells i) (buckets (map.buckets + i) (record { low = omega arith; high = omega (arith, lt) }))
+  chain = λ i lt. chain_kept map.arena s t (map.buckets + i) (map.buckets + i) (h.cells i)
+      (buckets (map.buckets + i) (record { low = omega arith; high = omega (arith, lt) }))
       (λ b a m k. blocks b a (h.in_used b i lt m) k) (h.chain i lt);
   own = h.own;
   once = h.once;

@@ -1,5 +1,6 @@
 -- The steps of a search, in one word list.
-use Rattle.std.proofs.Common.{◌≡◌, ◌≢◌, ℕ, ◌+◌, ◌^◌, ◌<◌, ◌≤◌, inl, inr, true, List, [], ◌∷◌, ◌++◌, length, slice_get, Some, None, refl, sym, ap, ◌∙◌, subst, arith, append_assoc, length-append}
+use Rattle.std.proofs.Common.{◌≡◌, ◌≢◌, ℕ, ◌+◌, ◌^◌, ◌<◌, ◌≤◌, inl, inr, true, List, [], ◌∷◌, ◌++◌, length, slice_get, Some, None, refl, sym, ap, ◌∙◌, subst}
+use Rattle.std.proofs.Common.{arith, append_assoc, length-append}
 use Rattle.std.proofs.lemmas.Option.{slice_get_within, same_Some}
 use Rattle.std.specs.FinSet as set
 use Rattle.std.specs.FinMap as entry_map
@@ -42,7 +43,8 @@ module _ (map : ChainMap) (key : ℕ) (s : List ℕ) where
     cells = h.front ++ h.rest;
     chain = h.chain;
     lacking = value_past key h.front h.rest h.lacking ∙ ap (λ cs. value_of key cs)
-        (one_chain map.arena s p p h.rest [] refl (subst (λ q. HasChain map.arena s q h.rest) (sym h.at) (chain_rest map.arena s (map.buckets + bucket_of key) h.front h.rest h.chain)) e);
+        (one_chain map.arena s p p h.rest [] refl (subst (λ q. HasChain map.arena s q h.rest) (sym h.at)
+        (chain_rest map.arena s (map.buckets + bucket_of key) h.front h.rest h.chain)) e);
   }
 
   -- the block that the word at the place names
@@ -54,11 +56,13 @@ module _ (map : ChainMap) (key : ℕ) (s : List ℕ) where
       at (c ∷ cs) k = let z : b + 1 ≡ c.block + 1 = same_Some (b + 1) (c.block + 1) (sym e ∙ ap (λ q. slice_get s q) h.at ∙ k.0) in omega (arith, z, k.1)
 
   -- a cell whose key is another is passed
-  more_at : (p n b k : ℕ) (front rest : List Cell) → IsLaid map s → HasChain map.arena s (map.buckets + bucket_of key) (front ++ rest) → HasKeysOnce (front ++ rest)
+  more_at : (p n b k : ℕ) (front rest : List Cell) → IsLaid map s
+      → HasChain map.arena s (map.buckets + bucket_of key) (front ++ rest) → HasKeysOnce (front ++ rest)
       → p ≡ place_after map.arena (map.buckets + bucket_of key) front → value_of key front ≡ None → length front ≡ n
       → slice_get s p ≡ Some (b + 1) → slice_get s (block_at map.arena b) ≡ Some k → k ≢ key → IsPassed map key (block_at map.arena b + 2) (n + 1) s
   more_at p n b k front [] laid chain once at lacking count e f ne =
-      let z : b + 1 ≡ 0 = same_Some (b + 1) 0 (sym e ∙ ap (λ q. slice_get s q) at ∙ chain_rest map.arena s (map.buckets + bucket_of key) front [] chain) in absurd (omega arith)
+      let z : b + 1 ≡ 0 = same_Some (b + 1) 0 (sym e ∙ ap (λ q. slice_get s q) at
+      ∙ chain_rest map.arena s (map.buckets + bucket_of key) front [] chain) in absurd (omega arith)
   more_at p n b k front (c ∷ cs) laid chain once at lacking count e f ne =
       let here = chain_rest map.arena s (map.buckets + bucket_of key) front (c ∷ cs) chain in
       let z : b + 1 ≡ c.block + 1 = same_Some (b + 1) (c.block + 1) (sym e ∙ ap (λ q. slice_get s q) at ∙ here.0) in
@@ -76,15 +80,18 @@ module _ (map : ChainMap) (key : ℕ) (s : List ℕ) where
         count = let long : length (front ++ c ∷ []) ≡ length front + 1 = length-append front (c ∷ []) in omega (arith, long, count);
       }
 
-  pub passed_more : (p n b k : ℕ) → IsPassed map key p n s → slice_get s p ≡ Some (b + 1) → slice_get s (block_at map.arena b) ≡ Some k → k ≢ key → IsPassed map key (block_at map.arena b + 2) (n + 1) s
+  pub passed_more : (p n b k : ℕ) → IsPassed map key p n s → slice_get s p ≡ Some (b + 1)
+      → slice_get s (block_at map.arena b) ≡ Some k → k ≢ key → IsPassed map key (block_at map.arena b + 2) (n + 1) s
   passed_more p n b k h e f ne = more_at p n b k h.front h.rest h.laid h.chain h.once h.at h.lacking h.count e f ne
 
   -- the cell with the key
-  found_in : (p b : ℕ) (front rest : List Cell) → IsLaid map s → HasChain map.arena s (map.buckets + bucket_of key) (front ++ rest) → HasKeysOnce (front ++ rest)
+  found_in : (p b : ℕ) (front rest : List Cell) → IsLaid map s
+      → HasChain map.arena s (map.buckets + bucket_of key) (front ++ rest) → HasKeysOnce (front ++ rest)
       → p ≡ place_after map.arena (map.buckets + bucket_of key) front → value_of key front ≡ None
       → slice_get s p ≡ Some (b + 1) → slice_get s (block_at map.arena b) ≡ Some key → IsFoundAt map key p b s
   found_in p b front [] laid chain once at lacking e f =
-      let z : b + 1 ≡ 0 = same_Some (b + 1) 0 (sym e ∙ ap (λ q. slice_get s q) at ∙ chain_rest map.arena s (map.buckets + bucket_of key) front [] chain) in absurd (omega arith)
+      let z : b + 1 ≡ 0 = same_Some (b + 1) 0 (sym e ∙ ap (λ q. slice_get s q) at
+      ∙ chain_rest map.arena s (map.buckets + bucket_of key) front [] chain) in absurd (omega arith)
   found_in p b front (c ∷ cs) laid chain once at lacking e f =
       let here = chain_rest map.arena s (map.buckets + bucket_of key) front (c ∷ cs) chain in
       let z : b + 1 ≡ c.block + 1 = same_Some (b + 1) (c.block + 1) (sym e ∙ ap (λ q. slice_get s q) at ∙ here.0) in
@@ -102,7 +109,8 @@ module _ (map : ChainMap) (key : ℕ) (s : List ℕ) where
         is_key = same_Some c.key key (sym here.2 ∙ ap (λ d. slice_get s (block_at map.arena d)) same ∙ f);
       }
 
-  pub passed_found : (p n b : ℕ) → IsPassed map key p n s → slice_get s p ≡ Some (b + 1) → slice_get s (block_at map.arena b) ≡ Some key → IsFoundAt map key p b s
+  pub passed_found : (p n b : ℕ) → IsPassed map key p n s → slice_get s p ≡ Some (b + 1)
+      → slice_get s (block_at map.arena b) ≡ Some key → IsFoundAt map key p b s
   passed_found p n b h e f = found_in p b h.front h.rest h.laid h.chain h.once h.at h.lacking e f
 
   -- as many cells as there are blocks are all
@@ -128,12 +136,14 @@ module _ (map : ChainMap) (key : ℕ) (s : List ℕ) where
       ∙ ap (λ cs. value_of key cs) (one_chain map.arena s (map.buckets + i) (map.buckets + i) (h.cells i) m.cells refl (h.chain i (bucket_below key)) m.chain)
       ∙ m.lacking
 
-  pub found_value : (f : Entries) (u : Blocks) (p b x : ℕ) → IsFoundAt map key p b s → slice_get s (block_at map.arena b + 1) ≡ Some x → ChainsHold map s f u → entry_map.get f key ≡ Some x
+  pub found_value : (f : Entries) (u : Blocks) (p b x : ℕ) → IsFoundAt map key p b s
+      → slice_get s (block_at map.arena b + 1) ≡ Some x → ChainsHold map s f u → entry_map.get f key ≡ Some x
   found_value f u p b x m e h =
       let i : ℕ = bucket_of key in
       let here = chain_rest map.arena s (map.buckets + i) m.front (m.cell ∷ m.rest) m.chain in
       h.entries_are key
-      ∙ ap (λ cs. value_of key cs) (one_chain map.arena s (map.buckets + i) (map.buckets + i) (h.cells i) (m.front ++ m.cell ∷ m.rest) refl (h.chain i (bucket_below key)) m.chain)
+      ∙ ap (λ cs. value_of key cs) (one_chain map.arena s (map.buckets + i) (map.buckets + i) (h.cells i)
+      (m.front ++ m.cell ∷ m.rest) refl (h.chain i (bucket_below key)) m.chain)
       ∙ value_past key m.front (m.cell ∷ m.rest) m.lacking ∙ value_first key m.cell m.rest m.is_key
       ∙ sym here.3 ∙ ap (λ d. slice_get s (block_at map.arena d + 1)) m.is_block ∙ e
 
@@ -153,14 +163,22 @@ module _ (map : ChainMap) (key : ℕ) (s : List ℕ) where
   pub passed_link : (p n : ℕ) → IsPassed map key p n s → IsLink map key s p
   passed_link p n h = elim (place_kind map.arena s (map.buckets + bucket_of key) h.front h.rest h.chain) [
     | inl e ↦ inl (h.at ∙ e)
-    | inr k ↦ inr (k.0, λ cells chain. ap (λ cs. has_block k.0 cs) (one_chain map.arena s (map.buckets + bucket_of key) (map.buckets + bucket_of key) cells (h.front ++ h.rest) refl chain h.chain) ∙ k.1, inr (h.at ∙ k.2))
+    | inr k ↦ inr (
+      k.0,
+      λ cells chain.
+          ap (λ cs. has_block k.0 cs) (one_chain map.arena s (map.buckets + bucket_of key) (map.buckets + bucket_of key)
+          cells (h.front ++ h.rest) refl chain h.chain) ∙ k.1,
+      inr (h.at ∙ k.2),
+    )
   ]
 
   -- and so is the key of the block that it names
-  named_of : (p b : ℕ) (front rest : List Cell) → HasChain map.arena s (map.buckets + bucket_of key) (front ++ rest) → p ≡ place_after map.arena (map.buckets + bucket_of key) front
+  named_of : (p b : ℕ) (front rest : List Cell) → HasChain map.arena s (map.buckets + bucket_of key) (front ++ rest)
+      → p ≡ place_after map.arena (map.buckets + bucket_of key) front
       → slice_get s p ≡ Some (b + 1) → has_block b (front ++ rest) ≡ true
   named_of p b front [] chain at e =
-      let z : b + 1 ≡ 0 = same_Some (b + 1) 0 (sym e ∙ ap (λ q. slice_get s q) at ∙ chain_rest map.arena s (map.buckets + bucket_of key) front [] chain) in absurd (omega arith)
+      let z : b + 1 ≡ 0 = same_Some (b + 1) 0 (sym e ∙ ap (λ q. slice_get s q) at
+      ∙ chain_rest map.arena s (map.buckets + bucket_of key) front [] chain) in absurd (omega arith)
   named_of p b front (c ∷ cs) chain at e =
       let here = chain_rest map.arena s (map.buckets + bucket_of key) front (c ∷ cs) chain in
       let z : b + 1 ≡ c.block + 1 = same_Some (b + 1) (c.block + 1) (sym e ∙ ap (λ q. slice_get s q) at ∙ here.0) in
@@ -169,7 +187,12 @@ module _ (map : ChainMap) (key : ℕ) (s : List ℕ) where
 
   pub passed_key : (p n b : ℕ) → IsPassed map key p n s → slice_get s p ≡ Some (b + 1) → IsLink map key s (block_at map.arena b)
   passed_key p n b h e =
-      inr (b, λ cells chain. ap (λ cs. has_block b cs) (one_chain map.arena s (map.buckets + bucket_of key) (map.buckets + bucket_of key) cells (h.front ++ h.rest) refl chain h.chain) ∙ named_of p b h.front h.rest h.chain h.at e, inl refl)
+      inr (
+        b,
+        λ cells chain. ap (λ cs. has_block b cs) (one_chain map.arena s (map.buckets + bucket_of key)
+            (map.buckets + bucket_of key) cells (h.front ++ h.rest) refl chain h.chain) ∙ named_of p b h.front h.rest h.chain h.at e,
+        inl refl,
+      )
 
   -- a block of the chain is used
   pub chain_used : (f : Entries) (u : Blocks) (b : ℕ) → ChainsHold map s f u → IsOfChain map key b s → set.contains u b ≡ true
@@ -178,7 +201,8 @@ module _ (map : ChainMap) (key : ℕ) (s : List ℕ) where
   -- the block where the key was found is one of the chain
   pub found_of : (p b : ℕ) → IsFoundAt map key p b s → IsOfChain map key b s
   found_of p b m cells chain =
-      ap (λ cs. has_block b cs) (one_chain map.arena s (map.buckets + bucket_of key) (map.buckets + bucket_of key) cells (m.front ++ m.cell ∷ m.rest) refl chain m.chain) ∙ has_middle b m.front m.rest m.cell m.is_block
+      ap (λ cs. has_block b cs) (one_chain map.arena s (map.buckets + bucket_of key) (map.buckets + bucket_of key) cells
+      (m.front ++ m.cell ∷ m.rest) refl chain m.chain) ∙ has_middle b m.front m.rest m.cell m.is_block
 
   pub held_used : (f : Entries) (u : Blocks) → ChainsHold map s f u → (p b : ℕ) → IsFoundAt map key p b s → set.contains u b ≡ true
   held_used f u hold p b m = chain_used f u b hold (found_of p b m)

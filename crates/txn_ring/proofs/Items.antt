@@ -1,5 +1,6 @@
 -- The queue after the words of a push and of a pop.
-use Rattle.std.proofs.Common.{◌≡◌, ◌≢◌, ℕ, zero, suc, ◌+◌, ◌*◌, ◌%◌, ◌<◌, ◌≤◌, ◌⊎◌, inl, inr, List, [], ◌∷◌, ◌++◌, length, slice_get, slice_set, Some, refl, sym, ap, ◌∙◌, subst, arith}
+use Rattle.std.proofs.Common.{◌≡◌, ◌≢◌, ℕ, zero, suc, ◌+◌, ◌*◌, ◌%◌, ◌<◌, ◌≤◌, ◌⊎◌, inl, inr, List, [], ◌∷◌, ◌++◌, length, slice_get, slice_set, Some, refl}
+use Rattle.std.proofs.Common.{sym, ap, ◌∙◌, subst, arith}
 use Rattle.std.proofs.lemmas.List.{length-set, length_push}
 use Rattle.std.proofs.lemmas.Option.{slice_get_within, same_Some}
 use Rattle.history_model.proofs.TraceLaws.{get_set_same, get_set_other}
@@ -15,7 +16,8 @@ got_append (z ∷ xs) x y zero e = inl e
 got_append (z ∷ xs) x y (suc i) e = elim (got_append xs x y i e) [ inl k ↦ inl k | inr k ↦ inr (omega (arith, k.0), k.1) ]
 
 -- lists that are as long and have the same elements are one
-pub same_elements : {A : Type 0} (xs ys : List A) → length xs ≡ length ys → ((i : ℕ) (x y : A) → slice_get xs i ≡ Some x → slice_get ys i ≡ Some y → x ≡ y) → xs ≡ ys
+pub same_elements : {A : Type 0} (xs ys : List A) → length xs ≡ length ys
+    → ((i : ℕ) (x y : A) → slice_get xs i ≡ Some x → slice_get ys i ≡ Some y → x ≡ y) → xs ≡ ys
 same_elements [] [] e same = refl
 same_elements [] (y ∷ ys) e same = absurd (omega (arith, e))
 same_elements (x ∷ xs) [] e same = absurd (omega (arith, e))
@@ -92,13 +94,15 @@ module _ (ring : Ring) where
       let long2 : length t2 ≡ length s = length-set t1 (q + 1) item.1 ∙ long1 in
       let long3 : length t3 ≡ length s = length-set t2 (ring.at + 1) (count + 1) ∙ long2 in
       let kept : (a : ℕ) → a ≢ ring.at + 1 → a ≢ q → a ≢ q + 1 → slice_get t3 a ≡ slice_get s a =
-      λ a no_count no_first no_second. get_set_other t2 (ring.at + 1) a (count + 1) no_count ∙ get_set_other t1 (q + 1) a item.1 no_second ∙ get_set_other s q a item.0 no_first in
+      λ a no_count no_first no_second. get_set_other t2 (ring.at + 1) a (count + 1) no_count
+      ∙ get_set_other t1 (q + 1) a item.1 no_second ∙ get_set_other s q a item.0 no_first in
       let longer : length (items ++ item ∷ []) ≡ count + 1 = length_push items item ∙ ap (λ k. k + 1) counts in
       let first : slice_get t3 q ≡ Some item.0 =
       get_set_other t2 (ring.at + 1) q (count + 1) (λ e. absurd (omega (arith, e))) ∙ get_set_other t1 (q + 1) q item.1 (λ e. absurd (omega (arith, e)))
       ∙ get_set_same s q item.0 (omega (arith, whole, p_lt)) in
       let second : slice_get t3 (q + 1) ≡ Some item.1 =
-      get_set_other t2 (ring.at + 1) (q + 1) (count + 1) (λ e. absurd (omega (arith, e))) ∙ get_set_same t1 (q + 1) item.1 (omega (arith, whole, p_lt, long1)) in
+      get_set_other t2 (ring.at + 1) (q + 1) (count + 1) (λ e. absurd (omega (arith, e)))
+      ∙ get_set_same t1 (q + 1) item.1 (omega (arith, whole, p_lt, long1)) in
       record {
         laid_out = record { places = omega (arith, long3, h.laid_out.places); whole = omega (arith, long3, whole) };
         front = front;
@@ -114,7 +118,8 @@ module _ (ring : Ring) where
               let differ : r ≢ p = places_differ c front i count below (omega (arith, i_lt, counts)) lt in
               record {
                 first = kept (place_at ring r) (λ z. absurd (omega (arith, z))) (λ z. differ (omega (arith, z))) (λ z. absurd (omega (arith, z))) ∙ was.first;
-                second = kept (place_at ring r + 1) (λ z. absurd (omega (arith, z))) (λ z. absurd (omega (arith, z))) (λ z. differ (omega (arith, z))) ∙ was.second;
+                second = kept (place_at ring r + 1) (λ z. absurd (omega (arith, z))) (λ z. absurd (omega (arith, z)))
+                    (λ z. differ (omega (arith, z))) ∙ was.second;
               }
           | inr k ↦
               let place : (front + i) % c ≡ p = ap (λ j. (front + j) % c) (k.0 ∙ counts) in
@@ -130,7 +135,8 @@ module _ (ring : Ring) where
   popped_words s front rest = slice_set (slice_set s ring.at ((front + 1) % ring.capacity)) (ring.at + 1) rest
 
   -- the front item is popped
-  pub popped : (s : List ℕ) (items : List (ℕ × ℕ)) (item : ℕ × ℕ) (rest front : ℕ) → slice_get s (ring.at + 1) ≡ Some (rest + 1) → slice_get s ring.at ≡ Some front
+  pub popped : (s : List ℕ) (items : List (ℕ × ℕ)) (item : ℕ × ℕ) (rest front : ℕ)
+      → slice_get s (ring.at + 1) ≡ Some (rest + 1) → slice_get s ring.at ≡ Some front
       → HasItem ring s front item → QueueHolds ring s items → TakesFront ring item (popped_words s front rest) items
   popped s [] item rest front ec ef here h = let z : 0 ≡ rest + 1 = same_Some 0 (rest + 1) (sym h.count_word ∙ ec) in absurd (omega (arith, z))
   popped s (x ∷ items) item rest front ec ef here h =
@@ -145,7 +151,8 @@ module _ (ring : Ring) where
       let t2 : List ℕ = slice_set t1 (ring.at + 1) rest in
       let long1 : length t1 ≡ length s = length-set s ring.at next in
       let long2 : length t2 ≡ length s = length-set t1 (ring.at + 1) rest ∙ long1 in
-      let at_first : HasItem ring s front x = subst (λ (f : ℕ). HasItem ring s f x) (ap (λ k. (k + 0) % c) fronts ∙ front_place c front below) (h.stands 0 x refl) in
+      let at_first : HasItem ring s front x = subst (λ (f : ℕ). HasItem ring s f x) (ap (λ k. (k + 0) % c) fronts
+      ∙ front_place c front below) (h.stands 0 x refl) in
       record {
         rest = items;
         is_first = ap (λ z. z ∷ items) (one_item s front x item at_first here);
@@ -159,7 +166,8 @@ module _ (ring : Ring) where
           stands = λ i other e.
               let r : ℕ = (next + i) % c in
               let place : (front + (suc i)) % c ≡ r = ap (λ k. (front + k) % c) (omega arith) ∙ sym (next_place c front i) in
-              let was : HasItem ring s ((front + (suc i)) % c) other = subst (λ (f : ℕ). HasItem ring s ((f + (suc i)) % c) other) fronts (h.stands (suc i) other e) in
+              let was : HasItem ring s ((front + (suc i)) % c) other =
+              subst (λ (f : ℕ). HasItem ring s ((f + (suc i)) % c) other) fronts (h.stands (suc i) other e) in
               let there : HasItem ring s r other = subst (λ (z : ℕ). HasItem ring s z other) place was in
               let kept : (a : ℕ) → a ≢ ring.at + 1 → a ≢ ring.at → slice_get t2 a ≡ slice_get s a =
               λ a no_count no_front. get_set_other t1 (ring.at + 1) a rest no_count ∙ get_set_other s ring.at a next no_front in
@@ -171,7 +179,8 @@ module _ (ring : Ring) where
       }
 
 -- a ring whose first two words are 0 holds no item
-pub starts_empty : (ring : Ring) (s : List ℕ) → 0 < ring.capacity → IsLaidOut ring s → slice_get s ring.at ≡ Some 0 → slice_get s (ring.at + 1) ≡ Some 0 → QueueHolds ring s []
+pub starts_empty : (ring : Ring) (s : List ℕ) → 0 < ring.capacity → IsLaidOut ring s → slice_get s ring.at ≡ Some 0
+    → slice_get s (ring.at + 1) ≡ Some 0 → QueueHolds ring s []
 starts_empty ring s some laid_out front count = record {
   laid_out = laid_out;
   front = 0;

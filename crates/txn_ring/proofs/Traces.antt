@@ -1,5 +1,6 @@
 -- What holds in every fitting state at once, as items are pushed and popped.
-use Rattle.std.proofs.Common.{◌≡◌, ◌≢◌, ℕ, ◌+◌, ◌*◌, ◌%◌, ◌^◌, ◌<◌, ◌≤◌, Bool, false, true, List, [], ◌∷◌, ◌++◌, length, slice_get, slice_set, Option, Some, None, sym, ap, ◌∙◌, subst, arith}
+use Rattle.std.proofs.Common.{◌≡◌, ◌≢◌, ℕ, ◌+◌, ◌*◌, ◌%◌, ◌^◌, ◌<◌, ◌≤◌, Bool, false, true, List, [], ◌∷◌, ◌++◌, length, slice_get, slice_set, Option, Some}
+use Rattle.std.proofs.Common.{None, sym, ap, ◌∙◌, subst, arith}
 use Rattle.std.proofs.lemmas.Option.{same_Some}
 use Rattle.history_model.specs.declared.event.Event.TheVariants.{Read}
 use Rattle.history_model.specs.Traces.{Trace, after, Begins}
@@ -92,8 +93,10 @@ module _ (ring : Ring) (n : ℕ) (G : List ℕ → Type 0) (t : Trace) where
           )
 
       -- an item was pushed
-      pub pushes : (w1 w2 w3 : Trace) (item : ℕ × ℕ) (p a b x : ℕ) → p ≡ (front + count) % ring.capacity → a ≡ place_at ring p → b ≡ place_at ring p + 1 → x ≡ count + 1
-          → EndsWithWrite v w1 a item.0 → EndsWithWrite w1 w2 b item.1 → EndsWithWrite w2 w3 (ring.at + 1) x → count < ring.capacity → Leads n G t w3 (Pushes ring item true)
+      pub pushes : (w1 w2 w3 : Trace) (item : ℕ × ℕ) (p a b x : ℕ) → p ≡ (front + count) % ring.capacity
+          → a ≡ place_at ring p → b ≡ place_at ring p + 1 → x ≡ count + 1
+          → EndsWithWrite v w1 a item.0 → EndsWithWrite w1 w2 b item.1 → EndsWithWrite w2 w3 (ring.at + 1) x
+          → count < ring.capacity → Leads n G t w3 (Pushes ring item true)
       pushes w1 w2 w3 item p a b x is_p is_a is_b is_x ends1 ends2 ends3 lt = record {
         at = λ s fit items h.
             let fit2 : Fits n G w2 s = fits_write_end n G w2 w3 (ring.at + 1) x s ends3 fit in
@@ -104,18 +107,22 @@ module _ (ring : Ring) (n : ℕ) (G : List ℕ → Type 0) (t : Trace) where
             let is_b' : b ≡ place_at ring ((front + count) % ring.capacity) + 1 = is_b ∙ ap (λ k. place_at ring k + 1) is_p in
             let first : after w1 s ≡ slice_set (after t s) (place_at ring ((front + count) % ring.capacity)) item.0 =
             after_write_end v w1 a item.0 s ends1 ∙ ap (λ z. slice_set z a item.0) f.same ∙ ap (λ k. slice_set (after t s) k item.0) is_a' in
-            let second : after w2 s ≡ slice_set (slice_set (after t s) (place_at ring ((front + count) % ring.capacity)) item.0) (place_at ring ((front + count) % ring.capacity) + 1) item.1 =
+            let second : after w2 s ≡ slice_set (slice_set (after t s) (place_at ring ((front + count) % ring.capacity))
+            item.0) (place_at ring ((front + count) % ring.capacity) + 1) item.1 =
             after_write_end w1 w2 b item.1 s ends2 ∙ ap (λ z. slice_set z b item.1) first
             ∙ ap (λ k. slice_set (slice_set (after t s) (place_at ring ((front + count) % ring.capacity)) item.0) k item.1) is_b' in
             let third : after w3 s ≡ pushed_words ring (after t s) ((front + count) % ring.capacity) item count =
             after_write_end w2 w3 (ring.at + 1) x s ends3 ∙ ap (λ z. slice_set z (ring.at + 1) x) second
-            ∙ ap (λ k. slice_set (slice_set (slice_set (after t s) (place_at ring ((front + count) % ring.capacity)) item.0) (place_at ring ((front + count) % ring.capacity) + 1) item.1) (ring.at + 1) k) is_x in
+            ∙ ap (λ k. slice_set (slice_set (slice_set (after t s) (place_at ring ((front + count) % ring.capacity))
+            item.0) (place_at ring ((front + count) % ring.capacity) + 1) item.1) (ring.at + 1) k) is_x in
             subst (λ z. QueueHolds ring z (items ++ item ∷ [])) (sym third) (pushed ring (after t s) items item count front (seen_count s fit0) f.there lt h);
       }
 
       -- the front was popped
-      pub pops : (r1 r2 w1 w2 : Trace) (item : ℕ × ℕ) (a b f x : ℕ) → a ≡ place_at ring front → b ≡ place_at ring front + 1 → f ≡ (front + 1) % ring.capacity → count ≡ x + 1
-          → r1 ≡ v ++ Read a item.0 ∷ [] → r2 ≡ r1 ++ Read b item.1 ∷ [] → EndsWithWrite r2 w1 ring.at f → EndsWithWrite w1 w2 (ring.at + 1) x → Leads n G t w2 (Pops ring (Some item))
+      pub pops : (r1 r2 w1 w2 : Trace) (item : ℕ × ℕ) (a b f x : ℕ) → a ≡ place_at ring front
+          → b ≡ place_at ring front + 1 → f ≡ (front + 1) % ring.capacity → count ≡ x + 1
+          → r1 ≡ v ++ Read a item.0 ∷ [] → r2 ≡ r1 ++ Read b item.1 ∷ [] → EndsWithWrite r2 w1 ring.at f
+          → EndsWithWrite w1 w2 (ring.at + 1) x → Leads n G t w2 (Pops ring (Some item))
       pops r1 r2 w1 w2 item a b f x is_a is_b is_f is_x read1 read2 ends1 ends2 = record {
         at = λ s fit items h.
             let fit_w1 : Fits n G w1 s = fits_write_end n G w1 w2 (ring.at + 1) x s ends2 fit in
@@ -129,8 +136,10 @@ module _ (ring : Ring) (n : ℕ) (G : List ℕ → Type 0) (t : Trace) where
               second = ap (λ z. slice_get (after t s) z) (sym is_b) ∙ ap (λ z. slice_get z b) (sym same_r1) ∙ second.there;
             } in
             let moved : after w1 s ≡ slice_set (after t s) ring.at ((front + 1) % ring.capacity) =
-            after_write_end r2 w1 ring.at f s ends1 ∙ ap (λ z. slice_set z ring.at f) (second.same ∙ same_r1) ∙ ap (λ z. slice_set (after t s) ring.at z) is_f in
-            let last : after w2 s ≡ popped_words ring (after t s) front x = after_write_end w1 w2 (ring.at + 1) x s ends2 ∙ ap (λ z. slice_set z (ring.at + 1) x) moved in
+            after_write_end r2 w1 ring.at f s ends1 ∙ ap (λ z. slice_set z ring.at f) (second.same ∙ same_r1)
+            ∙ ap (λ z. slice_set (after t s) ring.at z) is_f in
+            let last : after w2 s ≡ popped_words ring (after t s) front x =
+            after_write_end w1 w2 (ring.at + 1) x s ends2 ∙ ap (λ z. slice_set z (ring.at + 1) x) moved in
             let is_count : slice_get (after t s) (ring.at + 1) ≡ Some (x + 1) = seen_count s first.fits ∙ ap (λ z. Some z) is_x in
             subst (λ z. TakesFront ring item z items) (sym last) (popped ring (after t s) items item x front is_count k.there here h);
       }

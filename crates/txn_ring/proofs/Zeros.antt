@@ -19,7 +19,8 @@ zero_there : (n i : ℕ) (ws : List ℕ) → ws ≡ replicate n 0 → i < n → 
 zero_there n i ws e lt =
     let nil : ℕ = 0 in
     let zeros : List ℕ = replicate n nil in
-    ap (λ xs. slice_get xs i) e ∙ slice_get-get_or zeros i 0 (let long : length zeros ≡ n = length-replicate n nil in omega (arith, long, lt)) ∙ ap (λ k. Some k) (get_or-replicate n i nil nil lt)
+    ap (λ xs. slice_get xs i) e ∙ slice_get-get_or zeros i 0 (let long : length zeros ≡ n = length-replicate n nil in
+    omega (arith, long, lt)) ∙ ap (λ k. Some k) (get_or-replicate n i nil nil lt)
 
 -- a ring in a list of zeros is empty
 pub zeros_good : (n : ℕ) (ws : List ℕ) → n ≡ 6 → ws ≡ replicate n 0 → IsGood 6 (IsInOrder two_places) ws
@@ -50,6 +51,7 @@ marked_good n ws is_n e =
       good = (
         [],
         starts_empty one_place s (omega arith) (record { places = omega (arith, long_s); whole = omega (arith, long_s) })
-            (rest 273 (omega (arith, is_n)) (λ k. omega (arith, k)) (λ k. omega (arith, k))) (rest 274 (omega (arith, is_n)) (λ k. omega (arith, k)) (λ k. omega (arith, k))),
+            (rest 273 (omega (arith, is_n)) (λ k. omega (arith, k)) (λ k. omega (arith, k)))
+            (rest 274 (omega (arith, is_n)) (λ k. omega (arith, k)) (λ k. omega (arith, k))),
       );
     }

@@ -1,5 +1,6 @@
 -- A cell cut out of the tree, in one word list.
-use Rattle.std.proofs.Common.{◌≡◌, ◌≢◌, ℕ, ◌+◌, ◌^◌, ◌≤◌, true, List, [], ◌∷◌, ◌++◌, slice_get, Some, ◌⊎◌, inl, inr, refl, sym, ap, ◌∙◌, subst, arith, append_assoc}
+use Rattle.std.proofs.Common.{◌≡◌, ◌≢◌, ℕ, ◌+◌, ◌^◌, ◌≤◌, true, List, [], ◌∷◌, ◌++◌, slice_get, Some, ◌⊎◌, inl, inr, refl, sym, ap, ◌∙◌, subst, arith}
+use Rattle.std.proofs.Common.{append_assoc}
 use mathlib.Core.Bool.{true≢false}
 use mathlib.Core.Logic.{dite}
 use native.Mathlib.Decide.{ℕ_discrete}
@@ -56,7 +57,8 @@ module _ (map : TreeMap) (key place b : ℕ) (s : List ℕ) (h : IsFoundAt map k
   rest_rises = rising_cut lows (h.cell ∷ []) highs whole_rises
 
   around_two : before_of h.path ++ (cells_below ++ after_of h.path) ≡ lows ++ highs
-  around_two = ap (λ z. before_of h.path ++ z) (append_assoc (cells_of h.left) (cells_of h.right) (after_of h.path)) ∙ sym (append_assoc (before_of h.path) (cells_of h.left) highs)
+  around_two = ap (λ z. before_of h.path ++ z) (append_assoc (cells_of h.left) (cells_of h.right) (after_of h.path))
+      ∙ sym (append_assoc (before_of h.path) (cells_of h.left) highs)
 
   -- the place is in no block below the cell
   pub place_out : (d : ℕ) → has_block d cells_below ≡ true → ¬ IsInBlock map.arena d place
@@ -65,7 +67,12 @@ module _ (map : TreeMap) (key place b : ℕ) (s : List ℕ) (h : IsFoundAt map k
       elim (place_mine map.arena map.root h.path) [
         | inl e ↦ at_outside map s h.path node h.is_at d (omega (arith, there, below_times d)) (subst (λ z. IsInBlock map.arena d z) (h.at ∙ e) mine)
         | inr q ↦
-            let own : IsInBlock map.arena q.0 place = elim (q.2) [ inl e ↦ record { low = omega (arith, e, h.at); high = omega (arith, e, h.at) } | inr e ↦ record { low = omega (arith, e, h.at); high = omega (arith, e, h.at) } ] in
+            let own : IsInBlock map.arena q.0 place =
+            elim (q.2) [
+              | inl e ↦ record { low = omega (arith, e, h.at); high = omega (arith, e, h.at) }
+              | inr e ↦
+                  record { low = omega (arith, e, h.at); high = omega (arith, e, h.at) }
+            ] in
             let same : q.0 ≡ d = same_block map.arena q.0 d place own mine in
             let here : 1 ≤ count_on d h.path = subst (λ z. 1 ≤ count_on z h.path) same q.1 in
             omega (arith, there, below_times d, here, once d)
@@ -79,14 +86,16 @@ module _ (map : TreeMap) (key place b : ℕ) (s : List ℕ) (h : IsFoundAt map k
     right_name = refl;
     left_spelled = h.is_at.spelled.1;
     right_spelled = h.is_at.spelled.2;
-    search = rising_first cells_below (after_of h.path) (rising_last (before_of h.path) (cells_below ++ after_of h.path) (subst (λ cs. IsRising cs) (sym around_two) rest_rises));
+    search = rising_first cells_below (after_of h.path) (rising_last (before_of h.path) (cells_below ++ after_of h.path)
+        (subst (λ cs. IsRising cs) (sym around_two) rest_rises));
     left_heap = h.is_at.heap.2;
     right_heap = h.is_at.heap.3;
     hole_in = let k = at_within map s h.path node h.is_at in omega (arith, k, h.at);
     hole_out = place_out;
   }
 
-  module _ (value : ℕ) (there : slice_get s (block_at map.arena b + 1) ≡ Some value) (t : List ℕ) (j : Joins map place (name_of h.left) (name_of h.right) s t) where
+  module _ (value : ℕ) (there : slice_get s (block_at map.arena b + 1) ≡ Some value) (t : List ℕ)
+      (j : Joins map place (name_of h.left) (name_of h.right) s t) where
     same_first : j.first ≡ h.left
     same_first = one_tree map.arena s j.first h.left j.pair.left_name j.pair.left_spelled h.is_at.spelled.1
 
@@ -107,7 +116,12 @@ module _ (map : TreeMap) (key place b : ℕ) (s : List ℕ) (h : IsFoundAt map k
     path_kept d a k mine ne = kept.same a (λ m. elim m [
       | inl e ↦ ne (e ∙ h.at)
       | inr q ↦
-          let own : IsInBlock map.arena q.0 a = elim (q.2) [ inl e ↦ record { low = omega (arith, e); high = omega (arith, e) } | inr e ↦ record { low = omega (arith, e); high = omega (arith, e) } ] in
+          let own : IsInBlock map.arena q.0 a =
+          elim (q.2) [
+            | inl e ↦ record { low = omega (arith, e); high = omega (arith, e) }
+            | inr e ↦
+                record { low = omega (arith, e); high = omega (arith, e) }
+          ] in
           let same : q.0 ≡ d = same_block map.arena q.0 d a own mine in
           let there : 1 ≤ times_in d cells_below = subst (λ z. 1 ≤ times_in z cells_below) same (has_times q.0 cells_below q.1) in
           omega (arith, there, below_times d, k, once d)
@@ -117,17 +131,24 @@ module _ (map : TreeMap) (key place b : ℕ) (s : List ℕ) (h : IsFoundAt map k
     root_kept ne = kept.same map.root (λ m. elim m [
       | inl e ↦ ne (e ∙ h.at)
       | inr q ↦
-          let own : IsInBlock map.arena q.0 map.root = elim (q.2) [ inl e ↦ record { low = omega (arith, e); high = omega (arith, e) } | inr e ↦ record { low = omega (arith, e); high = omega (arith, e) } ] in
+          let own : IsInBlock map.arena q.0 map.root =
+          elim (q.2) [
+            | inl e ↦ record { low = omega (arith, e); high = omega (arith, e) }
+            | inr e ↦
+                record { low = omega (arith, e); high = omega (arith, e) }
+          ] in
           let there : 1 ≤ times_in q.0 cells_below = has_times q.0 cells_below q.1 in
           at_outside map s h.path node h.is_at q.0 (omega (arith, there, below_times q.0)) own
     ])
 
     pub cut_at : IsAt map h.path j.tree t
     cut_at =
-        let lower : rank_of j.tree ≤ priority_of h.cell.key = j.lower (priority_of h.cell.key) (omega (arith, ap rank_of same_first, h.is_at.heap.0)) (omega (arith, ap rank_of same_second, h.is_at.heap.1)) in
+        let lower : rank_of j.tree ≤ priority_of h.cell.key =
+        j.lower (priority_of h.cell.key) (omega (arith, ap rank_of same_first, h.is_at.heap.0)) (omega (arith, ap rank_of same_second, h.is_at.heap.1)) in
         record {
           laid = laid_alike map s t kept.count h.is_at.laid;
-          hung = hung_again map.arena s t map.root h.path (h.cell.block + 1) (name_of j.tree) (λ d. omega (arith, once d)) (λ d k. at_outside map s h.path node h.is_at d (omega (arith, k)))
+          hung = hung_again map.arena s t map.root h.path (h.cell.block + 1) (name_of j.tree)
+              (λ d. omega (arith, once d)) (λ d k. at_outside map s h.path node h.is_at d (omega (arith, k)))
               root_kept path_kept (ap (λ z. slice_get t z) (sym h.at) ∙ j.there.0) h.is_at.hung;
           spelled = j.there.1;
           search = subst (λ cs. IsRising cs) (sym around_two ∙ ap (λ z. before_of h.path ++ (z ++ after_of h.path)) joined_cells) rest_rises;
@@ -139,12 +160,14 @@ module _ (map : TreeMap) (key place b : ℕ) (s : List ℕ) (h : IsFoundAt map k
     cut_done = record { before = h; value_there = there; tree = j.tree; is_at = cut_at; cells = joined_cells; kept = kept }
 
 -- what is left of the map, before its block is given back
-module _ (map : TreeMap) (key place b value : ℕ) (s r : List ℕ) (f : Entries) (u v : Blocks) (hold : HoldsApart (tree_part map) s f u v) (c : IsCut map key place b value s r) where
+module _ (map : TreeMap) (key place b value : ℕ) (s r : List ℕ) (f : Entries) (u v : Blocks)
+    (hold : HoldsApart (tree_part map) s f u v) (c : IsCut map key place b value s r) where
   abbrev h : IsFoundAt map key place b s
   h = c.before
 
   found_high : IsAbove key (highs map key place b s h)
-  found_high = subst (λ k. IsAbove k (highs map key place b s h)) h.is_key (rising_above (lows map key place b s h) (highs map key place b s h) h.cell (whole_rises map key place b s h))
+  found_high = subst (λ k. IsAbove k (highs map key place b s h)) h.is_key
+      (rising_above (lows map key place b s h) (highs map key place b s h) h.cell (whole_rises map key place b s h))
 
   cut_cells : before_of h.path ++ (cells_of c.tree ++ after_of h.path) ≡ lows map key place b s h ++ highs map key place b s h
   cut_cells = ap (λ z. before_of h.path ++ (z ++ after_of h.path)) (sym c.cells) ∙ around_two map key place b s h
@@ -187,15 +210,32 @@ module _ (map : TreeMap) (key place b value : ℕ) (s r : List ℕ) (f : Entries
       ∙ sym (less_block d xs ys h.cell (λ e. ne (sym e ∙ h.is_block))) ∙ ap (λ cs. has_block d cs) (sym cut_cells)))
 
   -- the written words are no heads, and in no free block
-  pub written_used : (a : ℕ) → IsHoleOrName map place (cells_below map key place b s h) a → (a ≡ map.root) ⊎ ((d : ℕ) × (set.contains u d ≡ true) × IsInBlock map.arena d a)
+  pub written_used : (a : ℕ) → IsHoleOrName map place (cells_below map key place b s h) a → (a ≡ map.root)
+      ⊎ ((d : ℕ) × (set.contains u d ≡ true) × IsInBlock map.arena d a)
   written_used a k = elim k [
     | inl e ↦ elim (place_mine map.arena map.root h.path) [
       | inl z ↦ inl (e ∙ h.at ∙ z)
-      | inr q ↦ inr (q.0, count_used q.0 (omega (arith, q.1)), elim (q.2) [ inl z ↦ record { low = omega (arith, e, z, h.at); high = omega (arith, e, z, h.at) } | inr z ↦ record { low = omega (arith, e, z, h.at); high = omega (arith, e, z, h.at) } ])
+      | inr q ↦ inr (
+        q.0,
+        count_used q.0 (omega (arith, q.1)),
+        elim (q.2) [
+          | inl z ↦ record { low = omega (arith, e, z, h.at); high = omega (arith, e, z, h.at) }
+          | inr z ↦
+              record { low = omega (arith, e, z, h.at); high = omega (arith, e, z, h.at) }
+        ],
+      )
     ]
     | inr q ↦
         let there : 1 ≤ times_in q.0 (cells_below map key place b s h) = has_times q.0 (cells_below map key place b s h) q.1 in
-        inr (q.0, count_used q.0 (omega (arith, there, below_times map key place b s h q.0)), elim (q.2) [ inl z ↦ record { low = omega (arith, z); high = omega (arith, z) } | inr z ↦ record { low = omega (arith, z); high = omega (arith, z) } ])
+        inr (
+          q.0,
+          count_used q.0 (omega (arith, there, below_times map key place b s h q.0)),
+          elim (q.2) [
+            | inl z ↦ record { low = omega (arith, z); high = omega (arith, z) }
+            | inr z ↦
+                record { low = omega (arith, z); high = omega (arith, z) }
+          ],
+        )
   ]
     where
       count_used : (d : ℕ) → 1 ≤ count_on d h.path + (count_in d h.left + one_in d h.cell + count_in d h.right) → set.contains u d ≡ true
@@ -209,7 +249,8 @@ module _ (map : TreeMap) (key place b value : ℕ) (s r : List ℕ) (f : Entries
       ]))
       (λ d a free mine. c.kept.same a (λ k. elim (written_used a k) [
         | inl e ↦ hold.map.laid.outside d (free_below map.arena s v d hold.free_lists free) (subst (λ z. IsInBlock map.arena d z) e mine)
-        | inr q ↦ let same : q.0 ≡ d = same_block map.arena q.0 d a q.2 mine in true≢false (sym free ∙ ap (λ z. set.contains v z) (sym same) ∙ hold.apart q.0 q.1)
+        | inr q ↦ let same : q.0 ≡ d = same_block map.arena q.0 d a q.2 mine in
+            true≢false (sym free ∙ ap (λ z. set.contains v z) (sym same) ∙ hold.apart q.0 q.1)
       ]))
 
   pub cut_lacks : Lacks map.arena b r

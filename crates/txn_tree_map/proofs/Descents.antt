@@ -1,5 +1,6 @@
 -- The steps of a search down the tree, in one word list.
-use Rattle.std.proofs.Common.{◌≡◌, ◌≢◌, ℕ, ◌+◌, ◌^◌, ◌<◌, ◌≤◌, Bool, true, false, nat_lt, List, [], ◌∷◌, ◌++◌, length, slice_get, Some, None, refl, sym, ap, ◌∙◌, subst, arith, rules, if◌then◌else◌, append_assoc, length-append}
+use Rattle.std.proofs.Common.{◌≡◌, ◌≢◌, ℕ, ◌+◌, ◌^◌, ◌<◌, ◌≤◌, Bool, true, false, nat_lt, List, [], ◌∷◌, ◌++◌, length, slice_get, Some, None, refl, sym, ap}
+use Rattle.std.proofs.Common.{◌∙◌, subst, arith, rules, if◌then◌else◌, append_assoc, length-append}
 use Rattle.std.proofs.lemmas.Option.{same_Some}
 use Rattle.std.specs.FinMap as entry_map
 use Rattle.txn_alloc.specs.declared.arena.Arena.{Arena}
@@ -32,7 +33,8 @@ pub record IsNode (tree : Tree) (block key : ℕ) : Type 0 where
   pub is_block : cell.block ≡ block
   pub is_key : cell.key ≡ key
 
-pub node_named : (arena : Arena) (s : List ℕ) (tree : Tree) (b k : ℕ) → name_of tree ≡ b + 1 → IsSpelled arena s tree → slice_get s (block_at arena b) ≡ Some k → IsNode tree b k
+pub node_named : (arena : Arena) (s : List ℕ) (tree : Tree) (b k : ℕ) → name_of tree ≡ b + 1 → IsSpelled arena s tree
+    → slice_get s (block_at arena b) ≡ Some k → IsNode tree b k
 node_named arena s Leaf b k e h there = absurd (omega (arith, e))
 node_named arena s (Node left c right) b k e h there =
     let same : c.block ≡ b = omega (arith, e) in
@@ -85,19 +87,23 @@ node_order path l r c h =
     }
 
 -- the cells around a child, where the key is on its side of the node
-pub low_down : (left : Bool) (key : ℕ) (path : Path) (l r : Tree) (c : Cell) → IsBelow key (before_of path) → IsBelow c.key (cells_of l) → (left ≡ false → c.key < key) → IsBelow key (before_of (step_down left l c r ∷ path))
+pub low_down : (left : Bool) (key : ℕ) (path : Path) (l r : Tree) (c : Cell) → IsBelow key (before_of path)
+    → IsBelow c.key (cells_of l) → (left ≡ false → c.key < key) → IsBelow key (before_of (step_down left l c r ∷ path))
 low_down true key path l r c low order side = all_append (λ d. d.key < key) (before_of path) [] low tt
 low_down false key path l r c low order side =
     let lt : c.key < key = side refl in
-    all_append (λ d. d.key < key) (before_of path) (cells_of l ++ c ∷ []) low (all_append (λ d. d.key < key) (cells_of l) (c ∷ []) (below_more c.key key (cells_of l) (omega (arith, lt)) order) (lt, tt))
+    all_append (λ d. d.key < key) (before_of path) (cells_of l ++ c ∷ []) low
+    (all_append (λ d. d.key < key) (cells_of l) (c ∷ []) (below_more c.key key (cells_of l) (omega (arith, lt)) order) (lt, tt))
 
-pub high_down : (left : Bool) (key : ℕ) (path : Path) (l r : Tree) (c : Cell) → IsAbove key (after_of path) → IsAbove c.key (cells_of r) → (left ≡ true → key < c.key) → IsAbove key (after_of (step_down left l c r ∷ path))
+pub high_down : (left : Bool) (key : ℕ) (path : Path) (l r : Tree) (c : Cell) → IsAbove key (after_of path)
+    → IsAbove c.key (cells_of r) → (left ≡ true → key < c.key) → IsAbove key (after_of (step_down left l c r ∷ path))
 high_down false key path l r c high order side = high
 high_down true key path l r c high order side =
     let lt : key < c.key = side refl in
     all_append (λ d. key < d.key) (c ∷ cells_of r) (after_of path) (lt, above_more key c.key (cells_of r) (omega (arith, lt)) order) high
 
-floor_down : (left : Bool) (top floor : ℕ) (path : Path) (l r : Tree) (c : Cell) (n : ℕ) → floor ≤ priority_of c.key → IsHigh top (step_down left l c r ∷ path) n → IsHigh top (step_down left l c r ∷ path) floor
+floor_down : (left : Bool) (top floor : ℕ) (path : Path) (l r : Tree) (c : Cell) (n : ℕ) → floor ≤ priority_of c.key
+    → IsHigh top (step_down left l c r ∷ path) n → IsHigh top (step_down left l c r ∷ path) floor
 floor_down left top floor path l r c n le h = (le, h.1, h.2, h.3)
 
 side_left : (key k : ℕ) → nat_lt key k ≡ true → key < k
@@ -166,8 +172,10 @@ module _ (map : TreeMap) (key floor : ℕ) (s : List ℕ) where
       let l = node.left in
       let r = node.right in
       let left : Bool = nat_lt key k in
-      let order : NodeOrder h.path l r c = node_order h.path l r c (subst (λ t. IsRising (before_of h.path ++ (cells_of t ++ after_of h.path))) node.is h.is_at.search) in
-      let down : IsAt map (step_down left l c r ∷ h.path) (child_of left l r) s = at_step map s h.path h.rest h.is_at (step_down left l c r) (child_of left l r) (node.is ∙ node_whole left l r c) in
+      let order : NodeOrder h.path l r c =
+      node_order h.path l r c (subst (λ t. IsRising (before_of h.path ++ (cells_of t ++ after_of h.path))) node.is h.is_at.search) in
+      let down : IsAt map (step_down left l c r ∷ h.path) (child_of left l r) s =
+      at_step map s h.path h.rest h.is_at (step_down left l c r) (child_of left l r) (node.is ∙ node_whole left l r c) in
       let whole : length (cells_of h.rest) ≡ length (cells_of (Node l c r)) = ap (λ t. length (cells_of t)) node.is in
       record {
         path = step_down left l c r ∷ h.path;
@@ -176,7 +184,8 @@ module _ (map : TreeMap) (key floor : ℕ) (s : List ℕ) where
         at = ap (λ d. block_at map.arena d + (if left then 2 else 3)) (sym node.is_block);
         low = low_down left key h.path l r c h.low order.left (λ e. let lt : k < key = side_right key k e ne in omega (arith, lt, node.is_key));
         high = high_down left key h.path l r c h.high order.right (λ e. let lt : key < k = side_left key k e in omega (arith, lt, node.is_key));
-        higher = floor_down left (2 ^ 64) floor h.path l r c (rank_of (child_of left l r)) (let same : priority_of k ≡ priority_of c.key = ap priority_of (sym node.is_key) in omega (arith, le, same)) down.high;
+        higher = floor_down left (2 ^ 64) floor h.path l r c (rank_of (child_of left l r)) (let same : priority_of k
+            ≡ priority_of c.key = ap priority_of (sym node.is_key) in omega (arith, le, same)) down.high;
         count = omega (arith, h.count, whole, child_shorter left l r c);
       }
 
@@ -188,12 +197,15 @@ module _ (map : TreeMap) (key : ℕ) (s : List ℕ) where
   pub found_key : (p b : ℕ) → IsFoundAt map key p b s → slice_get s (block_at map.arena b) ≡ Some key
   found_key p b h = ap (λ d. slice_get s (block_at map.arena d)) (sym h.is_block) ∙ h.is_at.spelled.0.key ∙ ap (λ k. Some k) h.is_key
 
-  pub found_value : (f : Entries) (u : Blocks) (p b x : ℕ) → IsFoundAt map key p b s → slice_get s (block_at map.arena b + 1) ≡ Some x → TreeHolds map s f u → entry_map.get f key ≡ Some x
+  pub found_value : (f : Entries) (u : Blocks) (p b x : ℕ) → IsFoundAt map key p b s
+      → slice_get s (block_at map.arena b + 1) ≡ Some x → TreeHolds map s f u → entry_map.get f key ≡ Some x
   found_value f u p b x h there hold =
       let order : NodeOrder h.path h.left h.right h.cell = node_order h.path h.left h.right h.cell h.is_at.search in
-      let is_value : h.cell.value ≡ x = same_Some h.cell.value x (sym h.is_at.spelled.0.value ∙ ap (λ d. slice_get s (block_at map.arena d + 1)) h.is_block ∙ there) in
+      let is_value : h.cell.value ≡ x = same_Some h.cell.value x (sym h.is_at.spelled.0.value
+      ∙ ap (λ d. slice_get s (block_at map.arena d + 1)) h.is_block ∙ there) in
       at_value map s h.path (Node h.left h.cell h.right) h.is_at f u hold key
       ∙ ap (λ cs. value_of key cs) (around_node (before_of h.path) (cells_of h.left) (cells_of h.right) (after_of h.path) h.cell)
       ∙ value_there key (before_of h.path ++ cells_of h.left) (cells_of h.right ++ after_of h.path) h.cell h.is_key
-      (all_append (λ d. d.key < key) (before_of h.path) (cells_of h.left) (subst (λ k. IsBelow k (before_of h.path)) h.is_key order.before) (subst (λ k. IsBelow k (cells_of h.left)) h.is_key order.left))
+      (all_append (λ d. d.key < key) (before_of h.path) (cells_of h.left)
+      (subst (λ k. IsBelow k (before_of h.path)) h.is_key order.before) (subst (λ k. IsBelow k (cells_of h.left)) h.is_key order.left))
       ∙ ap (λ k. Some k) is_value

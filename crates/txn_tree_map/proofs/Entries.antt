@@ -49,5 +49,6 @@ entries_cells map s f u h =
     let cs : List Cell = cells_of h.tree in
     let sorted : T (is_sorted nat_cmp (pairs_of cs)) = subst T (sym (sorted_pairs cs h.search)) tt in
     let g : Entries = entry_map.from_sorted (pairs_of cs) in
-    let same_map : f ≡ g = entry_map.same_map nat_cmp_total nat_cmp-IsAntisymmetric f g (λ q. h.entries_are q ∙ sym (find_pairs q cs) ∙ sym (entry_map.get-from_sorted nat_cmp (pairs_of cs) q sorted)) in
+    let same_map : f ≡ g = entry_map.same_map nat_cmp_total nat_cmp-IsAntisymmetric f g (λ q. h.entries_are q
+    ∙ sym (find_pairs q cs) ∙ sym (entry_map.get-from_sorted nat_cmp (pairs_of cs) q sorted)) in
     ap entry_map.entries same_map ∙ entry_map.entries-from_sorted nat_cmp (pairs_of cs) sorted

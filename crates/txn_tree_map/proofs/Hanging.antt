@@ -1,5 +1,6 @@
 -- A tree hung at the end of a path, by writing the word there.
-use Rattle.std.proofs.Common.{◌≡◌, ◌≢◌, ℕ, ◌+◌, ◌<◌, ◌≤◌, Bool, true, false, List, [], ◌∷◌, ◌++◌, length, slice_get, slice_set, ◌⊎◌, inl, inr, refl, sym, ap, ◌∙◌, subst, arith, if◌then◌else◌}
+use Rattle.std.proofs.Common.{◌≡◌, ◌≢◌, ℕ, ◌+◌, ◌<◌, ◌≤◌, Bool, true, false, List, [], ◌∷◌, ◌++◌, length, slice_get, slice_set, ◌⊎◌, inl, inr, refl, sym, ap}
+use Rattle.std.proofs.Common.{◌∙◌, subst, arith, if◌then◌else◌}
 use Rattle.std.proofs.lemmas.List.{length-set}
 use Rattle.std.proofs.lemmas.Option.{slice_get_within}
 use Rattle.history_model.proofs.TraceLaws.{get_set_same, get_set_other}
@@ -22,13 +23,15 @@ times_around b path =
     omega (arith, whole, parts, same, times-append b (before_of path) (after_of path))
 
 -- the place at the end of a path is its root, or in one of its blocks
-pub place_mine : (arena : Arena) (root : ℕ) (path : Path) → (place_of arena root path ≡ root) ⊎ ((d : ℕ) × (1 ≤ count_on d path) × ((place_of arena root path ≡ block_at arena d + 2) ⊎ (place_of arena root path ≡ block_at arena d + 3)))
+pub place_mine : (arena : Arena) (root : ℕ) (path : Path) → (place_of arena root path ≡ root)
+    ⊎ ((d : ℕ) × (1 ≤ count_on d path) × ((place_of arena root path ≡ block_at arena d + 2) ⊎ (place_of arena root path ≡ block_at arena d + 3)))
 place_mine arena root [] = inl refl
 place_mine arena root (st ∷ path) =
     let one : one_in st.cell.block st.cell ≡ 1 = one_here st.cell.block st.cell refl in
     inr (st.cell.block, omega (arith, one), at st.left)
   where
-    at : (left : Bool) → (block_at arena st.cell.block + (if left then 2 else 3) ≡ block_at arena st.cell.block + 2) ⊎ (block_at arena st.cell.block + (if left then 2 else 3) ≡ block_at arena st.cell.block + 3)
+    at : (left : Bool) → (block_at arena st.cell.block + (if left then 2 else 3) ≡ block_at arena st.cell.block + 2)
+        ⊎ (block_at arena st.cell.block + (if left then 2 else 3) ≡ block_at arena st.cell.block + 3)
     at true = inl refl
     at false = inr refl
 
@@ -44,7 +47,8 @@ module _ (arena : Arena) (s : List ℕ) (root : ℕ) (path : Path) (x m : ℕ) (
   hole_within = slice_get_within s hole x (hung_name arena s root path x hung)
 
   -- blocks that are none of the path's, and have not its root, keep their words
-  pub hole_apart : (count : ℕ → ℕ) → ((b : ℕ) → count_on b path + count b ≤ 1) → ((b : ℕ) → 1 ≤ count b → ¬ IsInBlock arena b root) → (b a : ℕ) → 1 ≤ count b → IsInBlock arena b a → a ≢ hole
+  pub hole_apart : (count : ℕ → ℕ) → ((b : ℕ) → count_on b path + count b ≤ 1)
+      → ((b : ℕ) → 1 ≤ count b → ¬ IsInBlock arena b root) → (b a : ℕ) → 1 ≤ count b → IsInBlock arena b a → a ≢ hole
   hole_apart count once out b a k mine e = elim (place_mine arena root path) [
     | inl at ↦ out b k (subst (λ y. IsInBlock arena b y) (e ∙ at) mine)
     | inr d ↦
@@ -55,14 +59,19 @@ module _ (arena : Arena) (s : List ℕ) (root : ℕ) (path : Path) (x m : ℕ) (
         absurd (omega (arith, twice, here, more))
   ]
 
-  pub same_in : (count : ℕ → ℕ) → ((b : ℕ) → count_on b path + count b ≤ 1) → ((b : ℕ) → 1 ≤ count b → ¬ IsInBlock arena b root) → SameIn arena s (slice_set s hole m) count
+  pub same_in : (count : ℕ → ℕ) → ((b : ℕ) → count_on b path + count b ≤ 1)
+      → ((b : ℕ) → 1 ≤ count b → ¬ IsInBlock arena b root) → SameIn arena s (slice_set s hole m) count
   same_in count once out b a k mine = get_set_other s hole a m (hole_apart count once out b a k mine)
 
   -- a word in none of the path's blocks stays
   pub same_root : (q : ℕ) → q ≢ root → ((b : ℕ) → 1 ≤ count_on b path → ¬ IsInBlock arena b q) → slice_get (slice_set s hole m) q ≡ slice_get s q
   same_root q ne out = get_set_other s hole q m (λ e. elim (place_mine arena root path) [
     | inl at ↦ ne (e ∙ at)
-    | inr d ↦ out d.0 d.1 (elim (d.2) [ inl z ↦ record { low = omega (arith, e, z); high = omega (arith, e, z) } | inr z ↦ record { low = omega (arith, e, z); high = omega (arith, e, z) } ])
+    | inr d ↦ out d.0 d.1 (elim (d.2) [
+      | inl z ↦
+          record { low = omega (arith, e, z); high = omega (arith, e, z) }
+      | inr z ↦ record { low = omega (arith, e, z); high = omega (arith, e, z) }
+    ])
   ])
 
   -- the path is hung as before, and its last word has the new name
@@ -73,15 +82,20 @@ module _ (arena : Arena) (s : List ℕ) (root : ℕ) (path : Path) (x m : ℕ) (
       (get_set_same s hole m hole_within) hung
 
 -- the node of a step hung there, and the path goes on into it
-pub hung_step : (arena : Arena) (s : List ℕ) (root : ℕ) (path : Path) (x : ℕ) (st : Step) (below : Tree) → IsHung arena s root path x → IsSpelled arena s (whole_of st below)
-    → ((b : ℕ) → count_on b path + count_in b (whole_of st below) ≤ 1) → ((b : ℕ) → 1 ≤ count_on b path + count_in b (whole_of st below) → ¬ IsInBlock arena b root)
-    → IsHung arena (slice_set s (place_of arena root path) (st.cell.block + 1)) root (st ∷ path) (name_of below) × IsSpelled arena (slice_set s (place_of arena root path) (st.cell.block + 1)) below
+pub hung_step : (arena : Arena) (s : List ℕ) (root : ℕ) (path : Path) (x : ℕ) (st : Step) (below : Tree)
+    → IsHung arena s root path x → IsSpelled arena s (whole_of st below)
+    → ((b : ℕ) → count_on b path + count_in b (whole_of st below) ≤ 1)
+    → ((b : ℕ) → 1 ≤ count_on b path + count_in b (whole_of st below) → ¬ IsInBlock arena b root)
+    → IsHung arena (slice_set s (place_of arena root path) (st.cell.block + 1)) root (st ∷ path) (name_of below)
+    × IsSpelled arena (slice_set s (place_of arena root path) (st.cell.block + 1)) below
 hung_step arena s root path x st below hung spelled once out =
     let t : List ℕ = slice_set s (place_of arena root path) (st.cell.block + 1) in
     let whole : IsSpelled arena t (whole_of st below) =
-    spelled_stays arena s t (whole_of st below) (same_in arena s root path x (st.cell.block + 1) hung (λ b. count_in b (whole_of st below)) once (λ b k. out b (omega (arith, k)))) spelled in
+    spelled_stays arena s t (whole_of st below) (same_in arena s root path x (st.cell.block + 1) hung
+    (λ b. count_in b (whole_of st below)) once (λ b k. out b (omega (arith, k)))) spelled in
     let parts = spelled_whole arena t st below whole in
-    let here : IsHung arena t root path (st.cell.block + 1) = hung_here arena s root path x (st.cell.block + 1) hung (λ b. omega (arith, once b)) (λ b k. out b (omega (arith, k))) in
+    let here : IsHung arena t root path (st.cell.block + 1) =
+    hung_here arena s root path x (st.cell.block + 1) hung (λ b. omega (arith, once b)) (λ b k. out b (omega (arith, k))) in
     ((parts.0, parts.1, here), parts.2)
 
 -- a word of one's own is written

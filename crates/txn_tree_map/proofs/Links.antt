@@ -32,7 +32,8 @@ top_count (Node left c right) b e = let one : one_in b c ≡ 1 = one_here b c (o
 module _ (map : TreeMap) (s : List ℕ) (path : Path) (tree : Tree) (m : IsAt map path tree s) where
   pub of_tree : (b : ℕ) → 1 ≤ count_on b path + count_in b tree → IsOfTree map b s
   of_tree b k other_path other n =
-      ap (λ cs. has_block b cs) (at_cells map s path tree m other_path other n) ∙ times_has b (before_of path ++ (cells_of tree ++ after_of path)) (omega (arith, k, at_times map s path tree m b))
+      ap (λ cs. has_block b cs) (at_cells map s path tree m other_path other n)
+      ∙ times_has b (before_of path ++ (cells_of tree ++ after_of path)) (omega (arith, k, at_times map s path tree m b))
 
   -- the place at the end of the path
   pub at_link : IsLink map s (place_of map.arena map.root path)
@@ -57,11 +58,13 @@ module _ (map : TreeMap) (least : ℕ) (s : List ℕ) (best : Option Named) (p n
   pub near_near : (b k : ℕ) → IsNamed map p b k s → (a : ℕ) → IsPlaceOrKey map p b s a → IsLink map s a
   near_near b k named a (inl e) = near_place a e
   near_near b k named a (inr e) =
-      subst (IsLink map s) (sym e) (node_link map s h.path h.rest h.is_at b k (node_named map.arena s h.rest b k (near_name map least s best p n (b + 1) h named.0) h.is_at.spelled named.1))
+      subst (IsLink map s) (sym e) (node_link map s h.path h.rest h.is_at b k
+      (node_named map.arena s h.rest b k (near_name map least s best p n (b + 1) h named.0) h.is_at.spelled named.1))
 
 -- the block where a key was found
 pub found_of : (map : TreeMap) (key p b : ℕ) (s : List ℕ) → IsFoundAt map key p b s → IsOfTree map b s
-found_of map key p b s h = of_tree map s h.path (Node h.left h.cell h.right) h.is_at b (let one : one_in b h.cell ≡ 1 = one_here b h.cell h.is_block in omega (arith, one))
+found_of map key p b s h = of_tree map s h.path (Node h.left h.cell h.right) h.is_at b (let one : one_in b h.cell ≡ 1 =
+    one_here b h.cell h.is_block in omega (arith, one))
 
 pub found_place : (map : TreeMap) (key p b : ℕ) (s : List ℕ) → IsFoundAt map key p b s → IsLink map s p
 found_place map key p b s h = subst (IsLink map s) (sym h.at) (at_link map s h.path (Node h.left h.cell h.right) h.is_at)
@@ -69,7 +72,8 @@ found_place map key p b s h = subst (IsLink map s) (sym h.at) (at_link map s h.p
 -- the block of the first node from a key on
 pub nearest_of : (map : TreeMap) (least : ℕ) (node : Named) (s : List ℕ) → IsNearest map least (Some node) s → IsOfTree map node.block s
 nearest_of map least node s h other_path other n =
-    ap (λ cs. has_block node.block cs) (at_cells map s [] h.tree h.is_at other_path other n ∙ append-nil (cells_of h.tree) ∙ h.cells ∙ ap (λ z. h.lows ++ z) h.first.2)
+    ap (λ cs. has_block node.block cs) (at_cells map s [] h.tree h.is_at other_path other n
+    ∙ append-nil (cells_of h.tree) ∙ h.cells ∙ ap (λ z. h.lows ++ z) h.first.2)
     ∙ has_middle node.block h.lows (h.first.1) (h.first.0) h.first.3
 
 -- a block of the tree is used

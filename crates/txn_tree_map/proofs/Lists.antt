@@ -25,7 +25,12 @@ pub none_held : (words : List ℕ) → AreLinked words → TreeHolds small words
 none_held words are =
     let count = are.count in
     record {
-      laid = record { arena = are.laid_out; root = omega (arith, count); no_head = λ head. omega (arith, head.low); outside = λ b lt mine. omega (arith, mine.low) };
+      laid = record {
+        arena = are.laid_out;
+        root = omega (arith, count);
+        no_head = λ head. omega (arith, head.low);
+        outside = λ b lt mine. omega (arith, mine.low);
+      };
       tree = Leaf;
       spelled = (are.zeros 0 (omega arith) (λ k. absurd (omega (arith, k))) (λ k. absurd (omega (arith, k))), tt);
       search = tt;

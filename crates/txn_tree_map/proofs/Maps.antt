@@ -38,7 +38,8 @@ one_map map s f g u w h k =
     )
 
 -- a place in a tree whose words stay
-pub at_stays : (map : TreeMap) (s t : List ℕ) (path : Path) (tree : Tree) → IsAt map path tree s → length t ≡ length s → slice_get t map.root ≡ slice_get s map.root
+pub at_stays : (map : TreeMap) (s t : List ℕ) (path : Path) (tree : Tree) → IsAt map path tree s → length t ≡ length s
+    → slice_get t map.root ≡ slice_get s map.root
     → ((b a : ℕ) → 1 ≤ count_on b path + count_in b tree → IsInBlock map.arena b a → slice_get t a ≡ slice_get s a) → IsAt map path tree t
 at_stays map s t path tree m e root same = record {
   laid = laid_alike map s t e m.laid;
@@ -66,12 +67,14 @@ holds_at map s path tree f u m entries used =
     }
 
 -- the map stands where its root and the words of its used blocks stay
-pub tree_stands : (map : TreeMap) (s t : List ℕ) (f : Entries) (u : Blocks) → TreeHolds map s f u → length t ≡ length s → slice_get t map.root ≡ slice_get s map.root
+pub tree_stands : (map : TreeMap) (s t : List ℕ) (f : Entries) (u : Blocks) → TreeHolds map s f u → length t ≡ length s
+    → slice_get t map.root ≡ slice_get s map.root
     → ((b a : ℕ) → set.contains u b ≡ true → IsInBlock map.arena b a → slice_get t a ≡ slice_get s a) → TreeHolds map t f u
 tree_stands map s t f u h e root blocks =
     let m : IsAt map [] h.tree s = at_tree map s f u h in
     holds_at map t [] h.tree f u
-    (at_stays map s t [] h.tree m e root (λ b a k mine. blocks b a (at_used map s [] h.tree m f u h b ∙ times_has b (cells_of h.tree ++ []) (omega (arith, k, at_times map s [] h.tree m b))) mine))
+    (at_stays map s t [] h.tree m e root (λ b a k mine. blocks b a (at_used map s [] h.tree m f u h b
+    ∙ times_has b (cells_of h.tree ++ []) (omega (arith, k, at_times map s [] h.tree m b))) mine))
     (at_value map s [] h.tree m f u h) (at_used map s [] h.tree m f u h)
 
 -- it stands too where heads alone are written
@@ -93,16 +96,19 @@ can_put map key b s r f u v hold none taken kept = record {
 }
 
 -- the map with a cell more
-pub put_holds : (map : TreeMap) (key x b : ℕ) (r t : List ℕ) (f : Entries) (u : Blocks) → TreeHolds map r f u → IsPut map key x b r t → TreeHolds map t (entry_map.insert f key x) (set.insert u b)
+pub put_holds : (map : TreeMap) (key x b : ℕ) (r t : List ℕ) (f : Entries) (u : Blocks) → TreeHolds map r f u
+    → IsPut map key x b r t → TreeHolds map t (entry_map.insert f key x) (set.insert u b)
 put_holds map key x b r t f u hold put =
     let none : IsMissing map key r = put.before.missing in
     let c : Cell = record { block = b; key = key; value = x } in
     let xs : List Cell = before_of put.path ++ cells_of put.left in
     let ys : List Cell = cells_of put.right ++ after_of put.path in
-    let whole : before_of put.path ++ (cells_of (Node put.left c put.right) ++ after_of put.path) ≡ xs ++ c ∷ ys = around_node (before_of put.path) (cells_of put.left) (cells_of put.right) (after_of put.path) c in
+    let whole : before_of put.path ++ (cells_of (Node put.left c put.right) ++ after_of put.path) ≡ xs ++ c ∷ ys =
+    around_node (before_of put.path) (cells_of put.left) (cells_of put.right) (after_of put.path) c in
     holds_at map t put.path (Node put.left c put.right) (entry_map.insert f key x) (set.insert u b) put.is_at
     (λ k. dite (ℕ_discrete k key)
-    (λ e. subst (λ q. entry_map.get (entry_map.insert f key x) q ≡ value_of q (before_of put.path ++ (cells_of (Node put.left c put.right) ++ after_of put.path))) (sym e)
+    (λ e. subst (λ q. entry_map.get (entry_map.insert f key x) q
+    ≡ value_of q (before_of put.path ++ (cells_of (Node put.left c put.right) ++ after_of put.path))) (sym e)
     (insert_same f key x ∙ sym (ap (λ cs. value_of key cs) whole ∙ value_there key xs ys c refl put.low)))
     (λ ne. insert_other f key x k ne ∙ at_value map r none.path Leaf none.is_at f u hold k ∙ ap (λ cs. value_of k cs) put.cells
     ∙ value_less k xs ys c (λ e. ne (sym e)) ∙ ap (λ cs. value_of k cs) (sym whole)))
@@ -120,7 +126,8 @@ inserted_new map key x b s r t f u v hold none taken kept put =
     let h : TreeHolds map r f u = tree_headed map s r f u hold.map kept in
     let here : IsMissing map key r = put.before.missing in
     let l : IsLaid map r = h.laid in
-    let used : (d : ℕ) → has_block d (before_of here.path ++ after_of here.path) ≡ true → set.contains u d ≡ true = λ d k. at_used map r here.path Leaf here.is_at f u h d ∙ k in
+    let used : (d : ℕ) → has_block d (before_of here.path ++ after_of here.path) ≡ true → set.contains u d ≡ true =
+    λ d k. at_used map r here.path Leaf here.is_at f u h d ∙ k in
     record {
       absent = missing_value map key s f u none hold.map;
       was_free = taken.was_free;

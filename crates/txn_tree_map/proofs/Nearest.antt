@@ -1,5 +1,6 @@
 -- The steps of the search for the first node from a key on, in one word list.
-use Rattle.std.proofs.Common.{◌≡◌, ℕ, ◌+◌, ◌<◌, ◌≤◌, Bool, true, false, nat_lt, nat_le, List, [], ◌∷◌, ◌++◌, length, slice_get, Option, Some, None, refl, sym, ap, ◌∙◌, subst, arith, rules, if◌then◌else◌, length-append}
+use Rattle.std.proofs.Common.{◌≡◌, ℕ, ◌+◌, ◌<◌, ◌≤◌, Bool, true, false, nat_lt, nat_le, List, [], ◌∷◌, ◌++◌, length, slice_get, Option, Some, None, refl, sym}
+use Rattle.std.proofs.Common.{ap, ◌∙◌, subst, arith, rules, if◌then◌else◌, length-append}
 use Rattle.std.proofs.lemmas.Option.{same_Some}
 use Rattle.txn_alloc.specs.FreeLists.{block_at}
 use Rattle.txn_alloc.specs.EntryMaps.{Cell}
@@ -59,20 +60,23 @@ module _ (map : TreeMap) (least : ℕ) (s : List ℕ) where
 
   -- one node is passed
   pub near_down : (best : Option Named) (p n b k : ℕ) → IsNear map least best p n s → IsNamed map p b k s
-      → IsNear map least (if nat_lt k least then best else Some (record { block = b; key = k })) (block_at map.arena b + (if nat_le least k then 2 else 3)) (n + 1) s
+      → IsNear map least (if nat_lt k least then best else Some (record { block = b; key = k }))
+      (block_at map.arena b + (if nat_le least k then 2 else 3)) (n + 1) s
   near_down best p n b k h named =
       let node : IsNode h.rest b k = node_named map.arena s h.rest b k (near_name best p n (b + 1) h named.0) h.is_at.spelled named.1 in
       go (nat_lt k least) refl node
     where
       go : (t : Bool) → nat_lt k least ≡ t → IsNode h.rest b k
-          → IsNear map least (if nat_lt k least then best else Some (record { block = b; key = k })) (block_at map.arena b + (if nat_le least k then 2 else 3)) (n + 1) s
+          → IsNear map least (if nat_lt k least then best else Some (record { block = b; key = k }))
+          (block_at map.arena b + (if nat_le least k then 2 else 3)) (n + 1) s
       go true e node =
           let c : Cell = node.cell in
           let l = node.left in
           let r = node.right in
           let lt : k < least = grind (arith, rules, e) in
           let side : nat_le least k ≡ false = grind (arith, rules, lt) in
-          let order : NodeOrder h.path l r c = node_order h.path l r c (subst (λ t. IsRising (before_of h.path ++ (cells_of t ++ after_of h.path))) node.is h.is_at.search) in
+          let order : NodeOrder h.path l r c =
+          node_order h.path l r c (subst (λ t. IsRising (before_of h.path ++ (cells_of t ++ after_of h.path))) node.is h.is_at.search) in
           let whole : length (cells_of h.rest) ≡ length (cells_of (Node l c r)) = ap (λ t. length (cells_of t)) node.is in
           let key_low : c.key < least = omega (arith, lt, node.is_key) in
           rw (e, side) (record {
@@ -92,7 +96,8 @@ module _ (map : TreeMap) (least : ℕ) (s : List ℕ) where
           let r = node.right in
           let le : least ≤ k = grind (arith, rules, e) in
           let side : nat_le least k ≡ true = grind (arith, rules, le) in
-          let order : NodeOrder h.path l r c = node_order h.path l r c (subst (λ t. IsRising (before_of h.path ++ (cells_of t ++ after_of h.path))) node.is h.is_at.search) in
+          let order : NodeOrder h.path l r c =
+          node_order h.path l r c (subst (λ t. IsRising (before_of h.path ++ (cells_of t ++ after_of h.path))) node.is h.is_at.search) in
           let whole : length (cells_of h.rest) ≡ length (cells_of (Node l c r)) = ap (λ t. length (cells_of t)) node.is in
           let key_high : least ≤ c.key = omega (arith, le, node.is_key) in
           rw (e, side) (record {
@@ -101,7 +106,10 @@ module _ (map : TreeMap) (least : ℕ) (s : List ℕ) where
             is_at = at_step map s h.path h.rest h.is_at (step_down true l c r) l (node.is ∙ node_whole true l r c);
             at = ap (λ d. block_at map.arena d + 2) (sym node.is_block);
             low = all_append (λ d. d.key < least) (before_of h.path) [] h.low tt;
-            high = all_append (λ d. least ≤ d.key) (c ∷ cells_of r) (after_of h.path) (key_high, all_map (λ d. c.key < d.key) (λ d. least ≤ d.key) (cells_of r) (λ d m. omega arith) order.right) h.high;
+            high = all_append (λ d. least ≤ d.key) (c ∷ cells_of r) (after_of h.path) (
+              key_high,
+              all_map (λ d. c.key < d.key) (λ d. least ≤ d.key) (cells_of r) (λ d m. omega arith) order.right,
+            ) h.high;
             first = (c, cells_of r ++ after_of h.path, refl, node.is_block, node.is_key);
             count = omega (arith, h.count, whole, child_shorter true l r c);
           })

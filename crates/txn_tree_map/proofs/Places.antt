@@ -1,5 +1,6 @@
 -- A place in the map's tree, and what the whole says there.
-use Rattle.std.proofs.Common.{◌≡◌, ℕ, ◌+◌, ◌^◌, ◌<◌, ◌≤◌, Bool, true, false, List, [], ◌∷◌, ◌++◌, length, slice_get, Some, sym, ap, ◌∙◌, subst, arith, if◌then◌else◌}
+use Rattle.std.proofs.Common.{◌≡◌, ℕ, ◌+◌, ◌^◌, ◌<◌, ◌≤◌, Bool, true, false, List, [], ◌∷◌, ◌++◌, length, slice_get, Some, sym, ap, ◌∙◌, subst, arith}
+use Rattle.std.proofs.Common.{if◌then◌else◌}
 use Rattle.std.proofs.lemmas.List.{append-nil}
 use Rattle.std.proofs.lemmas.Option.{slice_get_within, same_Some}
 use Rattle.std.specs.FinSet as set
@@ -15,7 +16,8 @@ use Rattle.txn_tree_map.specs.Trees.Tree.{Leaf, Node}
 use Rattle.txn_tree_map.specs.Paths.{Step, Path, whole_of, plug, place_of, before_of, after_of, IsHung, IsHigh, IsAt}
 use Rattle.txn_alloc.proofs.Counting.{times_all, length_below}
 use Rattle.txn_tree_map.proofs.Rising.{rising_once}
-use Rattle.txn_tree_map.proofs.Trees.{count_in, count_on, times_cells, cells_step, cells_plug, count_plug, all_tree, all_before, all_after, spelled_whole, name_whole, hung_plug, one_tree}
+use Rattle.txn_tree_map.proofs.Trees.{count_in, count_on, times_cells, cells_step, cells_plug, count_plug, all_tree, all_before, all_after, spelled_whole}
+use Rattle.txn_tree_map.proofs.Trees.{name_whole, hung_plug, one_tree}
 
 pub priority_small : (key : ℕ) → priority_of key < 2 ^ 64
 unfolding priority_of
@@ -26,7 +28,8 @@ rank_small Leaf = omega arith
 rank_small (Node left c right) = omega (arith, priority_small c.key)
 
 -- the word at the end of a hung path
-pub hung_name : (arena : Arena) (s : List ℕ) (root : ℕ) (path : Path) (name : ℕ) → IsHung arena s root path name → slice_get s (place_of arena root path) ≡ Some name
+pub hung_name : (arena : Arena) (s : List ℕ) (root : ℕ) (path : Path) (name : ℕ) → IsHung arena s root path name
+    → slice_get s (place_of arena root path) ≡ Some name
 hung_name arena s root [] name h = h
 hung_name arena s root (st ∷ path) name h = at (st.left) h.0
   where
@@ -36,15 +39,19 @@ hung_name arena s root (st ∷ path) name h = at (st.left) h.0
     at false k = k.right_there
 
 -- a node of a step is high where the step and what hangs below it are
-pub high_whole : (top : ℕ) (st : Step) (path : Path) (tree : Tree) → IsHigh top path (rank_of (whole_of st tree)) → IsHeap (whole_of st tree) → IsHigh top (st ∷ path) (rank_of tree) × IsHeap tree
+pub high_whole : (top : ℕ) (st : Step) (path : Path) (tree : Tree) → IsHigh top path (rank_of (whole_of st tree))
+    → IsHeap (whole_of st tree) → IsHigh top (st ∷ path) (rank_of tree) × IsHeap tree
 high_whole top st path tree high heap = at (st.left) high heap
   where
-    at : (left : Bool) → IsHigh top path (rank_of (if left then Node tree st.cell st.other else Node st.other st.cell tree)) → IsHeap (if left then Node tree st.cell st.other else Node st.other st.cell tree)
+    at : (left : Bool) → IsHigh top path
+        (rank_of (if left then Node tree st.cell st.other else Node st.other st.cell tree))
+        → IsHeap (if left then Node tree st.cell st.other else Node st.other st.cell tree)
         → IsHigh top (st ∷ path) (rank_of tree) × IsHeap tree
     at true h k = ((k.0, k.1, k.3, h), k.2)
     at false h k = ((k.1, k.0, k.2, h), k.3)
 
-pub high_plug : (top : ℕ) (path : Path) (tree : Tree) → IsHigh top path (rank_of tree) → IsHeap tree → (rank_of (plug path tree) ≤ top) × IsHeap (plug path tree)
+pub high_plug : (top : ℕ) (path : Path) (tree : Tree) → IsHigh top path (rank_of tree) → IsHeap tree
+    → (rank_of (plug path tree) ≤ top) × IsHeap (plug path tree)
 high_plug top [] tree high heap = (high, heap)
 high_plug top (st ∷ path) tree high heap = high_plug top path (whole_of st tree) (at st.left) (both st.left)
   where
@@ -95,7 +102,8 @@ module _ (map : TreeMap) (s : List ℕ) where
     -- what holds of each cell that has a node holds of all
     pub at_all : (P : Cell → Type 0) → ((c : Cell) (x y : ℕ) → HasNode map.arena s c x y → P c) → AllByRecursion P all_cells
     at_all P step = all_append P (before_of path) (cells_of tree ++ after_of path) (all_before map.arena s P step map.root path (name_of tree) m.hung)
-        (all_append P (cells_of tree) (after_of path) (all_tree map.arena s P step tree m.spelled) (all_after map.arena s P step map.root path (name_of tree) m.hung))
+        (all_append P (cells_of tree) (after_of path) (all_tree map.arena s P step tree m.spelled)
+        (all_after map.arena s P step map.root path (name_of tree) m.hung))
 
     pub at_times : (b : ℕ) → times_in b all_cells ≡ count_on b path + count_in b tree
     at_times b =
@@ -107,12 +115,14 @@ module _ (map : TreeMap) (s : List ℕ) where
     -- each block stands once
     pub at_once : (b : ℕ) → count_on b path + count_in b tree ≤ 1
     at_once b =
-        let once : times_in b all_cells ≤ 1 = rising_once map.arena s b all_cells (at_all (λ c. slice_get s (block_at map.arena c.block) ≡ Some c.key) (λ c x y n. n.key)) m.search in
+        let once : times_in b all_cells ≤ 1 =
+        rising_once map.arena s b all_cells (at_all (λ c. slice_get s (block_at map.arena c.block) ≡ Some c.key) (λ c x y n. n.key)) m.search in
         omega (arith, once, at_times b)
 
     -- and is one of the arena's
     pub at_below : (b : ℕ) → 1 ≤ count_on b path + count_in b tree → b < map.arena.blocks
-    at_below b k = times_all (λ d. d < map.arena.blocks) b all_cells (at_all (λ c. c.block < map.arena.blocks) (λ c x y n. n.below)) (omega (arith, k, at_times b))
+    at_below b k = times_all (λ d. d < map.arena.blocks) b all_cells
+        (at_all (λ c. c.block < map.arena.blocks) (λ c x y n. n.below)) (omega (arith, k, at_times b))
 
     pub at_room : length all_cells ≤ map.arena.blocks
     at_room = length_below map.arena.blocks all_cells
@@ -134,7 +144,8 @@ module _ (map : TreeMap) (s : List ℕ) where
       same_cells : cells_of hold.tree ≡ all_cells
       same_cells =
           let whole = hung_plug map.arena s map.root path tree m.hung m.spelled in
-          ap cells_of (one_tree map.arena s hold.tree (plug path tree) (same_Some' (sym hold.spelled.0 ∙ whole.0)) hold.spelled.1 whole.1) ∙ cells_plug path tree
+          ap cells_of (one_tree map.arena s hold.tree (plug path tree) (same_Some' (sym hold.spelled.0 ∙ whole.0))
+          hold.spelled.1 whole.1) ∙ cells_plug path tree
         where
           same_Some' : Some (name_of hold.tree) ≡ Some (name_of (plug path tree)) → name_of hold.tree ≡ name_of (plug path tree)
           same_Some' e = cc
@@ -167,9 +178,11 @@ module _ (map : TreeMap) (s : List ℕ) where
         }
 
     -- another place in the same list is in the same tree
-    pub at_cells : (other_path : Path) (other : Tree) → IsAt map other_path other s → before_of other_path ++ (cells_of other ++ after_of other_path) ≡ all_cells
+    pub at_cells : (other_path : Path) (other : Tree) → IsAt map other_path other s
+        → before_of other_path ++ (cells_of other ++ after_of other_path) ≡ all_cells
     at_cells other_path other k =
         let one = hung_plug map.arena s map.root path tree m.hung m.spelled in
         let two = hung_plug map.arena s map.root other_path other k.hung k.spelled in
         sym (cells_plug other_path other)
-        ∙ ap cells_of (one_tree map.arena s (plug other_path other) (plug path tree) (same_Some (name_of (plug other_path other)) (name_of (plug path tree)) (sym two.0 ∙ one.0)) two.1 one.1) ∙ cells_plug path tree
+        ∙ ap cells_of (one_tree map.arena s (plug other_path other) (plug path tree)
+        (same_Some (name_of (plug other_path other)) (name_of (plug path tree)) (sym two.0 ∙ one.0)) two.1 one.1) ∙ cells_plug path tree

@@ -1,5 +1,6 @@
 -- A new cell put into the tree, in one word list.
-use Rattle.std.proofs.Common.{◌≡◌, ◌≢◌, ℕ, zero, suc, ◌+◌, ◌<◌, ◌≤◌, List, ◌∷◌, ◌++◌, length, slice_get, slice_set, true, ◌⊎◌, inl, inr, refl, sym, ap, ◌∙◌, subst, arith, append_assoc}
+use Rattle.std.proofs.Common.{◌≡◌, ◌≢◌, ℕ, zero, suc, ◌+◌, ◌<◌, ◌≤◌, List, ◌∷◌, ◌++◌, length, slice_get, slice_set, true, ◌⊎◌, inl, inr, refl, sym, ap, ◌∙◌}
+use Rattle.std.proofs.Common.{subst, arith, append_assoc}
 use mathlib.Core.Bool.{true≢false}
 use Rattle.std.proofs.lemmas.List.{length-set}
 use Rattle.std.specs.List.{AllByRecursion}
@@ -24,7 +25,11 @@ use Rattle.txn_tree_map.proofs.Hanging.{hung_here, place_mine, keeps_set, keeps_
 
 -- a word that names a subtree is in its block
 pub name_in : (map : TreeMap) (block : ℕ) (tree : Tree) (a : ℕ) (k : IsNameIn map block tree a) → IsInBlock map.arena k.owner a
-name_in map block tree a k = elim (k.place) [ inl e ↦ record { low = omega (arith, e); high = omega (arith, e) } | inr e ↦ record { low = omega (arith, e); high = omega (arith, e) } ]
+name_in map block tree a k = elim (k.place) [
+  | inl e ↦
+      record { low = omega (arith, e); high = omega (arith, e) }
+  | inr e ↦ record { low = omega (arith, e); high = omega (arith, e) }
+]
 
 module _ (map : TreeMap) (key value block place name : ℕ) (r : List ℕ) (can : CanPut map key block r) (seat : IsSeat map key place name r) where
   -- the cells that were there
@@ -76,12 +81,14 @@ module _ (map : TreeMap) (key value block place name : ℕ) (r : List ℕ) (can 
     laid = laid_alike map r with_value long seat.is_at.laid;
     is_name = seat.is_name;
     spelled = spelled_stays map.arena r with_value seat.rest (λ b a k mine. block_other b a (omega (arith, k)) mine) seat.is_at.spelled;
-    search = rising_first (cells_of seat.rest) (after_of seat.path) (rising_last (before_of seat.path) (cells_of seat.rest ++ after_of seat.path) seat.is_at.search);
+    search = rising_first (cells_of seat.rest) (after_of seat.path)
+        (rising_last (before_of seat.path) (cells_of seat.rest ++ after_of seat.path) seat.is_at.search);
     heap = seat.is_at.heap;
     other = all_first other (cells_of seat.rest) (after_of seat.path)
         (all_last other (before_of seat.path) (cells_of seat.rest ++ after_of seat.path)
         (subst (λ cs. AllByRecursion other cs) same_cells
-        (all_append other (before_of can.missing.path) (after_of can.missing.path) (below_other key (before_of can.missing.path) can.missing.low) (above_other key (after_of can.missing.path) can.missing.high))));
+        (all_append other (before_of can.missing.path) (after_of can.missing.path)
+        (below_other key (before_of can.missing.path) can.missing.low) (above_other key (after_of can.missing.path) can.missing.high))));
     lower = seat.lower;
     below = can.below;
     apart = has_not block (cells_of seat.rest)
@@ -103,23 +110,30 @@ module _ (map : TreeMap) (key value block place name : ℕ) (r : List ℕ) (can 
     n.owner,
     elim (n.mine) [
       | inl e ↦ inl e
-      | inr m ↦ inr (seat_has n.owner (let t : 1 ≤ times_in n.owner (cells_of seat.rest) = has_times n.owner (cells_of seat.rest) m in omega (arith, t, times_cells n.owner seat.rest)))
+      | inr m ↦ inr (seat_has n.owner (let t : 1 ≤ times_in n.owner (cells_of seat.rest) =
+          has_times n.owner (cells_of seat.rest) m in omega (arith, t, times_cells n.owner seat.rest)))
     ],
     name_in map block seat.rest a n,
   )
 
   -- and so is a word of a key or of a name
-  pub word_own : (a : ℕ) → IsWordIn map block seat.rest a → (a ≡ map.root) ⊎ (IsInBlock map.arena block a ⊎ ((b : ℕ) × (has_block b cells_there ≡ true) × IsKeyOrName map b a))
+  pub word_own : (a : ℕ) → IsWordIn map block seat.rest a → (a ≡ map.root)
+      ⊎ (IsInBlock map.arena block a ⊎ ((b : ℕ) × (has_block b cells_there ≡ true) × IsKeyOrName map b a))
   word_own a n = elim (n.mine) [
     | inl e ↦
         let here : IsKeyOrName map block a = subst (λ d. IsKeyOrName map d a) e n.place in
         inr (inl (elim here [
           | inl z ↦ record { low = omega (arith, z); high = omega (arith, z) }
-          | inr d ↦ elim d [ inl z ↦ record { low = omega (arith, z); high = omega (arith, z) } | inr z ↦ record { low = omega (arith, z); high = omega (arith, z) } ]
+          | inr d ↦ elim d [
+            | inl z ↦ record { low = omega (arith, z); high = omega (arith, z) }
+            | inr z ↦
+                record { low = omega (arith, z); high = omega (arith, z) }
+          ]
         ]))
     | inr m ↦ inr (inr (
       n.owner,
-      seat_has n.owner (let t : 1 ≤ times_in n.owner (cells_of seat.rest) = has_times n.owner (cells_of seat.rest) m in omega (arith, t, times_cells n.owner seat.rest)),
+      seat_has n.owner (let t : 1 ≤ times_in n.owner (cells_of seat.rest) = has_times n.owner (cells_of seat.rest) m in
+          omega (arith, t, times_cells n.owner seat.rest)),
       n.place,
     ))
   ]
@@ -151,7 +165,14 @@ module _ (map : TreeMap) (key value block place name : ℕ) (r : List ℕ) (can 
     part_times : (b : ℕ) → count_in b seat.rest ≡ count_in b split.left + count_in b split.right
     part_times b =
         let whole : times_in b (cells_of seat.rest) ≡ times_in b (cells_of split.left ++ cells_of split.right) = ap (λ cs. times_in b cs) parts in
-        omega (arith, whole, times-append b (cells_of split.left) (cells_of split.right), times_cells b seat.rest, times_cells b split.left, times_cells b split.right)
+        omega (
+          arith,
+          whole,
+          times-append b (cells_of split.left) (cells_of split.right),
+          times_cells b seat.rest,
+          times_cells b split.left,
+          times_cells b split.right,
+        )
 
     -- what the split did not write
     path_kept : (b a : ℕ) → 1 ≤ count_on b seat.path → IsInBlock map.arena b a → slice_get u a ≡ slice_get with_value a
@@ -188,7 +209,8 @@ module _ (map : TreeMap) (key value block place name : ℕ) (r : List ℕ) (can 
     node_u : HasNode map.arena u cell (name_of split.left) (name_of split.right)
     node_u =
         let fits : block_at map.arena block + 4 ≤ length r = seat.is_at.laid.arena.blocks block can.below in
-        let stays : (a : ℕ) → (a ≡ block_at map.arena block) ⊎ (a ≡ block_at map.arena block + 1) → slice_get u a ≡ slice_get with_value a = λ a e. kept.same a (λ n.
+        let stays : (a : ℕ) → (a ≡ block_at map.arena block) ⊎ (a ≡ block_at map.arena block + 1)
+        → slice_get u a ≡ slice_get with_value a = λ a e. kept.same a (λ n.
         elim e [
           | inl z ↦ elim (n.place) [ inl y ↦ omega (arith, z, y) | inr y ↦ omega (arith, z, y) ]
           | inr z ↦ elim (n.place) [ inl y ↦ omega (arith, z, y) | inr y ↦ omega (arith, z, y) ]
@@ -196,8 +218,10 @@ module _ (map : TreeMap) (key value block place name : ℕ) (r : List ℕ) (can 
         record {
           below = can.below;
           key = stays (block_at map.arena block) (inl refl)
-              ∙ get_set_other with_key (block_at map.arena block + 1) (block_at map.arena block) value (λ e. omega (arith, e)) ∙ get_set_same r (block_at map.arena block) key (omega (arith, fits));
-          value = stays (block_at map.arena block + 1) (inr refl) ∙ get_set_same with_key (block_at map.arena block + 1) value (omega (arith, fits, length-set r (block_at map.arena block) key));
+              ∙ get_set_other with_key (block_at map.arena block + 1) (block_at map.arena block) value
+              (λ e. omega (arith, e)) ∙ get_set_same r (block_at map.arena block) key (omega (arith, fits));
+          value = stays (block_at map.arena block + 1) (inr refl)
+              ∙ get_set_same with_key (block_at map.arena block + 1) value (omega (arith, fits, length-set r (block_at map.arena block) key));
           left_there = split.left_there.0;
           right_there = split.right_there.0;
         }
@@ -205,10 +229,16 @@ module _ (map : TreeMap) (key value block place name : ℕ) (r : List ℕ) (can 
     -- the written place is in none of the blocks of the new node and its subtrees
     place_apart : (b a : ℕ) → (b ≡ block) ⊎ (1 ≤ count_in b seat.rest) → IsInBlock map.arena b a → slice_get put_words a ≡ slice_get u a
     place_apart b a k mine = get_set_other u (place_of map.arena map.root seat.path) a (block + 1) (λ e. elim (place_mine map.arena map.root seat.path) [
-      | inl at ↦ seat.is_at.laid.outside b (elim k [ inl z ↦ subst (λ d. d < map.arena.blocks) (sym z) can.below | inr z ↦ at_below map r seat.path seat.rest seat.is_at b (omega (arith, z)) ])
+      | inl at ↦ seat.is_at.laid.outside b
+          (elim k [ inl z ↦ subst (λ d. d < map.arena.blocks) (sym z) can.below | inr z ↦ at_below map r seat.path seat.rest seat.is_at b (omega (arith, z)) ])
           (subst (λ y. IsInBlock map.arena b y) (e ∙ at) mine)
       | inr d ↦
-          let there : IsInBlock map.arena d.0 a = elim (d.2) [ inl y ↦ record { low = omega (arith, e, y); high = omega (arith, e, y) } | inr y ↦ record { low = omega (arith, e, y); high = omega (arith, e, y) } ] in
+          let there : IsInBlock map.arena d.0 a =
+          elim (d.2) [
+            | inl y ↦ record { low = omega (arith, e, y); high = omega (arith, e, y) }
+            | inr y ↦
+                record { low = omega (arith, e, y); high = omega (arith, e, y) }
+          ] in
           let same : d.0 ≡ b = same_block map.arena d.0 b a there mine in
           elim k [
             | inl z ↦ seat_apart d.0 (omega (arith, d.1)) (same ∙ z)
@@ -225,21 +255,25 @@ module _ (map : TreeMap) (key value block place name : ℕ) (r : List ℕ) (can 
         subst (λ cs. IsRising cs) (ap (λ z. before_of seat.path ++ (z ++ after_of seat.path)) parts ∙ around_parts) seat.is_at.search in
         let rises : IsRising ((before_of seat.path ++ cells_of split.left) ++ cell ∷ (cells_of split.right ++ after_of seat.path)) =
         rising_put (before_of seat.path ++ cells_of split.left) (cells_of split.right ++ after_of seat.path) cell rising
-        (all_append (λ c. c.key < key) (before_of seat.path) (cells_of split.left) seat.low split.low) (all_append (λ c. key < c.key) (cells_of split.right) (after_of seat.path) split.high seat.high) in
+        (all_append (λ c. c.key < key) (before_of seat.path) (cells_of split.left) seat.low split.low)
+        (all_append (λ c. key < c.key) (cells_of split.right) (after_of seat.path) split.high seat.high) in
         record {
           laid = laid_alike map r put_words (length-set u (place_of map.arena map.root seat.path) (block + 1) ∙ kept.count ∙ long) seat.is_at.laid;
-          hung = hung_here map.arena u map.root seat.path (name_of seat.rest) (block + 1) hung_u (λ b. omega (arith, once b)) (λ b k. at_outside map r seat.path seat.rest seat.is_at b (omega (arith, k)));
+          hung = hung_here map.arena u map.root seat.path (name_of seat.rest) (block + 1) hung_u
+              (λ b. omega (arith, once b)) (λ b k. at_outside map r seat.path seat.rest seat.is_at b (omega (arith, k)));
           spelled = (
             node_stays map.arena u put_words cell (name_of split.left) (name_of split.right) (λ a mine. place_apart block a (inl refl) mine) node_u,
             spelled_stays map.arena u put_words split.left (λ b a k mine. place_apart b a (inr (omega (arith, k, part_times b))) mine) split.left_there.1,
             spelled_stays map.arena u put_words split.right (λ b a k mine. place_apart b a (inr (omega (arith, k, part_times b))) mine) split.right_there.1,
           );
-          search = subst (λ cs. IsRising cs) (sym (around_node (before_of seat.path) (cells_of split.left) (cells_of split.right) (after_of seat.path) cell)) rises;
+          search = subst (λ cs. IsRising cs)
+              (sym (around_node (before_of seat.path) (cells_of split.left) (cells_of split.right) (after_of seat.path) cell)) rises;
           high = seat.higher;
           heap = (split.left_lower, split.right_lower, split.left_heap, split.right_heap);
         }
       where
-        around_parts : before_of seat.path ++ ((cells_of split.left ++ cells_of split.right) ++ after_of seat.path) ≡ (before_of seat.path ++ cells_of split.left) ++ (cells_of split.right ++ after_of seat.path)
+        around_parts : before_of seat.path ++ ((cells_of split.left ++ cells_of split.right) ++ after_of seat.path)
+            ≡ (before_of seat.path ++ cells_of split.left) ++ (cells_of split.right ++ after_of seat.path)
         around_parts = ap (λ z. before_of seat.path ++ z) (append_assoc (cells_of split.left) (cells_of split.right) (after_of seat.path))
             ∙ sym (append_assoc (before_of seat.path) (cells_of split.left) (cells_of split.right ++ after_of seat.path))
 

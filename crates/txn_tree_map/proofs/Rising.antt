@@ -48,7 +48,8 @@ rising_put (x ∷ xs) ys c h below above = (
 pub rising_cut : (xs ys zs : List Cell) → IsRising (xs ++ (ys ++ zs)) → IsRising (xs ++ zs)
 rising_cut [] ys zs h = rising_last ys zs h
 rising_cut (x ∷ xs) ys zs h = (
-  all_append (λ d. x.key < d.key) xs zs (all_first (λ d. x.key < d.key) xs (ys ++ zs) h.0) (all_last (λ d. x.key < d.key) ys zs (all_last (λ d. x.key < d.key) xs (ys ++ zs) h.0)),
+  all_append (λ d. x.key < d.key) xs zs (all_first (λ d. x.key < d.key) xs (ys ++ zs) h.0)
+      (all_last (λ d. x.key < d.key) ys zs (all_last (λ d. x.key < d.key) xs (ys ++ zs) h.0)),
   rising_cut xs ys zs h.1,
 )
 

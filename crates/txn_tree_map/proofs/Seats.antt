@@ -27,8 +27,10 @@ module _ (map : TreeMap) (key : ℕ) (s : List ℕ) where
       let other : Cell → Type 0 = λ c. c.key ≢ key in
       let all : AllByRecursion other (before_of h.path ++ (cells_of h.rest ++ after_of h.path)) =
       subst (λ cs. AllByRecursion other cs) (at_cells map s h.path h.rest h.is_at none.path Leaf none.is_at)
-      (all_append other (before_of none.path) (after_of none.path) (below_other key (before_of none.path) none.low) (above_other key (after_of none.path) none.high)) in
-      let here : AllByRecursion other (cells_of h.rest) = all_first other (cells_of h.rest) (after_of h.path) (all_last other (before_of h.path) (cells_of h.rest ++ after_of h.path) all) in
+      (all_append other (before_of none.path) (after_of none.path) (below_other key (before_of none.path) none.low)
+      (above_other key (after_of none.path) none.high)) in
+      let here : AllByRecursion other (cells_of h.rest) =
+      all_first other (cells_of h.rest) (after_of h.path) (all_last other (before_of h.path) (cells_of h.rest ++ after_of h.path) all) in
       let mine : AllByRecursion other (cells_of (Node node.left node.cell node.right)) = subst (λ t. AllByRecursion other (cells_of t)) node.is here in
       let ne : node.cell.key ≢ key = (all_last other (cells_of node.left) (node.cell ∷ cells_of node.right) mine).0 in
       subst (λ (d : ℕ). d ≢ key) node.is_key ne
@@ -53,7 +55,8 @@ module _ (map : TreeMap) (key : ℕ) (s : List ℕ) where
   seat_all p n le h = seat_leaf p n h (leaf_short h.rest (omega (arith, h.count, le)))
 
   -- a node of lower priority
-  pub seat_here : (p n b k : ℕ) → key < 2 ^ 64 → k < 2 ^ 64 → IsMissing map key s → IsPassed map key floor p n s → IsNamed map p b k s → priority_of k ≤ priority_of key → IsSeat map key p (b + 1) s
+  pub seat_here : (p n b k : ℕ) → key < 2 ^ 64 → k < 2 ^ 64 → IsMissing map key s → IsPassed map key floor p n s
+      → IsNamed map p b k s → priority_of k ≤ priority_of key → IsSeat map key p (b + 1) s
   seat_here p n b k low_key low_k none h named le =
       let node : IsNode h.rest b k = passed_node map key floor s p n b k h named in
       let ne : priority_of k ≢ priority_of key = λ e. missing_other p n b k none h named (priorities_differ k key low_k low_key e) in

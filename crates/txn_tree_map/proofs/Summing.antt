@@ -1,5 +1,6 @@
 -- The steps of a sum over keys, in one word list.
-use Rattle.std.proofs.Common.{◌≡◌, ℕ, ◌+◌, ◌<◌, ◌≤◌, Bool, true, false, nat_lt, nat_le, ◌&&◌, List, [], ◌∷◌, ◌++◌, length, slice_get, Some, None, refl, sym, ap, ◌∙◌, subst, arith, rules, if◌then◌else◌, length-append}
+use Rattle.std.proofs.Common.{◌≡◌, ℕ, ◌+◌, ◌<◌, ◌≤◌, Bool, true, false, nat_lt, nat_le, ◌&&◌, List, [], ◌∷◌, ◌++◌, length, slice_get, Some, None, refl, sym, ap}
+use Rattle.std.proofs.Common.{◌∙◌, subst, arith, rules, if◌then◌else◌, length-append}
 use Rattle.std.proofs.lemmas.List.{append-nil, append_assoc}
 use Rattle.std.proofs.lemmas.List.Sums.{sum_by-cons}
 use Rattle.std.proofs.lemmas.Option.{same_Some}
@@ -74,7 +75,8 @@ pub parted_at : (least : ℕ) (cs : List Cell) → IsRising cs → PartedAt leas
 parted_at least [] h = record { lows = []; highs = []; whole = refl; low = tt; high = tt }
 parted_at least (c ∷ cs) h = parted_first least c cs (nat_lt c.key least) refl h.0 (parted_at least cs h.1)
 
-pub parted_once : (least : ℕ) (xs ys zs ws : List Cell) → xs ++ ys ≡ zs ++ ws → IsBelow least xs → IsFrom least ys → IsBelow least zs → IsFrom least ws → (xs ≡ zs) × (ys ≡ ws)
+pub parted_once : (least : ℕ) (xs ys zs ws : List Cell) → xs ++ ys ≡ zs ++ ws → IsBelow least xs → IsFrom least ys
+    → IsBelow least zs → IsFrom least ws → (xs ≡ zs) × (ys ≡ ws)
 parted_once least [] ys [] ws e xl yh zl wh = (refl, e)
 parted_once least [] [] (z ∷ zs) ws e xl yh zl wh = absurd (cc)
 parted_once least [] (y ∷ ys) (z ∷ zs) ws e xl yh zl wh =
@@ -107,7 +109,8 @@ module _ (map : TreeMap) (s : List ℕ) where
   cell_node : (tree : Tree) (lows highs : List Cell) (c : Cell) → IsAt map [] tree s → cells_of tree ≡ lows ++ c ∷ highs
       → (c.block < map.arena.blocks) × (slice_get s (block_at map.arena c.block + 1) ≡ Some c.value) × (slice_get s (block_at map.arena c.block) ≡ Some c.key)
   cell_node tree lows highs c m e =
-      let P : Cell → Type 0 = λ d. (d.block < map.arena.blocks) × (slice_get s (block_at map.arena d.block + 1) ≡ Some d.value) × (slice_get s (block_at map.arena d.block) ≡ Some d.key) in
+      let P : Cell → Type 0 = λ d. (d.block < map.arena.blocks)
+      × (slice_get s (block_at map.arena d.block + 1) ≡ Some d.value) × (slice_get s (block_at map.arena d.block) ≡ Some d.key) in
       let all : AllByRecursion P (cells_of tree) = all_tree map.arena s P (λ d x y n. (n.below, n.value, n.key)) tree m.spelled in
       (all_last P lows (c ∷ highs) (subst (λ cs. AllByRecursion P cs) e all)).0
 
@@ -120,7 +123,8 @@ module _ (map : TreeMap) (s : List ℕ) where
     nearest_below = let k = cell_node h.tree h.lows h.first.1 h.first.0 h.is_at node_cells in omega (arith, k.0, h.first.3)
 
     pub nearest_key : slice_get s (block_at map.arena node.block) ≡ Some node.key
-    nearest_key = let k = cell_node h.tree h.lows h.first.1 h.first.0 h.is_at node_cells in ap (λ d. slice_get s (block_at map.arena d)) (sym h.first.3) ∙ k.2 ∙ ap (λ d. Some d) h.first.4
+    nearest_key = let k = cell_node h.tree h.lows h.first.1 h.first.0 h.is_at node_cells in
+        ap (λ d. slice_get s (block_at map.arena d)) (sym h.first.3) ∙ k.2 ∙ ap (λ d. Some d) h.first.4
 
     first_from : least ≤ h.first.0.key
     first_from = (subst (λ cs. IsFrom least cs) h.first.2 h.high).0
@@ -157,7 +161,10 @@ module _ (map : TreeMap) (s : List ℕ) where
           cells = h.cells;
           low = h.low;
           from = h.high;
-          past = subst (λ cs. IsFrom (high + 1) cs) (sym h.first.2) (past, all_map (λ d. c.key < d.key) (λ d. high + 1 ≤ d.key) (h.first.1) (λ d m. omega arith) above);
+          past = subst (λ cs. IsFrom (high + 1) cs) (sym h.first.2) (
+            past,
+            all_map (λ d. c.key < d.key) (λ d. high + 1 ≤ d.key) (h.first.1) (λ d m. omega arith) above,
+          );
         }
 
   pub nearest_none : (least high : ℕ) → IsNearest map least None s → HasNoneTo map least high s
@@ -197,7 +204,8 @@ module _ (map : TreeMap) (s : List ℕ) where
         tree = h.tree;
         is_at = h.is_at;
         sum = let none : sum_cells (counted low high) h.rest ≡ 0 = sum_past low high h.rest past in
-            let whole : sum_cells (counted low high) (cells_of h.tree) ≡ sum_cells (counted low high) (h.done ++ h.rest) = ap (λ cs. sum_cells (counted low high) cs) h.cells in
+            let whole : sum_cells (counted low high) (cells_of h.tree)
+            ≡ sum_cells (counted low high) (h.done ++ h.rest) = ap (λ cs. sum_cells (counted low high) cs) h.cells in
             omega (arith, none, whole, h.sum, sum_cells-append (counted low high) h.done h.rest);
       }
 
@@ -213,7 +221,8 @@ module _ (map : TreeMap) (s : List ℕ) where
 
       pub total_none : HasNoneTo map least high s → IsTotal map low high total s
       total_none k =
-          let one = parted_once least h.done h.rest k.lows k.highs (sym h.cells ∙ trees_same h.tree k.tree h.is_at k.is_at ∙ k.cells) h.below h.from k.low k.from in
+          let one = parted_once least h.done h.rest k.lows k.highs (sym h.cells
+          ∙ trees_same h.tree k.tree h.is_at k.is_at ∙ k.cells) h.below h.from k.low k.from in
           total_past (subst (λ cs. IsFrom (high + 1) cs) (sym one.1) k.past)
 
       module _ (key value : ℕ) (k : IsNext map least key value s) where
@@ -224,7 +233,8 @@ module _ (map : TreeMap) (s : List ℕ) where
             (le, all_map (λ d. k.cell.key < d.key) (λ d. least ≤ d.key) k.highs (λ d m. omega arith) above)
 
         next_parts : (h.done ≡ k.lows) × (h.rest ≡ k.cell ∷ k.highs)
-        next_parts = parted_once least h.done h.rest k.lows (k.cell ∷ k.highs) (sym h.cells ∙ trees_same h.tree k.tree h.is_at k.is_at ∙ k.cells) h.below h.from k.low next_from
+        next_parts = parted_once least h.done h.rest k.lows (k.cell ∷ k.highs) (sym h.cells
+            ∙ trees_same h.tree k.tree h.is_at k.is_at ∙ k.cells) h.below h.from k.low next_from
 
         -- one value more
         pub summed_more : low ≤ least → key ≤ high → IsSummed map low high (key + 1) (turns + 1) (total + value) s
@@ -240,7 +250,8 @@ module _ (map : TreeMap) (s : List ℕ) where
               done = k.lows ++ c ∷ [];
               rest = k.highs;
               cells = k.cells ∙ sym (append_assoc k.lows (c ∷ []) k.highs);
-              below = all_append (λ d. d.key < key + 1) k.lows (c ∷ []) (below_more least (key + 1) k.lows (omega (arith, k.from, k.is_key)) k.low) (omega (arith, k.is_key), tt);
+              below = all_append (λ d. d.key < key + 1) k.lows (c ∷ [])
+                  (below_more least (key + 1) k.lows (omega (arith, k.from, k.is_key)) k.low) (omega (arith, k.is_key), tt);
               from = all_map (λ d. c.key < d.key) (λ d. key + 1 ≤ d.key) k.highs (λ d m. omega (arith, m, k.is_key)) above;
               sum = omega (arith, so_far, one, k.is_value, sum_cells-append (counted low high) k.lows (c ∷ []));
               count = omega (arith, h.count, shorter);

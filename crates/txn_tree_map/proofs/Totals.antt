@@ -23,13 +23,17 @@ module _ (map : TreeMap) (n : ℕ) (G : List ℕ → Type 0) (t u : Trace) where
   -- the first node from a key on, and its value
   module _ (least high : ℕ) where
     pub none_from : Looks n G t u (IsLink map) (IsNearest map least None) → Looks n G t u IsAnyWord (HasNoneTo map least high)
-    none_from l = looks_map n G t IsAnyWord u (IsNearest map least None) (HasNoneTo map least high) (λ s h. nearest_none map s least high h) (looks_wider n G t u (IsLink map) IsAnyWord (IsNearest map least None) (λ s h a k. tt) l)
+    none_from l = looks_map n G t IsAnyWord u (IsNearest map least None) (HasNoneTo map least high)
+        (λ s h. nearest_none map s least high h) (looks_wider n G t u (IsLink map) IsAnyWord (IsNearest map least None) (λ s h a k. tt) l)
 
-    pub past_from : (node : Named) → high < node.key → Looks n G t u (IsLink map) (IsNearest map least (Some node)) → Looks n G t u IsAnyWord (HasNoneTo map least high)
-    past_from node lt l = looks_map n G t IsAnyWord u (IsNearest map least (Some node)) (HasNoneTo map least high) (λ s h. nearest_past map s least node h high lt)
+    pub past_from : (node : Named) → high < node.key → Looks n G t u (IsLink map) (IsNearest map least (Some node))
+        → Looks n G t u IsAnyWord (HasNoneTo map least high)
+    past_from node lt l = looks_map n G t IsAnyWord u (IsNearest map least (Some node)) (HasNoneTo map least high)
+        (λ s h. nearest_past map s least node h high lt)
         (looks_wider n G t u (IsLink map) IsAnyWord (IsNearest map least (Some node)) (λ s h a k. tt) l)
 
-    pub links_from : {P : List ℕ → Type 0} → Looks n G t u (IsLink map) P → InEach n G t (HasMap (tree_part map)) → (s : List ℕ) → Fits n G u s → AppendsReads t u (MayReadRange (tree_part map) least high (after t s) (after u s))
+    pub links_from : {P : List ℕ → Type 0} → Looks n G t u (IsLink map) P → InEach n G t (HasMap (tree_part map))
+        → (s : List ℕ) → Fits n G u s → AppendsReads t u (MayReadRange (tree_part map) least high (after t s) (after u s))
     links_from l order s fit =
         let o = order.at s (fits_begins n G t u s l.begins fit) in
         sees_more (IsLink map (after t s)) (MayReadRange (tree_part map) least high (after t s) (after u s)) t u
@@ -41,14 +45,18 @@ module _ (map : TreeMap) (n : ℕ) (G : List ℕ → Type 0) (t u : Trace) where
     pub node_from : (node : Named) → Looks n G t u (IsLink map) (IsNearest map least (Some node)) → SomeFits n G u → least ≤ node.key
     node_from node l some = nearest_from map (after u some.0) least node (l.holds some.0 some.1)
 
-    module _ (node : Named) (v : Trace) (q x : ℕ) (is_value : q ≡ block_at map.arena node.block + 1) (l : Looks n G t u (IsLink map) (IsNearest map least (Some node))) (e : v ≡ u ++ Read q x ∷ []) where
+    module _ (node : Named) (v : Trace) (q x : ℕ) (is_value : q ≡ block_at map.arena node.block + 1)
+        (l : Looks n G t u (IsLink map) (IsNearest map least (Some node))) (e : v ≡ u ++ Read q x ∷ []) where
       both_from : Looks n G t v (IsNearOr (IsLink map) q) (λ s. IsNearest map least (Some node) s × (slice_get s q ≡ Some x))
       both_from = looks_value n G t u l v q x e
 
       pub next_from : Looks n G t v IsAnyWord (IsNext map least node.key x)
-      next_from = looks_map n G t IsAnyWord v _ (IsNext map least node.key x) (λ s h. nearest_next map s least node h.0 x (ap (λ z. slice_get s z) (sym is_value) ∙ h.1)) (looks_wider n G t v (IsNearOr (IsLink map) q) IsAnyWord _ (λ s h a k. tt) both_from)
+      next_from = looks_map n G t IsAnyWord v _ (IsNext map least node.key x)
+          (λ s h. nearest_next map s least node h.0 x (ap (λ z. slice_get s z) (sym is_value) ∙ h.1))
+          (looks_wider n G t v (IsNearOr (IsLink map) q) IsAnyWord _ (λ s h a k. tt) both_from)
 
-      pub value_from : node.key ≤ high → InEach n G t (HasMap (tree_part map)) → (s : List ℕ) → Fits n G v s → AppendsReads t v (MayReadRange (tree_part map) least high (after t s) (after v s))
+      pub value_from : node.key ≤ high → InEach n G t (HasMap (tree_part map)) → (s : List ℕ) → Fits n G v s
+          → AppendsReads t v (MayReadRange (tree_part map) least high (after t s) (after v s))
       value_from le order s fit =
           let seen = seen_before n G t v both_from s fit in
           let o = order.at s (fits_begins n G t v s both_from.begins fit) in
@@ -64,7 +72,8 @@ module _ (map : TreeMap) (n : ℕ) (G : List ℕ → Type 0) (t u : Trace) where
           sees_more (IsNearOr (IsLink map) q (after t s)) (MayReadRange (tree_part map) least high (after t s) (after v s)) t v step (both_from.reads s fit)
 
 -- of a range within another no more values are read
-pub range_more : (map : TreeMap) (low least high : ℕ) (s t : List ℕ) (a : ℕ) → low ≤ least → MayReadRange (tree_part map) least high s t a → MayReadRange (tree_part map) low high s t a
+pub range_more : (map : TreeMap) (low least high : ℕ) (s t : List ℕ) (a : ℕ) → low ≤ least
+    → MayReadRange (tree_part map) least high s t a → MayReadRange (tree_part map) low high s t a
 range_more map low least high s t a le (inl e) = inl e
 range_more map low least high s t a le (inr k) = inr (
   k.0,
@@ -76,7 +85,8 @@ range_more map low least high s t a le (inr k) = inr (
 )
 
 -- one entry after another
-module _ (map : TreeMap) (low high least turns total : ℕ) (n : ℕ) (G : List ℕ → Type 0) (t u v : Trace) (l : Looks n G t u IsAnyWord (IsSummed map low high least turns total)) where
+module _ (map : TreeMap) (low high least turns total : ℕ) (n : ℕ) (G : List ℕ → Type 0) (t u v : Trace)
+    (l : Looks n G t u IsAnyWord (IsSummed map low high least turns total)) where
   pub reads_on : {P : List ℕ → Type 0} → Looks n G u v IsAnyWord P → low ≤ least
       → ((s : List ℕ) → Fits n G u s → AppendsReads t u (MayReadRange (tree_part map) low high (after t s) (after u s)))
       → ((s : List ℕ) → Fits n G v s → AppendsReads u v (MayReadRange (tree_part map) least high (after u s) (after v s)))
@@ -84,11 +94,14 @@ module _ (map : TreeMap) (low high least turns total : ℕ) (n : ℕ) (G : List 
   reads_on m le first second s fit =
       let fit_u : Fits n G u s = fits_begins n G u v s m.begins fit in
       let may : ℕ → Type 0 = MayReadRange (tree_part map) low high (after t s) (after v s) in
-      let more : AppendsReads u v (MayReadRange (tree_part map) least high (after t s) (after v s)) = subst (λ z. AppendsReads u v (MayReadRange (tree_part map) least high z (after v s))) (l.same s fit_u) (second s fit) in
-      sees_then may t u v (first s fit_u) (sees_more (MayReadRange (tree_part map) least high (after t s) (after v s)) may u v (λ a k. range_more map low least high (after t s) (after v s) a le k) more)
+      let more : AppendsReads u v (MayReadRange (tree_part map) least high (after t s) (after v s)) =
+      subst (λ z. AppendsReads u v (MayReadRange (tree_part map) least high z (after v s))) (l.same s fit_u) (second s fit) in
+      sees_then may t u v (first s fit_u) (sees_more (MayReadRange (tree_part map) least high (after t s) (after v s))
+      may u v (λ a k. range_more map low least high (after t s) (after v s) a le k) more)
 
 -- the whole sum
-pub sums_range : (map : TreeMap) (low high total : ℕ) (n : ℕ) (G : List ℕ → Type 0) (t u : Trace) → Looks n G t u IsAnyWord (IsTotal map low high total) → Leads n G t u (SumsRange (tree_part map) low high total)
+pub sums_range : (map : TreeMap) (low high total : ℕ) (n : ℕ) (G : List ℕ → Type 0) (t u : Trace)
+    → Looks n G t u IsAnyWord (IsTotal map low high total) → Leads n G t u (SumsRange (tree_part map) low high total)
 sums_range map low high total n G t u l = record {
   at = λ s fit. record { same = l.same s fit; sum = λ f used hold. total_sum map (after t s) low high total f used (seen_before n G t u l s fit) hold };
 }

@@ -1,5 +1,6 @@
 -- Trees and paths in one word list: what stays of them while words stay, and how often a block stands in them.
-use Rattle.std.proofs.Common.{◌≡◌, ◌≢◌, ℕ, ◌+◌, ◌<◌, ◌≤◌, Bool, true, false, List, [], ◌∷◌, ◌++◌, slice_get, Some, refl, sym, ap, ◌∙◌, subst, arith, if◌then◌else◌, append_assoc}
+use Rattle.std.proofs.Common.{◌≡◌, ◌≢◌, ℕ, ◌+◌, ◌<◌, ◌≤◌, Bool, true, false, List, [], ◌∷◌, ◌++◌, slice_get, Some, refl, sym, ap, ◌∙◌, subst, arith}
+use Rattle.std.proofs.Common.{if◌then◌else◌, append_assoc}
 use Rattle.std.proofs.lemmas.List.{append-nil}
 use Rattle.std.proofs.lemmas.Option.{same_Some}
 use Rattle.std.specs.List.{AllByRecursion}
@@ -23,7 +24,8 @@ count_on b (st ∷ path) = one_in b st.cell + count_in b st.other + count_on b p
 pub times_cells : (b : ℕ) (tree : Tree) → times_in b (cells_of tree) ≡ count_in b tree
 times_cells b Leaf = refl
 times_cells b (Node left c right) =
-    let whole : times_in b (cells_of left ++ c ∷ cells_of right) ≡ times_in b (cells_of left) + (one_in b c + times_in b (cells_of right)) = times-append b (cells_of left) (c ∷ cells_of right) in
+    let whole : times_in b (cells_of left ++ c ∷ cells_of right) ≡ times_in b (cells_of left)
+    + (one_in b c + times_in b (cells_of right)) = times-append b (cells_of left) (c ∷ cells_of right) in
     let l : times_in b (cells_of left) ≡ count_in b left = times_cells b left in
     let r : times_in b (cells_of right) ≡ count_in b right = times_cells b right in
     omega (arith, whole, l, r)
@@ -32,7 +34,8 @@ times_cells b (Node left c right) =
 pub count_whole : (b : ℕ) (st : Step) (tree : Tree) → count_in b (whole_of st tree) ≡ one_in b st.cell + count_in b st.other + count_in b tree
 count_whole b st tree = at (st.left)
   where
-    at : (left : Bool) → count_in b (if left then Node tree st.cell st.other else Node st.other st.cell tree) ≡ one_in b st.cell + count_in b st.other + count_in b tree
+    at : (left : Bool) → count_in b (if left then Node tree st.cell st.other else Node st.other st.cell tree)
+        ≡ one_in b st.cell + count_in b st.other + count_in b tree
     at true = omega arith
     at false = omega arith
 
@@ -40,17 +43,20 @@ count_whole b st tree = at (st.left)
 cells_whole : (left : Bool) (c : Cell) (other tree : Tree) → cells_of (if left then Node tree c other else Node other c tree)
     ≡ (if left then [] else cells_of other ++ c ∷ []) ++ (cells_of tree ++ (if left then c ∷ cells_of other else []))
 cells_whole true c other tree = refl
-cells_whole false c other tree = ap (λ xs. cells_of other ++ c ∷ xs) (sym (append-nil (cells_of tree))) ∙ sym (append_assoc (cells_of other) (c ∷ []) (cells_of tree ++ []))
+cells_whole false c other tree = ap (λ xs. cells_of other ++ c ∷ xs) (sym (append-nil (cells_of tree)))
+    ∙ sym (append_assoc (cells_of other) (c ∷ []) (cells_of tree ++ []))
 
 -- the cells of a whole, from left to right
 around : (xs ls cs rs ys : List Cell) → xs ++ ((ls ++ (cs ++ rs)) ++ ys) ≡ (xs ++ ls) ++ (cs ++ (rs ++ ys))
 around xs ls cs rs ys =
     ap (λ z. xs ++ z) (append_assoc ls (cs ++ rs) ys ∙ ap (λ z. ls ++ z) (append_assoc cs rs ys)) ∙ sym (append_assoc xs ls (cs ++ (rs ++ ys)))
 
-pub cells_step : (st : Step) (path : Path) (tree : Tree) → before_of path ++ (cells_of (whole_of st tree) ++ after_of path) ≡ before_of (st ∷ path) ++ (cells_of tree ++ after_of (st ∷ path))
+pub cells_step : (st : Step) (path : Path) (tree : Tree)
+    → before_of path ++ (cells_of (whole_of st tree) ++ after_of path) ≡ before_of (st ∷ path) ++ (cells_of tree ++ after_of (st ∷ path))
 cells_step st path tree =
     ap (λ z. before_of path ++ (z ++ after_of path)) (cells_whole st.left st.cell st.other tree)
-    ∙ around (before_of path) (if st.left then [] else cells_of st.other ++ st.cell ∷ []) (cells_of tree) (if st.left then st.cell ∷ cells_of st.other else []) (after_of path)
+    ∙ around (before_of path) (if st.left then [] else cells_of st.other ++ st.cell ∷ []) (cells_of tree)
+    (if st.left then st.cell ∷ cells_of st.other else []) (after_of path)
 
 pub cells_plug : (path : Path) (tree : Tree) → cells_of (plug path tree) ≡ before_of path ++ (cells_of tree ++ after_of path)
 cells_plug [] tree = sym (append-nil (cells_of tree))
@@ -88,16 +94,19 @@ module _ (arena : Arena) (s : List ℕ) where
 
   -- a spelled node of a step is the step and what hangs below it
   pub spelled_whole : (st : Step) (tree : Tree) → IsSpelled arena s (whole_of st tree)
-      → HasNode arena s st.cell (if st.left then name_of tree else name_of st.other) (if st.left then name_of st.other else name_of tree) × IsSpelled arena s st.other × IsSpelled arena s tree
+      → HasNode arena s st.cell (if st.left then name_of tree else name_of st.other)
+      (if st.left then name_of st.other else name_of tree) × IsSpelled arena s st.other × IsSpelled arena s tree
   spelled_whole st tree h = at (st.left) h
     where
       at : (left : Bool) → IsSpelled arena s (if left then Node tree st.cell st.other else Node st.other st.cell tree)
-          → HasNode arena s st.cell (if left then name_of tree else name_of st.other) (if left then name_of st.other else name_of tree) × IsSpelled arena s st.other × IsSpelled arena s tree
+          → HasNode arena s st.cell (if left then name_of tree else name_of st.other)
+          (if left then name_of st.other else name_of tree) × IsSpelled arena s st.other × IsSpelled arena s tree
       at true k = (k.0, k.2, k.1)
       at false k = (k.0, k.1, k.2)
 
   pub whole_spelled : (st : Step) (tree : Tree)
-      → HasNode arena s st.cell (if st.left then name_of tree else name_of st.other) (if st.left then name_of st.other else name_of tree) → IsSpelled arena s st.other → IsSpelled arena s tree
+      → HasNode arena s st.cell (if st.left then name_of tree else name_of st.other)
+      (if st.left then name_of st.other else name_of tree) → IsSpelled arena s st.other → IsSpelled arena s tree
       → IsSpelled arena s (whole_of st tree)
   whole_spelled st tree node other below = at (st.left) node
     where
@@ -114,10 +123,12 @@ module _ (arena : Arena) (s : List ℕ) where
       at false = refl
 
   -- a hung path and a spelled tree at its end are a whole
-  pub hung_plug : (root : ℕ) (path : Path) (tree : Tree) → IsHung arena s root path (name_of tree) → IsSpelled arena s tree → (slice_get s root ≡ Some (name_of (plug path tree))) × IsSpelled arena s (plug path tree)
+  pub hung_plug : (root : ℕ) (path : Path) (tree : Tree) → IsHung arena s root path (name_of tree)
+      → IsSpelled arena s tree → (slice_get s root ≡ Some (name_of (plug path tree))) × IsSpelled arena s (plug path tree)
   hung_plug root [] tree hung spelled = (hung, spelled)
   hung_plug root (st ∷ path) tree hung spelled =
-      hung_plug root path (whole_of st tree) (subst (λ n. IsHung arena s root path n) (sym (name_whole st tree)) hung.2) (whole_spelled st tree hung.0 hung.1 spelled)
+      hung_plug root path (whole_of st tree) (subst (λ n. IsHung arena s root path n) (sym (name_whole st tree)) hung.2)
+      (whole_spelled st tree hung.0 hung.1 spelled)
 
   -- a name heads one tree
   pub one_tree : (t u : Tree) → name_of t ≡ name_of u → IsSpelled arena s t → IsSpelled arena s u → t ≡ u
@@ -126,7 +137,8 @@ module _ (arena : Arena) (s : List ℕ) where
   one_tree (Node left c right) Leaf e h k = absurd (omega (arith, e))
   one_tree (Node left c right) (Node left' d right') e h k =
       let same : c.block ≡ d.block = omega (arith, e) in
-      let at : (j : ℕ) → slice_get s (block_at arena c.block + j) ≡ slice_get s (block_at arena d.block + j) = λ j. ap (λ b. slice_get s (block_at arena b + j)) same in
+      let at : (j : ℕ) → slice_get s (block_at arena c.block + j) ≡ slice_get s (block_at arena d.block + j) =
+      λ j. ap (λ b. slice_get s (block_at arena b + j)) same in
       let keys : c.key ≡ d.key = same_Some c.key d.key (sym h.0.key ∙ ap (λ b. slice_get s (block_at arena b)) same ∙ k.0.key) in
       let values : c.value ≡ d.value = same_Some c.value d.value (sym h.0.value ∙ at 1 ∙ k.0.value) in
       let lefts : left ≡ left' = one_tree left left' (same_Some (name_of left) (name_of left') (sym h.0.left_there ∙ at 2 ∙ k.0.left_there)) h.1 k.1 in
@@ -156,16 +168,19 @@ module _ (arena : Arena) (s t : List ℕ) where
     spelled_stays right (λ b a m k. same b a (omega (arith, m)) k) h.2,
   )
 
-  pub hung_stays : (root : ℕ) (path : Path) (name : ℕ) → slice_get t root ≡ slice_get s root → SameIn (λ b. count_on b path) → IsHung arena s root path name → IsHung arena t root path name
+  pub hung_stays : (root : ℕ) (path : Path) (name : ℕ) → slice_get t root ≡ slice_get s root
+      → SameIn (λ b. count_on b path) → IsHung arena s root path name → IsHung arena t root path name
   hung_stays root [] name at same h = at ∙ h
   hung_stays root (st ∷ path) name at same h = (
-    node_stays st.cell _ _ (λ a k. same st.cell.block a (let one : one_in st.cell.block st.cell ≡ 1 = one_here st.cell.block st.cell refl in omega (arith, one)) k) h.0,
+    node_stays st.cell _ _ (λ a k. same st.cell.block a (let one : one_in st.cell.block st.cell ≡ 1 =
+        one_here st.cell.block st.cell refl in omega (arith, one)) k) h.0,
     spelled_stays st.other (λ b a m k. same b a (omega (arith, m)) k) h.1,
     hung_stays root path (st.cell.block + 1) at (λ b a m k. same b a (omega (arith, m)) k) h.2,
   )
 
   -- a node with another name on one side
-  node_again : (left : Bool) (c : Cell) (n m o : ℕ) → ((a : ℕ) → IsInBlock arena c.block a → a ≢ block_at arena c.block + (if left then 2 else 3) → slice_get t a ≡ slice_get s a)
+  node_again : (left : Bool) (c : Cell) (n m o : ℕ)
+      → ((a : ℕ) → IsInBlock arena c.block a → a ≢ block_at arena c.block + (if left then 2 else 3) → slice_get t a ≡ slice_get s a)
       → slice_get t (block_at arena c.block + (if left then 2 else 3)) ≡ Some m
       → HasNode arena s c (if left then n else o) (if left then o else n) → HasNode arena t c (if left then m else o) (if left then o else m)
   node_again true c n m o same there h = record {
@@ -199,7 +214,8 @@ module _ (arena : Arena) (s t : List ℕ) where
       let low : (if st.left then 2 else 3) < 4 = side_low st.left in
       let one : one_in c.block c ≡ 1 = one_here c.block c refl in
       let whole : one_in c.block c + count_in c.block st.other + count_on c.block path ≤ 1 = once c.block in
-      let elsewhere : (b a : ℕ) → 1 ≤ count_in b st.other + count_on b path → IsInBlock arena b a → a ≢ block_at arena c.block + (if st.left then 2 else 3) = λ b a k mine e.
+      let elsewhere : (b a : ℕ) → 1 ≤ count_in b st.other + count_on b path → IsInBlock arena b a
+      → a ≢ block_at arena c.block + (if st.left then 2 else 3) = λ b a k mine e.
       let same_block : b ≡ c.block = omega (arith, e, low, mine.low, mine.high) in
       let again : 1 ≤ count_in c.block st.other + count_on c.block path = subst (λ d. 1 ≤ count_in d st.other + count_on d path) same_block k in
       omega (arith, again, whole, one) in (

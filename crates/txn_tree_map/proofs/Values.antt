@@ -43,7 +43,8 @@ module _ (map : TreeMap) (key p b x : ℕ) (s : List ℕ) (h : IsFoundAt map key
   pub found_low : IsBelow key (before_of h.path ++ cells_of h.left)
   found_low =
       let order : NodeOrder h.path h.left h.right h.cell = node_order h.path h.left h.right h.cell h.is_at.search in
-      all_append (λ d. d.key < key) (before_of h.path) (cells_of h.left) (subst (λ k. IsBelow k (before_of h.path)) h.is_key order.before) (subst (λ k. IsBelow k (cells_of h.left)) h.is_key order.left)
+      all_append (λ d. d.key < key) (before_of h.path) (cells_of h.left)
+      (subst (λ k. IsBelow k (before_of h.path)) h.is_key order.before) (subst (λ k. IsBelow k (cells_of h.left)) h.is_key order.left)
 
   abbrev pub valued : Cell
   valued = record { block = h.cell.block; key = h.cell.key; value = x }
@@ -62,7 +63,8 @@ module _ (map : TreeMap) (key p b x : ℕ) (s : List ℕ) (h : IsFoundAt map key
   apart d k e =
       let same : d ≡ h.cell.block = e ∙ sym h.is_block in
       let one : one_in d h.cell ≡ 1 = one_here d h.cell (sym same) in
-      let once : count_on d h.path + (count_in d h.left + one_in d h.cell + count_in d h.right) ≤ 1 = at_once map s h.path (Node h.left h.cell h.right) h.is_at d in
+      let once : count_on d h.path + (count_in d h.left + one_in d h.cell + count_in d h.right) ≤ 1 =
+      at_once map s h.path (Node h.left h.cell h.right) h.is_at d in
       omega (arith, once, one, k)
 
   at_word : (j : ℕ) → j < 4 → j ≢ 1 → slice_get with_value (block_at map.arena h.cell.block + j) ≡ slice_get s (block_at map.arena h.cell.block + j)
@@ -91,7 +93,8 @@ module _ (map : TreeMap) (key p b x : ℕ) (s : List ℕ) (h : IsFoundAt map key
         search =
             let xs = before_of h.path ++ cells_of h.left in
             let ys = cells_of h.right ++ after_of h.path in
-            let rising : IsRising (xs ++ h.cell ∷ ys) = subst (λ cs. IsRising cs) (around_node (before_of h.path) (cells_of h.left) (cells_of h.right) (after_of h.path) h.cell) h.is_at.search in
+            let rising : IsRising (xs ++ h.cell ∷ ys) =
+            subst (λ cs. IsRising cs) (around_node (before_of h.path) (cells_of h.left) (cells_of h.right) (after_of h.path) h.cell) h.is_at.search in
             subst (λ cs. IsRising cs) (sym (around_node (before_of h.path) (cells_of h.left) (cells_of h.right) (after_of h.path) valued))
             (rising_put xs ys valued (rising_cut xs (h.cell ∷ []) ys rising) (rising_below xs ys h.cell rising) (rising_above xs ys h.cell rising));
         high = h.is_at.high;
@@ -103,15 +106,20 @@ module _ (map : TreeMap) (key p b x : ℕ) (s : List ℕ) (h : IsFoundAt map key
   valued_holds f u hold =
       let xs : List Cell = before_of h.path ++ cells_of h.left in
       let ys : List Cell = cells_of h.right ++ after_of h.path in
-      let old : before_of h.path ++ (cells_of (Node h.left h.cell h.right) ++ after_of h.path) ≡ xs ++ h.cell ∷ ys = around_node (before_of h.path) (cells_of h.left) (cells_of h.right) (after_of h.path) h.cell in
-      let new : before_of h.path ++ (cells_of (Node h.left valued h.right) ++ after_of h.path) ≡ xs ++ valued ∷ ys = around_node (before_of h.path) (cells_of h.left) (cells_of h.right) (after_of h.path) valued in
+      let old : before_of h.path ++ (cells_of (Node h.left h.cell h.right) ++ after_of h.path) ≡ xs ++ h.cell ∷ ys =
+      around_node (before_of h.path) (cells_of h.left) (cells_of h.right) (after_of h.path) h.cell in
+      let new : before_of h.path ++ (cells_of (Node h.left valued h.right) ++ after_of h.path) ≡ xs ++ valued ∷ ys =
+      around_node (before_of h.path) (cells_of h.left) (cells_of h.right) (after_of h.path) valued in
       holds_at map with_value h.path (Node h.left valued h.right) (entry_map.insert f key x) u at_valued
       (λ k. dite (ℕ_discrete k key)
-      (λ e. subst (λ q. entry_map.get (entry_map.insert f key x) q ≡ value_of q (before_of h.path ++ (cells_of (Node h.left valued h.right) ++ after_of h.path))) (sym e)
+      (λ e. subst (λ q. entry_map.get (entry_map.insert f key x) q
+      ≡ value_of q (before_of h.path ++ (cells_of (Node h.left valued h.right) ++ after_of h.path))) (sym e)
       (insert_same f key x ∙ sym (ap (λ cs. value_of key cs) new ∙ value_there key xs ys valued h.is_key found_low)))
       (λ ne. insert_other f key x k ne ∙ at_value map s h.path (Node h.left h.cell h.right) h.is_at f u hold k ∙ ap (λ cs. value_of k cs) old
-      ∙ sym (value_less k xs ys h.cell (λ e. ne (sym e ∙ h.is_key))) ∙ value_less k xs ys valued (λ e. ne (sym e ∙ h.is_key)) ∙ ap (λ cs. value_of k cs) (sym new)))
-      (λ d. at_used map s h.path (Node h.left h.cell h.right) h.is_at f u hold d ∙ ap (λ cs. has_block d cs) old ∙ same_blocks d xs ys ∙ ap (λ cs. has_block d cs) (sym new))
+      ∙ sym (value_less k xs ys h.cell (λ e. ne (sym e ∙ h.is_key)))
+      ∙ value_less k xs ys valued (λ e. ne (sym e ∙ h.is_key)) ∙ ap (λ cs. value_of k cs) (sym new)))
+      (λ d. at_used map s h.path (Node h.left h.cell h.right) h.is_at f u hold d ∙ ap (λ cs. has_block d cs) old
+      ∙ same_blocks d xs ys ∙ ap (λ cs. has_block d cs) (sym new))
     where
       same_blocks : (d : ℕ) (xs ys : List Cell) → has_block d (xs ++ h.cell ∷ ys) ≡ has_block d (xs ++ valued ∷ ys)
       same_blocks d xs ys = dite (ℕ_discrete h.cell.block d)

@@ -73,7 +73,8 @@ pub record IsParted (map : TreeMap) (key block name turns smaller greater rest :
 -- from state to state: what was parted so far is so still, by one node more
 abbrev pub PartsOne : TreeMap → ℕ → ℕ → ℕ → ℕ → ℕ → ℕ → ℕ → List ℕ → List ℕ → Type 0
 PartsOne map key smaller greater rest smaller' greater' rest' old new =
-    (block name turns : ℕ) (start : List ℕ) → IsParted map key block name turns smaller greater rest start old → IsParted map key block name (turns + 1) smaller' greater' rest' start new
+    (block name turns : ℕ) (start : List ℕ) → IsParted map key block name turns smaller greater rest start old
+    → IsParted map key block name (turns + 1) smaller' greater' rest' start new
 
 -- a is one of the two ends, or in the block that the number names the word of the key or of a name
 abbrev pub IsEndOrTop : TreeMap → ℕ → ℕ → ℕ → ℕ → Type 0

@@ -67,7 +67,9 @@ pub record IsJoined (map : TreeMap) (hole left right turns place left_rest right
 -- from state to state: what was joined so far is so still, by one node more
 abbrev pub JoinsOne : TreeMap → ℕ → ℕ → ℕ → ℕ → ℕ → ℕ → List ℕ → List ℕ → Type 0
 JoinsOne map place left_rest right_rest place' left_rest' right_rest' old new =
-    (hole left right turns : ℕ) (start : List ℕ) → IsJoined map hole left right turns place left_rest right_rest start old → IsJoined map hole left right (turns + 1) place' left_rest' right_rest' start new
+    (hole left right turns : ℕ) (start : List ℕ)
+    → IsJoined map hole left right turns place left_rest right_rest start old
+    → IsJoined map hole left right (turns + 1) place' left_rest' right_rest' start new
 
 -- some trees are joined so far
 pub record CanGoOn (map : TreeMap) (place left_rest right_rest : ℕ) (words : List ℕ) : Type 0 where
@@ -109,7 +111,8 @@ pub record Joins (map : TreeMap) (hole left right : ℕ) (old new : List ℕ) : 
 
 -- a is the hole, or names a subtree in a block of the two trees that the numbers head
 abbrev pub IsJoinOwn : TreeMap → ℕ → ℕ → ℕ → List ℕ → List ℕ → ℕ → Type 0
-IsJoinOwn map hole left right before after a = (first second : Tree) → ArePair map hole left right first second before → IsHoleOrName map hole (cells_of first ++ cells_of second) a
+IsJoinOwn map hole left right before after a = (first second : Tree) → ArePair map hole left right first second before
+    → IsHoleOrName map hole (cells_of first ++ cells_of second) a
 
 -- the same of a hole, and of what may be read of the two trees
 abbrev pub IsJoinSeen : TreeMap → ℕ → ℕ → ℕ → List ℕ → List ℕ → ℕ → Type 0

@@ -13,17 +13,22 @@ use Rattle.txn_words.specs.Steps.{stop_after}
 
 module _ {W S O : Type 0} (words : AnyWords W S O) (shapes : Shapes S) where
   -- the same facts over traces alone, as the lemmas of the history model take them
-  pub each_plain : (w : W) (P : List ℕ → Type 0) → InEachState words shapes w P → InEach (shapes.word_count (words.shape w)) (shapes.good (words.shape w)) (words.trace w) P
+  pub each_plain : (w : W) (P : List ℕ → Type 0) → InEachState words shapes w P
+      → InEach (shapes.word_count (words.shape w)) (shapes.good (words.shape w)) (words.trace w) P
   each_plain w P h = record { at = h.at }
 
-  pub leads_plain : (v w : W) (R : List ℕ → List ℕ → Type 0) → LeadsTo words shapes v w R → Leads (shapes.word_count (words.shape v)) (shapes.good (words.shape v)) (words.trace v) (words.trace w) R
+  pub leads_plain : (v w : W) (R : List ℕ → List ℕ → Type 0) → LeadsTo words shapes v w R
+      → Leads (shapes.word_count (words.shape v)) (shapes.good (words.shape v)) (words.trace v) (words.trace w) R
   leads_plain v w R h = record { at = h.at }
 
   -- what holds after a call
   pub state_after : (v w : W) (P Q : List ℕ → Type 0) (R : List ℕ → List ℕ → Type 0) → words.shape w ≡ words.shape v → Begins (words.trace v) (words.trace w)
       → InEachState words shapes v P → LeadsTo words shapes v w R → ((x y : List ℕ) → P x → R x y → Q y) → InEachState words shapes w Q
   state_after v w P Q R e b each leads step =
-      record { at = (after_call shapes.word_count shapes.good (words.shape v) (words.shape w) (words.trace v) (words.trace w) P Q R e b (each_plain v P each) (leads_plain v w R leads) step).at }
+      record {
+        at = (after_call shapes.word_count shapes.good (words.shape v) (words.shape w) (words.trace v)
+            (words.trace w) P Q R e b (each_plain v P each) (leads_plain v w R leads) step).at;
+      }
 
   -- one call after another
   pub leads_then : (u v w : W) (R T : List ℕ → List ℕ → Type 0) → words.shape v ≡ words.shape u → Begins (words.trace v) (words.trace w)
@@ -96,13 +101,17 @@ module _ {W S O A B : Type 0} {words : AnyWords W S O} {v w : W} {r : Result A S
 
 module _ {W S O : Type 0} (words : AnyWords W S O) (shapes : Shapes S) where
   -- what a call leads to that came right after a mark was taken
-  pub leads_marked : (u v w : W) (R : List ℕ → List ℕ → Type 0) → words.shape v ≡ words.shape u → words.trace v ≡ words.trace u → LeadsTo words shapes v w R → LeadsTo words shapes u w R
+  pub leads_marked : (u v w : W) (R : List ℕ → List ℕ → Type 0) → words.shape v ≡ words.shape u
+      → words.trace v ≡ words.trace u → LeadsTo words shapes v w R → LeadsTo words shapes u w R
   leads_marked u v w R shape same h = record {
-    at = λ s fit. subst (λ t. R (after t s) (after (words.trace w) s)) same ((leads_at shapes.word_count shapes.good (words.trace v) (words.trace w) R (words.shape v) (words.shape u) shape (leads_plain words shapes v w R h)).at s fit);
+    at = λ s fit. subst (λ t. R (after t s) (after (words.trace w) s)) same
+        ((leads_at shapes.word_count shapes.good (words.trace v) (words.trace w) R (words.shape v) (words.shape u) shape
+        (leads_plain words shapes v w R h)).at s fit);
   }
 
 -- taking a mark goes on
-pub goes_marked : {W S O : Type 0} {words : AnyWords W S O} {v w : W} → words.trace w ≡ words.trace v → words.stop w ≡ None → words.shape w ≡ words.shape v → words.origin w ≡ words.origin v → words.is_sound w
+pub goes_marked : {W S O : Type 0} {words : AnyWords W S O} {v w : W} → words.trace w ≡ words.trace v
+    → words.stop w ≡ None → words.shape w ≡ words.shape v → words.origin w ≡ words.origin v → words.is_sound w
     → GoesOn words v w (answer_with None)
 goes_marked same going shape origin sound = record {
   shape = shape;

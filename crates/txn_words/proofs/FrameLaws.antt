@@ -36,7 +36,8 @@ place (Read a v) = a
 place (Write a v) = a
 
 -- what appended events do not write stays
-pub appended_keeps : (t u : Trace) (s : List ℕ) → (length (after (t ++ u) s) ≡ length (after t s)) × ((a : ℕ) → ¬ Writes u a → slice_get (after (t ++ u) s) a ≡ slice_get (after t s) a)
+pub appended_keeps : (t u : Trace) (s : List ℕ) → (length (after (t ++ u) s) ≡ length (after t s))
+    × ((a : ℕ) → ¬ Writes u a → slice_get (after (t ++ u) s) a ≡ slice_get (after t s) a)
 appended_keeps t u s = (
   length-after (t ++ u) s ∙ sym (length-after t s),
   λ a not_written. ap (λ z. slice_get z a) (after-append t u s) ∙ unwritten_stays u (after t s) a not_written,

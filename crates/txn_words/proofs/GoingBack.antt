@@ -1,5 +1,6 @@
 -- Going back to a mark, one write after another.
-use Rattle.std.proofs.Common.{◌≡◌, ℕ, zero, suc, ◌+◌, ◌<◌, ◌≤◌, List, [], ◌∷◌, ◌++◌, inl, inr, length, drop, slice_get, slice_set, Some, refl, sym, ap, ◌∙◌, subst, arith}
+use Rattle.std.proofs.Common.{◌≡◌, ℕ, zero, suc, ◌+◌, ◌<◌, ◌≤◌, List, [], ◌∷◌, ◌++◌, inl, inr, length, drop, slice_get, slice_set, Some, refl, sym, ap, ◌∙◌}
+use Rattle.std.proofs.Common.{subst, arith}
 use Rattle.std.proofs.lemmas.List.{append_assoc}
 use Rattle.history_model.specs.declared.event.Event.TheVariants.{Read, Write}
 use Rattle.history_model.specs.declared.shape.Shape.{Ghosts as Shapes}
@@ -39,12 +40,15 @@ begins_end old new a v (inl e) = (Write a v ∷ [], e)
 begins_end old new a v (inr e) = (Read a e.0 ∷ Write a v ∷ [], e.1)
 
 -- a write at the end of a trace that wrote the word before is legal on every list on which that is
-legal_end : (old new : Trace) (a v : ℕ) (r s : List ℕ) → EndsWithWrite old new a v → IsLegalTrace new r → length r ≡ length s → Writes old a → a < length s → IsLegalTrace old s → IsLegalTrace new s
+legal_end : (old new : Trace) (a v : ℕ) (r s : List ℕ) → EndsWithWrite old new a v → IsLegalTrace new r
+    → length r ≡ length s → Writes old a → a < length s → IsLegalTrace old s → IsLegalTrace new s
 legal_end old new a v r s (inl e) there long written near here = subst (λ (t : Trace). IsLegalTrace t s) (sym e) (legal_write old s a v here)
 legal_end old new a v r s (inr e) there long written near here =
     let whole : new ≡ (old ++ Read a e.0 ∷ []) ++ Write a v ∷ [] = e.1 ∙ sym (append_assoc old (Read a e.0 ∷ []) (Write a v ∷ [])) in
-    let read : IsLegalTrace (old ++ Read a e.0 ∷ []) r = (legal_parts (old ++ Read a e.0 ∷ []) (Write a v ∷ []) r (subst (λ (t : Trace). IsLegalTrace t r) whole there)).0 in
-    subst (λ (t : Trace). IsLegalTrace t s) (sym whole) (legal_write (old ++ Read a e.0 ∷ []) s a v (written_reads_the_same old a e.0 r s read long written near here))
+    let read : IsLegalTrace (old ++ Read a e.0 ∷ []) r =
+    (legal_parts (old ++ Read a e.0 ∷ []) (Write a v ∷ []) r (subst (λ (t : Trace). IsLegalTrace t r) whole there)).0 in
+    subst (λ (t : Trace). IsLegalTrace t s) (sym whole)
+    (legal_write (old ++ Read a e.0 ∷ []) s a v (written_reads_the_same old a e.0 r s read long written near here))
 
 module _ (n : ℕ) (G : List ℕ → Type 0) where
   -- nothing is taken back yet
@@ -57,21 +61,25 @@ module _ (n : ℕ) (G : List ℕ → Type 0) where
   }
 
   -- one write more is taken back
-  pub one_more_back : (i place : ℕ) (first old new : Trace) → place ≡ i + 1 → i < count_writes first → GoneBack n G place first old → PutsBack n G i old new → SomeFits n G new → GoneBack n G i first new
+  pub one_more_back : (i place : ℕ) (first old new : Trace) → place ≡ i + 1 → i < count_writes first
+      → GoneBack n G place first old → PutsBack n G i old new → SomeFits n G new → GoneBack n G i first new
   unfolding written_back
   one_more_back i place first old new next lt gone puts some =
       let a = puts.a in let was = puts.was in
       let still : (s : List ℕ) → Fits n G first s → Fits n G old s = λ s fit. record { count = fit.count; good = fit.good; legal = gone.legal s fit } in
       record {
         begins = begins_trans first old new gone.begins (begins_end old new a was puts.ends);
-        legal = λ s fit. legal_end old new a was some.0 s puts.ends some.1.legal (some.1.count ∙ sym fit.count) (noted_was_written old s i a was (puts.note s (still s fit)))
+        legal = λ s fit. legal_end old new a was some.0 s puts.ends some.1.legal (some.1.count
+            ∙ sym fit.count) (noted_was_written old s i a was (puts.note s (still s fit)))
             (subst (λ (m : ℕ). a < m) (sym fit.count) puts.within) (gone.legal s fit);
         left = λ s fit.
             let notes : Notes = notes_of first s in
-            let parts : notes_of old s ≡ notes ++ notes_of gone.begins.0 (after first s) = ap (λ (t : Trace). notes_of t s) gone.begins.1 ∙ notes_by_parts first gone.begins.0 s in
+            let parts : notes_of old s ≡ notes ++ notes_of gone.begins.0 (after first s) =
+            ap (λ (t : Trace). notes_of t s) gone.begins.1 ∙ notes_by_parts first gone.begins.0 s in
             let within : i < length notes = subst (λ (m : ℕ). i < m) (sym (notes_counted first s)) lt in
             let here : slice_get notes i ≡ Some (a, was) =
-            sym (get_first notes (notes_of gone.begins.0 (after first s)) i within) ∙ ap (λ (l : Notes). slice_get l i) (sym parts) ∙ puts.note s (still s fit) in
+            sym (get_first notes (notes_of gone.begins.0 (after first s)) i within)
+            ∙ ap (λ (l : Notes). slice_get l i) (sym parts) ∙ puts.note s (still s fit) in
             let later : suc i ≡ place = omega (arith, next) in
             let more : drop i notes ≡ (a, was) ∷ drop place notes = drop_at notes i (a, was) here ∙ ap (λ (m : ℕ). (a, was) ∷ drop m notes) later in
             after_write_end old new a was s puts.ends

@@ -1,7 +1,14 @@
+-- what a write at the end of a trace leaves
 pub mod Steps
+-- from what a call on words did to what holds after it
 pub mod CallLaws
+-- words in a plain list, after one event more
 pub mod Listed
+-- the frame of a call: step by step, and what it says of the words that the call may not write
 pub mod FrameLaws
+-- what a call reads, step by step
 pub mod ReadLaws
+-- how what was seen grows read by read, and what a later call's relation says from an earlier state on
 pub mod Looks
+-- going back to a mark, one write after another
 pub mod GoingBack

@@ -1,5 +1,6 @@
 -- Words in a plain list, after one event more.
-use Rattle.std.proofs.Common.{◌≡◌, ℕ, zero, suc, ◌<◌, get_or, refl, List, [], ◌∷◌, ◌++◌, length, All, slice_get, slice_set, slice_index, Option, Some, Bool, true, false, if◌then◌else◌, Result, Ok, Err, OnOk, sym, ap, ◌∙◌, subst, arith}
+use Rattle.std.proofs.Common.{◌≡◌, ℕ, zero, suc, ◌<◌, get_or, refl, List, [], ◌∷◌, ◌++◌, length, All, slice_get, slice_set, slice_index, Option, Some, Bool}
+use Rattle.std.proofs.Common.{true, false, if◌then◌else◌, Result, Ok, Err, OnOk, sym, ap, ◌∙◌, subst, arith}
 use Rattle.std.proofs.lemmas.List.Elements.{All-append}
 use Rattle.std.proofs.lemmas.Option.{slice_get_read, slice_get_within, get_or_from_slice_get}
 use Rattle.txn_words.specs.declared.words.Stop.{Stop}
@@ -19,10 +20,12 @@ one_within a was n lt zero d near = lt
 one_within a was n lt (suc k) d near = absurd (omega arith)
 
 -- words that nothing was done to
-pub follows_fresh : (n : ℕ) (G : List ℕ → Type 0) (origin : List ℕ) (t : Trace) (notes : Notes) (words : List ℕ) → IsGood n G words → t ≡ [] → notes ≡ [] → origin ≡ words → Follows n G origin t notes words
+pub follows_fresh : (n : ℕ) (G : List ℕ → Type 0) (origin : List ℕ) (t : Trace) (notes : Notes) (words : List ℕ)
+    → IsGood n G words → t ≡ [] → notes ≡ [] → origin ≡ words → Follows n G origin t notes words
 unfolding after notes_of IsLegalTrace
 follows_fresh n G origin t notes words good fresh none same = record {
-  fits = subst (λ (u : Trace). Fits n G u origin) (sym fresh) (subst (λ (w : List ℕ). Fits n G [] w) (sym same) (record { count = good.count; good = good.good; legal = tt }));
+  fits = subst (λ (u : Trace). Fits n G u origin) (sym fresh)
+      (subst (λ (w : List ℕ). Fits n G [] w) (sym same) (record { count = good.count; good = good.good; legal = tt }));
   same = sym same ∙ ap (λ (u : Trace). after u origin) (sym fresh);
   noted = λ s fit. none ∙ ap (λ (u : Trace). notes_of u s) (sym fresh);
   within = subst (λ (l : Notes). All (λ note. note.0 < n) l) (sym none) (λ k d lt. absurd (omega arith));
@@ -58,7 +61,8 @@ module _ (n : ℕ) (G : List ℕ → Type 0) (origin : List ℕ) (t : Trace) (no
   }
 
   -- a read of the value that is there and a write, to the trace, to the notes and to the words
-  pub follows_write : (a was v : ℕ) → a < n → slice_get words a ≡ Some was → Follows n G origin (t ++ Read a was ∷ Write a v ∷ []) (notes ++ (a, was) ∷ []) (slice_set words a v)
+  pub follows_write : (a was v : ℕ) → a < n → slice_get words a ≡ Some was
+      → Follows n G origin (t ++ Read a was ∷ Write a v ∷ []) (notes ++ (a, was) ∷ []) (slice_set words a v)
   unfolding after IsLegalTrace
   follows_write a was v lt found = record {
     fits = record {
@@ -67,7 +71,8 @@ module _ (n : ℕ) (G : List ℕ → Type 0) (origin : List ℕ) (t : Trace) (no
       legal = legal_whole t (Read a was ∷ Write a v ∷ []) origin f.fits.legal (ap (λ xs. slice_get xs a) (sym f.same) ∙ found, tt);
     };
     same = ap (λ xs. slice_set xs a v) f.same ∙ sym (after-append t (Read a was ∷ Write a v ∷ []) origin);
-    noted = λ s fit. ap (λ (l : Notes). l ++ (a, was) ∷ []) (f.noted s (fits_front n G t (Read a was ∷ Write a v ∷ []) s fit)) ∙ sym (one_note_more t s a was v fit.legal);
+    noted = λ s fit. ap (λ (l : Notes). l ++ (a, was) ∷ [])
+        (f.noted s (fits_front n G t (Read a was ∷ Write a v ∷ []) s fit)) ∙ sym (one_note_more t s a was v fit.legal);
     within = All-append (λ note. note.0 < n) notes ((a, was) ∷ []) f.within (one_within a was n lt);
   }
 

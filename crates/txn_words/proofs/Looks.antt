@@ -64,18 +64,21 @@ looks_at n G t v a x e =
     }
 
 -- one read more, of a word that what was seen before lets see
-pub looks_read : (n : ℕ) (G : List ℕ → Type 0) (t : Trace) (IsSeen : List ℕ → ℕ → Type 0) (u v : Trace) (a x : ℕ) (P : List ℕ → Type 0) → Looks n G t u IsSeen P → v ≡ u ++ Read a x ∷ []
+pub looks_read : (n : ℕ) (G : List ℕ → Type 0) (t : Trace) (IsSeen : List ℕ → ℕ → Type 0) (u v : Trace) (a x : ℕ)
+    (P : List ℕ → Type 0) → Looks n G t u IsSeen P → v ≡ u ++ Read a x ∷ []
     → ((s : List ℕ) → P s → IsSeen s a) → Looks n G t v IsSeen (λ s. P s × (slice_get s a ≡ Some x))
 looks_read n G t IsSeen u v a x P l e seen =
     looks_grow n G t IsSeen u v (λ s b. b ≡ a) P (λ s. slice_get s a ≡ Some x) (λ s p q b k. subst (IsSeen s) (sym k) (seen s p)) l (looks_at n G u v a x e)
 
 -- a look at one word that what holds lets see
-pub looks_one : (n : ℕ) (G : List ℕ → Type 0) (t : Trace) (IsSeen : List ℕ → ℕ → Type 0) (v : Trace) (a x : ℕ) (P : List ℕ → Type 0) → InEach n G t P → v ≡ t ++ Read a x ∷ []
+pub looks_one : (n : ℕ) (G : List ℕ → Type 0) (t : Trace) (IsSeen : List ℕ → ℕ → Type 0) (v : Trace) (a x : ℕ)
+    (P : List ℕ → Type 0) → InEach n G t P → v ≡ t ++ Read a x ∷ []
     → ((s : List ℕ) → P s → IsSeen s a) → Looks n G t v IsSeen (λ s. P s × (slice_get s a ≡ Some x))
 looks_one n G t IsSeen v a x P each e seen = looks_read n G t IsSeen t v a x P (looks_none n G t IsSeen P each) e seen
 
 -- what may see more
-pub looks_wider : (n : ℕ) (G : List ℕ → Type 0) (t u : Trace) (IsSeen IsWider : List ℕ → ℕ → Type 0) (P : List ℕ → Type 0) → ((s : List ℕ) → P s → (a : ℕ) → IsSeen s a → IsWider s a) → Looks n G t u IsSeen P → Looks n G t u IsWider P
+pub looks_wider : (n : ℕ) (G : List ℕ → Type 0) (t u : Trace) (IsSeen IsWider : List ℕ → ℕ → Type 0) (P : List ℕ
+    → Type 0) → ((s : List ℕ) → P s → (a : ℕ) → IsSeen s a → IsWider s a) → Looks n G t u IsSeen P → Looks n G t u IsWider P
 looks_wider n G t u IsSeen IsWider P wider l = record {
   begins = l.begins;
   same = l.same;
@@ -109,25 +112,33 @@ module _ {W S O : Type 0} (words : AnyWords W S O) (shapes : Shapes S) (v w : W)
   looks_only = record { appended = l.writes }
 
 -- a later look, said at the shape that an earlier call began with
-pub looks_from : {W S O : Type 0} (words : AnyWords W S O) (shapes : Shapes S) (u v : W) (t y : Trace) (IsSeen : List ℕ → ℕ → Type 0) (P : List ℕ → Type 0) → words.shape v ≡ words.shape u
-    → Looks (shapes.word_count (words.shape v)) (shapes.good (words.shape v)) t y IsSeen P → Looks (shapes.word_count (words.shape u)) (shapes.good (words.shape u)) t y IsSeen P
+pub looks_from : {W S O : Type 0} (words : AnyWords W S O) (shapes : Shapes S) (u v : W) (t y : Trace) (IsSeen : List ℕ
+    → ℕ → Type 0) (P : List ℕ → Type 0) → words.shape v ≡ words.shape u
+    → Looks (shapes.word_count (words.shape v)) (shapes.good (words.shape v)) t y IsSeen P
+    → Looks (shapes.word_count (words.shape u)) (shapes.good (words.shape u)) t y IsSeen P
 looks_from words shapes u v t y IsSeen P e l = subst (λ z. Looks (shapes.word_count z) (shapes.good z) t y IsSeen P) e l
 
 -- a later call's relation, likewise
-pub leads_from : {W S O : Type 0} (words : AnyWords W S O) (shapes : Shapes S) (u v w : W) (R : List ℕ → List ℕ → Type 0) → words.shape v ≡ words.shape u → LeadsTo words shapes v w R
+pub leads_from : {W S O : Type 0} (words : AnyWords W S O) (shapes : Shapes S) (u v w : W) (R : List ℕ → List ℕ
+    → Type 0) → words.shape v ≡ words.shape u → LeadsTo words shapes v w R
     → Leads (shapes.word_count (words.shape u)) (shapes.good (words.shape u)) (words.trace v) (words.trace w) R
-leads_from words shapes u v w R e h = leads_at shapes.word_count shapes.good (words.trace v) (words.trace w) R (words.shape v) (words.shape u) e (leads_plain words shapes v w R h)
+leads_from words shapes u v w R e h =
+    leads_at shapes.word_count shapes.good (words.trace v) (words.trace w) R (words.shape v) (words.shape u) e (leads_plain words shapes v w R h)
 
 pub each_from : {W S O : Type 0} (words : AnyWords W S O) (shapes : Shapes S) (u v : W) (P : List ℕ → Type 0) → words.shape v ≡ words.shape u
     → InEach (shapes.word_count (words.shape u)) (shapes.good (words.shape u)) (words.trace v) P → InEachState words shapes v P
 each_from words shapes u v P e h = record { at = (each_at shapes.word_count shapes.good (words.trace v) P (words.shape u) (words.shape v) (sym e) h).at }
 
 -- a later call's frame, likewise
-pub within_from : {W S O : Type 0} (words : AnyWords W S O) (shapes : Shapes S) (u v w : W) (IsOwn : List ℕ → List ℕ → ℕ → Type 0) → words.shape v ≡ words.shape u → WritesWithin words shapes v w IsOwn
-    → (s : List ℕ) → Fits (shapes.word_count (words.shape u)) (shapes.good (words.shape u)) (words.trace w) s → AppendsOnly (words.trace v) (words.trace w) (IsOwn (after (words.trace v) s) (after (words.trace w) s))
+pub within_from : {W S O : Type 0} (words : AnyWords W S O) (shapes : Shapes S) (u v w : W) (IsOwn : List ℕ → List ℕ → ℕ
+    → Type 0) → words.shape v ≡ words.shape u → WritesWithin words shapes v w IsOwn
+    → (s : List ℕ) → Fits (shapes.word_count (words.shape u)) (shapes.good (words.shape u)) (words.trace w) s
+    → AppendsOnly (words.trace v) (words.trace w) (IsOwn (after (words.trace v) s) (after (words.trace w) s))
 within_from words shapes u v w IsOwn e h s fit = h.at s (subst (λ z. Fits (shapes.word_count z) (shapes.good z) (words.trace w) s) (sym e) fit)
 
 -- what a later call read, likewise
-pub reads_from : {W S O : Type 0} (words : AnyWords W S O) (shapes : Shapes S) (u v w : W) (IsSeen : List ℕ → List ℕ → ℕ → Type 0) → words.shape v ≡ words.shape u → ReadsWithin words shapes v w IsSeen
-    → (s : List ℕ) → Fits (shapes.word_count (words.shape u)) (shapes.good (words.shape u)) (words.trace w) s → AppendsReads (words.trace v) (words.trace w) (IsSeen (after (words.trace v) s) (after (words.trace w) s))
+pub reads_from : {W S O : Type 0} (words : AnyWords W S O) (shapes : Shapes S) (u v w : W) (IsSeen : List ℕ → List ℕ → ℕ
+    → Type 0) → words.shape v ≡ words.shape u → ReadsWithin words shapes v w IsSeen
+    → (s : List ℕ) → Fits (shapes.word_count (words.shape u)) (shapes.good (words.shape u)) (words.trace w) s
+    → AppendsReads (words.trace v) (words.trace w) (IsSeen (after (words.trace v) s) (after (words.trace w) s))
 reads_from words shapes u v w IsSeen e h s fit = h.at s (subst (λ z. Fits (shapes.word_count z) (shapes.good z) (words.trace w) s) (sym e) fit)

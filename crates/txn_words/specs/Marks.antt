@@ -10,7 +10,8 @@ use Rattle.txn_words.specs.Steps.{EndsWithWrite}
 -- leaves what each front of the old one with exactly so many writes leaves
 pub record TakesBack (word_count : ℕ) (is_good : List ℕ → Type 0) (writes : ℕ) (old new : Trace) : Type 0 where
   pub legal : (s : List ℕ) → Fits word_count is_good old s → IsLegalTrace new s
-  pub left : (s : List ℕ) → Fits word_count is_good old s → (front rest : Trace) → old ≡ front ++ rest → count_writes front ≡ writes → after new s ≡ after front s
+  pub left : (s : List ℕ) → Fits word_count is_good old s → (front rest : Trace) → old ≡ front ++ rest
+      → count_writes front ≡ writes → after new s ≡ after front s
 
 -- the write at this place, counted from 0, is taken back: the value is written that was noted of it
 pub record PutsBack (word_count : ℕ) (is_good : List ℕ → Type 0) (place : ℕ) (old new : Trace) : Type 0 where

@@ -1,6 +1,7 @@
 -- What a step owes of the parts that it leaves alone, and the steps that leave values alone. The words go from ws to
 -- ws'.
-use Rattle.std.proofs.Common.{◌≡◌, ◌≢◌, ℕ, ◌+◌, ◌^◌, ◌<◌, ◌≤◌, Bool, true, false, ◌⊎◌, inl, inr, ⊎_elim, List, [], ◌∷◌, ◌++◌, length, take, Some, None, IsSome, slice_get, slice_index, slice_set, refl, sym, ap, ◌∙◌, subst, arith, get_or-set_other}
+use Rattle.std.proofs.Common.{◌≡◌, ◌≢◌, ℕ, ◌+◌, ◌^◌, ◌<◌, ◌≤◌, Bool, true, false, ◌⊎◌, inl, inr, ⊎_elim, List, [], ◌∷◌, ◌++◌, length, take, Some, None, IsSome}
+use Rattle.std.proofs.Common.{slice_get, slice_index, slice_set, refl, sym, ap, ◌∙◌, subst, arith, get_or-set_other}
 use Rattle.std.proofs.lemmas.List.{append-nil, take_all, set-get_or}
 use Rattle.history_model.specs.declared.entry.Entry.{Entry}
 use Rattle.history_model.specs.declared.entry.Abandoned.{Abandoned}
@@ -43,7 +44,8 @@ words_apart n ws i x a = record {
 
 -- a load changes no word
 pub words_unchanged : (n : ℕ) (ws : List ℕ) (i x : ℕ) → x ≡ slice_index ws i → SameWords n ws (slice_set ws i x)
-words_unchanged n ws i x e = subst (λ (l : List ℕ). SameWords n ws l) (sym (ap (λ (y : ℕ). slice_set ws i y) e ∙ set-get_or ws i 0)) record { serial = refl; calls = λ j lt. refl; values = λ a. refl }
+words_unchanged n ws i x e = subst (λ (l : List ℕ). SameWords n ws l) (sym (ap (λ (y : ℕ). slice_set ws i y) e
+    ∙ set-get_or ws i 0)) record { serial = refl; calls = λ j lt. refl; values = λ a. refl }
 
 open_flag : (a b : Bool) → (a ≡ true → b ≡ true) → flag a ≤ flag b
 open_flag true b f = subst (λ (x : Bool). 1 ≤ flag x) (sym (f refl)) (omega arith)
@@ -94,9 +96,11 @@ fresh_trace n base now ws' w trace undo runs = record {
   rested = λ t. undo;
 }
 
-module _ (good : List ℕ → Type 0) (n : ℕ) (base ws : List ℕ) (vs : List View) (id : ℕ) (v : View) (h : LocksHold n base ws vs) (q : ValuesHold good n base ws vs) (me : Knows vs id v) (w : View) (ws' : List ℕ) where
+module _ (good : List ℕ → Type 0) (n : ℕ) (base ws : List ℕ) (vs : List View) (id : ℕ) (v : View)
+    (h : LocksHold n base ws vs) (q : ValuesHold good n base ws vs) (me : Knows vs id v) (w : View) (ws' : List ℕ) where
   -- the same was seen
-  pub seen_aside : slice_index ws' serial_word ≡ slice_index ws serial_word → w.seen ≡ v.seen → w.olds ≡ v.olds → w.who ≡ v.who → w.joined ≡ v.joined → SeenMoves (history_of vs) ws ws' v w
+  pub seen_aside : slice_index ws' serial_word ≡ slice_index ws serial_word → w.seen ≡ v.seen → w.olds ≡ v.olds
+      → w.who ≡ v.who → w.joined ≡ v.joined → SeenMoves (history_of vs) ws ws' v w
   seen_aside serial seen olds who joined = record {
     serial = serial;
     begins = subst (λ (l : List Entry). IsPrefix l (history_of vs)) (sym seen) (q.seen.seen_begin id v me);
@@ -107,7 +111,8 @@ module _ (good : List ℕ → Type 0) (n : ℕ) (base ws : List ℕ) (vs : List 
   }
 
   -- the whole history was seen
-  pub seen_whole : slice_index ws' serial_word ≡ slice_index ws serial_word → w.seen ≡ history_of vs → ((o : Old) → IsIn o w.olds → IsIn o v.olds) → w.who ≡ v.who → w.joined ≡ v.joined → SeenMoves (history_of vs) ws ws' v w
+  pub seen_whole : slice_index ws' serial_word ≡ slice_index ws serial_word → w.seen ≡ history_of vs
+      → ((o : Old) → IsIn o w.olds → IsIn o v.olds) → w.who ≡ v.who → w.joined ≡ v.joined → SeenMoves (history_of vs) ws ws' v w
   seen_whole serial seen olds who joined = record {
     serial = serial;
     begins = subst (λ (l : List Entry). IsPrefix l (history_of vs)) (sym seen) ([], sym (append-nil (history_of vs)));
@@ -126,8 +131,10 @@ module _ (good : List ℕ → Type 0) (n : ℕ) (base ws : List ℕ) (vs : List 
     fresh = λ i j t k ne un. s.call ∙ q.calls.dealers_fresh id i j v (mine i t s) (mine j k s) ne (sym s.joined ∙ un);
     own = λ j t alone. stay j (h.numbers_below id j v (mine j t s)) ∙ q.calls.calls_shown id j v (mine j t s) (sym s.joined ∙ alone) ∙ sym s.call;
     others = λ j away lt. stay j lt;
-    numbered = λ j p e t alone at own. subst (λ (c : ℕ). e.call ≤ c) (sym s.call) (q.calls.entries_numbered id j p v e (mine j t s) (sym s.joined ∙ alone) at own);
-    open_numbered = λ j p e t alone busy at own. subst (λ (c : ℕ). e.call < c) (sym s.call) (q.calls.open_numbered id j p v e (mine j t s) (sym s.joined ∙ alone) (s.still_open busy) at own);
+    numbered = λ j p e t alone at own. subst (λ (c : ℕ). e.call ≤ c) (sym s.call)
+        (q.calls.entries_numbered id j p v e (mine j t s) (sym s.joined ∙ alone) at own);
+    open_numbered = λ j p e t alone busy at own. subst (λ (c : ℕ). e.call < c) (sym s.call)
+        (q.calls.open_numbered id j p v e (mine j t s) (sym s.joined ∙ alone) (s.still_open busy) at own);
     from_one = λ busy. subst (λ (c : ℕ). 0 < c) (sym s.call) (q.calls.open_from_one id v me (s.still_open busy));
     fit = λ j lt. subst (λ (y : ℕ). y < 2 ^ 32) (sym (stay j lt)) (q.calls.calls_fit j lt);
     counted =
@@ -137,7 +144,8 @@ module _ (good : List ℕ → Type 0) (n : ℕ) (base ws : List ℕ) (vs : List 
   }
 
   -- the notes stay, and so do the exclusive locks
-  pub undo_aside : ((a : ℕ) → value_at n ws' a ≡ value_at n ws a) → w.undo ≡ v.undo → ((k : ℕ) → HasWriteGrant v k → HasWriteGrant w k) → UndoMoves n base (replay base (history_of vs)) ws ws' v w
+  pub undo_aside : ((a : ℕ) → value_at n ws' a ≡ value_at n ws a) → w.undo ≡ v.undo
+      → ((k : ℕ) → HasWriteGrant v k → HasWriteGrant w k) → UndoMoves n base (replay base (history_of vs)) ws ws' v w
   undo_aside stay same keeps = record {
     noted = λ a o t. let c = q.undo.noted id a o v me (subst (λ (l : Notes). oldest a l ≡ Some o) same t) in (c.0, keeps (lock_of_word a) c.1, c.2);
     unnoted = λ a lt t. inl (subst (λ (l : Notes). oldest a l ≡ None) same t, stay a);
@@ -153,18 +161,23 @@ module _ (good : List ℕ → Type 0) (n : ℕ) (base ws : List ℕ) (vs : List 
   }
 
   -- the trace stays, and so do the locks
-  pub trace_aside : ((a : ℕ) → value_at n ws' a ≡ value_at n ws a) → w.trace ≡ v.trace → w.undo ≡ v.undo → w.phase ≡ v.phase → ((k : ℕ) → IsGranted v k → IsGranted w k) → TraceMoves n base (replay base (history_of vs)) ws' w
+  pub trace_aside : ((a : ℕ) → value_at n ws' a ≡ value_at n ws a) → w.trace ≡ v.trace → w.undo ≡ v.undo
+      → w.phase ≡ v.phase → ((k : ℕ) → IsGranted v k → IsGranted w k) → TraceMoves n base (replay base (history_of vs)) ws' w
   trace_aside stay trace undo phase keeps = record {
-    granted = λ a busy t. let c = q.trace.granted id a v me (ap is_attempt (sym phase) ∙ busy) (subst (λ (l : Trace). Touches l a) trace t) in (c.0, keeps (lock_of_word a) c.1);
+    granted = λ a busy t. let c = q.trace.granted id a v me (ap is_attempt (sym phase)
+        ∙ busy) (subst (λ (l : Trace). Touches l a) trace t) in (c.0, keeps (lock_of_word a) c.1);
     legal = λ busy. subst (λ (l : Trace). IsLegalTrace l (replay base (history_of vs))) (sym trace) (q.trace.legal id v me (ap is_attempt (sym phase) ∙ busy));
-    undo_written = λ a o busy t. subst (λ (l : Trace). Writes l a) (sym trace) (q.trace.undo_written id a o v me (ap is_attempt (sym phase) ∙ busy) (subst (λ (l : Notes). oldest a l ≡ Some o) undo t));
-    written_noted = λ a runs t. subst (λ (l : Notes). IsSome (oldest a l)) (sym undo) (q.trace.written_noted id a v me (sym phase ∙ runs) (subst (λ (l : Trace). Writes l a) trace t));
+    undo_written = λ a o busy t. subst (λ (l : Trace). Writes l a) (sym trace)
+        (q.trace.undo_written id a o v me (ap is_attempt (sym phase) ∙ busy) (subst (λ (l : Notes). oldest a l ≡ Some o) undo t));
+    written_noted = λ a runs t. subst (λ (l : Notes). IsSome (oldest a l)) (sym undo)
+        (q.trace.written_noted id a v me (sym phase ∙ runs) (subst (λ (l : Trace). Writes l a) trace t));
     last_stands = λ a y runs t. stay a ∙ q.trace.last_stands id a y v me (sym phase ∙ runs) (subst (λ (l : Trace). value_after l a None ≡ Some y) trace t);
     rested = λ t. undo ∙ q.trace.rested id v me (⊎_elim (λ z. inl (sym phase ∙ z)) (λ z. inr (sym phase ∙ z)) t);
   }
 
   -- no attempt is made any more, and between calls nothing is noted
-  pub trace_ended : is_attempt w.phase ≡ false → ((w.phase ≡ Idle) ⊎ (w.phase ≡ Releasing) → w.undo ≡ []) → TraceMoves n base (replay base (history_of vs)) ws' w
+  pub trace_ended : is_attempt w.phase ≡ false → ((w.phase ≡ Idle) ⊎ (w.phase ≡ Releasing) → w.undo ≡ [])
+      → TraceMoves n base (replay base (history_of vs)) ws' w
   trace_ended over is = record {
     granted = λ a busy t. let z : true ≡ false = sym busy ∙ over in cc;
     legal = λ busy. absurd (let z : true ≡ false = sym busy ∙ over in cc);
@@ -176,7 +189,8 @@ module _ (good : List ℕ → Type 0) (n : ℕ) (base ws : List ℕ) (vs : List 
 
   -- the floor stays, and all that was seen still is
   floor_on : GoesOn v w → length v.seen ≤ length w.seen
-      → ((j : ℕ) → w.who ≡ j ∷ [] → w.phase ≢ Idle → AreAttemptsLegal n base (history_of vs) j w.stamp w.floor (length w.seen) w.abandoned) → FloorMoves n base (history_of vs) w
+      → ((j : ℕ) → w.who ≡ j ∷ [] → w.phase ≢ Idle
+      → AreAttemptsLegal n base (history_of vs) j w.stamp w.floor (length w.seen) w.abandoned) → FloorMoves n base (history_of vs) w
   floor_on s grows attempts = record {
     floor_seen = let before = q.floor.floor_seen id v me in let same = s.floor in omega arith;
     open_before = λ j p e t busy at own. subst (λ (f : ℕ). p < f) (sym s.floor) (q.floor.open_before id j p v e (mine j t s) (s.still_open busy) at own);
@@ -217,7 +231,8 @@ module _ (good : List ℕ → Type 0) (n : ℕ) (base ws : List ℕ) (vs : List 
   }
 
   -- the attempt ends or goes on with giving way, and nothing is to undo
-  pub values_ended : SameWords n ws ws' → SameCalls v w → is_attempt w.phase ≡ false → v.undo ≡ [] → w.undo ≡ [] → ValuesHold good n base ws' (slice_set vs id w)
+  pub values_ended : SameWords n ws ws' → SameCalls v w → is_attempt w.phase ≡ false → v.undo ≡ [] → w.undo ≡ []
+      → ValuesHold good n base ws' (slice_set vs id w)
   values_ended a s over was is = let g = s.goes_on in moves good n base ws ws' vs id v w h q me record {
     seen = seen_aside a.serial s.seen s.olds g.who g.joined;
     calls = calls_aside a.calls g;
@@ -227,13 +242,15 @@ module _ (good : List ℕ → Type 0) (n : ℕ) (base ws : List ℕ) (vs : List 
   }
 
   -- the attempt gives way
-  pub values_yield : SameWords n ws ws' → (cause : Cause) → IsNewCause n v cause → GivesWay cause (history_of vs) v w → ValuesHold good n base ws' (slice_set vs id w)
+  pub values_yield : SameWords n ws ws' → (cause : Cause) → IsNewCause n v cause → GivesWay cause (history_of vs) v w
+      → ValuesHold good n base ws' (slice_set vs id w)
   values_yield a cause new s =
       let whole : length w.seen ≡ length (history_of vs) = ap (λ (l : List Entry). length l) s.seen in
       let few = seen_at_most vs id v me in
       let floor = q.floor.floor_seen id v me in
       let y : Abandoned = record { cause = cause; front = length (history_of vs); trace = v.trace; uses = [] } in
-      let legal : IsLegalTrace v.trace (replay base (take (length (history_of vs)) (history_of vs))) = subst (λ (l : List Entry). IsLegalTrace v.trace (replay base l))
+      let legal : IsLegalTrace v.trace (replay base (take (length (history_of vs)) (history_of vs))) =
+      subst (λ (l : List Entry). IsLegalTrace v.trace (replay base l))
       (sym (take_all (length (history_of vs)) (history_of vs) (omega arith))) (q.trace.legal id v me (attempt_runs v s.runs)) in
       let same_floor = s.goes_on.floor in
       let same_stamp = s.stamp in
@@ -242,12 +259,15 @@ module _ (good : List ℕ → Type 0) (n : ℕ) (base ws : List ℕ) (vs : List 
         seen = seen_whole a.serial s.seen (λ o t. subst (λ (l : List Old). IsIn o l) s.olds t) s.goes_on.who s.goes_on.joined;
         calls = calls_aside a.calls s.goes_on;
         undo = undo_aside a.values s.undo s.writes;
-        trace = trace_ended (ap is_attempt s.yields) (λ t. absurd (⊎_elim (λ z. let e : Yielding ≡ Idle = sym s.yields ∙ z in cc) (λ z. let e : Yielding ≡ Releasing = sym s.yields ∙ z in cc) t));
+        trace = trace_ended (ap is_attempt s.yields)
+            (λ t. absurd (⊎_elim (λ z. let e : Yielding ≡ Idle = sym s.yields ∙ z in cc) (λ z. let e : Yielding ≡ Releasing = sym s.yields ∙ z in cc) t));
         floor = floor_on s.goes_on (omega arith) (λ j single busy.
             subst (λ (l : List Abandoned). AreAttemptsLegal n base (history_of vs) j w.stamp w.floor (length w.seen) l) (sym s.abandoned)
             (attempts_more n base (history_of vs) j w.stamp w.floor (length w.seen) v.abandoned y (legal, omega arith, omega arith) (
               new.elsewhere.0,
-              λ e. differ (has cause.seat v.who) (subst (λ (l : List ℕ). has cause.seat l ≡ true) (sym (sym s.goes_on.who ∙ single)) (subst (λ (k : ℕ). has cause.seat (k ∷ []) ≡ true) e (has-join_same cause.seat []))) new.elsewhere.1,
+              λ e. differ (has cause.seat v.who)
+                  (subst (λ (l : List ℕ). has cause.seat l ≡ true) (sym (sym s.goes_on.who ∙ single))
+                  (subst (λ (k : ℕ). has cause.seat (k ∷ []) ≡ true) e (has-join_same cause.seat []))) new.elsewhere.1,
               earlier.0,
               omega arith,
             ) new.first_there (attempts_before s.goes_on j single busy (omega arith) (omega arith))));
@@ -269,18 +289,21 @@ pub aside_keeps : (good : List ℕ → Type 0) (n : ℕ) (base words : List ℕ)
     → SameValues v (action.view (history_of views) (found_by action words))
     → ValuesHold good n base (words_after action words) (views_after action id words views)
 aside_keeps good n base ws vs id v action h q me a s =
-    values_same good n base ws vs id v h q me (action.view (history_of vs) (found_by action ws)) (words_after action ws) (words_apart n ws action.at (action.writes (found_by action ws)) a) s
+    values_same good n base ws vs id v h q me (action.view (history_of vs) (found_by action ws)) (words_after action ws)
+    (words_apart n ws action.at (action.writes (found_by action ws)) a) s
 
 pub gives_way_keeps : (good : List ℕ → Type 0) (n : ℕ) (base words : List ℕ) (views : List View) (id : ℕ) (v : View) (cause : Cause) (action : Action)
     → LocksHold n base words views → ValuesHold good n base words views → Knows views id v → IsLoad words action
     → IsNewCause n v cause → GivesWay cause (history_of views) v (action.view (history_of views) (found_by action words))
     → ValuesHold good n base (words_after action words) (views_after action id words views)
 gives_way_keeps good n base ws vs id v cause action h q me load new s =
-    values_yield good n base ws vs id v h q me (action.view (history_of vs) (found_by action ws)) (words_after action ws) (words_unchanged n ws action.at (action.writes (found_by action ws)) load) cause new s
+    values_yield good n base ws vs id v h q me (action.view (history_of vs) (found_by action ws))
+    (words_after action ws) (words_unchanged n ws action.at (action.writes (found_by action ws)) load) cause new s
 
 pub restarts_keeps : (good : List ℕ → Type 0) (n : ℕ) (base words : List ℕ) (views : List View) (id : ℕ) (v : View) (action : Action)
     → LocksHold n base words views → ValuesHold good n base words views → Knows views id v → IsLoad words action
     → Restarts v (action.view (history_of views) (found_by action words))
     → ValuesHold good n base (words_after action words) (views_after action id words views)
 restarts_keeps good n base ws vs id v action h q me load s =
-    values_restart good n base ws vs id v h q me (action.view (history_of vs) (found_by action ws)) (words_after action ws) (words_unchanged n ws action.at (action.writes (found_by action ws)) load) s
+    values_restart good n base ws vs id v h q me (action.view (history_of vs) (found_by action ws))
+    (words_after action ws) (words_unchanged n ws action.at (action.writes (found_by action ws)) load) s

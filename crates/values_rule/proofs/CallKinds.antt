@@ -1,5 +1,6 @@
 -- The beginning and the end of a call keep the value invariant.
-use Rattle.std.proofs.Common.{◌≡◌, ◌≢◌, ℕ, ◌+◌, ◌^◌, ◌<◌, true, false, inl, inr, List, [], length, slice_index, slice_set, refl, sym, ap, ◌∙◌, subst, arith, get_or-set_other, get_or-set_same}
+use Rattle.std.proofs.Common.{◌≡◌, ◌≢◌, ℕ, ◌+◌, ◌^◌, ◌<◌, true, false, inl, inr, List, [], length, slice_index, slice_set, refl, sym, ap, ◌∙◌, subst, arith}
+use Rattle.std.proofs.Common.{get_or-set_other, get_or-set_same}
 use mathlib.Core.Logic.{dite}
 use native.Mathlib.Decide.{ℕ_discrete}
 use Rattle.history_model.specs.declared.view.View.{View}
@@ -30,7 +31,8 @@ begin_call_values good j n base ws vs id v h q me may =
     let one : (l : ℕ) → has l w.who ≡ true → l ≡ j = λ l t. has-one l j (subst (λ (s : List ℕ). has l s ≡ true) may.who t) in
     let mine : (l : ℕ) → has l w.who ≡ true → IsSeat vs id v l = λ l t. record { knows = me; named = t } in
     let here : slice_index (slice_set ws i x) (calls_word n j) ≡ x = get_or-set_same ws i x 0 long in
-    let there : (l : ℕ) → l ≢ j → slice_index (slice_set ws i x) (calls_word n l) ≡ slice_index ws (calls_word n l) = λ l ne. get_or-set_other ws i (calls_word n l) x 0 (λ e. ne (omega arith)) in
+    let there : (l : ℕ) → l ≢ j → slice_index (slice_set ws i x) (calls_word n l) ≡ slice_index ws (calls_word n l) =
+    λ l ne. get_or-set_other ws i (calls_word n l) x 0 (λ e. ne (omega arith)) in
     moves good n base ws (slice_set ws i x) vs id v w h q me record {
       seen = seen_aside good n base ws vs id v h q me w (slice_set ws i x) (get_or-set_other ws i serial_word x 0 (λ e. omega arith)) refl refl refl refl;
       calls = record {
@@ -41,13 +43,16 @@ begin_call_values good j n base ws vs id v h q me may =
         numbered = λ l p e t un at own_entry. let le = q.calls.entries_numbered id l p v e (mine l t) un at own_entry in omega arith;
         open_numbered = λ l p e t un busy at own_entry. let le = q.calls.entries_numbered id l p v e (mine l t) un at own_entry in omega arith;
         from_one = λ busy. omega arith;
-        fit = λ l lt. dite (ℕ_discrete l j) (λ e. subst (λ (y : ℕ). slice_index (slice_set ws i x) (calls_word n y) < 2 ^ 32) (sym e) (omega (arith, here, may.room))) (λ ne. subst (λ (y : ℕ). y < 2 ^ 32) (sym (there l ne)) (q.calls.calls_fit l lt));
+        fit = λ l lt. dite (ℕ_discrete l j) (λ e. subst (λ (y : ℕ). slice_index (slice_set ws i x) (calls_word n y)
+            < 2 ^ 32) (sym e) (omega (arith, here, may.room))) (λ ne. subst (λ (y : ℕ). y < 2 ^ 32) (sym (there l ne)) (q.calls.calls_fit l lt));
         counted =
-            let sums : calls_below n n (slice_set ws (calls_word n j) x) + slice_index ws (calls_word n j) ≡ calls_below n n ws + x = calls_below-more n n j x ws o.below long in
+            let sums : calls_below n n (slice_set ws (calls_word n j) x) + slice_index ws (calls_word n j)
+            ≡ calls_below n n ws + x = calls_below-more n n j x ws o.below long in
             let before : flag (is_open v.phase) ≡ 0 = ap (λ p. flag (is_open p)) may.phase in
             omega (arith, sums, shown, before);
       };
-      undo = undo_empty good n base ws vs id v h q me w (slice_set ws i x) (λ a. get_or-set_other ws i (value_word n a) x 0 (λ e. omega (arith, o.seats, o.below))) none refl;
+      undo = undo_empty good n base ws vs id v h q me w (slice_set ws i x)
+          (λ a. get_or-set_other ws i (value_word n a) x 0 (λ e. omega (arith, o.seats, o.below))) none refl;
       trace = fresh_trace n base (replay base (history_of vs)) (slice_set ws i x) w refl refl refl;
       floor = record {
         floor_seen = omega arith;

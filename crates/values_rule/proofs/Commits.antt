@@ -1,6 +1,7 @@
 -- A commit, kept or not, keeps the value invariant: the history has one legal entry more, and what it leaves is what the
 -- words are with the other seats' notes written back.
-use Rattle.std.proofs.Common.{◌≡◌, ◌≢◌, ℕ, ◌+◌, ◌^◌, ◌<◌, ◌≤◌, Bool, true, false, ◌⊎◌, inl, inr, ⊎_elim, List, [], ◌∷◌, ◌++◌, length, Some, None, slice_get, slice_index, slice_set, refl, sym, ap, ◌∙◌, subst, arith, get_or-set_other, get_or-set_same, length-append, if◌then◌else◌}
+use Rattle.std.proofs.Common.{◌≡◌, ◌≢◌, ℕ, ◌+◌, ◌^◌, ◌<◌, ◌≤◌, Bool, true, false, ◌⊎◌, inl, inr, ⊎_elim, List, [], ◌∷◌, ◌++◌, length, Some, None, slice_get}
+use Rattle.std.proofs.Common.{slice_index, slice_set, refl, sym, ap, ◌∙◌, subst, arith, get_or-set_other, get_or-set_same, length-append, if◌then◌else◌}
 use Rattle.std.proofs.lemmas.List.{append_assoc, append-nil, take-append-le, take_all}
 use mathlib.Core.Logic.{dite}
 use native.Mathlib.Decide.{ℕ_discrete}
@@ -115,7 +116,8 @@ module _ (good : List ℕ → Type 0) (n : ℕ) (base ws : List ℕ) (vs : List 
 
   -- this call's entry is of no other seat
   not_theirs : (other i : ℕ) (u : View) (x : Entry) → other ≢ id → Knows vs other u → has i u.who ≡ true → e ≡ x → x.who ≡ i → ⊥
-  not_theirs other i u x ne k t same own = not_j other u ne k (subst (λ (y : ℕ). has y u.who ≡ true) (sym own ∙ (ap (λ (y : Entry). y.who) (sym same) ∙ is_j)) t)
+  not_theirs other i u x ne k t same own =
+      not_j other u ne k (subst (λ (y : ℕ). has y u.who ≡ true) (sym own ∙ (ap (λ (y : Entry). y.who) (sym same) ∙ is_j)) t)
 
   value_stays : (a : ℕ) → value_at n ws' a ≡ value_at n ws a
   value_stays a = get_or-set_other ws serial_word (value_word n a) (slice_index ws serial_word + 1) 0 (λ z. omega arith)
@@ -145,7 +147,8 @@ module _ (good : List ℕ → Type 0) (n : ℕ) (base ws : List ℕ) (vs : List 
 
   entry_legal : IsLegalEntry good n base longer (length H) e
   entry_legal = record {
-    trace_legal = subst (λ (l : List Entry). IsLegalTrace v.trace (replay base l)) (sym (take-append-le (length H) H (e ∷ []) (omega arith) ∙ take_all (length H) H (omega arith))) legal_now;
+    trace_legal = subst (λ (l : List Entry). IsLegalTrace v.trace (replay base l))
+        (sym (take-append-le (length H) H (e ∷ []) (omega arith) ∙ take_all (length H) H (omega arith))) legal_now;
     seat_below = subst (λ (y : ℕ). y < n) (sym is_j) mine.below;
     floor_before = let f = q.floor.floor_seen id v me in let s = seen_few in omega arith;
     caller_order = λ p x lt at same.
@@ -160,10 +163,12 @@ module _ (good : List ℕ → Type 0) (n : ℕ) (base ws : List ℕ) (vs : List 
 
   seen_part : SeenPrefixes ws' vs'
   seen_part = record {
-    serial = get_or-set_same ws serial_word (slice_index ws serial_word + 1) 0 (omega (arith, h.word_count)) ∙ (ap (λ (x : ℕ). x + 1) q.seen.serial ∙ (sym long ∙ ap (λ (l : List Entry). length l) (sym history_is_longer)));
+    serial = get_or-set_same ws serial_word (slice_index ws serial_word + 1) 0 (omega (arith, h.word_count))
+        ∙ (ap (λ (x : ℕ). x + 1) q.seen.serial ∙ (sym long ∙ ap (λ (l : List Entry). length l) (sym history_is_longer)));
     seen_begin = λ other u k. subst (λ (l : List Entry). IsPrefix u.seen l) (sym history_is_longer) (begins other u k);
     olds_begin = λ other u o k i. subst (λ (l : List Entry). IsPrefix o.seen l) (sym history_is_longer)
-        (let p = ⊎_elim (λ t. q.seen.olds_begin id v o me (subst (λ (x : View). IsIn o x.olds) (sym t.1) i)) (λ t. q.seen.olds_begin other u o t.1 i) (case other u k) in
+        (let p = ⊎_elim (λ t. q.seen.olds_begin id v o me (subst (λ (x : View). IsIn o x.olds) (sym t.1) i))
+        (λ t. q.seen.olds_begin other u o t.1 i) (case other u k) in
         (p.0 ++ e ∷ [], ap (λ (l : List Entry). l ++ e ∷ []) p.1 ∙ append_assoc o.seen p.0 (e ∷ [])));
   }
 
@@ -186,8 +191,10 @@ module _ (good : List ℕ → Type 0) (n : ℕ) (base ws : List ℕ) (vs : List 
   calls_part : CallsCounted n ws' vs'
   calls_part = record {
     own_seen = λ other i p u x s at own_entry. ⊎_elim
-        (λ t. subst (λ (y : View). p < length y.seen) t.1 (⊎_elim (λ z. let lt = z.0 in let l = long in omega arith) (λ z. let is = z.0 in let l = long in omega arith) (entry_cases p x at)))
-        (λ t. ⊎_elim (λ z. q.calls.own_seen other i p u x (record { knows = t.1; named = s.named }) z.1 own_entry) (λ z. absurd (not_theirs other i u x t.0 t.1 s.named z.1 own_entry)) (entry_cases p x at))
+        (λ t. subst (λ (y : View). p < length y.seen) t.1 (⊎_elim (λ z. let lt = z.0 in let l = long in
+        omega arith) (λ z. let is = z.0 in let l = long in omega arith) (entry_cases p x at)))
+        (λ t. ⊎_elim (λ z. q.calls.own_seen other i p u x (record { knows = t.1; named = s.named }) z.1 own_entry)
+        (λ z. absurd (not_theirs other i u x t.0 t.1 s.named z.1 own_entry)) (entry_cases p x at))
         (case other u s.knows);
     old_seen = λ other i p u o x k t named at own_entry.
         let old : (other : ℕ) (u : View) → Knows vs other u → IsIn o u.olds → p < length o.seen = λ other u k t. ⊎_elim
@@ -198,23 +205,48 @@ module _ (good : List ℕ → Type 0) (n : ℕ) (base ws : List ℕ) (vs : List 
         (λ z. let c = q.calls.old_numbers id i v o me (subst (λ (y : View). IsIn o y.olds) (sym z.1) t) named in
         (subst (λ (y : View). has i y.who ≡ true) z.1 c.0, subst (λ (y : View). y.joined ≡ true) z.1 c.1))
         (λ z. q.calls.old_numbers other i u o z.1 t named) (case other u k);
-    callers_alone = λ other u k busy. ⊎_elim (λ z. (j, subst (λ (y : View). y.who ≡ j ∷ []) z.1 may.who)) (λ z. q.calls.callers_alone other u z.1 busy) (case other u k);
-    alone_unjoined = λ other i u k single. ⊎_elim (λ z. subst (λ (y : View). y.joined ≡ false) z.1 alone) (λ z. q.calls.alone_unjoined other i u z.1 single) (case other u k);
+    callers_alone = λ other u k busy. ⊎_elim (λ z. (j, subst (λ (y : View). y.who ≡ j ∷ []) z.1 may.who))
+        (λ z. q.calls.callers_alone other u z.1 busy) (case other u k);
+    alone_unjoined = λ other i u k single. ⊎_elim (λ z. subst (λ (y : View). y.joined ≡ false) z.1 alone)
+        (λ z. q.calls.alone_unjoined other i u z.1 single) (case other u k);
     dealers_fresh = λ other i k u s t ne un. ⊎_elim
-        (λ z. subst (λ (y : View). y.call ≡ 0) z.1 (q.calls.dealers_fresh id i k v (record { knows = me; named = subst (λ (y : View). has i y.who ≡ true) (sym z.1) s.named }) (record { knows = me; named = subst (λ (y : View). has k y.who ≡ true) (sym z.1) t.named }) ne alone))
-        (λ z. q.calls.dealers_fresh other i k u (record { knows = z.1; named = s.named }) (record { knows = z.1; named = t.named }) ne un) (case other u s.knows);
+        (λ z. subst (λ (y : View). y.call ≡ 0) z.1
+        (q.calls.dealers_fresh id i k v (record {
+          knows = me;
+          named =
+              subst (λ (y : View). has i y.who ≡ true) (sym z.1) s.named;
+        }) (record {
+          knows = me;
+          named =
+              subst (λ (y : View). has k y.who ≡ true) (sym z.1) t.named;
+        }) ne alone))
+        (λ z. q.calls.dealers_fresh other i k u (record { knows = z.1; named = s.named }) (record {
+          knows = z.1;
+          named =
+              t.named;
+        }) ne un) (case other u s.knows);
     calls_shown = λ other i u s un. call_stays i ∙ ⊎_elim
-        (λ z. q.calls.calls_shown id i v (record { knows = me; named = subst (λ (y : View). has i y.who ≡ true) (sym z.1) s.named }) alone ∙ ap (λ (y : View). y.call) z.1)
+        (λ z. q.calls.calls_shown id i v (record {
+          knows = me;
+          named =
+              subst (λ (y : View). has i y.who ≡ true) (sym z.1) s.named;
+        }) alone ∙ ap (λ (y : View). y.call) z.1)
         (λ z. q.calls.calls_shown other i u (record { knows = z.1; named = s.named }) un) (case other u s.knows);
     entries_numbered = λ other i p u x s un at own_entry. ⊎_elim
         (λ t. subst (λ (y : View). x.call ≤ y.call) t.1 (⊎_elim
-        (λ z. q.calls.entries_numbered id i p v x (record { knows = me; named = subst (λ (y : View). has i y.who ≡ true) (sym t.1) s.named }) alone z.1 own_entry)
+        (λ z. q.calls.entries_numbered id i p v x (record {
+          knows = me;
+          named =
+              subst (λ (y : View). has i y.who ≡ true) (sym t.1) s.named;
+        }) alone z.1 own_entry)
         (λ z. let same : v.call ≡ x.call = ap (λ (y : Entry). y.call) z.1 in omega arith) (entry_cases p x at)))
-        (λ t. ⊎_elim (λ z. q.calls.entries_numbered other i p u x (record { knows = t.1; named = s.named }) un z.1 own_entry) (λ z. absurd (not_theirs other i u x t.0 t.1 s.named z.1 own_entry)) (entry_cases p x at))
+        (λ t. ⊎_elim (λ z. q.calls.entries_numbered other i p u x (record { knows = t.1; named = s.named }) un z.1
+        own_entry) (λ z. absurd (not_theirs other i u x t.0 t.1 s.named z.1 own_entry)) (entry_cases p x at))
         (case other u s.knows);
     open_numbered = λ other i p u x s un busy at own_entry. ⊎_elim
         (λ t. absurd (let z : false ≡ true = subst (λ (y : View). is_open y.phase ≡ true) (sym t.1) busy in cc))
-        (λ t. ⊎_elim (λ z. q.calls.open_numbered other i p u x (record { knows = t.1; named = s.named }) un busy z.1 own_entry) (λ z. absurd (not_theirs other i u x t.0 t.1 s.named z.1 own_entry)) (entry_cases p x at))
+        (λ t. ⊎_elim (λ z. q.calls.open_numbered other i p u x (record { knows = t.1; named = s.named }) un busy z.1
+        own_entry) (λ z. absurd (not_theirs other i u x t.0 t.1 s.named z.1 own_entry)) (entry_cases p x at))
         (case other u s.knows);
     entries_from_one = λ p x at. ⊎_elim
         (λ z. q.calls.entries_from_one p x z.1)
@@ -238,7 +270,8 @@ module _ (good : List ℕ → Type 0) (n : ℕ) (base ws : List ℕ) (vs : List 
       let runs = may.runs k in
       ⊎_elim
       (λ (none : oldest a v.undo ≡ None). is_missing (oldest a v.undo) none (q.trace.written_noted id a v me runs wrote))
-      (λ (some : (o : ℕ) × (oldest a v.undo ≡ Some o)). shut_out n base ws vs id other i (lock_of_word a) v u h ne me s g (q.undo.noted id a some.0 v me some.1).1)
+      (λ (some : (o : ℕ) × (oldest a v.undo ≡ Some o)). shut_out n base ws vs id other i (lock_of_word a) v u h ne me s
+      g (q.undo.noted id a some.0 v me some.1).1)
       (option_cases (oldest a v.undo))
 
   stands_by : (b : Bool) (a : ℕ) → kept ≡ b → (b ≡ true → ¬ Writes v.trace a) → slice_get (if b then after v.trace now else now) a ≡ slice_get now a
@@ -251,17 +284,22 @@ module _ (good : List ℕ → Type 0) (n : ℕ) (base ws : List ℕ) (vs : List 
 
   -- a seat of a view with locks
   seat_of : (other : ℕ) (u : View) → Knows vs other u → u.phase ≢ Idle → (i : ℕ) × IsSeat vs other u i
-  seat_of other u k busy = let c = q.calls.callers_alone other u k busy in (c.0, record { knows = k; named = subst (λ (l : List ℕ). has c.0 l ≡ true) (sym c.1) (has-join_same c.0 []) })
+  seat_of other u k busy = let c = q.calls.callers_alone other u k busy in
+      (c.0, record { knows = k; named = subst (λ (l : List ℕ). has c.0 l ≡ true) (sym c.1) (has-join_same c.0 []) })
 
   noting : (other a o : ℕ) (u : View) → Knows vs other u → oldest a u.undo ≡ Some o → u.phase ≢ Idle
-  noting other a o u k t idle = let z : None ≡ Some o = sym (oldest-nil a) ∙ (ap (λ (l : Notes). oldest a l) (sym (q.trace.rested other u k (inl idle))) ∙ t) in cc
+  noting other a o u k t idle = let z : None ≡ Some o = sym (oldest-nil a)
+      ∙ (ap (λ (l : Notes). oldest a l) (sym (q.trace.rested other u k (inl idle))) ∙ t) in cc
 
-  unnoted_by : (b : Bool) (a : ℕ) → kept ≡ b → a < length base → ((other : ℕ) (u : View) → Knows vs' other u → oldest a u.undo ≡ None) → slice_get (if b then after v.trace now else now) a ≡ Some (value_at n ws a)
+  unnoted_by : (b : Bool) (a : ℕ) → kept ≡ b → a < length base
+      → ((other : ℕ) (u : View) → Knows vs' other u → oldest a u.undo ≡ None) → slice_get (if b then after v.trace now else now) a ≡ Some (value_at n ws a)
   unnoted_by false a k lt free = q.undo.unnoted a lt (λ other u z. dite (ℕ_discrete other id)
-      (λ same. subst (λ (x : View). oldest a x.undo ≡ None) (sym (same_view vs id other v u me z same)) (ap (λ (l : Notes). oldest a l) (may.undone k) ∙ oldest-nil a))
+      (λ same. subst (λ (x : View). oldest a x.undo ≡ None) (sym (same_view vs id other v u me z same))
+      (ap (λ (l : Notes). oldest a l) (may.undone k) ∙ oldest-nil a))
       (λ ne. free other u (put_there vs id other w u ne z)))
   unnoted_by true a k lt free = ⊎_elim
-      (λ (none : oldest a v.undo ≡ None). unwritten_stays v.trace now a (λ wrote. is_missing (oldest a v.undo) none (q.trace.written_noted id a v me (may.runs k) wrote))
+      (λ (none : oldest a v.undo ≡ None). unwritten_stays v.trace now a
+      (λ wrote. is_missing (oldest a v.undo) none (q.trace.written_noted id a v me (may.runs k) wrote))
       ∙ q.undo.unnoted a lt (λ other u z. dite (ℕ_discrete other id)
       (λ same. subst (λ (x : View). oldest a x.undo ≡ None) (sym (same_view vs id other v u me z same)) none)
       (λ ne. free other u (put_there vs id other w u ne z))))
@@ -269,8 +307,10 @@ module _ (good : List ℕ → Type 0) (n : ℕ) (base ws : List ℕ) (vs : List 
       let wrote = q.trace.undo_written id a some.0 v me may.phase some.1 in
       let within : a < length now = omega (arith, length-replay base H) in
       ⊎_elim
-      (λ (none : value_after v.trace a None ≡ None). absurd (is_missing (value_after v.trace a None) none (last_from_touched v.trace a None (inr (touched_if_written v.trace a wrote)))))
-      (λ (last : (x : ℕ) × (value_after v.trace a None ≡ Some x)). get-after-value_after v.trace now a legal_now within ∙ (last_event v.trace a last.0 (slice_get now a) last.1
+      (λ (none : value_after v.trace a None ≡ None). absurd
+      (is_missing (value_after v.trace a None) none (last_from_touched v.trace a None (inr (touched_if_written v.trace a wrote)))))
+      (λ (last : (x : ℕ) × (value_after v.trace a None ≡ Some x)). get-after-value_after v.trace now a legal_now within
+      ∙ (last_event v.trace a last.0 (slice_get now a) last.1
       ∙ ap (λ (x : ℕ). Some x) (sym (q.trace.last_stands id a last.0 v me (may.runs k) last.1))))
       (option_cases (value_after v.trace a None)))
       (option_cases (oldest a v.undo))
@@ -295,7 +335,9 @@ module _ (good : List ℕ → Type 0) (n : ℕ) (base ws : List ℕ) (vs : List 
     legal = λ other u k busy. ⊎_elim
         (λ z. absurd (let y : false ≡ true = subst (λ (x : View). is_attempt x.phase ≡ true) (sym z.1) busy in cc))
         (λ z. let s = seat_of other u z.1 (attempt_begun u.phase busy) in
-        legal_agree u.trace now left then_long (λ a t. sym (stands a (unwritten other s.0 a u z.0 s.1 (q.trace.granted other a u z.1 busy t).1))) (q.trace.legal other u z.1 busy)) (case other u k);
+        legal_agree u.trace now left then_long
+        (λ a t. sym (stands a (unwritten other s.0 a u z.0 s.1 (q.trace.granted other a u z.1 busy t).1)))
+        (q.trace.legal other u z.1 busy)) (case other u k);
     undo_written = λ other a o u k busy t. ⊎_elim
         (λ z. absurd (let y : false ≡ true = subst (λ (x : View). is_attempt x.phase ≡ true) (sym z.1) busy in cc))
         (λ z. q.trace.undo_written other a o u z.1 busy t) (case other u k);
@@ -310,17 +352,22 @@ module _ (good : List ℕ → Type 0) (n : ℕ) (base ws : List ℕ) (vs : List 
 
   floor_part : FloorAndAbandoned n base vs'
   floor_part = record {
-    floor_seen = λ other u k. ⊎_elim (λ z. subst (λ (x : View). x.floor ≤ length x.seen) z.1 (let f = q.floor.floor_seen id v me in let s = seen_few in let l = long in omega arith)) (λ z. q.floor.floor_seen other u z.1) (case other u k);
+    floor_seen = λ other u k. ⊎_elim (λ z. subst (λ (x : View). x.floor ≤ length x.seen) z.1 (let f =
+        q.floor.floor_seen id v me in let s = seen_few in let l = long in omega arith)) (λ z. q.floor.floor_seen other u z.1) (case other u k);
     open_before = λ other i p u x s busy at own_entry. ⊎_elim
         (λ t. absurd (let z : false ≡ true = subst (λ (y : View). is_open y.phase ≡ true) (sym t.1) busy in cc))
-        (λ t. ⊎_elim (λ z. q.floor.open_before other i p u x (record { knows = t.1; named = s.named }) busy z.1 own_entry) (λ z. absurd (not_theirs other i u x t.0 t.1 s.named z.1 own_entry)) (entry_cases p x at))
+        (λ t. ⊎_elim (λ z. q.floor.open_before other i p u x (record { knows = t.1; named = s.named }) busy z.1
+        own_entry) (λ z. absurd (not_theirs other i u x t.0 t.1 s.named z.1 own_entry)) (entry_cases p x at))
         (case other u s.knows);
-    attempts = λ other i u k single busy. subst (λ (l : List Entry). AreAttemptsLegal n base l i u.stamp u.floor (length u.seen) u.abandoned) (sym history_is_longer) (⊎_elim
+    attempts = λ other i u k single busy.
+        subst (λ (l : List Entry). AreAttemptsLegal n base l i u.stamp u.floor (length u.seen) u.abandoned) (sym history_is_longer) (⊎_elim
         (λ z. subst (λ (x : View). AreAttemptsLegal n base longer i x.stamp x.floor (length x.seen) x.abandoned) z.1
         (attempts_wider n base longer i v.stamp v.floor (length H) (length longer) v.abandoned (let l = long in omega arith)
         (attempts_agree n base (length H) i v.stamp v.floor (length H) H longer v.abandoned (agree_longer H (e ∷ [])) (omega arith)
-        (attempts_wider n base H i v.stamp v.floor (length v.seen) (length H) v.abandoned seen_few (q.floor.attempts id i v me (ap (λ (x : View). x.who) z.1 ∙ single) busy_begun)))))
-        (λ z. attempts_agree n base (length H) i u.stamp u.floor (length u.seen) H longer u.abandoned (agree_longer H (e ∷ [])) (seen_at_most vs other u z.1) (q.floor.attempts other i u z.1 single busy))
+        (attempts_wider n base H i v.stamp v.floor (length v.seen) (length H) v.abandoned seen_few
+        (q.floor.attempts id i v me (ap (λ (x : View). x.who) z.1 ∙ single) busy_begun)))))
+        (λ z. attempts_agree n base (length H) i u.stamp u.floor (length u.seen) H longer u.abandoned
+        (agree_longer H (e ∷ [])) (seen_at_most vs other u z.1) (q.floor.attempts other i u z.1 single busy))
         (case other u k));
   }
 

@@ -1,5 +1,6 @@
 -- The history and the counts after one view was put in the place of another.
-use Rattle.std.proofs.Common.{◌≡◌, ℕ, zero, suc, ◌+◌, ◌≤◌, Bool, ⊎_elim, List, [], ◌∷◌, ◌++◌, length, slice_set, if◌then◌else◌, refl, sym, ap, ◌∙◌, subst, arith, length-append}
+use Rattle.std.proofs.Common.{◌≡◌, ℕ, zero, suc, ◌+◌, ◌≤◌, Bool, ⊎_elim, List, [], ◌∷◌, ◌++◌, length, slice_set, if◌then◌else◌, refl, sym, ap, ◌∙◌, subst}
+use Rattle.std.proofs.Common.{arith, length-append}
 use Rattle.std.proofs.lemmas.List.{append-nil}
 use Rattle.std.proofs.lemmas.Bool.Decides.{leb_tells}
 use mathlib.Core.Option.{some-injective, some-ne-none}
@@ -34,13 +35,16 @@ history_begins (v ∷ vs) h all = ⊎_elim
     (leb_tells (length (history_of vs)) (length v.seen))
 
 -- and where one of them has seen all of it, it is the history
-pub history_is : (vs : List View) (h : List Entry) (id : ℕ) (v : View) → ((other : ℕ) (u : View) → Knows vs other u → IsPrefix u.seen h) → Knows vs id v → v.seen ≡ h → history_of vs ≡ h
+pub history_is : (vs : List View) (h : List Entry) (id : ℕ) (v : View)
+    → ((other : ℕ) (u : View) → Knows vs other u → IsPrefix u.seen h) → Knows vs id v → v.seen ≡ h → history_of vs ≡ h
 history_is vs h id v all e whole = no_more (history_of vs) h (history_begins vs h all)
     (subst (λ (l : List Entry). length l ≤ length (history_of vs)) whole (seen_at_most vs id v e))
 
 -- open calls
-pub open_count-set : (vs : List View) (id : ℕ) (v w : View) → Knows vs id v → open_count (slice_set vs id w) + flag (is_open v.phase) ≡ open_count vs + flag (is_open w.phase)
+pub open_count-set : (vs : List View) (id : ℕ) (v w : View) → Knows vs id v
+    → open_count (slice_set vs id w) + flag (is_open v.phase) ≡ open_count vs + flag (is_open w.phase)
 unfolding open_count
 open_count-set [] id v w e = absurd (some-ne-none v (sym e))
-open_count-set (x ∷ xs) zero v w e = let same : flag (is_open x.phase) ≡ flag (is_open v.phase) = ap (λ (y : View). flag (is_open y.phase)) (some-injective x v e) in omega arith
+open_count-set (x ∷ xs) zero v w e = let same : flag (is_open x.phase) ≡ flag (is_open v.phase) =
+    ap (λ (y : View). flag (is_open y.phase)) (some-injective x v e) in omega arith
 open_count-set (x ∷ xs) (suc id) v w e = let rest = open_count-set xs id v w e in omega arith

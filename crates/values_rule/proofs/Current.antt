@@ -20,7 +20,8 @@ use Rattle.values_rule.specs.Values.{value_at, oldest, ValuesHold}
 use Rattle.values_rule.proofs.Frames.{shut_out, attempt_runs}
 use Rattle.values_rule.proofs.Notes.{option_cases, is_missing}
 
-module _ (good : List ℕ → Type 0) (n : ℕ) (base ws : List ℕ) (vs : List View) (id j : ℕ) (v : View) (h : LocksHold n base ws vs) (q : ValuesHold good n base ws vs) (me : Knows vs id v)
+module _ (good : List ℕ → Type 0) (n : ℕ) (base ws : List ℕ) (vs : List View) (id j : ℕ) (v : View)
+    (h : LocksHold n base ws vs) (q : ValuesHold good n base ws vs) (me : Knows vs id v)
     (single : v.who ≡ j ∷ []) (runs : v.phase ≡ Running) (a : ℕ) (within : a < length base) (granted : IsGranted v (lock_of_word a)) where
   -- an other seat has no note of a word that this one may use
   not_noted : (other : ℕ) (u : View) (o : ℕ) → other ≢ id → Knows vs other u → oldest a u.undo ≡ Some o → ⊥

@@ -1,6 +1,7 @@
 -- The cut of a view in two keeps the value invariant: a new seat began no call, a note has no number, and both saw what the
 -- view saw.
-use Rattle.std.proofs.Common.{◌≡◌, ℕ, ◌+◌, ◌<◌, ◌≤◌, true, false, inl, inr, ⊎_elim, List, [], ◌∷◌, ◌++◌, length, slice_index, slice_set, refl, sym, ap, ◌∙◌, subst, arith}
+use Rattle.std.proofs.Common.{◌≡◌, ℕ, ◌+◌, ◌<◌, ◌≤◌, true, false, inl, inr, ⊎_elim, List, [], ◌∷◌, ◌++◌, length, slice_index, slice_set, refl, sym, ap, ◌∙◌}
+use Rattle.std.proofs.Common.{subst, arith}
 use mathlib.Core.Logic.{dite}
 use native.Mathlib.Decide.{ℕ_discrete}
 use Rattle.history_model.specs.declared.entry.Entry.{Entry}
@@ -61,7 +62,8 @@ module _ (good : List ℕ → Type 0) (n : ℕ) (base : List ℕ) (ws : List ℕ
     alone = p.alone;
     fresh = λ i j a b ne un. let c = p.calls i a un in c.1 ∙ q.calls.dealers_fresh id i j v (mine i (p.numbers i a)) (mine j (p.numbers j b)) ne c.0;
     shown = λ j named un. let c = p.calls j named un in q.calls.calls_shown id j v (mine j (p.numbers j named)) c.0 ∙ sym c.1;
-    numbered = λ j i e named un at own. let c = p.calls j named un in subst (λ (k : ℕ). e.call ≤ k) (sym c.1) (q.calls.entries_numbered id j i v e (mine j (p.numbers j named)) c.0 at own);
+    numbered = λ j i e named un at own. let c = p.calls j named un in
+        subst (λ (k : ℕ). e.call ≤ k) (sym c.1) (q.calls.entries_numbered id j i v e (mine j (p.numbers j named)) c.0 at own);
     floor = p.floor;
   }
 
@@ -139,7 +141,8 @@ module _ (good : List ℕ → Type 0) (n : ℕ) (base : List ℕ) (ws : List ℕ
     first = subst (λ (l : List ℕ). has j l ≡ true) (sym may.who.2) (has-join_same j (may.who.0 ∷ may.who.1))
 
     second : has may.who.0 v.who ≡ true
-    second = subst (λ (l : List ℕ). has may.who.0 l ≡ true) (sym may.who.2) (has-join_old may.who.0 j (may.who.0 ∷ may.who.1) (has-join_same may.who.0 may.who.1))
+    second = subst (λ (l : List ℕ). has may.who.0 l ≡ true) (sym may.who.2)
+        (has-join_old may.who.0 j (may.who.0 ∷ may.who.1) (has-join_same may.who.0 may.who.1))
 
     -- the view began no call
     no_call : v.call ≡ 0
@@ -149,7 +152,8 @@ module _ (good : List ℕ → Type 0) (n : ℕ) (base : List ℕ) (ws : List ℕ
     no_olds : (i : ℕ) (o : Old) → IsIn o v.olds → has i o.numbers ≡ true → ⊥
     no_olds i o t named = let c = q.calls.old_numbers id i v o me t named in let z : true ≡ false = sym c.1 ∙ may.unjoined in cc
 
-    seat_cut : Rearranges n ws vs (slice_set vs id (left_by_split v) ++ given_by_split v ∷ []) (StepTouches id) (NewByCut vs id (left_by_split v) (given_by_split v))
+    seat_cut : Rearranges n ws vs (slice_set vs id (left_by_split v) ++ given_by_split v ∷ []) (StepTouches id)
+        (NewByCut vs id (left_by_split v) (given_by_split v))
     seat_cut = cuts (left_by_split v) (given_by_split v)
         (record {
           numbers = λ x t. (has-without x (number v) v.who t).1;
@@ -176,7 +180,8 @@ module _ (good : List ℕ → Type 0) (n : ℕ) (base : List ℕ) (ws : List ℕ
 
 pub split_seat_values : (good : List ℕ → Type 0) (j : ℕ) → KeepsValuesSplit good (MaySplitSeat j) left_by_split given_by_split
 split_seat_values good j n base ws vs id v h q me may =
-    rearranged good n base ws vs (slice_set vs id (left_by_split v) ++ given_by_split v ∷ []) (StepTouches id) (NewByCut vs id (left_by_split v) (given_by_split v)) q
+    rearranged good n base ws vs (slice_set vs id (left_by_split v) ++ given_by_split v ∷ []) (StepTouches id)
+    (NewByCut vs id (left_by_split v) (given_by_split v)) q
     (seat_cut good n base ws vs id v q me may.phase j may)
 
 pub take_note_values : (good : List ℕ → Type 0) → KeepsValuesSplit good MayTakeNote left_by_note note_of

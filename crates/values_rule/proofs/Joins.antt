@@ -1,6 +1,7 @@
 -- The join of two views keeps the value invariant: what each had seen is a beginning of the one history, and so is the
 -- longer of the two.
-use Rattle.std.proofs.Common.{◌≡◌, ◌≢◌, ℕ, ◌<◌, ◌≤◌, true, false, ◌⊎◌, inl, inr, ⊎_elim, List, [], length, slice_set, if◌then◌else◌, refl, sym, ap, ◌∙◌, subst, arith}
+use Rattle.std.proofs.Common.{◌≡◌, ◌≢◌, ℕ, ◌<◌, ◌≤◌, true, false, ◌⊎◌, inl, inr, ⊎_elim, List, [], length, slice_set, if◌then◌else◌, refl, sym, ap, ◌∙◌, subst}
+use Rattle.std.proofs.Common.{arith}
 use Rattle.std.proofs.lemmas.Bool.Decides.{leb_tells}
 use mathlib.Core.Logic.{dite}
 use native.Mathlib.Decide.{ℕ_discrete}
@@ -34,10 +35,12 @@ longer_cases xs ys P a b = ⊎_elim
 pub longer_least : (xs ys : List Entry) → (length xs ≤ length (longer xs ys)) × (length ys ≤ length (longer xs ys))
 longer_least xs ys = ⊎_elim
     (λ t. subst (λ z. (length xs ≤ length (if z then ys else xs)) × (length ys ≤ length (if z then ys else xs))) (sym t.0) (t.1, omega arith))
-    (λ t. subst (λ z. (length xs ≤ length (if z then ys else xs)) × (length ys ≤ length (if z then ys else xs))) (sym t.0) (let less = t.1 in (omega arith, omega arith)))
+    (λ t. subst (λ z. (length xs ≤ length (if z then ys else xs)) × (length ys ≤ length (if z then ys else xs)))
+    (sym t.0) (let less = t.1 in (omega arith, omega arith)))
     (leb_tells (length xs) (length ys))
 
-module _ (good : List ℕ → Type 0) (n : ℕ) (base : List ℕ) (ws : List ℕ) (vs : List View) (id joined : ℕ) (v w : View) (q : ValuesHold good n base ws vs) (ne : joined ≢ id)
+module _ (good : List ℕ → Type 0) (n : ℕ) (base : List ℕ) (ws : List ℕ) (vs : List View) (id joined : ℕ) (v w : View)
+    (q : ValuesHold good n base ws vs) (ne : joined ≢ id)
     (me : Knows vs id v) (it : Knows vs joined w) (phase : v.phase ≡ Idle) (other_phase : w.phase ≡ Idle) where
   mine : (x : ℕ) → has x v.who ≡ true → IsSeat vs id v x
   mine x t = record { knows = me; named = t }
@@ -74,7 +77,8 @@ module _ (good : List ℕ → Type 0) (n : ℕ) (base : List ℕ) (ws : List ℕ
     undo = q.trace.rested id v me (inl phase);
     begins = long_begins;
     olds_begin = λ o t. ⊎_elim (λ s. q.seen.olds_begin id v o me s)
-        (λ s. ⊎_elim (λ e. subst (λ (x : Old). IsPrefix x.seen (history_of vs)) e (q.seen.seen_begin id v me)) (λ e. subst (λ (x : Old). IsPrefix x.seen (history_of vs)) e (q.seen.seen_begin joined w it)) s)
+        (λ s. ⊎_elim (λ e. subst (λ (x : Old). IsPrefix x.seen (history_of vs)) e (q.seen.seen_begin id v me))
+        (λ e. subst (λ (x : Old). IsPrefix x.seen (history_of vs)) e (q.seen.seen_begin joined w it)) s)
         (in_two v.olds (old_of v.seen []) (old_of w.seen []) o t);
     own_seen = λ j p e named at own. let a = q.calls.own_seen id j p v e (mine j named) at own in let b = (longer_least v.seen w.seen).0 in omega arith;
     old_seen = λ j p o e t named at own. ⊎_elim (λ s. q.calls.old_seen id j p v o e me s named at own)
@@ -89,7 +93,8 @@ module _ (good : List ℕ → Type 0) (n : ℕ) (base : List ℕ) (ws : List ℕ
   }
     where
       unnumbered : (j : ℕ) (o : Old) → (old_of v.seen [] ≡ o) ⊎ (old_of w.seen [] ≡ o) → has j o.numbers ≡ true → ⊥
-      unnumbered j o s named = differ (has j o.numbers) named (⊎_elim (λ e. ap (λ (x : Old). has j x.numbers) (sym e) ∙ has-nil j) (λ e. ap (λ (x : Old). has j x.numbers) (sym e) ∙ has-nil j) s)
+      unnumbered j o s named = differ (has j o.numbers) named (⊎_elim (λ e. ap (λ (x : Old). has j x.numbers) (sym e)
+          ∙ has-nil j) (λ e. ap (λ (x : Old). has j x.numbers) (sym e) ∙ has-nil j) s)
 
   seats_resting : MayJoinSeats v w → IsResting n ws (history_of vs) (after_joining v w)
   seats_resting may = record {
@@ -97,15 +102,18 @@ module _ (good : List ℕ → Type 0) (n : ℕ) (base : List ℕ) (ws : List ℕ
     undo = q.trace.rested id v me (inl phase);
     begins = long_begins;
     olds_begin = λ o t. ⊎_elim (λ s. q.seen.olds_begin id v o me s)
-        (λ s. ⊎_elim (λ e. subst (λ (x : Old). IsPrefix x.seen (history_of vs)) e (q.seen.seen_begin id v me)) (λ e. subst (λ (x : Old). IsPrefix x.seen (history_of vs)) e (q.seen.seen_begin joined w it)) s)
+        (λ s. ⊎_elim (λ e. subst (λ (x : Old). IsPrefix x.seen (history_of vs)) e (q.seen.seen_begin id v me))
+        (λ e. subst (λ (x : Old). IsPrefix x.seen (history_of vs)) e (q.seen.seen_begin joined w it)) s)
         (in_two v.olds (old_of v.seen v.who) (old_of w.seen w.who) o t);
     own_seen = λ j p e named at own. let b = longer_least v.seen w.seen in ⊎_elim
         (λ s. let a = q.calls.own_seen id j p v e (mine j s) at own in let c = b.0 in omega arith)
         (λ s. let a = q.calls.own_seen joined j p w e (theirs j s) at own in let c = b.1 in omega arith) (has-append j v.who w.who named);
     old_seen = λ j p o e t named at own. ⊎_elim (λ s. q.calls.old_seen id j p v o e me s named at own)
         (λ s. ⊎_elim
-        (λ z. subst (λ (x : Old). p < length x.seen) z (q.calls.own_seen id j p v e (mine j (subst (λ (x : Old). has j x.numbers ≡ true) (sym z) named)) at own))
-        (λ z. subst (λ (x : Old). p < length x.seen) z (q.calls.own_seen joined j p w e (theirs j (subst (λ (x : Old). has j x.numbers ≡ true) (sym z) named)) at own)) s)
+        (λ z. subst (λ (x : Old). p < length x.seen) z
+        (q.calls.own_seen id j p v e (mine j (subst (λ (x : Old). has j x.numbers ≡ true) (sym z) named)) at own))
+        (λ z. subst (λ (x : Old). p < length x.seen) z
+        (q.calls.own_seen joined j p w e (theirs j (subst (λ (x : Old). has j x.numbers ≡ true) (sym z) named)) at own)) s)
         (in_two v.olds (old_of v.seen v.who) (old_of w.seen w.who) o t);
     old_numbers = λ j o t named. (
       ⊎_elim
@@ -145,13 +153,16 @@ module _ (good : List ℕ → Type 0) (n : ℕ) (base : List ℕ) (ws : List ℕ
 
     -- the view has seen the whole history, where one of the two had
     whole : length (history_of vs) ≤ length (longer v.seen w.seen) → history_of vs' ≡ history_of vs
-    whole all = history_is vs' (history_of vs) id u begins here (no_more u.seen (history_of vs) union.begins (subst (λ (l : List Entry). length (history_of vs) ≤ length l) (sym sees) all))
+    whole all = history_is vs' (history_of vs) id u begins here
+        (no_more u.seen (history_of vs) union.begins (subst (λ (l : List Entry). length (history_of vs) ≤ length l) (sym sees) all))
 
     stays : history_of vs' ≡ history_of vs
     stays = let s = saw_all vs id v me in let least = longer_least v.seen w.seen in dite (ℕ_discrete s.0 id)
-        (λ e. whole (let l : length (history_of vs) ≡ length v.seen = ap (λ (l : List Entry). length l) s.3 ∙ ap (λ (x : View). length x.seen) (same_view vs id s.0 v s.1 me s.2 e) in let c = least.0 in omega arith))
+        (λ e. whole (let l : length (history_of vs) ≡ length v.seen = ap (λ (l : List Entry). length l) s.3
+        ∙ ap (λ (x : View). length x.seen) (same_view vs id s.0 v s.1 me s.2 e) in let c = least.0 in omega arith))
         (λ away. dite (ℕ_discrete s.0 joined)
-        (λ e. whole (let l : length (history_of vs) ≡ length w.seen = ap (λ (l : List Entry). length l) s.3 ∙ ap (λ (x : View). length x.seen) (same_view vs joined s.0 w s.1 it s.2 e) in let c = least.1 in omega arith))
+        (λ e. whole (let l : length (history_of vs) ≡ length w.seen = ap (λ (l : List Entry). length l) s.3
+        ∙ ap (λ (x : View). length x.seen) (same_view vs joined s.0 w s.1 it s.2 e) in let c = least.1 in omega arith))
         (λ far. history_is vs' (history_of vs) s.0 s.1 begins (join.kept s.0 s.1 (λ t. ⊎_elim away far t) s.2) (sym s.3)))
 
     pub joins : Rearranges n ws vs vs' (JoinTouches id joined) (NewByJoin id u joined spent_view)
@@ -176,9 +187,11 @@ module _ (good : List ℕ → Type 0) (n : ℕ) (base : List ℕ) (ws : List ℕ
 pub meet_note_values : (good : List ℕ → Type 0) → KeepsValuesJoin good MayMeetNote after_note
 meet_note_values good n base ws vs id other v w h q ne me it may =
     rearranged good n base ws vs (views_joined id other (after_note v w) vs) (JoinTouches id other) (NewByJoin id (after_note v w) other spent_view) q
-    (joins good n base ws vs id other v w q ne me it may.phase may.note_phase (after_note v w) (note_resting good n base ws vs id other v w q ne me it may.phase may.note_phase may) refl)
+    (joins good n base ws vs id other v w q ne me it may.phase may.note_phase (after_note v w)
+    (note_resting good n base ws vs id other v w q ne me it may.phase may.note_phase may) refl)
 
 pub join_seats_values : (good : List ℕ → Type 0) → KeepsValuesJoin good MayJoinSeats after_joining
 join_seats_values good n base ws vs id other v w h q ne me it may =
     rearranged good n base ws vs (views_joined id other (after_joining v w) vs) (JoinTouches id other) (NewByJoin id (after_joining v w) other spent_view) q
-    (joins good n base ws vs id other v w q ne me it may.phase may.other_phase (after_joining v w) (seats_resting good n base ws vs id other v w q ne me it may.phase may.other_phase may) refl)
+    (joins good n base ws vs id other v w q ne me it may.phase may.other_phase (after_joining v w)
+    (seats_resting good n base ws vs id other v w q ne me it may.phase may.other_phase may) refl)

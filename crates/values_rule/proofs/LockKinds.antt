@@ -13,7 +13,9 @@ use Rattle.history_model.specs.Views.{HasClaim, HasReadGrant, HasWriteGrant}
 use Rattle.history_model.proofs.SetLemmas.{has-join_old, pair-join_old, pair-without_other}
 use Rattle.locks_rule.specs.Actions.{found_by, words_after}
 use Rattle.locks_rule.specs.Locks.{AskedFor}
-use Rattle.locks_rule.specs.Steps.{after_asking, after_meeting, released_phase, is_free, MayRelease, MaySetReadBit, MayClearReadBit, MayLoadWriter, MayClaimWriter, MayScanRow, MayReleaseWriter, set_read_bit_action, clear_read_bit_action, load_writer_action, claim_writer_action, scan_row_action, release_writer_action}
+use Rattle.locks_rule.specs.Steps.{after_asking, after_meeting, released_phase, is_free, MayRelease, MaySetReadBit, MayClearReadBit, MayLoadWriter}
+use Rattle.locks_rule.specs.Steps.{MayClaimWriter, MayScanRow, MayReleaseWriter, set_read_bit_action, clear_read_bit_action, load_writer_action}
+use Rattle.locks_rule.specs.Steps.{claim_writer_action, scan_row_action, release_writer_action}
 use Rattle.locks_rule.proofs.Asides.{picked}
 use Rattle.locks_rule.proofs.Own.{own}
 use Rattle.values_rule.specs.Asides.{IsAside, SameCalls, SameValues}
@@ -30,9 +32,18 @@ row_aside n m j k e below near = record { serial = omega arith; calls = inr (ome
 writer_aside : (n m k : ℕ) → m ≡ n → k < LOCKS → IsAside n (writer_word m k)
 writer_aside n m k e near = record { serial = omega arith; calls = inr (omega arith); values = omega arith }
 
-plain_calls : (v w : View) → w.seen ≡ v.seen → w.olds ≡ v.olds → w.who ≡ v.who → w.joined ≡ v.joined → w.call ≡ v.call → w.floor ≡ v.floor → w.abandoned ≡ v.abandoned → w.stamp ≡ v.stamp → w.phase ≡ v.phase → SameCalls v w
+plain_calls : (v w : View) → w.seen ≡ v.seen → w.olds ≡ v.olds → w.who ≡ v.who → w.joined ≡ v.joined → w.call ≡ v.call
+    → w.floor ≡ v.floor → w.abandoned ≡ v.abandoned → w.stamp ≡ v.stamp → w.phase ≡ v.phase → SameCalls v w
 plain_calls v w seen olds who joined call floor abandoned stamp phase = record {
-  goes_on = record { who = who; joined = joined; call = call; floor = floor; still_open = λ t. ap is_open (sym phase) ∙ t; still_begun = λ busy idle. busy (phase ∙ idle) };
+  goes_on = record {
+    who = who;
+    joined = joined;
+    call = call;
+    floor = floor;
+    still_open = λ t. ap is_open (sym phase)
+        ∙ t;
+    still_begun = λ busy idle. busy (phase ∙ idle);
+  };
   seen = seen;
   olds = olds;
   abandoned = abandoned;
@@ -40,10 +51,25 @@ plain_calls v w seen olds who joined call floor abandoned stamp phase = record {
 }
 
 met_asks : (v : View) (k i : ℕ) → SameValues v (after_meeting v k i)
-met_asks v k i = record { calls = plain_calls v (after_meeting v k i) refl refl refl refl refl refl refl refl refl; trace = refl; undo = refl; phase = refl; grants = λ l g. g; writes = λ l g. g }
+met_asks v k i = record {
+  calls = plain_calls v (after_meeting v k i) refl refl refl refl refl refl refl refl refl;
+  trace = refl;
+  undo = refl;
+  phase = refl;
+  grants = λ l g. g;
+  writes = λ l g. g;
+}
 
 asked_met : (v : View) (a k i : ℕ) → SameValues v (after_meeting (after_asking v a) k i)
-asked_met v a k i = record { calls = plain_calls v (after_meeting (after_asking v a) k i) refl refl refl refl refl refl refl refl refl; trace = refl; undo = refl; phase = refl; grants = λ l g. g; writes = λ l g. g }
+asked_met v a k i = record {
+  calls = plain_calls v (after_meeting (after_asking v a) k i) refl refl refl refl refl refl
+      refl refl refl;
+  trace = refl;
+  undo = refl;
+  phase = refl;
+  grants = λ l g. g;
+  writes = λ l g. g;
+}
 
 pub set_read_bit_values : (good : List ℕ → Type 0) (j k a : ℕ) → KeepsValues good (MaySetReadBit j k a) (set_read_bit_action j k a)
 set_read_bit_values good j k a n base ws vs id v h q me may =
@@ -74,7 +100,8 @@ load_writer_values good j k a n base ws vs id v h q me may =
     let lock : a % LOCKS ≡ k = may.lock in
     let w : ℕ = slice_index ws (writer_word v.seats k) in
     aside_keeps good n base ws vs id v (load_writer_action j k a v) h q me (writer_aside n v.seats k o.seats (omega arith))
-    (picked (SameValues v) (is_free j w) (record (after_asking v a) { reads = k ∷ v.reads }) (after_meeting (after_asking v a) k (w - 1)) (read_asks v a k) (asked_met v a k (w - 1)))
+    (picked (SameValues v) (is_free j w) (record (after_asking v a) { reads = k ∷ v.reads })
+    (after_meeting (after_asking v a) k (w - 1)) (read_asks v a k) (asked_met v a k (w - 1)))
 
 -- a claim on a lock that was not claimed takes no claim away
 claim_asks : (v : View) (a k : ℕ) → ¬ HasClaim v k → SameValues v (record (after_asking v a) { claims = k ∷ v.claims; scans = without_first k v.scans })
@@ -97,11 +124,16 @@ claim_writer_values good j k a n base ws vs id v h q me may =
     let lock : a % LOCKS ≡ k = may.lock in
     let w : ℕ = slice_index ws (writer_word v.seats k) in
     aside_keeps good n base ws vs id v (claim_writer_action j k a v) h q me (writer_aside n v.seats k o.seats (omega arith))
-    (picked (SameValues v) (w == 0) (record (after_asking v a) { claims = k ∷ v.claims; scans = without_first k v.scans }) (after_meeting (after_asking v a) k (w - 1)) (claim_asks v a k may.no_claim) (asked_met v a k (w - 1)))
+    (picked (SameValues v) (w == 0) (record (after_asking v a) {
+      claims = k ∷ v.claims;
+      scans =
+          without_first k v.scans;
+    }) (after_meeting (after_asking v a) k (w - 1)) (claim_asks v a k may.no_claim) (asked_met v a k (w - 1)))
 
 scan_asks : (v : View) (k i : ℕ) → SameValues v (record v { scans = (k, i) ∷ v.scans })
 scan_asks v k i =
-    let writes : (l : ℕ) → HasWriteGrant v l → HasWriteGrant (record v { scans = (k, i) ∷ v.scans }) l = λ l g. (g.0, λ m lt away. pair-join_old l m k i v.scans (g.1 m lt away)) in
+    let writes : (l : ℕ) → HasWriteGrant v l → HasWriteGrant (record v { scans = (k, i) ∷ v.scans }) l =
+    λ l g. (g.0, λ m lt away. pair-join_old l m k i v.scans (g.1 m lt away)) in
     record {
       calls = plain_calls v (record v { scans = (k, i) ∷ v.scans }) refl refl refl refl refl refl refl refl refl;
       trace = refl;
@@ -134,12 +166,22 @@ released_open Yielding e = refl
 released_open Withdrawing e = refl
 released_open Releasing e = absurd (cc)
 
-undone : (good : List ℕ → Type 0) (n : ℕ) (base ws : List ℕ) (vs : List View) (id : ℕ) (v : View) → ValuesHold good n base ws vs → Knows vs id v → MayRelease v → v.undo ≡ []
+undone : (good : List ℕ → Type 0) (n : ℕ) (base ws : List ℕ) (vs : List View) (id : ℕ) (v : View)
+    → ValuesHold good n base ws vs → Knows vs id v → MayRelease v → v.undo ≡ []
 undone good n base ws vs id v q me may = ⊎_elim (λ t. t) (λ t. q.trace.rested id v me (inr t)) may.undone
 
-release_calls : (v w : View) → MayRelease v → w.seen ≡ v.seen → w.olds ≡ v.olds → w.who ≡ v.who → w.joined ≡ v.joined → w.call ≡ v.call → w.floor ≡ v.floor → w.abandoned ≡ v.abandoned → w.stamp ≡ v.stamp → w.phase ≡ released_phase v.phase → SameCalls v w
+release_calls : (v w : View) → MayRelease v → w.seen ≡ v.seen → w.olds ≡ v.olds → w.who ≡ v.who → w.joined ≡ v.joined
+    → w.call ≡ v.call → w.floor ≡ v.floor → w.abandoned ≡ v.abandoned → w.stamp ≡ v.stamp → w.phase ≡ released_phase v.phase → SameCalls v w
 release_calls v w may seen olds who joined call floor abandoned stamp phase = record {
-  goes_on = record { who = who; joined = joined; call = call; floor = floor; still_open = λ t. released_open v.phase (ap is_open (sym phase) ∙ t); still_begun = λ busy. may.begun };
+  goes_on = record {
+    who = who;
+    joined = joined;
+    call = call;
+    floor = floor;
+    still_open =
+        λ t. released_open v.phase (ap is_open (sym phase) ∙ t);
+    still_begun = λ busy. may.begun;
+  };
   seen = seen;
   olds = olds;
   abandoned = abandoned;
@@ -153,7 +195,8 @@ clear_read_bit_values good j k n base ws vs id v h q me may =
     let w : View = (clear_read_bit_action j k v).view (history_of vs) (found_by (clear_read_bit_action j k v) ws) in
     let none = undone good n base ws vs id v q me may.release in
     let x : ℕ = (clear_read_bit_action j k v).writes (found_by (clear_read_bit_action j k v) ws) in
-    values_ended good n base ws vs id v h q me w (words_after (clear_read_bit_action j k v) ws) (words_apart n ws (row_word v.seats j k) x (row_aside n v.seats j k o.seats o.below near))
+    values_ended good n base ws vs id v h q me w (words_after (clear_read_bit_action j k v) ws)
+    (words_apart n ws (row_word v.seats j k) x (row_aside n v.seats j k o.seats o.below near))
     (release_calls v w may.release refl refl refl refl refl refl refl refl refl) (released_attempt v.phase) none none
 
 pub release_writer_values : (good : List ℕ → Type 0) (j k : ℕ) → KeepsValues good (MayReleaseWriter j k) (release_writer_action j k)
@@ -162,5 +205,6 @@ release_writer_values good j k n base ws vs id v h q me may =
     let c = h.claims_show_in_writers id k v me may.claim in
     let w : View = (release_writer_action j k v).view (history_of vs) (found_by (release_writer_action j k v) ws) in
     let none = undone good n base ws vs id v q me may.release in
-    values_ended good n base ws vs id v h q me w (words_after (release_writer_action j k v) ws) (words_apart n ws (writer_word v.seats k) 0 (writer_aside n v.seats k o.seats c.2))
+    values_ended good n base ws vs id v h q me w (words_after (release_writer_action j k v) ws)
+    (words_apart n ws (writer_word v.seats k) 0 (writer_aside n v.seats k o.seats c.2))
     (release_calls v w may.release refl refl refl refl refl refl refl refl refl) (released_attempt v.phase) none none

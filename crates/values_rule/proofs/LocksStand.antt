@@ -10,7 +10,9 @@ use Rattle.locks_rule.specs.Actions.{Keeps, found_by}
 use Rattle.locks_rule.specs.Locks.{LocksHold}
 use Rattle.locks_rule.proofs.Own.{own}
 use Rattle.locks_rule.proofs.Asides.{aside_keeps, same_locks}
-use Rattle.values_rule.specs.Steps.{MayBeginCall, begin_call_action, MayLoadValue, load_value_action, MayStoreValue, store_value_action, MayUndoStore, undo_store_action, undoing_phase, MayCommitCall, commit_call_action, MayClearStamp, clear_stamp_action, MayLoadSerial, load_serial_action}
+use Rattle.values_rule.specs.Steps.{MayBeginCall, begin_call_action, MayLoadValue, load_value_action, MayStoreValue, store_value_action, MayUndoStore}
+use Rattle.values_rule.specs.Steps.{undo_store_action, undoing_phase, MayCommitCall, commit_call_action, MayClearStamp, clear_stamp_action, MayLoadSerial}
+use Rattle.values_rule.specs.Steps.{load_serial_action}
 
 pub begin_call_locks : (n : ℕ) (base : List ℕ) (j : ℕ) → Keeps (LocksHold n base) (MayBeginCall j) (begin_call_action j)
 begin_call_locks n base j ws vs id v h me may =
@@ -23,7 +25,8 @@ begin_call_locks n base j ws vs id v h me may =
       reads = refl;
       claims = refl;
       scans = refl;
-      asked = λ k t a. let none = h.idle_holds_nothing id k v me may.phase in absurd (⊎_elim (λ b. differ (has k v.bits) b none.0) (λ c. differ (has k v.claims) c none.1) t);
+      asked = λ k t a. let none = h.idle_holds_nothing id k v me may.phase in
+          absurd (⊎_elim (λ b. differ (has k v.bits) b none.0) (λ c. differ (has k v.claims) c none.1) t);
       met = λ i t. absurd (differ (has i []) t (has-nil i));
       idle = λ k e. h.idle_holds_nothing id k v me may.phase;
     }
@@ -39,7 +42,8 @@ pub store_value_locks : (n : ℕ) (base : List ℕ) (j a x : ℕ) → Keeps (Loc
 store_value_locks n base j a x ws vs id v h me may =
     let o = own n base ws vs id j v h me may.who in
     aside_keeps n base id ws vs v (store_value_action j a x v) h me (λ t. let high = t.1 in omega (arith, o.seats))
-    (same_locks v ((store_value_action j a x v).view (history_of vs) (found_by (store_value_action j a x v) ws)) refl refl refl refl refl refl refl refl (λ i t. t)
+    (same_locks v ((store_value_action j a x v).view (history_of vs) (found_by (store_value_action j a x v) ws)) refl
+    refl refl refl refl refl refl refl (λ i t. t)
     (λ e. let z : Running ≡ Idle = sym may.phase ∙ e in cc))
 
 undoing_idle : (p : Phase) → is_open p ≡ true → undoing_phase p ≡ Idle → ⊥
@@ -53,13 +57,16 @@ pub undo_store_locks : (n : ℕ) (base : List ℕ) (j a old : ℕ) → Keeps (Lo
 undo_store_locks n base j a old ws vs id v h me may =
     let o = own n base ws vs id j v h me may.who in
     aside_keeps n base id ws vs v (undo_store_action j a old v) h me (λ t. let high = t.1 in omega (arith, o.seats))
-    (same_locks v ((undo_store_action j a old v).view (history_of vs) (found_by (undo_store_action j a old v) ws)) refl refl refl refl refl refl refl refl (λ i t. t)
+    (same_locks v ((undo_store_action j a old v).view (history_of vs) (found_by (undo_store_action j a old v) ws)) refl
+    refl refl refl refl refl refl refl (λ i t. t)
     (λ e. undoing_idle v.phase may.phase e))
 
-pub commit_call_locks : (good : List ℕ → Type 0) (n : ℕ) (base : List ℕ) (j : ℕ) (kept : Bool) → Keeps (LocksHold n base) (MayCommitCall good j kept) (commit_call_action j kept)
+pub commit_call_locks : (good : List ℕ → Type 0) (n : ℕ) (base : List ℕ) (j : ℕ) (kept : Bool)
+    → Keeps (LocksHold n base) (MayCommitCall good j kept) (commit_call_action j kept)
 commit_call_locks good n base j kept ws vs id v h me may =
     aside_keeps n base id ws vs v (commit_call_action j kept v) h me (λ t. let low = t.0 in omega arith)
-    (same_locks v ((commit_call_action j kept v).view (history_of vs) (found_by (commit_call_action j kept v) ws)) refl refl refl refl refl refl refl refl (λ i t. t)
+    (same_locks v ((commit_call_action j kept v).view (history_of vs) (found_by (commit_call_action j kept v) ws)) refl
+    refl refl refl refl refl refl refl (λ i t. t)
     (λ e. let z : Releasing ≡ Idle = e in cc))
 
 pub clear_stamp_locks : (n : ℕ) (base : List ℕ) (j : ℕ) → Keeps (LocksHold n base) (MayClearStamp j) (clear_stamp_action j)

@@ -1,6 +1,7 @@
 -- Views are cut and joined between calls: the history and the words stay, and the new views saw beginnings of the history.
 -- This keeps the value invariant.
-use Rattle.std.proofs.Common.{◌≡◌, ◌≢◌, ℕ, ◌≤◌, ◌<◌, true, false, ◌⊎◌, inl, inr, ⊎_elim, List, [], ◌∷◌, length, Some, None, slice_get, slice_index, sym, ap, ◌∙◌, subst, arith}
+use Rattle.std.proofs.Common.{◌≡◌, ◌≢◌, ℕ, ◌≤◌, ◌<◌, true, false, ◌⊎◌, inl, inr, ⊎_elim, List, [], ◌∷◌, length, Some, None, slice_get, slice_index, sym, ap}
+use Rattle.std.proofs.Common.{◌∙◌, subst, arith}
 use Rattle.history_model.specs.declared.entry.Entry.{Entry}
 use Rattle.history_model.specs.declared.view.Old.{Old}
 use Rattle.history_model.specs.declared.view.View.{View}
@@ -50,8 +51,10 @@ module _ (good : List ℕ → Type 0) (n : ℕ) (base : List ℕ) (ws : List ℕ
   seen_part : SeenPrefixes ws vs'
   seen_part = record {
     serial = q.seen.serial ∙ ap (λ (l : List Entry). length l) (sym r.history);
-    seen_begin = λ other u k. subst (λ (l : List Entry). IsPrefix u.seen l) (sym r.history) (⊎_elim (λ t. t.begins) (λ t. q.seen.seen_begin other u t.1) (case other u k));
-    olds_begin = λ other u o k i. subst (λ (l : List Entry). IsPrefix o.seen l) (sym r.history) (⊎_elim (λ t. t.olds_begin o i) (λ t. q.seen.olds_begin other u o t.1 i) (case other u k));
+    seen_begin = λ other u k. subst (λ (l : List Entry). IsPrefix u.seen l) (sym r.history)
+        (⊎_elim (λ t. t.begins) (λ t. q.seen.seen_begin other u t.1) (case other u k));
+    olds_begin = λ other u o k i. subst (λ (l : List Entry). IsPrefix o.seen l) (sym r.history)
+        (⊎_elim (λ t. t.olds_begin o i) (λ t. q.seen.olds_begin other u o t.1 i) (case other u k));
   }
 
   calls_part : CallsCounted n ws vs'
@@ -64,7 +67,12 @@ module _ (good : List ℕ → Type 0) (n : ℕ) (base : List ℕ) (ws : List ℕ
     old_numbers = λ other i u o k t named. ⊎_elim (λ z. z.old_numbers i o t named) (λ z. q.calls.old_numbers other i u o z.1 t named) (case other u k);
     callers_alone = λ other u k busy. ⊎_elim (λ z. absurd (busy z.phase)) (λ z. q.calls.callers_alone other u z.1 busy) (case other u k);
     alone_unjoined = λ other i u k single. ⊎_elim (λ z. z.alone i single) (λ z. q.calls.alone_unjoined other i u z.1 single) (case other u k);
-    dealers_fresh = λ other i l u s t ne un. ⊎_elim (λ z. z.fresh i l s.named t.named ne un) (λ z. q.calls.dealers_fresh other i l u (record { knows = z.1; named = s.named }) (record { knows = z.1; named = t.named }) ne un) (case other u s.knows);
+    dealers_fresh = λ other i l u s t ne un. ⊎_elim (λ z. z.fresh i l s.named t.named ne un)
+        (λ z. q.calls.dealers_fresh other i l u (record { knows = z.1; named = s.named }) (record {
+          knows = z.1;
+          named =
+              t.named;
+        }) ne un) (case other u s.knows);
     calls_shown = λ other i u s un. ⊎_elim
         (λ z. z.shown i s.named un)
         (λ z. q.calls.calls_shown other i u (record { knows = z.1; named = s.named }) un) (case other u s.knows);
@@ -104,8 +112,10 @@ module _ (good : List ℕ → Type 0) (n : ℕ) (base : List ℕ) (ws : List ℕ
     granted = λ other a u k busy t. ⊎_elim (λ z. idle_not u z.phase busy) (λ z. q.trace.granted other a u z.1 busy t) (case other u k);
     legal = λ other u k busy. ⊎_elim (λ z. idle_not u z.phase busy) (λ z. q.trace.legal other u z.1 busy) (case other u k);
     undo_written = λ other a o u k busy t. ⊎_elim (λ z. idle_not u z.phase busy) (λ z. q.trace.undo_written other a o u z.1 busy t) (case other u k);
-    written_noted = λ other a u k runs t. ⊎_elim (λ z. idle_not u z.phase (ap is_attempt runs)) (λ z. q.trace.written_noted other a u z.1 runs t) (case other u k);
-    last_stands = λ other a x u k runs t. ⊎_elim (λ z. idle_not u z.phase (ap is_attempt runs)) (λ z. q.trace.last_stands other a x u z.1 runs t) (case other u k);
+    written_noted = λ other a u k runs t. ⊎_elim (λ z. idle_not u z.phase (ap is_attempt runs))
+        (λ z. q.trace.written_noted other a u z.1 runs t) (case other u k);
+    last_stands = λ other a x u k runs t. ⊎_elim (λ z. idle_not u z.phase (ap is_attempt runs))
+        (λ z. q.trace.last_stands other a x u z.1 runs t) (case other u k);
     rested = λ other u k t. ⊎_elim (λ z. z.undo) (λ z. q.trace.rested other u z.1 t) (case other u k);
   }
 

@@ -1,5 +1,6 @@
 -- The memory with all unfinished writes taken back is what the history leaves.
-use Rattle.std.proofs.Common.{◌≡◌, ℕ, zero, suc, ◌+◌, ◌<◌, ⊎_elim, List, [], ◌∷◌, length, Some, None, slice_get, slice_index, slice_set, get_or, refl, sym, ap, ◌∙◌, subst, arith, eq-eqb, ne_eqb, length-drop, get_or-drop}
+use Rattle.std.proofs.Common.{◌≡◌, ℕ, zero, suc, ◌+◌, ◌<◌, ⊎_elim, List, [], ◌∷◌, length, Some, None, slice_get, slice_index, slice_set, get_or, refl, sym, ap}
+use Rattle.std.proofs.Common.{◌∙◌, subst, arith, eq-eqb, ne_eqb, length-drop, get_or-drop}
 use Rattle.std.proofs.lemmas.List.{length-set}
 use Rattle.std.proofs.lemmas.Option.{slice_get-get_or, same_Some}
 use mathlib.Core.Option.{some-injective}
@@ -26,7 +27,8 @@ unfolding written_back oldest
 noted_back [] s a o lt e = cc
 noted_back (note ∷ notes) s a o lt e = let long = length-written_back notes s in dite (ℕ_discrete a note.0)
     (λ q. let is : note.1 ≡ o = same_Some note.1 o (rw (eq-eqb a note.0 q) at e) in
-    subst (λ (i : ℕ). slice_get (slice_set (written_back notes s) i note.1) a ≡ Some o) q (get_set_same (written_back notes s) a note.1 (omega arith) ∙ ap (λ (x : ℕ). Some x) is))
+    subst (λ (i : ℕ). slice_get (slice_set (written_back notes s) i note.1) a ≡ Some o) q
+    (get_set_same (written_back notes s) a note.1 (omega arith) ∙ ap (λ (x : ℕ). Some x) is))
     (λ n. get_set_other (written_back notes s) note.0 a note.1 n ∙ noted_back notes s a o lt (rw (ne_eqb a note.0 n) at e))
 
 -- and one that is not stays
@@ -55,7 +57,8 @@ settles (v ∷ vs) s a x lt agree rest =
     (λ (some : (o : ℕ) × (oldest a v.undo ≡ Some o)). noted_back v.undo s a some.0 lt some.1 ∙ sym (agree zero some.0 v refl some.1))
     (option_cases (oldest a v.undo)))
   where
-    first_or_rest : (id : ℕ) (u : View) → Knows (v ∷ vs) id u → oldest a v.undo ≡ None → ((i : ℕ) (y : View) → Knows vs i y → oldest a y.undo ≡ None) → oldest a u.undo ≡ None
+    first_or_rest : (id : ℕ) (u : View) → Knows (v ∷ vs) id u → oldest a v.undo ≡ None
+        → ((i : ℕ) (y : View) → Knows vs i y → oldest a y.undo ≡ None) → oldest a u.undo ≡ None
     first_or_rest zero u e none free = subst (λ (y : View). oldest a y.undo ≡ None) (some-injective v u e) none
     first_or_rest (suc id) u e none free = free id u e
 
@@ -81,8 +84,10 @@ undoing_restores good n base ws vs h q =
     let within : a < length base = omega arith in
     let x : ℕ = slice_index now a in
     let is : slice_get now a ≡ Some x = slice_get-get_or now a 0 (omega arith) in
-    let value : slice_get memory a ≡ Some (value_at n ws a) = slice_get-get_or memory a 0 (omega arith) ∙ ap (λ (y : ℕ). Some y) (get_or-drop (value_word n 0) ws a 0 ∙ ap (λ (i : ℕ). get_or ws i 0) (shifted n a)) in
-    settles vs memory a x (omega arith) (λ id o v e t. sym is ∙ (q.undo.noted id a o v e t).2) (λ free. value ∙ (sym (q.undo.unnoted a within free) ∙ is)) ∙ sym is)
+    let value : slice_get memory a ≡ Some (value_at n ws a) = slice_get-get_or memory a 0 (omega arith)
+    ∙ ap (λ (y : ℕ). Some y) (get_or-drop (value_word n 0) ws a 0 ∙ ap (λ (i : ℕ). get_or ws i 0) (shifted n a)) in
+    settles vs memory a x (omega arith) (λ id o v e t. sym is ∙ (q.undo.noted id a o v e t).2) (λ free. value
+    ∙ (sym (q.undo.unnoted a within free) ∙ is)) ∙ sym is)
   where
     shifted : (n a : ℕ) → value_word n 0 + a ≡ value_word n a
     shifted n a = omega arith

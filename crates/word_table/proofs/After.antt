@@ -26,12 +26,15 @@ pub record SameSeat (v w : View) : Type 0 where
   pub stamp : w.stamp ≡ v.stamp
   pub announced : w.announced ≡ v.announced
 
-pub steady : (v w : View) → w.base ≡ v.base → w.seats ≡ v.seats → w.who ≡ v.who → w.due ≡ v.due → w.call ≡ v.call → w.stamp ≡ v.stamp → w.announced ≡ v.announced → SameSeat v w
+pub steady : (v w : View) → w.base ≡ v.base → w.seats ≡ v.seats → w.who ≡ v.who → w.due ≡ v.due → w.call ≡ v.call
+    → w.stamp ≡ v.stamp → w.announced ≡ v.announced → SameSeat v w
 steady v w eb es ew ed ec et ea = record { base = eb; seats = es; who = ew; due = ed; call = ec; stamp = et; announced = ea }
 
 -- a pass's copies after a step of its seat, from the seat, from the number of calls and from the copy of its locks
-pub copy_called : {call : CallCopy} {locks : LockCopy} {table : TableId} {me : Me (Unit {0}) View} → IsCopy call locks table me → (phase : Phase) (calls : ℕ) (locks' : LockCopy) (table' : TableId) (me' : Me (Unit {0}) View) (w : View)
-    → table' ≡ table → me'.0 ≡ w → me'.1 ≡ me.1 → w.base ≡ me.0.base → w.seats ≡ me.0.seats → w.who ≡ me.0.who → w.due ≡ me.0.due → w.call ≡ calls → w.stamp ≡ me.0.stamp → w.announced ≡ me.0.announced → w.phase ≡ phase → IsLockCopy locks' w
+pub copy_called : {call : CallCopy} {locks : LockCopy} {table : TableId} {me : Me (Unit {0}) View}
+    → IsCopy call locks table me → (phase : Phase) (calls : ℕ) (locks' : LockCopy) (table' : TableId) (me' : Me (Unit {0}) View) (w : View)
+    → table' ≡ table → me'.0 ≡ w → me'.1 ≡ me.1 → w.base ≡ me.0.base → w.seats ≡ me.0.seats → w.who ≡ me.0.who
+    → w.due ≡ me.0.due → w.call ≡ calls → w.stamp ≡ me.0.stamp → w.announced ≡ me.0.announced → w.phase ≡ phase → IsLockCopy locks' w
     → (w.phase ≡ Idle → HoldsNothing w) → IsCopy (record call { phase = phase; calls = calls }) locks' table' me'
 copy_called {call} {locks} {table} {me} i phase calls locks' table' me' w et ew es eb en eo ed ec ez ea ep copy rests =
     subst (λ (t : TableId). IsCopy (record call { phase = phase; calls = calls }) locks' t me') (sym et) record {
@@ -71,33 +74,45 @@ releases_on Withdrawing on e = cc
 releases_on Releasing on e = cc
 
 -- the same in the call that goes on
-pub copy_after : {call : CallCopy} {locks : LockCopy} {table : TableId} {me : Me (Unit {0}) View} → IsCopy call locks table me → (phase : Phase) (locks' : LockCopy) (table' : TableId) (me' : Me (Unit {0}) View) (w : View)
-    → table' ≡ table → me'.0 ≡ w → me'.1 ≡ me.1 → SameSeat me.0 w → w.phase ≡ phase → IsLockCopy locks' w → (w.phase ≡ Idle → HoldsNothing w) → IsCopy (record call { phase = phase }) locks' table' me'
+pub copy_after : {call : CallCopy} {locks : LockCopy} {table : TableId} {me : Me (Unit {0}) View}
+    → IsCopy call locks table me → (phase : Phase) (locks' : LockCopy) (table' : TableId) (me' : Me (Unit {0}) View) (w : View)
+    → table' ≡ table → me'.0 ≡ w → me'.1 ≡ me.1 → SameSeat me.0 w → w.phase ≡ phase → IsLockCopy locks' w
+    → (w.phase ≡ Idle → HoldsNothing w) → IsCopy (record call { phase = phase }) locks' table' me'
 copy_after {call} {locks} {table} {me} i phase locks' table' me' w et ew es same ep copy rests =
-    copy_called i phase call.calls locks' table' me' w et ew es same.base same.seats same.who same.due (same.call ∙ i.call_is.calls_are) same.stamp same.announced ep copy rests
+    copy_called i phase call.calls locks' table' me' w et ew es same.base same.seats same.who same.due (same.call
+    ∙ i.call_is.calls_are) same.stamp same.announced ep copy rests
 
 -- the same after a store, which tells the view as a whole
-pub copy_stored : {call : CallCopy} {locks : LockCopy} {table : TableId} {me : Me (Unit {0}) View} → IsCopy call locks table me → (phase : Phase) (locks' : LockCopy) (table' : TableId) (me' : Me (Unit {0}) View) (w : View)
-    → table' ≡ table → me' ≡ (w, me.1) → SameSeat me.0 w → w.phase ≡ phase → IsLockCopy locks' w → (w.phase ≡ Idle → HoldsNothing w) → IsCopy (record call { phase = phase }) locks' table' me'
+pub copy_stored : {call : CallCopy} {locks : LockCopy} {table : TableId} {me : Me (Unit {0}) View}
+    → IsCopy call locks table me → (phase : Phase) (locks' : LockCopy) (table' : TableId) (me' : Me (Unit {0}) View) (w : View)
+    → table' ≡ table → me' ≡ (w, me.1) → SameSeat me.0 w → w.phase ≡ phase → IsLockCopy locks' w
+    → (w.phase ≡ Idle → HoldsNothing w) → IsCopy (record call { phase = phase }) locks' table' me'
 copy_stored {call} {locks} {table} {me} i phase locks' table' me' w et em = let after : Me (Unit {0}) View = (w, me.1) in
     copy_after i phase locks' table' me' w et (ap (λ (m : Me (Unit {0}) View). m.0) {y = after} em) (ap (λ (m : Me (Unit {0}) View). m.1) {y = after} em)
 
 -- a copy that shows a view's four sets
-pub lock_copy : (copy : LockCopy) (v : View) → Shows copy.bits v.bits → Shows copy.reads v.reads → Shows copy.claims v.claims → ShowsPairs copy.scans.items v.scans → IsLockCopy copy v
+pub lock_copy : (copy : LockCopy) (v : View) → Shows copy.bits v.bits → Shows copy.reads v.reads
+    → Shows copy.claims v.claims → ShowsPairs copy.scans.items v.scans → IsLockCopy copy v
 lock_copy copy v sb sr sc ss = record { bits_are = sb; reads_are = sr; claims_are = sc; scans_are = ss }
 
 -- after a look at a writer word, by whether it was granted
 pub load_same : (j k a : ℕ) (v : View) (w : ℕ) → SameSeat v ((load_writer_action j k a v).view [] w)
 load_same j k a v w = let granted : View = record (after_asking v a) { reads = k ∷ v.reads } in let met : View = after_meeting (after_asking v a) k (w - 1) in
-    elim (is_free j w) as (λ (b : Bool). SameSeat v (if b then granted else met)) [ true ↦ steady v granted refl refl refl refl refl refl refl | false ↦ steady v met refl refl refl refl refl refl refl ]
+    elim (is_free j w) as (λ (b : Bool). SameSeat v (if b then granted else met)) [
+      | true ↦
+          steady v granted refl refl refl refl refl refl refl
+      | false ↦ steady v met refl refl refl refl refl refl refl
+    ]
 
 pub load_phase : (j k a : ℕ) (v : View) (w : ℕ) → ((load_writer_action j k a v).view [] w).phase ≡ v.phase
 load_phase j k a v w = let granted : View = record (after_asking v a) { reads = k ∷ v.reads } in let met : View = after_meeting (after_asking v a) k (w - 1) in
     elim (is_free j w) as (λ (b : Bool). (if b then granted else met).phase ≡ v.phase) [ true ↦ refl | false ↦ refl ]
 
-pub load_copy : (copy : LockCopy) (j k a : ℕ) (v : View) (w : ℕ) → Shows copy.bits v.bits → Shows copy.reads (if is_free j w then k ∷ v.reads else v.reads) → Shows copy.claims v.claims → ShowsPairs copy.scans.items v.scans
+pub load_copy : (copy : LockCopy) (j k a : ℕ) (v : View) (w : ℕ) → Shows copy.bits v.bits
+    → Shows copy.reads (if is_free j w then k ∷ v.reads else v.reads) → Shows copy.claims v.claims → ShowsPairs copy.scans.items v.scans
     → IsLockCopy copy ((load_writer_action j k a v).view [] w)
-load_copy copy j k a v w sb sr sc ss = let granted : View = record (after_asking v a) { reads = k ∷ v.reads } in let met : View = after_meeting (after_asking v a) k (w - 1) in
+load_copy copy j k a v w sb sr sc ss = let granted : View = record (after_asking v a) { reads = k ∷ v.reads } in
+    let met : View = after_meeting (after_asking v a) k (w - 1) in
     (elim (is_free j w) as (λ (b : Bool). Shows copy.reads (if b then k ∷ v.reads else v.reads) → IsLockCopy copy (if b then granted else met)) [
       | true ↦ λ s. record { bits_are = sb; reads_are = s; claims_are = sc; scans_are = ss }
       | false ↦ λ s. record { bits_are = sb; reads_are = s; claims_are = sc; scans_are = ss }
@@ -105,17 +120,35 @@ load_copy copy j k a v w sb sr sc ss = let granted : View = record (after_asking
 
 -- after a claim, by whether the writer word was 0
 pub claim_same : (j k a : ℕ) (v : View) (w : ℕ) → SameSeat v ((claim_writer_action j k a v).view [] w)
-claim_same j k a v w = let won : View = record (after_asking v a) { claims = k ∷ v.claims; scans = without_first k v.scans } in let met : View = after_meeting (after_asking v a) k (w - 1) in
-    elim (w == 0) as (λ (b : Bool). SameSeat v (if b then won else met)) [ true ↦ steady v won refl refl refl refl refl refl refl | false ↦ steady v met refl refl refl refl refl refl refl ]
+claim_same j k a v w = let won : View = record (after_asking v a) {
+  claims = k ∷ v.claims;
+  scans =
+      without_first k v.scans;
+} in let met : View = after_meeting (after_asking v a) k (w - 1) in
+    elim (w == 0) as (λ (b : Bool). SameSeat v (if b then won else met)) [
+      | true ↦
+          steady v won refl refl refl refl refl refl refl
+      | false ↦ steady v met refl refl refl refl refl refl refl
+    ]
 
 pub claim_phase : (j k a : ℕ) (v : View) (w : ℕ) → ((claim_writer_action j k a v).view [] w).phase ≡ v.phase
-claim_phase j k a v w = let won : View = record (after_asking v a) { claims = k ∷ v.claims; scans = without_first k v.scans } in let met : View = after_meeting (after_asking v a) k (w - 1) in
+claim_phase j k a v w = let won : View = record (after_asking v a) {
+  claims = k ∷ v.claims;
+  scans =
+      without_first k v.scans;
+} in let met : View = after_meeting (after_asking v a) k (w - 1) in
     elim (w == 0) as (λ (b : Bool). (if b then won else met).phase ≡ v.phase) [ true ↦ refl | false ↦ refl ]
 
-pub claim_copy : (copy : LockCopy) (j k a : ℕ) (v : View) (w : ℕ) → Shows copy.bits v.bits → Shows copy.reads v.reads → Shows copy.claims (if w == 0 then k ∷ v.claims else v.claims) → ShowsPairs copy.scans.items (if w == 0 then without_first k v.scans else v.scans)
+pub claim_copy : (copy : LockCopy) (j k a : ℕ) (v : View) (w : ℕ) → Shows copy.bits v.bits → Shows copy.reads v.reads
+    → Shows copy.claims (if w == 0 then k ∷ v.claims else v.claims) → ShowsPairs copy.scans.items (if w == 0 then without_first k v.scans else v.scans)
     → IsLockCopy copy ((claim_writer_action j k a v).view [] w)
-claim_copy copy j k a v w sb sr sc ss = let won : View = record (after_asking v a) { claims = k ∷ v.claims; scans = without_first k v.scans } in let met : View = after_meeting (after_asking v a) k (w - 1) in
-    (elim (w == 0) as (λ (b : Bool). Shows copy.claims (if b then k ∷ v.claims else v.claims) → ShowsPairs copy.scans.items (if b then without_first k v.scans else v.scans) → IsLockCopy copy (if b then won else met)) [
+claim_copy copy j k a v w sb sr sc ss = let won : View = record (after_asking v a) {
+  claims = k ∷ v.claims;
+  scans =
+      without_first k v.scans;
+} in let met : View = after_meeting (after_asking v a) k (w - 1) in
+    (elim (w == 0) as (λ (b : Bool). Shows copy.claims (if b then k ∷ v.claims else v.claims)
+    → ShowsPairs copy.scans.items (if b then without_first k v.scans else v.scans) → IsLockCopy copy (if b then won else met)) [
       | true ↦ λ s t. record { bits_are = sb; reads_are = sr; claims_are = s; scans_are = t }
       | false ↦ λ s t. record { bits_are = sb; reads_are = sr; claims_are = s; scans_are = t }
     ]) sc ss
@@ -123,22 +156,29 @@ claim_copy copy j k a v w sb sr sc ss = let won : View = record (after_asking v 
 -- after a scan, by whether the bit was clear
 pub scan_same : (j k i : ℕ) (v : View) (w : ℕ) → SameSeat v ((scan_row_action j k i v).view [] w)
 scan_same j k i v w = let clear : View = record v { scans = (k, i) ∷ v.scans } in
-    elim (bit_at w (k % 64) == 0) as (λ (b : Bool). SameSeat v (if b then clear else after_meeting v k i)) [ true ↦ steady v clear refl refl refl refl refl refl refl | false ↦ steady v (after_meeting v k i) refl refl refl refl refl refl refl ]
+    elim (bit_at w (k % 64) == 0) as (λ (b : Bool). SameSeat v (if b then clear else after_meeting v k i)) [
+      | true ↦
+          steady v clear refl refl refl refl refl refl refl
+      | false ↦ steady v (after_meeting v k i) refl refl refl refl refl refl refl
+    ]
 
 pub scan_phase : (j k i : ℕ) (v : View) (w : ℕ) → ((scan_row_action j k i v).view [] w).phase ≡ v.phase
 scan_phase j k i v w = let clear : View = record v { scans = (k, i) ∷ v.scans } in
     elim (bit_at w (k % 64) == 0) as (λ (b : Bool). (if b then clear else after_meeting v k i).phase ≡ v.phase) [ true ↦ refl | false ↦ refl ]
 
-pub scan_copy : (copy : LockCopy) (j k i : ℕ) (v : View) (w : ℕ) → Shows copy.bits v.bits → Shows copy.reads v.reads → Shows copy.claims v.claims → ShowsPairs copy.scans.items (if bit_at w (k % 64) == 0 then (k, i) ∷ v.scans else v.scans)
+pub scan_copy : (copy : LockCopy) (j k i : ℕ) (v : View) (w : ℕ) → Shows copy.bits v.bits → Shows copy.reads v.reads
+    → Shows copy.claims v.claims → ShowsPairs copy.scans.items (if bit_at w (k % 64) == 0 then (k, i) ∷ v.scans else v.scans)
     → IsLockCopy copy ((scan_row_action j k i v).view [] w)
 scan_copy copy j k i v w sb sr sc ss = let clear : View = record v { scans = (k, i) ∷ v.scans } in
-    (elim (bit_at w (k % 64) == 0) as (λ (b : Bool). ShowsPairs copy.scans.items (if b then (k, i) ∷ v.scans else v.scans) → IsLockCopy copy (if b then clear else after_meeting v k i)) [
+    (elim (bit_at w (k % 64) == 0) as
+    (λ (b : Bool). ShowsPairs copy.scans.items (if b then (k, i) ∷ v.scans else v.scans) → IsLockCopy copy (if b then clear else after_meeting v k i)) [
       | true ↦ λ t. record { bits_are = sb; reads_are = sr; claims_are = sc; scans_are = t }
       | false ↦ λ t. record { bits_are = sb; reads_are = sr; claims_are = sc; scans_are = t }
     ]) ss
 
 -- the bit that the code looks at
-pub clear_bit : (masks : List ℕ) (w i : ℕ) (a b : List (ℕ × ℕ)) → ShowsPairs masks (if bit_and (w / 2 ^ i) 1 == 0 then a else b) → ShowsPairs masks (if bit_at w i == 0 then a else b)
+pub clear_bit : (masks : List ℕ) (w i : ℕ) (a b : List (ℕ × ℕ))
+    → ShowsPairs masks (if bit_and (w / 2 ^ i) 1 == 0 then a else b) → ShowsPairs masks (if bit_at w i == 0 then a else b)
 clear_bit masks w i a b h = subst (λ (x : ℕ). ShowsPairs masks (if x == 0 then a else b)) (shr_and_one w i) h
 
 -- a row under a test that has the same answer
@@ -146,7 +186,8 @@ pub same_test : (row locks : List ℕ) (k : ℕ) (a b : Bool) → a ≡ b → Sh
 same_test row locks k a b e h = subst (λ (x : Bool). Shows row (if x then k ∷ locks else locks)) e h
 
 -- a copy of a view's locks is one of any view with the same
-pub same_locks : (copy : LockCopy) (v w : View) → w.bits ≡ v.bits → w.reads ≡ v.reads → w.claims ≡ v.claims → w.scans ≡ v.scans → IsLockCopy copy v → IsLockCopy copy w
+pub same_locks : (copy : LockCopy) (v w : View) → w.bits ≡ v.bits → w.reads ≡ v.reads → w.claims ≡ v.claims
+    → w.scans ≡ v.scans → IsLockCopy copy v → IsLockCopy copy w
 same_locks copy v w eb er ec es i = record {
   bits_are = subst (λ (l : List ℕ). Shows copy.bits l) (sym eb) i.bits_are;
   reads_are = subst (λ (l : List ℕ). Shows copy.reads l) (sym er) i.reads_are;

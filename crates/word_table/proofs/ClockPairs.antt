@@ -16,7 +16,9 @@ use Rattle.values_rule.specs.Asides.{IsAside, SameValues, IsNewCause, GivesWay, 
 use Rattle.values_rule.specs.Values.{ValuesHold}
 use Rattle.values_rule.proofs.Asides.{SameWords, words_unchanged, values_same, values_yield, values_restart, aside_keeps}
 use Rattle.stamps_rule.specs.Causes.{causes_of}
-use Rattle.stamps_rule.specs.Steps.{MayDrawStamp, MayAnnounceStamp, MayJudgeStamp, MayLoadSerialAtYield, MayLoadCauseStamp, draw_stamp_action, announce_stamp_action, judge_stamp_action, load_serial_at_yield_action, load_cause_stamp_action, judged, after_giving_way, after_waiting, after_restarting}
+use Rattle.stamps_rule.specs.Steps.{MayDrawStamp, MayAnnounceStamp, MayJudgeStamp, MayLoadSerialAtYield, MayLoadCauseStamp, draw_stamp_action}
+use Rattle.stamps_rule.specs.Steps.{announce_stamp_action, judge_stamp_action, load_serial_at_yield_action, load_cause_stamp_action, judged, after_giving_way}
+use Rattle.stamps_rule.specs.Steps.{after_waiting, after_restarting}
 use Rattle.stamps_rule.proofs.CauseLists.{due_is_cause, due_elsewhere}
 use Rattle.stamps_rule.proofs.LocksStand.{runs, yielded}
 use Rattle.word_table.specs.Sound.{IsSound}
@@ -32,7 +34,8 @@ ValuesStay good may action =
 abbrev restamped : View → ℕ → Bool → ℕ → List ℕ → Option Cause → ℕ → View
 restamped v stamp announced draws met due waits = record v { stamp = stamp; announced = announced; draws = draws; met = met; due = due; waits = waits }
 
-same_values : (v : View) (stamp : ℕ) (announced : Bool) (draws : ℕ) (met : List ℕ) (due : Option Cause) (waits : ℕ) → v.stamp ≤ stamp → SameValues v (restamped v stamp announced draws met due waits)
+same_values : (v : View) (stamp : ℕ) (announced : Bool) (draws : ℕ) (met : List ℕ) (due : Option Cause) (waits : ℕ)
+    → v.stamp ≤ stamp → SameValues v (restamped v stamp announced draws met due waits)
 same_values v stamp announced draws met due waits later = record {
   calls = record {
     goes_on = record { who = refl; joined = refl; call = refl; floor = refl; still_open = λ t. t; still_begun = λ busy. busy };
@@ -54,7 +57,8 @@ stamps_aside n m j e lt = record { serial = omega arith; calls = inr (omega arit
 pub draw_stamp_values : (good : List ℕ → Type 0) (j : ℕ) → ValuesStay good (MayDrawStamp j) (draw_stamp_action j)
 draw_stamp_values good j n base ws vs id v s me may =
     let zero = may.unstamped in
-    aside_keeps good n base ws vs id v (draw_stamp_action j v) s.locks s.values me (record { serial = omega arith; calls = inl (omega arith); values = omega arith })
+    aside_keeps good n base ws vs id v (draw_stamp_action j v) s.locks s.values me
+    (record { serial = omega arith; calls = inl (omega arith); values = omega arith })
     (same_values v (slice_index ws clock_word + 1) v.announced (v.draws + 1) v.met v.due v.waits (omega arith))
 
 pub announce_stamp_values : (good : List ℕ → Type 0) (j : ℕ) → ValuesStay good (MayAnnounceStamp j) (announce_stamp_action j)
@@ -67,7 +71,8 @@ pub judge_stamp_values : (good : List ℕ → Type 0) (j i : ℕ) → ValuesStay
 judge_stamp_values good j i n base ws vs id v s me may =
     let o = own n base ws vs id j v s.locks me may.who in
     let x : ℕ = slice_index ws (stamps_word v.seats i) in
-    aside_keeps good n base ws vs id v (judge_stamp_action j i v) s.locks s.values me (stamps_aside n v.seats i o.seats (s.locks.met_are_others id i v me may.met).0)
+    aside_keeps good n base ws vs id v (judge_stamp_action j i v) s.locks s.values me
+    (stamps_aside n v.seats i o.seats (s.locks.met_are_others id i v me may.met).0)
     (same_values v v.stamp v.announced v.draws (without i v.met) (judged i x v.stamp) v.waits (omega arith))
 
 pub load_serial_at_yield_values : (good : List ℕ → Type 0) (j : ℕ) → ValuesStay good (MayLoadSerialAtYield j) (load_serial_at_yield_action j)
@@ -105,7 +110,14 @@ load_cause_stamp_values good j i stamp n base ws vs id v s me may =
     let same : SameWords n ws ws' = words_unchanged n ws at x refl in
     let again : Restarts v (after_restarting v) = record {
       calls = record {
-        goes_on = record { who = refl; joined = refl; call = refl; floor = refl; still_open = λ t. ap is_open may.phase; still_begun = λ busy idle. let z : Yielding ≡ Idle = sym may.phase ∙ idle in cc };
+        goes_on = record {
+          who = refl;
+          joined = refl;
+          call = refl;
+          floor = refl;
+          still_open = λ t. ap is_open may.phase;
+          still_begun = λ busy idle. let z : Yielding ≡ Idle = sym may.phase ∙ idle in cc;
+        };
         seen = refl;
         olds = refl;
         abandoned = refl;
@@ -117,5 +129,6 @@ load_cause_stamp_values good j i stamp n base ws vs id v s me may =
       undo = may.undone;
     } in
     picked (λ (u : View). ValuesHold good n base ws' (slice_set vs id u)) (x == stamp) (after_waiting v) (after_restarting v)
-    (values_same good n base ws vs id v s.locks s.values me (after_waiting v) ws' same (same_values v v.stamp v.announced v.draws v.met v.due (v.waits + 1) (omega arith)))
+    (values_same good n base ws vs id v s.locks s.values me (after_waiting v) ws' same
+    (same_values v v.stamp v.announced v.draws v.met v.due (v.waits + 1) (omega arith)))
     (values_restart good n base ws vs id v s.locks s.values me (after_restarting v) ws' same again)

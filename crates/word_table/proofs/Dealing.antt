@@ -1,5 +1,6 @@
 -- The run in which the seats are dealt out: one cut after another, until each number has a view of its own.
-use Rattle.std.proofs.Common.{◌≡◌, ℕ, zero, suc, ◌+◌, ◌<◌, inl, inr, List, [], ◌∷◌, ◌++◌, length, length-append, Some, slice_get, refl, sym, ap, ◌∙◌, subst, arith}
+use Rattle.std.proofs.Common.{◌≡◌, ℕ, zero, suc, ◌+◌, ◌<◌, inl, inr, List, [], ◌∷◌, ◌++◌, length, length-append, Some, slice_get, refl, sym, ap, ◌∙◌, subst}
+use Rattle.std.proofs.Common.{arith}
 use Rattle.std.proofs.lemmas.Option.{slice_get_within}
 use mathlib.Core.Logic.{dite}
 use native.Mathlib.Decide.{ℕ_discrete}
@@ -38,7 +39,8 @@ module _ (good : List ℕ → Type 0) (n : ℕ) (base : List ℕ) (run : List Ta
   next p a b here there = dite (ℕ_discrete p m)
       (λ e. let is_last : slice_get run p ≡ Some s = subst (λ (i : ℕ). slice_get run i ≡ Some s) (sym e) last in
       let a_is : s ≡ a = some_same s a (sym is_last ∙ old p a (omega arith) here) in
-      let new : slice_get (run ++ t ∷ []) (suc p) ≡ Some t = subst (λ (i : ℕ). slice_get (run ++ t ∷ []) (suc i) ≡ Some t) (sym e) (get_last run t (suc m) long) in
+      let new : slice_get (run ++ t ∷ []) (suc p) ≡ Some t =
+      subst (λ (i : ℕ). slice_get (run ++ t ∷ []) (suc i) ≡ Some t) (sym e) (get_last run t (suc m) long) in
       let b_is : t ≡ b = some_same t b (sym new ∙ there) in
       subst (λ (x : TableState). Steps good x b) a_is (subst (λ (x : TableState). Steps good s x) b_is step))
       (λ ne. let near = within (suc p) b there in r.next p a b (old p a (omega arith) here) (old (suc p) b (omega arith) there))
@@ -87,7 +89,8 @@ module _ (good : List ℕ → Type 0) (n : ℕ) (base : List ℕ) where
     words_are = refl;
     views_are = let all : suc k ≡ n = omega arith in ap (λ (m : ℕ). opening_view base n (numbers 0 m) [] ∷ []) all;
   })
-  run_runs (suc j) k e = one_more good n base (run_to j (suc k)) j (at j (suc k)) (at (suc j) k) (run_runs j (suc k) (omega arith)) (run_long j (suc k)) (run_last j (suc k))
+  run_runs (suc j) k e = one_more good n base (run_to j (suc k)) j (at j (suc k)) (at (suc j) k)
+      (run_runs j (suc k) (omega arith)) (run_long j (suc k)) (run_last j (suc k))
       (inr (inl (cuts j k)))
 
   dealt_long : (j : ℕ) → length (dealt j) ≡ j
@@ -98,7 +101,8 @@ module _ (good : List ℕ → Type 0) (n : ℕ) (base : List ℕ) where
   dealt_there zero j lt = absurd (omega arith)
   dealt_there (suc m) j lt = dite (ℕ_discrete j m)
       (λ e. subst (λ (i : ℕ). Knows (dealt m ++ opening_view base n (m ∷ []) [] ∷ []) i (opening_view base n (j ∷ []) [])) (dealt_long m ∙ sym e)
-      (subst (λ (i : ℕ). Knows (dealt m ++ opening_view base n (m ∷ []) [] ∷ []) (length (dealt m)) (opening_view base n (i ∷ []) [])) (sym e) (added_here (dealt m) (opening_view base n (m ∷ []) []))))
+      (subst (λ (i : ℕ). Knows (dealt m ++ opening_view base n (m ∷ []) [] ∷ []) (length (dealt m))
+      (opening_view base n (i ∷ []) [])) (sym e) (added_here (dealt m) (opening_view base n (m ∷ []) []))))
       (λ ne. added_there (dealt m) (opening_view base n (m ∷ []) []) (opening_view base n (j ∷ []) []) j (dealt_there m j (omega arith)))
 
   all_dealt : (m : ℕ) → n ≡ suc m → AreDealt n base (opening_view base n (numbers m 1) [] ∷ dealt m)

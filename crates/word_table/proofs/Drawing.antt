@@ -11,7 +11,9 @@ use Rattle.locks_rule.specs.Steps.{is_free, after_asking, after_meeting}
 use Rattle.stamps_rule.specs.Steps.{after_yielding, after_waiting, after_restarting}
 use Rattle.stamps_rule.proofs.Counting.{draws_of-set}
 use Rattle.word_table.specs.declared.step.Step.{Step}
-use Rattle.word_table.specs.declared.step.Step.TheVariants.{SetReadBit, ClearReadBit, LoadWriter, ClaimWriter, ScanRow, ReleaseWriter, BeginCall, LoadValue, StoreValue, UndoStore, CommitCall, ClearStamp, LoadSerial, DrawStamp, AnnounceStamp, JudgeStamp, LoadSerialAtYield, LoadCauseStamp}
+use Rattle.word_table.specs.declared.step.Step.TheVariants.{SetReadBit, ClearReadBit, LoadWriter, ClaimWriter, ScanRow, ReleaseWriter, BeginCall, LoadValue}
+use Rattle.word_table.specs.declared.step.Step.TheVariants.{StoreValue, UndoStore, CommitCall, ClearStamp, LoadSerial, DrawStamp, AnnounceStamp, JudgeStamp}
+use Rattle.word_table.specs.declared.step.Step.TheVariants.{LoadSerialAtYield, LoadCauseStamp}
 use Rattle.word_table.specs.Kinds.{action_of}
 use Rattle.word_table.specs.Meetings.{ClockCountsDraws, OnlyDrawsMoveClock}
 use Rattle.word_table.proofs.KeptKinds.{sound_kept}
@@ -33,9 +35,11 @@ yielding (Some cause) h v = refl
 drew_none : (st : Step) (v : View) (h : List Entry) (w : ℕ) → ((j : ℕ) → st ≢ DrawStamp j) → DrewNone v ((action_of st v).view h w)
 drew_none (SetReadBit j l a) v h w other = refl
 drew_none (ClearReadBit j l) v h w other = refl
-drew_none (LoadWriter j l a) v h w other = either (is_free j w) v (record (after_asking v a) { reads = l ∷ v.reads }) (after_meeting (after_asking v a) l (w - 1)) refl refl
+drew_none (LoadWriter j l a) v h w other =
+    either (is_free j w) v (record (after_asking v a) { reads = l ∷ v.reads }) (after_meeting (after_asking v a) l (w - 1)) refl refl
 drew_none (ClaimWriter j l a) v h w other =
-    either (w == 0) v (record (after_asking v a) { claims = l ∷ v.claims; scans = without_first l v.scans }) (after_meeting (after_asking v a) l (w - 1)) refl refl
+    either (w == 0) v (record (after_asking v a) { claims = l ∷ v.claims; scans = without_first l v.scans })
+    (after_meeting (after_asking v a) l (w - 1)) refl refl
 drew_none (ScanRow j l i) v h w other = either (bit_at w (l % 64) == 0) v (record v { scans = (l, i) ∷ v.scans }) (after_meeting v l i) refl refl
 drew_none (ReleaseWriter j l) v h w other = refl
 drew_none (BeginCall j) v h w other = refl

@@ -1,5 +1,6 @@
 -- What a number that was found in the table, or is stored there, says while the rule holds.
-use Rattle.std.proofs.Common.{◌≡◌, ◌≢◌, ℕ, zero, suc, ◌+◌, ◌*◌, ◌/◌, ◌%◌, ◌^◌, ◌<◌, ◌≤◌, true, inl, inr, ⊎_elim, List, [], ◌∷◌, slice_index, sym, ap, ◌∙◌, subst, arith}
+use Rattle.std.proofs.Common.{◌≡◌, ◌≢◌, ℕ, zero, suc, ◌+◌, ◌*◌, ◌/◌, ◌%◌, ◌^◌, ◌<◌, ◌≤◌, true, inl, inr, ⊎_elim, List, [], ◌∷◌, slice_index, sym, ap, ◌∙◌}
+use Rattle.std.proofs.Common.{subst, arith}
 use Rattle.std.specs.Prelude.{bit_and, bit_or}
 use Rattle.std.specs.Int.{bit_at, bit_not}
 use Rattle.std.proofs.lemmas.Nat.Bits.{same_from_bits_below}
@@ -22,7 +23,8 @@ use Rattle.word_table.specs.Kinds.{Stores}
 abbrev pub StandsIn : List View → ℕ → ℕ → Type 0
 StandsIn vs k i = (place : ℕ) × (u : View) × Knows vs place u × IsAt u k i
 
-module _ (n : ℕ) (base ws : List ℕ) (vs : List View) (id : ℕ) (v : View) (j k : ℕ) (h : LocksHold n base ws vs) (me : Knows vs id v) (single : v.who ≡ j ∷ []) (near : k < LOCKS) where
+module _ (n : ℕ) (base ws : List ℕ) (vs : List View) (id : ℕ) (v : View) (j k : ℕ) (h : LocksHold n base ws vs)
+    (me : Knows vs id v) (single : v.who ≡ j ∷ []) (near : k < LOCKS) where
   -- a writer word that was found names a seat that claims
   pub claimant_found : (w i : ℕ) → slice_index ws (writer_word v.seats k) ≡ w → w ≡ i + 1 → (i < v.seats) × StandsIn vs k i
   claimant_found w i e is =
@@ -45,23 +47,33 @@ module _ (n : ℕ) (base ws : List ℕ) (vs : List View) (id : ℕ) (v : View) (
   reader_found i w lt e set =
       let b : v.seats ≡ n = so_many n base ws vs id v h me j k single near in
       let s = h.numbers_placed i (omega arith) in
-      let shown : bit_at w (k % 64) ≡ flag (has k s.1.bits) = ap (λ (x : ℕ). bit_at x (k % 64)) (sym e ∙ ap (λ (m : ℕ). slice_index ws (row_word m i k)) b) ∙ h.rows_show_bits s.0 i k s.1 s.2 near in
+      let shown : bit_at w (k % 64) ≡ flag (has k s.1.bits) =
+      ap (λ (x : ℕ). bit_at x (k % 64)) (sym e ∙ ap (λ (m : ℕ). slice_index ws (row_word m i k)) b) ∙ h.rows_show_bits s.0 i k s.1 s.2 near in
       let bit : has k s.1.bits ≡ true = ⊎_elim (λ t. t) (λ f. absurd (set (shown ∙ ap flag f))) (bool_cases (has k s.1.bits)) in
       (s.0, s.1, s.2.knows, record { named = s.2.named; holds = inl bit; asked = h.bits_were_asked s.0 k s.1 s.2.knows bit })
 
   -- the table's row word is the pass's own
-  same_word : (row : List ℕ) → Shows row v.bits → slice_index row (k / 64) < 2 ^ 64 → slice_index ws (row_word v.seats j k) < 2 ^ 64 → slice_index ws (row_word v.seats j k) ≡ slice_index row (k / 64)
+  same_word : (row : List ℕ) → Shows row v.bits → slice_index row (k / 64) < 2 ^ 64
+      → slice_index ws (row_word v.seats j k) < 2 ^ 64 → slice_index ws (row_word v.seats j k) ≡ slice_index row (k / 64)
   same_word row shown fits wide = same_from_bits_below 64 (slice_index ws (row_word v.seats j k)) (slice_index row (k / 64)) wide fits
       (λ i lt. let l : ℕ = 64 * (k / 64) + i in let b : v.seats ≡ n = so_many n base ws vs id v h me j k single near in
       let q : l / 64 ≡ k / 64 = omega arith in let r : l % 64 ≡ i = omega arith in let close : l < 1024 = omega arith in
       let place : row_word n j l ≡ row_word v.seats j k = omega arith in
       let A : ℕ → ℕ → Type 0 = λ x y. bit_at (slice_index ws x) y ≡ flag (has l v.bits) in
-      let a : bit_at (slice_index ws (row_word v.seats j k)) i ≡ flag (has l v.bits) = subst (λ (y : ℕ). A (row_word v.seats j k) y) r (subst (λ (x : ℕ). A x (l % 64)) place (h.rows_show_bits id j l v (own_seat n base ws vs id v h me j k single near) close)) in
-      let c : bit_at (slice_index row (k / 64)) i ≡ flag (has l v.bits) = subst (λ (y : ℕ). bit_at (slice_index row (k / 64)) y ≡ flag (has l v.bits)) r (subst (λ (x : ℕ). bit_at (slice_index row x) (l % 64) ≡ flag (has l v.bits)) q (shown.bits l close)) in
+      let a : bit_at (slice_index ws (row_word v.seats j k)) i ≡ flag (has l v.bits) =
+      subst (λ (y : ℕ). A (row_word v.seats j k) y) r
+      (subst (λ (x : ℕ). A x (l % 64)) place (h.rows_show_bits id j l v (own_seat n base ws vs id v h me j k single near) close)) in
+      let c : bit_at (slice_index row (k / 64)) i ≡ flag (has l v.bits) =
+      subst (λ (y : ℕ). bit_at (slice_index row (k / 64)) y ≡ flag (has l v.bits)) r
+      (subst (λ (x : ℕ). bit_at (slice_index row x) (l % 64) ≡ flag (has l v.bits)) q (shown.bits l close)) in
       a ∙ sym c)
 
-pub set_stores : (v : View) (row : List ℕ) (j k a x : ℕ) → v.who ≡ j ∷ [] → k < LOCKS → Shows row v.bits → slice_index row (k / 64) < 2 ^ 64 → x ≡ bit_or (slice_index row (k / 64)) (2 ^ (k % 64)) → Stores (set_read_bit_action j k a v) v x
-set_stores v row j k a x single near shown fits e n base ws vs id h me wide = ap (λ (w : ℕ). bit_or w (2 ^ (k % 64))) (same_word n base ws vs id v j k h me single near row shown fits wide) ∙ sym e
+pub set_stores : (v : View) (row : List ℕ) (j k a x : ℕ) → v.who ≡ j ∷ [] → k < LOCKS → Shows row v.bits
+    → slice_index row (k / 64) < 2 ^ 64 → x ≡ bit_or (slice_index row (k / 64)) (2 ^ (k % 64)) → Stores (set_read_bit_action j k a v) v x
+set_stores v row j k a x single near shown fits e n base ws vs id h me wide =
+    ap (λ (w : ℕ). bit_or w (2 ^ (k % 64))) (same_word n base ws vs id v j k h me single near row shown fits wide) ∙ sym e
 
-pub clear_stores : (v : View) (row : List ℕ) (j k x : ℕ) → v.who ≡ j ∷ [] → k < LOCKS → Shows row v.bits → slice_index row (k / 64) < 2 ^ 64 → x ≡ bit_and (slice_index row (k / 64)) (bit_not w64 (2 ^ (k % 64))) → Stores (clear_read_bit_action j k v) v x
-clear_stores v row j k x single near shown fits e n base ws vs id h me wide = ap (λ (w : ℕ). bit_and w (bit_not w64 (2 ^ (k % 64)))) (same_word n base ws vs id v j k h me single near row shown fits wide) ∙ sym e
+pub clear_stores : (v : View) (row : List ℕ) (j k x : ℕ) → v.who ≡ j ∷ [] → k < LOCKS → Shows row v.bits
+    → slice_index row (k / 64) < 2 ^ 64 → x ≡ bit_and (slice_index row (k / 64)) (bit_not w64 (2 ^ (k % 64))) → Stores (clear_read_bit_action j k v) v x
+clear_stores v row j k x single near shown fits e n base ws vs id h me wide =
+    ap (λ (w : ℕ). bit_and w (bit_not w64 (2 ^ (k % 64)))) (same_word n base ws vs id v j k h me single near row shown fits wide) ∙ sym e

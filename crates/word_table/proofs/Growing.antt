@@ -15,7 +15,8 @@ unfolding calls_below
 calls_small n zero ws few = omega arith
 calls_small n (suc m) ws few = let rest = calls_small n m ws (λ j lt. few j (omega arith)) in let here = few m (omega arith) in omega arith
 
-pub commit_grows : (good : List ℕ → Type 0) (v : View) (j : ℕ) (kept : Bool) → v.who ≡ j ∷ [] → v.seats ≤ MOST_PASSES → Grows good (commit_call_action j kept v) v
+pub commit_grows : (good : List ℕ → Type 0) (v : View) (j : ℕ) (kept : Bool) → v.who ≡ j ∷ [] → v.seats ≤ MOST_PASSES
+    → Grows good (commit_call_action j kept v) v
 commit_grows good v j kept single few n base ws vs id h me =
     let o = own n base ws vs id j v h.locks me single in
     let small = calls_small n n ws (λ i lt. h.values.calls.calls_fit i lt) in

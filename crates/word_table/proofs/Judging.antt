@@ -1,5 +1,6 @@
 -- What judge comes to: it gives way exactly where the other seat shows an earlier timestamp, and the attempt's cause is that.
-use Rattle.std.proofs.Common.{◌≡◌, ◌≢◌, ℕ, suc, ◌<◌, ◌≤◌, Bool, true, false, ◌&&◌, ◌⊎◌, inl, inr, ⊎_elim, List, [], ◌∷◌, length, Option, Some, None, nat_lt, if◌then◌else◌, refl, sym, ap, ◌∙◌, subst, arith}
+use Rattle.std.proofs.Common.{◌≡◌, ◌≢◌, ℕ, suc, ◌<◌, ◌≤◌, Bool, true, false, ◌&&◌, ◌⊎◌, inl, inr, ⊎_elim, List, [], ◌∷◌, length, Option, Some, None, nat_lt}
+use Rattle.std.proofs.Common.{if◌then◌else◌, refl, sym, ap, ◌∙◌, subst, arith}
 use Rattle.std.proofs.lemmas.Bool.Decides.{leb_tells}
 use Rattle.std.proofs.lemmas.List.{append-nil}
 use mathlib.Core.Option.{some-injective}
@@ -20,7 +21,8 @@ use Rattle.stamps_rule.specs.Causes.{newest, past_causes}
 use Rattle.stamps_rule.specs.Stamps.{AreRestartsBounded}
 use Rattle.stamps_rule.proofs.Bounds.{restarts_bounded}
 use Rattle.stamps_rule.proofs.CauseLists.{past_added, newest_added}
-use Rattle.stamps_rule.specs.Steps.{MayJudgeStamp, MayLoadSerialAtYield, judge_stamp_action, load_serial_at_yield_action, judged, attempt_of, after_yielding, after_giving_way}
+use Rattle.stamps_rule.specs.Steps.{MayJudgeStamp, MayLoadSerialAtYield, judge_stamp_action, load_serial_at_yield_action, judged, attempt_of, after_yielding}
+use Rattle.stamps_rule.specs.Steps.{after_giving_way}
 use Rattle.word_table.specs.declared.answer.Judged.{Judged}
 use Rattle.word_table.specs.declared.answer.Judged.TheVariants as answer
 use Rattle.word_table.specs.declared.step.Step.TheVariants.{JudgeStamp, LoadSerialAtYield}
@@ -30,10 +32,12 @@ use Rattle.word_table.specs.Sound.{IsSound}
 use Rattle.word_table.proofs.KeptKinds.{sound_kept}
 
 -- both are chosen by one test
-shown_cases : (shown own : ℕ) → (((nat_lt 0 shown && nat_lt shown own) ≡ true) × (0 < shown) × (shown < own)) ⊎ (((nat_lt 0 shown && nat_lt shown own) ≡ false) × ((shown ≡ 0) ⊎ (own ≤ shown)))
+shown_cases : (shown own : ℕ) → (((nat_lt 0 shown && nat_lt shown own) ≡ true) × (0 < shown) × (shown < own))
+    ⊎ (((nat_lt 0 shown && nat_lt shown own) ≡ false) × ((shown ≡ 0) ⊎ (own ≤ shown)))
 shown_cases shown own = ⊎_elim
     (λ (a : (nat_lt 0 shown ≡ true) × (1 ≤ shown)). ⊎_elim
-    (λ (b : (nat_lt shown own ≡ true) × (suc shown ≤ own)). let low = a.1 in let high = b.1 in inl (ap (λ (t : Bool). t && nat_lt shown own) a.0 ∙ b.0, omega arith, omega arith))
+    (λ (b : (nat_lt shown own ≡ true) × (suc shown ≤ own)). let low = a.1 in let high = b.1 in
+    inl (ap (λ (t : Bool). t && nat_lt shown own) a.0 ∙ b.0, omega arith, omega arith))
     (λ (b : (nat_lt shown own ≡ false) × (own < suc shown)). let high = b.1 in inr (ap (λ (t : Bool). t && nat_lt shown own) a.0 ∙ b.0, inr (omega arith)))
     (leb_tells (suc shown) own))
     (λ (a : (nat_lt 0 shown ≡ false) × (shown < 1)). let low = a.1 in inr (ap (λ (t : Bool). t && nat_lt shown own) a.0, inl (omega arith)))
@@ -43,7 +47,8 @@ yield_same : (a b : ℕ) → answer.Yield a ≡ answer.Yield b → a ≡ b
 yield_same a b e = cc
 
 -- where it gives way, the cause is what was shown, and that is earlier
-pub yield_due : (i shown own stamp : ℕ) → judged_of shown own ≡ answer.Yield stamp → (judged i shown own ≡ Some (record { seat = i; stamp = stamp })) × (shown ≡ stamp) × (0 < stamp) × (stamp < own)
+pub yield_due : (i shown own stamp : ℕ) → judged_of shown own ≡ answer.Yield stamp
+    → (judged i shown own ≡ Some (record { seat = i; stamp = stamp })) × (shown ≡ stamp) × (0 < stamp) × (stamp < own)
 yield_due i shown own stamp e = ⊎_elim
     (λ t. let is : shown ≡ stamp = yield_same shown stamp (sym (ap (λ (b : Bool). if b then answer.Yield shown else answer.Wait) t.0) ∙ e) in (
       ap (λ (b : Bool). if b then Some (record { seat = i; stamp = shown }) else None) t.0 ∙ ap (λ (x : ℕ). Some (record { seat = i; stamp = x })) is,
@@ -74,20 +79,23 @@ judged_cases answer.Wait = inl refl
 judged_cases (answer.Yield stamp) = inr (stamp, refl)
 
 -- a view that is judged and has to give way may do so
-pub may_yield : (j i shown stamp : ℕ) (v u : View) (r : Judged) → u ≡ (judge_stamp_action j i v).view [] shown → v.who ≡ j ∷ [] → v.phase ≡ Running → r ≡ judged_of shown v.stamp → r ≡ answer.Yield stamp → MayLoadSerialAtYield j u
+pub may_yield : (j i shown stamp : ℕ) (v u : View) (r : Judged) → u ≡ (judge_stamp_action j i v).view [] shown
+    → v.who ≡ j ∷ [] → v.phase ≡ Running → r ≡ judged_of shown v.stamp → r ≡ answer.Yield stamp → MayLoadSerialAtYield j u
 may_yield j i shown stamp v u r e who runs is yields = record {
   who = ap (λ (x : View). x.who) e ∙ who;
   phase = ap (λ (x : View). x.phase) e ∙ runs;
   cause = (record { seat = i; stamp = stamp }, ap (λ (x : View). x.due) e ∙ (yield_due i shown v.stamp stamp (sym is ∙ yields)).0);
 }
 
-module _ (good : List ℕ → Type 0) (n : ℕ) (base : List ℕ) (v : View) (i : ℕ) (r : Judged) (w : View) (d : JudgedBy (IsSound good n base) v i r w) (may : MayJudgeStamp (number v) i v) where
+module _ (good : List ℕ → Type 0) (n : ℕ) (base : List ℕ) (v : View) (i : ℕ) (r : Judged) (w : View)
+    (d : JudgedBy (IsSound good n base) v i r w) (may : MayJudgeStamp (number v) i v) where
   abbrev first : Action
   first = judge_stamp_action (number v) i v
 
   -- where it waits, the seat is judged, and that is all
   pub judged_waits : r ≡ answer.Wait → w ≡ record v { met = without i v.met }
-  judged_waits e = d.waits e ∙ (d.taken.view ∙ ap (λ (o : Option Cause). record v { met = without i v.met; due = o }) ((wait_due i d.found v.stamp (sym d.answer ∙ e)).0 ∙ sym may.no_cause))
+  judged_waits e = d.waits e ∙ (d.taken.view
+      ∙ ap (λ (o : Option Cause). record v { met = without i v.met; due = o }) ((wait_due i d.found v.stamp (sym d.answer ∙ e)).0 ∙ sym may.no_cause))
 
   -- the state that the look leads to is sound, and the seat then knows the view between
   after_first : IsSound good n base (words_after first d.taken.words) (views_after first d.taken.place d.taken.words d.taken.views)
@@ -147,7 +155,9 @@ module _ (good : List ℕ → Type 0) (n : ℕ) (base : List ℕ) (v : View) (i 
     stays : history_of views' ≡ history_of then.views
     stays = history_is views' (history_of then.views) then.place w
         (λ other u k. ⊎_elim
-        (λ t. subst (λ (x : View). IsPrefix x.seen (history_of then.views)) (some-injective w u (sym knows_second ∙ subst (λ (o : ℕ). Knows views' o u) t.0 k)) (subst (λ (l : List Entry). IsPrefix l (history_of then.views)) (sym sees) ([], sym (append-nil (history_of then.views)))))
+        (λ t. subst (λ (x : View). IsPrefix x.seen (history_of then.views)) (some-injective w u (sym knows_second
+        ∙ subst (λ (o : ℕ). Knows views' o u) t.0 k))
+        (subst (λ (l : List Entry). IsPrefix l (history_of then.views)) (sym sees) ([], sym (append-nil (history_of then.views)))))
         (λ t. then.holds.values.seen.seen_begin other u t.1)
         (put_cases then.views then.place other (second.view (history_of then.views) (found_by second then.words)) u k))
         knows_second sees
@@ -171,7 +181,8 @@ module _ (good : List ℕ → Type 0) (n : ℕ) (base : List ℕ) (v : View) (i 
         history = history_of then.views;
         view = gave_way;
         begins = subst (λ (l : List Entry). IsPrefix l (history_of then.views)) same_seen (then.holds.values.seen.seen_begin then.place d.between then.knows);
-        others = λ p x le at same. late p (length v.seen) le (subst (λ (l : List Entry). p < length l) same_seen (then.holds.values.calls.own_seen then.place (number v) p d.between x seat at same));
+        others = λ p x le at same. late p (length v.seen) le (subst (λ (l : List Entry). p < length l) same_seen
+            (then.holds.values.calls.own_seen then.place (number v) p d.between x seat at same));
         legal = then.holds.values.history.legal;
         opaque = opaque;
       },
@@ -182,14 +193,19 @@ module _ (good : List ℕ → Type 0) (n : ℕ) (base : List ℕ) (v : View) (i 
 
     -- the cause is the newest
     pub judged_cause : newest (past_causes w) ≡ Some (record { seat = i; stamp = stamp })
-    judged_cause = ap (λ (x : View). newest (past_causes x)) gave_way ∙ (ap (λ (l : List Cause). newest l) (past_added v.abandoned (attempt_of cause (length (history_of then.views)) v)) ∙ newest_added (past_causes v) cause)
+    judged_cause = ap (λ (x : View). newest (past_causes x)) gave_way
+        ∙ (ap (λ (l : List Cause). newest l)
+        (past_added v.abandoned (attempt_of cause (length (history_of then.views)) v)) ∙ newest_added (past_causes v) cause)
 
     bounded_yield : AreRestartsBounded n (number v) w
-    bounded_yield = restarts_bounded n base (words_after second then.words) views' then.place (number v) w after_second.locks after_second.stamps knows_second alone
+    bounded_yield = restarts_bounded n base (words_after second then.words) views' then.place (number v) w
+        after_second.locks after_second.stamps knows_second alone
 
   -- in either case the call gave way less often than there are seats
   pub judged_bounded : AreRestartsBounded n (number v) w
   judged_bounded = ⊎_elim
       (λ e. subst (λ (x : View). AreRestartsBounded n (number v) x) (sym (d.waits e))
-      (restarts_bounded n base (words_after first d.taken.words) (views_after first d.taken.place d.taken.words d.taken.views) d.taken.place (number v) d.between after_first.locks after_first.stamps knows_first alone_between))
+      (restarts_bounded n base (words_after first d.taken.words)
+      (views_after first d.taken.place d.taken.words d.taken.views) d.taken.place (number v) d.between
+      after_first.locks after_first.stamps knows_first alone_between))
       (λ y. bounded_yield y.0 y.1) (judged_cases r)

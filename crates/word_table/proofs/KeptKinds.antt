@@ -6,19 +6,26 @@ use Rattle.locks_rule.proofs.Readers.{set_read_bit_keeps, clear_read_bit_keeps, 
 use Rattle.locks_rule.proofs.Writers.{claim_writer_keeps, scan_row_keeps, release_writer_keeps}
 use Rattle.values_rule.proofs.CallKinds.{begin_call_values, clear_stamp_values}
 use Rattle.values_rule.proofs.Commits.{commit_call_values}
-use Rattle.values_rule.proofs.LockKinds.{set_read_bit_values, clear_read_bit_values, load_writer_values, claim_writer_values, scan_row_values, release_writer_values}
-use Rattle.values_rule.proofs.LocksStand.{begin_call_locks, load_value_locks, store_value_locks, undo_store_locks, commit_call_locks, clear_stamp_locks, load_serial_locks}
+use Rattle.values_rule.proofs.LockKinds.{set_read_bit_values, clear_read_bit_values, load_writer_values, claim_writer_values, scan_row_values}
+use Rattle.values_rule.proofs.LockKinds.{release_writer_values}
+use Rattle.values_rule.proofs.LocksStand.{begin_call_locks, load_value_locks, store_value_locks, undo_store_locks, commit_call_locks, clear_stamp_locks}
+use Rattle.values_rule.proofs.LocksStand.{load_serial_locks}
 use Rattle.values_rule.proofs.Looks.{load_serial_values}
 use Rattle.values_rule.proofs.ValueKinds.{load_value_values, store_value_values, undo_store_values}
-use Rattle.stamps_rule.proofs.LockKinds.{set_read_bit_stamps, clear_read_bit_stamps, load_writer_stamps, claim_writer_stamps, scan_row_stamps, release_writer_stamps}
+use Rattle.stamps_rule.proofs.LockKinds.{set_read_bit_stamps, clear_read_bit_stamps, load_writer_stamps, claim_writer_stamps, scan_row_stamps}
+use Rattle.stamps_rule.proofs.LockKinds.{release_writer_stamps}
 use Rattle.stamps_rule.proofs.LocksStand.{draw_stamp_locks, announce_stamp_locks, judge_stamp_locks, load_serial_at_yield_locks, load_cause_stamp_locks}
 use Rattle.stamps_rule.proofs.StampKinds.{draw_stamp_stamps, announce_stamp_stamps, judge_stamp_stamps, load_serial_at_yield_stamps, load_cause_stamp_stamps}
 use Rattle.word_table.specs.declared.step.Step.{Step}
-use Rattle.word_table.specs.declared.step.Step.TheVariants.{SetReadBit, ClearReadBit, LoadWriter, ClaimWriter, ScanRow, ReleaseWriter, BeginCall, LoadValue, StoreValue, UndoStore, CommitCall, ClearStamp, LoadSerial, DrawStamp, AnnounceStamp, JudgeStamp, LoadSerialAtYield, LoadCauseStamp}
+use Rattle.word_table.specs.declared.step.Step.TheVariants.{SetReadBit, ClearReadBit, LoadWriter, ClaimWriter, ScanRow, ReleaseWriter, BeginCall, LoadValue}
+use Rattle.word_table.specs.declared.step.Step.TheVariants.{StoreValue, UndoStore, CommitCall, ClearStamp, LoadSerial, DrawStamp, AnnounceStamp, JudgeStamp}
+use Rattle.word_table.specs.declared.step.Step.TheVariants.{LoadSerialAtYield, LoadCauseStamp}
 use Rattle.word_table.specs.Kinds.{action_of, May}
 use Rattle.word_table.specs.Sound.{IsSound}
-use Rattle.word_table.proofs.ClockPairs.{ValuesStay, draw_stamp_values, announce_stamp_values, judge_stamp_values, load_serial_at_yield_values, load_cause_stamp_values}
-use Rattle.word_table.proofs.ValuePairs.{StampsStay, begin_call_stamps, load_value_stamps, store_value_stamps, undo_store_stamps, commit_call_stamps, clear_stamp_stamps, load_serial_stamps}
+use Rattle.word_table.proofs.ClockPairs.{ValuesStay, draw_stamp_values, announce_stamp_values, judge_stamp_values, load_serial_at_yield_values}
+use Rattle.word_table.proofs.ClockPairs.{load_cause_stamp_values}
+use Rattle.word_table.proofs.ValuePairs.{StampsStay, begin_call_stamps, load_value_stamps, store_value_stamps, undo_store_stamps, commit_call_stamps}
+use Rattle.word_table.proofs.ValuePairs.{clear_stamp_stamps, load_serial_stamps}
 
 locks_kept : (good : List ℕ → Type 0) (n : ℕ) (base : List ℕ) (st : Step) → Keeps (LocksHold n base) (May good st) (action_of st)
 locks_kept good n base (SetReadBit j k a) = set_read_bit_keeps n base j k a

@@ -1,5 +1,6 @@
 -- In every state of every run: who meets whom, and what holds of each call.
-use Rattle.std.proofs.Common.{◌≡◌, ◌≢◌, ⊎_elim, ℕ, ◌+◌, ◌-◌, ◌%◌, ◌<◌, ◌≤◌, Bool, true, false, List, [], ◌∷◌, ◌++◌, length, Option, Some, None, slice_index, refl, sym, ap, ◌∙◌, subst, arith, eq-eqb, ne_eqb, ◌==◌, if◌then◌else◌}
+use Rattle.std.proofs.Common.{◌≡◌, ◌≢◌, ⊎_elim, ℕ, ◌+◌, ◌-◌, ◌%◌, ◌<◌, ◌≤◌, Bool, true, false, List, [], ◌∷◌, ◌++◌, length, Option, Some, None, slice_index}
+use Rattle.std.proofs.Common.{refl, sym, ap, ◌∙◌, subst, arith, eq-eqb, ne_eqb, ◌==◌, if◌then◌else◌}
 use Rattle.std.proofs.lemmas.List.{append_cancel_left, length_push}
 use Rattle.std.specs.Int.{bit_at}
 use mathlib.Core.Logic.{dite}
@@ -20,7 +21,9 @@ use Rattle.locks_rule.proofs.Readers.{free_cases}
 use Rattle.stamps_rule.specs.Steps.{after_yielding, after_waiting, after_restarting}
 use Rattle.stamps_rule.proofs.Bounds.{restarts_bounded}
 use Rattle.word_table.specs.declared.step.Step.{Step}
-use Rattle.word_table.specs.declared.step.Step.TheVariants.{SetReadBit, ClearReadBit, LoadWriter, ClaimWriter, ScanRow, ReleaseWriter, BeginCall, LoadValue, StoreValue, UndoStore, CommitCall, ClearStamp, LoadSerial, DrawStamp, AnnounceStamp, JudgeStamp, LoadSerialAtYield, LoadCauseStamp}
+use Rattle.word_table.specs.declared.step.Step.TheVariants.{SetReadBit, ClearReadBit, LoadWriter, ClaimWriter, ScanRow, ReleaseWriter, BeginCall, LoadValue}
+use Rattle.word_table.specs.declared.step.Step.TheVariants.{StoreValue, UndoStore, CommitCall, ClearStamp, LoadSerial, DrawStamp, AnnounceStamp, JudgeStamp}
+use Rattle.word_table.specs.declared.step.Step.TheVariants.{LoadSerialAtYield, LoadCauseStamp}
 use Rattle.word_table.specs.Kinds.{May}
 use Rattle.word_table.specs.Meetings.{IsReached, view_after, StandsElsewhere, MeetsInConflict, NeverMeetsApart, RestartsFew, ReadsOneState}
 use Rattle.word_table.specs.Sound.{IsSound}
@@ -86,13 +89,20 @@ module _ (n : ℕ) (base ws : List ℕ) (vs : List View) (id : ℕ) (v : View) (
       ⊎_elim
       (λ t. subst P (sym t.1) (λ m. absurd (nobody v free k i refl m)))
       (λ t. subst P (sym t.2) (λ m. let one = this_one v (after_asking v a) l (w - 1) k i refl m in
-      let nonzero : w ≢ 0 = t.0 in let last : w - 1 ≡ i = one.1 in let next : w ≡ i + 1 = omega arith in let no = t.1 in
-      ((a, has-join_same a v.asked, may.lock ∙ one.0), elsewhere j may.who (λ e. no (omega arith)) l one.0 (claimant_found n base ws vs id v j l h me may.who near w i is next).1)))
+      let nonzero : w ≢ 0 = t.0 in let last : w - 1 ≡ i = one.1 in let next : w ≡ i + 1 = omega arith in let no = t.1 in (
+        (a, has-join_same a v.asked, may.lock ∙ one.0),
+        elsewhere j may.who (λ e. no (omega arith)) l one.0 (claimant_found n base ws vs id v j l h me may.who near w i is next).1,
+      )))
       (free_cases j w)
 
   claim_writer_meets : (j l a : ℕ) → MayClaimWriter j l a v → (w : ℕ) → slice_index ws (writer_word v.seats l) ≡ w
-      → Meets v (if w == 0 then record (after_asking v a) { claims = l ∷ v.claims; scans = without_first l v.scans } else after_meeting (after_asking v a) l (w - 1)) k i
-      → InConflict vs id (if w == 0 then record (after_asking v a) { claims = l ∷ v.claims; scans = without_first l v.scans } else after_meeting (after_asking v a) l (w - 1)) k i
+      → Meets v (if w == 0 then record (after_asking v a) { claims = l ∷ v.claims; scans = without_first l v.scans }
+      else after_meeting (after_asking v a) l (w - 1)) k i
+      → InConflict vs id (if w == 0 then record (after_asking v a) {
+        claims = l ∷ v.claims;
+        scans =
+            without_first l v.scans;
+      } else after_meeting (after_asking v a) l (w - 1)) k i
   claim_writer_meets j l a may w is =
       let claimed : View = record (after_asking v a) { claims = l ∷ v.claims; scans = without_first l v.scans } in
       let met : View = after_meeting (after_asking v a) l (w - 1) in
@@ -101,8 +111,10 @@ module _ (n : ℕ) (base ws : List ℕ) (vs : List View) (id : ℕ) (v : View) (
       (λ m. absurd (nobody v claimed k i refl m))
       (λ nonzero m. let one = this_one v (after_asking v a) l (w - 1) k i refl m in
       let last : w - 1 ≡ i = one.1 in let next : w ≡ i + 1 = omega arith in
-      let other : w ≢ j + 1 = not_own_found n base ws vs id v j l h me may.who near w is may.no_claim in
-      ((a, has-join_same a v.asked, may.lock ∙ one.0), elsewhere j may.who (λ e. other (omega arith)) l one.0 (claimant_found n base ws vs id v j l h me may.who near w i is next).1))
+      let other : w ≢ j + 1 = not_own_found n base ws vs id v j l h me may.who near w is may.no_claim in (
+        (a, has-join_same a v.asked, may.lock ∙ one.0),
+        elsewhere j may.who (λ e. other (omega arith)) l one.0 (claimant_found n base ws vs id v j l h me may.who near w i is next).1,
+      ))
 
   scan_row_meets : (j l x : ℕ) → MayScanRow j l x v → (w : ℕ) → slice_index ws (row_word v.seats x l) ≡ w
       → Meets v (if bit_at w (l % 64) == 0 then record v { scans = (l, x) ∷ v.scans } else after_meeting v l x) k i
@@ -138,7 +150,8 @@ module _ (n : ℕ) (base ws : List ℕ) (vs : List View) (id : ℕ) (v : View) (
   meets good (AnnounceStamp j) may m = absurd (nobody v (now (AnnounceStamp j)) k i refl m)
   meets good (JudgeStamp j x) may m = absurd (nobody v (now (JudgeStamp j x)) k i refl m)
   meets good (LoadSerialAtYield j) may m = absurd (nobody v (now (LoadSerialAtYield j)) k i (yielding_meets v.due (history_of vs) v) m)
-  meets good (LoadCauseStamp j x stamp) may m = absurd (nobody v (now (LoadCauseStamp j x stamp)) k i (waiting_meets (slice_index ws (stamps_word v.seats x) == stamp) v) m)
+  meets good (LoadCauseStamp j x stamp) may m =
+      absurd (nobody v (now (LoadCauseStamp j x stamp)) k i (waiting_meets (slice_index ws (stamps_word v.seats x) == stamp) v) m)
 
 module _ (good : List ℕ → Type 0) (n : ℕ) (base : List ℕ) where
   reached_sound : (s : TableState) → IsReached good n base s → IsSound good n base s.words s.views

@@ -42,17 +42,22 @@ module _ (good : List ℕ → Type 0) (n : ℕ) (base : List ℕ) where
     sees_legal = subst (λ (l : List Entry). IsLegalHistory good n base l) (sym sees) t.holds.values.history.legal
 
   -- after a view was told a history, that and what it had seen are prefixes of what it sees
-  module _ (v new : View) (told : List Entry) (found : ℕ) (t : TakenIn (IsSound good n base) (load_serial_action (after_told v told)) (after_told v told) found new) where
+  module _ (v new : View) (told : List Entry) (found : ℕ)
+      (t : TakenIn (IsSound good n base) (load_serial_action (after_told v told)) (after_told v told) found new) where
     pub keeps_seen : IsPrefix v.seen new.seen
-    keeps_seen = sees_olds (after_told v told) new found t (old_of v.seen []) (in_second v.olds (old_of v.seen [] ∷ old_of told [] ∷ []) (old_of v.seen []) (0, refl))
+    keeps_seen = sees_olds (after_told v told) new found t (old_of v.seen [])
+        (in_second v.olds (old_of v.seen [] ∷ old_of told [] ∷ []) (old_of v.seen []) (0, refl))
 
     pub sees_told : IsPrefix told new.seen
-    sees_told = sees_olds (after_told v told) new found t (old_of told []) (in_second v.olds (old_of v.seen [] ∷ old_of told [] ∷ []) (old_of told []) (1, refl))
+    sees_told = sees_olds (after_told v told) new found t (old_of told [])
+        (in_second v.olds (old_of v.seen [] ∷ old_of told [] ∷ []) (old_of told []) (1, refl))
 
 -- what the join does to the seats, it does to the pass and the note that have them
-pub told_by : (v w joined : View) (table of : TableId) (pass : PassView) (note : NoteView) → record { table = table; view = v } ≡ pass → record { table = of; seen = w.seen } ≡ note
+pub told_by : (v w joined : View) (table of : TableId) (pass : PassView) (note : NoteView)
+    → record { table = table; view = v } ≡ pass → record { table = of; seen = w.seen } ≡ note
     → joined ≡ after_note v w → joined ≡ after_told pass.view note.seen
-told_by v w joined table of pass note e f is = subst (λ (x : NoteView). joined ≡ after_told pass.view x.seen) f (subst (λ (x : PassView). joined ≡ after_told x.view w.seen) e is)
+told_by v w joined table of pass note e f is =
+    subst (λ (x : NoteView). joined ≡ after_told pass.view x.seen) f (subst (λ (x : PassView). joined ≡ after_told x.view w.seen) e is)
 
 -- the phase of a pass is that of its seat's view
 pub seat_phase : (v : View) (table : TableId) (pass : PassView) → record { table = table; view = v } ≡ pass → pass.view.phase ≡ Idle → v.phase ≡ Idle

@@ -24,14 +24,16 @@ two_of all one none a b r s two =
     r ∙ ap (λ l. l ++ b ∷ []) (s ∙ ap (λ l. l ++ a ∷ []) gone)
 
 -- three that were taken from the end are all of a list of three
-pub three_of : {A : Type 0} (all two one none : List A) (a b c : A) → all ≡ two ++ c ∷ [] → two ≡ one ++ b ∷ [] → one ≡ none ++ a ∷ [] → length all ≡ 3 → all ≡ a ∷ b ∷ c ∷ []
+pub three_of : {A : Type 0} (all two one none : List A) (a b c : A) → all ≡ two ++ c ∷ [] → two ≡ one ++ b ∷ []
+    → one ≡ none ++ a ∷ [] → length all ≡ 3 → all ≡ a ∷ b ∷ c ∷ []
 three_of all two one none a b c q r s three =
     let long : length all ≡ length two + 1 = ap length q ∙ length-append two (c ∷ []) in
     let left : length two ≡ 2 = omega (arith, long, three) in
     q ∙ ap (λ l. l ++ c ∷ []) (two_of two one none a b r s left)
 
 -- four that were taken from the end are all of a list of four
-pub four_of : {A : Type 0} (all three two one none : List A) (a b c d : A) → all ≡ three ++ d ∷ [] → three ≡ two ++ c ∷ [] → two ≡ one ++ b ∷ [] → one ≡ none ++ a ∷ [] → length all ≡ 4 → all ≡ a ∷ b ∷ c ∷ d ∷ []
+pub four_of : {A : Type 0} (all three two one none : List A) (a b c d : A) → all ≡ three ++ d ∷ []
+    → three ≡ two ++ c ∷ [] → two ≡ one ++ b ∷ [] → one ≡ none ++ a ∷ [] → length all ≡ 4 → all ≡ a ∷ b ∷ c ∷ d ∷ []
 four_of all three two one none a b c d p q r s four =
     let long : length all ≡ length three + 1 = ap length p ∙ length-append three (d ∷ []) in
     let less : length three ≡ length two + 1 = ap length q ∙ length-append two (c ∷ []) in
@@ -39,7 +41,10 @@ four_of all three two one none a b c d p q r s four =
     p ∙ ap (λ l. l ++ d ∷ []) (q ∙ ap (λ l. l ++ c ∷ []) (two_of two one none a b r s left))
 
 -- the pass at place j has done nothing, over the desk's own words
-pub has_opened : {S : Type 0} (desk : DeskView S) (words : List ℕ) (n j : ℕ) (all list : List PassView) (pass : PassView) → all ≡ list → slice_get list j ≡ Some pass → slice_get all j ≡ Some (record { table = desk.table; view = opening_view words n (j ∷ []) [] }) → desk.base ≡ words → ◌≡◌ {A = PassView} pass (record { table = desk.table; view = opening_view desk.base n (j ∷ []) [] })
+pub has_opened : {S : Type 0} (desk : DeskView S) (words : List ℕ) (n j : ℕ) (all list : List PassView)
+    (pass : PassView) → all ≡ list → slice_get list j ≡ Some pass
+    → slice_get all j ≡ Some (record { table = desk.table; view = opening_view words n (j ∷ []) [] })
+    → desk.base ≡ words → ◌≡◌ {A = PassView} pass (record { table = desk.table; view = opening_view desk.base n (j ∷ []) [] })
 has_opened desk words n j all list pass e h k b =
     same_Some pass (record { table = desk.table; view = opening_view words n (j ∷ []) [] }) (sym h ∙ (ap (λ l. slice_get l j) (sym e) ∙ k))
     ∙ ap (λ (w : List ℕ). record { table = desk.table; view = opening_view w n (j ∷ []) [] }) (sym b)

@@ -1,5 +1,6 @@
 -- How a table begins: one view has all numbers, and no lock is held. Its first numbers are dealt out.
-use Rattle.std.proofs.Common.{◌≡◌, ℕ, zero, suc, ◌+◌, ◌-◌, ◌/◌, ◌%◌, ◌<◌, ◌≤◌, true, false, ⊎_elim, List, [], ◌∷◌, ◌++◌, length, slice_index, replicate, refl, sym, ap, ◌∙◌, subst, arith, length-append, eq-eqb}
+use Rattle.std.proofs.Common.{◌≡◌, ℕ, zero, suc, ◌+◌, ◌-◌, ◌/◌, ◌%◌, ◌<◌, ◌≤◌, true, false, ⊎_elim, List, [], ◌∷◌, ◌++◌, length, slice_index, replicate, refl}
+use Rattle.std.proofs.Common.{sym, ap, ◌∙◌, subst, arith, length-append, eq-eqb}
 use Rattle.std.specs.Prelude.{Some, slice_get}
 use Rattle.std.specs.Int.{bit_at}
 use Rattle.std.proofs.lemmas.Nat.Bits.{bit_at-zero}
@@ -28,7 +29,8 @@ use Rattle.word_table.proofs.Zeros.{zeros_at, zeros_long, one_view}
 
 numbers_within : (j m x : ℕ) → has x (numbers j m) ≡ true → (j ≤ x) × (x < j + m)
 numbers_within j zero x h = absurd (differ (has x []) h (has-nil x))
-numbers_within j (suc m) x h = ⊎_elim (λ (e : x ≡ j). (omega arith, omega arith)) (λ t. let r = numbers_within (suc j) m x t in (omega arith, omega arith)) (has-join x j (numbers (suc j) m) h)
+numbers_within j (suc m) x h = ⊎_elim (λ (e : x ≡ j). (omega arith, omega arith)) (λ t. let r =
+    numbers_within (suc j) m x t in (omega arith, omega arith)) (has-join x j (numbers (suc j) m) h)
 
 numbers_have : (a m j : ℕ) → a ≤ j → j < a + m → has j (numbers a m) ≡ true
 numbers_have a zero j lo hi = absurd (omega arith)
@@ -41,15 +43,18 @@ opening_locks : (n : ℕ) (base : List ℕ) → LocksHold n base (opening_words 
 opening_locks n base =
     let v : View = opening_view base n (numbers 0 n) [] in
     let one : (id : ℕ) (u : View) → Knows (v ∷ []) id u → (id ≡ 0) × (v ≡ u) = one_view v in
-    let below : (id j : ℕ) (u : View) → IsSeat (v ∷ []) id u j → j < n = λ id j u s. let r = numbers_within 0 n j (subst (λ (x : View). has j x.who ≡ true) (sym (one id u s.knows).1) s.named) in omega arith in
+    let below : (id j : ℕ) (u : View) → IsSeat (v ∷ []) id u j → j < n = λ id j u s. let r =
+    numbers_within 0 n j (subst (λ (x : View). has j x.who ≡ true) (sym (one id u s.knows).1) s.named) in omega arith in
     let none : (f : View → List ℕ) → f v ≡ [] → (id k : ℕ) (u : View) → Knows (v ∷ []) id u → has k (f u) ≡ false = λ f e id k u known.
     ap (λ (x : View). has k (f x)) (sym (one id u known).1) ∙ (ap (λ (l : List ℕ). has k l) e ∙ has-nil k) in
     record {
       word_count = zeros_long (value_word n 0) base ∙ omega arith;
       rows_show_bits = λ id j k u s near. let lt : j < n = below id j u s in
-          ap (λ (x : ℕ). bit_at x (k % 64)) (zeros_at (value_word n 0) base (row_word n j k) (omega arith)) ∙ (bit_at-zero (k % 64) ∙ sym (ap flag (none (λ x. x.bits) refl id k u s.knows)));
+          ap (λ (x : ℕ). bit_at x (k % 64)) (zeros_at (value_word n 0) base (row_word n j k) (omega arith))
+          ∙ (bit_at-zero (k % 64) ∙ sym (ap flag (none (λ x. x.bits) refl id k u s.knows)));
       reads_lie_in_bits = λ id k u e t. absurd (differ (has k u.reads) t (none (λ x. x.reads) refl id k u e));
-      writers_show_claims = λ j k near e. let z : slice_index (opening_words n base) (writer_word n k) ≡ 0 = zeros_at (value_word n 0) base (writer_word n k) (omega arith) in absurd (omega arith);
+      writers_show_claims = λ j k near e. let z : slice_index (opening_words n base) (writer_word n k) ≡ 0 =
+          zeros_at (value_word n 0) base (writer_word n k) (omega arith) in absurd (omega arith);
       claims_show_in_writers = λ id k u e t. absurd (differ (has k u.claims) t (none (λ x. x.claims) refl id k u e));
       scanned_excludes_readers = λ id other j k u w ne e s c t. none (λ x. x.reads) refl other k w s.knows;
       bits_were_asked = λ id k u e t. absurd (differ (has k u.bits) t (none (λ x. x.bits) refl id k u e));
@@ -76,7 +81,8 @@ module _ (good : List ℕ → Type 0) (n : ℕ) (base : List ℕ) where
     };
   }
 
-  split_sound : (id j : ℕ) (v : View) → MaySplitSeat j v → Splits (λ (s : State (Unit {0}) View). IsSound good n base s.words s.views) id v (left_by_split v) (given_by_split v)
+  split_sound : (id j : ℕ) (v : View) → MaySplitSeat j v
+      → Splits (λ (s : State (Unit {0}) View). IsSound good n base s.words s.views) id v (left_by_split v) (given_by_split v)
   split_sound id j v may s h known = split_seat_sound good n base j s.words s.views id v h known may
 
 -- a view with what the seat has taken, which is nothing
@@ -92,7 +98,8 @@ given_of x = (given_by_split x.0, [])
 -- the numbers without the first
 pub rest_of_numbers : (j m : ℕ) → without j (j ∷ numbers (suc j) m) ≡ numbers (suc j) m
 unfolding without
-rest_of_numbers j m = rw (eq-eqb j j refl) (without-absent j (numbers (suc j) m) (not_true (has j (numbers (suc j) m)) (λ t. let r = numbers_within (suc j) m j t in absurd (omega arith))))
+rest_of_numbers j m = rw (eq-eqb j j refl)
+    (without-absent j (numbers (suc j) m) (not_true (has j (numbers (suc j) m)) (λ t. let r = numbers_within (suc j) m j t in absurd (omega arith))))
 
 -- the seat that deals, with the numbers from j on
 module _ (base : List ℕ) (n j : ℕ) (me : Me (Unit {0}) View) (lt : j < n) (e : me ≡ (opening_view base n (numbers j (n - j)) [], [])) where
@@ -103,23 +110,34 @@ module _ (base : List ℕ) (n j : ℕ) (me : Me (Unit {0}) View) (lt : j < n) (e
   two_more : j + 1 < n → numbers (suc j) (n - (j + 1)) ≡ suc j ∷ numbers (suc (suc j)) (n - (j + 2))
   two_more more = let some_left : n - (j + 1) ≡ suc (n - (j + 2)) = omega arith in ap (λ (y : ℕ). numbers (suc j) y) some_left
 
-  pub deals_at : j + 1 < n → (good : List ℕ → Type 0) (m : ℕ) (id : ℕ) → Splits (λ (s : State (Unit {0}) View). IsSound good m base s.words s.views) id me.0 (left_by_split me.0) (given_by_split me.0)
+  pub deals_at : j + 1 < n → (good : List ℕ → Type 0) (m : ℕ) (id : ℕ)
+      → Splits (λ (s : State (Unit {0}) View). IsSound good m base s.words s.views) id me.0 (left_by_split me.0) (given_by_split me.0)
   deals_at more good m id = split_sound good m base id j me.0 record {
-    who = (suc j, numbers (suc (suc j)) (n - (j + 2)), ap (λ (x : Me (Unit {0}) View). x.0.who) known ∙ ap (λ (l : List ℕ). j ∷ l) (two_more more), (λ same. omega arith));
+    who = (
+      suc j,
+      numbers (suc (suc j)) (n - (j + 2)),
+      ap (λ (x : Me (Unit {0}) View). x.0.who) known
+          ∙ ap (λ (l : List ℕ). j ∷ l) (two_more more),
+      (λ same. omega arith),
+    );
     phase = ap (λ (x : Me (Unit {0}) View). x.0.phase) known;
     unjoined = ap (λ (x : Me (Unit {0}) View). x.0.joined) known;
     no_cause = ap (λ (x : Me (Unit {0}) View). x.0.due) known;
   }
 
   pub dealt_left : (after : Me (Unit {0}) View) → after ≡ (left_by_split me.0, me.1) → after ≡ (opening_view base n (numbers (j + 1) (n - (j + 1))) [], [])
-  dealt_left after f = f ∙ (ap left_of known ∙ (ap (λ (l : List ℕ). with_none (opening_view base n l [])) (rest_of_numbers j (n - (j + 1))) ∙ ap (λ (y : ℕ). with_none (opening_view base n (numbers y (n - (j + 1))) [])) (omega arith)))
+  dealt_left after f = f ∙ (ap left_of known
+      ∙ (ap (λ (l : List ℕ). with_none (opening_view base n l [])) (rest_of_numbers j (n - (j + 1)))
+      ∙ ap (λ (y : ℕ). with_none (opening_view base n (numbers y (n - (j + 1))) [])) (omega arith)))
 
   pub dealt_right : (given : Me (Unit {0}) View) → given ≡ (given_by_split me.0, []) → given ≡ (opening_view base n (j ∷ []) [], [])
   dealt_right given f = f ∙ ap given_of known
 
 -- the last seat has the last number
-pub last_me : (base : List ℕ) (n j : ℕ) (me : Me (Unit {0}) View) → 1 ≤ n → j ≡ n - 1 → me ≡ (opening_view base n (numbers j (n - j)) [], []) → me ≡ (opening_view base n ((n - 1) ∷ []) [], [])
-last_me base n j me least e f = let one : n - j ≡ 1 = omega arith in f ∙ (ap (λ (y : ℕ). with_none (opening_view base n (numbers j y) [])) one ∙ ap (λ (y : ℕ). with_none (opening_view base n (y ∷ []) [])) e)
+pub last_me : (base : List ℕ) (n j : ℕ) (me : Me (Unit {0}) View) → 1 ≤ n → j ≡ n - 1
+    → me ≡ (opening_view base n (numbers j (n - j)) [], []) → me ≡ (opening_view base n ((n - 1) ∷ []) [], [])
+last_me base n j me least e f = let one : n - j ≡ 1 = omega arith in f
+    ∙ (ap (λ (y : ℕ). with_none (opening_view base n (numbers j y) [])) one ∙ ap (λ (y : ℕ). with_none (opening_view base n (y ∷ []) [])) e)
 
 -- what a new pass keeps
 abbrev zeros : ℕ → List ℕ
@@ -141,27 +159,36 @@ shows_none = record {
   near = λ k t. absurd (differ (has k []) t (has-nil k));
 }
 
-pub opening_copy : (base : List ℕ) (call : CallCopy) (locks : LockCopy) (table : TableId) (me : Me (Unit {0}) View) → me ≡ (opening_view base call.seats (call.who ∷ []) [], []) → call.phase ≡ Idle → call.calls ≡ 0 → call.stamp ≡ 0 → call.announced ≡ false → ShowsOthers call.others call.seats call.who → call.row ≡ row_word call.seats call.who 0 → call.writers ≡ writer_word call.seats 0 → call.who < call.seats → call.seats ≤ MOST_PASSES
-    → length base ≤ MOST_WORDS → table.words ≡ table_words call.seats (length base) → locks.bits ≡ zeros 16 → locks.reads ≡ zeros 16 → locks.claims ≡ zeros 16 → locks.scans.items ≡ replicate LOCKS 0 → IsCopy call locks table me
-opening_copy base call locks table me em idle fresh unstamped unannounced others row writers below few short long eb er ec es = subst (λ (m : Me (Unit {0}) View). IsCopy call locks table m) (sym em) record {
-  slots = refl;
-  no_cause = refl;
-  others_are = others;
-  row_is = row;
-  writers_are = writers;
-  below = below;
-  few = few;
-  short = short;
-  long = long;
-  call_is = record { seats_are = refl; who_is = refl; phase_is = sym idle; calls_are = sym fresh; stamp_is = sym unstamped; announced_is = sym unannounced };
-  locks_are = record {
-    bits_are = subst (λ (row : List ℕ). Shows row []) (sym eb) shows_none;
-    reads_are = subst (λ (row : List ℕ). Shows row []) (sym er) shows_none;
-    claims_are = subst (λ (row : List ℕ). Shows row []) (sym ec) shows_none;
-    scans_are = subst (λ (masks : List ℕ). ShowsPairs masks []) (sym es) record { each_lock = zeros_count LOCKS; bits = λ k j near lt. ap (λ (x : ℕ). bit_at x j) (zero_at LOCKS k) ∙ (bit_at-zero j ∙ sym (ap flag (pair-nil k j))) };
-  };
-  rests = λ e. record { no_bit = λ k t. differ (has k []) t (has-nil k); no_claim = λ k t. differ (has k []) t (has-nil k) };
-}
+pub opening_copy : (base : List ℕ) (call : CallCopy) (locks : LockCopy) (table : TableId) (me : Me (Unit {0}) View)
+    → me ≡ (opening_view base call.seats (call.who ∷ []) [], []) → call.phase ≡ Idle → call.calls ≡ 0 → call.stamp ≡ 0
+    → call.announced ≡ false → ShowsOthers call.others call.seats call.who → call.row ≡ row_word call.seats call.who 0
+    → call.writers ≡ writer_word call.seats 0 → call.who < call.seats → call.seats ≤ MOST_PASSES
+    → length base ≤ MOST_WORDS → table.words ≡ table_words call.seats (length base) → locks.bits ≡ zeros 16
+    → locks.reads ≡ zeros 16 → locks.claims ≡ zeros 16 → locks.scans.items ≡ replicate LOCKS 0 → IsCopy call locks table me
+opening_copy base call locks table me em idle fresh unstamped unannounced others row writers below few short long eb er
+    ec es = subst (λ (m : Me (Unit {0}) View). IsCopy call locks table m) (sym em) record {
+      slots = refl;
+      no_cause = refl;
+      others_are = others;
+      row_is = row;
+      writers_are = writers;
+      below = below;
+      few = few;
+      short = short;
+      long = long;
+      call_is = record { seats_are = refl; who_is = refl; phase_is = sym idle; calls_are = sym fresh; stamp_is = sym unstamped; announced_is = sym unannounced };
+      locks_are = record {
+        bits_are = subst (λ (row : List ℕ). Shows row []) (sym eb) shows_none;
+        reads_are = subst (λ (row : List ℕ). Shows row []) (sym er) shows_none;
+        claims_are = subst (λ (row : List ℕ). Shows row []) (sym ec) shows_none;
+        scans_are = subst (λ (masks : List ℕ). ShowsPairs masks []) (sym es) record {
+          each_lock = zeros_count LOCKS;
+          bits =
+              λ k j near lt. ap (λ (x : ℕ). bit_at x j) (zero_at LOCKS k) ∙ (bit_at-zero j ∙ sym (ap flag (pair-nil k j)));
+        };
+      };
+      rests = λ e. record { no_bit = λ k t. differ (has k []) t (has-nil k); no_claim = λ k t. differ (has k []) t (has-nil k) };
+    }
 
 -- the first j passes of n
 pub record Dealt (base : List ℕ) (n : ℕ) (t : TableId) (j : ℕ) (passes : List PassView) : Type 0 where
@@ -182,11 +209,14 @@ get_before (y ∷ ys) x (suc i) h = get_before ys x i (omega arith)
 pub dealt_none : (base : List ℕ) (n : ℕ) (t : TableId) → Dealt base n t 0 []
 dealt_none base n t = record { count = refl; each = λ i h. absurd (omega arith) }
 
-pub dealt_more : (base : List ℕ) (n : ℕ) (t : TableId) (j : ℕ) (passes : List PassView) (x : PassView) → Dealt base n t j passes → x.table ≡ t → x.view ≡ opening_view base n (j ∷ []) [] → Dealt base n t (j + 1) (passes ++ x ∷ [])
+pub dealt_more : (base : List ℕ) (n : ℕ) (t : TableId) (j : ℕ) (passes : List PassView) (x : PassView)
+    → Dealt base n t j passes → x.table ≡ t → x.view ≡ opening_view base n (j ∷ []) [] → Dealt base n t (j + 1) (passes ++ x ∷ [])
 dealt_more base n t j passes x d et ev = record {
   count = length-append passes (x ∷ []) ∙ omega (arith, d.count);
   each = λ i h. dite (ℕ_discrete i j)
-      (λ e. subst (λ (z : ℕ). slice_get (passes ++ x ∷ []) z ≡ Some (record { table = t; view = opening_view base n (z ∷ []) [] })) (sym e) (get_last passes x j d.count ∙ ap (λ (y : PassView). Some y) (pass_is x t (opening_view base n (j ∷ []) []) et ev)))
+      (λ e. subst (λ (z : ℕ). slice_get (passes ++ x ∷ []) z
+      ≡ Some (record { table = t; view = opening_view base n (z ∷ []) [] })) (sym e) (get_last passes x j d.count
+      ∙ ap (λ (y : PassView). Some y) (pass_is x t (opening_view base n (j ∷ []) []) et ev)))
       (λ ne. let z = d.count in get_before passes x i (omega arith) ∙ d.each i (omega arith));
 }
   where
@@ -194,7 +224,9 @@ dealt_more base n t j passes x d et ev = record {
     pass_is x t v et ev k = record { table = et k; view = ev k }
 
 -- the passes after one more was pushed
-pub dealt_push : (base : List ℕ) (n : ℕ) (t : TableId) (j : ℕ) (passes after : List PassView) (x : PassView) (old : ℕ) (seat : Me (Unit {0}) View) → Dealt base n t old passes → old ≡ j → after ≡ passes ++ x ∷ [] → x.table ≡ t
+pub dealt_push : (base : List ℕ) (n : ℕ) (t : TableId) (j : ℕ) (passes after : List PassView) (x : PassView) (old : ℕ)
+    (seat : Me (Unit {0}) View) → Dealt base n t old passes → old ≡ j → after ≡ passes ++ x ∷ [] → x.table ≡ t
     → seat ≡ (opening_view base n (j ∷ []) [], []) → x.view ≡ opening_view seat.0.base n (j ∷ []) [] → Dealt base n t (j + 1) after
 dealt_push base n t j passes after x old seat d same e et es ev = subst (λ (l : List PassView). Dealt base n t (j + 1) l) (sym e)
-    (dealt_more base n t j passes x (subst (λ (i : ℕ). Dealt base n t i passes) same d) et (ev ∙ ap (λ (s : Me (Unit {0}) View). opening_view s.0.base n (j ∷ []) []) es))
+    (dealt_more base n t j passes x (subst (λ (i : ℕ). Dealt base n t i passes) same d) et (ev
+    ∙ ap (λ (s : Me (Unit {0}) View). opening_view s.0.base n (j ∷ []) []) es))

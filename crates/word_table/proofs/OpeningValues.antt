@@ -27,7 +27,8 @@ no_open v e = rw e refl
 none_there : {A : Type 0} (x : Entry) (p : ℕ) (h : List Entry) → h ≡ [] → slice_get h p ≡ Some x → A
 none_there x p h e at = absurd (let z : None ≡ Some x = ap (λ (l : List Entry). slice_get l p) (sym e) ∙ at in cc)
 
-module _ (good : List ℕ → Type 0) (n : ℕ) (base : List ℕ) (fine : good base) (h : LocksHold n base (opening_words n base) (opening_view base n (numbers 0 n) [] ∷ [])) where
+module _ (good : List ℕ → Type 0) (n : ℕ) (base : List ℕ) (fine : good base)
+    (h : LocksHold n base (opening_words n base) (opening_view base n (numbers 0 n) [] ∷ [])) where
   abbrev v : View
   v = opening_view base n (numbers 0 n) []
 
@@ -63,12 +64,14 @@ module _ (good : List ℕ → Type 0) (n : ℕ) (base : List ℕ) (fine : good b
       dealers_fresh = λ id i j u s t ne un. subst (λ (x : View). x.call ≡ 0) (is_v id u s.knows) refl;
       calls_shown = λ id j u s un.
           let below = h.numbers_below id j u s in
-          subst (λ (x : View). slice_index (opening_words n base) (calls_word n j) ≡ x.call) (is_v id u s.knows) (zeros_at (value_word n 0) base (calls_word n j) (omega arith));
+          subst (λ (x : View). slice_index (opening_words n base) (calls_word n j) ≡ x.call) (is_v id u s.knows)
+          (zeros_at (value_word n 0) base (calls_word n j) (omega arith));
       entries_numbered = λ id j q u e s un at own. none_there e q (history_of (v ∷ [])) empty at;
       open_numbered = λ id j q u e s un busy at own. none_there e q (history_of (v ∷ [])) empty at;
       entries_from_one = λ q e at. none_there e q (history_of (v ∷ [])) empty at;
       open_from_one = λ id u k busy. absurd (let z : true ≡ false = sym busy ∙ ap is_open (idle id u k) in cc);
-      calls_fit = λ j lt. let z : slice_index (opening_words n base) (calls_word n j) ≡ 0 = zeros_at (value_word n 0) base (calls_word n j) (omega arith) in omega arith;
+      calls_fit = λ j lt. let z : slice_index (opening_words n base) (calls_word n j) ≡ 0 =
+          zeros_at (value_word n 0) base (calls_word n j) (omega arith) in omega arith;
       counted = let none = no_open v refl in let long : length (history_of (v ∷ [])) ≡ 0 = ap (λ (l : List Entry). length l) empty in omega arith;
     };
     undo = record {

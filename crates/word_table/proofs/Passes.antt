@@ -21,7 +21,8 @@ flag_zero true e = absurd (omega arith)
 flag_zero false e = refl
 
 -- the seats that a claim still has to scan are those of the mask that are not in the word of those scanned
-module _ (v : View) (k seats who others scanned : ℕ) (claim : HasClaim v k) (so_many : v.seats ≡ seats) (single : v.who ≡ who ∷ []) (below : who < seats) (few : seats ≤ MOST_PASSES)
+module _ (v : View) (k seats who others scanned : ℕ) (claim : HasClaim v k) (so_many : v.seats ≡ seats) (single : v.who
+    ≡ who ∷ []) (below : who < seats) (few : seats ≤ MOST_PASSES)
     (mask : ShowsOthers others seats who) (shown : (j : ℕ) → j < 64 → bit_at scanned j ≡ flag (has_pair k j v.scans)) (fits : scanned < 2 ^ 64) where
   abbrev left : ℕ
   left = bit_and others (bit_not w64 scanned)
@@ -31,7 +32,8 @@ module _ (v : View) (k seats who others scanned : ℕ) (claim : HasClaim v k) (s
 
   to_scan : (j : ℕ) → bit_at left j ≡ 1 → IsUnscanned v k j
   to_scan j one = ⊎_elim
-      (λ (lt : j < seats). let near : j < 64 = omega arith in let is = left_is j near in let ne : j ≢ who = λ e. (let none : bit_at others j ≡ 0 = subst (λ (x : ℕ). bit_at others x ≡ 0) (sym e) mask.own in omega arith) in record {
+      (λ (lt : j < seats). let near : j < 64 = omega arith in let is = left_is j near in let ne : j ≢ who =
+      λ e. (let none : bit_at others j ≡ 0 = subst (λ (x : ℕ). bit_at others x ≡ 0) (sym e) mask.own in omega arith) in record {
         claim = claim;
         seat = omega arith;
         other = other_number v who j single ne;
@@ -55,7 +57,11 @@ module _ (v : View) (k seats who others scanned : ℕ) (claim : HasClaim v k) (s
 
 -- with a claim and nobody left to scan the lock is held for writing
 pub all_scanned : (v : View) (k : ℕ) (o : Option ℕ) → IsLeast (IsUnscanned v k) o → IsNone o → HasClaim v k → HasWriteGrant v k
-all_scanned v k None none is claim = (claim, λ j lt away. ⊎_elim (λ t. t) (λ f. absurd (none j record { claim = claim; seat = lt; other = away; unscanned = f })) (bool_cases (has_pair k j v.scans)))
+all_scanned v k None none is claim = (
+  claim,
+  λ j lt away. ⊎_elim (λ t. t)
+      (λ f. absurd (none j record { claim = claim; seat = lt; other = away; unscanned = f })) (bool_cases (has_pair k j v.scans)),
+)
 all_scanned v k (Some j) least is claim = cc
 
 -- without a claim there is nobody to scan
@@ -63,7 +69,8 @@ pub no_claim_none : (v : View) (k : ℕ) → has k v.claims ≡ false → IsLeas
 no_claim_none v k none j u = differ (has k v.claims) u.claim none
 
 -- the least lock of a set that is shown is one of the locks
-pub least_near : (row locks : List ℕ) (from : ℕ) (o : Option ℕ) → Shows row locks → IsLeast (λ k. (from ≤ k) × (has k locks ≡ true)) o → IfSome o (λ k. k < LOCKS)
+pub least_near : (row locks : List ℕ) (from : ℕ) (o : Option ℕ) → Shows row locks
+    → IsLeast (λ k. (from ≤ k) × (has k locks ≡ true)) o → IfSome o (λ k. k < LOCKS)
 least_near row locks from None h l = tt
 least_near row locks from (Some k) h l = h.near k l.0.1
 

@@ -34,22 +34,31 @@ module _ (good : List ℕ → Type 0) (n : ℕ) (base : List ℕ) where
   as_sound : (ws ws' : List ℕ) (vs vs' : List View) → ws' ≡ ws → vs' ≡ vs → IsSound good n base ws vs → IsSound good n base ws' vs'
   as_sound ws ws' vs vs' e f h = subst (λ (l : List ℕ). IsSound good n base l vs') (sym e) (subst (λ (l : List View). IsSound good n base ws l) (sym f) h)
 
-  joined_kept : (s t : TableState) (may : View → View → Type 0) (both : View → View → View) → KeepsJoin (IsSound good n base) may both → Sound s → Joins may both s t → Sound t
-  joined_kept s t may both keeps h x = as_sound s.words t.words (views_joined x.place x.other (both x.view x.other_view) s.views) t.views x.words_are x.views_are
+  joined_kept : (s t : TableState) (may : View → View → Type 0) (both : View → View → View)
+      → KeepsJoin (IsSound good n base) may both → Sound s → Joins may both s t → Sound t
+  joined_kept s t may both keeps h x =
+      as_sound s.words t.words (views_joined x.place x.other (both x.view x.other_view) s.views) t.views x.words_are x.views_are
       (keeps s.words s.views x.place x.other x.view x.other_view h x.apart x.knows x.other_knows x.may_join)
 
   steps_kept : (s t : TableState) → Sound s → Steps good s t → Sound t
   steps_kept s t h = ⊎_elim
-      (λ (x : TakesStep good s t). as_sound (words_after (action_of x.step x.view) s.words) t.words (views_after (action_of x.step x.view) x.place s.words s.views) t.views x.words_are x.views_are (sound_kept good n base x.step s.words s.views x.place x.view h x.knows x.may))
+      (λ (x : TakesStep good s t). as_sound (words_after (action_of x.step x.view) s.words) t.words
+      (views_after (action_of x.step x.view) x.place s.words s.views) t.views x.words_are x.views_are
+      (sound_kept good n base x.step s.words s.views x.place x.view h x.knows x.may))
       (λ y. ⊎_elim
-      (λ (x : CutsSeat s t). as_sound s.words t.words (slice_set s.views x.place (left_by_split x.view) ++ given_by_split x.view ∷ []) t.views x.words_are x.views_are (split_seat_sound good n base x.number s.words s.views x.place x.view h x.knows x.may))
+      (λ (x : CutsSeat s t). as_sound s.words t.words (slice_set s.views x.place (left_by_split x.view)
+      ++ given_by_split x.view ∷ []) t.views x.words_are x.views_are (split_seat_sound good n base x.number s.words s.views x.place x.view h x.knows x.may))
       (λ z. ⊎_elim
-      (λ (x : TakesNote s t). as_sound s.words t.words (slice_set s.views x.place (left_by_note x.view) ++ note_of x.view ∷ []) t.views x.words_are x.views_are (take_note_sound good n base s.words s.views x.place x.view h x.knows x.may))
-      (λ w. ⊎_elim (joined_kept s t MayMeetNote after_note (meet_note_sound good n base) h) (joined_kept s t MayJoinSeats after_joining (join_seats_sound good n base) h) w) z) y)
+      (λ (x : TakesNote s t). as_sound s.words t.words (slice_set s.views x.place (left_by_note x.view)
+      ++ note_of x.view ∷ []) t.views x.words_are x.views_are (take_note_sound good n base s.words s.views x.place x.view h x.knows x.may))
+      (λ w. ⊎_elim (joined_kept s t MayMeetNote after_note (meet_note_sound good n base) h)
+      (joined_kept s t MayJoinSeats after_joining (join_seats_sound good n base) h) w) z) y)
 
-  pub run_sound : (run : List TableState) → good base → IsRun good n base run → (p : ℕ) (s : TableState) → slice_get run p ≡ Some s → IsSound good n base s.words s.views
+  pub run_sound : (run : List TableState) → good base → IsRun good n base run → (p : ℕ) (s : TableState)
+      → slice_get run p ≡ Some s → IsSound good n base s.words s.views
   run_sound run fine r zero s at = let o = r.first s at in
-      as_sound (opening_words n base) s.words (opening_view base n (numbers 0 n) [] ∷ []) s.views o.words_are o.views_are (opening_sound good n base (opening_words n base) refl fine)
+      as_sound (opening_words n base) s.words (opening_view base n (numbers 0 n) [] ∷ []) s.views o.words_are
+      o.views_are (opening_sound good n base (opening_words n base) refl fine)
   run_sound run fine r (suc p) s at = let b = before run p s at in steps_kept b.0 s (run_sound run fine r p b.0 b.1) (r.next p b.0 s b.1 at)
 
   some_same : (s t : TableState) → Some s ≡ Some t → s ≡ t

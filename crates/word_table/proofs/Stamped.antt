@@ -1,5 +1,6 @@
 -- A call has one timestamp at most, from the step that draws it until the call ends.
-use Rattle.std.proofs.Common.{◌≡◌, ◌≢◌, ℕ, zero, suc, ◌+◌, ◌-◌, ◌%◌, ◌<◌, ◌≤◌, Bool, true, false, ◌⊎◌, inl, inr, ⊎_elim, List, [], ◌∷◌, ◌++◌, slice_index, ◌==◌, if◌then◌else◌, Option, Some, None, slice_get, slice_set, refl, sym, ap, ◌∙◌, subst, arith}
+use Rattle.std.proofs.Common.{◌≡◌, ◌≢◌, ℕ, zero, suc, ◌+◌, ◌-◌, ◌%◌, ◌<◌, ◌≤◌, Bool, true, false, ◌⊎◌, inl, inr, ⊎_elim, List, [], ◌∷◌, ◌++◌, slice_index, ◌==◌}
+use Rattle.std.proofs.Common.{if◌then◌else◌, Option, Some, None, slice_get, slice_set, refl, sym, ap, ◌∙◌, subst, arith}
 use Rattle.history_model.specs.declared.entry.Entry.{Entry}
 use Rattle.history_model.specs.declared.event.Cause.{Cause}
 use Rattle.history_model.specs.declared.view.View.{View}
@@ -21,7 +22,9 @@ use Rattle.locks_rule.specs.Steps.{is_free, after_asking, after_meeting}
 use Rattle.locks_rule.specs.Splits.{MaySplitSeat, left_by_split, given_by_split}
 use Rattle.stamps_rule.specs.Steps.{after_yielding, after_waiting, after_restarting}
 use Rattle.word_table.specs.declared.step.Step.{Step}
-use Rattle.word_table.specs.declared.step.Step.TheVariants.{SetReadBit, ClearReadBit, LoadWriter, ClaimWriter, ScanRow, ReleaseWriter, BeginCall, LoadValue, StoreValue, UndoStore, CommitCall, ClearStamp, LoadSerial, DrawStamp, AnnounceStamp, JudgeStamp, LoadSerialAtYield, LoadCauseStamp}
+use Rattle.word_table.specs.declared.step.Step.TheVariants.{SetReadBit, ClearReadBit, LoadWriter, ClaimWriter, ScanRow, ReleaseWriter, BeginCall, LoadValue}
+use Rattle.word_table.specs.declared.step.Step.TheVariants.{StoreValue, UndoStore, CommitCall, ClearStamp, LoadSerial, DrawStamp, AnnounceStamp, JudgeStamp}
+use Rattle.word_table.specs.declared.step.Step.TheVariants.{LoadSerialAtYield, LoadCauseStamp}
 use Rattle.word_table.specs.Kinds.{action_of, May}
 use Rattle.word_table.specs.Meetings.{view_after, StampsAreKept}
 use Rattle.word_table.specs.Runs.{TakesStep, CutsSeat, TakesNote, Joins, Steps, IsRun}
@@ -65,7 +68,8 @@ keeps_step j c s v w some goes = ⊎_elim
           (λ a. inr (inl (x.call ∙ a.0, x.rests)))
           (λ b. ⊎_elim (λ z. inr (inl (x.call ∙ z.0, x.rests))) (λ lt. inr (inr (let same = x.call in omega arith))) b) t.1)
           (λ z. ⊎_elim
-          (λ (next : w.call ≡ v.call + 1). inr (inr (⊎_elim (λ a. let is = a.0 in omega arith) (λ b. ⊎_elim (λ i. let is = i.0 in omega arith) (λ lt. omega arith) b) t.1)))
+          (λ (next : w.call ≡ v.call + 1). inr
+          (inr (⊎_elim (λ a. let is = a.0 in omega arith) (λ b. ⊎_elim (λ i. let is = i.0 in omega arith) (λ lt. omega arith) b) t.1)))
           (λ (x : Draws v w). ⊎_elim
           (λ a. let none = x.none in let is = a.1 in absurd (omega arith))
           (λ b. ⊎_elim (λ i. absurd (idle_runs i.1 x.runs)) (λ lt. inr (inr (let same = x.call in omega arith))) b) t.1) z) y) goes.2,
@@ -110,11 +114,13 @@ goes good (LoadWriter j l a) v h w may =
     let granted : View = record (after_asking v a) { reads = l ∷ v.reads } in let met : View = after_meeting (after_asking v a) l (w - 1) in
     either (is_free j w) v granted met (stays v granted refl refl refl refl (runs_not v may.phase)) (stays v met refl refl refl refl (runs_not v may.phase))
 goes good (ClaimWriter j l a) v h w may =
-    let won : View = record (after_asking v a) { claims = l ∷ v.claims; scans = without_first l v.scans } in let met : View = after_meeting (after_asking v a) l (w - 1) in
+    let won : View = record (after_asking v a) { claims = l ∷ v.claims; scans = without_first l v.scans } in
+    let met : View = after_meeting (after_asking v a) l (w - 1) in
     either (w == 0) v won met (stays v won refl refl refl refl (runs_not v may.phase)) (stays v met refl refl refl refl (runs_not v may.phase))
 goes good (ScanRow j l i) v h w may =
     let clear : View = record v { scans = (l, i) ∷ v.scans } in let met : View = after_meeting v l i in
-    either (bit_at w (l % 64) == 0) v clear met (stays v clear refl refl refl refl (runs_not v may.phase)) (stays v met refl refl refl refl (runs_not v may.phase))
+    either (bit_at w (l % 64) == 0) v clear met (stays v clear refl refl refl refl (runs_not v may.phase))
+    (stays v met refl refl refl refl (runs_not v may.phase))
 goes good (ReleaseWriter j l) v h w may = stays v ((action_of (ReleaseWriter j l) v).view h w) refl refl refl refl may.release.begun
 goes good (BeginCall j) v h w may = (refl, refl, inr (inr (inl refl)))
 goes good (LoadValue j a) v h w may = stays v ((action_of (LoadValue j a) v).view h w) refl refl refl refl (runs_not v may.phase)
@@ -128,7 +134,8 @@ goes good (AnnounceStamp j) v h w may = stays v ((action_of (AnnounceStamp j) v)
 goes good (JudgeStamp j i) v h w may = stays v ((action_of (JudgeStamp j i) v).view h w) refl refl refl refl (runs_not v may.phase)
 goes good (LoadSerialAtYield j) v h w may = yielding v.due h v (runs_not v may.phase)
 goes good (LoadCauseStamp j i stamp) v h w may =
-    either (w == stamp) v (after_waiting v) (after_restarting v) (stays v (after_waiting v) refl refl refl refl (yields_not v may.phase)) (stays v (after_restarting v) refl refl refl refl (yields_not v may.phase))
+    either (w == stamp) v (after_waiting v) (after_restarting v)
+    (stays v (after_waiting v) refl refl refl refl (yields_not v may.phase)) (stays v (after_restarting v) refl refl refl refl (yields_not v may.phase))
 
 -- a view that may be cut is none of which this is known
 cut_not : (j c s i : ℕ) (v : View) → MaySplitSeat i v → Keeps j c s v → ⊥
@@ -153,7 +160,8 @@ module _ (good : List ℕ → Type 0) (j c s : ℕ) (some : 0 < s) where
     takes t =
         let w : View = view_after t.step t.view x in
         let on : GoesTo t.view w = goes good t.step t.view (history_of x.views) (found_by (action_of t.step t.view) x.words) t.may in
-        subst AllKeep (sym t.views_are) (all_changed x.views (slice_set x.views t.place w) (StepTouches t.place) (NewByStep t.place w) (change_step x.views t.place w)
+        subst AllKeep (sym t.views_are) (all_changed x.views (slice_set x.views t.place w) (StepTouches t.place)
+        (NewByStep t.place w) (change_step x.views t.place w)
         (λ other u e named. subst (λ (z : View). Keeps j c s z) e.1 (keeps_step j c s t.view w some on
         (all t.place t.view t.knows (subst (λ (l : List ℕ). has j l ≡ true) on.0 (subst (λ (z : View). has j z.who ≡ true) (sym e.1) named))))) all)
 
@@ -162,15 +170,21 @@ module _ (good : List ℕ → Type 0) (j c s : ℕ) (some : 0 < s) where
         let v : View = t.view in
         let none : has j v.who ≡ true → ⊥ = λ named. cut_not j c s t.number v t.may (all t.place v t.knows named) in
         let own : number v ≡ t.number = ap (λ (l : List ℕ). slice_index l 0) t.may.who.2 in
-        let first : has t.number v.who ≡ true = subst (λ (l : List ℕ). has t.number l ≡ true) (sym t.may.who.2) (has-join_same t.number (t.may.who.0 ∷ t.may.who.1)) in
-        subst AllKeep (sym t.views_are) (all_changed x.views (slice_set x.views t.place (left_by_split v) ++ given_by_split v ∷ []) (StepTouches t.place) (NewByCut x.views t.place (left_by_split v) (given_by_split v))
+        let first : has t.number v.who ≡ true =
+        subst (λ (l : List ℕ). has t.number l ≡ true) (sym t.may.who.2) (has-join_same t.number (t.may.who.0 ∷ t.may.who.1)) in
+        subst AllKeep (sym t.views_are)
+        (all_changed x.views (slice_set x.views t.place (left_by_split v) ++ given_by_split v ∷ [])
+        (StepTouches t.place) (NewByCut x.views t.place (left_by_split v) (given_by_split v))
         (change_cut x.views t.place (left_by_split v) (given_by_split v))
         (λ other u e named. ⊎_elim
-        (λ g. absurd (none (subst (λ (i : ℕ). has i v.who ≡ true) (sym (has-one j (number v) (subst (λ (z : View). has j z.who ≡ true) (sym g.1) named) ∙ own)) first)))
+        (λ g. absurd (none (subst (λ (i : ℕ). has i v.who ≡ true)
+        (sym (has-one j (number v) (subst (λ (z : View). has j z.who ≡ true) (sym g.1) named) ∙ own)) first)))
         (λ l. absurd (none (has-without j (number v) v.who (subst (λ (z : View). has j z.who ≡ true) (sym l.1) named)).1)) e) all)
 
     notes : TakesNote x y → AllKeep y.views
-    notes t = subst AllKeep (sym t.views_are) (all_changed x.views (slice_set x.views t.place (left_by_note t.view) ++ note_of t.view ∷ []) (StepTouches t.place) (NewByCut x.views t.place (left_by_note t.view) (note_of t.view))
+    notes t = subst AllKeep (sym t.views_are)
+        (all_changed x.views (slice_set x.views t.place (left_by_note t.view) ++ note_of t.view ∷ [])
+        (StepTouches t.place) (NewByCut x.views t.place (left_by_note t.view) (note_of t.view))
         (change_cut x.views t.place (left_by_note t.view) (note_of t.view))
         (λ other u e named. ⊎_elim
         (λ g. nobody u (ap (λ (z : View). z.who) g.1) named)
@@ -178,7 +192,8 @@ module _ (good : List ℕ → Type 0) (j c s : ℕ) (some : 0 < s) where
 
     joined_by : (may : View → View → Type 0) (both : View → View → View) (t : Joins may both x y)
         → (has j (both t.view t.other_view).who ≡ true → Keeps j c s (both t.view t.other_view)) → AllKeep y.views
-    joined_by may both t new = subst AllKeep (sym t.views_are) (all_changed x.views (slice_set (slice_set x.views t.place (both t.view t.other_view)) t.other spent_view)
+    joined_by may both t new = subst AllKeep (sym t.views_are)
+        (all_changed x.views (slice_set (slice_set x.views t.place (both t.view t.other_view)) t.other spent_view)
         (JoinTouches t.place t.other) (NewByJoin t.place (both t.view t.other_view) t.other spent_view)
         (change_join x.views t.place t.other (both t.view t.other_view) spent_view)
         (λ other u e named. ⊎_elim
@@ -193,7 +208,8 @@ module _ (good : List ℕ → Type 0) (j c s : ℕ) (some : 0 < s) where
   some_same : (x y : TableState) → Some x ≡ Some y → x ≡ y
   some_same x y e = cc
 
-  module _ (n : ℕ) (base : List ℕ) (run : List TableState) (r : IsRun good n base run) (p : ℕ) (x : TableState) (at : slice_get run p ≡ Some x) (all : AllKeep x.views) where
+  module _ (n : ℕ) (base : List ℕ) (run : List TableState) (r : IsRun good n base run) (p : ℕ) (x : TableState)
+      (at : slice_get run p ≡ Some x) (all : AllKeep x.views) where
     at_once : (q : ℕ) (y : TableState) → p ≡ q → slice_get run q ≡ Some y → AllKeep y.views
     at_once q y e there = subst (λ (z : TableState). AllKeep z.views) (some_same x y (sym at ∙ (ap (λ (i : ℕ). slice_get run i) e ∙ there))) all
 

@@ -1,11 +1,13 @@
 -- What a step on locks leaves: the call, and every lock that was held.
-use Rattle.std.proofs.Common.{◌≡◌, ◌≢◌, ℕ, suc, ◌-◌, ◌%◌, Bool, true, false, inl, inr, List, [], ◌∷◌, length, refl, sym, ap, arith, ◌∙◌, subst, ◌==◌, if◌then◌else◌}
+use Rattle.std.proofs.Common.{◌≡◌, ◌≢◌, ℕ, suc, ◌-◌, ◌%◌, Bool, true, false, inl, inr, List, [], ◌∷◌, length, refl, sym, ap, arith, ◌∙◌, subst, ◌==◌}
+use Rattle.std.proofs.Common.{if◌then◌else◌}
 use Rattle.std.specs.Int.{bit_at}
 use Rattle.history_model.specs.declared.view.View.{View}
 use Rattle.history_model.specs.Locks.{lock_of_word}
 use Rattle.history_model.specs.Sets.{has, without_first}
 use Rattle.history_model.specs.Views.{number, HasBit, HasReadGrant, HasClaim, IsGranted}
-use Rattle.locks_rule.specs.Steps.{is_free, set_read_bit_action, clear_read_bit_action, load_writer_action, claim_writer_action, scan_row_action, release_writer_action, after_asking, after_meeting}
+use Rattle.locks_rule.specs.Steps.{is_free, set_read_bit_action, clear_read_bit_action, load_writer_action, claim_writer_action, scan_row_action}
+use Rattle.locks_rule.specs.Steps.{release_writer_action, after_asking, after_meeting}
 use Rattle.history_model.proofs.SetLemmas.{differ, has-join_old, has-without_same, pair-join_old, pair-without_other}
 use Rattle.word_table.specs.declared.answer.Shared.{Shared}
 use Rattle.word_table.specs.declared.answer.Claimed.{Claimed}
@@ -47,7 +49,17 @@ claim_leaves sound v a r u (inr t) =
     let won : View = record (after_asking v a) { claims = k ∷ v.claims; scans = without_first k v.scans } in
     leaves_at v ((claim_writer_action (number v) k a v).view [] s.found) u s.taken.view
     (elim (s.found == 0) as (λ (b : Bool). Leaves v (if b then won else after_meeting (after_asking v a) k (s.found - 1))) [
-      | true ↦ record { call = refl; grants = λ l. (λ y. y, λ y. (has-join_old l k v.claims y.0, λ i lt away. pair-without_other l i k v.scans (λ e. t.0 (subst (λ (x : ℕ). HasClaim v x) e y.0)) ∙ y.1 i lt away)) }
+      | true ↦ record {
+        call = refl;
+        grants =
+            λ l. (
+              λ y. y,
+              λ y. (
+                has-join_old l k v.claims y.0,
+                λ i lt away. pair-without_other l i k v.scans (λ e. t.0 (subst (λ (x : ℕ). HasClaim v x) e y.0)) ∙ y.1 i lt away,
+              ),
+            );
+      }
       | false ↦ record { call = refl; grants = λ l. (λ y. y, λ y. y) }
     ])
 
@@ -68,7 +80,8 @@ longer_by_two : (xs : List ℕ) (x y : ℕ) → x ∷ (y ∷ xs) ≢ xs
 longer_by_two xs x y e = let same : suc (suc (length xs)) ≡ length xs = ap (λ (l : List ℕ). length l) e in omega arith
 
 -- where share changed nothing, the lock was held
-pub share_unchanged : (sound : List ℕ → List View → Type 0) (v : View) (a : ℕ) (r : Shared) (u : View) → SharedBy sound v a r u → u ≡ v → IsGranted v (lock_of_word a)
+pub share_unchanged : (sound : List ℕ → List View → Type 0) (v : View) (a : ℕ) (r : Shared) (u : View)
+    → SharedBy sound v a r u → u ≡ v → IsGranted v (lock_of_word a)
 share_unchanged sound v a r u (inl s) e = s.0
 share_unchanged sound v a r u (inr t) e =
     let s = t.1 in let k : ℕ = lock_of_word a in let j : ℕ = number v in let set : View = (set_read_bit_action j k a v).view [] 0 in
@@ -84,7 +97,8 @@ share_unchanged sound v a r u (inr t) e =
     ]) (sym s.taken.view ∙ e))
 
 -- where claim changed nothing, the claim stood
-pub claim_unchanged : (sound : List ℕ → List View → Type 0) (v : View) (a : ℕ) (r : Claimed) (u : View) → ClaimedBy sound v a r u → u ≡ v → HasClaim v (lock_of_word a)
+pub claim_unchanged : (sound : List ℕ → List View → Type 0) (v : View) (a : ℕ) (r : Claimed) (u : View)
+    → ClaimedBy sound v a r u → u ≡ v → HasClaim v (lock_of_word a)
 claim_unchanged sound v a r u (inl s) e = s.0
 claim_unchanged sound v a r u (inr t) e =
     let s = t.1 in let k : ℕ = lock_of_word a in

@@ -8,7 +8,9 @@ use Rattle.history_model.specs.Counts.{is_attempt, is_open}
 use Rattle.history_model.specs.Table.{Knows, history_of, calls_word, stamps_word}
 use Rattle.locks_rule.specs.Actions.{Action, found_by, words_after, views_after}
 use Rattle.locks_rule.proofs.Own.{own}
-use Rattle.values_rule.specs.Steps.{MayBeginCall, begin_call_action, MayLoadValue, load_value_action, MayStoreValue, store_value_action, MayUndoStore, undo_store_action, undoing_phase, MayCommitCall, commit_call_action, MayClearStamp, clear_stamp_action, MayLoadSerial, load_serial_action}
+use Rattle.values_rule.specs.Steps.{MayBeginCall, begin_call_action, MayLoadValue, load_value_action, MayStoreValue, store_value_action, MayUndoStore}
+use Rattle.values_rule.specs.Steps.{undo_store_action, undoing_phase, MayCommitCall, commit_call_action, MayClearStamp, clear_stamp_action, MayLoadSerial}
+use Rattle.values_rule.specs.Steps.{load_serial_action}
 use Rattle.stamps_rule.specs.Causes.{is_yielding}
 use Rattle.stamps_rule.specs.Stamps.{is_idle, StampsHold}
 use Rattle.stamps_rule.proofs.Asides.{aside_keeps, opens_keeps, ends_keeps, notes_same}
@@ -29,21 +31,60 @@ begin_call_stamps good j n base ws vs id v s me may =
     let shown : slice_index ws (calls_word n j) ≡ v.call = s.values.calls.calls_shown id j v o.seat (s.values.calls.alone_unjoined id j v me may.who) in
     opens_keeps n base ws vs id j v (begin_call_action j v) s.locks s.stamps me
     record { place = place; more = ap (λ (c : ℕ). c + 1) (sym (ap (λ (i : ℕ). slice_index ws i) place ∙ shown)) }
-    record { single = may.who; who = refl; joined = refl; was_idle = may.phase; runs = refl; stamp = refl; announced = refl; draws = refl; no_cause = may.no_cause; no_attempt = refl; none_met = refl }
+    record {
+      single = may.who;
+      who = refl;
+      joined = refl;
+      was_idle = may.phase;
+      runs = refl;
+      stamp = refl;
+      announced =
+          refl;
+      draws = refl;
+      no_cause = may.no_cause;
+      no_attempt = refl;
+      none_met = refl;
+    }
 
 pub load_value_stamps : (good : List ℕ → Type 0) (j a : ℕ) → StampsStay good (MayLoadValue j a) (load_value_action j a)
 load_value_stamps good j a n base ws vs id v s me may =
     let o = own n base ws vs id j v s.locks me may.who in
     let w : View = (load_value_action j a v).view (history_of vs) (found_by (load_value_action j a v) ws) in
     aside_keeps n base ws vs id v (load_value_action j a v) s.locks s.stamps me (λ t. let high = t.1 in let seats = o.seats in omega arith)
-    record { who = refl; joined = refl; stamp = refl; announced = refl; draws = refl; due = refl; no_cause = may.no_cause; abandoned = refl; idle = refl; yielding = refl; notes = notes_same v w refl refl }
+    record {
+      who = refl;
+      joined = refl;
+      stamp = refl;
+      announced = refl;
+      draws = refl;
+      due = refl;
+      no_cause =
+          may.no_cause;
+      abandoned = refl;
+      idle = refl;
+      yielding = refl;
+      notes = notes_same v w refl refl;
+    }
 
 pub store_value_stamps : (good : List ℕ → Type 0) (j a x : ℕ) → StampsStay good (MayStoreValue j a) (store_value_action j a x)
 store_value_stamps good j a x n base ws vs id v s me may =
     let o = own n base ws vs id j v s.locks me may.who in
     let w : View = (store_value_action j a x v).view (history_of vs) (found_by (store_value_action j a x v) ws) in
     aside_keeps n base ws vs id v (store_value_action j a x v) s.locks s.stamps me (λ t. let high = t.1 in let seats = o.seats in omega arith)
-    record { who = refl; joined = refl; stamp = refl; announced = refl; draws = refl; due = refl; no_cause = may.no_cause; abandoned = refl; idle = refl; yielding = refl; notes = notes_same v w refl refl }
+    record {
+      who = refl;
+      joined = refl;
+      stamp = refl;
+      announced = refl;
+      draws = refl;
+      due = refl;
+      no_cause =
+          may.no_cause;
+      abandoned = refl;
+      idle = refl;
+      yielding = refl;
+      notes = notes_same v w refl refl;
+    }
 
 undoing : (p : Phase) → is_open p ≡ true → (is_idle (undoing_phase p) ≡ is_idle p) × (is_yielding (undoing_phase p) ≡ is_yielding p)
 undoing Idle e = absurd (cc)
@@ -58,7 +99,20 @@ undo_store_stamps good j a old n base ws vs id v s me may =
     let w : View = (undo_store_action j a old v).view (history_of vs) (found_by (undo_store_action j a old v) ws) in
     let p = undoing v.phase may.phase in
     aside_keeps n base ws vs id v (undo_store_action j a old v) s.locks s.stamps me (λ t. let high = t.1 in let seats = o.seats in omega arith)
-    record { who = refl; joined = refl; stamp = refl; announced = refl; draws = refl; due = refl; no_cause = may.no_cause; abandoned = refl; idle = p.0; yielding = p.1; notes = notes_same v w refl refl }
+    record {
+      who = refl;
+      joined = refl;
+      stamp = refl;
+      announced = refl;
+      draws = refl;
+      due = refl;
+      no_cause =
+          may.no_cause;
+      abandoned = refl;
+      idle = p.0;
+      yielding = p.1;
+      notes = notes_same v w refl refl;
+    }
 
 attempting : (p : Phase) → is_attempt p ≡ true → (false ≡ is_idle p) × (false ≡ is_yielding p)
 attempting Idle e = absurd (cc)
@@ -72,7 +126,20 @@ commit_call_stamps good j kept n base ws vs id v s me may =
     let w : View = (commit_call_action j kept v).view (history_of vs) (found_by (commit_call_action j kept v) ws) in
     let p = attempting v.phase may.phase in
     aside_keeps n base ws vs id v (commit_call_action j kept v) s.locks s.stamps me (λ t. let low = t.0 in omega arith)
-    record { who = refl; joined = refl; stamp = refl; announced = refl; draws = refl; due = refl; no_cause = may.no_cause; abandoned = refl; idle = p.0; yielding = p.1; notes = notes_same v w refl refl }
+    record {
+      who = refl;
+      joined = refl;
+      stamp = refl;
+      announced = refl;
+      draws = refl;
+      due = refl;
+      no_cause =
+          may.no_cause;
+      abandoned = refl;
+      idle = p.0;
+      yielding = p.1;
+      notes = notes_same v w refl refl;
+    }
 
 pub clear_stamp_stamps : (good : List ℕ → Type 0) (j : ℕ) → StampsStay good (MayClearStamp j) (clear_stamp_action j)
 clear_stamp_stamps good j n base ws vs id v s me may =
@@ -80,11 +147,37 @@ clear_stamp_stamps good j n base ws vs id v s me may =
     let w : View = (clear_stamp_action j v).view (history_of vs) (found_by (clear_stamp_action j v) ws) in
     ends_keeps n base ws vs id j v (clear_stamp_action j v) s.locks s.stamps me
     record { place = ap (λ (m : ℕ). stamps_word m j) o.seats; none = refl }
-    record { single = may.who; who = refl; joined = refl; rests = refl; stamp = refl; announced = refl; draws = refl; due = may.no_cause; no_cause = may.no_cause; abandoned = refl; notes = notes_same v w refl refl }
+    record {
+      single = may.who;
+      who = refl;
+      joined = refl;
+      rests = refl;
+      stamp = refl;
+      announced = refl;
+      draws =
+          refl;
+      due = may.no_cause;
+      no_cause = may.no_cause;
+      abandoned = refl;
+      notes = notes_same v w refl refl;
+    }
 
 pub load_serial_stamps : (good : List ℕ → Type 0) → StampsStay good MayLoadSerial load_serial_action
 load_serial_stamps good n base ws vs id v s me may =
     let w : View = (load_serial_action v).view (history_of vs) (found_by (load_serial_action v) ws) in
     let rests = idle_rests n ws vs id v s.stamps me may.phase in
     aside_keeps n base ws vs id v (load_serial_action v) s.locks s.stamps me (λ t. let low = t.0 in omega arith)
-    record { who = refl; joined = refl; stamp = refl; announced = refl; draws = refl; due = refl; no_cause = rests.due; abandoned = refl; idle = refl; yielding = refl; notes = notes_same v w refl refl }
+    record {
+      who = refl;
+      joined = refl;
+      stamp = refl;
+      announced = refl;
+      draws = refl;
+      due = refl;
+      no_cause =
+          rests.due;
+      abandoned = refl;
+      idle = refl;
+      yielding = refl;
+      notes = notes_same v w refl refl;
+    }

@@ -5,11 +5,16 @@ use Rattle.history_model.specs.declared.view.View.{View}
 use Rattle.history_model.specs.Table.{Knows, history_of}
 use Rattle.locks_rule.specs.Actions.{Action, found_by}
 use Rattle.locks_rule.specs.Locks.{LocksHold}
-use Rattle.locks_rule.specs.Steps.{MaySetReadBit, MayClearReadBit, MayLoadWriter, MayClaimWriter, MayScanRow, MayReleaseWriter, set_read_bit_action, clear_read_bit_action, load_writer_action, claim_writer_action, scan_row_action, release_writer_action}
-use Rattle.values_rule.specs.Steps.{MayBeginCall, MayLoadValue, MayStoreValue, MayUndoStore, MayCommitCall, MayClearStamp, MayLoadSerial, begin_call_action, load_value_action, store_value_action, undo_store_action, commit_call_action, clear_stamp_action, load_serial_action}
-use Rattle.stamps_rule.specs.Steps.{MayDrawStamp, MayAnnounceStamp, MayJudgeStamp, MayLoadSerialAtYield, MayLoadCauseStamp, draw_stamp_action, announce_stamp_action, judge_stamp_action, load_serial_at_yield_action, load_cause_stamp_action}
+use Rattle.locks_rule.specs.Steps.{MaySetReadBit, MayClearReadBit, MayLoadWriter, MayClaimWriter, MayScanRow, MayReleaseWriter, set_read_bit_action}
+use Rattle.locks_rule.specs.Steps.{clear_read_bit_action, load_writer_action, claim_writer_action, scan_row_action, release_writer_action}
+use Rattle.values_rule.specs.Steps.{MayBeginCall, MayLoadValue, MayStoreValue, MayUndoStore, MayCommitCall, MayClearStamp, MayLoadSerial, begin_call_action}
+use Rattle.values_rule.specs.Steps.{load_value_action, store_value_action, undo_store_action, commit_call_action, clear_stamp_action, load_serial_action}
+use Rattle.stamps_rule.specs.Steps.{MayDrawStamp, MayAnnounceStamp, MayJudgeStamp, MayLoadSerialAtYield, MayLoadCauseStamp, draw_stamp_action}
+use Rattle.stamps_rule.specs.Steps.{announce_stamp_action, judge_stamp_action, load_serial_at_yield_action, load_cause_stamp_action}
 use Rattle.word_table.specs.declared.step.Step.{Step}
-use Rattle.word_table.specs.declared.step.Step.TheVariants.{SetReadBit, ClearReadBit, LoadWriter, ClaimWriter, ScanRow, ReleaseWriter, BeginCall, LoadValue, StoreValue, UndoStore, CommitCall, ClearStamp, LoadSerial, DrawStamp, AnnounceStamp, JudgeStamp, LoadSerialAtYield, LoadCauseStamp}
+use Rattle.word_table.specs.declared.step.Step.TheVariants.{SetReadBit, ClearReadBit, LoadWriter, ClaimWriter, ScanRow, ReleaseWriter, BeginCall, LoadValue}
+use Rattle.word_table.specs.declared.step.Step.TheVariants.{StoreValue, UndoStore, CommitCall, ClearStamp, LoadSerial, DrawStamp, AnnounceStamp, JudgeStamp}
+use Rattle.word_table.specs.declared.step.Step.TheVariants.{LoadSerialAtYield, LoadCauseStamp}
 use Rattle.word_table.specs.Sound.{IsSound}
 
 -- what the step does, where the seat knows v

@@ -24,11 +24,18 @@ next_has P given left after all x steps is has =
     subst P (get_middle given after x x) (subst (λ (l : List _). All P l) (sym whole) has (length given) x (length_middle given after x))
 
 -- a sum over items that count olds much, each where the other is
-pub sum_same : {X : Type 0} (f : X → ℕ) (xs ys : List X) → length ys ≡ length xs → ((k : ℕ) (d : X) → k < length xs → f (get_or ys k d) ≡ f (get_or xs k d)) → sum_by f ys ≡ sum_by f xs
+pub sum_same : {X : Type 0} (f : X → ℕ) (xs ys : List X) → length ys ≡ length xs
+    → ((k : ℕ) (d : X) → k < length xs → f (get_or ys k d) ≡ f (get_or xs k d)) → sum_by f ys ≡ sum_by f xs
 sum_same f [] [] e h = refl
 sum_same f [] (y ∷ ys) e h = absurd (omega arith)
 sum_same f (x ∷ xs) [] e h = absurd (omega arith)
-sum_same f (x ∷ xs) (y ∷ ys) e h = omega (arith, sum_by-cons f x xs, sum_by-cons f y ys, h 0 x (omega arith), sum_same f xs ys (omega arith) (λ k d lt. h (suc k) d (omega arith)))
+sum_same f (x ∷ xs) (y ∷ ys) e h = omega (
+  arith,
+  sum_by-cons f x xs,
+  sum_by-cons f y ys,
+  h 0 x (omega arith),
+  sum_same f xs ys (omega arith) (λ k d lt. h (suc k) d (omega arith)),
+)
 
 module _ {A P : Type 0} where
   pub more_none : (ws : List (Worker ℕ A Deal P)) → HaveMore 0 ws ws
@@ -66,14 +73,17 @@ module _ {A P : Type 0} where
   pub all_parts : (n : ℕ) (olds news : List (Worker ℕ A Deal P)) → All (IsReturning n) olds → HaveMore n olds news → All HasAll news
   all_parts n olds news h m k w lt = let within : k < length olds = omega (arith, lt, m.count) in omega (arith, (h k w within).parts, (m.each k w within).parts)
 
-  pub all_fifo : (n : ℕ) (olds news : List (Worker ℕ A Deal P)) → All (IsReturning n) olds → HaveMore n olds news → All (λ (w : Worker ℕ A Deal P). worker_flavor w ≡ 0) news
+  pub all_fifo : (n : ℕ) (olds news : List (Worker ℕ A Deal P)) → All (IsReturning n) olds → HaveMore n olds news
+      → All (λ (w : Worker ℕ A Deal P). worker_flavor w ≡ 0) news
   all_fifo n olds news h m k w lt = let within : k < length olds = omega (arith, lt, m.count) in (m.each k w within).fifo ∙ (h k w within).fifo
 
   pub same_dealt : (n : ℕ) (olds news : List (Worker ℕ A Deal P)) (x : ℕ) → HaveMore n olds news → owners_dealt news x ≡ owners_dealt olds x
-  same_dealt n olds news x m = sum_same (λ (w : Worker ℕ A Deal P). times x (worker_view w).dealt) olds news m.count (λ k d lt. ap (times x) (m.each k d lt).dealt)
+  same_dealt n olds news x m = sum_same (λ (w : Worker ℕ A Deal P). times x (worker_view w).dealt) olds news m.count
+      (λ k d lt. ap (times x) (m.each k d lt).dealt)
 
   -- one owner more has nothing left in its deque
-  pub drained_push : (given : List (Worker ℕ A Deal P)) (w : Worker ℕ A Deal P) (x first old new : ℕ) → owners_took given x + old ≡ owners_dealt given x + first → times x (worker_view w).taken + new ≡ times x (worker_view w).dealt + old
+  pub drained_push : (given : List (Worker ℕ A Deal P)) (w : Worker ℕ A Deal P) (x first old new : ℕ)
+      → owners_took given x + old ≡ owners_dealt given x + first → times x (worker_view w).taken + new ≡ times x (worker_view w).dealt + old
       → owners_took (given ++ w ∷ []) x + new ≡ owners_dealt (given ++ w ∷ []) x + first
   drained_push given w x first old new before one = omega (
     arith,
@@ -84,5 +94,6 @@ module _ {A P : Type 0} where
   )
 
 -- one row more was given back
-pub stole_push : (given : List (Vec (Pass ℕ Deal Global) Global)) (row : Vec (Pass ℕ Deal Global) Global) (x : ℕ) → rows_stole (given ++ row ∷ []) x ≡ rows_stole given x + stolen row.items x
+pub stole_push : (given : List (Vec (Pass ℕ Deal Global) Global)) (row : Vec (Pass ℕ Deal Global) Global) (x : ℕ)
+    → rows_stole (given ++ row ∷ []) x ≡ rows_stole given x + stolen row.items x
 stole_push given row x = sum_by_push (λ (r : Vec (Pass ℕ Deal Global) Global). stolen r.items x) given row

@@ -1,5 +1,6 @@
 -- All shares of a day, put together.
-use Rattle.std.proofs.Common.{◌≡◌, ℕ, ◌<◌, ◌≤◌, List, ◌∷◌, [], All, IsPermutation, flat_map, map, length, get_or, slice_get, Some, sym, ap, ◌∙◌, subst, arith, zero-add}
+use Rattle.std.proofs.Common.{◌≡◌, ℕ, ◌<◌, ◌≤◌, List, ◌∷◌, [], All, IsPermutation, flat_map, map, length, get_or, slice_get, Some, sym, ap, ◌∙◌, subst, arith}
+use Rattle.std.proofs.Common.{zero-add}
 use Rattle.std.specs.List.{range_with_len}
 use Rattle.std.specs.List.Sorted.{IsNonDecreasingBy}
 use Rattle.std.proofs.lemmas.List.{get_or-map, length-map}
@@ -70,9 +71,11 @@ module _ (desk : DeskView BooksShape) (input : ClearingInput) (shares : List Sha
         let within : j < length ws = omega (arith, long, lt) in
         let d : Tally = first_of ws j within in
         let w : Tally = get_or ws j d in
-        let number_is : tally_number w ≡ j = sym (get_or-map tally_number ws j d (tally_number d) within) ∙ ap (λ l. get_or l j (tally_number d)) numbers ∙ get_or-range_with_len 0 desk.seats j (tally_number d) lt ∙ zero-add j in
+        let number_is : tally_number w ≡ j = sym (get_or-map tally_number ws j d (tally_number d) within)
+        ∙ ap (λ l. get_or l j (tally_number d)) numbers ∙ get_or-range_with_len 0 desk.seats j (tally_number d) lt ∙ zero-add j in
         let stands : slice_get (map pass_of ws) j ≡ Some w.share.pass =
-        slice_get-get_or (map pass_of ws) j d.share.pass (omega (arith, within, length-map ws pass_of)) ∙ ap (λ p. Some p) (get_or-map pass_of ws j d d.share.pass within) in
+        slice_get-get_or (map pass_of ws) j d.share.pass (omega (arith, within, length-map ws pass_of))
+        ∙ ap (λ p. Some p) (get_or-map pass_of ws j d d.share.pass within) in
         (w.share.pass, (j, stands), (all_worked j d within).made.number_is ∙ ap (λ n. n ∷ []) number_is);
   })
     where
@@ -100,4 +103,5 @@ module _ (desk : DeskView BooksShape) (input : ClearingInput) (shares : List Sha
   pub whole_of_all : (gathered done : List Done) → gathered ≡ flat_map share_items shares → IsPermutation gathered done → AreCallersWhole done
   whole_of_all gathered done are moved =
       let items_are : gathered ≡ flat_map items_of ws = are ∙ ap (flat_map share_items) (sym all.are) ∙ flat_map-map share_items share_of ws in
-      callers_whole desk input ws all_worked (λ x. omega (arith, all.once x, once_at_most x (length input.callers))) done (subst (λ l. IsPermutation l done) items_are moved)
+      callers_whole desk input ws all_worked (λ x. omega (arith, all.once x, once_at_most x (length input.callers)))
+      done (subst (λ l. IsPermutation l done) items_are moved)

@@ -1,5 +1,6 @@
 -- What all workers did, put together: the day.
-use Rattle.std.proofs.Common.{◌≡◌, ℕ, zero, suc, ◌+◌, ◌<◌, ◌≤◌, ◌&&◌, ◌==◌, List, [], ◌∷◌, ◌++◌, All, AllPairs, Contains, IsPermutation, map, flat_map, length, take, get_or, Some, count_by, nat_lt, if◌then◌else◌, refl, sym, ap, ◌∙◌, subst, arith, lt_of_not-le, cond, append-nil, zero-add}
+use Rattle.std.proofs.Common.{◌≡◌, ℕ, zero, suc, ◌+◌, ◌<◌, ◌≤◌, ◌&&◌, ◌==◌, List, [], ◌∷◌, ◌++◌, All, AllPairs, Contains, IsPermutation, map, flat_map, length}
+use Rattle.std.proofs.Common.{take, get_or, Some, count_by, nat_lt, if◌then◌else◌, refl, sym, ap, ◌∙◌, subst, arith, lt_of_not-le, cond, append-nil, zero-add}
 use Rattle.std.specs.Prelude.{sum_by}
 use Rattle.std.specs.List.{range_with_len}
 use Rattle.std.specs.List.Sorted.{IsNonDecreasingBy}
@@ -54,16 +55,29 @@ pairs-append R [] ys first second cross = second
 pairs-append R (x ∷ xs) ys first second cross =
     let head : All (R x) xs = λ k d lt. first 0 (suc k) d (omega arith) (omega arith) in
     let tail : AllPairs R xs = λ i j d lt short. first (suc i) (suc j) d (omega arith) (omega arith) in
-    AllPairs-cons R x (xs ++ ys) (All-append (R x) xs ys head (All-head (λ z. All (R z) ys) x xs cross)) (pairs-append R xs ys tail second (All-tail (λ z. All (R z) ys) x xs cross))
+    AllPairs-cons R x (xs ++ ys) (All-append (R x) xs ys head (All-head (λ z. All (R z) ys) x xs cross))
+    (pairs-append R xs ys tail second (All-tail (λ z. All (R z) ys) x xs cross))
 
 -- what is counted over all shares' items is the sum over the workers
 counted_by : {X : Type 0} (f : Done → ℕ) (items : X → List Done) (ws : List X) → sum_by f (flat_map items ws) ≡ sum_by (λ w. sum_by f (items w)) ws
 counted_by f items [] = refl
-counted_by f items (w ∷ ws) = omega (arith, ap (sum_by f) (flat_map-cons items w ws), sum_by-append f (items w) (flat_map items ws), counted_by f items ws, sum_by-cons (λ v. sum_by f (items v)) w ws)
+counted_by f items (w ∷ ws) = omega (
+  arith,
+  ap (sum_by f) (flat_map-cons items w ws),
+  sum_by-append f (items w) (flat_map items ws),
+  counted_by f items ws,
+  sum_by-cons (λ v. sum_by f (items v)) w ws,
+)
 
 sum_alike : {X : Type 0} (f g : X → ℕ) (xs : List X) → All (λ x. f x ≡ g x) xs → sum_by f xs ≡ sum_by g xs
 sum_alike f g [] all = refl
-sum_alike f g (x ∷ xs) all = omega (arith, All-head (λ y. f y ≡ g y) x xs all, sum_alike f g xs (All-tail (λ y. f y ≡ g y) x xs all), sum_by-cons f x xs, sum_by-cons g x xs)
+sum_alike f g (x ∷ xs) all = omega (
+  arith,
+  All-head (λ y. f y ≡ g y) x xs all,
+  sum_alike f g xs (All-tail (λ y. f y ≡ g y) x xs all),
+  sum_by-cons f x xs,
+  sum_by-cons g x xs,
+)
 
 pub sum_over : {X Y : Type 0} (f : Y → ℕ) (h : X → Y) (xs : List X) → sum_by f (map h xs) ≡ sum_by (λ x. f (h x)) xs
 sum_over f h [] = refl
@@ -71,18 +85,21 @@ sum_over f h (x ∷ xs) = omega (arith, sum_over f h xs, sum_by-cons f (h x) (ma
 
 all_flat : {X Y : Type 0} (P : Y → Type 0) (f : X → List Y) (xs : List X) → All (λ x. All P (f x)) xs → All P (flat_map f xs)
 all_flat P f [] all = All-nil P
-all_flat P f (x ∷ xs) all = subst (λ l. All P l) (sym (flat_map-cons f x xs)) (All-append P (f x) (flat_map f xs) (All-head (λ y. All P (f y)) x xs all) (all_flat P f xs (All-tail (λ y. All P (f y)) x xs all)))
+all_flat P f (x ∷ xs) all = subst (λ l. All P l) (sym (flat_map-cons f x xs))
+    (All-append P (f x) (flat_map f xs) (All-head (λ y. All P (f y)) x xs all) (all_flat P f xs (All-tail (λ y. All P (f y)) x xs all)))
 
 -- a number below a range is not in it, and each number in it stands there once
 times_later : (x a n : ℕ) → x < a → times x (range_with_len a n) ≡ 0
 times_later x a zero less = refl
-times_later x a (suc n) less = grind (arith, times_later x (a + 1) n (omega arith), sum_by-cons (λ (y : ℕ). if y == x then 1 else 0) a (range_with_len (a + 1) n), less)
+times_later x a (suc n) less =
+    grind (arith, times_later x (a + 1) n (omega arith), sum_by-cons (λ (y : ℕ). if y == x then 1 else 0) a (range_with_len (a + 1) n), less)
 
 times_range : (x a n : ℕ) → a ≤ x → x < a + n → times x (range_with_len a n) ≡ 1
 times_range x a zero le lt = absurd (omega arith)
 times_range x a (suc n) le lt = dite (dec_le x a)
     (λ here. grind (arith, times_later x (a + 1) n (omega arith), sum_by-cons (λ (y : ℕ). if y == x then 1 else 0) a (range_with_len (a + 1) n), here, le))
-    (λ away. let more : a < x = lt_of_not-le away in grind (arith, times_range x (a + 1) n (omega arith) (omega arith), sum_by-cons (λ (y : ℕ). if y == x then 1 else 0) a (range_with_len (a + 1) n), more))
+    (λ away. let more : a < x = lt_of_not-le away in
+    grind (arith, times_range x (a + 1) n (omega arith) (omega arith), sum_by-cons (λ (y : ℕ). if y == x then 1 else 0) a (range_with_len (a + 1) n), more))
 
 -- the pairs of a list of images
 pairs_map : {X Y : Type 0} (R : Y → Y → Type 0) (f : X → Y) (xs : List X) → AllPairs (λ x y. R (f x) (f y)) xs → AllPairs R (map f xs)
@@ -98,28 +115,42 @@ InOrder x y = x.caller ≡ y.caller → (x.index < y.index) × (x.serial < y.ser
 abbrev pub total_had : List Tally → ℕ → ℕ
 total_had ws x = sum_by (λ (w : Tally). w.had x) ws
 
-pub among_total : (ws : List Tally) → All (λ (w : Tally). All (λ (item : Done). 0 < w.had item.caller) w.share.done.items) ws → All (λ (item : Done). 0 < total_had ws item.caller) (flat_map items_of ws)
+pub among_total : (ws : List Tally)
+    → All (λ (w : Tally). All (λ (item : Done). 0 < w.had item.caller) w.share.done.items) ws
+    → All (λ (item : Done). 0 < total_had ws item.caller) (flat_map items_of ws)
 among_total [] each = All-nil (λ (item : Done). 0 < total_had [] item.caller)
 among_total (w ∷ ws) each =
     let more : (x : ℕ) → total_had (w ∷ ws) x ≡ w.had x + total_had ws x = λ x. sum_by-cons (λ (v : Tally). v.had x) w ws in
     let own : All (λ (item : Done). 0 < total_had (w ∷ ws) item.caller) w.share.done.items =
-    All-weaker (λ (item : Done). 0 < w.had item.caller) (λ (item : Done). 0 < total_had (w ∷ ws) item.caller) (λ item lt. omega (arith, more item.caller, lt)) w.share.done.items
+    All-weaker (λ (item : Done). 0 < w.had item.caller) (λ (item : Done). 0 < total_had (w ∷ ws) item.caller)
+    (λ item lt. omega (arith, more item.caller, lt)) w.share.done.items
     (All-head (λ (v : Tally). All (λ (item : Done). 0 < v.had item.caller) v.share.done.items) w ws each) in
     let others : All (λ (item : Done). 0 < total_had (w ∷ ws) item.caller) (flat_map items_of ws) =
-    All-weaker (λ (item : Done). 0 < total_had ws item.caller) (λ (item : Done). 0 < total_had (w ∷ ws) item.caller) (λ item lt. omega (arith, more item.caller, lt)) (flat_map items_of ws)
+    All-weaker (λ (item : Done). 0 < total_had ws item.caller) (λ (item : Done). 0 < total_had (w ∷ ws) item.caller)
+    (λ item lt. omega (arith, more item.caller, lt)) (flat_map items_of ws)
     (among_total ws (All-tail (λ (v : Tally). All (λ (item : Done). 0 < v.had item.caller) v.share.done.items) w ws each)) in
-    subst (λ l. All (λ (item : Done). 0 < total_had (w ∷ ws) item.caller) l) (sym (flat_map-cons items_of w ws)) (All-append (λ (item : Done). 0 < total_had (w ∷ ws) item.caller) w.share.done.items (flat_map items_of ws) own others)
+    subst (λ l. All (λ (item : Done). 0 < total_had (w ∷ ws) item.caller) l) (sym (flat_map-cons items_of w ws))
+    (All-append (λ (item : Done). 0 < total_had (w ∷ ws) item.caller) w.share.done.items (flat_map items_of ws) own others)
 
-in_order_all : (ws : List Tally) → All (λ (w : Tally). AllPairs InOrder w.share.done.items) ws → All (λ (w : Tally). All (λ (item : Done). 0 < w.had item.caller) w.share.done.items) ws
+in_order_all : (ws : List Tally) → All (λ (w : Tally). AllPairs InOrder w.share.done.items) ws
+    → All (λ (w : Tally). All (λ (item : Done). 0 < w.had item.caller) w.share.done.items) ws
     → ((x : ℕ) → total_had ws x ≤ 1) → AllPairs InOrder (flat_map items_of ws)
 in_order_all [] pairs among once = λ i j d lt short. absurd (omega arith)
 in_order_all (w ∷ ws) pairs among once =
     let more : (x : ℕ) → total_had (w ∷ ws) x ≡ w.had x + total_had ws x = λ x. sum_by-cons (λ (v : Tally). v.had x) w ws in
-    let own : All (λ (item : Done). 0 < w.had item.caller) w.share.done.items = All-head (λ (v : Tally). All (λ (item : Done). 0 < v.had item.caller) v.share.done.items) w ws among in
+    let own : All (λ (item : Done). 0 < w.had item.caller) w.share.done.items =
+    All-head (λ (v : Tally). All (λ (item : Done). 0 < v.had item.caller) v.share.done.items) w ws among in
     let rest = All-tail (λ (v : Tally). All (λ (item : Done). 0 < v.had item.caller) v.share.done.items) w ws among in
     let others : All (λ (item : Done). 0 < total_had ws item.caller) (flat_map items_of ws) = among_total ws rest in
     let cross : All (λ x. All (InOrder x) (flat_map items_of ws)) w.share.done.items = λ k d lt j e short same.
-    absurd (omega (arith, own k d lt, others j e short, more (get_or w.share.done.items k d).caller, once (get_or w.share.done.items k d).caller, ap (total_had ws) same)) in
+    absurd (omega (
+      arith,
+      own k d lt,
+      others j e short,
+      more (get_or w.share.done.items k d).caller,
+      once (get_or w.share.done.items k d).caller,
+      ap (total_had ws) same,
+    )) in
     subst (AllPairs InOrder) (sym (flat_map-cons items_of w ws))
     (pairs-append InOrder w.share.done.items (flat_map items_of ws) (All-head (λ (v : Tally). AllPairs InOrder v.share.done.items) w ws pairs)
     (in_order_all ws (All-tail (λ (v : Tally). AllPairs InOrder v.share.done.items) w ws pairs) rest (λ x. omega (arith, once x, more x))) cross)
@@ -153,10 +184,12 @@ module _ (old new : List Done) (moved : IsPermutation old new) (n : ℕ) (serial
       let one : x ≡ y = sym is_x ∙ ap (λ k. get_or old k x) place ∙ y_by_x in
       absurd (omega (arith, sx, sy, ap serial_of one, lt)))
       (λ no.
-      let back = keeps at_y.0 at_x.0 y (omega (arith, lt_of_not-le no)) at_x.1 (ap (λ (z : Done). z.caller) is_y ∙ sym same ∙ ap (λ (z : Done). z.caller) (sym x_by_y)) in
+      let back = keeps at_y.0 at_x.0 y (omega (arith, lt_of_not-le no)) at_x.1 (ap (λ (z : Done). z.caller) is_y
+      ∙ sym same ∙ ap (λ (z : Done). z.caller) (sym x_by_y)) in
       absurd (omega (arith, back.1, ap serial_of is_y, ap serial_of x_by_y, sx, sy, lt))))
       (λ no.
-      let on = keeps at_x.0 at_y.0 x (omega (arith, lt_of_not-le no)) at_y.1 (ap (λ (z : Done). z.caller) is_x ∙ same ∙ ap (λ (z : Done). z.caller) (sym y_by_x)) in
+      let on = keeps at_x.0 at_y.0 x (omega (arith, lt_of_not-le no)) at_y.1 (ap (λ (z : Done). z.caller) is_x ∙ same
+      ∙ ap (λ (z : Done). z.caller) (sym y_by_x)) in
       omega (arith, on.0, ap (λ (z : Done). z.index) is_x, ap (λ (z : Done). z.index) y_by_x))
 
 module _ (desk : DeskView BooksShape) (input : ClearingInput) (history : List Entry) (ws : List Tally)
@@ -166,7 +199,8 @@ module _ (desk : DeskView BooksShape) (input : ClearingInput) (history : List En
   number_at : (k : ℕ) (d : Tally) → k < length ws → tally_number (get_or ws k d) ≡ k
   number_at k d lt =
       let long : length ws ≡ desk.seats = sym (length-map ws tally_number) ∙ ap length numbers ∙ length-range_with_len 0 desk.seats in
-      sym (get_or-map tally_number ws k d (tally_number d) lt) ∙ ap (λ l. get_or l k (tally_number d)) numbers ∙ get_or-range_with_len 0 desk.seats k (tally_number d) (omega (arith, long, lt)) ∙ zero-add k
+      sym (get_or-map tally_number ws k d (tally_number d) lt) ∙ ap (λ l. get_or l k (tally_number d)) numbers
+      ∙ get_or-range_with_len 0 desk.seats k (tally_number d) (omega (arith, long, lt)) ∙ zero-add k
 
   pass_in : (k : ℕ) (d : Tally) → k < length ws → IsIn (get_or ws k d).share.pass (map pass_of ws)
   pass_in k d lt =
@@ -183,7 +217,8 @@ module _ (desk : DeskView BooksShape) (input : ClearingInput) (history : List En
       let i : ℕ = owner.1.0 in
       let within : i < length ws = omega (arith, slice_get_within (map pass_of ws) i owner.0 owner.1.1, length-map ws pass_of) in
       let v : Tally = get_or ws i d in
-      let its : v.share.pass ≡ owner.0 = sym (get_or-map pass_of ws i d d.share.pass within) ∙ get_or_from_slice_get (map pass_of ws) i owner.0 d.share.pass owner.1.1 in
+      let its : v.share.pass ≡ owner.0 = sym (get_or-map pass_of ws i d d.share.pass within)
+      ∙ get_or_from_slice_get (map pass_of ws) i owner.0 d.share.pass owner.1.1 in
       let named : tally_number v ∷ [] ≡ e.who ∷ [] = sym (worked i d within).made.number_is ∙ ap (λ (p : PassView). p.view.who) its ∙ owner.2 in
       let who : tally_number v ≡ e.who = cc in
       let place : i ≡ k = sym (number_at i d within) ∙ who ∙ same ∙ number_at k d lt in
@@ -205,7 +240,8 @@ module _ (desk : DeskView BooksShape) (input : ClearingInput) (history : List En
   all_items = flat_map items_of ws
 
   each_seat_once : All (λ (e : Entry). times e.who (range_with_len 0 desk.seats) ≡ 1) history
-  each_seat_once k d lt = times_range (get_or history k d).who 0 desk.seats (omega arith) (omega (arith, (legal.at k (get_or history k d) (slice_get-get_or history k d lt)).seat_below))
+  each_seat_once k d lt = times_range (get_or history k d).who 0 desk.seats (omega arith)
+      (omega (arith, (legal.at k (get_or history k d) (slice_get-get_or history k d lt)).seat_below))
 
   -- a sum over all serials
   sum_serials : (m : ℕ → ℕ) → sum_by m (map serial_of all_items) ≡ sum_by m (range_with_len 1 (length history))
@@ -220,7 +256,8 @@ module _ (desk : DeskView BooksShape) (input : ClearingInput) (history : List En
   made_all : All (IsMade desk input history) all_items
   made_all = all_flat (IsMade desk input history) items_of ws (λ k d lt.
       let w : Tally = get_or ws k d in
-      All-weaker (IsMade desk input w.share.pass.view.seen) (IsMade desk input history) (λ item made. made_stays desk input w.share.pass.view.seen history (seen w.share.pass (pass_in k d lt)) item made) w.share.done.items (worked k d lt).made.made)
+      All-weaker (IsMade desk input w.share.pass.view.seen) (IsMade desk input history) (λ item made.
+      made_stays desk input w.share.pass.view.seen history (seen w.share.pass (pass_in k d lt)) item made) w.share.done.items (worked k d lt).made.made)
 
   below_all : All (λ (item : Done). item.restarts < desk.seats) all_items
   below_all = all_flat (λ (item : Done). item.restarts < desk.seats) items_of ws (λ k d lt. (worked k d lt).made.below)
@@ -237,7 +274,8 @@ module _ (desk : DeskView BooksShape) (input : ClearingInput) (history : List En
         let none : one_if (p.caller == 0 && nat_lt p.index 0) ≡ zero = grind (arith, nat_tests) in
         let each : All (λ w. by_worker w ≡ w.had p.caller) ws = λ k d lt.
         sym (sum_over test place_of (get_or ws k d).share.done.items) ∙ omega (arith, (worked k d lt).run.each p there, none) in
-        sum_over test place_of all_items ∙ counted_by (λ item. test (place_of item)) items_of ws ∙ sum_alike by_worker (λ w. w.had p.caller) ws each ∙ once p.caller ∙ one
+        sum_over test place_of all_items ∙ counted_by (λ item. test (place_of item)) items_of ws
+        ∙ sum_alike by_worker (λ w. w.had p.caller) ws each ∙ once p.caller ∙ one
 
     keeps_all : AllPairs InOrder all_items
     keeps_all = in_order_all ws
@@ -246,9 +284,11 @@ module _ (desk : DeskView BooksShape) (input : ClearingInput) (history : List En
           let w : Tally = get_or ws k d in
               let up = serials_rise (tally_number w) 1 w.share.pass.view.seen in
               let as_serials = (worked k d lt).made.serials in
-              let at : (x : ℕ) → x < length w.share.done.items → get_or (serials_by (tally_number w) 1 w.share.pass.view.seen) x (serial_of e) ≡ serial_of (get_or w.share.done.items x e) = λ x within.
+              let at : (x : ℕ) → x < length w.share.done.items
+              → get_or (serials_by (tally_number w) 1 w.share.pass.view.seen) x (serial_of e) ≡ serial_of (get_or w.share.done.items x e) = λ x within.
               ap (λ l. get_or l x (serial_of e)) (sym as_serials) ∙ get_or-map serial_of w.share.done.items x e (serial_of e) within in
-              let long : length (serials_by (tally_number w) 1 w.share.pass.view.seen) ≡ length w.share.done.items = sym (ap length as_serials) ∙ length-map w.share.done.items serial_of in
+              let long : length (serials_by (tally_number w) 1 w.share.pass.view.seen) ≡ length w.share.done.items =
+              sym (ap length as_serials) ∙ length-map w.share.done.items serial_of in
               omega (arith, up i j (serial_of e) less (omega (arith, long, short)), at i (omega (arith, less, short)), at j short),
         ))
         (λ k d lt. among_had input (get_or ws k d).had 0 (get_or ws k d).share.done.items (worked k d lt).run)
@@ -257,10 +297,12 @@ module _ (desk : DeskView BooksShape) (input : ClearingInput) (history : List En
         below_one : (x : ℕ) → once_below x (length input.callers) ≤ 1
         below_one x = grind arith
 
-    module _ (refused : RefusedChangesNothing) (opening : Stands desk.shape desk.base input.books) (done : List Done) (moved : IsPermutation all_items done) (up : IsNonDecreasingBy serial_of done) where
+    module _ (refused : RefusedChangesNothing) (opening : Stands desk.shape desk.base input.books) (done : List Done)
+        (moved : IsPermutation all_items done) (up : IsNonDecreasingBy serial_of done) where
       serials_sorted : map serial_of done ≡ range_with_len 1 (length history)
       serials_sorted = in_order serial_of 1 (length history) done up (λ x.
-          sum_by-IsPermutation (λ (y : ℕ). if y == x then 1 else 0) (map serial_of all_items) (map serial_of done) (IsPermutation-map serial_of all_items done moved)
+          sum_by-IsPermutation (λ (y : ℕ). if y == x then 1 else 0) (map serial_of all_items) (map serial_of done)
+          (IsPermutation-map serial_of all_items done moved)
           ∙ sum_serials (λ (y : ℕ). if y == x then 1 else 0))
 
       made_sorted : All (IsMade desk input history) done
@@ -269,8 +311,10 @@ module _ (desk : DeskView BooksShape) (input : ClearingInput) (history : List En
       journal_sorted : IsJournal input (places_of done)
       journal_sorted = record {
         only = All-map (IsPlace input) place_of done (All-permutation (λ (item : Done). IsPlace input (place_of item)) all_items done moved only_all);
-        once = λ p there. sum_by-IsPermutation (λ (q : Place). cond (q.caller == p.caller && q.index == p.index) 1 0) (places_of all_items) (places_of done) (IsPermutation-map place_of all_items done moved) ∙ once_all p there;
-        rising = pairs_map (λ (p q : Place). p.caller ≡ q.caller → p.index < q.index) place_of done (rising_indexes all_items done moved (length history) serials_sorted keeps_all);
+        once = λ p there. sum_by-IsPermutation (λ (q : Place). cond (q.caller == p.caller && q.index == p.index) 1 0)
+            (places_of all_items) (places_of done) (IsPermutation-map place_of all_items done moved) ∙ once_all p there;
+        rising = pairs_map (λ (p q : Place). p.caller ≡ q.caller → p.index < q.index) place_of done
+            (rising_indexes all_items done moved (length history) serials_sorted keeps_all);
       }
 
       abbrev pub closed_as : List ℕ → ClosedView BooksShape
@@ -281,7 +325,8 @@ module _ (desk : DeskView BooksShape) (input : ClearingInput) (history : List En
           let n : ℕ = length done in
           let to : (k : ℕ) → k ≤ n → RunsTo desk input history done k = runs_to refused desk input history done opening serials_sorted made_sorted in
           let whole : take n done ≡ done = take_all n done (omega arith) in
-          let seen_all : take n history ≡ history = take_all n history (omega (arith, as_many refused desk input history done opening serials_sorted made_sorted)) in
+          let seen_all : take n history ≡ history =
+          take_all n history (omega (arith, as_many refused desk input history done opening serials_sorted made_sorted)) in
           let end = to n (omega arith) in
           let at_end : Stands desk.shape (replay desk.base history) (books_after input input.books (places_of done)) =
           subst (λ (h : List Entry). Stands desk.shape (replay desk.base h) (books_after input input.books (places_of done))) seen_all

@@ -35,7 +35,8 @@ module _ (desk : DeskView BooksShape) (input : ClearingInput) where
         serial_is = m.serial_is;
         stands_at = ap (λ l. slice_get l m.place) is ∙ get_first seen more m.place within ∙ m.stands_at;
         is_of = m.is_of;
-        meaning = subst (λ (l : List Entry). ScriptMeans desk.shape (script_at input item.caller item.index) (replay desk.base l) m.entry.kept item.reply (after m.entry.trace (replay desk.base l))) (sym before) m.meaning;
+        meaning = subst (λ (l : List Entry). ScriptMeans desk.shape (script_at input item.caller item.index)
+            (replay desk.base l) m.entry.kept item.reply (after m.entry.trace (replay desk.base l))) (sym before) m.meaning;
       }
 
   -- the item is what the receipt says of a call
@@ -47,19 +48,27 @@ module _ (desk : DeskView BooksShape) (input : ClearingInput) where
     pub reply : item.reply ≡ receipt.answer
 
   module _ (who call : ℕ) (old new : List Entry) (receipt : Receipt Reply) (item : Done)
-      (gets : GetsEntry desk.base (ScriptMeans desk.shape (script_at input item.caller item.index)) who call old new receipt) (its : IsReceipted who receipt item) where
+      (gets : GetsEntry desk.base (ScriptMeans desk.shape (script_at input item.caller item.index)) who call old new
+      receipt) (its : IsReceipted who receipt item) where
     made_now : IsMade desk input new item
     made_now =
         let before : List Entry = old ++ gets.others in
         let long : length new ≡ length before + 1 = ap length gets.seen ∙ length-append before (gets.entry ∷ []) in
         let taken : take (length before) new ≡ before = ap (take (length before)) gets.seen ∙ take-append_seam before (gets.entry ∷ []) in
-        let Means : List Entry → Reply → Type 0 = λ l r. ScriptMeans desk.shape (script_at input item.caller item.index) (replay desk.base l) gets.entry.kept r (after gets.entry.trace (replay desk.base l)) in
+        let Means : List Entry → Reply → Type 0 =
+        λ l r. ScriptMeans desk.shape (script_at input item.caller item.index) (replay desk.base l) gets.entry.kept
+        r (after gets.entry.trace (replay desk.base l)) in
         record {
           place = length before;
           entry = gets.entry;
           serial_is = its.serial ∙ gets.serial_is ∙ long;
           stands_at = ap (λ l. slice_get l (length before)) gets.seen ∙ get_last before gets.entry;
-          is_of = record { seat_is = gets.made_by ∙ sym its.seat; call_is = gets.call_is.0 ∙ sym gets.call_is.1 ∙ sym its.call; restarts_are = sym gets.restarts_are ∙ sym its.restarts };
+          is_of = record {
+            seat_is = gets.made_by ∙ sym its.seat;
+            call_is = gets.call_is.0 ∙ sym gets.call_is.1
+                ∙ sym its.call;
+            restarts_are = sym gets.restarts_are ∙ sym its.restarts;
+          };
           meaning = subst (λ (l : List Entry). Means l item.reply) (sym taken) (subst (λ (r : Reply). Means before r) (sym its.reply) gets.meaning);
         }
 
@@ -78,7 +87,8 @@ module _ (desk : DeskView BooksShape) (input : ClearingInput) where
           number_is = same ∙ h.number_is;
           calls = omega (arith, called, h.calls, ap length is, length-append done (item ∷ []));
           seats = subst (λ (l : List Done). All (λ x. x.seat ≡ who) l) (sym is) (All-push (λ (x : Done). x.seat ≡ who) done item h.seats its.seat);
-          serials = ap (map (λ (x : Done). x.serial)) is ∙ map_push (λ (x : Done). x.serial) done item ∙ ap (λ n. map (λ (x : Done). x.serial) done ++ n ∷ []) item_serial
+          serials = ap (map (λ (x : Done). x.serial)) is ∙ map_push (λ (x : Done). x.serial) done item
+              ∙ ap (λ n. map (λ (x : Done). x.serial) done ++ n ∷ []) item_serial
               ∙ ap (λ l. l ++ length ((old ++ gets.others) ++ gets.entry ∷ []) ∷ []) (h.serials ∙ ap (serials_by who 1) was)
               ∙ sym (serials-gain who old gets.others gets.entry gets.by_others gets.made_by) ∙ ap (serials_by who 1) (sym gets.seen ∙ sym now);
           made = subst (λ (l : List Done). All (IsMade desk input next.view.seen) l) (sym is)
@@ -86,11 +96,13 @@ module _ (desk : DeskView BooksShape) (input : ClearingInput) where
               (All-push (IsMade desk input new) done item
               (All-weaker (IsMade desk input old) (IsMade desk input new) (λ x m. made_stays old new longer x m) done
               (subst (λ (s : List Entry). All (IsMade desk input s) done) was h.made)) made_now));
-          below = subst (λ (l : List Done). All (λ x. x.restarts < desk.seats) l) (sym is) (All-push (λ (x : Done). x.restarts < desk.seats) done item h.below few);
+          below = subst (λ (l : List Done). All (λ x. x.restarts < desk.seats) l) (sym is)
+              (All-push (λ (x : Done). x.restarts < desk.seats) done item h.below few);
         }
 
   -- a new pass made nothing
-  pub made_nothing : (who : ℕ) (pass : PassView) (done : List Done) → pass.table ≡ desk.table → pass.view.phase ≡ Idle → pass.view.who ≡ who ∷ [] → pass.view.call ≡ 0 → pass.view.seen ≡ []
+  pub made_nothing : (who : ℕ) (pass : PassView) (done : List Done) → pass.table ≡ desk.table → pass.view.phase ≡ Idle
+      → pass.view.who ≡ who ∷ [] → pass.view.call ≡ 0 → pass.view.seen ≡ []
       → done ≡ [] → HasMade desk input who pass done
   made_nothing who pass done table idle number calls seen is = record {
     of_table = table;

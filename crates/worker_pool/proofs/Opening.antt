@@ -1,5 +1,6 @@
 -- The ends of all workers before they start, and what was dealt to all deques together.
-use Rattle.std.proofs.Common.{◌≡◌, ℕ, zero, suc, ◌+◌, ◌%◌, ◌<◌, ◌≤◌, ◌==◌, if◌then◌else◌, All, List, [], ◌∷◌, length, get_or, refl, sym, ap, ◌∙◌, subst, arith, Global, lt_of_not-le, zero-add}
+use Rattle.std.proofs.Common.{◌≡◌, ℕ, zero, suc, ◌+◌, ◌%◌, ◌<◌, ◌≤◌, ◌==◌, if◌then◌else◌, All, List, [], ◌∷◌, length, get_or, refl, sym, ap, ◌∙◌, subst, arith}
+use Rattle.std.proofs.Common.{Global, lt_of_not-le, zero-add}
 use Rattle.std.specs.Prelude.{sum_by}
 use Rattle.std.proofs.lemmas.Bool.Decides.{nat_tests}
 use Rattle.std.proofs.lemmas.List.Sums.{sum_by-cons}
@@ -25,7 +26,8 @@ sum_zero : {X : Type 0} (f : X → ℕ) (xs : List X) → ((k : ℕ) (d : X) →
 sum_zero f [] none = refl
 sum_zero f (x ∷ xs) none = omega (arith, sum_by-cons f x xs, none 0 x (omega arith), sum_zero f xs (λ k d lt. none (suc k) d (omega arith)))
 
-module _ (thieves : Thieves) (owners : List OwnerOf) (n j : ℕ) (taker : Taker) (shown : AreShown thieves owners) (many : length owners ≡ n) (few : n < ALL_PARTS) (free : All (IsFree n) owners) (row : IsNewRow owners taker.passes.items)
+module _ (thieves : Thieves) (owners : List OwnerOf) (n j : ℕ) (taker : Taker) (shown : AreShown thieves owners)
+    (many : length owners ≡ n) (few : n < ALL_PARTS) (free : All (IsFree n) owners) (row : IsNewRow owners taker.passes.items)
     (own : taker.own ≡ get_or owners j taker.own) (within : j < n) where
   fits_new : Fits thieves taker.passes.items
   fits_new = record {
@@ -89,19 +91,34 @@ module _ {X : Type 0} (f : X → ℕ) (r left all : ℕ) where
   sum_off a xs less turns = sum_zero f xs (λ k d lt. off_turn (a + k) (f (get_or xs k d)) (λ e. absurd (omega (arith, e, less))) (turns k d lt))
 
   later : (a : ℕ) (x : X) (xs : List X) → AreTurns a (x ∷ xs) → AreTurns (a + 1) xs
-  later a x xs turns k d lt = subst (λ m. f (get_or xs k d) + (if r == m then left else 0) ≡ (if r == m then all else 0)) (omega arith) (turns (suc k) d (omega arith))
+  later a x xs turns k d lt = subst (λ m. f (get_or xs k d) + (if r == m then left else 0)
+      ≡ (if r == m then all else 0)) (omega arith) (turns (suc k) d (omega arith))
 
   pub sum_turns : (a : ℕ) (xs : List X) → a ≤ r → r < a + length xs → AreTurns a xs → sum_by f xs + left ≡ all
   sum_turns a [] le lt turns = absurd (omega (arith, le, lt))
   sum_turns a (x ∷ xs) le lt turns =
       let first = turns 0 x (omega arith) in
       dite (dec_le r a)
-      (λ here. omega (arith, sum_by-cons f x xs, on_turn (a + 0) (f x) (omega (arith, here, le)) first, sum_off (a + 1) xs (omega (arith, here)) (later a x xs turns)))
-      (λ away. omega (arith, sum_by-cons f x xs, off_turn (a + 0) (f x) (λ e. absurd (omega (arith, e, lt_of_not-le away))) first, sum_turns (a + 1) xs (omega (arith, lt_of_not-le away)) (omega (arith, lt)) (later a x xs turns)))
+      (λ here. omega (
+        arith,
+        sum_by-cons f x xs,
+        on_turn (a + 0) (f x) (omega (arith, here, le)) first,
+        sum_off (a + 1) xs (omega (arith, here)) (later a x xs turns),
+      ))
+      (λ away. omega (
+        arith,
+        sum_by-cons f x xs,
+        off_turn (a + 0) (f x) (λ e. absurd (omega (arith, e, lt_of_not-le away))) first,
+        sum_turns (a + 1) xs (omega (arith, lt_of_not-le away)) (omega (arith, lt)) (later a x xs turns),
+      ))
 
 -- what was dealt to all deques and what is left is each caller once
-pub dealt_all : (callers : ℕ) (owners : List OwnerOf) (left : List ℕ) → 0 < length owners → AreDealtInTurn callers owners left → (x : ℕ) → owners_dealt owners x + times x left ≡ once_below x callers
+pub dealt_all : (callers : ℕ) (owners : List OwnerOf) (left : List ℕ) → 0 < length owners
+    → AreDealtInTurn callers owners left → (x : ℕ) → owners_dealt owners x + times x left ≡ once_below x callers
 dealt_all callers owners left some h x =
     let less : x % length owners < length owners = mod-lt x some in
-    sum_turns (λ (w : OwnerOf). times x (worker_view w).dealt) (x % length owners) (times x left) (once_below x callers) 0 owners (omega arith) (omega (arith, less))
-    (λ k w lt. subst (λ m. times x (worker_view (get_or owners k w)).dealt + (if x % length owners == m then times x left else 0) ≡ (if x % length owners == m then once_below x callers else 0)) (sym (zero-add k)) (h.each k w x lt))
+    sum_turns (λ (w : OwnerOf). times x (worker_view w).dealt) (x % length owners) (times x left) (once_below x callers)
+    0 owners (omega arith) (omega (arith, less))
+    (λ k w lt. subst (λ m. times x (worker_view (get_or owners k w)).dealt
+    + (if x % length owners == m then times x left else 0)
+    ≡ (if x % length owners == m then once_below x callers else 0)) (sym (zero-add k)) (h.each k w x lt))

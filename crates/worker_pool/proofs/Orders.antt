@@ -1,5 +1,6 @@
 -- A list that does not fall, and has the numbers of a range as often as the range, is the range.
-use Rattle.std.proofs.Common.{◌≡◌, ℕ, zero, suc, ◌+◌, ◌<◌, ◌≤◌, Bool, true, false, List, [], ◌∷◌, map, length, get_or, sym, refl, subst, arith, ◌==◌, if◌then◌else◌, eqb-true, eq-eqb, ◌⊎◌, inl, inr, ⊎_elim}
+use Rattle.std.proofs.Common.{◌≡◌, ℕ, zero, suc, ◌+◌, ◌<◌, ◌≤◌, Bool, true, false, List, [], ◌∷◌, map, length, get_or, sym, refl, subst, arith, ◌==◌}
+use Rattle.std.proofs.Common.{if◌then◌else◌, eqb-true, eq-eqb, ◌⊎◌, inl, inr, ⊎_elim}
 use Rattle.std.specs.List.{range_with_len}
 use Rattle.std.specs.List.Sorted.{IsNonDecreasingBy}
 use Rattle.worker_pool.specs.Counting.{times}
@@ -22,7 +23,8 @@ module _ {X : Type 0} (n : X → ℕ) where
   -- a number that occurs stands at some place
   among : (y : ℕ) (xs : List X) → 0 < times y (map n xs) → (j : ℕ) × (j < length xs) × ((d : X) → n (get_or xs j d) ≡ y)
   among y [] h = absurd (omega arith)
-  among y (x ∷ xs) h = ⊎_elim (λ (e : n x ≡ y). (0, omega arith, λ d. e)) (λ (l : 0 < times y (map n xs)). let r = among y xs l in (suc r.0, omega (arith, r.1), λ d. r.2 d))
+  among y (x ∷ xs) h = ⊎_elim (λ (e : n x ≡ y). (0, omega arith, λ d. e)) (λ (l : 0 < times y (map n xs)). let r =
+      among y xs l in (suc r.0, omega (arith, r.1), λ d. r.2 d))
       (head_or (n x == y) y (n x) (times y (map n xs)) refl (subst (λ (k : ℕ). 0 < k) (times_cons y (n x) (map n xs)) h))
 
   head_least : (x : X) (xs : List X) → IsNonDecreasingBy n (x ∷ xs) → (y : ℕ) → 0 < times y (map n (x ∷ xs)) → n x ≤ y
@@ -31,7 +33,8 @@ module _ {X : Type 0} (n : X → ℕ) where
   tail_up : (x : X) (xs : List X) → IsNonDecreasingBy n (x ∷ xs) → IsNonDecreasingBy n xs
   tail_up x xs up i j d le lt = up (suc i) (suc j) d (omega arith) (omega arith)
 
-  pub in_order : (a m : ℕ) (xs : List X) → IsNonDecreasingBy n xs → ((x : ℕ) → times x (map n xs) ≡ times x (range_with_len a m)) → map n xs ≡ range_with_len a m
+  pub in_order : (a m : ℕ) (xs : List X) → IsNonDecreasingBy n xs
+      → ((x : ℕ) → times x (map n xs) ≡ times x (range_with_len a m)) → map n xs ≡ range_with_len a m
   in_order a zero [] up once = refl
   in_order a (suc m) [] up once = absurd (omega (arith, once a, here a (range_with_len (a + 1) m)))
   in_order a zero (x ∷ xs) up once = absurd (omega (arith, once (n x), here (n x) (map n xs)))

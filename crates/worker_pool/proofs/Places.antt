@@ -17,10 +17,19 @@ module _ {X Y : Type 0} (R : X → Y → Type 0) where
       subst (λ (z : X × Y). R z.0 z.1) (λ i. (sym left i, sym right i)) one)
       (λ off.
       let within : k < length xs = omega (arith, off, lt, length-append xs (x ∷ [])) in
-      subst (λ (z : X × Y). R z.0 z.1) (λ i. (sym (get_or_append_left xs (x ∷ []) d k within) i, sym (get_or_append_left ys (y ∷ []) e k (omega (arith, within, long))) i)) (each k d e within))
+      subst (λ (z : X × Y). R z.0 z.1) (λ i. (
+        sym (get_or_append_left xs (x ∷ []) d k within) i,
+        sym (get_or_append_left ys (y ∷ []) e k (omega (arith, within, long))) i,
+      )) (each k d e within))
 
   -- one item of the second list changes
-  pub related_set : (xs : List X) (ys : List Y) (j : ℕ) (y : Y) → length ys ≡ length xs → AreRelated xs ys → ((d : X) → R (get_or xs j d) y) → AreRelated xs (set ys j y)
+  pub related_set : (xs : List X) (ys : List Y) (j : ℕ) (y : Y) → length ys ≡ length xs → AreRelated xs ys
+      → ((d : X) → R (get_or xs j d) y) → AreRelated xs (set ys j y)
   related_set xs ys j y long each one k d e lt = dite (ℕ_discrete k j)
-      (λ at. subst (λ (z : X × Y). R z.0 z.1) (λ i. (ap (λ p. get_or xs p d) (sym at) i, sym (ap (λ p. get_or (set ys j y) p e) at ∙ get_or-set_same ys j y e (omega (arith, at, lt, long))) i)) (one d))
+      (λ at. subst (λ (z : X × Y). R z.0 z.1)
+      (λ i. (
+        ap (λ p. get_or xs p d) (sym at) i,
+        sym (ap (λ p. get_or (set ys j y) p e) at
+            ∙ get_or-set_same ys j y e (omega (arith, at, lt, long))) i,
+      )) (one d))
       (λ off. subst (λ (z : Y). R (get_or xs k d) z) (sym (get_or-set_other ys j k y e off)) (each k d e lt))

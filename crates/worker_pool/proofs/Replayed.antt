@@ -1,6 +1,7 @@
 -- Items in the order of their serials: the interpreter, run down them, replies what they reply, and leaves the books for
 -- which the words stand that the history leaves.
-use Rattle.std.proofs.Common.{◌≡◌, ◌≢◌, ℕ, zero, suc, ◌+◌, ◌<◌, ◌≤◌, Bool, true, false, List, [], ◌∷◌, ◌++◌, All, map, length, take, get_or, slice_get, Some, refl, sym, ap, ◌∙◌, subst, arith, true≢false}
+use Rattle.std.proofs.Common.{◌≡◌, ◌≢◌, ℕ, zero, suc, ◌+◌, ◌<◌, ◌≤◌, Bool, true, false, List, [], ◌∷◌, ◌++◌, All, map, length, take, get_or, slice_get, Some}
+use Rattle.std.proofs.Common.{refl, sym, ap, ◌∙◌, subst, arith, true≢false}
 use Rattle.std.specs.List.{range_with_len}
 use Rattle.std.proofs.lemmas.List.{take_more, map_push, length-map, get_or-map}
 use Rattle.std.proofs.lemmas.List.FromFn.{get_or-range_with_len, length-range_with_len}
@@ -40,7 +41,8 @@ not_done : (answer : Reply) → is_done answer ≡ false → (r : Reply) → ans
 not_done answer refusal r same values e = let done : is_done answer ≡ true = ap is_done (same ∙ e) in absurd (true≢false (sym done ∙ refusal))
 
 -- what a script leaves of words that stand for books, stands for the books that the interpreter leaves
-after_one : (refused : RefusedChangesNothing) (shape : BooksShape) (base : List ℕ) (entries : List Entry) (e : Entry) (script : List Op) (answer : Reply) (books : ClearingBooks)
+after_one : (refused : RefusedChangesNothing) (shape : BooksShape) (base : List ℕ) (entries : List Entry) (e : Entry)
+    (script : List Op) (answer : Reply) (books : ClearingBooks)
     → ScriptMeans shape script (replay base entries) e.kept answer (after e.trace (replay base entries)) → Stands shape (replay base entries) books
     → Stands shape (replay base (entries ++ e ∷ [])) (outcome_of script books).1
 after_one refused shape base entries e script answer books means stands = by_kept e.kept refl
@@ -66,7 +68,8 @@ module _ (refused : RefusedChangesNothing) (desk : DeskView BooksShape) (input :
   as_many = sym (length-map done (λ (item : Done). item.serial)) ∙ ap length serials ∙ length-range_with_len 1 (length history)
 
   pub serial_at : (k : ℕ) (d : Done) → k < length done → (get_or done k d).serial ≡ 1 + k
-  serial_at k d lt = sym (get_or-map (λ (item : Done). item.serial) done k d d.serial lt) ∙ ap (λ l. get_or l k d.serial) serials ∙ get_or-range_with_len 1 (length history) k d.serial (omega (arith, as_many, lt))
+  serial_at k d lt = sym (get_or-map (λ (item : Done). item.serial) done k d d.serial lt)
+      ∙ ap (λ l. get_or l k d.serial) serials ∙ get_or-range_with_len 1 (length history) k d.serial (omega (arith, as_many, lt))
 
   pub place_at : (k : ℕ) (d : Done) (lt : k < length done) → (made k d lt).place ≡ k
   place_at k d lt = omega (arith, (made k d lt).serial_is, serial_at k d lt)
@@ -101,13 +104,16 @@ module _ (refused : RefusedChangesNothing) (desk : DeskView BooksShape) (input :
           let books : ClearingBooks = books_after input input.books (places_of (take k done)) in
           let script = script_at input x.caller x.index in
           let here = place_at k d lt in
-          let means : ScriptMeans desk.shape script (replay desk.base (take k history)) m.entry.kept x.reply (after m.entry.trace (replay desk.base (take k history))) =
-          subst (λ p. ScriptMeans desk.shape script (replay desk.base (take p history)) m.entry.kept x.reply (after m.entry.trace (replay desk.base (take p history)))) here m.meaning in
+          let means : ScriptMeans desk.shape script (replay desk.base (take k history)) m.entry.kept x.reply
+          (after m.entry.trace (replay desk.base (take k history))) =
+          subst (λ p. ScriptMeans desk.shape script (replay desk.base (take p history)) m.entry.kept x.reply
+          (after m.entry.trace (replay desk.base (take p history)))) here m.meaning in
           let next : suc k ≡ k + 1 = omega arith in
           let taken : take (suc k) done ≡ take k done ++ x ∷ [] = ap (λ n. take n done) next ∙ take_more done k d lt in
           let long : k < length history = omega (arith, as_many, lt) in
           let entry : get_or history k m.entry ≡ m.entry = get_or_from_slice_get history k m.entry m.entry (entry_at k d lt) in
-          let seen : take (suc k) history ≡ take k history ++ m.entry ∷ [] = ap (λ n. take n history) next ∙ take_more history k m.entry long ∙ ap (λ e. take k history ++ e ∷ []) entry in
+          let seen : take (suc k) history ≡ take k history ++ m.entry ∷ [] = ap (λ n. take n history) next
+          ∙ take_more history k m.entry long ∙ ap (λ e. take k history ++ e ∷ []) entry in
           let places : places_of (take (suc k) done) ≡ places_of (take k done) ++ place_of x ∷ [] = ap places_of taken ∙ map_push place_of (take k done) x in
           let left : books_after input input.books (places_of (take (suc k) done)) ≡ (outcome_of script books).1 =
           ap (books_after input input.books) places ∙ books_after-push input input.books (places_of (take k done)) (place_of x) in

@@ -1,5 +1,6 @@
 -- One script more of a caller, and one caller more.
-use Rattle.std.proofs.Common.{◌≡◌, ℕ, zero, suc, ◌+◌, ◌<◌, ◌≤◌, ◌&&◌, ◌==◌, Bool, cond, List, [], ◌∷◌, ◌++◌, All, length, get_or, count_by, nat_lt, refl, sym, ap, ◌∙◌, subst, arith, if◌then◌else◌}
+use Rattle.std.proofs.Common.{◌≡◌, ℕ, zero, suc, ◌+◌, ◌<◌, ◌≤◌, ◌&&◌, ◌==◌, Bool, cond, List, [], ◌∷◌, ◌++◌, All, length, get_or, count_by, nat_lt, refl, sym}
+use Rattle.std.proofs.Common.{ap, ◌∙◌, subst, arith, if◌then◌else◌}
 use Rattle.std.proofs.lemmas.Bool.Decides.{nat_tests}
 use Rattle.std.proofs.lemmas.List.{map_push}
 use Rattle.std.proofs.lemmas.List.Elements.{All-nil, All-push, All-weaker}
@@ -17,10 +18,14 @@ abbrev pub one_if : Bool → ℕ
 one_if b = if b then 1 else 0
 
 -- how often a place stands, with one more
-one_place_more : (p q : Place) (places : List Place) → count_by (λ x. x.caller == p.caller && x.index == p.index) (places ++ q ∷ []) ≡ count_by (λ x. x.caller == p.caller && x.index == p.index) places + (if q.caller == p.caller && q.index == p.index then 1 else 0)
+one_place_more : (p q : Place) (places : List Place)
+    → count_by (λ x. x.caller == p.caller && x.index == p.index) (places ++ q ∷ [])
+    ≡ count_by (λ x. x.caller == p.caller && x.index == p.index) places + (if q.caller == p.caller && q.index == p.index then 1 else 0)
 one_place_more p q places = sum_by_push (λ (x : Place). cond (x.caller == p.caller && x.index == p.index) 1 0) places q
 
-next_index : (c i : ℕ) (p : Place) → (if p.caller == c && nat_lt p.index i then 1 else 0) + (if c == p.caller && i == p.index then 1 else 0) ≡ (if p.caller == c && nat_lt p.index (i + 1) then 1 else 0)
+next_index : (c i : ℕ) (p : Place)
+    → (if p.caller == c && nat_lt p.index i then 1 else 0) + (if c == p.caller && i == p.index then 1 else 0)
+    ≡ (if p.caller == c && nat_lt p.index (i + 1) then 1 else 0)
 next_index c i p = grind (arith, nat_tests)
 
 none_yet : (c : ℕ) (p : Place) → (if p.caller == c && nat_lt p.index 0 then 1 else 0) ≡ zero
@@ -52,23 +57,33 @@ module _ (input : ClearingInput) (h : ℕ → ℕ) (c : ℕ) where
   }
 
   -- the next script of a caller of whom nothing was run before
-  pub ran_script : (i : ℕ) (old new : List Done) (item : Done) → h c ≡ 0 → IsPlace input (place_of item) → item.caller ≡ c → item.index ≡ i → new ≡ old ++ item ∷ []
+  pub ran_script : (i : ℕ) (old new : List Done) (item : Done) → h c ≡ 0 → IsPlace input (place_of item)
+      → item.caller ≡ c → item.index ≡ i → new ≡ old ++ item ∷ []
       → HasRun input h c i old → HasRun input h c (i + 1) new
   ran_script i old new item none there caller index is r = subst (λ (l : List Done). HasRun input h c (i + 1) l) (sym is) (record {
     only = All-push (λ (x : Done). IsPlace input (place_of x)) old item r.only there;
     each = λ p within.
         let its : one_if (item.caller == p.caller && item.index == p.index) ≡ one_if (c == p.caller && i == p.index) =
         (λ t. one_if (caller t == p.caller && index t == p.index)) in
-        omega (arith, ap (count_by (λ q. q.caller == p.caller && q.index == p.index)) (map_push place_of old item), one_place_more p (place_of item) (places_of old), r.each p within, its, next_index c i p);
+        omega (
+          arith,
+          ap (count_by (λ q. q.caller == p.caller && q.index == p.index)) (map_push place_of old item),
+          one_place_more p (place_of item) (places_of old),
+          r.each p within,
+          its,
+          next_index c i p,
+        );
     rising = all_pairs_push (λ x y. x.caller ≡ y.caller → x.index < y.index) old item r.rising
         (λ k d lt same. let e : (get_or old k d).caller ≡ c = same ∙ caller in omega (arith, (r.among k d lt (ap h e ∙ none)).1, index));
     among = All-push (λ (x : Done). h x.caller ≡ 0 → (x.caller ≡ c) × (x.index < i + 1)) old item
-        (All-weaker (λ (x : Done). h x.caller ≡ 0 → (x.caller ≡ c) × (x.index < i)) (λ (x : Done). h x.caller ≡ 0 → (x.caller ≡ c) × (x.index < i + 1)) (λ x t zero_is. ((t zero_is).0, omega (arith, (t zero_is).1))) old r.among)
+        (All-weaker (λ (x : Done). h x.caller ≡ 0 → (x.caller ≡ c) × (x.index < i)) (λ (x : Done). h x.caller ≡ 0
+        → (x.caller ≡ c) × (x.index < i + 1)) (λ x t zero_is. ((t zero_is).0, omega (arith, (t zero_is).1))) old r.among)
         (λ _. (caller, omega (arith, index)));
   })
 
   -- all scripts of a caller
-  pub ran_caller : (more : ℕ → ℕ) (done : List Done) → HadOneMore h more c → HasRun input h c (length (caller_at input c).scripts) done → HasRun input more c 0 done
+  pub ran_caller : (more : ℕ → ℕ) (done : List Done) → HadOneMore h more c
+      → HasRun input h c (length (caller_at input c).scripts) done → HasRun input more c 0 done
   ran_caller more done one r = record {
     only = r.only;
     each = λ p there. omega (
@@ -102,7 +117,8 @@ other_caller n c p past there = grind (arith, nat_tests, past, there)
 
 module _ (input : ClearingInput) (h more : ℕ → ℕ) (c : ℕ) (one : HadOneMore h more c) where
   -- all scripts of one caller more
-  pub runs_caller : (old new : List Done) → (h c ≡ 0 → HasRun input h c 0 old → HasRun input h c (length (caller_at input c).scripts) new) → RunsEach input h old → RunsEach input more new
+  pub runs_caller : (old new : List Done)
+      → (h c ≡ 0 → HasRun input h c 0 old → HasRun input h c (length (caller_at input c).scripts) new) → RunsEach input h old → RunsEach input more new
   runs_caller old new ran before few =
       let less = few_before h more c one few in
       next_caller input more 0 c new (ran_caller input h c more new one (ran less.1 (next_caller input h c 0 old (before less.0))))

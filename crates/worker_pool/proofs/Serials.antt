@@ -1,5 +1,6 @@
 -- The serials of one seat's entries, and of all seats'.
-use Rattle.std.proofs.Common.{◌≡◌, ℕ, suc, ◌+◌, ◌<◌, ◌≤◌, Bool, true, false, List, [], ◌∷◌, ◌++◌, All, length, refl, sym, ap, ◌∙◌, arith, ◌==◌, eq-eqb, if◌then◌else◌, length-append, append-nil}
+use Rattle.std.proofs.Common.{◌≡◌, ℕ, suc, ◌+◌, ◌<◌, ◌≤◌, Bool, true, false, List, [], ◌∷◌, ◌++◌, All, length, refl, sym, ap, ◌∙◌, arith, ◌==◌, eq-eqb}
+use Rattle.std.proofs.Common.{if◌then◌else◌, length-append, append-nil}
 use Rattle.std.specs.Prelude.{sum_by}
 use Rattle.std.specs.List.{range_with_len, AllPairs}
 use Rattle.std.proofs.lemmas.Bool.{ne_eqb}
@@ -22,7 +23,9 @@ module _ (who : ℕ) where
 
   pub serials-append : (k n : ℕ) (xs ys : List Entry) → n ≡ k + length xs → serials_by who k (xs ++ ys) ≡ serials_by who k xs ++ serials_by who n ys
   serials-append k n [] ys e = let same : k ≡ n = omega arith in ap (λ m. serials_by who m ys) same
-  serials-append k n (x ∷ xs) ys e = front_append (who == x.who) k (serials_by who (k + 1) (xs ++ ys)) (serials_by who (k + 1) xs) (serials_by who n ys) (serials-append (k + 1) n xs ys (omega arith))
+  serials-append k n (x ∷ xs) ys e =
+      front_append (who == x.who) k (serials_by who (k + 1) (xs ++ ys)) (serials_by who (k + 1) xs)
+      (serials_by who n ys) (serials-append (k + 1) n xs ys (omega arith))
 
   front_none : (b : Bool) (k : ℕ) (xs : List ℕ) → b ≡ false → xs ≡ [] → front b k xs ≡ []
   front_none true k xs e f = absurd (cc)

@@ -1,5 +1,6 @@
 -- Each kind of step keeps the rule of a deque.
-use Rattle.std.proofs.Common.{◌≡◌, ◌≢◌, ℕ, zero, suc, ◌+◌, ◌-◌, ◌*◌, ◌<◌, ◌≤◌, Bool, true, false, List, [], ◌∷◌, ◌++◌, set, length, sym, refl, ap, ◌∙◌, subst, arith, length-append, ◌==◌, if◌then◌else◌, ne_eqb, min}
+use Rattle.std.proofs.Common.{◌≡◌, ◌≢◌, ℕ, zero, suc, ◌+◌, ◌-◌, ◌*◌, ◌<◌, ◌≤◌, Bool, true, false, List, [], ◌∷◌, ◌++◌, set, length, sym, refl, ap, ◌∙◌, subst}
+use Rattle.std.proofs.Common.{arith, length-append, ◌==◌, if◌then◌else◌, ne_eqb, min}
 use Rattle.std.specs.Prelude.{sum_by}
 use Rattle.std.proofs.lemmas.List.Sums.{sum_by-append}
 use Rattle.crossbeam_deque.specs.Tasks.{Pushes, Takes, Finds, FindsFew, Forks, Merges}
@@ -43,7 +44,18 @@ module _ (port : ℕ) (v : Deal) where
     w,
     record {
       parts = omega (arith, h.parts, sum_at_set (λ (u : Deal). u.parts) views port v w at);
-      once = λ x. omega (arith, h.once x, sum_at_set (took x) views port v w at, sum_at_set (put x) views port v w at, took_of x v part, put_of x v part, took_of x w part, put_of x w part, times_append x v.dealt xs, times_append x items xs);
+      once = λ x. omega (
+        arith,
+        h.once x,
+        sum_at_set (took x) views port v w at,
+        sum_at_set (put x) views port v w at,
+        took_of x v part,
+        put_of x v part,
+        took_of x w part,
+        put_of x w part,
+        times_append x v.dealt xs,
+        times_append x items xs,
+      );
     },
     refl,
   )
@@ -53,7 +65,18 @@ module _ (port : ℕ) (v : Deal) where
     w,
     record {
       parts = omega (arith, h.parts, sum_at_set (λ (u : Deal). u.parts) views port v w at);
-      once = λ x. omega (arith, h.once x, sum_at_set (took x) views port v w at, sum_at_set (put x) views port v w at, took_of x v part, put_of x v part, took_of x w part, put_of x w part, times_append x v.taken xs, times_append x xs items);
+      once = λ x. omega (
+        arith,
+        h.once x,
+        sum_at_set (took x) views port v w at,
+        sum_at_set (put x) views port v w at,
+        took_of x v part,
+        put_of x v part,
+        took_of x w part,
+        put_of x w part,
+        times_append x v.taken xs,
+        times_append x xs items,
+      );
     },
     refl,
   )
@@ -64,7 +87,14 @@ module _ (port : ℕ) (v : Deal) where
       let P : Deal → ℕ = λ u. u.parts in
       let whole : sum_by P views ≡ P v = h.parts ∙ sym all in
       let part : 0 < v.parts = omega (arith, all) in
-      omega (arith, h.once x, alone (took x) P (no_took x) views port v at whole, alone (put x) P (no_put x) views port v at whole, took_of x v part, put_of x v part)
+      omega (
+        arith,
+        h.once x,
+        alone (took x) P (no_took x) views port v at whole,
+        alone (put x) P (no_put x) views port v at whole,
+        took_of x v part,
+        put_of x v part,
+      )
 
   pub finds_few : (most : ℕ) → most ≡ 0 → FindsFew IsDealt most port v (v.parts ≡ ALL_PARTS → IsAllTaken v)
   finds_few most none items views few h at = finds views (subst (λ (l : List ℕ). IsDealt l views) (nothing items (omega (arith, few, none))) h) at
@@ -79,10 +109,22 @@ module _ (port : ℕ) (v : Deal) where
       let r : List Deal = deal 1 [] [] ∷ [] in
       record {
         parts = let P : Deal → ℕ = λ u. u.parts in omega (arith, h.parts, sum_at_set P views port v l at, sum_by-append P (set views port l) r);
-        once = λ x. omega (arith, h.once x, sum_at_set (took x) views port v l at, sum_at_set (put x) views port v l at, sum_by-append (took x) (set views port l) r, sum_by-append (put x) (set views port l) r, took_of x v (omega arith), put_of x v (omega arith), took_of x l (omega arith), put_of x l (omega arith));
+        once = λ x. omega (
+          arith,
+          h.once x,
+          sum_at_set (took x) views port v l at,
+          sum_at_set (put x) views port v l at,
+          sum_by-append (took x) (set views port l) r,
+          sum_by-append (put x) (set views port l) r,
+          took_of x v (omega arith),
+          put_of x v (omega arith),
+          took_of x l (omega arith),
+          put_of x l (omega arith),
+        );
       }
 
-  pub merges : (other : ℕ) (u : Deal) → 0 < v.parts → 0 < u.parts → Merges IsDealt port v other u (deal (v.parts + u.parts) (v.dealt ++ u.dealt) (v.taken ++ u.taken)) (deal 0 [] [])
+  pub merges : (other : ℕ) (u : Deal) → 0 < v.parts → 0 < u.parts
+      → Merges IsDealt port v other u (deal (v.parts + u.parts) (v.dealt ++ u.dealt) (v.taken ++ u.taken)) (deal 0 [] [])
   merges other u part part' items views h at two at' =
       let b : Deal = deal (v.parts + u.parts) (v.dealt ++ u.dealt) (v.taken ++ u.taken) in
       let z : Deal = deal 0 [] [] in

@@ -1,5 +1,6 @@
 -- Of each caller all items are of one seat.
-use Rattle.std.proofs.Common.{◌≡◌, ℕ, ◌+◌, ◌<◌, ◌≤◌, List, [], ◌∷◌, All, IsPermutation, flat_map, get_or, slice_get, Some, nat_lt, if◌then◌else◌, sym, ap, ◌∙◌, subst, arith}
+use Rattle.std.proofs.Common.{◌≡◌, ℕ, ◌+◌, ◌<◌, ◌≤◌, List, [], ◌∷◌, All, IsPermutation, flat_map, get_or, slice_get, Some, nat_lt, if◌then◌else◌, sym, ap, ◌∙◌}
+use Rattle.std.proofs.Common.{subst, arith}
 use Rattle.std.proofs.lemmas.Bool.Decides.{nat_tests}
 use Rattle.std.proofs.lemmas.List.Concat.{flat_map-cons}
 use Rattle.std.proofs.lemmas.List.Elements.{All-append, All-head, All-nil, All-tail}
@@ -33,7 +34,8 @@ abbrev AreOfSeat : Tally → Type 0
 AreOfSeat w = All (λ (item : Done). item.seat ≡ tally_number w) w.share.done.items
 
 -- where no caller was had for two shares, each item is of the seat of its caller
-by_seat : (ws : List Tally) → All AreOfSeat ws → All AmongHad ws → ((x : ℕ) → total_had ws x ≤ 1) → All (λ (item : Done). item.seat ≡ seat_by ws item.caller) (flat_map items_of ws)
+by_seat : (ws : List Tally) → All AreOfSeat ws → All AmongHad ws → ((x : ℕ) → total_had ws x ≤ 1)
+    → All (λ (item : Done). item.seat ≡ seat_by ws item.caller) (flat_map items_of ws)
 unfolding seat_by
 by_seat [] seats among once = All-nil (λ (item : Done). item.seat ≡ seat_by [] item.caller)
 by_seat (w ∷ ws) seats among once =
@@ -54,11 +56,15 @@ at_place : (P : Done → Type 0) (done : List Done) → All P done → (k : ℕ)
 at_place P done all k x is = subst P (get_or_from_slice_get done k x x is) (all k x (slice_get_within done k x is))
 
 -- all items of a day, in whatever order
-pub callers_whole : (desk : DeskView BooksShape) (input : ClearingInput) (ws : List Tally) → All (IsDone desk input) ws → ((x : ℕ) → total_had ws x ≤ 1) → (done : List Done) → IsPermutation (flat_map items_of ws) done
+pub callers_whole : (desk : DeskView BooksShape) (input : ClearingInput) (ws : List Tally) → All (IsDone desk input) ws
+    → ((x : ℕ) → total_had ws x ≤ 1) → (done : List Done) → IsPermutation (flat_map items_of ws) done
     → AreCallersWhole done
 callers_whole desk input ws each once done moved =
     let f : ℕ → ℕ = seat_by ws in
-    let all = by_seat ws (λ k d lt. (each k d lt).made.seats) (λ k d lt. among_had input (get_or ws k d).had 0 (get_or ws k d).share.done.items (each k d lt).run) once in
-    let kept : All (λ (item : Done). item.seat ≡ f item.caller) done = All-permutation (λ (item : Done). item.seat ≡ f item.caller) (flat_map items_of ws) done moved all in
+    let all = by_seat ws (λ k d lt. (each k d lt).made.seats)
+    (λ k d lt. among_had input (get_or ws k d).had 0 (get_or ws k d).share.done.items (each k d lt).run) once in
+    let kept : All (λ (item : Done). item.seat ≡ f item.caller) done =
+    All-permutation (λ (item : Done). item.seat ≡ f item.caller) (flat_map items_of ws) done moved all in
     λ j k x y at_j at_k same.
-    at_place (λ (item : Done). item.seat ≡ f item.caller) done kept j x at_j ∙ ap f same ∙ sym (at_place (λ (item : Done). item.seat ≡ f item.caller) done kept k y at_k)
+    at_place (λ (item : Done). item.seat ≡ f item.caller) done kept j x at_j ∙ ap f same
+    ∙ sym (at_place (λ (item : Done). item.seat ≡ f item.caller) done kept k y at_k)

@@ -49,5 +49,6 @@ pub record IsDay (input : ClearingInput) (closed : ClosedView BooksShape) (done 
   pub journal : IsJournal input (places_of done)
   pub below : All (λ item. item.restarts < closed.seats) done
   pub replies : map (λ item. item.reply) done ≡ replies_of input input.books (places_of done)
-  pub stands : (k : ℕ) → k ≤ length done → Stands closed.shape (replay closed.base (take k closed.history)) (books_after input input.books (places_of (take k done)))
+  pub stands : (k : ℕ) → k ≤ length done
+      → Stands closed.shape (replay closed.base (take k closed.history)) (books_after input input.books (places_of (take k done)))
   pub left : Stands closed.shape closed.words (books_after input input.books (places_of done))

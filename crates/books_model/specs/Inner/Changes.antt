@@ -1,5 +1,6 @@
 -- Changes of a map, gathered beside it, and how they are put into it.
-use Rattle.std.specs.Prelude.{◌≡◌, ℕ, ◌≤◌, ◌+◌, ◌++◌, List, [], ◌∷◌, drop, length, Option, Some, None, IsSome, is_some, unwrap_or, if◌then◌else◌, nat_le, ◌&&◌, sum_by}
+use Rattle.std.specs.Prelude.{◌≡◌, ℕ, ◌≤◌, ◌+◌, ◌++◌, List, [], ◌∷◌, drop, length, Option, Some, None, IsSome, is_some, unwrap_or, if◌then◌else◌, nat_le, ◌&&◌}
+use Rattle.std.specs.Prelude.{sum_by}
 use Rattle.std.specs.declared.cmp.Ordering.{Ordering}
 use Rattle.std.specs.Map.{lookup}
 use Rattle.std.specs.BTreeMap.{is_at, IsOrdered}

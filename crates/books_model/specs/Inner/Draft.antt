@@ -17,7 +17,8 @@ pub record Drafted : Type 0 where
 
 -- a draft is stored as the pair of its parts
 abbrev pub drafted_code : Coded Drafted
-drafted_code = code_by (ClearingBooks × ClearingBooks) (coded× books_code books_code) (λ d. (d.before, d.after)) (λ p. record { before = p.0; after = p.1 }) (λ _. refl)
+drafted_code = code_by (ClearingBooks × ClearingBooks) (coded× books_code books_code) (λ d. (d.before, d.after))
+    (λ p. record { before = p.0; after = p.1 }) (λ _. refl)
 
 -- changes of these books, which leave them in range with so many blocks used
 pub record IsDraftOf (books : ClearingBooks) (c : Changes) (count : ℕ) : Type 0 where

@@ -9,7 +9,10 @@ use Rattle.script_reader.specs.Input.{Caller, ClearingInput}
 
 -- an input is stored as its books and, for each caller, the pair of its parts
 abbrev pub caller_code : Coded Caller
-caller_code = code_by (List ℕ × List (List Op)) (coded× (coded_list coded_ℕ) (coded_list (coded_list operation.the_row.coded))) (λ c. (c.name, c.scripts)) (λ p. record { name = p.0; scripts = p.1 }) (λ _. refl)
+caller_code = code_by (List ℕ × List (List Op))
+    (coded× (coded_list coded_ℕ) (coded_list (coded_list operation.the_row.coded))) (λ c. (c.name, c.scripts))
+    (λ p. record { name = p.0; scripts = p.1 }) (λ _. refl)
 
 abbrev pub input_code : Coded ClearingInput
-input_code = code_by (ClearingBooks × List Caller) (coded× books_code (coded_list caller_code)) (λ i. (i.books, i.callers)) (λ p. record { books = p.0; callers = p.1 }) (λ _. refl)
+input_code = code_by (ClearingBooks × List Caller) (coded× books_code (coded_list caller_code))
+    (λ i. (i.books, i.callers)) (λ p. record { books = p.0; callers = p.1 }) (λ _. refl)

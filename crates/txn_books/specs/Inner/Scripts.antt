@@ -15,7 +15,8 @@ use Rattle.txn_books.specs.Standing.{Stands}
 -- from state to state: the operations run as the interpreter runs them, with this reply, and the words then stand for
 -- the books that they leave; where one is refused, for some books of which nothing is said
 pub record Runs (shape : BooksShape) (script : List Op) (answer : Reply) (old new : List ℕ) : Type 0 where
-  pub comes : (books : ClearingBooks) → Stands shape old books → (after : ClearingBooks) × (run_from 1 script books ≡ run_with answer after) × Stands shape new after
+  pub comes : (books : ClearingBooks) → Stands shape old books → (after : ClearingBooks)
+      × (run_from 1 script books ≡ run_with answer after) × Stands shape new after
 
 -- what a call on words leaves that may find no memory of its own: it goes on to the end unless the words stop, and
 -- yields exactly where they do

@@ -1,5 +1,6 @@
 -- What one worker did.
-use Rattle.std.specs.Prelude.{◌≡◌, ℕ, ◌+◌, ◌<◌, ◌≤◌, ◌&&◌, ◌==◌, nat_lt, if◌then◌else◌, List, [], ◌∷◌, map, length, take, All, AllPairs, count_by, Some, slice_get}
+use Rattle.std.specs.Prelude.{◌≡◌, ℕ, ◌+◌, ◌<◌, ◌≤◌, ◌&&◌, ◌==◌, nat_lt, if◌then◌else◌, List, [], ◌∷◌, map, length, take, All, AllPairs, count_by, Some}
+use Rattle.std.specs.Prelude.{slice_get}
 use Rattle.history_model.specs.declared.entry.Entry.{Entry}
 use Rattle.history_model.specs.declared.view.Phase.TheVariants.{Idle}
 use Rattle.history_model.specs.Histories.{replay}
@@ -27,7 +28,8 @@ pub record IsMade (desk : DeskView BooksShape) (input : ClearingInput) (seen : L
   pub serial_is : item.serial ≡ place + 1
   pub stands_at : slice_get seen place ≡ Some entry
   pub is_of : IsEntryOf item entry
-  pub meaning : ScriptMeans desk.shape (script_at input item.caller item.index) (replay desk.base (take place seen)) entry.kept item.reply (after entry.trace (replay desk.base (take place seen)))
+  pub meaning : ScriptMeans desk.shape (script_at input item.caller item.index) (replay desk.base (take place seen))
+      entry.kept item.reply (after entry.trace (replay desk.base (take place seen)))
 
 -- a pass of the desk made these items, a call each
 pub record HasMade (desk : DeskView BooksShape) (input : ClearingInput) (who : ℕ) (pass : PassView) (done : List Done) : Type 0 where
@@ -43,7 +45,8 @@ pub record HasMade (desk : DeskView BooksShape) (input : ClearingInput) (who : �
 -- of caller x the items are all scripts, h x times, and for caller c the first i scripts beside, in their order
 pub record HasRun (input : ClearingInput) (h : ℕ → ℕ) (c i : ℕ) (done : List Done) : Type 0 where
   pub only : All (λ item. IsPlace input (place_of item)) done
-  pub each : (p : Place) → IsPlace input p → count_by (λ q. q.caller == p.caller && q.index == p.index) (places_of done) ≡ h p.caller + (if p.caller == c && nat_lt p.index i then 1 else 0)
+  pub each : (p : Place) → IsPlace input p → count_by (λ q. q.caller == p.caller && q.index == p.index) (places_of done)
+      ≡ h p.caller + (if p.caller == c && nat_lt p.index i then 1 else 0)
   pub rising : AllPairs (λ x y. x.caller ≡ y.caller → x.index < y.index) done
   pub among : All (λ item. h item.caller ≡ 0 → (item.caller ≡ c) × (item.index < i)) done
 

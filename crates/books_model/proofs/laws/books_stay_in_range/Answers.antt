@@ -6,4 +6,5 @@ use Rattle.books_model.proofs.RangeLaws.{run_stays}
 use Rattle.books_model.proofs.laws.books_stay_in_range.Goals as goal
 
 pub returns : goal.returns
-returns c = λ script books h valid. outcome_holds AreInRange books (run_from 1 script books) h (run_stays 1 script books h (recursion_from_All (IsOperationFor books) script valid.each))
+returns c = λ script books h valid. outcome_holds AreInRange books (run_from 1 script books) h
+    (run_stays 1 script books h (recursion_from_All (IsOperationFor books) script valid.each))

@@ -4,4 +4,5 @@ use Rattle.books_model.proofs.QueueLaws.{run_in_order}
 use Rattle.books_model.proofs.laws.queue_is_first_in_first_out.Goals as goal
 
 pub returns : goal.returns
-returns c = λ script values before after is. ends_done _ before (run_from 1 script before) values after (run_in_order 1 script before) (λ stop e. stops_no_done 1 script before values stop e) is
+returns c = λ script values before after is. ends_done _ before (run_from 1 script before) values after
+    (run_in_order 1 script before) (λ stop e. stops_no_done 1 script before values stop e) is

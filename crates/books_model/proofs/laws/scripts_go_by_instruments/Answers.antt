@@ -4,4 +4,8 @@ use Rattle.books_model.proofs.RangeLaws.{operation_for}
 use Rattle.books_model.proofs.laws.scripts_go_by_instruments.Goals as goal
 
 pub returns : goal.returns
-returns c = λ script books others same valid. record { few = valid.few; each = All-weaker (IsOperationFor books) (IsOperationFor others) (operation_for books others same) script valid.each }
+returns c = λ script books others same valid. record {
+  few = valid.few;
+  each =
+      All-weaker (IsOperationFor books) (IsOperationFor others) (operation_for books others same) script valid.each;
+}

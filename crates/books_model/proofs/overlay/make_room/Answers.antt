@@ -19,11 +19,13 @@ loop-key-preserved-in_ok-insert g c =
     let rest = c.next.new.self in
     let ordered = subst (λ es. IsStrictlySortedBy R (keys_of es)) c.in-Some.ensures.steps c.loop-key.invariant.ordered in
     let making = subst (IsMaking before c.args.changes.now.entries now) c.in-Some.ensures.steps c.loop-key.invariant.making in
-    let inserted = from_entries-inserted total exact c.loop-key.values.entries c.insert.new.self.entries c.in-Some.key.now c.in-Some-new_value.value c.in_ok-insert.ensures.updates.0 in
+    let inserted = from_entries-inserted total exact c.loop-key.values.entries c.insert.new.self.entries
+    c.in-Some.key.now c.in-Some-new_value.value c.in_ok-insert.ensures.updates.0 in
     record {
       ordered = sorted_tail R c.in-Some.key.now (keys_of rest) ordered;
       making = subst (λ m. IsMaking before c.args.changes.now.entries m rest) (sym inserted)
-          (making-new total exact before c.args.changes.now.entries c.requires now e rest c.in-Some-new_value.value ordered making (sym c.new_value.ensures ∙ c.in-Some-new_value.is));
+          (making-new total exact before c.args.changes.now.entries c.requires now e rest c.in-Some-new_value.value
+          ordered making (sym c.new_value.ensures ∙ c.in-Some-new_value.is));
     }
 
 pub loop-key-preserved : goal.loop-key-preserved

@@ -14,7 +14,8 @@ unreachable-requires g c =
 
 pub returns-in-Ok : goal.returns-in-Ok
 returns-in-Ok g c =
-    from_entries-inserted g.met.K.Ord.total g.met.K.Key.exact c.args.values.now.entries c.insert.new.self.entries c.args.key c.in-Some.value c.in-Ok.ensures.updates.0
+    from_entries-inserted g.met.K.Ord.total g.met.K.Key.exact c.args.values.now.entries c.insert.new.self.entries
+    c.args.key c.in-Some.value c.in-Ok.ensures.updates.0
     ∙ ap (set_at (map.from_entries {R = g.K.Ord.cmp} c.args.values.now.entries) c.args.key) (sym c.in-Some.is)
 
 pub returns-in-None : goal.returns-in-None

@@ -29,6 +29,8 @@ loop-key-preserved g c =
     let put = c.set_value.ensures in
     record {
       ordered = sorted_tail R c.in-Some.key.now (keys_of rest) ordered;
-      room = subst (λ m. HasRoomFor m rest) {x = set_at was e.0 e.1.now} (sym {b = set_at was e.0 e.1.now} put) (HasRoomFor-further total exact was e rest ordered room);
-      rest = ap (λ m. changed m rest) {y = set_at was e.0 e.1.now} put ∙ changed-first total exact was e rest ordered ∙ ap (changed was) (sym step) ∙ c.loop-key.invariant.rest;
+      room = subst (λ m. HasRoomFor m rest) {x = set_at was e.0 e.1.now} (sym {b = set_at was e.0 e.1.now} put)
+          (HasRoomFor-further total exact was e rest ordered room);
+      rest = ap (λ m. changed m rest) {y = set_at was e.0 e.1.now} put ∙ changed-first total exact was e rest ordered
+          ∙ ap (changed was) (sym step) ∙ c.loop-key.invariant.rest;
     }

@@ -10,5 +10,6 @@ abbrev pub invariant-loop-key : goal.invariant-loop-key
 invariant-loop-key g l = record {
   ordered : IsStrictlySortedBy g.K.Ord.cmp (keys_of l.key-iterator);
   room : HasRoomFor (map.from_entries {R = g.K.Ord.cmp} l.values.entries) l.key-iterator;
-  rest : changed (map.from_entries {R = g.K.Ord.cmp} l.values.entries) l.key-iterator ≡ changed (map.from_entries {R = g.K.Ord.cmp} l.fn.values.entries) l.fn.changes.entries;
+  rest : changed (map.from_entries {R = g.K.Ord.cmp} l.values.entries) l.key-iterator
+      ≡ changed (map.from_entries {R = g.K.Ord.cmp} l.fn.values.entries) l.fn.changes.entries;
 }

@@ -27,7 +27,9 @@ loop-key-preserved-then-is_none g c =
           let known_here = subst (KnowBefore before) step left.0 in
           let room_here = subst (λ es. IsRoomier es before now) step left.1 in (
             KnowBefore-further total before e rest ordered known_here,
-            subst (IsRoomier rest before) (sym taken) (roomier-taken total exact before now e rest (known_here c.in-Some.key.now c.in-Some.change.now (change_at_first total e rest)) room_here (c.is_none.ensures ∙ ap not c.if-is_none.true)),
+            subst (IsRoomier rest before) (sym taken)
+                (roomier-taken total exact before now e rest (known_here c.in-Some.key.now c.in-Some.change.now
+                (change_at_first total e rest)) room_here (c.is_none.ensures ∙ ap not c.if-is_none.true)),
           );
     }
 
@@ -48,7 +50,8 @@ loop-key-preserved g c =
           let known_here = subst (KnowBefore before) step left.0 in
           let room_here = subst (λ es. IsRoomier es before now) step left.1 in (
             KnowBefore-further total before e rest ordered known_here,
-            roomier-left total exact before now e rest (known_here c.in-Some.key.now c.in-Some.change.now (change_at_first total e rest)) room_here (c.is_none.ensures ∙ ap not c.if-is_none.false),
+            roomier-left total exact before now e rest (known_here c.in-Some.key.now c.in-Some.change.now
+                (change_at_first total e rest)) room_here (c.is_none.ensures ∙ ap not c.if-is_none.false),
           );
     }
 

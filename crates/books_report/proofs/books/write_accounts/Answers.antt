@@ -15,9 +15,15 @@ loop-account-init c = rw (accounts_from c.args.books.now c.requires, append-nil)
 pub loop-account-preserved : goal.loop-account-preserved
 loop-account-preserved c =
     let m = c.args.books.now.accounts in
-    let more = up_to-next nat_cmp_total nat_lt is_lt-nat_cmp c.loop-account.last (entries m) (c.in-Some.account, c.in-Some.cash) (entries_sorted m) (sym c.in-Some.ensures.first) in
+    let more = up_to-next nat_cmp_total nat_lt is_lt-nat_cmp c.loop-account.last (entries m) (
+      c.in-Some.account,
+      c.in-Some.cash,
+    ) (entries_sorted m) (sym c.in-Some.ensures.first) in
     written_next (string_bytes c.args.text.now) (string_bytes c.loop-account.text) (string_bytes c.write_account.new.text) account_line
-    (up_to nat_lt c.loop-account.last (entries m)) (up_to nat_lt c.in-Some.account (entries m)) (c.in-Some.account, c.in-Some.cash) c.loop-account.invariant c.in_ok-write_account.ensures more
+    (up_to nat_lt c.loop-account.last (entries m)) (up_to nat_lt c.in-Some.account (entries m)) (
+      c.in-Some.account,
+      c.in-Some.cash,
+    ) c.loop-account.invariant c.in_ok-write_account.ensures more
 
 pub returns : goal.returns
 returns c =

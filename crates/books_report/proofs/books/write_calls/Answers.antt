@@ -9,5 +9,6 @@ pub loop-place-preserved : goal.loop-place-preserved
 loop-place-preserved c =
     let calls = c.args.books.now.calls in
     let place = c.loop-place.place in
-    written_next (string_bytes c.args.text.now) (string_bytes c.loop-place.text) (string_bytes c.write_call.new.text) call_line (take place calls) (take (place + 1) calls) c.call_at-account.result
+    written_next (string_bytes c.args.text.now) (string_bytes c.loop-place.text) (string_bytes c.write_call.new.text)
+    call_line (take place calls) (take (place + 1) calls) c.call_at-account.result
     c.loop-place.invariant c.in_ok-write_call.ensures (take_next calls place c.call_at-account.result c.call_at-account.ensures)

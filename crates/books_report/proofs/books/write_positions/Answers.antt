@@ -20,7 +20,8 @@ pub loop-account-preserved : goal.loop-account-preserved
 loop-account-preserved c =
     let m = c.args.books.now.positions in
     let e : (ℕ × ℕ) × ℕ = ((c.in-Some.account, c.in-Some.instrument), c.in-Some.quantity) in
-    let more = up_to-next positions_total later (λ _ _. refl) c.loop-account.last (entries m) e (entries_sorted m) (found_entry _ _ _ _ c.in-Some.ensures.first) in
+    let more = up_to-next positions_total later (λ _ _. refl) c.loop-account.last (entries m) e (entries_sorted m)
+    (found_entry _ _ _ _ c.in-Some.ensures.first) in
     written_next (string_bytes c.args.text.now) (string_bytes c.loop-account.text) (string_bytes c.write_position.new.text) position_line
     (up_to later c.loop-account.last (entries m)) (up_to later e.0 (entries m)) e c.loop-account.invariant c.in_ok-write_position.ensures more
 

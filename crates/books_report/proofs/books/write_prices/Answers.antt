@@ -15,9 +15,13 @@ loop-instrument-init c = rw (prices_from c.args.books.now c.requires, append-nil
 pub loop-instrument-preserved : goal.loop-instrument-preserved
 loop-instrument-preserved c =
     let m = c.args.books.now.prices in
-    let more = up_to-next nat_cmp_total nat_lt is_lt-nat_cmp c.loop-instrument.last (entries m) (c.in-Some.instrument, c.in-Some.price) (entries_sorted m) (sym c.in-Some.ensures.first) in
+    let more = up_to-next nat_cmp_total nat_lt is_lt-nat_cmp c.loop-instrument.last (entries m) (
+      c.in-Some.instrument,
+      c.in-Some.price,
+    ) (entries_sorted m) (sym c.in-Some.ensures.first) in
     written_next (string_bytes c.args.text.now) (string_bytes c.loop-instrument.text) (string_bytes c.write_price.new.text) price_line
-    (up_to nat_lt c.loop-instrument.last (entries m)) (up_to nat_lt c.in-Some.instrument (entries m)) (c.in-Some.instrument, c.in-Some.price) c.loop-instrument.invariant c.in_ok-write_price.ensures more
+    (up_to nat_lt c.loop-instrument.last (entries m)) (up_to nat_lt c.in-Some.instrument (entries m))
+    (c.in-Some.instrument, c.in-Some.price) c.loop-instrument.invariant c.in_ok-write_price.ensures more
 
 pub returns : goal.returns
 returns c =

@@ -12,10 +12,12 @@ returns c =
       none = none c.strip_prefix.result found;
     }
   where
-    begins : (r : Option (Bor (List ℕ))) → MatchOption r ((rest : List ℕ) → c.args.text.now ≢ c.args.front.now ++ rest) (λ x. c.args.text.now ≡ c.args.front.now ++ x.now) → IfSome r (λ left. c.args.text.now ≡ c.args.front.now ++ left.now)
+    begins : (r : Option (Bor (List ℕ))) → MatchOption r ((rest : List ℕ) → c.args.text.now ≢ c.args.front.now ++ rest)
+        (λ x. c.args.text.now ≡ c.args.front.now ++ x.now) → IfSome r (λ left. c.args.text.now ≡ c.args.front.now ++ left.now)
     begins None h = tt
     begins (Some left) h = h
 
-    none : (r : Option (Bor (List ℕ))) → MatchOption r ((rest : List ℕ) → c.args.text.now ≢ c.args.front.now ++ rest) (λ x. c.args.text.now ≡ c.args.front.now ++ x.now) → IfNone r ((left : List ℕ) → c.args.text.now ≢ c.args.front.now ++ left)
+    none : (r : Option (Bor (List ℕ))) → MatchOption r ((rest : List ℕ) → c.args.text.now ≢ c.args.front.now ++ rest)
+        (λ x. c.args.text.now ≡ c.args.front.now ++ x.now) → IfNone r ((left : List ℕ) → c.args.text.now ≢ c.args.front.now ++ left)
     none None h = h
     none (Some left) h = tt

@@ -11,13 +11,15 @@ pub returns-in_default : goal.returns-in_default
 returns-in_default c = record {
   within = tt;
   named = λ caller within same.
-      absurd (c.in_default.ensures.cases.0 (subst IsUtf8 (sym same) (IsName-text (caller_at c.args.input.now caller).name (caller_named c.args.input.now c.requires.valid caller within))));
+      absurd (c.in_default.ensures.cases.0
+      (subst IsUtf8 (sym same) (IsName-text (caller_at c.args.input.now caller).name (caller_named c.args.input.now c.requires.valid caller within))));
 }
 
 pub returns : goal.returns
 returns c = record {
   within = search rules;
-  named = λ caller within same. by caller within (c.in-Ok.ensures.cases.0 ∙ same) c.caller_named.result c.caller_named.ensures.found c.caller_named.ensures.none;
+  named = λ caller within same. by caller within (c.in-Ok.ensures.cases.0 ∙ same) c.caller_named.result
+      c.caller_named.ensures.found c.caller_named.ensures.none;
 }
   where
     by : (caller : ℕ) → caller < length c.args.input.now.callers → c.in-Ok.name.now ≡ (caller_at c.args.input.now caller).name → (r : Option ℕ)

@@ -14,6 +14,16 @@ ended (b ∷ wanted) (c ∷ text) (inr end) = absurd (omega (arith, end))
 
 pub returns : goal.returns
 returns c = elim c.in-None.ensures.steps [
-  | inl first ↦ omega (arith, c.loop-wanted.invariant.all, ended (iter_rest (zip_first c.loop-wanted.wanted-iterator)) (iter_rest (zip_second c.loop-wanted.wanted-iterator)) (inl first.1.0))
-  | inr second ↦ omega (arith, c.loop-wanted.invariant.all, ended (iter_rest (zip_first c.loop-wanted.wanted-iterator)) (iter_rest (zip_second c.loop-wanted.wanted-iterator)) (inr second.1.0))
+  | inl first ↦ omega (
+    arith,
+    c.loop-wanted.invariant.all,
+    ended (iter_rest (zip_first c.loop-wanted.wanted-iterator))
+        (iter_rest (zip_second c.loop-wanted.wanted-iterator)) (inl first.1.0),
+  )
+  | inr second ↦ omega (
+    arith,
+    c.loop-wanted.invariant.all,
+    ended (iter_rest (zip_first c.loop-wanted.wanted-iterator))
+        (iter_rest (zip_second c.loop-wanted.wanted-iterator)) (inr second.1.0),
+  )
 ]

@@ -19,14 +19,17 @@ pub returns-in_err-name : goal.returns-in_err-name
 returns-in_err-name c = record {
   found = search rules;
   named = λ serial caller index restarts rest within left below e.
-      absurd (c.in_err-name.ensures (number serial) (caller_at c.args.input.now caller).name (number index) (number restarts) rest e (number_free serial) (name_free c.args.input.now c.requires.valid caller within) (number_free index) (number_free restarts));
+      absurd (c.in_err-name.ensures (number serial) (caller_at c.args.input.now caller).name (number index)
+      (number restarts) rest e (number_free serial) (name_free c.args.input.now c.requires.valid caller within) (number_free index) (number_free restarts));
 }
 
 pub returns-in_err-caller : goal.returns-in_err-caller
 returns-in_err-caller c = record {
   found = search rules;
   named = λ serial caller index restarts rest within left below e.
-      let words = c.in_ok-name.ensures (number serial) (caller_at c.args.input.now caller).name (number index) (number restarts) rest e (number_free serial) (name_free c.args.input.now c.requires.valid caller within) (number_free index) (number_free restarts) in
+      let words = c.in_ok-name.ensures (number serial) (caller_at c.args.input.now caller).name (number index)
+      (number restarts) rest e (number_free serial) (name_free c.args.input.now c.requires.valid caller within)
+      (number_free index) (number_free restarts) in
       absurd (none-some _ (c.in_err-caller.ensures.named caller within words.0));
 }
 
@@ -34,7 +37,9 @@ pub returns-in_err-restarts : goal.returns-in_err-restarts
 returns-in_err-restarts c = record {
   found = search rules;
   named = λ serial caller index restarts rest within left below e.
-      let words = c.in_ok-name.ensures (number serial) (caller_at c.args.input.now caller).name (number index) (number restarts) rest e (number_free serial) (name_free c.args.input.now c.requires.valid caller within) (number_free index) (number_free restarts) in
+      let words = c.in_ok-name.ensures (number serial) (caller_at c.args.input.now caller).name (number index)
+      (number restarts) rest e (number_free serial) (name_free c.args.input.now c.requires.valid caller within)
+      (number_free index) (number_free restarts) in
       absurd (none-some _ (c.in_err-restarts.ensures restarts (omega (arith, below)) words.1));
 }
 
@@ -42,7 +47,9 @@ pub returns-then-restarts-lt-RESTARTS_BELOW : goal.returns-then-restarts-lt-REST
 returns-then-restarts-lt-RESTARTS_BELOW c = record {
   found = search rules;
   named = λ serial caller index restarts rest within left below e.
-      let words = c.in_ok-name.ensures (number serial) (caller_at c.args.input.now caller).name (number index) (number restarts) rest e (number_free serial) (name_free c.args.input.now c.requires.valid caller within) (number_free index) (number_free restarts) in
+      let words = c.in_ok-name.ensures (number serial) (caller_at c.args.input.now caller).name (number index)
+      (number restarts) rest e (number_free serial) (name_free c.args.input.now c.requires.valid caller within)
+      (number_free index) (number_free restarts) in
       let its : c.in_ok-caller.caller ≡ caller = same_Some _ _ (c.in_ok-caller.ensures.named caller within words.0) in
       let read : c.in_ok-restarts.restarts ≡ restarts = same_Some _ _ (c.in_ok-restarts.ensures restarts (omega (arith, below)) words.1) in
       λ i. Some (record { caller = its i; index = slice_index c.args.done.now (its i); restarts = read i });
@@ -52,11 +59,20 @@ pub returns-else-index-scripts_of : goal.returns-else-index-scripts_of
 returns-else-index-scripts_of c = record {
   found = search rules;
   named = λ serial caller index restarts rest within left below e.
-      let words = c.in_ok-name.ensures (number serial) (caller_at c.args.input.now caller).name (number index) (number restarts) rest e (number_free serial) (name_free c.args.input.now c.requires.valid caller within) (number_free index) (number_free restarts) in
+      let words = c.in_ok-name.ensures (number serial) (caller_at c.args.input.now caller).name (number index)
+      (number restarts) rest e (number_free serial) (name_free c.args.input.now c.requires.valid caller within)
+      (number_free index) (number_free restarts) in
       let its : c.in_ok-caller.caller ≡ caller = same_Some _ _ (c.in_ok-caller.ensures.named caller within words.0) in
       let read : c.in_ok-restarts.restarts ≡ restarts = same_Some _ _ (c.in_ok-restarts.ensures restarts (omega (arith, below)) words.1) in
       elim c.else-index-scripts_of.either [
         | inl many ↦ absurd (omega (arith, many.1, read, below))
-        | inr none ↦ absurd (omega (arith, none, c.scripts_of.ensures, ap (λ x. length (caller_at c.args.input.now x).scripts) its, ap (slice_index c.args.done.now) its, left))
+        | inr none ↦ absurd (omega (
+          arith,
+          none,
+          c.scripts_of.ensures,
+          ap (λ x. length (caller_at c.args.input.now x).scripts) its,
+          ap (slice_index c.args.done.now) its,
+          left,
+        ))
       ];
 }

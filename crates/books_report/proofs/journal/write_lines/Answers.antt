@@ -21,6 +21,9 @@ loop-line-preserved c =
     record {
       left = omega (arith, c.loop-line.invariant.left, ap (λ (ls : List Line). length ls) next);
       beside = omega (arith, c.loop-line.invariant.beside, ap (λ (ls : List Line). length ls) next, ap (λ (rs : List Reply). length rs) answered);
-      places = All-drop (λ l. IsPlace c.args.input.now (place_of l)) 1 (c.in-Some.line.now ∷ left) (subst (λ ls. All (λ l. IsPlace c.args.input.now (place_of l)) ls) next c.loop-line.invariant.places);
-      text = line_next c.args.input.now _ (string_bytes c.loop-line.text) _ c.name-name.result.now c.loop-line.serial lines left replies others c.in-Some.line.now c.in-Some.reply.now c.loop-line.invariant.text next answered c.name-name.ensures c.in_ok-write_line.ensures;
+      places = All-drop (λ l. IsPlace c.args.input.now (place_of l)) 1 (c.in-Some.line.now ∷ left)
+          (subst (λ ls. All (λ l. IsPlace c.args.input.now (place_of l)) ls) next c.loop-line.invariant.places);
+      text = line_next c.args.input.now _ (string_bytes c.loop-line.text) _ c.name-name.result.now c.loop-line.serial
+          lines left replies others c.in-Some.line.now c.in-Some.reply.now c.loop-line.invariant.text next answered
+          c.name-name.ensures c.in_ok-write_line.ensures;
     }

@@ -8,7 +8,8 @@ use Rattle.books_report.proofs.words.write_values.Goals as goal
 
 pub loop-value-preserved : goal.loop-value-preserved
 loop-value-preserved c =
-    value_next _ (string_bytes c.loop-value.text) _ (iter_rest c.loop-value.value-iterator) (iter_rest c.next.new.self) c.in-Some.value.now c.loop-value.invariant c.in-Some.ensures.steps c.in_ok-write_value.ensures
+    value_next _ (string_bytes c.loop-value.text) _ (iter_rest c.loop-value.value-iterator) (iter_rest c.next.new.self)
+    c.in-Some.value.now c.loop-value.invariant c.in-Some.ensures.steps c.in_ok-write_value.ensures
 
 pub returns : goal.returns
 returns c =

@@ -8,4 +8,5 @@ use Rattle.txn_hash_map.proofs.Lists.{small}
 use Rattle.collections_tests.proofs.hash_map.first_wrong_from_empty.Goals as goal
 
 pub first_wrong-requires-clause-order : goal.first_wrong-requires-clause-order
-first_wrong-requires-clause-order c = record { at = (each_fresh 285 (HasMapApart (chain_part small)) _ (ap (λ (v : PlainView TwoEntries). v.trace) c.new-plain.ensures.view)).at }
+first_wrong-requires-clause-order c =
+    record { at = (each_fresh 285 (HasMapApart (chain_part small)) _ (ap (λ (v : PlainView TwoEntries). v.trace) c.new-plain.ensures.view)).at }

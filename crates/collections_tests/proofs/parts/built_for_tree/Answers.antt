@@ -8,7 +8,8 @@ use Rattle.collections_tests.proofs.parts.built_for_tree.Goals as goal
 
 pub new-requires : goal.new-requires
 new-requires c =
-    let at = subst (λ (books : ClearingBooks). (length c.in_ok-words.words.items ≡ words_of (shape_of books)) × Stands (shape_of books) c.in_ok-words.words.items books) c.new-books.ensures (c.in_ok-words.ensures.count, c.in_ok-words.ensures.stands) in
+    let at = subst (λ (books : ClearingBooks). (length c.in_ok-words.words.items ≡ words_of (shape_of books))
+    × Stands (shape_of books) c.in_ok-words.words.items books) c.new-books.ensures (c.in_ok-words.ensures.count, c.in_ok-words.ensures.stands) in
     record {
       count = at.0;
       good = (record { entries = entry_map.empty; used = at.1.parts.tree_used; free = at.1.parts.free; holds = tree_apart _ _ _ at.1 }, refl);

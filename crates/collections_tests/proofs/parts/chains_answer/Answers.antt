@@ -13,4 +13,5 @@ returns-in_ok-get-in-Get-clause-order g c =
     let chains = chain_part c.args.chains.now in
     let key = c.in-Get.key in
     let answer = c.in_ok-get-in-Get.field-0 in
-    state_after g.W.Words g.W.Shape.Shape _ _ (HasMapApart chains) (HasMapApart chains) (Finds chains key answer) got.goes_on.shape got.goes_on.begins c.requires.order got.found (order_found chains key answer)
+    state_after g.W.Words g.W.Shape.Shape _ _ (HasMapApart chains) (HasMapApart chains) (Finds chains key answer)
+    got.goes_on.shape got.goes_on.begins c.requires.order got.found (order_found chains key answer)

@@ -10,4 +10,5 @@ pub new-plain-requires : goal.new-plain-requires
 new-plain-requires g c = zeros_good 6 c.in_ok-words.words.items refl (c.in_ok-words.ensures.items_if_clones_equal (λ y e. e))
 
 pub first_wrong-requires-clause-order : goal.first_wrong-requires-clause-order
-first_wrong-requires-clause-order g c = record { at = (each_fresh 6 (IsInOrder two_places) _ (ap (λ (v : PlainView TwoPlaces). v.trace) c.new-plain.ensures.view)).at }
+first_wrong-requires-clause-order g c =
+    record { at = (each_fresh 6 (IsInOrder two_places) _ (ap (λ (v : PlainView TwoPlaces). v.trace) c.new-plain.ensures.view)).at }

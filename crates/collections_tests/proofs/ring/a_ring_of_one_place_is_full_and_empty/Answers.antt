@@ -7,4 +7,5 @@ use Rattle.txn_ring.proofs.Zeros.{one_place}
 use Rattle.collections_tests.proofs.ring.a_ring_of_one_place_is_full_and_empty.Goals as goal
 
 pub first_wrong-requires-clause-order : goal.first_wrong-requires-clause-order
-first_wrong-requires-clause-order g c = record { at = (each_fresh 285 (IsInOrder one_place) _ (ap (λ (v : PlainView OnePlace). v.trace) c.new-plain.ensures.view)).at }
+first_wrong-requires-clause-order g c =
+    record { at = (each_fresh 285 (IsInOrder one_place) _ (ap (λ (v : PlainView OnePlace). v.trace) c.new-plain.ensures.view)).at }

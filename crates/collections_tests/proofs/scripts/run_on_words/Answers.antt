@@ -14,4 +14,7 @@ pub read_books-requires : goal.read_books-requires
 read_books-requires g c =
     let books = c.args.books.now in
     let stand = subst (λ z. Stands z c.in_ok-words.words.items books) (sym c.sizes_of-shape.ensures) c.in_ok-words.ensures.stands in
-    record { good = subst (IsGoodFor c.sizes_of-shape.result) (sym c.deref.ensures.value) ((outcome_of c.in_ok-script.script books).1, c.in_ok-reply.ensures.words books stand) }
+    record {
+      good = subst (IsGoodFor c.sizes_of-shape.result) (sym c.deref.ensures.value)
+          ((outcome_of c.in_ok-script.script books).1, c.in_ok-reply.ensures.words books stand);
+    }

@@ -28,7 +28,8 @@ pub returns-in_ok-sum_range-in-Sum-clause-order : goal.returns-in_ok-sum_range-i
 returns-in_ok-sum_range-in-Sum-clause-order g c =
     let summed = c.in_ok-sum_range-in-Sum.ensures in
     let part = tree_part c.args.map.now in
-    state_after _ _ _ _ (HasMapApart part) (HasMapApart part) (SumsRange part c.in-Sum.low c.in-Sum.high c.in_ok-sum_range-in-Sum.field-0) summed.goes_on.shape summed.goes_on.begins
+    state_after _ _ _ _ (HasMapApart part) (HasMapApart part)
+    (SumsRange part c.in-Sum.low c.in-Sum.high c.in_ok-sum_range-in-Sum.field-0) summed.goes_on.shape summed.goes_on.begins
     c.requires.order summed.sum (λ x y o k. subst (λ z. HasMapApart part z) (sym k.same) o)
 
 pub returns-in_ok-first_from-in-First-clause-order : goal.returns-in_ok-first_from-in-First-clause-order
@@ -36,5 +37,6 @@ returns-in_ok-first_from-in-First-clause-order g c =
     let got = c.in_ok-first_from-in-First.ensures in
     let map = c.args.map.now in
     let part = tree_part map in
-    state_after _ _ _ _ (HasMapApart part) (HasMapApart part) (FindsFirst map c.in-First.key c.in_ok-first_from-in-First.field-0) got.goes_on.shape got.goes_on.begins
+    state_after _ _ _ _ (HasMapApart part) (HasMapApart part)
+    (FindsFirst map c.in-First.key c.in_ok-first_from-in-First.field-0) got.goes_on.shape got.goes_on.begins
     c.requires.order got.found (λ x y o k. subst (λ z. HasMapApart part z) (sym k.same) o)

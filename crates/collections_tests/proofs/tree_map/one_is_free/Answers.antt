@@ -9,5 +9,7 @@ give-requires-clause-lacks g c =
     let two = c.in_ok-other.ensures in
     let arena = c.args.arena.now in
     let block = c.in-Some.block in
-    state_after _ _ _ _ (λ z. IsInOrder arena z × Lacks arena block z) (Lacks arena block) (Takes arena c.in_ok-other.other) two.goes_on.shape two.goes_on.begins
-    (record { at = λ s fit. (c.in_ok-block.ensures.order.at s fit, one.at s fit) }) two.taken (λ s t h takes. lacks_taken arena c.in_ok-other.other block s t h.0 takes h.1)
+    state_after _ _ _ _ (λ z. IsInOrder arena z × Lacks arena block z) (Lacks arena block)
+    (Takes arena c.in_ok-other.other) two.goes_on.shape two.goes_on.begins
+    (record { at = λ s fit. (c.in_ok-block.ensures.order.at s fit, one.at s fit) }) two.taken (λ s t h takes.
+    lacks_taken arena c.in_ok-other.other block s t h.0 takes h.1)

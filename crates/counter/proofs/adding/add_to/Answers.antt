@@ -13,7 +13,8 @@ overflow_add-v g c =
     let shapes = g.W.Shape.Shape in
     let some : SomeFits (shapes.word_count (words.shape c.args.w.now)) (shapes.good (words.shape c.args.w.now)) (words.trace c.read.new.self) =
     some_at shapes.word_count shapes.good _ _ _ c.in_ok-v.ensures.shape (g.met.W.Words.fits c.read.new.self c.in_ok-v.ensures.sound) in
-    let sum : c.in_ok-v.v + c.args.by < 2 ^ 64 = sum_fits _ _ _ _ c.args.a c.in_ok-v.v c.in_ok-v.ensures.value c.args.by (each_plain words shapes _ _ c.requires.room) some in
+    let sum : c.in_ok-v.v + c.args.by < 2 ^ 64 =
+    sum_fits _ _ _ _ c.args.a c.in_ok-v.v c.in_ok-v.ensures.value c.args.by (each_plain words shapes _ _ c.requires.room) some in
     omega (arith, sum)
 
 pub returns-clause-added : goal.returns-clause-added
@@ -21,10 +22,12 @@ returns-clause-added g c = record { at = (sum_adds _ _ _ _ c.args.a c.in_ok-v.v 
 
 pub returns-clause-frame : goal.returns-clause-frame
 returns-clause-frame g c = record {
-  appended = only_then (λ b. b ≡ c.args.a) _ _ _ (only_read (λ b. b ≡ c.args.a) _ _ c.args.a c.in_ok-v.v c.in_ok-v.ensures.value) (only_write (λ b. b ≡ c.args.a) _ _ c.args.a (c.in_ok-v.v + c.args.by) c.in_ok-write.ensures.value refl);
+  appended = only_then (λ b. b ≡ c.args.a) _ _ _ (only_read (λ b. b ≡ c.args.a) _ _ c.args.a c.in_ok-v.v
+      c.in_ok-v.ensures.value) (only_write (λ b. b ≡ c.args.a) _ _ c.args.a (c.in_ok-v.v + c.args.by) c.in_ok-write.ensures.value refl);
 }
 
 pub returns-clause-reads : goal.returns-clause-reads
 returns-clause-reads g c = record {
-  appended = sees_then (λ b. b ≡ c.args.a) _ _ _ (sees_read (λ b. b ≡ c.args.a) _ _ c.args.a c.in_ok-v.v c.in_ok-v.ensures.value refl) (sees_write (λ b. b ≡ c.args.a) _ _ c.args.a (c.in_ok-v.v + c.args.by) c.in_ok-write.ensures.value refl);
+  appended = sees_then (λ b. b ≡ c.args.a) _ _ _ (sees_read (λ b. b ≡ c.args.a) _ _ c.args.a c.in_ok-v.v
+      c.in_ok-v.ensures.value refl) (sees_write (λ b. b ≡ c.args.a) _ _ c.args.a (c.in_ok-v.v + c.args.by) c.in_ok-write.ensures.value refl);
 }

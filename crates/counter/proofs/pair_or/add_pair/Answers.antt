@@ -16,7 +16,8 @@ returns-then-not-branch-clause-added g c =
     let mark = c.mark-before in
     let leads : LeadsTo words shapes mark.new.self c.add_fitting.new.w (AddsWhereFits c.args.first false) =
     subst (λ b. LeadsTo words shapes mark.new.self c.add_fitting.new.w (AddsWhereFits c.args.first b)) c.if-not-branch.true c.in_ok-add_fitting.ensures.added in
-    let whole = leads_marked words shapes c.args.w.now mark.new.self c.add_fitting.new.w (AddsWhereFits c.args.first false) mark.ensures.shape mark.ensures.trace leads in
+    let whole = leads_marked words shapes c.args.w.now mark.new.self c.add_fitting.new.w
+    (AddsWhereFits c.args.first false) mark.ensures.shape mark.ensures.trace leads in
     record { at = λ s fit. first_not c.args.first c.args.second _ _ (whole.at s fit) }
 
 pub returns-then-branch-clause-added : goal.returns-then-branch-clause-added
@@ -35,8 +36,10 @@ returns-then-branch-clause-added g c =
 pub back_to-requires-clause-mark : goal.back_to-requires-clause-mark
 back_to-requires-clause-mark g c =
     let words = g.W.Words in let mark = c.mark-before in
-    marked_stays (words.trace c.args.w.now) (words.trace mark.new.self) (words.trace c.add_fitting-2.new.w) mark.result.writes mark.ensures.writes mark.ensures.trace
-    (begins_trans (words.trace mark.new.self) (words.trace c.add_fitting.new.w) (words.trace c.add_fitting-2.new.w) c.in_ok-add_fitting.ensures.goes_on.begins c.in_ok-add_fitting-2.ensures.goes_on.begins)
+    marked_stays (words.trace c.args.w.now) (words.trace mark.new.self) (words.trace c.add_fitting-2.new.w)
+    mark.result.writes mark.ensures.writes mark.ensures.trace
+    (begins_trans (words.trace mark.new.self) (words.trace c.add_fitting.new.w) (words.trace c.add_fitting-2.new.w)
+    c.in_ok-add_fitting.ensures.goes_on.begins c.in_ok-add_fitting-2.ensures.goes_on.begins)
 
 pub returns-clause-added : goal.returns-clause-added
 returns-clause-added g c =
@@ -50,10 +53,12 @@ returns-clause-added g c =
     let both = leads_then words shapes c.args.w.now mid old (AddsWhereFits c.args.first true) (AddsWhereFits c.args.second false)
     (c.in_ok-add_fitting.ensures.goes_on.shape ∙ mark.ensures.shape) c.in_ok-add_fitting-2.ensures.goes_on.begins first second in
     let front : Begins (words.trace c.args.w.now) (words.trace old) = subst (λ (t : Trace). Begins t (words.trace old)) mark.ensures.trace
-    (begins_trans (words.trace mark.new.self) (words.trace mid) (words.trace old) c.in_ok-add_fitting.ensures.goes_on.begins c.in_ok-add_fitting-2.ensures.goes_on.begins) in
+    (begins_trans (words.trace mark.new.self) (words.trace mid) (words.trace old)
+    c.in_ok-add_fitting.ensures.goes_on.begins c.in_ok-add_fitting-2.ensures.goes_on.begins) in
     let same = same_as_at_mark words shapes c.args.w.now old new
     (c.in_ok-add_fitting-2.ensures.goes_on.shape ∙ (c.in_ok-add_fitting.ensures.goes_on.shape ∙ mark.ensures.shape)) front c.in_ok-back_to.ensures.begins
-    (subst (λ (m : ℕ). TakesBack (shapes.word_count (words.shape old)) (shapes.good (words.shape old)) m (words.trace old) (words.trace new)) mark.ensures.writes c.in_ok-back_to.ensures.back) in
+    (subst (λ (m : ℕ). TakesBack (shapes.word_count (words.shape old)) (shapes.good (words.shape old)) m
+    (words.trace old) (words.trace new)) mark.ensures.writes c.in_ok-back_to.ensures.back) in
     record {
       at = λ s fit.
           let k = both.at s (fits_begins _ _ (words.trace old) (words.trace new) s c.in_ok-back_to.ensures.begins fit) in

@@ -12,5 +12,6 @@ loop-place-init c = written_none account_line (string_bytes c.args.text.now) (ac
 pub loop-place-preserved : goal.loop-place-preserved
 loop-place-preserved c =
     let place = c.loop-place.place in
-    written_next (string_bytes c.args.text.now) (string_bytes c.loop-place.text) (string_bytes c.write_account.new.text) account_line (accounts_to place) (accounts_to (place + 1)) (place + 1, 1000000)
+    written_next (string_bytes c.args.text.now) (string_bytes c.loop-place.text) (string_bytes c.write_account.new.text)
+    account_line (accounts_to place) (accounts_to (place + 1)) (place + 1, 1000000)
     c.loop-place.invariant c.in_ok-write_account.ensures (accounts-more place)

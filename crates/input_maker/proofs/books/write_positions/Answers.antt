@@ -9,4 +9,5 @@ loop-place-init c = written_none position_line (string_bytes c.args.text.now) (p
 
 pub loop-place-preserved : goal.loop-place-preserved
 loop-place-preserved c =
-    positions_written (string_bytes c.args.text.now) (string_bytes c.loop-place.text) (string_bytes c.write_positions_of.new.text) c.loop-place.place c.loop-place.invariant c.in_ok-write_positions_of.ensures
+    positions_written (string_bytes c.args.text.now) (string_bytes c.loop-place.text)
+    (string_bytes c.write_positions_of.new.text) c.loop-place.place c.loop-place.invariant c.in_ok-write_positions_of.ensures

@@ -12,5 +12,7 @@ loop-place-init c = written_none position_line (string_bytes c.args.text.now) (p
 pub loop-place-preserved : goal.loop-place-preserved
 loop-place-preserved c =
     let place = c.loop-place.place in
-    written_next (string_bytes c.args.text.now) (string_bytes c.loop-place.text) (string_bytes c.write_position.new.text) position_line (positions_in c.args.account place) (positions_in c.args.account (place + 1)) ((c.args.account, place + 1), 100)
+    written_next (string_bytes c.args.text.now) (string_bytes c.loop-place.text)
+    (string_bytes c.write_position.new.text) position_line (positions_in c.args.account place)
+    (positions_in c.args.account (place + 1)) ((c.args.account, place + 1), 100)
     c.loop-place.invariant c.in_ok-write_position.ensures (positions_in-more c.args.account place)

@@ -12,5 +12,6 @@ loop-place-init c = written_none price_line (string_bytes c.args.text.now) (pric
 pub loop-place-preserved : goal.loop-place-preserved
 loop-place-preserved c =
     let place = c.loop-place.place in
-    written_next (string_bytes c.args.text.now) (string_bytes c.loop-place.text) (string_bytes c.write_price.new.text) price_line (prices_to place) (prices_to (place + 1)) (place + 1, 100 * (place + 1))
+    written_next (string_bytes c.args.text.now) (string_bytes c.loop-place.text) (string_bytes c.write_price.new.text)
+    price_line (prices_to place) (prices_to (place + 1)) (place + 1, 100 * (place + 1))
     c.loop-place.invariant (rw c.from.ensures at c.in_ok-write_price.ensures) (prices-more place)

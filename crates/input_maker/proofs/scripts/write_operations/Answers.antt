@@ -11,7 +11,8 @@ use Rattle.input_maker.proofs.scripts.write_operations.Goals as goal
 pub loop-place-init : goal.loop-place-init
 loop-place-init c = record {
   state = sym (states-none c.args.generator.now.state);
-  text = written_none (λ (o : Op). line (operation_words o)) (string_bytes c.args.text.now) (operations_from c.args.kind c.args.generator.now.state 0) (operations-none c.args.kind c.args.generator.now.state);
+  text = written_none (λ (o : Op). line (operation_words o)) (string_bytes c.args.text.now)
+      (operations_from c.args.kind c.args.generator.now.state 0) (operations-none c.args.kind c.args.generator.now.state);
 }
 
 pub loop-place-preserved : goal.loop-place-preserved
@@ -26,6 +27,7 @@ loop-place-preserved c =
       text = written_next (string_bytes c.args.text.now) (string_bytes c.loop-place.text) (string_bytes c.write_operation.new.text) write
           (operations_from kind first place) (operations_from kind first (place + 1)) (operation_from kind (state_after_operations place first))
           c.loop-place.invariant.text
-          (c.in_ok-write_operation.ensures ∙ ap (λ (o : Op). string_bytes c.loop-place.text ++ line (operation_words o)) (drawn.operation ∙ ap (operation_from kind) c.loop-place.invariant.state))
+          (c.in_ok-write_operation.ensures ∙ ap (λ (o : Op). string_bytes c.loop-place.text ++ line (operation_words o))
+          (drawn.operation ∙ ap (operation_from kind) c.loop-place.invariant.state))
           (operations-more kind first place);
     }

@@ -9,7 +9,8 @@ use Rattle.input_maker.proofs.scripts.write_scripts.Goals as goal
 pub loop-place-init : goal.loop-place-init
 loop-place-init c = record {
   state = c.new-generator.ensures ∙ sym (scripts-none c.args.seed);
-  text = written_none submission_lines (string_bytes c.args.text.now) (submissions_to c.args.seed c.args.callers 0) (submissions-none c.args.seed c.args.callers);
+  text = written_none submission_lines (string_bytes c.args.text.now) (submissions_to c.args.seed c.args.callers 0)
+      (submissions-none c.args.seed c.args.callers);
 }
 
 pub loop-place-preserved : goal.loop-place-preserved
@@ -22,6 +23,8 @@ loop-place-preserved c =
       text = written_next (string_bytes c.args.text.now) (string_bytes c.loop-place.text) (string_bytes c.write_script.new.text) submission_lines
           (submissions_to seed callers place) (submissions_to seed callers (place + 1)) (made_submission seed callers place)
           c.loop-place.invariant.text
-          (c.in_ok-write_script.ensures.text ∙ ap (λ (x : ℕ). string_bytes c.loop-place.text ++ submission_lines (record { caller = caller_name (place % callers); script = script_from x })) c.loop-place.invariant.state)
+          (c.in_ok-write_script.ensures.text
+          ∙ ap (λ (x : ℕ). string_bytes c.loop-place.text ++ submission_lines
+          (record { caller = caller_name (place % callers); script = script_from x })) c.loop-place.invariant.state)
           (submissions-more seed callers place);
     }

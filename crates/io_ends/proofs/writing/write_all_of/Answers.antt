@@ -10,7 +10,8 @@ loop-rest-preserved g c =
     let rest = c.loop-rest.rest.now in
     let text = c.args.text.now in
     let back = c.split_at.ensures.back in
-    let written = Appends-append (sink.taken c.args.sink.now) (sink.taken c.loop-rest.sink) (sink.taken c.write.new.self) (take (length text - length rest) text) (take c.in_ok-n.n rest) kept.written c.in_ok-n.ensures.bytes in
+    let written = Appends-append (sink.taken c.args.sink.now) (sink.taken c.loop-rest.sink)
+    (sink.taken c.write.new.self) (take (length text - length rest) text) (take c.in_ok-n.n rest) kept.written c.in_ok-n.ensures.bytes in
     record {
       within = grind (arith, common_steps);
       rest = rw back (rest_of_rest text rest c.in_ok-n.n kept.rest kept.within c.in_ok-n.ensures.bound);

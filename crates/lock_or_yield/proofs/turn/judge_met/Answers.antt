@@ -17,15 +17,23 @@ judge-requires-clause-met g c = ap (λ (v : View). has c.args.other v.met) c.ann
 pub returns-in-Wait-clause-waits : goal.returns-in-Wait-clause-waits
 returns-in-Wait-clause-waits g c j e = (
   sym (wait_same c.args.other j e),
-  settled_to_wait c.args.other c.args.pass.now.view c.draw_once.new.pass.view c.announce_once.new.pass.view c.judge.new.pass.view c.requires.met c.draw_once.ensures.view c.draw_once.ensures.stamped c.draw_once.ensures.kept c.announce_once.ensures.view (c.in-Wait.ensures.waits refl),
+  settled_to_wait c.args.other c.args.pass.now.view c.draw_once.new.pass.view c.announce_once.new.pass.view
+      c.judge.new.pass.view c.requires.met c.draw_once.ensures.view c.draw_once.ensures.stamped c.draw_once.ensures.kept
+      c.announce_once.ensures.view (c.in-Wait.ensures.waits refl),
 )
 
 pub returns-in-Yield-clause-yields : goal.returns-in-Yield-clause-yields
 returns-in-Yield-clause-yields g c cause e =
     let good = IsGood (g.S.Shape.word_count c.args.desk.now.shape) (g.S.Shape.good c.args.desk.now.shape) in
     let y = c.in-Yield.ensures.yields c.in-Yield.stamp refl in
-    subst (λ (x : Cause). (x.seat ≡ c.args.other) × JudgedToYield good c.args.desk.now.seats c.args.desk.now.base x c.args.pass.now.view c.judge.new.pass.view) (yield_same (record { seat = c.args.other; stamp = c.in-Yield.stamp }) cause e) (
+    subst (λ (x : Cause). (x.seat ≡ c.args.other)
+    × JudgedToYield good c.args.desk.now.seats c.args.desk.now.base x c.args.pass.now.view c.judge.new.pass.view)
+    (yield_same (record { seat = c.args.other; stamp = c.in-Yield.stamp }) cause e) (
       refl,
-      settled_to_yield good c.args.desk.now.seats c.args.desk.now.base (record { seat = c.args.other; stamp = c.in-Yield.stamp }) c.args.pass.now.view c.draw_once.new.pass.view c.announce_once.new.pass.view c.judge.new.pass.view
+      settled_to_yield good c.args.desk.now.seats c.args.desk.now.base (record {
+        seat = c.args.other;
+        stamp =
+            c.in-Yield.stamp;
+      }) c.args.pass.now.view c.draw_once.new.pass.view c.announce_once.new.pass.view c.judge.new.pass.view
           c.draw_once.ensures.view c.draw_once.ensures.kept c.announce_once.ensures.view y.0 y.1 y.2 (c.in-Yield.ensures.cause c.in-Yield.stamp refl),
     )

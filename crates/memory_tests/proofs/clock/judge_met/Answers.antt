@@ -21,7 +21,8 @@ not_yields : (a x : ℕ) → turn.Waits ≡ turn.Yields a x → ⊥
 not_yields a x e = cc
 
 pub show_stamp-requires-clause-unjudged : goal.show_stamp-requires-clause-unjudged
-show_stamp-requires-clause-unjudged c none = differ (has c.args.other []) (subst (λ (l : List ℕ). has c.args.other l ≡ true) none c.requires.met.1) (has-nil c.args.other)
+show_stamp-requires-clause-unjudged c none =
+    differ (has c.args.other []) (subst (λ (l : List ℕ). has c.args.other l ≡ true) none c.requires.met.1) (has-nil c.args.other)
 
 pub judge-requires-clause-other : goal.judge-requires-clause-other
 judge-requires-clause-other c = omega (arith, c.requires.met.0, ap (λ (v : View). v.seats) c.show_stamp.ensures.rest)
@@ -34,7 +35,10 @@ returns-in-Wait c = let stays = c.in-Wait.ensures.waits refl in let shown = c.sh
   desk = (c.in-Wait.ensures.desk ∙ c.show_stamp.ensures.desk, ap (λ (v : View). v.base) stays ∙ ap (λ (v : View). v.base) shown);
   undone = ap (λ (v : View). v.undo) stays ∙ ap (λ (v : View). v.undo) shown;
   who = ap (λ (v : View). v.who) stays ∙ ap (λ (v : View). v.who) shown;
-  waits = λ e. (ap (λ (v : View). v.phase) stays ∙ (ap (λ (v : View). v.phase) shown ∙ c.requires.phase), ap (λ (v : View). v.abandoned) stays ∙ ap (λ (v : View). v.abandoned) shown);
+  waits = λ e. (
+    ap (λ (v : View). v.phase) stays ∙ (ap (λ (v : View). v.phase) shown ∙ c.requires.phase),
+    ap (λ (v : View). v.abandoned) stays ∙ ap (λ (v : View). v.abandoned) shown,
+  );
   yields = λ other stamp e. absurd (not_yields other stamp e);
 }
 
@@ -53,7 +57,8 @@ returns-in-Yield c =
         ap (λ (v : View). v.phase) gave,
         subst (λ (j : ℕ). j < w.seats) (same_seat c.args.other other c.in-Yield.stamp stamp e) in_table,
         subst (λ (j : ℕ). newest (past_causes w) ≡ Some (record { seat = j; stamp = stamp })) (same_seat c.args.other other c.in-Yield.stamp stamp e)
-            (subst (λ (t : ℕ). newest (past_causes w) ≡ Some (record { seat = c.args.other; stamp = t })) (same_stamp c.args.other other c.in-Yield.stamp stamp e) (c.in-Yield.ensures.cause c.in-Yield.stamp refl)),
+            (subst (λ (t : ℕ). newest (past_causes w) ≡ Some (record { seat = c.args.other; stamp = t }))
+            (same_stamp c.args.other other c.in-Yield.stamp stamp e) (c.in-Yield.ensures.cause c.in-Yield.stamp refl)),
         more ∙ ap (λ (v : View). length v.abandoned + 1) rest,
       );
     }

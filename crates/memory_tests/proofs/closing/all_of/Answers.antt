@@ -11,7 +11,8 @@ use Rattle.memory_tests.proofs.closing.all_of.Goals as goal
 each : (P : PassView → Type 0) (a b : PassView) → P a → P b → (p : PassView) → IsIn p (a ∷ b ∷ []) → P p
 each P a b x y p t = ⊎_elim (λ e. subst P e x) (λ s. ⊎_elim (λ e. subst P e y) (λ n. absurd (none_in p n)) (in_join b [] p s)) (in_join a (b ∷ []) p t)
 
-two_passes : (table : TableId) (a b : PassView) → a.table ≡ table → b.table ≡ table → a.view.phase ≡ Idle → b.view.phase ≡ Idle → a.view.who ≡ 0 ∷ [] → b.view.who ≡ 1 ∷ [] → AreAllPasses table 2 (a ∷ b ∷ [])
+two_passes : (table : TableId) (a b : PassView) → a.table ≡ table → b.table ≡ table → a.view.phase ≡ Idle
+    → b.view.phase ≡ Idle → a.view.who ≡ 0 ∷ [] → b.view.who ≡ 1 ∷ [] → AreAllPasses table 2 (a ∷ b ∷ [])
 two_passes table a b ta tb pa pb na nb = record {
   of_table = each (λ p. p.table ≡ table) a b ta tb;
   idle = each (λ p. p.view.phase ≡ Idle) a b pa pb;

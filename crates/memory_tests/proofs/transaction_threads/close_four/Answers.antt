@@ -9,14 +9,17 @@ use Rattle.memory_tests.proofs.transaction_threads.close_four.Goals as goal
 
 each : (P : PassView → Type 0) (a b c d : PassView) → P a → P b → P c → P d → (p : PassView) → IsIn p (a ∷ b ∷ c ∷ d ∷ []) → P p
 each P a b c d x y z w p t = ⊎_elim (λ e. subst P e x)
-    (λ s. ⊎_elim (λ e. subst P e y) (λ r. ⊎_elim (λ e. subst P e z) (λ q. ⊎_elim (λ e. subst P e w) (λ n. absurd (none_in p n)) (in_join d [] p q)) (in_join c (d ∷ []) p r)) (in_join b (c ∷ d ∷ []) p s))
+    (λ s. ⊎_elim (λ e. subst P e y)
+    (λ r. ⊎_elim (λ e. subst P e z) (λ q. ⊎_elim (λ e. subst P e w) (λ n. absurd (none_in p n)) (in_join d [] p q))
+    (in_join c (d ∷ []) p r)) (in_join b (c ∷ d ∷ []) p s))
     (in_join a (b ∷ c ∷ d ∷ []) p t)
 
 -- a pass of the desk, between calls, with this number
 abbrev IsEnded : {S : Type 0} → DeskView S → ℕ → PassView → Type 0
 IsEnded desk j p = (p.table ≡ desk.table) × (p.view.who ≡ j ∷ []) × (p.view.phase ≡ Idle)
 
-four_passes : {S : Type 0} (desk : DeskView S) (a b c d : PassView) → IsEnded desk 0 a → IsEnded desk 1 b → IsEnded desk 2 c → IsEnded desk 3 d → AreAllPasses desk.table 4 (a ∷ b ∷ c ∷ d ∷ [])
+four_passes : {S : Type 0} (desk : DeskView S) (a b c d : PassView) → IsEnded desk 0 a → IsEnded desk 1 b
+    → IsEnded desk 2 c → IsEnded desk 3 d → AreAllPasses desk.table 4 (a ∷ b ∷ c ∷ d ∷ [])
 four_passes desk a b c d x y z w = record {
   of_table = each (λ p. p.table ≡ desk.table) a b c d x.0 y.0 z.0 w.0;
   idle = each (λ p. p.view.phase ≡ Idle) a b c d x.2 y.2 z.2 w.2;

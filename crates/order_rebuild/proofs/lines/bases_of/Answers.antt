@@ -12,9 +12,11 @@ loop-i-preserved c =
     let up : slice_index c.args.codes.now c.loop-i.start ≤ slice_index c.args.codes.now i = c.requires c.loop-i.start i 0 low within in
     let rise : f c.loop-i.start ≤ f i = omega arith in
     let run : IsRun f (i + 1) c.if-codes-i.start × (c.if-codes-i.start ≤ i) = elim c.if-codes-i.branch [
-      | then-codes-i w ↦ subst (λ (n : ℕ). IsRun f (i + 1) n × (n ≤ i)) (sym w.start-is) (run_new f i c.loop-i.start inv.run rise w.if-codes-i.true, omega arith)
+      | then-codes-i w ↦ subst (λ (n : ℕ). IsRun f (i + 1) n × (n ≤ i)) (sym w.start-is)
+          (run_new f i c.loop-i.start inv.run rise w.if-codes-i.true, omega arith)
       | else-codes-i w ↦ subst (λ (n : ℕ). IsRun f (i + 1) n × (n ≤ i)) (sym w.start-is) (run_on f i c.loop-i.start inv.run w.if-codes-i.false, low)
     ] in record {
-      starts = subst (λ (base : List ℕ). AreStarts f (i + 1) base) (sym c.in_ok-push.ensures.items) (starts_more f i c.if-codes-i.start c.loop-i.base.items inv.starts run.0 run.1);
+      starts = subst (λ (base : List ℕ). AreStarts f (i + 1) base) (sym c.in_ok-push.ensures.items)
+          (starts_more f i c.if-codes-i.start c.loop-i.base.items inv.starts run.0 run.1);
       run = run.0;
     }

@@ -7,9 +7,12 @@ use Rattle.order_rebuild.proofs.ready.settle_level.Goals as goal
 pub loop-i-preserved : goal.loop-i-preserved
 loop-i-preserved c =
     let l = c.args.lines.now in
-    let at : c.index-in-loop-i.result.now ≡ item_at l c.loop-i.i = index_is l.item.items c.loop-i.i c.index-in-loop-i.result.now (let t = c.loop-i-test.true in omega (arith, l.item.ok.0)) c.index-in-loop-i.ensures in
+    let at : c.index-in-loop-i.result.now ≡ item_at l c.loop-i.i =
+    index_is l.item.items c.loop-i.i c.index-in-loop-i.result.now (let t = c.loop-i-test.true in omega (arith, l.item.ok.0)) c.index-in-loop-i.ensures in
     record {
       waits = c.in_ok-settle.ensures.waits;
-      closed = level_more l c.args.next.now c.loop-i.wait c.settle.new.wait c.loop-i.i c.index-in-loop-i.result.now c.args.start at c.in_ok-settle.ensures.waits c.loop-i.invariant.closed c.in_ok-settle.ensures.closed c.in_ok-settle.ensures.others;
-      ready = ready_after l c.args.wait.now c.loop-i.wait c.settle.new.wait (heap_items c.args.ready.now) (heap_items c.loop-i.ready) (heap_items c.settle.new.ready) c.loop-i.invariant.ready c.in_ok-settle.ensures.ready;
+      closed = level_more l c.args.next.now c.loop-i.wait c.settle.new.wait c.loop-i.i c.index-in-loop-i.result.now
+          c.args.start at c.in_ok-settle.ensures.waits c.loop-i.invariant.closed c.in_ok-settle.ensures.closed c.in_ok-settle.ensures.others;
+      ready = ready_after l c.args.wait.now c.loop-i.wait c.settle.new.wait (heap_items c.args.ready.now)
+          (heap_items c.loop-i.ready) (heap_items c.settle.new.ready) c.loop-i.invariant.ready c.in_ok-settle.ensures.ready;
     }

@@ -20,7 +20,8 @@ pub returns-in_err-books-clause-fault : goal.returns-in_err-books-clause-fault
 returns-in_err-books-clause-fault c why e =
     let p = err_from_is_err_and c.from_residual-in_err-books.result c.from_residual-in_err-books.ensures.1 in
     let same : c.in_err-books.field-0.0 ≡ why = cc (p.1, p.2, e) in
-    behind_line [] c.args.lines.now c.words.new.self c.in_ok-words.words why c.in_ok-words.ensures.found.0 c.in_ok-words.ensures.found.1 (c.in_err-books.ensures.err ∙ ap Some same)
+    behind_line [] c.args.lines.now c.words.new.self c.in_ok-words.words why c.in_ok-words.ensures.found.0
+    c.in_ok-words.ensures.found.1 (c.in_err-books.ensures.err ∙ ap Some same)
 
 pub returns-in_err-fill-clause-fault : goal.returns-in_err-fill-clause-fault
 returns-in_err-fill-clause-fault c why e =
@@ -30,7 +31,8 @@ returns-in_err-fill-clause-fault c why e =
     behind_more [] (c.in_ok-words.words ∷ []) c.args.lines.now c.words.new.self c.fill.new.lines why
     (subst (AreFaultless []) h.lines (books_faultless (books_of_header c.in_ok-words.words) h.in_range))
     (c.in_ok-words.ensures.found.1 ∙ ap (λ l. l ++ c.words.new.self) (sym (append-nil (line c.in_ok-words.words))))
-    (subst (λ b. IsFaultyBehind b c.words.new.self c.fill.new.lines why) c.in_ok-books.ensures.found (c.fill.ensures.fault why (c.in_err-fill.was ∙ ap Err same)))
+    (subst (λ b. IsFaultyBehind b c.words.new.self c.fill.new.lines why) c.in_ok-books.ensures.found
+    (c.fill.ensures.fault why (c.in_err-fill.was ∙ ap Err same)))
 
 pub returns-clause-text : goal.returns-clause-text
 returns-clause-text c =

@@ -16,4 +16,5 @@ returns c =
     ∙ found_any (λ e. is_lt (position_cmp (0, 0) e.0)) (λ _. true) _ (each_entry position_cmp positions_total _ c.args.books.now.positions (λ e found.
     let range = c.ranges-2.ensures in
     let account = some_of (map.get c.args.books.now.accounts e.0.0) (range.positions e.0.0 e.0.1 e.1 found).0 in
-    ap is_lt (less_pair (0, 0) e.0 (ap (λ b. b || ((0 == e.0.0) && nat_lt 0 e.0.1)) (lt-ltb 0 e.0.0 (omega (arith, (range.accounts e.0.0 account.0 account.1).0.0)))))))
+    ap is_lt (less_pair (0, 0) e.0
+    (ap (λ b. b || ((0 == e.0.0) && nat_lt 0 e.0.1)) (lt-ltb 0 e.0.0 (omega (arith, (range.accounts e.0.0 account.0 account.1).0.0)))))))

@@ -16,8 +16,10 @@ use Rattle.script_reader.proofs.books.price_of.Goals.{In_ok-instrument}
 
 instrument_within : (c : In_ok-instrument) → IsWithin 1 c.args.books.now.instruments c.in_ok-instrument.instrument
 instrument_within c = subst (IsWithin 1 c.args.books.now.instruments) (sym c.in_ok-instrument.ensures.found.1)
-    (first_within c.args.words.now 1 c.args.books.now.instruments ((1, 1000000000) ∷ []) (omega (arith, row_length (codes "price") 3 c.args.words.now c.requires))
-    (subst (λ r. HasNumbers c.args.words.now (r ∷ (1, 1000000000) ∷ [])) c.instruments_of-instruments.ensures.number c.in_ok-instrument.ensures.found.0).in_range)
+    (first_within c.args.words.now 1 c.args.books.now.instruments ((1, 1000000000) ∷ [])
+    (omega (arith, row_length (codes "price") 3 c.args.words.now c.requires))
+    (subst (λ r. HasNumbers c.args.words.now (r ∷ (1, 1000000000) ∷ [])) c.instruments_of-instruments.ensures.number
+    c.in_ok-instrument.ensures.found.0).in_range)
 
 pub overflow_cast-instrument : goal.overflow_cast-instrument
 overflow_cast-instrument c = omega (arith, (instrument_within c).1, c.ranges-2.ensures.instruments.1)
@@ -28,47 +30,96 @@ overflow_sub-instrument c = (instrument_within c).0
 pub returns-then-is_past_prices-clause-err : goal.returns-then-is_past_prices-clause-err
 returns-then-is_past_prices-clause-err c =
     let b = c.args.books.now in
-    let late : is_late_in 1 (printed b) ≡ true = sym (λ i. some_is (map.entries b.positions) i || some_is b.calls i) ∙ sym c.is_past_prices.ensures ∙ c.if-is_past_prices.true in
+    let late : is_late_in 1 (printed b) ≡ true = sym (λ i. some_is (map.entries b.positions) i || some_is b.calls i)
+    ∙ sym c.is_past_prices.ensures ∙ c.if-is_past_prices.true in
     price_fault b c.ranges-2.ensures c.args.words.now c.requires
-    ∙ (λ i. reasons false (late i) (not (are_numbers (drop 1 c.args.words.now))) (not (are_in_range (drop 1 c.args.words.now) ((1, b.instruments) ∷ (1, 1000000000) ∷ [])) || false) (is_low_in 1 (value_at c.args.words.now 1, 0) (printed b)) false false (has_no_block b))
+    ∙ (λ i. reasons false (late i) (not (are_numbers (drop 1 c.args.words.now)))
+    (not (are_in_range (drop 1 c.args.words.now) ((1, b.instruments) ∷ (1, 1000000000) ∷ [])) || false)
+    (is_low_in 1 (value_at c.args.words.now 1, 0) (printed b)) false false (has_no_block b))
 
 pub returns-in_err-instrument-clause-err : goal.returns-in_err-instrument-clause-err
 returns-in_err-instrument-clause-err c =
     let b = c.args.books.now in
-    let late : is_late_in 1 (printed b) ≡ false = sym (λ i. some_is (map.entries b.positions) i || some_is b.calls i) ∙ sym c.is_past_prices.ensures ∙ c.if-is_past_prices.false in
+    let late : is_late_in 1 (printed b) ≡ false = sym (λ i. some_is (map.entries b.positions) i || some_is b.calls i)
+    ∙ sym c.is_past_prices.ensures ∙ c.if-is_past_prices.false in
     let p = err_from_is_err_and c.from_residual.result c.from_residual.ensures.1 in
     rw (p.1, p.2) (
     price_fault b c.ranges-2.ensures c.args.words.now c.requires
-    ∙ (λ i. reasons false (late i) (not (are_numbers (drop 1 c.args.words.now))) (not (are_in_range (drop 1 c.args.words.now) ((1, b.instruments) ∷ (1, 1000000000) ∷ [])) || false) (is_low_in 1 (value_at c.args.words.now 1, 0) (printed b)) false false (has_no_block b))
-    ∙ numbers_first _ _ false (is_low_in 1 (value_at c.args.words.now 1, 0) (printed b)) false false (has_no_block b) _ (subst (λ r. numbers_fault c.args.words.now (r ∷ (1, 1000000000) ∷ []) ≡ Some c.in_err-instrument.field-0.0) c.instruments_of-instruments.ensures.number c.in_err-instrument.ensures.err)
+    ∙ (λ i. reasons false (late i) (not (are_numbers (drop 1 c.args.words.now)))
+    (not (are_in_range (drop 1 c.args.words.now) ((1, b.instruments) ∷ (1, 1000000000) ∷ [])) || false)
+    (is_low_in 1 (value_at c.args.words.now 1, 0) (printed b)) false false (has_no_block b))
+    ∙ numbers_first _ _ false (is_low_in 1 (value_at c.args.words.now 1, 0) (printed b)) false false (has_no_block b) _
+    (subst (λ r. numbers_fault c.args.words.now (r ∷ (1, 1000000000) ∷ []) ≡ Some c.in_err-instrument.field-0.0)
+    c.instruments_of-instruments.ensures.number c.in_err-instrument.ensures.err)
     )
 
 pub returns-then-is_some-clause-err : goal.returns-then-is_some-clause-err
 returns-then-is_some-clause-err c =
     let b = c.args.books.now in
-    let late : is_late_in 1 (printed b) ≡ false = sym (λ i. some_is (map.entries b.positions) i || some_is b.calls i) ∙ sym c.is_past_prices.ensures ∙ c.if-is_past_prices.false in
-    let found : HasNumbers c.args.words.now ((1, b.instruments) ∷ (1, 1000000000) ∷ []) × (c.in_ok-instrument.instrument ≡ value_at c.args.words.now 1) = (subst (λ r. HasNumbers c.args.words.now (r ∷ (1, 1000000000) ∷ [])) c.instruments_of-instruments.ensures.number c.in_ok-instrument.ensures.found.0, c.in_ok-instrument.ensures.found.1) in
+    let late : is_late_in 1 (printed b) ≡ false = sym (λ i. some_is (map.entries b.positions) i || some_is b.calls i)
+    ∙ sym c.is_past_prices.ensures ∙ c.if-is_past_prices.false in
+    let found : HasNumbers c.args.words.now ((1, b.instruments) ∷ (1, 1000000000) ∷ [])
+    × (c.in_ok-instrument.instrument ≡ value_at c.args.words.now 1) = (
+      subst (λ r. HasNumbers c.args.words.now (r ∷ (1, 1000000000) ∷ [])) c.instruments_of-instruments.ensures.number
+          c.in_ok-instrument.ensures.found.0,
+      c.in_ok-instrument.ensures.found.1,
+    ) in
     let low : is_low_in 1 (value_at c.args.words.now 1, 0) (printed b) ≡ true =
-    or_false _ ∙ sym (low_found c.in_ok-instrument.instrument (value_at c.args.words.now 1) (map.entries b.prices) (omega (arith, found.1, (first_within c.args.words.now 1 b.instruments ((1, 1000000000) ∷ []) (omega (arith, row_length (codes "price") 3 c.args.words.now c.requires)) found.0.in_range).0)) found.1) ∙ sym (ap is_some c.price_after.ensures.first) ∙ sym c.is_some.ensures ∙ c.if-is_some.true in
+    or_false _ ∙ sym (low_found c.in_ok-instrument.instrument (value_at c.args.words.now 1) (map.entries b.prices)
+    (omega (
+      arith,
+      found.1,
+      (first_within c.args.words.now 1 b.instruments ((1, 1000000000) ∷ [])
+          (omega (arith, row_length (codes "price") 3 c.args.words.now c.requires)) found.0.in_range).0,
+    )) found.1)
+    ∙ sym (ap is_some c.price_after.ensures.first) ∙ sym c.is_some.ensures ∙ c.if-is_some.true in
     price_fault b c.ranges-2.ensures c.args.words.now c.requires
     ∙ (λ i. reasons false (late i) (not (found.0.numbers i)) (not (found.0.in_range i) || false) (low i) false false (has_no_block b))
 
 pub returns-then-is_full-clause-err : goal.returns-then-is_full-clause-err
 returns-then-is_full-clause-err c =
     let b = c.args.books.now in
-    let late : is_late_in 1 (printed b) ≡ false = sym (λ i. some_is (map.entries b.positions) i || some_is b.calls i) ∙ sym c.is_past_prices.ensures ∙ c.if-is_past_prices.false in
-    let found : HasNumbers c.args.words.now ((1, b.instruments) ∷ (1, 1000000000) ∷ []) × (c.in_ok-instrument.instrument ≡ value_at c.args.words.now 1) = (subst (λ r. HasNumbers c.args.words.now (r ∷ (1, 1000000000) ∷ [])) c.instruments_of-instruments.ensures.number c.in_ok-instrument.ensures.found.0, c.in_ok-instrument.ensures.found.1) in
+    let late : is_late_in 1 (printed b) ≡ false = sym (λ i. some_is (map.entries b.positions) i || some_is b.calls i)
+    ∙ sym c.is_past_prices.ensures ∙ c.if-is_past_prices.false in
+    let found : HasNumbers c.args.words.now ((1, b.instruments) ∷ (1, 1000000000) ∷ [])
+    × (c.in_ok-instrument.instrument ≡ value_at c.args.words.now 1) = (
+      subst (λ r. HasNumbers c.args.words.now (r ∷ (1, 1000000000) ∷ [])) c.instruments_of-instruments.ensures.number
+          c.in_ok-instrument.ensures.found.0,
+      c.in_ok-instrument.ensures.found.1,
+    ) in
     let low : is_low_in 1 (value_at c.args.words.now 1, 0) (printed b) ≡ false =
-    or_false _ ∙ sym (low_found c.in_ok-instrument.instrument (value_at c.args.words.now 1) (map.entries b.prices) (omega (arith, found.1, (first_within c.args.words.now 1 b.instruments ((1, 1000000000) ∷ []) (omega (arith, row_length (codes "price") 3 c.args.words.now c.requires)) found.0.in_range).0)) found.1) ∙ sym (ap is_some c.price_after.ensures.first) ∙ sym c.is_some.ensures ∙ c.if-is_some.false in
+    or_false _ ∙ sym (low_found c.in_ok-instrument.instrument (value_at c.args.words.now 1) (map.entries b.prices)
+    (omega (
+      arith,
+      found.1,
+      (first_within c.args.words.now 1 b.instruments ((1, 1000000000) ∷ [])
+          (omega (arith, row_length (codes "price") 3 c.args.words.now c.requires)) found.0.in_range).0,
+    )) found.1)
+    ∙ sym (ap is_some c.price_after.ensures.first) ∙ sym c.is_some.ensures ∙ c.if-is_some.false in
     price_fault b c.ranges-2.ensures c.args.words.now c.requires
-    ∙ (λ i. reasons false (late i) (not (found.0.numbers i)) (not (found.0.in_range i) || false) (low i) false false ((sym c.is_full.ensures ∙ c.if-is_full.true) i))
+    ∙ (λ i. reasons false (late i) (not (found.0.numbers i)) (not (found.0.in_range i) || false) (low i) false false
+    ((sym c.is_full.ensures ∙ c.if-is_full.true) i))
 
 pub returns-clause-fine : goal.returns-clause-fine
 returns-clause-fine c =
     let b = c.args.books.now in
-    let late : is_late_in 1 (printed b) ≡ false = sym (λ i. some_is (map.entries b.positions) i || some_is b.calls i) ∙ sym c.is_past_prices.ensures ∙ c.if-is_past_prices.false in
-    let found : HasNumbers c.args.words.now ((1, b.instruments) ∷ (1, 1000000000) ∷ []) × (c.in_ok-instrument.instrument ≡ value_at c.args.words.now 1) = (subst (λ r. HasNumbers c.args.words.now (r ∷ (1, 1000000000) ∷ [])) c.instruments_of-instruments.ensures.number c.in_ok-instrument.ensures.found.0, c.in_ok-instrument.ensures.found.1) in
+    let late : is_late_in 1 (printed b) ≡ false = sym (λ i. some_is (map.entries b.positions) i || some_is b.calls i)
+    ∙ sym c.is_past_prices.ensures ∙ c.if-is_past_prices.false in
+    let found : HasNumbers c.args.words.now ((1, b.instruments) ∷ (1, 1000000000) ∷ [])
+    × (c.in_ok-instrument.instrument ≡ value_at c.args.words.now 1) = (
+      subst (λ r. HasNumbers c.args.words.now (r ∷ (1, 1000000000) ∷ [])) c.instruments_of-instruments.ensures.number
+          c.in_ok-instrument.ensures.found.0,
+      c.in_ok-instrument.ensures.found.1,
+    ) in
     let low : is_low_in 1 (value_at c.args.words.now 1, 0) (printed b) ≡ false =
-    or_false _ ∙ sym (low_found c.in_ok-instrument.instrument (value_at c.args.words.now 1) (map.entries b.prices) (omega (arith, found.1, (first_within c.args.words.now 1 b.instruments ((1, 1000000000) ∷ []) (omega (arith, row_length (codes "price") 3 c.args.words.now c.requires)) found.0.in_range).0)) found.1) ∙ sym (ap is_some c.price_after.ensures.first) ∙ sym c.is_some.ensures ∙ c.if-is_some.false in
+    or_false _ ∙ sym (low_found c.in_ok-instrument.instrument (value_at c.args.words.now 1) (map.entries b.prices)
+    (omega (
+      arith,
+      found.1,
+      (first_within c.args.words.now 1 b.instruments ((1, 1000000000) ∷ [])
+          (omega (arith, row_length (codes "price") 3 c.args.words.now c.requires)) found.0.in_range).0,
+    )) found.1)
+    ∙ sym (ap is_some c.price_after.ensures.first) ∙ sym c.is_some.ensures ∙ c.if-is_some.false in
     price_fault b c.ranges-2.ensures c.args.words.now c.requires
-    ∙ (λ i. reasons false (late i) (not (found.0.numbers i)) (not (found.0.in_range i) || false) (low i) false false ((sym c.is_full.ensures ∙ c.if-is_full.false) i))
+    ∙ (λ i. reasons false (late i) (not (found.0.numbers i)) (not (found.0.in_range i) || false) (low i) false false
+    ((sym c.is_full.ensures ∙ c.if-is_full.false) i))

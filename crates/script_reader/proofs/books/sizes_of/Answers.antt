@@ -11,25 +11,30 @@ use Rattle.script_reader.proofs.Pairs.{not_both, pair_false}
 use Rattle.script_reader.proofs.books.sizes_of.Goals as goal
 
 -- what is wrong with a header whose words and whose numbers are tested
-tested : (words : Words) (header numbers ranges : Bool) → is_header words ≡ header → (is_number (word_at words 3) && (is_number (word_at words 5) && (is_number (word_at words 7) && true))) ≡ numbers
+tested : (words : Words) (header numbers ranges : Bool) → is_header words ≡ header
+    → (is_number (word_at words 3) && (is_number (word_at words 5) && (is_number (word_at words 7) && true))) ≡ numbers
     → (is_in_range (word_at words 3, (1, 16384)) && (is_in_range (word_at words 5, (1, 64)) && (is_in_range (word_at words 7, (1, 1024)) && true))) ≡ ranges
     → header_fault words ≡ first_reason ((not header, fault.Header) ∷ (not numbers, fault.Number) ∷ (not ranges, fault.Limit) ∷ [])
 tested words header numbers ranges h n r i = first_reason ((not (h i), fault.Header) ∷ (not (n i), fault.Number) ∷ (not (r i), fault.Limit) ∷ [])
 
 -- a header with a word that is no number in a number's place
-no_number : (words : Words) → is_header words ≡ true → (is_number (word_at words 3) && (is_number (word_at words 5) && (is_number (word_at words 7) && true))) ≡ false → header_fault words ≡ Some fault.Number
+no_number : (words : Words) → is_header words ≡ true
+    → (is_number (word_at words 3) && (is_number (word_at words 5) && (is_number (word_at words 7) && true))) ≡ false → header_fault words ≡ Some fault.Number
 no_number words h n = tested words true false _ h n refl
 
 -- a header whose numbers are not in their ranges
-beyond : (words : Words) → is_header words ≡ true → (is_number (word_at words 3) && (is_number (word_at words 5) && (is_number (word_at words 7) && true))) ≡ true
-    → (is_in_range (word_at words 3, (1, 16384)) && (is_in_range (word_at words 5, (1, 64)) && (is_in_range (word_at words 7, (1, 1024)) && true))) ≡ false → header_fault words ≡ Some fault.Limit
+beyond : (words : Words) → is_header words ≡ true
+    → (is_number (word_at words 3) && (is_number (word_at words 5) && (is_number (word_at words 7) && true))) ≡ true
+    → (is_in_range (word_at words 3, (1, 16384)) &&
+    (is_in_range (word_at words 5, (1, 64)) && (is_in_range (word_at words 7, (1, 1024)) && true))) ≡ false → header_fault words ≡ Some fault.Limit
 beyond words h n r = tested words true true false h n r
 
 pub returns-in_err-blocks-clause-err : goal.returns-in_err-blocks-clause-err
 returns-in_err-blocks-clause-err c =
     let p = err_from_is_err_and c.from_residual.result c.from_residual.ensures.1 in
     rw (p.1, p.2) (
-    no_number c.args.words.now (sym c.is_header.ensures ∙ c.if-not-is_header.false) (not_both _ _ (is_number (word_at c.args.words.now 7) && true) c.in_err-blocks.ensures.err.1)
+    no_number c.args.words.now (sym c.is_header.ensures ∙ c.if-not-is_header.false)
+    (not_both _ _ (is_number (word_at c.args.words.now 7) && true) c.in_err-blocks.ensures.err.1)
     ∙ ap Some (sym c.in_err-blocks.ensures.err.0)
     )
 
@@ -37,7 +42,8 @@ pub returns-in_err-ring-clause-err : goal.returns-in_err-ring-clause-err
 returns-in_err-ring-clause-err c =
     let p = err_from_is_err_and c.from_residual-in_err-ring.result c.from_residual-in_err-ring.ensures.1 in
     rw (p.1, p.2) (
-    no_number c.args.words.now (sym c.is_header.ensures ∙ c.if-not-is_header.false) (λ t. c.in_ok-blocks.ensures.found.0 t && (c.in_ok-blocks.ensures.found.1 t && (c.in_err-ring.ensures.err.1 t && true)))
+    no_number c.args.words.now (sym c.is_header.ensures ∙ c.if-not-is_header.false)
+    (λ t. c.in_ok-blocks.ensures.found.0 t && (c.in_ok-blocks.ensures.found.1 t && (c.in_err-ring.ensures.err.1 t && true)))
     ∙ ap Some (sym c.in_err-ring.ensures.err.0)
     )
 
@@ -45,8 +51,11 @@ pub returns-in_err-both_within-clause-err : goal.returns-in_err-both_within-clau
 returns-in_err-both_within-clause-err c =
     let p = err_from_is_err_and c.from_residual-in_err-both_within.result c.from_residual-in_err-both_within.ensures.1 in
     rw (p.1, p.2) (
-    beyond c.args.words.now (sym c.is_header.ensures ∙ c.if-not-is_header.false) (and_true c.in_ok-blocks.ensures.found.0 (and_true c.in_ok-blocks.ensures.found.1 (and_true c.in_ok-ring.ensures.found.0 refl)))
-    (not_both _ _ (is_in_range (word_at c.args.words.now 7, (1, 1024)) && true) (pair_false (word_at c.args.words.now 3) (word_at c.args.words.now 5) (1, 16384) (1, 64) c.in_ok-blocks.blocks c.in_ok-blocks.instruments (lit< tt) (lit< tt) c.in_ok-blocks.ensures.found.2 c.in_ok-blocks.ensures.found.3 c.in_err-both_within.ensures.err.1))
+    beyond c.args.words.now (sym c.is_header.ensures ∙ c.if-not-is_header.false)
+    (and_true c.in_ok-blocks.ensures.found.0 (and_true c.in_ok-blocks.ensures.found.1 (and_true c.in_ok-ring.ensures.found.0 refl)))
+    (not_both _ _ (is_in_range (word_at c.args.words.now 7, (1, 1024)) && true)
+    (pair_false (word_at c.args.words.now 3) (word_at c.args.words.now 5) (1, 16384) (1, 64) c.in_ok-blocks.blocks
+    c.in_ok-blocks.instruments (lit< tt) (lit< tt) c.in_ok-blocks.ensures.found.2 c.in_ok-blocks.ensures.found.3 c.in_err-both_within.ensures.err.1))
     ∙ ap Some (sym c.in_err-both_within.ensures.err.0)
     )
 
@@ -54,17 +63,30 @@ pub returns-in_err-within-clause-err : goal.returns-in_err-within-clause-err
 returns-in_err-within-clause-err c =
     let p = err_from_is_err_and c.from_residual-in_err-within.result c.from_residual-in_err-within.ensures.1 in
     rw (p.1, p.2) (
-    beyond c.args.words.now (sym c.is_header.ensures ∙ c.if-not-is_header.false) (and_true c.in_ok-blocks.ensures.found.0 (and_true c.in_ok-blocks.ensures.found.1 (and_true c.in_ok-ring.ensures.found.0 refl)))
-    (λ t. (ranged_true (word_at c.args.words.now 3) 1 16384 c.in_ok-blocks.blocks (lit< tt) c.in_ok-blocks.ensures.found.2 c.in_ok-both_within.ensures.ok.0) t && ((ranged_true (word_at c.args.words.now 5) 1 64 c.in_ok-blocks.instruments (lit< tt) c.in_ok-blocks.ensures.found.3 c.in_ok-both_within.ensures.ok.1) t && ((ranged_false (word_at c.args.words.now 7) 1 1024 c.in_ok-ring.ring (lit< tt) c.in_ok-ring.ensures.found.1 c.in_err-within.ensures.range) t && true)))
+    beyond c.args.words.now (sym c.is_header.ensures ∙ c.if-not-is_header.false)
+    (and_true c.in_ok-blocks.ensures.found.0 (and_true c.in_ok-blocks.ensures.found.1 (and_true c.in_ok-ring.ensures.found.0 refl)))
+    (λ t. (ranged_true (word_at c.args.words.now 3) 1 16384 c.in_ok-blocks.blocks (lit< tt)
+    c.in_ok-blocks.ensures.found.2 c.in_ok-both_within.ensures.ok.0) t &&
+    ((ranged_true (word_at c.args.words.now 5) 1 64 c.in_ok-blocks.instruments (lit< tt)
+    c.in_ok-blocks.ensures.found.3 c.in_ok-both_within.ensures.ok.1) t &&
+    ((ranged_false (word_at c.args.words.now 7) 1 1024 c.in_ok-ring.ring (lit< tt) c.in_ok-ring.ensures.found.1 c.in_err-within.ensures.range) t && true)))
     ∙ ap Some (sym c.in_err-within.ensures.err)
     )
 
 pub returns-clause-fine : goal.returns-clause-fine
-returns-clause-fine c = tested c.args.words.now true true true (sym c.is_header.ensures ∙ c.if-not-is_header.false) (and_true c.in_ok-blocks.ensures.found.0 (and_true c.in_ok-blocks.ensures.found.1 (and_true c.in_ok-ring.ensures.found.0 refl))) (and_true (ranged_true (word_at c.args.words.now 3) 1 16384 c.in_ok-blocks.blocks (lit< tt) c.in_ok-blocks.ensures.found.2 c.in_ok-both_within.ensures.ok.0) (and_true (ranged_true (word_at c.args.words.now 5) 1 64 c.in_ok-blocks.instruments (lit< tt) c.in_ok-blocks.ensures.found.3 c.in_ok-both_within.ensures.ok.1) (and_true (ranged_true (word_at c.args.words.now 7) 1 1024 c.in_ok-ring.ring (lit< tt) c.in_ok-ring.ensures.found.1 c.in_ok-within.ensures.range.0) refl)))
+returns-clause-fine c = tested c.args.words.now true true true (sym c.is_header.ensures ∙ c.if-not-is_header.false)
+    (and_true c.in_ok-blocks.ensures.found.0
+    (and_true c.in_ok-blocks.ensures.found.1 (and_true c.in_ok-ring.ensures.found.0 refl)))
+    (and_true (ranged_true (word_at c.args.words.now 3) 1 16384 c.in_ok-blocks.blocks (lit< tt)
+    c.in_ok-blocks.ensures.found.2 c.in_ok-both_within.ensures.ok.0)
+    (and_true (ranged_true (word_at c.args.words.now 5) 1 64 c.in_ok-blocks.instruments (lit< tt)
+    c.in_ok-blocks.ensures.found.3 c.in_ok-both_within.ensures.ok.1)
+    (and_true (ranged_true (word_at c.args.words.now 7) 1 1024 c.in_ok-ring.ring (lit< tt) c.in_ok-ring.ensures.found.1 c.in_ok-within.ensures.range.0) refl)))
 
 pub returns-clause-found : goal.returns-clause-found
 returns-clause-found c = (
   ranged_value (word_at c.args.words.now 3) 1 16384 c.in_ok-blocks.blocks (lit< tt) c.in_ok-blocks.ensures.found.2 c.in_ok-both_within.ensures.ok.0,
   ranged_value (word_at c.args.words.now 5) 1 64 c.in_ok-blocks.instruments (lit< tt) c.in_ok-blocks.ensures.found.3 c.in_ok-both_within.ensures.ok.1,
-  c.in_ok-within.ensures.range.1 ∙ ranged_value (word_at c.args.words.now 7) 1 1024 c.in_ok-ring.ring (lit< tt) c.in_ok-ring.ensures.found.1 c.in_ok-within.ensures.range.0,
+  c.in_ok-within.ensures.range.1 ∙ ranged_value (word_at c.args.words.now 7) 1 1024 c.in_ok-ring.ring (lit< tt)
+      c.in_ok-ring.ensures.found.1 c.in_ok-within.ensures.range.0,
 )

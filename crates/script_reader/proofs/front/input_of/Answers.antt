@@ -10,9 +10,11 @@ pub returns-in_err-callers-clause-fault : goal.returns-in_err-callers-clause-fau
 returns-in_err-callers-clause-fault c why e =
     let p = err_from_is_err_and c.from_residual-in_err-callers.result c.from_residual-in_err-callers.ensures.1 in
     let same : c.in_err-callers.field-0.0 ≡ refusal.LineFault why = cc (p.1, p.2, e) in
-    behind_books c.in_ok-books.books c.in_ok-books.ensures.range c.args.lines.now c.books_of.new.lines c.scripts_of.new.lines why c.in_ok-books.ensures.text (c.scripts_of.ensures.fault why (c.in_err-callers.was ∙ ap Err same))
+    behind_books c.in_ok-books.books c.in_ok-books.ensures.range c.args.lines.now c.books_of.new.lines
+    c.scripts_of.new.lines why c.in_ok-books.ensures.text (c.scripts_of.ensures.fault why (c.in_err-callers.was ∙ ap Err same))
 
 pub returns-clause-found : goal.returns-clause-found
 returns-clause-found c =
     subst (λ x. HasFront x c.args.lines.now c.scripts_of.new.lines) (sym c.new.ensures)
-    (front_of c.in_ok-books.books (callers_in c.in_ok-callers.callers) c.args.lines.now c.books_of.new.lines c.scripts_of.new.lines c.in_ok-books.ensures.range c.in_ok-books.ensures.text c.in_ok-callers.ensures.found)
+    (front_of c.in_ok-books.books (callers_in c.in_ok-callers.callers) c.args.lines.now c.books_of.new.lines
+    c.scripts_of.new.lines c.in_ok-books.ensures.range c.in_ok-books.ensures.text c.in_ok-callers.ensures.found)

@@ -1,5 +1,6 @@
 -- What is read up to the last line, or the first fault.
-use Rattle.std.proofs.Common.{◌≡◌, ◌≢◌, ◌⊎◌, inl, inr, ℕ, ◌+◌, ◌-◌, ◌≤◌, ◌==◌, List, [], Err, length, take, drop, sym, ap, subst, ◌∙◌, take-append-drop, length-append, length-take, arith}
+use Rattle.std.proofs.Common.{◌≡◌, ◌≢◌, ◌⊎◌, inl, inr, ℕ, ◌+◌, ◌-◌, ◌≤◌, ◌==◌, List, [], Err, length, take, drop, sym, ap, subst, ◌∙◌, take-append-drop}
+use Rattle.std.proofs.Common.{length-append, length-take, arith}
 use Rattle.script_reader.specs.declared.fault.Fault.{Fault as AnyFault}
 use Rattle.script_reader.specs.declared.fault.Fault.TheVariants as fault
 use Rattle.script_reader.specs.declared.fault.InputFault.TheVariants as refused
@@ -16,7 +17,8 @@ use Rattle.script_reader.proofs.OneInput.{one_input}
 use Rattle.script_reader.proofs.front.read_front.Goals as goal
 
 -- a text that was read behind, and the number of its faulty line
-module _ (text left : List ℕ) (why : AnyFault) (behind : IsFaultyBehind [] text left why) (n line : ℕ) (counted : n ≡ feeds text left) (missing : why ≡ fault.End → line ≡ n + 1) (whole : why ≢ fault.End → line ≡ n) where
+module _ (text left : List ℕ) (why : AnyFault) (behind : IsFaultyBehind [] text left why) (n line : ℕ) (counted : n
+    ≡ feeds text left) (missing : why ≡ fault.End → line ≡ n + 1) (whole : why ≢ fault.End → line ≡ n) where
   is_front_fault : IsFrontFault text line why
   is_front_fault = record { left = left; faulty = behind; number_is = number what.either }
     where
@@ -28,30 +30,38 @@ module _ (text left : List ℕ) (why : AnyFault) (behind : IsFaultyBehind [] tex
       number (inr other) = omega (arith, whole other, counted, what.whole other)
 
 -- a front that was read
-ok_read : (text left : List ℕ) (input other : ClearingInput) (end : ℕ) → HasFront input text left → end ≤ length text → Spells (take end text) other → (input ≡ other) × (length text - length left ≡ end)
+ok_read : (text left : List ℕ) (input other : ClearingInput) (end : ℕ) → HasFront input text left → end ≤ length text
+    → Spells (take end text) other → (input ≡ other) × (length text - length left ≡ end)
 ok_read text left input other end h short k =
-    let same = fronts_once text h.front left (take end text) (drop end text) input other h.text (sym (take-append-drop end text)) h.spelled k in
-    (one_input h.front input other h.spelled (subst (λ t. Spells t other) (sym same.0) k), omega (arith, ap length h.text, ap length same.0, length-append h.front left, length-take end text, short))
+    let same = fronts_once text h.front left (take end text) (drop end text) input other h.text (sym (take-append-drop end text)) h.spelled k in (
+      one_input h.front input other h.spelled (subst (λ t. Spells t other) (sym same.0) k),
+      omega (arith, ap length h.text, ap length same.0, length-append h.front left, length-take end text, short),
+    )
 
 -- what is known of the text where a line is faulty
 in_text : (text start left : List ℕ) (why : AnyFault) → start ≡ text → IsFaultyBehind [] start left why → IsFaultyBehind [] text left why
 in_text text start left why e h = subst (λ l. IsFaultyBehind [] l left why) e h
 
 behind : (c : goal.After-len-in-Err-LineFault) → IsFaultyBehind [] c.args.bytes.now c.input_of.new.lines c.in-Err-LineFault.why
-behind c = in_text c.args.bytes.now c.new-lines.result c.input_of.new.lines c.in-Err-LineFault.why c.new-lines.ensures (c.input_of.ensures.fault c.in-Err-LineFault.why (c.in-Err-LineFault.is ∙ ap Err c.in-Err-LineFault.field-0-is))
+behind c = in_text c.args.bytes.now c.new-lines.result c.input_of.new.lines c.in-Err-LineFault.why c.new-lines.ensures
+    (c.input_of.ensures.fault c.in-Err-LineFault.why (c.in-Err-LineFault.is ∙ ap Err c.in-Err-LineFault.field-0-is))
 
 pub slice_bounds-occurrences-count : goal.slice_bounds-occurrences-count
-slice_bounds-occurrences-count c = omega (arith, c.len-in-Err-LineFault.ensures, (told c.args.bytes.now c.input_of.new.lines c.in-Err-LineFault.why (behind c)).shorter)
+slice_bounds-occurrences-count c =
+    omega (arith, c.len-in-Err-LineFault.ensures, (told c.args.bytes.now c.input_of.new.lines c.in-Err-LineFault.why (behind c)).shorter)
 
 behind_counted : (c : goal.After-occurrences-read) → IsFaultyBehind [] c.args.bytes.now c.input_of.new.lines c.in-Err-LineFault.why
-behind_counted c = in_text c.args.bytes.now c.new-lines.result c.input_of.new.lines c.in-Err-LineFault.why c.new-lines.ensures (c.input_of.ensures.fault c.in-Err-LineFault.why (c.in-Err-LineFault.is ∙ ap Err c.in-Err-LineFault.field-0-is))
+behind_counted c = in_text c.args.bytes.now c.new-lines.result c.input_of.new.lines c.in-Err-LineFault.why
+    c.new-lines.ensures (c.input_of.ensures.fault c.in-Err-LineFault.why (c.in-Err-LineFault.is ∙ ap Err c.in-Err-LineFault.field-0-is))
 
 behind_numbered : (c : goal.After-faulty_line-line) → IsFaultyBehind [] c.args.bytes.now c.input_of.new.lines c.in-Err-LineFault.why
-behind_numbered c = in_text c.args.bytes.now c.new-lines.result c.input_of.new.lines c.in-Err-LineFault.why c.new-lines.ensures (c.input_of.ensures.fault c.in-Err-LineFault.why (c.in-Err-LineFault.is ∙ ap Err c.in-Err-LineFault.field-0-is))
+behind_numbered c = in_text c.args.bytes.now c.new-lines.result c.input_of.new.lines c.in-Err-LineFault.why
+    c.new-lines.ensures (c.input_of.ensures.fault c.in-Err-LineFault.why (c.in-Err-LineFault.is ∙ ap Err c.in-Err-LineFault.field-0-is))
 
 -- how many line feeds there are in front of what is left
 counted : (c : goal.After-occurrences-read) → c.occurrences-read.result ≡ feeds c.args.bytes.now c.input_of.new.lines
-counted c = c.occurrences-read.ensures ∙ ap (λ n. count_by (λ b. b == LINE_FEED) (take (length c.args.bytes.now - n) c.args.bytes.now)) c.len-in-Err-LineFault.ensures
+counted c = c.occurrences-read.ensures
+    ∙ ap (λ n. count_by (λ b. b == LINE_FEED) (take (length c.args.bytes.now - n) c.args.bytes.now)) c.len-in-Err-LineFault.ensures
 
 pub faulty_line-line-requires : goal.faulty_line-line-requires
 faulty_line-line-requires c = omega (arith, counted c, (told c.args.bytes.now c.input_of.new.lines c.in-Err-LineFault.why (behind_counted c)).few)
@@ -62,8 +72,11 @@ front c = subst (λ l. HasFront c.in-Ok.input l c.input_of.new.lines) c.new-line
 pub returns-in-Ok-clause-ok : goal.returns-in-Ok-clause-ok
 returns-in-Ok-clause-ok c =
     let h = front c in
-    let end = ap (λ n. length c.args.bytes.now - n) c.len.ensures in
-    (omega arith, subst (λ t. Spells t c.in-Ok.input) (sym (take_front c.args.bytes.now h.front c.input_of.new.lines (length c.args.bytes.now - c.len.result) h.text end)) h.spelled)
+    let end = ap (λ n. length c.args.bytes.now - n) c.len.ensures in (
+      omega arith,
+      subst (λ t. Spells t c.in-Ok.input)
+          (sym (take_front c.args.bytes.now h.front c.input_of.new.lines (length c.args.bytes.now - c.len.result) h.text end)) h.spelled,
+    )
 
 pub returns-in-Ok-clause-read : goal.returns-in-Ok-clause-read
 returns-in-Ok-clause-read c input end short h =
@@ -71,17 +84,21 @@ returns-in-Ok-clause-read c input end short h =
     (same.0, ap (λ n. length c.args.bytes.now - n) c.len.ensures ∙ same.1)
 
 pub returns-in-Ok-clause-faulty : goal.returns-in-Ok-clause-faulty
-returns-in-Ok-clause-faulty c number why h = front_not_both c.args.bytes.now (front c).front c.input_of.new.lines c.in-Ok.input number why (front c).text (front c).spelled h
+returns-in-Ok-clause-faulty c number why h =
+    front_not_both c.args.bytes.now (front c).front c.input_of.new.lines c.in-Ok.input number why (front c).text (front c).spelled h
 
 numbered : (c : goal.After-faulty_line-line) → c.occurrences-read.result ≡ feeds c.args.bytes.now c.input_of.new.lines
-numbered c = c.occurrences-read.ensures ∙ ap (λ n. count_by (λ b. b == LINE_FEED) (take (length c.args.bytes.now - n) c.args.bytes.now)) c.len-in-Err-LineFault.ensures
+numbered c = c.occurrences-read.ensures
+    ∙ ap (λ n. count_by (λ b. b == LINE_FEED) (take (length c.args.bytes.now - n) c.args.bytes.now)) c.len-in-Err-LineFault.ensures
 
 faulty : (c : goal.After-faulty_line-line) → IsFrontFault c.args.bytes.now c.faulty_line-line.result c.in-Err-LineFault.why
-faulty c = is_front_fault c.args.bytes.now c.input_of.new.lines c.in-Err-LineFault.why (behind_numbered c) c.occurrences-read.result c.faulty_line-line.result (numbered c) c.faulty_line-line.ensures.missing c.faulty_line-line.ensures.whole
+faulty c = is_front_fault c.args.bytes.now c.input_of.new.lines c.in-Err-LineFault.why (behind_numbered c)
+    c.occurrences-read.result c.faulty_line-line.result (numbered c) c.faulty_line-line.ensures.missing c.faulty_line-line.ensures.whole
 
 pub returns-in-Err-LineFault-clause-read : goal.returns-in-Err-LineFault-clause-read
 returns-in-Err-LineFault-clause-read c input end short h =
-    absurd (front_not_both c.args.bytes.now (take end c.args.bytes.now) (drop end c.args.bytes.now) input c.faulty_line-line.result c.in-Err-LineFault.why (sym (take-append-drop end c.args.bytes.now)) h (faulty c))
+    absurd (front_not_both c.args.bytes.now (take end c.args.bytes.now) (drop end c.args.bytes.now) input
+    c.faulty_line-line.result c.in-Err-LineFault.why (sym (take-append-drop end c.args.bytes.now)) h (faulty c))
 
 pub returns-in-Err-LineFault-clause-refused : goal.returns-in-Err-LineFault-clause-refused
 returns-in-Err-LineFault-clause-refused c number why e =

@@ -1,5 +1,6 @@
 -- A whole text, or its first fault.
-use Rattle.std.proofs.Common.{◌≡◌, ◌⊎◌, inl, inr, ℕ, ◌+◌, ◌≤◌, ◌<◌, ◌==◌, List, Err, MatchResult, length, take, drop, refl, sym, ap, subst, take-append-drop, take_all, length-append, length-drop, arith}
+use Rattle.std.proofs.Common.{◌≡◌, ◌⊎◌, inl, inr, ℕ, ◌+◌, ◌≤◌, ◌<◌, ◌==◌, List, Err, MatchResult, length, take, drop, refl, sym, ap, subst, take-append-drop}
+use Rattle.std.proofs.Common.{take_all, length-append, length-drop, arith}
 use Rattle.std.specs.List.{count_by}
 use Rattle.std.proofs.lemmas.Result.{err_from_is_err_and}
 use Rattle.script_reader.specs.declared.fault.Fault.{Fault as AnyFault}
@@ -16,14 +17,17 @@ use Rattle.script_reader.proofs.OneInput.{one_input}
 use Rattle.script_reader.proofs.front.read_input.Goals as goal
 
 -- a text that goes on begins with one of an input
-front_read : (text : List ℕ) (number : ℕ) (why : AnyFault) → (g : GoesOn text number why) → (length g.front ≤ length text) × Spells (take (length g.front) text) g.input
+front_read : (text : List ℕ) (number : ℕ) (why : AnyFault) → (g : GoesOn text number why)
+    → (length g.front ≤ length text) × Spells (take (length g.front) text) g.input
 front_read text number why g = (
   omega (arith, ap length g.text_is, length-append g.front g.rest),
-  subst (λ t. Spells t g.input) (sym (take_front text g.front g.rest (length g.front) g.text_is (omega (arith, ap length g.text_is, length-append g.front g.rest)))) g.spelled,
+  subst (λ t. Spells t g.input) (sym (take_front text g.front g.rest (length g.front) g.text_is
+      (omega (arith, ap length g.text_is, length-append g.front g.rest)))) g.spelled,
 )
 
 -- a text whose front is that of an input, and which is longer, goes on
-goes_on : (text : List ℕ) (end number : ℕ) (input : ClearingInput) → end < length text → Spells (take end text) input → number ≡ count_by (λ b. b == LINE_FEED) (take end text) → GoesOn text (number + 1) fault.End
+goes_on : (text : List ℕ) (end number : ℕ) (input : ClearingInput) → end < length text → Spells (take end text) input
+    → number ≡ count_by (λ b. b == LINE_FEED) (take end text) → GoesOn text (number + 1) fault.End
 goes_on text end number input shorter h counted = record {
   front = take end text;
   rest = drop end text;
@@ -59,13 +63,22 @@ returns-in_err-input-clause-faulty c number why h =
     ])
 
 pub overflow_cast-result : goal.overflow_cast-result
-overflow_cast-result c = omega (arith, c.occurrences.ensures, few_of_input (take c.in_ok-input.end c.args.bytes.now) c.in_ok-input.input c.in_ok-input.ensures.ok.1)
+overflow_cast-result c = omega (
+  arith,
+  c.occurrences.ensures,
+  few_of_input (take c.in_ok-input.end c.args.bytes.now) c.in_ok-input.input c.in_ok-input.ensures.ok.1,
+)
 
 pub overflow_add-result : goal.overflow_add-result
-overflow_add-result c = omega (arith, c.occurrences.ensures, few_of_input (take c.in_ok-input.end c.args.bytes.now) c.in_ok-input.input c.in_ok-input.ensures.ok.1)
+overflow_add-result c = omega (
+  arith,
+  c.occurrences.ensures,
+  few_of_input (take c.in_ok-input.end c.args.bytes.now) c.in_ok-input.input c.in_ok-input.ensures.ok.1,
+)
 
 more : (c : goal.After-drop-input-inside-then-end-bytes-8) → GoesOn c.args.bytes.now (c.occurrences.result + 1) fault.End
-more c = goes_on c.args.bytes.now c.in_ok-input.end c.occurrences.result c.in_ok-input.input c.if-end-bytes.true c.in_ok-input.ensures.ok.1 c.occurrences.ensures
+more c = goes_on c.args.bytes.now c.in_ok-input.end c.occurrences.result c.in_ok-input.input c.if-end-bytes.true
+    c.in_ok-input.ensures.ok.1 c.occurrences.ensures
 
 pub returns-then-end-bytes-clause-read : goal.returns-then-end-bytes-clause-read
 returns-then-end-bytes-clause-read c input h = absurd (not_both c.args.bytes.now (input, h) (c.occurrences.result + 1, fault.End, inr (more c)))
@@ -83,7 +96,8 @@ returns-then-end-bytes-clause-faulty c number why h =
 
 -- all was read
 all_read : (c : goal.Else-end-bytes) → Spells c.args.bytes.now c.in_ok-input.input
-all_read c = subst (λ t. Spells t c.in_ok-input.input) (take_all c.in_ok-input.end c.args.bytes.now (omega (arith, c.if-end-bytes.false))) c.in_ok-input.ensures.ok.1
+all_read c = subst (λ t. Spells t c.in_ok-input.input)
+    (take_all c.in_ok-input.end c.args.bytes.now (omega (arith, c.if-end-bytes.false))) c.in_ok-input.ensures.ok.1
 
 pub returns-clause-ok : goal.returns-clause-ok
 returns-clause-ok c = all_read c

@@ -21,11 +21,20 @@ digit b one = digit_at (b ∷ []) 0 ((numerals_by_value _ tells_all_ascii_digits
 
 pub returns-then-not-is_ascii_digit : goal.returns-then-not-is_ascii_digit
 returns-then-not-is_ascii_digit c digits =
-    let apart = list_all_at is_ascii_digit c.args.word.now c.loop-b.b-index 0 c.loop-b-test.true (sym c.is_ascii_digit.ensures.value ∙ c.if-not-is_ascii_digit.true) in
+    let apart = list_all_at is_ascii_digit c.args.word.now c.loop-b.b-index 0 c.loop-b-test.true
+    (sym c.is_ascii_digit.ensures.value ∙ c.if-not-is_ascii_digit.true) in
     absurd (cc (digits, each_is c.args.word.now, apart))
 
 pub loop-b-preserved : goal.loop-b-preserved
 loop-b-preserved c =
     let one = sym c.is_ascii_digit.ensures.value ∙ c.if-not-is_ascii_digit.false in
-    let digits = each_is (take (c.loop-b.b-index + 1) c.args.word.now) ∙ list_all_more is_ascii_digit c.args.word.now c.loop-b.b-index 0 c.loop-b-test.true ∙ and_true (sym (each_is (take c.loop-b.b-index c.args.word.now)) ∙ c.loop-b.invariant.0) one in
-    (digits, omega (arith, digits_value_more 10 c.args.word.now c.loop-b.b-index c.loop-b-test.true, digit_value_digit (get_or c.args.word.now c.loop-b.b-index 0) (digit (get_or c.args.word.now c.loop-b.b-index 0) one)))
+    let digits = each_is (take (c.loop-b.b-index + 1) c.args.word.now)
+    ∙ list_all_more is_ascii_digit c.args.word.now c.loop-b.b-index 0 c.loop-b-test.true
+    ∙ and_true (sym (each_is (take c.loop-b.b-index c.args.word.now)) ∙ c.loop-b.invariant.0) one in (
+      digits,
+      omega (
+        arith,
+        digits_value_more 10 c.args.word.now c.loop-b.b-index c.loop-b-test.true,
+        digit_value_digit (get_or c.args.word.now c.loop-b.b-index 0) (digit (get_or c.args.word.now c.loop-b.b-index 0) one),
+      ),
+    )

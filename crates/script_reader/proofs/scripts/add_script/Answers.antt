@@ -22,7 +22,9 @@ pub returns-then-is_full_for-clause-fault : goal.returns-then-is_full_for-clause
 returns-then-is_full_for-clause-fault c why e subs left made are is =
     let same : fault.Limit ≡ why = cc in
     let found = c.in_ok-name.ensures.found in
-    let beyond = sym (beyond_is subs c.in_ok-name.name.now) ∙ sym (ap (λ l. nat_le MOST_SCRIPTS (count_scripts l) || (not (is_caller c.in_ok-name.name.now l) && nat_le MOST_CALLERS (length l))) made) ∙ sym c.is_full_for.ensures ∙ c.if-is_full_for.true in
+    let beyond = sym (beyond_is subs c.in_ok-name.name.now)
+    ∙ sym (ap (λ l. nat_le MOST_SCRIPTS (count_scripts l) || (not (is_caller c.in_ok-name.name.now l) && nat_le
+    MOST_CALLERS (length l))) made) ∙ sym c.is_full_for.ensures ∙ c.if-is_full_for.true in
     behind_line (lines_so_far c.args.books.now subs) left c.args.lines.now c.args.words.now why are is
     (outside_limit c.args.books.now subs c.in_ok-name.name.now c.args.words.now found.0 found.1 beyond ∙ ap Some same)
 
@@ -31,7 +33,9 @@ returns-in_err-script-clause-fault c why e subs left made are is =
     let p = err_from_is_err_and c.from_residual-in_err-script.result c.from_residual-in_err-script.ensures.1 in
     let same : c.in_err-script.field-0.0 ≡ refusal.LineFault why = cc (p.1, p.2, e) in
     let found = c.in_ok-name.ensures.found in
-    let room = sym (beyond_is subs c.in_ok-name.name.now) ∙ sym (ap (λ l. nat_le MOST_SCRIPTS (count_scripts l) || (not (is_caller c.in_ok-name.name.now l) && nat_le MOST_CALLERS (length l))) made) ∙ sym c.is_full_for.ensures ∙ c.if-is_full_for.false in
+    let room = sym (beyond_is subs c.in_ok-name.name.now)
+    ∙ sym (ap (λ l. nat_le MOST_SCRIPTS (count_scripts l) || (not (is_caller c.in_ok-name.name.now l) && nat_le
+    MOST_CALLERS (length l))) made) ∙ sym c.is_full_for.ensures ∙ c.if-is_full_for.false in
     behind_script c.args.books.now subs c.in_ok-name.name.now c.args.words.now left c.args.lines.now c.script_of.new.lines why found.0 found.1 room is
     (c.script_of.ensures.fault why (c.in_err-script.was ∙ ap Err same) subs c.in_ok-name.name.now)
 

@@ -1,4 +1,5 @@
-use Rattle.std.proofs.Common.{◌≡◌, ◌≢◌, ◌<◌, ◌≤◌, ◌+◌, ◌-◌, ◌==◌, ◌||◌, ◌∷◌, ◌++◌, [], ℕ, Bool, true, false, List, length, take, drop, set, get_or, inl, inr, refl, sym, ap, ◌∙◌, arith, eq-eqb, length-set, get_or-set_other, get_or-set_same}
+use Rattle.std.proofs.Common.{◌≡◌, ◌≢◌, ◌<◌, ◌≤◌, ◌+◌, ◌-◌, ◌==◌, ◌||◌, ◌∷◌, ◌++◌, [], ℕ, Bool, true, false, List, length, take, drop, set, get_or, inl, inr}
+use Rattle.std.proofs.Common.{refl, sym, ap, ◌∙◌, arith, eq-eqb, length-set, get_or-set_other, get_or-set_same}
 use Rattle.std.specs.List.{count_by}
 use Rattle.std.proofs.lemmas.Bool.{cases_lt, ne_eqb}
 use Rattle.std.proofs.lemmas.List.{take_more, take_rest, length-take, drop-drop}
@@ -9,7 +10,8 @@ use Rattle.script_reader.proofs.Conditions.{neither}
 use Rattle.script_reader.proofs.Cutting.{first_is_at, none_is_at, found_at, found_none, taken}
 use Rattle.script_reader.proofs.Parting.{end_kept, end_here, last_end}
 use Rattle.script_reader.proofs.words.first_line.Goals as goal
-use Rattle.script_reader.proofs.words.first_line.Goals.{then-text-i-gt-SPACE-via-then-text-i-gt-SPACE, then-text-i-gt-SPACE-via-else-text-i-gt-SPACE+then-not-ends_word}
+use Rattle.script_reader.proofs.words.first_line.Goals.{then-text-i-gt-SPACE-via-then-text-i-gt-SPACE}
+use Rattle.script_reader.proofs.words.first_line.Goals.{then-text-i-gt-SPACE-via-else-text-i-gt-SPACE+then-not-ends_word}
 
 -- what is known of a text up to a place in its first line
 record IsCutUpTo (text : List ℕ) (i spaces : ℕ) (ends : List ℕ) : Type 0 where
@@ -27,7 +29,8 @@ one_more text i before here k less = elim (cases_lt k i) [
 ]
 
 -- the ends that were known stay as the line goes on
-ends_stay : (text : List ℕ) (i k : ℕ) → i < length text → k < count_by (λ b. b == SPACE) (take i text) → word_end (take i text) k ≡ word_end (take (i + 1) text) k
+ends_stay : (text : List ℕ) (i k : ℕ) → i < length text → k < count_by (λ b. b == SPACE) (take i text)
+    → word_end (take i text) k ≡ word_end (take (i + 1) text) k
 ends_stay text i k less known = sym (ap (λ l. word_end l k) (take_more text i 0 less) ∙ end_kept (take i text) (get_or text i 0 ∷ []) k known)
 
 -- a byte of a word
@@ -77,7 +80,8 @@ at_space text i spaces ends new kept late less space feed v = record {
         let size : length (take i text) ≡ i = omega (arith, length-take i text, less) in
         ap (λ j. get_or new j 0) same
         ∙ renewed ends new spaces i v.size first (kept first)
-        ∙ sym (ap (λ j. word_end (take (i + 1) text) j) same ∙ ap (λ l. word_end l spaces) (take_more text i 0 less) ∙ end_here (take i text) (get_or text i 0) spaces space (sym v.counted) ∙ size)
+        ∙ sym (ap (λ j. word_end (take (i + 1) text) j) same ∙ ap (λ l. word_end l spaces) (take_more text i 0 less)
+        ∙ end_here (take i text) (get_or text i 0) spaces space (sym v.counted) ∙ size)
   ];
 }
 
@@ -119,28 +123,38 @@ loop-i-preserved-then-text-i-gt-SPACE c =
       | then-text-i-gt-SPACE-via-then-text-i-gt-SPACE w ↦ above byte w.if-text-i-gt-SPACE.true
       | then-text-i-gt-SPACE-via-else-text-i-gt-SPACE+then-not-ends_word w ↦ neither (sym w.ends_word.ensures ∙ w.if-not-ends_word.true)
     ] in
-    let next = in_word c.args.text.now c.loop-i.i c.loop-i.spaces c.loop-i.ends c.loop-i-test.true apart.0 apart.1 (record { size = v.size; line = v.line; counted = v.counted; before = v.before }) in
+    let next = in_word c.args.text.now c.loop-i.i c.loop-i.spaces c.loop-i.ends c.loop-i-test.true apart.0 apart.1
+    (record { size = v.size; line = v.line; counted = v.counted; before = v.before }) in
     record { size = next.size; line = next.line; counted = next.counted; before = next.before }
 
 pub new-requires : goal.new-requires
 new-requires c =
     let v = c.loop-i.invariant in
-    at_end c.args.text.now c.loop-i.i c.loop-i.spaces c.loop-i.ends c.keep.new.ends c.keep.ensures.kept c.keep.ensures.late c.loop-i-test.true (record { size = v.size; line = v.line; counted = v.counted; before = v.before })
+    at_end c.args.text.now c.loop-i.i c.loop-i.spaces c.loop-i.ends c.keep.new.ends c.keep.ensures.kept
+    c.keep.ensures.late c.loop-i-test.true (record { size = v.size; line = v.line; counted = v.counted; before = v.before })
 
 pub returns-then-text-i-eq-LINE_FEED-clause-found : goal.returns-then-text-i-eq-LINE_FEED-clause-found
 returns-then-text-i-eq-LINE_FEED-clause-found c =
     let text = c.args.text.now in
     let i = c.loop-i.i in
-    let found = found_at LINE_FEED text i (sym (first_is_at LINE_FEED text i c.loop-i-test.true c.loop-i.invariant.line (eq-eqb (get_or text i 0) LINE_FEED c.if-text-i-eq-LINE_FEED.true))) in
-    taken text (take i text) (take (length text - (i + 1)) (drop (i + 1) text)) c.new.result (found.2 ∙ ap (λ rest. take i text ++ LINE_FEED ∷ rest) (behind text i), found.1) c.new.ensures
+    let found = found_at LINE_FEED text i
+    (sym (first_is_at LINE_FEED text i c.loop-i-test.true c.loop-i.invariant.line (eq-eqb (get_or text i 0) LINE_FEED c.if-text-i-eq-LINE_FEED.true))) in
+    taken text (take i text) (take (length text - (i + 1)) (drop (i + 1) text)) c.new.result (
+      found.2
+          ∙ ap (λ rest. take i text ++ LINE_FEED ∷ rest) (behind text i),
+      found.1,
+    ) c.new.ensures
 
 pub loop-i-preserved : goal.loop-i-preserved
 loop-i-preserved c =
     let v = c.loop-i.invariant in
     let feed = ne_eqb (get_or c.args.text.now c.loop-i.i 0) LINE_FEED c.if-text-i-eq-LINE_FEED.false in
-    let space = other_end (get_or c.args.text.now c.loop-i.i 0 == SPACE) (get_or c.args.text.now c.loop-i.i 0 == LINE_FEED) (sym c.ends_word.ensures ∙ c.if-not-ends_word.false) feed in
-    let next = at_space c.args.text.now c.loop-i.i c.loop-i.spaces c.loop-i.ends c.keep.new.ends c.keep.ensures.kept c.keep.ensures.late c.loop-i-test.true space feed (record { size = v.size; line = v.line; counted = v.counted; before = v.before }) in
+    let space = other_end (get_or c.args.text.now c.loop-i.i 0 == SPACE)
+    (get_or c.args.text.now c.loop-i.i 0 == LINE_FEED) (sym c.ends_word.ensures ∙ c.if-not-ends_word.false) feed in
+    let next = at_space c.args.text.now c.loop-i.i c.loop-i.spaces c.loop-i.ends c.keep.new.ends c.keep.ensures.kept
+    c.keep.ensures.late c.loop-i-test.true space feed (record { size = v.size; line = v.line; counted = v.counted; before = v.before }) in
     record { size = next.size; line = next.line; counted = next.counted; before = next.before }
 
 pub returns-clause-none : goal.returns-clause-none
-returns-clause-none c = found_none LINE_FEED c.args.text.now (sym (none_is_at LINE_FEED c.args.text.now (λ k less. c.loop-i.invariant.line k (omega (arith, less, c.loop-i-test.false)))))
+returns-clause-none c = found_none LINE_FEED c.args.text.now
+    (sym (none_is_at LINE_FEED c.args.text.now (λ k less. c.loop-i.invariant.line k (omega (arith, less, c.loop-i-test.false)))))

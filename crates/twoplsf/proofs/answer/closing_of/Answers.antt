@@ -28,6 +28,8 @@ returns c =
     let shape_is : c.of-shape.result ≡ day.closed.shape = c.of-shape.ensures ∙ ap shape_of c.books.ensures ∙ c.requires.opening.sizes in
     IfOk-weaker c.read_books.result _ _
     (λ (closing : ClearingBooks) found.
-    let stands : Stands day.closed.shape day.closed.words closing = subst (λ (w : List ℕ). Stands day.closed.shape w closing) c.words.ensures (subst (λ (s : BooksShape). Stands s c.words.result.now closing) shape_is found) in
+    let stands : Stands day.closed.shape day.closed.words closing =
+    subst (λ (w : List ℕ). Stands day.closed.shape w closing) c.words.ensures
+    (subst (λ (s : BooksShape). Stands s c.words.result.now closing) shape_is found) in
     c.one_books.ensures day.closed.shape day.closed.words closing (closing_books input day) stands c.requires.is_day.left)
     c.read_books.ensures.found

@@ -9,7 +9,8 @@ use Rattle.twoplsf.specs.Answer.{IsCheckOf, IsComparison}
 use Rattle.twoplsf.proofs.check.check_answer.Goals as goal
 
 -- what is read of bytes, and the rest of them
-two_texts : (bytes : List ℕ) (input : ClearingInput) (end : ℕ) → Spells (take end bytes) input → AreTwoTexts bytes input (take (length bytes - end) (drop end bytes))
+two_texts : (bytes : List ℕ) (input : ClearingInput) (end : ℕ) → Spells (take end bytes) input
+    → AreTwoTexts bytes input (take (length bytes - end) (drop end bytes))
 two_texts bytes input end spelled = record {
   front = take end bytes;
   spelled = spelled;

@@ -7,11 +7,14 @@ use Rattle.twoplsf.proofs.command.workers_of.Goals as goal
 pub returns-clause-some : goal.returns-clause-some
 returns-clause-some c =
     let run_is : string_bytes c.run-item.result ≡ codes "run" = search rules in
-    let are = two_of string_bytes c.args.words.now c.run-item.result c.workers-item.result (omega arith) c.run-item.is c.workers-item.is ∙ (λ i. run_is i ∷ sym c.as_bytes.ensures.value i ∷ []) in
+    let are = two_of string_bytes c.args.words.now c.run-item.result c.workers-item.result (omega arith) c.run-item.is
+    c.workers-item.is ∙ (λ i. run_is i ∷ sym c.as_bytes.ensures.value i ∷ []) in
     IfSome_then c.number_within.result c.number_within.ensures.some (run_command (map string_bytes c.args.words.now) c.as_bytes.result.now are)
 
 pub returns-clause-none : goal.returns-clause-none
 returns-clause-none c =
     let run_is : string_bytes c.run-item.result ≡ codes "run" = search rules in
-    let are = two_of string_bytes c.args.words.now c.run-item.result c.workers-item.result (omega arith) c.run-item.is c.workers-item.is ∙ (λ i. run_is i ∷ sym c.as_bytes.ensures.value i ∷ []) in
-    if_none c.number_within.result _ _ (λ none run. none run.0 (run_word (map string_bytes c.args.words.now) c.as_bytes.result.now are run.0 run.1) run.1.range) c.number_within.ensures.none
+    let are = two_of string_bytes c.args.words.now c.run-item.result c.workers-item.result (omega arith) c.run-item.is
+    c.workers-item.is ∙ (λ i. run_is i ∷ sym c.as_bytes.ensures.value i ∷ []) in
+    if_none c.number_within.result _ _ (λ none run.
+    none run.0 (run_word (map string_bytes c.args.words.now) c.as_bytes.result.now are run.0 run.1) run.1.range) c.number_within.ensures.none

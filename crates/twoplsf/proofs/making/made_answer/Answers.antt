@@ -5,4 +5,8 @@ use Rattle.twoplsf.proofs.making.made_answer.Goals as goal
 
 pub returns-in_ok-text-in-Drill-clause-day : goal.returns-in_ok-text-in-Drill-clause-day
 returns-in_ok-text-in-Drill-clause-day g c =
-    subst (λ (m : Making). LeavesDay m (Some c.in_ok-text-in-Drill.day)) (sym c.in-Drill.is) (c.in_ok-text-in-Drill.day, refl, c.in_ok-text-in-Drill.ensures.day)
+    subst (λ (m : Making). LeavesDay m (Some c.in_ok-text-in-Drill.day)) (sym c.in-Drill.is) (
+      c.in_ok-text-in-Drill.day,
+      refl,
+      c.in_ok-text-in-Drill.ensures.day,
+    )

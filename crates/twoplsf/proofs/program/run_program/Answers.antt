@@ -28,12 +28,14 @@ returns-in-Ok-clause-words_source g c = where_ok _ c.in-Ok.is (rw c.deref.ensure
 pub returns-in-Ok-clause-complete : goal.returns-in-Ok-clause-complete
 returns-in-Ok-clause-complete g c =
     let complete = rw c.deref.ensures.value at c.serve.ensures.complete in
-    where_ok _ c.in-Ok.is (λ run. ends_in_two IsValidInput _ _ c.code.result c.serve.result.status status.Done status.OutOfMemory _ c.code.ensures (complete run))
+    where_ok _ c.in-Ok.is (λ run. ends_in_two IsValidInput _ _ c.code.result c.serve.result.status status.Done
+    status.OutOfMemory _ c.code.ensures (complete run))
 
 pub returns-in-Ok-clause-complete_check : goal.returns-in-Ok-clause-complete_check
 returns-in-Ok-clause-complete_check g c =
     let complete = rw c.deref.ensures.value at c.serve.ensures.complete_check in
-    where_ok _ c.in-Ok.is (λ check. ends_in_three BeginWithInput _ _ c.code.result c.serve.result.status status.Done status.Differs status.OutOfMemory _ c.code.ensures (complete check))
+    where_ok _ c.in-Ok.is (λ check. ends_in_three BeginWithInput _ _ c.code.result c.serve.result.status status.Done
+    status.Differs status.OutOfMemory _ c.code.ensures (complete check))
 
 pub returns-in-Ok-clause-complete_making : goal.returns-in-Ok-clause-complete_making
 returns-in-Ok-clause-complete_making g c =

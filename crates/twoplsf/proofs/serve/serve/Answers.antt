@@ -2,13 +2,18 @@ use Rattle.std.proofs.Common.{map, inl}
 use Rattle.std.specs.String.{string_bytes}
 use Rattle.io_ends.specs.Counts.{Rose}
 use Rattle.twoplsf.proofs.Served.{read_not_made}
-use Rattle.twoplsf.proofs.FromText.{HasEnded, headline, made, bad_words, too_large, too_many, first_fault, first_fault_in_front, bad_input, no_input, differs, first_wrong, no_output, complete, complete_check, complete_making, only_check}
+use Rattle.twoplsf.proofs.FromText.{HasEnded, headline, made, bad_words, too_large, too_many, first_fault, first_fault_in_front, bad_input, no_input, differs}
+use Rattle.twoplsf.proofs.FromText.{first_wrong, no_output, complete, complete_check, complete_making, only_check}
 use Rattle.twoplsf.proofs.serve.serve.Given.{Over}
 use Rattle.twoplsf.proofs.serve.serve.Goals as goal
 
 -- what became of the command
 ended : (g : Over) (c : goal.After-serve_words g)
-    → HasEnded c.serve_words.result.status (map string_bytes c.args.words.now) (g.S.Source.left c.args.source.now) (g.S.Source.left c.serve_words.new.source) (g.K.Sink.taken c.args.sink.now) (g.K.Sink.taken c.serve_words.new.sink) (Rose (g.S.Source.faults c.args.source.now) (g.S.Source.faults c.serve_words.new.source)) (Rose (g.K.Sink.faults c.args.sink.now) (g.K.Sink.faults c.serve_words.new.sink))
+    → HasEnded c.serve_words.result.status (map string_bytes c.args.words.now) (g.S.Source.left c.args.source.now)
+    (g.S.Source.left c.serve_words.new.source) (g.K.Sink.taken c.args.sink.now)
+    (g.K.Sink.taken c.serve_words.new.sink)
+    (Rose (g.S.Source.faults c.args.source.now) (g.S.Source.faults c.serve_words.new.source))
+    (Rose (g.K.Sink.faults c.args.sink.now) (g.K.Sink.faults c.serve_words.new.sink))
 ended g c = record {
   text = c.serve_words.ensures.text;
   taken = c.serve_words.ensures.taken;

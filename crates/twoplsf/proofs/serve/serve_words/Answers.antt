@@ -13,20 +13,31 @@ use Rattle.twoplsf.proofs.serve.serve_words.Given.{Over}
 use Rattle.twoplsf.proofs.serve.serve_words.Goals as goal
 
 pub answer_by-requires : goal.answer_by-requires
-answer_by-requires g c = (search rules, (search rules, (map string_bytes c.args.words.now, read_by (map string_bytes c.args.words.now) c.in-Read.is c.in-Some.ensures.some)))
+answer_by-requires g c = (
+  search rules,
+  (search rules, (map string_bytes c.args.words.now, read_by (map string_bytes c.args.words.now) c.in-Read.is c.in-Some.ensures.some)),
+)
 
 pub serve_making-requires : goal.serve_making-requires
-serve_making-requires g c = (search rules, (search rules, (map string_bytes c.args.words.now, made_by (map string_bytes c.args.words.now) c.in-Make.is c.in-Some.ensures.some)))
+serve_making-requires g c = (
+  search rules,
+  (search rules, (map string_bytes c.args.words.now, made_by (map string_bytes c.args.words.now) c.in-Make.is c.in-Some.ensures.some)),
+)
 
 pub returns-in_default-clause-text : goal.returns-in_default-clause-text
 returns-in_default-clause-text g c =
     let none : IsValidCommand (map string_bytes c.args.words.now) → ⊥ = search rules in
-    took_text c.finish-status.result status.BadWords (map string_bytes c.args.words.now) (g.S.Source.left c.args.source.now) (g.S.Source.left c.args.source.now) (g.K.Sink.taken c.args.sink.now) (g.K.Sink.taken c.finish-status.new.sink) refused_words _ (none, refl) c.finish-status.ensures
+    took_text c.finish-status.result status.BadWords (map string_bytes c.args.words.now)
+    (g.S.Source.left c.args.source.now) (g.S.Source.left c.args.source.now) (g.K.Sink.taken c.args.sink.now)
+    (g.K.Sink.taken c.finish-status.new.sink) refused_words _ (none, refl) c.finish-status.ensures
 
 pub returns-in-Err-TooLarge-clause-text : goal.returns-in-Err-TooLarge-clause-text
 returns-in-Err-TooLarge-clause-text g c =
-    let above : IfSome (count_taken (g.S.Source.left c.args.source.now) (g.S.Source.left c.read_all.new.source)) (λ n. n ≡ MOST_INPUT_BYTES + 1) = search rules in
-    took_text c.finish-status-in-Err-TooLarge.result status.TooLarge (map string_bytes c.args.words.now) (g.S.Source.left c.args.source.now) (g.S.Source.left c.read_all.new.source) (g.K.Sink.taken c.args.sink.now) (g.K.Sink.taken c.finish-status-in-Err-TooLarge.new.sink) refused_size _
+    let above : IfSome (count_taken (g.S.Source.left c.args.source.now) (g.S.Source.left c.read_all.new.source))
+    (λ n. n ≡ MOST_INPUT_BYTES + 1) = search rules in
+    took_text c.finish-status-in-Err-TooLarge.result status.TooLarge (map string_bytes c.args.words.now)
+    (g.S.Source.left c.args.source.now) (g.S.Source.left c.read_all.new.source) (g.K.Sink.taken c.args.sink.now)
+    (g.K.Sink.taken c.finish-status-in-Err-TooLarge.new.sink) refused_size _
     (read_is (map string_bytes c.args.words.now) c.in-Read.is c.in-Some.ensures.some, above, refl) c.finish-status-in-Err-TooLarge.ensures
 
 pub returns-in-Make-clause-day : goal.returns-in-Make-clause-day
@@ -37,10 +48,16 @@ returns-in-Make-clause-words_first g c none = absurd (none (inr (made_is (map st
 
 pub returns-in-Make-clause-text : goal.returns-in-Make-clause-text
 returns-in-Make-clause-text g c =
-    took_making c.serve_making.result.status (map string_bytes c.args.words.now) c.in-Make.making (g.S.Source.left c.args.source.now) (g.S.Source.left c.args.source.now) (g.K.Sink.taken c.args.sink.now) (g.K.Sink.taken c.serve_making.new.sink) _ _ (made_by (map string_bytes c.args.words.now) c.in-Make.is c.in-Some.ensures.some) c.serve_making.ensures.text
+    took_making c.serve_making.result.status (map string_bytes c.args.words.now) c.in-Make.making
+    (g.S.Source.left c.args.source.now) (g.S.Source.left c.args.source.now) (g.K.Sink.taken c.args.sink.now)
+    (g.K.Sink.taken c.serve_making.new.sink) _ _ (made_by (map string_bytes c.args.words.now) c.in-Make.is
+    c.in-Some.ensures.some) c.serve_making.ensures.text
 
 pub returns-in-Make-clause-drill_day : goal.returns-in-Make-clause-drill_day
-returns-in-Make-clause-drill_day g c drill = IfSome_then c.serve_making.result.day c.serve_making.ensures.day (λ d. day_of_making (map string_bytes c.args.words.now) c.in-Make.making d (made_by (map string_bytes c.args.words.now) c.in-Make.is c.in-Some.ensures.some))
+returns-in-Make-clause-drill_day g c drill =
+    IfSome_then c.serve_making.result.day c.serve_making.ensures.day
+    (λ d. day_of_making (map string_bytes c.args.words.now) c.in-Make.making d
+    (made_by (map string_bytes c.args.words.now) c.in-Make.is c.in-Some.ensures.some))
 
 pub returns-in-Make-clause-has_day : goal.returns-in-Make-clause-has_day
 returns-in-Make-clause-has_day g c =
@@ -52,7 +69,8 @@ pub returns-in-Make-clause-unwritten : goal.returns-in-Make-clause-unwritten
 returns-in-Make-clause-unwritten g c = none_of_making c.serve_making.result.status _ _ _ _ c.serve_making.ensures.text
 
 pub returns-in-Make-clause-read_fault : goal.returns-in-Make-clause-read_fault
-returns-in-Make-clause-read_fault g c is = absurd (no_other_end c.serve_making.result.status _ _ _ _ c.serve_making.ensures.text status.ReadFault (λ e. cc) (λ e. cc) (λ e. cc) is)
+returns-in-Make-clause-read_fault g c is =
+    absurd (no_other_end c.serve_making.result.status _ _ _ _ c.serve_making.ensures.text status.ReadFault (λ e. cc) (λ e. cc) (λ e. cc) is)
 
 pub returns-in-Err-Fault-clause-read_fault : goal.returns-in-Err-Fault-clause-read_fault
 returns-in-Err-Fault-clause-read_fault g c is = (read_is (map string_bytes c.args.words.now) c.in-Read.is c.in-Some.ensures.some, search rules)
@@ -76,7 +94,9 @@ pub returns-in-Err-OutOfMemory-clause-words_first : goal.returns-in-Err-OutOfMem
 returns-in-Err-OutOfMemory-clause-words_first g c none = absurd (none (inl (read_is (map string_bytes c.args.words.now) c.in-Read.is c.in-Some.ensures.some)))
 
 -- the answer to the bytes that were read
-answered : (g : Over) (c : goal.After-drop-bytes g) → HasAnswered (map string_bytes c.args.words.now) c.in-Read.reading (g.S.Source.left c.args.source.now) (g.S.Source.left c.read_all.new.source) c.in-Ok.bytes.items c.in-Ok-answer_by.answer
+answered : (g : Over) (c : goal.After-drop-bytes g)
+    → HasAnswered (map string_bytes c.args.words.now) c.in-Read.reading (g.S.Source.left c.args.source.now)
+    (g.S.Source.left c.read_all.new.source) c.in-Ok.bytes.items c.in-Ok-answer_by.answer
 answered g c = record {
   is = read_by (map string_bytes c.args.words.now) c.in-Read.is c.in-Some.ensures.some;
   taken = c.in-Ok.ensures.bytes;
@@ -87,7 +107,9 @@ answered g c = record {
 
 -- it was printed or not
 printed : (g : Over) (c : goal.After-drop-bytes g)
-    → HasPrinted c.in-Ok-answer_by.answer c.print_answer.result.status c.print_answer.result.day (g.K.Sink.taken c.args.sink.now) (g.K.Sink.taken c.print_answer.new.sink) (Rose (g.K.Sink.faults c.args.sink.now) (g.K.Sink.faults c.print_answer.new.sink))
+    → HasPrinted c.in-Ok-answer_by.answer c.print_answer.result.status c.print_answer.result.day
+    (g.K.Sink.taken c.args.sink.now) (g.K.Sink.taken c.print_answer.new.sink)
+    (Rose (g.K.Sink.faults c.args.sink.now) (g.K.Sink.faults c.print_answer.new.sink))
 printed g c = record { wrote = c.print_answer.ensures.text; done = c.print_answer.ensures.done; other = c.print_answer.ensures.other }
 
 pub returns-in-Ok-answer_by-clause-text : goal.returns-in-Ok-answer_by-clause-text

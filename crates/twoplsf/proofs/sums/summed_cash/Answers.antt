@@ -13,14 +13,20 @@ loop-account-init c = rw (accounts_from c.args.books.now c.requires) refl
 pub overflow_add-sum : goal.overflow_add-sum
 overflow_add-sum c =
     let m = c.args.books.now.accounts in
-    let next = summed_next nat_cmp_total nat_lt is_lt-nat_cmp c.loop-account.last (entries m) (c.in-Some.account, c.in-Some.cash) (entries_sorted m) (sym c.in-Some.ensures.first) in
+    let next = summed_next nat_cmp_total nat_lt is_lt-nat_cmp c.loop-account.last (entries m) (
+      c.in-Some.account,
+      c.in-Some.cash,
+    ) (entries_sorted m) (sym c.in-Some.ensures.first) in
     let few = some_cash c.args.books.now (λ e. not (nat_lt c.in-Some.account e.0)) c.requires in
     omega arith
 
 pub loop-account-preserved : goal.loop-account-preserved
 loop-account-preserved c =
     let m = c.args.books.now.accounts in
-    let next = summed_next nat_cmp_total nat_lt is_lt-nat_cmp c.loop-account.last (entries m) (c.in-Some.account, c.in-Some.cash) (entries_sorted m) (sym c.in-Some.ensures.first) in
+    let next = summed_next nat_cmp_total nat_lt is_lt-nat_cmp c.loop-account.last (entries m) (
+      c.in-Some.account,
+      c.in-Some.cash,
+    ) (entries_sorted m) (sym c.in-Some.ensures.first) in
     ap (λ s. s + c.in-Some.cash) c.loop-account.invariant ∙ sym next
 
 pub returns : goal.returns

@@ -18,7 +18,8 @@ pub overflow_add-sum : goal.overflow_add-sum
 overflow_add-sum c =
     let m = c.args.books.now.positions in
     let e : (ℕ × ℕ) × ℕ = ((c.in-Some.account, c.in-Some.instrument), c.in-Some.quantity) in
-    let next = summed_next positions_total later (λ _ _. refl) c.loop-account.last (entries m) e (entries_sorted m) (found_entry _ _ _ _ c.in-Some.ensures.first) in
+    let next = summed_next positions_total later (λ _ _. refl) c.loop-account.last (entries m) e (entries_sorted m)
+    (found_entry _ _ _ _ c.in-Some.ensures.first) in
     let few = some_quantity c.args.books.now (λ x. not (later e.0 x.0)) c.requires in
     omega arith
 
@@ -26,7 +27,8 @@ pub loop-account-preserved : goal.loop-account-preserved
 loop-account-preserved c =
     let m = c.args.books.now.positions in
     let e : (ℕ × ℕ) × ℕ = ((c.in-Some.account, c.in-Some.instrument), c.in-Some.quantity) in
-    let next = summed_next positions_total later (λ _ _. refl) c.loop-account.last (entries m) e (entries_sorted m) (found_entry _ _ _ _ c.in-Some.ensures.first) in
+    let next = summed_next positions_total later (λ _ _. refl) c.loop-account.last (entries m) e (entries_sorted m)
+    (found_entry _ _ _ _ c.in-Some.ensures.first) in
     ap (λ s. s + c.in-Some.quantity) c.loop-account.invariant ∙ sym next
 
 pub loop-account-smaller : goal.loop-account-smaller

@@ -18,16 +18,21 @@ read-requires-clause-within g c =
 pub write-requires-clause-within : goal.write-requires-clause-within
 write-requires-clause-within g c =
     let a = c.args.arena.now in
-    let l : Lies a (g.W.Shape.Shape.word_count (g.W.Words.shape c.args.w.now)) = lies a _ _ _ (each_plain g.W.Words g.W.Shape.Shape _ _ c.requires.order) (g.met.W.Words.fits c.args.w.now c.requires.ready.sound) in
-    let same : g.W.Shape.Shape.word_count (g.W.Words.shape c.read.new.self) ≡ g.W.Shape.Shape.word_count (g.W.Words.shape c.args.w.now) = ap g.W.Shape.Shape.word_count c.in_ok-first.ensures.shape in
+    let l : Lies a (g.W.Shape.Shape.word_count (g.W.Words.shape c.args.w.now)) =
+    lies a _ _ _ (each_plain g.W.Words g.W.Shape.Shape _ _ c.requires.order) (g.met.W.Words.fits c.args.w.now c.requires.ready.sound) in
+    let same : g.W.Shape.Shape.word_count (g.W.Words.shape c.read.new.self)
+    ≡ g.W.Shape.Shape.word_count (g.W.Words.shape c.args.w.now) = ap g.W.Shape.Shape.word_count c.in_ok-first.ensures.shape in
     let within : block_at a c.args.block < g.W.Shape.Shape.word_count (g.W.Words.shape c.args.w.now) = l.block c.args.block c.requires.number in
     omega (arith, within, same)
 
 pub write-requires-2-clause-within : goal.write-requires-2-clause-within
 write-requires-2-clause-within g c =
     let a = c.args.arena.now in
-    let l : Lies a (g.W.Shape.Shape.word_count (g.W.Words.shape c.args.w.now)) = lies a _ _ _ (each_plain g.W.Words g.W.Shape.Shape _ _ c.requires.order) (g.met.W.Words.fits c.args.w.now c.requires.ready.sound) in
-    let same : g.W.Shape.Shape.word_count (g.W.Words.shape c.write.new.self) ≡ g.W.Shape.Shape.word_count (g.W.Words.shape c.args.w.now) = ap g.W.Shape.Shape.word_count (c.in_ok-write.ensures.shape ∙ c.in_ok-first.ensures.shape) in
+    let l : Lies a (g.W.Shape.Shape.word_count (g.W.Words.shape c.args.w.now)) =
+    lies a _ _ _ (each_plain g.W.Words g.W.Shape.Shape _ _ c.requires.order) (g.met.W.Words.fits c.args.w.now c.requires.ready.sound) in
+    let same : g.W.Shape.Shape.word_count (g.W.Words.shape c.write.new.self)
+    ≡ g.W.Shape.Shape.word_count (g.W.Words.shape c.args.w.now) =
+    ap g.W.Shape.Shape.word_count (c.in_ok-write.ensures.shape ∙ c.in_ok-first.ensures.shape) in
     omega (arith, l.head c.from.result, same, c.head_of-head.ensures)
 
 pub returns-clause-given : goal.returns-clause-given
@@ -35,13 +40,20 @@ returns-clause-given g c =
     let a = c.args.arena.now in
     let is_block : c.place_of.result ≡ a.first + 4 * c.args.block = omega (arith, c.place_of.ensures, c.number-number.ensures) in
     let is_name : c.from-2.result + 1 ≡ c.args.block + 1 = omega (arith, c.from-2.ensures, c.number-number.ensures) in
-    record { at = (gives_back a _ _ _ _ _ _ c.args.block _ _ _ _ (own_head c.args.arena.now _ _ _ (c.from.ensures ∙ c.number-number.ensures) c.head_of-head.ensures) c.in_ok-first.ensures.value is_block c.in_ok-write.ensures.value is_name c.in_ok-write-2.ensures.value c.requires.number (each_plain g.W.Words g.W.Shape.Shape _ _ c.requires.lacks)).at }
+    record {
+      at = (gives_back a _ _ _ _ _ _ c.args.block _ _ _ _ (own_head c.args.arena.now _ _ _ (c.from.ensures
+          ∙ c.number-number.ensures) c.head_of-head.ensures) c.in_ok-first.ensures.value is_block
+          c.in_ok-write.ensures.value is_name c.in_ok-write-2.ensures.value c.requires.number (each_plain g.W.Words g.W.Shape.Shape _ _ c.requires.lacks)).at;
+    }
 
 pub returns-clause-order : goal.returns-clause-order
 returns-clause-order g c =
     let a = c.args.arena.now in
-    state_after g.W.Words g.W.Shape.Shape _ _ (IsInOrder a) (IsInOrder a) (Gives a c.args.block) (c.in_ok-write-2.ensures.shape ∙ c.in_ok-write.ensures.shape ∙ c.in_ok-first.ensures.shape)
-    (begins_trans _ _ _ c.in_ok-first.ensures.begins (begins_trans _ _ _ c.in_ok-write.ensures.begins c.in_ok-write-2.ensures.begins)) c.requires.order (returns-clause-given g c) (order_given a c.args.block)
+    state_after g.W.Words g.W.Shape.Shape _ _ (IsInOrder a) (IsInOrder a) (Gives a c.args.block)
+    (c.in_ok-write-2.ensures.shape ∙ c.in_ok-write.ensures.shape ∙ c.in_ok-first.ensures.shape)
+    (begins_trans _ _ _ c.in_ok-first.ensures.begins
+    (begins_trans _ _ _ c.in_ok-write.ensures.begins c.in_ok-write-2.ensures.begins)) c.requires.order
+    (returns-clause-given g c) (order_given a c.args.block)
 
 pub returns-clause-frame : goal.returns-clause-frame
 returns-clause-frame g c =
@@ -50,7 +62,9 @@ returns-clause-frame g c =
     let is_first : c.place_of.result ≡ block_at a c.args.block = omega (arith, c.place_of.ensures, c.number-number.ensures) in
     record {
       appended = only_then own _ _ _ (only_read own _ _ _ _ c.in_ok-first.ensures.value)
-          (only_then own _ _ _ (only_write own _ _ _ _ c.in_ok-write.ensures.value (inr is_first)) (only_write own _ _ _ _ c.in_ok-write-2.ensures.value (inl (own_head c.args.arena.now _ _ _ (c.from.ensures ∙ c.number-number.ensures) c.head_of-head.ensures))));
+          (only_then own _ _ _ (only_write own _ _ _ _ c.in_ok-write.ensures.value (inr is_first))
+          (only_write own _ _ _ _ c.in_ok-write-2.ensures.value
+          (inl (own_head c.args.arena.now _ _ _ (c.from.ensures ∙ c.number-number.ensures) c.head_of-head.ensures))));
     }
 
 pub returns-clause-others : goal.returns-clause-others
@@ -61,8 +75,11 @@ returns-clause-reads g c =
     let a = c.args.arena.now in
     let seen = IsHeadOrFirst a c.args.block in
     let is_first : c.place_of.result ≡ block_at a c.args.block = omega (arith, c.place_of.ensures, c.number-number.ensures) in
-    sees_then seen _ _ _ (sees_read seen _ _ _ _ c.in_ok-first.ensures.value (inl (own_head c.args.arena.now _ _ _ (c.from.ensures ∙ c.number-number.ensures) c.head_of-head.ensures)))
-    (sees_then seen _ _ _ (sees_write seen _ _ _ _ c.in_ok-write.ensures.value (inr is_first)) (sees_write seen _ _ _ _ c.in_ok-write-2.ensures.value (inl (own_head c.args.arena.now _ _ _ (c.from.ensures ∙ c.number-number.ensures) c.head_of-head.ensures))))
+    sees_then seen _ _ _ (sees_read seen _ _ _ _ c.in_ok-first.ensures.value
+    (inl (own_head c.args.arena.now _ _ _ (c.from.ensures ∙ c.number-number.ensures) c.head_of-head.ensures)))
+    (sees_then seen _ _ _ (sees_write seen _ _ _ _ c.in_ok-write.ensures.value (inr is_first))
+    (sees_write seen _ _ _ _ c.in_ok-write-2.ensures.value
+    (inl (own_head c.args.arena.now _ _ _ (c.from.ensures ∙ c.number-number.ensures) c.head_of-head.ensures))))
 
 pub returns-in_err-first : goal.returns-in_err-first
 returns-in_err-first g c =
@@ -73,11 +90,14 @@ returns-in_err-first g c =
 pub returns-in_err-write : goal.returns-in_err-write
 returns-in_err-write g c =
     let failed = c.from_residual-in_err-write.ensures.0 in
-    let on : GoesOn g.W.Words c.args.w.now c.write.new.self c.from_residual-in_err-write.result = goes_as (goes_then (goes_call c.in_ok-first.ensures) (goes_call c.in_err-write.ensures)) (search rules) in
+    let on : GoesOn g.W.Words c.args.w.now c.write.new.self c.from_residual-in_err-write.result =
+    goes_as (goes_then (goes_call c.in_ok-first.ensures) (goes_call c.in_err-write.ensures)) (search rules) in
     search IfOk-from_err
 
 pub returns-in_err-write-2 : goal.returns-in_err-write-2
 returns-in_err-write-2 g c =
     let failed = c.from_residual-in_err-write-2.ensures.0 in
-    let on : GoesOn g.W.Words c.args.w.now c.write-2.new.self c.from_residual-in_err-write-2.result = goes_as (goes_then (goes_then (goes_call c.in_ok-first.ensures) (goes_call c.in_ok-write.ensures)) (goes_call c.in_err-write-2.ensures)) (search rules) in
+    let on : GoesOn g.W.Words c.args.w.now c.write-2.new.self c.from_residual-in_err-write-2.result =
+    goes_as (goes_then (goes_then (goes_call c.in_ok-first.ensures) (goes_call c.in_ok-write.ensures))
+    (goes_call c.in_err-write-2.ensures)) (search rules) in
     search IfOk-from_err

@@ -32,7 +32,8 @@ pub returns-in_err-name : goal.returns-in_err-name
 returns-in_err-name g c =
     let i = c.loop-passed.invariant in
     let failed = c.from_residual.ensures.0 in
-    let on : GoesOn g.W.Words c.args.w.now c.read.new.self c.from_residual.result = goes_as (goes_then (goes i.shape i.origin i.looks.begins i.stop i.sound) (goes_call c.in_err-name.ensures)) (search rules) in
+    let on : GoesOn g.W.Words c.args.w.now c.read.new.self c.from_residual.result =
+    goes_as (goes_then (goes i.shape i.origin i.looks.begins i.stop i.sound) (goes_call c.in_err-name.ensures)) (search rules) in
     search IfOk-from_err
 
 pub prove-unreachable-requires : goal.prove-unreachable-requires
@@ -41,9 +42,12 @@ prove-unreachable-requires g c =
     let i = c.loop-passed.invariant in
     let read = c.in_ok-name.ensures in
     let one_more : c.in_ok-name.name ≡ (c.in_ok-name.name - 1) + 1 = omega (arith, c.if-name-ne0.true) in
-    let some : SomeFits (g.W.Shape.Shape.word_count (g.W.Words.shape c.args.w.now)) (g.W.Shape.Shape.good (g.W.Words.shape c.args.w.now)) (g.W.Words.trace c.read.new.self) =
+    let some : SomeFits (g.W.Shape.Shape.word_count (g.W.Words.shape c.args.w.now))
+    (g.W.Shape.Shape.good (g.W.Words.shape c.args.w.now)) (g.W.Words.trace c.read.new.self) =
     some_at g.W.Shape.Shape.word_count g.W.Shape.Shape.good _ _ _ (read.shape ∙ i.shape) (g.met.W.Words.fits c.read.new.self read.sound) in
-    let lt : c.in_ok-name.name - 1 < a.blocks = found_below a c.args.near _ _ _ _ _ c.loop-passed.passed _ _ i.looks c.head_of.ensures read.value (c.in_ok-name.name - 1) c.loop-passed-test.true one_more (each_plain g.W.Words g.W.Shape.Shape _ _ c.requires.order) some in
+    let lt : c.in_ok-name.name - 1 < a.blocks =
+    found_below a c.args.near _ _ _ _ _ c.loop-passed.passed _ _ i.looks c.head_of.ensures read.value
+    (c.in_ok-name.name - 1) c.loop-passed-test.true one_more (each_plain g.W.Words g.W.Shape.Shape _ _ c.requires.order) some in
     omega (arith, lt, c.if-prove.true, c.from.ensures)
 
 pub overflow_cast-result : goal.overflow_cast-result
@@ -54,7 +58,8 @@ returns-then-name-ne0-clause-found g c =
     let a = c.args.arena.now in
     let i = c.loop-passed.invariant in
     let one_more : c.in_ok-name.name ≡ (c.in_ok-name.name - 1) + 1 = omega (arith, c.if-name-ne0.true) in
-    found_block a c.args.near _ _ _ _ _ c.loop-passed.passed _ _ i.looks c.head_of.ensures c.in_ok-name.ensures.value (c.in_ok-name.name - 1) c.loop-passed-test.true one_more (each_plain g.W.Words g.W.Shape.Shape _ _ c.requires.order)
+    found_block a c.args.near _ _ _ _ _ c.loop-passed.passed _ _ i.looks c.head_of.ensures c.in_ok-name.ensures.value
+    (c.in_ok-name.name - 1) c.loop-passed-test.true one_more (each_plain g.W.Words g.W.Shape.Shape _ _ c.requires.order)
 
 pub returns-then-name-ne0-clause-goes_on : goal.returns-then-name-ne0-clause-goes_on
 returns-then-name-ne0-clause-goes_on g c =
@@ -71,11 +76,13 @@ loop-passed-preserved g c =
       origin = read.origin ∙ i.origin;
       stop = read.stops;
       sound = read.sound;
-      looks = one_passed c.args.arena.now c.args.near _ _ _ _ _ c.loop-passed.passed _ _ i.looks c.head_of.ensures read.value (omega (arith, c.if-name-ne0.false));
+      looks = one_passed c.args.arena.now c.args.near _ _ _ _ _ c.loop-passed.passed _ _ i.looks c.head_of.ensures
+          read.value (omega (arith, c.if-name-ne0.false));
     }
 
 pub returns-clause-none : goal.returns-clause-none
-returns-clause-none g c = all_passed c.args.arena.now c.args.near _ _ _ _ c.loop-passed.passed (omega (arith, c.loop-passed-test.false)) c.loop-passed.invariant.looks
+returns-clause-none g c = all_passed c.args.arena.now c.args.near _ _ _ _ c.loop-passed.passed
+    (omega (arith, c.loop-passed-test.false)) c.loop-passed.invariant.looks
 
 pub returns-clause-goes_on : goal.returns-clause-goes_on
 returns-clause-goes_on g c = let i = c.loop-passed.invariant in goes_as (goes i.shape i.origin i.looks.begins i.stop i.sound) i.stop

@@ -12,5 +12,6 @@ invariant-loop-passed g l =
       origin : words.origin l.w ≡ words.origin l.fn.w;
       stop : words.stop l.w ≡ None;
       sound : words.is_sound l.w;
-      looks : Looks (g.W.Shape.Shape.word_count (words.shape l.fn.w)) (g.W.Shape.Shape.good (words.shape l.fn.w)) (words.trace l.fn.w) (words.trace l.w) (IsHeadWithin l.arena l.near l.passed) (AreEmpty l.arena l.near l.passed);
+      looks : Looks (g.W.Shape.Shape.word_count (words.shape l.fn.w)) (g.W.Shape.Shape.good (words.shape l.fn.w))
+          (words.trace l.fn.w) (words.trace l.w) (IsHeadWithin l.arena l.near l.passed) (AreEmpty l.arena l.near l.passed);
     }

@@ -12,18 +12,26 @@ loop-account-init c = record { done = entry_map.empty; built = c.requires.nothin
 pub add_account-requires-clause-books : goal.add_account-requires-clause-books
 add_account-requires-clause-books c =
     let was = c.loop-account.invariant in
-    let k = account_step c.args.books.now c.ranges-2.ensures was.done c.loop-account.last was.left (c.in-Some.account, c.in-Some.cash) c.in-Some.ensures.first in
+    let k = account_step c.args.books.now c.ranges-2.ensures was.done c.loop-account.last was.left (
+      c.in-Some.account,
+      c.in-Some.cash,
+    ) c.in-Some.ensures.first in
     (record (nothing_yet c.args.books.now) { accounts = was.done }, was.built, k.absent, k.room)
 
 pub loop-account-smaller : goal.loop-account-smaller
 loop-account-smaller c =
-    one_less (c.in-Some.account, c.in-Some.cash) (above nat_cmp c.loop-account.last (entry_map.entries c.args.books.now.accounts)) (above nat_cmp c.in-Some.account (entry_map.entries c.args.books.now.accounts))
+    one_less (c.in-Some.account, c.in-Some.cash)
+    (above nat_cmp c.loop-account.last (entry_map.entries c.args.books.now.accounts))
+    (above nat_cmp c.in-Some.account (entry_map.entries c.args.books.now.accounts))
     (number_next c.loop-account.last (c.in-Some.account, c.in-Some.cash) c.args.books.now.accounts c.in-Some.ensures.first)
 
 pub loop-account-preserved : goal.loop-account-preserved
 loop-account-preserved c =
     let was = c.loop-account.invariant in
-    let k = account_step c.args.books.now c.ranges-2.ensures was.done c.loop-account.last was.left (c.in-Some.account, c.in-Some.cash) c.in-Some.ensures.first in
+    let k = account_step c.args.books.now c.ranges-2.ensures was.done c.loop-account.last was.left (
+      c.in-Some.account,
+      c.in-Some.cash,
+    ) c.in-Some.ensures.first in
     record {
       done = entry_map.insert was.done c.in-Some.account c.in-Some.cash;
       built = c.in_ok-words.ensures (record (nothing_yet c.args.books.now) { accounts = was.done }) was.built;

@@ -6,8 +6,11 @@ use Rattle.txn_books.proofs.Growing.{call_is, call_fits, call_step}
 use Rattle.txn_books.proofs.building.add_calls.Goals as goal
 
 pub add_call-requires-clause-books : goal.add_call-requires-clause-books
-add_call-requires-clause-books c =
-    (record (with_positions c.args.books.now) { calls = take c.loop-index.index c.args.books.now.calls }, c.loop-index.invariant, call_fits c.args.books.now c.ranges-2.ensures c.loop-index.index c.call_at-account.result c.call_at-account.ensures)
+add_call-requires-clause-books c = (
+  record (with_positions c.args.books.now) { calls = take c.loop-index.index c.args.books.now.calls },
+  c.loop-index.invariant,
+  call_fits c.args.books.now c.ranges-2.ensures c.loop-index.index c.call_at-account.result c.call_at-account.ensures,
+)
 
 pub add_call-requires-clause-call : goal.add_call-requires-clause-call
 add_call-requires-clause-call c = call_is c.args.books.now c.ranges-2.ensures c.loop-index.index c.call_at-account.result c.call_at-account.ensures

@@ -12,25 +12,30 @@ loop-account-init c = record { done = entry_map.empty; built = c.requires.prices
 pub add_position-requires-clause-books : goal.add_position-requires-clause-books
 add_position-requires-clause-books c =
     let was = c.loop-account.invariant in
-    let k = (position_step c.args.books.now c.ranges-2.ensures was.done c.loop-account.last was.left c.in-Some.account c.in-Some.instrument c.in-Some.quantity c.in-Some.ensures.first).0 in
+    let k = (position_step c.args.books.now c.ranges-2.ensures was.done c.loop-account.last was.left c.in-Some.account
+    c.in-Some.instrument c.in-Some.quantity c.in-Some.ensures.first).0 in
     (record (with_prices c.args.books.now) { positions = was.done }, was.built, k.owner, k.price, k.room)
 
 pub add_position-requires-clause-quantity : goal.add_position-requires-clause-quantity
 add_position-requires-clause-quantity c =
     let was = c.loop-account.invariant in
-    (position_step c.args.books.now c.ranges-2.ensures was.done c.loop-account.last was.left c.in-Some.account c.in-Some.instrument c.in-Some.quantity c.in-Some.ensures.first).0.quantity_range
+    (position_step c.args.books.now c.ranges-2.ensures was.done c.loop-account.last was.left c.in-Some.account
+    c.in-Some.instrument c.in-Some.quantity c.in-Some.ensures.first).0.quantity_range
 
 pub loop-account-smaller : goal.loop-account-smaller
 loop-account-smaller c =
     let was = c.loop-account.invariant in
-    one_less ((c.in-Some.account, c.in-Some.instrument), c.in-Some.quantity) (above position_cmp c.loop-account.last (entry_map.entries c.args.books.now.positions))
+    one_less ((c.in-Some.account, c.in-Some.instrument), c.in-Some.quantity)
+    (above position_cmp c.loop-account.last (entry_map.entries c.args.books.now.positions))
     (above position_cmp (c.in-Some.account, c.in-Some.instrument) (entry_map.entries c.args.books.now.positions))
-    (position_found c.args.books.now c.ranges-2.ensures was.done c.loop-account.last was.left c.in-Some.account c.in-Some.instrument c.in-Some.quantity c.in-Some.ensures.first)
+    (position_found c.args.books.now c.ranges-2.ensures was.done c.loop-account.last was.left c.in-Some.account
+    c.in-Some.instrument c.in-Some.quantity c.in-Some.ensures.first)
 
 pub loop-account-preserved : goal.loop-account-preserved
 loop-account-preserved c =
     let was = c.loop-account.invariant in
-    let k = position_step c.args.books.now c.ranges-2.ensures was.done c.loop-account.last was.left c.in-Some.account c.in-Some.instrument c.in-Some.quantity c.in-Some.ensures.first in
+    let k = position_step c.args.books.now c.ranges-2.ensures was.done c.loop-account.last was.left c.in-Some.account
+    c.in-Some.instrument c.in-Some.quantity c.in-Some.ensures.first in
     record {
       done = entry_map.insert was.done (c.in-Some.account, c.in-Some.instrument) c.in-Some.quantity;
       built = c.in_ok-words.ensures (record (with_prices c.args.books.now) { positions = was.done }) was.built;

@@ -14,29 +14,37 @@ loop-instrument-init c = record { done = entry_map.empty; built = c.requires.acc
 pub add_price-requires-clause-books : goal.add_price-requires-clause-books
 add_price-requires-clause-books c =
     let was = c.loop-instrument.invariant in
-    let k = (price_step c.args.books.now c.ranges-2.ensures was.done c.loop-instrument.last was.left (c.in-Some.instrument, c.in-Some.price) c.in-Some.ensures.first).0 in
+    let k = (price_step c.args.books.now c.ranges-2.ensures was.done c.loop-instrument.last was.left
+    (c.in-Some.instrument, c.in-Some.price) c.in-Some.ensures.first).0 in
     (record (with_accounts c.args.books.now) { prices = was.done }, was.built, k.room)
 
 pub add_price-requires-clause-instrument : goal.add_price-requires-clause-instrument
 add_price-requires-clause-instrument c =
     let was = c.loop-instrument.invariant in
-    let k = (price_step c.args.books.now c.ranges-2.ensures was.done c.loop-instrument.last was.left (c.in-Some.instrument, c.in-Some.price) c.in-Some.ensures.first).0 in
+    let k = (price_step c.args.books.now c.ranges-2.ensures was.done c.loop-instrument.last was.left
+    (c.in-Some.instrument, c.in-Some.price) c.in-Some.ensures.first).0 in
     subst (λ (z : BooksShape). IsWithin 1 z.instruments c.in-Some.instrument) (sym c.requires.shape) k.number
 
 pub add_price-requires-clause-price : goal.add_price-requires-clause-price
 add_price-requires-clause-price c =
     let was = c.loop-instrument.invariant in
-    (price_step c.args.books.now c.ranges-2.ensures was.done c.loop-instrument.last was.left (c.in-Some.instrument, c.in-Some.price) c.in-Some.ensures.first).0.price_range
+    (price_step c.args.books.now c.ranges-2.ensures was.done c.loop-instrument.last was.left (
+      c.in-Some.instrument,
+      c.in-Some.price,
+    ) c.in-Some.ensures.first).0.price_range
 
 pub loop-instrument-smaller : goal.loop-instrument-smaller
 loop-instrument-smaller c =
-    one_less (c.in-Some.instrument, c.in-Some.price) (above nat_cmp c.loop-instrument.last (entry_map.entries c.args.books.now.prices)) (above nat_cmp c.in-Some.instrument (entry_map.entries c.args.books.now.prices))
+    one_less (c.in-Some.instrument, c.in-Some.price)
+    (above nat_cmp c.loop-instrument.last (entry_map.entries c.args.books.now.prices))
+    (above nat_cmp c.in-Some.instrument (entry_map.entries c.args.books.now.prices))
     (number_next c.loop-instrument.last (c.in-Some.instrument, c.in-Some.price) c.args.books.now.prices c.in-Some.ensures.first)
 
 pub loop-instrument-preserved : goal.loop-instrument-preserved
 loop-instrument-preserved c =
     let was = c.loop-instrument.invariant in
-    let k = price_step c.args.books.now c.ranges-2.ensures was.done c.loop-instrument.last was.left (c.in-Some.instrument, c.in-Some.price) c.in-Some.ensures.first in
+    let k = price_step c.args.books.now c.ranges-2.ensures was.done c.loop-instrument.last was.left
+    (c.in-Some.instrument, c.in-Some.price) c.in-Some.ensures.first in
     record {
       done = entry_map.insert was.done c.in-Some.instrument c.in-Some.price;
       built = c.in_ok-words.ensures (record (with_accounts c.args.books.now) { prices = was.done }) was.built;

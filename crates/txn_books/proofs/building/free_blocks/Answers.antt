@@ -9,7 +9,8 @@ pub loop-list-preserved : goal.loop-list-preserved
 loop-list-preserved c free hold =
     let n = c.loop-list.list in
     let order = c.loop-list.order.items in
-    let more = free_more c.args.arena.now c.args.words.now free n order c.in_ok-blocks.blocks.items hold c.loop-list-test.true c.in_ok-blocks.ensures (c.loop-list.invariant free hold) in
+    let more = free_more c.args.arena.now c.args.words.now free n order c.in_ok-blocks.blocks.items hold
+    c.loop-list-test.true c.in_ok-blocks.ensures (c.loop-list.invariant free hold) in
     subst (λ xs. AreFreeBelow free (n + 1) xs) (sym (c.in_ok-extend_from_slice.ensures.items ∙ ap (λ ys. order ++ ys) c.deref.ensures.value)) more
 
 pub returns : goal.returns

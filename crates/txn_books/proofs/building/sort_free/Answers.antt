@@ -12,21 +12,28 @@ use Rattle.txn_books.proofs.building.sort_free.Goals as goal
 use Rattle.txn_books.proofs.building.sort_free.Goals.{In_ok-order, In_ok-sort, After-lay_free}
 
 pub free_blocks-requires : goal.free_blocks-requires
-free_blocks-requires c = rw (c.deref.ensures.value, c.arena-arena.ensures) (c.requires.1.stands.parts.free, free_held c.args.shape.now c.args.words.items c.requires.0 c.requires.1)
+free_blocks-requires c = rw (c.deref.ensures.value, c.arena-arena.ensures) (
+  c.requires.1.stands.parts.free,
+  free_held c.args.shape.now c.args.words.items c.requires.0 c.requires.1,
+)
 
 -- the lists that were gone through
-are : (c : In_ok-order) (books : ClearingBooks) (built : IsBuilt c.args.shape.now c.args.words.items books) → AreFree built.stands.parts.free c.in_ok-order.order.items
-are c books built = (rw (c.deref.ensures.value, c.arena-arena.ensures) at c.in_ok-order.ensures) built.stands.parts.free (free_held c.args.shape.now c.args.words.items books built)
+are : (c : In_ok-order) (books : ClearingBooks) (built : IsBuilt c.args.shape.now c.args.words.items books)
+    → AreFree built.stands.parts.free c.in_ok-order.order.items
+are c books built = (rw (c.deref.ensures.value, c.arena-arena.ensures) at c.in_ok-order.ensures) built.stands.parts.free
+    (free_held c.args.shape.now c.args.words.items books built)
 
 pub lay_free-requires-clause-below : goal.lay_free-requires-clause-below
 lay_free-requires-clause-below c =
     rw (c.deref-2.ensures.value, c.arena-arena.ensures)
-    (sorted_below c.args.shape.now c.args.words.items c.requires.0 c.requires.1 c.in_ok-order.order.items c.sort.new.self.items (are (goal.at.lay_free-requires-clause-below c).In_ok-order c.requires.0 c.requires.1) c.in_ok-sort.ensures.permutation)
+    (sorted_below c.args.shape.now c.args.words.items c.requires.0 c.requires.1 c.in_ok-order.order.items
+    c.sort.new.self.items (are (goal.at.lay_free-requires-clause-below c).In_ok-order c.requires.0 c.requires.1) c.in_ok-sort.ensures.permutation)
 
 pub lay_free-requires-clause-once : goal.lay_free-requires-clause-once
 lay_free-requires-clause-once c =
     rw c.deref-2.ensures.value
-    (sorted_once c.args.shape.now c.args.words.items c.requires.0 c.requires.1 c.in_ok-order.order.items c.sort.new.self.items (are (goal.at.lay_free-requires-clause-once c).In_ok-order c.requires.0 c.requires.1) c.in_ok-sort.ensures.permutation)
+    (sorted_once c.args.shape.now c.args.words.items c.requires.0 c.requires.1 c.in_ok-order.order.items
+    c.sort.new.self.items (are (goal.at.lay_free-requires-clause-once c).In_ok-order c.requires.0 c.requires.1) c.in_ok-sort.ensures.permutation)
 
 -- the words that were laid
 kept : (c : After-lay_free) → take c.args.words.len (c.lay_free.new.words ++ drop (length c.lay_free.new.words) c.args.words.items) ≡ c.lay_free.new.words
@@ -40,7 +47,8 @@ returns-clause-built c books built =
     let free = rw (c.arena-arena.ensures, c.deref-2.ensures.value) at c.lay_free.ensures.free in
     let others = rw (c.arena-arena.ensures, c.deref-2.ensures.value, c.deref_mut.ensures.value) at c.lay_free.ensures.others in
     subst (λ ws. IsBuilt shape ws books) (sym (kept (goal.at.returns-clause-built c).After-lay_free))
-    (relaid_built shape c.args.words.items books built c.in_ok-order.order.items c.sort.new.self.items (are (goal.at.returns-clause-built c).In_ok-order books built) c.in_ok-sort.ensures.permutation c.lay_free.new.words free others)
+    (relaid_built shape c.args.words.items books built c.in_ok-order.order.items c.sort.new.self.items
+    (are (goal.at.returns-clause-built c).In_ok-order books built) c.in_ok-sort.ensures.permutation c.lay_free.new.words free others)
 
 pub returns-clause-rising : goal.returns-clause-rising
 returns-clause-rising c h lt =
@@ -51,5 +59,6 @@ returns-clause-rising c h lt =
       order = of_list h sorted;
       list = laid;
       rises = rising_of h sorted (IsStrictlyIncreasing-from_distinct sorted (IsNonDecreasingBy-from_sort (λ x. x) sorted c.in_ok-sort.ensures.sorted)
-          (sorted_once shape c.args.words.items c.requires.0 c.requires.1 c.in_ok-order.order.items sorted (are (goal.at.returns-clause-rising c).In_ok-order c.requires.0 c.requires.1) c.in_ok-sort.ensures.permutation));
+          (sorted_once shape c.args.words.items c.requires.0 c.requires.1 c.in_ok-order.order.items sorted
+          (are (goal.at.returns-clause-rising c).In_ok-order c.requires.0 c.requires.1) c.in_ok-sort.ensures.permutation));
     })

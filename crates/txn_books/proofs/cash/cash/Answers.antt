@@ -16,7 +16,8 @@ pub returns-clause-told : goal.returns-clause-told
 returns-clause-told g c =
     let shape = c.args.shape.now in
     IfOk-weaker c.get.result _ _
-    (λ answer. leads_less g.W.Words g.W.Shape.Shape _ _ (Finds (tree_part (tree_of shape)) c.args.account answer) (Tells (Stands shape) (λ books. map.get books.accounts c.args.account) answer) (tells_cash shape c.args.account answer))
+    (λ answer. leads_less g.W.Words g.W.Shape.Shape _ _ (Finds (tree_part (tree_of shape)) c.args.account answer)
+    (Tells (Stands shape) (λ books. map.get books.accounts c.args.account) answer) (tells_cash shape c.args.account answer))
     (rw c.from.ensures at rw c.tree.ensures at c.get.ensures.found)
 
 pub returns-clause-range : goal.returns-clause-range
@@ -31,4 +32,5 @@ returns-clause-range g c =
 pub returns-clause-stands : goal.returns-clause-stands
 returns-clause-stands g c =
     let goes = c.get.ensures.goes_on in
-    IfOk-weaker c.get.result _ _ (λ answer. looked_stands g.W.Words g.W.Shape.Shape c.args.shape.now _ _ goes.shape goes.begins c.requires.stands _ answer) (returns-clause-told g c)
+    IfOk-weaker c.get.result _ _ (λ answer. looked_stands g.W.Words g.W.Shape.Shape c.args.shape.now _ _ goes.shape
+    goes.begins c.requires.stands _ answer) (returns-clause-told g c)

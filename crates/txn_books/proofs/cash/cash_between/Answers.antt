@@ -19,16 +19,20 @@ prove-unreachable-requires g c =
     let shape = c.args.shape.now in
     let goes = c.in_ok-total.ensures.goes_on in
     let sums = rw c.from.ensures at rw c.from-2.ensures at rw c.tree.ensures at c.in_ok-total.ensures.sum in
-    let some : SomeFits (g.W.Shape.Shape.word_count (g.W.Words.shape c.args.w.now)) (g.W.Shape.Shape.good (g.W.Words.shape c.args.w.now)) (g.W.Words.trace c.sum_range.new.w) =
+    let some : SomeFits (g.W.Shape.Shape.word_count (g.W.Words.shape c.args.w.now))
+    (g.W.Shape.Shape.good (g.W.Words.shape c.args.w.now)) (g.W.Words.trace c.sum_range.new.w) =
     some_at g.W.Shape.Shape.word_count g.W.Shape.Shape.good _ _ _ goes.shape (g.met.W.Words.fits c.sum_range.new.w goes.sound) in
-    let fits : c.in_ok-total.total < 2 ^ 64 = between_small shape c.args.low c.args.high c.in_ok-total.total _ _ (c.requires.stands.at some.0 (fits_begins _ _ _ _ some.0 goes.begins some.1)) (sums.at some.0 some.1) in
+    let fits : c.in_ok-total.total < 2 ^ 64 =
+    between_small shape c.args.low c.args.high c.in_ok-total.total _ _
+    (c.requires.stands.at some.0 (fits_begins _ _ _ _ some.0 goes.begins some.1)) (sums.at some.0 some.1) in
     omega (arith, fits, c.from-3.ensures, c.if-prove.true)
 
 pub returns-clause-told : goal.returns-clause-told
 returns-clause-told g c =
     let shape = c.args.shape.now in
     let sums = rw c.from.ensures at rw c.from-2.ensures at rw c.tree.ensures at c.in_ok-total.ensures.sum in
-    leads_less g.W.Words g.W.Shape.Shape _ _ (SumsRange (tree_part (tree_of shape)) c.args.low c.args.high c.in_ok-total.total) (Tells (Stands shape) (λ books. cash_between books c.args.low c.args.high) c.in_ok-total.total)
+    leads_less g.W.Words g.W.Shape.Shape _ _ (SumsRange (tree_part (tree_of shape)) c.args.low c.args.high
+    c.in_ok-total.total) (Tells (Stands shape) (λ books. cash_between books c.args.low c.args.high) c.in_ok-total.total)
     (tells_between shape c.args.low c.args.high c.in_ok-total.total) sums
 
 pub returns-clause-stands : goal.returns-clause-stands

@@ -13,7 +13,8 @@ returns-clause-opened g c =
     let put = rw c.from.ensures at rw c.tree.ensures at c.in_ok-put.ensures.put in
     let full = rw c.from.ensures at rw c.tree.ensures at c.in_ok-put.ensures.full in
     let frame = rw c.from.ensures at rw c.tree.ensures at c.in_ok-put.ensures.frame in
-    rw c.has_room.ensures (leads_when g.W.Words g.W.Shape.Shape _ _ _ _ _ c.in_ok-put.ensures.goes_on.begins c.requires.absent (account_opened shape c.args.account c.requires.account c.in_ok-put.put)
+    rw c.has_room.ensures (leads_when g.W.Words g.W.Shape.Shape _ _ _ _ _ c.in_ok-put.ensures.goes_on.begins
+    c.requires.absent (account_opened shape c.args.account c.requires.account c.in_ok-put.put)
     (leads_put g.W.Words g.W.Shape.Shape _ _ (tree_part (tree_of shape)) c.args.account 0 c.in_ok-put.put put full frame))
 
 pub returns-clause-stands : goal.returns-clause-stands

@@ -11,7 +11,8 @@ pub returns-clause-changed : goal.returns-clause-changed
 returns-clause-changed g c =
     let removed = rw c.from.ensures at rw c.tree.ensures at c.in_ok-remove.ensures.removed in
     let frame = rw c.from.ensures at rw c.tree.ensures at c.in_ok-remove.ensures.frame in
-    leads_when g.W.Words g.W.Shape.Shape _ _ _ _ _ c.in_ok-remove.ensures.goes_on.begins c.requires.nothing (account_removed c.args.shape.now c.args.account c.in_ok-remove.field-0)
+    leads_when g.W.Words g.W.Shape.Shape _ _ _ _ _ c.in_ok-remove.ensures.goes_on.begins c.requires.nothing
+    (account_removed c.args.shape.now c.args.account c.in_ok-remove.field-0)
     (leads_cut g.W.Words g.W.Shape.Shape _ _ (tree_part (tree_of c.args.shape.now)) c.args.account c.in_ok-remove.field-0 removed frame)
 
 pub returns-clause-stands : goal.returns-clause-stands

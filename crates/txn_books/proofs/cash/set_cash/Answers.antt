@@ -12,7 +12,8 @@ returns-clause-changed g c =
     let put = rw c.from.ensures at rw c.tree.ensures at c.in_ok-insert.ensures.put in
     let full = rw c.from.ensures at rw c.tree.ensures at c.in_ok-insert.ensures.full in
     let frame = rw c.from.ensures at rw c.tree.ensures at c.in_ok-insert.ensures.frame in
-    leads_when g.W.Words g.W.Shape.Shape _ _ _ _ _ c.in_ok-insert.ensures.goes_on.begins c.requires.account (account_set c.args.shape.now c.args.account c.args.amount c.requires.range c.in_ok-insert.field-0)
+    leads_when g.W.Words g.W.Shape.Shape _ _ _ _ _ c.in_ok-insert.ensures.goes_on.begins c.requires.account
+    (account_set c.args.shape.now c.args.account c.args.amount c.requires.range c.in_ok-insert.field-0)
     (leads_put g.W.Words g.W.Shape.Shape _ _ (tree_part (tree_of c.args.shape.now)) c.args.account c.args.amount c.in_ok-insert.field-0 put full frame)
 
 pub returns-clause-stands : goal.returns-clause-stands

@@ -18,24 +18,31 @@ loop-operation-init g c =
       sound = c.requires.ready.sound;
       left = omega (arith, ap (λ (ops : List Op). length ops) whole);
       each = subst (λ ops. All (IsOperationIn c.args.shape.now) ops) whole c.requires.range.each;
-      run = subst (λ values. Turned g.W.Words g.W.Shape.Shape c.args.shape.now c.args.w.now c.args.w.now (SoFar c.args.script.now values 1 (iter_rest c.into_iter-operation-iterator.result))) (sym c.new-values.ensures)
-          (subst (λ ops. Turned g.W.Words g.W.Shape.Shape c.args.shape.now c.args.w.now c.args.w.now (SoFar c.args.script.now [] 1 ops)) whole (run_begins c.args.w.now c.args.script.now));
+      run = subst (λ values. Turned g.W.Words g.W.Shape.Shape c.args.shape.now c.args.w.now c.args.w.now
+          (SoFar c.args.script.now values 1 (iter_rest c.into_iter-operation-iterator.result))) (sym c.new-values.ensures)
+          (subst (λ ops. Turned g.W.Words g.W.Shape.Shape c.args.shape.now c.args.w.now c.args.w.now
+          (SoFar c.args.script.now [] 1 ops)) whole (run_begins c.args.w.now c.args.script.now));
     }
 
 pub run_operation-requires-clause-stands : goal.run_operation-requires-clause-stands
 run_operation-requires-clause-stands g c = turned_stands c.loop-operation.invariant.run c.requires.stands
 
 -- the whole run, from the operation that is next
-from_here : (g : _) (c : In-Some g) → Turned g.W.Words g.W.Shape.Shape c.args.shape.now c.args.w.now c.loop-operation.w (SoFar c.args.script.now c.loop-operation.values c.loop-operation.number (c.in-Some.operation.now ∷ iter_rest c.next.new.self))
-from_here g c = subst (λ ops. Turned g.W.Words g.W.Shape.Shape c.args.shape.now c.args.w.now c.loop-operation.w (SoFar c.args.script.now c.loop-operation.values c.loop-operation.number ops)) c.in-Some.ensures.steps c.loop-operation.invariant.run
+from_here : (g : _) (c : In-Some g) → Turned g.W.Words g.W.Shape.Shape c.args.shape.now c.args.w.now c.loop-operation.w
+    (SoFar c.args.script.now c.loop-operation.values c.loop-operation.number (c.in-Some.operation.now ∷ iter_rest c.next.new.self))
+from_here g c = subst (λ ops. Turned g.W.Words g.W.Shape.Shape c.args.shape.now c.args.w.now c.loop-operation.w
+    (SoFar c.args.script.now c.loop-operation.values c.loop-operation.number ops)) c.in-Some.ensures.steps c.loop-operation.invariant.run
 
 pub returns-in-Declines-clause-runs : goal.returns-in-Declines-clause-runs
 returns-in-Declines-clause-runs g c =
-    run_declined c.args.script.now c.loop-operation.values c.loop-operation.number (iter_rest c.next.new.self) c.in_ok-value.ensures.goes_on (from_here g (goal.at.returns-in-Declines-clause-runs g c).In-Some) c.in_ok-value.ensures.step c.in-Declines.why c.in-Declines.is
+    run_declined c.args.script.now c.loop-operation.values c.loop-operation.number (iter_rest c.next.new.self)
+    c.in_ok-value.ensures.goes_on (from_here g (goal.at.returns-in-Declines-clause-runs g c).In-Some)
+    c.in_ok-value.ensures.step c.in-Declines.why c.in-Declines.is
 
 pub returns-in-FindsNoBlock-clause-runs : goal.returns-in-FindsNoBlock-clause-runs
 returns-in-FindsNoBlock-clause-runs g c =
-    run_full c.args.script.now c.loop-operation.values c.loop-operation.number (iter_rest c.next.new.self) c.in_ok-value.ensures.goes_on (from_here g (goal.at.returns-in-FindsNoBlock-clause-runs g c).In-Some) c.in_ok-value.ensures.step c.in-FindsNoBlock.is
+    run_full c.args.script.now c.loop-operation.values c.loop-operation.number (iter_rest c.next.new.self)
+    c.in_ok-value.ensures.goes_on (from_here g (goal.at.returns-in-FindsNoBlock-clause-runs g c).In-Some) c.in_ok-value.ensures.step c.in-FindsNoBlock.is
 
 pub loop-operation-preserved : goal.loop-operation-preserved
 loop-operation-preserved g c =
@@ -47,14 +54,20 @@ loop-operation-preserved g c =
       stop = goes.stops;
       sound = goes.sound;
       left = omega (arith, i.left, ap (λ (ops : List Op). length ops) c.in-Some.ensures.steps);
-      each = All-drop (IsOperationIn c.args.shape.now) 1 (c.in-Some.operation.now ∷ rest) (subst (λ ops. All (IsOperationIn c.args.shape.now) ops) c.in-Some.ensures.steps i.each);
-      run = subst (λ values. Turned g.W.Words g.W.Shape.Shape c.args.shape.now c.args.w.now c.run_operation.new.w (SoFar c.args.script.now values (c.loop-operation.number + 1) rest)) (sym c.in_ok-push-in-Gives.ensures.ok)
-          (run_gives c.args.script.now c.loop-operation.values c.loop-operation.number rest goes (from_here g (goal.at.loop-operation-preserved g c).In-Some) c.in_ok-value.ensures.step c.in-Gives.value c.in-Gives.is);
+      each = All-drop (IsOperationIn c.args.shape.now) 1 (c.in-Some.operation.now ∷ rest)
+          (subst (λ ops. All (IsOperationIn c.args.shape.now) ops) c.in-Some.ensures.steps i.each);
+      run = subst (λ values. Turned g.W.Words g.W.Shape.Shape c.args.shape.now c.args.w.now c.run_operation.new.w
+          (SoFar c.args.script.now values (c.loop-operation.number + 1) rest)) (sym c.in_ok-push-in-Gives.ensures.ok)
+          (run_gives c.args.script.now c.loop-operation.values c.loop-operation.number rest goes
+          (from_here g (goal.at.loop-operation-preserved g c).In-Some) c.in_ok-value.ensures.step c.in-Gives.value c.in-Gives.is);
     }
 
 pub returns-clause-runs : goal.returns-clause-runs
 returns-clause-runs g c =
-    run_ends c.loop-operation.values c.loop-operation.number (subst (λ ops. Turned g.W.Words g.W.Shape.Shape c.args.shape.now c.args.w.now c.loop-operation.w (SoFar c.args.script.now c.loop-operation.values c.loop-operation.number ops)) (nil_from_length _ c.in-None.ensures.steps.0) c.loop-operation.invariant.run)
+    run_ends c.loop-operation.values c.loop-operation.number
+    (subst (λ ops. Turned g.W.Words g.W.Shape.Shape c.args.shape.now c.args.w.now c.loop-operation.w
+    (SoFar c.args.script.now c.loop-operation.values c.loop-operation.number ops))
+    (nil_from_length _ c.in-None.ensures.steps.0) c.loop-operation.invariant.run)
 
 pub returns-clause-stands : goal.returns-clause-stands
 returns-clause-stands g c = turned_stands c.loop-operation.invariant.run c.requires.stands

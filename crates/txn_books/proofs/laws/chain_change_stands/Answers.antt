@@ -2,4 +2,5 @@ use Rattle.txn_books.proofs.Changes.{chain_change}
 use Rattle.txn_books.proofs.laws.chain_change_stands.Goals as goal
 
 pub returns : goal.returns
-returns c = λ old new books in_hand parts positions prices after free key held lists as_many kept. chain_change old new books in_hand parts positions prices after free key held lists as_many kept
+returns c = λ old new books in_hand parts positions prices after free key held lists as_many kept.
+    chain_change old new books in_hand parts positions prices after free key held lists as_many kept

@@ -19,7 +19,8 @@ pub lay_free-requires-clause-once : goal.lay_free-requires-clause-once
 lay_free-requires-clause-once c = rw (c.deref.ensures.value, c.in_ok-order.ensures) (all_once 0 c.args.shape.now.blocks)
 
 -- the words that were laid, and what they were
-kept : (c : After-lay_free) → take c.in_ok-words.words.len (c.lay_free.new.words ++ drop (length c.lay_free.new.words) c.in_ok-words.words.items) ≡ c.lay_free.new.words
+kept : (c : After-lay_free) → take c.in_ok-words.words.len (c.lay_free.new.words ++ drop (length c.lay_free.new.words)
+    c.in_ok-words.words.items) ≡ c.lay_free.new.words
 kept c =
     let long : c.in_ok-words.words.len ≡ length c.lay_free.new.words = omega (arith, c.deref_mut.ensures.len, c.lay_free.ensures.others.count) in
     ap (λ n. take n (c.lay_free.new.words ++ drop (length c.lay_free.new.words) c.in_ok-words.words.items)) long ∙ take-append_seam c.lay_free.new.words _
@@ -40,7 +41,8 @@ pub returns-clause-stands : goal.returns-clause-stands
 returns-clause-stands c =
     let d = (goal.at.returns-clause-stands c).After-lay_free in
     let shape = c.args.shape.now in
-    let others = subst (λ a. KeepsOthers (IsWrittenByLaying a c.deref.result.now) c.deref_mut.result.now c.lay_free.new.words) c.arena.ensures c.lay_free.ensures.others in
+    let others = subst (λ a. KeepsOthers (IsWrittenByLaying a c.deref.result.now) c.deref_mut.result.now
+    c.lay_free.new.words) c.arena.ensures c.lay_free.ensures.others in
     let free = subst (λ a. FreeListsHold a c.lay_free.new.words (set.from_list c.deref.result.now)) c.arena.ensures c.lay_free.ensures.free in
     subst (λ ws. Stands shape ws (empty_books shape.blocks shape.instruments shape.ring)) (sym (kept d))
     (empty_stands shape c.requires.blocks c.requires.instruments c.requires.ring c.deref_mut.result.now c.lay_free.new.words (zeros d)

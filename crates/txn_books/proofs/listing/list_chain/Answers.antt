@@ -26,19 +26,22 @@ loop-name-init c cells chain = record {
 
 pub block_of-requires-clause-block : goal.block_of-requires-clause-block
 block_of-requires-clause-block c =
-    (follows_below c.args.arena.now c.args.words.now c.loop-name.listed.items (c.args.listed.now.items ++ entries_in c.requires.chain.0) c.loop-name.name c.loop-name-test.true
+    (follows_below c.args.arena.now c.args.words.now c.loop-name.listed.items
+    (c.args.listed.now.items ++ entries_in c.requires.chain.0) c.loop-name.name c.loop-name-test.true
     (c.loop-name.invariant c.requires.chain.0 c.requires.chain.1)).0
 
 pub loop-name-smaller : goal.loop-name-smaller
 loop-name-smaller c =
     let cells : List Cell = c.requires.chain.0 in
     let room : length c.loop-name.listed.items + 1 ≤ length (c.args.listed.now.items ++ entries_in cells) =
-    (follows_below c.args.arena.now c.args.words.now c.loop-name.listed.items (c.args.listed.now.items ++ entries_in cells) c.loop-name.name c.loop-name-test.true
+    (follows_below c.args.arena.now c.args.words.now c.loop-name.listed.items
+    (c.args.listed.now.items ++ entries_in cells) c.loop-name.name c.loop-name-test.true
     (c.loop-name.invariant cells c.requires.chain.1)).1 in
     let whole : length (c.args.listed.now.items ++ entries_in cells) ≡ length c.args.listed.now.items + length cells =
     length-append c.args.listed.now.items (entries_in cells) ∙ ap (λ n. length c.args.listed.now.items + n) (length-map cells (λ d. (d.key, d.value))) in
     let few = c.requires.chain.2 in
-    let more : length c.push.new.self.items ≡ length c.loop-name.listed.items + 1 = ap length c.in_ok-push.ensures.items ∙ length-append c.loop-name.listed.items _ in
+    let more : length c.push.new.self.items ≡ length c.loop-name.listed.items + 1 = ap length c.in_ok-push.ensures.items
+    ∙ length-append c.loop-name.listed.items _ in
     omega (arith, room, whole, few, more)
 
 pub loop-name-preserved : goal.loop-name-preserved
@@ -47,8 +50,10 @@ loop-name-preserved c cells chain =
     rw c.in_ok-push.ensures.items
     (follows_next c.args.arena.now c.args.words.now c.loop-name.listed.items (c.args.listed.now.items ++ entries_in cells) c.loop-name.name
     (get_or c.block_of.result 0 0) (get_or c.block_of.result 1 0) (get_or c.block_of.result 2 0) c.loop-name-test.true
-    (ap (slice_get c.args.words.now) (let e : block_at c.args.arena.now (c.loop-name.name - 1) ≡ block_at c.args.arena.now (c.loop-name.name - 1) + 0 = omega arith in e) ∙ word 0 (omega arith))
+    (ap (slice_get c.args.words.now) (let e : block_at c.args.arena.now (c.loop-name.name - 1)
+    ≡ block_at c.args.arena.now (c.loop-name.name - 1) + 0 = omega arith in e) ∙ word 0 (omega arith))
     (word 1 (omega arith)) (word 2 (omega arith)) (c.loop-name.invariant cells chain))
 
 pub returns : goal.returns
-returns c cells chain = follows_none c.args.arena.now c.args.words.now c.loop-name.listed.items (c.args.listed.now.items ++ entries_in cells) c.loop-name.name c.loop-name-test.false (c.loop-name.invariant cells chain)
+returns c cells chain = follows_none c.args.arena.now c.args.words.now c.loop-name.listed.items
+    (c.args.listed.now.items ++ entries_in cells) c.loop-name.name c.loop-name-test.false (c.loop-name.invariant cells chain)

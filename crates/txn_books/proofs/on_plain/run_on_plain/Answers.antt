@@ -24,6 +24,8 @@ returns-in-Revert-clause-words c =
     let verdict = c.in_ok-verdict.verdict in
     let words = c.in_ok-copy.copy.items in
     let left = after c.in_ok-verdict.plain.trace words in
-    let means = subst (λ (job : ScriptOn). ScriptMeans job.shape job.script words (is_kept verdict) (answer_of verdict) left) c.new-job.ensures c.in_ok-verdict.ensures.meaning in
-    let here = subst (λ z. ScriptMeans c.args.shape.now c.args.script.now z (is_kept verdict) (answer_of verdict) left) (c.in_ok-copy.ensures.items ∙ c.deref.ensures.value) means in
+    let means = subst (λ (job : ScriptOn). ScriptMeans job.shape job.script words (is_kept verdict) (answer_of verdict)
+    left) c.new-job.ensures c.in_ok-verdict.ensures.meaning in
+    let here = subst (λ z. ScriptMeans c.args.shape.now c.args.script.now z (is_kept verdict) (answer_of verdict) left)
+    (c.in_ok-copy.ensures.items ∙ c.deref.ensures.value) means in
     refused_stands c.args.shape.now c.args.script.now c.args.words.now.items (is_kept verdict) (answer_of verdict) left here (ap is_kept c.in-Revert.is)

@@ -13,7 +13,8 @@ use Rattle.txn_books.proofs.operations.move_cash.Goals as goal
 
 pub returns-then-payer-payee : goal.returns-then-payer-payee
 returns-then-payer-payee g c = record {
-  step = answers (unlooked g.W.Words g.W.Shape.Shape c.args.shape.now _) (λ books sized none. move_same books c.args.payer c.args.payee c.args.amount c.if-payer-payee.true);
+  step = answers (unlooked g.W.Words g.W.Shape.Shape c.args.shape.now _) (λ books sized none.
+      move_same books c.args.payer c.args.payee c.args.amount c.if-payer-payee.true);
   stands = search rules;
   goes_on = search rules;
 }
@@ -30,8 +31,10 @@ returns-in_default g c = record {
 pub returns-in_default-2 : goal.returns-in_default-2
 returns-in_default-2 g c = record {
   step =
-      answers (look_then c.in_ok-gets.ensures.goes_on (looked c.in_ok-has.ensures.goes_on (rw c.in-Some.is at c.in_ok-has.ensures.told)) (rw c.in_default-2.is at c.in_ok-gets.ensures.told))
-      (λ books sized k. move_payee_absent books c.args.payer c.args.payee c.args.amount (λ same. omega (arith, same, c.if-payer-payee.false)) c.in-Some.has k.0 k.1);
+      answers (look_then c.in_ok-gets.ensures.goes_on
+      (looked c.in_ok-has.ensures.goes_on (rw c.in-Some.is at c.in_ok-has.ensures.told)) (rw c.in_default-2.is at c.in_ok-gets.ensures.told))
+      (λ books sized k. move_payee_absent books c.args.payer c.args.payee c.args.amount
+      (λ same. omega (arith, same, c.if-payer-payee.false)) c.in-Some.has k.0 k.1);
   stands = c.in_ok-gets.ensures.stands;
   goes_on = goes_as (goes_then c.in_ok-has.ensures.goes_on c.in_ok-gets.ensures.goes_on) (search rules);
 }
@@ -39,8 +42,10 @@ returns-in_default-2 g c = record {
 pub returns-then-has-amount : goal.returns-then-has-amount
 returns-then-has-amount g c = record {
   step =
-      answers (look_then c.in_ok-gets.ensures.goes_on (looked c.in_ok-has.ensures.goes_on (rw c.in-Some.is at c.in_ok-has.ensures.told)) (rw c.in-Some-2.is at c.in_ok-gets.ensures.told))
-      (λ books sized k. move_cash books c.args.payer c.args.payee c.args.amount (λ same. omega (arith, same, c.if-payer-payee.false)) c.in-Some.has c.in-Some-2.gets k.0 k.1 c.if-has-amount.true);
+      answers (look_then c.in_ok-gets.ensures.goes_on
+      (looked c.in_ok-has.ensures.goes_on (rw c.in-Some.is at c.in_ok-has.ensures.told)) (rw c.in-Some-2.is at c.in_ok-gets.ensures.told))
+      (λ books sized k. move_cash books c.args.payer c.args.payee c.args.amount
+      (λ same. omega (arith, same, c.if-payer-payee.false)) c.in-Some.has c.in-Some-2.gets k.0 k.1 c.if-has-amount.true);
   stands = c.in_ok-gets.ensures.stands;
   goes_on = goes_as (goes_then c.in_ok-has.ensures.goes_on c.in_ok-gets.ensures.goes_on) (search rules);
 }
@@ -48,30 +53,47 @@ returns-then-has-amount g c = record {
 pub returns-then-gets-amount-gt-GREATEST_CASH : goal.returns-then-gets-amount-gt-GREATEST_CASH
 returns-then-gets-amount-gt-GREATEST_CASH g c = record {
   step =
-      answers (look_then c.in_ok-gets.ensures.goes_on (looked c.in_ok-has.ensures.goes_on (rw c.in-Some.is at c.in_ok-has.ensures.told)) (rw c.in-Some-2.is at c.in_ok-gets.ensures.told))
-      (λ books sized k. move_limit books c.args.payer c.args.payee c.args.amount (λ same. omega (arith, same, c.if-payer-payee.false)) c.in-Some.has c.in-Some-2.gets k.0 k.1 c.if-has-amount.false c.if-gets-amount-gt-GREATEST_CASH.true);
+      answers (look_then c.in_ok-gets.ensures.goes_on
+      (looked c.in_ok-has.ensures.goes_on (rw c.in-Some.is at c.in_ok-has.ensures.told)) (rw c.in-Some-2.is at c.in_ok-gets.ensures.told))
+      (λ books sized k. move_limit books c.args.payer c.args.payee c.args.amount
+      (λ same. omega (arith, same, c.if-payer-payee.false)) c.in-Some.has c.in-Some-2.gets k.0 k.1
+      c.if-has-amount.false c.if-gets-amount-gt-GREATEST_CASH.true);
   stands = c.in_ok-gets.ensures.stands;
   goes_on = goes_as (goes_then c.in_ok-has.ensures.goes_on c.in_ok-gets.ensures.goes_on) (search rules);
 }
 
 pub set_cash-requires-clause-account : goal.set_cash-requires-clause-account
 set_cash-requires-clause-account g c =
-    each_looked (look_then c.in_ok-gets.ensures.goes_on (looked c.in_ok-has.ensures.goes_on (rw c.in-Some.is at c.in_ok-has.ensures.told)) (rw c.in-Some-2.is at c.in_ok-gets.ensures.told)) c.requires.stands (λ books sized k. subst IsSome k.0 refl)
+    each_looked (look_then c.in_ok-gets.ensures.goes_on
+    (looked c.in_ok-has.ensures.goes_on (rw c.in-Some.is at c.in_ok-has.ensures.told))
+    (rw c.in-Some-2.is at c.in_ok-gets.ensures.told)) c.requires.stands (λ books sized k. subst IsSome k.0 refl)
 
 pub set_cash-requires-2-clause-account : goal.set_cash-requires-2-clause-account
 set_cash-requires-2-clause-account g c =
-    each_turned (look_turn c.in_ok-set_cash.ensures.goes_on (look_then c.in_ok-gets.ensures.goes_on (looked c.in_ok-has.ensures.goes_on (rw c.in-Some.is at c.in_ok-has.ensures.told)) (rw c.in-Some-2.is at c.in_ok-gets.ensures.told)) (of_change c.in_ok-set_cash.ensures.changed)) c.requires.stands
-    (λ books after sized k. subst IsSome (k.0.1 ∙ sym (put_cash-apart books c.args.payer c.args.payee _ (λ same. omega (arith, same, c.if-payer-payee.false))) ∙ ap (λ books. map.get books.accounts c.args.payee) (sym k.1)) refl)
+    each_turned (look_turn c.in_ok-set_cash.ensures.goes_on
+    (look_then c.in_ok-gets.ensures.goes_on
+    (looked c.in_ok-has.ensures.goes_on (rw c.in-Some.is at c.in_ok-has.ensures.told))
+    (rw c.in-Some-2.is at c.in_ok-gets.ensures.told)) (of_change c.in_ok-set_cash.ensures.changed)) c.requires.stands
+    (λ books after sized k. subst IsSome (k.0.1
+    ∙ sym (put_cash-apart books c.args.payer c.args.payee _ (λ same. omega (arith, same, c.if-payer-payee.false)))
+    ∙ ap (λ books. map.get books.accounts c.args.payee) (sym k.1)) refl)
 
 pub returns : goal.returns
 returns g c = record {
   step =
-      comes (turn_then c.in_ok-set_cash-2.ensures.goes_on (look_turn c.in_ok-set_cash.ensures.goes_on (look_then c.in_ok-gets.ensures.goes_on (looked c.in_ok-has.ensures.goes_on (rw c.in-Some.is at c.in_ok-has.ensures.told)) (rw c.in-Some-2.is at c.in_ok-gets.ensures.told)) (of_change c.in_ok-set_cash.ensures.changed)) (of_change c.in_ok-set_cash-2.ensures.changed))
+      comes (turn_then c.in_ok-set_cash-2.ensures.goes_on
+      (look_turn c.in_ok-set_cash.ensures.goes_on
+      (look_then c.in_ok-gets.ensures.goes_on
+      (looked c.in_ok-has.ensures.goes_on (rw c.in-Some.is at c.in_ok-has.ensures.told))
+      (rw c.in-Some-2.is at c.in_ok-gets.ensures.told)) (of_change c.in_ok-set_cash.ensures.changed)) (of_change c.in_ok-set_cash-2.ensures.changed))
       (λ books after sized k.
-      let done = move_done books c.args.payer c.args.payee c.args.amount (λ same. omega (arith, same, c.if-payer-payee.false)) c.in-Some.has c.in-Some-2.gets k.1.0.0 k.1.0.1 c.if-has-amount.false c.if-gets-amount-gt-GREATEST_CASH.false in
+      let done = move_done books c.args.payer c.args.payee c.args.amount
+      (λ same. omega (arith, same, c.if-payer-payee.false)) c.in-Some.has c.in-Some-2.gets k.1.0.0 k.1.0.1
+      c.if-has-amount.false c.if-gets-amount-gt-GREATEST_CASH.false in
       done ∙ ap (Gives value.Done) (sym (k.2 ∙ ap (λ books. put_cash books c.args.payee (c.in-Some-2.gets + c.args.amount)) k.1.1)));
   stands = c.in_ok-set_cash-2.ensures.stands;
-  goes_on = goes_as (goes_then (goes_then (goes_then c.in_ok-has.ensures.goes_on c.in_ok-gets.ensures.goes_on) c.in_ok-set_cash.ensures.goes_on) c.in_ok-set_cash-2.ensures.goes_on) (search rules);
+  goes_on = goes_as (goes_then (goes_then (goes_then c.in_ok-has.ensures.goes_on c.in_ok-gets.ensures.goes_on)
+      c.in_ok-set_cash.ensures.goes_on) c.in_ok-set_cash-2.ensures.goes_on) (search rules);
 }
 
 pub returns-in_err-has : goal.returns-in_err-has
@@ -83,17 +105,21 @@ returns-in_err-has g c =
 pub returns-in_err-gets : goal.returns-in_err-gets
 returns-in_err-gets g c =
     let failed = c.from_residual-in_err-gets.ensures.0 in
-    let on : GoesOn g.W.Words c.args.w.now c.cash-2.new.w c.from_residual-in_err-gets.result = goes_as (goes_then c.in_ok-has.ensures.goes_on c.in_err-gets.ensures.goes_on) (search rules) in
+    let on : GoesOn g.W.Words c.args.w.now c.cash-2.new.w c.from_residual-in_err-gets.result =
+    goes_as (goes_then c.in_ok-has.ensures.goes_on c.in_err-gets.ensures.goes_on) (search rules) in
     search IfOk-from_err
 
 pub returns-in_err-set_cash : goal.returns-in_err-set_cash
 returns-in_err-set_cash g c =
     let failed = c.from_residual-in_err-set_cash.ensures.0 in
-    let on : GoesOn g.W.Words c.args.w.now c.set_cash.new.w c.from_residual-in_err-set_cash.result = goes_as (goes_then (goes_then c.in_ok-has.ensures.goes_on c.in_ok-gets.ensures.goes_on) c.in_err-set_cash.ensures.goes_on) (search rules) in
+    let on : GoesOn g.W.Words c.args.w.now c.set_cash.new.w c.from_residual-in_err-set_cash.result =
+    goes_as (goes_then (goes_then c.in_ok-has.ensures.goes_on c.in_ok-gets.ensures.goes_on) c.in_err-set_cash.ensures.goes_on) (search rules) in
     search IfOk-from_err
 
 pub returns-in_err-set_cash-2 : goal.returns-in_err-set_cash-2
 returns-in_err-set_cash-2 g c =
     let failed = c.from_residual-in_err-set_cash-2.ensures.0 in
-    let on : GoesOn g.W.Words c.args.w.now c.set_cash-2.new.w c.from_residual-in_err-set_cash-2.result = goes_as (goes_then (goes_then (goes_then c.in_ok-has.ensures.goes_on c.in_ok-gets.ensures.goes_on) c.in_ok-set_cash.ensures.goes_on) c.in_err-set_cash-2.ensures.goes_on) (search rules) in
+    let on : GoesOn g.W.Words c.args.w.now c.set_cash-2.new.w c.from_residual-in_err-set_cash-2.result =
+    goes_as (goes_then (goes_then (goes_then c.in_ok-has.ensures.goes_on c.in_ok-gets.ensures.goes_on)
+    c.in_ok-set_cash.ensures.goes_on) c.in_err-set_cash-2.ensures.goes_on) (search rules) in
     search IfOk-from_err

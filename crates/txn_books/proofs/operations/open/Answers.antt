@@ -21,7 +21,8 @@ returns-then-is_some g c = record {
 pub returns-then-not-branch : goal.returns-then-not-branch
 returns-then-not-branch g c = record {
   step =
-      comes (look_turn c.in_ok-open_account.ensures.goes_on (looked c.in_ok-cash.ensures.goes_on c.in_ok-cash.ensures.told) (of_room c.in_ok-open_account.ensures.opened))
+      comes (look_turn c.in_ok-open_account.ensures.goes_on
+      (looked c.in_ok-cash.ensures.goes_on c.in_ok-cash.ensures.told) (of_room c.in_ok-open_account.ensures.opened))
       (λ books after sized k. open_full books c.args.account _ _ k.0 (sym c.if-is_some.false ∙ c.is_some.ensures) k.1.0 c.if-not-branch.true);
   stands = c.in_ok-open_account.ensures.stands;
   goes_on = goes_as (goes_then c.in_ok-cash.ensures.goes_on c.in_ok-open_account.ensures.goes_on) (search rules);
@@ -30,8 +31,10 @@ returns-then-not-branch g c = record {
 pub returns : goal.returns
 returns g c = record {
   step =
-      comes (look_turn c.in_ok-open_account.ensures.goes_on (looked c.in_ok-cash.ensures.goes_on c.in_ok-cash.ensures.told) (of_room c.in_ok-open_account.ensures.opened))
-      (λ books after sized k. open_done books c.args.account _ _ k.0 (sym c.if-is_some.false ∙ c.is_some.ensures) k.1.0 c.if-not-branch.false ∙ ap (Gives value.Done) (left_with _ (λ books. put_cash books c.args.account 0) books after c.if-not-branch.false k.1.1));
+      comes (look_turn c.in_ok-open_account.ensures.goes_on
+      (looked c.in_ok-cash.ensures.goes_on c.in_ok-cash.ensures.told) (of_room c.in_ok-open_account.ensures.opened))
+      (λ books after sized k. open_done books c.args.account _ _ k.0 (sym c.if-is_some.false ∙ c.is_some.ensures) k.1.0
+      c.if-not-branch.false ∙ ap (Gives value.Done) (left_with _ (λ books. put_cash books c.args.account 0) books after c.if-not-branch.false k.1.1));
   stands = c.in_ok-open_account.ensures.stands;
   goes_on = goes_as (goes_then c.in_ok-cash.ensures.goes_on c.in_ok-open_account.ensures.goes_on) (search rules);
 }
@@ -45,5 +48,6 @@ returns-in_err-cash g c =
 pub returns-in_err-open_account : goal.returns-in_err-open_account
 returns-in_err-open_account g c =
     let failed = c.from_residual-in_err-open_account.ensures.0 in
-    let on : GoesOn g.W.Words c.args.w.now c.open_account.new.w c.from_residual-in_err-open_account.result = goes_as (goes_then c.in_ok-cash.ensures.goes_on c.in_err-open_account.ensures.goes_on) (search rules) in
+    let on : GoesOn g.W.Words c.args.w.now c.open_account.new.w c.from_residual-in_err-open_account.result =
+    goes_as (goes_then c.in_ok-cash.ensures.goes_on c.in_err-open_account.ensures.goes_on) (search rules) in
     search IfOk-from_err

@@ -14,4 +14,5 @@ returns-then-not-branch-clause-step g c =
 pub returns-clause-step : goal.returns-clause-step
 returns-clause-step g c =
     comes (turned c.in_ok-put_price.ensures.goes_on (of_room c.in_ok-put_price.ensures.priced))
-    (λ books after sized k. price_done books c.args.instrument c.args.price _ k.0 c.if-not-branch.false ∙ ap (Gives value.Done) (left_with _ (λ books. put_price books c.args.instrument c.args.price) books after c.if-not-branch.false k.1))
+    (λ books after sized k. price_done books c.args.instrument c.args.price _ k.0 c.if-not-branch.false
+    ∙ ap (Gives value.Done) (left_with _ (λ books. put_price books c.args.instrument c.args.price) books after c.if-not-branch.false k.1))

@@ -29,7 +29,8 @@ returns-then-held-amount g c = record {
 pub returns : goal.returns
 returns g c = record {
   step =
-      comes (look_turn c.in_ok-set_cash.ensures.goes_on (looked c.in_ok-held.ensures.goes_on (rw c.in-Some.is at c.in_ok-held.ensures.told)) (of_change c.in_ok-set_cash.ensures.changed))
+      comes (look_turn c.in_ok-set_cash.ensures.goes_on
+      (looked c.in_ok-held.ensures.goes_on (rw c.in-Some.is at c.in_ok-held.ensures.told)) (of_change c.in_ok-set_cash.ensures.changed))
       (λ books after sized k. withdraw_done books c.args.account c.args.amount c.in-Some.held k.0 c.if-held-amount.false ∙ ap (Gives value.Done) (sym k.1));
   stands = c.in_ok-set_cash.ensures.stands;
   goes_on = goes_as (goes_then c.in_ok-held.ensures.goes_on c.in_ok-set_cash.ensures.goes_on) (search rules);
@@ -44,5 +45,6 @@ returns-in_err-held g c =
 pub returns-in_err-set_cash : goal.returns-in_err-set_cash
 returns-in_err-set_cash g c =
     let failed = c.from_residual-in_err-set_cash.ensures.0 in
-    let on : GoesOn g.W.Words c.args.w.now c.set_cash.new.w c.from_residual-in_err-set_cash.result = goes_as (goes_then c.in_ok-held.ensures.goes_on c.in_err-set_cash.ensures.goes_on) (search rules) in
+    let on : GoesOn g.W.Words c.args.w.now c.set_cash.new.w c.from_residual-in_err-set_cash.result =
+    goes_as (goes_then c.in_ok-held.ensures.goes_on c.in_err-set_cash.ensures.goes_on) (search rules) in
     search IfOk-from_err

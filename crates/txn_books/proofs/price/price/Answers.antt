@@ -17,7 +17,8 @@ returns-clause-told g c =
     let shape = c.args.shape.now in
     let i = c.args.instrument in
     IfOk-weaker c.get.result _ _
-    (λ answer. leads_less g.W.Words g.W.Shape.Shape _ _ (Finds (chain_part (chains_of shape)) (price_key_of i) answer) (Tells (Stands shape) (λ books. map.get books.prices i) answer) (tells_price shape i c.requires.instrument answer))
+    (λ answer. leads_less g.W.Words g.W.Shape.Shape _ _ (Finds (chain_part (chains_of shape)) (price_key_of i) answer)
+    (Tells (Stands shape) (λ books. map.get books.prices i) answer) (tells_price shape i c.requires.instrument answer))
     (rw c.price_key.ensures at rw c.chains.ensures at c.get.ensures.found)
 
 pub returns-clause-range : goal.returns-clause-range
@@ -32,4 +33,5 @@ returns-clause-range g c =
 pub returns-clause-stands : goal.returns-clause-stands
 returns-clause-stands g c =
     let goes = c.get.ensures.goes_on in
-    IfOk-weaker c.get.result _ _ (λ answer. looked_stands g.W.Words g.W.Shape.Shape c.args.shape.now _ _ goes.shape goes.begins c.requires.stands _ answer) (returns-clause-told g c)
+    IfOk-weaker c.get.result _ _ (λ answer. looked_stands g.W.Words g.W.Shape.Shape c.args.shape.now _ _ goes.shape
+    goes.begins c.requires.stands _ answer) (returns-clause-told g c)

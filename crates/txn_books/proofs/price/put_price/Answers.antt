@@ -13,7 +13,8 @@ returns-clause-priced g c =
     let put = rw c.price_key.ensures at rw c.chains.ensures at c.in_ok-put.ensures.put in
     let full = rw c.price_key.ensures at rw c.chains.ensures at c.in_ok-put.ensures.full in
     let frame = rw c.price_key.ensures at rw c.chains.ensures at c.in_ok-put.ensures.frame in
-    rw c.has_room.ensures (leads_less g.W.Words g.W.Shape.Shape _ _ _ _ (price_put shape c.args.instrument c.requires.instrument c.args.price c.requires.range c.in_ok-put.put)
+    rw c.has_room.ensures (leads_less g.W.Words g.W.Shape.Shape _ _ _ _
+    (price_put shape c.args.instrument c.requires.instrument c.args.price c.requires.range c.in_ok-put.put)
     (leads_put g.W.Words g.W.Shape.Shape _ _ (chain_part (chains_of shape)) (price_key_of c.args.instrument) c.args.price c.in_ok-put.put put full frame))
 
 pub returns-clause-stands : goal.returns-clause-stands

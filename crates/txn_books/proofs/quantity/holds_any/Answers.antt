@@ -17,17 +17,25 @@ pub returns-then-is_some-clause-told : goal.returns-then-is_some-clause-told
 returns-then-is_some-clause-told g c =
     let shape = c.args.shape.now in
     let i = c.loop-instrument.invariant in
-    let here = saw_told g.W.Words g.W.Shape.Shape shape _ _ (λ books. map.get books.positions (c.args.account, c.loop-instrument.instrument)) c.in_ok-quantity.field-0 c.in_ok-quantity.ensures.told in
-    told_saw g.W.Words g.W.Shape.Shape shape _ _ (λ books. holds_any books c.args.account) true (λ books. true ≡ holds_any books c.args.account) (λ books sized k. k)
+    let here = saw_told g.W.Words g.W.Shape.Shape shape _ _ (λ books. map.get books.positions (
+      c.args.account,
+      c.loop-instrument.instrument,
+    )) c.in_ok-quantity.field-0 c.in_ok-quantity.ensures.told in
+    told_saw g.W.Words g.W.Shape.Shape shape _ _ (λ books. holds_any books c.args.account) true (λ books. true
+    ≡ holds_any books c.args.account) (λ books sized k. k)
     (saw_then g.W.Words g.W.Shape.Shape shape _ _ _ _ _ _ i.shape c.in_ok-quantity.ensures.goes_on.begins
-    (λ books sized none found. holds_one books c.args.account c.loop-instrument.instrument c.in_ok-quantity.field-0 found (sym c.is_some.ensures ∙ c.if-is_some.true)) i.none here)
+    (λ books sized none found. holds_one books c.args.account c.loop-instrument.instrument c.in_ok-quantity.field-0
+    found (sym c.is_some.ensures ∙ c.if-is_some.true)) i.none here)
 
 pub loop-instrument-preserved : goal.loop-instrument-preserved
 loop-instrument-preserved g c =
     let shape = c.args.shape.now in
     let i = c.loop-instrument.invariant in
     let goes = c.in_ok-quantity.ensures.goes_on in
-    let here = saw_told g.W.Words g.W.Shape.Shape shape _ _ (λ books. map.get books.positions (c.args.account, c.loop-instrument.instrument)) c.in_ok-quantity.field-0 c.in_ok-quantity.ensures.told in
+    let here = saw_told g.W.Words g.W.Shape.Shape shape _ _ (λ books. map.get books.positions (
+      c.args.account,
+      c.loop-instrument.instrument,
+    )) c.in_ok-quantity.field-0 c.in_ok-quantity.ensures.told in
     record {
       shape = goes.shape ∙ i.shape;
       origin = goes.origin ∙ i.origin;
@@ -40,7 +48,8 @@ loop-instrument-preserved g c =
             | inl before ↦ none j from before
             | inr past ↦
                 let same : c.loop-instrument.instrument ≡ j = omega (arith, past, below) in
-                let absent : map.get books.positions (c.args.account, c.loop-instrument.instrument) ≡ None = sym found ∙ none_of c.in_ok-quantity.field-0 (sym c.is_some.ensures ∙ c.if-is_some.false) in
+                let absent : map.get books.positions (c.args.account, c.loop-instrument.instrument) ≡ None = sym found
+                ∙ none_of c.in_ok-quantity.field-0 (sym c.is_some.ensures ∙ c.if-is_some.false) in
                 subst (λ k. map.get books.positions (c.args.account, k) ≡ None) same absent
           ]) i.none here;
     }
@@ -50,7 +59,13 @@ returns-clause-told g c =
     let i = c.loop-instrument.invariant in
     told_saw g.W.Words g.W.Shape.Shape c.args.shape.now _ _ (λ books. holds_any books c.args.account) false _
     (λ books sized none. sym (holds_nothing books c.args.account sized.1
-    (λ j from below. none j from (omega (arith, below, ap (λ z. z.instruments) sized.0, c.loop-instrument-test.false, c.loop-instrument.auto.instrument-end))))) i.none
+    (λ j from below. none j from (omega (
+      arith,
+      below,
+      ap (λ z. z.instruments) sized.0,
+      c.loop-instrument-test.false,
+      c.loop-instrument.auto.instrument-end,
+    ))))) i.none
 
 pub returns-clause-stands : goal.returns-clause-stands
 returns-clause-stands g c =

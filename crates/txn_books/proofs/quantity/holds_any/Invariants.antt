@@ -16,5 +16,6 @@ invariant-loop-instrument g l =
       stop : words.stop l.w ≡ None;
       sound : words.is_sound l.w;
       from : 1 ≤ l.instrument;
-      none : LeadsTo words g.W.Shape.Shape l.fn.w l.w (Saw l.shape (λ books. (j : ℕ) → 1 ≤ j → j < l.instrument → map.get books.positions (l.account, j) ≡ None));
+      none : LeadsTo words g.W.Shape.Shape l.fn.w l.w (Saw l.shape (λ books. (j : ℕ) → 1 ≤ j → j < l.instrument
+          → map.get books.positions (l.account, j) ≡ None));
     }

@@ -17,7 +17,9 @@ pub returns-clause-told : goal.returns-clause-told
 returns-clause-told g c =
     let shape = c.args.shape.now in
     IfOk-weaker c.get.result _ _
-    (λ answer. leads_less g.W.Words g.W.Shape.Shape _ _ (Finds (chain_part (chains_of shape)) (position_key_of c.args.account c.args.instrument) answer) (Tells (Stands shape) (λ books. map.get books.positions (c.args.account, c.args.instrument)) answer)
+    (λ answer. leads_less g.W.Words g.W.Shape.Shape _ _
+    (Finds (chain_part (chains_of shape)) (position_key_of c.args.account c.args.instrument) answer)
+    (Tells (Stands shape) (λ books. map.get books.positions (c.args.account, c.args.instrument)) answer)
     (tells_quantity shape c.args.account c.args.instrument c.requires.account c.requires.instrument answer))
     (rw c.position_key.ensures at rw c.chains.ensures at c.get.ensures.found)
 
@@ -33,9 +35,11 @@ returns-clause-range g c =
 pub returns-clause-stands : goal.returns-clause-stands
 returns-clause-stands g c =
     let goes = c.get.ensures.goes_on in
-    IfOk-weaker c.get.result _ _ (λ answer. looked_stands g.W.Words g.W.Shape.Shape c.args.shape.now _ _ goes.shape goes.begins c.requires.stands _ answer) (returns-clause-told g c)
+    IfOk-weaker c.get.result _ _ (λ answer. looked_stands g.W.Words g.W.Shape.Shape c.args.shape.now _ _ goes.shape
+    goes.begins c.requires.stands _ answer) (returns-clause-told g c)
 
 pub position_key-requires : goal.position_key-requires
 position_key-requires g c =
-    let some = in_some g.W.Words g.W.Shape.Shape c.args.w.now (IsGoodFor c.args.shape.now) (g.met.W.Words.fits c.args.w.now c.requires.ready.sound) c.requires.stands in
+    let some = in_some g.W.Words g.W.Shape.Shape c.args.w.now (IsGoodFor c.args.shape.now)
+    (g.met.W.Words.fits c.args.w.now c.requires.ready.sound) c.requires.stands in
     record { instrument = (c.requires.instrument.0, omega (arith, c.requires.instrument.1, instruments_most c.args.shape.now some.0 some.1)) }

@@ -28,7 +28,9 @@ loop-instrument-preserved g c =
     let shape = c.args.shape.now in
     let i = c.loop-instrument.invariant in
     let goes = c.in_ok-total.ensures.goes_on in
-    let here = saw_told g.W.Words g.W.Shape.Shape shape _ _ (λ books. position_of books c.args.account c.loop-instrument.instrument * price_of books c.loop-instrument.instrument) c.in_ok-total.field-0 c.in_ok-total.ensures.told in
+    let here = saw_told g.W.Words g.W.Shape.Shape shape _ _
+    (λ books. position_of books c.args.account c.loop-instrument.instrument * price_of books
+    c.loop-instrument.instrument) c.in_ok-total.field-0 c.in_ok-total.ensures.told in
     record {
       shape = goes.shape ∙ i.shape;
       origin = goes.origin ∙ i.origin;
@@ -46,7 +48,8 @@ returns-clause-told g c =
     let i = c.loop-instrument.invariant in
     told_saw g.W.Words g.W.Shape.Shape c.args.shape.now _ _ (λ books. worth_of books c.args.account) c.loop-instrument.total _
     (λ books sized so_far.
-    let last : c.loop-instrument.instrument ≡ books.instruments + 1 = omega (arith, c.loop-instrument-test.false, c.loop-instrument.auto.instrument-end, ap (λ z. z.instruments) sized.0) in
+    let last : c.loop-instrument.instrument ≡ books.instruments + 1 =
+    omega (arith, c.loop-instrument-test.false, c.loop-instrument.auto.instrument-end, ap (λ z. z.instruments) sized.0) in
     so_far ∙ ap (worth_below books c.args.account) last ∙ worth_last books c.args.account sized.1) i.worth
 
 pub returns-clause-stands : goal.returns-clause-stands

@@ -16,7 +16,9 @@ overflow_cast-result g c =
     let shape = c.args.shape.now in
     let goes = c.in_ok-pop.ensures.goes_on in
     let popped = rw c.queue.ensures at rw c.in-Some.is at c.in_ok-pop.ensures.popped in
-    let each = state_after g.W.Words g.W.Shape.Shape _ _ (IsGoodFor shape) (λ _. IsCall (c.in-Some.account, c.in-Some.shortfall)) (Pops (queue_of shape) (Some (c.in-Some.account, c.in-Some.shortfall))) goes.shape goes.begins c.requires.stands popped
+    let each = state_after g.W.Words g.W.Shape.Shape _ _ (IsGoodFor shape)
+    (λ _. IsCall (c.in-Some.account, c.in-Some.shortfall))
+    (Pops (queue_of shape) (Some (c.in-Some.account, c.in-Some.shortfall))) goes.shape goes.begins c.requires.stands popped
     (front_is_call shape (c.in-Some.account, c.in-Some.shortfall)) in
     let call : IsCall (c.in-Some.account, c.in-Some.shortfall) = (in_some g.W.Words g.W.Shape.Shape _ _ (g.met.W.Words.fits c.pop.new.w goes.sound) each).1 in
     omega (arith, call.0.1)
@@ -26,7 +28,8 @@ returns-in-None-clause-taken g c =
     let shape = c.args.shape.now in
     let popped = rw c.queue.ensures at rw c.in-None.is at c.in_ok-pop.ensures.popped in
     let none = rw c.queue.ensures at rw c.in-None.is at c.in_ok-pop.ensures.none in
-    leads_less g.W.Words g.W.Shape.Shape _ _ _ _ (λ x y k. front_lacking shape x y k.0 k.1) (leads_both g.W.Words g.W.Shape.Shape _ _ (λ before _. IsEmpty (queue_of shape) before) (Pops (queue_of shape) None) none popped)
+    leads_less g.W.Words g.W.Shape.Shape _ _ _ _ (λ x y k. front_lacking shape x y k.0 k.1)
+    (leads_both g.W.Words g.W.Shape.Shape _ _ (λ before _. IsEmpty (queue_of shape) before) (Pops (queue_of shape) None) none popped)
 
 pub returns-in-None-clause-stands : goal.returns-in-None-clause-stands
 returns-in-None-clause-stands g c =

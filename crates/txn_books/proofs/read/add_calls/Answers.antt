@@ -11,7 +11,8 @@ overflow_cast-account c =
 
 pub add_call-requires-clause-call : goal.add_call-requires-clause-call
 add_call-requires-clause-call c =
-    call_range c.args.ring.now c.args.words.now c.args.books.now c.requires.0 c.requires.1 c.loop-number.number c.queued-account.result (c.queued-account.ensures c.requires.0.calls c.requires.1.queue)
+    call_range c.args.ring.now c.args.words.now c.args.books.now c.requires.0 c.requires.1 c.loop-number.number
+    c.queued-account.result (c.queued-account.ensures c.requires.0.calls c.requires.1.queue)
 
 pub add_call-requires-clause-room : goal.add_call-requires-clause-room
 add_call-requires-clause-room c =
@@ -23,7 +24,8 @@ pub loop-number-preserved : goal.loop-number-preserved
 loop-number-preserved c after adds =
     c.in_ok-add_call.ensures.ok
     ∙ ap (λ b. put_call b c.queued-account.result.0 c.queued-account.result.1) (c.loop-number.invariant after adds)
-    ∙ call_next c.args.ring.now c.args.words.now c.args.books.now after adds c.loop-number.number c.queued-account.result (c.queued-account.ensures after.calls adds.queue)
+    ∙ call_next c.args.ring.now c.args.words.now c.args.books.now after adds c.loop-number.number
+    c.queued-account.result (c.queued-account.ensures after.calls adds.queue)
 
 pub returns : goal.returns
 returns c after adds =

@@ -10,11 +10,13 @@ overflow_cast-account c =
     rw c.from-instruments.ensures (omega (arith, most))
 
 pub add_position-requires-clause-account : goal.add_position-requires-clause-account
-add_position-requires-clause-account c = rw c.from-instruments.ensures (position_at c.args.entries.now c.loop-key.key-index c.loop-key.books c.requires.0 c.loop-key-test.true
+add_position-requires-clause-account c =
+    rw c.from-instruments.ensures (position_at c.args.entries.now c.loop-key.key-index c.loop-key.books c.requires.0 c.loop-key-test.true
     (no_price _ (omega (arith, c.if-key-instruments.true, c.from-instruments.ensures))) (c.loop-key.invariant c.requires.0 c.requires.1)).owner
 
 pub add_position-requires-clause-price : goal.add_position-requires-clause-price
-add_position-requires-clause-price c = rw c.from-instruments.ensures (position_at c.args.entries.now c.loop-key.key-index c.loop-key.books c.requires.0 c.loop-key-test.true
+add_position-requires-clause-price c =
+    rw c.from-instruments.ensures (position_at c.args.entries.now c.loop-key.key-index c.loop-key.books c.requires.0 c.loop-key-test.true
     (no_price _ (omega (arith, c.if-key-instruments.true, c.from-instruments.ensures))) (c.loop-key.invariant c.requires.0 c.requires.1)).price
 
 pub add_position-requires-clause-quantity : goal.add_position-requires-clause-quantity

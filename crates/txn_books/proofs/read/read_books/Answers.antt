@@ -10,10 +10,17 @@ use Rattle.txn_books.proofs.read.read_books.Goals as goal
 use Rattle.txn_books.proofs.read.read_books.Goals.{After-deref, After-deref-2, After-deref-3}
 
 pub tree_entries-requires : goal.tree_entries-requires
-tree_entries-requires c = record { held = subst (λ z. HasMap (tree_part z) c.args.words.now) (sym c.tree.ensures) (has_tree c.args.shape.now c.args.words.now c.requires.good.0 c.requires.good.1) }
+tree_entries-requires c = record {
+  held =
+      subst (λ z. HasMap (tree_part z) c.args.words.now) (sym c.tree.ensures) (has_tree c.args.shape.now c.args.words.now c.requires.good.0 c.requires.good.1);
+}
 
 pub chain_entries-requires : goal.chain_entries-requires
-chain_entries-requires c = record { held = subst (λ z. HasMap (chain_part z) c.args.words.now) (sym c.chains.ensures) (has_chains c.args.shape.now c.args.words.now c.requires.good.0 c.requires.good.1) }
+chain_entries-requires c = record {
+  held =
+      subst (λ z. HasMap (chain_part z) c.args.words.now) (sym c.chains.ensures)
+      (has_chains c.args.shape.now c.args.words.now c.requires.good.0 c.requires.good.1);
+}
 
 -- the stages, of the books that the words stand for
 first : (c : After-deref) → AddsAccounts c.deref.result.now c.new-books.result (with_accounts c.requires.good.0)

@@ -19,38 +19,66 @@ pub set_quantity-requires-clause-price : goal.set_quantity-requires-clause-price
 set_quantity-requires-clause-price g c = record { at = λ s fit books stand. (c.requires.may.at s fit books stand).price }
 
 pub set_quantity-requires-2-clause-account : goal.set_quantity-requires-2-clause-account
-set_quantity-requires-2-clause-account g c = each_turned (has_sold c.requires.may c.in_ok-set_quantity.ensures.goes_on c.in_ok-set_quantity.ensures.held) c.requires.stands
+set_quantity-requires-2-clause-account g c =
+    each_turned (has_sold c.requires.may c.in_ok-set_quantity.ensures.goes_on c.in_ok-set_quantity.ensures.held) c.requires.stands
     (λ books after sized k. subst (λ z. IsSome (map.get z.accounts c.args.buys.account)) (sym k.1) k.0.buyer)
 
 pub set_quantity-requires-2-clause-price : goal.set_quantity-requires-2-clause-price
-set_quantity-requires-2-clause-price g c = each_turned (has_sold c.requires.may c.in_ok-set_quantity.ensures.goes_on c.in_ok-set_quantity.ensures.held) c.requires.stands
+set_quantity-requires-2-clause-price g c =
+    each_turned (has_sold c.requires.may c.in_ok-set_quantity.ensures.goes_on c.in_ok-set_quantity.ensures.held) c.requires.stands
     (λ books after sized k. subst (λ z. IsSome (map.get z.prices c.args.instrument)) (sym k.1) k.0.price)
 
 pub returns-then-not-branch : goal.returns-then-not-branch
 returns-then-not-branch g c = record {
   exchanged =
-      exchanges (turned_less (has_bought (has_sold c.requires.may c.in_ok-set_quantity.ensures.goes_on c.in_ok-set_quantity.ensures.held) c.in_ok-set_quantity-2.ensures.goes_on c.in_ok-set_quantity-2.ensures.held)
-      (λ books after sized k. (sym c.if-not-branch.true ∙ k.1, k.2 ∙ ap (λ t. if t then put_position (sold c.args.instrument c.args.sells books) c.args.buys.account c.args.instrument c.args.buys.held else sold c.args.instrument c.args.sells books) c.if-not-branch.true)));
+      exchanges (turned_less (has_bought (has_sold c.requires.may c.in_ok-set_quantity.ensures.goes_on
+      c.in_ok-set_quantity.ensures.held) c.in_ok-set_quantity-2.ensures.goes_on c.in_ok-set_quantity-2.ensures.held)
+      (λ books after sized k. (
+        sym c.if-not-branch.true ∙ k.1,
+        k.2
+            ∙ ap (λ t. if t then put_position (sold c.args.instrument c.args.sells books) c.args.buys.account
+            c.args.instrument c.args.buys.held else sold c.args.instrument c.args.sells books) c.if-not-branch.true,
+      )));
   stands = c.in_ok-set_quantity-2.ensures.stands;
   goes_on = goes_as (goes_then c.in_ok-set_quantity.ensures.goes_on c.in_ok-set_quantity-2.ensures.goes_on) (search rules);
 }
 
 pub set_cash-requires-clause-account : goal.set_cash-requires-clause-account
-set_cash-requires-clause-account g c = each_turned (turned_less (has_bought (has_sold c.requires.may c.in_ok-set_quantity.ensures.goes_on c.in_ok-set_quantity.ensures.held) c.in_ok-set_quantity-2.ensures.goes_on c.in_ok-set_quantity-2.ensures.held) (λ books after sized k. bought (c.args.instrument) c.args.buys c.args.sells books after _ c.if-not-branch.false k)) c.requires.stands
+set_cash-requires-clause-account g c =
+    each_turned (turned_less (has_bought (has_sold c.requires.may c.in_ok-set_quantity.ensures.goes_on
+    c.in_ok-set_quantity.ensures.held) c.in_ok-set_quantity-2.ensures.goes_on c.in_ok-set_quantity-2.ensures.held)
+    (λ books after sized k. bought (c.args.instrument) c.args.buys c.args.sells books after _ c.if-not-branch.false k)) c.requires.stands
     (λ books after sized k. subst (λ z. IsSome (map.get z.accounts c.args.buys.account)) (sym k.2) k.0.buyer)
 
 pub set_cash-requires-2-clause-account : goal.set_cash-requires-2-clause-account
-set_cash-requires-2-clause-account g c = each_turned (turn_then c.in_ok-set_cash.ensures.goes_on (turned_less (has_bought (has_sold c.requires.may c.in_ok-set_quantity.ensures.goes_on c.in_ok-set_quantity.ensures.held) c.in_ok-set_quantity-2.ensures.goes_on c.in_ok-set_quantity-2.ensures.held) (λ books after sized k. bought (c.args.instrument) c.args.buys c.args.sells books after _ c.if-not-branch.false k)) (of_change c.in_ok-set_cash.ensures.changed)) c.requires.stands
-    (λ books last sized k. subst (λ z. IsSome (map.get z.accounts c.args.sells.account)) (sym (k.2 ∙ ap (λ z. put_cash z c.args.buys.account c.args.buys.cash) k.1.2))
+set_cash-requires-2-clause-account g c =
+    each_turned (turn_then c.in_ok-set_cash.ensures.goes_on
+    (turned_less (has_bought (has_sold c.requires.may c.in_ok-set_quantity.ensures.goes_on
+    c.in_ok-set_quantity.ensures.held) c.in_ok-set_quantity-2.ensures.goes_on c.in_ok-set_quantity-2.ensures.held)
+    (λ books after sized k. bought (c.args.instrument) c.args.buys c.args.sells books after _ c.if-not-branch.false k))
+    (of_change c.in_ok-set_cash.ensures.changed)) c.requires.stands
+    (λ books last sized k. subst (λ z. IsSome (map.get z.accounts c.args.sells.account))
+    (sym (k.2 ∙ ap (λ z. put_cash z c.args.buys.account c.args.buys.cash) k.1.2))
     (stays_after_insert nat_cmp_total books.accounts c.args.buys.account c.args.sells.account c.args.buys.cash k.1.0.seller))
 
 pub returns : goal.returns
 returns g c = record {
   exchanged =
-      exchanges (turned_less (turn_then c.in_ok-set_cash-2.ensures.goes_on (turn_then c.in_ok-set_cash.ensures.goes_on (turned_less (has_bought (has_sold c.requires.may c.in_ok-set_quantity.ensures.goes_on c.in_ok-set_quantity.ensures.held) c.in_ok-set_quantity-2.ensures.goes_on c.in_ok-set_quantity-2.ensures.held) (λ books after sized k. bought (c.args.instrument) c.args.buys c.args.sells books after _ c.if-not-branch.false k)) (of_change c.in_ok-set_cash.ensures.changed)) (of_change c.in_ok-set_cash-2.ensures.changed))
-      (λ books last sized k. (k.1.1.1, k.2 ∙ ap (λ z. put_cash z c.args.sells.account c.args.sells.cash) (k.1.2 ∙ ap (λ z. put_cash z c.args.buys.account c.args.buys.cash) k.1.1.2))));
+      exchanges (turned_less (turn_then c.in_ok-set_cash-2.ensures.goes_on
+      (turn_then c.in_ok-set_cash.ensures.goes_on
+      (turned_less (has_bought (has_sold c.requires.may c.in_ok-set_quantity.ensures.goes_on
+      c.in_ok-set_quantity.ensures.held) c.in_ok-set_quantity-2.ensures.goes_on c.in_ok-set_quantity-2.ensures.held)
+      (λ books after sized k. bought (c.args.instrument) c.args.buys c.args.sells books after _
+      c.if-not-branch.false k)) (of_change c.in_ok-set_cash.ensures.changed)) (of_change c.in_ok-set_cash-2.ensures.changed))
+      (λ books last sized k. (
+        k.1.1.1,
+        k.2 ∙ ap (λ z. put_cash z c.args.sells.account c.args.sells.cash) (k.1.2
+            ∙ ap (λ z. put_cash z c.args.buys.account c.args.buys.cash) k.1.1.2),
+      )));
   stands = c.in_ok-set_cash-2.ensures.stands;
-  goes_on = goes_as (goes_then (goes_then (goes_then c.in_ok-set_quantity.ensures.goes_on c.in_ok-set_quantity-2.ensures.goes_on) c.in_ok-set_cash.ensures.goes_on) c.in_ok-set_cash-2.ensures.goes_on) (search rules);
+  goes_on = goes_as (goes_then (goes_then
+      (goes_then c.in_ok-set_quantity.ensures.goes_on c.in_ok-set_quantity-2.ensures.goes_on)
+      c.in_ok-set_cash.ensures.goes_on) c.in_ok-set_cash-2.ensures.goes_on) (search rules);
 }
 
 pub returns-in_err-set_quantity : goal.returns-in_err-set_quantity
@@ -62,17 +90,22 @@ returns-in_err-set_quantity g c =
 pub returns-in_err-set_quantity-2 : goal.returns-in_err-set_quantity-2
 returns-in_err-set_quantity-2 g c =
     let failed = c.from_residual-in_err-set_quantity-2.ensures.0 in
-    let on : GoesOn g.W.Words c.args.w.now c.set_quantity-2.new.w c.from_residual-in_err-set_quantity-2.result = goes_as (goes_then c.in_ok-set_quantity.ensures.goes_on c.in_err-set_quantity-2.ensures.goes_on) (search rules) in
+    let on : GoesOn g.W.Words c.args.w.now c.set_quantity-2.new.w c.from_residual-in_err-set_quantity-2.result =
+    goes_as (goes_then c.in_ok-set_quantity.ensures.goes_on c.in_err-set_quantity-2.ensures.goes_on) (search rules) in
     search IfOk-from_err
 
 pub returns-in_err-set_cash : goal.returns-in_err-set_cash
 returns-in_err-set_cash g c =
     let failed = c.from_residual-in_err-set_cash.ensures.0 in
-    let on : GoesOn g.W.Words c.args.w.now c.set_cash.new.w c.from_residual-in_err-set_cash.result = goes_as (goes_then (goes_then c.in_ok-set_quantity.ensures.goes_on c.in_ok-set_quantity-2.ensures.goes_on) c.in_err-set_cash.ensures.goes_on) (search rules) in
+    let on : GoesOn g.W.Words c.args.w.now c.set_cash.new.w c.from_residual-in_err-set_cash.result =
+    goes_as (goes_then (goes_then c.in_ok-set_quantity.ensures.goes_on c.in_ok-set_quantity-2.ensures.goes_on)
+    c.in_err-set_cash.ensures.goes_on) (search rules) in
     search IfOk-from_err
 
 pub returns-in_err-set_cash-2 : goal.returns-in_err-set_cash-2
 returns-in_err-set_cash-2 g c =
     let failed = c.from_residual-in_err-set_cash-2.ensures.0 in
-    let on : GoesOn g.W.Words c.args.w.now c.set_cash-2.new.w c.from_residual-in_err-set_cash-2.result = goes_as (goes_then (goes_then (goes_then c.in_ok-set_quantity.ensures.goes_on c.in_ok-set_quantity-2.ensures.goes_on) c.in_ok-set_cash.ensures.goes_on) c.in_err-set_cash-2.ensures.goes_on) (search rules) in
+    let on : GoesOn g.W.Words c.args.w.now c.set_cash-2.new.w c.from_residual-in_err-set_cash-2.result =
+    goes_as (goes_then (goes_then (goes_then c.in_ok-set_quantity.ensures.goes_on
+    c.in_ok-set_quantity-2.ensures.goes_on) c.in_ok-set_cash.ensures.goes_on) c.in_err-set_cash-2.ensures.goes_on) (search rules) in
     search IfOk-from_err

@@ -17,7 +17,8 @@ returns g c =
     let i = c.args.instrument in
     record {
       told =
-          tells (look_then c.in_ok-quantity.ensures.goes_on (looked c.in_ok-cash.ensures.goes_on (rw c.in-Some.is at c.in_ok-cash.ensures.told)) c.in_ok-quantity.ensures.told)
+          tells (look_then c.in_ok-quantity.ensures.goes_on
+          (looked c.in_ok-cash.ensures.goes_on (rw c.in-Some.is at c.in_ok-cash.ensures.told)) c.in_ok-quantity.ensures.told)
           (λ books sized k.
           let held : c.unwrap_or-held.result ≡ position_of books a i = c.unwrap_or-held.ensures ∙ ap (λ o. unwrap_or o 0) k.1 in
           ap (λ h. side_found a c.in-Some.cash h) held ∙ ap (side_with books a i) k.0);
@@ -43,5 +44,6 @@ returns-in_err-cash g c =
 pub returns-in_err-quantity : goal.returns-in_err-quantity
 returns-in_err-quantity g c =
     let failed = c.from_residual-in_err-quantity.ensures.0 in
-    let on : GoesOn g.W.Words c.args.w.now c.quantity.new.w c.from_residual-in_err-quantity.result = goes_as (goes_then c.in_ok-cash.ensures.goes_on c.in_err-quantity.ensures.goes_on) (search rules) in
+    let on : GoesOn g.W.Words c.args.w.now c.quantity.new.w c.from_residual-in_err-quantity.result =
+    goes_as (goes_then c.in_ok-cash.ensures.goes_on c.in_err-quantity.ensures.goes_on) (search rules) in
     search IfOk-from_err

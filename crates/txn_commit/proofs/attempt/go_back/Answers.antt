@@ -8,7 +8,8 @@ use Rattle.txn_commit.proofs.attempt.go_back.Goals as goal
 pub loop-place-init : goal.loop-place-init
 loop-place-init g c =
     let trace = c.args.pass.now.view.trace in
-    let count : length c.args.undo.now.list ≡ count_writes trace = noted_count g.S.Shape.word_count g.S.Shape.good c.args.desk.now c.args.began.now.value c.args.pass.now c.args.undo.now None c.requires.sound in
+    let count : length c.args.undo.now.list ≡ count_writes trace =
+    noted_count g.S.Shape.word_count g.S.Shape.good c.args.desk.now c.args.began.now.value c.args.pass.now c.args.undo.now None c.requires.sound in
     let place : c.len-place.result ≡ count_writes trace = c.len-place.ensures ∙ count in record {
       to = omega (arith, place, c.requires.mark);
       place = omega (arith, place);
@@ -23,7 +24,8 @@ loop-place-init g c =
 pub put_back-requires : goal.put_back-requires
 put_back-requires g c =
     let inv = c.loop-place.invariant in
-    let stays : c.loop-place.place ≤ count_writes c.loop-place.pass.view.trace = mark_stays c.args.pass.now.view.trace c.loop-place.pass.view.trace c.loop-place.place inv.back.begins inv.place in
+    let stays : c.loop-place.place ≤ count_writes c.loop-place.pass.view.trace =
+    mark_stays c.args.pass.now.view.trace c.loop-place.pass.view.trace c.loop-place.place inv.back.begins inv.place in
     let more : c.args.to < c.loop-place.place = c.loop-place-test.true in
     record { place = omega (arith, stays, more); sound = inv.sound }
 
@@ -40,7 +42,8 @@ loop-place-preserved g c =
       place = omega (arith, under);
       sound = c.put_back.ensures.sound;
       back =
-          one_more_back (g.S.Shape.word_count c.args.desk.now.shape) (g.S.Shape.good c.args.desk.now.shape) (c.loop-place.place - 1) c.loop-place.place start old.view.trace new.view.trace next lt inv.back
+          one_more_back (g.S.Shape.word_count c.args.desk.now.shape) (g.S.Shape.good c.args.desk.now.shape)
+          (c.loop-place.place - 1) c.loop-place.place start old.view.trace new.view.trace next lt inv.back
           (of_made c.put_back.result made c.put_back.ensures.back) c.put_back.ensures.sound.fits;
       events = did_more c.args.pass.now.view old.view new.view inv.events c.put_back.ensures.events;
       spare = omega (arith, more, inv.spare, c.put_back.ensures.spare);
@@ -70,7 +73,8 @@ returns g c =
     record {
       back =
           all_back (g.S.Shape.word_count c.args.desk.now.shape) (g.S.Shape.good c.args.desk.now.shape) c.args.to start c.loop-place.pass.view.trace
-          (subst (λ (i : ℕ). GoneBack (g.S.Shape.word_count c.args.desk.now.shape) (g.S.Shape.good c.args.desk.now.shape) i start c.loop-place.pass.view.trace) end inv.back);
+          (subst (λ (i : ℕ). GoneBack (g.S.Shape.word_count c.args.desk.now.shape)
+          (g.S.Shape.good c.args.desk.now.shape) i start c.loop-place.pass.view.trace) end inv.back);
       begins = inv.back.begins;
       sound = inv.sound;
       events = inv.events;

@@ -8,20 +8,24 @@ use Rattle.history_model.specs.Views.{number, HasWriteGrant}
 use Rattle.undo_log.specs.Room.{Room}
 use Rattle.txn_commit.specs.declared.attempt.TheConstants.{UNDO_ROOM}
 use Rattle.txn_commit.specs.Attempts.{IsSound}
-use Rattle.txn_commit.proofs.Attempts.{asks_none, did_load, did_store, held_sound, loaded_last, noted_count, noted_granted, noted_there, noted_within, of_made, of_refused, refused_when_full, store_sound}
+use Rattle.txn_commit.proofs.Attempts.{asks_none, did_load, did_store, held_sound, loaded_last, noted_count, noted_granted, noted_there, noted_within, of_made}
+use Rattle.txn_commit.proofs.Attempts.{of_refused, refused_when_full, store_sound}
 use Rattle.txn_commit.proofs.attempt.put_back.Goals as goal
 
 pub at-a-requires : goal.at-a-requires
 at-a-requires g c =
     let pass = c.args.pass.now in
-    let counts : length c.args.undo.now.list ≡ count_writes pass.view.trace = noted_count g.S.Shape.word_count g.S.Shape.good c.args.desk.now c.args.began.now.value pass c.args.undo.now None c.requires.sound in
+    let counts : length c.args.undo.now.list ≡ count_writes pass.view.trace =
+    noted_count g.S.Shape.word_count g.S.Shape.good c.args.desk.now c.args.began.now.value pass c.args.undo.now None c.requires.sound in
     omega (arith, counts, c.requires.place)
 
 pub load-now-requires : goal.load-now-requires
 load-now-requires g c =
     let pass = c.args.pass.now in let sound = c.requires.sound in let a = c.at-a.result.0 in
-    let within = noted_within g.S.Shape.word_count g.S.Shape.good c.args.desk.now c.args.began.now.value pass c.args.undo.now None sound c.args.place a c.at-a.result.1 c.at-a.ensures in
-    let grant = noted_granted g.S.Shape.word_count g.S.Shape.good c.args.desk.now c.args.began.now.value pass c.args.undo.now None sound c.args.place a c.at-a.result.1 c.at-a.ensures in
+    let within = noted_within g.S.Shape.word_count g.S.Shape.good c.args.desk.now c.args.began.now.value pass
+    c.args.undo.now None sound c.args.place a c.at-a.result.1 c.at-a.ensures in
+    let grant = noted_granted g.S.Shape.word_count g.S.Shape.good c.args.desk.now c.args.began.now.value pass
+    c.args.undo.now None sound c.args.place a c.at-a.result.1 c.at-a.ensures in
     record {
       desk = sound.table;
       phase = sound.stands.phase;
@@ -32,9 +36,12 @@ load-now-requires g c =
 pub store-requires : goal.store-requires
 store-requires g c =
     let pass = c.args.pass.now in let sound = c.requires.sound in let a = c.at-a.result.0 in
-    let within = noted_within g.S.Shape.word_count g.S.Shape.good c.args.desk.now c.args.began.now.value pass c.args.undo.now None sound c.args.place a c.at-a.result.1 c.at-a.ensures in
-    let grant = noted_granted g.S.Shape.word_count g.S.Shape.good c.args.desk.now c.args.began.now.value pass c.args.undo.now None sound c.args.place a c.at-a.result.1 c.at-a.ensures in
-    let held = held_sound g.S.Shape.word_count g.S.Shape.good c.args.desk.now c.args.began.now.value a c.load-now.result pass pass c.load-now.new.pass c.args.undo.now None
+    let within = noted_within g.S.Shape.word_count g.S.Shape.good c.args.desk.now c.args.began.now.value pass
+    c.args.undo.now None sound c.args.place a c.at-a.result.1 c.at-a.ensures in
+    let grant = noted_granted g.S.Shape.word_count g.S.Shape.good c.args.desk.now c.args.began.now.value pass
+    c.args.undo.now None sound c.args.place a c.at-a.result.1 c.at-a.ensures in
+    let held = held_sound g.S.Shape.word_count g.S.Shape.good c.args.desk.now c.args.began.now.value a c.load-now.result
+    pass pass c.load-now.new.pass c.args.undo.now None
     refl sound refl (asks_none a pass.view) sound.judged refl c.load-now.ensures.desk c.load-now.ensures.event c.load-now.ensures.fits in
     record {
       desk = held.table;
@@ -47,26 +54,32 @@ store-requires g c =
 pub returns : goal.returns
 returns g c =
     let pass = c.args.pass.now in let sound = c.requires.sound in let a = c.at-a.result.0 in let was = c.at-a.result.1 in let x = c.load-now.result in
-    let within = noted_within g.S.Shape.word_count g.S.Shape.good c.args.desk.now c.args.began.now.value pass c.args.undo.now None sound c.args.place a was c.at-a.ensures in
-    let grant = noted_granted g.S.Shape.word_count g.S.Shape.good c.args.desk.now c.args.began.now.value pass c.args.undo.now None sound c.args.place a was c.at-a.ensures in
+    let within = noted_within g.S.Shape.word_count g.S.Shape.good c.args.desk.now c.args.began.now.value pass
+    c.args.undo.now None sound c.args.place a was c.at-a.ensures in
+    let grant = noted_granted g.S.Shape.word_count g.S.Shape.good c.args.desk.now c.args.began.now.value pass
+    c.args.undo.now None sound c.args.place a was c.at-a.ensures in
     let held = held_sound g.S.Shape.word_count g.S.Shape.good c.args.desk.now c.args.began.now.value a x pass pass c.load-now.new.pass c.args.undo.now None
     refl sound refl (asks_none a pass.view) sound.judged refl c.load-now.ensures.desk c.load-now.ensures.event c.load-now.ensures.fits in
     let last = loaded_last a x pass.view c.load-now.new.pass.view c.load-now.ensures.event in
     let made = sym c.if-is_err.ensures.value in
     let written : c.store.new.pass.view.trace ≡ pass.view.trace ++ Read a x ∷ Write a was ∷ [] =
-    ap (λ (v : View). v.trace) c.store.ensures.step ∙ ap (λ (t : Trace). t ++ Write a was ∷ []) last ∙ append_assoc pass.view.trace (Read a x ∷ []) (Write a was ∷ []) in
+    ap (λ (v : View). v.trace) c.store.ensures.step ∙ ap (λ (t : Trace). t ++ Write a was ∷ []) last
+    ∙ append_assoc pass.view.trace (Read a x ∷ []) (Write a was ∷ []) in
     record {
       back = record {
         a = a;
         was = was;
         within = within;
-        note = noted_there g.S.Shape.word_count g.S.Shape.good c.args.desk.now c.args.began.now.value pass c.args.undo.now None sound c.args.place a was c.at-a.ensures;
+        note = noted_there g.S.Shape.word_count g.S.Shape.good c.args.desk.now c.args.began.now.value pass
+            c.args.undo.now None sound c.args.place a was c.at-a.ensures;
         ends = inr (x, written);
       };
       begins = (Read a x ∷ Write a was ∷ [], written);
       sound =
-          store_sound g.S.Shape.word_count g.S.Shape.good c.args.desk.now c.args.began.now.value a was x pass.view.trace c.load-now.new.pass c.store.new.pass c.args.undo.now c.note.new.self
-          held within (subst (λ (v : View). HasWriteGrant v (lock_of_word a)) (sym c.load-now.ensures.event) grant) last c.store.ensures.desk c.store.ensures.step (c.store.ensures.noted pass.view.trace x last)
+          store_sound g.S.Shape.word_count g.S.Shape.good c.args.desk.now c.args.began.now.value a was x pass.view.trace
+          c.load-now.new.pass c.store.new.pass c.args.undo.now c.note.new.self
+          held within (subst (λ (v : View). HasWriteGrant v (lock_of_word a)) (sym c.load-now.ensures.event) grant) last
+          c.store.ensures.desk c.store.ensures.step (c.store.ensures.noted pass.view.trace x last)
           (of_made c.note.result made c.note.ensures.ok) (of_made c.note.result made c.note.ensures.spare);
       events =
           did_store (number c.load-now.new.pass.view) a was pass.view c.load-now.new.pass.view c.store.new.pass.view
@@ -90,7 +103,8 @@ returns-then-is_err g c =
     record {
       back = tt;
       begins = (Read a x ∷ [], last);
-      sound = subst (λ (log : Room). IsSound g.S.Shape.word_count g.S.Shape.good c.args.desk.now c.args.began.now.value c.load-now.new.pass log None) (sym same) held;
+      sound = subst (λ (log : Room). IsSound g.S.Shape.word_count g.S.Shape.good c.args.desk.now c.args.began.now.value
+          c.load-now.new.pass log None) (sym same) held;
       events = did_load (pass.view.trace ++ Read a x ∷ []) pass.view pass.view c.load-now.new.pass.view refl c.load-now.ensures.event;
       full = subst (λ (log : Room). UNDO_ROOM ≤ length log.list) (sym same) many;
       memory = full;

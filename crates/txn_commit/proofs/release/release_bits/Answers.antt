@@ -1,11 +1,14 @@
 use Rattle.std.proofs.Common.{◌∙◌}
 use Rattle.history_model.specs.Views.{number, HasBit}
-use Rattle.txn_commit.proofs.Releasing.{at_next, near_next, least_from, least_below, claims_stay, releases_more, bit_cleared, bits_without, still_undone, still_begun}
+use Rattle.txn_commit.proofs.Releasing.{at_next, near_next, least_from, least_below, claims_stay, releases_more, bit_cleared, bits_without, still_undone}
+use Rattle.txn_commit.proofs.Releasing.{still_begun}
 use Rattle.txn_commit.proofs.release.release_bits.Goals as goal
 
 pub unshare-requires-clause-bit : goal.unshare-requires-clause-bit
-unshare-requires-clause-bit g c = let inv = c.loop-next.invariant in
-    (near_next c.loop-next.next c.in-Some.lock c.in-Some.is inv.near, at_next (HasBit c.loop-next.pass.view) c.loop-next.next c.in-Some.lock c.in-Some.is inv.least)
+unshare-requires-clause-bit g c = let inv = c.loop-next.invariant in (
+  near_next c.loop-next.next c.in-Some.lock c.in-Some.is inv.near,
+  at_next (HasBit c.loop-next.pass.view) c.loop-next.next c.in-Some.lock c.in-Some.is inv.least,
+)
 
 pub loop-next-preserved : goal.loop-next-preserved
 loop-next-preserved g c = let inv = c.loop-next.invariant in let old = c.loop-next.pass.view in let new = c.unshare.new.pass.view in
@@ -17,6 +20,7 @@ loop-next-preserved g c = let inv = c.loop-next.invariant in let old = c.loop-ne
       begun = still_begun old new step inv.begun;
       near = c.next_bit_from-next.ensures.lock;
       least = least_from (HasBit new) c.in-Some.lock c.next_bit_from-next.result
-          (λ k lt h. least_below (HasBit old) c.loop-next.next c.in-Some.lock c.in-Some.is inv.least k lt (bits_without old new (number old) c.in-Some.lock k c.unshare.ensures.step h))
+          (λ k lt h. least_below (HasBit old) c.loop-next.next c.in-Some.lock c.in-Some.is inv.least k lt
+          (bits_without old new (number old) c.in-Some.lock k c.unshare.ensures.step h))
           c.next_bit_from-next.ensures.least;
     }

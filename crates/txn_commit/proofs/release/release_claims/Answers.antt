@@ -4,8 +4,10 @@ use Rattle.txn_commit.proofs.Releasing.{at_next, near_next, least_from, least_be
 use Rattle.txn_commit.proofs.release.release_claims.Goals as goal
 
 pub unclaim-requires-clause-claim : goal.unclaim-requires-clause-claim
-unclaim-requires-clause-claim g c = let inv = c.loop-next.invariant in
-    (near_next c.loop-next.next c.in-Some.lock c.in-Some.is inv.near, at_next (HasClaim c.loop-next.pass.view) c.loop-next.next c.in-Some.lock c.in-Some.is inv.least)
+unclaim-requires-clause-claim g c = let inv = c.loop-next.invariant in (
+  near_next c.loop-next.next c.in-Some.lock c.in-Some.is inv.near,
+  at_next (HasClaim c.loop-next.pass.view) c.loop-next.next c.in-Some.lock c.in-Some.is inv.least,
+)
 
 pub loop-next-preserved : goal.loop-next-preserved
 loop-next-preserved g c = let inv = c.loop-next.invariant in let old = c.loop-next.pass.view in let new = c.unclaim.new.pass.view in
@@ -16,6 +18,7 @@ loop-next-preserved g c = let inv = c.loop-next.invariant in let old = c.loop-ne
       begun = still_begun old new step inv.begun;
       near = c.next_claim_from-next.ensures.lock;
       least = least_from (HasClaim new) c.in-Some.lock c.next_claim_from-next.result
-          (λ k lt h. least_below (HasClaim old) c.loop-next.next c.in-Some.lock c.in-Some.is inv.least k lt (claims_without old new (number old) c.in-Some.lock k c.unclaim.ensures.step h))
+          (λ k lt h. least_below (HasClaim old) c.loop-next.next c.in-Some.lock c.in-Some.is inv.least k lt
+          (claims_without old new (number old) c.in-Some.lock k c.unclaim.ensures.step h))
           c.next_claim_from-next.ensures.least;
     }

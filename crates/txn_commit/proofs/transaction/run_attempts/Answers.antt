@@ -63,10 +63,13 @@ floor_after_undo : (old new : View) → Undoes old new → new.floor ≡ old.flo
 floor_after_undo old new undone = ap (λ (v : View). v.floor) undone.some.rest
 
 footprint_undone : (old new : View) → Undoes old new → LeavesFootprint old → LeavesFootprint new
-footprint_undone old new undone = footprint_same old new (ap (λ (v : View). v.trace) undone.some.rest) (ap (λ (v : View). v.abandoned) undone.some.rest) (ap (λ (v : View). v.meetings) undone.some.rest) (ap (λ (v : View). v.asked) undone.some.rest)
+footprint_undone old new undone =
+    footprint_same old new (ap (λ (v : View). v.trace) undone.some.rest)
+    (ap (λ (v : View). v.abandoned) undone.some.rest) (ap (λ (v : View). v.meetings) undone.some.rest) (ap (λ (v : View). v.asked) undone.some.rest)
 
 reads_undone : (good : List ℕ → Type 0) (n : ℕ) (base : List ℕ) (old new : View) → Undoes old new → ReadsHistory good n base old → ReadsHistory good n base new
-reads_undone good n base old new undone = still_reads good n base old new (ap (λ (v : View). v.seen) undone.some.rest) (ap (λ (v : View). v.trace) undone.some.rest)
+reads_undone good n base old new undone = still_reads good n base old new (ap (λ (v : View). v.seen) undone.some.rest)
+    (ap (λ (v : View). v.trace) undone.some.rest)
 
 memory_not_yield : {A : Type 0} (r : Result A Stop) → r ≡ Err stop.Memory → r ≡ Err stop.Yield → ⊥
 memory_not_yield (Ok x) m y = cc
@@ -79,45 +82,62 @@ runs_at_memory n (Some (halt.Yield cause)) began now not s = absurd (not refl)
 runs_at_memory n (Some halt.Memory) began now not s = s.phase
 
 pub returns-in-Ok : goal.returns-in-Ok
-returns-in-Ok g c = let inv = c.loop-restarts.invariant in let first = c.args.attempt.now.pass.now.view in let at = c.loop-restarts.attempt in let ran = c.run.new.w in
-    let same = ran_on first ran.began.value at.began.value at.pass.now ran.pass.now.view inv.call (same_pass ran.desk.now at.desk.now ran.pass.ghost_name at.pass.ghost_name ran.began.value at.began.value c.run.ensures.origin) inv.began c.run.ensures.sound.call in
-    let runs = still_runs ran.desk.now.seats ran.halt ran.began.value.view ran.pass.now.view (not_halted ran.halt (c.in-Ok.ensures.done)) c.run.ensures.sound.stands in
+returns-in-Ok g c = let inv = c.loop-restarts.invariant in let first = c.args.attempt.now.pass.now.view in let at =
+    c.loop-restarts.attempt in let ran = c.run.new.w in
+    let same = ran_on first ran.began.value at.began.value at.pass.now ran.pass.now.view inv.call
+    (same_pass ran.desk.now at.desk.now ran.pass.ghost_name at.pass.ghost_name ran.began.value at.began.value
+    c.run.ensures.origin) inv.began c.run.ensures.sound.call in
+    let runs = still_runs ran.desk.now.seats ran.halt ran.began.value.view ran.pass.now.view
+    (not_halted ran.halt (c.in-Ok.ensures.done)) c.run.ensures.sound.stands in
     let desk = same_desk ran.desk.now at.desk.now ran.pass.ghost_name at.pass.ghost_name ran.began.value at.began.value c.run.ensures.origin ∙ inv.desk in
     let shape = ap (λ d. d.shape) desk ∙ sym c.requires.job in
     let commits = c.settle-serial.ensures.entry in
     let new = c.settle-serial.new.attempt.pass.now.view in
     record {
-      name = c.settle-serial.ensures.name ∙ (same_name ran.desk.now at.desk.now ran.pass.ghost_name at.pass.ghost_name ran.began.value at.began.value c.run.ensures.origin ∙ inv.name);
+      name = c.settle-serial.ensures.name
+          ∙ (same_name ran.desk.now at.desk.now ran.pass.ghost_name at.pass.ghost_name ran.began.value at.began.value c.run.ensures.origin ∙ inv.name);
       desk = c.settle-serial.ensures.desk ∙ same_table ran.desk.now c.args.attempt.now.desk.now desk;
       seat = seat_after_commit first ran.pass.now.view new commits.history c.decision-kept.result.0 commits.view same.seat;
       call = call_after_commit ran.pass.now.view new commits.history c.decision-kept.result.0 commits.view ∙ (same.call ∙ c.requires.call);
       undone = undone_by_commit ran.pass.now.view new commits.history c.decision-kept.result.0 commits.view;
       entry =
-          gets_entry (g.S.Shape.word_count ran.desk.now.shape) (g.S.Shape.good ran.desk.now.shape) c.args.attempt.now.desk.now.base (g.J.Job.means c.args.job.now) c.decision-kept.result.0 c.args.call first ran.pass.now.view c.settle-serial.new.attempt.pass.now.view
+          gets_entry (g.S.Shape.word_count ran.desk.now.shape) (g.S.Shape.good ran.desk.now.shape)
+          c.args.attempt.now.desk.now.base (g.J.Job.means c.args.job.now) c.decision-kept.result.0 c.args.call first
+          ran.pass.now.view c.settle-serial.new.attempt.pass.now.view
           (record { serial = c.settle-serial.result; call = c.args.call; restarts = c.loop-restarts.restarts; answer = c.decision-kept.result.1 })
           same c.requires.floor c.requires.call
-          (subst (λ d. CommitsAt (g.S.Shape.word_count ran.desk.now.shape) (g.S.Shape.good ran.desk.now.shape) d.base c.decision-kept.result.0 ran.pass.now.view c.settle-serial.new.attempt.pass.now.view c.settle-serial.result) desk c.settle-serial.ensures.entry)
+          (subst (λ d. CommitsAt (g.S.Shape.word_count ran.desk.now.shape) (g.S.Shape.good ran.desk.now.shape) d.base
+          c.decision-kept.result.0 ran.pass.now.view c.settle-serial.new.attempt.pass.now.view c.settle-serial.result) desk c.settle-serial.ensures.entry)
           refl
-          (ap (λ (l : List Abandoned). length l) runs.abandoned ∙ (ap (λ (p : PassView). length p.view.abandoned) (same_pass ran.desk.now at.desk.now ran.pass.ghost_name at.pass.ghost_name ran.began.value at.began.value c.run.ensures.origin ∙ inv.began) ∙ inv.restarts))
-          (meant (g.J.Job.means c.args.job.now) g.S.Shape.word_count g.S.Shape.good ran.desk.now.shape (g.J.Job.shape c.args.job.now) ran.pass.now.view.trace (is_kept c.in-Ok.verdict) c.decision-kept.result.0 (answer_of c.in-Ok.verdict) c.decision-kept.result.1
+          (ap (λ (l : List Abandoned). length l) runs.abandoned
+          ∙ (ap (λ (p : PassView). length p.view.abandoned) (same_pass ran.desk.now at.desk.now ran.pass.ghost_name
+          at.pass.ghost_name ran.began.value at.began.value c.run.ensures.origin ∙ inv.began) ∙ inv.restarts))
+          (meant (g.J.Job.means c.args.job.now) g.S.Shape.word_count g.S.Shape.good ran.desk.now.shape
+          (g.J.Job.shape c.args.job.now) ran.pass.now.view.trace (is_kept c.in-Ok.verdict) c.decision-kept.result.0
+          (answer_of c.in-Ok.verdict) c.decision-kept.result.1
           shape c.decision-kept.ensures.kept c.decision-kept.ensures.answer c.in-Ok.ensures.meaning);
       legal =
-          subst (λ d. IsLegalHistory (IsGood (g.S.Shape.word_count d.shape) (g.S.Shape.good d.shape)) d.seats d.base new.seen) desk c.settle-serial.ensures.legal;
+          subst (λ d. IsLegalHistory (IsGood (g.S.Shape.word_count d.shape) (g.S.Shape.good d.shape)) d.seats d.base
+          new.seen) desk c.settle-serial.ensures.legal;
       few = subst (λ (n : ℕ). n < c.args.attempt.now.desk.now.seats) inv.restarts inv.few;
       committed = phase_after_commit ran.pass.now.view new commits.history c.decision-kept.result.0 commits.view;
       others = search rules;
       floor = search rules;
       given_up = search rules;
       footprint =
-          commits_footprint c.decision-kept.result.0 commits.history ran.pass.now.view new (ap (λ (v : View). v.seen) commits.view) (ap (λ (v : View). v.asked) commits.view) (ap (λ (v : View). v.meetings) commits.view)
+          commits_footprint c.decision-kept.result.0 commits.history ran.pass.now.view new
+          (ap (λ (v : View). v.seen) commits.view) (ap (λ (v : View). v.asked) commits.view) (ap (λ (v : View). v.meetings) commits.view)
           c.run.ensures.sound.footprint;
       left = search rules;
       last = search rules;
     }
 
 pub returns-in-Err-Memory : goal.returns-in-Err-Memory
-returns-in-Err-Memory g c = let inv = c.loop-restarts.invariant in let first = c.args.attempt.now.pass.now.view in let at = c.loop-restarts.attempt in let ran = c.run.new.w in
-    let same = ran_on first ran.began.value at.began.value at.pass.now ran.pass.now.view inv.call (same_pass ran.desk.now at.desk.now ran.pass.ghost_name at.pass.ghost_name ran.began.value at.began.value c.run.ensures.origin) inv.began c.run.ensures.sound.call in
+returns-in-Err-Memory g c = let inv = c.loop-restarts.invariant in let first = c.args.attempt.now.pass.now.view in
+    let at = c.loop-restarts.attempt in let ran = c.run.new.w in
+    let same = ran_on first ran.began.value at.began.value at.pass.now ran.pass.now.view inv.call
+    (same_pass ran.desk.now at.desk.now ran.pass.ghost_name at.pass.ghost_name ran.began.value at.began.value
+    c.run.ensures.origin) inv.began c.run.ensures.sound.call in
     let desk = same_desk ran.desk.now at.desk.now ran.pass.ghost_name at.pass.ghost_name ran.began.value at.began.value c.run.ensures.origin ∙ inv.desk in
     let undone = c.undo_all.ensures.undone in
     let new = c.undo_all.new.pass.view in
@@ -138,17 +158,23 @@ returns-in-Err-Memory g c = let inv = c.loop-restarts.invariant in let first = c
       left = footprint_undone ran.pass.now.view new undone c.run.ensures.sound.footprint;
       last =
           subst (λ d. ReadsHistory (IsGood (g.S.Shape.word_count d.shape) (g.S.Shape.good d.shape)) d.seats d.base new) desk
-          (reads_undone (IsGood (g.S.Shape.word_count ran.desk.now.shape) (g.S.Shape.good ran.desk.now.shape)) ran.desk.now.seats ran.desk.now.base ran.pass.now.view new undone
-          (c.run.ensures.sound.current (runs_at_memory ran.desk.now.seats ran.halt ran.began.value.view ran.pass.now.view (λ e. memory_not_yield c.run.result (search rules) (c.run.ensures.yields.1 e)) c.run.ensures.sound.stands)));
+          (reads_undone (IsGood (g.S.Shape.word_count ran.desk.now.shape) (g.S.Shape.good ran.desk.now.shape))
+          ran.desk.now.seats ran.desk.now.base ran.pass.now.view new undone
+          (c.run.ensures.sound.current (runs_at_memory ran.desk.now.seats ran.halt ran.began.value.view
+          ran.pass.now.view (λ e. memory_not_yield c.run.result (search rules) (c.run.ensures.yields.1 e)) c.run.ensures.sound.stands)));
     }
 
 pub loop-restarts-preserved : goal.loop-restarts-preserved
-loop-restarts-preserved g c = let inv = c.loop-restarts.invariant in let first = c.args.attempt.now.pass.now.view in let at = c.loop-restarts.attempt in let ran = c.run.new.w in let next = c.give_way.new.attempt in
+loop-restarts-preserved g c = let inv = c.loop-restarts.invariant in let first = c.args.attempt.now.pass.now.view in
+    let at = c.loop-restarts.attempt in let ran = c.run.new.w in let next = c.give_way.new.attempt in
     let kept = same_pass ran.desk.now at.desk.now ran.pass.ghost_name at.pass.ghost_name ran.began.value at.began.value c.run.ensures.origin in
     let same = ran_on first ran.began.value at.began.value at.pass.now ran.pass.now.view inv.call kept inv.began c.run.ensures.sound.call in
-    let gave = gave_way ran.desk.now.seats ran.halt c.cause_of-cause.result ran.began.value.view ran.pass.now.view c.cause_of-cause.ensures c.run.ensures.sound.stands in
+    let gave = gave_way ran.desk.now.seats ran.halt c.cause_of-cause.result ran.began.value.view ran.pass.now.view
+    c.cause_of-cause.ensures c.run.ensures.sound.stands in
     let desk = same_desk ran.desk.now at.desk.now ran.pass.ghost_name at.pass.ghost_name ran.began.value at.began.value c.run.ensures.origin ∙ inv.desk in
-    let more = one_more ran.desk.now.seats c.loop-restarts.restarts c.cause_of-cause.result at.pass.now.view ran.began.value.view ran.pass.now.view next.pass.now.view (ap (λ (p : PassView). p.view) (kept ∙ inv.began)) inv.restarts gave c.give_way.ensures.abandoned in
+    let more = one_more ran.desk.now.seats c.loop-restarts.restarts c.cause_of-cause.result at.pass.now.view
+    ran.began.value.view ran.pass.now.view next.pass.now.view (ap (λ (p : PassView). p.view) (kept ∙ inv.began))
+    inv.restarts gave c.give_way.ensures.abandoned in
     record {
       name = c.give_way.ensures.name ∙ (ap (λ s. s.name) c.run.ensures.origin ∙ inv.name);
       desk = c.give_way.ensures.desk ∙ desk;

@@ -12,9 +12,14 @@ pub commit-serial-requires-clause-leaves_good : goal.commit-serial-requires-clau
 commit-serial-requires-clause-leaves_good g c kept words good legal = elim c.if-not-kept.branch [
   | then-not-kept w ↦ absurd (not_both c.args.kept kept w.if-not-kept.true)
   | else-not-kept w ↦ subst (λ a. (ws : List ℕ) → IsGood (g.S.Shape.word_count a.desk.now.shape) (g.S.Shape.good a.desk.now.shape) ws
-      → IsLegalTrace a.pass.now.view.trace ws → IsGood (g.S.Shape.word_count a.desk.now.shape) (g.S.Shape.good a.desk.now.shape) (after a.pass.now.view.trace ws))
+      → IsLegalTrace a.pass.now.view.trace ws
+      → IsGood (g.S.Shape.word_count a.desk.now.shape) (g.S.Shape.good a.desk.now.shape) (after a.pass.now.view.trace ws))
       (sym w.attempt-is)
-      (λ ws fine fits. record { count = length-after c.args.attempt.now.pass.now.view.trace ws ∙ fine.count; good = c.requires.leaves_good kept ws (record { count = fine.count; good = fine.good; legal = fits }) })
+      (λ ws fine fits. record {
+        count = length-after c.args.attempt.now.pass.now.view.trace ws ∙ fine.count;
+        good =
+            c.requires.leaves_good kept ws (record { count = fine.count; good = fine.good; legal = fits });
+      })
       words good legal
 ]
 

@@ -25,23 +25,30 @@ loop-init g c =
       origin = refl;
       stop = c.requires.ready.going;
       sound = c.requires.ready.sound;
-      looks = looks_none _ _ _ (IsLink m c.args.key) _ (record { at = λ s fit. let o = c.requires.order.at s fit in passed_none m c.args.key _ o.entries o.used (m.buckets + c.bucket.result) (ap (λ b. m.buckets + b) c.bucket.ensures) o.holds });
+      looks = looks_none _ _ _ (IsLink m c.args.key) _ (record {
+        at = λ s fit. let o = c.requires.order.at s fit in
+            passed_none m c.args.key _ o.entries o.used (m.buckets + c.bucket.result) (ap (λ b. m.buckets + b) c.bucket.ensures) o.holds;
+      });
     }
 
 pub read-requires-clause-within : goal.read-requires-clause-within
 read-requires-clause-within g c =
     let i = c.loop.invariant in
-    let some : SomeFits (g.W.Shape.Shape.word_count (g.W.Words.shape c.args.w.now)) (g.W.Shape.Shape.good (g.W.Words.shape c.args.w.now)) (g.W.Words.trace c.loop.w) =
+    let some : SomeFits (g.W.Shape.Shape.word_count (g.W.Words.shape c.args.w.now))
+    (g.W.Shape.Shape.good (g.W.Words.shape c.args.w.now)) (g.W.Words.trace c.loop.w) =
     some_at g.W.Shape.Shape.word_count g.W.Shape.Shape.good _ _ _ i.shape (g.met.W.Words.fits c.loop.w i.sound) in
-    let within : c.loop.place < g.W.Shape.Shape.word_count (g.W.Words.shape c.args.w.now) = looks_within _ _ _ (IsLink c.args.map.now c.args.key) c.args.map.now c.args.key _ c.loop.place c.loop.counter i.looks some in
+    let within : c.loop.place < g.W.Shape.Shape.word_count (g.W.Words.shape c.args.w.now) =
+    looks_within _ _ _ (IsLink c.args.map.now c.args.key) c.args.map.now c.args.key _ c.loop.place c.loop.counter i.looks some in
     omega (arith, within, ap g.W.Shape.Shape.word_count i.shape)
 
 pub prove-unreachable-requires : goal.prove-unreachable-requires
 prove-unreachable-requires g c =
     let m = c.args.map.now in
     let i = c.loop.invariant in
-    let some : SomeFits (g.W.Shape.Shape.word_count (g.W.Words.shape c.args.w.now)) (g.W.Shape.Shape.good (g.W.Words.shape c.args.w.now)) (g.W.Words.trace c.read.new.self) =
-    some_at g.W.Shape.Shape.word_count g.W.Shape.Shape.good _ _ _ (c.in_ok-name.ensures.shape ∙ i.shape) (g.met.W.Words.fits c.read.new.self c.in_ok-name.ensures.sound) in
+    let some : SomeFits (g.W.Shape.Shape.word_count (g.W.Words.shape c.args.w.now))
+    (g.W.Shape.Shape.good (g.W.Words.shape c.args.w.now)) (g.W.Words.trace c.read.new.self) =
+    some_at g.W.Shape.Shape.word_count g.W.Shape.Shape.good _ _ _ (c.in_ok-name.ensures.shape
+    ∙ i.shape) (g.met.W.Words.fits c.read.new.self c.in_ok-name.ensures.sound) in
     let one_more : c.in_ok-name.name ≡ (c.in_ok-name.name - 1) + 1 = omega (arith, c.if-name-eq0.false) in
     let lt : c.in_ok-name.name - 1 < m.arena.blocks =
     looks_names _ _ _ (IsLink m c.args.key) m c.args.key _ c.loop.place c.loop.counter c.in_ok-name.name (c.in_ok-name.name - 1)
@@ -52,7 +59,8 @@ pub read-requires-in-loop-clause-within : goal.read-requires-in-loop-clause-with
 read-requires-in-loop-clause-within g c =
     let m = c.args.map.now in
     let i = c.loop.invariant in
-    let some : SomeFits (g.W.Shape.Shape.word_count (g.W.Words.shape c.args.w.now)) (g.W.Shape.Shape.good (g.W.Words.shape c.args.w.now)) (g.W.Words.trace c.loop.w) =
+    let some : SomeFits (g.W.Shape.Shape.word_count (g.W.Words.shape c.args.w.now))
+    (g.W.Shape.Shape.good (g.W.Words.shape c.args.w.now)) (g.W.Words.trace c.loop.w) =
     some_at g.W.Shape.Shape.word_count g.W.Shape.Shape.good _ _ _ i.shape (g.met.W.Words.fits c.loop.w i.sound) in
     let b = c.in_ok-name.name - 1 in
     let lt : b < m.arena.blocks = omega arith in
@@ -66,7 +74,8 @@ returns-then-name-eq0 g c =
     record {
       found = tt;
       missing =
-          looks_map _ _ _ (IsLink m c.args.key) _ _ (IsMissing m c.args.key) (λ s h. passed_end m c.args.key s c.loop.place c.loop.counter h.0 (h.1 ∙ ap (λ k. Some k) c.if-name-eq0.true))
+          looks_map _ _ _ (IsLink m c.args.key) _ _ (IsMissing m c.args.key)
+          (λ s h. passed_end m c.args.key s c.loop.place c.loop.counter h.0 (h.1 ∙ ap (λ k. Some k) c.if-name-eq0.true))
           (looks_name m c.args.key _ _ _ _ _ c.loop.place c.loop.counter c.in_ok-name.name i.looks c.in_ok-name.ensures.value);
       block = tt;
       goes_on = goes_as (goes_then (goes i.shape i.origin i.looks.begins i.stop i.sound) (goes_call c.in_ok-name.ensures)) (search rules);
@@ -84,11 +93,13 @@ returns-then-there-key g c =
       found =
           looks_map _ _ _ (IsLink m c.args.key) _ _ (IsFoundAt m c.args.key c.loop.place b)
           (λ s h. passed_found m c.args.key s c.loop.place c.loop.counter b h.0 h.1 (h.2 ∙ ap (λ k. Some k) c.if-there-key.true))
-          (looks_key m c.args.key _ _ _ _ _ _ c.loop.place c.loop.counter c.in_ok-name.name b _ c.in_ok-there.there i.looks c.in_ok-name.ensures.value c.in_ok-there.ensures.value
+          (looks_key m c.args.key _ _ _ _ _ _ c.loop.place c.loop.counter c.in_ok-name.name b _ c.in_ok-there.there
+          i.looks c.in_ok-name.ensures.value c.in_ok-there.ensures.value
           one_more is_block);
       missing = tt;
       block = lt;
-      goes_on = goes_as (goes_then (goes_then (goes i.shape i.origin i.looks.begins i.stop i.sound) (goes_call c.in_ok-name.ensures)) (goes_call c.in_ok-there.ensures)) (search rules);
+      goes_on = goes_as (goes_then (goes_then (goes i.shape i.origin i.looks.begins i.stop i.sound)
+          (goes_call c.in_ok-name.ensures)) (goes_call c.in_ok-there.ensures)) (search rules);
     }
 
 pub loop-preserved : goal.loop-preserved
@@ -106,8 +117,10 @@ loop-preserved g c =
       stop = c.in_ok-there.ensures.stops;
       sound = c.in_ok-there.ensures.sound;
       looks = looks_map _ _ _ (IsLink m c.args.key) _ _ _
-          (λ s h. subst (λ q. IsPassed m c.args.key q (c.loop.counter + 1) s) is_next (passed_more m c.args.key s c.loop.place c.loop.counter b c.in_ok-there.there h.0 h.1 h.2 c.if-there-key.false))
-          (looks_key m c.args.key _ _ _ _ _ _ c.loop.place c.loop.counter c.in_ok-name.name b _ c.in_ok-there.there i.looks c.in_ok-name.ensures.value c.in_ok-there.ensures.value
+          (λ s h. subst (λ q. IsPassed m c.args.key q (c.loop.counter + 1) s) is_next
+          (passed_more m c.args.key s c.loop.place c.loop.counter b c.in_ok-there.there h.0 h.1 h.2 c.if-there-key.false))
+          (looks_key m c.args.key _ _ _ _ _ _ c.loop.place c.loop.counter c.in_ok-name.name b _ c.in_ok-there.there
+          i.looks c.in_ok-name.ensures.value c.in_ok-there.ensures.value
           one_more is_block);
     }
 
@@ -118,7 +131,8 @@ returns g c =
     record {
       found = tt;
       missing =
-          looks_map _ _ _ (IsLink m c.args.key) _ _ (IsMissing m c.args.key) (λ s h. passed_all m c.args.key s c.loop.place c.loop.counter (omega (arith, c.loop-test.false)) h) i.looks;
+          looks_map _ _ _ (IsLink m c.args.key) _ _ (IsMissing m c.args.key)
+          (λ s h. passed_all m c.args.key s c.loop.place c.loop.counter (omega (arith, c.loop-test.false)) h) i.looks;
       block = tt;
       goes_on = goes_as (goes i.shape i.origin i.looks.begins i.stop i.sound) i.stop;
     }
@@ -127,12 +141,15 @@ pub returns-in_err-name : goal.returns-in_err-name
 returns-in_err-name g c =
     let i = c.loop.invariant in
     let failed = c.from_residual.ensures.0 in
-    let on : GoesOn g.W.Words c.args.w.now c.read.new.self c.from_residual.result = goes_as (goes_then (goes i.shape i.origin i.looks.begins i.stop i.sound) (goes_call c.in_err-name.ensures)) (search rules) in
+    let on : GoesOn g.W.Words c.args.w.now c.read.new.self c.from_residual.result =
+    goes_as (goes_then (goes i.shape i.origin i.looks.begins i.stop i.sound) (goes_call c.in_err-name.ensures)) (search rules) in
     search IfOk-from_err
 
 pub returns-in_err-there : goal.returns-in_err-there
 returns-in_err-there g c =
     let i = c.loop.invariant in
     let failed = c.from_residual-in_err-there.ensures.0 in
-    let on : GoesOn g.W.Words c.args.w.now c.read-in-loop.new.self c.from_residual-in_err-there.result = goes_as (goes_then (goes_then (goes i.shape i.origin i.looks.begins i.stop i.sound) (goes_call c.in_ok-name.ensures)) (goes_call c.in_err-there.ensures)) (search rules) in
+    let on : GoesOn g.W.Words c.args.w.now c.read-in-loop.new.self c.from_residual-in_err-there.result =
+    goes_as (goes_then (goes_then (goes i.shape i.origin i.looks.begins i.stop i.sound)
+    (goes_call c.in_ok-name.ensures)) (goes_call c.in_err-there.ensures)) (search rules) in
     search IfOk-from_err

@@ -11,5 +11,6 @@ invariant-loop g l =
       origin : words.origin l.w ≡ words.origin l.fn.w;
       stop : words.stop l.w ≡ None;
       sound : words.is_sound l.w;
-      looks : Looks (g.W.Shape.Shape.word_count (words.shape l.fn.w)) (g.W.Shape.Shape.good (words.shape l.fn.w)) (words.trace l.fn.w) (words.trace l.w) (IsLink l.map l.key) (IsPassed l.map l.key l.place l.counter);
+      looks : Looks (g.W.Shape.Shape.word_count (words.shape l.fn.w)) (g.W.Shape.Shape.good (words.shape l.fn.w))
+          (words.trace l.fn.w) (words.trace l.w) (IsLink l.map l.key) (IsPassed l.map l.key l.place l.counter);
     }

@@ -8,33 +8,45 @@ use Rattle.txn_hash_map.proofs.front.put_in_front.Goals as goal
 
 pub overflow_add-place : goal.overflow_add-place
 overflow_add-place g c =
-    let r = room c.args.map.now c.args.key c.args.block _ _ _ (each_plain g.W.Words g.W.Shape.Shape _ _ c.requires.laid) (g.met.W.Words.fits c.args.w.now c.requires.ready.sound) c.requires.block in
+    let r = room c.args.map.now c.args.key c.args.block _ _ _ (each_plain g.W.Words g.W.Shape.Shape _ _ c.requires.laid)
+    (g.met.W.Words.fits c.args.w.now c.requires.ready.sound) c.requires.block in
     omega (arith, r.bucket, r.small, c.bucket.ensures)
 
 pub read-requires-clause-within : goal.read-requires-clause-within
 read-requires-clause-within g c =
-    let r = room c.args.map.now c.args.key c.args.block _ _ _ (each_plain g.W.Words g.W.Shape.Shape _ _ c.requires.laid) (g.met.W.Words.fits c.args.w.now c.requires.ready.sound) c.requires.block in
+    let r = room c.args.map.now c.args.key c.args.block _ _ _ (each_plain g.W.Words g.W.Shape.Shape _ _ c.requires.laid)
+    (g.met.W.Words.fits c.args.w.now c.requires.ready.sound) c.requires.block in
     omega (arith, r.bucket, c.bucket.ensures)
 
 pub write-requires-clause-within : goal.write-requires-clause-within
 write-requires-clause-within g c =
-    let r = room c.args.map.now c.args.key c.args.block _ _ _ (each_plain g.W.Words g.W.Shape.Shape _ _ c.requires.laid) (g.met.W.Words.fits c.args.w.now c.requires.ready.sound) c.requires.block in
+    let r = room c.args.map.now c.args.key c.args.block _ _ _ (each_plain g.W.Words g.W.Shape.Shape _ _ c.requires.laid)
+    (g.met.W.Words.fits c.args.w.now c.requires.ready.sound) c.requires.block in
     omega (arith, r.block, ap g.W.Shape.Shape.word_count c.in_ok-next.ensures.shape)
 
 pub write-requires-2-clause-within : goal.write-requires-2-clause-within
 write-requires-2-clause-within g c =
-    let r = room c.args.map.now c.args.key c.args.block _ _ _ (each_plain g.W.Words g.W.Shape.Shape _ _ c.requires.laid) (g.met.W.Words.fits c.args.w.now c.requires.ready.sound) c.requires.block in
+    let r = room c.args.map.now c.args.key c.args.block _ _ _ (each_plain g.W.Words g.W.Shape.Shape _ _ c.requires.laid)
+    (g.met.W.Words.fits c.args.w.now c.requires.ready.sound) c.requires.block in
     omega (arith, r.block, ap g.W.Shape.Shape.word_count (c.in_ok-write.ensures.shape ∙ c.in_ok-next.ensures.shape))
 
 pub write-requires-3-clause-within : goal.write-requires-3-clause-within
 write-requires-3-clause-within g c =
-    let r = room c.args.map.now c.args.key c.args.block _ _ _ (each_plain g.W.Words g.W.Shape.Shape _ _ c.requires.laid) (g.met.W.Words.fits c.args.w.now c.requires.ready.sound) c.requires.block in
+    let r = room c.args.map.now c.args.key c.args.block _ _ _ (each_plain g.W.Words g.W.Shape.Shape _ _ c.requires.laid)
+    (g.met.W.Words.fits c.args.w.now c.requires.ready.sound) c.requires.block in
     omega (arith, r.block, ap g.W.Shape.Shape.word_count (c.in_ok-write-2.ensures.shape ∙ c.in_ok-write.ensures.shape ∙ c.in_ok-next.ensures.shape))
 
 pub write-requires-4-clause-within : goal.write-requires-4-clause-within
 write-requires-4-clause-within g c =
-    let r = room c.args.map.now c.args.key c.args.block _ _ _ (each_plain g.W.Words g.W.Shape.Shape _ _ c.requires.laid) (g.met.W.Words.fits c.args.w.now c.requires.ready.sound) c.requires.block in
-    omega (arith, r.bucket, c.bucket.ensures, ap g.W.Shape.Shape.word_count (c.in_ok-write-3.ensures.shape ∙ c.in_ok-write-2.ensures.shape ∙ c.in_ok-write.ensures.shape ∙ c.in_ok-next.ensures.shape))
+    let r = room c.args.map.now c.args.key c.args.block _ _ _ (each_plain g.W.Words g.W.Shape.Shape _ _ c.requires.laid)
+    (g.met.W.Words.fits c.args.w.now c.requires.ready.sound) c.requires.block in
+    omega (
+      arith,
+      r.bucket,
+      c.bucket.ensures,
+      ap g.W.Shape.Shape.word_count (c.in_ok-write-3.ensures.shape
+          ∙ c.in_ok-write-2.ensures.shape ∙ c.in_ok-write.ensures.shape ∙ c.in_ok-next.ensures.shape),
+    )
 
 pub returns-clause-put : goal.returns-clause-put
 returns-clause-put g c =
@@ -77,23 +89,31 @@ returns-in_err-next g c =
 pub returns-in_err-write : goal.returns-in_err-write
 returns-in_err-write g c =
     let failed = c.from_residual-in_err-write.ensures.0 in
-    let on : GoesOn g.W.Words c.args.w.now c.write.new.self c.from_residual-in_err-write.result = goes_as (goes_then (goes_call c.in_ok-next.ensures) (goes_call c.in_err-write.ensures)) (search rules) in
+    let on : GoesOn g.W.Words c.args.w.now c.write.new.self c.from_residual-in_err-write.result =
+    goes_as (goes_then (goes_call c.in_ok-next.ensures) (goes_call c.in_err-write.ensures)) (search rules) in
     search IfOk-from_err
 
 pub returns-in_err-write-2 : goal.returns-in_err-write-2
 returns-in_err-write-2 g c =
     let failed = c.from_residual-in_err-write-2.ensures.0 in
-    let on : GoesOn g.W.Words c.args.w.now c.write-2.new.self c.from_residual-in_err-write-2.result = goes_as (goes_then (goes_then (goes_call c.in_ok-next.ensures) (goes_call c.in_ok-write.ensures)) (goes_call c.in_err-write-2.ensures)) (search rules) in
+    let on : GoesOn g.W.Words c.args.w.now c.write-2.new.self c.from_residual-in_err-write-2.result =
+    goes_as (goes_then (goes_then (goes_call c.in_ok-next.ensures) (goes_call c.in_ok-write.ensures))
+    (goes_call c.in_err-write-2.ensures)) (search rules) in
     search IfOk-from_err
 
 pub returns-in_err-write-3 : goal.returns-in_err-write-3
 returns-in_err-write-3 g c =
     let failed = c.from_residual-in_err-write-3.ensures.0 in
-    let on : GoesOn g.W.Words c.args.w.now c.write-3.new.self c.from_residual-in_err-write-3.result = goes_as (goes_then (goes_then (goes_then (goes_call c.in_ok-next.ensures) (goes_call c.in_ok-write.ensures)) (goes_call c.in_ok-write-2.ensures)) (goes_call c.in_err-write-3.ensures)) (search rules) in
+    let on : GoesOn g.W.Words c.args.w.now c.write-3.new.self c.from_residual-in_err-write-3.result =
+    goes_as (goes_then (goes_then (goes_then (goes_call c.in_ok-next.ensures) (goes_call c.in_ok-write.ensures))
+    (goes_call c.in_ok-write-2.ensures)) (goes_call c.in_err-write-3.ensures)) (search rules) in
     search IfOk-from_err
 
 pub returns-in_err-write-4 : goal.returns-in_err-write-4
 returns-in_err-write-4 g c =
     let failed = c.from_residual-in_err-write-4.ensures.0 in
-    let on : GoesOn g.W.Words c.args.w.now c.write-4.new.self c.from_residual-in_err-write-4.result = goes_as (goes_then (goes_then (goes_then (goes_then (goes_call c.in_ok-next.ensures) (goes_call c.in_ok-write.ensures)) (goes_call c.in_ok-write-2.ensures)) (goes_call c.in_ok-write-3.ensures)) (goes_call c.in_err-write-4.ensures)) (search rules) in
+    let on : GoesOn g.W.Words c.args.w.now c.write-4.new.self c.from_residual-in_err-write-4.result =
+    goes_as (goes_then (goes_then (goes_then
+    (goes_then (goes_call c.in_ok-next.ensures) (goes_call c.in_ok-write.ensures))
+    (goes_call c.in_ok-write-2.ensures)) (goes_call c.in_ok-write-3.ensures)) (goes_call c.in_err-write-4.ensures)) (search rules) in
     search IfOk-from_err

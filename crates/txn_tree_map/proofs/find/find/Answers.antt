@@ -27,7 +27,8 @@ pub look-requires-clause-top : goal.look-requires-clause-top
 look-requires-clause-top g c =
     let m = c.args.map.now in
     let i = c.loop.invariant in
-    looks_each g.W.Words g.W.Shape.Shape _ _ (IsLink m) (HasTop m c.loop.place) (looks_map _ _ _ (IsLink m) _ _ _ (λ s h. passed_top m c.args.key 0 s c.loop.place c.loop.counter h) i.looks) i.shape
+    looks_each g.W.Words g.W.Shape.Shape _ _ (IsLink m) (HasTop m c.loop.place)
+    (looks_map _ _ _ (IsLink m) _ _ _ (λ s h. passed_top m c.args.key 0 s c.loop.place c.loop.counter h) i.looks) i.shape
 
 pub returns-in-None : goal.returns-in-None
 returns-in-None g c =
@@ -39,7 +40,9 @@ returns-in-None g c =
       found = tt;
       missing =
           looks_map _ _ _ (IsLink m) _ _ (IsMissing m c.args.key) (λ s h. passed_end m c.args.key 0 s c.loop.place c.loop.counter h.0 h.1)
-          (looks_grow _ _ _ (IsLink m) _ _ (IsPlace c.loop.place) _ (IsEnd c.loop.place) (λ s p q. passed_place m c.args.key 0 s c.loop.place c.loop.counter p) i.looks (looks_from g.W.Words g.W.Shape.Shape c.args.w.now c.loop.w _ _ (IsPlace c.loop.place) _ i.shape end));
+          (looks_grow _ _ _ (IsLink m) _ _ (IsPlace c.loop.place) _ (IsEnd c.loop.place)
+          (λ s p q. passed_place m c.args.key 0 s c.loop.place c.loop.counter p) i.looks
+          (looks_from g.W.Words g.W.Shape.Shape c.args.w.now c.loop.w _ _ (IsPlace c.loop.place) _ i.shape end));
       block = tt;
       goes_on = goes_as (goes_then (goes i.shape i.origin i.looks.begins i.stop i.sound) on) (search rules);
     }
@@ -55,7 +58,10 @@ returns-then-node-key g c =
       found =
           looks_map _ _ _ (IsLink m) _ _ (IsFoundAt m c.args.key c.loop.place node.block)
           (λ s h. passed_found m c.args.key 0 s c.loop.place c.loop.counter node.block node.key h.0 h.1 c.if-node-key.true)
-          (looks_grow _ _ _ (IsLink m) _ _ (IsPlaceOrKey m c.loop.place node.block) _ (IsNamed m c.loop.place node.block node.key) (λ s p q. passed_near m c.args.key 0 s c.loop.place c.loop.counter p node.block node.key q) i.looks (looks_from g.W.Words g.W.Shape.Shape c.args.w.now c.loop.w _ _ (IsPlaceOrKey m c.loop.place node.block) _ i.shape named));
+          (looks_grow _ _ _ (IsLink m) _ _ (IsPlaceOrKey m c.loop.place node.block) _
+          (IsNamed m c.loop.place node.block node.key) (λ s p q. passed_near m c.args.key 0 s c.loop.place
+          c.loop.counter p node.block node.key q) i.looks (looks_from g.W.Words g.W.Shape.Shape c.args.w.now
+          c.loop.w _ _ (IsPlaceOrKey m c.loop.place node.block) _ i.shape named));
       missing = tt;
       block = rw c.in-Some.is at c.in_ok-look.ensures.block;
       goes_on = goes_as (goes_then (goes i.shape i.origin i.looks.begins i.stop i.sound) on) (search rules);
@@ -69,7 +75,8 @@ loop-preserved g c =
     let goes = c.in_ok-look.ensures.goes_on in
     let named = rw c.in-Some.is at c.in_ok-look.ensures.named in
     let below = rw c.in-Some.is at c.in_ok-look.ensures.block in
-    let next : block_at m.arena node.block + (if nat_lt c.args.key node.key then 2 else 3) ≡ c.place_of.result + c.side.result = omega (arith, c.place_of.ensures, c.side.ensures) in
+    let next : block_at m.arena node.block + (if nat_lt c.args.key node.key then 2 else 3) ≡ c.place_of.result
+    + c.side.result = omega (arith, c.place_of.ensures, c.side.ensures) in
     record {
       shape = goes.shape ∙ i.shape;
       origin = goes.origin ∙ i.origin;
@@ -78,7 +85,10 @@ loop-preserved g c =
       looks = looks_map _ _ _ (IsLink m) _ _ _
           (λ s h. subst (λ a. IsPassed m c.args.key 0 a (c.loop.counter + 1) s) next
           (passed_down m c.args.key 0 s c.loop.place c.loop.counter node.block node.key h.0 h.1 c.if-node-key.false (omega arith)))
-          (looks_grow _ _ _ (IsLink m) _ _ (IsPlaceOrKey m c.loop.place node.block) _ (IsNamed m c.loop.place node.block node.key) (λ s p q. passed_near m c.args.key 0 s c.loop.place c.loop.counter p node.block node.key q) i.looks (looks_from g.W.Words g.W.Shape.Shape c.args.w.now c.loop.w _ _ (IsPlaceOrKey m c.loop.place node.block) _ i.shape named));
+          (looks_grow _ _ _ (IsLink m) _ _ (IsPlaceOrKey m c.loop.place node.block) _
+          (IsNamed m c.loop.place node.block node.key) (λ s p q. passed_near m c.args.key 0 s c.loop.place
+          c.loop.counter p node.block node.key q) i.looks (looks_from g.W.Words g.W.Shape.Shape c.args.w.now
+          c.loop.w _ _ (IsPlaceOrKey m c.loop.place node.block) _ i.shape named));
     }
 
 pub returns : goal.returns
@@ -87,7 +97,8 @@ returns g c =
     let i = c.loop.invariant in
     record {
       found = tt;
-      missing = looks_map _ _ _ (IsLink m) _ _ (IsMissing m c.args.key) (λ s h. passed_all m c.args.key 0 s c.loop.place c.loop.counter (omega (arith, c.loop-test.false)) h) i.looks;
+      missing = looks_map _ _ _ (IsLink m) _ _ (IsMissing m c.args.key)
+          (λ s h. passed_all m c.args.key 0 s c.loop.place c.loop.counter (omega (arith, c.loop-test.false)) h) i.looks;
       block = tt;
       goes_on = goes_as (goes i.shape i.origin i.looks.begins i.stop i.sound) i.stop;
     }
@@ -97,5 +108,6 @@ returns-in_err-look g c =
     let i = c.loop.invariant in
     let on = c.in_err-look.ensures.goes_on in
     let failed = c.from_residual.ensures.0 in
-    let goes : GoesOn g.W.Words c.args.w.now c.look.new.w c.from_residual.result = goes_as (goes_then (goes i.shape i.origin i.looks.begins i.stop i.sound) on) (search rules) in
+    let goes : GoesOn g.W.Words c.args.w.now c.look.new.w c.from_residual.result =
+    goes_as (goes_then (goes i.shape i.origin i.looks.begins i.stop i.sound) on) (search rules) in
     search IfOk-from_err

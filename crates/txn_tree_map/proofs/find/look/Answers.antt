@@ -12,14 +12,17 @@ use Rattle.txn_tree_map.proofs.Searching.{top_within, top_below}
 use Rattle.txn_tree_map.proofs.find.look.Goals as goal
 
 pub read-requires-clause-within : goal.read-requires-clause-within
-read-requires-clause-within g c = top_within c.args.map.now _ _ _ (g.met.W.Words.fits c.args.w.now c.requires.ready.sound) c.args.place (each_plain g.W.Words g.W.Shape.Shape _ _ c.requires.top)
+read-requires-clause-within g c =
+    top_within c.args.map.now _ _ _ (g.met.W.Words.fits c.args.w.now c.requires.ready.sound) c.args.place
+    (each_plain g.W.Words g.W.Shape.Shape _ _ c.requires.top)
 
 pub returns-then-name-eq0 : goal.returns-then-name-eq0
 returns-then-name-eq0 g c = record {
   named = search rules;
   end =
       let m = c.args.map.now in
-      looks_map _ _ _ (IsPlace c.args.place) _ _ (IsEnd c.args.place) (λ s h. h ∙ ap (λ k. Some k) c.if-name-eq0.true) (looks_at _ _ _ _ c.args.place c.in_ok-name.name c.in_ok-name.ensures.value);
+      looks_map _ _ _ (IsPlace c.args.place) _ _ (IsEnd c.args.place) (λ s h. h ∙ ap (λ k. Some k) c.if-name-eq0.true)
+      (looks_at _ _ _ _ c.args.place c.in_ok-name.name c.in_ok-name.ensures.value);
   block = search rules;
   goes_on = goes_as (goes_call c.in_ok-name.ensures) (search rules);
 }
@@ -28,19 +31,23 @@ pub prove-unreachable-requires : goal.prove-unreachable-requires
 prove-unreachable-requires g c =
     let m = c.args.map.now in
     let name = c.in_ok-name.name in
-    let some : SomeFits (g.W.Shape.Shape.word_count (g.W.Words.shape c.args.w.now)) (g.W.Shape.Shape.good (g.W.Words.shape c.args.w.now)) (g.W.Words.trace c.read.new.self) =
+    let some : SomeFits (g.W.Shape.Shape.word_count (g.W.Words.shape c.args.w.now))
+    (g.W.Shape.Shape.good (g.W.Words.shape c.args.w.now)) (g.W.Words.trace c.read.new.self) =
     some_at g.W.Shape.Shape.word_count g.W.Shape.Shape.good _ _ _ c.in_ok-name.ensures.shape (g.met.W.Words.fits c.read.new.self c.in_ok-name.ensures.sound) in
-    let seen = looks_still _ _ _ (IsPlace c.args.place) _ (λ s. slice_get s c.args.place ≡ Some name) (HasTop m c.args.place) (each_plain g.W.Words g.W.Shape.Shape _ _ c.requires.top)
+    let seen = looks_still _ _ _ (IsPlace c.args.place) _ (λ s. slice_get s c.args.place ≡ Some name)
+    (HasTop m c.args.place) (each_plain g.W.Words g.W.Shape.Shape _ _ c.requires.top)
     (looks_at _ _ _ _ c.args.place name c.in_ok-name.ensures.value) in
     let one_more : name ≡ (name - 1) + 1 = omega (arith, c.if-name-eq0.false) in
-    let lt : name - 1 < m.arena.blocks = top_below m _ _ _ some c.args.place (name - 1) (record { at = λ s fit. ((seen.holds s fit).0, (seen.holds s fit).1 ∙ ap (λ k. Some k) one_more) }) in
+    let lt : name - 1 < m.arena.blocks =
+    top_below m _ _ _ some c.args.place (name - 1) (record { at = λ s fit. ((seen.holds s fit).0, (seen.holds s fit).1 ∙ ap (λ k. Some k) one_more) }) in
     omega (arith, lt)
 
 pub read-requires-2-clause-within : goal.read-requires-2-clause-within
 read-requires-2-clause-within g c =
     let m = c.args.map.now in
     let lt : c.in_ok-name.name - 1 < m.arena.blocks = omega arith in
-    let in_list = laid_block m.arena _ _ _ (g.met.W.Words.fits c.args.w.now c.requires.ready.sound) (c.in_ok-name.name - 1) (record { at = λ s fit. (c.requires.top.at s fit).laid.arena }) lt in
+    let in_list = laid_block m.arena _ _ _ (g.met.W.Words.fits c.args.w.now c.requires.ready.sound)
+    (c.in_ok-name.name - 1) (record { at = λ s fit. (c.requires.top.at s fit).laid.arena }) lt in
     omega (arith, in_list.0, c.place_of.ensures, ap g.W.Shape.Shape.word_count c.in_ok-name.ensures.shape)
 
 pub returns : goal.returns
@@ -51,9 +58,11 @@ returns g c = record {
       let one_more : c.in_ok-name.name ≡ b + 1 = omega (arith, c.if-name-eq0.false) in
       let lt : b < m.arena.blocks = omega arith in
       let is_block : c.place_of.result ≡ block_at m.arena b = c.place_of.ensures in
-      looks_map _ _ _ (IsPlaceOrKey m c.args.place b) _ _ (IsNamed m c.args.place b c.in_ok-key.key) (λ s h. (h.0 ∙ ap (λ k. Some k) one_more, ap (λ a. slice_get s a) (sym is_block) ∙ h.1))
+      looks_map _ _ _ (IsPlaceOrKey m c.args.place b) _ _ (IsNamed m c.args.place b c.in_ok-key.key)
+      (λ s h. (h.0 ∙ ap (λ k. Some k) one_more, ap (λ a. slice_get s a) (sym is_block) ∙ h.1))
       (looks_read _ _ _ (IsPlaceOrKey m c.args.place b) _ _ _ c.in_ok-key.key _
-      (looks_wider _ _ _ _ (IsPlace c.args.place) (IsPlaceOrKey m c.args.place b) _ (λ s p a k. inl k) (looks_at _ _ _ _ c.args.place c.in_ok-name.name c.in_ok-name.ensures.value)) c.in_ok-key.ensures.value (λ s p. inr is_block));
+      (looks_wider _ _ _ _ (IsPlace c.args.place) (IsPlaceOrKey m c.args.place b) _ (λ s p a k. inl k)
+      (looks_at _ _ _ _ c.args.place c.in_ok-name.name c.in_ok-name.ensures.value)) c.in_ok-key.ensures.value (λ s p. inr is_block));
   end = search rules;
   block = search rules;
   goes_on = goes_as (goes_then (goes_call c.in_ok-name.ensures) (goes_call c.in_ok-key.ensures)) (search rules);
@@ -68,5 +77,6 @@ returns-in_err-name g c =
 pub returns-in_err-key : goal.returns-in_err-key
 returns-in_err-key g c =
     let failed = c.from_residual-in_err-key.ensures.0 in
-    let on : GoesOn g.W.Words c.args.w.now c.read-2.new.self c.from_residual-in_err-key.result = goes_as (goes_then (goes_call c.in_ok-name.ensures) (goes_call c.in_err-key.ensures)) (search rules) in
+    let on : GoesOn g.W.Words c.args.w.now c.read-2.new.self c.from_residual-in_err-key.result =
+    goes_as (goes_then (goes_call c.in_ok-name.ensures) (goes_call c.in_err-key.ensures)) (search rules) in
     search IfOk-from_err

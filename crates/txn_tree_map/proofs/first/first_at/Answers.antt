@@ -19,14 +19,18 @@ loop-init g c =
       origin = refl;
       stop = c.requires.ready.going;
       sound = c.requires.ready.sound;
-      looks = looks_none _ _ _ (IsLink m) _ (record { at = λ s fit. let o = c.requires.order.at s fit in near_none m c.args.least _ o.holds.tree (at_tree m _ o.entries o.used o.holds) });
+      looks = looks_none _ _ _ (IsLink m) _ (record {
+        at = λ s fit. let o = c.requires.order.at s fit in
+            near_none m c.args.least _ o.holds.tree (at_tree m _ o.entries o.used o.holds);
+      });
     }
 
 pub look-requires-clause-top : goal.look-requires-clause-top
 look-requires-clause-top g c =
     let m = c.args.map.now in
     let i = c.loop.invariant in
-    looks_each g.W.Words g.W.Shape.Shape _ _ (IsLink m) (HasTop m c.loop.place) (looks_map _ _ _ (IsLink m) _ _ _ (λ s h. near_top m c.args.least s c.loop.best c.loop.place c.loop.counter h) i.looks) i.shape
+    looks_each g.W.Words g.W.Shape.Shape _ _ (IsLink m) (HasTop m c.loop.place)
+    (looks_map _ _ _ (IsLink m) _ _ _ (λ s h. near_top m c.args.least s c.loop.best c.loop.place c.loop.counter h) i.looks) i.shape
 
 pub returns-in-None : goal.returns-in-None
 returns-in-None g c =
@@ -36,8 +40,11 @@ returns-in-None g c =
     let on = c.in_ok-look.ensures.goes_on in
     record {
       nearest =
-          looks_map _ _ _ (IsLink m) _ _ (IsNearest m c.args.least c.loop.best) (λ s h. near_end m c.args.least s c.loop.best c.loop.place c.loop.counter h.0 h.1)
-          (looks_grow _ _ _ (IsLink m) _ _ (IsPlace c.loop.place) _ (IsEnd c.loop.place) (λ s p q. near_place m c.args.least s c.loop.best c.loop.place c.loop.counter p) i.looks (looks_from g.W.Words g.W.Shape.Shape c.args.w.now c.loop.w _ _ (IsPlace c.loop.place) _ i.shape end));
+          looks_map _ _ _ (IsLink m) _ _ (IsNearest m c.args.least c.loop.best)
+          (λ s h. near_end m c.args.least s c.loop.best c.loop.place c.loop.counter h.0 h.1)
+          (looks_grow _ _ _ (IsLink m) _ _ (IsPlace c.loop.place) _ (IsEnd c.loop.place)
+          (λ s p q. near_place m c.args.least s c.loop.best c.loop.place c.loop.counter p) i.looks
+          (looks_from g.W.Words g.W.Shape.Shape c.args.w.now c.loop.w _ _ (IsPlace c.loop.place) _ i.shape end));
       goes_on = goes_as (goes_then (goes i.shape i.origin i.looks.begins i.stop i.sound) on) (search rules);
     }
 
@@ -50,7 +57,8 @@ loop-preserved g c =
     let goes = c.in_ok-look.ensures.goes_on in
     let named = rw c.in-Some.is at c.in_ok-look.ensures.named in
     let below = rw c.in-Some.is at c.in_ok-look.ensures.block in
-    let next : block_at m.arena node.block + (if nat_le least node.key then 2 else 3) ≡ c.place_of.result + c.side.result = omega (arith, c.place_of.ensures, c.side.ensures) in
+    let next : block_at m.arena node.block + (if nat_le least node.key then 2 else 3) ≡ c.place_of.result
+    + c.side.result = omega (arith, c.place_of.ensures, c.side.ensures) in
     record {
       shape = goes.shape ∙ i.shape;
       origin = goes.origin ∙ i.origin;
@@ -58,9 +66,13 @@ loop-preserved g c =
       sound = goes.sound;
       looks = looks_map _ _ _ (IsLink m) _ _ _
           (λ s h. subst (λ a. IsNear m least c.better-best.result a (c.loop.counter + 1) s) next
-          (subst (λ o. IsNear m least o (block_at m.arena node.block + (if nat_le least node.key then 2 else 3)) (c.loop.counter + 1) s) (sym c.better-best.ensures)
+          (subst (λ o. IsNear m least o (block_at m.arena node.block + (if nat_le least node.key then 2 else 3))
+          (c.loop.counter + 1) s) (sym c.better-best.ensures)
           (near_down m least s c.loop.best c.loop.place c.loop.counter node.block node.key h.0 h.1)))
-          (looks_grow _ _ _ (IsLink m) _ _ (IsPlaceOrKey m c.loop.place node.block) _ (IsNamed m c.loop.place node.block node.key) (λ s p q. near_near m least s c.loop.best c.loop.place c.loop.counter p node.block node.key q) i.looks (looks_from g.W.Words g.W.Shape.Shape c.args.w.now c.loop.w _ _ (IsPlaceOrKey m c.loop.place node.block) _ i.shape named));
+          (looks_grow _ _ _ (IsLink m) _ _ (IsPlaceOrKey m c.loop.place node.block) _
+          (IsNamed m c.loop.place node.block node.key) (λ s p q. near_near m least s c.loop.best c.loop.place
+          c.loop.counter p node.block node.key q) i.looks (looks_from g.W.Words g.W.Shape.Shape c.args.w.now
+          c.loop.w _ _ (IsPlaceOrKey m c.loop.place node.block) _ i.shape named));
     }
 
 pub returns : goal.returns
@@ -68,7 +80,8 @@ returns g c =
     let m = c.args.map.now in
     let i = c.loop.invariant in
     record {
-      nearest = looks_map _ _ _ (IsLink m) _ _ (IsNearest m c.args.least c.loop.best) (λ s h. near_all m c.args.least s c.loop.best c.loop.place c.loop.counter (omega (arith, c.loop-test.false)) h) c.loop.invariant.looks;
+      nearest = looks_map _ _ _ (IsLink m) _ _ (IsNearest m c.args.least c.loop.best)
+          (λ s h. near_all m c.args.least s c.loop.best c.loop.place c.loop.counter (omega (arith, c.loop-test.false)) h) c.loop.invariant.looks;
       goes_on = goes_as (goes i.shape i.origin i.looks.begins i.stop i.sound) i.stop;
     }
 
@@ -77,5 +90,6 @@ returns-in_err-look g c =
     let i = c.loop.invariant in
     let on = c.in_err-look.ensures.goes_on in
     let failed = c.from_residual.ensures.0 in
-    let goes : GoesOn g.W.Words c.args.w.now c.look.new.w c.from_residual.result = goes_as (goes_then (goes i.shape i.origin i.looks.begins i.stop i.sound) on) (search rules) in
+    let goes : GoesOn g.W.Words c.args.w.now c.look.new.w c.from_residual.result =
+    goes_as (goes_then (goes i.shape i.origin i.looks.begins i.stop i.sound) on) (search rules) in
     search IfOk-from_err

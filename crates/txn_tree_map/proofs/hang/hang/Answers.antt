@@ -9,15 +9,20 @@ use Rattle.txn_tree_map.proofs.hang.hang.Goals as goal
 
 pub read-requires-clause-within : goal.read-requires-clause-within
 read-requires-clause-within g c =
-    (are_within _ _ _ c.args.hole c.args.inner (g.met.W.Words.fits c.args.w.now c.requires.ready.sound) (each_plain g.W.Words g.W.Shape.Shape _ _ c.requires.within)).1
+    (are_within _ _ _ c.args.hole c.args.inner (g.met.W.Words.fits c.args.w.now c.requires.ready.sound)
+    (each_plain g.W.Words g.W.Shape.Shape _ _ c.requires.within)).1
 
 pub write-requires-clause-within : goal.write-requires-clause-within
 write-requires-clause-within g c =
-    let within = are_within _ _ _ c.args.hole c.args.inner (g.met.W.Words.fits c.args.w.now c.requires.ready.sound) (each_plain g.W.Words g.W.Shape.Shape _ _ c.requires.within) in
+    let within = are_within _ _ _ c.args.hole c.args.inner (g.met.W.Words.fits c.args.w.now c.requires.ready.sound)
+    (each_plain g.W.Words g.W.Shape.Shape _ _ c.requires.within) in
     omega (arith, within.0, ap g.W.Shape.Shape.word_count c.in_ok-rest.ensures.shape)
 
 pub returns-clause-hung : goal.returns-clause-hung
-returns-clause-hung g c = record { at = (hangs_leads _ _ _ _ _ c.args.hole c.args.name c.args.inner c.in_ok-rest.rest c.in_ok-rest.ensures.value c.in_ok-write.ensures.value).at }
+returns-clause-hung g c = record {
+  at =
+      (hangs_leads _ _ _ _ _ c.args.hole c.args.name c.args.inner c.in_ok-rest.rest c.in_ok-rest.ensures.value c.in_ok-write.ensures.value).at;
+}
 
 pub returns-clause-frame : goal.returns-clause-frame
 returns-clause-frame g c =
@@ -38,5 +43,6 @@ returns-in_err-rest g c =
 pub returns-in_err-write : goal.returns-in_err-write
 returns-in_err-write g c =
     let failed = c.from_residual-in_err-write.ensures.0 in
-    let on : GoesOn g.W.Words c.args.w.now c.write.new.self c.from_residual-in_err-write.result = goes_as (goes_then (goes_call c.in_ok-rest.ensures) (goes_call c.in_err-write.ensures)) (search rules) in
+    let on : GoesOn g.W.Words c.args.w.now c.write.new.self c.from_residual-in_err-write.result =
+    goes_as (goes_then (goes_call c.in_ok-rest.ensures) (goes_call c.in_err-write.ensures)) (search rules) in
     search IfOk-from_err

@@ -31,7 +31,17 @@ join_one-requires-clause-joined g c =
     let i = c.loop.invariant in
     let p = c.loop.gap in
     each_from g.W.Words g.W.Shape.Shape c.args.w.now c.loop.w (CanGoOn m p.place p.left p.right) i.shape
-    (record { at = λ s fit. record { hole = c.args.hole; left = c.args.left; right = c.args.right; turns = c.loop.counter; start = _; joined = i.joined s fit } })
+    (record {
+      at = λ s fit. record {
+        hole = c.args.hole;
+        left = c.args.left;
+        right = c.args.right;
+        turns =
+            c.loop.counter;
+        start = _;
+        joined = i.joined s fit;
+      };
+    })
 
 pub loop-preserved : goal.loop-preserved
 loop-preserved g c =
@@ -46,9 +56,12 @@ loop-preserved g c =
       stop = one.goes_on.stops;
       sound = one.goes_on.sound;
       begins = begins_trans _ _ _ i.begins one.goes_on.begins;
-      reads = gap_seen_more m c.args.hole c.args.left c.args.right _ _ _ _ _ c.loop.counter p.place p.left p.right one.goes_on.begins i.joined i.reads one.reads;
-      own = gap_own_more m c.args.hole c.args.left c.args.right _ _ _ _ _ c.loop.counter p.place p.left p.right one.goes_on.begins i.joined i.own one.frame.appended;
-      joined = joined_more m c.args.hole c.args.left c.args.right _ _ _ _ _ c.loop.counter p.place p.left p.right q.place q.left q.right one.goes_on.begins i.joined
+      reads = gap_seen_more m c.args.hole c.args.left c.args.right _ _ _ _ _ c.loop.counter p.place p.left p.right
+          one.goes_on.begins i.joined i.reads one.reads;
+      own = gap_own_more m c.args.hole c.args.left c.args.right _ _ _ _ _ c.loop.counter p.place p.left p.right
+          one.goes_on.begins i.joined i.own one.frame.appended;
+      joined = joined_more m c.args.hole c.args.left c.args.right _ _ _ _ _ c.loop.counter p.place p.left p.right
+          q.place q.left q.right one.goes_on.begins i.joined
           (leads_from g.W.Words g.W.Shape.Shape c.args.w.now c.loop.w c.join_one.new.w _ i.shape one.joined);
     }
 
@@ -58,7 +71,10 @@ returns-then-gap-eq0 g c =
     let i = c.loop.invariant in
     let p = c.loop.gap in
     record {
-      gathered = record { at = λ s fit. gathered_no_left m c.args.hole c.args.left c.args.right c.loop.counter p.place p.left p.right _ _ (c.loop.invariant.joined s fit) c.if-gap-eq0.true };
+      gathered = record {
+        at = λ s fit. gathered_no_left m c.args.hole c.args.left c.args.right c.loop.counter p.place
+            p.left p.right _ _ (c.loop.invariant.joined s fit) c.if-gap-eq0.true;
+      };
       frame = record { at = c.loop.invariant.own };
       reads = record { at = c.loop.invariant.reads };
       goes_on = goes_as (goes i.shape i.origin i.begins i.stop i.sound) i.stop;
@@ -70,7 +86,10 @@ returns-then-gap-eq0-2 g c =
     let i = c.loop.invariant in
     let p = c.loop.gap in
     record {
-      gathered = record { at = λ s fit. gathered_no_right m c.args.hole c.args.left c.args.right c.loop.counter p.place p.left p.right _ _ (c.loop.invariant.joined s fit) c.if-gap-eq0-2.true };
+      gathered = record {
+        at = λ s fit. gathered_no_right m c.args.hole c.args.left c.args.right c.loop.counter p.place
+            p.left p.right _ _ (c.loop.invariant.joined s fit) c.if-gap-eq0-2.true;
+      };
       frame = record { at = c.loop.invariant.own };
       reads = record { at = c.loop.invariant.reads };
       goes_on = goes_as (goes i.shape i.origin i.begins i.stop i.sound) i.stop;
@@ -82,7 +101,10 @@ returns g c =
     let i = c.loop.invariant in
     let p = c.loop.gap in
     record {
-      gathered = record { at = λ s fit. gathered_all m c.args.hole c.args.left c.args.right c.loop.counter p.place p.left p.right _ _ (c.loop.invariant.joined s fit) (omega (arith, c.loop-test.false)) };
+      gathered = record {
+        at = λ s fit. gathered_all m c.args.hole c.args.left c.args.right c.loop.counter p.place
+            p.left p.right _ _ (c.loop.invariant.joined s fit) (omega (arith, c.loop-test.false));
+      };
       frame = record { at = c.loop.invariant.own };
       reads = record { at = c.loop.invariant.reads };
       goes_on = goes_as (goes i.shape i.origin i.begins i.stop i.sound) i.stop;
@@ -93,5 +115,6 @@ returns-in_err-gap g c =
     let i = c.loop.invariant in
     let on = c.in_err-gap.ensures.goes_on in
     let failed = c.from_residual.ensures.0 in
-    let goes : GoesOn g.W.Words c.args.w.now c.join_one.new.w c.from_residual.result = goes_as (goes_then (goes i.shape i.origin i.begins i.stop i.sound) on) (search rules) in
+    let goes : GoesOn g.W.Words c.args.w.now c.join_one.new.w c.from_residual.result =
+    goes_as (goes_then (goes i.shape i.origin i.begins i.stop i.sound) on) (search rules) in
     search IfOk-from_err

@@ -15,9 +15,11 @@ invariant-loop g l =
       sound : words.is_sound l.w;
       begins : Begins (words.trace l.fn.w) (words.trace l.w);
       reads : (s : List ℕ) → Fits (g.W.Shape.Shape.word_count (words.shape l.fn.w)) (g.W.Shape.Shape.good (words.shape l.fn.w)) (words.trace l.w) s
-          → AppendsReads (words.trace l.fn.w) (words.trace l.w) (IsJoinSeen l.map l.hole l.left l.right (after (words.trace l.fn.w) s) (after (words.trace l.w) s));
+          → AppendsReads (words.trace l.fn.w) (words.trace l.w)
+          (IsJoinSeen l.map l.hole l.left l.right (after (words.trace l.fn.w) s) (after (words.trace l.w) s));
       own : (s : List ℕ) → Fits (g.W.Shape.Shape.word_count (words.shape l.fn.w)) (g.W.Shape.Shape.good (words.shape l.fn.w)) (words.trace l.w) s
-          → AppendsOnly (words.trace l.fn.w) (words.trace l.w) (IsJoinOwn l.map l.hole l.left l.right (after (words.trace l.fn.w) s) (after (words.trace l.w) s));
+          → AppendsOnly (words.trace l.fn.w) (words.trace l.w)
+          (IsJoinOwn l.map l.hole l.left l.right (after (words.trace l.fn.w) s) (after (words.trace l.w) s));
       joined : (s : List ℕ) → Fits (g.W.Shape.Shape.word_count (words.shape l.fn.w)) (g.W.Shape.Shape.good (words.shape l.fn.w)) (words.trace l.w) s
           → IsJoined l.map l.hole l.left l.right l.counter l.gap.place l.gap.left l.gap.right (after (words.trace l.fn.w) s) (after (words.trace l.w) s);
     }

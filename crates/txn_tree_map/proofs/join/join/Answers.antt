@@ -11,28 +11,35 @@ pub write-requires-clause-within : goal.write-requires-clause-within
 write-requires-clause-within g c =
     let p = c.in_ok-last.last in
     let one = c.in_ok-last.ensures in
-    let some : SomeFits (g.W.Shape.Shape.word_count (g.W.Words.shape c.args.w.now)) (g.W.Shape.Shape.good (g.W.Words.shape c.args.w.now)) (g.W.Words.trace c.gather.new.w) =
+    let some : SomeFits (g.W.Shape.Shape.word_count (g.W.Words.shape c.args.w.now))
+    (g.W.Shape.Shape.good (g.W.Words.shape c.args.w.now)) (g.W.Words.trace c.gather.new.w) =
     some_at g.W.Shape.Shape.word_count g.W.Shape.Shape.good _ _ _ one.goes_on.shape (g.met.W.Words.fits c.gather.new.w one.goes_on.sound) in
-    let within = last_within c.args.map.now c.args.hole c.args.left c.args.right _ _ _ _ p.place p.name (leads_plain g.W.Words g.W.Shape.Shape _ _ _ one.gathered) some in
+    let within = last_within c.args.map.now c.args.hole c.args.left c.args.right _ _ _ _ p.place p.name
+    (leads_plain g.W.Words g.W.Shape.Shape _ _ _ one.gathered) some in
     omega (arith, within, ap g.W.Shape.Shape.word_count one.goes_on.shape)
 
 pub returns-clause-joined : goal.returns-clause-joined
 returns-clause-joined g c =
     let p = c.in_ok-last.last in
-    record { at = (joins_leads c.args.map.now c.args.hole c.args.left c.args.right _ _ _ _ p.place p.name (leads_plain g.W.Words g.W.Shape.Shape _ _ _ c.in_ok-last.ensures.gathered) _ c.in_ok-write.ensures.value).at }
+    record {
+      at = (joins_leads c.args.map.now c.args.hole c.args.left c.args.right _ _ _ _ p.place p.name
+          (leads_plain g.W.Words g.W.Shape.Shape _ _ _ c.in_ok-last.ensures.gathered) _ c.in_ok-write.ensures.value).at;
+    }
 
 pub returns-clause-frame : goal.returns-clause-frame
 returns-clause-frame g c =
     let p = c.in_ok-last.last in
     record {
-      at = joins_own c.args.map.now c.args.hole c.args.left c.args.right _ _ _ _ p.place p.name (leads_plain g.W.Words g.W.Shape.Shape _ _ _ c.in_ok-last.ensures.gathered) _ c.in_ok-write.ensures.value c.in_ok-last.ensures.frame.at;
+      at = joins_own c.args.map.now c.args.hole c.args.left c.args.right _ _ _ _ p.place p.name
+          (leads_plain g.W.Words g.W.Shape.Shape _ _ _ c.in_ok-last.ensures.gathered) _ c.in_ok-write.ensures.value c.in_ok-last.ensures.frame.at;
     }
 
 pub returns-clause-reads : goal.returns-clause-reads
 returns-clause-reads g c =
     let p = c.in_ok-last.last in
     record {
-      at = joins_seen c.args.map.now c.args.hole c.args.left c.args.right _ _ _ _ p.place p.name (leads_plain g.W.Words g.W.Shape.Shape _ _ _ c.in_ok-last.ensures.gathered) _ c.in_ok-write.ensures.value c.in_ok-last.ensures.reads.at;
+      at = joins_seen c.args.map.now c.args.hole c.args.left c.args.right _ _ _ _ p.place p.name
+          (leads_plain g.W.Words g.W.Shape.Shape _ _ _ c.in_ok-last.ensures.gathered) _ c.in_ok-write.ensures.value c.in_ok-last.ensures.reads.at;
     }
 
 pub returns-in_err-last : goal.returns-in_err-last
@@ -44,5 +51,6 @@ returns-in_err-last g c =
 pub returns-in_err-write : goal.returns-in_err-write
 returns-in_err-write g c =
     let failed = c.from_residual-in_err-write.ensures.0 in
-    let on : GoesOn g.W.Words c.args.w.now c.write.new.self c.from_residual-in_err-write.result = goes_as (goes_then c.in_ok-last.ensures.goes_on (goes_call c.in_err-write.ensures)) (search rules) in
+    let on : GoesOn g.W.Words c.args.w.now c.write.new.self c.from_residual-in_err-write.result =
+    goes_as (goes_then c.in_ok-last.ensures.goes_on (goes_call c.in_err-write.ensures)) (search rules) in
     search IfOk-from_err

@@ -10,17 +10,20 @@ use Rattle.txn_tree_map.proofs.remove.cut.Goals as goal
 
 pub read-requires-clause-within : goal.read-requires-clause-within
 read-requires-clause-within g c =
-    let in_list = laid_block c.args.map.now.arena _ _ _ (g.met.W.Words.fits c.args.w.now c.requires.ready.sound) c.args.found.block (record { at = λ s fit. (c.requires.can.at s fit).found.is_at.laid.arena }) c.requires.block in
+    let in_list = laid_block c.args.map.now.arena _ _ _ (g.met.W.Words.fits c.args.w.now c.requires.ready.sound)
+    c.args.found.block (record { at = λ s fit. (c.requires.can.at s fit).found.is_at.laid.arena }) c.requires.block in
     omega (arith, in_list.0, c.place_of-at.ensures)
 
 pub read-requires-2-clause-within : goal.read-requires-2-clause-within
 read-requires-2-clause-within g c =
-    let in_list = laid_block c.args.map.now.arena _ _ _ (g.met.W.Words.fits c.args.w.now c.requires.ready.sound) c.args.found.block (record { at = λ s fit. (c.requires.can.at s fit).found.is_at.laid.arena }) c.requires.block in
+    let in_list = laid_block c.args.map.now.arena _ _ _ (g.met.W.Words.fits c.args.w.now c.requires.ready.sound)
+    c.args.found.block (record { at = λ s fit. (c.requires.can.at s fit).found.is_at.laid.arena }) c.requires.block in
     omega (arith, in_list.0, c.place_of-at.ensures, ap g.W.Shape.Shape.word_count c.in_ok-value.ensures.shape)
 
 pub read-requires-3-clause-within : goal.read-requires-3-clause-within
 read-requires-3-clause-within g c =
-    let in_list = laid_block c.args.map.now.arena _ _ _ (g.met.W.Words.fits c.args.w.now c.requires.ready.sound) c.args.found.block (record { at = λ s fit. (c.requires.can.at s fit).found.is_at.laid.arena }) c.requires.block in
+    let in_list = laid_block c.args.map.now.arena _ _ _ (g.met.W.Words.fits c.args.w.now c.requires.ready.sound)
+    c.args.found.block (record { at = λ s fit. (c.requires.can.at s fit).found.is_at.laid.arena }) c.requires.block in
     omega (arith, in_list.0, c.place_of-at.ensures, ap g.W.Shape.Shape.word_count (c.in_ok-left.ensures.shape ∙ c.in_ok-value.ensures.shape))
 
 pub join-requires-clause-pair : goal.join-requires-clause-pair
@@ -29,7 +32,8 @@ join-requires-clause-pair g c =
     let f = c.args.found in
     let a = c.place_of-at.result in
     let is_block : a ≡ block_at m.arena f.block = omega (arith, c.place_of-at.ensures) in
-    each_from g.W.Words g.W.Shape.Shape c.args.w.now c.read-3.new.self _ (c.in_ok-right.ensures.shape ∙ c.in_ok-left.ensures.shape ∙ c.in_ok-value.ensures.shape)
+    each_from g.W.Words g.W.Shape.Shape c.args.w.now c.read-3.new.self _ (c.in_ok-right.ensures.shape
+    ∙ c.in_ok-left.ensures.shape ∙ c.in_ok-value.ensures.shape)
     (can_join m f.place f.block a c.in_ok-value.value c.in_ok-left.left c.in_ok-right.right _ _ _ _ _ _ c.requires.block is_block
     c.in_ok-value.ensures.value c.in_ok-left.ensures.value c.in_ok-right.ensures.value (each_plain g.W.Words g.W.Shape.Shape _ _ c.requires.can))
 
@@ -81,17 +85,21 @@ returns-in_err-value g c =
 pub returns-in_err-left : goal.returns-in_err-left
 returns-in_err-left g c =
     let failed = c.from_residual-in_err-left.ensures.0 in
-    let on : GoesOn g.W.Words c.args.w.now c.read-2.new.self c.from_residual-in_err-left.result = goes_as (goes_then (goes_call c.in_ok-value.ensures) (goes_call c.in_err-left.ensures)) (search rules) in
+    let on : GoesOn g.W.Words c.args.w.now c.read-2.new.self c.from_residual-in_err-left.result =
+    goes_as (goes_then (goes_call c.in_ok-value.ensures) (goes_call c.in_err-left.ensures)) (search rules) in
     search IfOk-from_err
 
 pub returns-in_err-right : goal.returns-in_err-right
 returns-in_err-right g c =
     let failed = c.from_residual-in_err-right.ensures.0 in
-    let on : GoesOn g.W.Words c.args.w.now c.read-3.new.self c.from_residual-in_err-right.result = goes_as (goes_then (goes_then (goes_call c.in_ok-value.ensures) (goes_call c.in_ok-left.ensures)) (goes_call c.in_err-right.ensures)) (search rules) in
+    let on : GoesOn g.W.Words c.args.w.now c.read-3.new.self c.from_residual-in_err-right.result =
+    goes_as (goes_then (goes_then (goes_call c.in_ok-value.ensures) (goes_call c.in_ok-left.ensures)) (goes_call c.in_err-right.ensures)) (search rules) in
     search IfOk-from_err
 
 pub returns-in_err-join : goal.returns-in_err-join
 returns-in_err-join g c =
     let failed = c.from_residual-in_err-join.ensures.0 in
-    let on : GoesOn g.W.Words c.args.w.now c.join.new.w c.from_residual-in_err-join.result = goes_as (goes_then (goes_then (goes_then (goes_call c.in_ok-value.ensures) (goes_call c.in_ok-left.ensures)) (goes_call c.in_ok-right.ensures)) c.in_err-join.ensures.goes_on) (search rules) in
+    let on : GoesOn g.W.Words c.args.w.now c.join.new.w c.from_residual-in_err-join.result =
+    goes_as (goes_then (goes_then (goes_then (goes_call c.in_ok-value.ensures) (goes_call c.in_ok-left.ensures))
+    (goes_call c.in_ok-right.ensures)) c.in_err-join.ensures.goes_on) (search rules) in
     search IfOk-from_err

@@ -19,14 +19,16 @@ loop-init g c =
       origin = refl;
       stop = c.requires.ready.going;
       sound = c.requires.ready.sound;
-      looks = looks_none _ _ _ (IsLink m) _ (record { at = λ s fit. (passed_missing m c.args.key _ (c.requires.missing.at s fit), c.requires.missing.at s fit) });
+      looks = looks_none _ _ _ (IsLink m) _
+          (record { at = λ s fit. (passed_missing m c.args.key _ (c.requires.missing.at s fit), c.requires.missing.at s fit) });
     }
 
 pub look-requires-clause-top : goal.look-requires-clause-top
 look-requires-clause-top g c =
     let m = c.args.map.now in
     let i = c.loop.invariant in
-    looks_each g.W.Words g.W.Shape.Shape _ _ (IsLink m) (HasTop m c.loop.place) (looks_map _ _ _ (IsLink m) _ _ _ (λ s h. passed_top m c.args.key (priority_of c.args.key + 1) s c.loop.place c.loop.counter h.0) i.looks) i.shape
+    looks_each g.W.Words g.W.Shape.Shape _ _ (IsLink m) (HasTop m c.loop.place)
+    (looks_map _ _ _ (IsLink m) _ _ _ (λ s h. passed_top m c.args.key (priority_of c.args.key + 1) s c.loop.place c.loop.counter h.0) i.looks) i.shape
 
 pub returns-in-None : goal.returns-in-None
 returns-in-None g c =
@@ -37,7 +39,9 @@ returns-in-None g c =
     record {
       seat =
           looks_map _ _ _ (IsLink m) _ _ (IsSeat m c.args.key c.loop.place 0) (λ s h. seat_end m c.args.key s c.loop.place c.loop.counter h.0.0 h.1)
-          (looks_grow _ _ _ (IsLink m) _ _ (IsPlace c.loop.place) _ (IsEnd c.loop.place) (λ s p q. passed_place m c.args.key (priority_of c.args.key + 1) s c.loop.place c.loop.counter p.0) i.looks (looks_from g.W.Words g.W.Shape.Shape c.args.w.now c.loop.w _ _ (IsPlace c.loop.place) _ i.shape end));
+          (looks_grow _ _ _ (IsLink m) _ _ (IsPlace c.loop.place) _ (IsEnd c.loop.place)
+          (λ s p q. passed_place m c.args.key (priority_of c.args.key + 1) s c.loop.place c.loop.counter p.0)
+          i.looks (looks_from g.W.Words g.W.Shape.Shape c.args.w.now c.loop.w _ _ (IsPlace c.loop.place) _ i.shape end));
       goes_on = goes_as (goes_then (goes i.shape i.origin i.looks.begins i.stop i.sound) on) (search rules);
     }
 
@@ -55,7 +59,11 @@ returns-then-priority-rank g c =
           looks_map _ _ _ (IsLink m) _ _ (IsSeat m key c.loop.place (c.from-name.result + 1))
           (λ s h. subst (λ n. IsSeat m key c.loop.place n s) (omega (arith, c.from-name.ensures))
           (seat_here m key s c.loop.place c.loop.counter node.block node.key c.priority-rank.ensures.small c.priority.ensures.small h.0.1 h.0.0 h.1 le))
-          (looks_grow _ _ _ (IsLink m) _ _ (IsPlaceOrKey m c.loop.place node.block) _ (IsNamed m c.loop.place node.block node.key) (λ s p q. passed_near m c.args.key (priority_of c.args.key + 1) s c.loop.place c.loop.counter p.0 node.block node.key q) i.looks (looks_from g.W.Words g.W.Shape.Shape c.args.w.now c.loop.w _ _ (IsPlaceOrKey m c.loop.place node.block) _ i.shape named));
+          (looks_grow _ _ _ (IsLink m) _ _ (IsPlaceOrKey m c.loop.place node.block) _
+          (IsNamed m c.loop.place node.block node.key)
+          (λ s p q. passed_near m c.args.key (priority_of c.args.key + 1) s c.loop.place c.loop.counter p.0
+          node.block node.key q) i.looks (looks_from g.W.Words g.W.Shape.Shape c.args.w.now c.loop.w _ _
+          (IsPlaceOrKey m c.loop.place node.block) _ i.shape named));
       goes_on = goes_as (goes_then (goes i.shape i.origin i.looks.begins i.stop i.sound) on) (search rules);
     }
 
@@ -68,8 +76,10 @@ loop-preserved g c =
     let goes = c.in_ok-look.ensures.goes_on in
     let named = rw c.in-Some.is at c.in_ok-look.ensures.named in
     let below = rw c.in-Some.is at c.in_ok-look.ensures.block in
-    let higher : priority_of key + 1 ≤ priority_of node.key = omega (arith, c.if-priority-rank.false, c.priority.ensures.value, c.priority-rank.ensures.value) in
-    let next : block_at m.arena node.block + (if nat_lt key node.key then 2 else 3) ≡ c.place_of.result + c.side.result = omega (arith, c.place_of.ensures, c.side.ensures) in
+    let higher : priority_of key + 1 ≤ priority_of node.key =
+    omega (arith, c.if-priority-rank.false, c.priority.ensures.value, c.priority-rank.ensures.value) in
+    let next : block_at m.arena node.block + (if nat_lt key node.key then 2 else 3) ≡ c.place_of.result
+    + c.side.result = omega (arith, c.place_of.ensures, c.side.ensures) in
     record {
       shape = goes.shape ∙ i.shape;
       origin = goes.origin ∙ i.origin;
@@ -82,7 +92,11 @@ loop-preserved g c =
                 (missing_other m key s c.loop.place c.loop.counter node.block node.key h.0.1 h.0.0 h.1) higher),
             h.0.1,
           ))
-          (looks_grow _ _ _ (IsLink m) _ _ (IsPlaceOrKey m c.loop.place node.block) _ (IsNamed m c.loop.place node.block node.key) (λ s p q. passed_near m c.args.key (priority_of c.args.key + 1) s c.loop.place c.loop.counter p.0 node.block node.key q) i.looks (looks_from g.W.Words g.W.Shape.Shape c.args.w.now c.loop.w _ _ (IsPlaceOrKey m c.loop.place node.block) _ i.shape named));
+          (looks_grow _ _ _ (IsLink m) _ _ (IsPlaceOrKey m c.loop.place node.block) _
+          (IsNamed m c.loop.place node.block node.key)
+          (λ s p q. passed_near m c.args.key (priority_of c.args.key + 1) s c.loop.place c.loop.counter p.0
+          node.block node.key q) i.looks (looks_from g.W.Words g.W.Shape.Shape c.args.w.now c.loop.w _ _
+          (IsPlaceOrKey m c.loop.place node.block) _ i.shape named));
     }
 
 pub returns : goal.returns
@@ -90,7 +104,8 @@ returns g c =
     let m = c.args.map.now in
     let i = c.loop.invariant in
     record {
-      seat = looks_map _ _ _ (IsLink m) _ _ (IsSeat m c.args.key c.loop.place 0) (λ s h. seat_all m c.args.key s c.loop.place c.loop.counter (omega (arith, c.loop-test.false)) h.0) i.looks;
+      seat = looks_map _ _ _ (IsLink m) _ _ (IsSeat m c.args.key c.loop.place 0)
+          (λ s h. seat_all m c.args.key s c.loop.place c.loop.counter (omega (arith, c.loop-test.false)) h.0) i.looks;
       goes_on = goes_as (goes i.shape i.origin i.looks.begins i.stop i.sound) i.stop;
     }
 
@@ -99,5 +114,6 @@ returns-in_err-look g c =
     let i = c.loop.invariant in
     let on = c.in_err-look.ensures.goes_on in
     let failed = c.from_residual.ensures.0 in
-    let goes : GoesOn g.W.Words c.args.w.now c.look.new.w c.from_residual.result = goes_as (goes_then (goes i.shape i.origin i.looks.begins i.stop i.sound) on) (search rules) in
+    let goes : GoesOn g.W.Words c.args.w.now c.look.new.w c.from_residual.result =
+    goes_as (goes_then (goes i.shape i.origin i.looks.begins i.stop i.sound) on) (search rules) in
     search IfOk-from_err

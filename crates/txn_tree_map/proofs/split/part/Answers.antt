@@ -50,8 +50,10 @@ loop-preserved g c =
       sound = one.goes_on.sound;
       begins = begins_trans _ _ _ i.begins one.goes_on.begins;
       reads = seen_more m c.args.key c.args.block c.args.name _ _ _ _ _ c.loop.counter e.smaller e.greater e.rest one.goes_on.begins i.parted i.reads one.reads;
-      own = own_more m c.args.key c.args.block c.args.name _ _ _ _ _ c.loop.counter e.smaller e.greater e.rest one.goes_on.begins i.parted i.own one.frame.appended;
-      parted = parted_more m c.args.key c.args.block c.args.name _ _ _ _ _ c.loop.counter e.smaller e.greater e.rest f.smaller f.greater f.rest one.goes_on.begins i.parted
+      own = own_more m c.args.key c.args.block c.args.name _ _ _ _ _ c.loop.counter e.smaller e.greater e.rest
+          one.goes_on.begins i.parted i.own one.frame.appended;
+      parted = parted_more m c.args.key c.args.block c.args.name _ _ _ _ _ c.loop.counter e.smaller e.greater e.rest
+          f.smaller f.greater f.rest one.goes_on.begins i.parted
           (leads_from g.W.Words g.W.Shape.Shape c.args.w.now c.loop.w c.part_one.new.w _ i.shape one.parted);
     }
 
@@ -61,7 +63,10 @@ returns-then-ends-eq0 g c =
     let i = c.loop.invariant in
     let e = c.loop.ends in
     record {
-      parted = record { at = λ s fit. parted_end m c.args.key c.args.block c.args.name c.loop.counter e.smaller e.greater e.rest _ _ (c.loop.invariant.parted s fit) c.if-ends-eq0.true };
+      parted = record {
+        at = λ s fit. parted_end m c.args.key c.args.block c.args.name c.loop.counter e.smaller
+            e.greater e.rest _ _ (c.loop.invariant.parted s fit) c.if-ends-eq0.true;
+      };
       frame = record { at = c.loop.invariant.own };
       reads = record { at = c.loop.invariant.reads };
       goes_on = goes_as (goes i.shape i.origin i.begins i.stop i.sound) i.stop;
@@ -73,7 +78,10 @@ returns g c =
     let i = c.loop.invariant in
     let e = c.loop.ends in
     record {
-      parted = record { at = λ s fit. parted_all m c.args.key c.args.block c.args.name c.loop.counter e.smaller e.greater e.rest _ _ (c.loop.invariant.parted s fit) (omega (arith, c.loop-test.false)) };
+      parted = record {
+        at = λ s fit. parted_all m c.args.key c.args.block c.args.name c.loop.counter e.smaller
+            e.greater e.rest _ _ (c.loop.invariant.parted s fit) (omega (arith, c.loop-test.false));
+      };
       frame = record { at = c.loop.invariant.own };
       reads = record { at = c.loop.invariant.reads };
       goes_on = goes_as (goes i.shape i.origin i.begins i.stop i.sound) i.stop;
@@ -84,5 +92,6 @@ returns-in_err-ends g c =
     let i = c.loop.invariant in
     let on = c.in_err-ends.ensures.goes_on in
     let failed = c.from_residual.ensures.0 in
-    let goes : GoesOn g.W.Words c.args.w.now c.part_one.new.w c.from_residual.result = goes_as (goes_then (goes i.shape i.origin i.begins i.stop i.sound) on) (search rules) in
+    let goes : GoesOn g.W.Words c.args.w.now c.part_one.new.w c.from_residual.result =
+    goes_as (goes_then (goes i.shape i.origin i.begins i.stop i.sound) on) (search rules) in
     search IfOk-from_err

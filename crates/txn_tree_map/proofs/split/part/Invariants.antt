@@ -15,9 +15,11 @@ invariant-loop g l =
       sound : words.is_sound l.w;
       begins : Begins (words.trace l.fn.w) (words.trace l.w);
       reads : (s : List ℕ) → Fits (g.W.Shape.Shape.word_count (words.shape l.fn.w)) (g.W.Shape.Shape.good (words.shape l.fn.w)) (words.trace l.w) s
-          → AppendsReads (words.trace l.fn.w) (words.trace l.w) (IsSplitSeen l.map l.key l.block l.name (after (words.trace l.fn.w) s) (after (words.trace l.w) s));
+          → AppendsReads (words.trace l.fn.w) (words.trace l.w)
+          (IsSplitSeen l.map l.key l.block l.name (after (words.trace l.fn.w) s) (after (words.trace l.w) s));
       own : (s : List ℕ) → Fits (g.W.Shape.Shape.word_count (words.shape l.fn.w)) (g.W.Shape.Shape.good (words.shape l.fn.w)) (words.trace l.w) s
-          → AppendsOnly (words.trace l.fn.w) (words.trace l.w) (IsSplitOwn l.map l.key l.block l.name (after (words.trace l.fn.w) s) (after (words.trace l.w) s));
+          → AppendsOnly (words.trace l.fn.w) (words.trace l.w)
+          (IsSplitOwn l.map l.key l.block l.name (after (words.trace l.fn.w) s) (after (words.trace l.w) s));
       parted : (s : List ℕ) → Fits (g.W.Shape.Shape.word_count (words.shape l.fn.w)) (g.W.Shape.Shape.good (words.shape l.fn.w)) (words.trace l.w) s
           → IsParted l.map l.key l.block l.name l.counter l.ends.smaller l.ends.greater l.ends.rest (after (words.trace l.fn.w) s) (after (words.trace l.w) s);
     }

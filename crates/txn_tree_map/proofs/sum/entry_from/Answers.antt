@@ -14,7 +14,8 @@ prove-unreachable-requires g c =
     let node = c.in-Some.node in
     let nearest = rw c.in-Some.is at c.in_ok-first_at.ensures.nearest in
     let goes = c.in_ok-first_at.ensures.goes_on in
-    let some : SomeFits (g.W.Shape.Shape.word_count (g.W.Words.shape c.args.w.now)) (g.W.Shape.Shape.good (g.W.Words.shape c.args.w.now)) (g.W.Words.trace c.first_at.new.w) =
+    let some : SomeFits (g.W.Shape.Shape.word_count (g.W.Words.shape c.args.w.now))
+    (g.W.Shape.Shape.good (g.W.Words.shape c.args.w.now)) (g.W.Words.trace c.first_at.new.w) =
     some_at g.W.Shape.Shape.word_count g.W.Shape.Shape.good _ _ _ goes.shape (g.met.W.Words.fits c.first_at.new.w goes.sound) in
     let lt : node.block < c.args.map.now.arena.blocks = node_below c.args.map.now _ _ _ _ c.args.least c.args.high node nearest some in
     omega (arith, lt, c.if-prove.true)
@@ -24,7 +25,8 @@ read-requires-clause-within g c =
     let m = c.args.map.now in
     let node = c.in-Some.node in
     let lt : node.block < m.arena.blocks = omega (arith, c.if-prove.false) in
-    let in_list = laid_block m.arena _ _ _ (g.met.W.Words.fits c.args.w.now c.requires.ready.sound) node.block (record { at = λ s fit. (c.requires.order.at s fit).holds.laid.arena }) lt in
+    let in_list = laid_block m.arena _ _ _ (g.met.W.Words.fits c.args.w.now c.requires.ready.sound) node.block
+    (record { at = λ s fit. (c.requires.order.at s fit).holds.laid.arena }) lt in
     omega (arith, in_list.0, ap g.W.Shape.Shape.word_count c.in_ok-first_at.ensures.goes_on.shape, c.place_of.ensures)
 
 pub returns-in-None-clause-none : goal.returns-in-None-clause-none
@@ -63,13 +65,17 @@ returns-in_ok-value-in-Some-clause-reads g c =
     let q = c.place_of.result + 1 in
     let is_value : q ≡ block_at m.arena node.block + 1 = omega (arith, c.place_of.ensures) in
     let nearest = rw c.in-Some.is at c.in_ok-first_at.ensures.nearest in
-    record { at = value_from m _ _ _ _ c.args.least c.args.high node _ q c.in_ok-value-in-Some.value is_value nearest c.in_ok-value-in-Some.ensures.value c.if-key-high.false (each_plain g.W.Words g.W.Shape.Shape _ _ c.requires.order) }
+    record {
+      at = value_from m _ _ _ _ c.args.least c.args.high node _ q c.in_ok-value-in-Some.value is_value nearest
+          c.in_ok-value-in-Some.ensures.value c.if-key-high.false (each_plain g.W.Words g.W.Shape.Shape _ _ c.requires.order);
+    }
 
 pub returns-in_ok-value-in-Some-clause-low : goal.returns-in_ok-value-in-Some-clause-low
 returns-in_ok-value-in-Some-clause-low g c =
     let nearest = rw c.in-Some.is at c.in_ok-first_at.ensures.nearest in
     let goes = c.in_ok-first_at.ensures.goes_on in
-    let some : SomeFits (g.W.Shape.Shape.word_count (g.W.Words.shape c.args.w.now)) (g.W.Shape.Shape.good (g.W.Words.shape c.args.w.now)) (g.W.Words.trace c.first_at.new.w) =
+    let some : SomeFits (g.W.Shape.Shape.word_count (g.W.Words.shape c.args.w.now))
+    (g.W.Shape.Shape.good (g.W.Words.shape c.args.w.now)) (g.W.Words.trace c.first_at.new.w) =
     some_at g.W.Shape.Shape.word_count g.W.Shape.Shape.good _ _ _ goes.shape (g.met.W.Words.fits c.first_at.new.w goes.sound) in
     node_from c.args.map.now _ _ _ _ c.args.least c.args.high c.in-Some.node nearest some
 
@@ -82,5 +88,6 @@ returns-in_err-first_at g c =
 pub returns-in_err-value-in-Some : goal.returns-in_err-value-in-Some
 returns-in_err-value-in-Some g c =
     let failed = c.from_residual-in_err-value-in-Some.ensures.0 in
-    let on : GoesOn g.W.Words c.args.w.now c.read.new.self c.from_residual-in_err-value-in-Some.result = goes_as (goes_then c.in_ok-first_at.ensures.goes_on (goes_call c.in_err-value-in-Some.ensures)) (search rules) in
+    let on : GoesOn g.W.Words c.args.w.now c.read.new.self c.from_residual-in_err-value-in-Some.result =
+    goes_as (goes_then c.in_ok-first_at.ensures.goes_on (goes_call c.in_err-value-in-Some.ensures)) (search rules) in
     search IfOk-from_err

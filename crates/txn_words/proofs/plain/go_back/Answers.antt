@@ -21,7 +21,8 @@ loop-place-init g c =
 pub put_back-requires : goal.put_back-requires
 put_back-requires g c =
     let inv = c.loop-place.invariant in
-    let stays : c.loop-place.place ≤ count_writes c.loop-place.plain.trace = mark_stays c.args.plain.now.trace c.loop-place.plain.trace c.loop-place.place inv.back.begins inv.place in
+    let stays : c.loop-place.place ≤ count_writes c.loop-place.plain.trace =
+    mark_stays c.args.plain.now.trace c.loop-place.plain.trace c.loop-place.place inv.back.begins inv.place in
     let more : c.args.to < c.loop-place.place = c.loop-place-test.true in
     record { place = omega (arith, stays, more) }
 
@@ -38,8 +39,10 @@ loop-place-preserved g c =
       place = omega (arith, under);
       same = same;
       fits = c.in_ok-put_back.ensures.fits;
-      back = one_more_back (g.S.Shape.word_count first.shape) (g.S.Shape.good first.shape) (c.loop-place.place - 1) c.loop-place.place first.trace old.trace new.trace next lt inv.back
-          (subst (λ z. PutsBack (g.S.Shape.word_count z) (g.S.Shape.good z) (c.loop-place.place - 1) old.trace new.trace) (ap shape_of inv.same) c.in_ok-put_back.ensures.back)
+      back = one_more_back (g.S.Shape.word_count first.shape) (g.S.Shape.good first.shape) (c.loop-place.place - 1)
+          c.loop-place.place first.trace old.trace new.trace next lt inv.back
+          (subst (λ z. PutsBack (g.S.Shape.word_count z) (g.S.Shape.good z) (c.loop-place.place - 1) old.trace
+          new.trace) (ap shape_of inv.same) c.in_ok-put_back.ensures.back)
           (new.origin, subst (λ z. Fits (g.S.Shape.word_count z) (g.S.Shape.good z) new.trace new.origin) (ap shape_of same) c.in_ok-put_back.ensures.fits);
     }
 

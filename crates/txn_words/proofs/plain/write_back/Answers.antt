@@ -4,7 +4,8 @@ use Rattle.history_model.proofs.UndoLaws.{newest_first}
 use Rattle.txn_words.proofs.plain.write_back.Goals as goal
 
 -- one note written back, and the others after it
-one_back : (older notes : Notes) (a old : ℕ) (words origin : List ℕ) → notes ≡ older ++ (a, old) ∷ [] → written_back notes words ≡ origin → written_back older (slice_set words a old) ≡ origin
+one_back : (older notes : Notes) (a old : ℕ) (words origin : List ℕ) → notes ≡ older ++ (a, old) ∷ []
+    → written_back notes words ≡ origin → written_back older (slice_set words a old) ≡ origin
 one_back older notes a old words origin last e = sym (newest_first older a old words) ∙ ap (λ (l : Notes). written_back l words) (sym last) ∙ e
 
 -- none is left

@@ -8,6 +8,7 @@ join_seat-requires g c = let s = c.requires.seat in let o = c.requires.other in 
   c.requires.table.1,
   o.0,
   c.requires.words,
-  joins_at (IsGood (g.S.Shape.word_count c.args.table.now.key.shape) (g.S.Shape.good c.args.table.now.key.shape)) c.args.table.now.key.seats c.args.table.now.key.base.items c.args.seat.now.id c.args.other.id c.args.seat.now.me.0 c.args.other.me.0
+  joins_at (IsGood (g.S.Shape.word_count c.args.table.now.key.shape) (g.S.Shape.good c.args.table.now.key.shape))
+      c.args.table.now.key.seats c.args.table.now.key.base.items c.args.seat.now.id c.args.other.id c.args.seat.now.me.0 c.args.other.me.0
       s.0 o.1 (s.1, s.2) (o.2, o.3),
 )

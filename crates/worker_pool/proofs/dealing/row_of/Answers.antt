@@ -12,8 +12,11 @@ loop-k-preserved c =
     let is = c.in_ok-push.ensures.items in
     let e = c.pass_of.ensures in
     let within : k < length c.args.owners.now.items = omega (arith, c.loop-k-test.true, c.loop-k.auto.k-end, c.len-k-end.ensures, c.args.owners.now.ok) in
-    let some : 1 < (worker_view owner).parts = still_over c.args.owners.now.items c.loop-k.owners.items c.loop-k.row.items k owner (sym i.at) within c.index_mut.ensures.value c.requires.parts i.cut in
+    let some : 1 < (worker_view owner).parts =
+    still_over c.args.owners.now.items c.loop-k.owners.items c.loop-k.row.items k owner (sym i.at) within
+    c.index_mut.ensures.value c.requires.parts i.cut in
     record {
       at = omega (arith, i.at, ap (λ l. length l) is, length-append c.loop-k.row.items (pass ∷ []));
-      cut = cutting_more c.args.owners.now.items c.loop-k.owners.items c.loop-k.row.items c.push.new.self.items k owner c.pass_of.new.owner pass is (sym i.at) within c.index_mut.ensures.value e.same e.deque (omega (arith, some)) e.given e.left i.cut;
+      cut = cutting_more c.args.owners.now.items c.loop-k.owners.items c.loop-k.row.items c.push.new.self.items k owner
+          c.pass_of.new.owner pass is (sym i.at) within c.index_mut.ensures.value e.same e.deque (omega (arith, some)) e.given e.left i.cut;
     }

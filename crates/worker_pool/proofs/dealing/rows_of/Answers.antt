@@ -17,5 +17,6 @@ loop-worker-preserved c =
       count = omega (arith, i.count, ap (λ l. length l) is, length-append c.loop-worker.rows.items (row ∷ []));
       owners = less_more n c.args.owners.now.items c.loop-worker.owners.items c.row_of.new.owners.items i.owners e.owners;
       new = All-same (λ (r : Vec (Pass ℕ Deal Global) Global). IsNewRow c.args.owners.now.items r.items) _ _ is
-          (All-push (λ (r : Vec (Pass ℕ Deal Global) Global). IsNewRow c.args.owners.now.items r.items) c.loop-worker.rows.items row i.new (row_before n c.args.owners.now.items c.loop-worker.owners.items row.items i.owners e.row));
+          (All-push (λ (r : Vec (Pass ℕ Deal Global) Global). IsNewRow c.args.owners.now.items r.items)
+          c.loop-worker.rows.items row i.new (row_before n c.args.owners.now.items c.loop-worker.owners.items row.items i.owners e.row));
     }

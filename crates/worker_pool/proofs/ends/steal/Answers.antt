@@ -8,4 +8,5 @@ pub steal_as-requires-clause-takes : goal.steal_as-requires-clause-takes
 steal_as-requires-clause-takes g c = takes c.loop.pass.id (view c.loop.pass) (subst (λ (v : Deal). 0 < v.parts) (sym c.loop.invariant.view_is) c.requires.part)
 
 pub steal_as-requires-clause-empty : goal.steal_as-requires-clause-empty
-steal_as-requires-clause-empty g c = finds_few c.loop.pass.id (view c.loop.pass) (min (stealer_flavor c.args.thief.now) 1) (ap (λ (k : ℕ). min k 1) c.requires.fifo)
+steal_as-requires-clause-empty g c =
+    finds_few c.loop.pass.id (view c.loop.pass) (min (stealer_flavor c.args.thief.now) 1) (ap (λ (k : ℕ). min k 1) c.requires.fifo)

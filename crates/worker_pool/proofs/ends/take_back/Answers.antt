@@ -3,4 +3,5 @@ use Rattle.worker_pool.proofs.Steps.{merges}
 use Rattle.worker_pool.proofs.ends.take_back.Goals as goal
 
 pub absorb-requires-clause-rule : goal.absorb-requires-clause-rule
-absorb-requires-clause-rule c = merges (worker_port c.args.owner.now) (worker_view c.args.owner.now) c.args.pass.id (view c.args.pass) c.requires.part c.requires.other
+absorb-requires-clause-rule c = merges (worker_port c.args.owner.now) (worker_view c.args.owner.now) c.args.pass.id
+    (view c.args.pass) c.requires.part c.requires.other

@@ -14,13 +14,15 @@ loop-owner-init g c = record { all_come = refl; len_is = omega arith; emptied = 
 pub drain-requires-clause-all : goal.drain-requires-clause-all
 drain-requires-clause-all g c =
     let at = c.loop-owner in
-    next_has HasAll at.yielded (into_iter_items at.owner-iterator) (into_iter_items c.next.new.self) c.args.owners.items c.in-Some.owner c.in-Some.ensures.steps.0
+    next_has HasAll at.yielded (into_iter_items at.owner-iterator) (into_iter_items c.next.new.self) c.args.owners.items
+    c.in-Some.owner c.in-Some.ensures.steps.0
     (at.invariant.all_come ∙ c.into_iter-owner-iterator.ensures.into_iter_gives.0) c.requires.all
 
 pub drain-requires-clause-fifo : goal.drain-requires-clause-fifo
 drain-requires-clause-fifo g c =
     let at = c.loop-owner in
-    next_has (λ w. worker_flavor w ≡ 0) at.yielded (into_iter_items at.owner-iterator) (into_iter_items c.next.new.self) c.args.owners.items c.in-Some.owner c.in-Some.ensures.steps.0
+    next_has (λ w. worker_flavor w ≡ 0) at.yielded (into_iter_items at.owner-iterator) (into_iter_items c.next.new.self)
+    c.args.owners.items c.in-Some.owner c.in-Some.ensures.steps.0
     (at.invariant.all_come ∙ c.into_iter-owner-iterator.ensures.into_iter_gives.0) c.requires.fifo
 
 pub loop-owner-preserved : goal.loop-owner-preserved
@@ -31,7 +33,8 @@ loop-owner-preserved g c =
     record {
       all_come = one_given at.yielded (into_iter_items at.owner-iterator) (into_iter_items c.next.new.self) _ c.in-Some.owner steps.0 i.all_come;
       len_is = omega (arith, i.len_is, steps.1, ap (λ l. length l) steps.0);
-      emptied = λ x. drained_push at.yielded c.in-Some.owner x (times x c.args.left.now.items) (times x at.left.items) (times x c.drain.new.left.items) (i.emptied x) (c.in_ok-drain.ensures x);
+      emptied = λ x. drained_push at.yielded c.in-Some.owner x (times x c.args.left.now.items) (times x at.left.items)
+          (times x c.drain.new.left.items) (i.emptied x) (c.in_ok-drain.ensures x);
     }
 
 pub returns-in_err-drain : goal.returns-in_err-drain

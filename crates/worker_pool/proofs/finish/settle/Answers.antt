@@ -14,5 +14,10 @@ drain_all-requires g c =
 
 pub returns : goal.returns
 returns g c = on_ok_weaker c.drain_all.result
-    (λ emptied x. omega (arith, emptied x, c.take_rows_back.ensures.took x, same_dealt (length c.args.rows.items) c.args.owners.items c.take_rows_back.new.owners.items x c.take_rows_back.ensures.owners))
+    (λ emptied x. omega (
+      arith,
+      emptied x,
+      c.take_rows_back.ensures.took x,
+      same_dealt (length c.args.rows.items) c.args.owners.items c.take_rows_back.new.owners.items x c.take_rows_back.ensures.owners,
+    ))
     c.drain_all.ensures

@@ -22,7 +22,8 @@ take_row_back-requires c =
     let i = at.invariant in
     let row = c.in-Some.row in
     let whole = i.all_come ∙ c.into_iter-row-iterator.ensures.into_iter_gives.0 in
-    let its = next_has (λ (r : Vec (Pass ℕ Deal Global) Global). IsWholeRow c.args.owners.now.items r.items) at.yielded (into_iter_items at.row-iterator) (into_iter_items c.next.new.self) c.args.rows.items row c.in-Some.ensures.steps.0 whole c.requires.rows in
+    let its = next_has (λ (r : Vec (Pass ℕ Deal Global) Global). IsWholeRow c.args.owners.now.items r.items) at.yielded
+    (into_iter_items at.row-iterator) (into_iter_items c.next.new.self) c.args.rows.items row c.in-Some.ensures.steps.0 whole c.requires.rows in
     let now = whole_after (length at.yielded) c.args.owners.now.items at.owners.items row.items i.owners its in
     record { guests = now.guests; whole = now.whole }
 

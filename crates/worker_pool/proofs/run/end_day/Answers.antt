@@ -34,5 +34,6 @@ returns c =
           e.passes e.done closed.desk.0 closed.desk.1 closed.desk.2 closed.legal closed.words closed.seen closed.owners
           c.refused_changes_nothing.ensures c.requires.stands
           sorted.permutation (IsNonDecreasingBy-from_sort_by_key serial_of _ sorted.sorted (λ a r q k. search rules));
-      whole = whole_of_all c.args.desk c.args.input.now c.args.shares.items c.requires.done c.in_ok-passes.done.items c.sort_unstable_by_key.new.self.items e.done sorted.permutation;
+      whole = whole_of_all c.args.desk c.args.input.now c.args.shares.items c.requires.done c.in_ok-passes.done.items
+          c.sort_unstable_by_key.new.self.items e.done sorted.permutation;
     }

@@ -9,6 +9,8 @@ pub last_round-requires-clause-dealt : goal.last_round-requires-clause-dealt
 last_round-requires-clause-dealt g c κs within =
     let workers = c.in_ok-workers.workers.items in
     let back = written_back c.in_ok-workers.workers.len c.work_all.new.workers _ (omega (arith, c.work_all.auto.workers, c.as_mut_slice.ensures.len)) in
-    let dealt = ap (map (λ (worker : Worker). dealt_to worker.taker)) back ∙ c.work_all.ensures.dealt ∙ ap (map (λ (worker : Worker). dealt_to worker.taker)) c.as_mut_slice.ensures.value in
+    let dealt = ap (map (λ (worker : Worker). dealt_to worker.taker)) back ∙ c.work_all.ensures.dealt
+    ∙ ap (map (λ (worker : Worker). dealt_to worker.taker)) c.as_mut_slice.ensures.value in
     subst (λ (l : List (List ℕ)). IsDealtOut (length c.args.shop.now.input.now.callers) l c.args.left.items) (sym dealt)
-    (dealt_to_all (length c.args.shop.now.input.now.callers) workers c.args.owners.items c.args.left.items c.in_ok-workers.ensures.owners (omega (arith, c.requires.count.0, c.requires.some)) c.requires.dealt)
+    (dealt_to_all (length c.args.shop.now.input.now.callers) workers c.args.owners.items c.args.left.items
+    c.in_ok-workers.ensures.owners (omega (arith, c.requires.count.0, c.requires.some)) c.requires.dealt)

@@ -30,7 +30,8 @@ run_caller-requires-clause-room g c κs within =
     let at = c.loop-caller in
     let i = at.invariant in
     let whole = i.all_come ∙ c.into_iter-caller-iterator.ensures.into_iter_gives.0 in
-    let few : length at.yielded + length (into_iter_items at.caller-iterator) ≡ length c.args.left.items = sym (length-append at.yielded (into_iter_items at.caller-iterator)) ∙ ap (λ l. length l) whole in
+    let few : length at.yielded + length (into_iter_items at.caller-iterator) ≡ length c.args.left.items =
+    sym (length-append at.yielded (into_iter_items at.caller-iterator)) ∙ ap (λ l. length l) whole in
     omega (arith, i.count, few, c.requires.left)
 
 pub loop-caller-preserved : goal.loop-caller-preserved
@@ -45,7 +46,8 @@ loop-caller-preserved g c =
       all_come = one_given at.yielded (into_iter_items at.caller-iterator) (into_iter_items c.next.new.self) _ caller steps.0 i.all_come;
       len_is = omega (arith, i.len_is, steps.1, ap (λ l. length l) steps.0);
       who = e.who ∙ i.who;
-      made = subst (λ k. HasMade c.args.shop.now.desk.now c.args.shop.now.input.now k c.run_caller.new.share.pass c.run_caller.new.share.done.items) same e.made;
+      made = subst (λ k. HasMade c.args.shop.now.desk.now c.args.shop.now.input.now k c.run_caller.new.share.pass
+          c.run_caller.new.share.done.items) same e.made;
       count = omega (arith, e.count, i.count, length-append at.yielded (caller ∷ []));
       run = λ h more is before.
           let mid : ℕ → ℕ = λ x. h x + times x at.yielded in

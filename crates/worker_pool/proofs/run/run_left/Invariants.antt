@@ -14,5 +14,6 @@ invariant-loop-caller g l = record {
   who : l.share.pass.view.who ≡ l.fn.share.pass.view.who;
   made : HasMade l.shop.desk.now l.shop.input.now (seat_of l.fn.share) l.share.pass l.share.done.items;
   count : length l.share.done.items ≤ MOST_CALLERS * MOST_SCRIPTS + length l.yielded * MOST_SCRIPTS;
-  run : (h more : ℕ → ℕ) → ((x : ℕ) → more x ≡ h x + times x l.yielded) → RunsEach l.shop.input.now h l.fn.share.done.items → RunsEach l.shop.input.now more l.share.done.items;
+  run : (h more : ℕ → ℕ) → ((x : ℕ) → more x ≡ h x + times x l.yielded)
+      → RunsEach l.shop.input.now h l.fn.share.done.items → RunsEach l.shop.input.now more l.share.done.items;
 }

@@ -33,19 +33,26 @@ loop-pass-preserved g c =
     let new = next_pass desk c.args.passes.items c.requires.passes at.yielded (into_iter_items at.pass-iterator) _ pass steps.0 whole in
     let many : length at.workers.items ≡ length at.yielded = owner_seated at.workers.items at.yielded i.numbers in
     let here = next_owner at.workers.items at.owners.items c.pop.new.self.items owners own c.in-Some-pop.ensures.items i.owners in
-    let within : length at.yielded < length c.args.passes.items = omega (arith, ap (λ l. length l) whole, length-append at.yielded (into_iter_items at.pass-iterator), ap (λ l. length l) steps.0) in
+    let within : length at.yielded < length c.args.passes.items =
+    omega (arith, ap (λ l. length l) whole, length-append at.yielded (into_iter_items at.pass-iterator), ap (λ l. length l) steps.0) in
     let seat : c.len.result ≡ length at.yielded = omega (arith, c.len.ensures, at.workers.ok, many) in
     let own_at = subst (λ n. own ≡ get_or owners n own) many here in
-    let end = new_end thieves owners (length c.args.passes.items) (length at.yielded) taker c.requires.shown c.requires.count.0 c.requires.few c.requires.free its own_at within seat refl in
-    let unused = new_unused thieves owners (length c.args.passes.items) (length at.yielded) taker c.requires.shown c.requires.count.0 c.requires.few c.requires.free its own_at within refl in
+    let end = new_end thieves owners (length c.args.passes.items) (length at.yielded) taker c.requires.shown
+    c.requires.count.0 c.requires.few c.requires.free its own_at within seat refl in
+    let unused = new_unused thieves owners (length c.args.passes.items) (length at.yielded) taker c.requires.shown
+    c.requires.count.0 c.requires.few c.requires.free its own_at within refl in
     record {
       all_come = one_given at.yielded (into_iter_items at.pass-iterator) (into_iter_items c.next.new.self) _ pass steps.0 i.all_come;
       left = omega (arith, i.left, steps.1, ap (λ l. length l) steps.0);
       level = omega (arith, i.level, steps.1, ap (λ l. length l) c.in-Some-pop-2.ensures.items, length-append c.pop-in-loop-pass.new.self.items (row ∷ []));
-      owners = owners_more at.workers.items c.push.new.self.items at.owners.items c.pop.new.self.items owners worker c.in-Some-pop.ensures.items c.in_ok-push.ensures.items i.owners;
+      owners = owners_more at.workers.items c.push.new.self.items at.owners.items c.pop.new.self.items owners worker
+          c.in-Some-pop.ensures.items c.in_ok-push.ensures.items i.owners;
       rows = left.0;
-      seated = All-same (IsSeated thieves desk) _ _ c.in_ok-push.ensures.items (All-push (IsSeated thieves desk) at.workers.items worker i.seated (seated_at thieves desk (length at.yielded) worker end unused new c.new.ensures.items refl));
-      numbers = numbers_push number_of (λ (p : PassView). number p.view) at.workers.items c.push.new.self.items at.yielded worker pass c.in_ok-push.ensures.items refl i.numbers;
+      seated = All-same (IsSeated thieves desk) _ _ c.in_ok-push.ensures.items
+          (All-push (IsSeated thieves desk) at.workers.items worker i.seated
+          (seated_at thieves desk (length at.yielded) worker end unused new c.new.ensures.items refl));
+      numbers = numbers_push number_of (λ (p : PassView). number p.view) at.workers.items c.push.new.self.items
+          at.yielded worker pass c.in_ok-push.ensures.items refl i.numbers;
     }
 
 pub returns-clause-numbers : goal.returns-clause-numbers

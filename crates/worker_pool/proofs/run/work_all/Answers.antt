@@ -11,4 +11,5 @@ returns-clause-numbers g c = map_same number_of c.args.workers.now c.for_each_mu
 
 pub returns-clause-dealt : goal.returns-clause-dealt
 returns-clause-dealt g c = map_same (λ (worker : Worker). dealt_to worker.taker) c.args.workers.now c.for_each_mut.new.s c.for_each_mut.auto.s
-    (λ k d lt. let x = (c.for_each_mut.ensures k d lt).1 in ap (λ (worker : Worker). dealt_to worker.taker) (sym x.left) ∙ (x.call.2 ∙ ap (λ (worker : Worker). dealt_to worker.taker) x.argument_is))
+    (λ k d lt. let x = (c.for_each_mut.ensures k d lt).1 in ap (λ (worker : Worker). dealt_to worker.taker) (sym x.left)
+    ∙ (x.call.2 ∙ ap (λ (worker : Worker). dealt_to worker.taker) x.argument_is))

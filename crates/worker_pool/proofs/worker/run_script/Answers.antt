@@ -29,8 +29,10 @@ returns-clause-made g c = λ done made.
     } in
     let shape_is : job.shape ≡ desk.shape = ap (λ (j : ScriptOn). j.shape) c.new-job.ensures ∙ sym c.requires.fit.shape_is in
     let script_is : job.script ≡ script_at input c.args.caller c.args.index = ap (λ (j : ScriptOn). j.script) c.new-job.ensures ∙ c.script-script.ensures in
-    let gets = subst (λ (s : BooksShape). GetsEntry desk.base (ScriptMeans s (script_at input c.args.caller c.args.index)) (number old.view) (old.view.call + 1) old.view.seen new.view.seen receipt) shape_is
-    (subst (λ (ops : List Op). GetsEntry desk.base (ScriptMeans job.shape ops) (number old.view) (old.view.call + 1) old.view.seen new.view.seen receipt) script_is e.entry) in
+    let gets = subst (λ (s : BooksShape). GetsEntry desk.base
+    (ScriptMeans s (script_at input c.args.caller c.args.index)) (number old.view) (old.view.call + 1) old.view.seen new.view.seen receipt) shape_is
+    (subst (λ (ops : List Op). GetsEntry desk.base (ScriptMeans job.shape ops) (number old.view) (old.view.call + 1)
+    old.view.seen new.view.seen receipt) script_is e.entry) in
     let named : c.who.result ≡ number old.view = c.who.ensures.number ∙ ap (λ (w : List ℕ). slice_index w 0) e.seat.who in
     made_more desk input (number old.view) (old.view.call + 1) old.view.seen new.view.seen receipt item gets
     (record { seat = named; call = refl; serial = refl; restarts = refl; reply = refl })

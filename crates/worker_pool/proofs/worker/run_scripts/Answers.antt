@@ -15,14 +15,17 @@ loop-index-preserved g c =
     let is = c.in_ok-push.ensures.items in
     let same : number at.pass.view ≡ number c.args.pass.now.view = ap (λ (w : List ℕ). slice_index w 0) i.who in
     let place = c.in_ok-item.ensures.place in
-    let made = c.in_ok-item.ensures.made at.done.items (subst (λ n. HasMade c.args.shop.now.desk.now c.args.shop.now.input.now n at.pass at.done.items) (sym same) i.made) in
+    let made = c.in_ok-item.ensures.made at.done.items
+    (subst (λ n. HasMade c.args.shop.now.desk.now c.args.shop.now.input.now n at.pass at.done.items) (sym same) i.made) in
     record {
       who = c.run_script.ensures.who ∙ i.who;
-      made = subst (λ (l : List Done). HasMade c.args.shop.now.desk.now c.args.shop.now.input.now (number c.args.pass.now.view) c.run_script.new.pass l) (sym is)
+      made = subst (λ (l : List Done). HasMade c.args.shop.now.desk.now c.args.shop.now.input.now
+          (number c.args.pass.now.view) c.run_script.new.pass l) (sym is)
           (subst (λ n. HasMade c.args.shop.now.desk.now c.args.shop.now.input.now n c.run_script.new.pass (at.done.items ++ item ∷ [])) same made);
       run = λ h none before. ran_script c.args.shop.now.input.now h c.args.caller at.index at.done.items c.push.new.self.items item none (
         subst (λ n. n < length c.args.shop.now.input.now.callers) (sym place.0) c.requires.caller,
-        subst₂ (λ b j. j < length (caller_at c.args.shop.now.input.now b).scripts) (sym place.0) (sym place.1) (omega (arith, c.loop-index-test.true, at.auto.index-end)),
+        subst₂ (λ b j. j < length (caller_at c.args.shop.now.input.now b).scripts) (sym place.0) (sym place.1)
+            (omega (arith, c.loop-index-test.true, at.auto.index-end)),
       )
           place.0 place.1 is (i.run h none before);
       count = omega (arith, i.count, ap length is, length-append at.done.items (item ∷ []));

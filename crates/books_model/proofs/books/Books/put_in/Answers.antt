@@ -26,7 +26,13 @@ known : (c : After-make_all_room) → AreChangesOf (the_view c.self.inside) c.ar
 known c = subst (λ b. AreChangesOf b c.args.changes.now) (sym c.self.view_is) c.requires.changes
 
 -- out of memory, all is as before
-back : (c : After-take_back-in-Err-2) → the_view (record c.self.inside { accounts = c.take_back.new.values; positions = c.take_back-in-Err.new.values; prices = c.take_back-in-Err-2.new.values; calls = c.reserve.new.self }) ≡ the_view c.self.inside
+back : (c : After-take_back-in-Err-2)
+    → the_view (record c.self.inside {
+      accounts = c.take_back.new.values;
+      positions = c.take_back-in-Err.new.values;
+      prices = c.take_back-in-Err-2.new.values;
+      calls = c.reserve.new.self;
+    }) ≡ the_view c.self.inside
 back c =
     let books = the_view c.self.inside in
     let h = known (goal.at.returns-in-Err-clause-err c).After-make_all_room in
@@ -37,15 +43,25 @@ back c =
     c.reserve.ensures.items
 
 -- and else the changes are put in
-put_in : (c : After-drop_front) → the_view (record c.self.inside { accounts = c.settle.new.values; positions = c.settle-2.new.values; prices = c.settle-3.new.values; calls = c.drop_front.new.queue }) ≡ changed_books (the_view c.self.inside) c.args.changes.now
+put_in : (c : After-drop_front)
+    → the_view (record c.self.inside {
+      accounts = c.settle.new.values;
+      positions = c.settle-2.new.values;
+      prices =
+          c.settle-3.new.values;
+      calls = c.drop_front.new.queue;
+    }) ≡ changed_books (the_view c.self.inside) c.args.changes.now
 put_in c =
     let books = the_view c.self.inside in
     let changes = c.args.changes.now in
-    same_parts books _ (changed books.accounts changes.accounts.entries) _ (changed books.positions changes.positions.entries) _ (changed books.prices changes.prices.entries) _ (drop changes.taken (books.calls ++ changes.added.items))
+    same_parts books _ (changed books.accounts changes.accounts.entries) _
+    (changed books.positions changes.positions.entries) _ (changed books.prices changes.prices.entries) _
+    (drop changes.taken (books.calls ++ changes.added.items))
     (c.settle.ensures ∙ changed-roomier nat_cmp_total exact_unsigned books.accounts _ changes.accounts.entries c.make_all_room.ensures.accounts)
     (c.settle-2.ensures ∙ changed-roomier positions_total exact_positions books.positions _ changes.positions.entries c.make_all_room.ensures.positions)
     (c.settle-3.ensures ∙ changed-roomier nat_cmp_total exact_unsigned books.prices _ changes.prices.entries c.make_all_room.ensures.prices)
-    (c.drop_front.ensures ∙ ap (drop changes.taken) (c.append_all.ensures ∙ ap (λ queue. queue ++ c.deref.result.now) c.reserve.ensures.items ∙ ap (λ added. books.calls ++ added) c.deref.ensures.value))
+    (c.drop_front.ensures ∙ ap (drop changes.taken) (c.append_all.ensures
+    ∙ ap (λ queue. queue ++ c.deref.result.now) c.reserve.ensures.items ∙ ap (λ added. books.calls ++ added) c.deref.ensures.value))
 
 pub invariant_of-self-in-Err : goal.invariant_of-self-in-Err
 invariant_of-self-in-Err c = subst AreInRange (sym (back c)) c.self.invariant

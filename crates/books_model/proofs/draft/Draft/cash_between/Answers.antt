@@ -20,11 +20,13 @@ have c = now_between c.self.inside.changes.accounts.entries c.args.low c.args.hi
 
 -- what the changed accounts had is a part of the whole
 part : (c : After-self) → had c ≤ cash_between c.self.inside.books.now c.args.low c.args.high
-part c = before_between-le c.self.inside.books.now (so_far c) c.self.inside.changes.accounts.entries refl c.self.invariant.known.ordered c.self.invariant.known.accounts c.args.low c.args.high
+part c = before_between-le c.self.inside.books.now (so_far c) c.self.inside.changes.accounts.entries refl
+    c.self.invariant.known.ordered c.self.invariant.known.accounts c.args.low c.args.high
 
 -- the cash after the changes
 whole : (c : After-self) → cash_between (so_far c) c.args.low c.args.high + had c ≡ cash_between c.self.inside.books.now c.args.low c.args.high + have c
-whole c = cash_changed c.self.inside.books.now (so_far c) c.self.inside.changes.accounts.entries refl c.self.invariant.known.ordered c.self.invariant.known.accounts c.args.low c.args.high
+whole c = cash_changed c.self.inside.books.now (so_far c) c.self.inside.changes.accounts.entries refl
+    c.self.invariant.known.ordered c.self.invariant.known.accounts c.args.low c.args.high
 
 -- it fits
 fits : (c : After-self) → cash_between (so_far c) c.args.low c.args.high < 18446744073709551616
@@ -50,5 +52,6 @@ overflow_add-result c =
 pub returns : goal.returns
 returns c =
     let at = (goal.at.returns c).After-self in
-    let view : cash_between (so_far at) c.args.low c.args.high ≡ cash_between c.args.self.now.after c.args.low c.args.high = ap (λ d. cash_between d.after c.args.low c.args.high) c.self.view_is in
+    let view : cash_between (so_far at) c.args.low c.args.high ≡ cash_between c.args.self.now.after c.args.low
+    c.args.high = ap (λ d. cash_between d.after c.args.low c.args.high) c.self.view_is in
     omega (arith, part at, whole at, fits at, c.changed_between-before.ensures.before, c.changed_between-before.ensures.now, c.cash_between.ensures, view)

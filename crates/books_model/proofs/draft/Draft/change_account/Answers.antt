@@ -17,16 +17,20 @@ was_there : (c : In_ok-note_change) → c.args.was ≡ map.get (so_far c).accoun
 was_there c = sym c.requires.was ∙ ap (λ d. map.get d.after.accounts c.args.account) (sym c.self.view_is)
 
 -- the books after one more change
-after : (c : In_ok-note_change) → changed_books c.self.inside.books.now (record c.self.inside.changes { accounts = c.note_change.new.changes }) ≡ set_account (so_far c) c.args.account c.args.now
+after : (c : In_ok-note_change)
+    → changed_books c.self.inside.books.now (record c.self.inside.changes { accounts = c.note_change.new.changes })
+    ≡ set_account (so_far c) c.args.account c.args.now
 after c = ap (λ m. record (so_far c) { accounts = m }) (c.in_ok-note_change.ensures.ok c.self.inside.books.now.accounts)
 
 pub count_after-self-inside-requires-clause-least : goal.count_after-self-inside-requires-clause-least
-count_after-self-inside-requires-clause-least c = λ there. subst (λ n. 0 < n) (sym c.self.invariant.counted) (account_is_used (so_far c) c.args.account (subst IsSome (was_there c) there))
+count_after-self-inside-requires-clause-least c =
+    λ there. subst (λ n. 0 < n) (sym c.self.invariant.counted) (account_is_used (so_far c) c.args.account (subst IsSome (was_there c) there))
 
 pub invariant_of-self-2 : goal.invariant_of-self-2
 invariant_of-self-2 c =
     let books = c.self.inside.books.now in
-    let known = c.in_ok-note_change.ensures.known books.accounts (sym (was_there (goal.at.invariant_of-self-2 c).In_ok-note_change)) c.self.invariant.known.accounts in
+    let known = c.in_ok-note_change.ensures.known books.accounts
+    (sym (was_there (goal.at.invariant_of-self-2 c).In_ok-note_change)) c.self.invariant.known.accounts in
     record {
       before = c.self.invariant.before;
       known = record {
@@ -36,9 +40,15 @@ invariant_of-self-2 c =
         prices = c.self.invariant.known.prices;
         taken = c.self.invariant.known.taken;
       };
-      counted = counted c.count_after-self-inside.result c.self.inside.used _ (used (so_far (goal.at.invariant_of-self-2 c).In_ok-note_change)) c.args.was _ c.args.now (was_there (goal.at.invariant_of-self-2 c).In_ok-note_change) c.self.invariant.counted c.count_after-self-inside.ensures (used_account (so_far (goal.at.invariant_of-self-2 c).In_ok-note_change) c.args.account c.args.now) ∙ ap used (sym (after (goal.at.invariant_of-self-2 c).In_ok-note_change));
-      after = subst AreInRange (sym (after (goal.at.invariant_of-self-2 c).In_ok-note_change ∙ ap (λ d. set_account d.after (goal.at.invariant_of-self-2 c).In_ok-note_change.args.account c.args.now) c.self.view_is)) c.requires.range;
+      counted = counted c.count_after-self-inside.result c.self.inside.used _
+          (used (so_far (goal.at.invariant_of-self-2 c).In_ok-note_change)) c.args.was _ c.args.now
+          (was_there (goal.at.invariant_of-self-2 c).In_ok-note_change) c.self.invariant.counted
+          c.count_after-self-inside.ensures (used_account (so_far (goal.at.invariant_of-self-2 c).In_ok-note_change)
+          c.args.account c.args.now) ∙ ap used (sym (after (goal.at.invariant_of-self-2 c).In_ok-note_change));
+      after = subst AreInRange (sym (after (goal.at.invariant_of-self-2 c).In_ok-note_change
+          ∙ ap (λ d. set_account d.after (goal.at.invariant_of-self-2 c).In_ok-note_change.args.account c.args.now) c.self.view_is)) c.requires.range;
     }
 
 pub returns-clause-ok : goal.returns-clause-ok
-returns-clause-ok c = after (goal.at.returns-clause-ok c).In_ok-note_change ∙ ap (λ d. set_account d.after (goal.at.returns-clause-ok c).In_ok-note_change.args.account c.args.now) c.self.view_is
+returns-clause-ok c = after (goal.at.returns-clause-ok c).In_ok-note_change
+    ∙ ap (λ d. set_account d.after (goal.at.returns-clause-ok c).In_ok-note_change.args.account c.args.now) c.self.view_is

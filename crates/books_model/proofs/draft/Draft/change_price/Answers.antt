@@ -17,16 +17,20 @@ was_there : (c : In_ok-note_change) → c.args.was ≡ map.get (so_far c).prices
 was_there c = sym c.requires.was ∙ ap (λ d. map.get d.after.prices c.args.instrument) (sym c.self.view_is)
 
 -- the books after one more change
-after : (c : In_ok-note_change) → changed_books c.self.inside.books.now (record c.self.inside.changes { prices = c.note_change.new.changes }) ≡ set_price (so_far c) c.args.instrument (Some c.args.price)
+after : (c : In_ok-note_change)
+    → changed_books c.self.inside.books.now (record c.self.inside.changes { prices = c.note_change.new.changes })
+    ≡ set_price (so_far c) c.args.instrument (Some c.args.price)
 after c = ap (λ m. record (so_far c) { prices = m }) (c.in_ok-note_change.ensures.ok c.self.inside.books.now.prices)
 
 pub count_after-self-inside-requires-clause-least : goal.count_after-self-inside-requires-clause-least
-count_after-self-inside-requires-clause-least c = λ there. subst (λ n. 0 < n) (sym c.self.invariant.counted) (price_is_used (so_far c) c.args.instrument (subst IsSome (was_there c) there))
+count_after-self-inside-requires-clause-least c =
+    λ there. subst (λ n. 0 < n) (sym c.self.invariant.counted) (price_is_used (so_far c) c.args.instrument (subst IsSome (was_there c) there))
 
 pub invariant_of-self-2 : goal.invariant_of-self-2
 invariant_of-self-2 c =
     let books = c.self.inside.books.now in
-    let known = c.in_ok-note_change.ensures.known books.prices (sym (was_there (goal.at.invariant_of-self-2 c).In_ok-note_change)) c.self.invariant.known.prices in
+    let known = c.in_ok-note_change.ensures.known books.prices
+    (sym (was_there (goal.at.invariant_of-self-2 c).In_ok-note_change)) c.self.invariant.known.prices in
     record {
       before = c.self.invariant.before;
       known = record {
@@ -36,9 +40,15 @@ invariant_of-self-2 c =
         prices = known;
         taken = c.self.invariant.known.taken;
       };
-      counted = counted c.count_after-self-inside.result c.self.inside.used _ (used (so_far (goal.at.invariant_of-self-2 c).In_ok-note_change)) c.args.was _ (Some c.args.price) (was_there (goal.at.invariant_of-self-2 c).In_ok-note_change) c.self.invariant.counted c.count_after-self-inside.ensures (used_price (so_far (goal.at.invariant_of-self-2 c).In_ok-note_change) c.args.instrument (Some c.args.price)) ∙ ap used (sym (after (goal.at.invariant_of-self-2 c).In_ok-note_change));
-      after = subst AreInRange (sym (after (goal.at.invariant_of-self-2 c).In_ok-note_change ∙ ap (λ d. set_price d.after (goal.at.invariant_of-self-2 c).In_ok-note_change.args.instrument (Some c.args.price)) c.self.view_is)) c.requires.range;
+      counted = counted c.count_after-self-inside.result c.self.inside.used _
+          (used (so_far (goal.at.invariant_of-self-2 c).In_ok-note_change)) c.args.was _ (Some c.args.price)
+          (was_there (goal.at.invariant_of-self-2 c).In_ok-note_change) c.self.invariant.counted
+          c.count_after-self-inside.ensures (used_price (so_far (goal.at.invariant_of-self-2 c).In_ok-note_change)
+          c.args.instrument (Some c.args.price)) ∙ ap used (sym (after (goal.at.invariant_of-self-2 c).In_ok-note_change));
+      after = subst AreInRange (sym (after (goal.at.invariant_of-self-2 c).In_ok-note_change
+          ∙ ap (λ d. set_price d.after (goal.at.invariant_of-self-2 c).In_ok-note_change.args.instrument (Some c.args.price)) c.self.view_is)) c.requires.range;
     }
 
 pub returns-clause-ok : goal.returns-clause-ok
-returns-clause-ok c = after (goal.at.returns-clause-ok c).In_ok-note_change ∙ ap (λ d. set_price d.after (goal.at.returns-clause-ok c).In_ok-note_change.args.instrument (Some c.args.price)) c.self.view_is
+returns-clause-ok c = after (goal.at.returns-clause-ok c).In_ok-note_change
+    ∙ ap (λ d. set_price d.after (goal.at.returns-clause-ok c).In_ok-note_change.args.instrument (Some c.args.price)) c.self.view_is

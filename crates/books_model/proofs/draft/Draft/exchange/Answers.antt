@@ -14,7 +14,8 @@ set_quantity-requires-2-clause-was c =
 -- the buyer has a position, or a block is left after the seller's is lowered
 pub set_quantity-requires-2-clause-room : goal.set_quantity-requires-2-clause-room
 set_quantity-requires-2-clause-room c = λ none. elim c.else-is_none.branch [
-  | else-is_none-via-then-is_none+else-is_full w ↦ room_left c.set_quantity.new.self.after w.is_full.ensures.range (sym w.is_full.ensures.value ∙ w.if-is_full.false)
+  | else-is_none-via-then-is_none+else-is_full w ↦
+      room_left c.set_quantity.new.self.after w.is_full.ensures.range (sym w.is_full.ensures.value ∙ w.if-is_full.false)
   | else-is_none-via-else-is_none w ↦
       let some = c.is_none.ensures ∙ ap not w.if-is_none.false in
       let no_more = sym some ∙ ap (λ x. is_some {T = ℕ} x) none in

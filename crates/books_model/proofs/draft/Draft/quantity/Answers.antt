@@ -6,7 +6,8 @@ use Rattle.books_model.proofs.draft.Draft.quantity.Goals as goal
 use Rattle.books_model.proofs.draft.Draft.quantity.Goals.{In-Some}
 
 -- a changed quantity is that of the changed books
-is_held : (c : In-Some) → c.in-Some.change.now ≡ map.get (changed_books c.self.inside.books.now c.self.inside.changes).positions (c.args.account, c.args.instrument)
+is_held : (c : In-Some) → c.in-Some.change.now
+    ≡ map.get (changed_books c.self.inside.books.now c.self.inside.changes).positions (c.args.account, c.args.instrument)
 is_held c = sym (c.in-Some.ensures.changed c.self.inside.books.now.positions)
 
 pub returns-in-Some-clause-value : goal.returns-in-Some-clause-value

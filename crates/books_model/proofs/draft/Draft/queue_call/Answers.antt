@@ -12,12 +12,16 @@ abbrev so_far : In_ok-push → ClearingBooks
 so_far c = changed_books c.self.inside.books.now c.self.inside.changes
 
 -- the books after the call was queued
-after : (c : In_ok-push) → changed_books c.self.inside.books.now (record c.self.inside.changes { added = c.push.new.self }) ≡ put_call (so_far c) c.args.account c.args.shortfall
+after : (c : In_ok-push) → changed_books c.self.inside.books.now (record c.self.inside.changes {
+  added =
+      c.push.new.self;
+}) ≡ put_call (so_far c) c.args.account c.args.shortfall
 after c =
     let books = c.self.inside.books.now in
     let changes = c.self.inside.changes in
     ap (λ calls. record (so_far c) { calls = calls })
-    (ap (λ added. drop changes.taken (books.calls ++ added)) c.in_ok-push.ensures.items ∙ drop-push changes.taken books.calls changes.added.items (c.args.account, c.args.shortfall) c.self.invariant.known.taken)
+    (ap (λ added. drop changes.taken (books.calls ++ added)) c.in_ok-push.ensures.items
+    ∙ drop-push changes.taken books.calls changes.added.items (c.args.account, c.args.shortfall) c.self.invariant.known.taken)
 
 pub invariant_of-self-2 : goal.invariant_of-self-2
 invariant_of-self-2 c =
@@ -30,7 +34,12 @@ invariant_of-self-2 c =
         accounts = h.known.accounts;
         positions = h.known.positions;
         prices = h.known.prices;
-        taken = omega (arith, h.known.taken, ap length c.in_ok-push.ensures.items, length-append c.self.inside.changes.added.items ((c.args.account, c.args.shortfall) ∷ []));
+        taken = omega (
+          arith,
+          h.known.taken,
+          ap length c.in_ok-push.ensures.items,
+          length-append c.self.inside.changes.added.items ((c.args.account, c.args.shortfall) ∷ []),
+        );
       };
       counted = h.counted;
       after = subst AreInRange (sym (after c)) (put_call-in_range (so_far c) c.args.account c.args.shortfall h.after c.requires.call room);

@@ -20,8 +20,12 @@ is_left c =
     omega (arith, some, length-drop c.self.inside.changes.taken calls, length-append c.self.inside.books.now.calls c.self.inside.changes.added.items)
 
 -- the books after one more call was taken
-after : (c : After-len) → changed_books c.self.inside.books.now (record c.self.inside.changes { taken = c.self.inside.changes.taken + 1 }) ≡ record (so_far c) { calls = drop 1 (so_far c).calls }
-after c = ap (λ calls. record (so_far c) { calls = calls }) (drop-next c.self.inside.changes.taken (c.self.inside.books.now.calls ++ c.self.inside.changes.added.items))
+after : (c : After-len) → changed_books c.self.inside.books.now (record c.self.inside.changes {
+  taken =
+      c.self.inside.changes.taken + 1;
+}) ≡ record (so_far c) { calls = drop 1 (so_far c).calls }
+after c = ap (λ calls. record (so_far c) { calls = calls })
+    (drop-next c.self.inside.changes.taken (c.self.inside.books.now.calls ++ c.self.inside.changes.added.items))
 
 pub invariant_of-self : goal.invariant_of-self
 invariant_of-self c =

@@ -10,7 +10,8 @@ pub loop-x-preserved : goal.loop-x-preserved
 loop-x-preserved g c =
     let loop = c.loop-x in
     let xs = c.args.self.now.amounts.now in
-    let more : sum (take (loop.x-index + 1) xs) ≡ sum (take loop.x-index xs) + get_or xs loop.x-index 0 = sum_by_more (λ n. n) xs loop.x-index 0 c.loop-x-test.true in
+    let more : sum (take (loop.x-index + 1) xs) ≡ sum (take loop.x-index xs) + get_or xs loop.x-index 0 =
+    sum_by_more (λ n. n) xs loop.x-index 0 c.loop-x-test.true in
     let room : c.in_ok-v.v + get_or xs loop.x-index 0 < 2 ^ 64 = omega arith in
     record {
       shape = c.in_ok-write.ensures.shape ∙ c.in_ok-v.ensures.shape ∙ loop.invariant.shape;
@@ -18,12 +19,14 @@ loop-x-preserved g c =
       stop = c.in_ok-write.ensures.stops;
       sound = c.in_ok-write.ensures.sound;
       grown = subst (λ m. Leads 1 (λ _. ⊤) [] (g.W.Words.trace c.write.new.self) (Grown m)) (sym more)
-          (grown_more 1 (λ _. ⊤) _ _ _ _ c.in_ok-v.v (get_or xs loop.x-index 0) (sum (take loop.x-index xs)) loop.invariant.grown c.in_ok-v.ensures.value c.in_ok-write.ensures.value room);
+          (grown_more 1 (λ _. ⊤) _ _ _ _ c.in_ok-v.v (get_or xs loop.x-index 0) (sum (take loop.x-index xs))
+          loop.invariant.grown c.in_ok-v.ensures.value c.in_ok-write.ensures.value room);
     }
 
 pub returns-then-x-v-clause-meaning : goal.returns-then-x-v-clause-meaning
 returns-then-x-v-clause-meaning g c =
-    adds_none 1 (λ _. ⊤) _ _ c.args.self.now.amounts.now c.loop-x.x-index c.in_ok-v.v c.loop-x.invariant.grown c.in_ok-v.ensures.value c.loop-x-test.true c.if-x-v.true
+    adds_none 1 (λ _. ⊤) _ _ c.args.self.now.amounts.now c.loop-x.x-index c.in_ok-v.v c.loop-x.invariant.grown
+    c.in_ok-v.ensures.value c.loop-x-test.true c.if-x-v.true
 
 pub returns-clause-meaning : goal.returns-clause-meaning
 returns-clause-meaning g c =

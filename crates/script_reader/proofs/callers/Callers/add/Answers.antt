@@ -7,13 +7,17 @@ use Rattle.script_reader.proofs.callers.Callers.add.Goals as goal
 
 pub returns-clause-added : goal.returns-clause-added
 returns-clause-added c =
-    store-add string_bytes (λ v. v.items) c.args.self.now.names.keys c.args.self.now.scripts.items c.requires.even.beside c.place_of.new.names.keys c.put.new.scripts.items
+    store-add string_bytes (λ v. v.items) c.args.self.now.names.keys c.args.self.now.scripts.items
+    c.requires.even.beside c.place_of.new.names.keys c.put.new.scripts.items
     c.args.name.now c.args.script c.in_ok-place.place c.in_ok-place.ensures.names c.in_ok-place.ensures.place c.in_ok-put.ensures
 
 pub returns-clause-even : goal.returns-clause-even
 returns-clause-even c = record {
   beside =
-      even_after string_bytes (λ v. v.items) c.args.self.now.names.keys c.args.self.now.scripts.items c.requires.even.beside c.place_of.new.names.keys c.put.new.scripts.items
+      even_after string_bytes (λ v. v.items) c.args.self.now.names.keys c.args.self.now.scripts.items
+      c.requires.even.beside c.place_of.new.names.keys c.put.new.scripts.items
       c.args.name.now c.args.script c.in_ok-place.place c.in_ok-place.ensures.names c.in_ok-place.ensures.place c.in_ok-put.ensures;
-  counted = ap (λ n. n + 1) c.requires.even.counted ∙ sym (count-add (callers_in c.args.self.now) (record { caller = c.args.name.now; script = c.args.script })) ∙ sym (ap count_scripts (returns-clause-added c));
+  counted = ap (λ n. n + 1) c.requires.even.counted
+      ∙ sym (count-add (callers_in c.args.self.now) (record { caller = c.args.name.now; script = c.args.script }))
+      ∙ sym (ap count_scripts (returns-clause-added c));
 }

@@ -19,8 +19,17 @@ pub returns-then-len-ge-MOST_CALLERS : goal.returns-then-len-ge-MOST_CALLERS
 returns-then-len-ge-MOST_CALLERS c =
     let callers = callers_in c.args.self.now in
     let few = lt-leb 65536 c.args.self.now.count c.if-self-ge-MOST_SCRIPTS.false in
-    let known : is_caller c.args.name.now callers ≡ c.contains.result = has_caller string_bytes (λ v. v.items) c.args.self.now.names.keys c.args.self.now.scripts.items c.requires.beside c.args.name.now ∙ sym c.contains.ensures in
-    let many : nat_le 1024 (length callers) ≡ true = le-leb 1024 (length callers) (omega (arith, count_callers string_bytes (λ v. v.items) c.args.self.now.names.keys c.args.self.now.scripts.items c.requires.beside, c.len.ensures.len, c.if-len-ge-MOST_CALLERS.true)) in
+    let known : is_caller c.args.name.now callers ≡ c.contains.result =
+    has_caller string_bytes (λ v. v.items) c.args.self.now.names.keys c.args.self.now.scripts.items
+    c.requires.beside c.args.name.now ∙ sym c.contains.ensures in
+    let many : nat_le 1024 (length callers) ≡ true =
+    le-leb 1024 (length callers) (omega (
+      arith,
+      count_callers string_bytes (λ v. v.items) c.args.self.now.names.keys
+          c.args.self.now.scripts.items c.requires.beside,
+      c.len.ensures.len,
+      c.if-len-ge-MOST_CALLERS.true,
+    )) in
     with_true (not c.contains.result)
     ∙ sym (λ i. (ap (nat_le 65536) (sym c.requires.counted) ∙ few) i || (not (known i) && many i))
 
@@ -28,7 +37,14 @@ pub returns-else-len-ge-MOST_CALLERS : goal.returns-else-len-ge-MOST_CALLERS
 returns-else-len-ge-MOST_CALLERS c =
     let callers = callers_in c.args.self.now in
     let few = lt-leb 65536 c.args.self.now.count c.if-self-ge-MOST_SCRIPTS.false in
-    let room : nat_le 1024 (length callers) ≡ false = lt-leb 1024 (length callers) (omega (arith, count_callers string_bytes (λ v. v.items) c.args.self.now.names.keys c.args.self.now.scripts.items c.requires.beside, c.len.ensures.len, c.if-len-ge-MOST_CALLERS.false)) in
+    let room : nat_le 1024 (length callers) ≡ false =
+    lt-leb 1024 (length callers) (omega (
+      arith,
+      count_callers string_bytes (λ v. v.items) c.args.self.now.names.keys
+          c.args.self.now.scripts.items c.requires.beside,
+      c.len.ensures.len,
+      c.if-len-ge-MOST_CALLERS.false,
+    )) in
     lt-leb 1024 c.len.result c.if-len-ge-MOST_CALLERS.false
     ∙ with_false (not (is_caller c.args.name.now callers))
     ∙ sym (λ i. (ap (nat_le 65536) (sym c.requires.counted) ∙ few) i || (not (is_caller c.args.name.now callers) && room i))

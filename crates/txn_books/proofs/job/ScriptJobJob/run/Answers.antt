@@ -19,9 +19,11 @@ returns-clause-meaning g c =
     let shape = c.self.inside.shape in
     let script = c.self.inside.script.now in
     let here = c.requires.shape ∙ ap (λ (job : ScriptOn). job.shape) (sym c.self.view_is) in
-    subst (λ (job : ScriptOn). (s : List ℕ) → Fits (words_of job.shape) (IsGoodFor job.shape) t s → ScriptMeans job.shape job.script s kept (answer_of c.verdict_on.result) (after t s)) c.self.view_is
+    subst (λ (job : ScriptOn). (s : List ℕ) → Fits (words_of job.shape) (IsGoodFor job.shape) t s
+    → ScriptMeans job.shape job.script s kept (answer_of c.verdict_on.result) (after t s)) c.self.view_is
     (λ s fit. subst (λ answer. ScriptMeans shape script s kept answer (after t s)) (sym c.verdict_on.ensures.answer)
-    (fresh_means g.W.Words _ shape c.args.w.now c.run_script.new.w c.requires.fresh here script _ kept c.verdict_on.ensures.kept c.in_ok-reply.ensures.runs s fit))
+    (fresh_means g.W.Words _ shape c.args.w.now c.run_script.new.w c.requires.fresh here script _ kept
+    c.verdict_on.ensures.kept c.in_ok-reply.ensures.runs s fit))
 
 pub returns-clause-good : goal.returns-clause-good
 returns-clause-good g c = λ kept.
@@ -29,4 +31,5 @@ returns-clause-good g c = λ kept.
     let shape = c.self.inside.shape in
     let here = c.requires.shape ∙ ap (λ (job : ScriptOn). job.shape) (sym c.self.view_is) in
     subst (λ (job : ScriptOn). (s : List ℕ) → Fits (words_of job.shape) (IsGoodFor job.shape) t s → IsGoodFor job.shape (after t s)) c.self.view_is
-    (fresh_leaves g.W.Words _ shape c.args.w.now c.run_script.new.w c.requires.fresh here (IsGoodFor shape) c.in_ok-reply.ensures.hands_on.shape c.in_ok-reply.ensures.stands)
+    (fresh_leaves g.W.Words _ shape c.args.w.now c.run_script.new.w c.requires.fresh here (IsGoodFor shape)
+    c.in_ok-reply.ensures.hands_on.shape c.in_ok-reply.ensures.stands)

@@ -30,7 +30,8 @@ load_reads a x first asked loaded reads event = subst (λ (v : View). AsksToRead
 pub ask_to_read-requires : goal.ask_to_read-requires
 ask_to_read-requires g c =
     let none = not_halted c.args.self.now.halt c.requires.going in
-    let sound = subst (λ (h : Option Halt). IsSound g.S.Shape.word_count g.S.Shape.good c.args.self.now.desk.now c.args.self.now.began.value c.args.self.now.pass.now c.args.self.now.undo h) none c.requires.sound in
+    let sound = subst (λ (h : Option Halt). IsSound g.S.Shape.word_count g.S.Shape.good c.args.self.now.desk.now
+    c.args.self.now.began.value c.args.self.now.pass.now c.args.self.now.undo h) none c.requires.sound in
     record {
       desk = sound.table;
       phase = sound.stands.phase;
@@ -41,7 +42,8 @@ ask_to_read-requires g c =
 pub returns-in-Yield : goal.returns-in-Yield
 returns-in-Yield g c =
     let none = not_halted c.args.self.now.halt c.requires.going in
-    let sound = subst (λ (h : Option Halt). IsSound g.S.Shape.word_count g.S.Shape.good c.args.self.now.desk.now c.args.self.now.began.value c.args.self.now.pass.now c.args.self.now.undo h) none c.requires.sound in
+    let sound = subst (λ (h : Option Halt). IsSound g.S.Shape.word_count g.S.Shape.good c.args.self.now.desk.now
+    c.args.self.now.began.value c.args.self.now.pass.now c.args.self.now.undo h) none c.requires.sound in
     let asks = c.in-Yield.ensures.asks in
     let way = c.in-Yield.ensures.yields c.in-Yield.cause refl in
     record {
@@ -51,7 +53,8 @@ returns-in-Yield g c =
       shape = refl;
       origin = refl;
       sound =
-          yields_sound g.S.Shape.word_count g.S.Shape.good c.args.self.now.desk.now c.args.self.now.began.value c.args.a c.args.self.now.pass.now c.ask_to_read.new.pass c.args.self.now.undo c.in-Yield.cause
+          yields_sound g.S.Shape.word_count g.S.Shape.good c.args.self.now.desk.now c.args.self.now.began.value c.args.a
+          c.args.self.now.pass.now c.ask_to_read.new.pass c.args.self.now.undo c.in-Yield.cause
           sound c.in-Yield.ensures.desk asks c.in-Yield.ensures.judged way.0 way.1 way.2;
       memory = λ e. cc;
       asked = asks.asked;
@@ -61,9 +64,15 @@ returns-in-Yield g c =
 pub load-requires : goal.load-requires
 load-requires g c =
     let none = not_halted c.args.self.now.halt c.requires.going in
-    let sound = subst (λ (h : Option Halt). IsSound g.S.Shape.word_count g.S.Shape.good c.args.self.now.desk.now c.args.self.now.began.value c.args.self.now.pass.now c.args.self.now.undo h) none c.requires.sound in
-    let goes_on = c.ask_to_read.ensures.goes_on (elim c.match-ask_to_read.branch [ in-Held w ↦ λ cause e. held_not_yield cause (sym w.in-Held.is ∙ e) | in-Granted w ↦ λ cause e. granted_not_yield cause (sym w.in-Granted.is ∙ e) ]) in
-    let asked = asks_table g.S.Shape.word_count g.S.Shape.good c.args.self.now.desk.now c.args.self.now.began.value c.args.a c.args.self.now.pass.now c.ask_to_read.new.pass c.args.self.now.undo
+    let sound = subst (λ (h : Option Halt). IsSound g.S.Shape.word_count g.S.Shape.good c.args.self.now.desk.now
+    c.args.self.now.began.value c.args.self.now.pass.now c.args.self.now.undo h) none c.requires.sound in
+    let goes_on = c.ask_to_read.ensures.goes_on (elim c.match-ask_to_read.branch [
+      | in-Held w ↦
+          λ cause e. held_not_yield cause (sym w.in-Held.is ∙ e)
+      | in-Granted w ↦ λ cause e. granted_not_yield cause (sym w.in-Granted.is ∙ e)
+    ]) in
+    let asked = asks_table g.S.Shape.word_count g.S.Shape.good c.args.self.now.desk.now c.args.self.now.began.value
+    c.args.a c.args.self.now.pass.now c.ask_to_read.new.pass c.args.self.now.undo
     sound c.ask_to_read.ensures.desk c.ask_to_read.ensures.asks goes_on.1 in
     record {
       desk = asked.0;
@@ -75,7 +84,11 @@ load-requires g c =
 pub returns : goal.returns
 returns g c =
     let none = not_halted c.args.self.now.halt c.requires.going in
-    let goes_on = c.ask_to_read.ensures.goes_on (elim c.match-ask_to_read.branch [ in-Held w ↦ λ cause e. held_not_yield cause (sym w.in-Held.is ∙ e) | in-Granted w ↦ λ cause e. granted_not_yield cause (sym w.in-Granted.is ∙ e) ]) in
+    let goes_on = c.ask_to_read.ensures.goes_on (elim c.match-ask_to_read.branch [
+      | in-Held w ↦
+          λ cause e. held_not_yield cause (sym w.in-Held.is ∙ e)
+      | in-Granted w ↦ λ cause e. granted_not_yield cause (sym w.in-Granted.is ∙ e)
+    ]) in
     let asks = c.ask_to_read.ensures.asks in
     let event = c.load.ensures.event in
     let read = load_trace c.args.a c.load.result c.args.self.now.pass.now.view c.ask_to_read.new.pass.view c.load.new.pass.view asks event in
@@ -86,10 +99,14 @@ returns g c =
       shape = refl;
       origin = refl;
       sound =
-          subst (λ (h : Option Halt). IsSound g.S.Shape.word_count g.S.Shape.good c.args.self.now.desk.now c.args.self.now.began.value c.load.new.pass c.args.self.now.undo h) (sym none)
-          (held_sound g.S.Shape.word_count g.S.Shape.good c.args.self.now.desk.now c.args.self.now.began.value c.args.a c.load.result c.args.self.now.pass.now c.ask_to_read.new.pass c.load.new.pass c.args.self.now.undo c.args.self.now.halt
-          c.requires.going c.requires.sound c.ask_to_read.ensures.desk asks c.ask_to_read.ensures.judged goes_on.1 c.load.ensures.desk event c.load.ensures.fits);
+          subst (λ (h : Option Halt). IsSound g.S.Shape.word_count g.S.Shape.good c.args.self.now.desk.now
+          c.args.self.now.began.value c.load.new.pass c.args.self.now.undo h) (sym none)
+          (held_sound g.S.Shape.word_count g.S.Shape.good c.args.self.now.desk.now c.args.self.now.began.value c.args.a
+          c.load.result c.args.self.now.pass.now c.ask_to_read.new.pass c.load.new.pass c.args.self.now.undo c.args.self.now.halt
+          c.requires.going c.requires.sound c.ask_to_read.ensures.desk asks c.ask_to_read.ensures.judged goes_on.1
+          c.load.ensures.desk event c.load.ensures.fits);
       memory = λ e. cc;
       asked = load_asked c.args.a c.load.result c.args.self.now.pass.now.view c.ask_to_read.new.pass.view c.load.new.pass.view asks event;
-      reads = load_reads c.args.a c.load.result c.args.self.now.pass.now.view c.ask_to_read.new.pass.view c.load.new.pass.view c.ask_to_read.ensures.reads event;
+      reads = load_reads c.args.a c.load.result c.args.self.now.pass.now.view c.ask_to_read.new.pass.view
+          c.load.new.pass.view c.ask_to_read.ensures.reads event;
     }

@@ -10,7 +10,8 @@ use Rattle.lock_or_yield.specs.Asking.{Asks, AsksToWrite, GainsAtMost}
 use Rattle.txn_commit.specs.declared.attempt.Halt.{Halt}
 use Rattle.txn_commit.specs.declared.attempt.Halt.TheVariants as halt
 use Rattle.txn_commit.specs.Attempts.{IsSound}
-use Rattle.txn_commit.proofs.Attempts.{asks_table, loaded_last, not_halted, of_refused, of_made, refused_when_full, yields_sound, held_sound, memory_sound, store_sound, held_not_yield, granted_not_yield}
+use Rattle.txn_commit.proofs.Attempts.{asks_table, loaded_last, not_halted, of_refused, of_made, refused_when_full, yields_sound, held_sound, memory_sound}
+use Rattle.txn_commit.proofs.Attempts.{store_sound, held_not_yield, granted_not_yield}
 use Rattle.txn_commit.proofs.attempt.AttemptWords.write.Goals.{in-Held, in-Granted}
 use Rattle.txn_commit.proofs.attempt.AttemptWords.write.Goals as goal
 
@@ -36,7 +37,8 @@ store_asked : (a x : ℕ) (first loaded stored : View) → GainsAtMost a first.a
 store_asked a x first loaded stored asked step = subst (λ (v : View). GainsAtMost a first.asked v.asked) (sym step) asked
 
 -- and of locks
-load_writes : (a was : ℕ) (first asked loaded : View) → AsksToWrite (lock_of_word a) first asked → loaded ≡ record asked { trace = asked.trace ++ Read a was ∷ [] }
+load_writes : (a was : ℕ) (first asked loaded : View) → AsksToWrite (lock_of_word a) first asked
+    → loaded ≡ record asked { trace = asked.trace ++ Read a was ∷ [] }
     → AsksToWrite (lock_of_word a) first loaded
 load_writes a was first asked loaded writes event = subst (λ (v : View). AsksToWrite (lock_of_word a) first v) (sym event)
     (record { bits = writes.bits; reads = writes.reads; claims = writes.claims; scans = writes.scans })
@@ -49,7 +51,8 @@ store_writes a x first loaded stored writes step = subst (λ (v : View). AsksToW
 pub returns-in-Yield : goal.returns-in-Yield
 returns-in-Yield g c =
     let none = not_halted c.args.self.now.halt c.requires.going in
-    let sound = subst (λ (h : Option Halt). IsSound g.S.Shape.word_count g.S.Shape.good c.args.self.now.desk.now c.args.self.now.began.value c.args.self.now.pass.now c.args.self.now.undo h) none c.requires.sound in
+    let sound = subst (λ (h : Option Halt). IsSound g.S.Shape.word_count g.S.Shape.good c.args.self.now.desk.now
+    c.args.self.now.began.value c.args.self.now.pass.now c.args.self.now.undo h) none c.requires.sound in
     let asks = c.in-Yield.ensures.asks in
     let way = c.in-Yield.ensures.yields c.in-Yield.cause refl in
     record {
@@ -59,7 +62,8 @@ returns-in-Yield g c =
       shape = refl;
       origin = refl;
       sound =
-          yields_sound g.S.Shape.word_count g.S.Shape.good c.args.self.now.desk.now c.args.self.now.began.value c.args.a c.args.self.now.pass.now c.ask_to_write.new.pass c.args.self.now.undo c.in-Yield.cause
+          yields_sound g.S.Shape.word_count g.S.Shape.good c.args.self.now.desk.now c.args.self.now.began.value c.args.a
+          c.args.self.now.pass.now c.ask_to_write.new.pass c.args.self.now.undo c.in-Yield.cause
           sound c.in-Yield.ensures.desk asks c.in-Yield.ensures.judged way.0 way.1 way.2;
       memory = λ room e. cc;
       asked = asks.asked;
@@ -69,9 +73,15 @@ returns-in-Yield g c =
 pub load-old-requires : goal.load-old-requires
 load-old-requires g c =
     let none = not_halted c.args.self.now.halt c.requires.going in
-    let sound = subst (λ (h : Option Halt). IsSound g.S.Shape.word_count g.S.Shape.good c.args.self.now.desk.now c.args.self.now.began.value c.args.self.now.pass.now c.args.self.now.undo h) none c.requires.sound in
-    let goes_on = c.ask_to_write.ensures.goes_on (elim c.match-ask_to_write.branch [ in-Held w ↦ λ cause e. held_not_yield cause (sym w.in-Held.is ∙ e) | in-Granted w ↦ λ cause e. granted_not_yield cause (sym w.in-Granted.is ∙ e) ]) in
-    let asked = asks_table g.S.Shape.word_count g.S.Shape.good c.args.self.now.desk.now c.args.self.now.began.value c.args.a c.args.self.now.pass.now c.ask_to_write.new.pass c.args.self.now.undo
+    let sound = subst (λ (h : Option Halt). IsSound g.S.Shape.word_count g.S.Shape.good c.args.self.now.desk.now
+    c.args.self.now.began.value c.args.self.now.pass.now c.args.self.now.undo h) none c.requires.sound in
+    let goes_on = c.ask_to_write.ensures.goes_on (elim c.match-ask_to_write.branch [
+      | in-Held w ↦
+          λ cause e. held_not_yield cause (sym w.in-Held.is ∙ e)
+      | in-Granted w ↦ λ cause e. granted_not_yield cause (sym w.in-Granted.is ∙ e)
+    ]) in
+    let asked = asks_table g.S.Shape.word_count g.S.Shape.good c.args.self.now.desk.now c.args.self.now.began.value
+    c.args.a c.args.self.now.pass.now c.ask_to_write.new.pass c.args.self.now.undo
     sound c.ask_to_write.ensures.desk c.ask_to_write.ensures.asks goes_on.1 in
     record {
       desk = asked.0;
@@ -82,9 +92,15 @@ load-old-requires g c =
 
 pub store-requires : goal.store-requires
 store-requires g c =
-    let goes_on = c.ask_to_write.ensures.goes_on (elim c.match-ask_to_write.branch [ in-Held w ↦ λ cause e. held_not_yield cause (sym w.in-Held.is ∙ e) | in-Granted w ↦ λ cause e. granted_not_yield cause (sym w.in-Granted.is ∙ e) ]) in
-    let held = held_sound g.S.Shape.word_count g.S.Shape.good c.args.self.now.desk.now c.args.self.now.began.value c.args.a c.load-old.result c.args.self.now.pass.now c.ask_to_write.new.pass c.load-old.new.pass c.args.self.now.undo c.args.self.now.halt
-    c.requires.going c.requires.sound c.ask_to_write.ensures.desk c.ask_to_write.ensures.asks c.ask_to_write.ensures.judged goes_on.1 c.load-old.ensures.desk c.load-old.ensures.event c.load-old.ensures.fits in
+    let goes_on = c.ask_to_write.ensures.goes_on (elim c.match-ask_to_write.branch [
+      | in-Held w ↦
+          λ cause e. held_not_yield cause (sym w.in-Held.is ∙ e)
+      | in-Granted w ↦ λ cause e. granted_not_yield cause (sym w.in-Granted.is ∙ e)
+    ]) in
+    let held = held_sound g.S.Shape.word_count g.S.Shape.good c.args.self.now.desk.now c.args.self.now.began.value
+    c.args.a c.load-old.result c.args.self.now.pass.now c.ask_to_write.new.pass c.load-old.new.pass c.args.self.now.undo c.args.self.now.halt
+    c.requires.going c.requires.sound c.ask_to_write.ensures.desk c.ask_to_write.ensures.asks
+    c.ask_to_write.ensures.judged goes_on.1 c.load-old.ensures.desk c.load-old.ensures.event c.load-old.ensures.fits in
     let last = loaded_last c.args.a c.load-old.result c.ask_to_write.new.pass.view c.load-old.new.pass.view c.load-old.ensures.event in
     record {
       desk = held.table;
@@ -96,13 +112,20 @@ store-requires g c =
 
 pub returns : goal.returns
 returns g c =
-    let goes_on = c.ask_to_write.ensures.goes_on (elim c.match-ask_to_write.branch [ in-Held w ↦ λ cause e. held_not_yield cause (sym w.in-Held.is ∙ e) | in-Granted w ↦ λ cause e. granted_not_yield cause (sym w.in-Granted.is ∙ e) ]) in
-    let held = held_sound g.S.Shape.word_count g.S.Shape.good c.args.self.now.desk.now c.args.self.now.began.value c.args.a c.load-old.result c.args.self.now.pass.now c.ask_to_write.new.pass c.load-old.new.pass c.args.self.now.undo c.args.self.now.halt
-    c.requires.going c.requires.sound c.ask_to_write.ensures.desk c.ask_to_write.ensures.asks c.ask_to_write.ensures.judged goes_on.1 c.load-old.ensures.desk c.load-old.ensures.event c.load-old.ensures.fits in
+    let goes_on = c.ask_to_write.ensures.goes_on (elim c.match-ask_to_write.branch [
+      | in-Held w ↦
+          λ cause e. held_not_yield cause (sym w.in-Held.is ∙ e)
+      | in-Granted w ↦ λ cause e. granted_not_yield cause (sym w.in-Granted.is ∙ e)
+    ]) in
+    let held = held_sound g.S.Shape.word_count g.S.Shape.good c.args.self.now.desk.now c.args.self.now.began.value
+    c.args.a c.load-old.result c.args.self.now.pass.now c.ask_to_write.new.pass c.load-old.new.pass c.args.self.now.undo c.args.self.now.halt
+    c.requires.going c.requires.sound c.ask_to_write.ensures.desk c.ask_to_write.ensures.asks
+    c.ask_to_write.ensures.judged goes_on.1 c.load-old.ensures.desk c.load-old.ensures.event c.load-old.ensures.fits in
     let last = loaded_last c.args.a c.load-old.result c.ask_to_write.new.pass.view c.load-old.new.pass.view c.load-old.ensures.event in
     let asks = c.ask_to_write.ensures.asks in
     let read = load_trace c.args.a c.load-old.result c.args.self.now.pass.now.view c.ask_to_write.new.pass.view c.load-old.new.pass.view asks last in
-    let written = store_trace c.args.a c.load-old.result c.args.v c.args.self.now.pass.now.view c.load-old.new.pass.view c.store.new.pass.view read c.store.ensures.step in
+    let written = store_trace c.args.a c.load-old.result c.args.v c.args.self.now.pass.now.view c.load-old.new.pass.view
+    c.store.new.pass.view read c.store.ensures.step in
     let made = sym c.if-is_err.ensures.value in
     record {
       value = inr (c.load-old.result, written);
@@ -111,30 +134,45 @@ returns g c =
       shape = refl;
       origin = refl;
       sound =
-          subst (λ (h : Option Halt). IsSound g.S.Shape.word_count g.S.Shape.good c.args.self.now.desk.now c.args.self.now.began.value c.store.new.pass c.note.new.self h) (sym (not_halted c.args.self.now.halt c.requires.going))
-          (store_sound g.S.Shape.word_count g.S.Shape.good c.args.self.now.desk.now c.args.self.now.began.value c.args.a c.args.v c.load-old.result c.ask_to_write.new.pass.view.trace c.load-old.new.pass c.store.new.pass c.args.self.now.undo c.note.new.self
-          held c.requires.within (subst (λ (v : View). HasWriteGrant v (lock_of_word c.args.a)) (sym c.load-old.ensures.event) goes_on.0) last c.store.ensures.desk c.store.ensures.step (c.store.ensures.noted c.ask_to_write.new.pass.view.trace c.load-old.result last)
+          subst (λ (h : Option Halt). IsSound g.S.Shape.word_count g.S.Shape.good c.args.self.now.desk.now
+          c.args.self.now.began.value c.store.new.pass c.note.new.self h) (sym (not_halted c.args.self.now.halt c.requires.going))
+          (store_sound g.S.Shape.word_count g.S.Shape.good c.args.self.now.desk.now c.args.self.now.began.value c.args.a
+          c.args.v c.load-old.result c.ask_to_write.new.pass.view.trace c.load-old.new.pass c.store.new.pass c.args.self.now.undo c.note.new.self
+          held c.requires.within (subst (λ (v : View). HasWriteGrant v (lock_of_word c.args.a))
+          (sym c.load-old.ensures.event) goes_on.0) last c.store.ensures.desk c.store.ensures.step
+          (c.store.ensures.noted c.ask_to_write.new.pass.view.trace c.load-old.result last)
           (of_made c.note.result made c.note.ensures.ok) (of_made c.note.result made c.note.ensures.spare));
       memory = λ room e. cc;
       asked =
           store_asked c.args.a c.args.v c.args.self.now.pass.now.view c.load-old.new.pass.view c.store.new.pass.view
-          (load_asked c.args.a c.load-old.result c.args.self.now.pass.now.view c.ask_to_write.new.pass.view c.load-old.new.pass.view asks c.load-old.ensures.event) c.store.ensures.step;
+          (load_asked c.args.a c.load-old.result c.args.self.now.pass.now.view c.ask_to_write.new.pass.view
+          c.load-old.new.pass.view asks c.load-old.ensures.event) c.store.ensures.step;
       writes =
           store_writes c.args.a c.args.v c.args.self.now.pass.now.view c.load-old.new.pass.view c.store.new.pass.view
-          (load_writes c.args.a c.load-old.result c.args.self.now.pass.now.view c.ask_to_write.new.pass.view c.load-old.new.pass.view c.ask_to_write.ensures.writes c.load-old.ensures.event) c.store.ensures.step;
+          (load_writes c.args.a c.load-old.result c.args.self.now.pass.now.view c.ask_to_write.new.pass.view
+          c.load-old.new.pass.view c.ask_to_write.ensures.writes c.load-old.ensures.event) c.store.ensures.step;
     }
 
 pub returns-then-is_err-clause-sound : goal.returns-then-is_err-clause-sound
 returns-then-is_err-clause-sound g c =
-    let goes_on = c.ask_to_write.ensures.goes_on (elim c.match-ask_to_write.branch [ in-Held w ↦ λ cause e. held_not_yield cause (sym w.in-Held.is ∙ e) | in-Granted w ↦ λ cause e. granted_not_yield cause (sym w.in-Granted.is ∙ e) ]) in
-    let held = held_sound g.S.Shape.word_count g.S.Shape.good c.args.self.now.desk.now c.args.self.now.began.value c.args.a c.load-old.result c.args.self.now.pass.now c.ask_to_write.new.pass c.load-old.new.pass c.args.self.now.undo c.args.self.now.halt
-    c.requires.going c.requires.sound c.ask_to_write.ensures.desk c.ask_to_write.ensures.asks c.ask_to_write.ensures.judged goes_on.1 c.load-old.ensures.desk c.load-old.ensures.event c.load-old.ensures.fits in
+    let goes_on = c.ask_to_write.ensures.goes_on (elim c.match-ask_to_write.branch [
+      | in-Held w ↦
+          λ cause e. held_not_yield cause (sym w.in-Held.is ∙ e)
+      | in-Granted w ↦ λ cause e. granted_not_yield cause (sym w.in-Granted.is ∙ e)
+    ]) in
+    let held = held_sound g.S.Shape.word_count g.S.Shape.good c.args.self.now.desk.now c.args.self.now.began.value
+    c.args.a c.load-old.result c.args.self.now.pass.now c.ask_to_write.new.pass c.load-old.new.pass c.args.self.now.undo c.args.self.now.halt
+    c.requires.going c.requires.sound c.ask_to_write.ensures.desk c.ask_to_write.ensures.asks
+    c.ask_to_write.ensures.judged goes_on.1 c.load-old.ensures.desk c.load-old.ensures.event c.load-old.ensures.fits in
     let refused = sym c.if-is_err.ensures.value in
     let full : c.args.self.now.undo.spare ≡ 0 = refused_when_full c.note.result c.args.self.now.undo.spare refused c.note.ensures.succeeds in
     let room = c.requires.sound.room in
-    subst (λ (log : Room). IsSound g.S.Shape.word_count g.S.Shape.good c.args.self.now.desk.now c.args.self.now.began.value c.load-old.new.pass log (Some halt.Memory)) (sym (of_refused c.note.result refused c.note.ensures.err))
-    (memory_sound g.S.Shape.word_count g.S.Shape.good c.args.self.now.desk.now c.args.self.now.began.value c.load-old.new.pass c.args.self.now.undo held (omega (arith, full, room)))
+    subst (λ (log : Room). IsSound g.S.Shape.word_count g.S.Shape.good c.args.self.now.desk.now
+    c.args.self.now.began.value c.load-old.new.pass log (Some halt.Memory)) (sym (of_refused c.note.result refused c.note.ensures.err))
+    (memory_sound g.S.Shape.word_count g.S.Shape.good c.args.self.now.desk.now c.args.self.now.began.value
+    c.load-old.new.pass c.args.self.now.undo held (omega (arith, full, room)))
 
 pub returns-then-is_err-clause-writes : goal.returns-then-is_err-clause-writes
 returns-then-is_err-clause-writes g c =
-    load_writes c.args.a c.load-old.result c.args.self.now.pass.now.view c.ask_to_write.new.pass.view c.load-old.new.pass.view c.ask_to_write.ensures.writes c.load-old.ensures.event
+    load_writes c.args.a c.load-old.result c.args.self.now.pass.now.view c.ask_to_write.new.pass.view
+    c.load-old.new.pass.view c.ask_to_write.ensures.writes c.load-old.ensures.event

@@ -28,12 +28,17 @@ returns-in-None g c =
     let m = c.args.self.now in
     let goes = c.in_ok-find.ensures.goes_on in
     let missing = rw c.in-None.is at c.in_ok-find.ensures.missing in
-    let found : LeadsTo g.W.Words g.W.Shape.Shape c.args.w.now c.find.new.w (Finds (chain_part m) c.args.key None) = record { at = (finds_none (chain_part m) c.args.key _ _ _ _ (λ s f v. missing_value m c.args.key s f v) missing).at } in
+    let found : LeadsTo g.W.Words g.W.Shape.Shape c.args.w.now c.find.new.w (Finds (chain_part m) c.args.key None) =
+    record { at = (finds_none (chain_part m) c.args.key _ _ _ _ (λ s f v. missing_value m c.args.key s f v) missing).at } in
     record {
       found = found;
-      order = state_after g.W.Words g.W.Shape.Shape _ _ (HasMap (chain_part m)) (HasMap (chain_part m)) (Finds (chain_part m) c.args.key None) goes.shape goes.begins c.requires.order found (held_found (chain_part m) c.args.key None);
+      order = state_after g.W.Words g.W.Shape.Shape _ _ (HasMap (chain_part m)) (HasMap (chain_part m))
+          (Finds (chain_part m) c.args.key None) goes.shape goes.begins c.requires.order found (held_found (chain_part m) c.args.key None);
       frame = looks_only g.W.Words g.W.Shape.Shape _ _ (IsLink m c.args.key) _ missing;
-      reads = record { at = sees_near (chain_part m) c.args.key _ _ _ _ (near_own m c.args.key) missing (each_plain g.W.Words g.W.Shape.Shape _ _ c.requires.order) };
+      reads = record {
+        at = sees_near (chain_part m) c.args.key _ _ _ _ (near_own m c.args.key) missing
+            (each_plain g.W.Words g.W.Shape.Shape _ _ c.requires.order);
+      };
       goes_on = goes_as goes goes.stops;
     }
 
@@ -43,7 +48,8 @@ read-requires-clause-within g c =
     let found = rw c.in-Some.is at c.in_ok-find.ensures.found in
     let below = rw c.in-Some.is at c.in_ok-find.ensures.block in
     let goes = c.in_ok-find.ensures.goes_on in
-    let some : SomeFits (g.W.Shape.Shape.word_count (g.W.Words.shape c.args.w.now)) (g.W.Shape.Shape.good (g.W.Words.shape c.args.w.now)) (g.W.Words.trace c.find.new.w) =
+    let some : SomeFits (g.W.Shape.Shape.word_count (g.W.Words.shape c.args.w.now))
+    (g.W.Shape.Shape.good (g.W.Words.shape c.args.w.now)) (g.W.Words.trace c.find.new.w) =
     some_at g.W.Shape.Shape.word_count g.W.Shape.Shape.good _ _ _ goes.shape (g.met.W.Words.fits c.find.new.w goes.sound) in
     let in_list = laid_block m.arena _ _ _ some c.in-Some.found.block (record { at = λ s fit. (found.holds s fit).laid.arena }) below in
     omega (arith, in_list.0, ap g.W.Shape.Shape.word_count goes.shape, c.place_of.ensures)
@@ -51,7 +57,8 @@ read-requires-clause-within g c =
 pub returns-in_err-value-in-Some : goal.returns-in_err-value-in-Some
 returns-in_err-value-in-Some g c =
     let failed = c.from_residual-in_err-value-in-Some.ensures.0 in
-    let on : GoesOn g.W.Words c.args.w.now c.read.new.self c.from_residual-in_err-value-in-Some.result = goes_as (goes_then c.in_ok-find.ensures.goes_on (goes_call c.in_err-value-in-Some.ensures)) (search rules) in
+    let on : GoesOn g.W.Words c.args.w.now c.read.new.self c.from_residual-in_err-value-in-Some.result =
+    goes_as (goes_then c.in_ok-find.ensures.goes_on (goes_call c.in_err-value-in-Some.ensures)) (search rules) in
     search IfOk-from_err
 
 pub returns-in_ok-value-in-Some : goal.returns-in_ok-value-in-Some
@@ -71,10 +78,12 @@ returns-in_ok-value-in-Some g c =
     } in
     record {
       found = found;
-      order = state_after g.W.Words g.W.Shape.Shape _ _ (HasMap (chain_part m)) (HasMap (chain_part m)) (Finds (chain_part m) c.args.key (Some y)) shape begins c.requires.order found (held_found (chain_part m) c.args.key (Some y));
+      order = state_after g.W.Words g.W.Shape.Shape _ _ (HasMap (chain_part m)) (HasMap (chain_part m))
+          (Finds (chain_part m) c.args.key (Some y)) shape begins c.requires.order found (held_found (chain_part m) c.args.key (Some y));
       frame = looks_only g.W.Words g.W.Shape.Shape _ _ (IsNearOr (IsLink m c.args.key) q) _ looks;
       reads = record {
-        at = sees_value (chain_part m) c.args.key _ _ _ _ b q y is_value (keys_block m c.args.key c.in-Some.found.place b) looks (near_own m c.args.key) (each_plain g.W.Words g.W.Shape.Shape _ _ c.requires.order);
+        at = sees_value (chain_part m) c.args.key _ _ _ _ b q y is_value
+            (keys_block m c.args.key c.in-Some.found.place b) looks (near_own m c.args.key) (each_plain g.W.Words g.W.Shape.Shape _ _ c.requires.order);
       };
       goes_on = goes_as (goes_then goes (goes_call value)) value.stops;
     }

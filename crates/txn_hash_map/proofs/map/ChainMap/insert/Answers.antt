@@ -11,7 +11,8 @@ use Rattle.txn_alloc.specs.FreeLists.{block_at, HasNone}
 use Rattle.txn_alloc.specs.EntryMaps.{HasMapApart, Inserts, LacksRoom}
 use Rattle.txn_hash_map.specs.Chains.{chain_part}
 use Rattle.txn_alloc.proofs.Wider.{take_keeps}
-use Rattle.txn_alloc.proofs.Parts.{order_inserted, lacks_room, not_new, not_old, new_not_old, old_not_new, full_not_new, full_not_old, new_not_full, old_not_full}
+use Rattle.txn_alloc.proofs.Parts.{order_inserted, lacks_room, not_new, not_old, new_not_old, old_not_new, full_not_new, full_not_old, new_not_full}
+use Rattle.txn_alloc.proofs.Parts.{old_not_full}
 use Rattle.txn_words.proofs.Looks.{leads_from, each_from, each_looked, leads_back}
 use Rattle.txn_hash_map.proofs.Steps.{missing_value}
 use Rattle.txn_alloc.proofs.Traces.{laid_block}
@@ -22,7 +23,10 @@ use Rattle.txn_hash_map.proofs.Inserts.{inserts_new, takes_new, owns_new, sees_n
 use Rattle.txn_hash_map.proofs.map.ChainMap.insert.Goals as goal
 
 pub find-requires-clause-order : goal.find-requires-clause-order
-find-requires-clause-order g c = record { at = λ s fit. let o = c.requires.order.at s fit in record { entries = o.entries; used = o.used; holds = o.holds.map } }
+find-requires-clause-order g c = record {
+  at = λ s fit. let o = c.requires.order.at s fit in
+      record { entries = o.entries; used = o.used; holds = o.holds.map };
+}
 
 pub read-requires-clause-within : goal.read-requires-clause-within
 read-requires-clause-within g c =
@@ -30,7 +34,8 @@ read-requires-clause-within g c =
     let found = rw c.in-Some.is at c.in_ok-found.ensures.found in
     let below = rw c.in-Some.is at c.in_ok-found.ensures.block in
     let goes = c.in_ok-found.ensures.goes_on in
-    let some : SomeFits (g.W.Shape.Shape.word_count (g.W.Words.shape c.args.w.now)) (g.W.Shape.Shape.good (g.W.Words.shape c.args.w.now)) (g.W.Words.trace c.find.new.w) =
+    let some : SomeFits (g.W.Shape.Shape.word_count (g.W.Words.shape c.args.w.now))
+    (g.W.Shape.Shape.good (g.W.Words.shape c.args.w.now)) (g.W.Words.trace c.find.new.w) =
     some_at g.W.Shape.Shape.word_count g.W.Shape.Shape.good _ _ _ goes.shape (g.met.W.Words.fits c.find.new.w goes.sound) in
     let in_list = laid_block m.arena _ _ _ some c.in-Some.found.block (record { at = λ s fit. (found.holds s fit).laid.arena }) below in
     omega (arith, in_list.0, ap g.W.Shape.Shape.word_count goes.shape, c.place_of-at.ensures)
@@ -41,7 +46,8 @@ write-requires-clause-within g c =
     let found = rw c.in-Some.is at c.in_ok-found.ensures.found in
     let below = rw c.in-Some.is at c.in_ok-found.ensures.block in
     let goes = c.in_ok-found.ensures.goes_on in
-    let some : SomeFits (g.W.Shape.Shape.word_count (g.W.Words.shape c.args.w.now)) (g.W.Shape.Shape.good (g.W.Words.shape c.args.w.now)) (g.W.Words.trace c.find.new.w) =
+    let some : SomeFits (g.W.Shape.Shape.word_count (g.W.Words.shape c.args.w.now))
+    (g.W.Shape.Shape.good (g.W.Words.shape c.args.w.now)) (g.W.Words.trace c.find.new.w) =
     some_at g.W.Shape.Shape.word_count g.W.Shape.Shape.good _ _ _ (goes.shape) (g.met.W.Words.fits c.find.new.w goes.sound) in
     let in_list = laid_block m.arena _ _ _ some c.in-Some.found.block (record { at = λ s fit. (found.holds s fit).laid.arena }) below in
     omega (arith, in_list.0, ap g.W.Shape.Shape.word_count goes.shape, ap g.W.Shape.Shape.word_count c.in_ok-old-in-Some.ensures.shape, c.place_of-at.ensures)
@@ -52,7 +58,8 @@ take_near-requires-clause-order g c =
     let missing = rw c.in-None.is at c.in_ok-found.ensures.missing in
     let goes = c.in_ok-found.ensures.goes_on in
     let order = each_looked _ _ _ _ missing (HasMapApart (chain_part m)) (each_plain g.W.Words g.W.Shape.Shape _ _ c.requires.order) in
-    each_from g.W.Words g.W.Shape.Shape c.args.w.now c.find.new.w _ goes.shape (record { at = λ s fit. ((order.at s fit).free, (order.at s fit).holds.free_lists) })
+    each_from g.W.Words g.W.Shape.Shape c.args.w.now c.find.new.w _ goes.shape
+    (record { at = λ s fit. ((order.at s fit).free, (order.at s fit).holds.free_lists) })
 
 pub put_in_front-requires-clause-laid : goal.put_in_front-requires-clause-laid
 put_in_front-requires-clause-laid g c =
@@ -60,7 +67,8 @@ put_in_front-requires-clause-laid g c =
     let missing = rw c.in-None.is at c.in_ok-found.ensures.missing in
     let goes = c.in_ok-found.ensures.goes_on in
     let then = c.in_ok-block-in-None.ensures in
-    let keeps = take_keeps m.arena c.in_ok-block-in-None.field-0 _ _ _ _ (leads_from g.W.Words g.W.Shape.Shape c.args.w.now c.find.new.w c.take_near.new.w _ goes.shape then.others) in
+    let keeps = take_keeps m.arena c.in_ok-block-in-None.field-0 _ _ _ _
+    (leads_from g.W.Words g.W.Shape.Shape c.args.w.now c.find.new.w c.take_near.new.w _ goes.shape then.others) in
     each_from g.W.Words g.W.Shape.Shape c.args.w.now c.take_near.new.w _ (then.goes_on.shape ∙ goes.shape)
     (laid_taken m c.args.key c.args.value _ _ _ _ (each_plain g.W.Words g.W.Shape.Shape _ _ c.requires.order) missing _ then.goes_on.begins keeps)
 
@@ -85,8 +93,10 @@ returns-in_ok-write-in-Some-clause-put g c =
     let q = c.place_of-at.result + 1 in
     let is_value : q ≡ block_at m.arena c.in-Some.found.block + 1 = omega (arith, c.place_of-at.ensures) in
     record {
-      at = (inserts_old (chain_part m) c.args.key _ _ _ _ c.in-Some.found.block q c.in_ok-old-in-Some.old is_value (keys_block m c.args.key c.in-Some.found.place c.in-Some.found.block)
-          (looks_value _ _ _ _ found _ q c.in_ok-old-in-Some.old c.in_ok-old-in-Some.ensures.value) (each_plain g.W.Words g.W.Shape.Shape _ _ c.requires.order) _ c.args.value
+      at = (inserts_old (chain_part m) c.args.key _ _ _ _ c.in-Some.found.block q c.in_ok-old-in-Some.old is_value
+          (keys_block m c.args.key c.in-Some.found.place c.in-Some.found.block)
+          (looks_value _ _ _ _ found _ q c.in_ok-old-in-Some.old c.in_ok-old-in-Some.ensures.value)
+          (each_plain g.W.Words g.W.Shape.Shape _ _ c.requires.order) _ c.args.value
           c.in_ok-write-in-Some.ensures.value
           (λ s f used free hold h. inserted_old m c.args.key s f used free hold c.in-Some.found.place c.in-Some.found.block c.args.value h)).at;
     }
@@ -96,18 +106,22 @@ returns-in_ok-write-in-Some-clause-full_if g c =
     let m = c.args.self.now in
     let goes = c.in_ok-found.ensures.goes_on in
     let begins = begins_trans _ _ _ goes.begins (begins_trans _ _ _ c.in_ok-old-in-Some.ensures.begins c.in_ok-write-in-Some.ensures.begins) in
-    let some : SomeFits (g.W.Shape.Shape.word_count (g.W.Words.shape c.args.w.now)) (g.W.Shape.Shape.good (g.W.Words.shape c.args.w.now)) (g.W.Words.trace c.write.new.self) =
-    some_at g.W.Shape.Shape.word_count g.W.Shape.Shape.good _ _ _ (c.in_ok-write-in-Some.ensures.shape ∙ c.in_ok-old-in-Some.ensures.shape ∙ goes.shape) (g.met.W.Words.fits c.write.new.self c.in_ok-write-in-Some.ensures.sound) in
+    let some : SomeFits (g.W.Shape.Shape.word_count (g.W.Words.shape c.args.w.now))
+    (g.W.Shape.Shape.good (g.W.Words.shape c.args.w.now)) (g.W.Words.trace c.write.new.self) =
+    some_at g.W.Shape.Shape.word_count g.W.Shape.Shape.good _ _ _ (c.in_ok-write-in-Some.ensures.shape
+    ∙ c.in_ok-old-in-Some.ensures.shape ∙ goes.shape) (g.met.W.Words.fits c.write.new.self c.in_ok-write-in-Some.ensures.sound) in
     λ lacks. not_old (chain_part m) c.args.key c.args.value _ _ _ _ (each_plain g.W.Words g.W.Shape.Shape _ _ c.requires.order) begins some
     (leads_plain g.W.Words g.W.Shape.Shape _ _ (λ before after. LacksRoom (chain_part m) c.args.key before) lacks) c.in_ok-old-in-Some.old
-    (leads_plain g.W.Words g.W.Shape.Shape _ _ (Inserts (chain_part m) c.args.key c.args.value (Old c.in_ok-old-in-Some.old)) (returns-in_ok-write-in-Some-clause-put g c))
+    (leads_plain g.W.Words g.W.Shape.Shape _ _
+    (Inserts (chain_part m) c.args.key c.args.value (Old c.in_ok-old-in-Some.old)) (returns-in_ok-write-in-Some-clause-put g c))
 
 pub returns-in_ok-write-in-Some-clause-order : goal.returns-in_ok-write-in-Some-clause-order
 returns-in_ok-write-in-Some-clause-order g c =
     let m = c.args.self.now in
     let goes = c.in_ok-found.ensures.goes_on in
     let begins = begins_trans _ _ _ goes.begins (begins_trans _ _ _ c.in_ok-old-in-Some.ensures.begins c.in_ok-write-in-Some.ensures.begins) in
-    state_after g.W.Words g.W.Shape.Shape _ _ (HasMapApart (chain_part m)) (HasMapApart (chain_part m)) (Inserts (chain_part m) c.args.key c.args.value (Old c.in_ok-old-in-Some.old))
+    state_after g.W.Words g.W.Shape.Shape _ _ (HasMapApart (chain_part m)) (HasMapApart (chain_part m))
+    (Inserts (chain_part m) c.args.key c.args.value (Old c.in_ok-old-in-Some.old))
     (c.in_ok-write-in-Some.ensures.shape ∙ c.in_ok-old-in-Some.ensures.shape ∙ goes.shape) begins c.requires.order (returns-in_ok-write-in-Some-clause-put g c)
     (order_inserted (chain_part m) c.args.key c.args.value (Old c.in_ok-old-in-Some.old))
 
@@ -118,8 +132,10 @@ returns-in_ok-write-in-Some-clause-frame g c =
     let q = c.place_of-at.result + 1 in
     let is_value : q ≡ block_at m.arena c.in-Some.found.block + 1 = omega (arith, c.place_of-at.ensures) in
     record {
-      at = owns_old (chain_part m) c.args.key _ _ _ _ c.in-Some.found.block q c.in_ok-old-in-Some.old is_value (keys_block m c.args.key c.in-Some.found.place c.in-Some.found.block)
-          (looks_value _ _ _ _ found _ q c.in_ok-old-in-Some.old c.in_ok-old-in-Some.ensures.value) (each_plain g.W.Words g.W.Shape.Shape _ _ c.requires.order) _ c.args.value
+      at = owns_old (chain_part m) c.args.key _ _ _ _ c.in-Some.found.block q c.in_ok-old-in-Some.old is_value
+          (keys_block m c.args.key c.in-Some.found.place c.in-Some.found.block)
+          (looks_value _ _ _ _ found _ q c.in_ok-old-in-Some.old c.in_ok-old-in-Some.ensures.value)
+          (each_plain g.W.Words g.W.Shape.Shape _ _ c.requires.order) _ c.args.value
           c.in_ok-write-in-Some.ensures.value;
     }
 
@@ -130,8 +146,10 @@ returns-in_ok-write-in-Some-clause-old g c =
     let q = c.place_of-at.result + 1 in
     let is_value : q ≡ block_at m.arena c.in-Some.found.block + 1 = omega (arith, c.place_of-at.ensures) in
     λ was e. record {
-      at = owns_value (chain_part m) c.args.key _ _ _ _ c.in-Some.found.block q c.in_ok-old-in-Some.old is_value (keys_block m c.args.key c.in-Some.found.place c.in-Some.found.block)
-          (looks_value _ _ _ _ found _ q c.in_ok-old-in-Some.old c.in_ok-old-in-Some.ensures.value) (each_plain g.W.Words g.W.Shape.Shape _ _ c.requires.order) _ c.args.value
+      at = owns_value (chain_part m) c.args.key _ _ _ _ c.in-Some.found.block q c.in_ok-old-in-Some.old is_value
+          (keys_block m c.args.key c.in-Some.found.place c.in-Some.found.block)
+          (looks_value _ _ _ _ found _ q c.in_ok-old-in-Some.old c.in_ok-old-in-Some.ensures.value)
+          (each_plain g.W.Words g.W.Shape.Shape _ _ c.requires.order) _ c.args.value
           c.in_ok-write-in-Some.ensures.value;
     }
 
@@ -144,9 +162,11 @@ returns-in_ok-put_in_front-in-Some-2-clause-put g c =
     let taken = rw c.in-Some-2.is at then.taken in
     let put = rw c.number.ensures at c.in_ok-put_in_front-in-Some-2.ensures.put in
     record {
-      at = (inserts_new m c.args.key c.args.value _ _ _ _ (each_plain g.W.Words g.W.Shape.Shape _ _ c.requires.order) missing _ then.goes_on.begins _ c.in-Some-2.block c.in_ok-put_in_front-in-Some-2.ensures.goes_on.begins
+      at = (inserts_new m c.args.key c.args.value _ _ _ _ (each_plain g.W.Words g.W.Shape.Shape _ _ c.requires.order)
+          missing _ then.goes_on.begins _ c.in-Some-2.block c.in_ok-put_in_front-in-Some-2.ensures.goes_on.begins
           (leads_from g.W.Words g.W.Shape.Shape c.args.w.now c.find.new.w c.take_near.new.w _ goes.shape taken)
-          (take_keeps m.arena c.in_ok-block-in-None.field-0 _ _ _ _ (leads_from g.W.Words g.W.Shape.Shape c.args.w.now c.find.new.w c.take_near.new.w _ goes.shape then.others))
+          (take_keeps m.arena c.in_ok-block-in-None.field-0 _ _ _ _ (leads_from g.W.Words g.W.Shape.Shape c.args.w.now
+          c.find.new.w c.take_near.new.w _ goes.shape then.others))
           (leads_from g.W.Words g.W.Shape.Shape c.args.w.now c.take_near.new.w c.put_in_front.new.w _ (then.goes_on.shape ∙ goes.shape) put)).at;
     }
 
@@ -154,7 +174,8 @@ pub returns-in_ok-put_in_front-in-Some-2-clause-full_if : goal.returns-in_ok-put
 returns-in_ok-put_in_front-in-Some-2-clause-full_if g c =
     let m = c.args.self.now in
     let goes = returns-in_ok-put_in_front-in-Some-2-clause-goes_on g c in
-    let some : SomeFits (g.W.Shape.Shape.word_count (g.W.Words.shape c.args.w.now)) (g.W.Shape.Shape.good (g.W.Words.shape c.args.w.now)) (g.W.Words.trace c.put_in_front.new.w) =
+    let some : SomeFits (g.W.Shape.Shape.word_count (g.W.Words.shape c.args.w.now))
+    (g.W.Shape.Shape.good (g.W.Words.shape c.args.w.now)) (g.W.Words.trace c.put_in_front.new.w) =
     some_at g.W.Shape.Shape.word_count g.W.Shape.Shape.good _ _ _ (goes.shape) (g.met.W.Words.fits c.put_in_front.new.w goes.sound) in
     λ lacks. not_new (chain_part m) c.args.key c.args.value _ _ _ _ (each_plain g.W.Words g.W.Shape.Shape _ _ c.requires.order) goes.begins some
     (leads_plain g.W.Words g.W.Shape.Shape _ _ (λ before after. LacksRoom (chain_part m) c.args.key before) lacks)
@@ -164,7 +185,8 @@ pub returns-in_ok-put_in_front-in-Some-2-clause-order : goal.returns-in_ok-put_i
 returns-in_ok-put_in_front-in-Some-2-clause-order g c =
     let m = c.args.self.now in
     let goes = returns-in_ok-put_in_front-in-Some-2-clause-goes_on g c in
-    state_after g.W.Words g.W.Shape.Shape _ _ (HasMapApart (chain_part m)) (HasMapApart (chain_part m)) (Inserts (chain_part m) c.args.key c.args.value New) goes.shape goes.begins c.requires.order
+    state_after g.W.Words g.W.Shape.Shape _ _ (HasMapApart (chain_part m)) (HasMapApart (chain_part m))
+    (Inserts (chain_part m) c.args.key c.args.value New) goes.shape goes.begins c.requires.order
     (returns-in_ok-put_in_front-in-Some-2-clause-put g c) (order_inserted (chain_part m) c.args.key c.args.value New)
 
 pub returns-in_ok-put_in_front-in-Some-2-clause-frame : goal.returns-in_ok-put_in_front-in-Some-2-clause-frame
@@ -178,9 +200,11 @@ returns-in_ok-put_in_front-in-Some-2-clause-frame g c =
     let put = rw c.number.ensures at c.in_ok-put_in_front-in-Some-2.ensures.put in
     let front = rw c.number.ensures at c.in_ok-put_in_front-in-Some-2.ensures.frame in
     record {
-      at = owns_new m c.args.key c.args.value _ _ _ _ (each_plain g.W.Words g.W.Shape.Shape _ _ c.requires.order) missing _ then.goes_on.begins _ c.in-Some-2.block c.in_ok-put_in_front-in-Some-2.ensures.goes_on.begins
+      at = owns_new m c.args.key c.args.value _ _ _ _ (each_plain g.W.Words g.W.Shape.Shape _ _ c.requires.order)
+          missing _ then.goes_on.begins _ c.in-Some-2.block c.in_ok-put_in_front-in-Some-2.ensures.goes_on.begins
           (leads_from g.W.Words g.W.Shape.Shape c.args.w.now c.find.new.w c.take_near.new.w _ goes.shape taken)
-          (take_keeps m.arena c.in_ok-block-in-None.field-0 _ _ _ _ (leads_from g.W.Words g.W.Shape.Shape c.args.w.now c.find.new.w c.take_near.new.w _ goes.shape then.others))
+          (take_keeps m.arena c.in_ok-block-in-None.field-0 _ _ _ _ (leads_from g.W.Words g.W.Shape.Shape c.args.w.now
+          c.find.new.w c.take_near.new.w _ goes.shape then.others))
           (leads_from g.W.Words g.W.Shape.Shape c.args.w.now c.take_near.new.w c.put_in_front.new.w _ (then.goes_on.shape ∙ goes.shape) put)
           heads.appended front.appended;
     }
@@ -214,7 +238,9 @@ returns-in-None-2-clause-order g c =
     let m = c.args.self.now in
     let goes = c.in_ok-found.ensures.goes_on in
     let then = c.in_ok-block-in-None.ensures in
-    state_after g.W.Words g.W.Shape.Shape _ _ (HasMapApart (chain_part m)) (HasMapApart (chain_part m)) (Inserts (chain_part m) c.args.key c.args.value Full) (then.goes_on.shape ∙ goes.shape) (begins_trans _ _ _ goes.begins then.goes_on.begins) c.requires.order
+    state_after g.W.Words g.W.Shape.Shape _ _ (HasMapApart (chain_part m)) (HasMapApart (chain_part m))
+    (Inserts (chain_part m) c.args.key c.args.value Full) (then.goes_on.shape
+    ∙ goes.shape) (begins_trans _ _ _ goes.begins then.goes_on.begins) c.requires.order
     (returns-in-None-2-clause-put g c) (order_inserted (chain_part m) c.args.key c.args.value Full)
 
 pub returns-in-None-2-clause-full_frame : goal.returns-in-None-2-clause-full_frame
@@ -239,8 +265,10 @@ returns-in_ok-write-in-Some-clause-reads g c =
     let q = c.place_of-at.result + 1 in
     let is_value : q ≡ block_at m.arena c.in-Some.found.block + 1 = omega (arith, c.place_of-at.ensures) in
     record {
-      at = sees_old (chain_part m) c.args.key _ _ _ _ c.in-Some.found.block q c.in_ok-old-in-Some.old is_value (keys_block m c.args.key c.in-Some.found.place c.in-Some.found.block)
-          (looks_value _ _ _ _ found _ q c.in_ok-old-in-Some.old c.in_ok-old-in-Some.ensures.value) (each_plain g.W.Words g.W.Shape.Shape _ _ c.requires.order) _ c.args.value
+      at = sees_old (chain_part m) c.args.key _ _ _ _ c.in-Some.found.block q c.in_ok-old-in-Some.old is_value
+          (keys_block m c.args.key c.in-Some.found.place c.in-Some.found.block)
+          (looks_value _ _ _ _ found _ q c.in_ok-old-in-Some.old c.in_ok-old-in-Some.ensures.value)
+          (each_plain g.W.Words g.W.Shape.Shape _ _ c.requires.order) _ c.args.value
           c.in_ok-write-in-Some.ensures.value (near_own m c.args.key);
     }
 
@@ -255,9 +283,11 @@ returns-in_ok-put_in_front-in-Some-2-clause-reads g c =
     let put = rw c.number.ensures at c.in_ok-put_in_front-in-Some-2.ensures.put in
     let front = rw c.number.ensures at c.in_ok-put_in_front-in-Some-2.ensures.reads in
     record {
-      at = sees_new m c.args.key c.args.value _ _ _ _ (each_plain g.W.Words g.W.Shape.Shape _ _ c.requires.order) missing _ then.goes_on.begins _ c.in-Some-2.block c.in_ok-put_in_front-in-Some-2.ensures.goes_on.begins
+      at = sees_new m c.args.key c.args.value _ _ _ _ (each_plain g.W.Words g.W.Shape.Shape _ _ c.requires.order)
+          missing _ then.goes_on.begins _ c.in-Some-2.block c.in_ok-put_in_front-in-Some-2.ensures.goes_on.begins
           (leads_from g.W.Words g.W.Shape.Shape c.args.w.now c.find.new.w c.take_near.new.w _ goes.shape taken)
-          (take_keeps m.arena c.in_ok-block-in-None.field-0 _ _ _ _ (leads_from g.W.Words g.W.Shape.Shape c.args.w.now c.find.new.w c.take_near.new.w _ goes.shape then.others))
+          (take_keeps m.arena c.in_ok-block-in-None.field-0 _ _ _ _ (leads_from g.W.Words g.W.Shape.Shape c.args.w.now
+          c.find.new.w c.take_near.new.w _ goes.shape then.others))
           (leads_from g.W.Words g.W.Shape.Shape c.args.w.now c.take_near.new.w c.put_in_front.new.w _ (then.goes_on.shape ∙ goes.shape) put)
           names front;
     }
@@ -268,7 +298,10 @@ returns-in-None-2-clause-reads g c =
     let missing = rw c.in-None.is at c.in_ok-found.ensures.missing in
     let then = c.in_ok-block-in-None.ensures in
     let names = rw c.in-None-2.is at then.reads in
-    record { at = sees_none (chain_part m) c.args.key _ _ _ _ (near_own m c.args.key) missing (each_plain g.W.Words g.W.Shape.Shape _ _ c.requires.order) _ then.goes_on.begins names }
+    record {
+      at = sees_none (chain_part m) c.args.key _ _ _ _ (near_own m c.args.key) missing
+          (each_plain g.W.Words g.W.Shape.Shape _ _ c.requires.order) _ then.goes_on.begins names;
+    }
 
 pub returns-in_ok-write-in-Some-clause-full_frame : goal.returns-in_ok-write-in-Some-clause-full_frame
 returns-in_ok-write-in-Some-clause-full_frame g c = λ e. absurd (old_not_full _ e)
@@ -285,19 +318,23 @@ returns-in_err-found g c =
 pub returns-in_err-old-in-Some : goal.returns-in_err-old-in-Some
 returns-in_err-old-in-Some g c =
     let failed = c.from_residual-in_err-old-in-Some.ensures.0 in
-    let on : GoesOn g.W.Words c.args.w.now c.read.new.self c.from_residual-in_err-old-in-Some.result = goes_as (goes_then c.in_ok-found.ensures.goes_on (goes_call c.in_err-old-in-Some.ensures)) (search rules) in
+    let on : GoesOn g.W.Words c.args.w.now c.read.new.self c.from_residual-in_err-old-in-Some.result =
+    goes_as (goes_then c.in_ok-found.ensures.goes_on (goes_call c.in_err-old-in-Some.ensures)) (search rules) in
     search IfOk-from_err
 
 pub returns-in_err-write-in-Some : goal.returns-in_err-write-in-Some
 returns-in_err-write-in-Some g c =
     let failed = c.from_residual-in_err-write-in-Some.ensures.0 in
-    let on : GoesOn g.W.Words c.args.w.now c.write.new.self c.from_residual-in_err-write-in-Some.result = goes_as (goes_then (goes_then c.in_ok-found.ensures.goes_on (goes_call c.in_ok-old-in-Some.ensures)) (goes_call c.in_err-write-in-Some.ensures)) (search rules) in
+    let on : GoesOn g.W.Words c.args.w.now c.write.new.self c.from_residual-in_err-write-in-Some.result =
+    goes_as (goes_then (goes_then c.in_ok-found.ensures.goes_on (goes_call c.in_ok-old-in-Some.ensures))
+    (goes_call c.in_err-write-in-Some.ensures)) (search rules) in
     search IfOk-from_err
 
 pub returns-in_err-block-in-None : goal.returns-in_err-block-in-None
 returns-in_err-block-in-None g c =
     let failed = c.from_residual-in_err-block-in-None.ensures.0 in
-    let on : GoesOn g.W.Words c.args.w.now c.take_near.new.w c.from_residual-in_err-block-in-None.result = goes_as (goes_then c.in_ok-found.ensures.goes_on c.in_err-block-in-None.ensures.goes_on) (search rules) in
+    let on : GoesOn g.W.Words c.args.w.now c.take_near.new.w c.from_residual-in_err-block-in-None.result =
+    goes_as (goes_then c.in_ok-found.ensures.goes_on c.in_err-block-in-None.ensures.goes_on) (search rules) in
     search IfOk-from_err
 
 pub returns-in_ok-put_in_front-in-Some-2-clause-nearest : goal.returns-in_ok-put_in_front-in-Some-2-clause-nearest
@@ -310,9 +347,11 @@ returns-in_ok-put_in_front-in-Some-2-clause-nearest g c =
     let nearest = rw c.in-Some-2.is at then.nearest in
     let put = rw c.number.ensures at c.in_ok-put_in_front-in-Some-2.ensures.put in
     λ e. record {
-      at = (takes_new m c.args.key c.args.value _ _ _ _ (each_plain g.W.Words g.W.Shape.Shape _ _ c.requires.order) missing _ then.goes_on.begins _ c.in-Some-2.block c.in_ok-put_in_front-in-Some-2.ensures.goes_on.begins
+      at = (takes_new m c.args.key c.args.value _ _ _ _ (each_plain g.W.Words g.W.Shape.Shape _ _ c.requires.order)
+          missing _ then.goes_on.begins _ c.in-Some-2.block c.in_ok-put_in_front-in-Some-2.ensures.goes_on.begins
           (leads_from g.W.Words g.W.Shape.Shape c.args.w.now c.find.new.w c.take_near.new.w _ goes.shape taken)
-          (take_keeps m.arena c.in_ok-block-in-None.field-0 _ _ _ _ (leads_from g.W.Words g.W.Shape.Shape c.args.w.now c.find.new.w c.take_near.new.w _ goes.shape then.others))
+          (take_keeps m.arena c.in_ok-block-in-None.field-0 _ _ _ _ (leads_from g.W.Words g.W.Shape.Shape c.args.w.now
+          c.find.new.w c.take_near.new.w _ goes.shape then.others))
           (leads_from g.W.Words g.W.Shape.Shape c.args.w.now c.take_near.new.w c.put_in_front.new.w _ (then.goes_on.shape ∙ goes.shape) put)
           (leads_from g.W.Words g.W.Shape.Shape c.args.w.now c.find.new.w c.take_near.new.w _ goes.shape nearest)).at;
     }

@@ -21,7 +21,10 @@ use Rattle.txn_hash_map.proofs.Removals.{place_within, order_cut, lacks_cut, rem
 use Rattle.txn_hash_map.proofs.map.ChainMap.remove.Goals as goal
 
 pub find-requires-clause-order : goal.find-requires-clause-order
-find-requires-clause-order g c = record { at = λ s fit. let o = c.requires.order.at s fit in record { entries = o.entries; used = o.used; holds = o.holds.map } }
+find-requires-clause-order g c = record {
+  at = λ s fit. let o = c.requires.order.at s fit in
+      record { entries = o.entries; used = o.used; holds = o.holds.map };
+}
 
 pub read-requires-clause-within : goal.read-requires-clause-within
 read-requires-clause-within g c =
@@ -29,7 +32,8 @@ read-requires-clause-within g c =
     let goes = c.in_ok-find.ensures.goes_on in
     let found = rw c.in-Some.is at c.in_ok-find.ensures.found in
     let below = rw c.in-Some.is at c.in_ok-find.ensures.block in
-    let some : SomeFits (g.W.Shape.Shape.word_count (g.W.Words.shape c.args.w.now)) (g.W.Shape.Shape.good (g.W.Words.shape c.args.w.now)) (g.W.Words.trace c.find.new.w) =
+    let some : SomeFits (g.W.Shape.Shape.word_count (g.W.Words.shape c.args.w.now))
+    (g.W.Shape.Shape.good (g.W.Words.shape c.args.w.now)) (g.W.Words.trace c.find.new.w) =
     some_at g.W.Shape.Shape.word_count g.W.Shape.Shape.good _ _ _ (goes.shape) (g.met.W.Words.fits c.find.new.w goes.sound) in
     let in_list = laid_block m.arena _ _ _ some c.in-Some.found.block (record { at = λ s fit. (found.holds s fit).laid.arena }) below in
     omega (arith, in_list.0, ap g.W.Shape.Shape.word_count goes.shape, c.place_of-at.ensures)
@@ -40,7 +44,8 @@ read-requires-in-Some-clause-within g c =
     let goes = c.in_ok-find.ensures.goes_on in
     let found = rw c.in-Some.is at c.in_ok-find.ensures.found in
     let below = rw c.in-Some.is at c.in_ok-find.ensures.block in
-    let some : SomeFits (g.W.Shape.Shape.word_count (g.W.Words.shape c.args.w.now)) (g.W.Shape.Shape.good (g.W.Words.shape c.args.w.now)) (g.W.Words.trace c.find.new.w) =
+    let some : SomeFits (g.W.Shape.Shape.word_count (g.W.Words.shape c.args.w.now))
+    (g.W.Shape.Shape.good (g.W.Words.shape c.args.w.now)) (g.W.Words.trace c.find.new.w) =
     some_at g.W.Shape.Shape.word_count g.W.Shape.Shape.good _ _ _ (goes.shape) (g.met.W.Words.fits c.find.new.w goes.sound) in
     let in_list = laid_block m.arena _ _ _ some c.in-Some.found.block (record { at = λ s fit. (found.holds s fit).laid.arena }) below in
     omega (arith, in_list.0, ap g.W.Shape.Shape.word_count goes.shape, ap g.W.Shape.Shape.word_count c.in_ok-value-in-Some.ensures.shape, c.place_of-at.ensures)
@@ -59,10 +64,14 @@ write-requires-clause-within g c =
     let r = c.place_of-at.result + 2 in
     let is_value : q ≡ block_at m.arena b + 1 = omega (arith, c.place_of-at.ensures) in
     let is_next : r ≡ block_at m.arena b + 2 = omega (arith, c.place_of-at.ensures) in
-    let looks = looks_read _ _ _ (IsNearOr (IsLink m c.args.key) q) _ _ r x _ (looks_value _ _ _ _ found _ q y c.in_ok-value-in-Some.ensures.value) c.in_ok-next-in-Some.ensures.value (λ s h. inl (inr (b, found_of m c.args.key s p b h.0, inr is_next))) in
+    let looks = looks_read _ _ _ (IsNearOr (IsLink m c.args.key) q) _ _ r x _
+    (looks_value _ _ _ _ found _ q y c.in_ok-value-in-Some.ensures.value) c.in_ok-next-in-Some.ensures.value
+    (λ s h. inl (inr (b, found_of m c.args.key s p b h.0, inr is_next))) in
     let order = each_plain g.W.Words g.W.Shape.Shape _ _ c.requires.order in
-    let some : SomeFits (g.W.Shape.Shape.word_count (g.W.Words.shape c.args.w.now)) (g.W.Shape.Shape.good (g.W.Words.shape c.args.w.now)) (g.W.Words.trace c.read-in-Some.new.self) =
-    some_at g.W.Shape.Shape.word_count g.W.Shape.Shape.good _ _ _ (c.in_ok-next-in-Some.ensures.shape ∙ c.in_ok-value-in-Some.ensures.shape ∙ goes.shape) (g.met.W.Words.fits c.read-in-Some.new.self c.in_ok-next-in-Some.ensures.sound) in
+    let some : SomeFits (g.W.Shape.Shape.word_count (g.W.Words.shape c.args.w.now))
+    (g.W.Shape.Shape.good (g.W.Words.shape c.args.w.now)) (g.W.Words.trace c.read-in-Some.new.self) =
+    some_at g.W.Shape.Shape.word_count g.W.Shape.Shape.good _ _ _ (c.in_ok-next-in-Some.ensures.shape
+    ∙ c.in_ok-value-in-Some.ensures.shape ∙ goes.shape) (g.met.W.Words.fits c.read-in-Some.new.self c.in_ok-next-in-Some.ensures.sound) in
     let within : p < g.W.Shape.Shape.word_count (g.W.Words.shape c.args.w.now) = place_within m c.args.key _ _ _ _ p b q y r x is_value is_next looks some in
     omega (arith, within, ap g.W.Shape.Shape.word_count (c.in_ok-next-in-Some.ensures.shape ∙ c.in_ok-value-in-Some.ensures.shape ∙ goes.shape))
 
@@ -80,9 +89,13 @@ give-requires-clause-order g c =
     let r = c.place_of-at.result + 2 in
     let is_value : q ≡ block_at m.arena b + 1 = omega (arith, c.place_of-at.ensures) in
     let is_next : r ≡ block_at m.arena b + 2 = omega (arith, c.place_of-at.ensures) in
-    let looks = looks_read _ _ _ (IsNearOr (IsLink m c.args.key) q) _ _ r x _ (looks_value _ _ _ _ found _ q y c.in_ok-value-in-Some.ensures.value) c.in_ok-next-in-Some.ensures.value (λ s h. inl (inr (b, found_of m c.args.key s p b h.0, inr is_next))) in
+    let looks = looks_read _ _ _ (IsNearOr (IsLink m c.args.key) q) _ _ r x _
+    (looks_value _ _ _ _ found _ q y c.in_ok-value-in-Some.ensures.value) c.in_ok-next-in-Some.ensures.value
+    (λ s h. inl (inr (b, found_of m c.args.key s p b h.0, inr is_next))) in
     let order = each_plain g.W.Words g.W.Shape.Shape _ _ c.requires.order in
-    each_from g.W.Words g.W.Shape.Shape c.args.w.now c.write.new.self _ (c.in_ok-write-in-Some.ensures.shape ∙ c.in_ok-next-in-Some.ensures.shape ∙ c.in_ok-value-in-Some.ensures.shape ∙ goes.shape) (order_cut m c.args.key _ _ _ _ p b q y r x is_value is_next looks _ c.in_ok-write-in-Some.ensures.value order)
+    each_from g.W.Words g.W.Shape.Shape c.args.w.now c.write.new.self _ (c.in_ok-write-in-Some.ensures.shape
+    ∙ c.in_ok-next-in-Some.ensures.shape ∙ c.in_ok-value-in-Some.ensures.shape
+    ∙ goes.shape) (order_cut m c.args.key _ _ _ _ p b q y r x is_value is_next looks _ c.in_ok-write-in-Some.ensures.value order)
 
 pub give-requires-clause-lacks : goal.give-requires-clause-lacks
 give-requires-clause-lacks g c =
@@ -98,9 +111,13 @@ give-requires-clause-lacks g c =
     let r = c.place_of-at.result + 2 in
     let is_value : q ≡ block_at m.arena b + 1 = omega (arith, c.place_of-at.ensures) in
     let is_next : r ≡ block_at m.arena b + 2 = omega (arith, c.place_of-at.ensures) in
-    let looks = looks_read _ _ _ (IsNearOr (IsLink m c.args.key) q) _ _ r x _ (looks_value _ _ _ _ found _ q y c.in_ok-value-in-Some.ensures.value) c.in_ok-next-in-Some.ensures.value (λ s h. inl (inr (b, found_of m c.args.key s p b h.0, inr is_next))) in
+    let looks = looks_read _ _ _ (IsNearOr (IsLink m c.args.key) q) _ _ r x _
+    (looks_value _ _ _ _ found _ q y c.in_ok-value-in-Some.ensures.value) c.in_ok-next-in-Some.ensures.value
+    (λ s h. inl (inr (b, found_of m c.args.key s p b h.0, inr is_next))) in
     let order = each_plain g.W.Words g.W.Shape.Shape _ _ c.requires.order in
-    rw c.of.ensures (each_from g.W.Words g.W.Shape.Shape c.args.w.now c.write.new.self _ (c.in_ok-write-in-Some.ensures.shape ∙ c.in_ok-next-in-Some.ensures.shape ∙ c.in_ok-value-in-Some.ensures.shape ∙ goes.shape) (lacks_cut m c.args.key _ _ _ _ p b q y r x is_value is_next looks _ c.in_ok-write-in-Some.ensures.value order))
+    rw c.of.ensures (each_from g.W.Words g.W.Shape.Shape c.args.w.now c.write.new.self _
+    (c.in_ok-write-in-Some.ensures.shape ∙ c.in_ok-next-in-Some.ensures.shape ∙ c.in_ok-value-in-Some.ensures.shape
+    ∙ goes.shape) (lacks_cut m c.args.key _ _ _ _ p b q y r x is_value is_next looks _ c.in_ok-write-in-Some.ensures.value order))
 
 pub returns-in-None-clause-removed : goal.returns-in-None-clause-removed
 returns-in-None-clause-removed g c =
@@ -111,7 +128,9 @@ pub returns-in-None-clause-order : goal.returns-in-None-clause-order
 returns-in-None-clause-order g c =
     let m = c.args.self.now in
     let goes = c.in_ok-find.ensures.goes_on in
-    state_after g.W.Words g.W.Shape.Shape _ _ (HasMapApart (chain_part m)) (HasMapApart (chain_part m)) (Removes (chain_part m) c.args.key None) goes.shape goes.begins c.requires.order (returns-in-None-clause-removed g c) (order_removed (chain_part m) c.args.key None)
+    state_after g.W.Words g.W.Shape.Shape _ _ (HasMapApart (chain_part m)) (HasMapApart (chain_part m))
+    (Removes (chain_part m) c.args.key None) goes.shape goes.begins c.requires.order
+    (returns-in-None-clause-removed g c) (order_removed (chain_part m) c.args.key None)
 
 pub returns-in-None-clause-frame : goal.returns-in-None-clause-frame
 returns-in-None-clause-frame g c =
@@ -137,13 +156,16 @@ returns-in_ok-give-in-Some-clause-removed g c =
     let r = c.place_of-at.result + 2 in
     let is_value : q ≡ block_at m.arena b + 1 = omega (arith, c.place_of-at.ensures) in
     let is_next : r ≡ block_at m.arena b + 2 = omega (arith, c.place_of-at.ensures) in
-    let looks = looks_read _ _ _ (IsNearOr (IsLink m c.args.key) q) _ _ r x _ (looks_value _ _ _ _ found _ q y c.in_ok-value-in-Some.ensures.value) c.in_ok-next-in-Some.ensures.value (λ s h. inl (inr (b, found_of m c.args.key s p b h.0, inr is_next))) in
+    let looks = looks_read _ _ _ (IsNearOr (IsLink m c.args.key) q) _ _ r x _
+    (looks_value _ _ _ _ found _ q y c.in_ok-value-in-Some.ensures.value) c.in_ok-next-in-Some.ensures.value
+    (λ s h. inl (inr (b, found_of m c.args.key s p b h.0, inr is_next))) in
     let order = each_plain g.W.Words g.W.Shape.Shape _ _ c.requires.order in
     let given = rw c.of.ensures at c.in_ok-give-in-Some.ensures.given in
     let kept = rw c.of.ensures at c.in_ok-give-in-Some.ensures.others in
     let same = c.in_ok-write-in-Some.ensures.shape ∙ c.in_ok-next-in-Some.ensures.shape ∙ c.in_ok-value-in-Some.ensures.shape ∙ goes.shape in
     record {
-      at = (removes_some m c.args.key _ _ _ _ p b q y r x is_value is_next looks _ c.in_ok-write-in-Some.ensures.value order _ c.in_ok-give-in-Some.ensures.goes_on.begins
+      at = (removes_some m c.args.key _ _ _ _ p b q y r x is_value is_next looks _ c.in_ok-write-in-Some.ensures.value
+          order _ c.in_ok-give-in-Some.ensures.goes_on.begins
           (leads_from g.W.Words g.W.Shape.Shape c.args.w.now c.write.new.self c.give.new.w _ same given)
           (give_keeps m.arena c.in-Some.found.block _ _ _ _ (leads_from g.W.Words g.W.Shape.Shape c.args.w.now c.write.new.self c.give.new.w _ same kept))).at;
     }
@@ -152,8 +174,13 @@ pub returns-in_ok-give-in-Some-clause-order : goal.returns-in_ok-give-in-Some-cl
 returns-in_ok-give-in-Some-clause-order g c =
     let m = c.args.self.now in
     let goes = c.in_ok-find.ensures.goes_on in
-    state_after g.W.Words g.W.Shape.Shape _ _ (HasMapApart (chain_part m)) (HasMapApart (chain_part m)) (Removes (chain_part m) c.args.key (Some c.in_ok-value-in-Some.value)) (c.in_ok-give-in-Some.ensures.goes_on.shape ∙ c.in_ok-write-in-Some.ensures.shape ∙ c.in_ok-next-in-Some.ensures.shape ∙ c.in_ok-value-in-Some.ensures.shape ∙ goes.shape)
-    (begins_trans _ _ _ goes.begins (begins_trans _ _ _ c.in_ok-value-in-Some.ensures.begins (begins_trans _ _ _ c.in_ok-next-in-Some.ensures.begins (begins_trans _ _ _ c.in_ok-write-in-Some.ensures.begins c.in_ok-give-in-Some.ensures.goes_on.begins)))) c.requires.order
+    state_after g.W.Words g.W.Shape.Shape _ _ (HasMapApart (chain_part m)) (HasMapApart (chain_part m))
+    (Removes (chain_part m) c.args.key (Some c.in_ok-value-in-Some.value))
+    (c.in_ok-give-in-Some.ensures.goes_on.shape ∙ c.in_ok-write-in-Some.ensures.shape
+    ∙ c.in_ok-next-in-Some.ensures.shape ∙ c.in_ok-value-in-Some.ensures.shape ∙ goes.shape)
+    (begins_trans _ _ _ goes.begins (begins_trans _ _ _ c.in_ok-value-in-Some.ensures.begins
+    (begins_trans _ _ _ c.in_ok-next-in-Some.ensures.begins (begins_trans _ _ _ c.in_ok-write-in-Some.ensures.begins
+    c.in_ok-give-in-Some.ensures.goes_on.begins)))) c.requires.order
     (returns-in_ok-give-in-Some-clause-removed g c) (order_removed (chain_part m) c.args.key (Some c.in_ok-value-in-Some.value))
 
 pub returns-in_ok-give-in-Some-clause-frame : goal.returns-in_ok-give-in-Some-clause-frame
@@ -170,14 +197,17 @@ returns-in_ok-give-in-Some-clause-frame g c =
     let r = c.place_of-at.result + 2 in
     let is_value : q ≡ block_at m.arena b + 1 = omega (arith, c.place_of-at.ensures) in
     let is_next : r ≡ block_at m.arena b + 2 = omega (arith, c.place_of-at.ensures) in
-    let looks = looks_read _ _ _ (IsNearOr (IsLink m c.args.key) q) _ _ r x _ (looks_value _ _ _ _ found _ q y c.in_ok-value-in-Some.ensures.value) c.in_ok-next-in-Some.ensures.value (λ s h. inl (inr (b, found_of m c.args.key s p b h.0, inr is_next))) in
+    let looks = looks_read _ _ _ (IsNearOr (IsLink m c.args.key) q) _ _ r x _
+    (looks_value _ _ _ _ found _ q y c.in_ok-value-in-Some.ensures.value) c.in_ok-next-in-Some.ensures.value
+    (λ s h. inl (inr (b, found_of m c.args.key s p b h.0, inr is_next))) in
     let order = each_plain g.W.Words g.W.Shape.Shape _ _ c.requires.order in
     let given = rw c.of.ensures at c.in_ok-give-in-Some.ensures.given in
     let kept = rw c.of.ensures at c.in_ok-give-in-Some.ensures.others in
     let same = c.in_ok-write-in-Some.ensures.shape ∙ c.in_ok-next-in-Some.ensures.shape ∙ c.in_ok-value-in-Some.ensures.shape ∙ goes.shape in
     let frame = rw c.of.ensures at c.in_ok-give-in-Some.ensures.frame in
     record {
-      at = owns_removed m c.args.key _ _ _ _ p b q y r x is_value is_next looks _ c.in_ok-write-in-Some.ensures.value order _ c.in_ok-give-in-Some.ensures.goes_on.begins
+      at = owns_removed m c.args.key _ _ _ _ p b q y r x is_value is_next looks _ c.in_ok-write-in-Some.ensures.value
+          order _ c.in_ok-give-in-Some.ensures.goes_on.begins
           (leads_from g.W.Words g.W.Shape.Shape c.args.w.now c.write.new.self c.give.new.w _ same given)
           (give_keeps m.arena c.in-Some.found.block _ _ _ _ (leads_from g.W.Words g.W.Shape.Shape c.args.w.now c.write.new.self c.give.new.w _ same kept))
           frame.appended;
@@ -186,7 +216,10 @@ returns-in_ok-give-in-Some-clause-frame g c =
 pub returns-in-None-clause-reads : goal.returns-in-None-clause-reads
 returns-in-None-clause-reads g c =
     let missing = rw c.in-None.is at c.in_ok-find.ensures.missing in
-    record { at = sees_near (chain_part c.args.self.now) c.args.key _ _ _ _ (near_own c.args.self.now c.args.key) missing (record { at = λ s fit. held (c.requires.order.at s fit) }) }
+    record {
+      at = sees_near (chain_part c.args.self.now) c.args.key _ _ _ _ (near_own c.args.self.now c.args.key)
+          missing (record { at = λ s fit. held (c.requires.order.at s fit) });
+    }
 
 pub returns-in_ok-give-in-Some-clause-reads : goal.returns-in_ok-give-in-Some-clause-reads
 returns-in_ok-give-in-Some-clause-reads g c =
@@ -202,14 +235,17 @@ returns-in_ok-give-in-Some-clause-reads g c =
     let r = c.place_of-at.result + 2 in
     let is_value : q ≡ block_at m.arena b + 1 = omega (arith, c.place_of-at.ensures) in
     let is_next : r ≡ block_at m.arena b + 2 = omega (arith, c.place_of-at.ensures) in
-    let looks = looks_read _ _ _ (IsNearOr (IsLink m c.args.key) q) _ _ r x _ (looks_value _ _ _ _ found _ q y c.in_ok-value-in-Some.ensures.value) c.in_ok-next-in-Some.ensures.value (λ s h. inl (inr (b, found_of m c.args.key s p b h.0, inr is_next))) in
+    let looks = looks_read _ _ _ (IsNearOr (IsLink m c.args.key) q) _ _ r x _
+    (looks_value _ _ _ _ found _ q y c.in_ok-value-in-Some.ensures.value) c.in_ok-next-in-Some.ensures.value
+    (λ s h. inl (inr (b, found_of m c.args.key s p b h.0, inr is_next))) in
     let order = each_plain g.W.Words g.W.Shape.Shape _ _ c.requires.order in
     let given = rw c.of.ensures at c.in_ok-give-in-Some.ensures.given in
     let kept = rw c.of.ensures at c.in_ok-give-in-Some.ensures.others in
     let same = c.in_ok-write-in-Some.ensures.shape ∙ c.in_ok-next-in-Some.ensures.shape ∙ c.in_ok-value-in-Some.ensures.shape ∙ goes.shape in
     let names = rw c.of.ensures at c.in_ok-give-in-Some.ensures.reads in
     record {
-      at = sees_removed m c.args.key _ _ _ _ p b q y r x is_value is_next looks _ c.in_ok-write-in-Some.ensures.value order _ c.in_ok-give-in-Some.ensures.goes_on.begins
+      at = sees_removed m c.args.key _ _ _ _ p b q y r x is_value is_next looks _ c.in_ok-write-in-Some.ensures.value
+          order _ c.in_ok-give-in-Some.ensures.goes_on.begins
           (leads_from g.W.Words g.W.Shape.Shape c.args.w.now c.write.new.self c.give.new.w _ same given)
           (give_keeps m.arena c.in-Some.found.block _ _ _ _ (leads_from g.W.Words g.W.Shape.Shape c.args.w.now c.write.new.self c.give.new.w _ same kept))
           names;
@@ -233,23 +269,31 @@ returns-in_err-find g c =
 pub returns-in_err-value-in-Some : goal.returns-in_err-value-in-Some
 returns-in_err-value-in-Some g c =
     let failed = c.from_residual-in_err-value-in-Some.ensures.0 in
-    let on : GoesOn g.W.Words c.args.w.now c.read.new.self c.from_residual-in_err-value-in-Some.result = goes_as (goes_then c.in_ok-find.ensures.goes_on (goes_call c.in_err-value-in-Some.ensures)) (search rules) in
+    let on : GoesOn g.W.Words c.args.w.now c.read.new.self c.from_residual-in_err-value-in-Some.result =
+    goes_as (goes_then c.in_ok-find.ensures.goes_on (goes_call c.in_err-value-in-Some.ensures)) (search rules) in
     search IfOk-from_err
 
 pub returns-in_err-next-in-Some : goal.returns-in_err-next-in-Some
 returns-in_err-next-in-Some g c =
     let failed = c.from_residual-in_err-next-in-Some.ensures.0 in
-    let on : GoesOn g.W.Words c.args.w.now c.read-in-Some.new.self c.from_residual-in_err-next-in-Some.result = goes_as (goes_then (goes_then c.in_ok-find.ensures.goes_on (goes_call c.in_ok-value-in-Some.ensures)) (goes_call c.in_err-next-in-Some.ensures)) (search rules) in
+    let on : GoesOn g.W.Words c.args.w.now c.read-in-Some.new.self c.from_residual-in_err-next-in-Some.result =
+    goes_as (goes_then (goes_then c.in_ok-find.ensures.goes_on (goes_call c.in_ok-value-in-Some.ensures))
+    (goes_call c.in_err-next-in-Some.ensures)) (search rules) in
     search IfOk-from_err
 
 pub returns-in_err-write-in-Some : goal.returns-in_err-write-in-Some
 returns-in_err-write-in-Some g c =
     let failed = c.from_residual-in_err-write-in-Some.ensures.0 in
-    let on : GoesOn g.W.Words c.args.w.now c.write.new.self c.from_residual-in_err-write-in-Some.result = goes_as (goes_then (goes_then (goes_then c.in_ok-find.ensures.goes_on (goes_call c.in_ok-value-in-Some.ensures)) (goes_call c.in_ok-next-in-Some.ensures)) (goes_call c.in_err-write-in-Some.ensures)) (search rules) in
+    let on : GoesOn g.W.Words c.args.w.now c.write.new.self c.from_residual-in_err-write-in-Some.result =
+    goes_as (goes_then (goes_then (goes_then c.in_ok-find.ensures.goes_on (goes_call c.in_ok-value-in-Some.ensures))
+    (goes_call c.in_ok-next-in-Some.ensures)) (goes_call c.in_err-write-in-Some.ensures)) (search rules) in
     search IfOk-from_err
 
 pub returns-in_err-give-in-Some : goal.returns-in_err-give-in-Some
 returns-in_err-give-in-Some g c =
     let failed = c.from_residual-in_err-give-in-Some.ensures.0 in
-    let on : GoesOn g.W.Words c.args.w.now c.give.new.w c.from_residual-in_err-give-in-Some.result = goes_as (goes_then (goes_then (goes_then (goes_then c.in_ok-find.ensures.goes_on (goes_call c.in_ok-value-in-Some.ensures)) (goes_call c.in_ok-next-in-Some.ensures)) (goes_call c.in_ok-write-in-Some.ensures)) c.in_err-give-in-Some.ensures.goes_on) (search rules) in
+    let on : GoesOn g.W.Words c.args.w.now c.give.new.w c.from_residual-in_err-give-in-Some.result =
+    goes_as (goes_then (goes_then (goes_then
+    (goes_then c.in_ok-find.ensures.goes_on (goes_call c.in_ok-value-in-Some.ensures))
+    (goes_call c.in_ok-next-in-Some.ensures)) (goes_call c.in_ok-write-in-Some.ensures)) c.in_err-give-in-Some.ensures.goes_on) (search rules) in
     search IfOk-from_err

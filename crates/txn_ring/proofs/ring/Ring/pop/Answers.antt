@@ -15,7 +15,8 @@ use Rattle.txn_ring.proofs.ring.Ring.pop.Goals as goal
 pub read-requires-clause-within : goal.read-requires-clause-within
 read-requires-clause-within g c =
     let ring = c.args.self.now in
-    let l : Lies ring (g.W.Shape.Shape.word_count (g.W.Words.shape c.args.w.now)) = lies ring _ _ _ (each_plain g.W.Words g.W.Shape.Shape _ _ c.requires.order) (g.met.W.Words.fits c.args.w.now c.requires.ready.sound) in
+    let l : Lies ring (g.W.Shape.Shape.word_count (g.W.Words.shape c.args.w.now)) =
+    lies ring _ _ _ (each_plain g.W.Words g.W.Shape.Shape _ _ c.requires.order) (g.met.W.Words.fits c.args.w.now c.requires.ready.sound) in
     omega (arith, l.some, l.whole)
 
 pub returns-then-count-eq0 : goal.returns-then-count-eq0
@@ -23,13 +24,18 @@ returns-then-count-eq0 g c =
     let ring = c.args.self.now in
     let read = c.in_ok-count.ensures.value in
     let count : IsOwn ring (ring.at + 1) = record { low = omega arith; high = omega arith } in
-    let popped : LeadsTo g.W.Words g.W.Shape.Shape c.args.w.now c.read.new.self (Pops ring None) = record { at = (same ring _ _ _ _ c.in_ok-count.count read).at } in
+    let popped : LeadsTo g.W.Words g.W.Shape.Shape c.args.w.now c.read.new.self (Pops ring None) =
+    record { at = (same ring _ _ _ _ c.in_ok-count.count read).at } in
     let frame : WritesOnly g.W.Words c.args.w.now c.read.new.self (IsOwn ring) = record { appended = only_read (IsOwn ring) _ _ _ _ read } in
     record {
       popped = popped;
-      none = record { at = (found_empty ring _ _ _ _ c.in_ok-count.count read c.if-count-eq0.true (each_plain g.W.Words g.W.Shape.Shape _ _ c.requires.order)).at };
+      none = record {
+        at = (found_empty ring _ _ _ _ c.in_ok-count.count read c.if-count-eq0.true
+            (each_plain g.W.Words g.W.Shape.Shape _ _ c.requires.order)).at;
+      };
       none_if = λ _. refl;
-      order = state_after g.W.Words g.W.Shape.Shape _ _ (IsInOrder ring) (IsInOrder ring) (Pops ring None) c.in_ok-count.ensures.shape c.in_ok-count.ensures.begins c.requires.order popped (order_popped ring None);
+      order = state_after g.W.Words g.W.Shape.Shape _ _ (IsInOrder ring) (IsInOrder ring) (Pops ring None)
+          c.in_ok-count.ensures.shape c.in_ok-count.ensures.begins c.requires.order popped (order_popped ring None);
       frame = frame;
       others = writes_keep g.W.Words g.W.Shape.Shape _ _ _ frame;
       none_frame = record { appended = only_read (λ _. ⊥) _ _ _ _ read };
@@ -46,75 +52,105 @@ returns-in_err-count g c =
 pub prove-unreachable-requires-2 : goal.prove-unreachable-requires-2
 prove-unreachable-requires-2 g c =
     let ring = c.args.self.now in
-    let some : SomeFits (g.W.Shape.Shape.word_count (g.W.Words.shape c.args.w.now)) (g.W.Shape.Shape.good (g.W.Words.shape c.args.w.now)) (g.W.Words.trace c.read-2.new.self) =
-    some_at g.W.Shape.Shape.word_count g.W.Shape.Shape.good _ _ _ (c.in_ok-front.ensures.shape ∙ c.in_ok-count.ensures.shape) (g.met.W.Words.fits c.read-2.new.self c.in_ok-front.ensures.sound) in
+    let some : SomeFits (g.W.Shape.Shape.word_count (g.W.Words.shape c.args.w.now))
+    (g.W.Shape.Shape.good (g.W.Words.shape c.args.w.now)) (g.W.Words.trace c.read-2.new.self) =
+    some_at g.W.Shape.Shape.word_count g.W.Shape.Shape.good _ _ _ (c.in_ok-front.ensures.shape
+    ∙ c.in_ok-count.ensures.shape) (g.met.W.Words.fits c.read-2.new.self c.in_ok-front.ensures.sound) in
     let b : (c.in_ok-front.front < ring.capacity) × (c.in_ok-count.count ≤ ring.capacity) =
-    bounds ring _ _ _ _ c.in_ok-count.count c.in_ok-count.ensures.value _ c.in_ok-front.front c.in_ok-front.ensures.value (each_plain g.W.Words g.W.Shape.Shape _ _ c.requires.order) some in
+    bounds ring _ _ _ _ c.in_ok-count.count c.in_ok-count.ensures.value _ c.in_ok-front.front
+    c.in_ok-front.ensures.value (each_plain g.W.Words g.W.Shape.Shape _ _ c.requires.order) some in
     omega (arith, b.0)
 
 pub read-requires-2-clause-within : goal.read-requires-2-clause-within
 read-requires-2-clause-within g c =
     let ring = c.args.self.now in
-    let l : Lies ring (g.W.Shape.Shape.word_count (g.W.Words.shape c.args.w.now)) = lies ring _ _ _ (each_plain g.W.Words g.W.Shape.Shape _ _ c.requires.order) (g.met.W.Words.fits c.args.w.now c.requires.ready.sound) in
-    let shape : g.W.Shape.Shape.word_count (g.W.Words.shape c.read.new.self) ≡ g.W.Shape.Shape.word_count (g.W.Words.shape c.args.w.now) = ap g.W.Shape.Shape.word_count (c.in_ok-count.ensures.shape) in
+    let l : Lies ring (g.W.Shape.Shape.word_count (g.W.Words.shape c.args.w.now)) =
+    lies ring _ _ _ (each_plain g.W.Words g.W.Shape.Shape _ _ c.requires.order) (g.met.W.Words.fits c.args.w.now c.requires.ready.sound) in
+    let shape : g.W.Shape.Shape.word_count (g.W.Words.shape c.read.new.self)
+    ≡ g.W.Shape.Shape.word_count (g.W.Words.shape c.args.w.now) = ap g.W.Shape.Shape.word_count (c.in_ok-count.ensures.shape) in
     omega (arith, l.some, l.whole, shape)
 
 pub read-requires-3-clause-within : goal.read-requires-3-clause-within
 read-requires-3-clause-within g c =
     let ring = c.args.self.now in
-    let l : Lies ring (g.W.Shape.Shape.word_count (g.W.Words.shape c.args.w.now)) = lies ring _ _ _ (each_plain g.W.Words g.W.Shape.Shape _ _ c.requires.order) (g.met.W.Words.fits c.args.w.now c.requires.ready.sound) in
-    let shape : g.W.Shape.Shape.word_count (g.W.Words.shape c.read-2.new.self) ≡ g.W.Shape.Shape.word_count (g.W.Words.shape c.args.w.now) = ap g.W.Shape.Shape.word_count (c.in_ok-front.ensures.shape ∙ c.in_ok-count.ensures.shape) in
+    let l : Lies ring (g.W.Shape.Shape.word_count (g.W.Words.shape c.args.w.now)) =
+    lies ring _ _ _ (each_plain g.W.Words g.W.Shape.Shape _ _ c.requires.order) (g.met.W.Words.fits c.args.w.now c.requires.ready.sound) in
+    let shape : g.W.Shape.Shape.word_count (g.W.Words.shape c.read-2.new.self)
+    ≡ g.W.Shape.Shape.word_count (g.W.Words.shape c.args.w.now) =
+    ap g.W.Shape.Shape.word_count (c.in_ok-front.ensures.shape ∙ c.in_ok-count.ensures.shape) in
     omega (arith, l.some, l.whole, shape)
 
 pub read-requires-4-clause-within : goal.read-requires-4-clause-within
 read-requires-4-clause-within g c =
     let ring = c.args.self.now in
-    let l : Lies ring (g.W.Shape.Shape.word_count (g.W.Words.shape c.args.w.now)) = lies ring _ _ _ (each_plain g.W.Words g.W.Shape.Shape _ _ c.requires.order) (g.met.W.Words.fits c.args.w.now c.requires.ready.sound) in
-    let shape : g.W.Shape.Shape.word_count (g.W.Words.shape c.read-3.new.self) ≡ g.W.Shape.Shape.word_count (g.W.Words.shape c.args.w.now) = ap g.W.Shape.Shape.word_count (c.in_ok-first.ensures.shape ∙ c.in_ok-front.ensures.shape ∙ c.in_ok-count.ensures.shape) in
+    let l : Lies ring (g.W.Shape.Shape.word_count (g.W.Words.shape c.args.w.now)) =
+    lies ring _ _ _ (each_plain g.W.Words g.W.Shape.Shape _ _ c.requires.order) (g.met.W.Words.fits c.args.w.now c.requires.ready.sound) in
+    let shape : g.W.Shape.Shape.word_count (g.W.Words.shape c.read-3.new.self)
+    ≡ g.W.Shape.Shape.word_count (g.W.Words.shape c.args.w.now) =
+    ap g.W.Shape.Shape.word_count (c.in_ok-first.ensures.shape ∙ c.in_ok-front.ensures.shape ∙ c.in_ok-count.ensures.shape) in
     omega (arith, l.some, l.whole, shape)
 
 pub write-requires-clause-within : goal.write-requires-clause-within
 write-requires-clause-within g c =
     let ring = c.args.self.now in
-    let l : Lies ring (g.W.Shape.Shape.word_count (g.W.Words.shape c.args.w.now)) = lies ring _ _ _ (each_plain g.W.Words g.W.Shape.Shape _ _ c.requires.order) (g.met.W.Words.fits c.args.w.now c.requires.ready.sound) in
-    let shape : g.W.Shape.Shape.word_count (g.W.Words.shape c.read-4.new.self) ≡ g.W.Shape.Shape.word_count (g.W.Words.shape c.args.w.now) = ap g.W.Shape.Shape.word_count (c.in_ok-second.ensures.shape ∙ c.in_ok-first.ensures.shape ∙ c.in_ok-front.ensures.shape ∙ c.in_ok-count.ensures.shape) in
+    let l : Lies ring (g.W.Shape.Shape.word_count (g.W.Words.shape c.args.w.now)) =
+    lies ring _ _ _ (each_plain g.W.Words g.W.Shape.Shape _ _ c.requires.order) (g.met.W.Words.fits c.args.w.now c.requires.ready.sound) in
+    let shape : g.W.Shape.Shape.word_count (g.W.Words.shape c.read-4.new.self)
+    ≡ g.W.Shape.Shape.word_count (g.W.Words.shape c.args.w.now) =
+    ap g.W.Shape.Shape.word_count (c.in_ok-second.ensures.shape ∙ c.in_ok-first.ensures.shape
+    ∙ c.in_ok-front.ensures.shape ∙ c.in_ok-count.ensures.shape) in
     omega (arith, l.some, l.whole, shape)
 
 pub write-requires-2-clause-within : goal.write-requires-2-clause-within
 write-requires-2-clause-within g c =
     let ring = c.args.self.now in
-    let l : Lies ring (g.W.Shape.Shape.word_count (g.W.Words.shape c.args.w.now)) = lies ring _ _ _ (each_plain g.W.Words g.W.Shape.Shape _ _ c.requires.order) (g.met.W.Words.fits c.args.w.now c.requires.ready.sound) in
-    let shape : g.W.Shape.Shape.word_count (g.W.Words.shape c.write.new.self) ≡ g.W.Shape.Shape.word_count (g.W.Words.shape c.args.w.now) = ap g.W.Shape.Shape.word_count (c.in_ok-write.ensures.shape ∙ c.in_ok-second.ensures.shape ∙ c.in_ok-first.ensures.shape ∙ c.in_ok-front.ensures.shape ∙ c.in_ok-count.ensures.shape) in
+    let l : Lies ring (g.W.Shape.Shape.word_count (g.W.Words.shape c.args.w.now)) =
+    lies ring _ _ _ (each_plain g.W.Words g.W.Shape.Shape _ _ c.requires.order) (g.met.W.Words.fits c.args.w.now c.requires.ready.sound) in
+    let shape : g.W.Shape.Shape.word_count (g.W.Words.shape c.write.new.self)
+    ≡ g.W.Shape.Shape.word_count (g.W.Words.shape c.args.w.now) =
+    ap g.W.Shape.Shape.word_count (c.in_ok-write.ensures.shape ∙ c.in_ok-second.ensures.shape
+    ∙ c.in_ok-first.ensures.shape ∙ c.in_ok-front.ensures.shape ∙ c.in_ok-count.ensures.shape) in
     omega (arith, l.some, l.whole, shape)
 
 pub returns-in_err-front : goal.returns-in_err-front
 returns-in_err-front g c =
     let failed = c.from_residual-in_err-front.ensures.0 in
-    let on : GoesOn g.W.Words c.args.w.now c.read-2.new.self c.from_residual-in_err-front.result = goes_as (goes_then (goes_call c.in_ok-count.ensures) (goes_call c.in_err-front.ensures)) (search rules) in
+    let on : GoesOn g.W.Words c.args.w.now c.read-2.new.self c.from_residual-in_err-front.result =
+    goes_as (goes_then (goes_call c.in_ok-count.ensures) (goes_call c.in_err-front.ensures)) (search rules) in
     search IfOk-from_err
 
 pub returns-in_err-first : goal.returns-in_err-first
 returns-in_err-first g c =
     let failed = c.from_residual-in_err-first.ensures.0 in
-    let on : GoesOn g.W.Words c.args.w.now c.read-3.new.self c.from_residual-in_err-first.result = goes_as (goes_then (goes_then (goes_call c.in_ok-count.ensures) (goes_call c.in_ok-front.ensures)) (goes_call c.in_err-first.ensures)) (search rules) in
+    let on : GoesOn g.W.Words c.args.w.now c.read-3.new.self c.from_residual-in_err-first.result =
+    goes_as (goes_then (goes_then (goes_call c.in_ok-count.ensures) (goes_call c.in_ok-front.ensures)) (goes_call c.in_err-first.ensures)) (search rules) in
     search IfOk-from_err
 
 pub returns-in_err-second : goal.returns-in_err-second
 returns-in_err-second g c =
     let failed = c.from_residual-in_err-second.ensures.0 in
-    let on : GoesOn g.W.Words c.args.w.now c.read-4.new.self c.from_residual-in_err-second.result = goes_as (goes_then (goes_then (goes_then (goes_call c.in_ok-count.ensures) (goes_call c.in_ok-front.ensures)) (goes_call c.in_ok-first.ensures)) (goes_call c.in_err-second.ensures)) (search rules) in
+    let on : GoesOn g.W.Words c.args.w.now c.read-4.new.self c.from_residual-in_err-second.result =
+    goes_as (goes_then (goes_then (goes_then (goes_call c.in_ok-count.ensures) (goes_call c.in_ok-front.ensures))
+    (goes_call c.in_ok-first.ensures)) (goes_call c.in_err-second.ensures)) (search rules) in
     search IfOk-from_err
 
 pub returns-in_err-write : goal.returns-in_err-write
 returns-in_err-write g c =
     let failed = c.from_residual-in_err-write.ensures.0 in
-    let on : GoesOn g.W.Words c.args.w.now c.write.new.self c.from_residual-in_err-write.result = goes_as (goes_then (goes_then (goes_then (goes_then (goes_call c.in_ok-count.ensures) (goes_call c.in_ok-front.ensures)) (goes_call c.in_ok-first.ensures)) (goes_call c.in_ok-second.ensures)) (goes_call c.in_err-write.ensures)) (search rules) in
+    let on : GoesOn g.W.Words c.args.w.now c.write.new.self c.from_residual-in_err-write.result =
+    goes_as (goes_then (goes_then (goes_then
+    (goes_then (goes_call c.in_ok-count.ensures) (goes_call c.in_ok-front.ensures))
+    (goes_call c.in_ok-first.ensures)) (goes_call c.in_ok-second.ensures)) (goes_call c.in_err-write.ensures)) (search rules) in
     search IfOk-from_err
 
 pub returns-in_err-write-2 : goal.returns-in_err-write-2
 returns-in_err-write-2 g c =
     let failed = c.from_residual-in_err-write-2.ensures.0 in
-    let on : GoesOn g.W.Words c.args.w.now c.write-2.new.self c.from_residual-in_err-write-2.result = goes_as (goes_then (goes_then (goes_then (goes_then (goes_then (goes_call c.in_ok-count.ensures) (goes_call c.in_ok-front.ensures)) (goes_call c.in_ok-first.ensures)) (goes_call c.in_ok-second.ensures)) (goes_call c.in_ok-write.ensures)) (goes_call c.in_err-write-2.ensures)) (search rules) in
+    let on : GoesOn g.W.Words c.args.w.now c.write-2.new.self c.from_residual-in_err-write-2.result =
+    goes_as (goes_then (goes_then (goes_then
+    (goes_then (goes_then (goes_call c.in_ok-count.ensures) (goes_call c.in_ok-front.ensures))
+    (goes_call c.in_ok-first.ensures)) (goes_call c.in_ok-second.ensures)) (goes_call c.in_ok-write.ensures))
+    (goes_call c.in_err-write-2.ensures)) (search rules) in
     search IfOk-from_err
 
 pub returns : goal.returns
@@ -127,35 +163,54 @@ returns g c =
     let first : IsOwn ring (ring.at + 2 + 2 * c.in_ok-front.front) = record { low = omega arith; high = omega arith } in
     let second : IsOwn ring (ring.at + 3 + 2 * c.in_ok-front.front) = record { low = omega arith; high = omega arith } in
     let is_capacity : c.from-capacity.result ≡ ring.capacity = omega arith in
-    let place : (c.in_ok-front.front + 1) % c.from-capacity.result ≡ (c.in_ok-front.front + 1) % ring.capacity = ap (λ k. (c.in_ok-front.front + 1) % k) is_capacity in
+    let place : (c.in_ok-front.front + 1) % c.from-capacity.result ≡ (c.in_ok-front.front + 1) % ring.capacity =
+    ap (λ k. (c.in_ok-front.front + 1) % k) is_capacity in
     let is_second : ring.at + 3 + 2 * c.in_ok-front.front ≡ place_at ring c.in_ok-front.front + 1 = omega arith in
     let one_more : c.in_ok-count.count ≡ (c.in_ok-count.count - 1) + 1 = omega (arith, c.if-count-eq0.false) in
     let popped : LeadsTo g.W.Words g.W.Shape.Shape c.args.w.now c.write-2.new.self (Pops ring answer) = record {
-      at = (pops ring _ _ _ _ c.in_ok-count.count c.in_ok-count.ensures.value _ c.in_ok-front.front c.in_ok-front.ensures.value _ _ _ _ (c.in_ok-first.first, c.in_ok-second.second) _ _ _ _ refl is_second place one_more
+      at = (pops ring _ _ _ _ c.in_ok-count.count c.in_ok-count.ensures.value _ c.in_ok-front.front
+          c.in_ok-front.ensures.value _ _ _ _ (c.in_ok-first.first, c.in_ok-second.second) _ _ _ _ refl is_second place one_more
           c.in_ok-first.ensures.value c.in_ok-second.ensures.value c.in_ok-write.ensures.value c.in_ok-write-2.ensures.value).at;
     } in
     let frame : WritesOnly g.W.Words c.args.w.now c.write-2.new.self is_own = record {
-      appended = only_then is_own _ _ _ (only_read is_own _ _ _ _ c.in_ok-count.ensures.value) (only_then is_own _ _ _ (only_read is_own _ _ _ _ c.in_ok-front.ensures.value)
-          (only_then is_own _ _ _ (only_read is_own _ _ _ _ c.in_ok-first.ensures.value) (only_then is_own _ _ _ (only_read is_own _ _ _ _ c.in_ok-second.ensures.value)
-          (only_then is_own _ _ _ (only_write is_own _ _ _ _ c.in_ok-write.ensures.value front) (only_write is_own _ _ _ _ c.in_ok-write-2.ensures.value count)))));
+      appended = only_then is_own _ _ _ (only_read is_own _ _ _ _ c.in_ok-count.ensures.value)
+          (only_then is_own _ _ _ (only_read is_own _ _ _ _ c.in_ok-front.ensures.value)
+          (only_then is_own _ _ _ (only_read is_own _ _ _ _ c.in_ok-first.ensures.value)
+          (only_then is_own _ _ _ (only_read is_own _ _ _ _ c.in_ok-second.ensures.value)
+          (only_then is_own _ _ _ (only_write is_own _ _ _ _ c.in_ok-write.ensures.value front)
+          (only_write is_own _ _ _ _ c.in_ok-write-2.ensures.value count)))));
     } in
-    let later : Begins (g.W.Words.trace c.read.new.self) (g.W.Words.trace c.write-2.new.self) = begins_trans _ _ _ c.in_ok-front.ensures.begins (begins_trans _ _ _ c.in_ok-first.ensures.begins (begins_trans _ _ _ c.in_ok-second.ensures.begins (begins_trans _ _ _ c.in_ok-write.ensures.begins c.in_ok-write-2.ensures.begins))) in
+    let later : Begins (g.W.Words.trace c.read.new.self) (g.W.Words.trace c.write-2.new.self) =
+    begins_trans _ _ _ c.in_ok-front.ensures.begins
+    (begins_trans _ _ _ c.in_ok-first.ensures.begins
+    (begins_trans _ _ _ c.in_ok-second.ensures.begins (begins_trans _ _ _ c.in_ok-write.ensures.begins c.in_ok-write-2.ensures.begins))) in
     let begins : Begins (g.W.Words.trace c.args.w.now) (g.W.Words.trace c.write-2.new.self) = begins_trans _ _ _ c.in_ok-count.ensures.begins later in
-    let shape : g.W.Words.shape c.write-2.new.self ≡ g.W.Words.shape c.args.w.now = c.in_ok-write-2.ensures.shape ∙ c.in_ok-write.ensures.shape ∙ c.in_ok-second.ensures.shape ∙ c.in_ok-first.ensures.shape ∙ c.in_ok-front.ensures.shape ∙ c.in_ok-count.ensures.shape in
-    let some : SomeFits (g.W.Shape.Shape.word_count (g.W.Words.shape c.args.w.now)) (g.W.Shape.Shape.good (g.W.Words.shape c.args.w.now)) (g.W.Words.trace c.write-2.new.self) =
+    let shape : g.W.Words.shape c.write-2.new.self ≡ g.W.Words.shape c.args.w.now = c.in_ok-write-2.ensures.shape
+    ∙ c.in_ok-write.ensures.shape ∙ c.in_ok-second.ensures.shape ∙ c.in_ok-first.ensures.shape
+    ∙ c.in_ok-front.ensures.shape ∙ c.in_ok-count.ensures.shape in
+    let some : SomeFits (g.W.Shape.Shape.word_count (g.W.Words.shape c.args.w.now))
+    (g.W.Shape.Shape.good (g.W.Words.shape c.args.w.now)) (g.W.Words.trace c.write-2.new.self) =
     some_at g.W.Shape.Shape.word_count g.W.Shape.Shape.good _ _ _ shape (g.met.W.Words.fits c.write-2.new.self c.in_ok-write-2.ensures.sound) in
     record {
       popped = popped;
       none = tt;
-      none_if = λ none. not_empty ring _ _ _ _ c.in_ok-count.count c.in_ok-count.ensures.value _ later some c.if-count-eq0.false (leads_plain g.W.Words g.W.Shape.Shape _ _ (λ before after. IsEmpty ring before) none);
-      order = state_after g.W.Words g.W.Shape.Shape _ _ (IsInOrder ring) (IsInOrder ring) (Pops ring answer) shape begins c.requires.order popped (order_popped ring answer);
+      none_if = λ none. not_empty ring _ _ _ _ c.in_ok-count.count c.in_ok-count.ensures.value _ later some
+          c.if-count-eq0.false (leads_plain g.W.Words g.W.Shape.Shape _ _ (λ before after. IsEmpty ring before) none);
+      order = state_after g.W.Words g.W.Shape.Shape _ _ (IsInOrder ring) (IsInOrder ring) (Pops ring answer) shape
+          begins c.requires.order popped (order_popped ring answer);
       frame = frame;
       others = writes_keep g.W.Words g.W.Shape.Shape _ _ _ frame;
       none_frame = tt;
       reads = record {
-        appended = sees_then is_own _ _ _ (sees_read is_own _ _ _ _ c.in_ok-count.ensures.value count) (sees_then is_own _ _ _ (sees_read is_own _ _ _ _ c.in_ok-front.ensures.value front)
-            (sees_then is_own _ _ _ (sees_read is_own _ _ _ _ c.in_ok-first.ensures.value first) (sees_then is_own _ _ _ (sees_read is_own _ _ _ _ c.in_ok-second.ensures.value second)
-            (sees_then is_own _ _ _ (sees_write is_own _ _ _ _ c.in_ok-write.ensures.value front) (sees_write is_own _ _ _ _ c.in_ok-write-2.ensures.value count)))));
+        appended = sees_then is_own _ _ _ (sees_read is_own _ _ _ _ c.in_ok-count.ensures.value count)
+            (sees_then is_own _ _ _ (sees_read is_own _ _ _ _ c.in_ok-front.ensures.value front)
+            (sees_then is_own _ _ _ (sees_read is_own _ _ _ _ c.in_ok-first.ensures.value first)
+            (sees_then is_own _ _ _ (sees_read is_own _ _ _ _ c.in_ok-second.ensures.value second)
+            (sees_then is_own _ _ _ (sees_write is_own _ _ _ _ c.in_ok-write.ensures.value front)
+            (sees_write is_own _ _ _ _ c.in_ok-write-2.ensures.value count)))));
       };
-      goes_on = goes_as (goes_then (goes_then (goes_then (goes_then (goes_then (goes_call c.in_ok-count.ensures) (goes_call c.in_ok-front.ensures)) (goes_call c.in_ok-first.ensures)) (goes_call c.in_ok-second.ensures)) (goes_call c.in_ok-write.ensures)) (goes_call c.in_ok-write-2.ensures)) c.in_ok-write-2.ensures.stops;
+      goes_on = goes_as (goes_then (goes_then
+          (goes_then (goes_then (goes_then (goes_call c.in_ok-count.ensures) (goes_call c.in_ok-front.ensures))
+          (goes_call c.in_ok-first.ensures)) (goes_call c.in_ok-second.ensures)) (goes_call c.in_ok-write.ensures))
+          (goes_call c.in_ok-write-2.ensures)) c.in_ok-write-2.ensures.stops;
     }

@@ -15,7 +15,8 @@ use Rattle.txn_ring.proofs.ring.Ring.push.Goals as goal
 pub read-requires-clause-within : goal.read-requires-clause-within
 read-requires-clause-within g c =
     let ring = c.args.self.now in
-    let l : Lies ring (g.W.Shape.Shape.word_count (g.W.Words.shape c.args.w.now)) = lies ring _ _ _ (each_plain g.W.Words g.W.Shape.Shape _ _ c.requires.order) (g.met.W.Words.fits c.args.w.now c.requires.ready.sound) in
+    let l : Lies ring (g.W.Shape.Shape.word_count (g.W.Words.shape c.args.w.now)) =
+    lies ring _ _ _ (each_plain g.W.Words g.W.Shape.Shape _ _ c.requires.order) (g.met.W.Words.fits c.args.w.now c.requires.ready.sound) in
     omega (arith, l.some, l.whole)
 
 pub returns-then-count-capacity : goal.returns-then-count-capacity
@@ -24,13 +25,16 @@ returns-then-count-capacity g c =
     let read = c.in_ok-count.ensures.value in
     let count : IsOwn ring (ring.at + 1) = record { low = omega arith; high = omega arith } in
     let is_capacity : c.in_ok-count.count ≡ ring.capacity = omega arith in
-    let pushed : LeadsTo g.W.Words g.W.Shape.Shape c.args.w.now c.read.new.self (Pushes ring c.args.item false) = record { at = (same ring _ _ _ _ c.in_ok-count.count read).at } in
+    let pushed : LeadsTo g.W.Words g.W.Shape.Shape c.args.w.now c.read.new.self (Pushes ring c.args.item false) =
+    record { at = (same ring _ _ _ _ c.in_ok-count.count read).at } in
     let frame : WritesOnly g.W.Words c.args.w.now c.read.new.self (IsOwn ring) = record { appended = only_read (IsOwn ring) _ _ _ _ read } in
     record {
       pushed = pushed;
       full = λ _. record { at = (found_full ring _ _ _ _ c.in_ok-count.count read is_capacity (each_plain g.W.Words g.W.Shape.Shape _ _ c.requires.order)).at };
       full_if = λ _. refl;
-      order = state_after g.W.Words g.W.Shape.Shape _ _ (IsInOrder ring) (IsInOrder ring) (Pushes ring c.args.item false) c.in_ok-count.ensures.shape c.in_ok-count.ensures.begins c.requires.order pushed (order_pushed ring c.args.item false);
+      order = state_after g.W.Words g.W.Shape.Shape _ _ (IsInOrder ring) (IsInOrder ring)
+          (Pushes ring c.args.item false) c.in_ok-count.ensures.shape c.in_ok-count.ensures.begins c.requires.order
+          pushed (order_pushed ring c.args.item false);
       frame = frame;
       others = writes_keep g.W.Words g.W.Shape.Shape _ _ _ frame;
       full_frame = λ _. record { appended = only_read (λ _. ⊥) _ _ _ _ read };
@@ -47,74 +51,102 @@ returns-in_err-count g c =
 pub read-requires-2-clause-within : goal.read-requires-2-clause-within
 read-requires-2-clause-within g c =
     let ring = c.args.self.now in
-    let l : Lies ring (g.W.Shape.Shape.word_count (g.W.Words.shape c.args.w.now)) = lies ring _ _ _ (each_plain g.W.Words g.W.Shape.Shape _ _ c.requires.order) (g.met.W.Words.fits c.args.w.now c.requires.ready.sound) in
-    let shape : g.W.Shape.Shape.word_count (g.W.Words.shape c.read.new.self) ≡ g.W.Shape.Shape.word_count (g.W.Words.shape c.args.w.now) = ap g.W.Shape.Shape.word_count c.in_ok-count.ensures.shape in
+    let l : Lies ring (g.W.Shape.Shape.word_count (g.W.Words.shape c.args.w.now)) =
+    lies ring _ _ _ (each_plain g.W.Words g.W.Shape.Shape _ _ c.requires.order) (g.met.W.Words.fits c.args.w.now c.requires.ready.sound) in
+    let shape : g.W.Shape.Shape.word_count (g.W.Words.shape c.read.new.self)
+    ≡ g.W.Shape.Shape.word_count (g.W.Words.shape c.args.w.now) = ap g.W.Shape.Shape.word_count c.in_ok-count.ensures.shape in
     omega (arith, l.some, l.whole, shape)
 
 pub prove-unreachable-requires-2 : goal.prove-unreachable-requires-2
 prove-unreachable-requires-2 g c =
     let ring = c.args.self.now in
-    let some : SomeFits (g.W.Shape.Shape.word_count (g.W.Words.shape c.args.w.now)) (g.W.Shape.Shape.good (g.W.Words.shape c.args.w.now)) (g.W.Words.trace c.read-2.new.self) =
-    some_at g.W.Shape.Shape.word_count g.W.Shape.Shape.good _ _ _ (c.in_ok-front.ensures.shape ∙ c.in_ok-count.ensures.shape) (g.met.W.Words.fits c.read-2.new.self c.in_ok-front.ensures.sound) in
+    let some : SomeFits (g.W.Shape.Shape.word_count (g.W.Words.shape c.args.w.now))
+    (g.W.Shape.Shape.good (g.W.Words.shape c.args.w.now)) (g.W.Words.trace c.read-2.new.self) =
+    some_at g.W.Shape.Shape.word_count g.W.Shape.Shape.good _ _ _ (c.in_ok-front.ensures.shape
+    ∙ c.in_ok-count.ensures.shape) (g.met.W.Words.fits c.read-2.new.self c.in_ok-front.ensures.sound) in
     let b : (c.in_ok-front.front < ring.capacity) × (c.in_ok-count.count ≤ ring.capacity) =
-    bounds ring _ _ _ _ c.in_ok-count.count c.in_ok-count.ensures.value _ c.in_ok-front.front c.in_ok-front.ensures.value (each_plain g.W.Words g.W.Shape.Shape _ _ c.requires.order) some in
+    bounds ring _ _ _ _ c.in_ok-count.count c.in_ok-count.ensures.value _ c.in_ok-front.front
+    c.in_ok-front.ensures.value (each_plain g.W.Words g.W.Shape.Shape _ _ c.requires.order) some in
     omega (arith, b.0)
 
 pub prove-unreachable-requires-3 : goal.prove-unreachable-requires-3
 prove-unreachable-requires-3 g c =
     let ring = c.args.self.now in
-    let some : SomeFits (g.W.Shape.Shape.word_count (g.W.Words.shape c.args.w.now)) (g.W.Shape.Shape.good (g.W.Words.shape c.args.w.now)) (g.W.Words.trace c.read-2.new.self) =
-    some_at g.W.Shape.Shape.word_count g.W.Shape.Shape.good _ _ _ (c.in_ok-front.ensures.shape ∙ c.in_ok-count.ensures.shape) (g.met.W.Words.fits c.read-2.new.self c.in_ok-front.ensures.sound) in
+    let some : SomeFits (g.W.Shape.Shape.word_count (g.W.Words.shape c.args.w.now))
+    (g.W.Shape.Shape.good (g.W.Words.shape c.args.w.now)) (g.W.Words.trace c.read-2.new.self) =
+    some_at g.W.Shape.Shape.word_count g.W.Shape.Shape.good _ _ _ (c.in_ok-front.ensures.shape
+    ∙ c.in_ok-count.ensures.shape) (g.met.W.Words.fits c.read-2.new.self c.in_ok-front.ensures.sound) in
     let b : (c.in_ok-front.front < ring.capacity) × (c.in_ok-count.count ≤ ring.capacity) =
-    bounds ring _ _ _ _ c.in_ok-count.count c.in_ok-count.ensures.value _ c.in_ok-front.front c.in_ok-front.ensures.value (each_plain g.W.Words g.W.Shape.Shape _ _ c.requires.order) some in
+    bounds ring _ _ _ _ c.in_ok-count.count c.in_ok-count.ensures.value _ c.in_ok-front.front
+    c.in_ok-front.ensures.value (each_plain g.W.Words g.W.Shape.Shape _ _ c.requires.order) some in
     omega (arith, b.1, c.if-count-capacity.false)
 
 pub write-requires-clause-within : goal.write-requires-clause-within
 write-requires-clause-within g c =
     let ring = c.args.self.now in
-    let l : Lies ring (g.W.Shape.Shape.word_count (g.W.Words.shape c.args.w.now)) = lies ring _ _ _ (each_plain g.W.Words g.W.Shape.Shape _ _ c.requires.order) (g.met.W.Words.fits c.args.w.now c.requires.ready.sound) in
-    let shape : g.W.Shape.Shape.word_count (g.W.Words.shape c.read-2.new.self) ≡ g.W.Shape.Shape.word_count (g.W.Words.shape c.args.w.now) = ap g.W.Shape.Shape.word_count (c.in_ok-front.ensures.shape ∙ c.in_ok-count.ensures.shape) in
-    let place : (c.in_ok-front.front + c.in_ok-count.count) % c.from-capacity.result < c.from-capacity.result = mod-lt (c.in_ok-front.front + c.in_ok-count.count) (omega (arith, l.some)) in
+    let l : Lies ring (g.W.Shape.Shape.word_count (g.W.Words.shape c.args.w.now)) =
+    lies ring _ _ _ (each_plain g.W.Words g.W.Shape.Shape _ _ c.requires.order) (g.met.W.Words.fits c.args.w.now c.requires.ready.sound) in
+    let shape : g.W.Shape.Shape.word_count (g.W.Words.shape c.read-2.new.self)
+    ≡ g.W.Shape.Shape.word_count (g.W.Words.shape c.args.w.now) =
+    ap g.W.Shape.Shape.word_count (c.in_ok-front.ensures.shape ∙ c.in_ok-count.ensures.shape) in
+    let place : (c.in_ok-front.front + c.in_ok-count.count) % c.from-capacity.result < c.from-capacity.result =
+    mod-lt (c.in_ok-front.front + c.in_ok-count.count) (omega (arith, l.some)) in
     omega (arith, l.some, l.whole, shape, place)
 
 pub write-requires-2-clause-within : goal.write-requires-2-clause-within
 write-requires-2-clause-within g c =
     let ring = c.args.self.now in
-    let l : Lies ring (g.W.Shape.Shape.word_count (g.W.Words.shape c.args.w.now)) = lies ring _ _ _ (each_plain g.W.Words g.W.Shape.Shape _ _ c.requires.order) (g.met.W.Words.fits c.args.w.now c.requires.ready.sound) in
-    let shape : g.W.Shape.Shape.word_count (g.W.Words.shape c.write.new.self) ≡ g.W.Shape.Shape.word_count (g.W.Words.shape c.args.w.now) = ap g.W.Shape.Shape.word_count (c.in_ok-write.ensures.shape ∙ c.in_ok-front.ensures.shape ∙ c.in_ok-count.ensures.shape) in
-    let place : (c.in_ok-front.front + c.in_ok-count.count) % c.from-capacity.result < c.from-capacity.result = mod-lt (c.in_ok-front.front + c.in_ok-count.count) (omega (arith, l.some)) in
+    let l : Lies ring (g.W.Shape.Shape.word_count (g.W.Words.shape c.args.w.now)) =
+    lies ring _ _ _ (each_plain g.W.Words g.W.Shape.Shape _ _ c.requires.order) (g.met.W.Words.fits c.args.w.now c.requires.ready.sound) in
+    let shape : g.W.Shape.Shape.word_count (g.W.Words.shape c.write.new.self)
+    ≡ g.W.Shape.Shape.word_count (g.W.Words.shape c.args.w.now) =
+    ap g.W.Shape.Shape.word_count (c.in_ok-write.ensures.shape ∙ c.in_ok-front.ensures.shape ∙ c.in_ok-count.ensures.shape) in
+    let place : (c.in_ok-front.front + c.in_ok-count.count) % c.from-capacity.result < c.from-capacity.result =
+    mod-lt (c.in_ok-front.front + c.in_ok-count.count) (omega (arith, l.some)) in
     omega (arith, l.some, l.whole, shape, place)
 
 pub write-requires-3-clause-within : goal.write-requires-3-clause-within
 write-requires-3-clause-within g c =
     let ring = c.args.self.now in
-    let l : Lies ring (g.W.Shape.Shape.word_count (g.W.Words.shape c.args.w.now)) = lies ring _ _ _ (each_plain g.W.Words g.W.Shape.Shape _ _ c.requires.order) (g.met.W.Words.fits c.args.w.now c.requires.ready.sound) in
-    let shape : g.W.Shape.Shape.word_count (g.W.Words.shape c.write-2.new.self) ≡ g.W.Shape.Shape.word_count (g.W.Words.shape c.args.w.now) = ap g.W.Shape.Shape.word_count (c.in_ok-write-2.ensures.shape ∙ c.in_ok-write.ensures.shape ∙ c.in_ok-front.ensures.shape ∙ c.in_ok-count.ensures.shape) in
-    let place : (c.in_ok-front.front + c.in_ok-count.count) % c.from-capacity.result < c.from-capacity.result = mod-lt (c.in_ok-front.front + c.in_ok-count.count) (omega (arith, l.some)) in
+    let l : Lies ring (g.W.Shape.Shape.word_count (g.W.Words.shape c.args.w.now)) =
+    lies ring _ _ _ (each_plain g.W.Words g.W.Shape.Shape _ _ c.requires.order) (g.met.W.Words.fits c.args.w.now c.requires.ready.sound) in
+    let shape : g.W.Shape.Shape.word_count (g.W.Words.shape c.write-2.new.self)
+    ≡ g.W.Shape.Shape.word_count (g.W.Words.shape c.args.w.now) =
+    ap g.W.Shape.Shape.word_count (c.in_ok-write-2.ensures.shape ∙ c.in_ok-write.ensures.shape
+    ∙ c.in_ok-front.ensures.shape ∙ c.in_ok-count.ensures.shape) in
+    let place : (c.in_ok-front.front + c.in_ok-count.count) % c.from-capacity.result < c.from-capacity.result =
+    mod-lt (c.in_ok-front.front + c.in_ok-count.count) (omega (arith, l.some)) in
     omega (arith, l.some, l.whole, shape, place)
 
 pub returns-in_err-front : goal.returns-in_err-front
 returns-in_err-front g c =
     let failed = c.from_residual-in_err-front.ensures.0 in
-    let on : GoesOn g.W.Words c.args.w.now c.read-2.new.self c.from_residual-in_err-front.result = goes_as (goes_then (goes_call c.in_ok-count.ensures) (goes_call c.in_err-front.ensures)) (search rules) in
+    let on : GoesOn g.W.Words c.args.w.now c.read-2.new.self c.from_residual-in_err-front.result =
+    goes_as (goes_then (goes_call c.in_ok-count.ensures) (goes_call c.in_err-front.ensures)) (search rules) in
     search IfOk-from_err
 
 pub returns-in_err-write : goal.returns-in_err-write
 returns-in_err-write g c =
     let failed = c.from_residual-in_err-write.ensures.0 in
-    let on : GoesOn g.W.Words c.args.w.now c.write.new.self c.from_residual-in_err-write.result = goes_as (goes_then (goes_then (goes_call c.in_ok-count.ensures) (goes_call c.in_ok-front.ensures)) (goes_call c.in_err-write.ensures)) (search rules) in
+    let on : GoesOn g.W.Words c.args.w.now c.write.new.self c.from_residual-in_err-write.result =
+    goes_as (goes_then (goes_then (goes_call c.in_ok-count.ensures) (goes_call c.in_ok-front.ensures)) (goes_call c.in_err-write.ensures)) (search rules) in
     search IfOk-from_err
 
 pub returns-in_err-write-2 : goal.returns-in_err-write-2
 returns-in_err-write-2 g c =
     let failed = c.from_residual-in_err-write-2.ensures.0 in
-    let on : GoesOn g.W.Words c.args.w.now c.write-2.new.self c.from_residual-in_err-write-2.result = goes_as (goes_then (goes_then (goes_then (goes_call c.in_ok-count.ensures) (goes_call c.in_ok-front.ensures)) (goes_call c.in_ok-write.ensures)) (goes_call c.in_err-write-2.ensures)) (search rules) in
+    let on : GoesOn g.W.Words c.args.w.now c.write-2.new.self c.from_residual-in_err-write-2.result =
+    goes_as (goes_then (goes_then (goes_then (goes_call c.in_ok-count.ensures) (goes_call c.in_ok-front.ensures))
+    (goes_call c.in_ok-write.ensures)) (goes_call c.in_err-write-2.ensures)) (search rules) in
     search IfOk-from_err
 
 pub returns-in_err-write-3 : goal.returns-in_err-write-3
 returns-in_err-write-3 g c =
     let failed = c.from_residual-in_err-write-3.ensures.0 in
-    let on : GoesOn g.W.Words c.args.w.now c.write-3.new.self c.from_residual-in_err-write-3.result = goes_as (goes_then (goes_then (goes_then (goes_then (goes_call c.in_ok-count.ensures) (goes_call c.in_ok-front.ensures)) (goes_call c.in_ok-write.ensures)) (goes_call c.in_ok-write-2.ensures)) (goes_call c.in_err-write-3.ensures)) (search rules) in
+    let on : GoesOn g.W.Words c.args.w.now c.write-3.new.self c.from_residual-in_err-write-3.result =
+    goes_as (goes_then (goes_then (goes_then
+    (goes_then (goes_call c.in_ok-count.ensures) (goes_call c.in_ok-front.ensures))
+    (goes_call c.in_ok-write.ensures)) (goes_call c.in_ok-write-2.ensures)) (goes_call c.in_err-write-3.ensures)) (search rules) in
     search IfOk-from_err
 
 pub returns : goal.returns
@@ -128,36 +160,50 @@ returns g c =
     let second : IsOwn ring (ring.at + 3 + 2 * place) = record { low = omega arith; high = omega (arith, below) } in
     let count : IsOwn ring (ring.at + 1) = record { low = omega arith; high = omega arith } in
     let is_capacity : c.from-capacity.result ≡ ring.capacity = omega arith in
-    let is_place : place ≡ (c.in_ok-front.front + c.in_ok-count.count) % ring.capacity = ap (λ k. (c.in_ok-front.front + c.in_ok-count.count) % k) is_capacity in
+    let is_place : place ≡ (c.in_ok-front.front + c.in_ok-count.count) % ring.capacity =
+    ap (λ k. (c.in_ok-front.front + c.in_ok-count.count) % k) is_capacity in
     let is_second : ring.at + 3 + 2 * place ≡ place_at ring place + 1 = omega arith in
     let room : c.in_ok-count.count < ring.capacity = omega arith in
     let pushed : LeadsTo g.W.Words g.W.Shape.Shape c.args.w.now c.write-3.new.self (Pushes ring c.args.item true) = record {
-      at = (pushes ring _ _ _ _ c.in_ok-count.count c.in_ok-count.ensures.value _ c.in_ok-front.front c.in_ok-front.ensures.value _ _ _ c.args.item place _ _ _ is_place refl is_second refl
+      at = (pushes ring _ _ _ _ c.in_ok-count.count c.in_ok-count.ensures.value _ c.in_ok-front.front
+          c.in_ok-front.ensures.value _ _ _ c.args.item place _ _ _ is_place refl is_second refl
           c.in_ok-write.ensures.value c.in_ok-write-2.ensures.value c.in_ok-write-3.ensures.value room).at;
     } in
     let frame : WritesOnly g.W.Words c.args.w.now c.write-3.new.self is_own = record {
-      appended = only_then is_own _ _ _ (only_read is_own _ _ _ _ c.in_ok-count.ensures.value) (only_then is_own _ _ _ (only_read is_own _ _ _ _ c.in_ok-front.ensures.value)
+      appended = only_then is_own _ _ _ (only_read is_own _ _ _ _ c.in_ok-count.ensures.value)
+          (only_then is_own _ _ _ (only_read is_own _ _ _ _ c.in_ok-front.ensures.value)
           (only_then is_own _ _ _ (only_write is_own _ _ _ _ c.in_ok-write.ensures.value first)
-          (only_then is_own _ _ _ (only_write is_own _ _ _ _ c.in_ok-write-2.ensures.value second) (only_write is_own _ _ _ _ c.in_ok-write-3.ensures.value count))));
+          (only_then is_own _ _ _ (only_write is_own _ _ _ _ c.in_ok-write-2.ensures.value second)
+          (only_write is_own _ _ _ _ c.in_ok-write-3.ensures.value count))));
     } in
-    let later : Begins (g.W.Words.trace c.read.new.self) (g.W.Words.trace c.write-3.new.self) = begins_trans _ _ _ c.in_ok-front.ensures.begins (begins_trans _ _ _ c.in_ok-write.ensures.begins (begins_trans _ _ _ c.in_ok-write-2.ensures.begins c.in_ok-write-3.ensures.begins)) in
+    let later : Begins (g.W.Words.trace c.read.new.self) (g.W.Words.trace c.write-3.new.self) =
+    begins_trans _ _ _ c.in_ok-front.ensures.begins
+    (begins_trans _ _ _ c.in_ok-write.ensures.begins (begins_trans _ _ _ c.in_ok-write-2.ensures.begins c.in_ok-write-3.ensures.begins)) in
     let begins : Begins (g.W.Words.trace c.args.w.now) (g.W.Words.trace c.write-3.new.self) = begins_trans _ _ _ c.in_ok-count.ensures.begins later in
-    let shape : g.W.Words.shape c.write-3.new.self ≡ g.W.Words.shape c.args.w.now = c.in_ok-write-3.ensures.shape ∙ c.in_ok-write-2.ensures.shape ∙ c.in_ok-write.ensures.shape ∙ c.in_ok-front.ensures.shape ∙ c.in_ok-count.ensures.shape in
-    let some : SomeFits (g.W.Shape.Shape.word_count (g.W.Words.shape c.args.w.now)) (g.W.Shape.Shape.good (g.W.Words.shape c.args.w.now)) (g.W.Words.trace c.write-3.new.self) =
+    let shape : g.W.Words.shape c.write-3.new.self ≡ g.W.Words.shape c.args.w.now = c.in_ok-write-3.ensures.shape
+    ∙ c.in_ok-write-2.ensures.shape ∙ c.in_ok-write.ensures.shape ∙ c.in_ok-front.ensures.shape ∙ c.in_ok-count.ensures.shape in
+    let some : SomeFits (g.W.Shape.Shape.word_count (g.W.Words.shape c.args.w.now))
+    (g.W.Shape.Shape.good (g.W.Words.shape c.args.w.now)) (g.W.Words.trace c.write-3.new.self) =
     some_at g.W.Shape.Shape.word_count g.W.Shape.Shape.good _ _ _ shape (g.met.W.Words.fits c.write-3.new.self c.in_ok-write-3.ensures.sound) in
     let has_room : c.in_ok-count.count ≢ ring.capacity = λ e. absurd (omega (arith, e)) in
     record {
       pushed = pushed;
       full = λ e. absurd (true≢false e);
-      full_if = λ full. not_full ring _ _ _ _ c.in_ok-count.count c.in_ok-count.ensures.value _ later some has_room (leads_plain g.W.Words g.W.Shape.Shape _ _ (λ before after. IsFull ring before) full);
-      order = state_after g.W.Words g.W.Shape.Shape _ _ (IsInOrder ring) (IsInOrder ring) (Pushes ring c.args.item true) shape begins c.requires.order pushed (order_pushed ring c.args.item true);
+      full_if = λ full. not_full ring _ _ _ _ c.in_ok-count.count c.in_ok-count.ensures.value _ later some has_room
+          (leads_plain g.W.Words g.W.Shape.Shape _ _ (λ before after. IsFull ring before) full);
+      order = state_after g.W.Words g.W.Shape.Shape _ _ (IsInOrder ring) (IsInOrder ring) (Pushes ring c.args.item true)
+          shape begins c.requires.order pushed (order_pushed ring c.args.item true);
       frame = frame;
       others = writes_keep g.W.Words g.W.Shape.Shape _ _ _ frame;
       full_frame = λ e. absurd (true≢false e);
       reads = record {
-        appended = sees_then is_own _ _ _ (sees_read is_own _ _ _ _ c.in_ok-count.ensures.value count) (sees_then is_own _ _ _ (sees_read is_own _ _ _ _ c.in_ok-front.ensures.value front)
+        appended = sees_then is_own _ _ _ (sees_read is_own _ _ _ _ c.in_ok-count.ensures.value count)
+            (sees_then is_own _ _ _ (sees_read is_own _ _ _ _ c.in_ok-front.ensures.value front)
             (sees_then is_own _ _ _ (sees_write is_own _ _ _ _ c.in_ok-write.ensures.value first)
-            (sees_then is_own _ _ _ (sees_write is_own _ _ _ _ c.in_ok-write-2.ensures.value second) (sees_write is_own _ _ _ _ c.in_ok-write-3.ensures.value count))));
+            (sees_then is_own _ _ _ (sees_write is_own _ _ _ _ c.in_ok-write-2.ensures.value second)
+            (sees_write is_own _ _ _ _ c.in_ok-write-3.ensures.value count))));
       };
-      goes_on = goes_as (goes_then (goes_then (goes_then (goes_then (goes_call c.in_ok-count.ensures) (goes_call c.in_ok-front.ensures)) (goes_call c.in_ok-write.ensures)) (goes_call c.in_ok-write-2.ensures)) (goes_call c.in_ok-write-3.ensures)) c.in_ok-write-3.ensures.stops;
+      goes_on = goes_as (goes_then (goes_then
+          (goes_then (goes_then (goes_call c.in_ok-count.ensures) (goes_call c.in_ok-front.ensures))
+          (goes_call c.in_ok-write.ensures)) (goes_call c.in_ok-write-2.ensures)) (goes_call c.in_ok-write-3.ensures)) c.in_ok-write-3.ensures.stops;
     }

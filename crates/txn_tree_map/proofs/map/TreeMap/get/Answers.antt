@@ -40,13 +40,15 @@ read-requires-clause-within g c =
     let found = rw c.in-Some.is at c.in_ok-find.ensures.found in
     let below = rw c.in-Some.is at c.in_ok-find.ensures.block in
     let goes = c.in_ok-find.ensures.goes_on in
-    let in_list = laid_block m.arena _ _ _ (g.met.W.Words.fits c.args.w.now c.requires.ready.sound) c.in-Some.found.block (record { at = λ s fit. (c.requires.order.at s fit).holds.laid.arena }) below in
+    let in_list = laid_block m.arena _ _ _ (g.met.W.Words.fits c.args.w.now c.requires.ready.sound)
+    c.in-Some.found.block (record { at = λ s fit. (c.requires.order.at s fit).holds.laid.arena }) below in
     omega (arith, in_list.0, ap g.W.Shape.Shape.word_count goes.shape, c.place_of.ensures)
 
 pub returns-in_err-value-in-Some : goal.returns-in_err-value-in-Some
 returns-in_err-value-in-Some g c =
     let failed = c.from_residual-in_err-value-in-Some.ensures.0 in
-    let on : GoesOn g.W.Words c.args.w.now c.read.new.self c.from_residual-in_err-value-in-Some.result = goes_as (goes_then c.in_ok-find.ensures.goes_on (goes_call c.in_err-value-in-Some.ensures)) (search rules) in
+    let on : GoesOn g.W.Words c.args.w.now c.read.new.self c.from_residual-in_err-value-in-Some.result =
+    goes_as (goes_then c.in_ok-find.ensures.goes_on (goes_call c.in_err-value-in-Some.ensures)) (search rules) in
     search IfOk-from_err
 
 pub returns-in_ok-value-in-Some : goal.returns-in_ok-value-in-Some

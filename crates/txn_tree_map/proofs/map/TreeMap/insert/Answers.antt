@@ -13,7 +13,8 @@ use Rattle.txn_alloc.specs.EntryMaps.{HasMapApart, Inserts, LacksRoom}
 use Rattle.txn_words.proofs.Looks.{each_looked, each_from, leads_from, leads_back, within_from, reads_from}
 use Rattle.txn_tree_map.specs.Trees.{tree_part}
 use Rattle.txn_alloc.proofs.Wider.{take_keeps}
-use Rattle.txn_alloc.proofs.Parts.{order_inserted, lacks_room, not_new, not_old, new_not_old, old_not_new, full_not_new, full_not_old, new_not_full, old_not_full}
+use Rattle.txn_alloc.proofs.Parts.{order_inserted, lacks_room, not_new, not_old, new_not_old, old_not_new, full_not_new, full_not_old, new_not_full}
+use Rattle.txn_alloc.proofs.Parts.{old_not_full}
 use Rattle.txn_tree_map.proofs.Descents.{missing_value}
 use Rattle.txn_alloc.proofs.Traces.{laid_block}
 use Rattle.txn_alloc.proofs.Founds.{looks_value, inserts_old, owns_old, owns_value, sees_old, sees_none}
@@ -23,14 +24,18 @@ use Rattle.txn_tree_map.proofs.Inserting.{can_put_each, inserts_new, takes_new, 
 use Rattle.txn_tree_map.proofs.map.TreeMap.insert.Goals as goal
 
 pub find-requires-clause-order : goal.find-requires-clause-order
-find-requires-clause-order g c = record { at = λ s fit. let o = c.requires.order.at s fit in record { entries = o.entries; used = o.used; holds = o.holds.map } }
+find-requires-clause-order g c = record {
+  at = λ s fit. let o = c.requires.order.at s fit in
+      record { entries = o.entries; used = o.used; holds = o.holds.map };
+}
 
 pub read-requires-clause-within : goal.read-requires-clause-within
 read-requires-clause-within g c =
     let m = c.args.self.now in
     let below = rw c.in-Some.is at c.in_ok-found.ensures.block in
     let goes = c.in_ok-found.ensures.goes_on in
-    let in_list = laid_block m.arena _ _ _ (g.met.W.Words.fits c.args.w.now c.requires.ready.sound) c.in-Some.found.block (record { at = λ s fit. (c.requires.order.at s fit).holds.map.laid.arena }) below in
+    let in_list = laid_block m.arena _ _ _ (g.met.W.Words.fits c.args.w.now c.requires.ready.sound)
+    c.in-Some.found.block (record { at = λ s fit. (c.requires.order.at s fit).holds.map.laid.arena }) below in
     omega (arith, in_list.0, ap g.W.Shape.Shape.word_count goes.shape, c.place_of-at.ensures)
 
 pub write-requires-clause-within : goal.write-requires-clause-within
@@ -38,7 +43,8 @@ write-requires-clause-within g c =
     let m = c.args.self.now in
     let below = rw c.in-Some.is at c.in_ok-found.ensures.block in
     let goes = c.in_ok-found.ensures.goes_on in
-    let in_list = laid_block m.arena _ _ _ (g.met.W.Words.fits c.args.w.now c.requires.ready.sound) c.in-Some.found.block (record { at = λ s fit. (c.requires.order.at s fit).holds.map.laid.arena }) below in
+    let in_list = laid_block m.arena _ _ _ (g.met.W.Words.fits c.args.w.now c.requires.ready.sound)
+    c.in-Some.found.block (record { at = λ s fit. (c.requires.order.at s fit).holds.map.laid.arena }) below in
     omega (arith, in_list.0, ap g.W.Shape.Shape.word_count goes.shape, ap g.W.Shape.Shape.word_count c.in_ok-old-in-Some.ensures.shape, c.place_of-at.ensures)
 
 pub take_near-requires-clause-order : goal.take_near-requires-clause-order
@@ -59,7 +65,8 @@ put_in-requires-clause-missing g c =
     rw c.number.ensures (each_from g.W.Words g.W.Shape.Shape c.args.w.now c.take_near.new.w _ (then.goes_on.shape ∙ goes.shape)
     (can_put_each m c.args.key c.args.value _ _ _ _ (each_plain g.W.Words g.W.Shape.Shape _ _ c.requires.order) missing _ then.goes_on.begins c.in-Some-2.block
     (leads_from g.W.Words g.W.Shape.Shape c.args.w.now c.find.new.w c.take_near.new.w _ goes.shape taken)
-    (take_keeps m.arena c.in_ok-block-in-None.field-0 _ _ _ _ (leads_from g.W.Words g.W.Shape.Shape c.args.w.now c.find.new.w c.take_near.new.w _ goes.shape then.others))))
+    (take_keeps m.arena c.in_ok-block-in-None.field-0 _ _ _ _ (leads_from g.W.Words g.W.Shape.Shape c.args.w.now
+    c.find.new.w c.take_near.new.w _ goes.shape then.others))))
 
 pub returns-in_ok-put_in-in-Some-2-clause-goes_on : goal.returns-in_ok-put_in-in-Some-2-clause-goes_on
 returns-in_ok-put_in-in-Some-2-clause-goes_on g c =
@@ -75,8 +82,10 @@ returns-in_ok-write-in-Some-clause-put g c =
     let q = c.place_of-at.result + 1 in
     let is_value : q ≡ block_at m.arena c.in-Some.found.block + 1 = omega (arith, c.place_of-at.ensures) in
     record {
-      at = (inserts_old (tree_part m) c.args.key _ _ _ _ c.in-Some.found.block q c.in_ok-old-in-Some.old is_value (keys_block m c.args.key c.in-Some.found.place c.in-Some.found.block)
-          (looks_value _ _ _ _ found _ q c.in_ok-old-in-Some.old c.in_ok-old-in-Some.ensures.value) (each_plain g.W.Words g.W.Shape.Shape _ _ c.requires.order) _ c.args.value
+      at = (inserts_old (tree_part m) c.args.key _ _ _ _ c.in-Some.found.block q c.in_ok-old-in-Some.old is_value
+          (keys_block m c.args.key c.in-Some.found.place c.in-Some.found.block)
+          (looks_value _ _ _ _ found _ q c.in_ok-old-in-Some.old c.in_ok-old-in-Some.ensures.value)
+          (each_plain g.W.Words g.W.Shape.Shape _ _ c.requires.order) _ c.args.value
           c.in_ok-write-in-Some.ensures.value
           (λ s f used free hold h. inserted_old m c.args.key c.in-Some.found.place c.in-Some.found.block c.args.value s h f used free hold)).at;
     }
@@ -86,18 +95,22 @@ returns-in_ok-write-in-Some-clause-full_if g c =
     let m = c.args.self.now in
     let goes = c.in_ok-found.ensures.goes_on in
     let begins = begins_trans _ _ _ goes.begins (begins_trans _ _ _ c.in_ok-old-in-Some.ensures.begins c.in_ok-write-in-Some.ensures.begins) in
-    let some : SomeFits (g.W.Shape.Shape.word_count (g.W.Words.shape c.args.w.now)) (g.W.Shape.Shape.good (g.W.Words.shape c.args.w.now)) (g.W.Words.trace c.write.new.self) =
-    some_at g.W.Shape.Shape.word_count g.W.Shape.Shape.good _ _ _ (c.in_ok-write-in-Some.ensures.shape ∙ c.in_ok-old-in-Some.ensures.shape ∙ goes.shape) (g.met.W.Words.fits c.write.new.self c.in_ok-write-in-Some.ensures.sound) in
+    let some : SomeFits (g.W.Shape.Shape.word_count (g.W.Words.shape c.args.w.now))
+    (g.W.Shape.Shape.good (g.W.Words.shape c.args.w.now)) (g.W.Words.trace c.write.new.self) =
+    some_at g.W.Shape.Shape.word_count g.W.Shape.Shape.good _ _ _ (c.in_ok-write-in-Some.ensures.shape
+    ∙ c.in_ok-old-in-Some.ensures.shape ∙ goes.shape) (g.met.W.Words.fits c.write.new.self c.in_ok-write-in-Some.ensures.sound) in
     λ lacks. not_old (tree_part m) c.args.key c.args.value _ _ _ _ (each_plain g.W.Words g.W.Shape.Shape _ _ c.requires.order) begins some
     (leads_plain g.W.Words g.W.Shape.Shape _ _ (λ before after. LacksRoom (tree_part m) c.args.key before) lacks) c.in_ok-old-in-Some.old
-    (leads_plain g.W.Words g.W.Shape.Shape _ _ (Inserts (tree_part m) c.args.key c.args.value (Old c.in_ok-old-in-Some.old)) (returns-in_ok-write-in-Some-clause-put g c))
+    (leads_plain g.W.Words g.W.Shape.Shape _ _
+    (Inserts (tree_part m) c.args.key c.args.value (Old c.in_ok-old-in-Some.old)) (returns-in_ok-write-in-Some-clause-put g c))
 
 pub returns-in_ok-write-in-Some-clause-order : goal.returns-in_ok-write-in-Some-clause-order
 returns-in_ok-write-in-Some-clause-order g c =
     let m = c.args.self.now in
     let goes = c.in_ok-found.ensures.goes_on in
     let begins = begins_trans _ _ _ goes.begins (begins_trans _ _ _ c.in_ok-old-in-Some.ensures.begins c.in_ok-write-in-Some.ensures.begins) in
-    state_after g.W.Words g.W.Shape.Shape _ _ (HasMapApart (tree_part m)) (HasMapApart (tree_part m)) (Inserts (tree_part m) c.args.key c.args.value (Old c.in_ok-old-in-Some.old))
+    state_after g.W.Words g.W.Shape.Shape _ _ (HasMapApart (tree_part m)) (HasMapApart (tree_part m))
+    (Inserts (tree_part m) c.args.key c.args.value (Old c.in_ok-old-in-Some.old))
     (c.in_ok-write-in-Some.ensures.shape ∙ c.in_ok-old-in-Some.ensures.shape ∙ goes.shape) begins c.requires.order (returns-in_ok-write-in-Some-clause-put g c)
     (order_inserted (tree_part m) c.args.key c.args.value (Old c.in_ok-old-in-Some.old))
 
@@ -108,8 +121,10 @@ returns-in_ok-write-in-Some-clause-frame g c =
     let q = c.place_of-at.result + 1 in
     let is_value : q ≡ block_at m.arena c.in-Some.found.block + 1 = omega (arith, c.place_of-at.ensures) in
     record {
-      at = owns_old (tree_part m) c.args.key _ _ _ _ c.in-Some.found.block q c.in_ok-old-in-Some.old is_value (keys_block m c.args.key c.in-Some.found.place c.in-Some.found.block)
-          (looks_value _ _ _ _ found _ q c.in_ok-old-in-Some.old c.in_ok-old-in-Some.ensures.value) (each_plain g.W.Words g.W.Shape.Shape _ _ c.requires.order) _ c.args.value
+      at = owns_old (tree_part m) c.args.key _ _ _ _ c.in-Some.found.block q c.in_ok-old-in-Some.old is_value
+          (keys_block m c.args.key c.in-Some.found.place c.in-Some.found.block)
+          (looks_value _ _ _ _ found _ q c.in_ok-old-in-Some.old c.in_ok-old-in-Some.ensures.value)
+          (each_plain g.W.Words g.W.Shape.Shape _ _ c.requires.order) _ c.args.value
           c.in_ok-write-in-Some.ensures.value;
     }
 
@@ -120,8 +135,10 @@ returns-in_ok-write-in-Some-clause-old g c =
     let q = c.place_of-at.result + 1 in
     let is_value : q ≡ block_at m.arena c.in-Some.found.block + 1 = omega (arith, c.place_of-at.ensures) in
     λ was e. record {
-      at = owns_value (tree_part m) c.args.key _ _ _ _ c.in-Some.found.block q c.in_ok-old-in-Some.old is_value (keys_block m c.args.key c.in-Some.found.place c.in-Some.found.block)
-          (looks_value _ _ _ _ found _ q c.in_ok-old-in-Some.old c.in_ok-old-in-Some.ensures.value) (each_plain g.W.Words g.W.Shape.Shape _ _ c.requires.order) _ c.args.value
+      at = owns_value (tree_part m) c.args.key _ _ _ _ c.in-Some.found.block q c.in_ok-old-in-Some.old is_value
+          (keys_block m c.args.key c.in-Some.found.place c.in-Some.found.block)
+          (looks_value _ _ _ _ found _ q c.in_ok-old-in-Some.old c.in_ok-old-in-Some.ensures.value)
+          (each_plain g.W.Words g.W.Shape.Shape _ _ c.requires.order) _ c.args.value
           c.in_ok-write-in-Some.ensures.value;
     }
 
@@ -132,8 +149,10 @@ returns-in_ok-write-in-Some-clause-reads g c =
     let q = c.place_of-at.result + 1 in
     let is_value : q ≡ block_at m.arena c.in-Some.found.block + 1 = omega (arith, c.place_of-at.ensures) in
     record {
-      at = sees_old (tree_part m) c.args.key _ _ _ _ c.in-Some.found.block q c.in_ok-old-in-Some.old is_value (keys_block m c.args.key c.in-Some.found.place c.in-Some.found.block)
-          (looks_value _ _ _ _ found _ q c.in_ok-old-in-Some.old c.in_ok-old-in-Some.ensures.value) (each_plain g.W.Words g.W.Shape.Shape _ _ c.requires.order) _ c.args.value
+      at = sees_old (tree_part m) c.args.key _ _ _ _ c.in-Some.found.block q c.in_ok-old-in-Some.old is_value
+          (keys_block m c.args.key c.in-Some.found.place c.in-Some.found.block)
+          (looks_value _ _ _ _ found _ q c.in_ok-old-in-Some.old c.in_ok-old-in-Some.ensures.value)
+          (each_plain g.W.Words g.W.Shape.Shape _ _ c.requires.order) _ c.args.value
           c.in_ok-write-in-Some.ensures.value (near_own m c.args.key);
     }
 
@@ -146,9 +165,11 @@ returns-in_ok-put_in-in-Some-2-clause-put g c =
     let taken = rw c.in-Some-2.is at then.taken in
     let put = rw c.number.ensures at c.in_ok-put_in-in-Some-2.ensures.put in
     record {
-      at = (inserts_new m c.args.key c.args.value _ _ _ _ (each_plain g.W.Words g.W.Shape.Shape _ _ c.requires.order) missing _ then.goes_on.begins c.in-Some-2.block
+      at = (inserts_new m c.args.key c.args.value _ _ _ _ (each_plain g.W.Words g.W.Shape.Shape _ _ c.requires.order)
+          missing _ then.goes_on.begins c.in-Some-2.block
           (leads_from g.W.Words g.W.Shape.Shape c.args.w.now c.find.new.w c.take_near.new.w _ goes.shape taken)
-          (take_keeps m.arena c.in_ok-block-in-None.field-0 _ _ _ _ (leads_from g.W.Words g.W.Shape.Shape c.args.w.now c.find.new.w c.take_near.new.w _ goes.shape then.others)) _ c.in_ok-put_in-in-Some-2.ensures.goes_on.begins
+          (take_keeps m.arena c.in_ok-block-in-None.field-0 _ _ _ _ (leads_from g.W.Words g.W.Shape.Shape c.args.w.now
+          c.find.new.w c.take_near.new.w _ goes.shape then.others)) _ c.in_ok-put_in-in-Some-2.ensures.goes_on.begins
           (leads_from g.W.Words g.W.Shape.Shape c.args.w.now c.take_near.new.w c.put_in.new.w _ (then.goes_on.shape ∙ goes.shape) put)).at;
     }
 
@@ -156,7 +177,8 @@ pub returns-in_ok-put_in-in-Some-2-clause-full_if : goal.returns-in_ok-put_in-in
 returns-in_ok-put_in-in-Some-2-clause-full_if g c =
     let m = c.args.self.now in
     let goes = returns-in_ok-put_in-in-Some-2-clause-goes_on g c in
-    let some : SomeFits (g.W.Shape.Shape.word_count (g.W.Words.shape c.args.w.now)) (g.W.Shape.Shape.good (g.W.Words.shape c.args.w.now)) (g.W.Words.trace c.put_in.new.w) =
+    let some : SomeFits (g.W.Shape.Shape.word_count (g.W.Words.shape c.args.w.now))
+    (g.W.Shape.Shape.good (g.W.Words.shape c.args.w.now)) (g.W.Words.trace c.put_in.new.w) =
     some_at g.W.Shape.Shape.word_count g.W.Shape.Shape.good _ _ _ (goes.shape) (g.met.W.Words.fits c.put_in.new.w goes.sound) in
     λ lacks. not_new (tree_part m) c.args.key c.args.value _ _ _ _ (each_plain g.W.Words g.W.Shape.Shape _ _ c.requires.order) goes.begins some
     (leads_plain g.W.Words g.W.Shape.Shape _ _ (λ before after. LacksRoom (tree_part m) c.args.key before) lacks)
@@ -166,7 +188,8 @@ pub returns-in_ok-put_in-in-Some-2-clause-order : goal.returns-in_ok-put_in-in-S
 returns-in_ok-put_in-in-Some-2-clause-order g c =
     let m = c.args.self.now in
     let goes = returns-in_ok-put_in-in-Some-2-clause-goes_on g c in
-    state_after g.W.Words g.W.Shape.Shape _ _ (HasMapApart (tree_part m)) (HasMapApart (tree_part m)) (Inserts (tree_part m) c.args.key c.args.value New) goes.shape goes.begins c.requires.order
+    state_after g.W.Words g.W.Shape.Shape _ _ (HasMapApart (tree_part m)) (HasMapApart (tree_part m))
+    (Inserts (tree_part m) c.args.key c.args.value New) goes.shape goes.begins c.requires.order
     (returns-in_ok-put_in-in-Some-2-clause-put g c) (order_inserted (tree_part m) c.args.key c.args.value New)
 
 pub returns-in_ok-put_in-in-Some-2-clause-frame : goal.returns-in_ok-put_in-in-Some-2-clause-frame
@@ -180,9 +203,11 @@ returns-in_ok-put_in-in-Some-2-clause-frame g c =
     let heads = rw c.in-Some-2.is at then.frame in
     let front = rw c.number.ensures at c.in_ok-put_in-in-Some-2.ensures.frame in
     record {
-      at = owns_new m c.args.key c.args.value _ _ _ _ (each_plain g.W.Words g.W.Shape.Shape _ _ c.requires.order) missing _ then.goes_on.begins c.in-Some-2.block
+      at = owns_new m c.args.key c.args.value _ _ _ _ (each_plain g.W.Words g.W.Shape.Shape _ _ c.requires.order)
+          missing _ then.goes_on.begins c.in-Some-2.block
           (leads_from g.W.Words g.W.Shape.Shape c.args.w.now c.find.new.w c.take_near.new.w _ goes.shape taken)
-          (take_keeps m.arena c.in_ok-block-in-None.field-0 _ _ _ _ (leads_from g.W.Words g.W.Shape.Shape c.args.w.now c.find.new.w c.take_near.new.w _ goes.shape then.others)) _ c.in_ok-put_in-in-Some-2.ensures.goes_on.begins
+          (take_keeps m.arena c.in_ok-block-in-None.field-0 _ _ _ _ (leads_from g.W.Words g.W.Shape.Shape c.args.w.now
+          c.find.new.w c.take_near.new.w _ goes.shape then.others)) _ c.in_ok-put_in-in-Some-2.ensures.goes_on.begins
           (leads_from g.W.Words g.W.Shape.Shape c.args.w.now c.take_near.new.w c.put_in.new.w _ (then.goes_on.shape ∙ goes.shape) put)
           heads.appended (within_from g.W.Words g.W.Shape.Shape c.args.w.now c.take_near.new.w c.put_in.new.w _ (then.goes_on.shape ∙ goes.shape) front);
     }
@@ -198,9 +223,11 @@ returns-in_ok-put_in-in-Some-2-clause-reads g c =
     let names = rw c.in-Some-2.is at then.reads in
     let front = rw c.number.ensures at c.in_ok-put_in-in-Some-2.ensures.reads in
     record {
-      at = sees_new m c.args.key c.args.value _ _ _ _ (each_plain g.W.Words g.W.Shape.Shape _ _ c.requires.order) missing _ then.goes_on.begins c.in-Some-2.block
+      at = sees_new m c.args.key c.args.value _ _ _ _ (each_plain g.W.Words g.W.Shape.Shape _ _ c.requires.order)
+          missing _ then.goes_on.begins c.in-Some-2.block
           (leads_from g.W.Words g.W.Shape.Shape c.args.w.now c.find.new.w c.take_near.new.w _ goes.shape taken)
-          (take_keeps m.arena c.in_ok-block-in-None.field-0 _ _ _ _ (leads_from g.W.Words g.W.Shape.Shape c.args.w.now c.find.new.w c.take_near.new.w _ goes.shape then.others)) _ c.in_ok-put_in-in-Some-2.ensures.goes_on.begins
+          (take_keeps m.arena c.in_ok-block-in-None.field-0 _ _ _ _ (leads_from g.W.Words g.W.Shape.Shape c.args.w.now
+          c.find.new.w c.take_near.new.w _ goes.shape then.others)) _ c.in_ok-put_in-in-Some-2.ensures.goes_on.begins
           (leads_from g.W.Words g.W.Shape.Shape c.args.w.now c.take_near.new.w c.put_in.new.w _ (then.goes_on.shape ∙ goes.shape) put)
           names (reads_from g.W.Words g.W.Shape.Shape c.args.w.now c.take_near.new.w c.put_in.new.w _ (then.goes_on.shape ∙ goes.shape) front);
     }
@@ -237,7 +264,8 @@ returns-in-None-2-clause-order g c =
     let m = c.args.self.now in
     let goes = c.in_ok-found.ensures.goes_on in
     let then = c.in_ok-block-in-None.ensures in
-    state_after g.W.Words g.W.Shape.Shape _ _ (HasMapApart (tree_part m)) (HasMapApart (tree_part m)) (Inserts (tree_part m) c.args.key c.args.value Full) (then.goes_on.shape ∙ goes.shape)
+    state_after g.W.Words g.W.Shape.Shape _ _ (HasMapApart (tree_part m)) (HasMapApart (tree_part m))
+    (Inserts (tree_part m) c.args.key c.args.value Full) (then.goes_on.shape ∙ goes.shape)
     (begins_trans _ _ _ goes.begins then.goes_on.begins) c.requires.order
     (returns-in-None-2-clause-put g c) (order_inserted (tree_part m) c.args.key c.args.value Full)
 
@@ -259,7 +287,10 @@ returns-in-None-2-clause-reads g c =
     let missing = rw c.in-None.is at c.in_ok-found.ensures.missing in
     let then = c.in_ok-block-in-None.ensures in
     let names = rw c.in-None-2.is at then.reads in
-    record { at = sees_none (tree_part m) c.args.key _ _ _ _ (near_own m c.args.key) missing (each_plain g.W.Words g.W.Shape.Shape _ _ c.requires.order) _ then.goes_on.begins names }
+    record {
+      at = sees_none (tree_part m) c.args.key _ _ _ _ (near_own m c.args.key) missing
+          (each_plain g.W.Words g.W.Shape.Shape _ _ c.requires.order) _ then.goes_on.begins names;
+    }
 
 pub returns-in_ok-write-in-Some-clause-full_frame : goal.returns-in_ok-write-in-Some-clause-full_frame
 returns-in_ok-write-in-Some-clause-full_frame g c = λ e. absurd (old_not_full _ e)
@@ -276,25 +307,31 @@ returns-in_err-found g c =
 pub returns-in_err-old-in-Some : goal.returns-in_err-old-in-Some
 returns-in_err-old-in-Some g c =
     let failed = c.from_residual-in_err-old-in-Some.ensures.0 in
-    let on : GoesOn g.W.Words c.args.w.now c.read.new.self c.from_residual-in_err-old-in-Some.result = goes_as (goes_then c.in_ok-found.ensures.goes_on (goes_call c.in_err-old-in-Some.ensures)) (search rules) in
+    let on : GoesOn g.W.Words c.args.w.now c.read.new.self c.from_residual-in_err-old-in-Some.result =
+    goes_as (goes_then c.in_ok-found.ensures.goes_on (goes_call c.in_err-old-in-Some.ensures)) (search rules) in
     search IfOk-from_err
 
 pub returns-in_err-write-in-Some : goal.returns-in_err-write-in-Some
 returns-in_err-write-in-Some g c =
     let failed = c.from_residual-in_err-write-in-Some.ensures.0 in
-    let on : GoesOn g.W.Words c.args.w.now c.write.new.self c.from_residual-in_err-write-in-Some.result = goes_as (goes_then (goes_then c.in_ok-found.ensures.goes_on (goes_call c.in_ok-old-in-Some.ensures)) (goes_call c.in_err-write-in-Some.ensures)) (search rules) in
+    let on : GoesOn g.W.Words c.args.w.now c.write.new.self c.from_residual-in_err-write-in-Some.result =
+    goes_as (goes_then (goes_then c.in_ok-found.ensures.goes_on (goes_call c.in_ok-old-in-Some.ensures))
+    (goes_call c.in_err-write-in-Some.ensures)) (search rules) in
     search IfOk-from_err
 
 pub returns-in_err-block-in-None : goal.returns-in_err-block-in-None
 returns-in_err-block-in-None g c =
     let failed = c.from_residual-in_err-block-in-None.ensures.0 in
-    let on : GoesOn g.W.Words c.args.w.now c.take_near.new.w c.from_residual-in_err-block-in-None.result = goes_as (goes_then c.in_ok-found.ensures.goes_on c.in_err-block-in-None.ensures.goes_on) (search rules) in
+    let on : GoesOn g.W.Words c.args.w.now c.take_near.new.w c.from_residual-in_err-block-in-None.result =
+    goes_as (goes_then c.in_ok-found.ensures.goes_on c.in_err-block-in-None.ensures.goes_on) (search rules) in
     search IfOk-from_err
 
 pub returns-in_err-put_in-in-Some-2 : goal.returns-in_err-put_in-in-Some-2
 returns-in_err-put_in-in-Some-2 g c =
     let failed = c.from_residual-in_err-put_in-in-Some-2.ensures.0 in
-    let on : GoesOn g.W.Words c.args.w.now c.put_in.new.w c.from_residual-in_err-put_in-in-Some-2.result = goes_as (goes_then (goes_then c.in_ok-found.ensures.goes_on c.in_ok-block-in-None.ensures.goes_on) c.in_err-put_in-in-Some-2.ensures.goes_on) (search rules) in
+    let on : GoesOn g.W.Words c.args.w.now c.put_in.new.w c.from_residual-in_err-put_in-in-Some-2.result =
+    goes_as (goes_then (goes_then c.in_ok-found.ensures.goes_on c.in_ok-block-in-None.ensures.goes_on)
+    c.in_err-put_in-in-Some-2.ensures.goes_on) (search rules) in
     search IfOk-from_err
 
 pub returns-in_ok-put_in-in-Some-2-clause-nearest : goal.returns-in_ok-put_in-in-Some-2-clause-nearest
@@ -307,9 +344,11 @@ returns-in_ok-put_in-in-Some-2-clause-nearest g c =
     let nearest = rw c.in-Some-2.is at then.nearest in
     let put = rw c.number.ensures at c.in_ok-put_in-in-Some-2.ensures.put in
     λ e. record {
-      at = (takes_new m c.args.key c.args.value _ _ _ _ (each_plain g.W.Words g.W.Shape.Shape _ _ c.requires.order) missing _ then.goes_on.begins c.in-Some-2.block
+      at = (takes_new m c.args.key c.args.value _ _ _ _ (each_plain g.W.Words g.W.Shape.Shape _ _ c.requires.order)
+          missing _ then.goes_on.begins c.in-Some-2.block
           (leads_from g.W.Words g.W.Shape.Shape c.args.w.now c.find.new.w c.take_near.new.w _ goes.shape taken)
-          (take_keeps m.arena c.in_ok-block-in-None.field-0 _ _ _ _ (leads_from g.W.Words g.W.Shape.Shape c.args.w.now c.find.new.w c.take_near.new.w _ goes.shape then.others)) _ c.in_ok-put_in-in-Some-2.ensures.goes_on.begins
+          (take_keeps m.arena c.in_ok-block-in-None.field-0 _ _ _ _ (leads_from g.W.Words g.W.Shape.Shape c.args.w.now
+          c.find.new.w c.take_near.new.w _ goes.shape then.others)) _ c.in_ok-put_in-in-Some-2.ensures.goes_on.begins
           (leads_from g.W.Words g.W.Shape.Shape c.args.w.now c.take_near.new.w c.put_in.new.w _ (then.goes_on.shape ∙ goes.shape) put)
           (leads_from g.W.Words g.W.Shape.Shape c.args.w.now c.find.new.w c.take_near.new.w _ goes.shape nearest)).at;
     }

@@ -20,7 +20,10 @@ loop-init g c =
       sound = c.requires.ready.sound;
       from = omega arith;
       bound = omega arith;
-      looks = looks_none _ _ _ IsAnyWord _ (record { at = λ s fit. let o = c.requires.order.at s fit in summed_none m _ c.args.low c.args.high o.holds.tree (at_tree m _ o.entries o.used o.holds) });
+      looks = looks_none _ _ _ IsAnyWord _ (record {
+        at = λ s fit. let o = c.requires.order.at s fit in
+            summed_none m _ c.args.low c.args.high o.holds.tree (at_tree m _ o.entries o.used o.holds);
+      });
       reads = λ s fit. sees_same _ _;
     }
 
@@ -28,7 +31,8 @@ pub entry_from-requires-clause-order : goal.entry_from-requires-clause-order
 entry_from-requires-clause-order g c =
     let m = c.args.self.now in
     let i = c.loop.invariant in
-    each_from g.W.Words g.W.Shape.Shape c.args.w.now c.loop.w _ i.shape (each_looked _ _ _ _ i.looks (HasMap (tree_part m)) (each_plain g.W.Words g.W.Shape.Shape _ _ c.requires.order))
+    each_from g.W.Words g.W.Shape.Shape c.args.w.now c.loop.w _ i.shape
+    (each_looked _ _ _ _ i.looks (HasMap (tree_part m)) (each_plain g.W.Words g.W.Shape.Shape _ _ c.requires.order))
 
 pub overflow_add-total : goal.overflow_add-total
 overflow_add-total g c =
@@ -42,8 +46,10 @@ returns-in-None-clause-sum g c =
     let none = rw c.in-None.is at c.in_ok-entry_from.ensures.none in
     record {
       at = (sums_range m c.args.low c.args.high c.loop.total _ _ _ _
-          (looks_map _ _ _ IsAnyWord _ _ (IsTotal m c.args.low c.args.high c.loop.total) (λ s h. total_none m s c.args.low c.args.high c.loop.least c.loop.counter c.loop.total h.0 h.1)
-          (looks_then _ _ _ IsAnyWord _ _ _ (HasNoneTo m c.loop.least c.args.high) i.looks (looks_from g.W.Words g.W.Shape.Shape c.args.w.now c.loop.w _ _ IsAnyWord _ i.shape none)))).at;
+          (looks_map _ _ _ IsAnyWord _ _ (IsTotal m c.args.low c.args.high c.loop.total)
+          (λ s h. total_none m s c.args.low c.args.high c.loop.least c.loop.counter c.loop.total h.0 h.1)
+          (looks_then _ _ _ IsAnyWord _ _ _ (HasNoneTo m c.loop.least c.args.high) i.looks
+          (looks_from g.W.Words g.W.Shape.Shape c.args.w.now c.loop.w _ _ IsAnyWord _ i.shape none)))).at;
     }
 
 pub returns-in-None-clause-order : goal.returns-in-None-clause-order
@@ -52,7 +58,8 @@ returns-in-None-clause-order g c =
     let i = c.loop.invariant in
     let none = rw c.in-None.is at c.in_ok-entry_from.ensures.none in
     each_from g.W.Words g.W.Shape.Shape c.args.w.now _ _ (c.in_ok-entry_from.ensures.goes_on.shape ∙ i.shape)
-    (each_looked _ _ _ _ (looks_then _ _ _ IsAnyWord _ _ _ (HasNoneTo m c.loop.least c.args.high) i.looks (looks_from g.W.Words g.W.Shape.Shape c.args.w.now c.loop.w _ _ IsAnyWord _ i.shape none)) (HasMap (tree_part m))
+    (each_looked _ _ _ _ (looks_then _ _ _ IsAnyWord _ _ _ (HasNoneTo m c.loop.least c.args.high) i.looks
+    (looks_from g.W.Words g.W.Shape.Shape c.args.w.now c.loop.w _ _ IsAnyWord _ i.shape none)) (HasMap (tree_part m))
     (each_plain g.W.Words g.W.Shape.Shape _ _ c.requires.order))
 
 pub returns-in-None-clause-frame : goal.returns-in-None-clause-frame
@@ -60,7 +67,9 @@ returns-in-None-clause-frame g c =
     let m = c.args.self.now in
     let i = c.loop.invariant in
     let none = rw c.in-None.is at c.in_ok-entry_from.ensures.none in
-    looks_only g.W.Words g.W.Shape.Shape _ _ IsAnyWord _ (looks_then _ _ _ IsAnyWord _ _ _ (HasNoneTo m c.loop.least c.args.high) i.looks (looks_from g.W.Words g.W.Shape.Shape c.args.w.now c.loop.w _ _ IsAnyWord _ i.shape none))
+    looks_only g.W.Words g.W.Shape.Shape _ _ IsAnyWord _
+    (looks_then _ _ _ IsAnyWord _ _ _ (HasNoneTo m c.loop.least c.args.high) i.looks
+    (looks_from g.W.Words g.W.Shape.Shape c.args.w.now c.loop.w _ _ IsAnyWord _ i.shape none))
 
 pub returns-in-None-clause-reads : goal.returns-in-None-clause-reads
 returns-in-None-clause-reads g c =
@@ -68,7 +77,8 @@ returns-in-None-clause-reads g c =
     let i = c.loop.invariant in
     let none = rw c.in-None.is at c.in_ok-entry_from.ensures.none in
     record {
-      at = reads_on m c.args.low c.args.high c.loop.least c.loop.counter c.loop.total _ _ _ _ _ i.looks (looks_from g.W.Words g.W.Shape.Shape c.args.w.now c.loop.w _ _ IsAnyWord _ i.shape none) i.from i.reads
+      at = reads_on m c.args.low c.args.high c.loop.least c.loop.counter c.loop.total _ _ _ _ _ i.looks
+          (looks_from g.W.Words g.W.Shape.Shape c.args.w.now c.loop.w _ _ IsAnyWord _ i.shape none) i.from i.reads
           (reads_from g.W.Words g.W.Shape.Shape c.args.w.now c.loop.w c.entry_from.new.w _ i.shape c.in_ok-entry_from.ensures.reads);
     }
 
@@ -83,8 +93,10 @@ returns-then-entry-high-clause-sum g c =
       at = (sums_range m c.args.low c.args.high (c.loop.total + e.value) _ _ _ _
           (looks_map _ _ _ IsAnyWord _ _ (IsTotal m c.args.low c.args.high (c.loop.total + e.value))
           (λ s h. total_high m s c.args.low c.args.high (e.key + 1) (c.loop.counter + 1) (c.loop.total + e.value)
-          (summed_more m s c.args.low c.args.high c.loop.least c.loop.counter c.loop.total h.0 e.key e.value h.1 i.from le) (omega (arith, c.if-entry-high.true)))
-          (looks_then _ _ _ IsAnyWord _ _ _ (IsNext m c.loop.least e.key e.value) i.looks (looks_from g.W.Words g.W.Shape.Shape c.args.w.now c.loop.w _ _ IsAnyWord _ i.shape next)))).at;
+          (summed_more m s c.args.low c.args.high c.loop.least c.loop.counter c.loop.total h.0 e.key e.value h.1 i.from
+          le) (omega (arith, c.if-entry-high.true)))
+          (looks_then _ _ _ IsAnyWord _ _ _ (IsNext m c.loop.least e.key e.value) i.looks
+          (looks_from g.W.Words g.W.Shape.Shape c.args.w.now c.loop.w _ _ IsAnyWord _ i.shape next)))).at;
     })
 
 pub returns-then-entry-high-clause-order : goal.returns-then-entry-high-clause-order
@@ -94,7 +106,8 @@ returns-then-entry-high-clause-order g c =
     let e = c.in-Some.entry in
     let next = rw c.in-Some.is at c.in_ok-entry_from.ensures.next in
     each_from g.W.Words g.W.Shape.Shape c.args.w.now _ _ (c.in_ok-entry_from.ensures.goes_on.shape ∙ i.shape)
-    (each_looked _ _ _ _ (looks_then _ _ _ IsAnyWord _ _ _ (IsNext m c.loop.least e.key e.value) i.looks (looks_from g.W.Words g.W.Shape.Shape c.args.w.now c.loop.w _ _ IsAnyWord _ i.shape next)) (HasMap (tree_part m))
+    (each_looked _ _ _ _ (looks_then _ _ _ IsAnyWord _ _ _ (IsNext m c.loop.least e.key e.value) i.looks
+    (looks_from g.W.Words g.W.Shape.Shape c.args.w.now c.loop.w _ _ IsAnyWord _ i.shape next)) (HasMap (tree_part m))
     (each_plain g.W.Words g.W.Shape.Shape _ _ c.requires.order))
 
 pub returns-then-entry-high-clause-frame : goal.returns-then-entry-high-clause-frame
@@ -103,7 +116,9 @@ returns-then-entry-high-clause-frame g c =
     let i = c.loop.invariant in
     let e = c.in-Some.entry in
     let next = rw c.in-Some.is at c.in_ok-entry_from.ensures.next in
-    looks_only g.W.Words g.W.Shape.Shape _ _ IsAnyWord _ (looks_then _ _ _ IsAnyWord _ _ _ (IsNext m c.loop.least e.key e.value) i.looks (looks_from g.W.Words g.W.Shape.Shape c.args.w.now c.loop.w _ _ IsAnyWord _ i.shape next))
+    looks_only g.W.Words g.W.Shape.Shape _ _ IsAnyWord _
+    (looks_then _ _ _ IsAnyWord _ _ _ (IsNext m c.loop.least e.key e.value) i.looks
+    (looks_from g.W.Words g.W.Shape.Shape c.args.w.now c.loop.w _ _ IsAnyWord _ i.shape next))
 
 pub returns-then-entry-high-clause-reads : goal.returns-then-entry-high-clause-reads
 returns-then-entry-high-clause-reads g c =
@@ -111,7 +126,8 @@ returns-then-entry-high-clause-reads g c =
     let i = c.loop.invariant in
     let next = rw c.in-Some.is at c.in_ok-entry_from.ensures.next in
     record {
-      at = reads_on m c.args.low c.args.high c.loop.least c.loop.counter c.loop.total _ _ _ _ _ i.looks (looks_from g.W.Words g.W.Shape.Shape c.args.w.now c.loop.w _ _ IsAnyWord _ i.shape next) i.from i.reads
+      at = reads_on m c.args.low c.args.high c.loop.least c.loop.counter c.loop.total _ _ _ _ _ i.looks
+          (looks_from g.W.Words g.W.Shape.Shape c.args.w.now c.loop.w _ _ IsAnyWord _ i.shape next) i.from i.reads
           (reads_from g.W.Words g.W.Shape.Shape c.args.w.now c.loop.w c.entry_from.new.w _ i.shape c.in_ok-entry_from.ensures.reads);
     }
 
@@ -138,7 +154,8 @@ loop-preserved g c =
       sound = goes.sound;
       from = omega (arith, i.from, from);
       bound = omega (arith, small, i.bound);
-      looks = looks_map _ _ _ IsAnyWord _ _ _ (λ s h. summed_more m s c.args.low c.args.high c.loop.least c.loop.counter c.loop.total h.0 e.key e.value h.1 i.from le)
+      looks = looks_map _ _ _ IsAnyWord _ _ _ (λ s h. summed_more m s c.args.low c.args.high c.loop.least c.loop.counter
+          c.loop.total h.0 e.key e.value h.1 i.from le)
           (looks_then _ _ _ IsAnyWord _ _ _ (IsNext m c.loop.least e.key e.value) i.looks looked);
       reads = reads_on m c.args.low c.args.high c.loop.least c.loop.counter c.loop.total _ _ _ _ _ i.looks looked i.from i.reads
           (reads_from g.W.Words g.W.Shape.Shape c.args.w.now c.loop.w c.entry_from.new.w _ i.shape c.in_ok-entry_from.ensures.reads);
@@ -150,14 +167,16 @@ returns-clause-sum g c =
     let i = c.loop.invariant in
     record {
       at = (sums_range m c.args.low c.args.high c.loop.total _ _ _ _
-          (looks_map _ _ _ IsAnyWord _ _ (IsTotal m c.args.low c.args.high c.loop.total) (λ s h. total_all m s c.args.low c.args.high c.loop.least c.loop.counter c.loop.total h (omega (arith, c.loop-test.false))) i.looks)).at;
+          (looks_map _ _ _ IsAnyWord _ _ (IsTotal m c.args.low c.args.high c.loop.total)
+          (λ s h. total_all m s c.args.low c.args.high c.loop.least c.loop.counter c.loop.total h (omega (arith, c.loop-test.false))) i.looks)).at;
     }
 
 pub returns-clause-order : goal.returns-clause-order
 returns-clause-order g c =
     let m = c.args.self.now in
     let i = c.loop.invariant in
-    each_from g.W.Words g.W.Shape.Shape c.args.w.now _ _ i.shape (each_looked _ _ _ _ i.looks (HasMap (tree_part m)) (each_plain g.W.Words g.W.Shape.Shape _ _ c.requires.order))
+    each_from g.W.Words g.W.Shape.Shape c.args.w.now _ _ i.shape (each_looked _ _ _ _ i.looks (HasMap (tree_part m))
+    (each_plain g.W.Words g.W.Shape.Shape _ _ c.requires.order))
 
 pub returns-clause-frame : goal.returns-clause-frame
 returns-clause-frame g c = looks_only g.W.Words g.W.Shape.Shape _ _ IsAnyWord _ c.loop.invariant.looks

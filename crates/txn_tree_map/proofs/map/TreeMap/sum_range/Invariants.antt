@@ -18,7 +18,9 @@ invariant-loop g l =
       sound : words.is_sound l.w;
       from : l.low ≤ l.least;
       bound : l.total ≤ l.counter * 2 ^ 64;
-      looks : Looks (g.W.Shape.Shape.word_count (words.shape l.fn.w)) (g.W.Shape.Shape.good (words.shape l.fn.w)) (words.trace l.fn.w) (words.trace l.w) IsAnyWord (IsSummed l.self l.low l.high l.least l.counter l.total);
+      looks : Looks (g.W.Shape.Shape.word_count (words.shape l.fn.w)) (g.W.Shape.Shape.good (words.shape l.fn.w))
+          (words.trace l.fn.w) (words.trace l.w) IsAnyWord (IsSummed l.self l.low l.high l.least l.counter l.total);
       reads : (s : List ℕ) → Fits (g.W.Shape.Shape.word_count (words.shape l.fn.w)) (g.W.Shape.Shape.good (words.shape l.fn.w)) (words.trace l.w) s
-          → AppendsReads (words.trace l.fn.w) (words.trace l.w) (MayReadRange (tree_part l.self) l.low l.high (after (words.trace l.fn.w) s) (after (words.trace l.w) s));
+          → AppendsReads (words.trace l.fn.w) (words.trace l.w)
+          (MayReadRange (tree_part l.self) l.low l.high (after (words.trace l.fn.w) s) (after (words.trace l.w) s));
     }

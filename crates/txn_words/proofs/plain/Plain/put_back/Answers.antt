@@ -6,7 +6,8 @@ use Rattle.txn_words.proofs.plain.Plain.put_back.Goals as goal
 
 pub at-a-requires : goal.at-a-requires
 at-a-requires g c =
-    let counts : length c.self.inside.undo.list ≡ count_writes c.args.self.now.trace = follows_noted _ _ _ _ _ _ c.self.invariant ∙ ap (λ (t : Trace). count_writes t) (ap trace_of c.self.view_is) in
+    let counts : length c.self.inside.undo.list ≡ count_writes c.args.self.now.trace =
+    follows_noted _ _ _ _ _ _ c.self.invariant ∙ ap (λ (t : Trace). count_writes t) (ap trace_of c.self.view_is) in
     omega (arith, counts, c.requires.place)
 
 pub put-requires : goal.put-requires

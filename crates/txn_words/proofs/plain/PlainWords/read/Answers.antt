@@ -16,7 +16,8 @@ invariant_of-self g c =
     let count : length fields.words.items ≡ g.S.Shape.word_count fields.shape = follows_count _ _ _ _ _ _ c.self.invariant in
     let same : g.S.Shape.word_count fields.shape ≡ g.S.Shape.word_count c.args.self.now.shape = ap g.S.Shape.word_count (ap shape_of c.self.view_is) in
     let within : c.args.a < length fields.words.items = omega (arith, count, same, c.requires.within) in
-    let found : slice_get fields.words.items c.args.a ≡ Some c.index-v.result.now = slice_get_read fields.words.items (length fields.words.items) _ _ refl within c.index-v.ensures in
+    let found : slice_get fields.words.items c.args.a ≡ Some c.index-v.result.now =
+    slice_get_read fields.words.items (length fields.words.items) _ _ refl within c.index-v.ensures in
     rw c.in-Ok.ensures.items (follows_read _ _ _ _ _ _ c.self.invariant c.args.a _ found)
 
 pub returns-in-Ok-clause-sound : goal.returns-in-Ok-clause-sound

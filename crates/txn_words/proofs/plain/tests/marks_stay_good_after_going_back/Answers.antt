@@ -19,5 +19,6 @@ pub back_to-requires-4-clause-mark : goal.back_to-requires-4-clause-mark
 back_to-requires-4-clause-mark g c =
     let here = begins_trans _ _ _ c.in_ok-back_to.ensures.begins c.in_ok-write.ensures.begins in
     let marked = subst (λ (t : Trace). Begins c.mark-first.new.self.trace t) (sym (ap trace_of c.mark-second.ensures.same)) here in
-    let later = begins_trans _ _ _ c.in_ok-write-2.ensures.begins (begins_trans _ _ _ c.in_ok-back_to-2.ensures.begins (begins_trans _ _ _ c.in_ok-write-3.ensures.begins c.in_ok-back_to-3.ensures.begins)) in
+    let later = begins_trans _ _ _ c.in_ok-write-2.ensures.begins (begins_trans _ _ _ c.in_ok-back_to-2.ensures.begins
+    (begins_trans _ _ _ c.in_ok-write-3.ensures.begins c.in_ok-back_to-3.ensures.begins)) in
     marked_stays _ _ _ _ c.mark-first.ensures.writes (ap trace_of c.mark-first.ensures.same) (begins_trans _ _ _ marked later)

@@ -7,7 +7,8 @@ use Rattle.word_table.proofs.Gathering.{fresh_passes}
 use Rattle.word_table.proofs.desk.Desk.new.Goals as goal
 
 pub of_words-requires : goal.of_words-requires
-of_words-requires g c = opening_sound (IsGood (g.S.Shape.word_count c.args.shape) (g.S.Shape.good c.args.shape)) c.args.n c.args.base.items c.as_slice.result.now (c.as_slice.ensures.value ∙ c.in_ok-words.ensures) c.requires.good
+of_words-requires g c = opening_sound (IsGood (g.S.Shape.word_count c.args.shape) (g.S.Shape.good c.args.shape))
+    c.args.n c.args.base.items c.as_slice.result.now (c.as_slice.ensures.value ∙ c.in_ok-words.ensures) c.requires.good
 
 pub returns-clause-all : goal.returns-clause-all
 returns-clause-all g c = let t = c.in_ok-table.table.shared in

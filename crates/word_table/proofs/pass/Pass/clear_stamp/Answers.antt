@@ -8,10 +8,16 @@ use Rattle.stamps_rule.proofs.Bounds.{restarts_bounded}
 use Rattle.word_table.proofs.pass.Pass.clear_stamp.Goals as goal
 
 pub returns-clause-taken : goal.returns-clause-taken
-returns-clause-taken g c = let p = c.self.inside in let t = c.store.ensures.took in
-    (t.0, taken_in (IsSound (IsGood (g.S.Shape.word_count c.args.table.now.key.shape) (g.S.Shape.good c.args.table.now.key.shape)) c.args.table.now.key.seats c.args.table.now.key.base.items) (λ j k. clear_stamp_action j) p.call.who 0 0 p.seat.me c.store.new.seat.me.0 p.seat.table_id c.args.self.now t.0 c.self.view_is c.self.invariant.call_is.who_is refl t.1.0)
+returns-clause-taken g c = let p = c.self.inside in let t = c.store.ensures.took in (
+  t.0,
+  taken_in (IsSound (IsGood (g.S.Shape.word_count c.args.table.now.key.shape)
+      (g.S.Shape.good c.args.table.now.key.shape)) c.args.table.now.key.seats c.args.table.now.key.base.items)
+      (λ j k. clear_stamp_action j) p.call.who 0 0 p.seat.me c.store.new.seat.me.0 p.seat.table_id c.args.self.now t.0
+      c.self.view_is c.self.invariant.call_is.who_is refl t.1.0,
+)
 
 pub returns-clause-bounded : goal.returns-clause-bounded
 returns-clause-bounded g c = let p = c.self.inside in let t = (returns-clause-taken g c).1 in
-    restarts_bounded c.args.table.now.key.seats c.args.table.now.key.base.items t.words t.views t.place (number c.args.self.now.view) c.args.self.now.view t.holds.locks t.holds.stamps t.knows
+    restarts_bounded c.args.table.now.key.seats c.args.table.now.key.base.items t.words t.views t.place
+    (number c.args.self.now.view) c.args.self.now.view t.holds.locks t.holds.stamps t.knows
     (own_number p.call.who p.seat.me.0 p.seat.table_id c.args.self.now c.self.view_is c.self.invariant.call_is.who_is)

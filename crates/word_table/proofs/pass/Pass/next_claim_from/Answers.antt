@@ -6,7 +6,8 @@ use Rattle.word_table.proofs.Passes.{least_near}
 use Rattle.word_table.proofs.pass.Pass.next_claim_from.Goals as goal
 
 pub returns-clause-least : goal.returns-clause-least
-returns-clause-least g c = subst (λ (p : PassView). IsLeast (λ k. (c.args.from ≤ k) × HasClaim p.view k) c.least_from.result) c.self.view_is (c.least_from.ensures c.self.inside.seat.me.0.claims c.self.invariant.locks_are.claims_are)
+returns-clause-least g c = subst (λ (p : PassView). IsLeast (λ k. (c.args.from ≤ k)
+    × HasClaim p.view k) c.least_from.result) c.self.view_is (c.least_from.ensures c.self.inside.seat.me.0.claims c.self.invariant.locks_are.claims_are)
 
 pub returns-clause-lock : goal.returns-clause-lock
 returns-clause-lock g c = let v = c.self.inside.seat.me.0 in let i = c.self.invariant.locks_are in

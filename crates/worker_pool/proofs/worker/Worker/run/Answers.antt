@@ -16,7 +16,8 @@ loop-init g c =
       end = s.end;
       dealt = refl;
       who = refl;
-      made = made_nothing c.args.shop.now.desk.now c.args.shop.now.input.now (number_of w) w.share.pass w.share.done.items s.of_table s.idle s.who_is s.no_call s.nothing_seen s.nothing_done;
+      made = made_nothing c.args.shop.now.desk.now c.args.shop.now.input.now (number_of w) w.share.pass
+          w.share.done.items s.of_table s.idle s.who_is s.no_call s.nothing_seen s.nothing_done;
       run = λ few. ran_nothing c.args.shop.now.input.now (had w.taker) 0 s.unused.none w.share.done.items s.nothing_done;
       count = omega (arith, ap (λ l. length l) s.nothing_done);
     }
@@ -37,7 +38,8 @@ loop-preserved g c =
       end = subst (λ k. IsEndOf c.args.shop.now.thieves.now k c.next-in-loop.new.self) i.end.seat_is n.end;
       dealt = n.dealt ∙ i.dealt;
       who = e.who ∙ i.who;
-      made = subst (λ k. HasMade c.args.shop.now.desk.now c.args.shop.now.input.now k c.run_caller.new.share.pass c.run_caller.new.share.done.items) same e.made;
+      made = subst (λ k. HasMade c.args.shop.now.desk.now c.args.shop.now.input.now k c.run_caller.new.share.pass
+          c.run_caller.new.share.done.items) same e.made;
       run = e.run (had c.loop.self.taker) (had c.next-in-loop.new.self) n.some i.run;
       count = omega (arith, e.count, i.count, n.count);
     }
