@@ -1,4 +1,4 @@
-pub mod Sums
-pub mod Transferring
-pub mod Passing
-pub mod Leaving
+-- how many entries a transaction adds, and the words that it found
+pub mod Entries
+-- what all tellers did together
+pub mod Serving

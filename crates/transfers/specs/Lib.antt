@@ -1,2 +1,1 @@
-pub mod Moving
-pub mod Inner
+pub mod Telling

@@ -1,17 +1,16 @@
-//! An example: transfers among the words of a vault, as jobs, and lists of them on threads over one shared table.
+//! An example: transfers and audits among the words of a vault, on threads over one shared table.
 //!
-//! `Vault` says which word lists are good: those with a certain sum. `Transfer` is the job. `run_transfers` opens a
-//! table over words of one's own, runs each list on a thread of its own, and closes the table; the words that it leaves
-//! have the sum of those that it began with, whatever the threads did when.
+//! The jobs stand in `transfer_jobs`. A [`Teller`] is what one thread does: it makes the moves of a list, and audits the
+//! vault after each. [`run_transfers`] opens a table over words of one's own, runs each list by a teller on a thread of its
+//! own, and closes the table; the words that it leaves have the sum of those that it began with, and each audit told it,
+//! whatever the threads did when.
 #![tactic(auto)]
 
 pub mod run;
-pub mod transfer;
-pub mod vault;
+pub mod teller;
 
-pub use run::{Move, run_transfers};
-pub use transfer::Transfer;
-pub use vault::Vault;
+pub use run::run_transfers;
+pub use teller::{Move, Teller};
 
 #[cfg(test)]
 mod tests;

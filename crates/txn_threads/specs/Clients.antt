@@ -30,6 +30,7 @@ module _ {S C : Type 0} (does : DeskView S → C → C → PassView → PassView
     pub seats_are : desk.seats ≡ closed.seats
     pub shape_is : desk.shape ≡ closed.shape
     pub passes : List PassView
+    pub left : length new ≡ length old
     pub count : length passes ≡ length old
     pub each : (k : ℕ) (c : C) (p : PassView) → k < length old → HasWorked desk k (get_or old k c) (get_or new k c) (get_or passes k p)
     pub seen : (p : PassView) → IsIn p passes → HasSeenItsOwn p closed.history

@@ -155,7 +155,6 @@ pub fn run_clients<C: Client, R: Threads + Wait + Sync>(
         (IsGood (C.Shape.word_count shape) (C.Shape.good shape))
         (length clients.items) words.items ended.closed.history) }
     // Each client did its work.
-    ensures count { IfOk result (λ ended. length ended.clients.items ≡ length clients.items) }
     ensures worked { IfOk result (λ ended.
         HaveWorked C.does ended.closed clients.items ended.clients.items) }
 {

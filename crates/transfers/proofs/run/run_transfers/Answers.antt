@@ -1,23 +1,29 @@
-use Rattle.std.proofs.Common.{◌≡◌, All, List, length, refl, sym, subst, arith}
-use Rattle.word_table.specs.Closing.{AreAllPasses}
-use Rattle.word_table.specs.Copies.{PassView}
-use Rattle.word_table.specs.Desks.{DeskView}
-use Rattle.transfers.specs.declared.vault.Vault.{Vault}
-use Rattle.transfers.specs.Inner.Passes.{IsFresh}
-use Rattle.transfers.proofs.Passing.{all_fresh, written_back_all}
+use Rattle.std.proofs.Common.{◌≡◌, ◌*◌, ◌≤◌, get_or, map, length, sum, sym, ap, ◌∙◌, subst, arith, rules}
+use Rattle.std.proofs.lemmas.List.{length-map}
+use Rattle.std.proofs.lemmas.Result.{IfOk-weaker}
+use Rattle.std.proofs.Math.ListN.{get_or-map}
+use Rattle.word_table.specs.declared.limits.TheConstants.{LAST_CALL}
+use Rattle.transfer_jobs.specs.declared.vault.Vault.{Vault}
+use Rattle.transfers.specs.Telling.{AreServed}
+use Rattle.transfers.proofs.Serving.{moves_of, items_of, all_served}
 use Rattle.transfers.proofs.run.run_transfers.Goals as goal
 
-pub run_lists-requires-clause-fresh : goal.run_lists-requires-clause-fresh
-run_lists-requires-clause-fresh g c = λ _ _.
-    let desk : DeskView Vault = c.in_ok-desk.desk in
-    subst (λ (l : List PassView). All (IsFresh desk) l) (sym c.as_mut_slice.ensures.value)
-    (all_fresh desk _ _ c.in_ok-desk.passes.items c.in_ok-desk.ensures.count c.in_ok-desk.ensures.passes
-    (λ j. record { of_table = refl; idle = refl; no_call = refl }))
+pub run_clients-requires-clause-ready : goal.run_clients-requires-clause-ready
+run_clients-requires-clause-ready g c κs within = λ k d lt.
+    let made = c.in_ok-tellers.ensures in
+    let tellers = c.in_ok-tellers.tellers.items in
+    let new = made.new k d lt in
+    let many : length c.args.lists.items ≡ length tellers = ap length (sym made.moves) ∙ length-map tellers moves_of in
+    let its = ap (λ l. get_or l k d.moves) (sym made.moves) ∙ get_or-map moves_of tellers k d in
+    ((new.0, subst (λ m. 2 * length (items_of m) ≤ LAST_CALL) its (c.requires.room k d.moves (omega (arith, lt, many)))), new.1)
 
-pub close-requires-clause-all : goal.close-requires-clause-all
-close-requires-clause-all g c =
-    let desk : DeskView Vault = c.in_ok-desk.desk in
-    let opened : AreAllPasses desk.table desk.seats c.as_mut_slice.result.now =
-    subst (λ (l : List PassView). AreAllPasses desk.table desk.seats l) (sym c.as_mut_slice.ensures.value) c.in_ok-desk.ensures.all in
-    let count : length c.run_lists.new.passes ≡ c.in_ok-desk.passes.len = omega (arith, c.run_lists.auto.passes, c.as_mut_slice.ensures.len) in
-    written_back_all desk desk.seats c.in_ok-desk.passes.len c.run_lists.new.passes _ count (c.in_ok-run_lists.ensures.all desk.seats opened)
+pub returns-clause-served : goal.returns-clause-served
+returns-clause-served g c =
+    let made = c.in_ok-tellers.ensures in
+    let vault : Vault = record { words = c.len.result; total = c.sum.result } in
+    let lists = map items_of c.args.lists.items in
+    let total : vault.total ≡ sum c.args.accounts.items = search rules in
+    IfOk-weaker c.run_clients.result _ (λ ended. AreServed (sum c.args.accounts.items) ended.closed.history lists ended.clients.items)
+    (λ ended worked. subst (λ n. AreServed n ended.closed.history lists ended.clients.items) total
+    (all_served vault c.args.lists.items c.in_ok-tellers.tellers.items ended.clients.items ended.closed made.moves made.new worked))
+    c.run_clients.ensures.worked

@@ -33,6 +33,7 @@ returns-clause-worked g c =
       seats_are = sym closed.desk.1;
       shape_is = sym closed.desk.2;
       passes = passes;
+      left = served.left;
       count = served.count;
       each = served.each;
       seen = λ p is. seen_its_own desk passes served.of_desk c.in-Ok.closed.history closed.owners p is (closed.seen p is);

@@ -1,0 +1,34 @@
+//! The sum of all words of a vault.
+
+ghost use Rattle.transfer_jobs.specs.Moving.{Tells};
+
+use crate::vault::Vault;
+use txn_words::{Job, Stop, Verdict, Words};
+
+/// Tells the sum of all words, and changes nothing.
+#[derive(Clone, Copy, Debug, PartialEq, Eq)]
+pub struct Audit {
+    pub vault: Vault,
+}
+
+impl Job for Audit {
+    type Shape = Vault;
+
+    type Answer = u64;
+
+    ghost shape = { λ job. job.vault };
+
+    ghost means = { λ _ s kept sum t. Tells s kept sum t };
+
+    fn tag(&self) -> u64 {
+        1
+    }
+
+    fn run<W: Words<Shape = Vault>>(&self, w: &mut W) -> Result<Verdict<u64>, Stop> {
+        let mut total = 0;
+        for place in 0..self.vault.words {
+            total += w.read(place)?;
+        }
+        Ok(Verdict::Keep(total))
+    }
+}

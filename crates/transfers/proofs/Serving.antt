@@ -1,0 +1,63 @@
+-- What all tellers did together.
+use Rattle.std.proofs.Common.{◌≡◌, ℕ, ◌+◌, ◌*◌, ◌<◌, [], ◌∷◌, All, List, Vec, Global, map, length, get_or, slice_index, sum_by, sym, ap, ◌∙◌, subst, arith}
+use Rattle.std.proofs.lemmas.List.{get_or-map, length-map}
+use Rattle.std.proofs.lemmas.List.Sums.{sum_by-append}
+use Rattle.std.proofs.Math.ListN.{get_or-map as get_or_map}
+use Rattle.std.proofs.lemmas.Option.{slice_get-get_or}
+use Rattle.history_model.specs.declared.entry.Entry.{Entry}
+use Rattle.history_model.specs.Legal.{IsIn}
+use Rattle.history_model.specs.Views.{number}
+use Rattle.word_table.specs.Closing.{ClosedView}
+use Rattle.word_table.specs.Copies.{PassView}
+use Rattle.word_table.specs.Desks.{DeskView}
+use Rattle.txn_threads.specs.Clients.{HasSeenItsOwn, HaveWorked}
+use Rattle.transfer_jobs.specs.declared.vault.Vault.{Vault}
+use Rattle.transfers.specs.declared.teller.Move.{Move}
+use Rattle.transfers.specs.declared.teller.Teller.{Teller}
+use Rattle.transfers.specs.Telling.{entries_of, one_by, HasMade, AreServed}
+use Rattle.transfers.proofs.Entries.{others_count}
+
+-- a pass has seen all entries of its own
+own_entries : (k : ℕ) (pass : PassView) (history : List Entry) → pass.view.who ≡ k ∷ [] → HasSeenItsOwn pass history
+    → entries_of k history ≡ entries_of k pass.view.seen
+own_entries k pass history who saw =
+    let whole : entries_of k history ≡ entries_of k pass.view.seen + entries_of k saw.rest =
+    ap (sum_by (one_by k)) saw.seen ∙ sum_by-append (one_by k) pass.view.seen saw.rest in
+    let none : entries_of k saw.rest ≡ 0 = others_count k saw.rest (λ e is same. saw.by_others e is (ap (λ n. n ∷ []) same ∙ sym who)) in
+    omega (arith, whole, none)
+
+-- the moves of a teller
+abbrev pub moves_of : Teller → Vec Move Global
+moves_of teller = teller.moves
+
+abbrev pub items_of : Vec Move Global → List Move
+items_of moves = moves.items
+
+module _ (vault : Vault) (lists : List (Vec Move Global)) (tellers new : List Teller) (closed : ClosedView Vault)
+    (moves_are : map moves_of tellers ≡ lists) (vaults : All (λ (t : Teller). (t.told.items ≡ []) × (t.vault ≡ vault)) tellers)
+    (worked : HaveWorked (λ (desk : DeskView Vault) (old now : Teller) (before after : PassView). HasMade old now after) closed tellers new) where
+  many : length lists ≡ length tellers
+  many = ap length (sym moves_are) ∙ length-map tellers moves_of
+
+  pub all_served : AreServed vault.total closed.history (map items_of lists) new
+  all_served = record {
+    count = worked.left ∙ sym many ∙ sym (length-map lists items_of);
+    each = λ k moves teller lt.
+        let within : k < length tellers = omega (arith, lt, length-map lists items_of, many) in
+        let some : PassView = worked.longest.0 in
+        let old : Teller = get_or tellers k teller in
+        let now : Teller = get_or new k teller in
+        let after : PassView = get_or worked.passes k some in
+        let w = worked.each k teller some within in
+        let list_is : get_or (map items_of lists) k moves ≡ old.moves.items =
+        get_or-map items_of lists k teller.moves moves (omega (arith, within, many))
+        ∙ ap (λ l. items_of (get_or l k teller.moves)) (sym moves_are) ∙ ap items_of (get_or_map moves_of tellers k teller) in
+        let number_is : number after.view ≡ k = ap (λ l. slice_index l 0) w.who_is in
+        let here : IsIn after worked.passes = (k, slice_get-get_or worked.passes k some (omega (arith, within, worked.count))) in
+        record {
+          entries = own_entries k after closed.history w.who_is (worked.seen after here) ∙ ap (λ n. entries_of n after.view.seen) (sym number_is)
+              ∙ w.done.made.entries ∙ ap (λ l. 2 * length l) (sym list_is);
+          audits = w.done.made.audits ∙ ap length (sym list_is);
+          tell = subst (λ (v : Vault). All (λ sum. sum ≡ v.total) now.told.items) (vaults k teller within).1 w.done.made.tell;
+        };
+  }
