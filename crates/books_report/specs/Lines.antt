@@ -1,4 +1,5 @@
 -- What the code's lines and replies say of the scripts that were run.
+use Rattle.std.specs.Borrow.{Bor}
 use Rattle.std.specs.Prelude.{List, map}
 use Rattle.std.specs.List.{zip}
 use Rattle.books_model.specs.declared.reply.Reply.{Reply}
@@ -13,6 +14,10 @@ place_of l = record { caller = l.caller; index = l.index }
 -- a line and its reply
 abbrev pub ran_of : Line → Reply → Ran
 ran_of l answer = record { place = place_of l; restarts = l.restarts; reply = answer }
+
+-- the replies that are lent
+abbrev pub lent : List (Bor Reply) → List Reply
+lent replies = map (λ reply. reply.now) replies
 
 -- lines, each with the reply that stands beside it
 abbrev pub scripts_of : List Line → List Reply → List Ran

@@ -6,7 +6,7 @@ ghost use Rattle.script_reader.specs.declared.words.TheConstants.{SPACE};
 ghost use Rattle.script_reader.specs.Text.{number};
 ghost use Rattle.script_reader.specs.Journal.{IsPlace};
 ghost use Rattle.books_report.specs.Output.{journal_line, journal_lines, text_of};
-ghost use Rattle.books_report.specs.Lines.{place_of, ran_of, scripts_of};
+ghost use Rattle.books_report.specs.Lines.{lent, place_of, ran_of, scripts_of};
 
 use crate::books::write_books;
 use crate::decimal::{push_next, push_number};
@@ -56,12 +56,12 @@ fn write_lines(
     text: &mut String,
     input: &Input,
     lines: &[Line],
-    replies: &[Reply],
+    replies: &[&Reply],
 ) -> Result<(), AllocError>
     requires beside { length lines.now ≡ length replies.now }
     requires places { All (λ l. IsPlace input.now (place_of l)) lines.now }
     ensures { OnOk result (string_bytes text.new ≡ string_bytes text.old
-        ++ journal_lines input.now 1 (scripts_of lines.now replies.now)) }
+        ++ journal_lines input.now 1 (scripts_of lines.now (lent replies.now))) }
 {
     let mut serial = 1;
     for (line, reply) in lines.iter().zip(replies) {
@@ -77,13 +77,13 @@ pub fn journal_text(
     alloc: Global,
     input: &Input,
     lines: &[Line],
-    replies: &[Reply],
+    replies: &[&Reply],
     closing: &Books,
 ) -> Result<Vec<u8>, OutOfMemory>
     requires beside { length lines.now ≡ length replies.now }
     requires places { All (λ l. IsPlace input.now (place_of l)) lines.now }
     ensures { IfOk result (λ text. text.items
-        ≡ text_of input.now (scripts_of lines.now replies.now) closing.now) }
+        ≡ text_of input.now (scripts_of lines.now (lent replies.now)) closing.now) }
 {
     let mut text = String::from_str(alloc, "journal\n")?;
     write_lines(&mut text, input, lines, replies)?;

@@ -128,7 +128,8 @@ fn journal_of(
             restarts: 0,
         })?;
     }
-    journal_text(alloc, input, &lines, replies, closing)
+    let lent: Vec<&Reply> = replies.iter().collect(alloc)?;
+    journal_text(alloc, input, &lines, &lent, closing)
 }
 
 // The same, before the full books.

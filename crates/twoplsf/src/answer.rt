@@ -2,6 +2,7 @@
 
 ghost use Rattle.std.specs.Prelude.{◌≡◌, map, IfOk};
 ghost use Rattle.books_model.specs.Ranges.{IsWithin};
+ghost use Rattle.books_report.specs.Lines.{lent};
 ghost use Rattle.books_report.specs.Output.{output_of};
 ghost use Rattle.script_reader.specs.declared.limits.TheConstants.{MOST_WORKERS};
 ghost use Rattle.twoplsf.specs.Answer.{IsAnswerTo, day_of, refused_line, status_of, text_of};
@@ -74,13 +75,13 @@ fn lines_of(alloc: Global, done: &[Done]) -> Result<Vec<Line>, OutOfMemory>
     Ok(lines)
 }
 
-// The replies beside them.
-fn replies_of(alloc: Global, done: &[Done]) -> Result<Vec<Reply>, OutOfMemory>
-    ensures { IfOk result (λ replies. replies.items ≡ map (λ item. item.reply) done.now) }
+// The replies beside them, which the day lends.
+fn replies_of(alloc: Global, done: &[Done]) -> Result<Vec<&Reply>, OutOfMemory>
+    ensures { IfOk result (λ replies. lent replies.items ≡ map (λ item. item.reply) done.now) }
 {
     let mut replies = Vec::new(alloc);
     for item in done {
-        replies.push(item.reply.copy(alloc)?)?;
+        replies.push(&item.reply)?;
     }
     Ok(replies)
 }

@@ -18,6 +18,8 @@ pub mod Opening
 pub mod Rooms
 -- what a loop over a list's items has given, and what is left
 pub mod Yielded
+-- workers that stand apart: what is so of their list, and of the list of the workers
+pub mod Apart
 -- new passes, one after another, and the workers that get them
 pub mod Seating
 -- the serials of one seat's entries, and of all seats'

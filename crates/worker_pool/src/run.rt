@@ -2,6 +2,7 @@
 
 ghost use Rattle.std.specs.Prelude.{ℕ, ◌≡◌, ◌<◌, ◌≤◌, ◌+◌, ◌*◌, ◌++◌, ◌∷◌, [], length, map, flat_map, All, false, IfOk, OnOk};
 ghost use Rattle.std.specs.List.{range_with_len};
+ghost use Rattle.crossbeam_utils.specs.Padded.{padded_value};
 ghost use Rattle.history_model.specs.Fitting.{IsGood};
 ghost use Rattle.history_model.specs.Histories.{replay};
 ghost use Rattle.history_model.specs.Legal.{IsLegalHistory};
@@ -14,7 +15,7 @@ ghost use Rattle.worker_pool.specs.Days.{AreAllNew, AreCallersWhole, IsDay};
 ghost use Rattle.worker_pool.specs.Inner.Dealing.{AreDealtInTurn, AreShown, IsFree, IsNewRow};
 ghost use Rattle.worker_pool.specs.Inner.Makers.{HasMade, RunsEach};
 ghost use Rattle.worker_pool.specs.Inner.Takers.{dealt_to, IsDealtOut};
-ghost use Rattle.worker_pool.specs.Inner.Workers.{number_of, seat_of, AreAllDone, FitTogether, HasEnded, IsSeated};
+ghost use Rattle.worker_pool.specs.Inner.Workers.{number_of, seat_of, workers_of, AreAllDone, FitTogether, HasEnded, IsSeated};
 
 use crate::dealing::{Deques, deal_out};
 use crate::done::{DayEnd, Done};
@@ -24,6 +25,7 @@ use crate::taker::Taker;
 use crate::worker::{Share, Worker, run_caller};
 use crate::workshop::Workshop;
 use books_model::laws::refused_changes_nothing;
+use crossbeam_utils::CachePadded;
 use io_ends::OutOfMemory;
 use script_reader::Input;
 use std::alloc::Global;
@@ -35,12 +37,14 @@ use word_table::{Desk, Pass};
 use worker_gate::Gate;
 
 // A worker for each pass, in their order: each gets the deque of its number, and a row of passes.
+// They stand apart: each writes what it has at every step, and a cache line that two of them shared
+// would go to and fro between their threads.
 fn seat_workers<R: Wait, G: Gate>(
     shop: &Workshop<R, G>,
     passes: Vec<Pass<BooksShape>>,
     mut owners: Vec<Owner>,
     mut rows: Vec<Vec<DequePass>>,
-) -> Result<Vec<Worker>, OutOfMemory>
+) -> Result<Vec<CachePadded<Worker>>, OutOfMemory>
     requires passes { AreAllNew shop.now.desk.now passes.items }
     requires count { (length owners.items ≡ length passes.items)
         × (length rows.items ≡ length passes.items) }
@@ -49,11 +53,11 @@ fn seat_workers<R: Wait, G: Gate>(
     requires free { All (IsFree (length passes.items)) owners.items }
     requires rows { All (λ row. IsNewRow owners.items row.items) rows.items }
     ensures seated { IfOk result (λ workers.
-        All (IsSeated shop.now.thieves.now shop.now.desk.now) workers.items) }
+        All (IsSeated shop.now.thieves.now shop.now.desk.now) (workers_of workers.items)) }
     ensures numbers { IfOk result (λ workers.
-        map number_of workers.items ≡ range_with_len 0 shop.now.desk.now.seats) }
+        map number_of (workers_of workers.items) ≡ range_with_len 0 shop.now.desk.now.seats) }
     ensures owners { IfOk result (λ workers.
-        map (λ worker. worker.taker.own) workers.items ≡ owners.items) }
+        map (λ worker. worker.taker.own) (workers_of workers.items) ≡ owners.items) }
 {
     let mut workers = Vec::new(shop.alloc);
     // They are taken from the end.
@@ -65,7 +69,7 @@ fn seat_workers<R: Wait, G: Gate>(
         let Some(row) = rows.pop() else {
             unreachable!()
         };
-        workers.push(Worker {
+        workers.push(CachePadded::new(Worker {
             taker: Taker {
                 own,
                 passes: row,
@@ -77,33 +81,40 @@ fn seat_workers<R: Wait, G: Gate>(
                 done: Vec::new(shop.alloc),
             },
             failed: false,
-        })?;
+        }))?;
     }
     Ok(workers)
 }
 
 // Each worker on a thread of its own.
-fn work_all<R: Threads + Wait + Sync, G: Gate>(shop: &Workshop<R, G>, workers: &mut [Worker])
+fn work_all<R: Threads + Wait + Sync, G: Gate>(
+    shop: &Workshop<R, G>,
+    workers: &mut [CachePadded<Worker>],
+)
     requires some { 0 < length workers.old }
     requires fit { FitTogether shop.now.desk.now shop.now.shape shop.now.input.now }
-    requires seated { All (IsSeated shop.now.thieves.now shop.now.desk.now) workers.old }
+    requires seated { All (IsSeated shop.now.thieves.now shop.now.desk.now)
+        (workers_of workers.old) }
     ensures ended { All (HasEnded shop.now.thieves.now shop.now.desk.now shop.now.input.now)
-        workers.new }
-    ensures numbers { map number_of workers.new ≡ map number_of workers.old }
-    ensures dealt { map (λ worker. dealt_to worker.taker) workers.new
-        ≡ map (λ worker. dealt_to worker.taker) workers.old }
+        (workers_of workers.new) }
+    ensures numbers { map number_of (workers_of workers.new)
+        ≡ map number_of (workers_of workers.old) }
+    ensures dealt { map (λ worker. dealt_to worker.taker) (workers_of workers.new)
+        ≡ map (λ worker. dealt_to worker.taker) (workers_of workers.old) }
 {
     thread::for_each_mut(
         shop.rt,
         workers,
         workers.len(),
-        &|_, worker: &mut Worker|
+        &|_, worker: &mut CachePadded<Worker>|
             requires { FitTogether shop.now.desk.now shop.now.shape shop.now.input.now
-                × IsSeated shop.now.thieves.now shop.now.desk.now worker.now }
+                × IsSeated shop.now.thieves.now shop.now.desk.now (padded_value worker.now) }
             ensures { HasEnded shop.entry.now.thieves.now shop.entry.now.desk.now
-                shop.entry.now.input.now worker.exit.now
-                × (number_of worker.exit.now ≡ number_of worker.entry.now)
-                × (dealt_to worker.exit.now.taker ≡ dealt_to worker.entry.now.taker) }
+                shop.entry.now.input.now (padded_value worker.exit.now)
+                × (number_of (padded_value worker.exit.now)
+                ≡ number_of (padded_value worker.entry.now))
+                × (dealt_to (padded_value worker.exit.now).taker
+                ≡ dealt_to (padded_value worker.entry.now).taker) }
         { worker.work(shop) },
     );
 }
@@ -147,14 +158,15 @@ fn add_worker(worker: Worker, all: &mut Leavings) -> Result<(), OutOfMemory>
 }
 
 // What all workers leave, unless one of them found no memory.
-fn gather(alloc: Global, workers: Vec<Worker>) -> Result<Leavings, OutOfMemory>
-    ensures none_failed { IfOk result (λ _. All (λ worker. worker.failed ≡ false) workers.items) }
+fn gather(alloc: Global, workers: Vec<CachePadded<Worker>>) -> Result<Leavings, OutOfMemory>
+    ensures none_failed { IfOk result (λ _.
+        All (λ worker. worker.failed ≡ false) (workers_of workers.items)) }
     ensures owners { IfOk result (λ all.
-        all.owners.items ≡ map (λ worker. worker.taker.own) workers.items) }
+        all.owners.items ≡ map (λ worker. worker.taker.own) (workers_of workers.items)) }
     ensures rows { IfOk result (λ all.
-        all.rows.items ≡ map (λ worker. worker.taker.passes) workers.items) }
+        all.rows.items ≡ map (λ worker. worker.taker.passes) (workers_of workers.items)) }
     ensures shares { IfOk result (λ all.
-        all.shares.items ≡ map (λ worker. worker.share) workers.items) }
+        all.shares.items ≡ map (λ worker. worker.share) (workers_of workers.items)) }
 {
     let mut all = Leavings {
         owners: Vec::new(alloc),
@@ -162,7 +174,7 @@ fn gather(alloc: Global, workers: Vec<Worker>) -> Result<Leavings, OutOfMemory>
         shares: Vec::new(alloc),
     };
     for worker in workers {
-        add_worker(worker, &mut all)?;
+        add_worker(worker.into_inner(), &mut all)?;
     }
     Ok(all)
 }
@@ -194,17 +206,18 @@ fn run_left<R: Wait, G: Gate>(
 // What no worker took is run by the calling thread, with the first pass.
 fn last_round<R: Wait, G: Gate>(
     shop: &Workshop<R, G>,
-    workers: Vec<Worker>,
+    workers: Vec<CachePadded<Worker>>,
     mut left: Vec<u32>,
 ) -> Result<Vec<Share>, OutOfMemory>
-    requires some { 0 < length workers.items }
+    requires some { 0 < length (workers_of workers.items) }
     requires fit { FitTogether shop.now.desk.now shop.now.shape shop.now.input.now }
     requires ended { All (HasEnded shop.now.thieves.now shop.now.desk.now shop.now.input.now)
-        workers.items }
-    requires numbers { map number_of workers.items ≡ range_with_len 0 shop.now.desk.now.seats }
-    requires thieves { length shop.now.thieves.now ≡ length workers.items }
+        (workers_of workers.items) }
+    requires numbers { map number_of (workers_of workers.items)
+        ≡ range_with_len 0 shop.now.desk.now.seats }
+    requires thieves { length shop.now.thieves.now ≡ length (workers_of workers.items) }
     requires dealt { IsDealtOut (length shop.now.input.now.callers)
-        (map (λ worker. dealt_to worker.taker) workers.items) left.items }
+        (map (λ worker. dealt_to worker.taker) (workers_of workers.items)) left.items }
     ensures { IfOk result (λ shares.
         AreAllDone shop.now.desk.now shop.now.input.now shares.items) }
 {

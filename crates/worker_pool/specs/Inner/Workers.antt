@@ -1,6 +1,8 @@
 -- A worker before its thread begins, and after it has ended; and what all passes ran.
 use Rattle.std.specs.Prelude.{◌≡◌, ℕ, ◌*◌, ◌≤◌, List, [], ◌∷◌, length, map, sum_by, All, false}
 use Rattle.std.specs.List.{range_with_len}
+use Rattle.crossbeam_utils.specs.declared.cache_padded.CachePadded.{CachePadded}
+use Rattle.crossbeam_utils.specs.Padded.{padded_value}
 use Rattle.history_model.specs.declared.view.Phase.TheVariants.{Idle}
 use Rattle.history_model.specs.Views.{number}
 use Rattle.word_table.specs.Desks.{DeskView}
@@ -20,6 +22,10 @@ seat_of share = number share.pass.view
 
 abbrev pub number_of : Worker → ℕ
 number_of worker = seat_of worker.share
+
+-- the workers of a list in which they stand apart
+abbrev pub workers_of : List (CachePadded Worker) → List Worker
+workers_of apart = map padded_value apart
 
 -- what all workers share fits together: the table is for books of the input's sizes
 pub record FitTogether (desk : DeskView BooksShape) (shape : BooksShape) (input : ClearingInput) : Type 0 where

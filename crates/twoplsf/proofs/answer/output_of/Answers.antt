@@ -1,7 +1,7 @@
 use Rattle.std.proofs.Common.{All, List, map, ap, ◌∙◌, subst, sym}
 use Rattle.std.proofs.lemmas.Result.{IfOk-weaker}
 use Rattle.script_reader.specs.Journal.{IsPlace}
-use Rattle.books_report.specs.Lines.{place_of}
+use Rattle.books_report.specs.Lines.{lent, place_of}
 use Rattle.books_report.specs.declared.line.Line.{Line}
 use Rattle.worker_pool.specs.declared.done.Done.{Done}
 use Rattle.twoplsf.specs.Day.{line_of}
@@ -18,8 +18,8 @@ journal_text-requires-clause-places c =
 pub returns : goal.returns
 returns c =
     let lines_are = c.deref-3.ensures.value ∙ c.in_ok-lines.ensures ∙ ap (map line_of) c.deref.ensures.value in
-    let replies_are = c.deref-4.ensures.value ∙ c.in_ok-replies.ensures ∙ ap (map (λ (item : Done). item.reply)) c.deref-2.ensures.value in
+    let replies_are = ap lent c.deref-4.ensures.value ∙ c.in_ok-replies.ensures ∙ ap (map (λ (item : Done). item.reply)) c.deref-2.ensures.value in
     IfOk-weaker c.journal_text.result _ _
     (λ text told. text_is c.args.input.now c.args.workers c.args.day.now c.requires.day text.items c.deref-3.result.now
-    c.deref-4.result.now c.args.closing.now lines_are replies_are c.requires.closing told)
+    (lent c.deref-4.result.now) c.args.closing.now lines_are replies_are c.requires.closing told)
     c.journal_text.ensures
