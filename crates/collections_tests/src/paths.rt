@@ -7,7 +7,6 @@
 //! the right, from the least one.
 
 ghost use Rattle.std.specs.Prelude.{◌≡◌, [], None, IfOk, OnOk};
-ghost use Rattle.std.specs.FinMap.{empty};
 ghost use Rattle.txn_words.specs.Plainly.{IsSoundPlain};
 ghost use Rattle.txn_words.specs.Calls.{IsReady, InEachState};
 ghost use Rattle.txn_alloc.specs.EntryMaps.{HasMap, HasMapApart};
@@ -24,19 +23,18 @@ use txn_books::build;
 use txn_tree_map::TreeMap;
 use txn_words::{Plain, Stop, Words};
 
-/// Words of an empty map with room for 601 entries.
+/// Words of a map with room for 601 entries.
 #[derive(Clone, Copy)]
 struct RoomForPaths;
 
 impl Shape for RoomForPaths {
-    ghost use Rattle.std.specs.Prelude.{◌≡◌};
-    ghost use Rattle.std.specs.FinMap.{empty};
     ghost use Rattle.txn_alloc.specs.EntryMaps.{HasMapApart};
     ghost use Rattle.txn_tree_map.specs.Trees.{tree_part};
 
     ghost word_count = { λ _. 2681 };
 
-    ghost good = { λ _ words. (map : HasMapApart (tree_part (record { root = 0; arena = record { heads = 1; first = 277; blocks = 601 } })) words) × (map.entries ≡ empty) };
+    ghost good = { λ _ words. HasMapApart
+        (tree_part (record { root = 0; arena = record { heads = 1; first = 277; blocks = 601 } })) words };
 }
 
 const MAP: TreeMap = TreeMap {
@@ -52,8 +50,7 @@ const MAP: TreeMap = TreeMap {
 fn empty_map(alloc: Global) -> Result<Plain<RoomForPaths>, OutOfMemory>
     ensures trace { IfOk result (λ plain. plain.trace ≡ []) }
     ensures stop { IfOk result (λ plain. plain.stop ≡ None) }
-    ensures sound { IfOk result (λ plain. IsSoundPlain 2681
-        (λ words. (map : HasMapApart (tree_part MAP) words) × (map.entries ≡ empty)) plain) }
+    ensures sound { IfOk result (λ plain. IsSoundPlain 2681 (HasMapApart (tree_part MAP)) plain) }
 {
     let books = Books::new(alloc, 601, 1, 1);
     let words = build(alloc, &books)?;
@@ -95,18 +92,18 @@ fn first_wrong<W: Words>(
     Ok(None)
 }
 
-// How often a word was read after so many events.
-fn times_read(trace: &[Event], before: usize, word: u64) -> usize {
-    let later = trace.iter().skip(before);
-    later
+// How often a word is read.
+fn times_read(trace: &[Event], word: u64) -> usize {
+    trace
+        .iter()
         .filter(|event| matches!(event, Event::Read(place, _) if *place == word))
         .count()
 }
 
-// Whether after so many events no block's value was read twice.
-fn no_value_twice(trace: &[Event], before: usize) -> bool {
+// Whether no block's value is read twice.
+fn no_value_twice(trace: &[Event]) -> bool {
     for block in 0u32..601 {
-        if times_read(trace, before, 278 + 4 * u64::from(block)) > 1 {
+        if times_read(trace, 278 + 4 * u64::from(block)) > 1 {
             return false;
         }
     }
@@ -126,10 +123,17 @@ fn reads_of_a_sum(
     }
     let before = plain.trace().len();
     let all = first_wrong(&mut plain, &MAP, &[(0, u64::MAX, 180_300)])?;
-    let reads = plain.trace().iter().skip(before).count();
-    let once = no_value_twice(plain.trace(), before);
+    let Some(later) = plain.trace().get(before..) else {
+        return Ok(None);
+    };
+    let reads = later.len();
+    let once = no_value_twice(later);
     let wrong = first_wrong(&mut plain, &MAP, sums)?;
-    Ok(if all.is_none() && once && wrong.is_none() { Some(reads) } else { None })
+    Ok(if all.is_none() && once && wrong.is_none() {
+        Some(reads)
+    } else {
+        None
+    })
 }
 
 /// The way down goes to the left at six hundred nodes, more than a walk keeps. Down to the least key
