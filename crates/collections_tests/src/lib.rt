@@ -15,6 +15,8 @@ mod lists;
 #[cfg(test)]
 mod parts;
 #[cfg(test)]
+mod paths;
+#[cfg(test)]
 mod reading;
 #[cfg(test)]
 mod ring;

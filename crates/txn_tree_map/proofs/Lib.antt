@@ -44,6 +44,8 @@ pub mod Removing
 pub mod Entries
 -- the steps of the search for the first node from a key on, in one word list
 pub mod Nearest
+-- the steps of a walk through the nodes in the order of their keys, in one word list
+pub mod Walks
 -- the steps of a sum over keys, in one word list
 pub mod Summing
 -- what a sum over keys learns and reads, in every fitting state at once

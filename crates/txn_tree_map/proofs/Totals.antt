@@ -1,5 +1,5 @@
 -- What a sum over keys learns and reads, in every fitting state at once.
-use Rattle.std.proofs.Common.{◌≡◌, ℕ, ◌+◌, ◌<◌, ◌≤◌, List, [], ◌∷◌, ◌++◌, slice_get, Some, None, inl, inr, sym, ap, ◌∙◌, subst, arith}
+use Rattle.std.proofs.Common.{◌≡◌, ℕ, ◌+◌, ◌<◌, ◌≤◌, true, List, [], ◌∷◌, ◌++◌, slice_get, Some, None, inl, inr, sym, ap, ◌∙◌, subst, arith}
 use Rattle.history_model.specs.declared.event.Event.TheVariants.{Read}
 use Rattle.history_model.specs.Traces.{Trace, after}
 use Rattle.history_model.specs.Fitting.{Fits, SomeFits, InEach, Leads}
@@ -12,14 +12,28 @@ use Rattle.txn_words.specs.Looks.{Looks}
 use Rattle.txn_words.proofs.Looks.{looks_map, looks_wider, seen_before}
 use Rattle.txn_tree_map.specs.declared.map.TreeMap.{TreeMap}
 use Rattle.txn_tree_map.specs.declared.find.Named.{Named}
+use Rattle.txn_tree_map.specs.declared.walk.Walk.{Walk}
 use Rattle.txn_tree_map.specs.Trees.{tree_part}
 use Rattle.txn_tree_map.specs.Searches.{IsLink}
 use Rattle.txn_tree_map.specs.Sums.{IsAnyWord, IsNearest, IsNext, HasNoneTo, IsSummed, IsTotal}
+use Rattle.txn_tree_map.specs.Walks.{IsWalk, HasCome}
 use Rattle.txn_alloc.proofs.Founds.{IsNearOr, looks_value}
 use Rattle.txn_tree_map.proofs.Links.{nearest_of, tree_uses, link_seen}
 use Rattle.txn_tree_map.proofs.Summing.{nearest_below, nearest_key, nearest_from, nearest_next, nearest_past, nearest_none, total_sum}
 
 module _ (map : TreeMap) (n : ℕ) (G : List ℕ → Type 0) (t u : Trace) where
+  -- what a walk that has come to the first node from a key on says of it, and where it then stands
+  module _ (walk : Walk) (least : ℕ) where
+    pub come_some : (node : Named) → Looks n G t u (IsLink map) (HasCome map walk least (Some node))
+        → Looks n G t u (IsLink map) (IsNearest map least (Some node))
+    come_some node l = looks_map n G t (IsLink map) u (HasCome map walk least (Some node)) (IsNearest map least (Some node)) (λ s h. h.0) l
+
+    pub come_none : walk.whole ≡ true → Looks n G t u (IsLink map) (HasCome map walk least None) → Looks n G t u (IsLink map) (IsNearest map least None)
+    come_none whole l = looks_map n G t (IsLink map) u (HasCome map walk least None) (IsNearest map least None) (λ s h. h whole) l
+
+    pub come_behind : (node : Named) → Looks n G t u (IsLink map) (HasCome map walk least (Some node)) → InEach n G u (IsWalk map walk (node.key + 1) 0)
+    come_behind node l = record { at = λ s fit. (l.holds s fit).1 }
+
   -- the first node from a key on, and its value
   module _ (least high : ℕ) where
     pub none_from : Looks n G t u (IsLink map) (IsNearest map least None) → Looks n G t u IsAnyWord (HasNoneTo map least high)

@@ -4,5 +4,6 @@ pub mod Searches
 pub mod Changes
 pub mod Joins
 pub mod Sums
+pub mod Walks
 pub mod Statements
 pub mod Firsts

@@ -13,7 +13,7 @@ use txn_alloc::arena::{LEFT, RIGHT};
 use txn_words::{Stop, Words};
 
 /// A node that a word names: its block and its key.
-#[derive(Clone, Copy)]
+#[derive(Clone, Copy, Default)]
 pub(crate) struct Named {
     pub block: u32,
     pub key: u64,

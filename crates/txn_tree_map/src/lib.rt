@@ -49,5 +49,6 @@ mod remove;
 mod seat;
 mod split;
 mod sum;
+mod walk;
 
 pub use map::TreeMap;

@@ -1,14 +1,15 @@
 //! The sum of the values from one key to another.
 
-ghost use Rattle.std.specs.Prelude.{◌<◌, ◌≤◌, ◌^◌, IfOk, IfSome, IfNone, OnOk};
+ghost use Rattle.std.specs.Prelude.{◌+◌, ◌<◌, ◌≤◌, ◌^◌, IfOk, IfSome, IfNone, OnOk};
 ghost use Rattle.txn_words.specs.Calls.{IsReady, GoesOn, ReadsWithin, WritesOnly, InEachState, LeadsTo};
 ghost use Rattle.txn_words.specs.Looks.{Looks};
 ghost use Rattle.txn_alloc.specs.EntryMaps.{HasMap, SumsRange, MayReadRange};
 ghost use Rattle.txn_tree_map.specs.Trees.{tree_part};
 ghost use Rattle.txn_tree_map.specs.Sums.{IsAnyWord, IsNext, HasNoneTo};
+ghost use Rattle.txn_tree_map.specs.Walks.{IsWalk};
 
-use crate::first::first_at;
 use crate::map::TreeMap;
+use crate::walk::{Walk, next_node};
 use txn_alloc::arena::VALUE;
 use txn_words::{Stop, Words};
 
@@ -20,16 +21,21 @@ pub(crate) struct Entry {
 }
 
 /// Of the entries whose keys are from `least` to `high`, both included, the one with the least key.
-pub(crate) fn entry_from<W: Words>(
+/// The walk then stands right behind it.
+pub(crate) fn next_entry<W: Words>(
     w: &mut W,
     map: &TreeMap,
+    walk: &mut Walk,
     least: u64,
     high: u64,
 ) -> Result<Option<Entry>, Stop>
     requires ready { IsReady W.Words w.old }
     requires order { InEachState W.Words W.Shape.Shape w.old (HasMap (tree_part map.now)) }
+    requires walk { InEachState W.Words W.Shape.Shape w.old (IsWalk map.now walk.old least 0) }
     ensures next { IfOk result (λ answer. IfSome answer (λ entry.
         Looks (W.Shape.word_count (W.shape w.old)) (W.Shape.good (W.shape w.old)) (W.trace w.old) (W.trace w.new) IsAnyWord (IsNext map.now least entry.key entry.value))) }
+    ensures walk { IfOk result (λ answer. IfSome answer (λ entry.
+        InEachState W.Words W.Shape.Shape w.new (IsWalk map.now walk.new (entry.key + 1) 0))) }
     ensures none { IfOk result (λ answer. IfNone answer
         (Looks (W.Shape.word_count (W.shape w.old)) (W.Shape.good (W.shape w.old)) (W.trace w.old) (W.trace w.new) IsAnyWord (HasNoneTo map.now least high))) }
     ensures low { IfOk result (λ answer. IfSome answer (λ entry. least ≤ entry.key)) }
@@ -40,7 +46,7 @@ pub(crate) fn entry_from<W: Words>(
         ReadsWithin W.Words W.Shape.Shape w.old w.new (MayReadRange (tree_part map.now) least high)) }
     ensures goes_on { GoesOn W.Words w.old w.new result }
 {
-    match first_at(w, map, least)? {
+    match next_node(w, map, walk, least)? {
         None => Ok(None),
         Some(node) => {
             let key = node.key;
@@ -54,8 +60,49 @@ pub(crate) fn entry_from<W: Words>(
     }
 }
 
+/// The sum of the values of the keys from `low` to `high`, both included, along a walk that stands
+/// before them.
+fn sum_along<W: Words>(
+    w: &mut W,
+    map: &TreeMap,
+    walk: &mut Walk,
+    low: u64,
+    high: u64,
+) -> Result<u128, Stop>
+    requires ready { IsReady W.Words w.old }
+    requires order { InEachState W.Words W.Shape.Shape w.old (HasMap (tree_part map.now)) }
+    requires walk { InEachState W.Words W.Shape.Shape w.old (IsWalk map.now walk.old low 0) }
+    ensures sum { IfOk result (λ total.
+        LeadsTo W.Words W.Shape.Shape w.old w.new (SumsRange (tree_part map.now) low high total)) }
+    ensures order { OnOk result (
+        InEachState W.Words W.Shape.Shape w.new (HasMap (tree_part map.now))) }
+    ensures frame { OnOk result (WritesOnly W.Words w.old w.new (λ a. ⊥)) }
+    ensures reads { OnOk result (
+        ReadsWithin W.Words W.Shape.Shape w.old w.new (MayReadRange (tree_part map.now) low high)) }
+    ensures goes_on { GoesOn W.Words w.old w.new result }
+{
+    let mut total = 0u128;
+    let mut least = low;
+    for _ in 0..map.arena.blocks {
+        let entry = match next_entry(w, map, walk, least, high)? {
+            None => return Ok(total),
+            Some(entry) => entry,
+        };
+        total += u128::from(entry.value);
+        if entry.key == high {
+            return Ok(total);
+        }
+        least = entry.key + 1;
+    }
+    Ok(total)
+}
+
 impl TreeMap {
     /// The sum of the values of the keys from `low` to `high`, both included: 0 where `low` is above `high`.
+    ///
+    /// It walks from key to key, keeps the nearest nodes still to come in a room of fixed size on its
+    /// stack, and takes no memory. A sum of `n` entries in a tree of depth `d` reads in proportion to
+    /// `d` and to `n + n * d / 256`. It reads no value twice.
     pub fn sum_range<W: Words>(&self, w: &mut W, low: u64, high: u64) -> Result<u128, Stop>
         requires ready { IsReady W.Words w.old }
         requires order { InEachState W.Words W.Shape.Shape w.old (HasMap (tree_part self.now)) }
@@ -74,19 +121,7 @@ impl TreeMap {
             ReadsWithin W.Words W.Shape.Shape w.old w.new (MayReadRange (tree_part self.now) low high)) }
         ensures goes_on { GoesOn W.Words w.old w.new result }
     {
-        let mut total = 0u128;
-        let mut least = low;
-        for _ in 0..self.arena.blocks {
-            let entry = match entry_from(w, self, least, high)? {
-                None => return Ok(total),
-                Some(entry) => entry,
-            };
-            total += u128::from(entry.value);
-            if entry.key == high {
-                return Ok(total);
-            }
-            least = entry.key + 1;
-        }
-        Ok(total)
+        let mut walk = Walk::new(self);
+        sum_along(w, self, &mut walk, low, high)
     }
 }

@@ -2,11 +2,13 @@ use Rattle.std.proofs.Common.{◌≡◌, ◌≤◌, ◌*◌, ◌^◌, ℕ, List,
 use Rattle.history_model.specs.Traces.{after}
 use Rattle.history_model.specs.Fitting.{Fits}
 use Rattle.txn_words.specs.Frames.{AppendsReads}
+use Rattle.txn_words.specs.Calls.{InEachState}
 use Rattle.txn_words.specs.Looks.{Looks}
 use Rattle.txn_alloc.specs.EntryMaps.{MayReadRange}
 use Rattle.txn_tree_map.specs.Trees.{tree_part}
 use Rattle.txn_tree_map.specs.Sums.{IsAnyWord, IsSummed}
-use Rattle.txn_tree_map.proofs.map.TreeMap.sum_range.Given as goal
+use Rattle.txn_tree_map.specs.Walks.{IsWalk}
+use Rattle.txn_tree_map.proofs.sum.sum_along.Given as goal
 
 abbrev pub invariant-loop : goal.invariant-loop
 invariant-loop g l =
@@ -19,8 +21,9 @@ invariant-loop g l =
       from : l.low ≤ l.least;
       bound : l.total ≤ l.counter * 2 ^ 64;
       looks : Looks (g.W.Shape.Shape.word_count (words.shape l.fn.w)) (g.W.Shape.Shape.good (words.shape l.fn.w))
-          (words.trace l.fn.w) (words.trace l.w) IsAnyWord (IsSummed l.self l.low l.high l.least l.counter l.total);
+          (words.trace l.fn.w) (words.trace l.w) IsAnyWord (IsSummed l.map l.low l.high l.least l.counter l.total);
       reads : (s : List ℕ) → Fits (g.W.Shape.Shape.word_count (words.shape l.fn.w)) (g.W.Shape.Shape.good (words.shape l.fn.w)) (words.trace l.w) s
           → AppendsReads (words.trace l.fn.w) (words.trace l.w)
-          (MayReadRange (tree_part l.self) l.low l.high (after (words.trace l.fn.w) s) (after (words.trace l.w) s));
+          (MayReadRange (tree_part l.map) l.low l.high (after (words.trace l.fn.w) s) (after (words.trace l.w) s));
+      walk : InEachState words g.W.Shape.Shape l.w (IsWalk l.map l.walk l.least 0);
     }

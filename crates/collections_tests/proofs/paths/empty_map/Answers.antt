@@ -1,0 +1,16 @@
+use Rattle.std.proofs.Common.{◌≡◌, length, subst}
+use Rattle.std.specs.FinMap as entry_map
+use Rattle.books_model.specs.Books.{ClearingBooks}
+use Rattle.txn_books.specs.Layout.{words_of, shape_of}
+use Rattle.txn_books.specs.Standing.{Stands}
+use Rattle.txn_books.proofs.States.{tree_apart}
+use Rattle.collections_tests.proofs.paths.empty_map.Goals as goal
+
+pub new-requires : goal.new-requires
+new-requires c =
+    let at = subst (λ (books : ClearingBooks). (length c.in_ok-words.words.items ≡ words_of (shape_of books))
+    × Stands (shape_of books) c.in_ok-words.words.items books) c.new-books.ensures (c.in_ok-words.ensures.count, c.in_ok-words.ensures.stands) in
+    record {
+      count = at.0;
+      good = record { entries = entry_map.empty; used = at.1.parts.tree_used; free = at.1.parts.free; holds = tree_apart _ _ _ at.1 };
+    }

@@ -1,0 +1,177 @@
+//! Sums over maps whose trees are paths, with answers computed by hand.
+//!
+//! The priority of a key is its product with 2^64 by the golden ratio, without what is above 64 bits.
+//! 196418 and 121393 are Fibonacci numbers, of which this product is just above 0, and just below. So
+//! priorities rise with the multiples of the one, and fall with those of the other: the tree of six
+//! hundred multiples is a path that goes to the left at each node, from the greatest key down, or to
+//! the right, from the least one.
+
+ghost use Rattle.std.specs.Prelude.{◌≡◌, [], None, IfOk, OnOk};
+ghost use Rattle.txn_words.specs.Plainly.{IsSoundPlain};
+ghost use Rattle.txn_words.specs.Calls.{IsReady, InEachState};
+ghost use Rattle.txn_alloc.specs.EntryMaps.{HasMap, HasMapApart};
+ghost use Rattle.txn_tree_map.specs.Trees.{tree_part};
+ghost use Rattle.collections_tests.specs.declared.paths.TheConstants.{MAP};
+
+use books_model::Books;
+use history_model::{Event, Shape};
+use io_ends::OutOfMemory;
+use std::alloc::Global;
+use std::test::Fail;
+use txn_alloc::{Arena, Put};
+use txn_books::build;
+use txn_tree_map::TreeMap;
+use txn_words::{Plain, Stop, Words};
+
+/// Words of a map with room for 601 entries.
+#[derive(Clone, Copy)]
+struct RoomForPaths;
+
+impl Shape for RoomForPaths {
+    ghost use Rattle.txn_alloc.specs.EntryMaps.{HasMapApart};
+    ghost use Rattle.txn_tree_map.specs.Trees.{tree_part};
+
+    ghost word_count = { λ _. 2681 };
+
+    ghost good = { λ _ words. HasMapApart
+        (tree_part (record { root = 0; arena = record { heads = 1; first = 277; blocks = 601 } })) words };
+}
+
+const MAP: TreeMap = TreeMap {
+    root: 0,
+    arena: Arena {
+        heads: 1,
+        first: 277,
+        blocks: 601,
+    },
+};
+
+// The words of an empty map.
+fn empty_map(alloc: Global) -> Result<Plain<RoomForPaths>, OutOfMemory>
+    ensures trace { IfOk result (λ plain. plain.trace ≡ []) }
+    ensures stop { IfOk result (λ plain. plain.stop ≡ None) }
+    ensures sound { IfOk result (λ plain. IsSoundPlain 2681 (HasMapApart (tree_part MAP)) plain) }
+{
+    let books = Books::new(alloc, 601, 1, 1);
+    let words = build(alloc, &books)?;
+    Ok(Plain::new(alloc, RoomForPaths, words))
+}
+
+// Puts the numbers from 1 to 600, each at as many times the spacing. Whether no key was there.
+fn put_all<W: Words>(w: &mut W, map: &TreeMap, spacing: u32) -> Result<bool, Stop>
+    requires ready { IsReady W.Words w.old }
+    requires order { InEachState W.Words W.Shape.Shape w.old (HasMapApart (tree_part map.now)) }
+    ensures ready { OnOk result (IsReady W.Words w.new) }
+    ensures order { OnOk result (InEachState W.Words W.Shape.Shape w.new (HasMapApart (tree_part map.now))) }
+{
+    for number in 1u32..601 {
+        let key = u64::from(number) * u64::from(spacing);
+        if map.insert(w, key, u64::from(number))? != Put::New {
+            return Ok(false);
+        }
+    }
+    Ok(true)
+}
+
+// The number of the first sum that is another. Each row has both ends, and the sum.
+fn first_wrong<W: Words>(
+    w: &mut W,
+    map: &TreeMap,
+    sums: &[(u64, u64, u128)],
+) -> Result<Option<usize>, Stop>
+    requires ready { IsReady W.Words w.old }
+    requires order { InEachState W.Words W.Shape.Shape w.old (HasMap (tree_part map.now)) }
+    ensures ready { OnOk result (IsReady W.Words w.new) }
+    ensures order { OnOk result (InEachState W.Words W.Shape.Shape w.new (HasMap (tree_part map.now))) }
+{
+    for (number, &(low, high, sum)) in sums.iter().enumerate() {
+        if map.sum_range(w, low, high)? != sum {
+            return Ok(Some(number));
+        }
+    }
+    Ok(None)
+}
+
+// How often a word is read.
+fn times_read(trace: &[Event], word: u64) -> usize {
+    trace
+        .iter()
+        .filter(|event| matches!(event, Event::Read(place, _) if *place == word))
+        .count()
+}
+
+// Whether no block's value is read twice.
+fn no_value_twice(trace: &[Event]) -> bool {
+    for block in 0u32..601 {
+        if times_read(trace, 278 + 4 * u64::from(block)) > 1 {
+            return false;
+        }
+    }
+    true
+}
+
+// How many words the sum of all reads in the map of these keys, where it is right and reads no value
+// twice, and the sums of the rows are right too.
+fn reads_of_a_sum(
+    alloc: Global,
+    spacing: u32,
+    sums: &[(u64, u64, u128)],
+) -> Result<Option<usize>, Fail> {
+    let mut plain = empty_map(alloc)?;
+    if !put_all(&mut plain, &MAP, spacing)? {
+        return Ok(None);
+    }
+    let before = plain.trace().len();
+    let all = first_wrong(&mut plain, &MAP, &[(0, u64::MAX, 180_300)])?;
+    let Some(later) = plain.trace().get(before..) else {
+        return Ok(None);
+    };
+    let reads = later.len();
+    let once = no_value_twice(later);
+    let wrong = first_wrong(&mut plain, &MAP, sums)?;
+    Ok(if all.is_none() && once && wrong.is_none() {
+        Some(reads)
+    } else {
+        None
+    })
+}
+
+/// The way down goes to the left at six hundred nodes, more than a walk keeps. Down to the least key
+/// it reads a name and a key of each, and the name at the end: 1201 words. The room was full once, and
+/// 344 nodes are left in it: their values, and behind each but the last the name at the end, 687
+/// words. Behind the last it reads one more, finds none kept, and goes down again: past 256 nodes to
+/// the left and at the next to the right, 515 words. Of those 256 the values and the names behind
+/// them, 512 words.
+#[test]
+fn sums_on_a_path_to_the_left(rt: HostRuntime) -> Result<(), Fail> {
+    let sums = &[
+        (59_121_818, u64::MAX, 135_150),
+        (58_925_400, 58_925_400, 300),
+        (58_925_401, 59_121_817, 0),
+        (59_121_818, 58_925_400, 0),
+        (0, 196_418, 1),
+        (117_850_800, u64::MAX, 600),
+        (117_850_801, u64::MAX, 0),
+        (0, 67_567_792, 59_340),
+        (0, 67_764_210, 59_685),
+    ];
+    assert_eq!(rt; reads_of_a_sum(rt.alloc(), 196_418, sums)?, Some(2916));
+    Ok(())
+}
+
+/// The next key is right of each, with nothing left of it: of each node a name, its key, the name on
+/// its left and its value are read, 2400 words, and behind the last one the end.
+#[test]
+fn sums_on_a_path_to_the_right(rt: HostRuntime) -> Result<(), Fail> {
+    let sums = &[
+        (36_539_293, u64::MAX, 135_150),
+        (36_417_900, 36_417_900, 300),
+        (36_417_901, 36_539_292, 0),
+        (36_539_293, 36_417_900, 0),
+        (0, 121_393, 1),
+        (72_835_800, u64::MAX, 600),
+        (72_835_801, u64::MAX, 0),
+    ];
+    assert_eq!(rt; reads_of_a_sum(rt.alloc(), 121_393, sums)?, Some(2401));
+    Ok(())
+}

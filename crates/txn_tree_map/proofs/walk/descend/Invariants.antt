@@ -1,0 +1,18 @@
+use Rattle.std.proofs.Common.{◌≡◌, [], None}
+use Rattle.txn_words.specs.Looks.{Looks}
+use Rattle.txn_tree_map.specs.Searches.{IsLink}
+use Rattle.txn_tree_map.specs.Walks.{IsWalk}
+use Rattle.txn_tree_map.proofs.walk.descend.Given as goal
+
+abbrev pub invariant-loop : goal.invariant-loop
+invariant-loop g l =
+    let words = g.W.Words in
+    record {
+      shape : words.shape l.w ≡ words.shape l.fn.w;
+      origin : words.origin l.w ≡ words.origin l.fn.w;
+      stop : words.stop l.w ≡ None;
+      sound : words.is_sound l.w;
+      looks : Looks (g.W.Shape.Shape.word_count (words.shape l.fn.w)) (g.W.Shape.Shape.good (words.shape l.fn.w))
+          (words.trace l.fn.w) (words.trace l.w) (IsLink l.map) (IsWalk l.map l.walk l.least l.counter);
+      whole : l.walk.kept.items ≡ [] → l.walk.whole ≡ l.fn.walk.whole;
+    }
