@@ -56,11 +56,13 @@ pub seated_at : (thieves : Thieves) (desk : DeskView BooksShape) (j : ℕ) (work
 seated_at thieves desk j worker end unused pass done going = record {
   end = subst (λ n. IsEndOf thieves n worker.taker) (sym (ap (λ (p : PassView). number p.view) pass)) end;
   unused = unused;
-  of_table = ap (λ (p : PassView). p.table) pass;
-  idle = ap (λ (p : PassView). p.view.phase) pass;
+  fresh = record {
+    of_table = ap (λ (p : PassView). p.table) pass;
+    idle = ap (λ (p : PassView). p.view.phase) pass;
+    no_call = ap (λ (p : PassView). p.view.call) pass;
+    nothing_seen = ap (λ (p : PassView). p.view.seen) pass;
+  };
   who_is = ap (λ (p : PassView). p.view.who) pass ∙ sym (ap (λ (p : PassView). number p.view ∷ []) pass);
-  no_call = ap (λ (p : PassView). p.view.call) pass;
-  nothing_seen = ap (λ (p : PassView). p.view.seen) pass;
   nothing_done = done;
   going = going;
 }

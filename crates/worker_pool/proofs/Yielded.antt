@@ -1,24 +1,15 @@
 -- What a loop over a list's items has given, and what is left.
-use Rattle.std.proofs.Common.{◌≡◌, ℕ, suc, ◌<◌, get_or, List, [], ◌∷◌, ◌++◌, length, map, flat_map, refl, sym, ap, ◌∙◌, arith, append_assoc, append-nil, take}
+use Rattle.std.proofs.Common.{◌≡◌, ℕ, suc, ◌<◌, get_or, List, [], ◌∷◌, ◌++◌, length, map, flat_map, refl, sym, ap, ◌∙◌, arith, append-nil}
 use Rattle.std.specs.List.{range_with_len}
 use Rattle.std.proofs.lemmas.List.{map_push, length-map}
 use Rattle.std.proofs.lemmas.List.FromFn.{length-range_with_len}
-use Rattle.std.proofs.Math.Seq.{take-append_seam}
 use Rattle.std.proofs.lemmas.List.Concat.{flat_map-append}
-
--- the next item is given
-pub one_given : {X : Type 0} (given left after all : List X) (x : X) → left ≡ x ∷ after → given ++ left ≡ all → (given ++ x ∷ []) ++ after ≡ all
-one_given given left after all x steps is = append_assoc given (x ∷ []) after ∙ ap (λ l. given ++ l) (sym steps) ∙ is
+pub use Rattle.txn_threads.proofs.Yielded.{made_push, one_given, written_back}
 
 -- all items are given
 pub all_given : {X : Type 0} (given left all : List X) → length left ≡ 0 → given ++ left ≡ all → given ≡ all
 all_given given [] all none is = sym (append-nil given) ∙ is
 all_given given (x ∷ xs) all none is = absurd (omega arith)
-
--- what was made of the items, with one more
-pub made_push : {X Y : Type 0} (f : X → Y) (given : List X) (made more : List Y) (x : X) → more ≡ made ++ f x ∷ []
-    → made ≡ map f given → more ≡ map f (given ++ x ∷ [])
-made_push f given made more x is was = is ∙ ap (λ l. l ++ f x ∷ []) was ∙ sym (map_push f given x)
 
 -- what the items have, put together, with one more
 pub joined_push : {X Y : Type 0} (f : X → List Y) (given : List X) (joined more : List Y) (x : X) → more ≡ joined ++ f x
@@ -39,10 +30,6 @@ pub numbers_push : {X Y : Type 0} (f : X → ℕ) (g : Y → ℕ) (made more : L
     → more ≡ made ++ x ∷ [] → f x ≡ g y → map f made ≡ map g given → map f more ≡ map g (given ++ y ∷ [])
 numbers_push f g made more given x y is same was =
     ap (map f) is ∙ map_push f made x ∙ ap (λ l. l ++ f x ∷ []) was ∙ ap (λ n. map g given ++ n ∷ []) same ∙ sym (map_push g given y)
-
--- a list that was written back over one of its length
-pub written_back : {X : Type 0} (len : ℕ) (new rest : List X) → length new ≡ len → take len (new ++ rest) ≡ new
-written_back len new rest is = ap (λ n. take n (new ++ rest)) (sym is) ∙ take-append_seam new rest
 
 -- items whose numbers are a range are as many as the range
 pub as_numbered : {X : Type 0} (n : X → ℕ) (count : ℕ) (xs : List X) → map n xs ≡ range_with_len 0 count → length xs ≡ count

@@ -3,9 +3,9 @@ use Rattle.std.specs.Prelude.{◌≡◌, ℕ, ◌*◌, ◌≤◌, List, [], ◌�
 use Rattle.std.specs.List.{range_with_len}
 use Rattle.crossbeam_utils.specs.declared.cache_padded.CachePadded.{CachePadded}
 use Rattle.crossbeam_utils.specs.Padded.{padded_value}
-use Rattle.history_model.specs.declared.view.Phase.TheVariants.{Idle}
 use Rattle.history_model.specs.Views.{number}
 use Rattle.word_table.specs.Desks.{DeskView}
+use Rattle.txn_threads.specs.Passes.{IsFresh}
 use Rattle.script_reader.specs.Input.{ClearingInput, IsInput}
 use Rattle.script_reader.specs.declared.limits.TheConstants.{MOST_CALLERS, MOST_SCRIPTS}
 use Rattle.txn_books.specs.declared.shape.BooksShape.{BooksShape}
@@ -37,11 +37,8 @@ pub record FitTogether (desk : DeskView BooksShape) (shape : BooksShape) (input 
 pub record IsSeated (thieves : Thieves) (desk : DeskView BooksShape) (worker : Worker) : Type 0 where
   pub end : IsEndOf thieves (number_of worker) worker.taker
   pub unused : IsUnused worker.taker
-  pub of_table : worker.share.pass.table ≡ desk.table
-  pub idle : worker.share.pass.view.phase ≡ Idle
+  pub fresh : IsFresh desk worker.share.pass
   pub who_is : worker.share.pass.view.who ≡ number_of worker ∷ []
-  pub no_call : worker.share.pass.view.call ≡ 0
-  pub nothing_seen : worker.share.pass.view.seen ≡ []
   pub nothing_done : worker.share.done.items ≡ []
   pub going : worker.failed ≡ false
 

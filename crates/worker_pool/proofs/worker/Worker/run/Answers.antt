@@ -17,7 +17,7 @@ loop-init g c =
       dealt = refl;
       who = refl;
       made = made_nothing c.args.shop.now.desk.now c.args.shop.now.input.now (number_of w) w.share.pass
-          w.share.done.items s.of_table s.idle s.who_is s.no_call s.nothing_seen s.nothing_done;
+          w.share.done.items s.fresh.of_table s.fresh.idle s.who_is s.fresh.no_call s.fresh.nothing_seen s.nothing_done;
       run = λ few. ran_nothing c.args.shop.now.input.now (had w.taker) 0 s.unused.none w.share.done.items s.nothing_done;
       count = omega (arith, ap (λ l. length l) s.nothing_done);
     }
