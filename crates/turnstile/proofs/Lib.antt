@@ -1,0 +1,2 @@
+-- what a trace says of how many are inside
+pub mod Entering

@@ -1,0 +1,62 @@
+//! Visitors on threads.
+
+ghost use Rattle.std.specs.Prelude.{◌≡◌, ◌≤◌, length, All, IfOk};
+ghost use Rattle.word_table.specs.declared.limits.TheConstants.{LAST_CALL, MOST_PASSES};
+
+use crate::enter::{Enter, Room};
+use io_ends::OutOfMemory;
+use std::alloc::Global;
+use std::sync::Wait;
+use std::thread::Threads;
+use txn_commit::transact;
+use txn_threads::{Client, run_clients};
+use word_table::{Desk, Pass};
+use worker_gate::OpenGate;
+
+/// Tries to enter so many times.
+#[derive(Clone, Copy, Debug, Drop)]
+pub struct Visitor {
+    pub room: Room,
+    pub times: u32,
+}
+
+impl Client for Visitor {
+    ghost use Rattle.std.specs.Prelude.{⊤};
+
+    type Shape = Room;
+
+    ghost shape = { λ visitor. visitor.room };
+
+    ghost can_begin = { λ _. ⊤ };
+
+    ghost does = { λ _ _ _ _ _. ⊤ };
+
+    fn work<R: Wait>(
+        &mut self,
+        rt: &R,
+        alloc: Global,
+        desk: &Desk<Room>,
+        pass: &mut Pass<Room>,
+    ) -> Result<(), OutOfMemory> {
+        let job = Enter { room: self.room };
+        for _ in 0..self.times {
+            transact(rt, alloc, desk, pass, &job, &OpenGate)?;
+        }
+        Ok(())
+    }
+}
+
+/// Opens an empty room with this limit to the visitors: how many are inside at the end.
+pub fn open_room<R: Threads + Wait + Sync>(
+    rt: &R,
+    alloc: Global,
+    room: Room,
+    visitors: Vec<Visitor>,
+) -> Result<u64, OutOfMemory>
+    requires visitors { (1 ≤ length visitors.items) × (length visitors.items ≤ MOST_PASSES) }
+    requires room { All (λ visitor. visitor.room ≡ room) visitors.items }
+    ensures { IfOk result (λ inside. inside ≤ room.limit) }
+{
+    let ended = run_clients(rt, alloc, room, vec![in alloc; 0]?, visitors)?;
+    Ok(ended.closed.words()[0])
+}
