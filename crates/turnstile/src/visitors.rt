@@ -1,7 +1,7 @@
 //! Visitors on threads.
 
 ghost use Rattle.std.specs.Prelude.{◌≡◌, ◌≤◌, length, All, IfOk};
-ghost use Rattle.word_table.specs.declared.limits.TheConstants.{LAST_CALL, MOST_PASSES};
+ghost use Rattle.word_table.specs.declared.limits.TheConstants.{MOST_PASSES};
 
 use crate::enter::{Enter, Room};
 use io_ends::OutOfMemory;
