@@ -1,12 +1,13 @@
 -- Sums that fit, one after the other.
-use Rattle.std.proofs.Common.{◌≡◌, ℕ, ◌+◌, ◌<◌, ◌^◌, List, [], ◌∷◌, ◌++◌, true, false, slice_get, slice_set, Some, refl, sym, ap, ◌∙◌, subst, arith}
-use Rattle.std.proofs.lemmas.Option.{slice_get_within, same_Some}
+use Rattle.std.proofs.Common.{◌≡◌, ℕ, ◌+◌, ◌<◌, ◌^◌, List, [], ◌∷◌, ◌++◌, true, false, slice_get, slice_set, Some, refl, sym, ap, ◌∙◌, arith}
+use Rattle.std.proofs.lemmas.Option.{same_Some}
 use Rattle.history_model.specs.declared.event.Event.TheVariants.{Read}
 use Rattle.history_model.specs.Traces.{Trace, after}
 use Rattle.history_model.specs.Fitting.{Fits, Leads}
-use Rattle.history_model.proofs.TraceLaws.{read_there, after_read, get_set_same}
+use Rattle.history_model.proofs.TraceLaws.{get_set_same}
 use Rattle.txn_words.specs.Steps.{EndsWithWrite}
-use Rattle.txn_words.proofs.Steps.{after_write_end, fits_write_end}
+use Rattle.txn_words.proofs.JobLaws.{WasRead, was_read, was_put}
+use Rattle.txn_words.proofs.Steps.{fits_write_end}
 use Rattle.counter.specs.Counting.{AddsWhereFits, AddsPairOr}
 
 -- the first does not fit
@@ -65,10 +66,10 @@ module _ (n : ℕ) (G : List ℕ → Type 0) (t u : Trace) (x by : ℕ) (read : 
   leads_not over = record {
     at = λ s fit. record {
       at = λ k is.
-          let fit_u : Fits n G (t ++ Read 0 x ∷ []) s = subst (λ z. Fits n G z s) read fit in
-          let same : x ≡ k = same_Some x k (sym (read_there t s 0 x fit_u.legal) ∙ is) in (
+          let r : WasRead 0 x (after t s) (after u s) = was_read n G t u 0 x s (after t s) refl read fit in
+          let same : x ≡ k = same_Some x k (sym r.value ∙ is) in (
             (λ e. cc, λ (lt : k + by < 2 ^ 64). absurd (omega (arith, lt, over, same))),
-            ap (λ z. slice_get z 0) (ap (λ z. after z s) read ∙ after_read t s 0 x) ∙ is,
+            ap (λ z. slice_get z 0) r.same ∙ is,
           );
     };
   }
@@ -78,13 +79,12 @@ module _ (n : ℕ) (G : List ℕ → Type 0) (t u : Trace) (x by : ℕ) (read : 
   leads_fits v ends room = record {
     at = λ s fit. record {
       at = λ k is.
-          let fit_u : Fits n G (t ++ Read 0 x ∷ []) s = subst (λ z. Fits n G z s) read (fits_write_end n G u v 0 (x + by) s ends fit) in
-          let same : x ≡ k = same_Some x k (sym (read_there t s 0 x fit_u.legal) ∙ is) in
-          let same_u : after u s ≡ after t s = ap (λ z. after z s) read ∙ after_read t s 0 x in
-          let last : after v s ≡ slice_set (after t s) 0 (x + by) = after_write_end u v 0 (x + by) s ends ∙ ap (λ z. slice_set z 0 (x + by)) same_u in (
+          let r : WasRead 0 x (after t s) (after u s) =
+          was_read n G t u 0 x s (after t s) refl read (fits_write_end n G u v 0 (x + by) s ends fit) in
+          let same : x ≡ k = same_Some x k (sym r.value ∙ is) in
+          let last : after v s ≡ slice_set (after t s) 0 (x + by) = was_put u v 0 (x + by) s (after t s) r.same ends in (
             (λ e. omega (arith, room, same), λ e. refl),
-            ap (λ z. slice_get z 0) last
-                ∙ get_set_same (after t s) 0 (x + by) (slice_get_within (after t s) 0 k is) ∙ ap (λ z. Some (z + by)) same,
+            ap (λ z. slice_get z 0) last ∙ get_set_same (after t s) 0 (x + by) r.there ∙ ap (λ z. Some (z + by)) same,
           );
     };
   }

@@ -15,9 +15,9 @@ pub adds_none : (c : ℕ) (G : List ℕ → Type 0) (t u : Trace) (xs : List ℕ
 unfolding after
 adds_none c G t u xs i x grown e within over s fit = record {
   fits = λ n is small.
-      let read : (x ≡ n + sum (take i xs)) × (slice_get (after t s) 0 ≡ Some x) = grown_read c G [] t u x (sum (take i xs)) grown e s fit n is small in
+      let read : x ≡ n + sum (take i xs) = grown_read c G [] t u x (sum (take i xs)) grown e s fit n is small in
       let part : sum (take i xs) + get_or xs i 0 ≤ sum xs = sum_by_more_le (λ k. k) xs i 0 within in
-      (λ k. cc, λ below. absurd (omega (arith, read.0)));
+      (λ k. cc, λ below. absurd (omega (arith, read)));
   grown = λ n is small k. cc;
 }
 

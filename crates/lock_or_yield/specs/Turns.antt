@@ -44,8 +44,8 @@ IsWriteStep k j before action asking = (asking ≡ before) × (
     ⊎ ((action ≡ scan_row_action (number before) k j) × IsLeast (IsUnscanned before k) (Some j)))
 
 -- by one of its steps, which are of this kind, the turn met seat j on lock k, and knew met then
-pub record MeetsOn (is_step : ℕ → ℕ → View → (View → Action) → View → Type 0) (sound : List ℕ → List View
-    → Type 0) (old : View) (k j : ℕ) (met : View) : Type 0 where
+pub record MeetsOn (is_step : ℕ → ℕ → View → (View → Action) → View → Type 0)
+    (sound : List ℕ → List View → Type 0) (old : View) (k j : ℕ) (met : View) : Type 0 where
   pub action : View → Action
   pub before : View
   pub locks : before ≡ with_locks before old
@@ -54,8 +54,8 @@ pub record MeetsOn (is_step : ℕ → ℕ → View → (View → Action) → Vie
   pub meets : MetOn sound action before asking met k j
 
 -- the turn met a seat on lock k, which it judged
-pub record MeetsAndJudges (is_step : ℕ → ℕ → View → (View → Action) → View → Type 0) (sound : List ℕ → List View
-    → Type 0) (old : View) (k : ℕ) (r : Tried) (new : View) : Type 0 where
+pub record MeetsAndJudges (is_step : ℕ → ℕ → View → (View → Action) → View → Type 0)
+    (sound : List ℕ → List View → Type 0) (old : View) (k : ℕ) (r : Tried) (new : View) : Type 0 where
   pub seat : ℕ
   pub met : View
   pub meets : MeetsOn is_step sound old k seat met

@@ -1,15 +1,14 @@
 //! One turn of asking for a lock.
 
 ghost use Rattle.std.specs.Prelude.{◌≡◌, ◌≢◌, ◌⊎◌, ◌<◌, ◌+◌, ℕ, [], ◌∷◌, length, true, Some, IfSome, IsNone};
-ghost use Rattle.history_model.specs.Fitting.{IsGood};
 ghost use Rattle.history_model.specs.Locks.{lock_of_word};
 ghost use Rattle.history_model.specs.Sets.{has};
 ghost use Rattle.history_model.specs.Views.{number, HasClaim, HasWriteGrant, IsGranted};
 ghost use Rattle.stamps_rule.specs.Stamps.{AreRestartsBounded};
 ghost use Rattle.word_table.specs.Calls.{GrantsStay};
-ghost use Rattle.word_table.specs.Desks.{DeskHolds};
 ghost use Rattle.lock_or_yield.specs.Asking.{Asks, AsksToRead, AsksToWrite, GivesWay, GoesOn, MeetsNobody, draws_once};
 ghost use Rattle.lock_or_yield.specs.Turns.{ClaimsAndScans, IsReadStep, IsWriteStep, JudgedToWait, JudgedToYield, JudgesMet, MeetsAndJudges, MeetsSeat, ScansClear, ScansUpTo};
+ghost use Rattle.word_table.specs.Desks.{IsGoodFor, RuleHolds};
 
 use history_model::{Cause, LOCKS, Phase, Shape, lock_of};
 use word_table::{Claimed, Desk, Judged, Pass, Scanned, Shared};
@@ -63,12 +62,12 @@ fn judge_met<S: Shape>(desk: &Desk<S>, pass: &mut Pass<S>, other: u32) -> Tried
     requires other { other < pass.old.view.seats }
     requires met { pass.old.view.met ≡ other ∷ [] }
     ensures desk { pass.new.table ≡ pass.old.table }
-    ensures judged { JudgesMet (DeskHolds S.word_count S.good desk.now)
+    ensures judged { JudgesMet (RuleHolds S.Shape desk.now)
         pass.old.view other result pass.new.view }
     ensures waits { (j : ℕ) → result ≡ Tried.Wait j
         → (j ≡ other) × JudgedToWait pass.old.view pass.new.view }
     ensures yields { (cause : Cause) → result ≡ Tried.Yield cause → (cause.seat ≡ other)
-        × JudgedToYield (IsGood (S.word_count desk.now.shape) (S.good desk.now.shape))
+        × JudgedToYield (IsGoodFor S.Shape desk.now)
         desk.now.seats desk.now.base cause pass.old.view pass.new.view }
     ensures bounded { AreRestartsBounded desk.now.seats (number pass.old.view) pass.new.view }
 {
@@ -95,11 +94,11 @@ pub fn try_read<S: Shape>(desk: &Desk<S>, pass: &mut Pass<S>, a: u64) -> Tried
     ensures waits { (j : ℕ) → result ≡ Tried.Wait j
         → GoesOn ((lock_of_word a, j) ∷ []) pass.old.view pass.new.view }
     ensures yields { (cause : Cause) → result ≡ Tried.Yield cause
-        → GivesWay (IsGood (S.word_count desk.now.shape) (S.good desk.now.shape))
+        → GivesWay (IsGoodFor S.Shape desk.now)
         desk.now.seats desk.now.base ((lock_of_word a, cause.seat) ∷ []) cause
         pass.old.view pass.new.view }
     ensures met { (result ≡ Tried.Granted) ⊎ MeetsAndJudges IsReadStep
-        (DeskHolds S.word_count S.good desk.now) pass.old.view (lock_of_word a) result pass.new.view }
+        (RuleHolds S.Shape desk.now) pass.old.view (lock_of_word a) result pass.new.view }
     ensures held { IsGranted pass.old.view (lock_of_word a)
         → (result ≡ Tried.Granted) × (pass.new.view ≡ pass.old.view) }
     ensures bounded { (result ≡ Tried.Granted)
@@ -119,7 +118,7 @@ fn scan_rest<S: Shape>(desk: &Desk<S>, pass: &mut Pass<S>, k: u32) -> Option<u32
     ensures desk { pass.new.table ≡ pass.old.table }
     ensures clear { IsNone result
         → ScansClear k pass.old.view pass.new.view × HasWriteGrant pass.new.view k }
-    ensures met { IfSome result (λ j. ScansUpTo (DeskHolds S.word_count S.good desk.now) k j
+    ensures met { IfSome result (λ j. ScansUpTo (RuleHolds S.Shape desk.now) k j
         pass.old.view pass.new.view) }
     ensures held { HasWriteGrant pass.old.view k → IsNone result × (pass.new.view ≡ pass.old.view) }
 {
@@ -144,7 +143,7 @@ fn claim_and_scan<S: Shape>(desk: &Desk<S>, pass: &mut Pass<S>, a: u64) -> Optio
     ensures granted { IsNone result → HasWriteGrant pass.new.view (lock_of_word a)
         × (pass.new.view.met ≡ pass.old.view.met)
         × (pass.new.view.meetings ≡ pass.old.view.meetings) }
-    ensures met { IfSome result (λ j. MeetsSeat (DeskHolds S.word_count S.good desk.now)
+    ensures met { IfSome result (λ j. MeetsSeat (RuleHolds S.Shape desk.now)
         (lock_of_word a) j pass.old.view pass.new.view) }
     ensures held { HasWriteGrant pass.old.view (lock_of_word a)
         → IsNone result × (pass.new.view ≡ pass.old.view) }
@@ -171,11 +170,11 @@ pub fn try_write<S: Shape>(desk: &Desk<S>, pass: &mut Pass<S>, a: u64) -> Tried
     ensures waits { (j : ℕ) → result ≡ Tried.Wait j
         → GoesOn ((lock_of_word a, j) ∷ []) pass.old.view pass.new.view }
     ensures yields { (cause : Cause) → result ≡ Tried.Yield cause
-        → GivesWay (IsGood (S.word_count desk.now.shape) (S.good desk.now.shape))
+        → GivesWay (IsGoodFor S.Shape desk.now)
         desk.now.seats desk.now.base ((lock_of_word a, cause.seat) ∷ []) cause
         pass.old.view pass.new.view }
     ensures met { (result ≡ Tried.Granted) ⊎ MeetsAndJudges IsWriteStep
-        (DeskHolds S.word_count S.good desk.now) pass.old.view (lock_of_word a) result pass.new.view }
+        (RuleHolds S.Shape desk.now) pass.old.view (lock_of_word a) result pass.new.view }
     ensures held { HasWriteGrant pass.old.view (lock_of_word a)
         → (result ≡ Tried.Granted) × (pass.new.view ≡ pass.old.view) }
     ensures bounded { (result ≡ Tried.Granted)

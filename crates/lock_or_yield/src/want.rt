@@ -1,14 +1,13 @@
 //! Asking for a lock until it is held, or until the attempt has to give way.
 
 ghost use Rattle.std.specs.Prelude.{◌≡◌, ◌<◌, ℕ, [], ◌∷◌, ◌++◌, length, List};
-ghost use Rattle.history_model.specs.Fitting.{IsGood};
 ghost use Rattle.history_model.specs.declared.view.View.{View};
 ghost use Rattle.history_model.specs.Locks.{lock_of_word};
 ghost use Rattle.history_model.specs.Views.{number, HasWriteGrant, IsGranted};
 ghost use Rattle.stamps_rule.specs.Stamps.{AreRestartsBounded};
-ghost use Rattle.word_table.specs.Desks.{DeskHolds};
 ghost use Rattle.lock_or_yield.specs.Asking.{Asks, AsksToRead, AsksToWrite, GivesWay, WentOn};
 ghost use Rattle.lock_or_yield.specs.Turns.{IsReadStep, IsWriteStep, MeetsAndJudges};
+ghost use Rattle.word_table.specs.Desks.{IsGoodFor, RuleHolds};
 
 use crate::turn::{Tried, try_read, try_write};
 use crossbeam_utils::Backoff;
@@ -39,13 +38,13 @@ pub fn want_read<R: Wait, S: Shape>(rt: &R, desk: &Desk<S>, pass: &mut Pass<S>, 
     ensures granted { result ≡ Got.Granted
         → IsGranted pass.new.view (lock_of_word a) × WentOn pass.old.view pass.new.view }
     ensures yields { (cause : Cause) → result ≡ Got.Yield cause → (waited : List (ℕ × ℕ))
-        × GivesWay (IsGood (S.word_count desk.now.shape) (S.good desk.now.shape))
+        × GivesWay (IsGoodFor S.Shape desk.now)
         desk.now.seats desk.now.base (waited ++ (lock_of_word a, cause.seat) ∷ [])
         cause pass.old.view pass.new.view }
     ensures met { (cause : Cause) → result ≡ Got.Yield cause
         → (before : View) × WentOn pass.old.view before
         × MeetsAndJudges IsReadStep
-        (DeskHolds S.word_count S.good desk.now) before (lock_of_word a) (Tried.Yield cause) pass.new.view }
+        (RuleHolds S.Shape desk.now) before (lock_of_word a) (Tried.Yield cause) pass.new.view }
     ensures bounded { (cause : Cause) → result ≡ Got.Yield cause
         → AreRestartsBounded desk.now.seats (number pass.old.view) pass.new.view }
 {
@@ -74,13 +73,13 @@ pub fn want_write<R: Wait, S: Shape>(rt: &R, desk: &Desk<S>, pass: &mut Pass<S>,
     ensures granted { result ≡ Got.Granted
         → HasWriteGrant pass.new.view (lock_of_word a) × WentOn pass.old.view pass.new.view }
     ensures yields { (cause : Cause) → result ≡ Got.Yield cause → (waited : List (ℕ × ℕ))
-        × GivesWay (IsGood (S.word_count desk.now.shape) (S.good desk.now.shape))
+        × GivesWay (IsGoodFor S.Shape desk.now)
         desk.now.seats desk.now.base (waited ++ (lock_of_word a, cause.seat) ∷ [])
         cause pass.old.view pass.new.view }
     ensures met { (cause : Cause) → result ≡ Got.Yield cause
         → (before : View) × WentOn pass.old.view before
         × MeetsAndJudges IsWriteStep
-        (DeskHolds S.word_count S.good desk.now) before (lock_of_word a) (Tried.Yield cause) pass.new.view }
+        (RuleHolds S.Shape desk.now) before (lock_of_word a) (Tried.Yield cause) pass.new.view }
     ensures bounded { (cause : Cause) → result ≡ Got.Yield cause
         → AreRestartsBounded desk.now.seats (number pass.old.view) pass.new.view }
 {

@@ -6,5 +6,7 @@ pub mod Releasing
 pub mod Footprints
 -- an attempt between two of its calls
 pub mod Attempts
+-- what a job's answer means, by the entry that its call has
+pub mod Meaning
 -- how a transaction begins and ends
 pub mod Ending

@@ -27,8 +27,8 @@ pub record GainsOthers (who : ℕ) (old new : List Entry) : Type 0 where
 -- a call of this seat got one entry, behind what the seat had seen and then entries of others alone; and of the words
 -- that all these leave of the base, the job's meaning holds: whether its writes are kept, its answer, and what its trace
 -- leaves
-pub record GetsEntry {A : Type 0} (base : List ℕ) (means : List ℕ → Bool → A → List ℕ
-    → Type 0) (who call : ℕ) (old new : List Entry) (receipt : Receipt A) : Type 0 where
+pub record GetsEntry {A : Type 0} (base : List ℕ) (means : List ℕ → Bool → A → List ℕ → Type 0)
+    (who call : ℕ) (old new : List Entry) (receipt : Receipt A) : Type 0 where
   pub others : List Entry
   pub entry : Entry
   pub seen : new ≡ (old ++ others) ++ entry ∷ []
@@ -39,6 +39,14 @@ pub record GetsEntry {A : Type 0} (base : List ℕ) (means : List ℕ → Bool �
   pub serial_is : receipt.serial ≡ length new
   pub restarts_are : receipt.restarts ≡ length entry.abandoned
   pub meaning : means (replay base (old ++ others)) entry.kept receipt.answer (after entry.trace (replay base (old ++ others)))
+
+-- at some good words the job's meaning holds of the answer
+pub record IsMeant {A : Type 0} (good : List ℕ → Type 0) (means : List ℕ → Bool → A → List ℕ → Type 0) (answer : A) : Type 0 where
+  pub found : List ℕ
+  pub kept : Bool
+  pub left : List ℕ
+  pub good_words : good found
+  pub meaning : means found kept answer left
 
 -- the seat and its table are the same
 pub record SameSeat (old new : View) : Type 0 where

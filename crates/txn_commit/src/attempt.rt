@@ -201,6 +201,47 @@ fn go_back<S: Shape>(
     Ok(())
 }
 
+// Asks for the lock of word a, which is not held for reading, and reads the word. It stands by itself, so that a read whose
+// lock is held is short enough to be put where it is called.
+#[inline(never)]
+fn ask_and_read<S: Shape, G: Gate, R: Wait>(
+    attempt: &mut Attempt<S, G, R>,
+    a: u64,
+) -> Result<u64, Stop>
+    requires within { a < S.word_count attempt.old.desk.now.shape }
+    requires going { stop_of attempt.old.halt ≡ None }
+    requires sound { IsSound S.word_count S.good attempt.old.desk.now attempt.old.began.value
+        attempt.old.pass.now attempt.old.undo attempt.old.halt }
+    ensures value { IfOk result (λ v.
+        attempt.new.pass.now.view.trace ≡ attempt.old.pass.now.view.trace ++ Read a v ∷ []) }
+    ensures begins { Begins attempt.old.pass.now.view.trace attempt.new.pass.now.view.trace }
+    ensures stops { stop_of attempt.new.halt ≡ stop_after result }
+    ensures shape { attempt.new.desk.now.shape ≡ attempt.old.desk.now.shape }
+    ensures origin { start_of attempt.new.desk.now attempt.new.pass.ghost_name attempt.new.began.value
+        ≡ start_of attempt.old.desk.now attempt.old.pass.ghost_name attempt.old.began.value }
+    ensures sound { IsSound S.word_count S.good attempt.new.desk.now attempt.new.began.value
+        attempt.new.pass.now attempt.new.undo attempt.new.halt }
+    ensures memory { result ≢ Err Memory }
+    ensures asked { GainsAtMost a attempt.old.pass.now.view.asked attempt.new.pass.now.view.asked }
+    ensures reads { AsksToRead (lock_of_word a) attempt.old.pass.now.view attempt.new.pass.now.view }
+{
+    match ask_to_read(attempt.rt, attempt.desk, attempt.pass, a) {
+        Asked::Held => {}
+        Asked::Granted => {
+            let stage = Stage::Granted {
+                word: a,
+                write: false,
+            };
+            attempt.gate.at(attempt.rt, attempt.caller.at(stage));
+        }
+        Asked::Yield(cause) => {
+            attempt.halt = Some(Halt::Yield(cause));
+            return Err(Stop::Yield);
+        }
+    }
+    Ok(attempt.desk.load(attempt.pass, a))
+}
+
 impl<'a, S: Shape, G: Gate, R: Wait> Words for Attempt<'a, S, G, R> {
     ghost use Rattle.std.specs.Prelude.{◌≡◌, ◌≢◌, ◌+◌, ◌<◌, ◌≤◌, ◌++◌, ◌∷◌, [], None, Err, IfOk, OnOk};
     ghost use Rattle.history_model.specs.declared.event.Event.TheVariants.{Read};
@@ -227,6 +268,7 @@ impl<'a, S: Shape, G: Gate, R: Wait> Words for Attempt<'a, S, G, R> {
     ghost is_sound = { λ a. IsSound S.word_count S.good a.desk.now a.began.value a.pass.now a.undo a.halt };
 
     /// The word at place `a`, under its lock. It never finds no memory, and asks for that lock alone.
+    #[inline(always)]
     fn read(&mut self, a: u64) -> Result<u64, Stop>
         requires within { a < S.word_count self.old.desk.now.shape }
         requires going { stop_of self.old.halt ≡ None }
@@ -246,19 +288,8 @@ impl<'a, S: Shape, G: Gate, R: Wait> Words for Attempt<'a, S, G, R> {
         ensures asked { GainsAtMost a self.old.pass.now.view.asked self.new.pass.now.view.asked }
         ensures reads { AsksToRead (lock_of_word a) self.old.pass.now.view self.new.pass.now.view }
     {
-        match ask_to_read(self.rt, self.desk, self.pass, a) {
-            Asked::Held => {}
-            Asked::Granted => {
-                let stage = Stage::Granted {
-                    word: a,
-                    write: false,
-                };
-                self.gate.at(self.rt, self.caller.at(stage));
-            }
-            Asked::Yield(cause) => {
-                self.halt = Some(Halt::Yield(cause));
-                return Err(Stop::Yield);
-            }
+        if !self.pass.has_read(lock_of(a)) {
+            return ask_and_read(self, a);
         }
         Ok(self.desk.load(self.pass, a))
     }

@@ -2,8 +2,7 @@
 
 ghost use Rattle.std.specs.Prelude.{◌≡◌, ℕ, ◌+◌, ◌<◌, ◌≤◌, [], ◌++◌, ◌∷◌, List, length, true, false, None, Some, Ok, IfOk, IfErr, OnErr, OnOk, ◌⊎◌};
 ghost use Rattle.history_model.specs.Counts.{is_attempt};
-ghost use Rattle.history_model.specs.Fitting.{Fits, IsGood};
-ghost use Rattle.history_model.specs.Legal.{IsLegalHistory};
+ghost use Rattle.history_model.specs.Fitting.{Fits};
 ghost use Rattle.history_model.specs.Traces.{after};
 ghost use Rattle.history_model.specs.Views.{number};
 ghost use Rattle.stamps_rule.specs.Causes.{newest, past_causes};
@@ -12,7 +11,8 @@ ghost use Rattle.word_table.specs.Calls.{CommitsAt, ReadsHistory};
 ghost use Rattle.word_table.specs.Copies.{HoldsNothing};
 ghost use Rattle.word_table.specs.declared.limits.TheConstants.{LAST_CALL};
 ghost use Rattle.txn_commit.specs.Attempts.{IsSound, SameCall, stop_of};
-ghost use Rattle.txn_commit.specs.Transactions.{AsksItsFootprint, EndsWithoutEntry, GainsOthers, GetsEntry, LeavesFootprint, SameSeat};
+ghost use Rattle.txn_commit.specs.Transactions.{AsksItsFootprint, EndsWithoutEntry, GainsOthers, GetsEntry, IsMeant, LeavesFootprint, SameSeat};
+ghost use Rattle.word_table.specs.Desks.{IsGoodFor, IsLegalFor};
 
 use crate::attempt::{Attempt, Caller, Halt, UNDO_ROOM, tell};
 use crate::release::release_all;
@@ -55,7 +55,7 @@ fn wait_out<R: Wait, S: Shape>(rt: &R, desk: &Desk<S>, pass: &mut Pass<S>, cause
       trace = [];
       waits = pass.new.view.waits;
     } }
-    ensures fits { ReadsHistory (IsGood (S.word_count desk.now.shape) (S.good desk.now.shape))
+    ensures fits { ReadsHistory (IsGoodFor S.Shape desk.now)
         desk.now.seats desk.now.base pass.new.view }
 {
     let backoff = Backoff::new();
@@ -123,9 +123,7 @@ fn settle<S: Shape, G: Gate, R: Wait>(attempt: &mut Attempt<S, G, R>, kept: bool
     ensures entry { CommitsAt (S.word_count attempt.old.desk.now.shape)
         (S.good attempt.old.desk.now.shape) attempt.old.desk.now.base kept
         attempt.old.pass.now.view attempt.new.pass.now.view result }
-    ensures legal { IsLegalHistory
-        (IsGood (S.word_count attempt.old.desk.now.shape) (S.good attempt.old.desk.now.shape))
-        attempt.old.desk.now.seats attempt.old.desk.now.base attempt.new.pass.now.view.seen }
+    ensures legal { IsLegalFor S.Shape attempt.old.desk.now attempt.new.pass.now.view.seen }
     ensures few { length attempt.old.pass.now.view.abandoned < attempt.old.desk.now.seats }
 {
     if !kept {
@@ -162,9 +160,7 @@ fn run_attempts<S: Shape, G: Gate, R: Wait, J: Job<Shape = S>>(
     ensures entry { IfOk result (λ receipt. GetsEntry attempt.old.desk.now.base (J.means job.now)
         (number attempt.old.pass.now.view) call
         attempt.old.pass.now.view.seen attempt.new.pass.now.view.seen receipt) }
-    ensures legal { OnOk result (IsLegalHistory
-        (IsGood (S.word_count attempt.old.desk.now.shape) (S.good attempt.old.desk.now.shape))
-        attempt.old.desk.now.seats attempt.old.desk.now.base attempt.new.pass.now.view.seen) }
+    ensures legal { OnOk result (IsLegalFor S.Shape attempt.old.desk.now attempt.new.pass.now.view.seen) }
     ensures few { IfOk result (λ receipt. receipt.restarts < attempt.old.desk.now.seats) }
     ensures committed { OnOk result (attempt.new.pass.now.view.phase ≡ Phase.Releasing) }
     ensures others { OnErr result (GainsOthers (number attempt.old.pass.now.view)
@@ -174,7 +170,7 @@ fn run_attempts<S: Shape, G: Gate, R: Wait, J: Job<Shape = S>>(
     ensures footprint { OnOk result (AsksItsFootprint attempt.new.pass.now.view) }
     ensures left { OnErr result (LeavesFootprint attempt.new.pass.now.view) }
     ensures last { OnErr result (ReadsHistory
-        (IsGood (S.word_count attempt.old.desk.now.shape) (S.good attempt.old.desk.now.shape))
+        (IsGoodFor S.Shape attempt.old.desk.now)
         attempt.old.desk.now.seats attempt.old.desk.now.base attempt.new.pass.now.view) }
 {
     let seats = attempt.desk.seats();
@@ -220,6 +216,13 @@ fn decision<A>(verdict: Verdict<A>) -> (bool, A)
 /// call, the attempt undoes its writes, gives up its locks, and waits until that call is gone; then the next begins,
 /// with the timestamp that the call has. The first that need not give way is committed while it holds all its locks.
 /// The call may wait for other threads. That a wait ends, no clause says.
+///
+/// The receipt has what the job answers. So in a client's `work`, with the job `Enter` of the crate `turnstile`:
+///
+///     let receipt = transact(rt, alloc, desk, pass, &Enter { room }, &OpenGate)?;
+///     if receipt.answer {
+///         self.entered += 1;
+///     }
 pub fn transact<S: Shape, G: Gate, R: Wait, J: Job<Shape = S>>(
     rt: &R,
     alloc: Global,
@@ -240,16 +243,18 @@ pub fn transact<S: Shape, G: Gate, R: Wait, J: Job<Shape = S>>(
     ensures entry { IfOk result (λ receipt. GetsEntry desk.now.base (J.means job.now)
         (number pass.old.view) (pass.old.view.call + 1)
         pass.old.view.seen pass.new.view.seen receipt) }
-    ensures legal { OnOk result (IsLegalHistory
-        (IsGood (S.word_count desk.now.shape) (S.good desk.now.shape))
-        desk.now.seats desk.now.base pass.new.view.seen) }
+    ensures meant { IfOk result (λ receipt. IsMeant
+        (IsGoodFor S.Shape desk.now)
+        (J.means job.now) receipt.answer) }
+    ensures legal { OnOk result (IsLegalFor S.Shape desk.now pass.new.view.seen) }
     ensures few { IfOk result (λ receipt. receipt.restarts < desk.now.seats) }
     ensures footprint { OnOk result (AsksItsFootprint pass.new.view) }
     ensures err { OnErr result ((pass.new ≡ pass.old)
-        ⊎ EndsWithoutEntry (IsGood (S.word_count desk.now.shape) (S.good desk.now.shape))
+        ⊎ EndsWithoutEntry (IsGoodFor S.Shape desk.now)
         desk.now.seats desk.now.base pass.old.view pass.new.view) }
 {
     pass.rests();
+    desk.began_good();
     let undo = UndoLog::with_room(alloc, UNDO_ROOM)?;
     let seat = pass.who();
     let call = desk.begin(pass);

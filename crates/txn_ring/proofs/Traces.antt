@@ -8,7 +8,8 @@ use Rattle.history_model.specs.Fitting.{Fits, SomeFits, InEach, Leads}
 use Rattle.history_model.proofs.TraceLaws.{length-after}
 use Rattle.history_model.proofs.FittingLaws.{Found, found, fits_begins}
 use Rattle.txn_words.specs.Steps.{EndsWithWrite}
-use Rattle.txn_words.proofs.Steps.{after_write_end, fits_write_end}
+use Rattle.txn_words.proofs.JobLaws.{WasRead, was_read, fits_read, was_put}
+use Rattle.txn_words.proofs.Steps.{fits_write_end}
 use Rattle.txn_ring.specs.declared.ring.Ring.{Ring}
 use Rattle.txn_ring.specs.Queues.{place_at, HasItem, QueueHolds, IsInOrder, IsFull, IsEmpty, HasCount, Pushes, Pops, TakesFront}
 use Rattle.txn_ring.proofs.Items.{pushed, popped, pushed_words, popped_words}
@@ -75,12 +76,12 @@ module _ (ring : Ring) (n : ℕ) (G : List ℕ → Type 0) (t : Trace) where
       -- both reads at once, of the words before them
       seen : (s : List ℕ) → Fits n G v s → Found n G t v ring.at front s
       seen s fit =
-          let second : Found n G u v ring.at front s = found n G u v ring.at front read_front s fit in
-          let first : Found n G t u (ring.at + 1) count s = counted s second.fits in
-          record { there = ap (λ z. slice_get z ring.at) (sym first.same) ∙ second.there; same = second.same ∙ first.same; fits = first.fits }
+          let first : Found n G t u (ring.at + 1) count s = counted s (fits_read n G u v ring.at front s read_front fit) in
+          let second : WasRead ring.at front (after t s) (after v s) = was_read n G u v ring.at front s (after t s) first.same read_front fit in
+          record { there = second.value; same = second.same; fits = first.fits }
 
       seen_count : (s : List ℕ) → Fits n G v s → slice_get (after t s) (ring.at + 1) ≡ Some count
-      seen_count s fit = (counted s (found n G u v ring.at front read_front s fit).fits).there
+      seen_count s fit = (counted s (fits_read n G u v ring.at front s read_front fit)).there
 
       -- the front is a place, and there are no more items than places
       pub bounds : InEach n G t (IsInOrder ring) → SomeFits n G v → (front < ring.capacity) × (count ≤ ring.capacity)
@@ -105,16 +106,14 @@ module _ (ring : Ring) (n : ℕ) (G : List ℕ → Type 0) (t : Trace) where
             let f : Found n G t v ring.at front s = seen s fit0 in
             let is_a' : a ≡ place_at ring ((front + count) % ring.capacity) = is_a ∙ ap (λ k. place_at ring k) is_p in
             let is_b' : b ≡ place_at ring ((front + count) % ring.capacity) + 1 = is_b ∙ ap (λ k. place_at ring k + 1) is_p in
-            let first : after w1 s ≡ slice_set (after t s) (place_at ring ((front + count) % ring.capacity)) item.0 =
-            after_write_end v w1 a item.0 s ends1 ∙ ap (λ z. slice_set z a item.0) f.same ∙ ap (λ k. slice_set (after t s) k item.0) is_a' in
-            let second : after w2 s ≡ slice_set (slice_set (after t s) (place_at ring ((front + count) % ring.capacity))
-            item.0) (place_at ring ((front + count) % ring.capacity) + 1) item.1 =
-            after_write_end w1 w2 b item.1 s ends2 ∙ ap (λ z. slice_set z b item.1) first
-            ∙ ap (λ k. slice_set (slice_set (after t s) (place_at ring ((front + count) % ring.capacity)) item.0) k item.1) is_b' in
+            let place : ℕ = place_at ring ((front + count) % ring.capacity) in
+            let first : after w1 s ≡ slice_set (after t s) place item.0 =
+            was_put v w1 a item.0 s (after t s) f.same ends1 ∙ ap (λ k. slice_set (after t s) k item.0) is_a' in
+            let second : after w2 s ≡ slice_set (slice_set (after t s) place item.0) (place + 1) item.1 =
+            was_put w1 w2 b item.1 s _ first ends2 ∙ ap (λ k. slice_set (slice_set (after t s) place item.0) k item.1) is_b' in
             let third : after w3 s ≡ pushed_words ring (after t s) ((front + count) % ring.capacity) item count =
-            after_write_end w2 w3 (ring.at + 1) x s ends3 ∙ ap (λ z. slice_set z (ring.at + 1) x) second
-            ∙ ap (λ k. slice_set (slice_set (slice_set (after t s) (place_at ring ((front + count) % ring.capacity))
-            item.0) (place_at ring ((front + count) % ring.capacity) + 1) item.1) (ring.at + 1) k) is_x in
+            was_put w2 w3 (ring.at + 1) x s _ second ends3
+            ∙ ap (λ k. slice_set (slice_set (slice_set (after t s) place item.0) (place + 1) item.1) (ring.at + 1) k) is_x in
             subst (λ z. QueueHolds ring z (items ++ item ∷ [])) (sym third) (pushed ring (after t s) items item count front (seen_count s fit0) f.there lt h);
       }
 
@@ -127,20 +126,18 @@ module _ (ring : Ring) (n : ℕ) (G : List ℕ → Type 0) (t : Trace) where
         at = λ s fit items h.
             let fit_w1 : Fits n G w1 s = fits_write_end n G w1 w2 (ring.at + 1) x s ends2 fit in
             let fit_r2 : Fits n G r2 s = fits_write_end n G r2 w1 ring.at f s ends1 fit_w1 in
-            let second : Found n G r1 r2 b item.1 s = found n G r1 r2 b item.1 read2 s fit_r2 in
-            let first : Found n G v r1 a item.0 s = found n G v r1 a item.0 read1 s second.fits in
-            let k : Found n G t v ring.at front s = seen s first.fits in
-            let same_r1 : after r1 s ≡ after t s = first.same ∙ k.same in
+            let fit_r1 : Fits n G r1 s = fits_read n G r1 r2 b item.1 s read2 fit_r2 in
+            let k : Found n G t v ring.at front s = seen s (fits_read n G v r1 a item.0 s read1 fit_r1) in
+            let first : WasRead a item.0 (after t s) (after r1 s) = was_read n G v r1 a item.0 s (after t s) k.same read1 fit_r1 in
+            let second : WasRead b item.1 (after t s) (after r2 s) = was_read n G r1 r2 b item.1 s (after t s) first.same read2 fit_r2 in
             let here : HasItem ring (after t s) front item = record {
-              first = ap (λ z. slice_get (after t s) z) (sym is_a) ∙ ap (λ z. slice_get z a) (sym k.same) ∙ first.there;
-              second = ap (λ z. slice_get (after t s) z) (sym is_b) ∙ ap (λ z. slice_get z b) (sym same_r1) ∙ second.there;
+              first = ap (λ z. slice_get (after t s) z) (sym is_a) ∙ first.value;
+              second = ap (λ z. slice_get (after t s) z) (sym is_b) ∙ second.value;
             } in
             let moved : after w1 s ≡ slice_set (after t s) ring.at ((front + 1) % ring.capacity) =
-            after_write_end r2 w1 ring.at f s ends1 ∙ ap (λ z. slice_set z ring.at f) (second.same ∙ same_r1)
-            ∙ ap (λ z. slice_set (after t s) ring.at z) is_f in
-            let last : after w2 s ≡ popped_words ring (after t s) front x =
-            after_write_end w1 w2 (ring.at + 1) x s ends2 ∙ ap (λ z. slice_set z (ring.at + 1) x) moved in
-            let is_count : slice_get (after t s) (ring.at + 1) ≡ Some (x + 1) = seen_count s first.fits ∙ ap (λ z. Some z) is_x in
+            was_put r2 w1 ring.at f s (after t s) second.same ends1 ∙ ap (λ z. slice_set (after t s) ring.at z) is_f in
+            let last : after w2 s ≡ popped_words ring (after t s) front x = was_put w1 w2 (ring.at + 1) x s _ moved ends2 in
+            let is_count : slice_get (after t s) (ring.at + 1) ≡ Some (x + 1) = seen_count s (fits_read n G v r1 a item.0 s read1 fit_r1) ∙ ap (λ z. Some z) is_x in
             subst (λ z. TakesFront ring item z items) (sym last) (popped ring (after t s) items item x front is_count k.there here h);
       }
 

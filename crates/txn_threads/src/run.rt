@@ -7,6 +7,7 @@ ghost use Rattle.history_model.specs.Legal.{IsLegalHistory};
 ghost use Rattle.word_table.specs.declared.limits.TheConstants.{MOST_PASSES, MOST_WORDS};
 ghost use Rattle.txn_threads.specs.Clients.{HaveWorked};
 ghost use Rattle.txn_threads.specs.Inner.Seats.{AreNew, AreParts, HasEnded, HaveServed, IsReady, IsReadyFor};
+ghost use Rattle.word_table.specs.Desks.{IsGoodFor};
 
 use crate::client::Client;
 use crate::seat::Seat;
@@ -59,7 +60,7 @@ fn work_all<C: Client, R: Threads + Wait + Sync>(
     seats: &mut [Seat<C>],
 )
     requires some { 0 < length seats.old }
-    requires good { IsGood (C.Shape.word_count desk.now.shape) (C.Shape.good desk.now.shape)
+    requires good { IsGoodFor C.Shape.Shape desk.now
         desk.now.base }
     requires ready { All (IsReady C.shape C.can_begin desk.now) seats.old }
     ensures ended { (k : ℕ) (d : _) → k < length seats.old
@@ -70,7 +71,7 @@ fn work_all<C: Client, R: Threads + Wait + Sync>(
         seats,
         seats.len(),
         &|_, seat: &mut Seat<C>|
-            requires { IsGood (C.Shape.word_count desk.now.shape) (C.Shape.good desk.now.shape)
+            requires { IsGoodFor C.Shape.Shape desk.now
                 desk.now.base × IsReady C.shape C.can_begin desk.now seat.now }
             ensures { HasEnded C.does desk.entry.now seat.entry.now seat.exit.now }
         {
@@ -114,7 +115,7 @@ fn serve<C: Client, R: Threads + Wait + Sync>(
     passes: Vec<Pass<C::Shape>>,
 ) -> Result<(Vec<C>, Vec<Pass<C::Shape>>), OutOfMemory>
     requires some { 0 < length clients.items }
-    requires good { IsGood (C.Shape.word_count desk.now.shape) (C.Shape.good desk.now.shape)
+    requires good { IsGoodFor C.Shape.Shape desk.now
         desk.now.base }
     requires ready { All (IsReadyFor C.shape C.can_begin desk.now) clients.items }
     requires new { AreNew desk.now passes.items }
@@ -132,6 +133,12 @@ fn serve<C: Client, R: Threads + Wait + Sync>(
 ///
 /// Where there is no memory for the table, or a client finds none, there is no table to be had: the other clients go on
 /// to their end, and their work is lost. A client may wait for others: that a wait ends, no clause says.
+///
+/// Three visitors, who try to enter three times each (`turnstile`):
+///
+///     let visitors = vec![in alloc; Visitor { room, times: 3 }; 3]?;
+///     let ended = run_clients(rt, alloc, room, vec![in alloc; 0]?, visitors)?;
+///     let inside = ended.closed.words()[0];
 pub fn run_clients<C: Client, R: Threads + Wait + Sync>(
     rt: &R,
     alloc: Global,

@@ -1,5 +1,7 @@
 -- what a write at the end of a trace leaves
 pub mod Steps
+-- what the reads and writes of a job tell, one after another: what every job cites
+pub mod JobLaws
 -- from what a call on words did to what holds after it
 pub mod CallLaws
 -- words in a plain list, after one event more

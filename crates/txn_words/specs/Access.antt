@@ -17,13 +17,13 @@ Changes {Model} stands change old new = (model : Model) → stands old model →
 
 -- from state to state: the model changes so unless it lacks the room for it, and then it stays what it was;
 -- the answer says whether it has it
-pub record ChangesWithRoom {Model : Type 0} (stands : List ℕ → Model → Type 0) (lacks_room : Model
-    → Bool) (change : Model → Model) (had_room : Bool) (old new : List ℕ) : Type 0 where
+pub record ChangesWithRoom {Model : Type 0} (stands : List ℕ → Model → Type 0)
+    (lacks_room : Model → Bool) (change : Model → Model) (had_room : Bool) (old new : List ℕ) : Type 0 where
   pub answer : (model : Model) → stands old model → had_room ≡ not (lacks_room model)
   pub left : (model : Model) → stands old model → stands new (if had_room then change model else model)
 
 -- from state to state: the answer is what the model says, and it changes so
-pub record TellsAndChanges {Model A : Type 0} (stands : List ℕ → Model → Type 0) (says : Model → A) (change : Model
-    → Model) (answer : A) (old new : List ℕ) : Type 0 where
+pub record TellsAndChanges {Model A : Type 0} (stands : List ℕ → Model → Type 0)
+    (says : Model → A) (change : Model → Model) (answer : A) (old new : List ℕ) : Type 0 where
   pub told : (model : Model) → stands old model → answer ≡ says model
   pub left : (model : Model) → stands old model → stands new (change model)

@@ -6,6 +6,7 @@ use Rattle.values_rule.specs.Steps.{begin_call_action}
 use Rattle.word_table.specs.Copies.{PassView}
 use Rattle.txn_commit.specs.Transactions.{AsksItsFootprint, EndsWithoutEntry}
 use Rattle.txn_commit.proofs.Ending.{begins_sound, both_on_err, ends_with_footprint, ends_without, some_seats, words_counted}
+use Rattle.txn_commit.proofs.Meaning.{is_meant}
 use Rattle.txn_commit.proofs.transaction.transact.Goals as goal
 
 pub run_attempts-ended-requires-clause-sound : goal.run_attempts-ended-requires-clause-sound
@@ -41,3 +42,9 @@ returns-clause-footprint g c = let back = sym (c.pass-1.given.1 (sym c.run_attem
     (ends_with_footprint (number c.release_all.new.pass.view) c.run_attempts-ended.new.attempt.pass.now.view
     c.release_all.new.pass.view c.finish_call.new.pass.view c.release_all.ensures.released c.finish_call.ensures.step asks))
     c.run_attempts-ended.ensures.footprint
+
+pub returns-clause-meant : goal.returns-clause-meant
+returns-clause-meant g c =
+    is_meant (IsGood (g.S.Shape.word_count c.args.desk.now.shape) (g.S.Shape.good c.args.desk.now.shape)) c.args.desk.now.seats
+    c.args.desk.now.base _ _ _ _ _ c.began_good.ensures c.run_attempts-ended.result c.run_attempts-ended.ensures.legal
+    c.run_attempts-ended.ensures.entry

@@ -19,8 +19,8 @@ loop-x-preserved g c =
       stop = c.in_ok-write.ensures.stops;
       sound = c.in_ok-write.ensures.sound;
       grown = subst (λ m. Leads 1 (λ _. ⊤) [] (g.W.Words.trace c.write.new.self) (Grown m)) (sym more)
-          (grown_more 1 (λ _. ⊤) _ _ _ _ c.in_ok-v.v (get_or xs loop.x-index 0) (sum (take loop.x-index xs))
-          loop.invariant.grown c.in_ok-v.ensures.value c.in_ok-write.ensures.value room);
+          (grown_more 1 (λ _. ⊤) _ _ _ c.in_ok-v.v (sum (take loop.x-index xs)) loop.invariant.grown c.in_ok-v.ensures.value
+          _ (get_or xs loop.x-index 0) c.in_ok-write.ensures.value room);
     }
 
 pub returns-then-x-v-clause-meaning : goal.returns-then-x-v-clause-meaning
