@@ -198,16 +198,25 @@ const EVERY_REPLY: &str = "journal
 12 ann 12 0 done
 ";
 
-fn journal_of_every_reply(rt: &impl Abort, alloc: Global) -> Result<Vec<u8>, OutOfMemory> {
-    let replies = every_reply(alloc)?;
-    let input = input_of(rt, alloc, replies.len())?;
-    journal_before_full_books(rt, alloc, &input, &replies)
+// A copy of each.
+fn copies_of(alloc: Global, replies: &[Reply]) -> Result<Vec<Reply>, OutOfMemory> {
+    let mut copies = Vec::new(alloc);
+    for reply in replies {
+        copies.push(reply.copy(alloc)?)?;
+    }
+    Ok(copies)
 }
 
 #[test]
 fn a_journal_has_every_word_of_replies(rt: HostRuntime) -> Result<(), Fail> {
-    let text = journal_of_every_reply(&rt, rt.alloc())?;
-    let want = [EVERY_REPLY, FULL_BOOKS, "finish\n"].concat(rt.alloc())?;
-    assert_eq!(rt; text.as_slice(), want.as_bytes());
+    let alloc = rt.alloc();
+    let replies = every_reply(alloc)?;
+    let copies = copies_of(alloc, &replies)?;
+    let input = input_of(&rt, alloc, replies.len())?;
+    let want = [EVERY_REPLY, FULL_BOOKS, "finish\n"].concat(alloc)?;
+    for replies in [&replies, &copies] {
+        let text = journal_before_full_books(&rt, alloc, &input, replies)?;
+        assert_eq!(rt; text.as_slice(), want.as_bytes());
+    }
     Ok(())
 }

@@ -1,4 +1,6 @@
 -- how many entries a transaction adds, and the words that it found
 pub mod Entries
+-- what was made stays made, and a transaction more makes one move more
+pub mod Making
 -- what all tellers did together
 pub mod Serving

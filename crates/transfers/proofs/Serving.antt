@@ -1,5 +1,5 @@
 -- What all tellers did together.
-use Rattle.std.proofs.Common.{◌≡◌, ℕ, ◌+◌, ◌*◌, ◌<◌, [], ◌∷◌, All, List, Vec, Global, map, length, get_or, slice_index, sum_by, sym, ap, ◌∙◌, subst, arith}
+use Rattle.std.proofs.Common.{◌≡◌, ℕ, ◌+◌, ◌<◌, [], ◌∷◌, List, Vec, Global, Result, Ok, Err, IfOk, map, length, get_or, slice_index, sum_by, sym, ap, ◌∙◌, subst, arith}
 use Rattle.std.proofs.lemmas.List.{get_or-map, length-map}
 use Rattle.std.proofs.lemmas.List.Sums.{sum_by-append}
 use Rattle.std.proofs.Math.ListN.{get_or-map as get_or_map}
@@ -14,8 +14,9 @@ use Rattle.txn_threads.specs.Clients.{HasSeenItsOwn, HaveWorked}
 use Rattle.transfer_jobs.specs.declared.vault.Vault.{Vault}
 use Rattle.transfers.specs.declared.teller.Move.{Move}
 use Rattle.transfers.specs.declared.teller.Teller.{Teller}
-use Rattle.transfers.specs.Telling.{entries_of, one_by, HasMade, AreServed}
+use Rattle.transfers.specs.Telling.{entries_of, one_by, HasMade, AreServed, IsServed}
 use Rattle.transfers.proofs.Entries.{others_count}
+use Rattle.transfers.proofs.Making.{all_made}
 
 -- a pass has seen all entries of its own
 own_entries : (k : ℕ) (pass : PassView) (history : List Entry) → pass.view.who ≡ k ∷ [] → HasSeenItsOwn pass history
@@ -26,6 +27,11 @@ own_entries k pass history who saw =
     let none : entries_of k saw.rest ≡ 0 = others_count k saw.rest (λ e is same. saw.by_others e is (ap (λ n. n ∷ []) same ∙ sym who)) in
     omega (arith, whole, none)
 
+-- two clauses of one answer give a third
+pub of_both : {T E : Type 0} (answer : Result T E) (P Q R : T → Type 0) → ((x : T) → P x → Q x → R x) → IfOk answer P → IfOk answer Q → IfOk answer R
+of_both (Ok x) P Q R both p q = both x p q
+of_both (Err e) P Q R both p q = cc
+
 -- the moves of a teller
 abbrev pub moves_of : Teller → Vec Move Global
 moves_of teller = teller.moves
@@ -33,13 +39,26 @@ moves_of teller = teller.moves
 abbrev pub items_of : Vec Move Global → List Move
 items_of moves = moves.items
 
-module _ (vault : Vault) (lists : List (Vec Move Global)) (tellers new : List Teller) (closed : ClosedView Vault)
-    (moves_are : map moves_of tellers ≡ lists) (vaults : All (λ (t : Teller). (t.told.items ≡ []) × (t.vault ≡ vault)) tellers)
-    (worked : HaveWorked (λ (desk : DeskView Vault) (old now : Teller) (before after : PassView). HasMade old now after) closed tellers new) where
+-- what a pass knows of its list, and what the whole history says of it
+of_all : (base : List ℕ) (k : ℕ) (pass : PassView) (history : List Entry) (moves : List Move) (told : List ℕ) → pass.view.who ≡ k ∷ []
+    → HasSeenItsOwn pass history → IsServed base pass.view.seen (number pass.view) moves told → IsServed base history k moves told
+of_all base k pass history moves told who saw served =
+    let here : IsServed base pass.view.seen k moves told =
+    subst (λ n. IsServed base pass.view.seen n moves told) (ap (λ l. slice_index l 0) who) served in
+    record {
+      made = all_made base k pass.view.seen history saw.rest saw.seen moves (length moves) here.made;
+      entries = own_entries k pass history who saw ∙ here.entries;
+      audits = here.audits;
+      tell = here.tell;
+    }
+
+module _ (lists : List (Vec Move Global)) (tellers new : List Teller) (closed : ClosedView Vault)
+    (moves_are : map moves_of tellers ≡ lists)
+    (worked : HaveWorked (λ (desk : DeskView Vault) (old now : Teller) (before after : PassView). HasMade desk.base old now after) closed tellers new) where
   many : length lists ≡ length tellers
   many = ap length (sym moves_are) ∙ length-map tellers moves_of
 
-  pub all_served : AreServed vault.total closed.history (map items_of lists) new
+  pub all_served : AreServed closed.base closed.history (map items_of lists) new
   all_served = record {
     count = worked.left ∙ sym many ∙ sym (length-map lists items_of);
     each = λ k moves teller lt.
@@ -52,12 +71,9 @@ module _ (vault : Vault) (lists : List (Vec Move Global)) (tellers new : List Te
         let list_is : get_or (map items_of lists) k moves ≡ old.moves.items =
         get_or-map items_of lists k teller.moves moves (omega (arith, within, many))
         ∙ ap (λ l. items_of (get_or l k teller.moves)) (sym moves_are) ∙ ap items_of (get_or_map moves_of tellers k teller) in
-        let number_is : number after.view ≡ k = ap (λ l. slice_index l 0) w.who_is in
         let here : IsIn after worked.passes = (k, slice_get-get_or worked.passes k some (omega (arith, within, worked.count))) in
-        record {
-          entries = own_entries k after closed.history w.who_is (worked.seen after here) ∙ ap (λ n. entries_of n after.view.seen) (sym number_is)
-              ∙ w.done.made.entries ∙ ap (λ l. 2 * length l) (sym list_is);
-          audits = w.done.made.audits ∙ ap length (sym list_is);
-          tell = subst (λ (v : Vault). All (λ sum. sum ≡ v.total) now.told.items) (vaults k teller within).1 w.done.made.tell;
-        };
+        let served : IsServed closed.base after.view.seen (number after.view) old.moves.items now.told.items =
+        subst (λ (base : List ℕ). IsServed base after.view.seen (number after.view) old.moves.items now.told.items) worked.base_is w.done.served in
+        subst (λ (l : List Move). IsServed closed.base closed.history k l now.told.items) (sym list_is)
+        (of_all closed.base k after closed.history old.moves.items now.told.items w.who_is (worked.seen after here) served);
   }

@@ -1,11 +1,12 @@
 -- What a teller did, and how many entries of a history are a seat's.
 use Rattle.std.specs.Prelude.{◌≡◌, ℕ, ◌*◌, ◌==◌, ◌<◌, List, All, length, get_or, sum_by, if◌then◌else◌}
+use Rattle.std.specs.List.{sum}
 use Rattle.history_model.specs.declared.entry.Entry.{Entry}
 use Rattle.history_model.specs.Views.{number}
 use Rattle.word_table.specs.Copies.{PassView}
-use Rattle.transfer_jobs.specs.declared.vault.Vault.{Vault}
 use Rattle.transfers.specs.declared.teller.Move.{Move}
 use Rattle.transfers.specs.declared.teller.Teller.{Teller}
+use Rattle.transfers.specs.Making.{AreMade}
 
 -- one for an entry by this seat, and else none
 abbrev pub one_by : ℕ → Entry → ℕ
@@ -15,24 +16,21 @@ one_by who e = if e.who == who then 1 else 0
 abbrev pub entries_of : ℕ → List Entry → ℕ
 entries_of who history = sum_by (one_by who) history
 
--- the pass has two entries for each move, and each of as many audits told the total
-pub record MakesAll (vault : Vault) (moves : List Move) (told : List ℕ) (pass : PassView) : Type 0 where
-  pub entries : entries_of (number pass.view) pass.view.seen ≡ 2 * length moves
+-- all moves were made in their order, each by an entry of this seat; it has as many more, the audits, each of which told the
+-- sum of the words that the history began with
+pub record IsServed (base : List ℕ) (history : List Entry) (who : ℕ) (moves : List Move) (told : List ℕ) : Type 0 where
+  pub made : AreMade base history who moves (length moves)
+  pub entries : entries_of who history ≡ 2 * length moves
   pub audits : length told ≡ length moves
-  pub tell : All (λ sum. sum ≡ vault.total) told
+  pub tell : All (λ total. total ≡ sum base) told
 
--- from what the teller was to what it is, and what its pass knows: it made its moves
-pub record HasMade (old new : Teller) (pass : PassView) : Type 0 where
+-- from what the teller was to what it is, and what its pass has seen: its list was served
+pub record HasMade (base : List ℕ) (old new : Teller) (pass : PassView) : Type 0 where
   pub moves_stay : new.moves ≡ old.moves
-  pub made : MakesAll old.vault old.moves.items new.told.items pass
+  pub served : IsServed base pass.view.seen (number pass.view) old.moves.items new.told.items
 
--- of the history two entries for each move are by this teller's seat, and each of as many audits told the total
-pub record IsServed (total : ℕ) (history : List Entry) (k : ℕ) (moves : List Move) (teller : Teller) : Type 0 where
-  pub entries : entries_of k history ≡ 2 * length moves
-  pub audits : length teller.told.items ≡ length moves
-  pub tell : All (λ sum. sum ≡ total) teller.told.items
-
--- the same of each list, by the teller of its place
-pub record AreServed (total : ℕ) (history : List Entry) (lists : List (List Move)) (tellers : List Teller) : Type 0 where
+-- each list was served, by the teller of its place
+pub record AreServed (base : List ℕ) (history : List Entry) (lists : List (List Move)) (tellers : List Teller) : Type 0 where
   pub count : length tellers ≡ length lists
-  pub each : (k : ℕ) (moves : List Move) (teller : Teller) → k < length lists → IsServed total history k (get_or lists k moves) (get_or tellers k teller)
+  pub each : (k : ℕ) (moves : List Move) (teller : Teller) → k < length lists
+      → IsServed base history k (get_or lists k moves) (get_or tellers k teller).told.items

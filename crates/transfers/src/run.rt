@@ -48,8 +48,8 @@ pub fn run_transfers<R: Threads + Wait + Sync>(
     ensures count { IfOk result (λ ended.
         length ended.closed.words ≡ length accounts.items) }
     ensures total { IfOk result (λ ended. sum ended.closed.words ≡ sum accounts.items) }
-    // All moves were made, and each audit told that sum.
-    ensures served { IfOk result (λ ended. AreServed (sum accounts.items) ended.closed.history
+    // All moves were made, each list's in its order, and each audit told that sum.
+    ensures served { IfOk result (λ ended. AreServed accounts.items ended.closed.history
         (map (λ list. list.items) lists.items) ended.clients.items) }
 {
     let vault = Vault {

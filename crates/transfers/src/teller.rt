@@ -2,9 +2,10 @@
 
 ghost use Rattle.std.specs.Prelude.{◌≡◌, ◌*◌, ◌≤◌, [], length, OnOk};
 ghost use Rattle.history_model.specs.Fitting.{IsGood};
+ghost use Rattle.history_model.specs.Views.{number};
 ghost use Rattle.word_table.specs.declared.limits.TheConstants.{LAST_CALL};
 ghost use Rattle.transfer_jobs.specs.Moving.{HasSum};
-ghost use Rattle.transfers.specs.Telling.{MakesAll};
+ghost use Rattle.transfers.specs.Telling.{IsServed};
 ghost use Rattle.txn_threads.specs.Passes.{IsFresh, IsNext};
 
 use io_ends::OutOfMemory;
@@ -50,7 +51,7 @@ fn make_moves<R: Wait>(
     requires none { told.old.items ≡ [] }
     requires room { 2 * length moves.now ≤ LAST_CALL }
     ensures next { IsNext pass.old pass.new }
-    ensures made { OnOk result (MakesAll vault moves.now told.new.items pass.new) }
+    ensures served { OnOk result (IsServed desk.now.base pass.new.view.seen (number pass.new.view) moves.now told.new.items) }
 {
     let audit = Audit { vault };
     for step in moves {
@@ -78,7 +79,7 @@ impl Client for Teller {
 
     ghost can_begin = { λ teller. (teller.told.items ≡ []) × (2 * length teller.moves.items ≤ LAST_CALL) };
 
-    ghost does = { λ _ old new _ pass. HasMade old new pass };
+    ghost does = { λ desk old new _ pass. HasMade desk.base old new pass };
 
     fn work<R: Wait>(
         &mut self,

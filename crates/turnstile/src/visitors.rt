@@ -1,7 +1,9 @@
 //! Visitors on threads.
 
-ghost use Rattle.std.specs.Prelude.{◌≡◌, ◌≤◌, length, All, IfOk};
+ghost use Rattle.std.specs.Prelude.{◌≡◌, ◌≤◌, length, slice_index, All, IfOk};
 ghost use Rattle.word_table.specs.declared.limits.TheConstants.{MOST_PASSES};
+ghost use Rattle.txn_threads.specs.Clients.{HaveWorked};
+ghost use Rattle.turnstile.specs.Visiting.{HasTried};
 
 use crate::enter::{Enter, Room};
 use io_ends::OutOfMemory;
@@ -9,7 +11,7 @@ use std::alloc::Global;
 use std::sync::Wait;
 use std::thread::Threads;
 use txn_commit::transact;
-use txn_threads::{Client, run_clients};
+use txn_threads::{Client, Ended, run_clients};
 use word_table::{Desk, Pass};
 use worker_gate::OpenGate;
 
@@ -22,6 +24,7 @@ pub struct Visitor {
 
 impl Client for Visitor {
     ghost use Rattle.std.specs.Prelude.{⊤};
+    ghost use Rattle.turnstile.specs.Visiting.{HasTried};
 
     type Shape = Room;
 
@@ -29,7 +32,7 @@ impl Client for Visitor {
 
     ghost can_begin = { λ _. ⊤ };
 
-    ghost does = { λ _ _ _ _ _. ⊤ };
+    ghost does = { HasTried };
 
     fn work<R: Wait>(
         &mut self,
@@ -46,17 +49,19 @@ impl Client for Visitor {
     }
 }
 
-/// Opens an empty room with this limit to the visitors: how many are inside at the end.
+/// Opens an empty room with this limit to the visitors: the closed table, whose one word says how many are inside at the
+/// end, and the visitors.
 pub fn open_room<R: Threads + Wait + Sync>(
     rt: &R,
     alloc: Global,
     room: Room,
     visitors: Vec<Visitor>,
-) -> Result<u64, OutOfMemory>
+) -> Result<Ended<Visitor>, OutOfMemory>
     requires visitors { (1 ≤ length visitors.items) × (length visitors.items ≤ MOST_PASSES) }
     requires room { All (λ visitor. visitor.room ≡ room) visitors.items }
-    ensures { IfOk result (λ inside. inside ≤ room.limit) }
+    ensures few { IfOk result (λ ended. slice_index ended.closed.words 0 ≤ room.limit) }
+    // Each tried as often as it was to.
+    ensures tried { IfOk result (λ ended. HaveWorked HasTried ended.closed visitors.items ended.clients.items) }
 {
-    let ended = run_clients(rt, alloc, room, vec![in alloc; 0]?, visitors)?;
-    Ok(ended.closed.words()[0])
+    run_clients(rt, alloc, room, vec![in alloc; 0]?, visitors)
 }

@@ -26,7 +26,8 @@ pub trait Client: Send + Drop {
     /// What it does: at this desk, from what it was to what it is, and from what its pass knew to what that knows.
     ghost does: { DeskView Self.Shape → Self → Self → PassView → PassView → Type 0 };
 
-    /// Works until it has done all, or there is no memory. `place` is the number of its pass.
+    /// Works until it has done all, or there is no memory. `pass.who()` is the number of its pass, and its place among the
+    /// clients.
     fn work<R: Wait>(
         &mut self,
         rt: &R,

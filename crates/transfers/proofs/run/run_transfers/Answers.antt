@@ -1,11 +1,9 @@
-use Rattle.std.proofs.Common.{◌≡◌, ◌*◌, ◌≤◌, get_or, map, length, sum, sym, ap, ◌∙◌, subst, arith, rules}
+use Rattle.std.proofs.Common.{◌≡◌, ◌*◌, ◌≤◌, get_or, map, length, sym, ap, ◌∙◌, subst, arith}
 use Rattle.std.proofs.lemmas.List.{length-map}
-use Rattle.std.proofs.lemmas.Result.{IfOk-weaker}
 use Rattle.std.proofs.Math.ListN.{get_or-map}
 use Rattle.word_table.specs.declared.limits.TheConstants.{LAST_CALL}
-use Rattle.transfer_jobs.specs.declared.vault.Vault.{Vault}
 use Rattle.transfers.specs.Telling.{AreServed}
-use Rattle.transfers.proofs.Serving.{moves_of, items_of, all_served}
+use Rattle.transfers.proofs.Serving.{moves_of, items_of, all_served, of_both}
 use Rattle.transfers.proofs.run.run_transfers.Goals as goal
 
 pub run_clients-requires-clause-ready : goal.run_clients-requires-clause-ready
@@ -20,10 +18,8 @@ run_clients-requires-clause-ready g c κs within = λ k d lt.
 pub returns-clause-served : goal.returns-clause-served
 returns-clause-served g c =
     let made = c.in_ok-tellers.ensures in
-    let vault : Vault = record { words = c.len.result; total = c.sum.result } in
     let lists = map items_of c.args.lists.items in
-    let total : vault.total ≡ sum c.args.accounts.items = search rules in
-    IfOk-weaker c.run_clients.result _ (λ ended. AreServed (sum c.args.accounts.items) ended.closed.history lists ended.clients.items)
-    (λ ended worked. subst (λ n. AreServed n ended.closed.history lists ended.clients.items) total
-    (all_served vault c.args.lists.items c.in_ok-tellers.tellers.items ended.clients.items ended.closed made.moves made.new worked))
-    c.run_clients.ensures.worked
+    of_both c.run_clients.result _ _ (λ ended. AreServed c.args.accounts.items ended.closed.history lists ended.clients.items)
+    (λ ended closed worked. subst (λ base. AreServed base ended.closed.history lists ended.clients.items) closed.0
+    (all_served c.args.lists.items c.in_ok-tellers.tellers.items ended.clients.items ended.closed made.moves worked))
+    c.run_clients.ensures.closed c.run_clients.ensures.worked

@@ -1,11 +1,14 @@
-use Rattle.std.proofs.Common.{◌≡◌, ◌+◌, [], ◌∷◌, length, length-append, slice_index, ap, ◌∙◌, arith}
+use Rattle.std.proofs.Common.{◌≡◌, ◌+◌, ℕ, List, [], ◌∷◌, length, length-append, get_or, slice_index, sum, sym, ap, ◌∙◌, subst, arith}
+use Rattle.std.proofs.lemmas.List.{append_assoc, get_or_default}
 use Rattle.std.proofs.lemmas.List.Elements.{All-push, All-same}
 use Rattle.history_model.specs.Fitting.{IsGood}
 use Rattle.history_model.specs.Views.{number}
-use Rattle.transfer_jobs.specs.declared.vault.Vault.{Vault}
 use Rattle.transfer_jobs.specs.Moving.{HasSum}
+use Rattle.transfers.specs.declared.teller.Move.{Move}
+use Rattle.transfers.specs.Making.{AreMade}
 use Rattle.transfers.specs.Telling.{entries_of}
 use Rattle.transfers.proofs.Entries.{one_entry_more, found_good}
+use Rattle.transfers.proofs.Making.{all_made, next_made}
 use Rattle.transfers.proofs.teller.make_moves.Goals as goal
 
 pub loop-step-preserved : goal.loop-step-preserved
@@ -19,6 +22,9 @@ loop-step-preserved g c =
     let was = at.pass.view in
     let between = c.transact.new.pass.view in
     let now = c.transact-in-loop-step.new.pass.view in
+    let moves : List Move = c.args.moves.now in
+    let none : Move = record { from = 0; to = 0; amount = 0 } in
+    let step : Move = get_or moves at.step-index none in
     let call_1 : between.call ≡ was.call + 1 = moved.call in
     let call_2 : now.call ≡ between.call + 1 = audited.call in
     let same_1 : number between ≡ number was = ap (λ l. slice_index l 0) moved.seat.who in
@@ -29,14 +35,21 @@ loop-step-preserved g c =
     let here : entries_of (number between) between.seen ≡ entries_of (number was) between.seen = ap (λ k. entries_of k between.seen) same_1 in
     let there : entries_of (number now) now.seen ≡ entries_of (number between) now.seen = ap (λ k. entries_of k now.seen) same_2 in
     let good = found_good Good desk.seats desk.base _ _ _ _ _ _ audited.entry c.requires.good audited.legal in
+    let made : AreMade desk.base between.seen (number was) moves (at.step-index + 1) =
+    next_made desk.base (number was) _ _ _ _ moves at.step-index step
+    (λ m. get_or_default moves at.step-index m none c.loop-step-test.true) moved.entry i.made in
+    let later : AreMade desk.base now.seen (number was) moves (at.step-index + 1) =
+    all_made desk.base (number was) between.seen now.seen _
+    (audited.entry.seen ∙ append_assoc between.seen audited.entry.others (audited.entry.entry ∷ [])) moves (at.step-index + 1) made in
     record {
       table = audited.desk ∙ moved.desk ∙ i.table;
       idle = audited.idle;
       who = audited.seat.who ∙ moved.seat.who ∙ i.who;
       calls = omega (arith, call_1, call_2, i.calls);
+      made = subst (λ (k : ℕ). AreMade desk.base now.seen k moves (at.step-index + 1)) (sym (same_2 ∙ same_1)) later;
       entries = omega (arith, one, two, here, there, i.entries);
       audits = omega (arith, ap length c.in_ok-push.ensures.items, length-append at.told.items (c.in_ok-receipt.receipt.answer ∷ []), i.audits);
-      tell = All-same (λ sum. sum ≡ c.args.vault.total) _ _ c.in_ok-push.ensures.items
-          (All-push (λ sum. sum ≡ c.args.vault.total) at.told.items c.in_ok-receipt.receipt.answer i.tell
-          (audited.entry.meaning.tells ∙ good.good.sum_is ∙ ap (λ (v : Vault). v.total) c.requires.shape));
+      tell = All-same (λ told. told ≡ sum desk.base) _ _ c.in_ok-push.ensures.items
+          (All-push (λ told. told ≡ sum desk.base) at.told.items c.in_ok-receipt.receipt.answer i.tell
+          (audited.entry.meaning.tells ∙ good.good.sum_is ∙ sym c.requires.good.good.sum_is));
     }

@@ -1,17 +1,19 @@
-use Rattle.std.proofs.Common.{◌≡◌, ◌*◌, All, length}
+use Rattle.std.proofs.Common.{◌≡◌, ◌*◌, All, length, sum}
 use Rattle.history_model.specs.declared.view.Phase.TheVariants.{Idle}
 use Rattle.history_model.specs.Views.{number}
+use Rattle.transfers.specs.Making.{AreMade}
 use Rattle.transfers.specs.Telling.{entries_of}
 use Rattle.transfers.proofs.teller.make_moves.Given as goal
 
--- so many moves were made, and as many audits, which told the total
+-- so many moves were made, and as many audits, which told the sum
 abbrev pub invariant-loop-step : goal.invariant-loop-step
 invariant-loop-step g l = record {
   table : l.pass.table ≡ l.initial.pass.table;
   idle : l.pass.view.phase ≡ Idle;
   who : l.pass.view.who ≡ l.initial.pass.view.who;
   calls : l.pass.view.call ≡ 2 * l.step-index;
+  made : AreMade l.desk.base l.pass.view.seen (number l.pass.view) l.moves l.step-index;
   entries : entries_of (number l.pass.view) l.pass.view.seen ≡ 2 * l.step-index;
   audits : length l.told.items ≡ l.step-index;
-  tell : All (λ sum. sum ≡ l.vault.total) l.told.items;
+  tell : All (λ total. total ≡ sum l.desk.base) l.told.items;
 }

@@ -1,0 +1,10 @@
+-- What one visitor did.
+use Rattle.std.specs.Prelude.{◌≡◌}
+use Rattle.word_table.specs.Copies.{PassView}
+use Rattle.word_table.specs.Desks.{DeskView}
+use Rattle.turnstile.specs.declared.enter.Room.{Room}
+use Rattle.turnstile.specs.declared.visitors.Visitor.{Visitor}
+
+-- it made a call for each time that it was to try
+abbrev pub HasTried : DeskView Room → Visitor → Visitor → PassView → PassView → Type 0
+HasTried desk old new before pass = pass.view.call ≡ old.times
