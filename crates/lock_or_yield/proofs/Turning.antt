@@ -15,7 +15,7 @@ use Rattle.word_table.specs.declared.answer.Shared.TheVariants as shared
 use Rattle.word_table.specs.Calls.{SameCall, GrantsStay, GaveWay, SharedBy}
 use Rattle.lock_or_yield.specs.declared.turn.Tried.{Tried}
 use Rattle.lock_or_yield.specs.declared.turn.Tried.TheVariants as tried
-use Rattle.lock_or_yield.specs.Asking.{GainsAtMost, GainsOn, Asks, AsksToRead, AsksToWrite, draws_once, with_locks, MeetsNobody, GoesOn, GivesWay}
+use Rattle.lock_or_yield.specs.Asking.{GainsAtMost, GainsOn, Asks, AsksToRead, AsksToWrite, draws_once, with_locks, MeetsNobody, MeetsSome, MeetsAndYields}
 use Rattle.lock_or_yield.proofs.Steps.{share_leaves}
 use Rattle.lock_or_yield.specs.Turns.{tried_of, JudgesMet, JudgedToWait, JudgedToYield}
 
@@ -115,8 +115,8 @@ pub record Turned (good : List ℕ → Type 0) (n : ℕ) (base : List ℕ) (a : 
   pub asks : Asks a old new
   pub judged : new.met ≡ []
   pub granted : r ≢ tried.Granted
-  pub waits : (j : ℕ) → r ≡ tried.Wait j → GoesOn ((lock_of_word a, j) ∷ []) old new
-  pub yields : (cause : Cause) → r ≡ tried.Yield cause → GivesWay good n base ((lock_of_word a, cause.seat) ∷ []) cause old new
+  pub waits : (j : ℕ) → r ≡ tried.Wait j → MeetsSome ((lock_of_word a, j) ∷ []) old new
+  pub yields : (cause : Cause) → r ≡ tried.Yield cause → MeetsAndYields good n base ((lock_of_word a, cause.seat) ∷ []) cause old new
 
 pub wait_same : (i j : ℕ) → tried.Wait i ≡ tried.Wait j → i ≡ j
 wait_same i j e = cc
@@ -165,7 +165,7 @@ waited good n base a i old met new none has asked grants w =
       };
       judged = ap (λ (v : View). v.met) w.view;
       granted = λ e. cc;
-      waits = λ j e. subst (λ (x : ℕ). GoesOn ((k, x) ∷ []) old new) (wait_same i j e) record { view = view; stamped = w.stamped };
+      waits = λ j e. subst (λ (x : ℕ). MeetsSome ((k, x) ∷ []) old new) (wait_same i j e) record { view = view; stamped = w.stamped };
       yields = λ cause e. absurd cc;
     }
 
@@ -220,7 +220,7 @@ yielded good n base a cause old met new none seat has asked grants w =
       judged = ap (λ (v : View). v.met) view ∙ none;
       granted = λ e. cc;
       waits = λ j e. absurd cc;
-      yields = λ other e. subst (λ (x : Cause). GivesWay good n base ((k, x.seat) ∷ []) x old new) (yield_same cause other e) record {
+      yields = λ other e. subst (λ (x : Cause). MeetsAndYields good n base ((k, x.seat) ∷ []) x old new) (yield_same cause other e) record {
         gave_way = subst (λ (v : View). GaveWay good n base cause (record v {
           met = i ∷ [];
           meetings =

@@ -11,7 +11,7 @@ use Rattle.stamps_rule.specs.Stamps.{AreRestartsBounded}
 use Rattle.word_table.specs.Calls.{GaveWay}
 use Rattle.lock_or_yield.specs.declared.turn.Tried.TheVariants as tried
 use Rattle.lock_or_yield.specs.declared.want.Got.TheVariants as got
-use Rattle.lock_or_yield.specs.Asking.{GainsOn, Asks, AsksToRead, AsksToWrite, draws_once, with_locks, MeetsNobody, GoesOn, GivesWay, WentOn}
+use Rattle.lock_or_yield.specs.Asking.{GainsOn, Asks, AsksToRead, AsksToWrite, draws_once, with_locks, MeetsNobody, MeetsSome, MeetsAndYields, WentOn}
 use Rattle.lock_or_yield.specs.Turns.{MeetsAndJudges}
 use Rattle.locks_rule.specs.Actions.{Action}
 use Rattle.lock_or_yield.proofs.Steps.{gains_none, gains_twice}
@@ -102,7 +102,7 @@ went old mid new x f e r =
 pub went_nobody : (old mid new : View) → WentOn old mid → MeetsNobody mid new → WentOn old new
 went_nobody old mid new f e = went old mid new (with_locks new mid) f e refl
 
-pub went_on : (met : List (ℕ × ℕ)) (old mid new : View) → WentOn old mid → GoesOn met mid new → WentOn old new
+pub went_on : (met : List (ℕ × ℕ)) (old mid new : View) → WentOn old mid → MeetsSome met mid new → WentOn old new
 went_on met old mid new f s = went old mid new (record (with_locks new mid) {
   meetings = mid.meetings ++ met;
   stamp =
@@ -112,8 +112,8 @@ went_on met old mid new f s = went old mid new (record (with_locks new mid) {
 }) f s.view refl
 
 gives_way_more : (good : List ℕ → Type 0) (n : ℕ) (base : List ℕ) (k : ℕ) (met : List (ℕ × ℕ)) (cause : Cause)
-    (old mid new : View) → WentOn old mid → draws_once mid ≡ draws_once old → GainsOn k old.meetings mid.meetings → GivesWay good n base met cause mid new
-    → (waited : List (ℕ × ℕ)) × GivesWay good n base (waited ++ met) cause old new
+    (old mid new : View) → WentOn old mid → draws_once mid ≡ draws_once old → GainsOn k old.meetings mid.meetings → MeetsAndYields good n base met cause mid new
+    → (waited : List (ℕ × ℕ)) × MeetsAndYields good n base (waited ++ met) cause old new
 gives_way_more good n base k met cause old mid new f once m s = (
   m.0,
   record {
@@ -157,10 +157,10 @@ gave_way x P h = ⊎_elim (λ e. absurd cc) (λ p. p) h
 module _ (old mid new : View) (x : Cause) (on : WentOn old mid) where
   pub turns_yield : (good : List ℕ → Type 0) (n : ℕ) (base : List ℕ) (k : ℕ) (cause : Cause)
       → got.Yield x ≡ got.Yield cause → draws_once mid ≡ draws_once old → GainsOn k old.meetings mid.meetings
-      → GivesWay good n base ((k, x.seat) ∷ []) x mid new
-      → (waited : List (ℕ × ℕ)) × GivesWay good n base (waited ++ (k, cause.seat) ∷ []) cause old new
+      → MeetsAndYields good n base ((k, x.seat) ∷ []) x mid new
+      → (waited : List (ℕ × ℕ)) × MeetsAndYields good n base (waited ++ (k, cause.seat) ∷ []) cause old new
   turns_yield good n base k cause e once more gives =
-      subst (λ (y : Cause). (waited : List (ℕ × ℕ)) × GivesWay good n base (waited ++ (k, y.seat) ∷ []) y old new) (yield_is x cause e)
+      subst (λ (y : Cause). (waited : List (ℕ × ℕ)) × MeetsAndYields good n base (waited ++ (k, y.seat) ∷ []) y old new) (yield_is x cause e)
       (gives_way_more good n base k ((k, x.seat) ∷ []) x old mid new on once more gives)
 
   pub turns_met : (is_step : ℕ → ℕ → View → (View → Action) → View → Type 0) (sound : List ℕ → List View

@@ -76,7 +76,7 @@ abbrev pub MeetsNobody : View → View → Type 0
 MeetsNobody old new = new ≡ with_locks new old
 
 -- the call goes on, and met some: its timestamp is drawn and announced
-pub record GoesOn (met : List (ℕ × ℕ)) (old new : View) : Type 0 where
+pub record MeetsSome (met : List (ℕ × ℕ)) (old new : View) : Type 0 where
   pub view : new ≡ record (with_locks new old) {
     meetings = old.meetings ++ met;
     stamp = new.stamp;
@@ -86,7 +86,7 @@ pub record GoesOn (met : List (ℕ × ℕ)) (old new : View) : Type 0 where
   pub stamped : 0 < new.stamp
 
 -- the attempt gives way to this cause, whose seat the call met last
-pub record GivesWay (good : List ℕ → Type 0) (n : ℕ) (base : List ℕ) (met : List (ℕ × ℕ)) (cause : Cause) (old new : View) : Type 0 where
+pub record MeetsAndYields (good : List ℕ → Type 0) (n : ℕ) (base : List ℕ) (met : List (ℕ × ℕ)) (cause : Cause) (old new : View) : Type 0 where
   pub gave_way : GaveWay good n base cause
       (record (with_locks new old) {
         meetings = old.meetings ++ met;

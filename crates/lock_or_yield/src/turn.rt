@@ -6,9 +6,9 @@ ghost use Rattle.history_model.specs.Sets.{has};
 ghost use Rattle.history_model.specs.Views.{number, HasClaim, HasWriteGrant, IsGranted};
 ghost use Rattle.stamps_rule.specs.Stamps.{AreRestartsBounded};
 ghost use Rattle.word_table.specs.Calls.{GrantsStay};
-ghost use Rattle.lock_or_yield.specs.Asking.{Asks, AsksToRead, AsksToWrite, GivesWay, GoesOn, MeetsNobody, draws_once};
+ghost use Rattle.lock_or_yield.specs.Asking.{Asks, AsksToRead, AsksToWrite, MeetsAndYields, MeetsSome, MeetsNobody, draws_once};
 ghost use Rattle.lock_or_yield.specs.Turns.{ClaimsAndScans, IsReadStep, IsWriteStep, JudgedToWait, JudgedToYield, JudgesMet, MeetsAndJudges, MeetsSeat, ScansClear, ScansUpTo};
-ghost use Rattle.word_table.specs.Desks.{IsGoodFor, RuleHolds};
+ghost use Rattle.word_table.specs.Desks.{AreGoodWords, RuleHolds};
 
 use history_model::{Cause, LOCKS, Phase, Shape, lock_of};
 use word_table::{Claimed, Desk, Judged, Pass, Scanned, Shared};
@@ -67,7 +67,7 @@ fn judge_met<S: Shape>(desk: &Desk<S>, pass: &mut Pass<S>, other: u32) -> Tried
     ensures waits { (j : ℕ) → result ≡ Tried.Wait j
         → (j ≡ other) × JudgedToWait pass.old.view pass.new.view }
     ensures yields { (cause : Cause) → result ≡ Tried.Yield cause → (cause.seat ≡ other)
-        × JudgedToYield (IsGoodFor S.Shape desk.now)
+        × JudgedToYield (AreGoodWords S.Shape desk.now)
         desk.now.seats desk.now.base cause pass.old.view pass.new.view }
     ensures bounded { AreRestartsBounded desk.now.seats (number pass.old.view) pass.new.view }
 {
@@ -92,9 +92,9 @@ pub fn try_read<S: Shape>(desk: &Desk<S>, pass: &mut Pass<S>, a: u64) -> Tried
     ensures granted { result ≡ Tried.Granted
         → IsGranted pass.new.view (lock_of_word a) × MeetsNobody pass.old.view pass.new.view }
     ensures waits { (j : ℕ) → result ≡ Tried.Wait j
-        → GoesOn ((lock_of_word a, j) ∷ []) pass.old.view pass.new.view }
+        → MeetsSome ((lock_of_word a, j) ∷ []) pass.old.view pass.new.view }
     ensures yields { (cause : Cause) → result ≡ Tried.Yield cause
-        → GivesWay (IsGoodFor S.Shape desk.now)
+        → MeetsAndYields (AreGoodWords S.Shape desk.now)
         desk.now.seats desk.now.base ((lock_of_word a, cause.seat) ∷ []) cause
         pass.old.view pass.new.view }
     ensures met { (result ≡ Tried.Granted) ⊎ MeetsAndJudges IsReadStep
@@ -168,9 +168,9 @@ pub fn try_write<S: Shape>(desk: &Desk<S>, pass: &mut Pass<S>, a: u64) -> Tried
     ensures granted { result ≡ Tried.Granted
         → HasWriteGrant pass.new.view (lock_of_word a) × MeetsNobody pass.old.view pass.new.view }
     ensures waits { (j : ℕ) → result ≡ Tried.Wait j
-        → GoesOn ((lock_of_word a, j) ∷ []) pass.old.view pass.new.view }
+        → MeetsSome ((lock_of_word a, j) ∷ []) pass.old.view pass.new.view }
     ensures yields { (cause : Cause) → result ≡ Tried.Yield cause
-        → GivesWay (IsGoodFor S.Shape desk.now)
+        → MeetsAndYields (AreGoodWords S.Shape desk.now)
         desk.now.seats desk.now.base ((lock_of_word a, cause.seat) ∷ []) cause
         pass.old.view pass.new.view }
     ensures met { (result ≡ Tried.Granted) ⊎ MeetsAndJudges IsWriteStep

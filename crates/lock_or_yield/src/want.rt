@@ -5,9 +5,9 @@ ghost use Rattle.history_model.specs.declared.view.View.{View};
 ghost use Rattle.history_model.specs.Locks.{lock_of_word};
 ghost use Rattle.history_model.specs.Views.{number, HasWriteGrant, IsGranted};
 ghost use Rattle.stamps_rule.specs.Stamps.{AreRestartsBounded};
-ghost use Rattle.lock_or_yield.specs.Asking.{Asks, AsksToRead, AsksToWrite, GivesWay, WentOn};
+ghost use Rattle.lock_or_yield.specs.Asking.{Asks, AsksToRead, AsksToWrite, MeetsAndYields, WentOn};
 ghost use Rattle.lock_or_yield.specs.Turns.{IsReadStep, IsWriteStep, MeetsAndJudges};
-ghost use Rattle.word_table.specs.Desks.{IsGoodFor, RuleHolds};
+ghost use Rattle.word_table.specs.Desks.{AreGoodWords, RuleHolds};
 
 use crate::turn::{Tried, try_read, try_write};
 use crossbeam_utils::Backoff;
@@ -38,7 +38,7 @@ pub fn want_read<R: Wait, S: Shape>(rt: &R, desk: &Desk<S>, pass: &mut Pass<S>, 
     ensures granted { result ≡ Got.Granted
         → IsGranted pass.new.view (lock_of_word a) × WentOn pass.old.view pass.new.view }
     ensures yields { (cause : Cause) → result ≡ Got.Yield cause → (waited : List (ℕ × ℕ))
-        × GivesWay (IsGoodFor S.Shape desk.now)
+        × MeetsAndYields (AreGoodWords S.Shape desk.now)
         desk.now.seats desk.now.base (waited ++ (lock_of_word a, cause.seat) ∷ [])
         cause pass.old.view pass.new.view }
     ensures met { (cause : Cause) → result ≡ Got.Yield cause
@@ -73,7 +73,7 @@ pub fn want_write<R: Wait, S: Shape>(rt: &R, desk: &Desk<S>, pass: &mut Pass<S>,
     ensures granted { result ≡ Got.Granted
         → HasWriteGrant pass.new.view (lock_of_word a) × WentOn pass.old.view pass.new.view }
     ensures yields { (cause : Cause) → result ≡ Got.Yield cause → (waited : List (ℕ × ℕ))
-        × GivesWay (IsGoodFor S.Shape desk.now)
+        × MeetsAndYields (AreGoodWords S.Shape desk.now)
         desk.now.seats desk.now.base (waited ++ (lock_of_word a, cause.seat) ∷ [])
         cause pass.old.view pass.new.view }
     ensures met { (cause : Cause) → result ≡ Got.Yield cause

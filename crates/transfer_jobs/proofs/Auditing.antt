@@ -6,7 +6,7 @@ use Rattle.history_model.specs.declared.event.Event.TheVariants.{Read}
 use Rattle.history_model.specs.Traces.{Trace, after}
 use Rattle.history_model.specs.Fitting.{Fits, SomeFits}
 use Rattle.txn_words.proofs.JobLaws.{WasRead, nothing_yet, was_read, fits_read}
-use Rattle.transfer_jobs.specs.Moving.{HasSum, Tells}
+use Rattle.transfer_jobs.specs.Moving.{HasSum, TellsSum}
 
 module _ (n vault : ℕ) where
   -- nothing has changed, and the total is the sum of the words before the place
@@ -47,7 +47,7 @@ module _ (n vault : ℕ) where
         omega (arith, within, x.before, x.here.word, some.1.good.sum_is, some.1.good.fits)
 
   -- all are summed
-  pub tells_all : (total : ℕ) (t : Trace) → IsSummed n total t → (s : List ℕ) → Fits n (HasSum vault) t s → Tells s true total (after t s)
+  pub tells_all : (total : ℕ) (t : Trace) → IsSummed n total t → (s : List ℕ) → Fits n (HasSum vault) t s → TellsSum s true total (after t s)
   tells_all total t summed s fit = record {
     keeps = refl;
     tells = summed.sum_is s fit ∙ ap sum (take_all n s (omega (arith, fit.count)));

@@ -24,7 +24,7 @@ pub record Moves (from to amount : ℕ) (s : List ℕ) (kept : Bool) (t : List �
   pub moves : kept ≡ true → t ≡ moved from to amount s
 
 -- the answer is the sum of the words, and nothing changes
-pub record Tells (s : List ℕ) (kept : Bool) (answer : ℕ) (t : List ℕ) : Type 0 where
+pub record TellsSum (s : List ℕ) (kept : Bool) (answer : ℕ) (t : List ℕ) : Type 0 where
   pub keeps : kept ≡ true
   pub tells : answer ≡ sum s
   pub same : t ≡ s

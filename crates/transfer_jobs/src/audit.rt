@@ -1,11 +1,11 @@
 //! The sum of all words of a vault.
 
-ghost use Rattle.transfer_jobs.specs.Moving.{Tells};
+ghost use Rattle.transfer_jobs.specs.Moving.{TellsSum};
 
 use crate::vault::Vault;
 use txn_words::{Job, Stop, Verdict, Words};
 
-/// Tells the sum of all words, and changes nothing.
+/// TellsSum the sum of all words, and changes nothing.
 #[derive(Clone, Copy, Debug, PartialEq, Eq)]
 pub struct Audit {
     pub vault: Vault,
@@ -18,7 +18,7 @@ impl Job for Audit {
 
     ghost shape = { λ job. job.vault };
 
-    ghost means = { λ _ s kept sum t. Tells s kept sum t };
+    ghost means = { λ _ s kept sum t. TellsSum s kept sum t };
 
     fn tag(&self) -> u64 {
         1

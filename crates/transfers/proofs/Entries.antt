@@ -1,12 +1,9 @@
--- How many entries of a history are a seat's, and the words that a transaction found.
-use Rattle.std.proofs.Common.{◌≡◌, ◌≢◌, ℕ, suc, ◌+◌, Bool, List, [], ◌∷◌, ◌++◌, length, take, sum_by, if◌then◌else◌, ⊎_elim, refl, ap, ◌∙◌, subst, arith}
+-- How many entries of a history are a seat's.
+use Rattle.std.proofs.Common.{◌≡◌, ◌≢◌, ℕ, suc, ◌+◌, Bool, List, [], ◌∷◌, ◌++◌, sum_by, if◌then◌else◌, ⊎_elim, refl, ap, ◌∙◌, arith}
 use Rattle.std.proofs.lemmas.Bool.Decides.{eqb_tells}
 use Rattle.std.proofs.lemmas.List.Sums.{sum_by-append, sum_by-cons, sum_by_push}
-use Rattle.std.proofs.Math.Seq.{take-append_seam}
 use Rattle.history_model.specs.declared.entry.Entry.{Entry}
-use Rattle.history_model.specs.Histories.{replay}
-use Rattle.history_model.specs.Legal.{IsIn, IsLegalHistory}
-use Rattle.history_model.proofs.HistoryLaws.{prefixes_leave_good}
+use Rattle.history_model.specs.Legal.{IsIn}
 use Rattle.txn_commit.specs.declared.transaction.Receipt.{Receipt}
 use Rattle.txn_commit.specs.Transactions.{GetsEntry}
 use Rattle.transfers.specs.Telling.{entries_of, one_by}
@@ -30,8 +27,8 @@ others_count who (e ∷ entries) others =
     let both : entries_of who (e ∷ entries) ≡ one_by who e + entries_of who entries = sum_by-cons (one_by who) e entries in
     omega (arith, both, first, rest)
 
-module _ {A : Type 0} (good : List ℕ → Type 0) (n : ℕ) (base : List ℕ) (means : List ℕ → Bool → A → List ℕ
-    → Type 0) (who call : ℕ) (old new : List Entry) (receipt : Receipt A) (gets : GetsEntry base means who call old new receipt) where
+module _ {A : Type 0} (base : List ℕ) (means : List ℕ → Bool → A → List ℕ → Type 0)
+    (who call : ℕ) (old new : List Entry) (receipt : Receipt A) (gets : GetsEntry base means who call old new receipt) where
   -- the seat has one entry more
   pub one_entry_more : entries_of who new ≡ entries_of who old + 1
   one_entry_more =
@@ -42,10 +39,3 @@ module _ {A : Type 0} (good : List ℕ → Type 0) (n : ℕ) (base : List ℕ) (
       let none : entries_of who gets.others ≡ 0 = others_count who gets.others gets.by_others in
       let one : f gets.entry ≡ 1 = one_of who gets.entry gets.made_by in
       omega (arith, whole, front, none, one)
-
-  -- and the words that the job found are good
-  pub found_good : good base → IsLegalHistory good n base new → good (replay base (old ++ gets.others))
-  found_good begun legal =
-      let before : List Entry = old ++ gets.others in
-      subst (λ (l : List Entry). good (replay base l)) (ap (take (length before)) gets.seen ∙ take-append_seam before (gets.entry ∷ []))
-      (prefixes_leave_good good n base new begun legal (length before))

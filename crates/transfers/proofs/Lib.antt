@@ -1,4 +1,4 @@
--- how many entries a transaction adds, and the words that it found
+-- how many entries a transaction adds
 pub mod Entries
 -- what was made stays made, and a transaction more makes one move more
 pub mod Making

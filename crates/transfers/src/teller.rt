@@ -1,10 +1,8 @@
 //! What one thread does: a list of moves, with an audit after each.
 
 ghost use Rattle.std.specs.Prelude.{◌≡◌, ◌*◌, ◌≤◌, [], length, OnOk};
-ghost use Rattle.history_model.specs.Fitting.{IsGood};
 ghost use Rattle.history_model.specs.Views.{number};
 ghost use Rattle.word_table.specs.declared.limits.TheConstants.{LAST_CALL};
-ghost use Rattle.transfer_jobs.specs.Moving.{HasSum};
 ghost use Rattle.transfers.specs.Telling.{IsServed};
 ghost use Rattle.txn_threads.specs.Passes.{IsFresh, IsNext};
 
@@ -46,13 +44,13 @@ fn make_moves<R: Wait>(
     pass: &mut Pass<Vault>,
 ) -> Result<(), OutOfMemory>
     requires shape { desk.now.shape ≡ vault }
-    requires good { IsGood desk.now.shape.words (HasSum desk.now.shape.total) desk.now.base }
     requires fresh { IsFresh desk.now pass.old }
     requires none { told.old.items ≡ [] }
     requires room { 2 * length moves.now ≤ LAST_CALL }
     ensures next { IsNext pass.old pass.new }
     ensures served { OnOk result (IsServed desk.now.base pass.new.view.seen (number pass.new.view) moves.now told.new.items) }
 {
+    desk.began_good();
     let audit = Audit { vault };
     for step in moves {
         let transfer = Transfer {

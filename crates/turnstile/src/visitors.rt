@@ -61,7 +61,8 @@ pub fn open_room<R: Threads + Wait + Sync>(
     requires room { All (λ visitor. visitor.room ≡ room) visitors.items }
     ensures few { IfOk result (λ ended. slice_index ended.closed.words 0 ≤ room.limit) }
     // Each tried as often as it was to.
-    ensures tried { IfOk result (λ ended. HaveWorked HasTried ended.closed visitors.items ended.clients.items) }
+    ensures tried { IfOk result (λ ended.
+        HaveWorked HasTried ended.closed visitors.items ended.clients.items) }
 {
     run_clients(rt, alloc, room, vec![in alloc; 0]?, visitors)
 }

@@ -16,7 +16,7 @@ use Rattle.txn_words.proofs.ReadLaws.{sees_more, sees_then, sees_write}
 use Rattle.txn_words.proofs.Looks.{leads_back, looks_read, looks_wider, seen_before}
 use Rattle.txn_alloc.specs.declared.put.Put.TheVariants.{New, Old, Full}
 use Rattle.txn_alloc.specs.FreeLists.{block_at, IsInBlock, IsHeadOrFirst, IsNearest, IsWrittenByTake, IsReadByTake}
-use Rattle.txn_alloc.specs.EntryMaps.{Entries, Blocks, Part, HasMap, HoldsApart, HasMapApart, Finds, Uses, IsMoved, IsSeen, IsOwn, IsValue, Inserts}
+use Rattle.txn_alloc.specs.EntryMaps.{Entries, Blocks, Part, HasMap, HoldsApart, HasMapApart, Finds, IsUsedIn, IsMoved, IsSeen, IsOwn, IsValue, Inserts}
 use Rattle.txn_alloc.specs.EntryMaps.{TakesNearest, MayRead, MayReadToInsert, MayReadToRemove}
 use Rattle.txn_alloc.proofs.Sets.{in_here, in_or}
 use Rattle.txn_alloc.proofs.Parts.{IsOne, used_of, moved_in, each_held}
@@ -99,7 +99,7 @@ module _ (part : Part) (key n : ℕ) (G : List ℕ → Type 0) (t u : Trace) {Is
     order_start : (s : List ℕ) → Fits n G v s → HasMapApart part (after t s)
     order_start s fit = order.at s (fits_begins n G t u s l.begins (fits_u s fit))
 
-    uses_start : (s : List ℕ) → Fits n G v s → Uses part (after t s) b
+    uses_start : (s : List ℕ) → Fits n G v s → IsUsedIn part (after t s) b
     uses_start s fit =
         let o : HasMapApart part (after t s) = order_start s fit in
         (o.entries, o.used, o.holds.map, block.used (after t s) o.entries o.used (found_start s fit) o.holds.map)
@@ -157,7 +157,7 @@ module _ (part : Part) (one : IsOne part) (key x n : ℕ) (G : List ℕ → Type
     order_before s fit = order.at s (fits_begins n G t w s begins fit)
 
     -- the block that was taken is used afterwards
-    pub uses_new : (s : List ℕ) → Fits n G w s → Uses part (after w s) b
+    pub uses_new : (s : List ℕ) → Fits n G w s → IsUsedIn part (after w s) b
     uses_new s fit =
         let o = order_before s fit in
         (entry_map.insert o.entries key x, set.insert o.used b, (puts s fit o.entries o.used o.free o.holds).left.map, in_here o.used b)
@@ -206,7 +206,7 @@ module _ (part : Part) (one : IsOne part) (key x n : ℕ) (G : List ℕ → Type
           (sees_then may u v w (sees_more (IsReadByTake part.arena key (Some b)) may u v name names) (sees_more IsPut may v w step put))
 
 -- a block that was used was given back
-module _ (part : Part) (key y b : ℕ) (before after : List ℕ) (used : Uses part before b) (moved : IsMoved part before after b) where
+module _ (part : Part) (key y b : ℕ) (before after : List ℕ) (used : IsUsedIn part before b) (moved : IsMoved part before after b) where
   pub given_own : (a : ℕ) → IsHeadOrFirst part.arena b a → IsOwn part key before after a
   given_own a (inl head) = inr (inr (b, moved, head))
   given_own a (inr e) = inr (inl (b, inl used, record { low = omega (arith, e); high = omega (arith, e) }))

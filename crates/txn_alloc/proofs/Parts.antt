@@ -11,7 +11,7 @@ use Rattle.txn_words.proofs.Looks.{leads_back, seen_before}
 use Rattle.txn_alloc.specs.declared.put.Put.{Put}
 use Rattle.txn_alloc.specs.declared.put.Put.TheVariants.{New, Old, Full}
 use Rattle.txn_alloc.specs.FreeLists.{HasNone}
-use Rattle.txn_alloc.specs.EntryMaps.{Entries, Blocks, Part, HasMap, HoldsApart, HasMapApart, Finds, Uses, IsMoved, Inserts, LacksRoom, Removes}
+use Rattle.txn_alloc.specs.EntryMaps.{Entries, Blocks, Part, HasMap, HoldsApart, HasMapApart, Finds, IsUsedIn, IsMoved, Inserts, LacksRoom, Removes}
 use Rattle.txn_alloc.proofs.Lists.{one_set}
 use Rattle.txn_alloc.proofs.Sets.{out_empty, out_itself}
 
@@ -82,15 +82,15 @@ IsOne part = (s : List ℕ) (f g : Entries) (u v : Blocks) → part.Holds s f u 
 
 module _ (part : Part) (one : IsOne part) where
   -- a used block is in the set, whichever map says so
-  pub used_of : (s : List ℕ) (f : Entries) (u : Blocks) (b : ℕ) → part.Holds s f u → Uses part s b → set.contains u b ≡ true
+  pub used_of : (s : List ℕ) (f : Entries) (u : Blocks) (b : ℕ) → part.Holds s f u → IsUsedIn part s b → set.contains u b ≡ true
   used_of s f u b hold uses = ap (λ z. set.contains z b) (one s f (uses.0) u (uses.1) hold (uses.2)).1 ∙ uses.3
 
   -- a block that was free and is used was taken
-  pub moved_in : (s t : List ℕ) (f : Entries) (u v : Blocks) (b : ℕ) → HoldsApart part s f u v → set.contains v b ≡ true → Uses part t b → IsMoved part s t b
+  pub moved_in : (s t : List ℕ) (f : Entries) (u v : Blocks) (b : ℕ) → HoldsApart part s f u v → set.contains v b ≡ true → IsUsedIn part t b → IsMoved part s t b
   moved_in s t f u v b hold free uses = inr (uses, λ k. true≢false (sym free ∙ hold.apart b (used_of s f u b hold.map k)))
 
   -- a block that was used and is used no more was given back
-  pub moved_out : (s t : List ℕ) (g : Entries) (u : Blocks) (b : ℕ) → Uses part s b → part.Holds t g (set.remove u b) → IsMoved part s t b
+  pub moved_out : (s t : List ℕ) (g : Entries) (u : Blocks) (b : ℕ) → IsUsedIn part s b → part.Holds t g (set.remove u b) → IsMoved part s t b
   moved_out s t g u b uses hold = inl (uses, λ k. true≢false (sym (used_of t g (set.remove u b) b hold k) ∙ out_itself u b))
 
 -- where there was room, not every state had none

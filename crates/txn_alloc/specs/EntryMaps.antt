@@ -76,12 +76,12 @@ module _ (part : Part) where
     pub found : (entries : Entries) (used : Blocks) → part.Holds old entries used → answer ≡ entry_map.get entries key
 
   -- a block is used by the map
-  abbrev pub Uses : List ℕ → ℕ → Type 0
-  Uses words b = (entries : Entries) × (used : Blocks) × part.Holds words entries used × (set.contains used b ≡ true)
+  abbrev pub IsUsedIn : List ℕ → ℕ → Type 0
+  IsUsedIn words b = (entries : Entries) × (used : Blocks) × part.Holds words entries used × (set.contains used b ≡ true)
 
   -- a block is used in one of two states and not in the other: it was taken or given back between them
   abbrev pub IsMoved : List ℕ → List ℕ → ℕ → Type 0
-  IsMoved before after b = (Uses before b × ¬ Uses after b) ⊎ (Uses after b × ¬ Uses before b)
+  IsMoved before after b = (IsUsedIn before b × ¬ IsUsedIn after b) ⊎ (IsUsedIn after b × ¬ IsUsedIn before b)
 
   -- a is the word of the key of block b, or of the name of another block, or of its value where it has one of these keys
   abbrev pub IsSeenIn : (ℕ → Type 0) → List ℕ → ℕ → ℕ → Type 0
@@ -91,7 +91,7 @@ module _ (part : Part) where
 
   -- what a search from a key on that asks for the values of these keys may read: the map's own words, of its own blocks alone
   abbrev pub IsSeen : ℕ → (ℕ → Type 0) → List ℕ → ℕ → Type 0
-  IsSeen first IsKey words a = part.IsRoot first a ⊎ ((b : ℕ) × Uses words b × IsSeenIn IsKey words b a)
+  IsSeen first IsKey words a = part.IsRoot first a ⊎ ((b : ℕ) × IsUsedIn words b × IsSeenIn IsKey words b a)
 
   -- what a look for this key may read
   abbrev pub MayRead : ℕ → List ℕ → List ℕ → ℕ → Type 0
@@ -111,7 +111,7 @@ module _ (part : Part) where
 
   -- from state to state: each block that is used now and was not is the one that a take near the key gives
   abbrev pub TakesNearest : ℕ → List ℕ → List ℕ → Type 0
-  TakesNearest key before after = (b : ℕ) → Uses after b → ¬ Uses before b → IsNearest part.arena key b before
+  TakesNearest key before after = (b : ℕ) → IsUsedIn after b → ¬ IsUsedIn before b → IsNearest part.arena key b before
 
   -- what a removal may read, by its answer: where a block was given back, its head too
   abbrev pub MayReadToRemove : ℕ → Option ℕ → List ℕ → List ℕ → ℕ → Type 0
@@ -122,14 +122,14 @@ module _ (part : Part) where
   -- a is the word of the key's value, in a block that the map uses before
   abbrev pub IsValue : ℕ → List ℕ → List ℕ → ℕ → Type 0
   IsValue key before after a =
-      (b : ℕ) × Uses before b × (slice_get before (block_at part.arena b) ≡ Some key) × (a ≡ block_at part.arena b + 1)
+      (b : ℕ) × IsUsedIn before b × (slice_get before (block_at part.arena b) ≡ Some key) × (a ≡ block_at part.arena b + 1)
 
   -- what a call for the key may write: the map's own words outside blocks, its blocks before and after, and the head for a block
   -- that was taken or given back
   abbrev pub IsOwn : ℕ → List ℕ → List ℕ → ℕ → Type 0
   IsOwn key before after a =
       part.IsRoot key a
-      ⊎ (((b : ℕ) × (Uses before b ⊎ Uses after b) × IsInBlock part.arena b a) ⊎ ((b : ℕ) × IsMoved before after b × IsHeadFor part.arena b a))
+      ⊎ (((b : ℕ) × (IsUsedIn before b ⊎ IsUsedIn after b) × IsInBlock part.arena b a) ⊎ ((b : ℕ) × IsMoved before after b × IsHeadFor part.arena b a))
 
   -- the key was absent, and is there with the value, in a block that was free
   pub record InsertsNew (key value : ℕ) (new : List ℕ) (entries : Entries) (used free : Blocks) : Type 0 where

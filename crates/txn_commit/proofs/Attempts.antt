@@ -26,19 +26,19 @@ use Rattle.undo_log.specs.Room.{Room}
 use Rattle.word_table.specs.Calls.{ReadsHistory}
 use Rattle.word_table.specs.Copies.{PassView}
 use Rattle.word_table.specs.Desks.{DeskView}
-use Rattle.lock_or_yield.specs.Asking.{Asks, GivesWay, WentOn}
+use Rattle.lock_or_yield.specs.Asking.{Asks, MeetsAndYields, WentOn}
 use Rattle.txn_commit.specs.declared.attempt.Asked.TheVariants as asked
 use Rattle.txn_commit.specs.declared.attempt.Halt.{Halt}
 use Rattle.txn_commit.specs.declared.attempt.Halt.TheVariants as halt
 use Rattle.txn_commit.specs.declared.attempt.TheConstants.{UNDO_ROOM}
-use Rattle.txn_commit.specs.Attempts.{DidEvents, GaveWayTo, IsSound, Runs, SameCall, stop_of}
+use Rattle.txn_commit.specs.Attempts.{DidEvents, GaveWayTo, IsSoundAttempt, Runs, StaysInCall, stop_of}
 use Rattle.txn_commit.specs.Transactions.{GainsOthers}
 use Rattle.txn_commit.proofs.Footprints.{footprint_events, footprint_loaded, footprint_yields}
 use Rattle.txn_commit.proofs.Others.{gains_history, gains_more, gains_none}
 
 -- an attempt that gave way, and what the pass then had seen
 pub gave_way_to : (good : List ℕ → Type 0) (n : ℕ) (base : List ℕ) (met : List (ℕ × ℕ)) (cause : Cause) (old new : View)
-    → GivesWay good n base met cause old new → AreRestartsBounded n (number old) new → GaveWayTo n cause old new
+    → MeetsAndYields good n base met cause old new → AreRestartsBounded n (number old) new → GaveWayTo n cause old new
 gave_way_to good n base met cause old new g bounded = record {
   phase = ap (λ (v : View). v.phase) g.gave_way.view;
   abandoned = (_, ap (λ (v : View). v.abandoned) g.gave_way.view, refl, ap (λ (v : View). v.trace) (sym g.gave_way.view));
@@ -48,7 +48,7 @@ gave_way_to good n base met cause old new g bounded = record {
 }
 
 pub saw_others : (good : List ℕ → Type 0) (n : ℕ) (base : List ℕ) (met : List (ℕ × ℕ)) (cause : Cause) (old new : View)
-    → GivesWay good n base met cause old new → GainsOthers (number old) old.seen new.seen
+    → MeetsAndYields good n base met cause old new → GainsOthers (number old) old.seen new.seen
 saw_others good n base met cause old new g = subst (λ (h : List Entry). GainsOthers (number old) old.seen h) (ap (λ (v : View). v.seen) (sym g.gave_way.view))
     (gains_history (number old) old.seen g.gave_way.history g.gave_way.begins g.gave_way.others)
 
@@ -66,7 +66,7 @@ gave_way_since n cause began old new r g = record {
 }
 
 -- the call goes on
-pub same_call : (began old new : View) → SameCall began old → SameCall old new → SameCall began new
+pub same_call : (began old new : View) → StaysInCall began old → StaysInCall old new → StaysInCall began new
 same_call began old new f s = record {
   seat = record { who = s.seat.who ∙ f.seat.who; base = s.seat.base ∙ f.seat.base; seats = s.seat.seats ∙ f.seat.seats };
   call = s.call ∙ f.call;
@@ -76,7 +76,7 @@ same_call began old new f s = record {
       (subst (λ (j : ℕ). GainsOthers j old.seen new.seen) (ap (λ (l : List ℕ). slice_index l 0) f.seat.who) s.seen);
 }
 
-asks_same_call : (a : ℕ) (old new : View) → Asks a old new → GainsOthers (number old) old.seen new.seen → SameCall old new
+asks_same_call : (a : ℕ) (old new : View) → Asks a old new → GainsOthers (number old) old.seen new.seen → StaysInCall old new
 asks_same_call a old new asks gains = record {
   seat = record { who = ap (λ (v : View). v.who) asks.rest; base = ap (λ (v : View). v.base) asks.rest; seats = ap (λ (v : View). v.seats) asks.rest };
   call = ap (λ (v : View). v.call) asks.rest;
@@ -125,7 +125,7 @@ loaded_last a x old new e = ap (λ (v : View). v.trace) e
 abbrev pub with_events : Trace → Notes → View → View
 with_events trace notes v = record v { trace = trace; undo = notes }
 
-events_same_call : (trace : Trace) (notes : Notes) (old new : View) → new ≡ with_events trace notes old → SameCall old new
+events_same_call : (trace : Trace) (notes : Notes) (old new : View) → new ≡ with_events trace notes old → StaysInCall old new
 events_same_call trace notes old new e = record {
   seat = record { who = ap (λ (v : View). v.who) e; base = ap (λ (v : View). v.base) e; seats = ap (λ (v : View). v.seats) e };
   call = ap (λ (v : View). v.call) e;
@@ -182,7 +182,7 @@ pub did_more : (first old new : View) → DidEvents first old → DidEvents old 
 did_more first old new did more = more ∙ ap (λ (v : View). record v { trace = new.trace; undo = new.undo }) did
 
 module _ {S : Type 0} (word_count : S → ℕ) (good : S → List ℕ → Type 0) (desk : DeskView S) (began pass : PassView)
-    (log : Room) (halted : Option Halt) (s : IsSound word_count good desk began pass log halted) where
+    (log : Room) (halted : Option Halt) (s : IsSoundAttempt word_count good desk began pass log halted) where
   -- as many writes are noted as were made
   pub noted_count : length log.list ≡ count_writes pass.view.trace
   noted_count = ap (λ (l : Notes). length l) (s.noted s.fits.0 s.fits.1) ∙ notes_counted pass.view.trace s.fits.0
@@ -205,11 +205,11 @@ module _ {S : Type 0} (word_count : S → ℕ) (good : S → List ℕ → Type 0
 
 module _ {S : Type 0} (word_count : S → ℕ) (good : S → List ℕ → Type 0) (desk : DeskView S) (began : PassView) where
   -- the attempt asked for a lock and gave way
-  pub yields_sound : (a : ℕ) (old new : PassView) (log : Room) (cause : Cause) → IsSound word_count good desk began old log None
+  pub yields_sound : (a : ℕ) (old new : PassView) (log : Room) (cause : Cause) → IsSoundAttempt word_count good desk began old log None
       → new.table ≡ old.table → Asks a old.view new.view → new.view.met ≡ []
       → GaveWayTo desk.seats cause old.view new.view → GainsOthers (number old.view) old.view.seen new.view.seen
       → has_pair (lock_of_word a) cause.seat new.view.meetings ≡ true
-      → IsSound word_count good desk began new log (Some (halt.Yield cause))
+      → IsSoundAttempt word_count good desk began new log (Some (halt.Yield cause))
   yields_sound a old new log cause s table asks judged gave gains met = record {
     table = table ∙ s.table;
     words = ap (λ (v : View). length v.base) asks.rest ∙ s.words;
@@ -229,20 +229,20 @@ module _ {S : Type 0} (word_count : S → ℕ) (good : S → List ℕ → Type 0
   }
 
   -- the attempt asked for a lock, and goes on with a load
-  pub asks_table : (a : ℕ) (old new : PassView) (log : Room) → IsSound word_count good desk began old log None
+  pub asks_table : (a : ℕ) (old new : PassView) (log : Room) → IsSoundAttempt word_count good desk began old log None
       → new.table ≡ old.table → Asks a old.view new.view → WentOn old.view new.view
       → (new.table ≡ desk.table) × (new.view.phase ≡ Running) × (length new.view.base ≡ word_count desk.shape)
   asks_table a old new log s table asks went =
       (table ∙ s.table, ap (λ (v : View). v.phase) went ∙ s.stands.phase, ap (λ (v : View). length v.base) asks.rest ∙ s.words)
 
   -- the attempt did something to words
-  pub events_sound : (trace : Trace) (notes : Notes) (old new : PassView) (log later : Room) → IsSound word_count good desk began old log None
+  pub events_sound : (trace : Trace) (notes : Notes) (old new : PassView) (log later : Room) → IsSoundAttempt word_count good desk began old log None
       → new.table ≡ old.table → new.view ≡ with_events trace notes old.view → later.list ≡ notes
       → All (λ note. note.0 < word_count desk.shape) later.list
       → ((w : List ℕ) → Fits (word_count desk.shape) (good desk.shape) trace w → notes ≡ notes_of trace w)
       → AreGranted old.view notes → UNDO_ROOM ≤ later.spare + length later.list
       → ReadsHistory (IsGood (word_count desk.shape) (good desk.shape)) desk.seats desk.base new.view → (more : Trace)
-      → trace ≡ old.view.trace ++ more → IsSound word_count good desk began new later None
+      → trace ≡ old.view.trace ++ more → IsSoundAttempt word_count good desk began new later None
   events_sound trace notes old new log later s table e list within noted granted room fits more longer = record {
     table = table ∙ s.table;
     words = ap (λ (v : View). length v.base) e ∙ s.words;
@@ -265,8 +265,8 @@ module _ {S : Type 0} (word_count : S → ℕ) (good : S → List ℕ → Type 0
   }
 
   -- the attempt found no memory
-  pub memory_sound : (pass : PassView) (log : Room) → IsSound word_count good desk began pass log None → UNDO_ROOM ≤ length log.list
-      → IsSound word_count good desk began pass log (Some halt.Memory)
+  pub memory_sound : (pass : PassView) (log : Room) → IsSoundAttempt word_count good desk began pass log None → UNDO_ROOM ≤ length log.list
+      → IsSoundAttempt word_count good desk began pass log (Some halt.Memory)
   memory_sound pass log s full = record {
     table = s.table;
     words = s.words;
@@ -286,11 +286,11 @@ module _ {S : Type 0} (word_count : S → ℕ) (good : S → List ℕ → Type 0
 
   -- a word that was just loaded was noted and stored
   pub store_sound : (a x was : ℕ) (before : Trace) (old new : PassView) (log later : Room)
-      → IsSound word_count good desk began old log None → a < word_count desk.shape → HasWriteGrant old.view (lock_of_word a)
+      → IsSoundAttempt word_count good desk began old log None → a < word_count desk.shape → HasWriteGrant old.view (lock_of_word a)
       → old.view.trace ≡ before ++ Read a was ∷ []
       → new.table ≡ old.table → new.view ≡ (store_value_action (number old.view) a x old.view).view [] 0
       → new.view.undo ≡ old.view.undo ++ (a, was) ∷ []
-      → later.list ≡ log.list ++ (a, was) ∷ [] → log.spare ≤ later.spare + 1 → IsSound word_count good desk began new later None
+      → later.list ≡ log.list ++ (a, was) ∷ [] → log.spare ≤ later.spare + 1 → IsSoundAttempt word_count good desk began new later None
   store_sound a x was before old new log later s within granted last table step noted list spare =
       events_sound (old.view.trace ++ Write a x ∷ []) (old.view.undo ++ (a, was) ∷ []) old new log later s table
       (step ∙ ap (λ (n : Notes). with_events (old.view.trace ++ Write a x ∷ []) n old.view) (sym (ap (λ (v : View). v.undo) step) ∙ noted))
@@ -310,13 +310,13 @@ module _ {S : Type 0} (word_count : S → ℕ) (good : S → List ℕ → Type 0
 
   -- the lock was asked for and is held, and the word was loaded
   pub held_sound : (a x : ℕ) (old mid new : PassView) (log : Room) (halted : Option Halt) → stop_of halted ≡ None
-      → IsSound word_count good desk began old log halted
+      → IsSoundAttempt word_count good desk began old log halted
       → mid.table ≡ old.table → Asks a old.view mid.view → mid.view.met ≡ [] → WentOn old.view mid.view
       → new.table ≡ mid.table → new.view ≡ record mid.view { trace = mid.view.trace ++ Read a x ∷ [] }
-      → ReadsHistory (IsGood (word_count desk.shape) (good desk.shape)) desk.seats desk.base new.view → IsSound word_count good desk began new log None
+      → ReadsHistory (IsGood (word_count desk.shape) (good desk.shape)) desk.seats desk.base new.view → IsSoundAttempt word_count good desk began new log None
   held_sound a x old mid new log halted going held table asks judged went same event fits =
-      let s : IsSound word_count good desk began old log None =
-      subst (λ (h : Option Halt). IsSound word_count good desk began old log h) (not_halted halted going) held in
+      let s : IsSoundAttempt word_count good desk began old log None =
+      subst (λ (h : Option Halt). IsSoundAttempt word_count good desk began old log h) (not_halted halted going) held in
       let on = events_same_call (mid.view.trace ++ Read a x ∷ []) mid.view.undo mid.view new.view event in record {
         table = same ∙ (table ∙ s.table);
         words = ap (λ (v : View). length v.base) event ∙ (ap (λ (v : View). length v.base) asks.rest ∙ s.words);

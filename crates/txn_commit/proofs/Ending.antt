@@ -30,7 +30,7 @@ use Rattle.txn_commit.specs.declared.attempt.TheConstants.{UNDO_ROOM}
 use Rattle.txn_commit.specs.declared.transaction.Receipt.{Receipt}
 use Rattle.txn_commit.specs.declared.attempt.Halt.{Halt}
 use Rattle.txn_commit.specs.declared.attempt.Halt.TheVariants as halt
-use Rattle.txn_commit.specs.Attempts.{GaveWayTo, IsSound, Runs, SameCall, StandsAs, start_of}
+use Rattle.txn_commit.specs.Attempts.{GaveWayTo, IsSoundAttempt, Runs, StaysInCall, StandsAs, start_of}
 use Rattle.txn_commit.specs.Inner.Releasing.{Releases, Undoes}
 use Rattle.txn_commit.specs.Transactions.{AsksItsFootprint, EndsWithoutEntry, GainsOthers, GetsEntry, LeavesFootprint, ReadOneState}
 use Rattle.txn_commit.proofs.Attempts.{same_call, some_fits}
@@ -110,11 +110,11 @@ none_granted v notes none = subst (λ (l : Notes). All (λ (note : ℕ × ℕ). 
 pub begins_sound : {S : Type 0} (word_count : S → ℕ) (good : S → List ℕ → Type 0) (desk : DeskView S) (old : View) (began new : PassView) (log : Room)
     → began ≡ new → new.table ≡ desk.table → length old.base ≡ word_count desk.shape → new.view ≡ (begin_call_action (number old) old).view [] 0
     → log.list ≡ [] → UNDO_ROOM ≤ log.spare → ReadsHistory (IsGood (word_count desk.shape) (good desk.shape)) desk.seats desk.base new.view
-    → IsSound word_count good desk began new log None
+    → IsSoundAttempt word_count good desk began new log None
 begins_sound word_count good desk old began new log same table words step empty room fits = record {
   table = table;
   words = ap (λ (v : View). length v.base) step ∙ words;
-  call = subst (λ (p : PassView). SameCall p.view new.view) (sym same) (record {
+  call = subst (λ (p : PassView). StaysInCall p.view new.view) (sym same) (record {
     seat = record { who = refl; base = refl; seats = refl };
     call = refl;
     floor = refl;
@@ -181,7 +181,7 @@ ends_with_footprint j committed released new rel clear = still_its_footprint com
 -- an attempt was committed
 pub gets_entry : {A : Type 0} (word_count : ℕ) (good : List ℕ → Type 0) (base : List ℕ) (means : List ℕ → Bool → A
     → List ℕ → Type 0) (kept : Bool) (call : ℕ) (first old new : View) (receipt : Receipt A)
-    → SameCall first old → first.floor ≡ length first.seen → first.call ≡ call
+    → StaysInCall first old → first.floor ≡ length first.seen → first.call ≡ call
     → CommitsAt word_count good base kept old new receipt.serial → receipt.call ≡ call → length old.abandoned ≡ receipt.restarts
     → ((s : List ℕ) → Fits word_count good old.trace s → means s kept receipt.answer (after old.trace s))
     → GetsEntry base means (number first) call first.seen new.seen receipt
@@ -204,7 +204,7 @@ gets_entry word_count good base means kept call first old new receipt same floor
     }
 
 -- an attempt was undone
-pub undone_others : (first old new : View) → SameCall first old → Undoes old new → GainsOthers (number first) first.seen new.seen
+pub undone_others : (first old new : View) → StaysInCall first old → Undoes old new → GainsOthers (number first) first.seen new.seen
 undone_others first old new same undone =
     subst (λ (l : List Entry). GainsOthers (number first) first.seen l) (sym (ap (λ (v : View). v.seen) undone.some.rest)) same.seen
 
@@ -228,9 +228,9 @@ pub same_pass : {S : Type 0} (d e : DeskView S) (m n : ℕ) (p q : PassView) →
 same_pass d e m n p q s = ap (λ o. o.pass) s
 
 -- a job ran on the attempt that began here
-pub ran_on : (first : View) (kept began pass : PassView) (old : View) → SameCall first pass.view → kept ≡ began
-    → began ≡ pass → SameCall kept.view old → SameCall first old
-ran_on first kept began pass old before same fresh ran = same_call first pass.view old before (subst (λ (p : PassView). SameCall p.view old) (same ∙ fresh) ran)
+pub ran_on : (first : View) (kept began pass : PassView) (old : View) → StaysInCall first pass.view → kept ≡ began
+    → began ≡ pass → StaysInCall kept.view old → StaysInCall first old
+ran_on first kept began pass old before same fresh ran = same_call first pass.view old before (subst (λ (p : PassView). StaysInCall p.view old) (same ∙ fresh) ran)
 
 pub still_runs : (n : ℕ) (halted : Option Halt) (began now : View) → halted ≡ None → StandsAs n halted began now → Runs began now
 still_runs n halted began now e = subst (λ (h : Option Halt). StandsAs n h began now → Runs began now) (sym e) (λ r. r)

@@ -16,7 +16,7 @@ use Rattle.history_model.proofs.HistoryLaws.{get_first}
 use Rattle.history_model.proofs.SetLemmas.{differ, has-nil}
 use Rattle.stamps_rule.proofs.LockKinds.{pair-append_old, pair-append_last}
 use Rattle.values_rule.specs.Steps.{entry_of}
-use Rattle.lock_or_yield.specs.Asking.{Asks, GivesWay, WentOn}
+use Rattle.lock_or_yield.specs.Asking.{Asks, MeetsAndYields, WentOn}
 use Rattle.txn_commit.specs.Attempts.{GaveWayTo}
 use Rattle.txn_commit.specs.Transactions.{IsFootprint, LeavesFootprint, AsksItsFootprint}
 use Rattle.txn_commit.proofs.Others.{get_second}
@@ -117,7 +117,7 @@ footprint_restarts n cause began old new gave abandoned meetings asked =
 
 -- the meeting at which an attempt gave way is the last
 pub met_cause : (good : List ℕ → Type 0) (n : ℕ) (base : List ℕ) (k : ℕ) (waited : List (ℕ × ℕ)) (cause : Cause) (old new : View)
-    → GivesWay good n base (waited ++ (k, cause.seat) ∷ []) cause old new → has_pair k cause.seat new.meetings ≡ true
+    → MeetsAndYields good n base (waited ++ (k, cause.seat) ∷ []) cause old new → has_pair k cause.seat new.meetings ≡ true
 met_cause good n base k waited cause old new g = subst (λ (l : List (ℕ × ℕ)). has_pair k cause.seat l ≡ true)
     (append_assoc old.meetings waited ((k, cause.seat) ∷ []) ∙ ap (λ (v : View). v.meetings) (sym g.gave_way.view))
     (pair-append_last k cause.seat (old.meetings ++ waited))

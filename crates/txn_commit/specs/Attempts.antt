@@ -33,7 +33,7 @@ abbrev pub start_of : {S : Type 0} → DeskView S → ℕ → PassView → Start
 start_of desk name began = record { desk = desk; name = name; pass = began }
 
 -- the call is the same, and has the timestamp that it had, if it had one; the pass saw more entries of others alone
-pub record SameCall (began now : View) : Type 0 where
+pub record StaysInCall (began now : View) : Type 0 where
   pub seat : SameSeat began now
   pub call : now.call ≡ began.call
   pub floor : now.floor ≡ began.floor
@@ -65,11 +65,11 @@ abbrev pub DidEvents : View → View → Type 0
 DidEvents old new = new ≡ record old { trace = new.trace; undo = new.undo }
 
 -- an attempt over this desk and pass, with this undo log; word_count and good are those of the shape
-pub record IsSound {S : Type 0} (word_count : S → ℕ) (good : S → List ℕ → Type 0) (desk : DeskView S)
+pub record IsSoundAttempt {S : Type 0} (word_count : S → ℕ) (good : S → List ℕ → Type 0) (desk : DeskView S)
     (began pass : PassView) (log : Room) (halted : Option Halt) : Type 0 where
   pub table : pass.table ≡ desk.table
   pub words : length pass.view.base ≡ word_count desk.shape
-  pub call : SameCall began.view pass.view
+  pub call : StaysInCall began.view pass.view
   pub stands : StandsAs desk.seats halted began.view pass.view
   pub judged : pass.view.met ≡ []
   -- the log has the notes of all writes, and room for so many

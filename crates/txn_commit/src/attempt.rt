@@ -8,7 +8,7 @@ ghost use Rattle.lock_or_yield.specs.Asking.{Asks, AsksToRead, AsksToWrite, Went
 ghost use Rattle.history_model.specs.Marks.{count_writes};
 ghost use Rattle.history_model.specs.Traces.{Begins};
 ghost use Rattle.txn_words.specs.Marks.{PutsBack, TakesBack};
-ghost use Rattle.txn_commit.specs.Attempts.{DidEvents, GaveWayTo, IsSound};
+ghost use Rattle.txn_commit.specs.Attempts.{DidEvents, GaveWayTo, IsSoundAttempt};
 ghost use Rattle.txn_commit.specs.Transactions.{GainsOthers};
 
 use history_model::{Cause, Phase, Shape, lock_of};
@@ -87,7 +87,9 @@ enum Asked {
     Yield(Cause),
 }
 
-// Asks for the lock of word a, to read it, where it is not held.
+// Asks for the lock of word a, to read it, where it is not held. It stands by itself, so that a read whose lock is held is
+// short enough to stand where it is called.
+#[inline(never)]
 fn ask_to_read<R: Wait, S: Shape>(rt: &R, desk: &Desk<S>, pass: &mut Pass<S>, a: u64) -> Asked
     requires desk { pass.old.table ≡ desk.now.table }
     requires phase { pass.old.view.phase ≡ Phase.Running }
@@ -115,6 +117,7 @@ fn ask_to_read<R: Wait, S: Shape>(rt: &R, desk: &Desk<S>, pass: &mut Pass<S>, a:
 }
 
 // Asks for the lock of word a, to write it, where it is not held so.
+#[inline(never)]
 fn ask_to_write<R: Wait, S: Shape>(rt: &R, desk: &Desk<S>, pass: &mut Pass<S>, a: u64) -> Asked
     requires desk { pass.old.table ≡ desk.now.table }
     requires phase { pass.old.view.phase ≡ Phase.Running }
@@ -154,11 +157,11 @@ fn put_back<S: Shape>(
     place: usize,
 ) -> Result<(), OutOfMemory>
     requires place { place < count_writes pass.old.view.trace }
-    requires sound { IsSound S.word_count S.good desk.now began.now.value pass.old undo.old None }
+    requires sound { IsSoundAttempt S.word_count S.good desk.now began.now.value pass.old undo.old None }
     ensures back { OnOk result (PutsBack (S.word_count desk.now.shape) (S.good desk.now.shape) place
         pass.old.view.trace pass.new.view.trace) }
     ensures begins { Begins pass.old.view.trace pass.new.view.trace }
-    ensures sound { IsSound S.word_count S.good desk.now began.now.value pass.new undo.new None }
+    ensures sound { IsSoundAttempt S.word_count S.good desk.now began.now.value pass.new undo.new None }
     ensures events { DidEvents pass.old.view pass.new.view }
     ensures full { OnErr result (UNDO_ROOM ≤ length undo.new.list) }
     ensures memory { OnErr result (undo.old.spare ≡ 0) }
@@ -182,11 +185,11 @@ fn go_back<S: Shape>(
     to: usize,
 ) -> Result<(), OutOfMemory>
     requires mark { to ≤ count_writes pass.old.view.trace }
-    requires sound { IsSound S.word_count S.good desk.now began.now.value pass.old undo.old None }
+    requires sound { IsSoundAttempt S.word_count S.good desk.now began.now.value pass.old undo.old None }
     ensures back { OnOk result (TakesBack (S.word_count desk.now.shape) (S.good desk.now.shape) to
         pass.old.view.trace pass.new.view.trace) }
     ensures begins { Begins pass.old.view.trace pass.new.view.trace }
-    ensures sound { IsSound S.word_count S.good desk.now began.now.value pass.new undo.new None }
+    ensures sound { IsSoundAttempt S.word_count S.good desk.now began.now.value pass.new undo.new None }
     ensures events { DidEvents pass.old.view pass.new.view }
     ensures full { OnErr result (UNDO_ROOM ≤ length undo.new.list) }
     ensures memory { OnErr result (to + undo.old.spare < count_writes pass.old.view.trace) }
@@ -201,47 +204,6 @@ fn go_back<S: Shape>(
     Ok(())
 }
 
-// Asks for the lock of word a, which is not held for reading, and reads the word. It stands by itself, so that a read whose
-// lock is held is short enough to be put where it is called.
-#[inline(never)]
-fn ask_and_read<S: Shape, G: Gate, R: Wait>(
-    attempt: &mut Attempt<S, G, R>,
-    a: u64,
-) -> Result<u64, Stop>
-    requires within { a < S.word_count attempt.old.desk.now.shape }
-    requires going { stop_of attempt.old.halt ≡ None }
-    requires sound { IsSound S.word_count S.good attempt.old.desk.now attempt.old.began.value
-        attempt.old.pass.now attempt.old.undo attempt.old.halt }
-    ensures value { IfOk result (λ v.
-        attempt.new.pass.now.view.trace ≡ attempt.old.pass.now.view.trace ++ Read a v ∷ []) }
-    ensures begins { Begins attempt.old.pass.now.view.trace attempt.new.pass.now.view.trace }
-    ensures stops { stop_of attempt.new.halt ≡ stop_after result }
-    ensures shape { attempt.new.desk.now.shape ≡ attempt.old.desk.now.shape }
-    ensures origin { start_of attempt.new.desk.now attempt.new.pass.ghost_name attempt.new.began.value
-        ≡ start_of attempt.old.desk.now attempt.old.pass.ghost_name attempt.old.began.value }
-    ensures sound { IsSound S.word_count S.good attempt.new.desk.now attempt.new.began.value
-        attempt.new.pass.now attempt.new.undo attempt.new.halt }
-    ensures memory { result ≢ Err Memory }
-    ensures asked { GainsAtMost a attempt.old.pass.now.view.asked attempt.new.pass.now.view.asked }
-    ensures reads { AsksToRead (lock_of_word a) attempt.old.pass.now.view attempt.new.pass.now.view }
-{
-    match ask_to_read(attempt.rt, attempt.desk, attempt.pass, a) {
-        Asked::Held => {}
-        Asked::Granted => {
-            let stage = Stage::Granted {
-                word: a,
-                write: false,
-            };
-            attempt.gate.at(attempt.rt, attempt.caller.at(stage));
-        }
-        Asked::Yield(cause) => {
-            attempt.halt = Some(Halt::Yield(cause));
-            return Err(Stop::Yield);
-        }
-    }
-    Ok(attempt.desk.load(attempt.pass, a))
-}
-
 impl<'a, S: Shape, G: Gate, R: Wait> Words for Attempt<'a, S, G, R> {
     ghost use Rattle.std.specs.Prelude.{◌≡◌, ◌≢◌, ◌+◌, ◌<◌, ◌≤◌, ◌++◌, ◌∷◌, [], None, Err, IfOk, OnOk};
     ghost use Rattle.history_model.specs.declared.event.Event.TheVariants.{Read};
@@ -251,7 +213,7 @@ impl<'a, S: Shape, G: Gate, R: Wait> Words for Attempt<'a, S, G, R> {
     ghost use Rattle.history_model.specs.Marks.{count_writes};
     ghost use Rattle.txn_words.specs.Marks.{TakesBack};
     ghost use Rattle.txn_words.specs.Steps.{EndsWithWrite, stop_after};
-    ghost use Rattle.txn_commit.specs.Attempts.{DidEvents, IsSound, start_of, stop_of};
+    ghost use Rattle.txn_commit.specs.Attempts.{DidEvents, IsSoundAttempt, start_of, stop_of};
 
     type Shape = S;
 
@@ -265,14 +227,14 @@ impl<'a, S: Shape, G: Gate, R: Wait> Words for Attempt<'a, S, G, R> {
 
     ghost stop = { λ a. stop_of a.halt };
 
-    ghost is_sound = { λ a. IsSound S.word_count S.good a.desk.now a.began.value a.pass.now a.undo a.halt };
+    ghost is_sound = { λ a. IsSoundAttempt S.word_count S.good a.desk.now a.began.value a.pass.now a.undo a.halt };
 
     /// The word at place `a`, under its lock. It never finds no memory, and asks for that lock alone.
     #[inline(always)]
     fn read(&mut self, a: u64) -> Result<u64, Stop>
         requires within { a < S.word_count self.old.desk.now.shape }
         requires going { stop_of self.old.halt ≡ None }
-        requires sound { IsSound S.word_count S.good self.old.desk.now self.old.began.value
+        requires sound { IsSoundAttempt S.word_count S.good self.old.desk.now self.old.began.value
             self.old.pass.now self.old.undo self.old.halt }
         ensures value { IfOk result (λ v.
             self.new.pass.now.view.trace ≡ self.old.pass.now.view.trace ++ Read a v ∷ []) }
@@ -281,15 +243,29 @@ impl<'a, S: Shape, G: Gate, R: Wait> Words for Attempt<'a, S, G, R> {
         ensures shape { self.new.desk.now.shape ≡ self.old.desk.now.shape }
         ensures origin { start_of self.new.desk.now self.new.pass.ghost_name self.new.began.value
             ≡ start_of self.old.desk.now self.old.pass.ghost_name self.old.began.value }
-        ensures sound { IsSound S.word_count S.good self.new.desk.now self.new.began.value
+        ensures sound { IsSoundAttempt S.word_count S.good self.new.desk.now self.new.began.value
             self.new.pass.now self.new.undo self.new.halt }
 
         ensures memory { result ≢ Err Memory }
         ensures asked { GainsAtMost a self.old.pass.now.view.asked self.new.pass.now.view.asked }
         ensures reads { AsksToRead (lock_of_word a) self.old.pass.now.view self.new.pass.now.view }
     {
-        if !self.pass.has_read(lock_of(a)) {
-            return ask_and_read(self, a);
+        if self.pass.has_read(lock_of(a)) {
+            return Ok(self.desk.load(self.pass, a));
+        }
+        match ask_to_read(self.rt, self.desk, self.pass, a) {
+            Asked::Held => {}
+            Asked::Granted => {
+                let stage = Stage::Granted {
+                    word: a,
+                    write: false,
+                };
+                self.gate.at(self.rt, self.caller.at(stage));
+            }
+            Asked::Yield(cause) => {
+                self.halt = Some(Halt::Yield(cause));
+                return Err(Stop::Yield);
+            }
         }
         Ok(self.desk.load(self.pass, a))
     }
@@ -300,7 +276,7 @@ impl<'a, S: Shape, G: Gate, R: Wait> Words for Attempt<'a, S, G, R> {
     fn write(&mut self, a: u64, v: u64) -> Result<(), Stop>
         requires within { a < S.word_count self.old.desk.now.shape }
         requires going { stop_of self.old.halt ≡ None }
-        requires sound { IsSound S.word_count S.good self.old.desk.now self.old.began.value
+        requires sound { IsSoundAttempt S.word_count S.good self.old.desk.now self.old.began.value
             self.old.pass.now self.old.undo self.old.halt }
         ensures value { OnOk result (EndsWithWrite self.old.pass.now.view.trace self.new.pass.now.view.trace a v) }
         ensures begins { Begins self.old.pass.now.view.trace self.new.pass.now.view.trace }
@@ -308,7 +284,7 @@ impl<'a, S: Shape, G: Gate, R: Wait> Words for Attempt<'a, S, G, R> {
         ensures shape { self.new.desk.now.shape ≡ self.old.desk.now.shape }
         ensures origin { start_of self.new.desk.now self.new.pass.ghost_name self.new.began.value
             ≡ start_of self.old.desk.now self.old.pass.ghost_name self.old.began.value }
-        ensures sound { IsSound S.word_count S.good self.new.desk.now self.new.began.value
+        ensures sound { IsSoundAttempt S.word_count S.good self.new.desk.now self.new.began.value
             self.new.pass.now self.new.undo self.new.halt }
 
         ensures memory { 0 < self.old.undo.spare → result ≢ Err Memory }
@@ -341,7 +317,7 @@ impl<'a, S: Shape, G: Gate, R: Wait> Words for Attempt<'a, S, G, R> {
     /// How many writes the attempt has noted.
     fn mark(&mut self) -> Mark
         requires going { stop_of self.old.halt ≡ None }
-        requires sound { IsSound S.word_count S.good self.old.desk.now self.old.began.value
+        requires sound { IsSoundAttempt S.word_count S.good self.old.desk.now self.old.began.value
             self.old.pass.now self.old.undo self.old.halt }
         ensures writes { result.writes ≡ count_writes self.old.pass.now.view.trace }
         ensures trace { self.new.pass.now.view.trace ≡ self.old.pass.now.view.trace }
@@ -349,7 +325,7 @@ impl<'a, S: Shape, G: Gate, R: Wait> Words for Attempt<'a, S, G, R> {
         ensures shape { self.new.desk.now.shape ≡ self.old.desk.now.shape }
         ensures origin { start_of self.new.desk.now self.new.pass.ghost_name self.new.began.value
             ≡ start_of self.old.desk.now self.old.pass.ghost_name self.old.began.value }
-        ensures sound { IsSound S.word_count S.good self.new.desk.now self.new.began.value
+        ensures sound { IsSoundAttempt S.word_count S.good self.new.desk.now self.new.began.value
             self.new.pass.now self.new.undo self.new.halt }
 
         ensures same { self.new.pass.now ≡ self.old.pass.now }
@@ -366,7 +342,7 @@ impl<'a, S: Shape, G: Gate, R: Wait> Words for Attempt<'a, S, G, R> {
     fn back_to(&mut self, m: Mark) -> Result<(), Stop>
         requires mark { m.writes ≤ count_writes self.old.pass.now.view.trace }
         requires going { stop_of self.old.halt ≡ None }
-        requires sound { IsSound S.word_count S.good self.old.desk.now self.old.began.value
+        requires sound { IsSoundAttempt S.word_count S.good self.old.desk.now self.old.began.value
             self.old.pass.now self.old.undo self.old.halt }
         ensures back { OnOk result (TakesBack (S.word_count self.old.desk.now.shape) (S.good self.old.desk.now.shape)
             m.writes self.old.pass.now.view.trace self.new.pass.now.view.trace) }
@@ -375,7 +351,7 @@ impl<'a, S: Shape, G: Gate, R: Wait> Words for Attempt<'a, S, G, R> {
         ensures shape { self.new.desk.now.shape ≡ self.old.desk.now.shape }
         ensures origin { start_of self.new.desk.now self.new.pass.ghost_name self.new.began.value
             ≡ start_of self.old.desk.now self.old.pass.ghost_name self.old.began.value }
-        ensures sound { IsSound S.word_count S.good self.new.desk.now self.new.began.value
+        ensures sound { IsSoundAttempt S.word_count S.good self.new.desk.now self.new.began.value
             self.new.pass.now self.new.undo self.new.halt }
         ensures never_yields { result ≢ Err Yield }
 

@@ -10,9 +10,9 @@ ghost use Rattle.txn_words.specs.Verdicts.{is_kept, answer_of};
 ghost use Rattle.word_table.specs.Calls.{CommitsAt, ReadsHistory};
 ghost use Rattle.word_table.specs.Copies.{HoldsNothing};
 ghost use Rattle.word_table.specs.declared.limits.TheConstants.{LAST_CALL};
-ghost use Rattle.txn_commit.specs.Attempts.{IsSound, SameCall, stop_of};
+ghost use Rattle.txn_commit.specs.Attempts.{IsSoundAttempt, StaysInCall, stop_of};
 ghost use Rattle.txn_commit.specs.Transactions.{AsksItsFootprint, EndsWithoutEntry, GainsOthers, GetsEntry, IsMeant, LeavesFootprint, SameSeat};
-ghost use Rattle.word_table.specs.Desks.{IsGoodFor, IsLegalFor};
+ghost use Rattle.word_table.specs.Desks.{AreGoodWords, IsLegalFor};
 
 use crate::attempt::{Attempt, Caller, Halt, UNDO_ROOM, tell};
 use crate::release::release_all;
@@ -55,7 +55,7 @@ fn wait_out<R: Wait, S: Shape>(rt: &R, desk: &Desk<S>, pass: &mut Pass<S>, cause
       trace = [];
       waits = pass.new.view.waits;
     } }
-    ensures fits { ReadsHistory (IsGoodFor S.Shape desk.now)
+    ensures fits { ReadsHistory (AreGoodWords S.Shape desk.now)
         desk.now.seats desk.now.base pass.new.view }
 {
     let backoff = Backoff::new();
@@ -82,17 +82,17 @@ fn cause_of(halt: Option<Halt>) -> Cause
 // Undoes and releases all of an attempt that gave way to this cause, and waits until the cause is gone. Then the
 // attempt is set back: the call makes another one.
 fn give_way<S: Shape, G: Gate, R: Wait>(attempt: &mut Attempt<S, G, R>, cause: Cause)
-    requires sound { IsSound S.word_count S.good attempt.old.desk.now attempt.old.began.value
+    requires sound { IsSoundAttempt S.word_count S.good attempt.old.desk.now attempt.old.began.value
         attempt.old.pass.now attempt.old.undo attempt.old.halt }
     requires halted { attempt.old.halt ≡ Some (Halt.Yield cause) }
     ensures name { attempt.new.pass.ghost_name ≡ attempt.old.pass.ghost_name }
     ensures desk { attempt.new.desk.now ≡ attempt.old.desk.now }
-    ensures sound { IsSound S.word_count S.good attempt.new.desk.now attempt.new.began.value
+    ensures sound { IsSoundAttempt S.word_count S.good attempt.new.desk.now attempt.new.began.value
         attempt.new.pass.now attempt.new.undo attempt.new.halt }
     ensures going { attempt.new.halt ≡ None }
     ensures began { attempt.new.began.value ≡ attempt.new.pass.now }
     ensures fresh { attempt.new.pass.now.view.trace ≡ [] }
-    ensures call { SameCall attempt.old.pass.now.view attempt.new.pass.now.view }
+    ensures call { StaysInCall attempt.old.pass.now.view attempt.new.pass.now.view }
     ensures abandoned { attempt.new.pass.now.view.abandoned ≡ attempt.old.pass.now.view.abandoned }
 {
     undo_all(attempt.desk, attempt.pass, &mut attempt.undo);
@@ -111,7 +111,7 @@ fn give_way<S: Shape, G: Gate, R: Wait>(attempt: &mut Attempt<S, G, R>, cause: C
 
 // Commits the attempt, whose writes are kept or else undone first: the place of its entry.
 fn settle<S: Shape, G: Gate, R: Wait>(attempt: &mut Attempt<S, G, R>, kept: bool) -> u64
-    requires sound { IsSound S.word_count S.good attempt.old.desk.now attempt.old.began.value
+    requires sound { IsSoundAttempt S.word_count S.good attempt.old.desk.now attempt.old.began.value
         attempt.old.pass.now attempt.old.undo attempt.old.halt }
     requires going { attempt.old.halt ≡ None }
     requires leaves_good { kept ≡ true → (s : List ℕ)
@@ -142,7 +142,7 @@ fn run_attempts<S: Shape, G: Gate, R: Wait, J: Job<Shape = S>>(
     job: &J,
     call: u32,
 ) -> Result<Receipt<J::Answer>, OutOfMemory>
-    requires sound { IsSound S.word_count S.good attempt.old.desk.now attempt.old.began.value
+    requires sound { IsSoundAttempt S.word_count S.good attempt.old.desk.now attempt.old.began.value
         attempt.old.pass.now attempt.old.undo attempt.old.halt }
     requires job { J.shape job.now ≡ attempt.old.desk.now.shape }
     requires going { attempt.old.halt ≡ None }
@@ -170,7 +170,7 @@ fn run_attempts<S: Shape, G: Gate, R: Wait, J: Job<Shape = S>>(
     ensures footprint { OnOk result (AsksItsFootprint attempt.new.pass.now.view) }
     ensures left { OnErr result (LeavesFootprint attempt.new.pass.now.view) }
     ensures last { OnErr result (ReadsHistory
-        (IsGoodFor S.Shape attempt.old.desk.now)
+        (AreGoodWords S.Shape attempt.old.desk.now)
         attempt.old.desk.now.seats attempt.old.desk.now.base attempt.new.pass.now.view) }
 {
     let seats = attempt.desk.seats();
@@ -244,13 +244,13 @@ pub fn transact<S: Shape, G: Gate, R: Wait, J: Job<Shape = S>>(
         (number pass.old.view) (pass.old.view.call + 1)
         pass.old.view.seen pass.new.view.seen receipt) }
     ensures meant { IfOk result (λ receipt. IsMeant
-        (IsGoodFor S.Shape desk.now)
+        (AreGoodWords S.Shape desk.now)
         (J.means job.now) receipt.answer) }
     ensures legal { OnOk result (IsLegalFor S.Shape desk.now pass.new.view.seen) }
     ensures few { IfOk result (λ receipt. receipt.restarts < desk.now.seats) }
     ensures footprint { OnOk result (AsksItsFootprint pass.new.view) }
     ensures err { OnErr result ((pass.new ≡ pass.old)
-        ⊎ EndsWithoutEntry (IsGoodFor S.Shape desk.now)
+        ⊎ EndsWithoutEntry (AreGoodWords S.Shape desk.now)
         desk.now.seats desk.now.base pass.old.view pass.new.view) }
 {
     pass.rests();

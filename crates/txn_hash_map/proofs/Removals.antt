@@ -15,7 +15,7 @@ use Rattle.txn_alloc.specs.FreeLists.{block_at, IsInBlock, IsHeadOrFirst, FreeLi
 use Rattle.txn_alloc.proofs.Wider.{IsAnyHeadOrIn}
 use Rattle.txn_alloc.specs.FreeLists as lists
 use Rattle.txn_hash_map.specs.declared.map.ChainMap.{ChainMap}
-use Rattle.txn_alloc.specs.EntryMaps.{HasMapApart, Removes, Uses, IsMoved, IsOwn, MayReadToRemove}
+use Rattle.txn_alloc.specs.EntryMaps.{HasMapApart, Removes, IsUsedIn, IsMoved, IsOwn, MayReadToRemove}
 use Rattle.txn_hash_map.specs.Chains.{chain_part}
 use Rattle.txn_words.specs.Looks.{Looks}
 use Rattle.txn_hash_map.specs.Searches.{IsFoundAt, IsLink}
@@ -89,7 +89,7 @@ module _ (map : ChainMap) (key n : ℕ) (G : List ℕ → Type 0) (t u : Trace) 
       fits_v : (s : List ℕ) → Fits n G w s → Fits n G v s
       fits_v s fit = fits_begins n G v w s bw fit
 
-      uses_start : (s : List ℕ) → Fits n G w s → Uses (chain_part map) (after t s) b
+      uses_start : (s : List ℕ) → Fits n G w s → IsUsedIn (chain_part map) (after t s) b
       uses_start s fit =
           let o = order_start s (fits_v s fit) in
           (o.entries, o.used, o.holds.map, held_used map key (after t s) o.entries o.used o.holds.map p b (at_start s (fits_v s fit)).0.0)

@@ -7,7 +7,7 @@ use Rattle.std.specs.FinMap as entry_map
 use Rattle.txn_alloc.specs.FreeLists.{block_at}
 use Rattle.txn_alloc.proofs.Cells.{value_past, value_first, value_later, has_middle}
 use Rattle.txn_hash_map.specs.declared.map.ChainMap.{ChainMap}
-use Rattle.txn_alloc.specs.EntryMaps.{Cell, value_of, has_block, Entries, Blocks, Uses, IsSeen, HasKeysOnce}
+use Rattle.txn_alloc.specs.EntryMaps.{Cell, value_of, has_block, Entries, Blocks, IsUsedIn, IsSeen, HasKeysOnce}
 use Rattle.txn_hash_map.specs.Chains.{HasChain, bucket_of, IsLaid, ChainsHold, chain_part}
 use Rattle.txn_hash_map.specs.Searches.{place_after, IsPassed, IsFoundAt, IsMissing, IsOfChain, IsLink}
 use Rattle.txn_hash_map.proofs.Cells.{bucket_below, one_chain, chain_rest, place_after_more, place_kind, chain_short, block_below}
@@ -153,7 +153,7 @@ module _ (map : ChainMap) (key : ℕ) (s : List ℕ) where
       ap (λ q. slice_get s q) m.at ∙ here.0 ∙ ap (λ d. Some (d + 1)) m.is_block
 
   -- a used block is the arena's
-  pub uses_below : (b : ℕ) → Uses (chain_part map) s b → b < map.arena.blocks
+  pub uses_below : (b : ℕ) → IsUsedIn (chain_part map) s b → b < map.arena.blocks
   uses_below b u =
       let h : ChainsHold map s u.0 u.1 = u.2 in
       let m = h.used_in b u.3 in

@@ -1,7 +1,6 @@
 //! What one thread does.
 
 ghost use Rattle.std.specs.Prelude.{◌≡◌, ℕ, OnOk};
-ghost use Rattle.history_model.specs.Fitting.{IsGood};
 ghost use Rattle.word_table.specs.Copies.{PassView};
 ghost use Rattle.word_table.specs.Desks.{DeskView};
 ghost use Rattle.txn_threads.specs.Passes.{IsFresh, IsNext};
@@ -37,7 +36,6 @@ pub trait Client: Send + Drop {
     ) -> Result<(), OutOfMemory>
         requires begins { can_begin self.old }
         requires shape { desk.now.shape ≡ shape self.old }
-        requires good { IsGood (Self.Shape.word_count desk.now.shape) (Self.Shape.good desk.now.shape) desk.now.base }
         requires fresh { IsFresh desk.now pass.old }
         ensures next { IsNext pass.old pass.new }
         ensures does { OnOk result (does desk.now self.old self.new pass.old pass.new) };

@@ -7,7 +7,7 @@ ghost use Rattle.history_model.specs.Legal.{IsLegalHistory};
 ghost use Rattle.word_table.specs.declared.limits.TheConstants.{MOST_PASSES, MOST_WORDS};
 ghost use Rattle.txn_threads.specs.Clients.{HaveWorked};
 ghost use Rattle.txn_threads.specs.Inner.Seats.{AreNew, AreParts, HasEnded, HaveServed, IsReady, IsReadyFor};
-ghost use Rattle.word_table.specs.Desks.{IsGoodFor};
+ghost use Rattle.word_table.specs.Desks.{AreGoodWords};
 
 use crate::client::Client;
 use crate::seat::Seat;
@@ -60,8 +60,6 @@ fn work_all<C: Client, R: Threads + Wait + Sync>(
     seats: &mut [Seat<C>],
 )
     requires some { 0 < length seats.old }
-    requires good { IsGoodFor C.Shape.Shape desk.now
-        desk.now.base }
     requires ready { All (IsReady C.shape C.can_begin desk.now) seats.old }
     ensures ended { (k : ℕ) (d : _) → k < length seats.old
         → HasEnded C.does desk.now (get_or seats.old k d) (get_or seats.new k d) }
@@ -71,8 +69,7 @@ fn work_all<C: Client, R: Threads + Wait + Sync>(
         seats,
         seats.len(),
         &|_, seat: &mut Seat<C>|
-            requires { IsGoodFor C.Shape.Shape desk.now
-                desk.now.base × IsReady C.shape C.can_begin desk.now seat.now }
+            requires { IsReady C.shape C.can_begin desk.now seat.now }
             ensures { HasEnded C.does desk.entry.now seat.entry.now seat.exit.now }
         {
             if seat.client.work(rt, alloc, desk, &mut seat.pass).is_err() {
@@ -115,8 +112,6 @@ fn serve<C: Client, R: Threads + Wait + Sync>(
     passes: Vec<Pass<C::Shape>>,
 ) -> Result<(Vec<C>, Vec<Pass<C::Shape>>), OutOfMemory>
     requires some { 0 < length clients.items }
-    requires good { IsGoodFor C.Shape.Shape desk.now
-        desk.now.base }
     requires ready { All (IsReadyFor C.shape C.can_begin desk.now) clients.items }
     requires new { AreNew desk.now passes.items }
     requires seats { desk.now.seats ≡ length clients.items }

@@ -1,7 +1,7 @@
 -- What a search that found the key says of the map, and which words it reads.
 use Rattle.std.proofs.Common.{◌≡◌, ℕ, ◌<◌, true, List, []}
 use Rattle.std.specs.FinSet as set
-use Rattle.txn_alloc.specs.EntryMaps.{Entries, Blocks, Uses}
+use Rattle.txn_alloc.specs.EntryMaps.{Entries, Blocks, IsUsedIn}
 use Rattle.txn_alloc.proofs.Founds.{IsOwnNear, IsKeysBlock}
 use Rattle.txn_tree_map.specs.declared.map.TreeMap.{TreeMap}
 use Rattle.txn_tree_map.specs.Trees.{TreeHolds, tree_part}
@@ -14,7 +14,7 @@ use Rattle.txn_tree_map.proofs.Links.{found_of, tree_used, link_seen}
 pub used_below : (map : TreeMap) (s : List ℕ) (f : Entries) (u : Blocks) (b : ℕ) → TreeHolds map s f u → set.contains u b ≡ true → b < map.arena.blocks
 used_below map s f u b hold k = let m = at_tree map s f u hold in at_below map s [] hold.tree m b (used_count map s [] hold.tree m f u hold b k)
 
-pub uses_below : (map : TreeMap) (s : List ℕ) (b : ℕ) → Uses (tree_part map) s b → b < map.arena.blocks
+pub uses_below : (map : TreeMap) (s : List ℕ) (b : ℕ) → IsUsedIn (tree_part map) s b → b < map.arena.blocks
 uses_below map s b k = used_below map s k.0 k.1 b k.2 k.3
 
 -- what is near a search is the map's own

@@ -9,7 +9,7 @@ use Rattle.txn_words.specs.Looks.{Looks}
 use Rattle.txn_words.proofs.Looks.{leads_back, seen_before}
 use Rattle.txn_alloc.specs.declared.put.Put.TheVariants.{New}
 use Rattle.txn_alloc.specs.FreeLists.{IsHead, IsInBlock, IsNearest, IsWrittenByTake, IsReadByTake, TakesBlock, Takes}
-use Rattle.txn_alloc.specs.EntryMaps.{Entries, Blocks, has_block, HasMapApart, HoldsApart, Uses, IsOwn, MayReadToInsert, Inserts, TakesNearest}
+use Rattle.txn_alloc.specs.EntryMaps.{Entries, Blocks, has_block, HasMapApart, HoldsApart, IsUsedIn, IsOwn, MayReadToInsert, Inserts, TakesNearest}
 use Rattle.txn_alloc.proofs.Parts.{IsOne}
 use Rattle.txn_alloc.proofs.Founds as founds
 use Rattle.txn_tree_map.specs.declared.map.TreeMap.{TreeMap}
@@ -73,7 +73,7 @@ module _ (map : TreeMap) (key x n : ℕ) (G : List ℕ
 
     -- a block of the tree was used before
     uses_old : (s : List ℕ) (fit : Fits n G w s) (d : ℕ) → (let none = (can_start s (fits_v s fit)).missing in
-        has_block d (before_of none.path ++ after_of none.path) ≡ true) → Uses (tree_part map) (after t s) d
+        has_block d (before_of none.path ++ after_of none.path) ≡ true) → IsUsedIn (tree_part map) (after t s) d
     uses_old s fit d k =
         let o = order_start s (fits_v s fit) in
         let none : IsMissing map key (after v s) = (can_start s (fits_v s fit)).missing in

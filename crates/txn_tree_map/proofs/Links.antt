@@ -3,7 +3,7 @@ use Rattle.std.proofs.Common.{◌≡◌, ℕ, ◌+◌, ◌≤◌, inl, inr, true
 use Rattle.std.proofs.lemmas.List.{append-nil}
 use Rattle.std.specs.FinSet as set
 use Rattle.txn_alloc.specs.FreeLists.{block_at}
-use Rattle.txn_alloc.specs.EntryMaps.{Entries, Blocks, Uses, IsSeen, has_block}
+use Rattle.txn_alloc.specs.EntryMaps.{Entries, Blocks, IsUsedIn, IsSeen, has_block}
 use Rattle.txn_alloc.proofs.Cells.{one_in, one_here, times_has, has_middle}
 use Rattle.txn_tree_map.specs.declared.map.TreeMap.{TreeMap}
 use Rattle.txn_tree_map.specs.declared.find.Named.{Named}
@@ -81,7 +81,7 @@ module _ (map : TreeMap) (s : List ℕ) (f : Entries) (u : Blocks) (hold : TreeH
   pub tree_used : (b : ℕ) → IsOfTree map b s → set.contains u b ≡ true
   tree_used b of = at_used map s [] hold.tree (at_tree map s f u hold) f u hold b ∙ of [] hold.tree (at_tree map s f u hold)
 
-  pub tree_uses : (b : ℕ) → IsOfTree map b s → Uses (tree_part map) s b
+  pub tree_uses : (b : ℕ) → IsOfTree map b s → IsUsedIn (tree_part map) s b
   tree_uses b of = (f, u, hold, tree_used b of)
 
   -- so what a search reads is the map's own

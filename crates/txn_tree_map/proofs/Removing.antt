@@ -16,7 +16,7 @@ use Rattle.txn_alloc.proofs.Parts.{moved_out}
 use Rattle.txn_alloc.proofs.Founds.{given_own, given_seen}
 use Rattle.txn_alloc.proofs.Cells.{times_in, has_times}
 use Rattle.txn_alloc.specs.FreeLists as lists
-use Rattle.txn_alloc.specs.EntryMaps.{HasMapApart, Uses, IsMoved, IsOwn, MayReadToRemove, Removes}
+use Rattle.txn_alloc.specs.EntryMaps.{HasMapApart, IsUsedIn, IsMoved, IsOwn, MayReadToRemove, Removes}
 use Rattle.txn_words.specs.Looks.{Looks}
 use Rattle.txn_words.proofs.Looks.{looks_at, looks_read, looks_wider, leads_back, seen_before}
 use Rattle.txn_tree_map.specs.declared.map.TreeMap.{TreeMap}
@@ -171,10 +171,10 @@ module _ (map : TreeMap) (key place b value n : ℕ) (G : List ℕ → Type 0) (
       cut_of : (s : List ℕ) (fit : Fits n G w s) → IsCut map key place b value (after t s) (after v s)
       cut_of s fit = cut_start s (fits_v s fit)
 
-      uses_start : (s : List ℕ) (fit : Fits n G w s) (d : ℕ) → set.contains (start s fit).used d ≡ true → Uses (tree_part map) (after t s) d
+      uses_start : (s : List ℕ) (fit : Fits n G w s) (d : ℕ) → set.contains (start s fit).used d ≡ true → IsUsedIn (tree_part map) (after t s) d
       uses_start s fit d k = let o = start s fit in (o.entries, o.used, o.holds.map, k)
 
-      used_b : (s : List ℕ) (fit : Fits n G w s) → Uses (tree_part map) (after t s) b
+      used_b : (s : List ℕ) (fit : Fits n G w s) → IsUsedIn (tree_part map) (after t s) b
       used_b s fit = let o = start s fit in uses_start s fit b (found_used map key place b 0 (after t s) (cut_of s fit).before o.entries o.used o.holds.map)
 
       -- the block that was given back is used no more

@@ -14,7 +14,7 @@ use Rattle.locks_rule.specs.Steps.{is_free, released_phase, load_writer_action, 
 use Rattle.word_table.specs.declared.limits.TheConstants.{MOST_WORDS}
 use Rattle.word_table.specs.declared.copies.CallCopy.{CallCopy}
 use Rattle.word_table.specs.declared.copies.LockCopy.{LockCopy}
-use Rattle.word_table.specs.Copies.{Shows, ShowsPairs, HoldsNothing, IsLockCopy, IsCopy}
+use Rattle.word_table.specs.Copies.{ShowsLocks, ShowsPairs, HoldsNothing, IsLockCopy, IsCopy}
 
 -- what a pass relies on beside its copies
 pub record SameSeat (v w : View) : Type 0 where
@@ -91,8 +91,8 @@ copy_stored {call} {locks} {table} {me} i phase locks' table' me' w et em = let 
     copy_after i phase locks' table' me' w et (ap (λ (m : Me (Unit {0}) View). m.0) {y = after} em) (ap (λ (m : Me (Unit {0}) View). m.1) {y = after} em)
 
 -- a copy that shows a view's four sets
-pub lock_copy : (copy : LockCopy) (v : View) → Shows copy.bits v.bits → Shows copy.reads v.reads
-    → Shows copy.claims v.claims → ShowsPairs copy.scans.items v.scans → IsLockCopy copy v
+pub lock_copy : (copy : LockCopy) (v : View) → ShowsLocks copy.bits v.bits → ShowsLocks copy.reads v.reads
+    → ShowsLocks copy.claims v.claims → ShowsPairs copy.scans.items v.scans → IsLockCopy copy v
 lock_copy copy v sb sr sc ss = record { bits_are = sb; reads_are = sr; claims_are = sc; scans_are = ss }
 
 -- after a look at a writer word, by whether it was granted
@@ -108,12 +108,12 @@ pub load_phase : (j k a : ℕ) (v : View) (w : ℕ) → ((load_writer_action j k
 load_phase j k a v w = let granted : View = record (after_asking v a) { reads = k ∷ v.reads } in let met : View = after_meeting (after_asking v a) k (w - 1) in
     elim (is_free j w) as (λ (b : Bool). (if b then granted else met).phase ≡ v.phase) [ true ↦ refl | false ↦ refl ]
 
-pub load_copy : (copy : LockCopy) (j k a : ℕ) (v : View) (w : ℕ) → Shows copy.bits v.bits
-    → Shows copy.reads (if is_free j w then k ∷ v.reads else v.reads) → Shows copy.claims v.claims → ShowsPairs copy.scans.items v.scans
+pub load_copy : (copy : LockCopy) (j k a : ℕ) (v : View) (w : ℕ) → ShowsLocks copy.bits v.bits
+    → ShowsLocks copy.reads (if is_free j w then k ∷ v.reads else v.reads) → ShowsLocks copy.claims v.claims → ShowsPairs copy.scans.items v.scans
     → IsLockCopy copy ((load_writer_action j k a v).view [] w)
 load_copy copy j k a v w sb sr sc ss = let granted : View = record (after_asking v a) { reads = k ∷ v.reads } in
     let met : View = after_meeting (after_asking v a) k (w - 1) in
-    (elim (is_free j w) as (λ (b : Bool). Shows copy.reads (if b then k ∷ v.reads else v.reads) → IsLockCopy copy (if b then granted else met)) [
+    (elim (is_free j w) as (λ (b : Bool). ShowsLocks copy.reads (if b then k ∷ v.reads else v.reads) → IsLockCopy copy (if b then granted else met)) [
       | true ↦ λ s. record { bits_are = sb; reads_are = s; claims_are = sc; scans_are = ss }
       | false ↦ λ s. record { bits_are = sb; reads_are = s; claims_are = sc; scans_are = ss }
     ]) sr
@@ -139,15 +139,15 @@ claim_phase j k a v w = let won : View = record (after_asking v a) {
 } in let met : View = after_meeting (after_asking v a) k (w - 1) in
     elim (w == 0) as (λ (b : Bool). (if b then won else met).phase ≡ v.phase) [ true ↦ refl | false ↦ refl ]
 
-pub claim_copy : (copy : LockCopy) (j k a : ℕ) (v : View) (w : ℕ) → Shows copy.bits v.bits → Shows copy.reads v.reads
-    → Shows copy.claims (if w == 0 then k ∷ v.claims else v.claims) → ShowsPairs copy.scans.items (if w == 0 then without_first k v.scans else v.scans)
+pub claim_copy : (copy : LockCopy) (j k a : ℕ) (v : View) (w : ℕ) → ShowsLocks copy.bits v.bits → ShowsLocks copy.reads v.reads
+    → ShowsLocks copy.claims (if w == 0 then k ∷ v.claims else v.claims) → ShowsPairs copy.scans.items (if w == 0 then without_first k v.scans else v.scans)
     → IsLockCopy copy ((claim_writer_action j k a v).view [] w)
 claim_copy copy j k a v w sb sr sc ss = let won : View = record (after_asking v a) {
   claims = k ∷ v.claims;
   scans =
       without_first k v.scans;
 } in let met : View = after_meeting (after_asking v a) k (w - 1) in
-    (elim (w == 0) as (λ (b : Bool). Shows copy.claims (if b then k ∷ v.claims else v.claims)
+    (elim (w == 0) as (λ (b : Bool). ShowsLocks copy.claims (if b then k ∷ v.claims else v.claims)
     → ShowsPairs copy.scans.items (if b then without_first k v.scans else v.scans) → IsLockCopy copy (if b then won else met)) [
       | true ↦ λ s t. record { bits_are = sb; reads_are = sr; claims_are = s; scans_are = t }
       | false ↦ λ s t. record { bits_are = sb; reads_are = sr; claims_are = s; scans_are = t }
@@ -166,8 +166,8 @@ pub scan_phase : (j k i : ℕ) (v : View) (w : ℕ) → ((scan_row_action j k i 
 scan_phase j k i v w = let clear : View = record v { scans = (k, i) ∷ v.scans } in
     elim (bit_at w (k % 64) == 0) as (λ (b : Bool). (if b then clear else after_meeting v k i).phase ≡ v.phase) [ true ↦ refl | false ↦ refl ]
 
-pub scan_copy : (copy : LockCopy) (j k i : ℕ) (v : View) (w : ℕ) → Shows copy.bits v.bits → Shows copy.reads v.reads
-    → Shows copy.claims v.claims → ShowsPairs copy.scans.items (if bit_at w (k % 64) == 0 then (k, i) ∷ v.scans else v.scans)
+pub scan_copy : (copy : LockCopy) (j k i : ℕ) (v : View) (w : ℕ) → ShowsLocks copy.bits v.bits → ShowsLocks copy.reads v.reads
+    → ShowsLocks copy.claims v.claims → ShowsPairs copy.scans.items (if bit_at w (k % 64) == 0 then (k, i) ∷ v.scans else v.scans)
     → IsLockCopy copy ((scan_row_action j k i v).view [] w)
 scan_copy copy j k i v w sb sr sc ss = let clear : View = record v { scans = (k, i) ∷ v.scans } in
     (elim (bit_at w (k % 64) == 0) as
@@ -182,15 +182,15 @@ pub clear_bit : (masks : List ℕ) (w i : ℕ) (a b : List (ℕ × ℕ))
 clear_bit masks w i a b h = subst (λ (x : ℕ). ShowsPairs masks (if x == 0 then a else b)) (shr_and_one w i) h
 
 -- a row under a test that has the same answer
-pub same_test : (row locks : List ℕ) (k : ℕ) (a b : Bool) → a ≡ b → Shows row (if a then k ∷ locks else locks) → Shows row (if b then k ∷ locks else locks)
-same_test row locks k a b e h = subst (λ (x : Bool). Shows row (if x then k ∷ locks else locks)) e h
+pub same_test : (row locks : List ℕ) (k : ℕ) (a b : Bool) → a ≡ b → ShowsLocks row (if a then k ∷ locks else locks) → ShowsLocks row (if b then k ∷ locks else locks)
+same_test row locks k a b e h = subst (λ (x : Bool). ShowsLocks row (if x then k ∷ locks else locks)) e h
 
 -- a copy of a view's locks is one of any view with the same
 pub same_locks : (copy : LockCopy) (v w : View) → w.bits ≡ v.bits → w.reads ≡ v.reads → w.claims ≡ v.claims
     → w.scans ≡ v.scans → IsLockCopy copy v → IsLockCopy copy w
 same_locks copy v w eb er ec es i = record {
-  bits_are = subst (λ (l : List ℕ). Shows copy.bits l) (sym eb) i.bits_are;
-  reads_are = subst (λ (l : List ℕ). Shows copy.reads l) (sym er) i.reads_are;
-  claims_are = subst (λ (l : List ℕ). Shows copy.claims l) (sym ec) i.claims_are;
+  bits_are = subst (λ (l : List ℕ). ShowsLocks copy.bits l) (sym eb) i.bits_are;
+  reads_are = subst (λ (l : List ℕ). ShowsLocks copy.reads l) (sym er) i.reads_are;
+  claims_are = subst (λ (l : List ℕ). ShowsLocks copy.claims l) (sym ec) i.claims_are;
   scans_are = subst (λ (l : List (ℕ × ℕ)). ShowsPairs copy.scans.items l) (sym es) i.scans_are;
 }

@@ -16,7 +16,7 @@ use Rattle.locks_rule.specs.Steps.{set_read_bit_action, clear_read_bit_action}
 use Rattle.history_model.proofs.SetLemmas.{bool_cases}
 use Rattle.locks_rule.proofs.Own.{own_word, writer_same, own_seat, so_many}
 use Rattle.word_table.specs.declared.limits.TheConstants.{MOST_PASSES}
-use Rattle.word_table.specs.Copies.{Shows}
+use Rattle.word_table.specs.Copies.{ShowsLocks}
 use Rattle.word_table.specs.Kinds.{Stores}
 
 -- in these views seat i stands on lock k
@@ -53,7 +53,7 @@ module _ (n : ℕ) (base ws : List ℕ) (vs : List View) (id : ℕ) (v : View) (
       (s.0, s.1, s.2.knows, record { named = s.2.named; holds = inl bit; asked = h.bits_were_asked s.0 k s.1 s.2.knows bit })
 
   -- the table's row word is the pass's own
-  same_word : (row : List ℕ) → Shows row v.bits → slice_index row (k / 64) < 2 ^ 64
+  same_word : (row : List ℕ) → ShowsLocks row v.bits → slice_index row (k / 64) < 2 ^ 64
       → slice_index ws (row_word v.seats j k) < 2 ^ 64 → slice_index ws (row_word v.seats j k) ≡ slice_index row (k / 64)
   same_word row shown fits wide = same_from_bits_below 64 (slice_index ws (row_word v.seats j k)) (slice_index row (k / 64)) wide fits
       (λ i lt. let l : ℕ = 64 * (k / 64) + i in let b : v.seats ≡ n = so_many n base ws vs id v h me j k single near in
@@ -68,12 +68,12 @@ module _ (n : ℕ) (base ws : List ℕ) (vs : List View) (id : ℕ) (v : View) (
       (subst (λ (x : ℕ). bit_at (slice_index row x) (l % 64) ≡ flag (has l v.bits)) q (shown.bits l close)) in
       a ∙ sym c)
 
-pub set_stores : (v : View) (row : List ℕ) (j k a x : ℕ) → v.who ≡ j ∷ [] → k < LOCKS → Shows row v.bits
+pub set_stores : (v : View) (row : List ℕ) (j k a x : ℕ) → v.who ≡ j ∷ [] → k < LOCKS → ShowsLocks row v.bits
     → slice_index row (k / 64) < 2 ^ 64 → x ≡ bit_or (slice_index row (k / 64)) (2 ^ (k % 64)) → Stores (set_read_bit_action j k a v) v x
 set_stores v row j k a x single near shown fits e n base ws vs id h me wide =
     ap (λ (w : ℕ). bit_or w (2 ^ (k % 64))) (same_word n base ws vs id v j k h me single near row shown fits wide) ∙ sym e
 
-pub clear_stores : (v : View) (row : List ℕ) (j k x : ℕ) → v.who ≡ j ∷ [] → k < LOCKS → Shows row v.bits
+pub clear_stores : (v : View) (row : List ℕ) (j k x : ℕ) → v.who ≡ j ∷ [] → k < LOCKS → ShowsLocks row v.bits
     → slice_index row (k / 64) < 2 ^ 64 → x ≡ bit_and (slice_index row (k / 64)) (bit_not w64 (2 ^ (k % 64))) → Stores (clear_read_bit_action j k v) v x
 clear_stores v row j k x single near shown fits e n base ws vs id h me wide =
     ap (λ (w : ℕ). bit_and w (bit_not w64 (2 ^ (k % 64)))) (same_word n base ws vs id v j k h me single near row shown fits wide) ∙ sym e

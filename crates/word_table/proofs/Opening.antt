@@ -19,7 +19,7 @@ use Rattle.history_model.proofs.SetLemmas.{differ, not_true, has-nil, pair-nil, 
 use Rattle.word_table.specs.declared.limits.TheConstants.{MOST_PASSES, MOST_WORDS}
 use Rattle.word_table.specs.declared.copies.CallCopy.{CallCopy}
 use Rattle.word_table.specs.declared.copies.LockCopy.{LockCopy}
-use Rattle.word_table.specs.Copies.{Shows, ShowsOthers, ShowsPairs, IsCopy, PassView}
+use Rattle.word_table.specs.Copies.{ShowsLocks, ShowsOthers, ShowsPairs, IsCopy, PassView}
 use Rattle.word_table.specs.Sound.{IsSound, opening_words, numbers}
 use Rattle.stamps_rule.specs.Opening.{IsUnused}
 use Rattle.stamps_rule.proofs.Opening.{opening_holds}
@@ -152,7 +152,7 @@ zeros_count : (m : ℕ) → length (zeros m) ≡ m
 zeros_count zero = refl
 zeros_count (suc m) = ap suc (zeros_count m)
 
-shows_none : Shows (zeros 16) []
+shows_none : ShowsLocks (zeros 16) []
 shows_none = record {
   sixteen = zeros_count 16;
   bits = λ k near. ap (λ (x : ℕ). bit_at x (k % 64)) (zero_at 16 (k / 64)) ∙ (bit_at-zero (k % 64) ∙ sym (ap flag (has-nil k)));
@@ -178,9 +178,9 @@ opening_copy base call locks table me em idle fresh unstamped unannounced others
       long = long;
       call_is = record { seats_are = refl; who_is = refl; phase_is = sym idle; calls_are = sym fresh; stamp_is = sym unstamped; announced_is = sym unannounced };
       locks_are = record {
-        bits_are = subst (λ (row : List ℕ). Shows row []) (sym eb) shows_none;
-        reads_are = subst (λ (row : List ℕ). Shows row []) (sym er) shows_none;
-        claims_are = subst (λ (row : List ℕ). Shows row []) (sym ec) shows_none;
+        bits_are = subst (λ (row : List ℕ). ShowsLocks row []) (sym eb) shows_none;
+        reads_are = subst (λ (row : List ℕ). ShowsLocks row []) (sym er) shows_none;
+        claims_are = subst (λ (row : List ℕ). ShowsLocks row []) (sym ec) shows_none;
         scans_are = subst (λ (masks : List ℕ). ShowsPairs masks []) (sym es) record {
           each_lock = zeros_count LOCKS;
           bits =

@@ -12,7 +12,7 @@ use Rattle.history_model.specs.Views.{HasClaim, HasWriteGrant}
 use Rattle.history_model.proofs.SetLemmas.{differ, bool_cases}
 use Rattle.locks_rule.proofs.Own.{not_own, other_number}
 use Rattle.word_table.specs.declared.limits.TheConstants.{MOST_PASSES}
-use Rattle.word_table.specs.Copies.{Shows, ShowsOthers}
+use Rattle.word_table.specs.Copies.{ShowsLocks, ShowsOthers}
 use Rattle.word_table.specs.Least.{IsLeast}
 use Rattle.word_table.specs.Unscanned.{IsUnscanned}
 
@@ -69,7 +69,7 @@ pub no_claim_none : (v : View) (k : ℕ) → has k v.claims ≡ false → IsLeas
 no_claim_none v k none j u = differ (has k v.claims) u.claim none
 
 -- the least lock of a set that is shown is one of the locks
-pub least_near : (row locks : List ℕ) (from : ℕ) (o : Option ℕ) → Shows row locks
+pub least_near : (row locks : List ℕ) (from : ℕ) (o : Option ℕ) → ShowsLocks row locks
     → IsLeast (λ k. (from ≤ k) × (has k locks ≡ true)) o → IfSome o (λ k. k < LOCKS)
 least_near row locks from None h l = tt
 least_near row locks from (Some k) h l = h.near k l.0.1

@@ -16,12 +16,12 @@ use Rattle.history_model.proofs.SetLemmas.{has-join, has-join_same, has-join_oth
 use Rattle.history_model.proofs.SetLemmas.{pair-join_other, pair-without_same, pair-without_other}
 use Rattle.locks_rule.proofs.Bits.{put_same, put_other, raise_here, raise_there, lower_here, lower_there}
 use Rattle.word_table.specs.declared.limits.TheConstants.{MOST_PASSES}
-use Rattle.word_table.specs.Copies.{Shows, ShowsOthers, ShowsPairs}
+use Rattle.word_table.specs.Copies.{ShowsLocks, ShowsOthers, ShowsPairs}
 
 shows_put : (f : ℕ → ℕ) (row before after : List ℕ) (k : ℕ) → k < LOCKS
     → ((w : ℕ) → bit_at (f w) (k % 64) ≡ flag (has k after)) → ((w i : ℕ) → i < 64 → i ≢ k % 64 → bit_at (f w) i ≡ bit_at w i)
     → ((l : ℕ) → l ≢ k → has l after ≡ has l before) → ((l : ℕ) → has l after ≡ true → l < LOCKS)
-    → Shows row before → Shows (slice_set row (k / 64) (f (slice_index row (k / 64)))) after
+    → ShowsLocks row before → ShowsLocks (slice_set row (k / 64) (f (slice_index row (k / 64)))) after
 shows_put f row before after k near here there same close_all h =
     let i : ℕ = k / 64 in let sixteen : length row ≡ 16 = h.sixteen in let lt : i < length row = omega arith in record {
       sixteen = length-set row i _ ∙ sixteen;
@@ -34,21 +34,21 @@ shows_put f row before after k near here there same close_all h =
     }
 
 pub shows_raise : (row locks : List ℕ) (k x : ℕ) → k < LOCKS → x ≡ bit_or (slice_index row (k / 64)) (2 ^ (k % 64))
-    → Shows row locks → Shows (slice_set row (k / 64) x) (k ∷ locks)
-shows_raise row locks k x near e h = subst (λ (y : ℕ). Shows (slice_set row (k / 64) y) (k ∷ locks)) (sym e)
+    → ShowsLocks row locks → ShowsLocks (slice_set row (k / 64) x) (k ∷ locks)
+shows_raise row locks k x near e h = subst (λ (y : ℕ). ShowsLocks (slice_set row (k / 64) y) (k ∷ locks)) (sym e)
     (shows_put (λ w. bit_or w (2 ^ (k % 64))) row locks (k ∷ locks) k near (λ w. raise_here k w
     ∙ ap flag (sym (has-join_same k locks))) (raise_there k) (λ l ne. has-join_other l k locks ne)
     (λ l t. ⊎_elim (λ (z : l ≡ k). subst (λ (y : ℕ). y < LOCKS) (sym z) near) (λ old. h.near l old) (has-join l k locks t)) h)
 
 pub shows_lower : (row locks : List ℕ) (k x : ℕ) → k < LOCKS
-    → x ≡ bit_and (slice_index row (k / 64)) (bit_not w64 (2 ^ (k % 64))) → Shows row locks → Shows (slice_set row (k / 64) x) (without k locks)
-shows_lower row locks k x near e h = subst (λ (y : ℕ). Shows (slice_set row (k / 64) y) (without k locks)) (sym e)
+    → x ≡ bit_and (slice_index row (k / 64)) (bit_not w64 (2 ^ (k % 64))) → ShowsLocks row locks → ShowsLocks (slice_set row (k / 64) x) (without k locks)
+shows_lower row locks k x near e h = subst (λ (y : ℕ). ShowsLocks (slice_set row (k / 64) y) (without k locks)) (sym e)
     (shows_put (λ w. bit_and w (bit_not w64 (2 ^ (k % 64)))) row locks (without k locks) k near (λ w. lower_here k w
     ∙ ap flag (sym (has-without_same k locks))) (lower_there k) (λ l ne. has-without_other l k locks ne)
     (λ l t. h.near l (has-without l k locks t).1) h)
 
-pub raise_yes : (row locks : List ℕ) (k : ℕ) (b : Bool) → b ≡ true → Shows row (k ∷ locks) → Shows row (if b then k ∷ locks else locks)
-raise_yes row locks k b e h = subst (λ (z : Bool). Shows row (if z then k ∷ locks else locks)) (sym e) h
+pub raise_yes : (row locks : List ℕ) (k : ℕ) (b : Bool) → b ≡ true → ShowsLocks row (k ∷ locks) → ShowsLocks row (if b then k ∷ locks else locks)
+raise_yes row locks k b e h = subst (λ (z : Bool). ShowsLocks row (if z then k ∷ locks else locks)) (sym e) h
 
 -- masks after the seats scanned for k are forgotten, and after one more is noted
 forgets : (masks : List ℕ) (pairs : List (ℕ × ℕ)) (k : ℕ) → k < length masks → ShowsPairs masks pairs → ShowsPairs (slice_set masks k 0) (without_first k pairs)
@@ -94,7 +94,7 @@ note_yes masks pairs k i old b e near small is h =
     (notes masks pairs k i (bit_or old (1 * 2 ^ i % 2 ^ 64)) near small (ap (λ (w : ℕ). bit_or w (1 * 2 ^ i % 2 ^ 64)) (is ∙ any_default masks k old 0 near)) h)
 
 -- a lock of the set has its bit in a word that is not 0
-word_of_lock : (row locks : List ℕ) (k : ℕ) → Shows row locks → has k locks ≡ true → bit_at (slice_index row (k / 64)) (k % 64) ≡ 1
+word_of_lock : (row locks : List ℕ) (k : ℕ) → ShowsLocks row locks → has k locks ≡ true → bit_at (slice_index row (k / 64)) (k % 64) ≡ 1
 word_of_lock row locks k h t = h.bits k (h.near k t) ∙ ap flag t
 
 no_bit : (w b : ℕ) → w ≡ 0 → bit_at w b ≡ 0
@@ -124,7 +124,7 @@ NoneBefore row from m = (k : ℕ) → from ≤ k → k < 64 * m → bit_at (slic
 -- the lock of the lowest bit of w, which has the bits of the word i from `from` on
 pub least_at : (row locks : List ℕ) (from i w : ℕ) → i < 16 → w ≢ 0 → w < 2 ^ 64
     → ((b : ℕ) → b < 64 → from ≤ 64 * i + b → bit_at w b ≡ bit_at (slice_index row i) b)
-    → ((b : ℕ) → 64 * i + b < from → bit_at w b ≡ 0) → NoneBefore row from i → Shows row locks
+    → ((b : ℕ) → 64 * i + b < from → bit_at w b ≡ 0) → NoneBefore row from i → ShowsLocks row locks
     → ((from ≤ 64 * i + trailing_zeros w64 w) × (has (64 * i + trailing_zeros w64 w) locks ≡ true))
     × ((k : ℕ) → k < 64 * i + trailing_zeros w64 w → ¬ ((from ≤ k) × (has k locks ≡ true)))
 least_at row locks from i w small some_bit fits agree low_clear before h =
@@ -150,7 +150,7 @@ least_at row locks from i w small some_bit fits agree low_clear before h =
     )
 
 -- where the words before the end have none, there is none
-pub least_none : (row locks : List ℕ) (from m : ℕ) → 16 ≤ m → NoneBefore row from m → Shows row locks → (k : ℕ) → ¬ ((from ≤ k) × (has k locks ≡ true))
+pub least_none : (row locks : List ℕ) (from m : ℕ) → 16 ≤ m → NoneBefore row from m → ShowsLocks row locks → (k : ℕ) → ¬ ((from ≤ k) × (has k locks ≡ true))
 least_none row locks from m end before h k it = let near : k < 1024 = h.near k it.1 in
     let set : bit_at (slice_index row (k / 64)) (k % 64) ≡ 1 = word_of_lock row locks k h it.1 in
     let clear : bit_at (slice_index row (k / 64)) (k % 64) ≡ 0 = before k it.0 (omega arith) in absurd (omega arith)

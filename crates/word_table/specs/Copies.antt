@@ -19,7 +19,7 @@ pub record PassView : Type 0 where
   pub view : View
 
 -- sixteen words show a set of locks, a bit for each
-pub record Shows (row locks : List ℕ) : Type 0 where
+pub record ShowsLocks (row locks : List ℕ) : Type 0 where
   pub sixteen : length row ≡ 16
   pub bits : (k : ℕ) → k < LOCKS → bit_at (slice_index row (k / 64)) (k % 64) ≡ flag (has k locks)
   pub near : (k : ℕ) → has k locks ≡ true → k < LOCKS
@@ -37,9 +37,9 @@ pub record ShowsOthers (mask seats who : ℕ) : Type 0 where
 
 -- the copy has the view's locks
 pub record IsLockCopy (copy : LockCopy) (v : View) : Type 0 where
-  pub bits_are : Shows copy.bits v.bits
-  pub reads_are : Shows copy.reads v.reads
-  pub claims_are : Shows copy.claims v.claims
+  pub bits_are : ShowsLocks copy.bits v.bits
+  pub reads_are : ShowsLocks copy.reads v.reads
+  pub claims_are : ShowsLocks copy.claims v.claims
   pub scans_are : ShowsPairs copy.scans.items v.scans
 
 -- the copy has what the view says of the call

@@ -25,9 +25,9 @@ module _ {S : Type 0} (shapes : Shapes S) (desk : DeskView S) where
   RuleHolds = DeskHolds shapes.word_count shapes.good desk
 
   -- a list of its words that is good
-  abbrev pub IsGoodFor : List ℕ → Type 0
-  IsGoodFor = IsGood (shapes.word_count desk.shape) (shapes.good desk.shape)
+  abbrev pub AreGoodWords : List ℕ → Type 0
+  AreGoodWords = IsGood (shapes.word_count desk.shape) (shapes.good desk.shape)
 
   -- a history that is legal from the words that it began with
   abbrev pub IsLegalFor : List Entry → Type 0
-  IsLegalFor = IsLegalHistory IsGoodFor desk.seats desk.base
+  IsLegalFor = IsLegalHistory AreGoodWords desk.seats desk.base

@@ -4,7 +4,7 @@ ghost use Rattle.std.specs.Prelude.{◌≡◌, ◌<◌, ◌≤◌, ◌/◌, ◌%
 ghost use Rattle.std.specs.Int.{bit_at, bit_not};
 ghost use mir.Syntax.{w64};
 ghost use Rattle.history_model.specs.Sets.{has, without, without_first, flag};
-ghost use Rattle.word_table.specs.Copies.{Shows, ShowsOthers, ShowsPairs};
+ghost use Rattle.word_table.specs.Copies.{ShowsLocks, ShowsOthers, ShowsPairs};
 ghost use Rattle.word_table.specs.Least.{IsLeast};
 
 use crate::limits::MOST_PASSES;
@@ -39,7 +39,7 @@ pub(crate) fn lowered(row: &[u64; 16], lock: u32) -> u64
 /// The lock joins the set.
 pub(crate) fn raise(row: &mut [u64; 16], lock: u32)
     requires { lock < LOCKS }
-    ensures { (locks : List ℕ) → Shows row.old locks → Shows row.new (lock ∷ locks) }
+    ensures { (locks : List ℕ) → ShowsLocks row.old locks → ShowsLocks row.new (lock ∷ locks) }
 {
     row[(lock / 64) as usize] = raised(row, lock);
 }
@@ -47,7 +47,7 @@ pub(crate) fn raise(row: &mut [u64; 16], lock: u32)
 /// The lock leaves the set.
 pub(crate) fn lower(row: &mut [u64; 16], lock: u32)
     requires { lock < LOCKS }
-    ensures { (locks : List ℕ) → Shows row.old locks → Shows row.new (without lock locks) }
+    ensures { (locks : List ℕ) → ShowsLocks row.old locks → ShowsLocks row.new (without lock locks) }
 {
     row[(lock / 64) as usize] = lowered(row, lock);
 }
@@ -55,7 +55,7 @@ pub(crate) fn lower(row: &mut [u64; 16], lock: u32)
 /// The lock joins the set if `yes`.
 pub(crate) fn raise_if(row: &mut [u64; 16], lock: u32, yes: bool)
     requires { lock < LOCKS }
-    ensures { (locks : List ℕ) → Shows row.old locks → Shows row.new (if yes then lock ∷ locks else locks) }
+    ensures { (locks : List ℕ) → ShowsLocks row.old locks → ShowsLocks row.new (if yes then lock ∷ locks else locks) }
 {
     if yes {
         raise(row, lock);
@@ -74,7 +74,7 @@ fn high_bits(word: u64, from: u32) -> u64
 /// The least lock of the set from `from` on.
 pub(crate) fn least_from(row: &[u64; 16], from: u32) -> Option<u32>
     requires { from < LOCKS }
-    ensures { (locks : List ℕ) → Shows row.now locks → IsLeast (λ k. (from ≤ k) × (has k locks ≡ true)) result }
+    ensures { (locks : List ℕ) → ShowsLocks row.now locks → IsLeast (λ k. (from ≤ k) × (has k locks ≡ true)) result }
 {
     let first = from / 64;
     let rest = high_bits(row[first as usize], from % 64);

@@ -14,7 +14,7 @@ ghost use Rattle.word_table.specs.Closing.{AreAllPasses, AreOwnersAmong};
 ghost use Rattle.word_table.specs.Copies.{PassView};
 ghost use Rattle.word_table.specs.Kinds.{TakenIn};
 ghost use Rattle.word_table.specs.Sound.{opening_words};
-ghost use Rattle.word_table.specs.Desks.{IsGoodFor, IsLegalFor, RuleHolds};
+ghost use Rattle.word_table.specs.Desks.{AreGoodWords, IsLegalFor, RuleHolds};
 
 use crate::closing::{CloseRefused, Closed, copy_words, gather, room_for};
 use crate::deal::deal;
@@ -104,7 +104,7 @@ impl<S: Shape> Desk<S> {
 
     /// The words that the table began with are good. It does nothing.
     pub fn began_good(&self)
-        ensures { IsGoodFor S.Shape self.now self.now.base }
+        ensures { AreGoodWords S.Shape self.now self.now.base }
     {
         let _ = &self.seats;
     }

@@ -20,9 +20,9 @@ use Rattle.worker_pool.specs.declared.worker.Worker.{Worker}
 use Rattle.worker_pool.specs.Counting.{times, once_below}
 use Rattle.worker_pool.specs.Inner.Ends.{IsGuest, owners_dealt, owners_took, stolen}
 use Rattle.worker_pool.specs.Inner.Finishing.{IsReturning, IsWholeRow, rows_stole}
-use Rattle.worker_pool.specs.Inner.Makers.{HasMade, HasRun, RunsEach}
+use Rattle.worker_pool.specs.Inner.Makers.{HasMade, RanScripts, RunsEach}
 use Rattle.worker_pool.specs.Inner.Takers.{dealt_to, had, IsDealtOut, Thieves}
-use Rattle.worker_pool.specs.Inner.Workers.{number_of, seat_of, share_of, AreAllDone, HasEnded, HasWorked, IsDone, Tally}
+use Rattle.worker_pool.specs.Inner.Workers.{number_of, seat_of, share_of, AreAllDone, HasEndedItsPart, HasDoneItsPart, IsDone, Tally}
 use Rattle.worker_pool.proofs.Sums.{times_cons}
 use Rattle.worker_pool.proofs.Ended.{once_at_most}
 use mathlib.Core.List.{map-map}
@@ -117,9 +117,9 @@ few_once (suc n) xs h =
     omega (arith, length_without n xs, rest, h n, at_most_one n)
 
 module _ (thieves : Thieves) (desk : DeskView BooksShape) (input : ClearingInput) (ws : List Worker)
-    (ended : All (HasEnded thieves desk input) ws) (none_failed : All (λ (worker : Worker). worker.failed ≡ false) ws)
+    (ended : All (HasEndedItsPart thieves desk input) ws) (none_failed : All (λ (worker : Worker). worker.failed ≡ false) ws)
     (numbers : map number_of ws ≡ range_with_len 0 desk.seats) (long : length thieves ≡ length ws) where
-  worked : All (HasWorked thieves desk input) ws
+  worked : All (HasDoneItsPart thieves desk input) ws
   worked k d lt = ended k d lt (none_failed k d lt)
 
   number_at : (k : ℕ) (d : Worker) → k < length ws → number_of (get_or ws k d) ≡ k
@@ -190,7 +190,7 @@ shares_of_tallies (w ∷ ws) = λ i. w.share ∷ shares_of_tallies ws i
 
 -- a share that is done, and those of workers of whom none took a caller twice
 done_at : {thieves : Thieves} {desk : DeskView BooksShape} {input : ClearingInput} (tally : Tally)
-    → IsDone desk input tally → (ws : List Worker) → All (HasWorked thieves desk input) ws
+    → IsDone desk input tally → (ws : List Worker) → All (HasDoneItsPart thieves desk input) ws
     → ((k : ℕ) (d : Worker) → k < length ws → (x : ℕ) → had (get_or ws k d).taker x ≤ 1) → All (IsDone desk input) (tally ∷ map tally_of ws)
 done_at tally first ws each few zero d lt = first
 done_at {desk = desk} {input = input} tally first ws each few (suc k) d lt =
@@ -202,7 +202,7 @@ done_at {desk = desk} {input = input} tally first ws each few (suc k) d lt =
 
 -- the first share has run what was left, and the others are as the workers left them
 pub last_done : (thieves : Thieves) (desk : DeskView BooksShape) (input : ClearingInput) (ws : List Worker)
-    → All (HasWorked thieves desk input) ws → map number_of ws ≡ range_with_len 0 desk.seats → 0 < length ws
+    → All (HasDoneItsPart thieves desk input) ws → map number_of ws ≡ range_with_len 0 desk.seats → 0 < length ws
     → (left : List ℕ) → ((x : ℕ) → sum_by (λ (worker : Worker). had worker.taker x) ws + times x left ≡ once_below x (length input.callers))
     → (shares : List Share) (first last : Share) → shares ≡ map worker_share ws → first ≡ get_or shares 0 first
     → HasMade desk input (seat_of first) last.pass last.done.items → seat_of last ≡ seat_of first
@@ -216,7 +216,7 @@ last_done thieves desk input (w ∷ ws) each numbers some left once shares first
     ≡ had w.taker x + sum_by (λ (worker : Worker). had worker.taker x) ws = λ x. sum_by-cons (λ (worker : Worker). had worker.taker x) w ws in
     let tally : Tally = record { share = last; had = more } in
     let few_more : (x : ℕ) → more x ≤ 1 = λ x. omega (arith, once x, sum x, once_at_most x (length input.callers)) in
-    let ran : HasRun input more 0 0 last.done.items =
+    let ran : RanScripts input more 0 0 last.done.items =
     run (had w.taker) more (λ x. refl) (subst (λ (s : Share). RunsEach input (had w.taker) s.done.items) (sym mine)
     (each 0 w (omega arith)).run) few_more in
     record {
@@ -243,11 +243,11 @@ last_done thieves desk input (w ∷ ws) each numbers some left once shares first
 
 -- all that the workers leave, as it was gathered
 module _ (thieves : Thieves) (desk : DeskView BooksShape) (input : ClearingInput) (ws : List Worker)
-    (ended : All (HasEnded thieves desk input) ws) (none_failed : All (λ (worker : Worker). worker.failed ≡ false) ws)
+    (ended : All (HasEndedItsPart thieves desk input) ws) (none_failed : All (λ (worker : Worker). worker.failed ≡ false) ws)
     (numbers : map number_of ws ≡ range_with_len 0 desk.seats) (long : length thieves ≡ length ws) (some : 0 < length ws)
     (owners : List OwnerOf) (rows : List RowOf) (shares : List Share) (owners_are : owners ≡ map own_of ws)
     (rows_are : rows ≡ map row_of ws) (shares_are : shares ≡ map worker_share ws) where
-  all_worked : All (HasWorked thieves desk input) ws
+  all_worked : All (HasDoneItsPart thieves desk input) ws
   all_worked k d lt = ended k d lt (none_failed k d lt)
 
   owners_back : All (IsReturning (length rows)) owners

@@ -8,13 +8,13 @@ use Rattle.crossbeam_deque.specs.Handles.{Pass, view, SamePass}
 use Rattle.worker_pool.specs.declared.rule.Deal.{Deal}
 use Rattle.worker_pool.specs.Counting.{times, HadOneMore}
 use Rattle.worker_pool.specs.Inner.Deals.{deal}
-use Rattle.worker_pool.specs.Inner.Ends.{IsAt, Fits, stolen, HadSame}
+use Rattle.worker_pool.specs.Inner.Ends.{IsPassAt, AreAtEach, stolen, HadSame}
 use Rattle.worker_pool.proofs.Steps.{times_append}
 use Rattle.std.proofs.lemmas.List.{length-set, get_or-set_other, get_or-set_same}
 
 module _ {A P : Type 0} where
-  pub still_at : (s : Stealer ℕ A Deal P) (p q : Pass ℕ Deal A) → IsAt s p → SamePass p q
-      → (view q).parts ≡ (view p).parts → (view q).dealt ≡ (view p).dealt → IsAt s q
+  pub still_at : (s : Stealer ℕ A Deal P) (p q : Pass ℕ Deal A) → IsPassAt s p → SamePass p q
+      → (view q).parts ≡ (view p).parts → (view q).dealt ≡ (view p).dealt → IsPassAt s q
   still_at s p q h same parts dealt = record {
     deque = (same.0 ∙ h.deque.0, same.1 ∙ h.deque.1, same.3, same.4);
     part = parts ∙ h.part;
@@ -22,23 +22,23 @@ module _ {A P : Type 0} where
     fifo = h.fifo;
   }
 
-  pub fits_set : (thieves : List (Stealer ℕ A Deal P)) (ps : List (Pass ℕ Deal A)) (k : ℕ) (q : Pass ℕ Deal A) → Fits thieves ps → k < length thieves
-      → ((s : Stealer ℕ A Deal P) → IsAt (get_or thieves k s) q) → Fits thieves (set ps k q)
+  pub fits_set : (thieves : List (Stealer ℕ A Deal P)) (ps : List (Pass ℕ Deal A)) (k : ℕ) (q : Pass ℕ Deal A) → AreAtEach thieves ps → k < length thieves
+      → ((s : Stealer ℕ A Deal P) → IsPassAt (get_or thieves k s) q) → AreAtEach thieves (set ps k q)
   fits_set thieves ps k q h lt at = record {
     count = length-set ps k q ∙ h.count;
     each = λ j s p less. dite (ℕ_discrete j k)
-        (λ e. subst (λ (i : ℕ). IsAt (get_or thieves i s) (get_or (set ps k q) i p)) (sym e)
-        (subst (λ (x : Pass ℕ Deal A). IsAt (get_or thieves k s) x) (sym (get_or-set_same ps k q p (omega (arith, h.count, lt)))) (at s)))
-        (λ n. subst (λ (x : Pass ℕ Deal A). IsAt (get_or thieves j s) x) (sym (get_or-set_other ps k j q p n)) (h.each j s p less));
+        (λ e. subst (λ (i : ℕ). IsPassAt (get_or thieves i s) (get_or (set ps k q) i p)) (sym e)
+        (subst (λ (x : Pass ℕ Deal A). IsPassAt (get_or thieves k s) x) (sym (get_or-set_same ps k q p (omega (arith, h.count, lt)))) (at s)))
+        (λ n. subst (λ (x : Pass ℕ Deal A). IsPassAt (get_or thieves j s) x) (sym (get_or-set_other ps k j q p n)) (h.each j s p less));
   }
 
 module _ {A P : Type 0} where
   pub fits_after : (thieves : List (Stealer ℕ A Deal P)) (ps : List (Pass ℕ Deal A)) (k : ℕ) (p q : Pass ℕ Deal A)
-      → Fits thieves ps → k < length thieves → p ≡ get_or ps k p
-      → SamePass p q → (view q).parts ≡ (view p).parts → (view q).dealt ≡ (view p).dealt → Fits thieves (set ps k q)
+      → AreAtEach thieves ps → k < length thieves → p ≡ get_or ps k p
+      → SamePass p q → (view q).parts ≡ (view p).parts → (view q).dealt ≡ (view p).dealt → AreAtEach thieves (set ps k q)
   fits_after thieves ps k p q h lt is same parts dealt =
       fits_set thieves ps k q h lt (λ s.
-      still_at (get_or thieves k s) p q (subst (λ (r : Pass ℕ Deal A). IsAt (get_or thieves k s) r) (sym is) (h.each k s p lt)) same parts dealt)
+      still_at (get_or thieves k s) p q (subst (λ (r : Pass ℕ Deal A). IsPassAt (get_or thieves k s) r) (sym is) (h.each k s p lt)) same parts dealt)
 
 module _ {A : Type 0} where
   stolen_set : (ps : List (Pass ℕ Deal A)) (k : ℕ) (p q : Pass ℕ Deal A) (x : ℕ) → k < length ps → p ≡ get_or ps k p

@@ -15,8 +15,8 @@ use Rattle.worker_pool.specs.declared.rule.TheConstants.{ALL_PARTS}
 use Rattle.worker_pool.specs.declared.taker.Taker.{Taker}
 use Rattle.worker_pool.specs.Counting.{times, once_below}
 use Rattle.worker_pool.specs.Inner.Dealing.{AreDealtInTurn, AreShown, IsFree, IsNewRow}
-use Rattle.worker_pool.specs.Inner.Ends.{Fits, owners_dealt, stolen}
-use Rattle.worker_pool.specs.Inner.Takers.{IsEndOf, IsUnused, Thieves}
+use Rattle.worker_pool.specs.Inner.Ends.{AreAtEach, owners_dealt, stolen}
+use Rattle.worker_pool.specs.Inner.Takers.{IsEndOf, HadNone, Thieves}
 use Rattle.std.proofs.Math.Nat.{mod-lt}
 
 abbrev pub OwnerOf : Type 0
@@ -29,7 +29,7 @@ sum_zero f (x ∷ xs) none = omega (arith, sum_by-cons f x xs, none 0 x (omega a
 module _ (thieves : Thieves) (owners : List OwnerOf) (n j : ℕ) (taker : Taker) (shown : AreShown thieves owners)
     (many : length owners ≡ n) (few : n < ALL_PARTS) (free : All (IsFree n) owners) (row : IsNewRow owners taker.passes.items)
     (own : taker.own ≡ get_or owners j taker.own) (within : j < n) where
-  fits_new : Fits thieves taker.passes.items
+  fits_new : AreAtEach thieves taker.passes.items
   fits_new = record {
     count = row.count ∙ sym shown.count;
     each = λ k s p lt.
@@ -64,7 +64,7 @@ module _ (thieves : Thieves) (owners : List OwnerOf) (n j : ℕ) (taker : Taker)
       first_thief [] lt = absurd (omega arith)
       first_thief (t ∷ ts) lt = t
 
-  pub new_unused : taker.count ≡ 0 → IsUnused taker
+  pub new_unused : taker.count ≡ 0 → HadNone taker
   new_unused count =
       let less : j < length owners = omega (arith, within, many) in
       let took : (worker_view taker.own).taken ≡ [] = ap (λ (w : OwnerOf). (worker_view w).taken) own ∙ (free j taker.own less).taken in

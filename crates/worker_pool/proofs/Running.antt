@@ -11,7 +11,7 @@ use Rattle.script_reader.specs.Journal.{Place, IsPlace}
 use Rattle.worker_pool.specs.Counting.{HadOneMore}
 use Rattle.worker_pool.specs.declared.done.Done.{Done}
 use Rattle.worker_pool.specs.Days.{place_of, places_of}
-use Rattle.worker_pool.specs.Inner.Makers.{HasRun, RunsEach}
+use Rattle.worker_pool.specs.Inner.Makers.{RanScripts, RunsEach}
 
 -- 1 where the test says so, and else 0
 abbrev pub one_if : Bool → ℕ
@@ -39,8 +39,8 @@ counts_itself c = grind (arith, nat_tests)
 
 module _ (input : ClearingInput) (h : ℕ → ℕ) (c : ℕ) where
   -- nothing was run of callers that were not had
-  pub ran_nothing : ((x : ℕ) → h x ≡ 0) → (done : List Done) → done ≡ [] → HasRun input h c 0 done
-  ran_nothing none done is = subst (λ (l : List Done). HasRun input h c 0 l) (sym is) (record {
+  pub ran_nothing : ((x : ℕ) → h x ≡ 0) → (done : List Done) → done ≡ [] → RanScripts input h c 0 done
+  ran_nothing none done is = subst (λ (l : List Done). RanScripts input h c 0 l) (sym is) (record {
     only = All-nil (λ (item : Done). IsPlace input (place_of item));
     each = λ p there. omega (arith, none p.caller, none_yet c p);
     rising = λ i j d lt short. absurd (omega arith);
@@ -48,7 +48,7 @@ module _ (input : ClearingInput) (h : ℕ → ℕ) (c : ℕ) where
   })
 
   -- the same, whoever comes next
-  pub next_caller : (b : ℕ) (done : List Done) → HasRun input h b 0 done → HasRun input h c 0 done
+  pub next_caller : (b : ℕ) (done : List Done) → RanScripts input h b 0 done → RanScripts input h c 0 done
   next_caller b done r = record {
     only = r.only;
     each = λ p there. omega (arith, r.each p there, none_yet b p, none_yet c p);
@@ -59,8 +59,8 @@ module _ (input : ClearingInput) (h : ℕ → ℕ) (c : ℕ) where
   -- the next script of a caller of whom nothing was run before
   pub ran_script : (i : ℕ) (old new : List Done) (item : Done) → h c ≡ 0 → IsPlace input (place_of item)
       → item.caller ≡ c → item.index ≡ i → new ≡ old ++ item ∷ []
-      → HasRun input h c i old → HasRun input h c (i + 1) new
-  ran_script i old new item none there caller index is r = subst (λ (l : List Done). HasRun input h c (i + 1) l) (sym is) (record {
+      → RanScripts input h c i old → RanScripts input h c (i + 1) new
+  ran_script i old new item none there caller index is r = subst (λ (l : List Done). RanScripts input h c (i + 1) l) (sym is) (record {
     only = All-push (λ (x : Done). IsPlace input (place_of x)) old item r.only there;
     each = λ p within.
         let its : one_if (item.caller == p.caller && item.index == p.index) ≡ one_if (c == p.caller && i == p.index) =
@@ -83,7 +83,7 @@ module _ (input : ClearingInput) (h : ℕ → ℕ) (c : ℕ) where
 
   -- all scripts of a caller
   pub ran_caller : (more : ℕ → ℕ) (done : List Done) → HadOneMore h more c
-      → HasRun input h c (length (caller_at input c).scripts) done → HasRun input more c 0 done
+      → RanScripts input h c (length (caller_at input c).scripts) done → RanScripts input more c 0 done
   ran_caller more done one r = record {
     only = r.only;
     each = λ p there. omega (
@@ -101,7 +101,7 @@ module _ (input : ClearingInput) (h : ℕ → ℕ) (c : ℕ) where
   }
 
 -- of a caller that the items are of, some were had
-pub among_had : (input : ClearingInput) (h : ℕ → ℕ) (c : ℕ) (done : List Done) → HasRun input h c 0 done → All (λ item. 0 < h item.caller) done
+pub among_had : (input : ClearingInput) (h : ℕ → ℕ) (c : ℕ) (done : List Done) → RanScripts input h c 0 done → All (λ item. 0 < h item.caller) done
 among_had input h c done r k d lt = some (h (get_or done k d).caller) refl
   where
     some : (n : ℕ) → h (get_or done k d).caller ≡ n → 0 < h (get_or done k d).caller
@@ -118,7 +118,7 @@ other_caller n c p past there = grind (arith, nat_tests, past, there)
 module _ (input : ClearingInput) (h more : ℕ → ℕ) (c : ℕ) (one : HadOneMore h more c) where
   -- all scripts of one caller more
   pub runs_caller : (old new : List Done)
-      → (h c ≡ 0 → HasRun input h c 0 old → HasRun input h c (length (caller_at input c).scripts) new) → RunsEach input h old → RunsEach input more new
+      → (h c ≡ 0 → RanScripts input h c 0 old → RanScripts input h c (length (caller_at input c).scripts) new) → RunsEach input h old → RunsEach input more new
   runs_caller old new ran before few =
       let less = few_before h more c one few in
       next_caller input more 0 c new (ran_caller input h c more new one (ran less.1 (next_caller input h c 0 old (before less.0))))

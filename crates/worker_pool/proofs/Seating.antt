@@ -12,7 +12,7 @@ use Rattle.word_table.specs.Copies.{PassView}
 use Rattle.word_table.specs.Desks.{DeskView}
 use Rattle.worker_pool.specs.declared.worker.Worker.{Worker}
 use Rattle.worker_pool.specs.Days.{AreAllNew}
-use Rattle.worker_pool.specs.Inner.Takers.{IsEndOf, IsUnused, Thieves}
+use Rattle.worker_pool.specs.Inner.Takers.{IsEndOf, HadNone, Thieves}
 use Rattle.worker_pool.specs.Inner.Workers.{number_of, IsSeated}
 use Rattle.worker_pool.proofs.Opening.{OwnerOf}
 use Rattle.worker_pool.proofs.Yielded.{one_given}
@@ -51,7 +51,7 @@ module _ (desk : DeskView BooksShape) (passes : List PassView) (all_new : AreAll
 
 -- a new pass and an unused end are a worker that did nothing
 pub seated_at : (thieves : Thieves) (desk : DeskView BooksShape) (j : ℕ) (worker : Worker)
-    → IsEndOf thieves j worker.taker → IsUnused worker.taker → worker.share.pass ≡ new_pass desk j → worker.share.done.items ≡ []
+    → IsEndOf thieves j worker.taker → HadNone worker.taker → worker.share.pass ≡ new_pass desk j → worker.share.done.items ≡ []
     → worker.failed ≡ false → IsSeated thieves desk worker
 seated_at thieves desk j worker end unused pass done going = record {
   end = subst (λ n. IsEndOf thieves n worker.taker) (sym (ap (λ (p : PassView). number p.view) pass)) end;

@@ -15,7 +15,7 @@ ghost use Rattle.worker_pool.specs.Days.{AreAllNew, AreCallersWhole, IsDay};
 ghost use Rattle.worker_pool.specs.Inner.Dealing.{AreDealtInTurn, AreShown, IsFree, IsNewRow};
 ghost use Rattle.worker_pool.specs.Inner.Makers.{HasMade, RunsEach};
 ghost use Rattle.worker_pool.specs.Inner.Takers.{dealt_to, IsDealtOut};
-ghost use Rattle.worker_pool.specs.Inner.Workers.{number_of, seat_of, workers_of, AreAllDone, FitTogether, HasEnded, IsSeated};
+ghost use Rattle.worker_pool.specs.Inner.Workers.{number_of, seat_of, workers_of, AreAllDone, FitTogether, HasEndedItsPart, IsSeated};
 
 use crate::dealing::{Deques, deal_out};
 use crate::done::{DayEnd, Done};
@@ -95,7 +95,7 @@ fn work_all<R: Threads + Wait + Sync, G: Gate>(
     requires fit { FitTogether shop.now.desk.now shop.now.shape shop.now.input.now }
     requires seated { All (IsSeated shop.now.thieves.now shop.now.desk.now)
         (workers_of workers.old) }
-    ensures ended { All (HasEnded shop.now.thieves.now shop.now.desk.now shop.now.input.now)
+    ensures ended { All (HasEndedItsPart shop.now.thieves.now shop.now.desk.now shop.now.input.now)
         (workers_of workers.new) }
     ensures numbers { map number_of (workers_of workers.new)
         ≡ map number_of (workers_of workers.old) }
@@ -109,7 +109,7 @@ fn work_all<R: Threads + Wait + Sync, G: Gate>(
         &|_, worker: &mut CachePadded<Worker>|
             requires { FitTogether shop.now.desk.now shop.now.shape shop.now.input.now
                 × IsSeated shop.now.thieves.now shop.now.desk.now (padded_value worker.now) }
-            ensures { HasEnded shop.entry.now.thieves.now shop.entry.now.desk.now
+            ensures { HasEndedItsPart shop.entry.now.thieves.now shop.entry.now.desk.now
                 shop.entry.now.input.now (padded_value worker.exit.now)
                 × (number_of (padded_value worker.exit.now)
                 ≡ number_of (padded_value worker.entry.now))
@@ -211,7 +211,7 @@ fn last_round<R: Wait, G: Gate>(
 ) -> Result<Vec<Share>, OutOfMemory>
     requires some { 0 < length (workers_of workers.items) }
     requires fit { FitTogether shop.now.desk.now shop.now.shape shop.now.input.now }
-    requires ended { All (HasEnded shop.now.thieves.now shop.now.desk.now shop.now.input.now)
+    requires ended { All (HasEndedItsPart shop.now.thieves.now shop.now.desk.now shop.now.input.now)
         (workers_of workers.items) }
     requires numbers { map number_of (workers_of workers.items)
         ≡ range_with_len 0 shop.now.desk.now.seats }

@@ -4,7 +4,7 @@ ghost use Rattle.std.specs.Prelude.{◌≡◌, ◌<◌, ◌≤◌, ◌+◌, leng
 ghost use Rattle.script_reader.specs.declared.limits.TheConstants.{MOST_CALLERS as most_callers};
 ghost use Rattle.worker_pool.specs.declared.rule.TheConstants.{ALL_PARTS};
 ghost use Rattle.worker_pool.specs.Counting.{HadOneMore};
-ghost use Rattle.worker_pool.specs.Inner.Ends.{Fits, stolen, HadSame};
+ghost use Rattle.worker_pool.specs.Inner.Ends.{AreAtEach, stolen, HadSame};
 ghost use Rattle.worker_pool.specs.Inner.Takers.{dealt_to, had, IsEndOf};
 
 use crate::ends::{steal, take_own};
@@ -30,9 +30,9 @@ fn steal_at<R: Wait>(
     passes: &mut Vec<DequePass>,
     k: usize,
 ) -> Option<u32>
-    requires fits { Fits thieves.now passes.old.items }
+    requires fits { AreAtEach thieves.now passes.old.items }
     requires place { k < length thieves.now }
-    ensures fits { Fits thieves.now passes.new.items }
+    ensures fits { AreAtEach thieves.now passes.new.items }
     ensures some { IfSome result
         (λ caller. HadOneMore (stolen passes.old.items) (stolen passes.new.items) caller) }
     ensures none { IfNone result (HadSame (stolen passes.old.items) (stolen passes.new.items)) }
@@ -47,9 +47,9 @@ fn steal_round<R: Wait>(
     passes: &mut Vec<DequePass>,
     seat: usize,
 ) -> Option<u32>
-    requires fits { Fits thieves.now passes.old.items }
+    requires fits { AreAtEach thieves.now passes.old.items }
     requires seat { (seat < length thieves.now) × (length thieves.now < ALL_PARTS) }
-    ensures fits { Fits thieves.now passes.new.items }
+    ensures fits { AreAtEach thieves.now passes.new.items }
     ensures some { IfSome result
         (λ caller. HadOneMore (stolen passes.old.items) (stolen passes.new.items) caller) }
     ensures none { IfNone result (HadSame (stolen passes.old.items) (stolen passes.new.items)) }

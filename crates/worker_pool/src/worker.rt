@@ -7,9 +7,9 @@ ghost use Rattle.script_reader.specs.Input.{caller_at};
 ghost use Rattle.script_reader.specs.declared.limits.TheConstants.{MOST_SCRIPTS};
 ghost use Rattle.word_table.specs.declared.limits.TheConstants.{LAST_CALL};
 ghost use Rattle.worker_pool.specs.Counting.{HadOneMore};
-ghost use Rattle.worker_pool.specs.Inner.Makers.{HasMade, HasRun, RunsEach};
+ghost use Rattle.worker_pool.specs.Inner.Makers.{HasMade, RanScripts, RunsEach};
 ghost use Rattle.worker_pool.specs.Inner.Takers.{dealt_to};
-ghost use Rattle.worker_pool.specs.Inner.Workers.{number_of, FitTogether, HasEnded, HasWorked, IsSeated};
+ghost use Rattle.worker_pool.specs.Inner.Workers.{number_of, FitTogether, HasEndedItsPart, HasDoneItsPart, IsSeated};
 
 use crate::done::Done;
 use crate::taker::Taker;
@@ -99,8 +99,8 @@ fn run_scripts<R: Wait, G: Gate>(
     ensures made { OnOk result (HasMade shop.now.desk.now shop.now.input.now
         (number pass.old.view) pass.new done.new.items) }
     ensures run { OnOk result ((h : ℕ → ℕ) → h caller ≡ 0
-        → HasRun shop.now.input.now h caller 0 done.old.items
-        → HasRun shop.now.input.now h caller
+        → RanScripts shop.now.input.now h caller 0 done.old.items
+        → RanScripts shop.now.input.now h caller
         (length (caller_at shop.now.input.now caller).scripts) done.new.items) }
     ensures count { OnOk result (length done.new.items
         ≡ length done.old.items + length (caller_at shop.now.input.now caller).scripts) }
@@ -145,7 +145,7 @@ impl Worker {
         ensures who { self.new.share.pass.view.who ≡ self.old.share.pass.view.who }
         ensures dealt { dealt_to self.new.taker ≡ dealt_to self.old.taker }
         ensures worked { OnOk result
-            (HasWorked shop.now.thieves.now shop.now.desk.now shop.now.input.now self.new) }
+            (HasDoneItsPart shop.now.thieves.now shop.now.desk.now shop.now.input.now self.new) }
     {
         for _ in shop.rt.forever() {
             let Some(caller) = self.taker.next(shop.rt, shop.thieves) else {
@@ -162,7 +162,7 @@ impl Worker {
         requires seated { IsSeated shop.now.thieves.now shop.now.desk.now self.old }
         ensures number { number_of self.new ≡ number_of self.old }
         ensures dealt { dealt_to self.new.taker ≡ dealt_to self.old.taker }
-        ensures ended { HasEnded shop.now.thieves.now shop.now.desk.now shop.now.input.now
+        ensures ended { HasEndedItsPart shop.now.thieves.now shop.now.desk.now shop.now.input.now
             self.new }
     {
         if self.run(shop).is_err() {

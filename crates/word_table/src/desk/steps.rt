@@ -18,7 +18,7 @@ ghost use Rattle.stamps_rule.specs.Steps.{draw_stamp_action, announce_stamp_acti
 ghost use Rattle.history_model.specs.Sets.{has, without};
 ghost use Rattle.word_table.specs.Calls.{ClaimedBy, CommitsAt, GaveWay, GrantsStay, JudgedBy, MetOn, ReadsHistory, SameCall, ScannedBy, SharedBy, with_bit};
 ghost use Rattle.word_table.specs.Kinds.{TakenIn};
-ghost use Rattle.word_table.specs.Desks.{IsGoodFor, IsLegalFor, RuleHolds};
+ghost use Rattle.word_table.specs.Desks.{AreGoodWords, IsLegalFor, RuleHolds};
 
 use super::Desk;
 use crate::answer::{Claimed, Judged, Scanned, Shared, claimed_by};
@@ -140,7 +140,7 @@ impl<S: Shape> Desk<S> {
         ensures step { pass.new.view ≡ (begin_call_action (number pass.old.view) pass.old.view).view [] 0 }
         ensures taken { (found : ℕ) × TakenIn (RuleHolds S.Shape self.now)
             (begin_call_action (number pass.old.view) pass.old.view) pass.old.view found pass.new.view }
-        ensures fits { ReadsHistory (IsGoodFor S.Shape self.now)
+        ensures fits { ReadsHistory (AreGoodWords S.Shape self.now)
             self.now.seats self.now.base pass.new.view }
     {
         pass.begin_call(&self.table.shared)
@@ -157,7 +157,7 @@ impl<S: Shape> Desk<S> {
         ensures event { pass.new.view ≡ record pass.old.view { trace = pass.old.view.trace ++ Read a result ∷ [] } }
         ensures taken { TakenIn (RuleHolds S.Shape self.now)
             (load_value_action (number pass.old.view) a pass.old.view) pass.old.view result pass.new.view }
-        ensures fits { ReadsHistory (IsGoodFor S.Shape self.now)
+        ensures fits { ReadsHistory (AreGoodWords S.Shape self.now)
             self.now.seats self.now.base pass.new.view }
     {
         pass.load_value(&self.table.shared, a)
@@ -205,9 +205,9 @@ impl<S: Shape> Desk<S> {
         requires phase { is_attempt pass.old.view.phase ≡ true }
         requires runs { kept ≡ true → pass.old.view.phase ≡ Phase.Running }
         requires leaves_good { kept ≡ true → (words : List ℕ)
-            → IsGoodFor S.Shape self.now words
+            → AreGoodWords S.Shape self.now words
             → IsLegalTrace pass.old.view.trace words
-            → IsGoodFor S.Shape self.now (after pass.old.view.trace words) }
+            → AreGoodWords S.Shape self.now (after pass.old.view.trace words) }
         requires undone { kept ≡ false → pass.old.view.undo ≡ [] }
         ensures desk { pass.new.table ≡ pass.old.table }
         ensures entry { CommitsAt (S.word_count self.now.shape) (S.good self.now.shape) self.now.base
@@ -281,7 +281,7 @@ impl<S: Shape> Desk<S> {
             → pass.new.view ≡ record pass.old.view { met = without other pass.old.view.met } }
         ensures yields { (stamp : ℕ) → result ≡ Judged.Yield stamp
             → (0 < stamp) × (stamp < pass.old.view.stamp)
-            × GaveWay (IsGoodFor S.Shape self.now) self.now.seats self.now.base
+            × GaveWay (AreGoodWords S.Shape self.now) self.now.seats self.now.base
             (record { seat = other; stamp = stamp }) pass.old.view pass.new.view }
         ensures cause { (stamp : ℕ) → result ≡ Judged.Yield stamp
             → newest (past_causes pass.new.view) ≡ Some (record { seat = other; stamp = stamp }) }
@@ -308,7 +308,7 @@ impl<S: Shape> Desk<S> {
         ensures restarts { result ≡ true → pass.new.view ≡ record pass.old.view { phase = Phase.Running; trace = [] } }
         ensures waits { result ≡ false → pass.new.view ≡ record pass.old.view { waits = pass.old.view.waits + 1 } }
         ensures fits { result ≡ true
-            → ReadsHistory (IsGoodFor S.Shape self.now)
+            → ReadsHistory (AreGoodWords S.Shape self.now)
             self.now.seats self.now.base pass.new.view }
     {
         let shown = pass.load_cause_stamp(&self.table.shared, other, stamp);

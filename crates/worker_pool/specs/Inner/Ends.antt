@@ -9,16 +9,16 @@ use Rattle.worker_pool.specs.Counting.{times}
 
 module _ {A P : Type 0} where
   -- a pass with one part of the stealer's deque, which is first in, first out
-  pub record IsAt (s : Stealer ℕ A Deal P) (p : Pass ℕ Deal A) : Type 0 where
+  pub record IsPassAt (s : Stealer ℕ A Deal P) (p : Pass ℕ Deal A) : Type 0 where
     pub deque : IsPassOf (stealer_deque s) p
     pub part : (view p).parts ≡ 1
     pub dealt : (view p).dealt ≡ []
     pub fifo : stealer_flavor s ≡ 0
 
   -- a row of passes, one at each deque
-  pub record Fits (thieves : List (Stealer ℕ A Deal P)) (passes : List (Pass ℕ Deal A)) : Type 0 where
+  pub record AreAtEach (thieves : List (Stealer ℕ A Deal P)) (passes : List (Pass ℕ Deal A)) : Type 0 where
     pub count : length passes ≡ length thieves
-    pub each : (k : ℕ) (s : Stealer ℕ A Deal P) (p : Pass ℕ Deal A) → k < length thieves → IsAt (get_or thieves k s) (get_or passes k p)
+    pub each : (k : ℕ) (s : Stealer ℕ A Deal P) (p : Pass ℕ Deal A) → k < length thieves → IsPassAt (get_or thieves k s) (get_or passes k p)
 
   -- an owner with more parts of its deque than so many, and one with all
   abbrev pub HasOver : ℕ → Worker ℕ A Deal P → Type 0

@@ -43,7 +43,7 @@ pub record HasMade (desk : DeskView BooksShape) (input : ClearingInput) (who : �
   pub below : All (λ item. item.restarts < desk.seats) done
 
 -- of caller x the items are all scripts, h x times, and for caller c the first i scripts beside, in their order
-pub record HasRun (input : ClearingInput) (h : ℕ → ℕ) (c i : ℕ) (done : List Done) : Type 0 where
+pub record RanScripts (input : ClearingInput) (h : ℕ → ℕ) (c i : ℕ) (done : List Done) : Type 0 where
   pub only : All (λ item. IsPlace input (place_of item)) done
   pub each : (p : Place) → IsPlace input p → count_by (λ q. q.caller == p.caller && q.index == p.index) (places_of done)
       ≡ h p.caller + (if p.caller == c && nat_lt p.index i then 1 else 0)
@@ -52,4 +52,4 @@ pub record HasRun (input : ClearingInput) (h : ℕ → ℕ) (c i : ℕ) (done : 
 
 -- where no caller was had twice, the items are all scripts of each that was had
 abbrev pub RunsEach : ClearingInput → (ℕ → ℕ) → List Done → Type 0
-RunsEach input h done = ((x : ℕ) → h x ≤ 1) → HasRun input h 0 0 done
+RunsEach input h done = ((x : ℕ) → h x ≤ 1) → RanScripts input h 0 0 done

@@ -8,7 +8,7 @@ use Rattle.worker_pool.specs.declared.rule.Deal.{Deal}
 use Rattle.worker_pool.specs.declared.rule.DealRule.{DealRule}
 use Rattle.worker_pool.specs.declared.taker.Taker.{Taker}
 use Rattle.worker_pool.specs.Counting.{times, once_below}
-use Rattle.worker_pool.specs.Inner.Ends.{Fits, stolen}
+use Rattle.worker_pool.specs.Inner.Ends.{AreAtEach, stolen}
 use Rattle.script_reader.specs.declared.limits.TheConstants.{MOST_CALLERS}
 
 -- what threads share of all deques
@@ -32,11 +32,11 @@ pub record IsEndOf (thieves : Thieves) (seat : ℕ) (taker : Taker) : Type 0 whe
   pub own : (s : Stealer ℕ Global Deal DealRule) → worker_deque taker.own ≡ stealer_deque (get_or thieves seat s)
   pub fifo : worker_flavor taker.own ≡ 0
   pub parts : (worker_view taker.own).parts + length thieves ≡ ALL_PARTS
-  pub row : Fits thieves taker.passes.items
+  pub row : AreAtEach thieves taker.passes.items
   pub count : taker.count ≤ MOST_CALLERS
 
 -- an end through which nothing was taken yet
-pub record IsUnused (taker : Taker) : Type 0 where
+pub record HadNone (taker : Taker) : Type 0 where
   pub none : (x : ℕ) → had taker x ≡ 0
   pub count : taker.count ≡ 0
 

@@ -13,8 +13,8 @@ use Rattle.txn_books.specs.Layout.{shape_of}
 use Rattle.worker_pool.specs.declared.worker.Share.{Share}
 use Rattle.worker_pool.specs.declared.worker.Worker.{Worker}
 use Rattle.worker_pool.specs.Counting.{once_below}
-use Rattle.worker_pool.specs.Inner.Makers.{HasMade, HasRun, RunsEach}
-use Rattle.worker_pool.specs.Inner.Takers.{had, Thieves, IsEndOf, IsUnused}
+use Rattle.worker_pool.specs.Inner.Makers.{HasMade, RanScripts, RunsEach}
+use Rattle.worker_pool.specs.Inner.Takers.{had, Thieves, IsEndOf, HadNone}
 
 -- the number of a share's seat, and of a worker's
 abbrev pub seat_of : Share → ℕ
@@ -36,22 +36,22 @@ pub record FitTogether (desk : DeskView BooksShape) (shape : BooksShape) (input 
 -- a worker at these deques and this desk, that did nothing yet
 pub record IsSeated (thieves : Thieves) (desk : DeskView BooksShape) (worker : Worker) : Type 0 where
   pub end : IsEndOf thieves (number_of worker) worker.taker
-  pub unused : IsUnused worker.taker
+  pub unused : HadNone worker.taker
   pub fresh : IsFresh desk worker.share.pass
   pub who_is : worker.share.pass.view.who ≡ number_of worker ∷ []
   pub nothing_done : worker.share.done.items ≡ []
   pub going : worker.failed ≡ false
 
 -- a worker that took callers and ran all scripts of each
-pub record HasWorked (thieves : Thieves) (desk : DeskView BooksShape) (input : ClearingInput) (worker : Worker) : Type 0 where
+pub record HasDoneItsPart (thieves : Thieves) (desk : DeskView BooksShape) (input : ClearingInput) (worker : Worker) : Type 0 where
   pub end : IsEndOf thieves (number_of worker) worker.taker
   pub made : HasMade desk input (number_of worker) worker.share.pass worker.share.done.items
   pub run : RunsEach input (had worker.taker) worker.share.done.items
   pub few : length worker.share.done.items ≤ MOST_CALLERS * MOST_SCRIPTS
 
 -- a worker whose thread has ended: unless it found no memory, it has done its part
-abbrev pub HasEnded : Thieves → DeskView BooksShape → ClearingInput → Worker → Type 0
-HasEnded thieves desk input worker = worker.failed ≡ false → HasWorked thieves desk input worker
+abbrev pub HasEndedItsPart : Thieves → DeskView BooksShape → ClearingInput → Worker → Type 0
+HasEndedItsPart thieves desk input worker = worker.failed ≡ false → HasDoneItsPart thieves desk input worker
 
 -- a share, and how often each caller was had for it
 pub record Tally : Type 0 where
@@ -67,7 +67,7 @@ tally_number tally = seat_of tally.share
 -- the share has all scripts of the callers that were had for it
 pub record IsDone (desk : DeskView BooksShape) (input : ClearingInput) (tally : Tally) : Type 0 where
   pub made : HasMade desk input (tally_number tally) tally.share.pass tally.share.done.items
-  pub run : HasRun input tally.had 0 0 tally.share.done.items
+  pub run : RanScripts input tally.had 0 0 tally.share.done.items
 
 -- all shares of a day: those of all passes, and for them together each caller was had once
 pub record AreAllDone (desk : DeskView BooksShape) (input : ClearingInput) (shares : List Share) : Type 0 where

@@ -1,13 +1,11 @@
 use Rattle.std.proofs.Common.{◌≡◌, ◌+◌, ℕ, List, [], ◌∷◌, length, length-append, get_or, slice_index, sum, sym, ap, ◌∙◌, subst, arith}
 use Rattle.std.proofs.lemmas.List.{append_assoc, get_or_default}
 use Rattle.std.proofs.lemmas.List.Elements.{All-push, All-same}
-use Rattle.history_model.specs.Fitting.{IsGood}
 use Rattle.history_model.specs.Views.{number}
-use Rattle.transfer_jobs.specs.Moving.{HasSum}
 use Rattle.transfers.specs.declared.teller.Move.{Move}
 use Rattle.transfers.specs.Making.{AreMade}
 use Rattle.transfers.specs.Telling.{entries_of}
-use Rattle.transfers.proofs.Entries.{one_entry_more, found_good}
+use Rattle.transfers.proofs.Entries.{one_entry_more}
 use Rattle.transfers.proofs.Making.{all_made, next_made}
 use Rattle.transfers.proofs.teller.make_moves.Goals as goal
 
@@ -18,7 +16,6 @@ loop-step-preserved g c =
     let i = at.invariant in
     let moved = c.in_ok-transact.ensures in
     let audited = c.in_ok-receipt.ensures in
-    let Good = IsGood desk.shape.words (HasSum desk.shape.total) in
     let was = at.pass.view in
     let between = c.transact.new.pass.view in
     let now = c.transact-in-loop-step.new.pass.view in
@@ -29,12 +26,11 @@ loop-step-preserved g c =
     let call_2 : now.call ≡ between.call + 1 = audited.call in
     let same_1 : number between ≡ number was = ap (λ l. slice_index l 0) moved.seat.who in
     let same_2 : number now ≡ number between = ap (λ l. slice_index l 0) audited.seat.who in
-    let one : entries_of (number was) between.seen ≡ entries_of (number was) was.seen + 1 = one_entry_more Good desk.seats desk.base _ _ _ _ _ _ moved.entry in
+    let one : entries_of (number was) between.seen ≡ entries_of (number was) was.seen + 1 = one_entry_more desk.base _ _ _ _ _ _ moved.entry in
     let two : entries_of (number between) now.seen ≡ entries_of (number between) between.seen + 1 =
-    one_entry_more Good desk.seats desk.base _ _ _ _ _ _ audited.entry in
+    one_entry_more desk.base _ _ _ _ _ _ audited.entry in
     let here : entries_of (number between) between.seen ≡ entries_of (number was) between.seen = ap (λ k. entries_of k between.seen) same_1 in
     let there : entries_of (number now) now.seen ≡ entries_of (number between) now.seen = ap (λ k. entries_of k now.seen) same_2 in
-    let good = found_good Good desk.seats desk.base _ _ _ _ _ _ audited.entry c.requires.good audited.legal in
     let made : AreMade desk.base between.seen (number was) moves (at.step-index + 1) =
     next_made desk.base (number was) _ _ _ _ moves at.step-index step
     (λ m. get_or_default moves at.step-index m none c.loop-step-test.true) moved.entry i.made in
@@ -51,5 +47,5 @@ loop-step-preserved g c =
       audits = omega (arith, ap length c.in_ok-push.ensures.items, length-append at.told.items (c.in_ok-receipt.receipt.answer ∷ []), i.audits);
       tell = All-same (λ told. told ≡ sum desk.base) _ _ c.in_ok-push.ensures.items
           (All-push (λ told. told ≡ sum desk.base) at.told.items c.in_ok-receipt.receipt.answer i.tell
-          (audited.entry.meaning.tells ∙ good.good.sum_is ∙ sym c.requires.good.good.sum_is));
+          (audited.meant.meaning.tells ∙ audited.meant.good_words.good.sum_is ∙ sym c.began_good.ensures.good.sum_is));
     }

@@ -7,7 +7,7 @@ use Rattle.history_model.specs.Traces.{Trace}
 use Rattle.history_model.specs.Views.{number, HasWriteGrant}
 use Rattle.undo_log.specs.Room.{Room}
 use Rattle.txn_commit.specs.declared.attempt.TheConstants.{UNDO_ROOM}
-use Rattle.txn_commit.specs.Attempts.{IsSound}
+use Rattle.txn_commit.specs.Attempts.{IsSoundAttempt}
 use Rattle.txn_commit.proofs.Attempts.{asks_none, did_load, did_store, held_sound, loaded_last, noted_count, noted_granted, noted_there, noted_within, of_made}
 use Rattle.txn_commit.proofs.Attempts.{of_refused, refused_when_full, store_sound}
 use Rattle.txn_commit.proofs.attempt.put_back.Goals as goal
@@ -103,7 +103,7 @@ returns-then-is_err g c =
     record {
       back = tt;
       begins = (Read a x ∷ [], last);
-      sound = subst (λ (log : Room). IsSound g.S.Shape.word_count g.S.Shape.good c.args.desk.now c.args.began.now.value
+      sound = subst (λ (log : Room). IsSoundAttempt g.S.Shape.word_count g.S.Shape.good c.args.desk.now c.args.began.now.value
           c.load-now.new.pass log None) (sym same) held;
       events = did_load (pass.view.trace ++ Read a x ∷ []) pass.view pass.view c.load-now.new.pass.view refl c.load-now.ensures.event;
       full = subst (λ (log : Room). UNDO_ROOM ≤ length log.list) (sym same) many;

@@ -1,5 +1,5 @@
 use Rattle.std.proofs.Common.{◌≡◌, ◌<◌, [], None, length}
-use Rattle.txn_commit.specs.Attempts.{IsSound, SameCall}
+use Rattle.txn_commit.specs.Attempts.{IsSoundAttempt, StaysInCall}
 use Rattle.txn_commit.proofs.transaction.run_attempts.Given as goal
 
 -- so many attempts of the call gave way so far, fewer than there are seats, and the next begins
@@ -8,11 +8,11 @@ invariant-loop-restarts g l =
     let pass = l.attempt.pass.now in record {
       name : l.attempt.pass.ghost_name ≡ l.initial.attempt.pass.ghost_name;
       desk : l.attempt.desk.now ≡ l.initial.attempt.desk.now;
-      sound : IsSound g.S.Shape.word_count g.S.Shape.good l.attempt.desk.now l.attempt.began.value pass l.attempt.undo l.attempt.halt;
+      sound : IsSoundAttempt g.S.Shape.word_count g.S.Shape.good l.attempt.desk.now l.attempt.began.value pass l.attempt.undo l.attempt.halt;
       began : l.attempt.began.value ≡ pass;
       going : l.attempt.halt ≡ None;
       fresh : pass.view.trace ≡ [];
-      call : SameCall l.initial.attempt.pass.now.view pass.view;
+      call : StaysInCall l.initial.attempt.pass.now.view pass.view;
       restarts : length pass.view.abandoned ≡ l.restarts;
       few : length pass.view.abandoned < l.initial.attempt.desk.now.seats;
     }

@@ -4,7 +4,7 @@ use Rattle.crossbeam_utils.specs.declared.cache_padded.CachePadded.{CachePadded}
 use Rattle.crossbeam_utils.specs.Padded.{padded_value}
 use Rattle.worker_pool.specs.declared.worker.Worker.{Worker}
 use Rattle.worker_pool.specs.Inner.Takers.{dealt_to}
-use Rattle.worker_pool.specs.Inner.Workers.{number_of, HasEnded, IsSeated}
+use Rattle.worker_pool.specs.Inner.Workers.{number_of, HasEndedItsPart, IsSeated}
 use Rattle.worker_pool.proofs.Apart.{each_apart, same_apart}
 use Rattle.worker_pool.proofs.run.work_all.Goals as goal
 
@@ -21,8 +21,8 @@ for_each_mut-requires-clause-accepts g c κs within i p lt is =
 
 pub returns-clause-ended : goal.returns-clause-ended
 returns-clause-ended g c =
-    let ended = λ (apart : CachePadded Worker). HasEnded c.args.shop.now.thieves.now c.args.shop.now.desk.now c.args.shop.now.input.now (padded_value apart) in
-    All-map (HasEnded c.args.shop.now.thieves.now c.args.shop.now.desk.now c.args.shop.now.input.now) padded_value c.for_each_mut.new.s
+    let ended = λ (apart : CachePadded Worker). HasEndedItsPart c.args.shop.now.thieves.now c.args.shop.now.desk.now c.args.shop.now.input.now (padded_value apart) in
+    All-map (HasEndedItsPart c.args.shop.now.thieves.now c.args.shop.now.desk.now c.args.shop.now.input.now) padded_value c.for_each_mut.new.s
     (λ k d lt. let x = (c.for_each_mut.ensures k d (omega (arith, lt, c.for_each_mut.auto.s))).1 in subst ended x.left x.call.0)
 
 pub returns-clause-numbers : goal.returns-clause-numbers

@@ -3,7 +3,7 @@ use Rattle.std.proofs.lemmas.Result.{IfOk-from_err}
 use Rattle.history_model.specs.Views.{number}
 use Rattle.script_reader.specs.Input.{caller_at}
 use Rattle.worker_pool.specs.declared.done.Done.{Done}
-use Rattle.worker_pool.specs.Inner.Makers.{HasMade, HasRun}
+use Rattle.worker_pool.specs.Inner.Makers.{HasMade, RanScripts}
 use Rattle.worker_pool.proofs.Running.{ran_script}
 use Rattle.worker_pool.proofs.worker.run_scripts.Goals as goal
 
@@ -50,6 +50,6 @@ returns g c =
     record {
       who = i.who;
       made = i.made;
-      run = λ h none before. subst (λ n. HasRun c.args.shop.now.input.now h c.args.caller n c.loop-index.done.items) all (i.run h none before);
+      run = λ h none before. subst (λ n. RanScripts c.args.shop.now.input.now h c.args.caller n c.loop-index.done.items) all (i.run h none before);
       count = i.count ∙ ap (λ (n : ℕ). length c.args.done.now.items + n) all;
     }

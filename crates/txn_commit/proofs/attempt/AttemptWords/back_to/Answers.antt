@@ -1,6 +1,6 @@
 use Rattle.std.proofs.Common.{Option, sym, subst, arith}
 use Rattle.txn_commit.specs.declared.attempt.Halt.{Halt}
-use Rattle.txn_commit.specs.Attempts.{IsSound}
+use Rattle.txn_commit.specs.Attempts.{IsSoundAttempt}
 use Rattle.txn_commit.proofs.Attempts.{memory_sound, not_halted}
 use Rattle.txn_commit.proofs.attempt.AttemptWords.back_to.Goals as goal
 
@@ -9,14 +9,14 @@ go_back-requires g c =
     let old = c.args.self.now in record {
       mark = c.requires.mark;
       sound =
-          subst (λ (h : Option Halt). IsSound g.S.Shape.word_count g.S.Shape.good old.desk.now old.began.value
+          subst (λ (h : Option Halt). IsSoundAttempt g.S.Shape.word_count g.S.Shape.good old.desk.now old.began.value
           old.pass.now old.undo h) (not_halted old.halt c.requires.going) c.requires.sound;
     }
 
 pub returns-in-Ok-clause-sound : goal.returns-in-Ok-clause-sound
 returns-in-Ok-clause-sound g c =
     let old = c.args.self.now in
-    subst (λ (h : Option Halt). IsSound g.S.Shape.word_count g.S.Shape.good old.desk.now old.began.value
+    subst (λ (h : Option Halt). IsSoundAttempt g.S.Shape.word_count g.S.Shape.good old.desk.now old.began.value
     c.go_back.new.pass c.go_back.new.undo h) (sym (not_halted old.halt c.requires.going)) c.in-Ok.ensures.sound
 
 pub returns-in-Err-clause-sound : goal.returns-in-Err-clause-sound

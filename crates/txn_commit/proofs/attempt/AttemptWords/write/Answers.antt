@@ -9,7 +9,7 @@ use Rattle.undo_log.specs.Room.{Room}
 use Rattle.lock_or_yield.specs.Asking.{Asks, AsksToWrite, GainsAtMost}
 use Rattle.txn_commit.specs.declared.attempt.Halt.{Halt}
 use Rattle.txn_commit.specs.declared.attempt.Halt.TheVariants as halt
-use Rattle.txn_commit.specs.Attempts.{IsSound}
+use Rattle.txn_commit.specs.Attempts.{IsSoundAttempt}
 use Rattle.txn_commit.proofs.Attempts.{asks_table, loaded_last, not_halted, of_refused, of_made, refused_when_full, yields_sound, held_sound, memory_sound}
 use Rattle.txn_commit.proofs.Attempts.{store_sound, held_not_yield, granted_not_yield}
 use Rattle.txn_commit.proofs.attempt.AttemptWords.write.Goals.{in-Held, in-Granted}
@@ -51,7 +51,7 @@ store_writes a x first loaded stored writes step = subst (λ (v : View). AsksToW
 pub returns-in-Yield : goal.returns-in-Yield
 returns-in-Yield g c =
     let none = not_halted c.args.self.now.halt c.requires.going in
-    let sound = subst (λ (h : Option Halt). IsSound g.S.Shape.word_count g.S.Shape.good c.args.self.now.desk.now
+    let sound = subst (λ (h : Option Halt). IsSoundAttempt g.S.Shape.word_count g.S.Shape.good c.args.self.now.desk.now
     c.args.self.now.began.value c.args.self.now.pass.now c.args.self.now.undo h) none c.requires.sound in
     let asks = c.in-Yield.ensures.asks in
     let way = c.in-Yield.ensures.yields c.in-Yield.cause refl in
@@ -73,7 +73,7 @@ returns-in-Yield g c =
 pub load-old-requires : goal.load-old-requires
 load-old-requires g c =
     let none = not_halted c.args.self.now.halt c.requires.going in
-    let sound = subst (λ (h : Option Halt). IsSound g.S.Shape.word_count g.S.Shape.good c.args.self.now.desk.now
+    let sound = subst (λ (h : Option Halt). IsSoundAttempt g.S.Shape.word_count g.S.Shape.good c.args.self.now.desk.now
     c.args.self.now.began.value c.args.self.now.pass.now c.args.self.now.undo h) none c.requires.sound in
     let goes_on = c.ask_to_write.ensures.goes_on (elim c.match-ask_to_write.branch [
       | in-Held w ↦
@@ -134,7 +134,7 @@ returns g c =
       shape = refl;
       origin = refl;
       sound =
-          subst (λ (h : Option Halt). IsSound g.S.Shape.word_count g.S.Shape.good c.args.self.now.desk.now
+          subst (λ (h : Option Halt). IsSoundAttempt g.S.Shape.word_count g.S.Shape.good c.args.self.now.desk.now
           c.args.self.now.began.value c.store.new.pass c.note.new.self h) (sym (not_halted c.args.self.now.halt c.requires.going))
           (store_sound g.S.Shape.word_count g.S.Shape.good c.args.self.now.desk.now c.args.self.now.began.value c.args.a
           c.args.v c.load-old.result c.ask_to_write.new.pass.view.trace c.load-old.new.pass c.store.new.pass c.args.self.now.undo c.note.new.self
@@ -167,7 +167,7 @@ returns-then-is_err-clause-sound g c =
     let refused = sym c.if-is_err.ensures.value in
     let full : c.args.self.now.undo.spare ≡ 0 = refused_when_full c.note.result c.args.self.now.undo.spare refused c.note.ensures.succeeds in
     let room = c.requires.sound.room in
-    subst (λ (log : Room). IsSound g.S.Shape.word_count g.S.Shape.good c.args.self.now.desk.now
+    subst (λ (log : Room). IsSoundAttempt g.S.Shape.word_count g.S.Shape.good c.args.self.now.desk.now
     c.args.self.now.began.value c.load-old.new.pass log (Some halt.Memory)) (sym (of_refused c.note.result refused c.note.ensures.err))
     (memory_sound g.S.Shape.word_count g.S.Shape.good c.args.self.now.desk.now c.args.self.now.began.value
     c.load-old.new.pass c.args.self.now.undo held (omega (arith, full, room)))
