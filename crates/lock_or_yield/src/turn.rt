@@ -1,11 +1,9 @@
 //! One turn of asking for a lock.
 
-ghost use Rattle.std.specs.Prelude.{◌≡◌, ◌≢◌, ◌⊎◌, ◌<◌, ◌+◌, ℕ, [], ◌∷◌, length, true, Some, IfSome, IsNone};
+ghost use Rattle.std.specs.Prelude.{◌≡◌, ◌≢◌, ◌⊎◌, ◌<◌, ℕ, [], ◌∷◌, length, true, Some, IfSome, IsNone};
 ghost use Rattle.history_model.specs.Locks.{lock_of_word};
-ghost use Rattle.history_model.specs.Sets.{has};
 ghost use Rattle.history_model.specs.Views.{number, HasClaim, HasWriteGrant, IsGranted};
 ghost use Rattle.stamps_rule.specs.Stamps.{AreRestartsBounded};
-ghost use Rattle.word_table.specs.Calls.{GrantsStay};
 ghost use Rattle.lock_or_yield.specs.Asking.{Asks, AsksToRead, AsksToWrite, MeetsAndYields, MeetsSome, MeetsNobody, draws_once};
 ghost use Rattle.lock_or_yield.specs.Turns.{ClaimsAndScans, IsReadStep, IsWriteStep, JudgedToWait, JudgedToYield, JudgesMet, MeetsAndJudges, MeetsSeat, ScansClear, ScansUpTo};
 ghost use Rattle.word_table.specs.Desks.{AreGoodWords, RuleHolds};

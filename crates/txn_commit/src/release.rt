@@ -1,7 +1,7 @@
 //! Giving up all locks.
 
 ghost use Rattle.std.specs.Prelude.{◌≡◌, ◌≢◌, ◌⊎◌, ℕ, []};
-ghost use Rattle.history_model.specs.Views.{HasBit, HasClaim};
+ghost use Rattle.history_model.specs.Views.{HasClaim};
 ghost use Rattle.word_table.specs.Copies.{HoldsNothing};
 ghost use Rattle.txn_commit.specs.Inner.Releasing.{Releases};
 

@@ -1,6 +1,6 @@
 //! One transaction.
 
-ghost use Rattle.std.specs.Prelude.{◌≡◌, ℕ, ◌+◌, ◌<◌, ◌≤◌, [], ◌++◌, ◌∷◌, List, length, true, false, None, Some, Ok, IfOk, IfErr, OnErr, OnOk, ◌⊎◌};
+ghost use Rattle.std.specs.Prelude.{◌≡◌, ℕ, ◌+◌, ◌<◌, [], List, length, true, false, None, Some, Ok, IfOk, OnErr, OnOk, ◌⊎◌};
 ghost use Rattle.history_model.specs.Counts.{is_attempt};
 ghost use Rattle.history_model.specs.Fitting.{Fits};
 ghost use Rattle.history_model.specs.Traces.{after};

@@ -1,6 +1,6 @@
 //! What one thread does.
 
-ghost use Rattle.std.specs.Prelude.{◌≡◌, ℕ, OnOk};
+ghost use Rattle.std.specs.Prelude.{◌≡◌, OnOk};
 ghost use Rattle.word_table.specs.Copies.{PassView};
 ghost use Rattle.word_table.specs.Desks.{DeskView};
 ghost use Rattle.txn_threads.specs.Passes.{IsFresh, IsNext};

@@ -7,7 +7,6 @@ ghost use Rattle.history_model.specs.Legal.{IsLegalHistory};
 ghost use Rattle.word_table.specs.declared.limits.TheConstants.{MOST_PASSES, MOST_WORDS};
 ghost use Rattle.txn_threads.specs.Clients.{HaveWorked};
 ghost use Rattle.txn_threads.specs.Inner.Seats.{AreNew, AreParts, HasEnded, HaveServed, IsReady, IsReadyFor};
-ghost use Rattle.word_table.specs.Desks.{AreGoodWords};
 
 use crate::client::Client;
 use crate::seat::Seat;

@@ -1,6 +1,6 @@
 //! The first node from a key on.
 
-ghost use Rattle.std.specs.Prelude.{◌≡◌, ◌<◌, IfOk, IfSome, Some, nat_lt, if◌then◌else◌};
+ghost use Rattle.std.specs.Prelude.{◌≡◌, ◌<◌, IfOk, Some, nat_lt, if◌then◌else◌};
 ghost use Rattle.txn_words.specs.Calls.{IsReady, GoesOn, InEachState};
 ghost use Rattle.txn_words.specs.Looks.{Looks};
 ghost use Rattle.txn_alloc.specs.EntryMaps.{HasMap};

@@ -1,6 +1,6 @@
 //! Taking a key out of the map.
 
-ghost use Rattle.std.specs.Prelude.{◌≡◌, ◌<◌, IfOk, IfNone, OnOk};
+ghost use Rattle.std.specs.Prelude.{◌<◌, IfOk, IfNone, OnOk};
 ghost use Rattle.txn_words.specs.Calls.{IsReady, GoesOn, ReadsWithin, WritesOnly, WritesWithin, InEachState, LeadsTo};
 ghost use Rattle.txn_alloc.specs.EntryMaps.{HasMapApart, Removes, IsOwn, MayReadToRemove};
 ghost use Rattle.txn_tree_map.specs.Trees.{tree_part};

@@ -1,6 +1,6 @@
 //! The end of a table: all passes come together, and its words are taken out.
 
-ghost use Rattle.std.specs.Prelude.{◌≡◌, ◌<◌, ◌≤◌, ◌+◌, ℕ, true, [], ◌∷◌, ◌++◌, length, drop, IfOk};
+ghost use Rattle.std.specs.Prelude.{◌≡◌, ◌<◌, ◌+◌, ℕ, true, [], ◌∷◌, ◌++◌, length, drop, IfOk};
 ghost use Rattle.std.specs.Slots.{slots_items, slots_len, IsFull};
 ghost use Rattle.history_model.specs.declared.view.Phase.TheVariants.{Idle};
 ghost use Rattle.history_model.specs.Sets.{has};

@@ -5,11 +5,9 @@ ghost use Rattle.std.specs.Prelude.{◌≡◌, ◌<◌, ◌≤◌, ℕ, [], ◌�
 ghost use Rattle.history_model.specs.Fitting.{IsGood};
 ghost use Rattle.history_model.specs.Histories.{replay};
 ghost use Rattle.history_model.specs.Legal.{IsIn, IsPrefix};
-ghost use Rattle.history_model.specs.Views.{number};
 ghost use Rattle.locks_rule.specs.Joins.{after_told};
 ghost use Rattle.locks_rule.specs.Splits.{opening_view};
 ghost use Rattle.values_rule.specs.Steps.{load_serial_action};
-ghost use Rattle.history_model.specs.Sets.{has};
 ghost use Rattle.word_table.specs.Closing.{AreAllPasses, AreOwnersAmong};
 ghost use Rattle.word_table.specs.Copies.{PassView};
 ghost use Rattle.word_table.specs.Kinds.{TakenIn};

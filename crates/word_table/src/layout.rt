@@ -1,6 +1,6 @@
 //! Where the words of the locks stand in a table.
 
-ghost use Rattle.std.specs.Prelude.{◌≡◌, ◌<◌, ◌≤◌, ℕ};
+ghost use Rattle.std.specs.Prelude.{◌≡◌, ◌<◌, ◌≤◌};
 ghost use Rattle.history_model.specs.Table.{calls_word, stamps_word, row_word, writer_word, value_word};
 
 use crate::copies::CallCopy;

@@ -1,6 +1,6 @@
 //! What no worker took, once all threads have joined.
 
-ghost use Rattle.std.specs.Prelude.{ℕ, ◌≡◌, ◌<◌, ◌≤◌, ◌+◌, length, All, OnOk};
+ghost use Rattle.std.specs.Prelude.{ℕ, ◌≡◌, ◌<◌, ◌+◌, length, All, OnOk};
 ghost use Rattle.crossbeam_deque.specs.Handles.{worker_view, worker_flavor};
 ghost use Rattle.worker_pool.specs.Counting.{times};
 ghost use Rattle.worker_pool.specs.Inner.Ends.{AreGuests, HasAll, HaveMore, owners_dealt, owners_took, stolen};

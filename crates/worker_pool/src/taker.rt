@@ -1,6 +1,6 @@
 //! A worker's end of all deques.
 
-ghost use Rattle.std.specs.Prelude.{◌≡◌, ◌<◌, ◌≤◌, ◌+◌, length, IfSome, IfNone};
+ghost use Rattle.std.specs.Prelude.{◌≡◌, ◌<◌, ◌+◌, length, IfSome, IfNone};
 ghost use Rattle.script_reader.specs.declared.limits.TheConstants.{MOST_CALLERS as most_callers};
 ghost use Rattle.worker_pool.specs.declared.rule.TheConstants.{ALL_PARTS};
 ghost use Rattle.worker_pool.specs.Counting.{HadOneMore};
