@@ -1,0 +1,46 @@
+-- What a closed table comes to, and what every arrangement of the items is.
+use Rattle.std.specs.Prelude.{◌≡◌, ℕ, ◌+◌, ◌<◌, true, false, List, length, slice_get, take, Some}
+use Rattle.history_model.specs.declared.item.Item.{Item}
+use Rattle.history_model.specs.declared.view.View.{View}
+use Rattle.history_model.specs.declared.view.Phase.TheVariants.{Idle}
+use Rattle.history_model.specs.Arrangements.{IsArrangement, WasSeenBefore}
+use Rattle.history_model.specs.Counts.{is_attempt}
+use Rattle.history_model.specs.Items.{AgreeWithVersions, replay_items}
+use Rattle.history_model.specs.Legal.{IsIn}
+use Rattle.history_model.specs.Sets.{has}
+use Rattle.history_model.specs.Table.{Knows}
+use Rattle.history_model.specs.Traces.{IsLegalTrace}
+use Rattle.locks_rule.specs.Locks.{LocksHold}
+use Rattle.versions_rule.specs.History.{version_at, items_of_entry, flat, items_of}
+use Rattle.values_rule.specs.Values.{value_at}
+use Rattle.versions_rule.specs.Versions.{ValuesHold}
+
+-- an item at place p: its trace is legal there, and good words are left; an entry stands behind its caller's earlier
+-- entries and behind all that its pass had seen, and an attempt that gave way behind these and before its call's entry
+pub record IsPlaced (good : List ℕ → Type 0) (n : ℕ) (base : List ℕ) (order : List Item) (p : ℕ) (x : Item) : Type 0 where
+  pub legal : IsLegalTrace x.trace (replay_items base (take p order))
+  pub leaves_good : good (replay_items base (take (p + 1) order))
+  pub by_seat : x.who < n
+  pub after_own : x.entry ≡ true → (q : ℕ) (y : Item) → q < p → slice_get order q ≡ Some y → y.entry ≡ true → y.who ≡ x.who → y.call < x.call
+  pub after_seen : (y : Item) → IsIn y order → WasSeenBefore y x → (q : ℕ) × (q < p) × (slice_get order q ≡ Some y)
+  pub before_own : x.entry ≡ false → (y : Item) → IsIn y order → y.entry ≡ true → y.who ≡ x.who → y.call ≡ x.call → (q : ℕ) × (p < q) × (slice_get order q ≡ Some y)
+
+-- in every state every arrangement is a legal history, and what an attempt has done is legal behind all of it
+abbrev pub EveryArrangementLegal : (List ℕ → Type 0) → Type 0
+EveryArrangementLegal good =
+    (n : ℕ) (base words : List ℕ) (views : List View) (order : List Item)
+    → LocksHold n base words views → ValuesHold good n base words views → IsArrangement (items_of views) order
+    → ((p : ℕ) (x : Item) → slice_get order p ≡ Some x → IsPlaced good n base order p x)
+    × good (replay_items base order)
+    × ((id : ℕ) (v : View) → Knows views id v → is_attempt v.phase ≡ true → IsLegalTrace v.trace (replay_items base order))
+
+-- where one view has all numbers and is between calls: its entries are all, and the memory is what each arrangement of
+-- their items leaves of the base
+abbrev pub ClosedByAll : (List ℕ → Type 0) → Type 0
+ClosedByAll good =
+    (n : ℕ) (base words : List ℕ) (views : List View) (id : ℕ) (v : View)
+    → LocksHold n base words views → ValuesHold good n base words views → Knows views id v → v.phase ≡ Idle → ((j : ℕ) → j < n → has j v.who ≡ true)
+    → AgreeWithVersions good base (version_at n words) (flat items_of_entry v.seen)
+    × ((order : List Item) × IsArrangement (flat items_of_entry v.seen) order)
+    × ((order : List Item) → IsArrangement (flat items_of_entry v.seen) order
+    → (a : ℕ) → a < length base → slice_get (replay_items base order) a ≡ Some (value_at n words a))

@@ -1,0 +1,139 @@
+-- The kinds of step that are new or changed: when a seat may take one, and what it does.
+use Rattle.std.specs.Prelude.{◌≡◌, ℕ, ◌+◌, ◌^◌, ◌<◌, Bool, true, false, List, [], ◌∷◌, ◌++◌, map, length, if◌then◌else◌}
+use Rattle.history_model.specs.declared.entry.Abandoned.{Abandoned}
+use Rattle.history_model.specs.declared.entry.Entry.{Entry}
+use Rattle.history_model.specs.declared.event.Cause.{Cause}
+use Rattle.history_model.specs.declared.view.View.{View}
+use Rattle.history_model.specs.declared.view.Phase.TheVariants.{Idle, Running, Yielding, Releasing}
+use Rattle.history_model.specs.declared.event.Event.TheVariants.{Read}
+use Rattle.history_model.specs.Counts.{is_attempt, is_open}
+use Rattle.history_model.specs.Legal.{IsIn}
+use Rattle.history_model.specs.Locks.{lock_of_word}
+use Rattle.history_model.specs.Sets.{has, without}
+use Rattle.history_model.specs.Table.{calls_word, commits_word, version_word}
+use Rattle.history_model.specs.Traces.{Trace, after, IsLegalTrace}
+use Rattle.history_model.specs.Undoing.{Notes}
+use Rattle.history_model.specs.Views.{number, HasWriteGrant, IsGranted}
+use Rattle.locks_rule.specs.Actions.{Action}
+use Rattle.versions_rule.specs.History.{knew_of, uses_of}
+
+-- the version of lock k is loaded, under a lock, once in an attempt
+pub record MayLoadVersion (j k : ℕ) (v : View) : Type 0 where
+  pub who : v.who ≡ j ∷ []
+  pub phase : v.phase ≡ Running
+  pub granted : IsGranted v k
+  pub unused : (x : ℕ) → IsIn (k, x) v.uses → ⊥
+
+abbrev pub load_version_action : ℕ → ℕ → View → Action
+load_version_action j k v = record {
+  at = version_word v.seats k;
+  writes = λ w. w;
+  view = λ h w. record v { uses = v.uses ++ (k, w) ∷ [] };
+}
+
+-- the version that was found and 1 is stored, where the call wrote the lock and has its entry
+pub record MayStoreVersion (j k x : ℕ) (v : View) : Type 0 where
+  pub who : v.who ≡ j ∷ []
+  pub phase : v.phase ≡ Releasing
+  pub owed : has k v.owed ≡ true
+  pub found : IsIn (k, x) v.uses
+
+abbrev pub store_version_action : ℕ → ℕ → ℕ → View → Action
+store_version_action j k x v = record {
+  at = version_word v.seats k;
+  writes = λ w. x + 1;
+  view = λ h w. record v { owed = without k v.owed };
+}
+
+-- the call gets its entry: its number is stored to the own COMMITS word
+pub record MayCommitCall (good : List ℕ → Type 0) (j : ℕ) (kept : Bool) (v : View) : Type 0 where
+  pub who : v.who ≡ j ∷ []
+  pub phase : is_attempt v.phase ≡ true
+  pub runs : kept ≡ true → v.phase ≡ Running
+  pub leaves_good : kept ≡ true → (words : List ℕ) → good words → IsLegalTrace v.trace words → good (after v.trace words)
+  pub undone : kept ≡ false → v.undo ≡ []
+
+-- the entry of the view's call
+abbrev pub entry_of : Bool → View → Entry
+entry_of kept v = record {
+  who = number v;
+  call = v.call;
+  stamp = v.stamp;
+  floor = v.floor;
+  kept = kept;
+  trace = v.trace;
+  abandoned = v.abandoned;
+  uses = uses_of kept v.trace v.uses;
+  knew = knew_of v.seats v.seen;
+}
+
+-- the locks of the words that are noted
+abbrev pub locks_of : Notes → List ℕ
+locks_of notes = map (λ note. lock_of_word note.0) notes
+
+abbrev pub after_commit : Bool → View → View
+after_commit kept v = record v { seen = v.seen ++ entry_of kept v ∷ []; owed = if kept then locks_of v.undo else []; undo = []; phase = Releasing }
+
+abbrev pub commit_call_action : ℕ → Bool → View → Action
+commit_call_action j kept v = record {
+  at = commits_word v.seats j;
+  writes = λ w. v.call;
+  view = λ h w. after_commit kept v;
+}
+
+-- the attempt of a view that gives way to a cause
+abbrev pub attempt_of : Cause → View → Abandoned
+attempt_of cause v = record { cause = cause; front = length v.seen; trace = v.trace; uses = uses_of false v.trace v.uses }
+
+-- the attempt of a running call gives way to the cause, and met fewer seats that it did not judge
+abbrev pub after_giving_way : Cause → List ℕ → View → View
+after_giving_way cause met v = record v { met = met; phase = Yielding; abandoned = v.abandoned ++ attempt_of cause v ∷ [] }
+
+-- the value of the word a is loaded, under a lock
+pub record MayLoadValue (j a : ℕ) (v : View) : Type 0 where
+  pub who : v.who ≡ j ∷ []
+  pub phase : v.phase ≡ Running
+  pub word : a < length v.base
+  pub granted : IsGranted v (lock_of_word a)
+  -- and the version of its lock was found
+  pub used : (x : ℕ) × IsIn (lock_of_word a, x) v.uses
+
+-- x is stored to the word a, under the exclusive lock, where the attempt has just read it
+pub record MayStoreValue (j a : ℕ) (v : View) : Type 0 where
+  pub who : v.who ≡ j ∷ []
+  pub phase : v.phase ≡ Running
+  pub word : a < length v.base
+  pub granted : HasWriteGrant v (lock_of_word a)
+  pub read : (before : Trace) × (old : ℕ) × (v.trace ≡ before ++ Read a old ∷ [])
+
+-- the newest note of the undo log is written back: the word a gets its old value
+pub record MayUndoStore (j a old : ℕ) (v : View) : Type 0 where
+  pub who : v.who ≡ j ∷ []
+  pub phase : is_open v.phase ≡ true
+  pub newest : (older : Notes) × (v.undo ≡ older ++ (a, old) ∷ [])
+
+-- a call is begun: its number is stored to the own CALLS word
+pub record MayBeginCall (j : ℕ) (v : View) : Type 0 where
+  pub who : v.who ≡ j ∷ []
+  pub phase : v.phase ≡ Idle
+  pub room : v.call + 1 < 2 ^ 32
+
+abbrev pub begin_call_action : ℕ → View → Action
+begin_call_action j v = record {
+  at = calls_word v.seats j;
+  writes = λ w. v.call + 1;
+  view = λ h w. record v {
+    phase = Running;
+    call = v.call + 1;
+    floor = length v.seen;
+    asked = [];
+    met = [];
+    trace = [];
+    undo = [];
+    uses = [];
+    owed = [];
+    meetings = [];
+    waits = 0;
+    abandoned = [];
+  };
+}
