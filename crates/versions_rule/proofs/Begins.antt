@@ -19,21 +19,11 @@ use Rattle.versions_rule.specs.Records.{CallsShown}
 use Rattle.versions_rule.specs.Steps.{MayBeginCall, begin_call_action}
 use Rattle.versions_rule.proofs.Frames.{recorded_to}
 use Rattle.values_rule.proofs.Members.{none_in}
-use Rattle.versions_rule.proofs.Moves.{moves, TraceMoves}
+use Rattle.versions_rule.proofs.Moves.{moves}
 use Rattle.values_rule.proofs.Notes.{oldest-nil}
 use Rattle.versions_rule.proofs.Owing.{version_kept}
-
--- an attempt that did nothing yet
-pub fresh_trace : (n : ℕ) (base now ws' : List ℕ) (w : View) → w.trace ≡ [] → w.undo ≡ [] → w.phase ≡ Running → TraceMoves n base now ws' w
-unfolding IsLegalTrace value_after
-fresh_trace n base now ws' w trace undo runs = record {
-  granted = λ a busy t. absurd (let z = ap (λ (l : _). slice_get l t.0) trace in ⊎_elim (λ e. cc) (λ e. cc) t.2);
-  legal = λ busy. rw trace tt;
-  undo_written = λ a o busy t. absurd (let z : None ≡ Some o = sym (oldest-nil a) ∙ (ap (λ (l : List (ℕ × ℕ)). oldest a l) (sym undo) ∙ t) in cc);
-  written_noted = λ a is t. absurd (let z = ap (λ (l : _). slice_get l t.0) trace in cc (t.2));
-  last_stands = λ a x is t. absurd (let z : None ≡ Some x = (rw trace at t) in cc);
-  rested = λ t. undo;
-}
+use Rattle.values_rule.proofs.Asides.{fresh_trace}
+use Rattle.values_rule.proofs.Frames.{TraceMoves}
 
 pub begin_call_values : (good : List ℕ → Type 0) (j : ℕ) → KeepsValues good (MayBeginCall j) (begin_call_action j)
 begin_call_values good j n base ws vs id v h q me may =

@@ -18,16 +18,17 @@ use Rattle.history_model.proofs.Places.{same_view}
 use Rattle.history_model.proofs.SetLemmas.{has-join_same}
 use Rattle.locks_rule.specs.Locks.{LocksHold, IsSeat}
 use Rattle.versions_rule.specs.Closing.{ClosedByAll}
-use Rattle.versions_rule.specs.History.{version_at, items_of_entry, flat, items_of, owed_by, current}
+use Rattle.versions_rule.specs.History.{version_at, items_of_entry, items_of, owed_by, current}
 use Rattle.values_rule.specs.Values.{value_at, oldest}
 use Rattle.versions_rule.specs.Records.{IsRecorded}
 use Rattle.versions_rule.specs.Versions.{ValuesHold}
 use Rattle.versions_rule.proofs.Excludes.{open_begun}
 use Rattle.versions_rule.proofs.Frames.{coherent_by}
-use Rattle.versions_rule.proofs.ItemsIn.{OfEntry, OfOpen, items_from, items_into, entry_from, entry_into, flat_in, in_flat}
+use Rattle.versions_rule.proofs.ItemsIn.{OfEntry, OfOpen, items_from, items_into, entry_from, entry_into, flat_map_in, in_flat_map}
 use Rattle.versions_rule.proofs.Newest.{newest-at}
 use Rattle.values_rule.proofs.Notes.{oldest-nil, option_cases}
 use Rattle.versions_rule.proofs.Owing.{not_owed}
+use Rattle.std.specs.List.{flat_map}
 
 module _ (good : List ℕ → Type 0) (n : ℕ) (base ws : List ℕ) (vs : List View) (id : ℕ) (v : View)
     (h : LocksHold n base ws vs) (q : ValuesHold good n base ws vs) (me : Knows vs id v) (rests : v.phase ≡ Idle) (all : (j : ℕ) → j < n → has j v.who ≡ true) where
@@ -42,12 +43,12 @@ module _ (good : List ℕ → Type 0) (n : ℕ) (base ws : List ℕ) (vs : List 
   seen_all : (e : Entry) → IsRecorded vs e → IsIn e v.seen
   seen_all e r = let lt = q.records.by_seat e r in q.records.own_seen id e.who v e (record { knows = me; named = all e.who lt }) r refl
 
-  drops : Drops (λ z. true) (items_of vs) (flat items_of_entry v.seen)
+  drops : Drops (λ z. true) (items_of vs) (flat_map items_of_entry v.seen)
   drops z = (
-    (λ m. let r = in_flat items_of_entry v.seen z m in
+    (λ m. let r = in_flat_map items_of_entry v.seen z m in
         (items_into vs z (inl (record { entry = r.0; recorded = record { id = id; view = v; knows = me; seen = r.1 }; is = entry_from r.0 z r.2 })), refl)),
     (λ m. ⊎_elim
-        (λ (o : OfEntry vs z). flat_in items_of_entry v.seen z o.entry (seen_all o.entry o.recorded) (entry_into o.entry z o.is))
+        (λ (o : OfEntry vs z). flat_map_in items_of_entry v.seen z o.entry (seen_all o.entry o.recorded) (entry_into o.entry z o.is))
         (λ (o : OfOpen vs z). none_busy o.id o.view o.knows (open_begun o.view.phase o.is_open))
         (items_from vs z m.0)),
   )
@@ -58,8 +59,8 @@ module _ (good : List ℕ → Type 0) (n : ℕ) (base ws : List ℕ) (vs : List 
   next_is : (k : ℕ) → version_at n ws k ≡ current n ws vs k
   next_is k = let none : flag (owed_by k vs) ≡ 0 = ap flag (not_owed k vs (λ other u known t. none_busy other u known (λ e. let o = (q.owed.held other k u known t).0 in let f : Idle ≡ Releasing = sym e ∙ o in cc))) in omega arith
 
-  coherent : AgreeWithVersions good base (current n ws vs) (flat items_of_entry v.seen)
-  coherent = drops_agree good base (current n ws vs) (items_of vs) (flat items_of_entry v.seen) q.items.order (λ z. true) q.items.coherent q.items.arranged (λ z m e. refl) drops
+  coherent : AgreeWithVersions good base (current n ws vs) (flat_map items_of_entry v.seen)
+  coherent = drops_agree good base (current n ws vs) (items_of vs) (flat_map items_of_entry v.seen) q.items.order (λ z. true) q.items.coherent q.items.arranged (λ z m e. refl) drops
 
   nobody_noted : (a : ℕ) (other : ℕ) (u : View) → Knows vs other u → oldest a u.undo ≡ None
   nobody_noted a other u k = ⊎_elim (λ t. t)
@@ -67,15 +68,15 @@ module _ (good : List ℕ → Type 0) (n : ℕ) (base ws : List ℕ) (vs : List 
       let z : None ≡ Some t.0 = sym (oldest-nil a) ∙ (ap (λ (l : Notes). oldest a l) (sym (q.trace.rested other u k (inl e))) ∙ t.1) in cc))
       (option_cases (oldest a u.undo))
 
-  pub closed : AgreeWithVersions good base next (flat items_of_entry v.seen)
-      × ((order : List Item) × IsArrangement (flat items_of_entry v.seen) order)
-      × ((order : List Item) → IsArrangement (flat items_of_entry v.seen) order → (a : ℕ) → a < length base → slice_get (replay_items base order) a ≡ Some (value_at n ws a))
+  pub closed : AgreeWithVersions good base next (flat_map items_of_entry v.seen)
+      × ((order : List Item) × IsArrangement (flat_map items_of_entry v.seen) order)
+      × ((order : List Item) → IsArrangement (flat_map items_of_entry v.seen) order → (a : ℕ) → a < length base → slice_get (replay_items base order) a ≡ Some (value_at n ws a))
   closed = (
-    coherent_by good base (current n ws vs) next (flat items_of_entry v.seen) next_is coherent,
-    (passing (λ z. true) q.items.order, drops_arranged good base (current n ws vs) (items_of vs) (flat items_of_entry v.seen) q.items.order (λ z. true) q.items.coherent q.items.arranged (λ z m e. refl) drops),
+    coherent_by good base (current n ws vs) next (flat_map items_of_entry v.seen) next_is coherent,
+    (passing (λ z. true) q.items.order, drops_arranged good base (current n ws vs) (items_of vs) (flat_map items_of_entry v.seen) q.items.order (λ z. true) q.items.coherent q.items.arranged (λ z m e. refl) drops),
     λ order arrangement a lt.
-        is_newest good base (current n ws vs) (flat items_of_entry v.seen) order coherent (arranged (flat items_of_entry v.seen) order arrangement) a lt
-        ∙ (ap (λ (m : ℕ). Some m) (drops_values good base (current n ws vs) (items_of vs) (flat items_of_entry v.seen) q.items.order (λ z. true) q.items.coherent q.items.arranged (λ z m e. refl) drops a (current n ws vs (lock_of_word a)) (omega arith))
+        is_newest good base (current n ws vs) (flat_map items_of_entry v.seen) order coherent (arranged (flat_map items_of_entry v.seen) order arrangement) a lt
+        ∙ (ap (λ (m : ℕ). Some m) (drops_values good base (current n ws vs) (items_of vs) (flat_map items_of_entry v.seen) q.items.order (λ z. true) q.items.coherent q.items.arranged (λ z m e. refl) drops a (current n ws vs (lock_of_word a)) (omega arith))
         ∙ (sym (newest-at base (items_of vs) (current n ws vs) a lt) ∙ q.undo.unnoted a lt (nobody_noted a))),
   )
 

@@ -33,7 +33,7 @@ use Rattle.values_rule.specs.Values.{value_at, oldest, UndoRestores, TraceCurren
 use Rattle.versions_rule.specs.Records.{IsRecorded, Knew, KnewSoMany, AreCauses, RecordsKept, CallsShown, FloorsKept}
 use Rattle.versions_rule.specs.Steps.{MayCommitCall, entry_of, locks_of, after_commit, commit_call_action}
 use Rattle.versions_rule.specs.Versions.{ItemsArranged, OwedHeld, UsesCurrent, ValuesHold}
-use Rattle.versions_rule.proofs.Excludes.{shut_out, attempt_open, open_begun, not_released}
+use Rattle.versions_rule.proofs.Excludes.{attempt_open, open_begun, not_released}
 use Rattle.versions_rule.proofs.ItemsIn.{IsTry, OfEntry, OfOpen, items_from, items_into}
 use Rattle.versions_rule.proofs.Knowing.{last_least, last_is, last_more, knew_at, knew_past}
 use Rattle.values_rule.proofs.Members.{in_join, none_in, in_first, in_second}
@@ -42,7 +42,9 @@ use Rattle.versions_rule.proofs.Newest.{newest_moved, length-newest}
 use Rattle.values_rule.proofs.Notes.{oldest-nil, option_cases, is_missing}
 use Rattle.versions_rule.proofs.Owing.{Owes, owed_into, owed_same, version_kept}
 use Rattle.versions_rule.proofs.Seeing.{mine, is_j, alone, not_j, earlier, called, last_less, knew_less, nobody_owes, legal_on_values, comes_last}
-use Rattle.versions_rule.proofs.Uses.{lock_written, written_lock, and_both, use_found, found_use, item_formed, noted_lock, lock_noted}
+use Rattle.versions_rule.proofs.Uses.{lock_written, written_lock, use_found, found_use, item_formed, noted_lock, lock_noted}
+use Rattle.std.proofs.lemmas.Bool.{and_parts}
+use Rattle.values_rule.proofs.Frames.{shut_out}
 
 module _ (good : List ℕ → Type 0) (n : ℕ) (base ws : List ℕ) (vs : List View) (id j : ℕ) (kept : Bool) (v : View)
     (h : LocksHold n base ws vs) (q : ValuesHold good n base ws vs) (me : Knows vs id v) (may : MayCommitCall good j kept v) where
@@ -326,7 +328,7 @@ module _ (good : List ℕ → Type 0) (n : ℕ) (base ws : List ℕ) (vs : List 
   wrote_noted : (k y : ℕ) → Uses x k y true → (kept ≡ true) × ((a : ℕ) × (o : ℕ) × (lock_of_word a ≡ k) × (oldest a v.undo ≡ Some o))
   wrote_noted k y u =
       let f = use_found kept v.trace v.uses k y true u in
-      let both = and_both kept (writes_lock k v.trace) (sym f.1) in
+      let both = and_parts kept (writes_lock k v.trace) (sym f.1) in
       let l = lock_written k v.trace both.1 in (
         both.0,
         ⊎_elim

@@ -19,9 +19,9 @@ use Rattle.versions_rule.specs.Versions.{ValuesHold}
 use Rattle.versions_rule.specs.History.{items_of, now_of}
 use Rattle.versions_rule.specs.History as hist
 use Rattle.versions_rule.proofs.Newest.{length-newest}
-use Rattle.versions_rule.proofs.Excludes.{shut_out}
-use Rattle.versions_rule.proofs.Moves.{attempt_runs}
 use Rattle.values_rule.proofs.Notes.{option_cases, is_missing}
+use Rattle.values_rule.proofs.Frames.{shut_out}
+use Rattle.values_rule.proofs.Frames.{attempt_runs}
 
 module _ (good : List ℕ → Type 0) (n : ℕ) (base ws : List ℕ) (vs : List View) (id j : ℕ) (v : View) (h : LocksHold n base ws vs) (q : ValuesHold good n base ws vs) (me : Knows vs id v)
     (single : v.who ≡ j ∷ []) (runs : v.phase ≡ Running) (a : ℕ) (within : a < length base) (granted : IsGranted v (lock_of_word a)) where

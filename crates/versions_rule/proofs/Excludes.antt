@@ -12,20 +12,6 @@ use Rattle.history_model.specs.declared.TheConstants.{LOCKS}
 use Rattle.locks_rule.specs.Locks.{LocksHold, IsSeat}
 use Rattle.locks_rule.proofs.Own.{lock_near}
 
-pub shut_out : (n : ℕ) (base ws : List ℕ) (vs : List View) (id other j k : ℕ) (v u : View) → LocksHold n base ws vs → other ≢ id → Knows vs id v → IsSeat vs other u j
-    → IsGranted u k → HasWriteGrant v k → ⊥
-shut_out n base ws vs id other j k v u h ne me it (inl reads) writer =
-    let c = h.claims_show_in_writers id k v me writer.0 in
-    let j_below = h.numbers_below other j u it in
-    let seats = h.seats_alike id c.0 v c.1 in
-    let away : has j v.who ≡ false = not_true (has j v.who) (λ t. ne (h.numbers_unique other id j u v it (record { knows = me; named = t }))) in
-    differ (has k u.reads) reads (h.scanned_excludes_readers id other j k v u (λ e. ne (sym e)) me it writer.0 (writer.1 j (omega (arith, seats)) away))
-shut_out n base ws vs id other j k v u h ne me it (inr other_writer) writer =
-    let c = h.claims_show_in_writers id k v me writer.0 in
-    let d = h.claims_show_in_writers other k u it.knows other_writer.0 in
-    let same : c.0 ≡ d.0 = let z : c.0 + 1 ≡ d.0 + 1 = sym c.3 ∙ d.3 in omega arith in
-    ne (h.numbers_unique other id c.0 u v (subst (λ (i : ℕ). IsSeat vs other u i) (sym same) d.1) c.1)
-
 pub attempt_open : (p : Phase) → is_attempt p ≡ true → is_open p ≡ true
 attempt_open Idle t = absurd (cc)
 attempt_open Running t = refl

@@ -1,7 +1,7 @@
 -- What two lists of entries come to together.
 use Rattle.std.proofs.Common.{◌≡◌, ◌≢◌, ℕ, zero, suc, Bool, true, false, ◌||◌, ◌&&◌, ◌⊎◌, inl, inr, ⊎_elim, List, [], ◌∷◌, ◌++◌, Some, if◌then◌else◌, refl, sym, ap, ◌∙◌, subst, arith, eq-eqb, ne_eqb}
 use Rattle.std.specs.Prelude.{◌==◌}
-use Rattle.std.proofs.lemmas.Bool.{eqb-true}
+use Rattle.std.proofs.lemmas.Bool.{eqb-true, or_cases, or_right, and_parts}
 use mathlib.Core.Logic.{dite}
 use native.Mathlib.Decide.{ℕ_discrete}
 use Rattle.history_model.specs.declared.entry.Entry.{Entry}
@@ -12,23 +12,14 @@ use Rattle.versions_rule.specs.Joins.{has_entry, lacking, gains}
 use Rattle.versions_rule.specs.Records.{IsApart}
 use Rattle.versions_rule.proofs.ItemsIn.{in_parts}
 use Rattle.values_rule.proofs.Members.{in_join, none_in, in_first, in_second}
-use Rattle.versions_rule.proofs.Uses.{and_both}
-
-or_true : (b c : Bool) → (b || c) ≡ true → (b ≡ true) ⊎ (c ≡ true)
-or_true true c e = inl refl
-or_true false c e = inr e
-
-or_right : (b c : Bool) → c ≡ true → (b || c) ≡ true
-or_right true c e = refl
-or_right false c e = e
 
 pub entry_there : (who call : ℕ) (es : List Entry) → has_entry who call es ≡ true → (x : Entry) × IsIn x es × (x.who ≡ who) × (x.call ≡ call)
 unfolding has_entry
 entry_there who call [] t = absurd (cc)
 entry_there who call (e ∷ es) t = ⊎_elim
-    (λ b. let both = and_both (e.who == who) (e.call == call) b in (e, (zero, refl), eqb-true e.who who both.0, eqb-true e.call call both.1))
+    (λ b. let both = and_parts (e.who == who) (e.call == call) b in (e, (zero, refl), eqb-true e.who who both.0, eqb-true e.call call both.1))
     (λ s. let r = entry_there who call es s in (r.0, (suc r.1.0, r.1.1), r.2, r.3))
-    (or_true (e.who == who && e.call == call) (has_entry who call es) t)
+    (or_cases (e.who == who && e.call == call) (has_entry who call es) t)
 
 pub there_entry : (x : Entry) (es : List Entry) → IsIn x es → has_entry x.who x.call es ≡ true
 unfolding has_entry

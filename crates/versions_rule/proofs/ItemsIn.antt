@@ -9,26 +9,25 @@ use Rattle.history_model.specs.Counts.{is_open}
 use Rattle.history_model.specs.Legal.{IsIn}
 use Rattle.history_model.specs.Table.{Knows}
 use Rattle.history_model.specs.Views.{number}
-use Rattle.versions_rule.specs.History.{knew_of, item_of_try, items_of_tries, item_of_entry, items_of_entry, flat, items_of_view, items_of}
+use Rattle.versions_rule.specs.History.{knew_of, item_of_try, items_of_tries, item_of_entry, items_of_entry, items_of_view, items_of}
 use Rattle.versions_rule.specs.Records.{IsRecorded}
 use Rattle.values_rule.proofs.Members.{in_join, none_in, in_first, in_second}
+use Rattle.std.specs.List.{flat_map}
 
 pub in_parts : {A : Type 0} (xs ys : List A) (z : A) → IsIn z (xs ++ ys) → IsIn z xs ⊎ IsIn z ys
 in_parts [] ys z m = inr m
 in_parts (x ∷ xs) ys z m = ⊎_elim (λ e. inl (zero, ap (λ y. Some y) e)) (λ t. ⊎_elim (λ s. inl (suc s.0, s.1)) inr (in_parts xs ys z t)) (in_join x (xs ++ ys) z m)
 
-pub flat_in : {A : Type 0} (f : A → List Item) (xs : List A) (z : Item) (x : A) → IsIn x xs → IsIn z (f x) → IsIn z (flat f xs)
-unfolding flat
-flat_in f [] z x t m = absurd (none_in x t)
-flat_in f (y ∷ xs) z x t m = ⊎_elim
-    (λ e. in_first (f y) (flat f xs) z (subst (λ w. IsIn z (f w)) (sym e) m))
-    (λ s. in_second (f y) (flat f xs) z (flat_in f xs z x s m))
+pub flat_map_in : {A : Type 0} (f : A → List Item) (xs : List A) (z : Item) (x : A) → IsIn x xs → IsIn z (f x) → IsIn z (flat_map f xs)
+flat_map_in f [] z x t m = absurd (none_in x t)
+flat_map_in f (y ∷ xs) z x t m = ⊎_elim
+    (λ e. in_first (f y) (flat_map f xs) z (subst (λ w. IsIn z (f w)) (sym e) m))
+    (λ s. in_second (f y) (flat_map f xs) z (flat_map_in f xs z x s m))
     (in_join y xs x t)
 
-pub in_flat : {A : Type 0} (f : A → List Item) (xs : List A) (z : Item) → IsIn z (flat f xs) → (x : A) × IsIn x xs × IsIn z (f x)
-unfolding flat
-in_flat f [] z m = absurd (none_in z m)
-in_flat f (y ∷ xs) z m = ⊎_elim (λ h. (y, (zero, refl), h)) (λ t. let r = in_flat f xs z t in (r.0, (suc r.1.0, r.1.1), r.2)) (in_parts (f y) (flat f xs) z m)
+pub in_flat_map : {A : Type 0} (f : A → List Item) (xs : List A) (z : Item) → IsIn z (flat_map f xs) → (x : A) × IsIn x xs × IsIn z (f x)
+in_flat_map f [] z m = absurd (none_in z m)
+in_flat_map f (y ∷ xs) z m = ⊎_elim (λ h. (y, (zero, refl), h)) (λ t. let r = in_flat_map f xs z t in (r.0, (suc r.1.0, r.1.1), r.2)) (in_parts (f y) (flat_map f xs) z m)
 
 -- a view by its place, in either way of saying
 pub knows_from : (vs : List View) (i : ℕ) (v : View) → slice_get vs i ≡ Some v → Knows vs i v
@@ -109,25 +108,25 @@ open_in false xs z e m = absurd (cc)
 
 pub items_from : (vs : List View) (z : Item) → IsIn z (items_of vs) → OfEntry vs z ⊎ OfOpen vs z
 items_from vs z m =
-    let r = in_flat items_of_view vs z m in
+    let r = in_flat_map items_of_view vs z m in
     let v : View = r.0 in
     let k : Knows vs r.1.0 v = knows_from vs r.1.0 v r.1.1 in
     ⊎_elim
-    (λ t. let s = in_flat items_of_entry v.seen z t in inl (record { entry = s.0; recorded = record { id = r.1.0; view = v; knows = k; seen = s.1 }; is = entry_from s.0 z s.2 }))
+    (λ t. let s = in_flat_map items_of_entry v.seen z t in inl (record { entry = s.0; recorded = record { id = r.1.0; view = v; knows = k; seen = s.1 }; is = entry_from s.0 z s.2 }))
     (λ t. let s = when_open (is_open v.phase) (items_of_tries (number v) v.call (knew_of v.seats v.seen) 0 v.abandoned) z t in
     inr (record { id = r.1.0; view = v; knows = k; is_open = s.0; is = try_from (number v) v.call (knew_of v.seats v.seen) v.abandoned z s.1 }))
-    (in_parts (flat items_of_entry v.seen) (if is_open v.phase then items_of_tries (number v) v.call (knew_of v.seats v.seen) 0 v.abandoned else []) z r.2)
+    (in_parts (flat_map items_of_entry v.seen) (if is_open v.phase then items_of_tries (number v) v.call (knew_of v.seats v.seen) 0 v.abandoned else []) z r.2)
 
 pub entry_in_items : (vs : List View) (z : Item) → OfEntry vs z → IsIn z (items_of vs)
 entry_in_items vs z o = let r = o.recorded in
-    flat_in items_of_view vs z r.view (r.id, from_knows vs r.id r.view r.knows)
-    (in_first (flat items_of_entry r.view.seen) (if is_open r.view.phase then items_of_tries (number r.view) r.view.call (knew_of r.view.seats r.view.seen) 0 r.view.abandoned else []) z
-    (flat_in items_of_entry r.view.seen z o.entry r.seen (entry_into o.entry z o.is)))
+    flat_map_in items_of_view vs z r.view (r.id, from_knows vs r.id r.view r.knows)
+    (in_first (flat_map items_of_entry r.view.seen) (if is_open r.view.phase then items_of_tries (number r.view) r.view.call (knew_of r.view.seats r.view.seen) 0 r.view.abandoned else []) z
+    (flat_map_in items_of_entry r.view.seen z o.entry r.seen (entry_into o.entry z o.is)))
 
 pub open_in_items : (vs : List View) (z : Item) → OfOpen vs z → IsIn z (items_of vs)
 open_in_items vs z o = let v : View = o.view in
-    flat_in items_of_view vs z v (o.id, from_knows vs o.id v o.knows)
-    (in_second (flat items_of_entry v.seen) (if is_open v.phase then items_of_tries (number v) v.call (knew_of v.seats v.seen) 0 v.abandoned else []) z
+    flat_map_in items_of_view vs z v (o.id, from_knows vs o.id v o.knows)
+    (in_second (flat_map items_of_entry v.seen) (if is_open v.phase then items_of_tries (number v) v.call (knew_of v.seats v.seen) 0 v.abandoned else []) z
     (open_in (is_open v.phase) (items_of_tries (number v) v.call (knew_of v.seats v.seen) 0 v.abandoned) z o.is_open (try_into (number v) v.call (knew_of v.seats v.seen) v.abandoned z o.is)))
 
 -- in both lists the same items

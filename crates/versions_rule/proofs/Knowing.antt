@@ -1,15 +1,13 @@
 -- The last call of each seat among entries.
 use Rattle.std.proofs.Common.{◌≡◌, ◌≢◌, ℕ, zero, suc, ◌+◌, ◌<◌, ◌≤◌, ◌⊎◌, inl, inr, ⊎_elim, List, [], ◌∷◌, ◌++◌, refl, sym, ap, ◌∙◌, arith, eq-eqb, ne_eqb}
 use Rattle.std.specs.Prelude.{slice_index, max}
+use Rattle.std.proofs.Math.Nat.{le-max_left, le-max_right}
 use mathlib.Core.Logic.{dite}
 use native.Mathlib.Decide.{ℕ_discrete, dec_lt}
 use Rattle.history_model.specs.declared.entry.Entry.{Entry}
 use Rattle.history_model.specs.Legal.{IsIn}
 use Rattle.versions_rule.specs.History.{last_call, knew_from, knew_of}
 use Rattle.values_rule.proofs.Members.{in_join, none_in}
-
-max_least : (a b : ℕ) → (a ≤ max a b) × (b ≤ max a b)
-max_least a b = (omega arith, omega arith)
 
 max_cases : (a b : ℕ) → (max a b ≡ a) ⊎ (max a b ≡ b)
 max_cases a b = dite (dec_lt a b) (λ l. inr (omega arith)) (λ n. inl (omega arith))
@@ -21,9 +19,9 @@ last_least j [] e t own = absurd (none_in e t)
 last_least j (x ∷ es) e t own = ⊎_elim
     (λ same. let who : x.who ≡ j = ap (λ (y : Entry). y.who) same ∙ own in
     let call : x.call ≡ e.call = ap (λ (y : Entry). y.call) same in
-    rw (eq-eqb x.who j who) (let m = (max_least x.call (last_call j es)).0 in omega arith))
+    rw (eq-eqb x.who j who) (let m = le-max_left x.call (last_call j es) in omega arith))
     (λ s. let rest = last_least j es e s own in dite (ℕ_discrete x.who j)
-    (λ q. rw (eq-eqb x.who j q) (let m = (max_least x.call (last_call j es)).1 in omega arith))
+    (λ q. rw (eq-eqb x.who j q) (let m = le-max_right x.call (last_call j es) in omega arith))
     (λ n. rw (ne_eqb x.who j n) rest))
     (in_join x es e t)
 
@@ -46,7 +44,7 @@ unfolding last_call
 last_more j [] e own le = rw (eq-eqb e.who j own) (omega arith)
 last_more j (x ∷ es) e own le = dite (ℕ_discrete x.who j)
     (λ q. let both : max x.call (last_call j es) ≤ e.call = rw (eq-eqb x.who j q) at le in
-    let m = max_least x.call (last_call j es) in
+    let m = le-max_left x.call (last_call j es) in let r = le-max_right x.call (last_call j es) in
     rw (eq-eqb x.who j q, last_more j es e own (omega arith)) (omega arith))
     (λ n. rw (ne_eqb x.who j n) (last_more j es e own (rw (ne_eqb x.who j n) at le)))
 

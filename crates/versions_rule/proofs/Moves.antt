@@ -23,25 +23,10 @@ use Rattle.values_rule.specs.Values.{value_at, oldest, UndoRestores, TraceCurren
 use Rattle.versions_rule.specs.Records.{AreCauses, CallsShown}
 use Rattle.versions_rule.specs.Versions.{ValuesHold}
 use Rattle.versions_rule.proofs.Asides.{OwnTry, aside_drops}
-use Rattle.versions_rule.proofs.Excludes.{shut_out}
 use Rattle.versions_rule.proofs.Frames.{records_same, items_kept, now_kept}
 use Rattle.versions_rule.proofs.Owing.{owed_same}
-
--- notes and values
-pub record UndoMoves (n : ℕ) (base now ws ws' : List ℕ) (v w : View) : Type 0 where
-  pub noted : (a o : ℕ) → oldest a w.undo ≡ Some o → (a < length base) × HasWriteGrant w (lock_of_word a) × (slice_get now a ≡ Some o)
-  pub unnoted : (a : ℕ) → a < length base → oldest a w.undo ≡ None → ((oldest a v.undo ≡ None) × (value_at n ws' a ≡ value_at n ws a)) ⊎ (slice_get now a ≡ Some (value_at n ws' a))
-  -- a word that another seat may use stays
-  pub foreign : (a : ℕ) → a < length base → ¬ HasWriteGrant v (lock_of_word a) → value_at n ws' a ≡ value_at n ws a
-
--- the attempt's trace
-pub record TraceMoves (n : ℕ) (base now ws' : List ℕ) (w : View) : Type 0 where
-  pub granted : (a : ℕ) → is_attempt w.phase ≡ true → Touches w.trace a → (a < length base) × IsGranted w (lock_of_word a)
-  pub legal : is_attempt w.phase ≡ true → IsLegalTrace w.trace now
-  pub undo_written : (a o : ℕ) → is_attempt w.phase ≡ true → oldest a w.undo ≡ Some o → Writes w.trace a
-  pub written_noted : (a : ℕ) → w.phase ≡ Running → Writes w.trace a → IsSome (oldest a w.undo)
-  pub last_stands : (a x : ℕ) → w.phase ≡ Running → value_after w.trace a None ≡ Some x → value_at n ws' a ≡ x
-  pub rested : (w.phase ≡ Idle) ⊎ (w.phase ≡ Releasing) → w.undo ≡ []
+use Rattle.values_rule.proofs.Frames.{UndoMoves, TraceMoves, attempt_runs}
+use Rattle.values_rule.proofs.Frames.{shut_out}
 
 -- uses and what is owed, where these are the versions
 pub record UsesMove (ws : List ℕ) (version : ℕ → ℕ) (v w : View) : Type 0 where
@@ -62,10 +47,6 @@ pub record CallMoves (n : ℕ) (ws ws' : List ℕ) (vs : List View) (id : ℕ) (
   pub tries_from : (z : Item) → is_open v.phase ≡ true → OwnTry v z → (is_open w.phase ≡ true) × OwnTry w z
   pub floor : is_open w.phase ≡ true → w.floor ≡ length w.seen
   pub causes : (j : ℕ) → w.who ≡ j ∷ [] → w.phase ≢ Idle → AreCauses n j w.stamp w.floor w.abandoned
-
--- a running attempt is one
-pub attempt_runs : (u : View) → u.phase ≡ Running → is_attempt u.phase ≡ true
-attempt_runs u e = ap is_attempt e
 
 module _ (good : List ℕ → Type 0) (n : ℕ) (base ws ws' : List ℕ) (vs : List View) (id : ℕ) (v w : View)
     (h : LocksHold n base ws vs) (q : ValuesHold good n base ws vs) (me : Knows vs id v)

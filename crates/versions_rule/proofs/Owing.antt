@@ -1,7 +1,7 @@
 -- Which locks are owed, and what a step of one view leaves of that.
 use Rattle.std.proofs.Common.{◌≡◌, ℕ, zero, suc, ◌<◌, ◌≤◌, Bool, true, false, ◌⊎◌, inl, inr, ⊎_elim, List, [], ◌∷◌, refl, sym, ap, ◌∙◌, arith}
 use Rattle.std.specs.Prelude.{◌||◌, slice_index, nat_lt, if◌then◌else◌}
-use Rattle.std.proofs.lemmas.Bool.{lt-ltb, le-ltb}
+use Rattle.std.proofs.lemmas.Bool.{lt-ltb, le-ltb, or_cases, or_left, or_right}
 use mathlib.Core.Logic.{dite}
 use native.Mathlib.Decide.{dec_lt}
 use Rattle.history_model.specs.declared.TheConstants.{LOCKS}
@@ -11,18 +11,6 @@ use Rattle.history_model.specs.Sets.{has}
 use Rattle.history_model.specs.Table.{Knows, version_word}
 use Rattle.history_model.proofs.SetLemmas.{differ, bool_cases, not_true}
 use Rattle.versions_rule.specs.History.{version_at, owed_by}
-
-or_true : (b c : Bool) → (b || c) ≡ true → (b ≡ true) ⊎ (c ≡ true)
-or_true true c e = inl refl
-or_true false c e = inr e
-
-or_right : (b c : Bool) → c ≡ true → (b || c) ≡ true
-or_right true c e = refl
-or_right false c e = e
-
-or_left : (b c : Bool) → b ≡ true → (b || c) ≡ true
-or_left true c e = refl
-or_left false c e = absurd (cc)
 
 -- a view owes the lock
 pub record Owes (k : ℕ) (vs : List View) : Type 0 where
@@ -37,7 +25,7 @@ owed_from k [] e = absurd (cc)
 owed_from k (x ∷ vs) e = ⊎_elim
     (λ t. record { id = zero; view = x; knows = refl; owes = t })
     (λ t. let r = owed_from k vs t in record { id = suc r.id; view = r.view; knows = r.knows; owes = r.owes })
-    (or_true (has k x.owed) (owed_by k vs) e)
+    (or_cases (has k x.owed) (owed_by k vs) e)
 
 pub owed_into : (k : ℕ) (vs : List View) (id : ℕ) (v : View) → Knows vs id v → has k v.owed ≡ true → owed_by k vs ≡ true
 unfolding owed_by

@@ -16,6 +16,7 @@ use Rattle.history_model.proofs.SetLemmas.{has-nil, has-join, has-join_same, has
 use Rattle.versions_rule.specs.History.{writes_lock, use_of, uses_of}
 use Rattle.values_rule.specs.Values.{oldest}
 use Rattle.versions_rule.specs.Steps.{locks_of}
+use Rattle.std.proofs.lemmas.Bool.{and_parts}
 
 -- the test of a write under a lock
 pub lock_written : (k : ℕ) (t : Trace) → writes_lock k t ≡ true → (a : ℕ) × (lock_of_word a ≡ k) × Writes t a
@@ -48,10 +49,6 @@ at_map f [] i x e = cc
 at_map f (z ∷ xs) zero x e = let q : z ≡ x = cc in ap (λ w. Some (f w)) q
 at_map f (z ∷ xs) (suc i) x e = at_map f xs i x e
 
-pub and_both : (b c : Bool) → (b && c) ≡ true → (b ≡ true) × (c ≡ true)
-and_both true c e = (refl, e)
-and_both false c e = cc
-
 pair_is : (p : ℕ × ℕ) (k v : ℕ) → p.0 ≡ k → p.1 ≡ v → p ≡ (k, v)
 pair_is p k v l w = rw (← l, ← w) refl
 
@@ -75,7 +72,7 @@ item_formed found x same entry once covers = record {
   one_each = λ k v w b c u t. let p = into k v b u in let q = into k w c t in (once k v w p.0 q.0, p.1 ∙ sym q.1);
   covered = λ a t. let c = covers a t in (c.0, x.kept && writes_lock (lock_of_word a) x.trace, from (lock_of_word a) c.0 c.1);
   wrote = λ k v b u. let p = into k v b u in (
-    (λ t. let z = and_both x.kept (writes_lock k x.trace) (sym p.1 ∙ t) in (z.0, lock_written k x.trace z.1)),
+    (λ t. let z = and_parts x.kept (writes_lock k x.trace) (sym p.1 ∙ t) in (z.0, lock_written k x.trace z.1)),
     (λ h. p.1 ∙ rw (h.0, written_lock k h.1.0 x.trace h.1.1 h.1.2) refl),
   );
   kept_entry = entry;

@@ -29,23 +29,11 @@ use Rattle.history_model.proofs.HistoryLaws.{get_last}
 use Rattle.versions_rule.proofs.Owing.{version_kept}
 use Rattle.versions_rule.proofs.Frames.{calls_same}
 use Rattle.versions_rule.proofs.Current.{current}
-use Rattle.versions_rule.proofs.Excludes.{shut_out, not_released}
+use Rattle.versions_rule.proofs.Excludes.{open_begun, not_released}
 use Rattle.versions_rule.proofs.Moves.{moves}
 use Rattle.values_rule.proofs.Notes.{option_cases, is_missing, oldest_more, oldest_first, oldest_one, oldest_other, oldest_apart, older_is}
-
--- where a word of the memory stands, and what a store to it does to the others
-module _ (n : ℕ) (base ws : List ℕ) (vs : List View) (id j : ℕ) (v : View) (h : LocksHold n base ws vs) (o : Own n vs id j v) (a x : ℕ) (within : a < length v.base) where
-  pub in_base : a < length base
-  in_base = subst (λ (l : List ℕ). a < length l) (h.bases_alike id j v o.seat) within
-
-  pub set_here : value_at n (slice_set ws (value_word v.seats a) x) a ≡ x
-  set_here =
-      let same : value_word v.seats a ≡ value_word n a = ap (λ (m : ℕ). value_word m a) o.seats in
-      let low = in_base in
-      ap (λ (i : ℕ). slice_index (slice_set ws i x) (value_word n a)) same ∙ get_or-set_same ws (value_word n a) x 0 (omega (arith, h.word_count))
-
-  pub set_there : (b : ℕ) → b ≢ a → value_at n (slice_set ws (value_word v.seats a) x) b ≡ value_at n ws b
-  set_there b ne = let seats = o.seats in get_or-set_other ws (value_word v.seats a) (value_word n b) x 0 (λ e. ne (omega arith))
+use Rattle.values_rule.proofs.Frames.{shut_out}
+use Rattle.values_rule.proofs.ValueKinds.{in_base, set_here, set_there}
 
 -- a word under the own exclusive lock that this seat has not noted, nobody has
 nobody_noted : (good : List ℕ → Type 0) (n : ℕ) (base ws : List ℕ) (vs : List View) (id j : ℕ) (v : View) → LocksHold n base ws vs → ValuesHold good n base ws vs → Knows vs id v → v.who ≡ j ∷ []
@@ -223,9 +211,6 @@ undoing_rests Yielding o (inr t) = cc
 undoing_rests Withdrawing o (inl t) = cc
 undoing_rests Withdrawing o (inr t) = cc
 undoing_rests Releasing o t = cc
-
-open_begun : (p : Phase) → is_open p ≡ true → p ≢ Idle
-open_begun p o e = let z : true ≡ false = sym o ∙ ap is_open e in cc
 
 pub undo_store_values : (good : List ℕ → Type 0) (j a old : ℕ) → KeepsValues good (MayUndoStore j a old) (undo_store_action j a old)
 undo_store_values good j a old n base ws vs id v h q me may =

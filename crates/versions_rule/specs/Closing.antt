@@ -11,9 +11,10 @@ use Rattle.history_model.specs.Sets.{has}
 use Rattle.history_model.specs.Table.{Knows}
 use Rattle.history_model.specs.Traces.{IsLegalTrace}
 use Rattle.locks_rule.specs.Locks.{LocksHold}
-use Rattle.versions_rule.specs.History.{version_at, items_of_entry, flat, items_of}
+use Rattle.versions_rule.specs.History.{version_at, items_of_entry, items_of}
 use Rattle.values_rule.specs.Values.{value_at}
 use Rattle.versions_rule.specs.Versions.{ValuesHold}
+use Rattle.std.specs.List.{flat_map}
 
 -- an item at place p: its trace is legal there, and good words are left; an entry stands behind its caller's earlier
 -- entries and behind all that its pass had seen, and an attempt that gave way behind these and before its call's entry
@@ -40,7 +41,7 @@ abbrev pub ClosedByAll : (List ℕ → Type 0) → Type 0
 ClosedByAll good =
     (n : ℕ) (base words : List ℕ) (views : List View) (id : ℕ) (v : View)
     → LocksHold n base words views → ValuesHold good n base words views → Knows views id v → v.phase ≡ Idle → ((j : ℕ) → j < n → has j v.who ≡ true)
-    → AgreeWithVersions good base (version_at n words) (flat items_of_entry v.seen)
-    × ((order : List Item) × IsArrangement (flat items_of_entry v.seen) order)
-    × ((order : List Item) → IsArrangement (flat items_of_entry v.seen) order
+    → AgreeWithVersions good base (version_at n words) (flat_map items_of_entry v.seen)
+    × ((order : List Item) × IsArrangement (flat_map items_of_entry v.seen) order)
+    × ((order : List Item) → IsArrangement (flat_map items_of_entry v.seen) order
     → (a : ℕ) → a < length base → slice_get (replay_items base order) a ≡ Some (value_at n words a))

@@ -14,6 +14,7 @@ use Rattle.history_model.specs.Sets.{has, flag}
 use Rattle.history_model.specs.Table.{version_word}
 use Rattle.history_model.specs.Traces.{Trace}
 use Rattle.history_model.specs.Views.{number}
+use Rattle.std.specs.List.{flat_map}
 
 -- the greatest call of seat j among the entries, or 0
 unfoldable pub last_call : ℕ → List Entry → ℕ
@@ -56,16 +57,12 @@ item_of_entry e = record { who = e.who; call = e.call; turn = length e.abandoned
 abbrev pub items_of_entry : Entry → List Item
 items_of_entry e = items_of_tries e.who e.call e.knew 0 e.abandoned ++ item_of_entry e ∷ []
 
-unfoldable pub flat : {A : Type 0} → (A → List Item) → List A → List Item
-flat f [] = []
-flat f (x ∷ xs) = f x ++ flat f xs
-
 -- the items of the entries that the view has seen, and while its call is open the call's attempts
 abbrev pub items_of_view : View → List Item
-items_of_view v = flat items_of_entry v.seen ++ (if is_open v.phase then items_of_tries (number v) v.call (knew_of v.seats v.seen) 0 v.abandoned else [])
+items_of_view v = flat_map items_of_entry v.seen ++ (if is_open v.phase then items_of_tries (number v) v.call (knew_of v.seats v.seen) 0 v.abandoned else [])
 
 abbrev pub items_of : List View → List Item
-items_of views = flat items_of_view views
+items_of views = flat_map items_of_view views
 
 -- some view owes lock k
 unfoldable pub owed_by : ℕ → List View → Bool
