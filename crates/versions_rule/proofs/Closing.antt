@@ -18,12 +18,12 @@ use Rattle.history_model.proofs.Places.{same_view}
 use Rattle.history_model.proofs.SetLemmas.{has-join_same}
 use Rattle.locks_rule.specs.Locks.{LocksHold, IsSeat}
 use Rattle.versions_rule.specs.Closing.{ClosedByAll}
-use Rattle.versions_rule.specs.History.{version_at, items_of_entry, items_of, owed_by, current}
+use Rattle.versions_rule.specs.History.{version_at, items_of_entry, items_of, owed_by, next_version}
 use Rattle.values_rule.specs.Values.{value_at, oldest}
 use Rattle.versions_rule.specs.Records.{IsRecorded}
 use Rattle.versions_rule.specs.Versions.{ValuesHold}
 use Rattle.versions_rule.proofs.Excludes.{open_begun}
-use Rattle.versions_rule.proofs.Frames.{coherent_by}
+use Rattle.versions_rule.proofs.Frames.{agree_by}
 use Rattle.versions_rule.proofs.ItemsIn.{OfEntry, OfOpen, items_from, items_into, entry_from, entry_into, flat_map_in, in_flat_map}
 use Rattle.versions_rule.proofs.Newest.{newest-at}
 use Rattle.values_rule.proofs.Notes.{oldest-nil, option_cases}
@@ -31,7 +31,8 @@ use Rattle.versions_rule.proofs.Owing.{not_owed}
 use Rattle.std.specs.List.{flat_map}
 
 module _ (good : List ℕ → Type 0) (n : ℕ) (base ws : List ℕ) (vs : List View) (id : ℕ) (v : View)
-    (h : LocksHold n base ws vs) (q : ValuesHold good n base ws vs) (me : Knows vs id v) (rests : v.phase ≡ Idle) (all : (j : ℕ) → j < n → has j v.who ≡ true) where
+    (h : LocksHold n base ws vs) (q : ValuesHold good n base ws vs) (me : Knows vs id v) (rests : v.phase ≡ Idle)
+    (all : (j : ℕ) → j < n → has j v.who ≡ true) where
   -- a view in a call would have a number, and would be this one
   none_busy : {A : Type 0} (other : ℕ) (u : View) → Knows vs other u → u.phase ≢ Idle → A
   none_busy other u k busy =
@@ -56,11 +57,14 @@ module _ (good : List ℕ → Type 0) (n : ℕ) (base ws : List ℕ) (vs : List 
   abbrev next : ℕ → ℕ
   next = version_at n ws
 
-  next_is : (k : ℕ) → version_at n ws k ≡ current n ws vs k
-  next_is k = let none : flag (owed_by k vs) ≡ 0 = ap flag (not_owed k vs (λ other u known t. none_busy other u known (λ e. let o = (q.owed.held other k u known t).0 in let f : Idle ≡ Releasing = sym e ∙ o in cc))) in omega arith
+  next_is : (k : ℕ) → version_at n ws k ≡ next_version n ws vs k
+  next_is k = let none : flag (owed_by k vs) ≡ 0 =
+      ap flag (not_owed k vs (λ other u known t. none_busy other u known
+      (λ e. let o = (q.owed.held other k u known t).0 in let f : Idle ≡ Releasing = sym e ∙ o in cc))) in omega arith
 
-  coherent : AgreeWithVersions good base (current n ws vs) (flat_map items_of_entry v.seen)
-  coherent = drops_agree good base (current n ws vs) (items_of vs) (flat_map items_of_entry v.seen) q.items.order (λ z. true) q.items.coherent q.items.arranged (λ z m e. refl) drops
+  agree : AgreeWithVersions good base (next_version n ws vs) (flat_map items_of_entry v.seen)
+  agree = drops_agree good base (next_version n ws vs) (items_of vs) (flat_map items_of_entry v.seen) q.items.order
+      (λ z. true) q.items.agree q.items.arranged (λ z m e. refl) drops
 
   nobody_noted : (a : ℕ) (other : ℕ) (u : View) → Knows vs other u → oldest a u.undo ≡ None
   nobody_noted a other u k = ⊎_elim (λ t. t)
@@ -70,14 +74,21 @@ module _ (good : List ℕ → Type 0) (n : ℕ) (base ws : List ℕ) (vs : List 
 
   pub closed : AgreeWithVersions good base next (flat_map items_of_entry v.seen)
       × ((order : List Item) × IsArrangement (flat_map items_of_entry v.seen) order)
-      × ((order : List Item) → IsArrangement (flat_map items_of_entry v.seen) order → (a : ℕ) → a < length base → slice_get (replay_items base order) a ≡ Some (value_at n ws a))
+      × ((order : List Item) → IsArrangement (flat_map items_of_entry v.seen) order → (a : ℕ)
+      → a < length base → slice_get (replay_items base order) a ≡ Some (value_at n ws a))
   closed = (
-    coherent_by good base (current n ws vs) next (flat_map items_of_entry v.seen) next_is coherent,
-    (passing (λ z. true) q.items.order, drops_arranged good base (current n ws vs) (items_of vs) (flat_map items_of_entry v.seen) q.items.order (λ z. true) q.items.coherent q.items.arranged (λ z m e. refl) drops),
+    agree_by good base (next_version n ws vs) next (flat_map items_of_entry v.seen) next_is agree,
+    (
+      passing (λ z. true) q.items.order,
+      drops_arranged good base (next_version n ws vs) (items_of vs) (flat_map items_of_entry v.seen) q.items.order
+          (λ z. true) q.items.agree q.items.arranged (λ z m e. refl) drops,
+    ),
     λ order arrangement a lt.
-        is_newest good base (current n ws vs) (flat_map items_of_entry v.seen) order coherent (arranged (flat_map items_of_entry v.seen) order arrangement) a lt
-        ∙ (ap (λ (m : ℕ). Some m) (drops_values good base (current n ws vs) (items_of vs) (flat_map items_of_entry v.seen) q.items.order (λ z. true) q.items.coherent q.items.arranged (λ z m e. refl) drops a (current n ws vs (lock_of_word a)) (omega arith))
-        ∙ (sym (newest-at base (items_of vs) (current n ws vs) a lt) ∙ q.undo.unnoted a lt (nobody_noted a))),
+        is_newest good base (next_version n ws vs) (flat_map items_of_entry v.seen) order agree
+        (arranged (flat_map items_of_entry v.seen) order arrangement) a lt
+        ∙ (ap (λ (m : ℕ). Some m) (drops_values good base (next_version n ws vs) (items_of vs) (flat_map items_of_entry v.seen) q.items.order
+        (λ z. true) q.items.agree q.items.arranged (λ z m e. refl) drops a (next_version n ws vs (lock_of_word a)) (omega arith))
+        ∙ (sym (newest-at base (items_of vs) (next_version n ws vs) a lt) ∙ q.undo.unnoted a lt (nobody_noted a))),
   )
 
 pub closed_by_all : (good : List ℕ → Type 0) → ClosedByAll good

@@ -1,6 +1,7 @@
 -- A commit, kept or not, keeps the value invariant: an arrangement with the new entry at its end is one, and what the items
 -- leave is what the words are with the other seats' notes written back.
-use Rattle.std.proofs.Common.{◌≡◌, ◌≢◌, ℕ, ◌^◌, ◌<◌, ◌≤◌, Bool, true, false, ◌&&◌, ◌⊎◌, inl, inr, ⊎_elim, List, [], ◌∷◌, ◌++◌, length, Some, None, slice_get, slice_index, slice_set, refl, sym, ap, ◌∙◌, subst, arith, get_or-set_other, get_or-set_same, if◌then◌else◌}
+use Rattle.std.proofs.Common.{◌≡◌, ◌≢◌, ℕ, ◌^◌, ◌<◌, ◌≤◌, Bool, true, false, ◌&&◌, ◌⊎◌, inl, inr, ⊎_elim, List, [], ◌∷◌, ◌++◌, length, Some, None, slice_get}
+use Rattle.std.proofs.Common.{slice_index, slice_set, refl, sym, ap, ◌∙◌, subst, arith, get_or-set_other, get_or-set_same, if◌then◌else◌}
 use mathlib.Core.Logic.{dite}
 use native.Mathlib.Decide.{ℕ_discrete, dec_lt}
 use Rattle.history_model.specs.declared.entry.Entry.{Entry}
@@ -27,14 +28,14 @@ use Rattle.history_model.proofs.SetLemmas.{differ, has-join_same, has-nil}
 use Rattle.history_model.proofs.TraceAgree.{legal_agree}
 use Rattle.locks_rule.specs.Locks.{LocksHold, IsSeat}
 use Rattle.locks_rule.proofs.Own.{Own, is_own}
-use Rattle.versions_rule.specs.History.{last_call, knew_of, item_of_entry, items_of, version_at, owed_by, current, now_of, writes_lock}
+use Rattle.versions_rule.specs.History.{last_call, knew_of, item_of_entry, items_of, version_at, owed_by, next_version, now_of, writes_lock}
 use Rattle.versions_rule.specs.Keeping.{KeepsValues}
 use Rattle.values_rule.specs.Values.{value_at, oldest, UndoRestores, TraceCurrent}
-use Rattle.versions_rule.specs.Records.{IsRecorded, Knew, KnewSoMany, AreCauses, RecordsKept, CallsShown, FloorsKept}
+use Rattle.versions_rule.specs.Records.{IsRecorded, Knew, KnewSoMany, AreCauses, RecordsClosed, CallsCounted, FloorAndAbandoned}
 use Rattle.versions_rule.specs.Steps.{MayCommitCall, entry_of, locks_of, after_commit, commit_call_action}
 use Rattle.versions_rule.specs.Versions.{ItemsArranged, OwedHeld, UsesCurrent, ValuesHold}
 use Rattle.versions_rule.proofs.Excludes.{attempt_open, open_begun, not_released}
-use Rattle.versions_rule.proofs.ItemsIn.{IsTry, OfEntry, OfOpen, items_from, items_into}
+use Rattle.versions_rule.proofs.ItemsIn.{IsAttemptOf, OfEntry, OfOpen, items_from, items_into}
 use Rattle.versions_rule.proofs.Knowing.{last_least, last_is, last_more, knew_at, knew_past}
 use Rattle.values_rule.proofs.Members.{in_join, none_in, in_first, in_second}
 use Rattle.versions_rule.proofs.ItemsIn.{in_parts}
@@ -98,14 +99,16 @@ module _ (good : List ℕ → Type 0) (n : ℕ) (base ws : List ℕ) (vs : List 
   value_stays a = get_or-set_other ws (commits_word v.seats j) (value_word n a) v.call 0 (λ z. omega (arith, own_.seats, own_.below))
 
   version_stays : (k : ℕ) → version_at n ws' k ≡ version_at n ws k
-  version_stays k = version_kept n ws ws' (λ l near. get_or-set_other ws (commits_word v.seats j) (version_word n l) v.call 0 (λ z. omega (arith, own_.seats, own_.below))) k
+  version_stays k = version_kept n ws ws'
+      (λ l near. get_or-set_other ws (commits_word v.seats j) (version_word n l) v.call 0 (λ z. omega (arith, own_.seats, own_.below))) k
 
   call_stays : (i : ℕ) → i < n → slice_index ws' (calls_word n i) ≡ slice_index ws (calls_word n i)
   call_stays i lt = get_or-set_other ws (commits_word v.seats j) (calls_word n i) v.call 0 (λ z. omega (arith, own_.seats, own_.below))
 
   commit_here : slice_index ws' (commits_word n j) ≡ v.call
   commit_here = let same : commits_word v.seats j ≡ commits_word n j = ap (λ (m : ℕ). commits_word m j) own_.seats in
-      ap (λ (i : ℕ). slice_index (slice_set ws i v.call) (commits_word n j)) same ∙ get_or-set_same ws (commits_word n j) v.call 0 (omega (arith, h.word_count, own_.below))
+      ap (λ (i : ℕ). slice_index (slice_set ws i v.call) (commits_word n j)) same
+      ∙ get_or-set_same ws (commits_word n j) v.call 0 (omega (arith, h.word_count, own_.below))
 
   commit_there : (i : ℕ) → i ≢ j → slice_index ws' (commits_word n i) ≡ slice_index ws (commits_word n i)
   commit_there i ne = get_or-set_other ws (commits_word v.seats j) (commits_word n i) v.call 0 (λ z. ne (omega (arith, own_.seats)))
@@ -128,7 +131,12 @@ module _ (good : List ℕ → Type 0) (n : ℕ) (base ws : List ℕ) (vs : List 
 
   record_old : (y : Entry) → IsRecorded vs y → IsRecorded vs' y
   record_old y r = dite (ℕ_discrete r.id id)
-      (λ same. record { id = id; view = w; knows = here; seen = in_first v.seen (e ∷ []) y (subst (λ (u : View). IsIn y u.seen) (same_view vs id r.id v r.view me r.knows same) r.seen) })
+      (λ same. record {
+        id = id;
+        view = w;
+        knows = here;
+        seen = in_first v.seen (e ∷ []) y (subst (λ (u : View). IsIn y u.seen) (same_view vs id r.id v r.view me r.knows same) r.seen);
+      })
       (λ ne. record { id = r.id; view = r.view; knows = put_there vs id r.id w r.view ne r.knows; seen = r.seen })
 
   record_new : IsRecorded vs' e
@@ -165,11 +173,14 @@ module _ (good : List ℕ → Type 0) (n : ℕ) (base ws : List ℕ) (vs : List 
   not_new : (y : Entry) → IsRecorded vs y → e ≡ y → ⊥
   not_new y r same = let lt = before y r (new_who y same) in let c = new_call y same in omega arith
 
-  records_part : RecordsKept n vs'
+  records_part : RecordsClosed n vs'
   records_part = record {
     own_seen = λ other i u y s r own_entry. ⊎_elim
         (λ t. subst (λ (z : View). IsIn y z.seen) t.1 (⊎_elim
-        (λ old. in_first v.seen (e ∷ []) y (q.records.own_seen id i v y (record { knows = me; named = subst (λ (z : View). has i z.who ≡ true) (sym t.1) s.named }) old own_entry))
+        (λ old. in_first v.seen (e ∷ []) y (q.records.own_seen id i v y (record {
+          knows = me;
+          named = subst (λ (z : View). has i z.who ≡ true) (sym t.1) s.named;
+        }) old own_entry))
         (λ same. subst (λ (z : Entry). IsIn z w.seen) same new_seen) (record_cases y r)))
         (λ t. ⊎_elim
         (λ old. q.records.own_seen other i u y (record { knows = t.1; named = s.named }) old own_entry)
@@ -185,7 +196,8 @@ module _ (good : List ℕ → Type 0) (n : ℕ) (base ws : List ℕ) (vs : List 
         (λ c. ⊎_elim
         (λ old. q.records.known_seen other u y z c.1 t old knew)
         (λ same. absurd (let lt = unknown y (record { id = other; view = u; knows = c.1; seen = t }) in
-        let le : v.call ≤ slice_index y.knew j = subst (λ (m : ℕ). m ≤ slice_index y.knew j) (sym (new_call z same)) (subst (λ (m : ℕ). z.call ≤ slice_index y.knew m) (new_who z same) knew) in omega arith))
+        let le : v.call ≤ slice_index y.knew j = subst (λ (m : ℕ). m ≤ slice_index y.knew j) (sym (new_call z same))
+        (subst (λ (m : ℕ). z.call ≤ slice_index y.knew m) (new_who z same) knew) in omega arith))
         (record_cases z r))
         (case other u k);
     knew_own = λ y z r s who less. ⊎_elim
@@ -204,15 +216,19 @@ module _ (good : List ℕ → Type 0) (n : ℕ) (base ws : List ℕ) (vs : List 
         (λ old. let z = q.records.knew_entry y i old some in (z.0, record_old z.0 z.1, z.2, z.3))
         (λ same. let most : 0 < slice_index e.knew i = subst (λ (t : Entry). 0 < slice_index t.knew i) (sym same) some in
         dite (dec_lt i n)
-        (λ lt. let is = knew_last i lt in let z = last_is i v.seen (omega arith) in (z.0, record_old z.0 (mine_recorded z.0 z.1), z.2, z.3 ∙ sym is ∙ ap (λ (t : Entry). slice_index t.knew i) same))
+        (λ lt. let is = knew_last i lt in let z = last_is i v.seen (omega arith) in
+        (z.0, record_old z.0 (mine_recorded z.0 z.1), z.2, z.3 ∙ sym is ∙ ap (λ (t : Entry). slice_index t.knew i) same))
         (λ no. absurd (let seats = own_.seats in let none = knew_past v.seats i v.seen (omega arith) in omega arith)))
         (record_cases y r);
     one = λ y z r s who call. ⊎_elim
-        (λ old. ⊎_elim (λ older. q.records.one y z old older who call) (λ same. absurd (let lt = before y old (who ∙ new_who z same) in let c = new_call z same in omega arith)) (record_cases z s))
-        (λ same. ⊎_elim (λ older. absurd (let lt = before z older (sym who ∙ new_who y same) in let c = new_call y same in omega arith)) (λ too. sym same ∙ too) (record_cases z s))
+        (λ old. ⊎_elim (λ older. q.records.one y z old older who call)
+        (λ same. absurd (let lt = before y old (who ∙ new_who z same) in let c = new_call z same in omega arith)) (record_cases z s))
+        (λ same. ⊎_elim (λ older. absurd (let lt = before z older (sym who ∙ new_who y same) in let c = new_call y same in omega arith))
+        (λ too. sym same ∙ too) (record_cases z s))
         (record_cases y r);
     by_seat = λ y r. ⊎_elim (λ old. q.records.by_seat y old) (λ same. subst (λ (i : ℕ). i < n) (sym (new_who y same)) own_.below) (record_cases y r);
-    from_one = λ y r. ⊎_elim (λ old. q.records.from_one y old) (λ same. let c = new_call y same in let some = called good n base ws vs id j v h q me may.who busy_open in omega arith) (record_cases y r);
+    from_one = λ y r. ⊎_elim (λ old. q.records.from_one y old)
+        (λ same. let c = new_call y same in let some = called good n base ws vs id j v h q me may.who busy_open in omega arith) (record_cases y r);
     apart = λ other u k a b y at more. ⊎_elim
         (λ t. let one : slice_get w.seen a ≡ Some y = subst (λ (s : View). slice_get s.seen a ≡ Some y) (sym t.1) at in
         let two : slice_get w.seen b ≡ Some y = subst (λ (s : View). slice_get s.seen b ≡ Some y) (sym t.1) more in
@@ -227,7 +243,8 @@ module _ (good : List ℕ → Type 0) (n : ℕ) (base ws : List ℕ) (vs : List 
           apart = f.apart;
           all = λ z s k. ⊎_elim (λ older. f.all z older k)
               (λ same. absurd (let lt = unknown y old in
-              let le : v.call ≤ slice_index y.knew j = subst (λ (m : ℕ). m ≤ slice_index y.knew j) (sym (new_call z same)) (subst (λ (m : ℕ). z.call ≤ slice_index y.knew m) (new_who z same) k) in omega arith))
+              let le : v.call ≤ slice_index y.knew j = subst (λ (m : ℕ). m ≤ slice_index y.knew j) (sym (new_call z same))
+              (subst (λ (m : ℕ). z.call ≤ slice_index y.knew m) (new_who z same) k) in omega arith))
               (record_cases z s);
           only = λ z t. let o = f.only z t in (record_old z o.0, o.1);
           count = f.count;
@@ -237,37 +254,46 @@ module _ (good : List ℕ → Type 0) (n : ℕ) (base ws : List ℕ) (vs : List 
           apart = q.records.apart id v me;
           all = λ z s k. ⊎_elim (λ older. new_knew z older k)
               (λ too. absurd (let lt = new_not_itself in
-              let le : v.call ≤ slice_index e.knew j = subst (λ (m : ℕ). m ≤ slice_index e.knew j) (sym (new_call z too)) (subst (λ (m : ℕ). z.call ≤ slice_index e.knew m) (new_who z too) k) in omega arith))
+              let le : v.call ≤ slice_index e.knew j = subst (λ (m : ℕ). m ≤ slice_index e.knew j)
+              (sym (new_call z too)) (subst (λ (m : ℕ). z.call ≤ slice_index e.knew m) (new_who z too) k) in omega arith))
               (record_cases z s);
           only = λ z t. (record_old z (mine_recorded z t), seen_known z t);
           count = sym (q.floor.floor id v me busy_open);
         }))
         (record_cases y r);
     causes = λ y r. ⊎_elim (λ old. q.records.causes y old)
-        (λ same. subst (λ (t : Entry). AreCauses n t.who t.stamp t.floor t.abandoned) same (subst (λ (i : ℕ). AreCauses n i v.stamp v.floor v.abandoned) (sym named) (q.floor.causes id j v me may.who busy_begun)))
+        (λ same. subst (λ (t : Entry). AreCauses n t.who t.stamp t.floor t.abandoned) same
+        (subst (λ (i : ℕ). AreCauses n i v.stamp v.floor v.abandoned) (sym named) (q.floor.causes id j v me may.who busy_begun)))
         (record_cases y r);
   }
 
   one_name : (i : ℕ) (u : View) → w ≡ u → has i u.who ≡ true → i ≡ j
   one_name i u same t = is_own v j i may.who (subst (λ (z : View). has i z.who ≡ true) (sym same) t)
 
-  calls_part : CallsShown n ws' vs'
+  calls_part : CallsCounted n ws' vs'
   calls_part = record {
-    callers_alone = λ other u k busy. ⊎_elim (λ z. (j, subst (λ (y : View). y.who ≡ j ∷ []) z.1 may.who)) (λ z. q.calls.callers_alone other u z.1 busy) (case other u k);
-    alone_unjoined = λ other i u k single. ⊎_elim (λ z. subst (λ (y : View). y.joined ≡ false) z.1 unjoined) (λ z. q.calls.alone_unjoined other i u z.1 single) (case other u k);
+    callers_alone = λ other u k busy. ⊎_elim (λ z. (j, subst (λ (y : View). y.who ≡ j ∷ []) z.1 may.who))
+        (λ z. q.calls.callers_alone other u z.1 busy) (case other u k);
+    alone_unjoined = λ other i u k single. ⊎_elim (λ z. subst (λ (y : View). y.joined ≡ false) z.1 unjoined)
+        (λ z. q.calls.alone_unjoined other i u z.1 single) (case other u k);
     dealers_fresh = λ other i k u s t ne un. ⊎_elim
         (λ z. absurd (ne (one_name i u z.1 s.named ∙ sym (one_name k u z.1 t.named))))
-        (λ z. q.calls.dealers_fresh other i k u (record { knows = z.1; named = s.named }) (record { knows = z.1; named = t.named }) ne un) (case other u s.knows);
+        (λ z. q.calls.dealers_fresh other i k u (record { knows = z.1; named = s.named }) (record { knows = z.1; named = t.named }) ne un)
+        (case other u s.knows);
     calls_shown = λ other i u s un. ⊎_elim
         (λ z. let is = one_name i u z.1 s.named in
-        subst (λ (m : ℕ). slice_index ws' (calls_word n m) ≡ u.call) (sym is) (call_stays j own_.below ∙ q.calls.calls_shown id j v own_.seat unjoined ∙ ap (λ (y : View). y.call) z.1))
-        (λ z. let it : IsSeat vs other u i = record { knows = z.1; named = s.named } in call_stays i (h.numbers_below other i u it) ∙ q.calls.calls_shown other i u it un) (case other u s.knows);
+        subst (λ (m : ℕ). slice_index ws' (calls_word n m) ≡ u.call) (sym is)
+        (call_stays j own_.below ∙ q.calls.calls_shown id j v own_.seat unjoined ∙ ap (λ (y : View). y.call) z.1))
+        (λ z. let it : IsSeat vs other u i = record { knows = z.1; named = s.named } in
+        call_stays i (h.numbers_below other i u it) ∙ q.calls.calls_shown other i u it un) (case other u s.knows);
     calls_fit = λ i lt. subst (λ (y : ℕ). y < 2 ^ 32) (sym (call_stays i lt)) (q.calls.calls_fit i lt);
     commits_shown = λ other i u s un. ⊎_elim
         (λ z. let is = one_name i u z.1 s.named in
         let least = last_less good n base ws vs id j v h q me may.who busy_open v id me in
-        subst (λ (m : ℕ). slice_index ws' (commits_word n m) ≡ last_call m u.seen) (sym is) (commit_here ∙ (sym (last_more j v.seen e named (omega arith)) ∙ ap (λ (y : View). last_call j y.seen) z.1)))
-        (λ z. commit_there i (λ is. foreign other u z.0 z.1 (subst (λ (m : ℕ). has m u.who ≡ true) is s.named)) ∙ q.calls.commits_shown other i u (record { knows = z.1; named = s.named }) un) (case other u s.knows);
+        subst (λ (m : ℕ). slice_index ws' (commits_word n m) ≡ last_call m u.seen) (sym is)
+        (commit_here ∙ (sym (last_more j v.seen e named (omega arith)) ∙ ap (λ (y : View). last_call j y.seen) z.1)))
+        (λ z. commit_there i (λ is. foreign other u z.0 z.1 (subst (λ (m : ℕ). has m u.who ≡ true) is s.named))
+        ∙ q.calls.commits_shown other i u (record { knows = z.1; named = s.named }) un) (case other u s.knows);
     numbered = λ other i u y s un r own_entry. ⊎_elim
         (λ t. subst (λ (z : View). y.call ≤ z.call) t.1 (⊎_elim
         (λ old. let lt = before y old (own_entry ∙ one_name i u t.1 s.named) in omega arith)
@@ -280,7 +306,8 @@ module _ (good : List ℕ → Type 0) (n : ℕ) (base ws : List ℕ) (vs : List 
         (λ t. ⊎_elim (λ old. q.calls.open_numbered other i u y (record { knows = t.1; named = s.named }) un busy old own_entry)
         (λ same. absurd (foreign other u t.0 t.1 (subst (λ (z : ℕ). has z u.who ≡ true) (sym own_entry ∙ new_who y same) s.named))) (record_cases y r))
         (case other u s.knows);
-    begun = λ other u k busy. ⊎_elim (λ t. subst (λ (z : View). 0 < z.call) t.1 (called good n base ws vs id j v h q me may.who busy_open)) (λ t. q.calls.begun other u t.1 busy) (case other u k);
+    begun = λ other u k busy. ⊎_elim (λ t. subst (λ (z : View). 0 < z.call) t.1 (called good n base ws vs id j v h q me may.who busy_open))
+        (λ t. q.calls.begun other u t.1 busy) (case other u k);
   }
 
   -- items: the old ones, and the new entry
@@ -290,7 +317,13 @@ module _ (good : List ℕ → Type 0) (n : ℕ) (base ws : List ℕ) (vs : List 
       (λ old. inl (items_into vs z (inl (record { entry = o.entry; recorded = old; is = o.is }))))
       (λ same. ⊎_elim
       (λ t. inr (sym t ∙ ap item_of_entry (sym same)))
-      (λ t. inl (items_into vs z (inr (record { id = id; view = v; knows = me; is_open = busy_open; is = subst (λ (y : Entry). IsTry y.who y.call y.knew y.abandoned z) (sym same) t }))))
+      (λ t. inl (items_into vs z (inr (record {
+        id = id;
+        view = v;
+        knows = me;
+        is_open = busy_open;
+        is = subst (λ (y : Entry). IsAttemptOf y.who y.call y.knew y.abandoned z) (sym same) t;
+      }))))
       o.is)
       (record_cases o.entry o.recorded))
       (λ (o : OfOpen vs' z). ⊎_elim
@@ -304,7 +337,11 @@ module _ (good : List ℕ → Type 0) (n : ℕ) (base ws : List ℕ) (vs : List 
       (λ (o : OfEntry vs z). items_into vs' z (inl (record { entry = o.entry; recorded = record_old o.entry o.recorded; is = o.is })))
       (λ (o : OfOpen vs z). dite (ℕ_discrete o.id id)
       (λ same. let view_is : o.view ≡ v = same_view vs id o.id v o.view me o.knows same in
-      items_into vs' z (inl (record { entry = e; recorded = record_new; is = inr (subst (λ (u : View). IsTry (number u) u.call (knew_of u.seats u.seen) u.abandoned z) view_is o.is) })))
+      items_into vs' z (inl (record {
+        entry = e;
+        recorded = record_new;
+        is = inr (subst (λ (u : View). IsAttemptOf (number u) u.call (knew_of u.seats u.seen) u.abandoned z) view_is o.is);
+      })))
       (λ ne. items_into vs' z (inr (record { id = o.id; view = o.view; knows = put_there vs id o.id w o.view ne o.knows; is_open = o.is_open; is = o.is }))))
       (items_from vs z m)
 
@@ -339,12 +376,13 @@ module _ (good : List ℕ → Type 0) (n : ℕ) (base ws : List ℕ) (vs : List 
 
   wrote_owes : (k y : ℕ) → Uses x k y true → has k w.owed ≡ true
   wrote_owes k y u = let t = wrote_noted k y u in
-      subst (λ (b : Bool). has k (if b then locks_of v.undo else []) ≡ true) (sym t.0) (subst (λ (m : ℕ). has m (locks_of v.undo) ≡ true) t.1.2 (noted_lock t.1.0 t.1.1 v.undo t.1.3))
+      subst (λ (b : Bool). has k (if b then locks_of v.undo else []) ≡ true) (sym t.0)
+      (subst (λ (m : ℕ). has m (locks_of v.undo) ≡ true) t.1.2 (noted_lock t.1.0 t.1.1 v.undo t.1.3))
 
   wrote_granted : (k y : ℕ) → Uses x k y true → HasWriteGrant v k
   wrote_granted k y u = let t = wrote_noted k y u in subst (λ (m : ℕ). HasWriteGrant v m) t.1.2 (q.undo.noted id t.1.0 t.1.1 v me t.1.3).1
 
-  moves : RaisesVersions x (current n ws vs) (current n ws' vs')
+  moves : RaisesVersions x (next_version n ws vs) (next_version n ws' vs')
   moves k = ⊎_elim
       (λ (u : (y : ℕ) × Uses x k y true).
       let none : flag (owed_by k vs) ≡ 0 = ap flag (nobody_owes good n base ws vs id j v h q me may.who may.phase k (inr (wrote_granted k u.0 u.1))) in
@@ -353,7 +391,8 @@ module _ (good : List ℕ → Type 0) (n : ℕ) (base ws : List ℕ) (vs : List 
       inl (u, omega arith))
       (λ (no : (y : ℕ) → Uses x k y true → ⊥).
       let to : Owes k vs → Owes k vs' = λ o. dite (ℕ_discrete o.id id)
-      (λ e. absurd (not_released v.phase busy_open (ap (λ (y : View). y.phase) (sym (same_view vs id o.id v o.view me o.knows e)) ∙ (q.owed.held o.id k o.view o.knows o.owes).0)))
+      (λ e. absurd (not_released v.phase busy_open
+      (ap (λ (y : View). y.phase) (sym (same_view vs id o.id v o.view me o.knows e)) ∙ (q.owed.held o.id k o.view o.knows o.owes).0)))
       (λ ne. record { id = o.id; view = o.view; knows = put_there vs id o.id w o.view ne o.knows; owes = o.owes }) in
       let from : Owes k vs' → Owes k vs = λ o. ⊎_elim
       (λ t. absurd (let u = owes_wrote k (subst (λ (y : View). has k y.owed ≡ true) (sym t.1) o.owes) in no u.0 u.1))
@@ -363,7 +402,7 @@ module _ (good : List ℕ → Type 0) (n : ℕ) (base ws : List ℕ) (vs : List 
       inr (no, omega arith))
       (wrote_some k x.uses)
 
-  fit : MayStandLast good base (current n ws vs) (items_of vs) x
+  fit : MayStandLast good base (next_version n ws vs) (items_of vs) x
   fit = record {
     formed = item_formed v.uses x refl (λ t. refl) (λ k a b s t. q.uses.once id k a b v me s t) (λ a t. q.uses.covered id a v me may.phase t);
     last = comes_last good n base ws vs id j v h q me may.who may.phase x kept named refl refl refl;
@@ -373,9 +412,11 @@ module _ (good : List ℕ → Type 0) (n : ℕ) (base ws : List ℕ) (vs : List 
 
   items_part : ItemsArranged good n base ws' vs'
   items_part = record {
-    coherent = ends_agree good base (current n ws vs) (current n ws' vs') (items_of vs) (items_of vs') q.items.order x q.items.coherent q.items.arranged fit adds moves;
+    agree = ends_agree good base (next_version n ws vs) (next_version n ws' vs')
+        (items_of vs) (items_of vs') q.items.order x q.items.agree q.items.arranged fit adds moves;
     order = q.items.order ++ x ∷ [];
-    arranged = ends_arranged good base (current n ws vs) (current n ws' vs') (items_of vs) (items_of vs') q.items.order x q.items.coherent q.items.arranged fit adds moves;
+    arranged = ends_arranged good base (next_version n ws vs) (next_version n ws' vs')
+        (items_of vs) (items_of vs') q.items.order x q.items.agree q.items.arranged fit adds moves;
   }
 
   abbrev now : List ℕ
@@ -386,8 +427,9 @@ module _ (good : List ℕ → Type 0) (n : ℕ) (base ws : List ℕ) (vs : List 
 
   -- what the new entry leaves
   then_is : left ≡ (if kept then after v.trace now else now)
-  then_is = newest_moved base x (current n ws vs) (current n ws' vs') (items_of vs) (items_of vs')
-      (ends_moved good base (current n ws vs) (current n ws' vs') (items_of vs) (items_of vs') q.items.order x q.items.coherent q.items.arranged fit adds moves)
+  then_is = newest_moved base x (next_version n ws vs) (next_version n ws' vs') (items_of vs) (items_of vs')
+      (ends_moved good base (next_version n ws vs) (next_version n ws' vs') (items_of vs)
+      (items_of vs') q.items.order x q.items.agree q.items.arranged fit adds moves)
 
   legal_now : IsLegalTrace v.trace now
   legal_now = q.trace.legal id v me may.phase
@@ -410,7 +452,13 @@ module _ (good : List ℕ → Type 0) (n : ℕ) (base ws : List ℕ) (vs : List 
 
   -- a seat of a view with locks
   seat_of : (other : ℕ) (u : View) → Knows vs other u → u.phase ≢ Idle → (i : ℕ) × IsSeat vs other u i
-  seat_of other u k busy = let c = q.calls.callers_alone other u k busy in (c.0, record { knows = k; named = subst (λ (l : List ℕ). has c.0 l ≡ true) (sym c.1) (has-join_same c.0 []) })
+  seat_of other u k busy = let c = q.calls.callers_alone other u k busy in (
+    c.0,
+    record {
+      knows = k;
+      named = subst (λ (l : List ℕ). has c.0 l ≡ true) (sym c.1) (has-join_same c.0 []);
+    },
+  )
 
   uses_part : UsesCurrent n ws' vs'
   uses_part = record {
@@ -438,7 +486,8 @@ module _ (good : List ℕ → Type 0) (n : ℕ) (base ws : List ℕ) (vs : List 
       let runs = may.runs k in
       ⊎_elim
       (λ (none : oldest a v.undo ≡ None). is_missing (oldest a v.undo) none (q.trace.written_noted id a v me runs wrote))
-      (λ (some : (o : ℕ) × (oldest a v.undo ≡ Some o)). shut_out n base ws vs id other i (lock_of_word a) v u h ne me s g (q.undo.noted id a some.0 v me some.1).1)
+      (λ (some : (o : ℕ) × (oldest a v.undo ≡ Some o)). shut_out n base ws vs id other i
+      (lock_of_word a) v u h ne me s g (q.undo.noted id a some.0 v me some.1).1)
       (option_cases (oldest a v.undo))
 
   stands_by : (b : Bool) (a : ℕ) → kept ≡ b → (b ≡ true → ¬ Writes v.trace a) → slice_get (if b then after v.trace now else now) a ≡ slice_get now a
@@ -450,23 +499,29 @@ module _ (good : List ℕ → Type 0) (n : ℕ) (base ws : List ℕ) (vs : List 
   stands a free = ap (λ (l : List ℕ). slice_get l a) then_is ∙ stands_by kept a refl (λ k. free k)
 
   noting : (other a o : ℕ) (u : View) → Knows vs other u → oldest a u.undo ≡ Some o → u.phase ≢ Idle
-  noting other a o u k t idle = let z : None ≡ Some o = sym (oldest-nil a) ∙ (ap (λ (l : Notes). oldest a l) (sym (q.trace.rested other u k (inl idle))) ∙ t) in cc
+  noting other a o u k t idle = let z : None ≡ Some o = sym (oldest-nil a)
+      ∙ (ap (λ (l : Notes). oldest a l) (sym (q.trace.rested other u k (inl idle))) ∙ t) in cc
 
-  unnoted_by : (b : Bool) (a : ℕ) → kept ≡ b → a < length base → ((other : ℕ) (u : View) → Knows vs' other u → oldest a u.undo ≡ None) → slice_get (if b then after v.trace now else now) a ≡ Some (value_at n ws a)
+  unnoted_by : (b : Bool) (a : ℕ) → kept ≡ b → a < length base → ((other : ℕ) (u : View) → Knows vs' other u → oldest a u.undo ≡ None)
+      → slice_get (if b then after v.trace now else now) a ≡ Some (value_at n ws a)
   unnoted_by false a k lt free = q.undo.unnoted a lt (λ other u z. dite (ℕ_discrete other id)
-      (λ same. subst (λ (x : View). oldest a x.undo ≡ None) (sym (same_view vs id other v u me z same)) (ap (λ (l : Notes). oldest a l) (may.undone k) ∙ oldest-nil a))
+      (λ same. subst (λ (x : View). oldest a x.undo ≡ None) (sym (same_view vs id other v u me z same))
+      (ap (λ (l : Notes). oldest a l) (may.undone k) ∙ oldest-nil a))
       (λ ne. free other u (put_there vs id other w u ne z)))
   unnoted_by true a k lt free = ⊎_elim
-      (λ (none : oldest a v.undo ≡ None). unwritten_stays v.trace now a (λ wrote. is_missing (oldest a v.undo) none (q.trace.written_noted id a v me (may.runs k) wrote))
+      (λ (none : oldest a v.undo ≡ None). unwritten_stays v.trace now a
+      (λ wrote. is_missing (oldest a v.undo) none (q.trace.written_noted id a v me (may.runs k) wrote))
       ∙ q.undo.unnoted a lt (λ other u z. dite (ℕ_discrete other id)
       (λ same. subst (λ (x : View). oldest a x.undo ≡ None) (sym (same_view vs id other v u me z same)) none)
       (λ ne. free other u (put_there vs id other w u ne z))))
       (λ (some : (o : ℕ) × (oldest a v.undo ≡ Some o)).
       let wrote = q.trace.undo_written id a some.0 v me may.phase some.1 in
-      let within : a < length now = omega (arith, length-newest base (items_of vs) (current n ws vs)) in
+      let within : a < length now = omega (arith, length-newest base (items_of vs) (next_version n ws vs)) in
       ⊎_elim
-      (λ (none : value_after v.trace a None ≡ None). absurd (is_missing (value_after v.trace a None) none (last_from_touched v.trace a None (inr (touched_if_written v.trace a wrote)))))
-      (λ (last : (x : ℕ) × (value_after v.trace a None ≡ Some x)). get-after-value_after v.trace now a legal_now within ∙ (last_event v.trace a last.0 (slice_get now a) last.1
+      (λ (none : value_after v.trace a None ≡ None). absurd
+      (is_missing (value_after v.trace a None) none (last_from_touched v.trace a None (inr (touched_if_written v.trace a wrote)))))
+      (λ (last : (x : ℕ) × (value_after v.trace a None ≡ Some x)). get-after-value_after v.trace now a legal_now within
+      ∙ (last_event v.trace a last.0 (slice_get now a) last.1
       ∙ ap (λ (x : ℕ). Some x) (sym (q.trace.last_stands id a last.0 v me (may.runs k) last.1))))
       (option_cases (value_after v.trace a None)))
       (option_cases (oldest a v.undo))
@@ -481,7 +536,7 @@ module _ (good : List ℕ → Type 0) (n : ℕ) (base ws : List ℕ) (vs : List 
   }
 
   then_long : length now ≡ length left
-  then_long = length-newest base (items_of vs) (current n ws vs) ∙ sym (length-newest base (items_of vs') (current n ws' vs'))
+  then_long = length-newest base (items_of vs) (next_version n ws vs) ∙ sym (length-newest base (items_of vs') (next_version n ws' vs'))
 
   trace_at : TraceCurrent n base left ws' vs'
   trace_at = record {
@@ -491,7 +546,9 @@ module _ (good : List ℕ → Type 0) (n : ℕ) (base ws : List ℕ) (vs : List 
     legal = λ other u k busy. ⊎_elim
         (λ z. absurd (let y : false ≡ true = subst (λ (x : View). is_attempt x.phase ≡ true) (sym z.1) busy in cc))
         (λ z. let s = seat_of other u z.1 (open_begun u.phase (attempt_open u.phase busy)) in
-        legal_agree u.trace now left then_long (λ a t. sym (stands a (unwritten other s.0 a u z.0 s.1 (q.trace.granted other a u z.1 busy t).1))) (q.trace.legal other u z.1 busy)) (case other u k);
+        legal_agree u.trace now left then_long
+        (λ a t. sym (stands a (unwritten other s.0 a u z.0 s.1 (q.trace.granted other a u z.1 busy t).1))) (q.trace.legal other u z.1 busy))
+        (case other u k);
     undo_written = λ other a o u k busy t. ⊎_elim
         (λ z. absurd (let y : false ≡ true = subst (λ (x : View). is_attempt x.phase ≡ true) (sym z.1) busy in cc))
         (λ z. q.trace.undo_written other a o u z.1 busy t) (case other u k);
@@ -504,7 +561,7 @@ module _ (good : List ℕ → Type 0) (n : ℕ) (base ws : List ℕ) (vs : List 
     rested = λ other u k t. ⊎_elim (λ z. ap (λ (x : View). x.undo) (sym z.1)) (λ z. q.trace.rested other u z.1 t) (case other u k);
   }
 
-  floor_part : FloorsKept n vs'
+  floor_part : FloorAndAbandoned n vs'
   floor_part = record {
     floor = λ other u k busy. ⊎_elim
         (λ t. absurd (let z : false ≡ true = subst (λ (y : View). is_open y.phase ≡ true) (sym t.1) busy in cc))

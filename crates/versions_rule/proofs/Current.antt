@@ -16,14 +16,14 @@ use Rattle.history_model.proofs.SetLemmas.{has-join_same}
 use Rattle.locks_rule.specs.Locks.{LocksHold}
 use Rattle.values_rule.specs.Values.{value_at, oldest}
 use Rattle.versions_rule.specs.Versions.{ValuesHold}
-use Rattle.versions_rule.specs.History.{items_of, now_of}
-use Rattle.versions_rule.specs.History as hist
+use Rattle.versions_rule.specs.History.{items_of, next_version, now_of}
 use Rattle.versions_rule.proofs.Newest.{length-newest}
 use Rattle.values_rule.proofs.Notes.{option_cases, is_missing}
 use Rattle.values_rule.proofs.Frames.{shut_out}
 use Rattle.values_rule.proofs.Frames.{attempt_runs}
 
-module _ (good : List ℕ → Type 0) (n : ℕ) (base ws : List ℕ) (vs : List View) (id j : ℕ) (v : View) (h : LocksHold n base ws vs) (q : ValuesHold good n base ws vs) (me : Knows vs id v)
+module _ (good : List ℕ → Type 0) (n : ℕ) (base ws : List ℕ) (vs : List View) (id j : ℕ) (v : View) (h : LocksHold n base ws vs)
+    (q : ValuesHold good n base ws vs) (me : Knows vs id v)
     (single : v.who ≡ j ∷ []) (runs : v.phase ≡ Running) (a : ℕ) (within : a < length base) (granted : IsGranted v (lock_of_word a)) where
   -- an other seat has no note of a word that this one may use
   not_noted : (other : ℕ) (u : View) (o : ℕ) → other ≢ id → Knows vs other u → oldest a u.undo ≡ Some o → ⊥
@@ -46,7 +46,7 @@ module _ (good : List ℕ → Type 0) (n : ℕ) (base ws : List ℕ) (vs : List 
   -- the word stands as the attempt's trace leaves it of the history's words
   pub current : slice_get (after v.trace (now_of n base ws vs)) a ≡ Some (value_at n ws a)
   current =
-      let long : length (now_of n base ws vs) ≡ length base = length-newest base (items_of vs) (hist.current n ws vs) in
+      let long : length (now_of n base ws vs) ≡ length base = length-newest base (items_of vs) (next_version n ws vs) in
       let is = get-after-value_after v.trace (now_of n base ws vs) a (q.trace.legal id v me (attempt_runs v runs)) (omega arith) in
       is ∙ ⊎_elim
       (λ (t : value_after v.trace a None ≡ None). no_event v.trace a (slice_get (now_of n base ws vs) a) t ∙ untouched_stands t)

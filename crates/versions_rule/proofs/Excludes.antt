@@ -1,15 +1,13 @@
 -- A lock that one seat holds for writing no other seat holds, and phases.
-use Rattle.std.proofs.Common.{◌≡◌, ◌≢◌, ℕ, ◌+◌, ◌<◌, true, false, inl, inr, List, refl, sym, ap, ◌∙◌, subst, arith}
+use Rattle.std.proofs.Common.{◌≡◌, ◌≢◌, ℕ, ◌<◌, true, false, inl, inr, List, refl, sym, ap, ◌∙◌}
 use Rattle.history_model.specs.declared.view.View.{View}
 use Rattle.history_model.specs.declared.view.Phase.{Phase}
 use Rattle.history_model.specs.declared.view.Phase.TheVariants.{Idle, Running, Yielding, Withdrawing, Releasing}
 use Rattle.history_model.specs.Counts.{is_attempt, is_open}
-use Rattle.history_model.specs.Sets.{has}
 use Rattle.history_model.specs.Table.{Knows}
-use Rattle.history_model.specs.Views.{HasWriteGrant, IsGranted}
-use Rattle.history_model.proofs.SetLemmas.{differ, not_true}
+use Rattle.history_model.specs.Views.{IsGranted}
 use Rattle.history_model.specs.declared.TheConstants.{LOCKS}
-use Rattle.locks_rule.specs.Locks.{LocksHold, IsSeat}
+use Rattle.locks_rule.specs.Locks.{LocksHold}
 use Rattle.locks_rule.proofs.Own.{lock_near}
 
 pub attempt_open : (p : Phase) → is_attempt p ≡ true → is_open p ≡ true

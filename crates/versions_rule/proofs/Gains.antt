@@ -1,5 +1,6 @@
 -- What two lists of entries come to together.
-use Rattle.std.proofs.Common.{◌≡◌, ◌≢◌, ℕ, zero, suc, Bool, true, false, ◌||◌, ◌&&◌, ◌⊎◌, inl, inr, ⊎_elim, List, [], ◌∷◌, ◌++◌, Some, if◌then◌else◌, refl, sym, ap, ◌∙◌, subst, arith, eq-eqb, ne_eqb}
+use Rattle.std.proofs.Common.{◌≡◌, ◌≢◌, ℕ, zero, suc, Bool, true, false, ◌&&◌, ◌⊎◌, inl, inr, ⊎_elim, List, [], ◌∷◌, ◌++◌, Some, if◌then◌else◌, refl, sym}
+use Rattle.std.proofs.Common.{ap, ◌∙◌, subst, arith, eq-eqb, ne_eqb}
 use Rattle.std.specs.Prelude.{◌==◌}
 use Rattle.std.proofs.lemmas.Bool.{eqb-true, or_cases, or_right, and_parts}
 use mathlib.Core.Logic.{dite}
@@ -25,7 +26,8 @@ pub there_entry : (x : Entry) (es : List Entry) → IsIn x es → has_entry x.wh
 unfolding has_entry
 there_entry x [] t = absurd (none_in x t)
 there_entry x (e ∷ es) t = ⊎_elim
-    (λ same. let a : e.who ≡ x.who = ap (λ (y : Entry). y.who) same in let b : e.call ≡ x.call = ap (λ (y : Entry). y.call) same in rw (eq-eqb e.who x.who a, eq-eqb e.call x.call b) refl)
+    (λ same. let a : e.who ≡ x.who = ap (λ (y : Entry). y.who) same in
+    let b : e.call ≡ x.call = ap (λ (y : Entry). y.call) same in rw (eq-eqb e.who x.who a, eq-eqb e.call x.call b) refl)
     (λ s. or_right (e.who == x.who && e.call == x.call) (has_entry x.who x.call es) (there_entry x es s))
     (in_join e es x t)
 
@@ -33,7 +35,8 @@ pub in_lacking : (es others : List Entry) (x : Entry) → IsIn x (lacking es oth
 unfolding lacking
 in_lacking es [] x t = absurd (none_in x t)
 in_lacking es (e ∷ others) x t = ⊎_elim
-    (λ b. let rest = in_lacking es others x (subst (λ (c : Bool). IsIn x (if c then lacking es others else e ∷ lacking es others)) b t) in ((suc rest.0.0, rest.0.1), rest.1))
+    (λ b. let rest = in_lacking es others x (subst (λ (c : Bool). IsIn x (if c then lacking es others else e ∷ lacking es others)) b t) in
+    ((suc rest.0.0, rest.0.1), rest.1))
     (λ b. ⊎_elim
     (λ same. ((zero, ap (λ (y : Entry). Some y) same), subst (λ (y : Entry). has_entry y.who y.call es ≡ false) same b))
     (λ s. let rest = in_lacking es others x s in ((suc rest.0.0, rest.0.1), rest.1))
@@ -59,7 +62,8 @@ pub gains_first : (es others : List Entry) (x : Entry) → IsIn x es → IsIn x 
 gains_first es others x t = in_first es (lacking es others) x t
 
 -- where an entry is the only one of its seat and call
-pub gains_second : (es others : List Entry) (x : Entry) → ((y : Entry) → IsIn y es → y.who ≡ x.who → y.call ≡ x.call → y ≡ x) → IsIn x others → IsIn x (gains es others)
+pub gains_second : (es others : List Entry) (x : Entry)
+    → ((y : Entry) → IsIn y es → y.who ≡ x.who → y.call ≡ x.call → y ≡ x) → IsIn x others → IsIn x (gains es others)
 gains_second es others x only t = ⊎_elim
     (λ b. let y = entry_there x.who x.call es b in gains_first es others x (subst (λ (z : Entry). IsIn z es) (only y.0 y.1 y.2 y.3) y.1))
     (λ b. in_second es (lacking es others) x (lacking_in es others x t b))

@@ -11,7 +11,7 @@ use Rattle.history_model.specs.Table.{Knows}
 use Rattle.history_model.specs.Undoing.{Notes}
 use Rattle.history_model.proofs.Places.{same_view, put_there, put_cases}
 use Rattle.locks_rule.specs.Locks.{LocksHold}
-use Rattle.versions_rule.specs.History.{owed_by, current, now_of}
+use Rattle.versions_rule.specs.History.{owed_by, next_version, now_of}
 use Rattle.versions_rule.specs.Keeping.{GivesUp, SameWords, GivingUpKeeps}
 use Rattle.values_rule.specs.Values.{oldest, UndoRestores, TraceCurrent}
 use Rattle.versions_rule.specs.Records.{AreCauses}
@@ -23,7 +23,8 @@ use Rattle.values_rule.proofs.Notes.{oldest-nil}
 use Rattle.versions_rule.proofs.Owing.{owed_same}
 
 module _ (good : List ℕ → Type 0) (n : ℕ) (base ws ws' : List ℕ) (vs : List View) (id j : ℕ) (v w : View)
-    (h : LocksHold n base ws vs) (q : ValuesHold good n base ws vs) (me : Knows vs id v) (single : v.who ≡ j ∷ []) (opened : is_open v.phase ≡ true) (g : GivesUp v w) (s : SameWords n ws ws') where
+    (h : LocksHold n base ws vs) (q : ValuesHold good n base ws vs) (me : Knows vs id v) (single : v.who ≡ j ∷ []) (opened : is_open v.phase ≡ true)
+    (g : GivesUp v w) (s : SameWords n ws ws') where
   abbrev vs' : List View
   vs' = slice_set vs id w
 
@@ -42,7 +43,7 @@ module _ (good : List ℕ → Type 0) (n : ℕ) (base ws ws' : List ℕ) (vs : L
       (λ c. absurd (owes_none k (subst (λ (l : List ℕ). has k l ≡ true) (ap (λ (y : View). y.owed) (sym c.1) ∙ g.owed) o.owes)))
       (λ c. record { id = o.id; view = o.view; knows = c.1; owes = o.owes }) (case o.id o.view o.knows))
 
-  current_is : (k : ℕ) → current n ws' vs' k ≡ current n ws vs k
+  current_is : (k : ℕ) → next_version n ws' vs' k ≡ next_version n ws vs k
   current_is k = let same : flag (owed_by k vs') ≡ flag (owed_by k vs) = ap flag (owed_is k) in let word = s.versions k in omega arith
 
   now_is : now_of n base ws' vs' ≡ now_of n base ws vs
@@ -50,7 +51,8 @@ module _ (good : List ℕ → Type 0) (n : ℕ) (base ws ws' : List ℕ) (vs : L
       (giving_up_drops good n base ws vs id j v w h q me single opened g.seen g.over) current_is q.items
 
   no_note : (a o : ℕ) (u : View) → w ≡ u → oldest a u.undo ≡ Some o → ⊥
-  no_note a o u same t = let z : None ≡ Some o = sym (oldest-nil a) ∙ (ap (λ (l : Notes). oldest a l) (sym (ap (λ (y : View). y.undo) (sym same) ∙ g.undone)) ∙ t) in cc
+  no_note a o u same t = let z : None ≡ Some o = sym (oldest-nil a)
+      ∙ (ap (λ (l : Notes). oldest a l) (sym (ap (λ (y : View). y.undo) (sym same) ∙ g.undone)) ∙ t) in cc
 
   no_attempt : {A : Type 0} (u : View) → w ≡ u → is_attempt u.phase ≡ true → A
   no_attempt u same t = absurd (let z : true ≡ false = sym (attempt_open u.phase t) ∙ (ap (λ (y : View). is_open y.phase) (sym same) ∙ g.over) in cc)
@@ -68,8 +70,10 @@ module _ (good : List ℕ → Type 0) (n : ℕ) (base ws ws' : List ℕ) (vs : L
     granted = λ other a u k busy t. ⊎_elim (λ c. no_attempt u c.1 busy) (λ c. q.trace.granted other a u c.1 busy t) (case other u k);
     legal = λ other u k busy. ⊎_elim (λ c. no_attempt u c.1 busy) (λ c. q.trace.legal other u c.1 busy) (case other u k);
     undo_written = λ other a o u k busy t. ⊎_elim (λ c. no_attempt u c.1 busy) (λ c. q.trace.undo_written other a o u c.1 busy t) (case other u k);
-    written_noted = λ other a u k runs t. ⊎_elim (λ c. no_attempt u c.1 (ap is_attempt runs)) (λ c. q.trace.written_noted other a u c.1 runs t) (case other u k);
-    last_stands = λ other a x u k runs t. ⊎_elim (λ c. no_attempt u c.1 (ap is_attempt runs)) (λ c. s.values a ∙ q.trace.last_stands other a x u c.1 runs t) (case other u k);
+    written_noted = λ other a u k runs t. ⊎_elim (λ c. no_attempt u c.1 (ap is_attempt runs))
+        (λ c. q.trace.written_noted other a u c.1 runs t) (case other u k);
+    last_stands = λ other a x u k runs t. ⊎_elim (λ c. no_attempt u c.1 (ap is_attempt runs))
+        (λ c. s.values a ∙ q.trace.last_stands other a x u c.1 runs t) (case other u k);
     rested = λ other u k t. ⊎_elim (λ c. ap (λ (y : View). y.undo) (sym c.1) ∙ g.undone) (λ c. q.trace.rested other u c.1 t) (case other u k);
   }
 
@@ -77,7 +81,8 @@ module _ (good : List ℕ → Type 0) (n : ℕ) (base ws ws' : List ℕ) (vs : L
   given_up = record {
     serial = s.serial ∙ q.serial;
     records = records_same vs id v w me g.seen n g.who q.records;
-    calls = calls_same vs id v w me g.seen n ws ws' g.who g.joined g.call (λ b. open_begun v.phase opened) (λ b. opened) s.calls s.commits (λ i u other t. h.numbers_below other i u t) q.calls;
+    calls = calls_same vs id v w me g.seen n ws ws' g.who g.joined g.call (λ b. open_begun v.phase opened)
+        (λ b. opened) s.calls s.commits (λ i u other t. h.numbers_below other i u t) q.calls;
     items = items_kept good n base ws ws' vs vs' (is_kept j v.call) (entries_stay good n base ws vs id j v w h q me single opened g.seen g.over)
         (giving_up_drops good n base ws vs id j v w h q me single opened g.seen g.over) current_is q.items;
     owed = record {
@@ -86,18 +91,22 @@ module _ (good : List ℕ → Type 0) (n : ℕ) (base ws ws' : List ℕ) (vs : L
           (λ c. let o = q.owed.held other k u c.1 t in (o.0, o.1, subst (λ (m : ℕ). IsIn (k, m) u.uses) (sym (s.versions k)) o.2)) (case other u known);
     };
     uses = record {
-      granted = λ other k y u known b t. ⊎_elim (λ c. no_attempt u c.1 b) (λ c. let r = q.uses.granted other k y u c.1 b t in (r.0, r.1 ∙ sym (current_is k))) (case other u known);
+      granted = λ other k y u known b t. ⊎_elim (λ c. no_attempt u c.1 b)
+          (λ c. let r = q.uses.granted other k y u c.1 b t in (r.0, r.1 ∙ sym (current_is k))) (case other u known);
       once = λ other k y z u known a b. ⊎_elim
-          (λ c. let same : u.uses ≡ v.uses = ap (λ (m : View). m.uses) (sym c.1) ∙ g.uses in q.uses.once id k y z v me (subst (λ (l : List (ℕ × ℕ)). IsIn (k, y) l) same a) (subst (λ (l : List (ℕ × ℕ)). IsIn (k, z) l) same b))
+          (λ c. let same : u.uses ≡ v.uses = ap (λ (m : View). m.uses) (sym c.1) ∙ g.uses in
+          q.uses.once id k y z v me (subst (λ (l : List (ℕ × ℕ)). IsIn (k, y) l) same a) (subst (λ (l : List (ℕ × ℕ)). IsIn (k, z) l) same b))
           (λ c. q.uses.once other k y z u c.1 a b) (case other u known);
       covered = λ other a u known b t. ⊎_elim (λ c. no_attempt u c.1 b) (λ c. q.uses.covered other a u c.1 b t) (case other u known);
     };
     undo = subst (λ (l : List ℕ). UndoRestores n base l ws' vs') (sym now_is) undo_at;
     trace = subst (λ (l : List ℕ). TraceCurrent n base l ws' vs') (sym now_is) trace_at;
     floor = record {
-      floor = λ other u known b. ⊎_elim (λ c. absurd (let z : true ≡ false = sym b ∙ (ap (λ (y : View). is_open y.phase) (sym c.1) ∙ g.over) in cc)) (λ c. q.floor.floor other u c.1 b) (case other u known);
+      floor = λ other u known b. ⊎_elim (λ c. absurd (let z : true ≡ false = sym b ∙ (ap (λ (y : View). is_open y.phase) (sym c.1) ∙ g.over) in cc))
+          (λ c. q.floor.floor other u c.1 b) (case other u known);
       causes = λ other i u known one busy. ⊎_elim
-          (λ c. subst (λ (y : View). AreCauses n i y.stamp y.floor y.abandoned) c.1 (as_before i (sym g.who ∙ (ap (λ (y : View). y.who) c.1 ∙ one)) (subst (λ (y : View). y.phase ≢ Idle) (sym c.1) busy)))
+          (λ c. subst (λ (y : View). AreCauses n i y.stamp y.floor y.abandoned) c.1
+          (as_before i (sym g.who ∙ (ap (λ (y : View). y.who) c.1 ∙ one)) (subst (λ (y : View). y.phase ≢ Idle) (sym c.1) busy)))
           (λ c. q.floor.causes other i u c.1 one busy) (case other u known);
     };
   }

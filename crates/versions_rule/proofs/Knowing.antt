@@ -59,7 +59,8 @@ knew_from-at : (i n k : ℕ) (es : List Entry) → k < n → slice_index (knew_f
 unfolding knew_from
 knew_from-at i zero k es h = absurd (omega arith)
 knew_from-at i (suc n) zero es h = let q : i ≡ i + 0 = omega arith in ap (λ (m : ℕ). last_call m es) q
-knew_from-at i (suc n) (suc k) es h = let q : suc i + k ≡ i + suc k = omega arith in knew_from-at (suc i) n k es (omega arith) ∙ ap (λ (m : ℕ). last_call m es) q
+knew_from-at i (suc n) (suc k) es h = let q : suc i + k ≡ i + suc k = omega arith in
+    knew_from-at (suc i) n k es (omega arith) ∙ ap (λ (m : ℕ). last_call m es) q
 
 pub knew_at : (n j : ℕ) (es : List Entry) → j < n → slice_index (knew_of n es) j ≡ last_call j es
 knew_at n j es h = let z : 0 + j ≡ j = omega arith in knew_from-at 0 n j es h ∙ ap (λ (m : ℕ). last_call m es) z

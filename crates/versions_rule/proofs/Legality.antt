@@ -1,5 +1,6 @@
 -- Every arrangement is a legal history.
-use Rattle.std.proofs.Common.{◌≡◌, ℕ, ◌<◌, ◌≤◌, true, false, inl, inr, ⊎_elim, List, [], ◌∷◌, length, Some, slice_get, slice_index, refl, sym, ap, ◌∙◌, subst, arith}
+use Rattle.std.proofs.Common.{◌≡◌, ℕ, ◌<◌, ◌≤◌, true, false, inl, inr, ⊎_elim, List, [], ◌∷◌, length, Some, slice_get, slice_index, refl, sym, ap, ◌∙◌, subst}
+use Rattle.std.proofs.Common.{arith}
 use Rattle.std.proofs.lemmas.Option.{slice_get_within}
 use mathlib.Core.Logic.{dite}
 use native.Mathlib.Decide.{ℕ_discrete, dec_lt}
@@ -19,11 +20,11 @@ use Rattle.history_model.proofs.ItemOrders.{is_legal, is_newest, end_good, lengt
 use Rattle.history_model.proofs.SetLemmas.{has-join_same}
 use Rattle.locks_rule.specs.Locks.{LocksHold, IsSeat}
 use Rattle.versions_rule.specs.Closing.{IsPlaced, EveryArrangementLegal}
-use Rattle.versions_rule.specs.History.{item_of_entry, items_of, current, now_of}
+use Rattle.versions_rule.specs.History.{item_of_entry, items_of, next_version, now_of}
 use Rattle.versions_rule.specs.Records.{IsRecorded}
 use Rattle.versions_rule.specs.Versions.{ValuesHold}
 use Rattle.versions_rule.proofs.Excludes.{open_begun}
-use Rattle.versions_rule.proofs.ItemsIn.{IsTry, OfEntry, OfOpen, items_from}
+use Rattle.versions_rule.proofs.ItemsIn.{IsAttemptOf, OfEntry, OfOpen, items_from}
 use Rattle.versions_rule.proofs.Knowing.{last_least, knew_at}
 use Rattle.versions_rule.proofs.Newest.{newest_is}
 
@@ -32,7 +33,10 @@ module _ (good : List ℕ → Type 0) (n : ℕ) (base ws : List ℕ) (vs : List 
   caller : (id : ℕ) (v : View) → Knows vs id v → is_open v.phase ≡ true → IsSeat vs id v (number v)
   caller id v k busy = let c = q.calls.callers_alone id v k (open_begun v.phase busy) in
       let is : number v ≡ c.0 = ap (λ (l : List ℕ). slice_index l 0) c.1 in
-      record { knows = k; named = subst (λ (l : List ℕ). has (number v) l ≡ true) (sym c.1) (subst (λ (i : ℕ). has i (c.0 ∷ []) ≡ true) (sym is) (has-join_same c.0 [])) }
+      record {
+        knows = k;
+        named = subst (λ (l : List ℕ). has (number v) l ≡ true) (sym c.1) (subst (λ (i : ℕ). has i (c.0 ∷ []) ≡ true) (sym is) (has-join_same c.0 []));
+      }
 
   unjoined : (id : ℕ) (v : View) → Knows vs id v → is_open v.phase ≡ true → v.joined ≡ false
   unjoined id v k busy = let c = q.calls.callers_alone id v k (open_begun v.phase busy) in q.calls.alone_unjoined id c.0 v k c.1
@@ -40,14 +44,17 @@ module _ (good : List ℕ → Type 0) (n : ℕ) (base ws : List ℕ) (vs : List 
   -- an item that is an entry is that of an entry that was seen
   entry_of_item : (x : Item) → IsIn x (items_of vs) → x.entry ≡ true → (e : Entry) × IsRecorded vs e × (item_of_entry e ≡ x)
   entry_of_item x m t = ⊎_elim
-      (λ (o : OfEntry vs x). ⊎_elim (λ s. (o.entry, o.recorded, s)) (λ (s : IsTry o.entry.who o.entry.call o.entry.knew o.entry.abandoned x). absurd (let f : false ≡ true = ap (λ (y : Item). y.entry) s.is ∙ t in cc)) o.is)
+      (λ (o : OfEntry vs x). ⊎_elim (λ s. (o.entry, o.recorded, s))
+      (λ (s : IsAttemptOf o.entry.who o.entry.call o.entry.knew o.entry.abandoned x). absurd
+      (let f : false ≡ true = ap (λ (y : Item). y.entry) s.is ∙ t in cc)) o.is)
       (λ (o : OfOpen vs x). absurd (let f : false ≡ true = ap (λ (y : Item). y.entry) o.is.is ∙ t in cc))
       (items_from vs x m)
 
   -- what an item says of its call, as its entry or its view has it
   item_seat : (x : Item) → IsIn x (items_of vs) → x.who < n
   item_seat x m = ⊎_elim
-      (λ (o : OfEntry vs x). let who : o.entry.who ≡ x.who = ⊎_elim (λ s. ap (λ (y : Item). y.who) s) (λ (s : IsTry o.entry.who o.entry.call o.entry.knew o.entry.abandoned x). ap (λ (y : Item). y.who) s.is) o.is in
+      (λ (o : OfEntry vs x). let who : o.entry.who ≡ x.who = ⊎_elim (λ s. ap (λ (y : Item). y.who) s)
+      (λ (s : IsAttemptOf o.entry.who o.entry.call o.entry.knew o.entry.abandoned x). ap (λ (y : Item). y.who) s.is) o.is in
       let lt = q.records.by_seat o.entry o.recorded in omega arith)
       (λ (o : OfOpen vs x). let who : number o.view ≡ x.who = ap (λ (y : Item). y.who) o.is.is in
       let lt = h.numbers_below o.id (number o.view) o.view (caller o.id o.view o.knows o.is_open) in omega arith)
@@ -56,7 +63,8 @@ module _ (good : List ℕ → Type 0) (n : ℕ) (base ws : List ℕ) (vs : List 
   one_entry : (x y : Item) → IsIn x (items_of vs) → IsIn y (items_of vs) → x.entry ≡ true → y.entry ≡ true → x.who ≡ y.who → x.call ≡ y.call → x ≡ y
   one_entry x y m o t s who call =
       let a = entry_of_item x m t in let b = entry_of_item y o s in
-      let same = q.records.one a.0 b.0 a.1 b.1 (ap (λ (z : Item). z.who) a.2 ∙ who ∙ ap (λ (z : Item). z.who) (sym b.2)) (ap (λ (z : Item). z.call) a.2 ∙ call ∙ ap (λ (z : Item). z.call) (sym b.2)) in
+      let same = q.records.one a.0 b.0 a.1 b.1 (ap (λ (z : Item). z.who) a.2 ∙ who ∙ ap (λ (z : Item). z.who) (sym b.2))
+      (ap (λ (z : Item). z.call) a.2 ∙ call ∙ ap (λ (z : Item). z.call) (sym b.2)) in
       sym a.2 ∙ (ap item_of_entry same ∙ b.2)
 
   -- an item's pass had seen its caller's earlier entries
@@ -69,10 +77,12 @@ module _ (good : List ℕ → Type 0) (n : ℕ) (base ws : List ℕ) (vs : List 
       (λ (p : OfEntry vs y).
       let all : (p.entry.who ≡ y.who) × (p.entry.call ≡ y.call) × (p.entry.knew ≡ y.knew) = ⊎_elim
       (λ s. (ap (λ (z : Item). z.who) s, ap (λ (z : Item). z.call) s, ap (λ (z : Item). z.knew) s))
-      (λ (s : IsTry p.entry.who p.entry.call p.entry.knew p.entry.abandoned y). (ap (λ (z : Item). z.who) s.is, ap (λ (z : Item). z.call) s.is, ap (λ (z : Item). z.knew) s.is)) p.is in
+      (λ (s : IsAttemptOf p.entry.who p.entry.call p.entry.knew p.entry.abandoned y).
+      (ap (λ (z : Item). z.who) s.is, ap (λ (z : Item). z.call) s.is, ap (λ (z : Item). z.knew) s.is)) p.is in
       let lt : a.0.call < p.entry.call = (let c = all.1 in omega arith) in
       let k = q.records.knew_own p.entry a.0 p.recorded a.1 (a_who ∙ who ∙ sym all.0) lt in
-      subst (λ (i : ℕ). x.call ≤ slice_index y.knew i) a_who (subst (λ (l : List ℕ). x.call ≤ slice_index l a.0.who) all.2 (subst (λ (c : ℕ). c ≤ slice_index p.entry.knew a.0.who) a_call k)))
+      subst (λ (i : ℕ). x.call ≤ slice_index y.knew i) a_who
+      (subst (λ (l : List ℕ). x.call ≤ slice_index l a.0.who) all.2 (subst (λ (c : ℕ). c ≤ slice_index p.entry.knew a.0.who) a_call k)))
       (λ (p : OfOpen vs y).
       let seat = caller p.id p.view p.knows p.is_open in
       let y_who : number p.view ≡ y.who = ap (λ (z : Item). z.who) p.is.is in
@@ -82,15 +92,17 @@ module _ (good : List ℕ → Type 0) (n : ℕ) (base ws : List ℕ) (vs : List 
       let seats = h.seats_alike p.id (number p.view) p.view seat in
       let low = q.records.by_seat a.0 a.1 in
       let at = knew_at p.view.seats a.0.who p.view.seen (omega arith) in
-      subst (λ (i : ℕ). x.call ≤ slice_index y.knew i) a_who (subst (λ (l : List ℕ). x.call ≤ slice_index l a.0.who) (ap (λ (z : Item). z.knew) p.is.is) (omega arith)))
+      subst (λ (i : ℕ). x.call ≤ slice_index y.knew i) a_who
+      (subst (λ (l : List ℕ). x.call ≤ slice_index l a.0.who) (ap (λ (z : Item). z.knew) p.is.is) (omega arith)))
       (items_from vs y o)
 
   not_itself : (x : Item) → IsIn x (items_of vs) → x.entry ≡ true → slice_index x.knew x.who < x.call
   not_itself x m t = let a = entry_of_item x m t in subst (λ (y : Item). slice_index y.knew y.who < y.call) a.2 (q.records.not_itself a.0 a.1)
 
   -- an attempt comes before the entry of its call
-  tries_first : (x y : Item) → IsIn x (items_of vs) → IsIn y (items_of vs) → x.entry ≡ false → y.entry ≡ true → x.who ≡ y.who → x.call ≡ y.call → x.turn < y.turn
-  tries_first x y m o f t who call =
+  attempts_first : (x y : Item) → IsIn x (items_of vs) → IsIn y (items_of vs)
+      → x.entry ≡ false → y.entry ≡ true → x.who ≡ y.who → x.call ≡ y.call → x.turn < y.turn
+  attempts_first x y m o f t who call =
       let b = entry_of_item y o t in
       let b_who : b.0.who ≡ y.who = ap (λ (z : Item). z.who) b.2 in
       let b_call : b.0.call ≡ y.call = ap (λ (z : Item). z.call) b.2 in
@@ -98,8 +110,9 @@ module _ (good : List ℕ → Type 0) (n : ℕ) (base ws : List ℕ) (vs : List 
       ⊎_elim
       (λ (p : OfEntry vs x). ⊎_elim
       (λ s. absurd (let z : true ≡ false = ap (λ (z : Item). z.entry) s ∙ f in cc))
-      (λ (s : IsTry p.entry.who p.entry.call p.entry.knew p.entry.abandoned x).
-      let same = q.records.one p.entry b.0 p.recorded b.1 (ap (λ (z : Item). z.who) s.is ∙ who ∙ sym b_who) (ap (λ (z : Item). z.call) s.is ∙ call ∙ sym b_call) in
+      (λ (s : IsAttemptOf p.entry.who p.entry.call p.entry.knew p.entry.abandoned x).
+      let same = q.records.one p.entry b.0 p.recorded b.1 (ap (λ (z : Item). z.who) s.is
+      ∙ who ∙ sym b_who) (ap (λ (z : Item). z.call) s.is ∙ call ∙ sym b_call) in
       let lt = slice_get_within p.entry.abandoned s.turn s.attempt s.at in
       let turn : s.turn ≡ x.turn = ap (λ (z : Item). z.turn) s.is in
       let long : length p.entry.abandoned ≡ length b.0.abandoned = ap (λ (e : Entry). length e.abandoned) same in omega arith)
@@ -107,7 +120,8 @@ module _ (good : List ℕ → Type 0) (n : ℕ) (base ws : List ℕ) (vs : List 
       (λ (p : OfOpen vs x).
       let x_who : number p.view ≡ x.who = ap (λ (z : Item). z.who) p.is.is in
       let x_call : p.view.call ≡ x.call = ap (λ (z : Item). z.call) p.is.is in
-      absurd (let lt = q.calls.open_numbered p.id (number p.view) p.view b.0 (caller p.id p.view p.knows p.is_open) (unjoined p.id p.view p.knows p.is_open) p.is_open b.1 (b_who ∙ sym who ∙ sym x_who) in omega arith))
+      absurd (let lt = q.calls.open_numbered p.id (number p.view) p.view b.0 (caller p.id p.view p.knows p.is_open)
+      (unjoined p.id p.view p.knows p.is_open) p.is_open b.1 (b_who ∙ sym who ∙ sym x_who) in omega arith))
       (items_from vs x m)
 
   module _ (order : List Item) (arrangement : IsArrangement (items_of vs) order) where
@@ -119,7 +133,7 @@ module _ (good : List ℕ → Type 0) (n : ℕ) (base ws : List ℕ) (vs : List 
 
     place : (p : ℕ) (x : Item) → slice_get order p ≡ Some x → IsPlaced good n base order p x
     place p x e =
-        let l = is_legal good base (current n ws vs) (items_of vs) order q.items.coherent (arranged (items_of vs) order arrangement) p x e in
+        let l = is_legal good base (next_version n ws vs) (items_of vs) order q.items.agree (arranged (items_of vs) order arrangement) p x e in
         let mx : IsIn x (items_of vs) = (arrangement.same x).0 (p, e) in
         record {
           legal = l.0;
@@ -140,20 +154,20 @@ module _ (good : List ℕ → Type 0) (n : ℕ) (base ws : List ℕ) (vs : List 
           before_own = λ t y m u w c.
               let my : IsIn y (items_of vs) = (arrangement.same y).0 m in
               let ne : x ≡ y → ⊥ = λ s. let z : false ≡ true = sym t ∙ (ap (λ (i : Item). i.entry) s ∙ u) in cc in
-              (m.0, stands_before m.0 p y x m.1 e ne (inr (inl (sym w, sym c, tries_first x y mx my t u (sym w) (sym c)))), m.1);
+              (m.0, stands_before m.0 p y x m.1 e ne (inr (inl (sym w, sym c, attempts_first x y mx my t u (sym w) (sym c)))), m.1);
         }
 
     -- the replay has the newest values
     now_is : now_of n base ws vs ≡ replay_items base order
-    now_is = newest_is base (items_of vs) (current n ws vs) (replay_items base order) (length-replay_items base order)
-        (λ a lt. is_newest good base (current n ws vs) (items_of vs) order q.items.coherent (arranged (items_of vs) order arrangement) a lt)
+    now_is = newest_is base (items_of vs) (next_version n ws vs) (replay_items base order) (length-replay_items base order)
+        (λ a lt. is_newest good base (next_version n ws vs) (items_of vs) order q.items.agree (arranged (items_of vs) order arrangement) a lt)
 
     pub history : ((p : ℕ) (x : Item) → slice_get order p ≡ Some x → IsPlaced good n base order p x)
         × good (replay_items base order)
         × ((id : ℕ) (v : View) → Knows vs id v → is_attempt v.phase ≡ true → IsLegalTrace v.trace (replay_items base order))
     history = (
       place,
-      end_good good base (current n ws vs) (items_of vs) order q.items.coherent (arranged (items_of vs) order arrangement),
+      end_good good base (next_version n ws vs) (items_of vs) order q.items.agree (arranged (items_of vs) order arrangement),
       λ id v k busy. subst (λ (l : List ℕ). IsLegalTrace v.trace l) now_is (q.trace.legal id v k busy),
     )
 

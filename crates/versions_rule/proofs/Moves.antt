@@ -1,6 +1,7 @@
 -- What a step owes that adds no item, part by part, and that it then keeps the value invariant. One seat goes from the view
 -- v to w while the words go from ws to ws'. The parts on notes, values and traces are those of the rule with a counter.
-use Rattle.std.proofs.Common.{◌≡◌, ◌≢◌, ℕ, ◌<◌, true, ◌⊎◌, ⊎_elim, List, [], ◌∷◌, length, Option, Some, None, IsSome, slice_get, slice_index, slice_set, refl, sym, ap, ◌∙◌, subst, arith}
+use Rattle.std.proofs.Common.{◌≡◌, ◌≢◌, ℕ, ◌<◌, true, ◌⊎◌, ⊎_elim, List, [], ◌∷◌, length, Option, Some, None, IsSome, slice_index, slice_set, refl}
+use Rattle.std.proofs.Common.{sym, ap, ◌∙◌, subst, arith}
 use mathlib.Core.Logic.{dite}
 use native.Mathlib.Decide.{ℕ_discrete}
 use Rattle.history_model.specs.declared.item.Item.{Item}
@@ -18,11 +19,11 @@ use Rattle.history_model.proofs.LastEvents.{touched_by_last}
 use Rattle.history_model.proofs.Places.{same_view, put_here, put_there, put_cases}
 use Rattle.history_model.proofs.SetLemmas.{has-join_same}
 use Rattle.locks_rule.specs.Locks.{LocksHold, IsSeat}
-use Rattle.versions_rule.specs.History.{version_at, items_of, owed_by, current, now_of}
+use Rattle.versions_rule.specs.History.{version_at, items_of, owed_by, next_version, now_of}
 use Rattle.values_rule.specs.Values.{value_at, oldest, UndoRestores, TraceCurrent}
-use Rattle.versions_rule.specs.Records.{AreCauses, CallsShown}
+use Rattle.versions_rule.specs.Records.{AreCauses, CallsCounted}
 use Rattle.versions_rule.specs.Versions.{ValuesHold}
-use Rattle.versions_rule.proofs.Asides.{OwnTry, aside_drops}
+use Rattle.versions_rule.proofs.Asides.{OwnAttempt, aside_drops}
 use Rattle.versions_rule.proofs.Frames.{records_same, items_kept, now_kept}
 use Rattle.versions_rule.proofs.Owing.{owed_same}
 use Rattle.values_rule.proofs.Frames.{UndoMoves, TraceMoves, attempt_runs}
@@ -31,7 +32,8 @@ use Rattle.values_rule.proofs.Frames.{shut_out}
 -- uses and what is owed, where these are the versions
 pub record UsesMove (ws : List ℕ) (version : ℕ → ℕ) (v w : View) : Type 0 where
   pub owed : (k : ℕ) → has k w.owed ≡ has k v.owed
-  pub held : (k y : ℕ) → has k w.owed ≡ true → (v.phase ≡ Releasing) × HasWriteGrant v k × IsIn (k, y) v.uses → (w.phase ≡ Releasing) × HasWriteGrant w k × IsIn (k, y) w.uses
+  pub held : (k y : ℕ) → has k w.owed ≡ true → (v.phase ≡ Releasing) × HasWriteGrant v k × IsIn (k, y) v.uses
+      → (w.phase ≡ Releasing) × HasWriteGrant w k × IsIn (k, y) w.uses
   pub granted : (k y : ℕ) → is_attempt w.phase ≡ true → IsIn (k, y) w.uses → IsGranted w k × (y ≡ version k)
   pub once : (k y z : ℕ) → IsIn (k, y) w.uses → IsIn (k, z) w.uses → y ≡ z
   pub covered : (a : ℕ) → is_attempt w.phase ≡ true → Touches w.trace a → (y : ℕ) × IsIn (lock_of_word a, y) w.uses
@@ -42,15 +44,16 @@ pub record CallMoves (n : ℕ) (ws ws' : List ℕ) (vs : List View) (id : ℕ) (
   pub versions : (k : ℕ) → version_at n ws' k ≡ version_at n ws k
   pub who : w.who ≡ v.who
   pub seen : w.seen ≡ v.seen
-  pub calls : CallsShown n ws' (slice_set vs id w)
-  pub tries_to : (z : Item) → is_open w.phase ≡ true → OwnTry w z → (is_open v.phase ≡ true) × OwnTry v z
-  pub tries_from : (z : Item) → is_open v.phase ≡ true → OwnTry v z → (is_open w.phase ≡ true) × OwnTry w z
+  pub calls : CallsCounted n ws' (slice_set vs id w)
+  pub attempts_to : (z : Item) → is_open w.phase ≡ true → OwnAttempt w z → (is_open v.phase ≡ true) × OwnAttempt v z
+  pub attempts_from : (z : Item) → is_open v.phase ≡ true → OwnAttempt v z → (is_open w.phase ≡ true) × OwnAttempt w z
   pub floor : is_open w.phase ≡ true → w.floor ≡ length w.seen
   pub causes : (j : ℕ) → w.who ≡ j ∷ [] → w.phase ≢ Idle → AreCauses n j w.stamp w.floor w.abandoned
 
 module _ (good : List ℕ → Type 0) (n : ℕ) (base ws ws' : List ℕ) (vs : List View) (id : ℕ) (v w : View)
     (h : LocksHold n base ws vs) (q : ValuesHold good n base ws vs) (me : Knows vs id v)
-    (c : CallMoves n ws ws' vs id v w) (r : UsesMove ws (current n ws vs) v w) (undo : UndoMoves n base (now_of n base ws vs) ws ws' v w) (trace : TraceMoves n base (now_of n base ws vs) ws' w) where
+    (c : CallMoves n ws ws' vs id v w) (r : UsesMove ws (next_version n ws vs) v w) (undo : UndoMoves n base (now_of n base ws vs) ws ws' v w)
+    (trace : TraceMoves n base (now_of n base ws vs) ws' w) where
   abbrev vs' : List View
   vs' = slice_set vs id w
 
@@ -60,23 +63,29 @@ module _ (good : List ℕ → Type 0) (n : ℕ) (base ws ws' : List ℕ) (vs : L
   owed_is : (k : ℕ) → owed_by k vs' ≡ owed_by k vs
   owed_is k = owed_same k vs vs'
       (λ o. dite (ℕ_discrete o.id id)
-      (λ e. record { id = id; view = w; knows = put_here vs id v w me; owes = r.owed k ∙ subst (λ (u : View). has k u.owed ≡ true) (same_view vs id o.id v o.view me o.knows e) o.owes })
+      (λ e. record {
+        id = id;
+        view = w;
+        knows = put_here vs id v w me;
+        owes = r.owed k ∙ subst (λ (u : View). has k u.owed ≡ true) (same_view vs id o.id v o.view me o.knows e) o.owes;
+      })
       (λ ne. record { id = o.id; view = o.view; knows = put_there vs id o.id w o.view ne o.knows; owes = o.owes }))
       (λ o. ⊎_elim
       (λ t. record { id = id; view = v; knows = me; owes = sym (r.owed k) ∙ subst (λ (u : View). has k u.owed ≡ true) (sym t.1) o.owes })
       (λ t. record { id = o.id; view = o.view; knows = t.1; owes = o.owes }) (case o.id o.view o.knows))
 
-  current_is : (k : ℕ) → current n ws' vs' k ≡ current n ws vs k
+  current_is : (k : ℕ) → next_version n ws' vs' k ≡ next_version n ws vs k
   current_is k = let same : flag (owed_by k vs') ≡ flag (owed_by k vs) = ap flag (owed_is k) in let word = c.versions k in omega arith
 
   drops : Drops (λ z. true) (items_of vs) (items_of vs')
-  drops = aside_drops vs id v w me c.seen c.tries_to c.tries_from
+  drops = aside_drops vs id v w me c.seen c.attempts_to c.attempts_from
 
   now_is : now_of n base ws' vs' ≡ now_of n base ws vs
   now_is = now_kept good n base ws ws' vs vs' (λ z. true) (λ z m e. refl) drops current_is q.items
 
   -- a word that no view notes now: no view noted it before, or the step left its value
-  was_free : (a : ℕ) → oldest a v.undo ≡ None → ((other : ℕ) (u : View) → Knows (slice_set vs id w) other u → oldest a u.undo ≡ None) → (other : ℕ) (u : View) → Knows vs other u → oldest a u.undo ≡ None
+  was_free : (a : ℕ) → oldest a v.undo ≡ None → ((other : ℕ) (u : View) → Knows (slice_set vs id w) other u → oldest a u.undo ≡ None)
+      → (other : ℕ) (u : View) → Knows vs other u → oldest a u.undo ≡ None
   was_free a mine free other u e = dite (ℕ_discrete other id)
       (λ same. subst (λ (x : View). oldest a x.undo ≡ None) (sym (same_view vs id other v u me e same)) mine)
       (λ ne. free other u (put_there vs id other w u ne e))
@@ -84,7 +93,8 @@ module _ (good : List ℕ → Type 0) (n : ℕ) (base ws ws' : List ℕ) (vs : L
   undo_at : UndoRestores n base (now_of n base ws vs) ws' vs'
   undo_at = record {
     noted = λ other a o u k t. ⊎_elim
-        (λ z. let d = undo.noted a o (subst (λ (x : View). oldest a x.undo ≡ Some o) (sym z.1) t) in (d.0, subst (λ (x : View). HasWriteGrant x (lock_of_word a)) z.1 d.1, d.2))
+        (λ z. let d = undo.noted a o (subst (λ (x : View). oldest a x.undo ≡ Some o) (sym z.1) t) in
+        (d.0, subst (λ (x : View). HasWriteGrant x (lock_of_word a)) z.1 d.1, d.2))
         (λ z. q.undo.noted other a o u z.1 t) (case other u k);
     unnoted = λ a lt free. ⊎_elim
         (λ (z : (oldest a v.undo ≡ None) × (value_at n ws' a ≡ value_at n ws a)). q.undo.unnoted a lt (was_free a z.0 free) ∙ ap (λ (x : ℕ). Some x) (sym z.1))
@@ -92,29 +102,41 @@ module _ (good : List ℕ → Type 0) (n : ℕ) (base ws ws' : List ℕ) (vs : L
   }
 
   -- a word of another running seat stays
-  others_value : (other a x : ℕ) (u : View) → other ≢ id → Knows vs other u → u.phase ≡ Running → (a < length base) × IsGranted u (lock_of_word a) → value_at n ws a ≡ x → value_at n ws' a ≡ x
+  others_value : (other a x : ℕ) (u : View) → other ≢ id → Knows vs other u → u.phase ≡ Running
+      → (a < length base) × IsGranted u (lock_of_word a) → value_at n ws a ≡ x → value_at n ws' a ≡ x
   others_value other a x u ne k runs g is =
       let single = q.calls.callers_alone other u k (λ idle. let z : Running ≡ Idle = sym runs ∙ idle in cc) in
-      let seat : IsSeat vs other u single.0 = record { knows = k; named = subst (λ (l : List ℕ). has single.0 l ≡ true) (sym single.1) (has-join_same single.0 []) } in
+      let seat : IsSeat vs other u single.0 = record {
+        knows = k;
+        named = subst (λ (l : List ℕ). has single.0 l ≡ true) (sym single.1) (has-join_same single.0 []);
+      } in
       undo.foreign a g.0 (λ writer. shut_out n base ws vs id other single.0 (lock_of_word a) v u h ne me seat g.1 writer) ∙ is
 
   trace_at : TraceCurrent n base (now_of n base ws vs) ws' vs'
   trace_at = record {
     granted = λ other a u k busy t. ⊎_elim
-        (λ z. let d = trace.granted a (subst (λ (x : View). is_attempt x.phase ≡ true) (sym z.1) busy) (subst (λ (x : View). Touches x.trace a) (sym z.1) t) in (d.0, subst (λ (x : View). IsGranted x (lock_of_word a)) z.1 d.1))
+        (λ z. let d = trace.granted a (subst (λ (x : View). is_attempt x.phase ≡ true) (sym z.1) busy)
+        (subst (λ (x : View). Touches x.trace a) (sym z.1) t) in (d.0, subst (λ (x : View). IsGranted x (lock_of_word a)) z.1 d.1))
         (λ z. q.trace.granted other a u z.1 busy t) (case other u k);
     legal = λ other u k busy. ⊎_elim
-        (λ z. subst (λ (x : View). IsLegalTrace x.trace (now_of n base ws vs)) z.1 (trace.legal (subst (λ (x : View). is_attempt x.phase ≡ true) (sym z.1) busy)))
+        (λ z. subst (λ (x : View). IsLegalTrace x.trace (now_of n base ws vs)) z.1
+        (trace.legal (subst (λ (x : View). is_attempt x.phase ≡ true) (sym z.1) busy)))
         (λ z. q.trace.legal other u z.1 busy) (case other u k);
     undo_written = λ other a o u k busy t. ⊎_elim
-        (λ z. subst (λ (x : View). Writes x.trace a) z.1 (trace.undo_written a o (subst (λ (x : View). is_attempt x.phase ≡ true) (sym z.1) busy) (subst (λ (x : View). oldest a x.undo ≡ Some o) (sym z.1) t)))
+        (λ z. subst (λ (x : View). Writes x.trace a) z.1
+        (trace.undo_written a o (subst (λ (x : View). is_attempt x.phase ≡ true) (sym z.1) busy)
+        (subst (λ (x : View). oldest a x.undo ≡ Some o) (sym z.1) t)))
         (λ z. q.trace.undo_written other a o u z.1 busy t) (case other u k);
     written_noted = λ other a u k runs t. ⊎_elim
-        (λ z. subst (λ (x : View). IsSome (oldest a x.undo)) z.1 (trace.written_noted a (subst (λ (x : View). x.phase ≡ Running) (sym z.1) runs) (subst (λ (x : View). Writes x.trace a) (sym z.1) t)))
+        (λ z. subst (λ (x : View). IsSome (oldest a x.undo)) z.1
+        (trace.written_noted a (subst (λ (x : View). x.phase ≡ Running) (sym z.1) runs) (subst (λ (x : View). Writes x.trace a) (sym z.1) t)))
         (λ z. q.trace.written_noted other a u z.1 runs t) (case other u k);
     last_stands = λ other a x u k runs t. ⊎_elim
-        (λ z. trace.last_stands a x (subst (λ (y : View). y.phase ≡ Running) (sym z.1) runs) (subst (λ (y : View). value_after y.trace a None ≡ Some x) (sym z.1) t))
-        (λ z. others_value other a x u z.0 z.1 runs (q.trace.granted other a u z.1 (attempt_runs u runs) (touched_by_last u.trace a (subst (λ (o : Option ℕ). IsSome o) (sym t) refl))) (q.trace.last_stands other a x u z.1 runs t)) (case other u k);
+        (λ z. trace.last_stands a x (subst (λ (y : View). y.phase ≡ Running) (sym z.1) runs)
+        (subst (λ (y : View). value_after y.trace a None ≡ Some x) (sym z.1) t))
+        (λ z. others_value other a x u z.0 z.1 runs
+        (q.trace.granted other a u z.1 (attempt_runs u runs) (touched_by_last u.trace a (subst (λ (o : Option ℕ). IsSome o) (sym t) refl)))
+        (q.trace.last_stands other a x u z.1 runs t)) (case other u k);
     rested = λ other u k t. ⊎_elim
         (λ z. subst (λ (x : View). x.undo ≡ []) z.1 (trace.rested (subst (λ (x : View). (x.phase ≡ Idle) ⊎ (x.phase ≡ Releasing)) (sym z.1) t)))
         (λ z. q.trace.rested other u z.1 t) (case other u k);
@@ -144,15 +166,19 @@ module _ (good : List ℕ → Type 0) (n : ℕ) (base ws ws' : List ℕ) (vs : L
           (λ z. r.once k y x (subst (λ (l : View). IsIn (k, y) l.uses) (sym z.1) s) (subst (λ (l : View). IsIn (k, x) l.uses) (sym z.1) t))
           (λ z. q.uses.once other k y x u z.1 s t) (case other u known);
       covered = λ other a u known b t. ⊎_elim
-          (λ z. subst (λ (x : View). (y : ℕ) × IsIn (lock_of_word a, y) x.uses) z.1 (r.covered a (subst (λ (x : View). is_attempt x.phase ≡ true) (sym z.1) b) (subst (λ (x : View). Touches x.trace a) (sym z.1) t)))
+          (λ z. subst (λ (x : View). (y : ℕ) × IsIn (lock_of_word a, y) x.uses) z.1
+          (r.covered a (subst (λ (x : View). is_attempt x.phase ≡ true) (sym z.1) b) (subst (λ (x : View). Touches x.trace a) (sym z.1) t)))
           (λ z. q.uses.covered other a u z.1 b t) (case other u known);
     };
     undo = subst (λ (l : List ℕ). UndoRestores n base l ws' vs') (sym now_is) undo_at;
     trace = subst (λ (l : List ℕ). TraceCurrent n base l ws' vs') (sym now_is) trace_at;
     floor = record {
-      floor = λ other u known b. ⊎_elim (λ z. subst (λ (x : View). x.floor ≡ length x.seen) z.1 (c.floor (subst (λ (x : View). is_open x.phase ≡ true) (sym z.1) b))) (λ z. q.floor.floor other u z.1 b) (case other u known);
+      floor = λ other u known b. ⊎_elim
+          (λ z. subst (λ (x : View). x.floor ≡ length x.seen) z.1 (c.floor (subst (λ (x : View). is_open x.phase ≡ true) (sym z.1) b)))
+          (λ z. q.floor.floor other u z.1 b) (case other u known);
       causes = λ other i u known one busy. ⊎_elim
-          (λ z. subst (λ (x : View). AreCauses n i x.stamp x.floor x.abandoned) z.1 (c.causes i (ap (λ (x : View). x.who) z.1 ∙ one) (subst (λ (x : View). x.phase ≢ Idle) (sym z.1) busy)))
+          (λ z. subst (λ (x : View). AreCauses n i x.stamp x.floor x.abandoned) z.1
+          (c.causes i (ap (λ (x : View). x.who) z.1 ∙ one) (subst (λ (x : View). x.phase ≢ Idle) (sym z.1) busy)))
           (λ z. q.floor.causes other i u z.1 one busy) (case other u known);
     };
   }

@@ -16,7 +16,7 @@ use Rattle.history_model.specs.Undoing.{Notes}
 use Rattle.history_model.proofs.ItemValues.{value_at-first}
 use Rattle.history_model.proofs.SetLemmas.{differ, has-nil, bool_cases}
 use Rattle.locks_rule.specs.Locks.{LocksHold}
-use Rattle.versions_rule.specs.History.{last_call, items_of, version_at, owed_by, current, now_of}
+use Rattle.versions_rule.specs.History.{last_call, items_of, version_at, owed_by, next_version, now_of}
 use Rattle.values_rule.specs.Values.{value_at, oldest}
 use Rattle.versions_rule.specs.Opening.{IsUntouched, OpeningHolds}
 use Rattle.versions_rule.specs.Records.{IsRecorded}
@@ -31,7 +31,8 @@ last-nil : (j : ℕ) → last_call j [] ≡ 0
 unfolding last_call
 last-nil j = refl
 
-module _ (good : List ℕ → Type 0) (n : ℕ) (base ws : List ℕ) (vs : List View) (h : LocksHold n base ws vs) (begun : good base) (t : IsUntouched n base ws vs) where
+module _ (good : List ℕ → Type 0) (n : ℕ) (base ws : List ℕ) (vs : List View) (h : LocksHold n base ws vs) (begun : good base)
+    (t : IsUntouched n base ws vs) where
   unrecorded : {A : Type 0} (e : Entry) → IsRecorded vs e → A
   unrecorded e r = absurd (none_in e (subst (λ (l : List Entry). IsIn e l) (t.unused r.id r.view r.knows).seen r.seen))
 
@@ -45,7 +46,8 @@ module _ (good : List ℕ → Type 0) (n : ℕ) (base ws : List ℕ) (vs : List 
   not_attempt id v k busy = absurd (let f : true ≡ false = sym busy ∙ ap is_attempt (t.unused id v k).phase in cc)
 
   no_item : {A : Type 0} (z : Item) → IsIn z (items_of vs) → A
-  no_item z m = absurd (⊎_elim (λ (o : OfEntry vs z). unrecorded o.entry o.recorded) (λ (o : OfOpen vs z). not_open o.id o.view o.knows o.is_open) (items_from vs z m))
+  no_item z m = absurd (⊎_elim (λ (o : OfEntry vs z). unrecorded o.entry o.recorded)
+      (λ (o : OfOpen vs z). not_open o.id o.view o.knows o.is_open) (items_from vs z m))
 
   owes_none : (id k : ℕ) (v : View) → Knows vs id v → has k v.owed ≡ true → ⊥
   owes_none id k v known s = differ (has k []) (subst (λ (l : List ℕ). has k l ≡ true) (t.unused id v known).owed s) (has-nil k)
@@ -56,14 +58,15 @@ module _ (good : List ℕ → Type 0) (n : ℕ) (base ws : List ℕ) (vs : List 
       (λ (e : nat_lt k LOCKS ≡ false). rw e refl)
       (bool_cases (nat_lt k LOCKS))
 
-  current_none : (k : ℕ) → current n ws vs k ≡ 0
-  current_none k = let none : flag (owed_by k vs) ≡ 0 = ap flag (not_owed k vs (λ other u known s. owes_none other k u known s)) in let word = version_none k in omega arith
+  current_none : (k : ℕ) → next_version n ws vs k ≡ 0
+  current_none k = let none : flag (owed_by k vs) ≡ 0 = ap flag (not_owed k vs (λ other u known s. owes_none other k u known s)) in
+      let word = version_none k in omega arith
 
   no_note : {A : Type 0} (id a o : ℕ) (v : View) → Knows vs id v → oldest a v.undo ≡ Some o → A
   no_note id a o v k s = absurd (let z : None ≡ Some o = sym (oldest-nil a) ∙ (ap (λ (l : Notes). oldest a l) (sym (t.unused id v k).undo) ∙ s) in cc)
 
   now_is : (a : ℕ) → a < length base → slice_get (now_of n base ws vs) a ≡ Some (value_at n ws a)
-  now_is a lt = newest-at base (items_of vs) (current n ws vs) a lt
+  now_is a lt = newest-at base (items_of vs) (next_version n ws vs) a lt
       ∙ (ap (λ (m : ℕ). Some (value_by_version base (items_of vs) a m)) (current_none (lock_of_word a))
       ∙ (sym (value_at-first base (items_of vs) a lt) ∙ t.values a lt))
 
@@ -89,13 +92,14 @@ module _ (good : List ℕ → Type 0) (n : ℕ) (base ws : List ℕ) (vs : List 
       dealers_fresh = λ id i j v s r ne un. (t.unused id v s.knows).call;
       calls_shown = λ id j v s un. t.calls j (h.numbers_below id j v s) ∙ sym (t.unused id v s.knows).call;
       calls_fit = λ j lt. let zero = t.calls j lt in omega arith;
-      commits_shown = λ id j v s un. t.commits j (h.numbers_below id j v s) ∙ sym (ap (λ (l : List Entry). last_call j l) (t.unused id v s.knows).seen ∙ last-nil j);
+      commits_shown = λ id j v s un. t.commits j (h.numbers_below id j v s)
+          ∙ sym (ap (λ (l : List Entry). last_call j l) (t.unused id v s.knows).seen ∙ last-nil j);
       numbered = λ id j v e s un r own. unrecorded e r;
       open_numbered = λ id j v e s un busy r own. unrecorded e r;
       begun = λ id v k busy. absurd (busy (t.unused id v k).phase);
     };
     items = record {
-      coherent = record {
+      agree = record {
         base_good = begun;
         formed = λ x m. no_item x m;
         below = λ x k v m u. no_item x m;

@@ -1,6 +1,6 @@
 -- Which locks are owed, and what a step of one view leaves of that.
-use Rattle.std.proofs.Common.{◌≡◌, ℕ, zero, suc, ◌<◌, ◌≤◌, Bool, true, false, ◌⊎◌, inl, inr, ⊎_elim, List, [], ◌∷◌, refl, sym, ap, ◌∙◌, arith}
-use Rattle.std.specs.Prelude.{◌||◌, slice_index, nat_lt, if◌then◌else◌}
+use Rattle.std.proofs.Common.{◌≡◌, ℕ, zero, suc, ◌<◌, ◌≤◌, true, false, ◌⊎◌, inl, inr, ⊎_elim, List, [], ◌∷◌, refl, sym, ap, ◌∙◌, arith}
+use Rattle.std.specs.Prelude.{slice_index, nat_lt, if◌then◌else◌}
 use Rattle.std.proofs.lemmas.Bool.{lt-ltb, le-ltb, or_cases, or_left, or_right}
 use mathlib.Core.Logic.{dite}
 use native.Mathlib.Decide.{dec_lt}
@@ -30,7 +30,8 @@ owed_from k (x ∷ vs) e = ⊎_elim
 pub owed_into : (k : ℕ) (vs : List View) (id : ℕ) (v : View) → Knows vs id v → has k v.owed ≡ true → owed_by k vs ≡ true
 unfolding owed_by
 owed_into k [] id v e t = absurd (some-ne-none v (sym e))
-owed_into k (x ∷ vs) zero v e t = let same : has k x.owed ≡ true = ap (λ (y : View). has k y.owed) (some-injective x v e) ∙ t in or_left (has k x.owed) (owed_by k vs) same
+owed_into k (x ∷ vs) zero v e t = let same : has k x.owed ≡ true = ap
+    (λ (y : View). has k y.owed) (some-injective x v e) ∙ t in or_left (has k x.owed) (owed_by k vs) same
 owed_into k (x ∷ vs) (suc id) v e t = or_right (has k x.owed) (owed_by k vs) (owed_into k vs id v e t)
 
 -- nobody owes it
@@ -48,7 +49,8 @@ near_cases : (k : ℕ) → ((nat_lt k LOCKS ≡ true) × (k < LOCKS)) ⊎ ((nat_
 near_cases k = dite (dec_lt k LOCKS) (λ l. inl (lt-ltb k LOCKS l, l)) (λ g. let far : LOCKS ≤ k = omega arith in inr (le-ltb k LOCKS far, far))
 
 -- where the words of VERSIONS stay, so do the versions
-pub version_kept : (n : ℕ) (ws ws' : List ℕ) → ((k : ℕ) → k < LOCKS → slice_index ws' (version_word n k) ≡ slice_index ws (version_word n k)) → (k : ℕ) → version_at n ws' k ≡ version_at n ws k
+pub version_kept : (n : ℕ) (ws ws' : List ℕ) → ((k : ℕ) → k < LOCKS → slice_index ws' (version_word n k) ≡ slice_index ws (version_word n k))
+    → (k : ℕ) → version_at n ws' k ≡ version_at n ws k
 version_kept n ws ws' stay k = ⊎_elim
     (λ t. rw (t.0) (stay k t.1))
     (λ t. rw (t.0) refl)
@@ -58,5 +60,6 @@ version_kept n ws ws' stay k = ⊎_elim
 pub version_is : (n : ℕ) (ws : List ℕ) (k : ℕ) → k < LOCKS → version_at n ws k ≡ slice_index ws (version_word n k)
 version_is n ws k near = rw (lt-ltb k LOCKS near) refl
 
-pub version_apart : (n : ℕ) (ws ws' : List ℕ) (k : ℕ) → slice_index ws' (version_word n k) ≡ slice_index ws (version_word n k) → version_at n ws' k ≡ version_at n ws k
+pub version_apart : (n : ℕ) (ws ws' : List ℕ) (k : ℕ)
+    → slice_index ws' (version_word n k) ≡ slice_index ws (version_word n k) → version_at n ws' k ≡ version_at n ws k
 version_apart n ws ws' k e = ap (λ (m : ℕ). if nat_lt k LOCKS then m else 0) e

@@ -20,7 +20,7 @@ use Rattle.versions_rule.proofs.Frames.{calls_same}
 use Rattle.values_rule.proofs.Members.{none_in}
 use Rattle.versions_rule.proofs.Moves.{moves}
 use Rattle.values_rule.proofs.Notes.{oldest-nil}
-use Rattle.versions_rule.proofs.Same.{same_try}
+use Rattle.versions_rule.proofs.Same.{same_attempt}
 use Rattle.values_rule.proofs.Asides.{fresh_trace}
 
 module _ (good : List ℕ → Type 0) (n : ℕ) (base ws ws' : List ℕ) (vs : List View) (id : ℕ) (v w : View)
@@ -38,18 +38,22 @@ module _ (good : List ℕ → Type 0) (n : ℕ) (base ws ws' : List ℕ) (vs : L
         versions = words.versions;
         who = s.who;
         seen = s.seen;
-        calls = calls_same vs id v w me s.seen n ws ws' s.who s.joined s.call s.begun opened words.calls words.commits (λ i u other t. h.numbers_below other i u t) q.calls;
-        tries_to = λ z p t. (opened p, same_try v w s.who s.seats s.seen s.call s.abandoned z t);
-        tries_from = λ z p t. (s.as_open ∙ p, same_try w v (sym s.who) (sym s.seats) (sym s.seen) (sym s.call) (sym s.abandoned) z t);
+        calls = calls_same vs id v w me s.seen n ws ws' s.who s.joined s.call s.begun opened words.calls words.commits
+            (λ i u other t. h.numbers_below other i u t) q.calls;
+        attempts_to = λ z p t. (opened p, same_attempt v w s.who s.seats s.seen s.call s.abandoned z t);
+        attempts_from = λ z p t. (s.as_open ∙ p, same_attempt w v (sym s.who) (sym s.seats) (sym s.seen) (sym s.call) (sym s.abandoned) z t);
         floor = λ p. s.floor ∙ (q.floor.floor id v me (opened p) ∙ ap (λ (l : List Entry). length l) (sym s.seen));
-        causes = λ j one busy. subst (λ (m : ℕ). AreCauses n j m w.floor w.abandoned) (sym (s.stamp busy)) (subst (λ (m : ℕ). AreCauses n j v.stamp m w.abandoned) (sym s.floor) (subst (λ (l : List Abandoned). AreCauses n j v.stamp v.floor l) (sym s.abandoned)
+        causes = λ j one busy. subst (λ (m : ℕ). AreCauses n j m w.floor w.abandoned) (sym (s.stamp busy))
+            (subst (λ (m : ℕ). AreCauses n j v.stamp m w.abandoned) (sym s.floor)
+            (subst (λ (l : List Abandoned). AreCauses n j v.stamp v.floor l) (sym s.abandoned)
             (q.floor.causes id j v me (sym s.who ∙ one) (s.begun busy))));
       })
       (record {
         owed = λ k. ap (λ (l : List ℕ). has k l) s.owed;
         held = λ k y t p. let d = s.held k t (p.0, p.1) in (d.0, d.1, subst (λ (l : List (ℕ × ℕ)). IsIn (k, y) l) (sym s.uses) p.2);
         granted = λ k y b m. no_attempt b;
-        once = λ k y z a b. q.uses.once id k y z v me (subst (λ (l : List (ℕ × ℕ)). IsIn (k, y) l) s.uses a) (subst (λ (l : List (ℕ × ℕ)). IsIn (k, z) l) s.uses b);
+        once = λ k y z a b. q.uses.once id k y z v me (subst (λ (l : List (ℕ × ℕ)). IsIn (k, y) l) s.uses a)
+            (subst (λ (l : List (ℕ × ℕ)). IsIn (k, z) l) s.uses b);
         covered = λ a b t. no_attempt b;
       })
       (record {
@@ -79,9 +83,10 @@ restart_values good n base ws vs id v h q me yields undone =
       versions = λ k. refl;
       who = refl;
       seen = refl;
-      calls = calls_same vs id v w me refl n ws ws refl refl refl (λ b. open_begun v.phase was_open) (λ p. was_open) (λ i lt. refl) (λ i lt. refl) (λ i u other t. h.numbers_below other i u t) q.calls;
-      tries_to = λ z p t. (was_open, t);
-      tries_from = λ z p t. (refl, t);
+      calls = calls_same vs id v w me refl n ws ws refl refl refl (λ b. open_begun v.phase was_open)
+          (λ p. was_open) (λ i lt. refl) (λ i lt. refl) (λ i u other t. h.numbers_below other i u t) q.calls;
+      attempts_to = λ z p t. (was_open, t);
+      attempts_from = λ z p t. (refl, t);
       floor = λ p. q.floor.floor id v me was_open;
       causes = λ j one busy. q.floor.causes id j v me one (open_begun v.phase was_open);
     })

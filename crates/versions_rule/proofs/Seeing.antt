@@ -20,11 +20,11 @@ use Rattle.history_model.proofs.TraceAgree.{legal_agree}
 use Rattle.history_model.specs.Arrangements.{ComesLast}
 use Rattle.locks_rule.specs.Locks.{LocksHold}
 use Rattle.locks_rule.proofs.Own.{Own, own, own_number}
-use Rattle.versions_rule.specs.History.{last_call, knew_of, uses_of, items_of, owed_by, current, now_of, writes_lock}
+use Rattle.versions_rule.specs.History.{last_call, knew_of, uses_of, items_of, owed_by, next_version, now_of, writes_lock}
 use Rattle.versions_rule.specs.Records.{IsRecorded}
 use Rattle.versions_rule.specs.Versions.{ValuesHold}
 use Rattle.versions_rule.proofs.Excludes.{attempt_open, open_begun, not_released}
-use Rattle.versions_rule.proofs.ItemsIn.{IsTry, OfEntry, OfOpen, items_from}
+use Rattle.versions_rule.proofs.ItemsIn.{IsAttemptOf, OfEntry, OfOpen, items_from}
 use Rattle.versions_rule.proofs.Knowing.{last_is, knew_at, knew_past}
 use Rattle.versions_rule.proofs.Newest.{newest-at, length-newest}
 use Rattle.versions_rule.proofs.Owing.{not_owed}
@@ -63,7 +63,8 @@ module _ (good : List ℕ → Type 0) (n : ℕ) (base ws : List ℕ) (vs : List 
 
     pub last_less : (u : View) (other : ℕ) → Knows vs other u → last_call j u.seen < v.call
     last_less u other k = dite (dec_lt 0 (last_call j u.seen))
-        (λ some. let y = last_is j u.seen some in let lt = earlier y.0 (record { id = other; view = u; knows = k; seen = y.1 }) y.2 in let same = y.3 in omega arith)
+        (λ some. let y = last_is j u.seen some in
+        let lt = earlier y.0 (record { id = other; view = u; knows = k; seen = y.1 }) y.2 in let same = y.3 in omega arith)
         (λ none. let some = called in omega arith)
 
     pub knew_less : (y : Entry) → IsRecorded vs y → slice_index y.knew j < v.call
@@ -80,7 +81,9 @@ module _ (good : List ℕ → Type 0) (n : ℕ) (base ws : List ℕ) (vs : List 
     pub item_newest : (y : Item) → IsIn y (items_of vs) → y.who ≡ j → y.call ≡ v.call → y.turn < length v.abandoned
     item_newest y m who call = ⊎_elim
         (λ (o : OfEntry vs y). absurd (
-        let both : (o.entry.who ≡ y.who) × (o.entry.call ≡ y.call) = ⊎_elim (λ e. (ap (λ (z : Item). z.who) e, ap (λ (z : Item). z.call) e)) (λ (t : IsTry o.entry.who o.entry.call o.entry.knew o.entry.abandoned y). (ap (λ (z : Item). z.who) t.is, ap (λ (z : Item). z.call) t.is)) o.is in
+        let both : (o.entry.who ≡ y.who) × (o.entry.call ≡ y.call) = ⊎_elim (λ e. (ap (λ (z : Item). z.who) e, ap (λ (z : Item). z.call) e))
+        (λ (t : IsAttemptOf o.entry.who o.entry.call o.entry.knew o.entry.abandoned y).
+        (ap (λ (z : Item). z.who) t.is, ap (λ (z : Item). z.call) t.is)) o.is in
         let lt = earlier o.entry o.recorded (both.0 ∙ who) in let same = both.1 in omega arith))
         (λ (o : OfOpen vs y).
         let who_is : number o.view ≡ y.who = ap (λ (z : Item). z.who) o.is.is in
@@ -95,7 +98,8 @@ module _ (good : List ℕ → Type 0) (n : ℕ) (base ws : List ℕ) (vs : List 
     pub item_unknown : (y : Item) → IsIn y (items_of vs) → slice_index y.knew j < v.call
     item_unknown y m = ⊎_elim
         (λ (o : OfEntry vs y).
-        let same : o.entry.knew ≡ y.knew = ⊎_elim (λ e. ap (λ (z : Item). z.knew) e) (λ (t : IsTry o.entry.who o.entry.call o.entry.knew o.entry.abandoned y). ap (λ (z : Item). z.knew) t.is) o.is in
+        let same : o.entry.knew ≡ y.knew = ⊎_elim (λ e. ap (λ (z : Item). z.knew) e)
+        (λ (t : IsAttemptOf o.entry.who o.entry.call o.entry.knew o.entry.abandoned y). ap (λ (z : Item). z.knew) t.is) o.is in
         subst (λ (l : List ℕ). slice_index l j < v.call) same (knew_less o.entry o.recorded))
         (λ (o : OfOpen vs y).
         subst (λ (l : List ℕ). slice_index l j < v.call) (ap (λ (z : Item). z.knew) o.is.is) (seen_less o.view o.id o.knows))
@@ -111,22 +115,29 @@ module _ (good : List ℕ → Type 0) (n : ℕ) (base ws : List ℕ) (vs : List 
     -- its trace is legal on every list with the values that it used
     pub legal_on_values : (x : Item) (kept : Bool) → x.trace ≡ v.trace → x.uses ≡ uses_of kept v.trace v.uses → LegalOnValues base (items_of vs) x
     legal_on_values x kept trace uses s long has_values = subst (λ (t : _). IsLegalTrace t s) (sym trace)
-        (legal_agree v.trace (now_of n base ws vs) s (length-newest base (items_of vs) (current n ws vs) ∙ sym long)
+        (legal_agree v.trace (now_of n base ws vs) s (length-newest base (items_of vs) (next_version n ws vs) ∙ sym long)
         (λ a t.
         let c = q.uses.covered id a v me busy t in
         let low = (q.trace.granted id a v me busy t).0 in
         let now_is = (q.uses.granted id (lock_of_word a) c.0 v me busy c.1).1 in
-        let used : Uses x (lock_of_word a) c.0 (kept && writes_lock (lock_of_word a) v.trace) = subst (λ (us : _). (i : ℕ) × (slice_get us i ≡ Some (record { lock = lock_of_word a; version = c.0; wrote = kept && writes_lock (lock_of_word a) v.trace }))) (sym uses) (found_use kept v.trace v.uses (lock_of_word a) c.0 c.1) in
-        newest-at base (items_of vs) (current n ws vs) a low
-        ∙ (ap (λ (w : ℕ). Some (value_at base (items_of vs) a w)) (sym now_is) ∙ sym (has_values a c.0 (kept && writes_lock (lock_of_word a) v.trace) low used)))
+        let used : Uses x (lock_of_word a) c.0 (kept && writes_lock (lock_of_word a) v.trace) = subst
+        (λ (us : _). (i : ℕ) × (slice_get us i ≡ Some (record {
+          lock = lock_of_word a;
+          version = c.0;
+          wrote = kept && writes_lock (lock_of_word a) v.trace;
+        }))) (sym uses) (found_use kept v.trace v.uses (lock_of_word a) c.0 c.1) in
+        newest-at base (items_of vs) (next_version n ws vs) a low
+        ∙ (ap (λ (w : ℕ). Some (value_at base (items_of vs) a w)) (sym now_is)
+        ∙ sym (has_values a c.0 (kept && writes_lock (lock_of_word a) v.trace) low used)))
         (q.trace.legal id v me busy))
 
     -- an item of this attempt comes last
     pub comes_last : (x : Item) (kept : Bool) → x.who ≡ j → x.call ≡ v.call → x.turn ≡ length v.abandoned → x.uses ≡ uses_of kept v.trace v.uses
-        → ComesLast (current n ws vs) (items_of vs) x
+        → ComesLast (next_version n ws vs) (items_of vs) x
     comes_last x kept who call turn uses = record {
       current = λ k y b u.
-          let f = use_found kept v.trace v.uses k y b (subst (λ (us : _). (i : ℕ) × (slice_get us i ≡ Some (record { lock = k; version = y; wrote = b }))) uses u) in
+          let f = use_found kept v.trace v.uses k y b
+          (subst (λ (us : _). (i : ℕ) × (slice_get us i ≡ Some (record { lock = k; version = y; wrote = b }))) uses u) in
           (q.uses.granted id k y v me busy f.0).1;
       newest = λ y m w c. let lt = item_newest (attempt_open v.phase busy) y m (w ∙ who) (c ∙ call) in omega arith;
       unseen = λ y m e. let lt = item_unknown (attempt_open v.phase busy) y m in subst (λ (i : ℕ). slice_index y.knew i < x.call) (sym who) (omega arith);

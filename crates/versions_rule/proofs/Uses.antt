@@ -1,5 +1,6 @@
 -- The uses of an attempt, and the item that they make.
-use Rattle.std.proofs.Common.{◌≡◌, ℕ, zero, suc, Bool, true, false, ◌&&◌, ◌||◌, ⊎_elim, List, [], ◌∷◌, map, Some, slice_get, refl, sym, ap, ◌∙◌, subst, eq-eqb, ne_eqb}
+use Rattle.std.proofs.Common.{◌≡◌, ℕ, zero, suc, Bool, true, false, ◌&&◌, ◌||◌, ⊎_elim, List, [], ◌∷◌, map, Some, slice_get, refl, sym, ap, ◌∙◌, subst, eq-eqb}
+use Rattle.std.proofs.Common.{ne_eqb}
 use Rattle.std.specs.Prelude.{◌==◌}
 use mathlib.Core.Logic.{dite}
 use native.Mathlib.Decide.{ℕ_discrete}
@@ -36,7 +37,8 @@ written_lock k a t q w = at t w.0 w.1 w.2
     at [] i v e = cc
     at (Read b w ∷ t) zero v e = cc
     at (Read b w ∷ t) (suc i) v e = at t i v e
-    at (Write b w ∷ t) zero v e = let s : b ≡ a = cc in let z : lock_of_word b ≡ k = ap (λ (n : ℕ). lock_of_word n) s ∙ q in rw (eq-eqb (lock_of_word b) k z) refl
+    at (Write b w ∷ t) zero v e = let s : b ≡ a = cc in
+        let z : lock_of_word b ≡ k = ap (λ (n : ℕ). lock_of_word n) s ∙ q in rw (eq-eqb (lock_of_word b) k z) refl
     at (Write b w ∷ t) (suc i) v e = elim (lock_of_word b == k) as (λ (c : Bool). (c || writes_lock k t) ≡ true) [ true ↦ refl | false ↦ at t i v e ]
 
 map_at : {A B : Type 0} (f : A → B) (xs : List A) (i : ℕ) (y : B) → slice_get (map f xs) i ≡ Some y → (x : A) × (slice_get xs i ≡ Some x) × (f x ≡ y)
@@ -53,7 +55,8 @@ pair_is : (p : ℕ × ℕ) (k v : ℕ) → p.0 ≡ k → p.1 ≡ v → p ≡ (k,
 pair_is p k v l w = rw (← l, ← w) refl
 
 -- a use was found, and says whether it wrote
-pub use_found : (kept : Bool) (trace : Trace) (found : List (ℕ × ℕ)) (k v : ℕ) (b : Bool) → HasUse (uses_of kept trace found) k v b → IsIn (k, v) found × (b ≡ (kept && writes_lock k trace))
+pub use_found : (kept : Bool) (trace : Trace) (found : List (ℕ × ℕ)) (k v : ℕ) (b : Bool)
+    → HasUse (uses_of kept trace found) k v b → IsIn (k, v) found × (b ≡ (kept && writes_lock k trace))
 use_found kept trace found k v b m =
     let r = map_at (use_of kept trace) found m.0 (record { lock = k; version = v; wrote = b }) m.1 in
     let l : r.0.0 ≡ k = ap (λ (u : LockUse). u.lock) r.2 in
@@ -62,7 +65,8 @@ use_found kept trace found k v b m =
     let p : r.0 ≡ (k, v) = pair_is r.0 k v l w in
     ((m.0, r.1 ∙ ap Some p), sym t ∙ ap (λ (n : ℕ). kept && writes_lock n trace) l)
 
-pub found_use : (kept : Bool) (trace : Trace) (found : List (ℕ × ℕ)) (k v : ℕ) → IsIn (k, v) found → HasUse (uses_of kept trace found) k v (kept && writes_lock k trace)
+pub found_use : (kept : Bool) (trace : Trace) (found : List (ℕ × ℕ)) (k v : ℕ)
+    → IsIn (k, v) found → HasUse (uses_of kept trace found) k v (kept && writes_lock k trace)
 found_use kept trace found k v m = (m.0, at_map (use_of kept trace) found m.0 (k, v) m.1)
 
 -- uses that were found once each and cover the trace make an item

@@ -1,5 +1,6 @@
 -- A load, a store and its undoing keep the value invariant.
-use Rattle.std.proofs.Common.{◌≡◌, ◌≢◌, ℕ, ◌-◌, ◌<◌, true, false, ◌⊎◌, inl, inr, ⊎_elim, List, [], ◌∷◌, ◌++◌, length, take, Option, Some, None, IsSome, unwrap_or, slice_get, slice_index, slice_set, refl, sym, ap, ◌∙◌, subst, arith, get_or-set_other, get_or-set_same}
+use Rattle.std.proofs.Common.{◌≡◌, ◌≢◌, ℕ, ◌-◌, ◌<◌, true, ◌⊎◌, inl, inr, ⊎_elim, List, [], ◌∷◌, ◌++◌, length, take, Option, Some, None, IsSome}
+use Rattle.std.proofs.Common.{unwrap_or, slice_get, slice_index, slice_set, refl, sym, ap, ◌∙◌, subst, arith, get_or-set_other}
 use mathlib.Core.Logic.{dite}
 use native.Mathlib.Decide.{ℕ_discrete}
 use Rattle.std.proofs.lemmas.Option.{same_Some}
@@ -13,11 +14,12 @@ use Rattle.history_model.specs.Table.{Knows, serial_word, calls_word, commits_wo
 use Rattle.history_model.specs.Traces.{Trace, after, Writes, Touches, value_after}
 use Rattle.history_model.specs.Undoing.{Notes}
 use Rattle.history_model.specs.Views.{HasWriteGrant, IsGranted}
-use Rattle.history_model.proofs.EndEvents.{touches_read, writes_read, writes_first, touches_write, writes_write, last_write, last_read_same, last_read_other, last_write_same, last_write_other}
+use Rattle.history_model.proofs.EndEvents.{touches_read, writes_read, writes_first, touches_write, writes_write, last_write, last_read_same, last_read_other}
+use Rattle.history_model.proofs.EndEvents.{last_write_same, last_write_other}
 use Rattle.history_model.proofs.Places.{same_view}
 use Rattle.history_model.proofs.TraceLaws.{legal_read, legal_write}
 use Rattle.locks_rule.specs.Locks.{LocksHold}
-use Rattle.locks_rule.proofs.Own.{Own, own}
+use Rattle.locks_rule.proofs.Own.{own}
 use Rattle.versions_rule.specs.Keeping.{KeepsValues}
 use Rattle.values_rule.specs.Steps.{load_value_action, store_value_action, known_value, undo_store_action, undoing_phase}
 use Rattle.versions_rule.specs.Steps.{MayLoadValue, MayStoreValue, MayUndoStore}
@@ -36,7 +38,8 @@ use Rattle.values_rule.proofs.Frames.{shut_out}
 use Rattle.values_rule.proofs.ValueKinds.{in_base, set_here, set_there}
 
 -- a word under the own exclusive lock that this seat has not noted, nobody has
-nobody_noted : (good : List ℕ → Type 0) (n : ℕ) (base ws : List ℕ) (vs : List View) (id j : ℕ) (v : View) → LocksHold n base ws vs → ValuesHold good n base ws vs → Knows vs id v → v.who ≡ j ∷ []
+nobody_noted : (good : List ℕ → Type 0) (n : ℕ) (base ws : List ℕ) (vs : List View) (id j : ℕ) (v : View)
+    → LocksHold n base ws vs → ValuesHold good n base ws vs → Knows vs id v → v.who ≡ j ∷ []
     → (a : ℕ) → HasWriteGrant v (lock_of_word a) → oldest a v.undo ≡ None → (other : ℕ) (u : View) → Knows vs other u → oldest a u.undo ≡ None
 nobody_noted good n base ws vs id j v h q me single a granted none other u k = dite (ℕ_discrete other id)
     (λ e. subst (λ (x : View). oldest a x.undo ≡ None) (sym (same_view vs id other v u me k e)) none)
@@ -63,7 +66,8 @@ load_value_values good j a n base ws vs id v h q me may =
     let ws' : List ℕ = slice_set ws i x in
     let within : a < length base = in_base n base ws vs id j v h o a x may.word in
     let is_x : x ≡ value_at n ws a = ap (λ (m : ℕ). slice_index ws (value_word m a)) o.seats in
-    let found : slice_get (after v.trace (now_of n base ws vs)) a ≡ Some x = current good n base ws vs id j v h q me may.who may.phase a within may.granted ∙ ap (λ (y : ℕ). Some y) (sym is_x) in
+    let found : slice_get (after v.trace (now_of n base ws vs)) a ≡ Some x =
+    current good n base ws vs id j v h q me may.who may.phase a within may.granted ∙ ap (λ (y : ℕ). Some y) (sym is_x) in
     let busy : is_attempt v.phase ≡ true = ap is_attempt may.phase in
     let same : (b : ℕ) → value_at n ws' b ≡ value_at n ws b = λ b. dite (ℕ_discrete b a)
     (λ e. subst (λ (c : ℕ). value_at n ws' c ≡ value_at n ws c) (sym e) (set_here n base ws vs id j v h o a x may.word ∙ is_x))
@@ -74,9 +78,11 @@ load_value_values good j a n base ws vs id v h q me may =
       versions = λ k. version_kept n ws ws' (λ l near. get_or-set_other ws i (version_word n l) x 0 (λ e. omega (arith, o.seats))) k;
       who = refl;
       seen = refl;
-      calls = calls_same vs id v w me refl n ws ws' refl refl refl (λ b. b) (λ p. p) (λ b lt. get_or-set_other ws i (calls_word n b) x 0 (λ e. omega (arith, o.seats))) (λ b lt. get_or-set_other ws i (commits_word n b) x 0 (λ e. omega (arith, o.seats))) (λ l u other s. h.numbers_below other l u s) q.calls;
-      tries_to = λ z p t. (p, t);
-      tries_from = λ z p t. (p, t);
+      calls = calls_same vs id v w me refl n ws ws' refl refl refl (λ b. b) (λ p. p)
+          (λ b lt. get_or-set_other ws i (calls_word n b) x 0 (λ e. omega (arith, o.seats)))
+          (λ b lt. get_or-set_other ws i (commits_word n b) x 0 (λ e. omega (arith, o.seats))) (λ l u other s. h.numbers_below other l u s) q.calls;
+      attempts_to = λ z p t. (p, t);
+      attempts_from = λ z p t. (p, t);
       floor = λ p. q.floor.floor id v me p;
       causes = λ l one b. q.floor.causes id l v me one b;
     })
@@ -85,7 +91,8 @@ load_value_values good j a n base ws vs id v h q me may =
       held = λ k y t p. p;
       granted = λ k y b m. q.uses.granted id k y v me busy m;
       once = λ k y z s t. q.uses.once id k y z v me s t;
-      covered = λ b p t. ⊎_elim (λ z. q.uses.covered id b v me busy z) (λ (z : b ≡ a). subst (λ (c : ℕ). (y : ℕ) × IsIn (lock_of_word c, y) v.uses) (sym z) may.used) (touches_read v.trace a x b t);
+      covered = λ b p t. ⊎_elim (λ z. q.uses.covered id b v me busy z)
+          (λ (z : b ≡ a). subst (λ (c : ℕ). (y : ℕ) × IsIn (lock_of_word c, y) v.uses) (sym z) may.used) (touches_read v.trace a x b t);
     })
     (record {
       noted = λ b y t. q.undo.noted id b y v me t;
@@ -93,7 +100,8 @@ load_value_values good j a n base ws vs id v h q me may =
       foreign = λ b lt away. same b;
     })
     (record {
-      granted = λ b t k. ⊎_elim (λ z. q.trace.granted id b v me busy z) (λ (z : b ≡ a). subst (λ (c : ℕ). (c < length base) × IsGranted v (lock_of_word c)) (sym z) (within, may.granted)) (touches_read v.trace a x b k);
+      granted = λ b t k. ⊎_elim (λ z. q.trace.granted id b v me busy z)
+          (λ (z : b ≡ a). subst (λ (c : ℕ). (c < length base) × IsGranted v (lock_of_word c)) (sym z) (within, may.granted)) (touches_read v.trace a x b k);
       legal = λ t. legal_read v.trace (now_of n base ws vs) a x (q.trace.legal id v me busy) found;
       undo_written = λ b y t k. writes_first v.trace (Read a x ∷ []) b (q.trace.undo_written id b y v me busy k);
       written_noted = λ b t k. q.trace.written_noted id b v me may.phase (writes_read v.trace a x b k);
@@ -114,7 +122,8 @@ store_value_values good j a x n base ws vs id v h q me may =
     let busy : is_attempt v.phase ≡ true = ap is_attempt may.phase in
     let here : value_at n ws' a ≡ x = set_here n base ws vs id j v h o a x may.word in
     let there : (b : ℕ) → b ≢ a → value_at n ws' b ≡ value_at n ws b = set_there n base ws vs id j v h o a x may.word in
-    let last : value_after v.trace a None ≡ Some may.read.1 = ap (λ (t : Trace). value_after t a None) may.read.2 ∙ last_read_same may.read.0 a may.read.1 a refl in
+    let last : value_after v.trace a None ≡ Some may.read.1 = ap (λ (t : Trace). value_after t a None) may.read.2
+    ∙ last_read_same may.read.0 a may.read.1 a refl in
     let is_old : old ≡ may.read.1 = ap (λ (y : Option ℕ). unwrap_or y 0) last in
     let stands : value_at n ws a ≡ old = q.trace.last_stands id a may.read.1 v me may.phase last ∙ sym is_old in
     moves good n base ws ws' vs id v w h q me
@@ -123,9 +132,11 @@ store_value_values good j a x n base ws vs id v h q me may =
       versions = λ k. version_kept n ws ws' (λ l near. get_or-set_other ws i (version_word n l) x 0 (λ e. omega (arith, o.seats))) k;
       who = refl;
       seen = refl;
-      calls = calls_same vs id v w me refl n ws ws' refl refl refl (λ b. b) (λ p. p) (λ b lt. get_or-set_other ws i (calls_word n b) x 0 (λ e. omega (arith, o.seats))) (λ b lt. get_or-set_other ws i (commits_word n b) x 0 (λ e. omega (arith, o.seats))) (λ l u other s. h.numbers_below other l u s) q.calls;
-      tries_to = λ z p t. (p, t);
-      tries_from = λ z p t. (p, t);
+      calls = calls_same vs id v w me refl n ws ws' refl refl refl (λ b. b) (λ p. p)
+          (λ b lt. get_or-set_other ws i (calls_word n b) x 0 (λ e. omega (arith, o.seats)))
+          (λ b lt. get_or-set_other ws i (commits_word n b) x 0 (λ e. omega (arith, o.seats))) (λ l u other s. h.numbers_below other l u s) q.calls;
+      attempts_to = λ z p t. (p, t);
+      attempts_from = λ z p t. (p, t);
       floor = λ p. q.floor.floor id v me p;
       causes = λ l one b. q.floor.causes id l v me one b;
     })
@@ -134,13 +145,17 @@ store_value_values good j a x n base ws vs id v h q me may =
       held = λ k y t p. p;
       granted = λ k y b m. q.uses.granted id k y v me busy m;
       once = λ k y z s t. q.uses.once id k y z v me s t;
-      covered = λ b p t. ⊎_elim (λ z. q.uses.covered id b v me busy z) (λ (z : b ≡ a). subst (λ (c : ℕ). (y : ℕ) × IsIn (lock_of_word c, y) v.uses) (sym z) (q.uses.covered id a v me busy (was_read v.trace a may.read))) (touches_write v.trace a x b t);
+      covered = λ b p t. ⊎_elim (λ z. q.uses.covered id b v me busy z)
+          (λ (z : b ≡ a). subst (λ (c : ℕ). (y : ℕ) × IsIn (lock_of_word c, y) v.uses) (sym z)
+          (q.uses.covered id a v me busy (was_read v.trace a may.read))) (touches_write v.trace a x b t);
     })
     (record {
       noted = λ b y t. ⊎_elim
           (λ (none : oldest b v.undo ≡ None). dite (ℕ_discrete b a)
           (λ e. let y_old : old ≡ y = same_Some old y (sym (oldest_first b v.undo ((a, old) ∷ []) none ∙ oldest_one b a old e) ∙ t) in
-          let free : (other : ℕ) (u : View) → Knows vs other u → oldest a u.undo ≡ None = nobody_noted good n base ws vs id j v h q me may.who a may.granted (subst (λ (c : ℕ). oldest c v.undo ≡ None) e none) in
+          let free : (other : ℕ) (u : View) → Knows vs other u
+          → oldest a u.undo ≡ None = nobody_noted good n base ws vs id j v h q me may.who a may.granted
+          (subst (λ (c : ℕ). oldest c v.undo ≡ None) e none) in
           subst (λ (c : ℕ). (c < length base) × HasWriteGrant v (lock_of_word c) × (slice_get (now_of n base ws vs) c ≡ Some y)) (sym e)
           (within, may.granted, q.undo.unnoted a within free ∙ ap (λ (z : ℕ). Some z) (stands ∙ y_old)))
           (λ ne. absurd (let z : None ≡ Some y = sym (oldest_first b v.undo ((a, old) ∷ []) none ∙ oldest_other b a old ne) ∙ t in cc)))
@@ -155,7 +170,9 @@ store_value_values good j a x n base ws vs id v h q me may =
       foreign = λ b lt away. there b (λ e. away (subst (λ (c : ℕ). HasWriteGrant v (lock_of_word c)) (sym e) may.granted));
     })
     (record {
-      granted = λ b t k. ⊎_elim (λ z. q.trace.granted id b v me busy z) (λ (z : b ≡ a). subst (λ (c : ℕ). (c < length base) × IsGranted v (lock_of_word c)) (sym z) (within, inr may.granted)) (touches_write v.trace a x b k);
+      granted = λ b t k. ⊎_elim (λ z. q.trace.granted id b v me busy z)
+          (λ (z : b ≡ a). subst (λ (c : ℕ). (c < length base) × IsGranted v (lock_of_word c)) (sym z) (within, inr may.granted))
+          (touches_write v.trace a x b k);
       legal = λ t. legal_write v.trace (now_of n base ws vs) a x (q.trace.legal id v me busy);
       undo_written = λ b y t k. dite (ℕ_discrete b a)
           (λ e. subst (λ (c : ℕ). Writes (v.trace ++ Write a x ∷ []) c) (sym e) (last_write v.trace a x))
@@ -238,9 +255,11 @@ undo_store_values good j a old n base ws vs id v h q me may =
       versions = λ k. version_kept n ws ws' (λ l near. get_or-set_other ws i (version_word n l) old 0 (λ e. omega (arith, o.seats))) k;
       who = refl;
       seen = refl;
-      calls = calls_same vs id v w me refl n ws ws' refl refl refl (λ b. open_begun v.phase may.phase) (λ p. undoing_open v.phase p) (λ b lt. get_or-set_other ws i (calls_word n b) old 0 (λ e. omega (arith, o.seats))) (λ b lt. get_or-set_other ws i (commits_word n b) old 0 (λ e. omega (arith, o.seats))) (λ l u other s. h.numbers_below other l u s) q.calls;
-      tries_to = λ z p t. (undoing_open v.phase p, t);
-      tries_from = λ z p t. (undoing_stays v.phase p, t);
+      calls = calls_same vs id v w me refl n ws ws' refl refl refl (λ b. open_begun v.phase may.phase) (λ p. undoing_open v.phase p)
+          (λ b lt. get_or-set_other ws i (calls_word n b) old 0 (λ e. omega (arith, o.seats)))
+          (λ b lt. get_or-set_other ws i (commits_word n b) old 0 (λ e. omega (arith, o.seats))) (λ l u other s. h.numbers_below other l u s) q.calls;
+      attempts_to = λ z p t. (undoing_open v.phase p, t);
+      attempts_from = λ z p t. (undoing_stays v.phase p, t);
       floor = λ p. q.floor.floor id v me (undoing_open v.phase p);
       causes = λ l one b. q.floor.causes id l v me one (open_begun v.phase may.phase);
     })
@@ -256,7 +275,8 @@ undo_store_values good j a old n base ws vs id v h q me may =
       unnoted = λ b lt t.
           let none : oldest b older ≡ None = ap (λ (l : Notes). oldest b l) (sym less) ∙ t in
           dite (ℕ_discrete b a)
-          (λ e. let was : oldest b v.undo ≡ Some old = ap (λ (l : Notes). oldest b l) split ∙ (oldest_first b older ((a, old) ∷ []) none ∙ oldest_one b a old e) in
+          (λ e. let was : oldest b v.undo ≡ Some old = ap (λ (l : Notes). oldest b l) split
+          ∙ (oldest_first b older ((a, old) ∷ []) none ∙ oldest_one b a old e) in
           inr ((q.undo.noted id b old v me was).2 ∙ ap (λ (y : ℕ). Some y) (sym (ap (λ (c : ℕ). value_at n ws' c) e ∙ here))))
           (λ ne. inl (ap (λ (l : Notes). oldest b l) split ∙ (oldest_apart b a old older ne ∙ none), there b ne));
       foreign = λ b lt away. there b (λ e. away (subst (λ (c : ℕ). HasWriteGrant v (lock_of_word c)) (sym e) noted.1));

@@ -1,4 +1,5 @@
--- What a closed table comes to, and what every arrangement of the items is.
+-- What follows from the value invariant: every arrangement of the items is a legal history, and what one view that has
+-- all numbers says of the memory.
 use Rattle.std.specs.Prelude.{◌≡◌, ℕ, ◌+◌, ◌<◌, true, false, List, length, slice_get, take, Some}
 use Rattle.history_model.specs.declared.item.Item.{Item}
 use Rattle.history_model.specs.declared.view.View.{View}
@@ -22,9 +23,12 @@ pub record IsPlaced (good : List ℕ → Type 0) (n : ℕ) (base : List ℕ) (or
   pub legal : IsLegalTrace x.trace (replay_items base (take p order))
   pub leaves_good : good (replay_items base (take (p + 1) order))
   pub by_seat : x.who < n
-  pub after_own : x.entry ≡ true → (q : ℕ) (y : Item) → q < p → slice_get order q ≡ Some y → y.entry ≡ true → y.who ≡ x.who → y.call < x.call
-  pub after_seen : (y : Item) → IsIn y order → WasSeenBefore y x → (q : ℕ) × (q < p) × (slice_get order q ≡ Some y)
-  pub before_own : x.entry ≡ false → (y : Item) → IsIn y order → y.entry ≡ true → y.who ≡ x.who → y.call ≡ x.call → (q : ℕ) × (p < q) × (slice_get order q ≡ Some y)
+  pub after_own : x.entry ≡ true → (q : ℕ) (y : Item) → q < p → slice_get order q ≡ Some y
+      → y.entry ≡ true → y.who ≡ x.who → y.call < x.call
+  pub after_seen : (y : Item) → IsIn y order → WasSeenBefore y x
+      → (q : ℕ) × (q < p) × (slice_get order q ≡ Some y)
+  pub before_own : x.entry ≡ false → (y : Item) → IsIn y order → y.entry ≡ true → y.who ≡ x.who → y.call ≡ x.call
+      → (q : ℕ) × (p < q) × (slice_get order q ≡ Some y)
 
 -- in every state every arrangement is a legal history, and what an attempt has done is legal behind all of it
 abbrev pub EveryArrangementLegal : (List ℕ → Type 0) → Type 0

@@ -1,4 +1,4 @@
--- What it means that a kind of step keeps the value invariant.
+-- What it means that a kind of step keeps the value invariant, and what a step must leave alone, or do, to keep it.
 use Rattle.std.specs.Prelude.{◌≡◌, ◌≢◌, ℕ, ◌<◌, ◌≤◌, true, false, List, [], ◌∷◌, ◌++◌, slice_index, slice_set}
 use Rattle.history_model.specs.declared.event.Cause.{Cause}
 use Rattle.history_model.specs.declared.view.View.{View}
@@ -23,11 +23,12 @@ KeepsValues good may action =
     → LocksHold n base words views → ValuesHold good n base words views → Knows views id v → may v
     → ValuesHold good n base (words_after (action v) words) (views_after (action v) id words views)
 
--- and so does a join of two views that may be joined
+-- a join of two views that may be joined keeps it too
 abbrev pub KeepsValuesJoin : (List ℕ → Type 0) → (View → View → Type 0) → (View → View → View) → Type 0
 KeepsValuesJoin good may both =
     (n : ℕ) (base words : List ℕ) (views : List View) (id other : ℕ) (v w : View)
-    → LocksHold n base words views → ValuesHold good n base words views → other ≢ id → Knows views id v → Knows views other w → may v w
+    → LocksHold n base words views → ValuesHold good n base words views
+    → other ≢ id → Knows views id v → Knows views other w → may v w
     → ValuesHold good n base words (views_joined id other (both v w) views)
 
 -- a load with which an attempt gives way keeps it: no other word is read, and what was seen stays
@@ -61,6 +62,7 @@ pub record SameWords (n : ℕ) (words after : List ℕ) : Type 0 where
   pub versions : (k : ℕ) → version_at n after k ≡ version_at n words k
   pub values : (a : ℕ) → value_at n after a ≡ value_at n words a
 
+-- such a step keeps the value invariant
 abbrev pub GivingUpKeeps : (List ℕ → Type 0) → Type 0
 GivingUpKeeps good =
     (n : ℕ) (base words after : List ℕ) (views : List View) (id j : ℕ) (v w : View)
@@ -68,7 +70,8 @@ GivingUpKeeps good =
     → v.who ≡ j ∷ [] → is_open v.phase ≡ true → GivesUp v w → SameWords n words after
     → ValuesHold good n base after (slice_set views id w)
 
--- the seat goes on with its call, or stays between calls, knows the same of calls and values, and has all locks that it had
+-- the seat goes on with its call, or stays between calls, knows the same of calls and values, and has all locks that it
+-- had
 pub record SameValues (v w : View) : Type 0 where
   pub who : w.who ≡ v.who
   pub joined : w.joined ≡ v.joined
@@ -87,14 +90,16 @@ pub record SameValues (v w : View) : Type 0 where
   pub grants : (k : ℕ) → IsGranted v k → IsGranted w k
   pub writes : (k : ℕ) → HasWriteGrant v k → HasWriteGrant w k
 
+-- such a step keeps it, on a word that the rule of values does not read
 abbrev pub AsideKeeps : (List ℕ → Type 0) → Type 0
 AsideKeeps good =
     (n : ℕ) (base words after : List ℕ) (views : List View) (id : ℕ) (v w : View)
-    → LocksHold n base words views → ValuesHold good n base words views → Knows views id v → SameValues v w → SameWords n words after
+    → LocksHold n base words views → ValuesHold good n base words views → Knows views id v
+    → SameValues v w → SameWords n words after
     → ValuesHold good n base after (slice_set views id w)
 
--- a seat that makes no attempt, then or now, gives up locks or ends its call: nothing is left to undo, and what it owes it
--- holds
+-- a seat that makes no attempt, then or now, gives up locks or ends its call: nothing is left to undo, and what it owes
+-- it holds
 pub record IsQuiet (v w : View) : Type 0 where
   pub who : w.who ≡ v.who
   pub joined : w.joined ≡ v.joined
@@ -111,19 +116,23 @@ pub record IsQuiet (v w : View) : Type 0 where
   pub as_open : is_open w.phase ≡ is_open v.phase
   pub begun : w.phase ≢ Idle → v.phase ≢ Idle
   pub stamp : w.phase ≢ Idle → w.stamp ≡ v.stamp
-  pub held : (k : ℕ) → has k w.owed ≡ true → (v.phase ≡ Releasing) × HasWriteGrant v k → (w.phase ≡ Releasing) × HasWriteGrant w k
+  pub held : (k : ℕ) → has k w.owed ≡ true → (v.phase ≡ Releasing) × HasWriteGrant v k
+      → (w.phase ≡ Releasing) × HasWriteGrant w k
 
+-- such a step keeps it
 abbrev pub QuietKeeps : (List ℕ → Type 0) → Type 0
 QuietKeeps good =
     (n : ℕ) (base words after : List ℕ) (views : List View) (id : ℕ) (v w : View)
-    → LocksHold n base words views → ValuesHold good n base words views → Knows views id v → IsQuiet v w → SameWords n words after
+    → LocksHold n base words views → ValuesHold good n base words views → Knows views id v
+    → IsQuiet v w → SameWords n words after
     → ValuesHold good n base after (slice_set views id w)
 
--- a call whose attempt gave way and undid all makes another
+-- a call whose attempt gave way and undid all makes another, and keeps it
 abbrev pub RestartKeeps : (List ℕ → Type 0) → Type 0
 RestartKeeps good =
     (n : ℕ) (base words : List ℕ) (views : List View) (id : ℕ) (v : View)
-    → LocksHold n base words views → ValuesHold good n base words views → Knows views id v → v.phase ≡ Yielding → v.undo ≡ []
+    → LocksHold n base words views → ValuesHold good n base words views → Knows views id v
+    → v.phase ≡ Yielding → v.undo ≡ []
     → ValuesHold good n base words (slice_set views id (record v { phase = Running; trace = []; uses = [] }))
 
 -- a cut of a view that may be cut keeps it

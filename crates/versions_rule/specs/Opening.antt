@@ -1,4 +1,4 @@
--- The table as it begins.
+-- The table as it begins: no call was begun, and the memory is the base.
 use Rattle.std.specs.Prelude.{◌≡◌, ℕ, ◌<◌, false, List, [], length, Some, slice_get, slice_index}
 use Rattle.history_model.specs.declared.TheConstants.{LOCKS}
 use Rattle.history_model.specs.declared.view.View.{View}
@@ -27,6 +27,7 @@ pub record IsUntouched (n : ℕ) (base words : List ℕ) (views : List View) : T
   pub values : (a : ℕ) → a < length base → slice_get base a ≡ Some (value_at n words a)
   pub unused : (id : ℕ) (v : View) → Knows views id v → IsUnused v
 
+-- the value invariant holds of it, where the base is good
 abbrev pub OpeningHolds : (List ℕ → Type 0) → Type 0
 OpeningHolds good =
     (n : ℕ) (base words : List ℕ) (views : List View)

@@ -1,4 +1,6 @@
--- The kinds of step that are new or changed: when a seat may take one, and what it does.
+-- The kinds of step on calls, versions, values and entries where no counter orders the entries: when a seat may take one,
+-- and what it does. The seat has the number j, k is a lock, and a is a word of the memory. What a load, a store and its
+-- undoing do is what they do under the rule with a counter.
 use Rattle.std.specs.Prelude.{◌≡◌, ℕ, ◌+◌, ◌^◌, ◌<◌, Bool, true, false, List, [], ◌∷◌, ◌++◌, map, length, if◌then◌else◌}
 use Rattle.history_model.specs.declared.entry.Abandoned.{Abandoned}
 use Rattle.history_model.specs.declared.entry.Entry.{Entry}
@@ -17,7 +19,7 @@ use Rattle.history_model.specs.Views.{number, HasWriteGrant, IsGranted}
 use Rattle.locks_rule.specs.Actions.{Action}
 use Rattle.versions_rule.specs.History.{knew_of, uses_of}
 
--- the version of lock k is loaded, under a lock, once in an attempt
+-- the version of lock k is loaded, while the lock is held, once in an attempt
 pub record MayLoadVersion (j k : ℕ) (v : View) : Type 0 where
   pub who : v.who ≡ j ∷ []
   pub phase : v.phase ≡ Running
@@ -31,7 +33,7 @@ load_version_action j k v = record {
   view = λ h w. record v { uses = v.uses ++ (k, w) ∷ [] };
 }
 
--- the version that was found and 1 is stored, where the call wrote the lock and has its entry
+-- 1 more than the version x that the call found of lock k is stored, while its kept write of the lock is owed
 pub record MayStoreVersion (j k x : ℕ) (v : View) : Type 0 where
   pub who : v.who ≡ j ∷ []
   pub phase : v.phase ≡ Releasing
@@ -45,7 +47,8 @@ store_version_action j k x v = record {
   view = λ h w. record v { owed = without k v.owed };
 }
 
--- the call gets its entry: its number is stored to the own COMMITS word
+-- the call gets its entry: its number is stored to the own COMMITS word. A call whose writes are kept leaves good words,
+-- whatever good words its trace is legal on; one whose writes are not kept has undone them
 pub record MayCommitCall (good : List ℕ → Type 0) (j : ℕ) (kept : Bool) (v : View) : Type 0 where
   pub who : v.who ≡ j ∷ []
   pub phase : is_attempt v.phase ≡ true
@@ -53,7 +56,7 @@ pub record MayCommitCall (good : List ℕ → Type 0) (j : ℕ) (kept : Bool) (v
   pub leaves_good : kept ≡ true → (words : List ℕ) → good words → IsLegalTrace v.trace words → good (after v.trace words)
   pub undone : kept ≡ false → v.undo ≡ []
 
--- the entry of the view's call
+-- the entry of the view's call, with the versions that it used and what its pass knew as the call began
 abbrev pub entry_of : Bool → View → Entry
 entry_of kept v = record {
   who = number v;
@@ -67,12 +70,18 @@ entry_of kept v = record {
   knew = knew_of v.seats v.seen;
 }
 
--- the locks of the words that are noted
+-- the locks of the words that are noted, which are those that were written
 abbrev pub locks_of : Notes → List ℕ
 locks_of notes = map (λ note. lock_of_word note.0) notes
 
+-- what the view then knows: it has seen its entry, and owes the locks that it wrote their next versions
 abbrev pub after_commit : Bool → View → View
-after_commit kept v = record v { seen = v.seen ++ entry_of kept v ∷ []; owed = if kept then locks_of v.undo else []; undo = []; phase = Releasing }
+after_commit kept v = record v {
+  seen = v.seen ++ entry_of kept v ∷ [];
+  owed = if kept then locks_of v.undo else [];
+  undo = [];
+  phase = Releasing;
+}
 
 abbrev pub commit_call_action : ℕ → Bool → View → Action
 commit_call_action j kept v = record {
@@ -83,19 +92,27 @@ commit_call_action j kept v = record {
 
 -- the attempt of a view that gives way to a cause
 abbrev pub attempt_of : Cause → View → Abandoned
-attempt_of cause v = record { cause = cause; front = length v.seen; trace = v.trace; uses = uses_of false v.trace v.uses }
+attempt_of cause v = record {
+  cause = cause;
+  front = length v.seen;
+  trace = v.trace;
+  uses = uses_of false v.trace v.uses;
+}
 
--- the attempt of a running call gives way to the cause, and met fewer seats that it did not judge
+-- the attempt of a running call gives way to the cause; `met` are the seats that it has still to judge
 abbrev pub after_giving_way : Cause → List ℕ → View → View
-after_giving_way cause met v = record v { met = met; phase = Yielding; abandoned = v.abandoned ++ attempt_of cause v ∷ [] }
+after_giving_way cause met v = record v {
+  met = met;
+  phase = Yielding;
+  abandoned = v.abandoned ++ attempt_of cause v ∷ [];
+}
 
--- the value of the word a is loaded, under a lock
+-- the value of the word a is loaded, under a lock whose version was found
 pub record MayLoadValue (j a : ℕ) (v : View) : Type 0 where
   pub who : v.who ≡ j ∷ []
   pub phase : v.phase ≡ Running
   pub word : a < length v.base
   pub granted : IsGranted v (lock_of_word a)
-  -- and the version of its lock was found
   pub used : (x : ℕ) × IsIn (lock_of_word a, x) v.uses
 
 -- x is stored to the word a, under the exclusive lock, where the attempt has just read it
@@ -112,7 +129,7 @@ pub record MayUndoStore (j a old : ℕ) (v : View) : Type 0 where
   pub phase : is_open v.phase ≡ true
   pub newest : (older : Notes) × (v.undo ≡ older ++ (a, old) ∷ [])
 
--- a call is begun: its number is stored to the own CALLS word
+-- a call is begun: its number is stored to the own CALLS word, and what its pass has seen is its floor
 pub record MayBeginCall (j : ℕ) (v : View) : Type 0 where
   pub who : v.who ≡ j ∷ []
   pub phase : v.phase ≡ Idle

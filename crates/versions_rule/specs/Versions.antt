@@ -1,4 +1,5 @@
--- The value invariant without a counter of entries, in its parts, for n seats and the words base that the memory began with.
+-- What holds of values, entries and views between any two steps where no counter orders the entries, for n seats and the
+-- words base that the memory began with: the value invariant, in its parts.
 use Rattle.std.specs.Prelude.{◌≡◌, ℕ, true, List, slice_index}
 use Rattle.history_model.specs.declared.item.Item.{Item}
 use Rattle.history_model.specs.declared.view.View.{View}
@@ -12,13 +13,13 @@ use Rattle.history_model.specs.Sets.{has}
 use Rattle.history_model.specs.Table.{Knows, serial_word}
 use Rattle.history_model.specs.Traces.{Touches}
 use Rattle.history_model.specs.Views.{HasWriteGrant, IsGranted}
-use Rattle.versions_rule.specs.History.{version_at, items_of, current, now_of}
+use Rattle.versions_rule.specs.History.{version_at, items_of, next_version, now_of}
 use Rattle.values_rule.specs.Values.{UndoRestores, TraceCurrent}
-use Rattle.versions_rule.specs.Records.{RecordsKept, CallsShown, FloorsKept}
+use Rattle.versions_rule.specs.Records.{RecordsClosed, CallsCounted, FloorAndAbandoned}
 
 -- the items agree with the versions of the locks, and some order of them is an arrangement
 pub record ItemsArranged (good : List ℕ → Type 0) (n : ℕ) (base words : List ℕ) (views : List View) : Type 0 where
-  pub coherent : AgreeWithVersions good base (current n words views) (items_of views)
+  pub agree : AgreeWithVersions good base (next_version n words views) (items_of views)
   pub order : List Item
   pub arranged : IsArrangement (items_of views) order
 
@@ -27,21 +28,22 @@ pub record OwedHeld (n : ℕ) (words : List ℕ) (views : List View) : Type 0 wh
   pub held : (id k : ℕ) (v : View) → Knows views id v → has k v.owed ≡ true
       → (v.phase ≡ Releasing) × HasWriteGrant v k × IsIn (k, version_at n words k) v.uses
 
--- an attempt uses locks that it holds, at their present versions, and all locks of words that it touched
+-- an attempt uses locks that it holds, each at the version that it has next, and all locks of words that it touched
 pub record UsesCurrent (n : ℕ) (words : List ℕ) (views : List View) : Type 0 where
   pub granted : (id k x : ℕ) (v : View) → Knows views id v → is_attempt v.phase ≡ true → IsIn (k, x) v.uses
-      → IsGranted v k × (x ≡ current n words views k)
+      → IsGranted v k × (x ≡ next_version n words views k)
   pub once : (id k x y : ℕ) (v : View) → Knows views id v → IsIn (k, x) v.uses → IsIn (k, y) v.uses → x ≡ y
-  pub covered : (id a : ℕ) (v : View) → Knows views id v → is_attempt v.phase ≡ true → Touches v.trace a → (x : ℕ) × IsIn (lock_of_word a, x) v.uses
+  pub covered : (id a : ℕ) (v : View) → Knows views id v → is_attempt v.phase ≡ true → Touches v.trace a
+      → (x : ℕ) × IsIn (lock_of_word a, x) v.uses
 
--- the value invariant
+-- the value invariant: no word counts the entries, and `now` is what all that was committed leaves
 pub record ValuesHold (good : List ℕ → Type 0) (n : ℕ) (base words : List ℕ) (views : List View) : Type 0 where
   pub serial : slice_index words serial_word ≡ 0
-  pub records : RecordsKept n views
-  pub calls : CallsShown n words views
+  pub records : RecordsClosed n views
+  pub calls : CallsCounted n words views
   pub items : ItemsArranged good n base words views
   pub owed : OwedHeld n words views
   pub uses : UsesCurrent n words views
   pub undo : UndoRestores n base (now_of n base words views) words views
   pub trace : TraceCurrent n base (now_of n base words views) words views
-  pub floor : FloorsKept n views
+  pub floor : FloorAndAbandoned n views
