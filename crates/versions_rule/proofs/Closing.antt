@@ -17,7 +17,6 @@ use Rattle.history_model.proofs.ItemOrders.{is_newest}
 use Rattle.history_model.proofs.Places.{same_view}
 use Rattle.history_model.proofs.SetLemmas.{has-join_same}
 use Rattle.locks_rule.specs.Locks.{LocksHold, IsSeat}
-use Rattle.versions_rule.specs.Closing.{ClosedByAll}
 use Rattle.versions_rule.specs.History.{version_at, items_of_entry, items_of, owed_by, next_version}
 use Rattle.values_rule.specs.Values.{value_at, oldest}
 use Rattle.versions_rule.specs.Records.{IsRecorded}
@@ -72,24 +71,21 @@ module _ (good : List ℕ → Type 0) (n : ℕ) (base ws : List ℕ) (vs : List 
       let z : None ≡ Some t.0 = sym (oldest-nil a) ∙ (ap (λ (l : Notes). oldest a l) (sym (q.trace.rested other u k (inl e))) ∙ t.1) in cc))
       (option_cases (oldest a u.undo))
 
-  pub closed : AgreeWithVersions good base next (flat_map items_of_entry v.seen)
-      × ((order : List Item) × IsArrangement (flat_map items_of_entry v.seen) order)
-      × ((order : List Item) → IsArrangement (flat_map items_of_entry v.seen) order → (a : ℕ)
-      → a < length base → slice_get (replay_items base order) a ≡ Some (value_at n ws a))
-  closed = (
-    agree_by good base (next_version n ws vs) next (flat_map items_of_entry v.seen) next_is agree,
-    (
-      passing (λ z. true) q.items.order,
-      drops_arranged good base (next_version n ws vs) (items_of vs) (flat_map items_of_entry v.seen) q.items.order
-          (λ z. true) q.items.agree q.items.arranged (λ z m e. refl) drops,
-    ),
-    λ order arrangement a lt.
-        is_newest good base (next_version n ws vs) (flat_map items_of_entry v.seen) order agree
-        (arranged (flat_map items_of_entry v.seen) order arrangement) a lt
-        ∙ (ap (λ (m : ℕ). Some m) (drops_values good base (next_version n ws vs) (items_of vs) (flat_map items_of_entry v.seen) q.items.order
-        (λ z. true) q.items.agree q.items.arranged (λ z m e. refl) drops a (next_version n ws vs (lock_of_word a)) (omega arith))
-        ∙ (sym (newest-at base (items_of vs) (next_version n ws vs) a lt) ∙ q.undo.unnoted a lt (nobody_noted a))),
+  pub agree_with_table : AgreeWithVersions good base next (flat_map items_of_entry v.seen)
+  agree_with_table = agree_by good base (next_version n ws vs) next (flat_map items_of_entry v.seen) next_is agree
+
+  pub has_arrangement : (order : List Item) × IsArrangement (flat_map items_of_entry v.seen) order
+  has_arrangement = (
+    passing (λ z. true) q.items.order,
+    drops_arranged good base (next_version n ws vs) (items_of vs) (flat_map items_of_entry v.seen) q.items.order
+        (λ z. true) q.items.agree q.items.arranged (λ z m e. refl) drops,
   )
 
-pub closed_by_all : (good : List ℕ → Type 0) → ClosedByAll good
-closed_by_all good n base ws vs id v h q me rests all = closed good n base ws vs id v h q me rests all
+  pub memory_is_left : (order : List Item) → IsArrangement (flat_map items_of_entry v.seen) order
+      → (a : ℕ) → a < length base → slice_get (replay_items base order) a ≡ Some (value_at n ws a)
+  memory_is_left order arrangement a lt =
+      is_newest good base (next_version n ws vs) (flat_map items_of_entry v.seen) order agree
+      (arranged (flat_map items_of_entry v.seen) order arrangement) a lt
+      ∙ (ap (λ (m : ℕ). Some m) (drops_values good base (next_version n ws vs) (items_of vs) (flat_map items_of_entry v.seen) q.items.order
+      (λ z. true) q.items.agree q.items.arranged (λ z m e. refl) drops a (next_version n ws vs (lock_of_word a)) (omega arith))
+      ∙ (sym (newest-at base (items_of vs) (next_version n ws vs) a lt) ∙ q.undo.unnoted a lt (nobody_noted a)))

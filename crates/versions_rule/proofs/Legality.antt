@@ -19,7 +19,7 @@ use Rattle.history_model.proofs.ItemEnds.{arranged}
 use Rattle.history_model.proofs.ItemOrders.{is_legal, is_newest, end_good, length-replay_items}
 use Rattle.history_model.proofs.SetLemmas.{has-join_same}
 use Rattle.locks_rule.specs.Locks.{LocksHold, IsSeat}
-use Rattle.versions_rule.specs.Closing.{IsPlaced, EveryArrangementLegal}
+use Rattle.versions_rule.specs.Closing.{IsPlaced}
 use Rattle.versions_rule.specs.History.{item_of_entry, items_of, next_version, now_of}
 use Rattle.versions_rule.specs.Records.{IsRecorded}
 use Rattle.versions_rule.specs.Versions.{ValuesHold}
@@ -131,7 +131,7 @@ module _ (good : List ℕ → Type 0) (n : ℕ) (base ws : List ℕ) (vs : List 
         (λ z. let s : Some y ≡ Some x = sym f ∙ (ap (λ (i : ℕ). slice_get order i) z ∙ e) in let t : y ≡ x = cc in absurd (ne t))
         (λ z. absurd (arrangement.in_order p r x y e f (omega arith) b)))
 
-    place : (p : ℕ) (x : Item) → slice_get order p ≡ Some x → IsPlaced good n base order p x
+    pub place : (p : ℕ) (x : Item) → slice_get order p ≡ Some x → IsPlaced good n base order p x
     place p x e =
         let l = is_legal good base (next_version n ws vs) (items_of vs) order q.items.agree (arranged (items_of vs) order arrangement) p x e in
         let mx : IsIn x (items_of vs) = (arrangement.same x).0 (p, e) in
@@ -162,14 +162,8 @@ module _ (good : List ℕ → Type 0) (n : ℕ) (base ws : List ℕ) (vs : List 
     now_is = newest_is base (items_of vs) (next_version n ws vs) (replay_items base order) (length-replay_items base order)
         (λ a lt. is_newest good base (next_version n ws vs) (items_of vs) order q.items.agree (arranged (items_of vs) order arrangement) a lt)
 
-    pub history : ((p : ℕ) (x : Item) → slice_get order p ≡ Some x → IsPlaced good n base order p x)
-        × good (replay_items base order)
-        × ((id : ℕ) (v : View) → Knows vs id v → is_attempt v.phase ≡ true → IsLegalTrace v.trace (replay_items base order))
-    history = (
-      place,
-      end_good good base (next_version n ws vs) (items_of vs) order q.items.agree (arranged (items_of vs) order arrangement),
-      λ id v k busy. subst (λ (l : List ℕ). IsLegalTrace v.trace l) now_is (q.trace.legal id v k busy),
-    )
+    pub leaves_good : good (replay_items base order)
+    leaves_good = end_good good base (next_version n ws vs) (items_of vs) order q.items.agree (arranged (items_of vs) order arrangement)
 
-pub every_arrangement : (good : List ℕ → Type 0) → EveryArrangementLegal good
-every_arrangement good n base ws vs order h q arrangement = history good n base ws vs h q order arrangement
+    pub attempts_legal : (id : ℕ) (v : View) → Knows vs id v → is_attempt v.phase ≡ true → IsLegalTrace v.trace (replay_items base order)
+    attempts_legal id v k busy = subst (λ (l : List ℕ). IsLegalTrace v.trace l) now_is (q.trace.legal id v k busy)

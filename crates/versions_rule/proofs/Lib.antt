@@ -50,3 +50,5 @@ pub mod Same
 pub mod Quiet
 -- the cut of a view in two keeps it
 pub mod Cuts
+-- the kinds of step keep the lock invariant: none is on a word of a lock
+pub mod LocksStand

@@ -30,22 +30,43 @@ pub record IsPlaced (good : List ℕ → Type 0) (n : ℕ) (base : List ℕ) (or
   pub before_own : x.entry ≡ false → (y : Item) → IsIn y order → y.entry ≡ true → y.who ≡ x.who → y.call ≡ x.call
       → (q : ℕ) × (p < q) × (slice_get order q ≡ Some y)
 
--- in every state every arrangement is a legal history, and what an attempt has done is legal behind all of it
-abbrev pub EveryArrangementLegal : (List ℕ → Type 0) → Type 0
-EveryArrangementLegal good =
+-- what is said in every state of every arrangement of the items
+abbrev pub OfEveryArrangement : (List ℕ → Type 0) → (ℕ → List ℕ → List View → List Item → Type 0) → Type 0
+OfEveryArrangement good Says =
     (n : ℕ) (base words : List ℕ) (views : List View) (order : List Item)
     → LocksHold n base words views → ValuesHold good n base words views → IsArrangement (items_of views) order
-    → ((p : ℕ) (x : Item) → slice_get order p ≡ Some x → IsPlaced good n base order p x)
-    × good (replay_items base order)
-    × ((id : ℕ) (v : View) → Knows views id v → is_attempt v.phase ≡ true → IsLegalTrace v.trace (replay_items base order))
+    → Says n base views order
 
--- where one view has all numbers and is between calls: its entries are all, and the memory is what each arrangement of
--- their items leaves of the base
-abbrev pub ClosedByAll : (List ℕ → Type 0) → Type 0
-ClosedByAll good =
+-- each of its items stands at a legal place
+abbrev pub ArePlaced : (List ℕ → Type 0) → ℕ → List ℕ → List View → List Item → Type 0
+ArePlaced good n base views order = (p : ℕ) (x : Item) → slice_get order p ≡ Some x → IsPlaced good n base order p x
+
+-- all of it leaves good words
+abbrev pub LeavesGood : (List ℕ → Type 0) → ℕ → List ℕ → List View → List Item → Type 0
+LeavesGood good n base views order = good (replay_items base order)
+
+-- what an attempt has done is legal behind all of it
+abbrev pub AttemptsAreLegal : ℕ → List ℕ → List View → List Item → Type 0
+AttemptsAreLegal n base views order = (id : ℕ) (v : View) → Knows views id v → is_attempt v.phase ≡ true → IsLegalTrace v.trace (replay_items base order)
+
+-- what is said in every state of a view between calls that has all numbers
+abbrev pub OfOneForAll : (List ℕ → Type 0) → (ℕ → List ℕ → List ℕ → View → Type 0) → Type 0
+OfOneForAll good Says =
     (n : ℕ) (base words : List ℕ) (views : List View) (id : ℕ) (v : View)
-    → LocksHold n base words views → ValuesHold good n base words views → Knows views id v → v.phase ≡ Idle → ((j : ℕ) → j < n → has j v.who ≡ true)
-    → AgreeWithVersions good base (version_at n words) (flat_map items_of_entry v.seen)
-    × ((order : List Item) × IsArrangement (flat_map items_of_entry v.seen) order)
-    × ((order : List Item) → IsArrangement (flat_map items_of_entry v.seen) order
-    → (a : ℕ) → a < length base → slice_get (replay_items base order) a ≡ Some (value_at n words a))
+    → LocksHold n base words views → ValuesHold good n base words views
+    → Knows views id v → v.phase ≡ Idle → ((j : ℕ) → j < n → has j v.who ≡ true)
+    → Says n base words v
+
+-- the items of its entries agree with the versions in the table
+abbrev pub AgreeWithTable : (List ℕ → Type 0) → ℕ → List ℕ → List ℕ → View → Type 0
+AgreeWithTable good n base words v = AgreeWithVersions good base (version_at n words) (flat_map items_of_entry v.seen)
+
+-- they have an arrangement
+abbrev pub HasArrangement : ℕ → List ℕ → List ℕ → View → Type 0
+HasArrangement n base words v = (order : List Item) × IsArrangement (flat_map items_of_entry v.seen) order
+
+-- the memory is what each of their arrangements leaves of the base
+abbrev pub MemoryIsLeft : ℕ → List ℕ → List ℕ → View → Type 0
+MemoryIsLeft n base words v =
+    (order : List Item) → IsArrangement (flat_map items_of_entry v.seen) order
+    → (a : ℕ) → a < length base → slice_get (replay_items base order) a ≡ Some (value_at n words a)
