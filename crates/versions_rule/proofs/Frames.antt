@@ -1,4 +1,5 @@
--- What a step of one seat owes that adds no entry, part by part. The seat goes from the view v to w while the words go from ws to ws'.
+-- What a step of one seat owes that adds no entry, part by part. The seat goes from the view v to w while the words go from
+-- ws to ws'.
 use Rattle.std.proofs.Common.{◌≡◌, ◌≢◌, ℕ, ◌^◌, ◌<◌, ◌≤◌, Bool, true, false, ◌⊎◌, ⊎_elim, List, [], Some, None, IsSome, slice_get, slice_index, slice_set, refl}
 use Rattle.std.proofs.Common.{sym, ap, ◌∙◌, subst, arith}
 use mathlib.Core.Logic.{dite}

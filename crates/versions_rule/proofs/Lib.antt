@@ -52,3 +52,5 @@ pub mod Quiet
 pub mod Cuts
 -- the kinds of step keep the lock invariant: none is on a word of a lock
 pub mod LocksStand
+-- the kinds of step on locks, and the end of a call, keep the value invariant
+pub mod LockKinds

@@ -7,7 +7,7 @@ use Rattle.history_model.specs.Counts.{is_open}
 use Rattle.history_model.specs.Sets.{has}
 use Rattle.history_model.specs.Table.{history_of}
 use Rattle.history_model.proofs.Changes.{JoinTouches, NewByJoin}
-use Rattle.history_model.proofs.SetLemmas.{differ, has-nil}
+use Rattle.history_model.proofs.SetLemmas.{differ, not_true, has-nil}
 use Rattle.locks_rule.specs.Actions.{Keeps, found_by}
 use Rattle.locks_rule.specs.Joins.{KeepsJoin, MayMeetNote, MayJoinSeats, spent_view, views_joined}
 use Rattle.locks_rule.specs.Locks.{LocksHold}
@@ -15,10 +15,10 @@ use Rattle.locks_rule.proofs.Own.{own}
 use Rattle.locks_rule.proofs.Asides.{aside_keeps, same_locks}
 use Rattle.locks_rule.proofs.Joining.{joins, note_union, seats_union}
 use Rattle.locks_rule.proofs.Rearranging.{rearranged}
-use Rattle.values_rule.specs.Steps.{load_value_action, store_value_action, undo_store_action, undoing_phase}
+use Rattle.values_rule.specs.Steps.{load_value_action, store_value_action, undo_store_action, undoing_phase, clear_stamp_action}
 use Rattle.versions_rule.specs.Joins.{after_note, after_joining}
 use Rattle.versions_rule.specs.Steps.{MayBeginCall, begin_call_action, MayLoadVersion, load_version_action, MayStoreVersion, store_version_action}
-use Rattle.versions_rule.specs.Steps.{MayLoadValue, MayStoreValue, MayUndoStore, MayCommitCall, commit_call_action}
+use Rattle.versions_rule.specs.Steps.{MayLoadValue, MayStoreValue, MayUndoStore, MayCommitCall, commit_call_action, MayClearStamp}
 
 pub begin_call_locks : (n : ℕ) (base : List ℕ) (j : ℕ) → Keeps (LocksHold n base) (MayBeginCall j) (begin_call_action j)
 begin_call_locks n base j ws vs id v h me may =
@@ -92,6 +92,22 @@ commit_call_locks good n base j kept ws vs id v h me may =
     (same_locks v ((commit_call_action j kept v).view (history_of vs) (found_by (commit_call_action j kept v) ws)) refl
     refl refl refl refl refl refl refl (λ i t. t)
     (λ e. let z : Releasing ≡ Idle = e in cc))
+
+pub clear_stamp_locks : (n : ℕ) (base : List ℕ) (j : ℕ) → Keeps (LocksHold n base) (MayClearStamp j) (clear_stamp_action j)
+clear_stamp_locks n base j ws vs id v h me may =
+    let o = own n base ws vs id j v h me may.who in
+    aside_keeps n base id ws vs v (clear_stamp_action j v) h me (λ t. let low = t.0 in omega (arith, o.seats, o.below)) record {
+      base = refl;
+      seats = refl;
+      who = refl;
+      bits = refl;
+      reads = refl;
+      claims = refl;
+      scans = refl;
+      asked = λ k t a. a;
+      met = λ i t. t;
+      idle = λ k e. (not_true (has k v.bits) (may.no_bit k), not_true (has k v.claims) (may.no_claim k));
+    }
 
 pub meet_note_locks : (n : ℕ) (base : List ℕ) → KeepsJoin (LocksHold n base) MayMeetNote after_note
 meet_note_locks n base ws vs id other v w h ne me it may =

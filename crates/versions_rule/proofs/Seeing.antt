@@ -1,4 +1,5 @@
--- What the invariant says to a seat in a call: what is recorded of it, who knew it, and that nobody owes a lock that it holds.
+-- What the invariant says to a seat in a call: what is recorded of it, who knew it, and that nobody owes a lock that it
+-- holds.
 use Rattle.std.proofs.Common.{◌≡◌, ◌≢◌, ℕ, ◌<◌, Bool, true, false, ◌&&◌, ⊎_elim, List, [], ◌∷◌, length, Some, slice_get, sym, ap, ◌∙◌, subst, arith}
 use Rattle.std.specs.Prelude.{slice_index}
 use Rattle.std.proofs.lemmas.Option.{slice_get_within}

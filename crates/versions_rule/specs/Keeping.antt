@@ -98,8 +98,8 @@ AsideKeeps good =
     → SameValues v w → SameWords n words after
     → ValuesHold good n base after (slice_set views id w)
 
--- a seat that makes no attempt, then or now, gives up locks or ends its call: nothing is left to undo, and what it owes
--- it holds
+-- a seat gives up locks, or ends its call, and makes no attempt then: the call is open if it was, nothing is left to undo,
+-- and what is owed is held
 pub record IsQuiet (v w : View) : Type 0 where
   pub who : w.who ≡ v.who
   pub joined : w.joined ≡ v.joined

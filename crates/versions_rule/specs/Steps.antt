@@ -1,7 +1,7 @@
 -- The kinds of step on calls, versions, values and entries where no counter orders the entries: when a seat may take one,
 -- and what it does. The seat has the number j, k is a lock, and a is a word of the memory. What a load, a store and its
--- undoing do is what they do under the rule with a counter.
-use Rattle.std.specs.Prelude.{◌≡◌, ℕ, ◌+◌, ◌^◌, ◌<◌, Bool, true, false, List, [], ◌∷◌, ◌++◌, map, length, if◌then◌else◌}
+-- undoing do is what they do under the rule with a counter, and so is what ends a call.
+use Rattle.std.specs.Prelude.{◌≡◌, ◌⊎◌, ℕ, ◌+◌, ◌^◌, ◌<◌, Bool, true, false, List, [], ◌∷◌, ◌++◌, map, length, if◌then◌else◌}
 use Rattle.history_model.specs.declared.entry.Abandoned.{Abandoned}
 use Rattle.history_model.specs.declared.entry.Entry.{Entry}
 use Rattle.history_model.specs.declared.event.Cause.{Cause}
@@ -15,8 +15,9 @@ use Rattle.history_model.specs.Sets.{has, without}
 use Rattle.history_model.specs.Table.{calls_word, commits_word, version_word}
 use Rattle.history_model.specs.Traces.{Trace, after, IsLegalTrace}
 use Rattle.history_model.specs.Undoing.{Notes}
-use Rattle.history_model.specs.Views.{number, HasWriteGrant, IsGranted}
+use Rattle.history_model.specs.Views.{number, HasBit, HasClaim, HasWriteGrant, IsGranted}
 use Rattle.locks_rule.specs.Actions.{Action}
+use Rattle.locks_rule.specs.Steps.{MayReleaseWriter}
 use Rattle.versions_rule.specs.History.{knew_of, uses_of}
 
 -- the version of lock k is loaded, while the lock is held, once in an attempt
@@ -154,3 +155,16 @@ begin_call_action j v = record {
     abandoned = [];
   };
 }
+
+-- the claim of lock k is given up, where no version of it is owed
+pub record MayReleaseUnowed (j k : ℕ) (v : View) : Type 0 where
+  pub releases : MayReleaseWriter j k v
+  pub unowed : has k v.owed ≡ false
+
+-- the call ends: 0 is stored to the own STAMPS word
+pub record MayClearStamp (j : ℕ) (v : View) : Type 0 where
+  pub who : v.who ≡ j ∷ []
+  pub phase : (is_attempt v.phase ≡ true) ⊎ (v.phase ≡ Releasing)
+  pub no_bit : (k : ℕ) → ¬ HasBit v k
+  pub no_claim : (k : ℕ) → ¬ HasClaim v k
+  pub undone : v.undo ≡ []

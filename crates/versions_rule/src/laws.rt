@@ -14,12 +14,13 @@ ghost use Rattle.locks_rule.specs.Actions.{Keeps};
 ghost use Rattle.locks_rule.specs.Joins.{KeepsJoin, MayMeetNote, MayJoinSeats, MayTakeNote, left_by_note, note_of};
 ghost use Rattle.locks_rule.specs.Locks.{LocksHold};
 ghost use Rattle.locks_rule.specs.Splits.{MaySplitSeat, left_by_split, given_by_split};
-ghost use Rattle.values_rule.specs.Steps.{load_value_action, store_value_action, undo_store_action};
+ghost use Rattle.locks_rule.specs.Steps.{MaySetReadBit, MayClearReadBit, MayLoadWriter, MayClaimWriter, MayScanRow, set_read_bit_action, clear_read_bit_action, load_writer_action, claim_writer_action, scan_row_action, release_writer_action};
+ghost use Rattle.values_rule.specs.Steps.{load_value_action, store_value_action, undo_store_action, clear_stamp_action};
 ghost use Rattle.versions_rule.specs.Closing.{OfEveryArrangement, ArePlaced, LeavesGood, AttemptsAreLegal, OfOneForAll, AgreeWithTable, HasArrangement, MemoryIsLeft};
 ghost use Rattle.versions_rule.specs.Joins.{after_note, after_joining};
 ghost use Rattle.versions_rule.specs.Keeping.{KeepsValues, KeepsValuesSplit, KeepsValuesJoin, GivingWayKeeps, RestartKeeps, GivingUpKeeps, QuietKeeps, AsideKeeps};
 ghost use Rattle.versions_rule.specs.Opening.{OpeningHolds};
-ghost use Rattle.versions_rule.specs.Steps.{MayBeginCall, begin_call_action, MayLoadVersion, load_version_action, MayStoreVersion, store_version_action, MayLoadValue, MayStoreValue, MayUndoStore, MayCommitCall, commit_call_action};
+ghost use Rattle.versions_rule.specs.Steps.{MayBeginCall, begin_call_action, MayLoadVersion, load_version_action, MayStoreVersion, store_version_action, MayLoadValue, MayStoreValue, MayUndoStore, MayCommitCall, commit_call_action, MayReleaseUnowed, MayClearStamp};
 
 use history_model::Shape;
 
@@ -80,6 +81,45 @@ pub fn store_version<S: Shape>()
         → Keeps (LocksHold n base) (MayStoreVersion j k x) (store_version_action j k x) }
     ensures values { (shape : _) (j k x : ℕ)
         → KeepsValues (S.good shape) (MayStoreVersion j k x) (store_version_action j k x) }
+{}
+
+/// A seat that ends its call keeps both invariants: it has no lock, and nothing to undo.
+pub fn clear_stamp<S: Shape>()
+    ensures locks { (n : ℕ) (base : List ℕ) (j : ℕ)
+        → Keeps (LocksHold n base) (MayClearStamp j) (clear_stamp_action j) }
+    ensures values { (shape : _) (j : ℕ) → KeepsValues (S.good shape) (MayClearStamp j) (clear_stamp_action j) }
+{}
+
+/// A seat that sets its read bit keeps the value invariant.
+pub fn set_read_bit<S: Shape>()
+    ensures { (shape : _) (j k a : ℕ) → KeepsValues (S.good shape) (MaySetReadBit j k a) (set_read_bit_action j k a) }
+{}
+
+/// A seat that looks at a writer word keeps the value invariant.
+pub fn load_writer<S: Shape>()
+    ensures { (shape : _) (j k a : ℕ) → KeepsValues (S.good shape) (MayLoadWriter j k a) (load_writer_action j k a) }
+{}
+
+/// A seat that claims a writer word keeps the value invariant.
+pub fn claim_writer<S: Shape>()
+    ensures { (shape : _) (j k a : ℕ)
+        → KeepsValues (S.good shape) (MayClaimWriter j k a) (claim_writer_action j k a) }
+{}
+
+/// A seat that scans another's row keeps the value invariant.
+pub fn scan_row<S: Shape>()
+    ensures { (shape : _) (j k i : ℕ) → KeepsValues (S.good shape) (MayScanRow j k i) (scan_row_action j k i) }
+{}
+
+/// A seat that clears its read bit keeps the value invariant: nothing is left to undo, and no attempt goes on.
+pub fn clear_read_bit<S: Shape>()
+    ensures { (shape : _) (j k : ℕ) → KeepsValues (S.good shape) (MayClearReadBit j k) (clear_read_bit_action j k) }
+{}
+
+/// A seat that gives up the claim of a lock that is owed no version keeps the value invariant.
+pub fn release_writer<S: Shape>()
+    ensures { (shape : _) (j k : ℕ)
+        → KeepsValues (S.good shape) (MayReleaseUnowed j k) (release_writer_action j k) }
 {}
 
 /// A load with which an attempt gives way keeps the value invariant, and reads no word that all share: what the attempt
