@@ -1,6 +1,6 @@
 -- The beginning of a call keeps the value invariant.
-use Rattle.std.proofs.Common.{◌≡◌, ◌≢◌, ℕ, ◌+◌, ◌^◌, ◌<◌, true, false, ◌⊎◌, inl, ⊎_elim, List, [], ◌∷◌, length, Some, None, slice_index, slice_set}
-use Rattle.std.proofs.Common.{refl, sym, ap, ◌∙◌, subst, arith, get_or-set_other, get_or-set_same}
+use Rattle.std.proofs.Common.{◌≡◌, ◌≢◌, ℕ, ◌+◌, ◌^◌, ◌<◌, true, false, ◌⊎◌, inl, ⊎_elim, List, [], ◌∷◌, length, Some, None, slice_index, slice_set, refl, sym}
+use Rattle.std.proofs.Common.{ap, ◌∙◌, subst, arith, get_or-set_other, get_or-set_same}
 use mathlib.Core.Logic.{dite}
 use native.Mathlib.Decide.{ℕ_discrete}
 use Rattle.history_model.specs.declared.view.View.{View}
@@ -12,17 +12,17 @@ use Rattle.history_model.specs.Undoing.{Notes}
 use Rattle.history_model.proofs.Places.{put_cases}
 use Rattle.history_model.proofs.SetLemmas.{has-nil, has-one, differ, not_true}
 use Rattle.locks_rule.proofs.Own.{own}
+use Rattle.values_rule.specs.Values.{value_at, oldest}
+use Rattle.values_rule.proofs.Members.{none_in}
+use Rattle.values_rule.proofs.Notes.{oldest-nil}
+use Rattle.values_rule.proofs.Asides.{fresh_trace}
 use Rattle.versions_rule.specs.History.{last_call, now_of}
 use Rattle.versions_rule.specs.Keeping.{KeepsValues}
-use Rattle.values_rule.specs.Values.{value_at, oldest}
 use Rattle.versions_rule.specs.Records.{CallsCounted}
 use Rattle.versions_rule.specs.Steps.{MayBeginCall, begin_call_action}
 use Rattle.versions_rule.proofs.Frames.{recorded_to}
-use Rattle.values_rule.proofs.Members.{none_in}
 use Rattle.versions_rule.proofs.Moves.{moves}
-use Rattle.values_rule.proofs.Notes.{oldest-nil}
 use Rattle.versions_rule.proofs.Owing.{version_kept}
-use Rattle.values_rule.proofs.Asides.{fresh_trace}
 
 pub begin_call_values : (good : List ℕ → Type 0) (j : ℕ) → KeepsValues good (MayBeginCall j) (begin_call_action j)
 begin_call_values good j n base ws vs id v h q me may =

@@ -1,5 +1,6 @@
 -- A view between calls that has all numbers has seen all entries, and the memory is what they leave.
 use Rattle.std.proofs.Common.{◌≡◌, ◌≢◌, ℕ, ◌<◌, true, inl, ⊎_elim, List, [], length, Some, None, slice_get, refl, sym, ap, ◌∙◌, subst, arith}
+use Rattle.std.specs.List.{flat_map}
 use Rattle.history_model.specs.declared.entry.Entry.{Entry}
 use Rattle.history_model.specs.declared.item.Item.{Item}
 use Rattle.history_model.specs.declared.view.View.{View}
@@ -17,17 +18,16 @@ use Rattle.history_model.proofs.ItemOrders.{is_newest}
 use Rattle.history_model.proofs.Places.{same_view}
 use Rattle.history_model.proofs.SetLemmas.{has-join_same}
 use Rattle.locks_rule.specs.Locks.{LocksHold, IsSeat}
-use Rattle.versions_rule.specs.History.{version_at, items_of_entry, items_of, owed_by, next_version}
 use Rattle.values_rule.specs.Values.{value_at, oldest}
+use Rattle.values_rule.proofs.Notes.{oldest-nil, option_cases}
+use Rattle.versions_rule.specs.History.{version_at, items_of_entry, items_of, owed_by, next_version}
 use Rattle.versions_rule.specs.Records.{IsRecorded}
 use Rattle.versions_rule.specs.Versions.{ValuesHold}
 use Rattle.versions_rule.proofs.Excludes.{open_begun}
 use Rattle.versions_rule.proofs.Frames.{agree_by}
 use Rattle.versions_rule.proofs.ItemsIn.{OfEntry, OfOpen, items_from, items_into, entry_from, entry_into, flat_map_in, in_flat_map}
 use Rattle.versions_rule.proofs.Newest.{newest-at}
-use Rattle.values_rule.proofs.Notes.{oldest-nil, option_cases}
 use Rattle.versions_rule.proofs.Owing.{not_owed}
-use Rattle.std.specs.List.{flat_map}
 
 module _ (good : List ℕ → Type 0) (n : ℕ) (base ws : List ℕ) (vs : List View) (id : ℕ) (v : View)
     (h : LocksHold n base ws vs) (q : ValuesHold good n base ws vs) (me : Knows vs id v) (rests : v.phase ≡ Idle)

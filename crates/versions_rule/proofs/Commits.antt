@@ -2,6 +2,7 @@
 -- leave is what the words are with the other seats' notes written back.
 use Rattle.std.proofs.Common.{◌≡◌, ◌≢◌, ℕ, ◌^◌, ◌<◌, ◌≤◌, Bool, true, false, ◌&&◌, ◌⊎◌, inl, inr, ⊎_elim, List, [], ◌∷◌, ◌++◌, length, Some, None, slice_get}
 use Rattle.std.proofs.Common.{slice_index, slice_set, refl, sym, ap, ◌∙◌, subst, arith, get_or-set_other, get_or-set_same, if◌then◌else◌}
+use Rattle.std.proofs.lemmas.Bool.{and_parts}
 use mathlib.Core.Logic.{dite}
 use native.Mathlib.Decide.{ℕ_discrete, dec_lt}
 use Rattle.history_model.specs.declared.entry.Entry.{Entry}
@@ -28,24 +29,22 @@ use Rattle.history_model.proofs.SetLemmas.{differ, has-join_same, has-nil}
 use Rattle.history_model.proofs.TraceAgree.{legal_agree}
 use Rattle.locks_rule.specs.Locks.{LocksHold, IsSeat}
 use Rattle.locks_rule.proofs.Own.{Own, is_own}
+use Rattle.values_rule.specs.Values.{value_at, oldest, UndoRestores, TraceCurrent}
+use Rattle.values_rule.proofs.Members.{in_join, none_in, in_first, in_second}
+use Rattle.values_rule.proofs.Notes.{oldest-nil, option_cases, is_missing}
+use Rattle.values_rule.proofs.Frames.{shut_out}
 use Rattle.versions_rule.specs.History.{last_call, knew_of, item_of_entry, items_of, version_at, owed_by, next_version, now_of, writes_lock}
 use Rattle.versions_rule.specs.Keeping.{KeepsValues}
-use Rattle.values_rule.specs.Values.{value_at, oldest, UndoRestores, TraceCurrent}
 use Rattle.versions_rule.specs.Records.{IsRecorded, Knew, KnewSoMany, AreCauses, RecordsClosed, CallsCounted, FloorAndAbandoned}
 use Rattle.versions_rule.specs.Steps.{MayCommitCall, entry_of, locks_of, after_commit, commit_call_action}
 use Rattle.versions_rule.specs.Versions.{ItemsArranged, OwedHeld, UsesCurrent, ValuesHold}
 use Rattle.versions_rule.proofs.Excludes.{attempt_open, open_begun, not_released}
-use Rattle.versions_rule.proofs.ItemsIn.{IsAttemptOf, OfEntry, OfOpen, items_from, items_into}
+use Rattle.versions_rule.proofs.ItemsIn.{IsAttemptOf, OfEntry, OfOpen, items_from, items_into, in_parts}
 use Rattle.versions_rule.proofs.Knowing.{last_least, last_is, last_more, knew_at, knew_past}
-use Rattle.values_rule.proofs.Members.{in_join, none_in, in_first, in_second}
-use Rattle.versions_rule.proofs.ItemsIn.{in_parts}
 use Rattle.versions_rule.proofs.Newest.{newest_moved, length-newest}
-use Rattle.values_rule.proofs.Notes.{oldest-nil, option_cases, is_missing}
 use Rattle.versions_rule.proofs.Owing.{Owes, owed_into, owed_same, version_kept}
 use Rattle.versions_rule.proofs.Seeing.{mine, is_j, alone, not_j, earlier, called, last_less, knew_less, nobody_owes, legal_on_values, comes_last}
 use Rattle.versions_rule.proofs.Uses.{lock_written, written_lock, use_found, found_use, item_formed, noted_lock, lock_noted}
-use Rattle.std.proofs.lemmas.Bool.{and_parts}
-use Rattle.values_rule.proofs.Frames.{shut_out}
 
 module _ (good : List ℕ → Type 0) (n : ℕ) (base ws : List ℕ) (vs : List View) (id j : ℕ) (kept : Bool) (v : View)
     (h : LocksHold n base ws vs) (q : ValuesHold good n base ws vs) (me : Knows vs id v) (may : MayCommitCall good j kept v) where

@@ -15,12 +15,11 @@ use Rattle.history_model.proofs.Places.{same_view}
 use Rattle.history_model.proofs.SetLemmas.{has-join_same}
 use Rattle.locks_rule.specs.Locks.{LocksHold}
 use Rattle.values_rule.specs.Values.{value_at, oldest}
+use Rattle.values_rule.proofs.Notes.{option_cases, is_missing}
+use Rattle.values_rule.proofs.Frames.{shut_out, attempt_runs}
 use Rattle.versions_rule.specs.Versions.{ValuesHold}
 use Rattle.versions_rule.specs.History.{items_of, next_version, now_of}
 use Rattle.versions_rule.proofs.Newest.{length-newest}
-use Rattle.values_rule.proofs.Notes.{option_cases, is_missing}
-use Rattle.values_rule.proofs.Frames.{shut_out}
-use Rattle.values_rule.proofs.Frames.{attempt_runs}
 
 module _ (good : List ℕ → Type 0) (n : ℕ) (base ws : List ℕ) (vs : List View) (id j : ℕ) (v : View) (h : LocksHold n base ws vs)
     (q : ValuesHold good n base ws vs) (me : Knows vs id v)

@@ -19,15 +19,15 @@ use Rattle.history_model.proofs.SetLemmas.{differ, has-nil, has-one, has-without
 use Rattle.locks_rule.specs.Joins.{MayTakeNote, left_by_note, note_of}
 use Rattle.locks_rule.specs.Locks.{LocksHold, IsSeat}
 use Rattle.locks_rule.specs.Splits.{MaySplitSeat, left_by_split, given_by_split}
+use Rattle.values_rule.specs.Values.{oldest, UndoRestores, TraceCurrent}
+use Rattle.values_rule.proofs.Members.{none_in}
+use Rattle.values_rule.proofs.Notes.{oldest-nil}
 use Rattle.versions_rule.specs.History.{last_call, items_of, owed_by, next_version, now_of}
 use Rattle.versions_rule.specs.Keeping.{KeepsValuesSplit}
-use Rattle.values_rule.specs.Values.{oldest, UndoRestores, TraceCurrent}
 use Rattle.versions_rule.specs.Records.{IsRecorded, RecordsClosed, CallsCounted}
 use Rattle.versions_rule.specs.Versions.{ValuesHold}
 use Rattle.versions_rule.proofs.Frames.{records_move, items_kept, now_kept}
 use Rattle.versions_rule.proofs.ItemsIn.{OfEntry, OfOpen, items_from, items_into}
-use Rattle.values_rule.proofs.Members.{none_in}
-use Rattle.values_rule.proofs.Notes.{oldest-nil}
 use Rattle.versions_rule.proofs.Owing.{owed_same}
 
 -- a part of a view that is cut

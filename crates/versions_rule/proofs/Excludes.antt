@@ -3,10 +3,10 @@ use Rattle.std.proofs.Common.{◌≡◌, ◌≢◌, ℕ, ◌<◌, true, false, i
 use Rattle.history_model.specs.declared.view.View.{View}
 use Rattle.history_model.specs.declared.view.Phase.{Phase}
 use Rattle.history_model.specs.declared.view.Phase.TheVariants.{Idle, Running, Yielding, Withdrawing, Releasing}
+use Rattle.history_model.specs.declared.TheConstants.{LOCKS}
 use Rattle.history_model.specs.Counts.{is_attempt, is_open}
 use Rattle.history_model.specs.Table.{Knows}
 use Rattle.history_model.specs.Views.{IsGranted}
-use Rattle.history_model.specs.declared.TheConstants.{LOCKS}
 use Rattle.locks_rule.specs.Locks.{LocksHold}
 use Rattle.locks_rule.proofs.Own.{lock_near}
 

@@ -21,8 +21,8 @@ use Rattle.history_model.specs.Views.{HasWriteGrant, IsGranted}
 use Rattle.history_model.proofs.ItemDrops.{drops_agree, drops_arranged, drops_values}
 use Rattle.history_model.proofs.Places.{same_view, put_here, put_there, put_cases}
 use Rattle.locks_rule.specs.Locks.{IsSeat}
-use Rattle.versions_rule.specs.History.{last_call, items_of, next_version, now_of}
 use Rattle.values_rule.specs.Values.{value_at, oldest, UndoRestores, TraceCurrent}
+use Rattle.versions_rule.specs.History.{last_call, items_of, next_version, now_of}
 use Rattle.versions_rule.specs.Records.{IsRecorded, Knew, RecordsClosed, CallsCounted}
 use Rattle.versions_rule.specs.Versions.{ItemsArranged}
 use Rattle.versions_rule.proofs.Newest.{newest_same}

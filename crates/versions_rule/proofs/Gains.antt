@@ -1,6 +1,6 @@
 -- What two lists of entries come to together.
-use Rattle.std.proofs.Common.{◌≡◌, ◌≢◌, ℕ, zero, suc, Bool, true, false, ◌&&◌, ◌⊎◌, inl, inr, ⊎_elim, List, [], ◌∷◌, ◌++◌, Some, if◌then◌else◌, refl, sym}
-use Rattle.std.proofs.Common.{ap, ◌∙◌, subst, arith, eq-eqb, ne_eqb}
+use Rattle.std.proofs.Common.{◌≡◌, ◌≢◌, ℕ, zero, suc, Bool, true, false, ◌&&◌, ◌⊎◌, inl, inr, ⊎_elim, List, [], ◌∷◌, ◌++◌, Some, if◌then◌else◌, refl, sym, ap}
+use Rattle.std.proofs.Common.{◌∙◌, subst, arith, eq-eqb, ne_eqb}
 use Rattle.std.specs.Prelude.{◌==◌}
 use Rattle.std.proofs.lemmas.Bool.{eqb-true, or_cases, or_right, and_parts}
 use mathlib.Core.Logic.{dite}
@@ -8,11 +8,11 @@ use native.Mathlib.Decide.{ℕ_discrete}
 use Rattle.history_model.specs.declared.entry.Entry.{Entry}
 use Rattle.history_model.specs.Legal.{IsIn}
 use Rattle.history_model.proofs.SetLemmas.{bool_cases, differ}
+use Rattle.values_rule.proofs.Members.{in_join, none_in, in_first, in_second}
 use Rattle.versions_rule.specs.History.{last_call}
 use Rattle.versions_rule.specs.Joins.{has_entry, lacking, gains}
 use Rattle.versions_rule.specs.Records.{IsApart}
 use Rattle.versions_rule.proofs.ItemsIn.{in_parts}
-use Rattle.values_rule.proofs.Members.{in_join, none_in, in_first, in_second}
 
 pub entry_there : (who call : ℕ) (es : List Entry) → has_entry who call es ≡ true → (x : Entry) × IsIn x es × (x.who ≡ who) × (x.call ≡ call)
 unfolding has_entry

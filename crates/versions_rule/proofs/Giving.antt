@@ -1,6 +1,7 @@
 -- An attempt that gives way keeps the value invariant: it is one item more, which wrote nothing.
 use Rattle.std.proofs.Common.{◌≡◌, ◌≢◌, ℕ, ◌<◌, true, false, ◌⊎◌, inl, inr, ⊎_elim, List, [], ◌∷◌, ◌++◌, length, slice_index, slice_set, refl, sym, ap, ◌∙◌}
 use Rattle.std.proofs.Common.{subst, arith}
+use Rattle.std.proofs.lemmas.Option.{slice_get_within}
 use mathlib.Core.Logic.{dite}
 use native.Mathlib.Decide.{ℕ_discrete}
 use Rattle.history_model.specs.declared.entry.Abandoned.{Abandoned}
@@ -19,19 +20,18 @@ use Rattle.history_model.proofs.HistoryLaws.{get_cases, get_first, get_last}
 use Rattle.history_model.proofs.ItemEnds.{ends_agree, ends_arranged, ends_moved}
 use Rattle.history_model.proofs.Places.{same_view, put_here, put_there, put_cases}
 use Rattle.history_model.proofs.SetLemmas.{differ, has-join_same}
-use Rattle.std.proofs.lemmas.Option.{slice_get_within}
 use Rattle.locks_rule.specs.Locks.{LocksHold}
+use Rattle.values_rule.specs.Values.{UndoRestores, TraceCurrent}
+use Rattle.values_rule.specs.Asides.{IsNewCause}
+use Rattle.values_rule.proofs.Members.{in_join, none_in}
 use Rattle.versions_rule.specs.History.{knew_of, item_of_attempt, items_of, owed_by, next_version, now_of}
 use Rattle.versions_rule.specs.Keeping.{GivingWayKeeps}
-use Rattle.values_rule.specs.Values.{UndoRestores, TraceCurrent}
 use Rattle.versions_rule.specs.Records.{AreCauses}
-use Rattle.values_rule.specs.Asides.{IsNewCause}
 use Rattle.versions_rule.specs.Steps.{attempt_of, after_giving_way}
 use Rattle.versions_rule.specs.Versions.{ValuesHold}
 use Rattle.versions_rule.proofs.Excludes.{open_begun, not_released}
 use Rattle.versions_rule.proofs.Frames.{records_same, calls_same, memory_same, recorded_to, recorded_from}
 use Rattle.versions_rule.proofs.ItemsIn.{IsAttemptOf, OfEntry, OfOpen, items_from, items_into, in_parts}
-use Rattle.values_rule.proofs.Members.{in_join, none_in}
 use Rattle.versions_rule.proofs.Newest.{newest_moved}
 use Rattle.versions_rule.proofs.Owing.{owed_same}
 use Rattle.versions_rule.proofs.Seeing.{is_j, legal_on_values, comes_last}

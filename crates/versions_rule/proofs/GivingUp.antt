@@ -11,15 +11,15 @@ use Rattle.history_model.specs.Table.{Knows}
 use Rattle.history_model.specs.Undoing.{Notes}
 use Rattle.history_model.proofs.Places.{same_view, put_there, put_cases}
 use Rattle.locks_rule.specs.Locks.{LocksHold}
+use Rattle.values_rule.specs.Values.{oldest, UndoRestores, TraceCurrent}
+use Rattle.values_rule.proofs.Notes.{oldest-nil}
 use Rattle.versions_rule.specs.History.{owed_by, next_version, now_of}
 use Rattle.versions_rule.specs.Keeping.{GivesUp, SameWords, GivingUpKeeps}
-use Rattle.values_rule.specs.Values.{oldest, UndoRestores, TraceCurrent}
 use Rattle.versions_rule.specs.Records.{AreCauses}
 use Rattle.versions_rule.specs.Versions.{ValuesHold}
 use Rattle.versions_rule.proofs.Asides.{is_kept, entries_stay, giving_up_drops}
 use Rattle.versions_rule.proofs.Excludes.{attempt_open, open_begun, not_released}
 use Rattle.versions_rule.proofs.Frames.{records_same, calls_same, items_kept, now_kept}
-use Rattle.values_rule.proofs.Notes.{oldest-nil}
 use Rattle.versions_rule.proofs.Owing.{owed_same}
 
 module _ (good : List ℕ → Type 0) (n : ℕ) (base ws ws' : List ℕ) (vs : List View) (id j : ℕ) (v w : View)

@@ -18,17 +18,17 @@ use Rattle.history_model.proofs.SetLemmas.{differ, has-nil}
 use Rattle.locks_rule.specs.Joins.{MayMeetNote, MayJoinSeats, spent_view}
 use Rattle.locks_rule.specs.Locks.{LocksHold, IsSeat}
 use Rattle.locks_rule.proofs.Joining.{not_one, has-append}
+use Rattle.values_rule.specs.Values.{oldest, UndoRestores, TraceCurrent}
+use Rattle.values_rule.proofs.Members.{none_in}
+use Rattle.values_rule.proofs.Notes.{oldest-nil}
 use Rattle.versions_rule.specs.History.{last_call, items_of, owed_by, next_version, now_of}
 use Rattle.versions_rule.specs.Joins.{lacking, gains, after_note, after_joining}
 use Rattle.versions_rule.specs.Keeping.{KeepsValuesJoin}
-use Rattle.values_rule.specs.Values.{oldest, UndoRestores, TraceCurrent}
 use Rattle.versions_rule.specs.Records.{IsRecorded, RecordsClosed, CallsCounted}
 use Rattle.versions_rule.specs.Versions.{ValuesHold}
 use Rattle.versions_rule.proofs.Frames.{records_move, items_kept, now_kept}
 use Rattle.versions_rule.proofs.Gains.{gains_cases, gains_first, gains_second, gains_apart, last_append, in_lacking, there_entry}
 use Rattle.versions_rule.proofs.ItemsIn.{OfEntry, OfOpen, items_from, items_into}
-use Rattle.values_rule.proofs.Members.{none_in}
-use Rattle.values_rule.proofs.Notes.{oldest-nil}
 use Rattle.versions_rule.proofs.Owing.{owed_same}
 
 -- a view that took in another

@@ -6,8 +6,8 @@ use mathlib.Core.Logic.{dite}
 use native.Mathlib.Decide.{ℕ_discrete, dec_lt}
 use Rattle.history_model.specs.declared.entry.Entry.{Entry}
 use Rattle.history_model.specs.Legal.{IsIn}
-use Rattle.versions_rule.specs.History.{last_call, knew_from, knew_of}
 use Rattle.values_rule.proofs.Members.{in_join, none_in}
+use Rattle.versions_rule.specs.History.{last_call, knew_from, knew_of}
 
 max_cases : (a b : ℕ) → (max a b ≡ a) ⊎ (max a b ≡ b)
 max_cases a b = dite (dec_lt a b) (λ l. inr (omega arith)) (λ n. inl (omega arith))

@@ -158,7 +158,7 @@ module _ (good : List ℕ → Type 0) (n : ℕ) (base ws : List ℕ) (vs : List 
         }
 
     -- the replay has the newest values
-    now_is : now_of n base ws vs ≡ replay_items base order
+    pub now_is : now_of n base ws vs ≡ replay_items base order
     now_is = newest_is base (items_of vs) (next_version n ws vs) (replay_items base order) (length-replay_items base order)
         (λ a lt. is_newest good base (next_version n ws vs) (items_of vs) order q.items.agree (arranged (items_of vs) order arrangement) a lt)
 

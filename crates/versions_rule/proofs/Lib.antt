@@ -54,3 +54,5 @@ pub mod Cuts
 pub mod LocksStand
 -- the kinds of step on locks, and the end of a call, keep the value invariant
 pub mod LockKinds
+-- the memory with all unfinished writes taken back
+pub mod Undone

@@ -1,7 +1,7 @@
 -- The kinds of step on locks, and the end of a call, keep the value invariant: those that ask for a lock take none away, a
 -- release comes with nothing to undo, and a lock that is released is owed no version.
-use Rattle.std.proofs.Common.{◌≡◌, ◌≢◌, ℕ, ◌%◌, ◌-◌, ◌<◌, ◌≤◌, true, false, inl, inr, ⊎_elim, List, [], ◌∷◌, slice_index, slice_set, refl, sym, ap, ◌∙◌}
-use Rattle.std.proofs.Common.{subst, arith, ◌==◌, get_or-set_other}
+use Rattle.std.proofs.Common.{◌≡◌, ◌≢◌, ℕ, ◌%◌, ◌-◌, ◌<◌, ◌≤◌, true, false, inl, inr, ⊎_elim, List, [], ◌∷◌, slice_index, slice_set, refl, sym, ap, ◌∙◌, subst}
+use Rattle.std.proofs.Common.{arith, ◌==◌, get_or-set_other}
 use Rattle.std.specs.Int.{bit_at}
 use Rattle.history_model.specs.declared.TheConstants.{LOCKS}
 use Rattle.history_model.specs.declared.view.View.{View}
@@ -15,8 +15,8 @@ use Rattle.history_model.proofs.SetLemmas.{differ, has-join_old, pair-join_old, 
 use Rattle.locks_rule.specs.Actions.{found_by, words_after}
 use Rattle.locks_rule.specs.Locks.{LocksHold}
 use Rattle.locks_rule.specs.Steps.{after_asking, after_meeting, released_phase, is_free, MayRelease, MaySetReadBit, MayClearReadBit, MayLoadWriter}
-use Rattle.locks_rule.specs.Steps.{MayClaimWriter, MayScanRow, set_read_bit_action, clear_read_bit_action, load_writer_action}
-use Rattle.locks_rule.specs.Steps.{claim_writer_action, scan_row_action, release_writer_action}
+use Rattle.locks_rule.specs.Steps.{MayClaimWriter, MayScanRow, set_read_bit_action, clear_read_bit_action, load_writer_action, claim_writer_action}
+use Rattle.locks_rule.specs.Steps.{scan_row_action, release_writer_action}
 use Rattle.locks_rule.proofs.Asides.{picked}
 use Rattle.locks_rule.proofs.Own.{own, lock_near}
 use Rattle.values_rule.specs.Steps.{clear_stamp_action}

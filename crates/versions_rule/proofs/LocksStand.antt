@@ -17,8 +17,8 @@ use Rattle.locks_rule.proofs.Joining.{joins, note_union, seats_union}
 use Rattle.locks_rule.proofs.Rearranging.{rearranged}
 use Rattle.values_rule.specs.Steps.{load_value_action, store_value_action, undo_store_action, undoing_phase, clear_stamp_action}
 use Rattle.versions_rule.specs.Joins.{after_note, after_joining}
-use Rattle.versions_rule.specs.Steps.{MayBeginCall, begin_call_action, MayLoadVersion, load_version_action, MayStoreVersion, store_version_action}
-use Rattle.versions_rule.specs.Steps.{MayLoadValue, MayStoreValue, MayUndoStore, MayCommitCall, commit_call_action, MayClearStamp}
+use Rattle.versions_rule.specs.Steps.{MayBeginCall, begin_call_action, MayLoadVersion, load_version_action, MayStoreVersion, store_version_action, MayLoadValue}
+use Rattle.versions_rule.specs.Steps.{MayStoreValue, MayUndoStore, MayCommitCall, commit_call_action, MayClearStamp}
 
 pub begin_call_locks : (n : ℕ) (base : List ℕ) (j : ℕ) → Keeps (LocksHold n base) (MayBeginCall j) (begin_call_action j)
 begin_call_locks n base j ws vs id v h me may =

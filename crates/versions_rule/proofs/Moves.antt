@@ -1,7 +1,7 @@
 -- What a step owes that adds no item, part by part, and that it then keeps the value invariant. One seat goes from the view
 -- v to w while the words go from ws to ws'. The parts on notes, values and traces are those of the rule with a counter.
-use Rattle.std.proofs.Common.{◌≡◌, ◌≢◌, ℕ, ◌<◌, true, ◌⊎◌, ⊎_elim, List, [], ◌∷◌, length, Option, Some, None, IsSome, slice_index, slice_set, refl}
-use Rattle.std.proofs.Common.{sym, ap, ◌∙◌, subst, arith}
+use Rattle.std.proofs.Common.{◌≡◌, ◌≢◌, ℕ, ◌<◌, true, ◌⊎◌, ⊎_elim, List, [], ◌∷◌, length, Option, Some, None, IsSome, slice_index, slice_set, refl, sym, ap}
+use Rattle.std.proofs.Common.{◌∙◌, subst, arith}
 use mathlib.Core.Logic.{dite}
 use native.Mathlib.Decide.{ℕ_discrete}
 use Rattle.history_model.specs.declared.item.Item.{Item}
@@ -19,15 +19,14 @@ use Rattle.history_model.proofs.LastEvents.{touched_by_last}
 use Rattle.history_model.proofs.Places.{same_view, put_here, put_there, put_cases}
 use Rattle.history_model.proofs.SetLemmas.{has-join_same}
 use Rattle.locks_rule.specs.Locks.{LocksHold, IsSeat}
-use Rattle.versions_rule.specs.History.{version_at, items_of, owed_by, next_version, now_of}
 use Rattle.values_rule.specs.Values.{value_at, oldest, UndoRestores, TraceCurrent}
+use Rattle.values_rule.proofs.Frames.{UndoMoves, TraceMoves, attempt_runs, shut_out}
+use Rattle.versions_rule.specs.History.{version_at, items_of, owed_by, next_version, now_of}
 use Rattle.versions_rule.specs.Records.{AreCauses, CallsCounted}
 use Rattle.versions_rule.specs.Versions.{ValuesHold}
 use Rattle.versions_rule.proofs.Asides.{OwnAttempt, aside_drops}
 use Rattle.versions_rule.proofs.Frames.{records_same, items_kept, now_kept}
 use Rattle.versions_rule.proofs.Owing.{owed_same}
-use Rattle.values_rule.proofs.Frames.{UndoMoves, TraceMoves, attempt_runs}
-use Rattle.values_rule.proofs.Frames.{shut_out}
 
 -- uses and what is owed, where these are the versions
 pub record UsesMove (ws : List ℕ) (version : ℕ → ℕ) (v w : View) : Type 0 where

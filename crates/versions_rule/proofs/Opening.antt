@@ -16,15 +16,15 @@ use Rattle.history_model.specs.Undoing.{Notes}
 use Rattle.history_model.proofs.ItemValues.{value_at-first}
 use Rattle.history_model.proofs.SetLemmas.{differ, has-nil, bool_cases}
 use Rattle.locks_rule.specs.Locks.{LocksHold}
-use Rattle.versions_rule.specs.History.{last_call, items_of, version_at, owed_by, next_version, now_of}
 use Rattle.values_rule.specs.Values.{value_at, oldest}
+use Rattle.values_rule.proofs.Members.{none_in}
+use Rattle.values_rule.proofs.Notes.{oldest-nil}
+use Rattle.versions_rule.specs.History.{last_call, items_of, version_at, owed_by, next_version, now_of}
 use Rattle.versions_rule.specs.Opening.{IsUntouched, OpeningHolds}
 use Rattle.versions_rule.specs.Records.{IsRecorded}
 use Rattle.versions_rule.specs.Versions.{ValuesHold}
 use Rattle.versions_rule.proofs.ItemsIn.{OfEntry, OfOpen, items_from}
-use Rattle.values_rule.proofs.Members.{none_in}
 use Rattle.versions_rule.proofs.Newest.{newest-at}
-use Rattle.values_rule.proofs.Notes.{oldest-nil}
 use Rattle.versions_rule.proofs.Owing.{not_owed}
 
 last-nil : (j : ℕ) → last_call j [] ≡ 0

@@ -4,8 +4,8 @@ use Rattle.std.specs.Prelude.{slice_index, nat_lt, if◌then◌else◌}
 use Rattle.std.proofs.lemmas.Bool.{lt-ltb, le-ltb, or_cases, or_left, or_right}
 use mathlib.Core.Logic.{dite}
 use native.Mathlib.Decide.{dec_lt}
-use Rattle.history_model.specs.declared.TheConstants.{LOCKS}
 use mathlib.Core.Option.{some-injective, some-ne-none}
+use Rattle.history_model.specs.declared.TheConstants.{LOCKS}
 use Rattle.history_model.specs.declared.view.View.{View}
 use Rattle.history_model.specs.Sets.{has}
 use Rattle.history_model.specs.Table.{Knows, version_word}

@@ -10,18 +10,18 @@ use Rattle.history_model.specs.Sets.{has}
 use Rattle.history_model.specs.Table.{Knows}
 use Rattle.history_model.specs.Undoing.{Notes}
 use Rattle.locks_rule.specs.Locks.{LocksHold}
+use Rattle.values_rule.specs.Values.{oldest}
+use Rattle.values_rule.proofs.Members.{none_in}
+use Rattle.values_rule.proofs.Notes.{oldest-nil}
+use Rattle.values_rule.proofs.Asides.{fresh_trace}
 use Rattle.versions_rule.specs.History.{now_of}
 use Rattle.versions_rule.specs.Keeping.{IsQuiet, SameWords, QuietKeeps, RestartKeeps}
-use Rattle.values_rule.specs.Values.{oldest}
 use Rattle.versions_rule.specs.Records.{AreCauses}
 use Rattle.versions_rule.specs.Versions.{ValuesHold}
 use Rattle.versions_rule.proofs.Excludes.{open_begun, not_released}
 use Rattle.versions_rule.proofs.Frames.{calls_same}
-use Rattle.values_rule.proofs.Members.{none_in}
 use Rattle.versions_rule.proofs.Moves.{moves}
-use Rattle.values_rule.proofs.Notes.{oldest-nil}
 use Rattle.versions_rule.proofs.Same.{same_attempt}
-use Rattle.values_rule.proofs.Asides.{fresh_trace}
 
 module _ (good : List ℕ → Type 0) (n : ℕ) (base ws ws' : List ℕ) (vs : List View) (id : ℕ) (v w : View)
     (h : LocksHold n base ws vs) (q : ValuesHold good n base ws vs) (me : Knows vs id v) (s : IsQuiet v w) (words : SameWords n ws ws') where

@@ -15,9 +15,9 @@ use Rattle.history_model.specs.Traces.{Trace, IsLegalTrace, Writes, Touches, val
 use Rattle.history_model.specs.Undoing.{Notes}
 use Rattle.history_model.specs.Views.{number}
 use Rattle.locks_rule.specs.Locks.{LocksHold}
+use Rattle.values_rule.specs.Values.{oldest}
 use Rattle.versions_rule.specs.History.{knew_of, item_of_attempt, now_of}
 use Rattle.versions_rule.specs.Keeping.{SameValues, SameWords, AsideKeeps}
-use Rattle.values_rule.specs.Values.{oldest}
 use Rattle.versions_rule.specs.Records.{AreCauses}
 use Rattle.versions_rule.specs.Versions.{ValuesHold}
 use Rattle.versions_rule.proofs.Asides.{OwnAttempt}

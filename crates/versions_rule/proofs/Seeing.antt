@@ -16,11 +16,12 @@ use Rattle.history_model.specs.Sets.{has}
 use Rattle.history_model.specs.Table.{Knows}
 use Rattle.history_model.specs.Traces.{IsLegalTrace}
 use Rattle.history_model.specs.Views.{number, IsGranted}
+use Rattle.history_model.specs.Arrangements.{ComesLast}
 use Rattle.history_model.proofs.Places.{same_view}
 use Rattle.history_model.proofs.TraceAgree.{legal_agree}
-use Rattle.history_model.specs.Arrangements.{ComesLast}
 use Rattle.locks_rule.specs.Locks.{LocksHold}
 use Rattle.locks_rule.proofs.Own.{Own, own, own_number}
+use Rattle.values_rule.proofs.Frames.{shut_out}
 use Rattle.versions_rule.specs.History.{last_call, knew_of, uses_of, items_of, owed_by, next_version, now_of, writes_lock}
 use Rattle.versions_rule.specs.Records.{IsRecorded}
 use Rattle.versions_rule.specs.Versions.{ValuesHold}
@@ -30,7 +31,6 @@ use Rattle.versions_rule.proofs.Knowing.{last_is, knew_at, knew_past}
 use Rattle.versions_rule.proofs.Newest.{newest-at, length-newest}
 use Rattle.versions_rule.proofs.Owing.{not_owed}
 use Rattle.versions_rule.proofs.Uses.{use_found, found_use}
-use Rattle.values_rule.proofs.Frames.{shut_out}
 
 module _ (good : List ℕ → Type 0) (n : ℕ) (base ws : List ℕ) (vs : List View) (id j : ℕ) (v : View)
     (h : LocksHold n base ws vs) (q : ValuesHold good n base ws vs) (me : Knows vs id v) (single : v.who ≡ j ∷ []) where

@@ -2,6 +2,7 @@
 use Rattle.std.proofs.Common.{◌≡◌, ℕ, zero, suc, Bool, true, false, ◌&&◌, ◌||◌, ⊎_elim, List, [], ◌∷◌, map, Some, slice_get, refl, sym, ap, ◌∙◌, subst, eq-eqb}
 use Rattle.std.proofs.Common.{ne_eqb}
 use Rattle.std.specs.Prelude.{◌==◌}
+use Rattle.std.proofs.lemmas.Bool.{and_parts}
 use mathlib.Core.Logic.{dite}
 use native.Mathlib.Decide.{ℕ_discrete}
 use Rattle.history_model.specs.declared.event.Event.TheVariants.{Read, Write}
@@ -14,10 +15,9 @@ use Rattle.history_model.specs.Sets.{has}
 use Rattle.history_model.specs.Traces.{Trace, Writes, Touches}
 use Rattle.history_model.specs.Undoing.{Notes}
 use Rattle.history_model.proofs.SetLemmas.{has-nil, has-join, has-join_same, has-join_old, differ}
-use Rattle.versions_rule.specs.History.{writes_lock, use_of, uses_of}
 use Rattle.values_rule.specs.Values.{oldest}
+use Rattle.versions_rule.specs.History.{writes_lock, use_of, uses_of}
 use Rattle.versions_rule.specs.Steps.{locks_of}
-use Rattle.std.proofs.lemmas.Bool.{and_parts}
 
 -- the test of a write under a lock
 pub lock_written : (k : ℕ) (t : Trace) → writes_lock k t ≡ true → (a : ℕ) × (lock_of_word a ≡ k) × Writes t a

@@ -1,9 +1,9 @@
 -- A load, a store and its undoing keep the value invariant.
-use Rattle.std.proofs.Common.{◌≡◌, ◌≢◌, ℕ, ◌-◌, ◌<◌, true, ◌⊎◌, inl, inr, ⊎_elim, List, [], ◌∷◌, ◌++◌, length, take, Option, Some, None, IsSome}
-use Rattle.std.proofs.Common.{unwrap_or, slice_get, slice_index, slice_set, refl, sym, ap, ◌∙◌, subst, arith, get_or-set_other}
+use Rattle.std.proofs.Common.{◌≡◌, ◌≢◌, ℕ, ◌-◌, ◌<◌, true, ◌⊎◌, inl, inr, ⊎_elim, List, [], ◌∷◌, ◌++◌, length, take, Option, Some, None, IsSome, unwrap_or}
+use Rattle.std.proofs.Common.{slice_get, slice_index, slice_set, refl, sym, ap, ◌∙◌, subst, arith, get_or-set_other}
+use Rattle.std.proofs.lemmas.Option.{same_Some}
 use mathlib.Core.Logic.{dite}
 use native.Mathlib.Decide.{ℕ_discrete}
-use Rattle.std.proofs.lemmas.Option.{same_Some}
 use Rattle.history_model.specs.declared.event.Event.TheVariants.{Read, Write}
 use Rattle.history_model.specs.declared.view.View.{View}
 use Rattle.history_model.specs.declared.view.Phase.{Phase}
@@ -14,28 +14,28 @@ use Rattle.history_model.specs.Table.{Knows, serial_word, calls_word, commits_wo
 use Rattle.history_model.specs.Traces.{Trace, after, Writes, Touches, value_after}
 use Rattle.history_model.specs.Undoing.{Notes}
 use Rattle.history_model.specs.Views.{HasWriteGrant, IsGranted}
+use Rattle.history_model.specs.Legal.{IsIn}
 use Rattle.history_model.proofs.EndEvents.{touches_read, writes_read, writes_first, touches_write, writes_write, last_write, last_read_same, last_read_other}
 use Rattle.history_model.proofs.EndEvents.{last_write_same, last_write_other}
 use Rattle.history_model.proofs.Places.{same_view}
 use Rattle.history_model.proofs.TraceLaws.{legal_read, legal_write}
+use Rattle.history_model.proofs.HistoryLaws.{get_last}
 use Rattle.locks_rule.specs.Locks.{LocksHold}
 use Rattle.locks_rule.proofs.Own.{own}
-use Rattle.versions_rule.specs.Keeping.{KeepsValues}
 use Rattle.values_rule.specs.Steps.{load_value_action, store_value_action, known_value, undo_store_action, undoing_phase}
-use Rattle.versions_rule.specs.Steps.{MayLoadValue, MayStoreValue, MayUndoStore}
 use Rattle.values_rule.specs.Values.{value_at, oldest}
+use Rattle.values_rule.proofs.Notes.{option_cases, is_missing, oldest_more, oldest_first, oldest_one, oldest_other, oldest_apart, older_is}
+use Rattle.values_rule.proofs.Frames.{shut_out}
+use Rattle.values_rule.proofs.ValueKinds.{in_base, set_here, set_there}
+use Rattle.versions_rule.specs.Keeping.{KeepsValues}
+use Rattle.versions_rule.specs.Steps.{MayLoadValue, MayStoreValue, MayUndoStore}
 use Rattle.versions_rule.specs.Versions.{ValuesHold}
 use Rattle.versions_rule.specs.History.{now_of}
-use Rattle.history_model.specs.Legal.{IsIn}
-use Rattle.history_model.proofs.HistoryLaws.{get_last}
 use Rattle.versions_rule.proofs.Owing.{version_kept}
 use Rattle.versions_rule.proofs.Frames.{calls_same}
 use Rattle.versions_rule.proofs.Current.{current}
 use Rattle.versions_rule.proofs.Excludes.{open_begun, not_released}
 use Rattle.versions_rule.proofs.Moves.{moves}
-use Rattle.values_rule.proofs.Notes.{option_cases, is_missing, oldest_more, oldest_first, oldest_one, oldest_other, oldest_apart, older_is}
-use Rattle.values_rule.proofs.Frames.{shut_out}
-use Rattle.values_rule.proofs.ValueKinds.{in_base, set_here, set_there}
 
 -- a word under the own exclusive lock that this seat has not noted, nobody has
 nobody_noted : (good : List ℕ → Type 0) (n : ℕ) (base ws : List ℕ) (vs : List View) (id j : ℕ) (v : View)

@@ -13,19 +13,19 @@ use Rattle.history_model.specs.Table.{Knows, version_word}
 use Rattle.history_model.specs.Views.{IsGranted}
 use Rattle.history_model.specs.Locks.{lock_of_word}
 use Rattle.history_model.specs.Traces.{Touches}
-use Rattle.versions_rule.specs.Records.{AreCauses}
 use Rattle.history_model.proofs.Places.{same_view, put_here, put_there, put_cases}
 use Rattle.locks_rule.specs.Locks.{LocksHold}
+use Rattle.values_rule.specs.Values.{UndoRestores, TraceCurrent}
+use Rattle.values_rule.proofs.Members.{in_join, none_in, in_first}
+use Rattle.versions_rule.specs.Records.{AreCauses}
 use Rattle.versions_rule.specs.History.{items_of, owed_by, next_version, now_of}
 use Rattle.versions_rule.specs.Keeping.{KeepsValues}
-use Rattle.values_rule.specs.Values.{UndoRestores, TraceCurrent}
 use Rattle.versions_rule.specs.Steps.{MayLoadVersion, load_version_action}
 use Rattle.versions_rule.specs.Versions.{ValuesHold}
 use Rattle.versions_rule.proofs.Asides.{aside_drops}
 use Rattle.versions_rule.proofs.Excludes.{not_released, granted_near}
 use Rattle.versions_rule.proofs.Frames.{records_same, calls_same, memory_same, items_kept, now_kept}
 use Rattle.versions_rule.proofs.ItemsIn.{in_parts}
-use Rattle.values_rule.proofs.Members.{in_join, none_in, in_first}
 use Rattle.versions_rule.proofs.Owing.{owed_same, version_is}
 use Rattle.versions_rule.proofs.Seeing.{mine, nobody_owes}
 

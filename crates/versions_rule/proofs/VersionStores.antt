@@ -12,21 +12,21 @@ use Rattle.history_model.specs.Legal.{IsIn}
 use Rattle.history_model.specs.Sets.{has, flag, without}
 use Rattle.history_model.specs.Table.{Knows, serial_word, calls_word, commits_word, version_word, value_word}
 use Rattle.history_model.specs.Views.{HasWriteGrant}
-use Rattle.versions_rule.specs.Records.{AreCauses}
 use Rattle.history_model.proofs.Places.{same_view, put_here, put_there, put_cases}
 use Rattle.history_model.proofs.SetLemmas.{differ, has-without_same, has-without_other, has-without}
 use Rattle.locks_rule.specs.Locks.{LocksHold}
 use Rattle.locks_rule.proofs.Own.{Own}
+use Rattle.values_rule.specs.Values.{value_at, UndoRestores, TraceCurrent}
+use Rattle.values_rule.proofs.Frames.{shut_out}
+use Rattle.versions_rule.specs.Records.{AreCauses}
 use Rattle.versions_rule.specs.History.{version_at, items_of, owed_by, next_version, now_of}
 use Rattle.versions_rule.specs.Keeping.{KeepsValues}
-use Rattle.values_rule.specs.Values.{value_at, UndoRestores, TraceCurrent}
 use Rattle.versions_rule.specs.Steps.{MayStoreVersion, store_version_action}
 use Rattle.versions_rule.specs.Versions.{ValuesHold}
 use Rattle.versions_rule.proofs.Asides.{aside_drops}
 use Rattle.versions_rule.proofs.Frames.{records_same, calls_same, memory_same, items_kept, now_kept}
 use Rattle.versions_rule.proofs.Owing.{owed_same, owed_into, not_owed, version_is, version_apart}
 use Rattle.versions_rule.proofs.Seeing.{mine}
-use Rattle.values_rule.proofs.Frames.{shut_out}
 
 module _ (good : List ℕ → Type 0) (n : ℕ) (base ws : List ℕ) (vs : List View) (id j k x : ℕ) (v : View)
     (h : LocksHold n base ws vs) (q : ValuesHold good n base ws vs) (me : Knows vs id v) (may : MayStoreVersion j k x v) where

@@ -1,6 +1,7 @@
 -- What follows from the value invariant: every arrangement of the items is a legal history, and what one view that has
 -- all numbers says of the memory.
 use Rattle.std.specs.Prelude.{◌≡◌, ℕ, ◌+◌, ◌<◌, true, false, List, length, slice_get, take, Some}
+use Rattle.std.specs.List.{flat_map}
 use Rattle.history_model.specs.declared.item.Item.{Item}
 use Rattle.history_model.specs.declared.view.View.{View}
 use Rattle.history_model.specs.declared.view.Phase.TheVariants.{Idle}
@@ -12,10 +13,10 @@ use Rattle.history_model.specs.Sets.{has}
 use Rattle.history_model.specs.Table.{Knows}
 use Rattle.history_model.specs.Traces.{IsLegalTrace}
 use Rattle.locks_rule.specs.Locks.{LocksHold}
-use Rattle.versions_rule.specs.History.{version_at, items_of_entry, items_of}
+use Rattle.values_rule.specs.Undone.{memory_of, undone_by}
 use Rattle.values_rule.specs.Values.{value_at}
+use Rattle.versions_rule.specs.History.{version_at, items_of_entry, items_of}
 use Rattle.versions_rule.specs.Versions.{ValuesHold}
-use Rattle.std.specs.List.{flat_map}
 
 -- an item at place p: its trace is legal there, and good words are left; an entry stands behind its caller's earlier
 -- entries and behind all that its pass had seen, and an attempt that gave way behind these and before its call's entry
@@ -48,6 +49,13 @@ LeavesGood good n base views order = good (replay_items base order)
 -- what an attempt has done is legal behind all of it
 abbrev pub AttemptsAreLegal : ℕ → List ℕ → List View → List Item → Type 0
 AttemptsAreLegal n base views order = (id : ℕ) (v : View) → Knows views id v → is_attempt v.phase ≡ true → IsLegalTrace v.trace (replay_items base order)
+
+-- the memory with all unfinished writes taken back is what every arrangement leaves of the base
+abbrev pub UndoingRestores : (List ℕ → Type 0) → Type 0
+UndoingRestores good =
+    (n : ℕ) (base words : List ℕ) (views : List View) (order : List Item)
+    → LocksHold n base words views → ValuesHold good n base words views → IsArrangement (items_of views) order
+    → undone_by views (memory_of n words) ≡ replay_items base order
 
 -- what is said in every state of a view between calls that has all numbers
 abbrev pub OfOneForAll : (List ℕ → Type 0) → (ℕ → List ℕ → List ℕ → View → Type 0) → Type 0

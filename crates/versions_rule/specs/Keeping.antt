@@ -10,10 +10,10 @@ use Rattle.history_model.specs.Table.{Knows, serial_word, calls_word, commits_wo
 use Rattle.locks_rule.specs.Actions.{Action, words_after, views_after}
 use Rattle.locks_rule.specs.Joins.{views_joined}
 use Rattle.locks_rule.specs.Locks.{LocksHold}
-use Rattle.versions_rule.specs.History.{version_at}
 use Rattle.values_rule.specs.Values.{value_at}
-use Rattle.versions_rule.specs.Versions.{ValuesHold}
 use Rattle.values_rule.specs.Asides.{IsNewCause}
+use Rattle.versions_rule.specs.History.{version_at}
+use Rattle.versions_rule.specs.Versions.{ValuesHold}
 use Rattle.versions_rule.specs.Steps.{after_giving_way}
 
 -- a step of a seat that may take it keeps the value invariant in every state in which the lock invariant holds too

@@ -13,8 +13,8 @@ use Rattle.history_model.specs.Sets.{has}
 use Rattle.history_model.specs.Table.{Knows, serial_word}
 use Rattle.history_model.specs.Traces.{Touches}
 use Rattle.history_model.specs.Views.{HasWriteGrant, IsGranted}
-use Rattle.versions_rule.specs.History.{version_at, items_of, next_version, now_of}
 use Rattle.values_rule.specs.Values.{UndoRestores, TraceCurrent}
+use Rattle.versions_rule.specs.History.{version_at, items_of, next_version, now_of}
 use Rattle.versions_rule.specs.Records.{RecordsClosed, CallsCounted, FloorAndAbandoned}
 
 -- the items agree with the versions of the locks, and some order of them is an arrangement

@@ -16,7 +16,7 @@ ghost use Rattle.locks_rule.specs.Locks.{LocksHold};
 ghost use Rattle.locks_rule.specs.Splits.{MaySplitSeat, left_by_split, given_by_split};
 ghost use Rattle.locks_rule.specs.Steps.{MaySetReadBit, MayClearReadBit, MayLoadWriter, MayClaimWriter, MayScanRow, set_read_bit_action, clear_read_bit_action, load_writer_action, claim_writer_action, scan_row_action, release_writer_action};
 ghost use Rattle.values_rule.specs.Steps.{load_value_action, store_value_action, undo_store_action, clear_stamp_action};
-ghost use Rattle.versions_rule.specs.Closing.{OfEveryArrangement, ArePlaced, LeavesGood, AttemptsAreLegal, OfOneForAll, AgreeWithTable, HasArrangement, MemoryIsLeft};
+ghost use Rattle.versions_rule.specs.Closing.{OfEveryArrangement, ArePlaced, LeavesGood, AttemptsAreLegal, UndoingRestores, OfOneForAll, AgreeWithTable, HasArrangement, MemoryIsLeft};
 ghost use Rattle.versions_rule.specs.Joins.{after_note, after_joining};
 ghost use Rattle.versions_rule.specs.Keeping.{KeepsValues, KeepsValuesSplit, KeepsValuesJoin, GivingWayKeeps, RestartKeeps, GivingUpKeeps, QuietKeeps, AsideKeeps};
 ghost use Rattle.versions_rule.specs.Opening.{OpeningHolds};
@@ -182,6 +182,11 @@ pub fn every_arrangement_legal<S: Shape>()
     ensures placed { (shape : _) → OfEveryArrangement (S.good shape) (ArePlaced (S.good shape)) }
     ensures leaves_good { (shape : _) → OfEveryArrangement (S.good shape) (LeavesGood (S.good shape)) }
     ensures attempts_legal { (shape : _) → OfEveryArrangement (S.good shape) AttemptsAreLegal }
+{}
+
+/// In every state the memory with all unfinished writes taken back is what every arrangement leaves.
+pub fn undoing_restores<S: Shape>()
+    ensures { (shape : _) → UndoingRestores (S.good shape) }
 {}
 
 /// Once one view between calls has all numbers, its entries are all that were committed: they agree with the versions
