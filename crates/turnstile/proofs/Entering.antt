@@ -15,10 +15,10 @@ module _ (limit inside : ℕ) (t u : Trace) (fresh : t ≡ []) (read : u ≡ t +
   was_inside s fit = was_read 1 (HasAtMost limit) t u 0 inside s s (nothing_yet t s fresh) read fit
 
   -- it is full
-  pub stays_out : limit ≤ inside → (s : List ℕ) → Fits 1 (HasAtMost limit) u s → Enters limit s false (after u s)
+  pub stays_out : limit ≤ inside → (s : List ℕ) → Fits 1 (HasAtMost limit) u s → Enters limit s false false (after u s)
   stays_out full s fit =
       let i : WasRead 0 inside s (after u s) = was_inside s fit in
-      record { room = (λ no. cc, λ lt. absurd (omega (arith, lt, i.word, full))); more = λ no. cc; same = λ _. i.same }
+      record { says_so = refl; room = (λ no. cc, λ lt. absurd (omega (arith, lt, i.word, full))); more = λ no. cc }
 
   module _ (room : inside < limit) (v : Trace) (write : EndsWithWrite u v 0 (inside + 1)) where
     -- one more came in
@@ -28,10 +28,10 @@ module _ (limit inside : ℕ) (t u : Trace) (fresh : t ≡ []) (read : u ≡ t +
         let left : after v s ≡ slice_set s 0 (inside + 1) = was_put u v 0 (inside + 1) s s i.same write in
         (i.word, ap (λ z. slice_index z 0) left ∙ get_or-set_same s 0 (inside + 1) 0 i.there)
 
-    pub comes_in : (s : List ℕ) → Fits 1 (HasAtMost limit) v s → Enters limit s true (after v s)
+    pub comes_in : (s : List ℕ) → Fits 1 (HasAtMost limit) v s → Enters limit s true true (after v s)
     comes_in s fit =
         let m : (slice_index s 0 ≡ inside) × (slice_index (after v s) 0 ≡ inside + 1) = one_more s fit in
-        record { room = (λ _. omega (arith, m.0, room), λ _. refl); more = λ _. omega (arith, m.1, m.0); same = λ no. cc }
+        record { says_so = refl; room = (λ _. omega (arith, m.0, room), λ _. refl); more = λ _. omega (arith, m.1, m.0) }
 
     pub stays_good : (s : List ℕ) → Fits 1 (HasAtMost limit) v s → HasAtMost limit (after v s)
     stays_good s fit = omega (arith, (one_more s fit).1, room)

@@ -30,7 +30,7 @@ impl Job for Enter {
 
     ghost shape = { λ job. job.room };
 
-    ghost means = { λ job s _ let_in t. Enters job.room.limit s let_in t };
+    ghost means = { λ job s kept let_in t. Enters job.room.limit s kept let_in t };
 
     fn tag(&self) -> u64 {
         0

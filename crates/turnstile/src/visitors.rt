@@ -49,8 +49,8 @@ impl Client for Visitor {
     }
 }
 
-/// Opens an empty room with this limit to the visitors: the closed table, whose one word says how many are inside at the
-/// end, and the visitors.
+/// Opens an empty room with this limit to the visitors: the closed table, whose one word says how many are inside at
+/// the end, and the visitors.
 pub fn open_room<R: Threads + Wait + Sync>(
     rt: &R,
     alloc: Global,
@@ -59,6 +59,7 @@ pub fn open_room<R: Threads + Wait + Sync>(
 ) -> Result<Ended<Visitor>, OutOfMemory>
     requires visitors { (1 ≤ length visitors.items) × (length visitors.items ≤ MOST_PASSES) }
     requires room { All (λ visitor. visitor.room ≡ room) visitors.items }
+    ensures count { IfOk result (λ ended. length ended.closed.words ≡ 1) }
     ensures few { IfOk result (λ ended. slice_index ended.closed.words 0 ≤ room.limit) }
     // Each tried as often as it was to.
     ensures tried { IfOk result (λ ended.
