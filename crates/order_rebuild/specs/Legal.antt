@@ -34,5 +34,5 @@ abbrev pub ArrangedIsOrderable : Type 0
 ArrangedIsOrderable = (items entries order : List Item) (list : List Spot) → IsArrangement items order → AreEntries list items entries
     → ((p q : ℕ) (x y : Spot) → slice_get list p ≡ Some x → slice_get list q ≡ Some y → x.caller ≡ y.caller → x.index ≡ y.index → p ≡ q)
     → ((p q : ℕ) (x y : Spot) (i j : Item) → slice_get list p ≡ Some x → slice_get list q ≡ Some y
-        → slice_get entries p ≡ Some i → slice_get entries q ≡ Some j → x.caller ≡ y.caller → x.index < y.index → WasSeenBefore i j)
+    → slice_get entries p ≡ Some i → slice_get entries q ≡ Some j → x.caller ≡ y.caller → x.index < y.index → WasSeenBefore i j)
     → Orderable list
