@@ -1,6 +1,6 @@
 //! Visitors on threads.
 
-ghost use Rattle.std.specs.Prelude.{◌≡◌, ◌≤◌, length, slice_index, All, IfOk};
+ghost use Rattle.std.specs.Prelude.{◌≡◌, ◌≤◌, [], ◌∷◌, length, slice_index, All, IfOk};
 ghost use Rattle.word_table.specs.declared.limits.TheConstants.{MOST_PASSES};
 ghost use Rattle.txn_threads.specs.Clients.{HaveWorked};
 ghost use Rattle.turnstile.specs.Visiting.{HasTried};
@@ -59,6 +59,7 @@ pub fn open_room<R: Threads + Wait + Sync>(
 ) -> Result<Ended<Visitor>, OutOfMemory>
     requires visitors { (1 ≤ length visitors.items) × (length visitors.items ≤ MOST_PASSES) }
     requires room { All (λ visitor. visitor.room ≡ room) visitors.items }
+    ensures empty { IfOk result (λ ended. ended.closed.base ≡ 0 ∷ []) }
     ensures count { IfOk result (λ ended. length ended.closed.words ≡ 1) }
     ensures few { IfOk result (λ ended. slice_index ended.closed.words 0 ≤ room.limit) }
     // Each tried as often as it was to.
