@@ -15,8 +15,8 @@ use Rattle.script_reader.proofs.Cutting.{line-append}
 use Rattle.books_report.specs.declared.limits.TheConstants.{RESTARTS_BELOW}
 use Rattle.books_report.specs.declared.line.Line.{Line}
 use Rattle.books_report.specs.Words.{reply_words}
-use Rattle.books_report.specs.Output.{Ran, places_of, reply_to, books_left, books_after, journal_line}
-use Rattle.books_report.specs.Lines.{place_of, ran_of}
+use Rattle.books_report.specs.Output.{Ran, places_run, reply_to, books_left, books_after, journal_line}
+use Rattle.books_report.specs.Lines.{place_of_line, ran_of_line}
 use Rattle.books_report.specs.Checking.{MayFollow}
 use Rattle.books_report.specs.Inner.Audit.{HasRun, BeginsWithLine, four_words}
 use Rattle.books_report.proofs.Turns.{turns, turns-push, books_after_ran, turns_more}
@@ -70,37 +70,37 @@ module _ (input : ClearingInput) (scripts : List Ran) (books : ClearingBooks) (d
       record { within = m.next.left.0; left = omega (arith, done_of ran m, m.next.left.1); below = m.below; rest = words.0; text_is = is ∙ words.1 }
 
   module _ (l : Line) (answer : Reply) (after : ClearingBooks) (new : List ℕ) (even : length done
-      ≡ length input.callers) (found : IsPlace input (place_of l)) (index_is : l.index ≡ slice_index done l.caller)
+      ≡ length input.callers) (found : IsPlace input (place_of_line l)) (index_is : l.index ≡ slice_index done l.caller)
       (replied : answer ≡ (outcome_of (script_at input l.caller l.index) books).0) (left_are : after
       ≡ (outcome_of (script_at input l.caller l.index) books).1) (new_are : new ≡ set done l.caller (l.index + 1)) where
     -- a script that may follow, and that the line names, is the line's
     same_ran : (ran : Ran) → MayFollow input RESTARTS_BELOW scripts ran
-        → l ≡ record { caller = ran.place.caller; index = slice_index done ran.place.caller; restarts = ran.restarts } → ran ≡ ran_of l answer
+        → l ≡ record { caller = ran.place.caller; index = slice_index done ran.place.caller; restarts = ran.restarts } → ran ≡ ran_of_line l answer
     same_ran ran m is = λ i. record { place = place i; restarts = restarts i; reply = reply i }
       where
-        place : ran.place ≡ place_of l
+        place : ran.place ≡ place_of_line l
         place = λ i. record { caller = sym (ap (λ (x : Line). x.caller) is) i; index = (sym (done_of ran m) ∙ sym (ap (λ (x : Line). x.index) is)) i }
 
         restarts : ran.restarts ≡ l.restarts
         restarts = sym (ap (λ (x : Line). x.restarts) is)
 
         reply : ran.reply ≡ answer
-        reply = m.reply ∙ ap (reply_to input (books_after input input.books (places_of scripts))) place
-            ∙ ap (λ b. reply_to input b (place_of l)) (sym run.books_are) ∙ sym replied
+        reply = m.reply ∙ ap (reply_to input (books_after input input.books (places_run scripts))) place
+            ∙ ap (λ b. reply_to input b (place_of_line l)) (sym run.books_are) ∙ sym replied
 
     -- so the text begins with the line that is expected
     pub expected_begins : (serial : ℕ) (text name expected : List ℕ) (ran : Ran) (behind : List ℕ)
-        → length scripts + 1 ≡ serial → name ≡ (caller_at input l.caller).name → expected ≡ journal_line serial name (ran_of l answer)
+        → length scripts + 1 ≡ serial → name ≡ (caller_at input l.caller).name → expected ≡ journal_line serial name (ran_of_line l answer)
         → MayFollow input RESTARTS_BELOW scripts ran
         → l ≡ record { caller = ran.place.caller; index = slice_index done ran.place.caller; restarts = ran.restarts }
         → text ≡ journal_line (length scripts + 1) (caller_at input ran.place.caller).name ran ++ behind → text ≡ expected ++ behind
     expected_begins serial text name expected ran behind at named written m is e =
         let same = same_ran ran m is in
         e ∙ ap (λ l. l ++ behind) ((λ i. journal_line (at i) (caller_at input (same i).place.caller).name (same i))
-        ∙ ap (λ n. journal_line serial n (ran_of l answer)) (sym named) ∙ sym written)
+        ∙ ap (λ n. journal_line serial n (ran_of_line l answer)) (sym named) ∙ sym written)
 
     -- where it begins with the line that is expected, one more script was run
-    done_after : (c : ℕ) → c < length input.callers → slice_index new c ≡ turns (places_of scripts) c + cond (l.caller == c) 1 0
+    done_after : (c : ℕ) → c < length input.callers → slice_index new c ≡ turns (places_run scripts) c + cond (l.caller == c) 1 0
     done_after c within = elim (eqb_tells l.caller c) [
       | inl same ↦ ap (λ xs. slice_index xs c) new_are ∙ ap (λ k. slice_index (set done k (l.index + 1)) c) same.1
           ∙ get_or-set_same done c (l.index + 1) 0 (omega (arith, even, within))
@@ -111,26 +111,26 @@ module _ (input : ClearingInput) (scripts : List Ran) (books : ClearingBooks) (d
     ]
 
     pub begins_with_line : (serial : ℕ) (text name expected behind : List ℕ) → length scripts + 1 ≡ serial
-        → name ≡ (caller_at input l.caller).name → expected ≡ journal_line serial name (ran_of l answer)
+        → name ≡ (caller_at input l.caller).name → expected ≡ journal_line serial name (ran_of_line l answer)
         → l.restarts < RESTARTS_BELOW → text ≡ expected ++ behind → BeginsWithLine input scripts text behind after new
     begins_with_line serial text name expected behind at named written below e = record {
-      ran = ran_of l answer;
+      ran = ran_of_line l answer;
       may_follow = may;
-      text_is = e ∙ ap (λ l. l ++ behind) (written ∙ (λ i. journal_line (sym at i) (named i) (ran_of l answer)));
+      text_is = e ∙ ap (λ l. l ++ behind) (written ∙ (λ i. journal_line (sym at i) (named i) (ran_of_line l answer)));
       has_run = record {
-        in_turn = turns_more input RESTARTS_BELOW [] scripts (ran_of l answer) run.in_turn may;
-        books_are = left_are ∙ ap (λ b. books_left input b (place_of l)) run.books_are ∙ sym (books_after_ran input scripts (ran_of l answer));
+        in_turn = turns_more input RESTARTS_BELOW [] scripts (ran_of_line l answer) run.in_turn may;
+        books_are = left_are ∙ ap (λ b. books_left input b (place_of_line l)) run.books_are ∙ sym (books_after_ran input scripts (ran_of_line l answer));
         done_are = λ c within. done_after c within ∙ sym (turns_of_more c);
       };
     }
       where
-        may : MayFollow input RESTARTS_BELOW scripts (ran_of l answer)
+        may : MayFollow input RESTARTS_BELOW scripts (ran_of_line l answer)
         may = record {
           next = record { left = found; next = index_is ∙ run.done_are l.caller found.0 };
           below = below;
-          reply = replied ∙ ap (λ b. reply_to input b (place_of l)) run.books_are;
+          reply = replied ∙ ap (λ b. reply_to input b (place_of_line l)) run.books_are;
         }
 
-        turns_of_more : (c : ℕ) → turns (places_of (scripts ++ ran_of l answer ∷ [])) c ≡ turns (places_of scripts) c + cond (l.caller == c) 1 0
-        turns_of_more c = ap (λ places. turns places c) (map_push (λ (r : Ran). r.place) scripts (ran_of l answer))
-            ∙ turns-push (places_of scripts) (place_of l) c
+        turns_of_more : (c : ℕ) → turns (places_run (scripts ++ ran_of_line l answer ∷ [])) c ≡ turns (places_run scripts) c + cond (l.caller == c) 1 0
+        turns_of_more c = ap (λ places. turns places c) (map_push (λ (r : Ran). r.place) scripts (ran_of_line l answer))
+            ∙ turns-push (places_run scripts) (place_of_line l) c

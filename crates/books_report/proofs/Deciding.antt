@@ -7,7 +7,7 @@ use Rattle.std.proofs.lemmas.Bool.Decides.{eqb_tells}
 use Rattle.script_reader.specs.Text.{line}
 use Rattle.script_reader.specs.Input.{ClearingInput, IsInput, caller_at, count_scripts}
 use Rattle.script_reader.specs.Journal.{Place}
-use Rattle.books_report.specs.Output.{Ran, places_of, reply_to, books_after, journal_line, IsOutput}
+use Rattle.books_report.specs.Output.{Ran, places_run, reply_to, books_after, journal_line, IsOutput}
 use Rattle.books_report.specs.Checking.{MayFollow, FollowInTurn, lines_of, closing_lines}
 use Rattle.books_report.specs.Statements.{HasWrongLine}
 use Rattle.books_report.specs.Inner.Audit.{StopsBefore, StopsAfter}
@@ -73,8 +73,8 @@ lines_or_not (line ∷ lines) text = by (begins_or_not line text) (lines_or_not 
 module _ (input : ClearingInput) (limit : ℕ) (ours : List Ran) (left : List ℕ) where
   -- the next script of a caller, with so many restarts
   abbrev next_of : ℕ → ℕ → Ran
-  next_of c r = let place : Place = record { caller = c; index = turns (places_of ours) c } in
-      record { place = place; restarts = r; reply = reply_to input (books_after input input.books (places_of ours)) place }
+  next_of c r = let place : Place = record { caller = c; index = turns (places_run ours) c } in
+      record { place = place; restarts = r; reply = reply_to input (books_after input input.books (places_run ours)) place }
 
   abbrev its_line : Ran → List ℕ
   its_line ran = journal_line (length ours + 1) (caller_at input ran.place.caller).name ran
@@ -84,16 +84,16 @@ module _ (input : ClearingInput) (limit : ℕ) (ours : List Ran) (left : List �
   Begins c r = (after : List ℕ) × (left ≡ its_line (next_of c r) ++ after)
 
   abbrev HasLine : ℕ → Type 0
-  HasLine c = (turns (places_of ours) c < length (caller_at input c).scripts) × ((r : ℕ) × (r < limit) × Begins c r)
+  HasLine c = (turns (places_run ours) c < length (caller_at input c).scripts) × ((r : ℕ) × (r < limit) × Begins c r)
 
   begins_tells : (c r : ℕ) → Begins c r ⊎ ¬ Begins c r
   begins_tells c r = elim (begins_or_not (its_line (next_of c r)) left) [ inl begins ↦ inl begins | inr none ↦ inr (λ b. none b.0 b.1) ]
 
   line_tells : (c : ℕ) → HasLine c ⊎ ¬ HasLine c
-  line_tells c = by (cases_lt (turns (places_of ours) c) (length (caller_at input c).scripts)) (some_below (Begins c) (begins_tells c) limit)
+  line_tells c = by (cases_lt (turns (places_run ours) c) (length (caller_at input c).scripts)) (some_below (Begins c) (begins_tells c) limit)
     where
-      by : (turns (places_of ours) c < length (caller_at input c).scripts)
-          ⊎ (length (caller_at input c).scripts ≤ turns (places_of ours) c) → ((r : ℕ) × (r < limit) × Begins c r)
+      by : (turns (places_run ours) c < length (caller_at input c).scripts)
+          ⊎ (length (caller_at input c).scripts ≤ turns (places_run ours) c) → ((r : ℕ) × (r < limit) × Begins c r)
           ⊎ ((r : ℕ) → r < limit → Begins c r → ⊥) → HasLine c ⊎ ¬ HasLine c
       by (inl less) (inl found) = inl (less, found)
       by (inl less) (inr none) = inr (λ h. none h.1.0 h.1.1 h.1.2)
@@ -114,7 +114,7 @@ module _ (input : ClearingInput) (limit : ℕ) (ours : List Ran) (left : List �
       same_line ran m = λ i. journal_line (length ours + 1) (caller_at input ran.place.caller).name (record {
         place = record { caller = ran.place.caller; index = m.next.next i };
         restarts = ran.restarts;
-        reply = (m.reply ∙ ap (λ n. reply_to input (books_after input input.books (places_of ours))
+        reply = (m.reply ∙ ap (λ n. reply_to input (books_after input input.books (places_run ours))
             (record { caller = ran.place.caller; index = n })) m.next.next) i;
       })
 
@@ -176,13 +176,13 @@ module _ (input : ClearingInput) (limit : ℕ) (valid : IsInput input) (text : L
   decided_behind : (fuel : ℕ) (ours : List Ran) (left : List ℕ) → FollowInTurn input limit [] ours
       → text ≡ concat (journal_so_far input ours) ++ left → fuel + length ours ≡ count_scripts input.callers
       → IsOutput input limit text ⊎ HasWrongLine input limit text
-  decided_behind zero ours left t e all = by (lines_or_not (closing_lines (books_after input input.books (places_of ours))) left)
+  decided_behind zero ours left t e all = by (lines_or_not (closing_lines (books_after input input.books (places_run ours))) left)
     where
       run : length ours ≡ count_scripts input.callers
       run = omega (arith, all)
 
-      by : (left ≡ concat (closing_lines (books_after input input.books (places_of ours))))
-          ⊎ ((count : ℕ) × StopsAfter (closing_lines (books_after input input.books (places_of ours))) left count)
+      by : (left ≡ concat (closing_lines (books_after input input.books (places_run ours))))
+          ⊎ ((count : ℕ) × StopsAfter (closing_lines (books_after input input.books (places_run ours))) left count)
           → IsOutput input limit text ⊎ HasWrongLine input limit text
       by (inl same) = inl (is_output input limit valid text ours left t e run same)
       by (inr (count, s)) = inr (length ours + count + 2, wrong_closing input limit valid text ours left t e run count s)

@@ -10,7 +10,7 @@ use Rattle.script_reader.specs.Lines.{word_at}
 use Rattle.script_reader.specs.Text.{line}
 use Rattle.script_reader.specs.Input.{Caller, ClearingInput, IsInput, IsName, caller_at, count_scripts}
 use Rattle.script_reader.proofs.Cutting.{line_once}
-use Rattle.books_report.specs.Output.{Ran, places_of, reply_to, books_after, journal_line}
+use Rattle.books_report.specs.Output.{Ran, places_run, reply_to, books_after, journal_line}
 use Rattle.books_report.specs.Checking.{IsNext, MayFollow, FollowInTurn, lines_of, closing_lines, lines_behind, output_lines}
 use Rattle.books_report.proofs.Turns.{turns, gone_of, none_left}
 use Rattle.books_report.proofs.Rows.{journal_words, journal-AreWords, caller_named, behind_all, behind_some}
@@ -26,7 +26,7 @@ length-lines_of input serial (ran ∷ scripts) = ap suc (length-lines_of input (
 
 -- a script that may follow some may follow others at the same places
 pub follows_others : (input : ClearingInput) (limit : ℕ) (before other : List Ran) (ran : Ran)
-    → places_of before ≡ places_of other → MayFollow input limit before ran → MayFollow input limit other ran
+    → places_run before ≡ places_run other → MayFollow input limit before ran → MayFollow input limit other ran
 follows_others input limit before other ran same m = record {
   next = subst (λ places. IsNext input places ran.place) same m.next;
   below = m.below;
@@ -46,7 +46,7 @@ pub record GoesOn (input : ClearingInput) (limit : ℕ) (before other ours their
   pub same : List Ran
   pub more : List Ran
   pub parts : theirs ≡ same ++ more
-  pub places : places_of (other ++ same) ≡ places_of (before ++ ours)
+  pub places : places_run (other ++ same) ≡ places_run (before ++ ours)
   pub in_turn : FollowInTurn input limit (other ++ same) more
   pub lines : lines_of input (serial + length ours) more ++ behind ≡ left
 
@@ -59,7 +59,7 @@ goes_on_later input limit before other ran ran' ours theirs serial left behind g
   same = ran' ∷ g.same;
   more = g.more;
   parts = ap (λ l. ran' ∷ l) g.parts;
-  places = ap places_of (sym (append_assoc other (ran' ∷ []) g.same)) ∙ g.places ∙ ap places_of (append_assoc before (ran ∷ []) ours);
+  places = ap places_run (sym (append_assoc other (ran' ∷ []) g.same)) ∙ g.places ∙ ap places_run (append_assoc before (ran ∷ []) ours);
   in_turn = subst (λ l. FollowInTurn input limit l g.more) (append_assoc other (ran' ∷ []) g.same) g.in_turn;
   lines = subst (λ n. lines_of input n g.more ++ behind ≡ left) number g.lines;
 }
@@ -87,7 +87,7 @@ module _ (input : ClearingInput) (valid : IsInput input) where
 
 module _ (input : ClearingInput) (limit : ℕ) (valid : IsInput input) where
   -- equal lines, behind scripts at the same places, are of one script
-  same_place : (before other : List Ran) (ran ran' : Ran) (serial : ℕ) → places_of before ≡ places_of other
+  same_place : (before other : List Ran) (ran ran' : Ran) (serial : ℕ) → places_run before ≡ places_run other
       → MayFollow input limit before ran → MayFollow input limit other ran'
       → journal_line serial (caller_at input ran.place.caller).name ran
       ≡ journal_line serial (caller_at input ran'.place.caller).name ran' → ran.place ≡ ran'.place
@@ -103,14 +103,14 @@ module _ (input : ClearingInput) (limit : ℕ) (valid : IsInput input) where
 
   -- scripts that have the lines of others go on behind them
   goes_on : (before other ours theirs : List Ran) (serial : ℕ) (left behind : List (List ℕ))
-      → places_of before ≡ places_of other → FollowInTurn input limit before ours → FollowInTurn input limit other theirs
+      → places_run before ≡ places_run other → FollowInTurn input limit before ours → FollowInTurn input limit other theirs
       → length ours ≤ length theirs → lines_of input serial theirs ++ behind ≡ lines_of input serial ours ++ left
       → GoesOn input limit before other ours theirs serial left behind
   goes_on before other [] theirs serial left behind same t u le e = record {
     same = [];
     more = theirs;
     parts = refl;
-    places = ap places_of (append-nil other) ∙ sym same ∙ ap places_of (sym (append-nil before));
+    places = ap places_run (append-nil other) ∙ sym same ∙ ap places_run (sym (append-nil before));
     in_turn = subst (λ l. FollowInTurn input limit l theirs) (sym (append-nil other)) u;
     lines = subst (λ n. lines_of input n theirs ++ behind ≡ left) nothing e;
   }
@@ -121,7 +121,7 @@ module _ (input : ClearingInput) (limit : ℕ) (valid : IsInput input) where
   goes_on before other (ran ∷ ours) (ran' ∷ theirs) serial left behind same t u le e =
       let first : journal_line serial (caller_at input ran.place.caller).name ran ≡ journal_line serial (caller_at input ran'.place.caller).name ran' = cc in
       let place : ran.place ≡ ran'.place = same_place before other ran ran' serial same t.0 u.0 first in
-      let both : places_of (before ++ ran ∷ []) ≡ places_of (other ++ ran' ∷ []) =
+      let both : places_run (before ++ ran ∷ []) ≡ places_run (other ++ ran' ∷ []) =
       map_push (λ (r : Ran). r.place) before ran ∙ (λ i. same i ++ place i ∷ []) ∙ sym (map_push (λ (r : Ran). r.place) other ran') in
       goes_on_later input limit before other ran ran' ours theirs serial left behind
       (goes_on (before ++ ran ∷ []) (other ++ ran' ∷ []) ours theirs (serial + 1) left behind both t.1 u.1 (omega arith) cc)
@@ -158,18 +158,18 @@ module _ (input : ClearingInput) (limit : ℕ) (valid : IsInput input) where
   -- behind all scripts there are the closing lines, and no others
   pub closing_of_all : (ours theirs : List Ran) (left : List (List ℕ)) → FollowInTurn input limit [] ours
       → FollowInTurn input limit [] theirs → length ours ≡ count_scripts input.callers
-      → output_lines input theirs ≡ journal_so_far input ours ++ left → closing_lines (books_after input input.books (places_of ours)) ≡ left
+      → output_lines input theirs ≡ journal_so_far input ours ++ left → closing_lines (books_after input input.books (places_run ours)) ≡ left
   closing_of_all ours theirs left t u all e = by g.more g.in_turn g.parts g.lines
     where
       g : GoesOn input limit [] [] ours theirs 1 left (lines_behind input theirs)
       g = goes_on_behind ours theirs left t u (omega (arith, all)) e
 
       by : (more : List Ran) → FollowInTurn input limit g.same more → theirs ≡ g.same ++ more
-          → lines_of input (1 + length ours) more ++ lines_behind input theirs ≡ left → closing_lines (books_after input input.books (places_of ours)) ≡ left
+          → lines_of input (1 + length ours) more ++ lines_behind input theirs ≡ left → closing_lines (books_after input input.books (places_run ours)) ≡ left
       by [] turns parts lines =
           let same : theirs ≡ g.same = parts ∙ append-nil g.same in
-          ap (λ places. closing_lines (books_after input input.books places)) (sym g.places ∙ ap places_of (sym same))
+          ap (λ places. closing_lines (books_after input input.books places)) (sym g.places ∙ ap places_run (sym same))
           ∙ sym (behind_all input theirs (ap length same ∙ length_of_same ours theirs left (lines_behind input theirs) g ∙ all)) ∙ lines
       by (ran ∷ more) turns parts lines =
-          absurd (none_left input (places_of ours) ran.place (gone_of input limit ours t)
+          absurd (none_left input (places_run ours) ran.place (gone_of input limit ours t)
           (length-map ours (λ (r : Ran). r.place) ∙ all) (subst (λ places. IsNext input places ran.place) g.places turns.0.next))

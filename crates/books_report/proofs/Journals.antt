@@ -12,7 +12,7 @@ use Rattle.books_report.specs.declared.line.Line.{Line}
 use Rattle.books_model.specs.Words.{value_word}
 use Rattle.books_report.specs.Words.{reply_words}
 use Rattle.books_report.specs.Output.{journal_line, journal_lines}
-use Rattle.books_report.specs.Lines.{ran_of, scripts_of}
+use Rattle.books_report.specs.Lines.{ran_of_line, scripts_of}
 
 -- one more element, by its place
 pub take_next : {A : Type 0} (xs : List A) (i : ℕ) (x : A) → slice_get xs i ≡ Some x → take (i + 1) xs ≡ take i xs ++ x ∷ []
@@ -47,11 +47,11 @@ done_values text pushed now values word rest =
 pub line_next : (input : ClearingInput) (whole before now name : List ℕ) (serial : ℕ) (lines left : List Line)
     (replies others : List Reply) (l : Line) (answer : Reply)
     → before ++ journal_lines input serial (scripts_of lines replies) ≡ whole → lines ≡ l ∷ left → replies ≡ answer ∷ others
-    → name ≡ (caller_at input l.caller).name → now ≡ before ++ journal_line serial name (ran_of l answer)
+    → name ≡ (caller_at input l.caller).name → now ≡ before ++ journal_line serial name (ran_of_line l answer)
     → now ++ journal_lines input (serial + 1) (scripts_of left others) ≡ whole
 line_next input whole before now name serial lines left replies others l answer so_far next answered named written =
     let later = journal_lines input (serial + 1) (scripts_of left others) in
-    ap (λ text. text ++ later) (written ∙ ap (λ n. before ++ journal_line serial n (ran_of l answer)) named)
-    ∙ append_assoc before (journal_line serial (caller_at input l.caller).name (ran_of l answer)) later
+    ap (λ text. text ++ later) (written ∙ ap (λ n. before ++ journal_line serial n (ran_of_line l answer)) named)
+    ∙ append_assoc before (journal_line serial (caller_at input l.caller).name (ran_of_line l answer)) later
     ∙ sym (λ i. before ++ journal_lines input serial (scripts_of (next i) (answered i)))
     ∙ so_far

@@ -22,7 +22,7 @@ use Rattle.script_reader.specs.Input.{ClearingInput, IsInput, IsName, caller_at,
 use Rattle.script_reader.proofs.Cutting.{free-append, line_once, word_from_test}
 use Rattle.script_reader.proofs.Submitting.{caller-AreWords}
 use Rattle.books_report.specs.Words.{reply_words}
-use Rattle.books_report.specs.Output.{Ran, places_of, journal_line, journal_lines, books_after, output_of}
+use Rattle.books_report.specs.Output.{Ran, places_run, journal_line, journal_lines, books_after, output_of}
 use Rattle.books_report.specs.Checking.{FollowInTurn, lines_of, closing_lines, lines_behind, output_lines}
 
 -- bytes that are one line
@@ -203,8 +203,8 @@ module _ (input : ClearingInput) (limit : ℕ) (valid : IsInput input) where
   behind_rows : (scripts : List Ran) → AllByRecursion IsRow (lines_behind input scripts)
   behind_rows scripts = by (length scripts == count_scripts input.callers)
     where
-      by : (all : Bool) → AllByRecursion IsRow (if all then closing_lines (books_after input input.books (places_of scripts)) else [])
-      by true = closing_rows (books_after input input.books (places_of scripts))
+      by : (all : Bool) → AllByRecursion IsRow (if all then closing_lines (books_after input input.books (places_run scripts)) else [])
+      by true = closing_rows (books_after input input.books (places_run scripts))
       by false = tt
 
   -- the lines of an output
@@ -217,14 +217,14 @@ module _ (input : ClearingInput) (limit : ℕ) (valid : IsInput input) where
 
 -- behind all scripts stand the closing lines
 pub behind_all : (input : ClearingInput) (scripts : List Ran) → length scripts ≡ count_scripts input.callers
-    → lines_behind input scripts ≡ closing_lines (books_after input input.books (places_of scripts))
+    → lines_behind input scripts ≡ closing_lines (books_after input input.books (places_run scripts))
 behind_all input scripts all =
-    ap (λ b. if b then closing_lines (books_after input input.books (places_of scripts)) else []) (eq-eqb (length scripts) (count_scripts input.callers) all)
+    ap (λ b. if b then closing_lines (books_after input input.books (places_run scripts)) else []) (eq-eqb (length scripts) (count_scripts input.callers) all)
 
 -- and none as long as one is left
 pub behind_some : (input : ClearingInput) (scripts : List Ran) → length scripts < count_scripts input.callers → lines_behind input scripts ≡ []
 behind_some input scripts less =
-    ap (λ b. if b then closing_lines (books_after input input.books (places_of scripts)) else [])
+    ap (λ b. if b then closing_lines (books_after input input.books (places_run scripts)) else [])
     (ne_eqb (length scripts) (count_scripts input.callers) (λ same. omega (arith, same, less)))
 
 -- the texts of two lists of lines together
@@ -270,8 +270,8 @@ pub output_text : (input : ClearingInput) (scripts : List Ran) → length script
 output_text input scripts all =
     let title = line (codes "journal" ∷ []) in
     let journal = journal_lines input 1 scripts in
-    let books = books_lines (books_after input input.books (places_of scripts)) in
+    let books = books_lines (books_after input input.books (places_run scripts)) in
     ap (λ l. title ++ l) (
     concat-both (lines_of input 1 scripts) (lines_behind input scripts)
-    ∙ (λ i. journal_text input 1 scripts i ++ (ap concat (behind_all input scripts all) ∙ closing_text (books_after input input.books (places_of scripts))) i))
+    ∙ (λ i. journal_text input 1 scripts i ++ (ap concat (behind_all input scripts all) ∙ closing_text (books_after input input.books (places_run scripts))) i))
     ∙ sym (append_assoc (title ++ journal) books finish_line ∙ append_assoc title journal (books ++ finish_line))

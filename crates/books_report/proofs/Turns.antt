@@ -12,7 +12,7 @@ use Rattle.books_model.specs.Books.{ClearingBooks}
 use Rattle.script_reader.specs.Input.{Caller, ClearingInput, caller_at, count_scripts}
 use Rattle.script_reader.specs.Journal.{Place, IsPlace, IsJournal}
 use Rattle.script_reader.proofs.Sections.{all_follow}
-use Rattle.books_report.specs.Output.{Ran, places_of, books_left, replies_of, books_after}
+use Rattle.books_report.specs.Output.{Ran, places_run, books_left, replies_of, books_after}
 use Rattle.books_report.specs.Checking.{IsNext, MayFollow, FollowInTurn}
 use Rattle.books_report.proofs.Classes.{sums, sums-same, sums-ones, sums-tight, by_classes, sum_by_all}
 
@@ -81,16 +81,16 @@ gone_none input = record {
 }
 
 -- scripts in turn, behind others
-pub gone_by_turns : (input : ClearingInput) (limit : ℕ) (before scripts : List Ran) → Gone input (places_of before)
-    → FollowInTurn input limit before scripts → Gone input (places_of (before ++ scripts))
-gone_by_turns input limit before [] h t = subst (λ l. Gone input (places_of l)) (sym (append-nil before)) h
+pub gone_by_turns : (input : ClearingInput) (limit : ℕ) (before scripts : List Ran) → Gone input (places_run before)
+    → FollowInTurn input limit before scripts → Gone input (places_run (before ++ scripts))
+gone_by_turns input limit before [] h t = subst (λ l. Gone input (places_run l)) (sym (append-nil before)) h
 gone_by_turns input limit before (ran ∷ scripts) h t =
-    let more : Gone input (places_of (before ++ ran ∷ [])) =
-    subst (Gone input) (sym (map_push (λ (r : Ran). r.place) before ran)) (gone_more input (places_of before) ran.place h t.0.next) in
-    subst (λ l. Gone input (places_of l)) (append_assoc before (ran ∷ []) scripts) (gone_by_turns input limit (before ++ ran ∷ []) scripts more t.1)
+    let more : Gone input (places_run (before ++ ran ∷ [])) =
+    subst (Gone input) (sym (map_push (λ (r : Ran). r.place) before ran)) (gone_more input (places_run before) ran.place h t.0.next) in
+    subst (λ l. Gone input (places_run l)) (append_assoc before (ran ∷ []) scripts) (gone_by_turns input limit (before ++ ran ∷ []) scripts more t.1)
 
 -- scripts in turn, from the first
-pub gone_of : (input : ClearingInput) (limit : ℕ) (scripts : List Ran) → FollowInTurn input limit [] scripts → Gone input (places_of scripts)
+pub gone_of : (input : ClearingInput) (limit : ℕ) (scripts : List Ran) → FollowInTurn input limit [] scripts → Gone input (places_run scripts)
 gone_of input limit scripts t = gone_by_turns input limit [] scripts (gone_none input) t
 
 -- all are as many as the list is long
@@ -213,30 +213,30 @@ books_after-push input books (q ∷ places) p = books_after-push input (books_le
 
 -- the books after one more script that was run
 pub books_after_ran : (input : ClearingInput) (before : List Ran) (ran : Ran)
-    → books_after input input.books (places_of (before ++ ran ∷ [])) ≡ books_left input (books_after input input.books (places_of before)) ran.place
+    → books_after input input.books (places_run (before ++ ran ∷ [])) ≡ books_left input (books_after input input.books (places_run before)) ran.place
 books_after_ran input before ran = ap (books_after input input.books) (map_push (λ (r : Ran). r.place) before ran)
-    ∙ books_after-push input input.books (places_of before) ran.place
+    ∙ books_after-push input input.books (places_run before) ran.place
 
 -- the scripts of an output follow in turn
 pub turns_of_journal : (input : ClearingInput) (limit : ℕ) (before scripts : List Ran)
-    → IsJournal input (places_of (before ++ scripts)) → All (λ ran. ran.restarts < limit) scripts
-    → map (λ ran. ran.reply) scripts ≡ replies_of input (books_after input input.books (places_of before))
-    (places_of scripts) → FollowInTurn input limit before scripts
+    → IsJournal input (places_run (before ++ scripts)) → All (λ ran. ran.restarts < limit) scripts
+    → map (λ ran. ran.reply) scripts ≡ replies_of input (books_after input input.books (places_run before))
+    (places_run scripts) → FollowInTurn input limit before scripts
 turns_of_journal input limit before [] j below replies = tt
 turns_of_journal input limit before (ran ∷ scripts) j below replies = (
   record {
-    next = next_of_journal input (places_of before) ran.place (places_of scripts)
+    next = next_of_journal input (places_run before) ran.place (places_run scripts)
         (subst (IsJournal input) (map-append (λ (r : Ran). r.place) before (ran ∷ scripts)) j);
     below = All-head (λ (r : Ran). r.restarts < limit) ran scripts below;
     reply = cc;
   },
   turns_of_journal input limit (before ++ ran ∷ []) scripts
-      (subst (λ l. IsJournal input (places_of l)) (sym (append_assoc before (ran ∷ []) scripts)) j)
+      (subst (λ l. IsJournal input (places_run l)) (sym (append_assoc before (ran ∷ []) scripts)) j)
       (All-tail (λ (r : Ran). r.restarts < limit) ran scripts below)
-      (rest ∙ ap (λ books. replies_of input books (places_of scripts)) (sym (books_after_ran input before ran))),
+      (rest ∙ ap (λ books. replies_of input books (places_run scripts)) (sym (books_after_ran input before ran))),
 )
   where
-    rest : map (λ ran. ran.reply) scripts ≡ replies_of input (books_left input (books_after input input.books (places_of before)) ran.place) (places_of scripts)
+    rest : map (λ ran. ran.reply) scripts ≡ replies_of input (books_left input (books_after input input.books (places_run before)) ran.place) (places_run scripts)
     rest = cc
 
 -- what scripts in turn say of their restarts and replies
@@ -246,11 +246,11 @@ below_of_turns input limit before [] t = tt
 below_of_turns input limit before (ran ∷ scripts) t = (t.0.below, below_of_turns input limit (before ++ ran ∷ []) scripts t.1)
 
 pub replies_of_turns : (input : ClearingInput) (limit : ℕ) (before scripts : List Ran) → FollowInTurn input limit before scripts
-    → map (λ ran. ran.reply) scripts ≡ replies_of input (books_after input input.books (places_of before)) (places_of scripts)
+    → map (λ ran. ran.reply) scripts ≡ replies_of input (books_after input input.books (places_run before)) (places_run scripts)
 replies_of_turns input limit before [] t = refl
 replies_of_turns input limit before (ran ∷ scripts) t = λ i.
     t.0.reply i ∷ (replies_of_turns input limit (before ++ ran ∷ []) scripts t.1
-    ∙ ap (λ books. replies_of input books (places_of scripts)) (books_after_ran input before ran)) i
+    ∙ ap (λ books. replies_of input books (places_run scripts)) (books_after_ran input before ran)) i
 
 -- one more script in turn, behind some
 pub turns_more : (input : ClearingInput) (limit : ℕ) (before scripts : List Ran) (ran : Ran)

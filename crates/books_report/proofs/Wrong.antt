@@ -6,7 +6,7 @@ use Rattle.std.proofs.lemmas.List.{append_cancel_left, length-map}
 use Rattle.std.proofs.lemmas.List.Elements.{All-from_recursion}
 use Rattle.script_reader.specs.Text.{line}
 use Rattle.script_reader.specs.Input.{ClearingInput, IsInput, caller_at, count_scripts}
-use Rattle.books_report.specs.Output.{Ran, places_of, books_after, journal_line, IsOutput}
+use Rattle.books_report.specs.Output.{Ran, places_run, books_after, journal_line, IsOutput}
 use Rattle.books_report.specs.Checking.{MayFollow, FollowInTurn, lines_of, closing_lines, lines_behind, output_lines, CanBegin, IsFirstWrongLine}
 use Rattle.books_report.specs.Inner.Audit.{StopsBefore, StopsAfter}
 use Rattle.books_report.proofs.Turns.{gone_of, journal_of_turns, length_of_journal, turns_of_journal, below_of_turns, replies_of_turns}
@@ -64,7 +64,7 @@ module _ (input : ClearingInput) (limit : ℕ) (valid : IsInput input) where
       in_turn = turns_of_journal input limit [] o.scripts o.journal o.below o.replies
 
       run : length o.scripts ≡ count_scripts input.callers
-      run = sym (length-map o.scripts (λ (r : Ran). r.place)) ∙ length_of_journal input (places_of o.scripts) o.journal
+      run = sym (length-map o.scripts (λ (r : Ran). r.place)) ∙ length_of_journal input (places_run o.scripts) o.journal
 
       lines : List (List ℕ)
       lines = output_lines input o.scripts
@@ -156,10 +156,10 @@ module _ (input : ClearingInput) (limit : ℕ) (valid : IsInput input) where
 
     -- behind all scripts, the lines of the books and the last one
     pub is_output : length ours ≡ count_scripts input.callers
-        → left ≡ concat (closing_lines (books_after input input.books (places_of ours))) → IsOutput input limit text
+        → left ≡ concat (closing_lines (books_after input input.books (places_run ours))) → IsOutput input limit text
     is_output all is = record {
       scripts = ours;
-      journal = journal_of_turns input (places_of ours) (gone_of input limit ours t) (length-map ours (λ (r : Ran). r.place) ∙ all);
+      journal = journal_of_turns input (places_run ours) (gone_of input limit ours t) (length-map ours (λ (r : Ran). r.place) ∙ all);
       below = All-from_recursion (λ (r : Ran). r.restarts < limit) ours (below_of_turns input limit [] ours t);
       replies = replies_of_turns input limit [] ours t;
       text_is =
@@ -171,7 +171,7 @@ module _ (input : ClearingInput) (limit : ℕ) (valid : IsInput input) (text : L
     (t : FollowInTurn input limit [] ours) (text_is : text ≡ concat (journal_so_far input ours) ++ left) where
   -- behind all scripts, some of the lines of the books, and then another line than the next, or something behind the last
   pub wrong_closing : length ours ≡ count_scripts input.callers → (count : ℕ)
-      → StopsAfter (closing_lines (books_after input input.books (places_of ours))) left count → IsFirstWrongLine input limit text (length ours + count + 2)
+      → StopsAfter (closing_lines (books_after input input.books (places_run ours))) left count → IsFirstWrongLine input limit text (length ours + count + 2)
   wrong_closing all count s = record {
     before = journal_so_far input ours ++ s.done;
     left = s.left;

@@ -7,7 +7,7 @@ use Rattle.books_model.specs.Books.{ClearingBooks}
 use Rattle.script_reader.specs.Text.{line, header_line, account_line, price_line, position_line, call_line, finish_line}
 use Rattle.script_reader.specs.Input.{ClearingInput, caller_at, count_scripts}
 use Rattle.script_reader.specs.Journal.{Place, IsPlace}
-use Rattle.books_report.specs.Output.{Ran, places_of, journal_line, reply_to, books_after}
+use Rattle.books_report.specs.Output.{Ran, places_run, journal_line, reply_to, books_after}
 
 -- the script at a place can come next, behind those at other places: its caller has it left, and none of its own before it
 pub record IsNext (input : ClearingInput) (before : List Place) (place : Place) : Type 0 where
@@ -17,9 +17,9 @@ pub record IsNext (input : ClearingInput) (before : List Place) (place : Place) 
 -- what a journal may say of one script more, behind those that were run: it is the next of a caller, its restarts are
 -- below the limit, and its reply is that of the interpreter on the books so far
 pub record MayFollow (input : ClearingInput) (limit : ℕ) (before : List Ran) (ran : Ran) : Type 0 where
-  pub next : IsNext input (places_of before) ran.place
+  pub next : IsNext input (places_run before) ran.place
   pub below : ran.restarts < limit
-  pub reply : ran.reply ≡ reply_to input (books_after input input.books (places_of before)) ran.place
+  pub reply : ran.reply ≡ reply_to input (books_after input input.books (places_run before)) ran.place
 
 -- each of some scripts may follow those before them and those of its list ahead of it
 abbrev pub FollowInTurn : ClearingInput → ℕ → List Ran → List Ran → Type 0
@@ -46,7 +46,7 @@ closing_lines books =
 -- the lines behind those of the journal: none, as long as a script is left
 abbrev pub lines_behind : ClearingInput → List Ran → List (List ℕ)
 lines_behind input scripts =
-    if length scripts == count_scripts input.callers then closing_lines (books_after input input.books (places_of scripts)) else []
+    if length scripts == count_scripts input.callers then closing_lines (books_after input input.books (places_run scripts)) else []
 
 -- the lines of an output up to where these scripts, in their order, lead
 abbrev pub output_lines : ClearingInput → List Ran → List (List ℕ)

@@ -8,12 +8,12 @@ use Rattle.books_report.specs.Output.{Ran}
 use Rattle.books_report.specs.declared.line.Line.{Line}
 
 -- the place of the script that a line is about
-abbrev pub place_of : Line → Place
-place_of l = record { caller = l.caller; index = l.index }
+abbrev pub place_of_line : Line → Place
+place_of_line l = record { caller = l.caller; index = l.index }
 
 -- a line and its reply
-abbrev pub ran_of : Line → Reply → Ran
-ran_of l answer = record { place = place_of l; restarts = l.restarts; reply = answer }
+abbrev pub ran_of_line : Line → Reply → Ran
+ran_of_line l answer = record { place = place_of_line l; restarts = l.restarts; reply = answer }
 
 -- the replies that are lent
 abbrev pub lent : List (Bor Reply) → List Reply
@@ -21,4 +21,4 @@ lent replies = map (λ reply. reply.now) replies
 
 -- lines, each with the reply that stands beside it
 abbrev pub scripts_of : List Line → List Reply → List Ran
-scripts_of lines replies = map (λ pair. ran_of pair.0 pair.1) (zip lines replies)
+scripts_of lines replies = map (λ pair. ran_of_line pair.0 pair.1) (zip lines replies)

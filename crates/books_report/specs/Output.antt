@@ -15,8 +15,8 @@ pub record Ran : Type 0 where
   pub reply : Reply
 
 -- the places of scripts that were run
-abbrev pub places_of : List Ran → List Place
-places_of scripts = map (λ ran. ran.place) scripts
+abbrev pub places_run : List Ran → List Place
+places_run scripts = map (λ ran. ran.place) scripts
 
 -- SERIAL CALLER INDEX RESTARTS REPLY: serial numbers and indexes count from 1 in the text
 abbrev pub journal_line : ℕ → List ℕ → Ran → List ℕ
@@ -55,14 +55,14 @@ books_after input books (place ∷ places) = books_after input (books_left input
 
 -- the text for scripts that were run in this order: their journal, and the books that they leave
 abbrev pub output_of : ClearingInput → List Ran → List ℕ
-output_of input scripts = text_of input scripts (books_after input input.books (places_of scripts))
+output_of input scripts = text_of input scripts (books_after input input.books (places_run scripts))
 
 -- the text is an output of the input: the journal of its scripts, run in some order in which each stands once and each
 -- caller's in rising index, with each number of restarts below the limit and each reply that of the interpreter, run
 -- down the order from the opening books; and then the books that it leaves
 pub record IsOutput (input : ClearingInput) (limit : ℕ) (text : List ℕ) : Type 0 where
   pub scripts : List Ran
-  pub journal : IsJournal input (places_of scripts)
+  pub journal : IsJournal input (places_run scripts)
   pub below : All (λ ran. ran.restarts < limit) scripts
-  pub replies : map (λ ran. ran.reply) scripts ≡ replies_of input input.books (places_of scripts)
+  pub replies : map (λ ran. ran.reply) scripts ≡ replies_of input input.books (places_run scripts)
   pub text_is : text ≡ output_of input scripts

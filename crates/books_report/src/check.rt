@@ -8,7 +8,7 @@ ghost use Rattle.script_reader.specs.Text.{number};
 ghost use Rattle.script_reader.specs.Input.{IsInput, caller_at};
 ghost use Rattle.script_reader.specs.Journal.{IsPlace};
 ghost use Rattle.books_report.specs.Output.{Ran, IsOutput};
-ghost use Rattle.books_report.specs.Lines.{place_of};
+ghost use Rattle.books_report.specs.Lines.{place_of_line};
 ghost use Rattle.books_report.specs.Checking.{closing_lines, IsFirstWrongLine};
 ghost use Rattle.books_report.specs.Inner.Audit.{IsFor, HasRun, BeginsWithLine, BeginsWithNone, four_words, StopsAfter, in_common, IsFound};
 
@@ -85,7 +85,7 @@ fn number_of(word: &[u8]) -> Option<u32>
 fn named_line(input: &Input, done: &[u32], text: &[u8]) -> Option<Line>
     requires valid { IsInput input.now }
     requires even { length done.now ≡ length input.now.callers }
-    ensures found { IfSome result (λ line. IsPlace input.now (place_of line)
+    ensures found { IfSome result (λ line. IsPlace input.now (place_of_line line)
         × (line.index ≡ slice_index done.now line.caller) × (line.restarts < RESTARTS_BELOW)
         × (line.index + 1 < 2 ^ 32)) }
     ensures named { (serial caller index restarts : ℕ) (rest : List ℕ)

@@ -6,7 +6,7 @@ ghost use Rattle.script_reader.specs.declared.words.TheConstants.{SPACE};
 ghost use Rattle.script_reader.specs.Text.{number};
 ghost use Rattle.script_reader.specs.Journal.{IsPlace};
 ghost use Rattle.books_report.specs.Output.{journal_line, journal_lines, text_of};
-ghost use Rattle.books_report.specs.Lines.{lent, place_of, ran_of, scripts_of};
+ghost use Rattle.books_report.specs.Lines.{lent, place_of_line, ran_of_line, scripts_of};
 
 use crate::books::write_books;
 use crate::decimal::{push_next, push_number};
@@ -45,7 +45,7 @@ pub(crate) fn write_line(
     ensures { OnOk result
         (string_bytes text.new
         ≡ string_bytes text.old
-        ++ journal_line serial name.now (ran_of line reply.now)) }
+        ++ journal_line serial name.now (ran_of_line line reply.now)) }
 {
     write_place(text, serial, name, line)?;
     write_reply(text, reply)?;
@@ -59,7 +59,7 @@ fn write_lines(
     replies: &[&Reply],
 ) -> Result<(), AllocError>
     requires beside { length lines.now ≡ length replies.now }
-    requires places { All (λ l. IsPlace input.now (place_of l)) lines.now }
+    requires places { All (λ l. IsPlace input.now (place_of_line l)) lines.now }
     ensures { OnOk result (string_bytes text.new ≡ string_bytes text.old
         ++ journal_lines input.now 1 (scripts_of lines.now (lent replies.now))) }
 {
@@ -81,7 +81,7 @@ pub fn journal_text(
     closing: &Books,
 ) -> Result<Vec<u8>, OutOfMemory>
     requires beside { length lines.now ≡ length replies.now }
-    requires places { All (λ l. IsPlace input.now (place_of l)) lines.now }
+    requires places { All (λ l. IsPlace input.now (place_of_line l)) lines.now }
     ensures { IfOk result (λ text. text.items
         ≡ text_of input.now (scripts_of lines.now (lent replies.now)) closing.now) }
 {

@@ -7,28 +7,28 @@ use Rattle.books_model.specs.Books.{ClearingBooks}
 use Rattle.script_reader.specs.Input.{ClearingInput}
 use Rattle.script_reader.specs.Journal.{IsJournal, IsPlace}
 use Rattle.books_report.specs.declared.line.Line.{Line}
-use Rattle.books_report.specs.Output.{Ran, places_of, replies_of, books_after, text_of, output_of, IsOutput}
+use Rattle.books_report.specs.Output.{Ran, places_run, replies_of, books_after, text_of, output_of, IsOutput}
 use Rattle.books_report.specs.Lines.{scripts_of}
 use Rattle.books_report.specs.Lines as lines
 use Rattle.worker_pool.specs.declared.done.Done.{Done}
 use Rattle.worker_pool.specs.declared.done.DayEnd.{DayEnd}
 use Rattle.worker_pool.specs.Days as days
-use Rattle.twoplsf.specs.Day.{ran_of, line_of, journal_of, closing_books, IsDayOf}
+use Rattle.twoplsf.specs.Day.{ran_of_item, line_of, journal_of, closing_books, IsDayOf}
 
 -- the places of a journal are those of its items
-places_same : (done : List Done) → places_of (map ran_of done) ≡ days.places_of done
+places_same : (done : List Done) → places_run (map ran_of_item done) ≡ days.places_of done
 places_same [] = refl
 places_same (item ∷ done) = ap (λ places. days.place_of item ∷ places) (places_same done)
 
 -- and so are its replies
-replies_same : (done : List Done) → map (λ (ran : Ran). ran.reply) (map ran_of done) ≡ map (λ (item : Done). item.reply) done
+replies_same : (done : List Done) → map (λ (ran : Ran). ran.reply) (map ran_of_item done) ≡ map (λ (item : Done). item.reply) done
 replies_same [] = refl
 replies_same (item ∷ done) = ap (λ replies. item.reply ∷ replies) (replies_same done)
 
 -- the lines of items, each with its reply beside it
-pub beside : (done : List Done) → scripts_of (map line_of done) (map (λ (item : Done). item.reply) done) ≡ map ran_of done
+pub beside : (done : List Done) → scripts_of (map line_of done) (map (λ (item : Done). item.reply) done) ≡ map ran_of_item done
 beside [] = refl
-beside (item ∷ done) = ap (λ rans. ran_of item ∷ rans) (beside done)
+beside (item ∷ done) = ap (λ rans. ran_of_item item ∷ rans) (beside done)
 
 pub as_many : (done : List Done) → length (map line_of done) ≡ length (map (λ (item : Done). item.reply) done)
 as_many [] = refl
@@ -50,7 +50,7 @@ module _ (input : ClearingInput) (workers : ℕ) (day : DayEnd) (is : IsDayOf in
       → text ≡ text_of input (scripts_of lines replies) closing → text ≡ output_of input (journal_of day)
   text_is text lines replies closing lines_are replies_are closed told =
       let scripts : scripts_of lines replies ≡ journal_of day = (λ i. scripts_of (lines_are i) (replies_are i)) ∙ beside day.done.items in
-      let books : closing ≡ books_after input input.books (places_of (journal_of day)) = closed
+      let books : closing ≡ books_after input input.books (places_run (journal_of day)) = closed
       ∙ ap (books_after input input.books) (sym (places_same day.done.items)) in
       told ∙ (λ i. text_of input (scripts i) (books i))
 
@@ -61,7 +61,7 @@ module _ (input : ClearingInput) (workers : ℕ) (day : DayEnd) (is : IsDayOf in
       record {
         scripts = journal_of day;
         journal = subst (IsJournal input) (sym (places_same done)) is.is_day.journal;
-        below = All-map (λ (ran : Ran). ran.restarts < workers) ran_of done
+        below = All-map (λ (ran : Ran). ran.restarts < workers) ran_of_item done
             (subst (λ n. All (λ (item : Done). item.restarts < n) done) is.seats is.is_day.below);
         replies = replies_same done ∙ is.is_day.replies ∙ ap (replies_of input input.books) (sym (places_same done));
         text_is = told;

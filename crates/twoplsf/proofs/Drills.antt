@@ -11,7 +11,7 @@ use Rattle.input_maker.specs.Made.{made_input, made_submission, made_submissions
 use Rattle.input_maker.specs.Statements.{AreForMake}
 use Rattle.input_maker.specs.Days.{MadeCash, MadeQuantities, all_deposits, all_quantities}
 use Rattle.worker_pool.specs.declared.done.DayEnd.{DayEnd}
-use Rattle.worker_pool.specs.Days.{place_of, places_of}
+use Rattle.worker_pool.specs.Days.{place_of_item, places_of_items}
 use Rattle.twoplsf.specs.Check.{agrees_line}
 use Rattle.twoplsf.specs.Day.{IsDayOf, closing_books}
 use Rattle.twoplsf.specs.Made.{sum_line, drill_text}
@@ -31,8 +31,8 @@ module _ (seed callers scripts workers : ℕ) (day : DayEnd) (is : IsDayOf (made
   pub scripts_run : length day.done.items ≡ callers * scripts
   unfolding submissions_to
   scripts_run =
-      sym (length-map day.done.items place_of)
-      ∙ length_of_journal (made_input seed callers scripts) (places_of day.done.items) is.is_day.journal
+      sym (length-map day.done.items place_of_item)
+      ∙ length_of_journal (made_input seed callers scripts) (places_of_items day.done.items) is.is_day.journal
       ∙ scripts_counted (made_submissions seed callers scripts)
       ∙ length-map-range_with_len (made_submission seed callers) 0 (callers * scripts)
 
@@ -42,7 +42,7 @@ module _ (seed callers scripts workers : ℕ) (day : DayEnd) (is : IsDayOf (made
       ++ sum_line (codes "quantity") (all_quantities (closing_books (made_input seed callers scripts) day)) ++ agrees_line
       → text ≡ drill_text seed callers scripts
   summary_is cash_law quantity_law range text told =
-      let places = places_of day.done.items in
+      let places = places_of_items day.done.items in
       let cash_all : all_cash (closing_books (made_input seed callers scripts) day)
       ≡ 200000000 + all_deposits (made_input seed callers scripts) = cash_law seed callers scripts places range is.is_day.journal in
       let quantity_all : all_quantities (closing_books (made_input seed callers scripts) day) ≡ 160000 =

@@ -13,7 +13,7 @@ use Rattle.books_report.specs.Checking.{IsFirstWrongLine}
 use Rattle.script_reader.specs.declared.limits.TheConstants.{MOST_INPUT_BYTES}
 use Rattle.twoplsf.specs.declared.status.Status.{Status}
 use Rattle.twoplsf.specs.declared.status.Status.TheVariants as status
-use Rattle.twoplsf.specs.Command.{IsRun, IsCheck, IsMaking, IsReading, IsValidCommand}
+use Rattle.twoplsf.specs.Command.{IsAnyRunCommand, IsCheck, IsMaking, IsReading, IsValidCommand}
 use Rattle.twoplsf.specs.Check.{differs_line}
 use Rattle.twoplsf.specs.Made.{IsMadeText, PrintsMade}
 use Rattle.twoplsf.specs.Answer.{IsDoneText, IsDifferenceFor, IsRefusalFor, HaveInputFor, OfBytesRead, PrintsOutput, TookText, refused_line}
@@ -104,7 +104,7 @@ module _ (result : Status) (words : List (List ℕ)) (bytes : List ℕ) where
   on_input (HasFailed (inr (inr memory))) within have read write = inr (inr memory)
 
   -- and for `run W`, which compares no text
-  on_run : (result ≡ status.Differs → IsCheck words) → IsRun words → (result ≡ status.Done) ⊎ (result ≡ status.Differs) ⊎ (result ≡ status.OutOfMemory)
+  on_run : (result ≡ status.Differs → IsCheck words) → IsAnyRunCommand words → (result ≡ status.Done) ⊎ (result ≡ status.Differs) ⊎ (result ≡ status.OutOfMemory)
       → (result ≡ status.Done) ⊎ (result ≡ status.OutOfMemory)
   on_run only run (inl is) = inl is
   on_run only run (inr (inl is)) = absurd (run_not_check words run (only is))
@@ -137,7 +137,7 @@ module _ {result : Status} {words : List (List ℕ)} {left now before after : Op
   text_of is same = subst (λ s. TookText s words left now before after) same h.text
 
   -- what is printed for `run W`
-  pub headline : IsRun words → result ≡ status.Done → OfBytesRead left (λ bytes. PrintsOutput words bytes before after)
+  pub headline : IsAnyRunCommand words → result ≡ status.Done → OfBytesRead left (λ bytes. PrintsOutput words bytes before after)
   headline run is = by (text_of status.Done is)
     where
       by : TookText status.Done words left now before after → OfBytesRead left (λ bytes. PrintsOutput words bytes before after)
@@ -171,7 +171,7 @@ module _ {result : Status} {words : List (List ℕ)} {left now before after : Op
   too_many reading = IfSome_then left (ends result words left now before after h.text h.taken reading) (on_many result words)
 
   -- bytes are refused that do not have the input, and their first fault is named
-  pub first_fault : IsRun words → result ≡ status.BadInput → IfSome left (λ bytes. (number : ℕ) (why : Fault)
+  pub first_fault : IsAnyRunCommand words → result ≡ status.BadInput → IfSome left (λ bytes. (number : ℕ) (why : Fault)
       → IsFirstFault bytes number why → Appends before after (refused_line number why))
   first_fault run is =
       let t = text_of status.BadInput is in
@@ -213,7 +213,7 @@ module _ {result : Status} {words : List (List ℕ)} {left now before after : Op
   only_check is = (text_of status.Differs is).1.2.holds.1.0
 
   -- where nothing is wrong, the work is done
-  pub complete : IsRun words → IfSome left (λ bytes. length bytes ≤ MOST_INPUT_BYTES → IsValidInput bytes → (Read → ⊥)
+  pub complete : IsAnyRunCommand words → IfSome left (λ bytes. length bytes ≤ MOST_INPUT_BYTES → IsValidInput bytes → (Read → ⊥)
       → (Write → ⊥) → (result ≡ status.Done) ⊎ (result ≡ status.OutOfMemory))
   complete run =
       IfSome_then left (ends result words left now before after h.text h.taken (inl run))

@@ -3,7 +3,7 @@ use Rattle.std.proofs.Common.{◌≡◌, ◌≢◌, ◌∙◌, ◌⊎◌, ◌↔
 use Rattle.std.specs.Io.KnownBytes.{Appends}
 use Rattle.io_ends.specs.Taken.{AppendsPrefix}
 use Rattle.worker_pool.specs.declared.done.DayEnd.{DayEnd}
-use Rattle.twoplsf.specs.Command.{IsRun, IsDrill, IsMaking, IsReading}
+use Rattle.twoplsf.specs.Command.{IsAnyRunCommand, IsDrill, IsMaking, IsReading}
 use Rattle.twoplsf.specs.Commands.{IsCommand, IsMakingBy}
 use Rattle.twoplsf.specs.Made.{IsDrillDay, IsMadeText}
 use Rattle.twoplsf.specs.Making.{IsMakingDay, LeavesDay, RunsScripts, making_text}
@@ -43,10 +43,10 @@ pub not_read : (words : List (List ℕ)) {o : Command} {making : Making} → o �
 not_read words is h reading = read_not_made words reading (made_is words is h)
 
 -- it runs scripts where its words are those of a drill
-pub runs_of : (words : List (List ℕ)) (making : Making) → IsMakingBy words making → RunsScripts making ↔ (IsRun words ⊎ IsDrill words)
+pub runs_of : (words : List (List ℕ)) (making : Making) → IsMakingBy words making → RunsScripts making ↔ (IsAnyRunCommand words ⊎ IsDrill words)
 runs_of words (Input plan) is = (λ runs. absurd runs, no_run)
   where
-    no_run : IsRun words ⊎ IsDrill words → ⊥
+    no_run : IsAnyRunCommand words ⊎ IsDrill words → ⊥
     no_run (inl run) = read_not_made words (inl run) (making_is words (Input plan) is)
     no_run (inr drill) = omega (arith, ap length is.words_are, ap length drill.4.words_are)
 runs_of words (Drill workers plan) is = (λ runs. inr (workers, plan.seed, plan.callers, plan.scripts, is), λ run. tt)

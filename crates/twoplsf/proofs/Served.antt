@@ -8,7 +8,7 @@ use Rattle.script_reader.specs.declared.fault.Fault.{Fault}
 use Rattle.script_reader.specs.Faults.{IsFirstFault, IsFrontFault}
 use Rattle.script_reader.specs.Input.{ClearingInput}
 use Rattle.script_reader.specs.Grammar.{AreTwoTexts}
-use Rattle.twoplsf.specs.Command.{IsRun, IsCheck, IsDrill, IsMaking, IsReading}
+use Rattle.twoplsf.specs.Command.{IsAnyRunCommand, IsCheck, IsDrill, IsMaking, IsReading}
 use Rattle.script_reader.proofs.Deciding.{not_both, one_fault}
 use Rattle.script_reader.proofs.FrontLaws.{never_both, one_front}
 use Rattle.books_report.specs.declared.limits.TheConstants.{RESTARTS_BELOW}
@@ -29,7 +29,7 @@ use Rattle.twoplsf.specs.Check.{differs_line}
 use Rattle.twoplsf.specs.declared.status.Status.{Status}
 use Rattle.twoplsf.specs.declared.status.Status.TheVariants as status
 use Rattle.twoplsf.specs.Answer.{OfBytesRead, IsDayFor, IsOutputFor, IsAnswerBy, IsDoneText, IsDifferenceFor, IsRefusalOf, IsRefusalOfFront, IsRefusalFor}
-use Rattle.twoplsf.specs.Answer.{HaveInputFor, IsTextFor, TookText, day_of, refused_line, status_of, text_of}
+use Rattle.twoplsf.specs.Answer.{HaveInputFor, IsTextFor, TookText, day_of, refused_line, status_of, text_of_answer}
 
 -- what was read to the end is all that was left
 all_read : (left now : Option (List ℕ)) (bytes : List ℕ) → Consumes left now bytes → IsAtEnd now → IfSome left (λ all. all ≡ bytes)
@@ -43,7 +43,7 @@ of_left None read h = tt
 of_left {P = P} (Some all) read h = h all (subst P (sym read.told) read.holds)
 
 -- no words are both commands
-pub run_not_check : (words : List (List ℕ)) → IsRun words → IsCheck words → ⊥
+pub run_not_check : (words : List (List ℕ)) → IsAnyRunCommand words → IsCheck words → ⊥
 run_not_check words run check = omega (arith, ap length run.1.words_are, ap length check)
 
 -- the words of a command that reads are not those of one that makes its input
@@ -109,12 +109,12 @@ output_day words reading.Check bytes text day before now is answer printed = abs
 
 -- an output is that of a run, and no other answer is to `run W` where the work was done
 output_runs : (words : List (List ℕ)) (r : Reading) (bytes : List ℕ) (text : Vec ℕ Global) (day : DayEnd)
-    → IsReadingBy words r → IsAnswerBy r bytes (Output text day) → IsRun words
+    → IsReadingBy words r → IsAnswerBy r bytes (Output text day) → IsAnyRunCommand words
 output_runs words (reading.Run w) bytes text day is answer = (w, is)
 output_runs words reading.Check bytes text day is answer = absurd answer
 
 agrees_runs_not : (words : List (List ℕ)) (r : Reading) (bytes : List ℕ) (text : Vec ℕ Global) → IsReadingBy words r
-    → IsAnswerBy r bytes (Agrees text) → IsRun words ⊎ IsDrill words → ⊥
+    → IsAnswerBy r bytes (Agrees text) → IsAnyRunCommand words ⊎ IsDrill words → ⊥
 agrees_runs_not words (reading.Run w) bytes text is answer runs = absurd answer
 agrees_runs_not words reading.Check bytes text is answer (inl run) = run_not_check words run is
 agrees_runs_not words reading.Check bytes text is answer (inr drill) = read_not_made words (inr is) (inr drill)
@@ -154,12 +154,12 @@ refusal_text words (reading.Run w) bytes text is answer = inl ((w, is), answer)
 refusal_text words reading.Check bytes text is answer = inr (is, answer)
 
 -- an output for `run W`
-pub output_of_run : (words : List (List ℕ)) (bytes text : List ℕ) → IsRun words → IsDoneText words bytes text → IsOutputFor words bytes text
+pub output_of_run : (words : List (List ℕ)) (bytes text : List ℕ) → IsAnyRunCommand words → IsDoneText words bytes text → IsOutputFor words bytes text
 output_of_run words bytes text run (inl output) = output
 output_of_run words bytes text run (inr check) = absurd (run_not_check words run check.0)
 
 -- the refusal for `run W`, and for `check`
-refusal_of_run : (words : List (List ℕ)) (bytes text : List ℕ) → IsRun words → IsRefusalFor words bytes text → IsRefusalOf bytes text
+refusal_of_run : (words : List (List ℕ)) (bytes text : List ℕ) → IsAnyRunCommand words → IsRefusalFor words bytes text → IsRefusalOf bytes text
 refusal_of_run words bytes text run (inl refusal) = refusal.1
 refusal_of_run words bytes text run (inr check) = absurd (run_not_check words run check.0)
 
@@ -168,7 +168,7 @@ refusal_of_check words bytes text check (inl run) = absurd (run_not_check words 
 refusal_of_check words bytes text check (inr refusal) = refusal.1
 
 -- the first faulty line that is refused for `run W`, and for `check`
-pub first_refused : (words : List (List ℕ)) (bytes text : List ℕ) → IsRun words → IsRefusalFor words bytes text
+pub first_refused : (words : List (List ℕ)) (bytes text : List ℕ) → IsAnyRunCommand words → IsRefusalFor words bytes text
     → (number : ℕ) (why : Fault) → IsFirstFault bytes number why → text ≡ refused_line number why
 first_refused words bytes text run refusal number why fault =
     let first = refusal_of_run words bytes text run refusal in
@@ -259,7 +259,7 @@ module _ {words : List (List ℕ)} {r : Reading} {left now : Option (List ℕ)} 
 
 -- the text of an answer goes with its status
 text_is_for : (words : List (List ℕ)) (r : Reading) (left now : Option (List ℕ)) (bytes : List ℕ) (answer : Answer)
-    → HasAnswered words r left now bytes answer → IsTextFor (status_of answer) words left now (text_of answer)
+    → HasAnswered words r left now bytes answer → IsTextFor (status_of answer) words left now (text_of_answer answer)
 text_is_for words r left now bytes (Output text day) h =
     inl (told h (λ all. IsDoneText words all text.items) (output_text words r bytes text day h.is h.answers))
 text_is_for words r left now bytes (Agrees text) h = inl (told h (λ all. IsDoneText words all text.items) (agrees_text words r bytes text h.is h.answers))
@@ -269,8 +269,8 @@ text_is_for words r left now bytes (Refusal text) h = told h (λ all. IsRefusalF
 
 -- an answer was printed or not, with its day where it was
 pub record HasPrinted (answer : Answer) (result : Status) (kept : Option DayEnd) (before after : Option (List ℕ)) (R : Type 0) : Type 0 where
-  pub wrote : (result ≡ status_of answer × Appends before after (text_of answer))
-      ⊎ (result ≡ status.WriteFault × R × AppendsPrefix before after (text_of answer))
+  pub wrote : (result ≡ status_of answer × Appends before after (text_of_answer answer))
+      ⊎ (result ≡ status.WriteFault × R × AppendsPrefix before after (text_of_answer answer))
   pub done : result ≡ status.Done → kept ≡ day_of answer
   pub other : result ≢ status.Done → kept ≡ None
 
@@ -279,7 +279,7 @@ pub printed_text : (words : List (List ℕ)) (r : Reading) (left now : Option (L
     (result : Status) (kept : Option DayEnd) (before after : Option (List ℕ)) (R : Type 0)
     → HasAnswered words r left now bytes answer → HasPrinted answer result kept before after R → TookText result words left now before after
 printed_text words r left now bytes answer result kept before after R h p =
-    took_text result (status_of answer) words left now before after (text_of answer) R (text_is_for words r left now bytes answer h) p.wrote
+    took_text result (status_of answer) words left now before after (text_of_answer answer) R (text_is_for words r left now bytes answer h) p.wrote
 
 -- no day is told but that of an output
 none_kept : (result is : Status) (kept : Option DayEnd) → result ≡ is → is ≢ status.Done → (result ≢ status.Done → kept ≡ None) → kept ≡ None
@@ -299,7 +299,7 @@ printed_day words r left now bytes answer result kept before after R h p = by an
     none is = subst Told (sym is) tt
 
     by : (a : Answer) → HasAnswered words r left now bytes a → HasPrinted a result kept before after R
-        → (result ≡ status_of a × Appends before after (text_of a)) ⊎ (result ≡ status.WriteFault × R × AppendsPrefix before after (text_of a)) → Told kept
+        → (result ≡ status_of a × Appends before after (text_of_answer a)) ⊎ (result ≡ status.WriteFault × R × AppendsPrefix before after (text_of_answer a)) → Told kept
     by a h p (inr fault) = none (none_kept result status.WriteFault kept fault.0 (λ e. cc) p.other)
     by (Output text day) h p (inl wrote) =
         subst Told (sym (p.done wrote.0)) (of_read h (λ all. IsDayFor words all before after day)
@@ -312,11 +312,11 @@ printed_day words r left now bytes answer result kept before after R h p = by an
 pub printed_has_day : (words : List (List ℕ)) (r : Reading) (left now : Option (List ℕ)) (bytes : List ℕ)
     (answer : Answer) (result : Status) (kept : Option DayEnd) (before after : Option (List ℕ)) (R : Type 0)
     → HasAnswered words r left now bytes answer → HasPrinted answer result kept before after R → IsSome kept
-    ↔ ((IsRun words ⊎ IsDrill words) × (result ≡ status.Done))
+    ↔ ((IsAnyRunCommand words ⊎ IsDrill words) × (result ≡ status.Done))
 printed_has_day words r left now bytes answer result kept before after R h p = by answer h p p.wrote
   where
     Runs : Type 0
-    Runs = (IsRun words ⊎ IsDrill words) × (result ≡ status.Done)
+    Runs = (IsAnyRunCommand words ⊎ IsDrill words) × (result ≡ status.Done)
 
     never : kept ≡ None → ¬ Runs → IsSome kept ↔ Runs
     never none not = (λ some. absurd (none_there (subst IsSome none some)), λ runs. absurd (not runs))
@@ -325,8 +325,8 @@ printed_has_day words r left now bytes answer result kept before after R h p = b
     unlike is same differs other = never (none_kept result is kept same differs other) (λ runs. differs (sym same ∙ runs.1))
 
     by : (a : Answer) → HasAnswered words r left now bytes a → HasPrinted a result kept before after R
-        → (result ≡ status_of a × Appends before after (text_of a))
-        ⊎ (result ≡ status.WriteFault × R × AppendsPrefix before after (text_of a)) → IsSome kept ↔ Runs
+        → (result ≡ status_of a × Appends before after (text_of_answer a))
+        ⊎ (result ≡ status.WriteFault × R × AppendsPrefix before after (text_of_answer a)) → IsSome kept ↔ Runs
     by a h p (inr fault) = unlike status.WriteFault fault.0 (λ e. cc) p.other
     by (Output text day) h p (inl wrote) = (
       λ some. (inl (output_runs words r bytes text day h.is h.answers), wrote.0),

@@ -8,7 +8,7 @@ use Rattle.script_reader.specs.FaultWords.{fault_word}
 use Rattle.script_reader.specs.Input.{ClearingInput}
 use Rattle.script_reader.specs.Grammar.{Spells, IsValidInput, BeginWithInput}
 use Rattle.script_reader.specs.Faults.{IsFirstFault, IsFrontFault}
-use Rattle.twoplsf.specs.Command.{IsRun, IsRunCommand, IsCheck, IsReading, IsValidCommand}
+use Rattle.twoplsf.specs.Command.{IsAnyRunCommand, IsRunCommand, IsCheck, IsReading, IsValidCommand}
 use Rattle.books_report.specs.declared.limits.TheConstants.{RESTARTS_BELOW}
 use Rattle.books_report.specs.Output.{IsOutput, output_of}
 use Rattle.books_report.specs.Checking.{IsFirstWrongLine}
@@ -71,11 +71,11 @@ status_of (Difference text) = status.Differs
 status_of (Refusal text) = status.BadInput
 
 -- its text
-abbrev pub text_of : Answer → List ℕ
-text_of (Output text day) = text.items
-text_of (Agrees text) = text.items
-text_of (Difference text) = text.items
-text_of (Refusal text) = text.items
+abbrev pub text_of_answer : Answer → List ℕ
+text_of_answer (Output text day) = text.items
+text_of_answer (Agrees text) = text.items
+text_of_answer (Difference text) = text.items
+text_of_answer (Refusal text) = text.items
 
 -- its day, which an output alone has
 abbrev pub day_of : Answer → Option DayEnd
@@ -142,11 +142,11 @@ IsDifferenceFor words bytes text = IsCheck words × ((n : ℕ) × HoldWrongLine 
 
 -- what refuses bytes that do not have the input that the command reads
 abbrev pub IsRefusalFor : List (List ℕ) → List ℕ → List ℕ → Type 0
-IsRefusalFor words bytes text = (IsRun words × IsRefusalOf bytes text) ⊎ (IsCheck words × IsRefusalOfFront bytes text)
+IsRefusalFor words bytes text = (IsAnyRunCommand words × IsRefusalOf bytes text) ⊎ (IsCheck words × IsRefusalOfFront bytes text)
 
 -- the bytes have the input that the command reads: all of them are one, or they begin with one
 abbrev pub HaveInputFor : List (List ℕ) → List ℕ → Type 0
-HaveInputFor words bytes = (IsRun words × IsValidInput bytes) ⊎ (IsCheck words × BeginWithInput bytes)
+HaveInputFor words bytes = (IsAnyRunCommand words × IsValidInput bytes) ⊎ (IsCheck words × BeginWithInput bytes)
 
 -- a text goes with a status, by the words and by what the source had left and has left now
 abbrev pub IsTextFor : Status → List (List ℕ) → Option (List ℕ) → Option (List ℕ) → List ℕ → Type 0

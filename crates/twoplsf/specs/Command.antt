@@ -22,8 +22,8 @@ pub record IsDrillCommand (words : List (List ℕ)) (workers seed callers script
   pub range : AreForMake seed callers scripts
 
 -- `run W`, for some number of workers
-abbrev pub IsRun : List (List ℕ) → Type 0
-IsRun words = (workers : ℕ) × IsRunCommand words workers
+abbrev pub IsAnyRunCommand : List (List ℕ) → Type 0
+IsAnyRunCommand words = (workers : ℕ) × IsRunCommand words workers
 
 -- `check`
 abbrev pub IsCheck : List (List ℕ) → Type 0
@@ -39,7 +39,7 @@ IsDrill words = (workers seed callers scripts : ℕ) × IsDrillCommand words wor
 
 -- a command that reads a text
 abbrev pub IsReading : List (List ℕ) → Type 0
-IsReading words = IsRun words ⊎ IsCheck words
+IsReading words = IsAnyRunCommand words ⊎ IsCheck words
 
 -- a command that makes its input
 abbrev pub IsMaking : List (List ℕ) → Type 0

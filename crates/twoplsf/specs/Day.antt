@@ -11,12 +11,12 @@ use Rattle.txn_books.specs.Layout.{words_of}
 use Rattle.txn_books.specs.Standing.{Stands, IsGoodFor}
 use Rattle.worker_pool.specs.declared.done.Done.{Done}
 use Rattle.worker_pool.specs.declared.done.DayEnd.{DayEnd}
-use Rattle.worker_pool.specs.Days.{place_of, AreCallersWhole, IsDay}
+use Rattle.worker_pool.specs.Days.{place_of_item, AreCallersWhole, IsDay}
 use Rattle.worker_pool.specs.Days as days
 
 -- what the journal says of an item
-abbrev pub ran_of : Done → Ran
-ran_of item = record { place = place_of item; restarts = item.restarts; reply = item.reply }
+abbrev pub ran_of_item : Done → Ran
+ran_of_item item = record { place = place_of_item item; restarts = item.restarts; reply = item.reply }
 
 -- the line of an item, without its reply
 abbrev pub line_of : Done → Line
@@ -24,7 +24,7 @@ line_of item = record { caller = item.caller; index = item.index; restarts = ite
 
 -- what the journal says of all items, in their order
 abbrev pub journal_of : DayEnd → List Ran
-journal_of day = map ran_of day.done.items
+journal_of day = map ran_of_item day.done.items
 
 -- the books that the interpreter leaves after the items, in their order
 abbrev pub closing_books : ClearingInput → DayEnd → ClearingBooks

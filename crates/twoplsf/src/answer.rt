@@ -5,7 +5,7 @@ ghost use Rattle.books_model.specs.Ranges.{IsWithin};
 ghost use Rattle.books_report.specs.Lines.{lent};
 ghost use Rattle.books_report.specs.Output.{output_of};
 ghost use Rattle.script_reader.specs.declared.limits.TheConstants.{MOST_WORKERS};
-ghost use Rattle.twoplsf.specs.Answer.{IsAnswerTo, day_of, refused_line, status_of, text_of};
+ghost use Rattle.twoplsf.specs.Answer.{IsAnswerTo, day_of, refused_line, status_of, text_of_answer};
 ghost use Rattle.twoplsf.specs.Day.{IsDayOf, closing_books, journal_of, line_of};
 
 use crate::day::run_day;
@@ -39,7 +39,7 @@ impl Answer {
     /// The status that it is printed with, its text, and its day, which an output alone has.
     pub(crate) fn into_parts(self) -> (Status, Vec<u8>, Option<DayEnd>)
         ensures status { result.0 ≡ status_of self }
-        ensures text { result.1.items ≡ text_of self }
+        ensures text { result.1.items ≡ text_of_answer self }
         ensures day { result.2 ≡ day_of self }
     {
         match self {

@@ -4,7 +4,7 @@ ghost use Rattle.std.specs.Prelude.{◌≡◌, ◌≤◌, ℕ, map, IfSome, IfNo
 ghost use Rattle.std.specs.String.{string_bytes};
 ghost use Rattle.books_model.specs.Ranges.{IsWithin};
 ghost use Rattle.script_reader.specs.Text.{number};
-ghost use Rattle.twoplsf.specs.Command.{IsDrill, IsDrillCommand, IsMake, IsMakeCommand, IsMaking, IsReading, IsRun, IsRunCommand, IsValidCommand};
+ghost use Rattle.twoplsf.specs.Command.{IsDrill, IsDrillCommand, IsMake, IsMakeCommand, IsMaking, IsReading, IsAnyRunCommand, IsRunCommand, IsValidCommand};
 ghost use Rattle.twoplsf.specs.Commands.{ArePlanned, IsCommand, IsMakingBy, IsReadingBy};
 
 use input_maker::limits::GREATEST_SEED;
@@ -90,7 +90,7 @@ pub fn making_of(words: &[String]) -> Option<Making>
 /// The number of workers of a `run` command. It takes no memory.
 pub fn workers_of(words: &[String]) -> Option<u32>
     ensures some { IfSome result (IsRunCommand (map string_bytes words.now)) }
-    ensures none { IfNone result (¬ IsRun (map string_bytes words.now)) }
+    ensures none { IfNone result (¬ IsAnyRunCommand (map string_bytes words.now)) }
 {
     let [run, workers] = words else {
         return None;

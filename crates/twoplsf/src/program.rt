@@ -6,7 +6,7 @@ ghost use Rattle.io_ends.specs.Counts.{Rose};
 ghost use Rattle.io_ends.specs.Taken.{TakesAtMost};
 ghost use Rattle.script_reader.specs.Grammar.{BeginWithInput, IsValidInput};
 ghost use Rattle.twoplsf.specs.Answer.{OfBytesRead, PrintsOutput};
-ghost use Rattle.twoplsf.specs.Command.{IsCheck, IsMaking, IsRun, IsValidCommand};
+ghost use Rattle.twoplsf.specs.Command.{IsCheck, IsMaking, IsAnyRunCommand, IsValidCommand};
 ghost use Rattle.twoplsf.specs.Ending.{EndsWith, exit_status};
 ghost use Rattle.twoplsf.specs.declared.status.Status.{Status};
 
@@ -30,7 +30,7 @@ pub fn run_program<R: Threads + Wait + Sync, S: Source, K: Sink, G: Gate>(
     gate: &G,
 ) -> u8
     // The serial journal theorem, as `serve` has it.
-    ensures headline { IfOk words (λ list. IsRun (map string_bytes list.items)
+    ensures headline { IfOk words (λ list. IsAnyRunCommand (map string_bytes list.items)
         → result ≡ exit_status Status.Done → OfBytesRead (S.left source.old)
         (λ bytes. PrintsOutput (map string_bytes list.items) bytes
         (K.taken sink.old) (K.taken sink.new))) }
@@ -51,7 +51,7 @@ pub fn run_program<R: Threads + Wait + Sync, S: Source, K: Sink, G: Gate>(
 
     // Where nothing is wrong and no fault comes, the work is done, or memory is out; and `check` may find that the text
     // differs.
-    ensures complete { IfOk words (λ list. IsRun (map string_bytes list.items)
+    ensures complete { IfOk words (λ list. IsAnyRunCommand (map string_bytes list.items)
         → IfSome (S.left source.old) (λ bytes. length bytes ≤ MOST_INPUT_BYTES
         → IsValidInput bytes
         → (¬ Rose (S.faults source.old) (S.faults source.new))

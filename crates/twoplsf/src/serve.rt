@@ -9,14 +9,14 @@ ghost use Rattle.script_reader.specs.Grammar.{AreTwoTexts, BeginWithInput, IsVal
 ghost use Rattle.script_reader.specs.declared.fault.Fault.{Fault};
 ghost use Rattle.script_reader.specs.Faults.{IsFirstFault, IsFrontFault};
 ghost use Rattle.script_reader.specs.Input.{ClearingInput};
-ghost use Rattle.twoplsf.specs.Command.{IsRun, IsCheck, IsDrill, IsMaking, IsReading, IsValidCommand};
+ghost use Rattle.twoplsf.specs.Command.{IsAnyRunCommand, IsCheck, IsDrill, IsMaking, IsReading, IsValidCommand};
 ghost use Rattle.books_report.specs.Output.{IsOutput};
 ghost use Rattle.books_report.specs.Checking.{IsFirstWrongLine};
 ghost use Rattle.twoplsf.specs.Commands.{IsMakingBy, IsReadingBy};
 ghost use Rattle.twoplsf.specs.Check.{differs_line};
 ghost use Rattle.twoplsf.specs.Made.{IsDrillDay, PrintsMade};
 ghost use Rattle.twoplsf.specs.Making.{IsMakingDay, RunsScripts, making_text};
-ghost use Rattle.twoplsf.specs.Answer.{HaveInputFor, OfBytesRead, IsAnswerBy, IsDayFor, PrintsOutput, TookText, day_of, refused_line, status_of, text_of};
+ghost use Rattle.twoplsf.specs.Answer.{HaveInputFor, OfBytesRead, IsAnswerBy, IsDayFor, PrintsOutput, TookText, day_of, refused_line, status_of, text_of_answer};
 
 use crate::answer::{Answer, answer_to};
 use crate::check::check_answer;
@@ -63,9 +63,9 @@ fn day_after(status: Status, day: Option<DayEnd>) -> Option<DayEnd>
 /// Writes the text of an answer.
 fn print_answer<K: Sink>(sink: &mut K, answer: Answer) -> Served
     ensures text { (result.status ≡ status_of answer
-        × Appends (K.taken sink.old) (K.taken sink.new) (text_of answer))
+        × Appends (K.taken sink.old) (K.taken sink.new) (text_of_answer answer))
         ⊎ (result.status ≡ Status.WriteFault × Rose (K.faults sink.old) (K.faults sink.new)
-        × AppendsPrefix (K.taken sink.old) (K.taken sink.new) (text_of answer)) }
+        × AppendsPrefix (K.taken sink.old) (K.taken sink.new) (text_of_answer answer)) }
     ensures done { result.status ≡ Status.Done → result.day ≡ day_of answer }
     ensures other { result.status ≢ Status.Done → result.day ≡ None }
 {
@@ -136,13 +136,13 @@ fn serve_words<R: Threads + Wait + Sync, S: Source, K: Sink, G: Gate>(
     ensures unwritten { (result.status ≡ Status.ReadFault) ⊎ (result.status ≡ Status.OutOfMemory)
         → sink.new ≡ sink.old }
 
-    ensures day { IsRun (map string_bytes words.now) → IfSome result.day
+    ensures day { IsAnyRunCommand (map string_bytes words.now) → IfSome result.day
         (λ day. OfBytesRead (S.left source.old) (λ bytes. IsDayFor (map string_bytes words.now) bytes
         (K.taken sink.old) (K.taken sink.new) day)) }
     ensures drill_day { IsDrill (map string_bytes words.now)
         → IfSome result.day (IsDrillDay (map string_bytes words.now)) }
     ensures has_day { IsSome result.day
-        ↔ ((IsRun (map string_bytes words.now) ⊎ IsDrill (map string_bytes words.now))
+        ↔ ((IsAnyRunCommand (map string_bytes words.now) ⊎ IsDrill (map string_bytes words.now))
         × (result.status ≡ Status.Done)) }
 
     // What is read, and when nothing is.
@@ -212,19 +212,19 @@ pub fn serve<R: Threads + Wait + Sync, S: Source, K: Sink, G: Gate>(
     // order; the sequential interpreter, run down it from the opening books, gives every reply and the closing books;
     // and no script was restarted as often as there are workers. The bytes are those that the source had left, where it
     // tells them; where the sink does not tell what it took, `Appends` says nothing of it. It follows from `text`.
-    ensures headline { IsRun (map string_bytes words.now) → result.status ≡ Status.Done
+    ensures headline { IsAnyRunCommand (map string_bytes words.now) → result.status ≡ Status.Done
         → OfBytesRead (S.left source.old) (λ bytes. PrintsOutput (map string_bytes words.now) bytes
         (K.taken sink.old) (K.taken sink.new)) }
 
     // The day is there exactly where scripts were run and their output was printed, or their sums after a drill: then it
     // is a day of the input by as many workers as the words say, and the text of `run` is the output for its items.
-    ensures day { IsRun (map string_bytes words.now) → IfSome result.day
+    ensures day { IsAnyRunCommand (map string_bytes words.now) → IfSome result.day
         (λ day. OfBytesRead (S.left source.old) (λ bytes. IsDayFor (map string_bytes words.now) bytes
         (K.taken sink.old) (K.taken sink.new) day)) }
     ensures drill_day { IsDrill (map string_bytes words.now)
         → IfSome result.day (IsDrillDay (map string_bytes words.now)) }
     ensures has_day { IsSome result.day
-        ↔ ((IsRun (map string_bytes words.now) ⊎ IsDrill (map string_bytes words.now))
+        ↔ ((IsAnyRunCommand (map string_bytes words.now) ⊎ IsDrill (map string_bytes words.now))
         × (result.status ≡ Status.Done)) }
 
     // A command that makes its input reads nothing, and prints its one text: the input, or what became of it in a
@@ -266,7 +266,7 @@ pub fn serve<R: Threads + Wait + Sync, S: Source, K: Sink, G: Gate>(
     // Bytes that do not have the input that the command reads: the first faulty line is refused, with the first reason
     // that applies to it. (`first_fault`, `first_fault_in_front` and `bad_input` follow from `text` and the laws of
     // texts.)
-    ensures first_fault { IsRun (map string_bytes words.now) → result.status ≡ Status.BadInput
+    ensures first_fault { IsAnyRunCommand (map string_bytes words.now) → result.status ≡ Status.BadInput
         → IfSome (S.left source.old)
         (λ bytes. (number : ℕ) (why : Fault) → IsFirstFault bytes number why
         → Appends (K.taken sink.old) (K.taken sink.new) (refused_line number why)) }
@@ -300,7 +300,7 @@ pub fn serve<R: Threads + Wait + Sync, S: Source, K: Sink, G: Gate>(
 
     // Completeness: where nothing is wrong and no fault comes, the command is done, or out of memory; and `check` may
     // find that the text differs.
-    ensures complete { IsRun (map string_bytes words.now) → IfSome (S.left source.old)
+    ensures complete { IsAnyRunCommand (map string_bytes words.now) → IfSome (S.left source.old)
         (λ bytes. length bytes ≤ MOST_INPUT_BYTES → IsValidInput bytes
         → (¬ Rose (S.faults source.old) (S.faults source.new))
         → (¬ Rose (K.faults sink.old) (K.faults sink.new))

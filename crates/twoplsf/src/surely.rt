@@ -6,7 +6,7 @@ ghost use Rattle.std.specs.String.{string_bytes};
 ghost use Rattle.script_reader.specs.Grammar.{AreTwoTexts, BeginWithInput, IsValidInput};
 ghost use Rattle.script_reader.specs.Input.{ClearingInput};
 ghost use Rattle.books_report.specs.Output.{IsOutput};
-ghost use Rattle.twoplsf.specs.Command.{IsRun, IsCheck, IsDrill, IsMaking, IsReading, IsValidCommand};
+ghost use Rattle.twoplsf.specs.Command.{IsAnyRunCommand, IsCheck, IsDrill, IsMaking, IsReading, IsValidCommand};
 ghost use Rattle.twoplsf.specs.Made.{IsDrillDay};
 ghost use Rattle.twoplsf.specs.Answer.{HaveInputFor, IsDayFor};
 
@@ -32,7 +32,7 @@ pub fn serve_surely<R: Threads + Wait + Sync, G: Gate>(
     ensures no_write_fault { result.status ≢ Status.WriteFault }
 
     // Valid words, and a valid input within the size: done, or out of memory.
-    ensures run { IsRun (map string_bytes words.now) → length bytes.items ≤ MOST_INPUT_BYTES
+    ensures run { IsAnyRunCommand (map string_bytes words.now) → length bytes.items ≤ MOST_INPUT_BYTES
         → IsValidInput bytes.items
         → (result.status ≡ Status.Done) ⊎ (result.status ≡ Status.OutOfMemory) }
     ensures check { IsCheck (map string_bytes words.now) → length bytes.items ≤ MOST_INPUT_BYTES
@@ -58,12 +58,12 @@ pub fn serve_surely<R: Threads + Wait + Sync, G: Gate>(
         → (result.status ≡ Status.Differs) ⊎ (result.status ≡ Status.OutOfMemory) }
 
     // What the workers did is told as ever, of exactly these bytes.
-    ensures day { IsRun (map string_bytes words.now)
+    ensures day { IsAnyRunCommand (map string_bytes words.now)
         → IfSome result.day (IsDayFor (map string_bytes words.now) bytes.items None None) }
     ensures drill_day { IsDrill (map string_bytes words.now)
         → IfSome result.day (IsDrillDay (map string_bytes words.now)) }
     ensures has_day { IsSome result.day
-        ↔ ((IsRun (map string_bytes words.now) ⊎ IsDrill (map string_bytes words.now))
+        ↔ ((IsAnyRunCommand (map string_bytes words.now) ⊎ IsDrill (map string_bytes words.now))
         × (result.status ≡ Status.Done)) }
 {
     let mut source = SureSource::new(bytes);

@@ -22,7 +22,7 @@ use Rattle.txn_books.specs.declared.shape.BooksShape.{BooksShape}
 use Rattle.txn_books.specs.declared.operations.Outcome.{Outcome}
 use Rattle.txn_books.specs.declared.operations.Outcome.TheVariants as outcome
 use Rattle.txn_books.specs.Standing.{Stands, IsGoodFor}
-use Rattle.txn_books.specs.Operating.{step_with, Steps}
+use Rattle.txn_books.specs.Operating.{step_of_outcome, Steps}
 use Rattle.txn_books.specs.Meaning.{is_done, ScriptMeans}
 use Rattle.txn_books.specs.Inner.Scripts.{Runs}
 use Rattle.txn_books.proofs.Calls.{leads_less}
@@ -40,7 +40,7 @@ module _ {W S O : Type 0} {words : AnyWords W S O} {shapes : Shapes S} {shape : 
 module _ {W S O : Type 0} {words : AnyWords W S O} {shapes : Shapes S} {shape : BooksShape} {u v : W} where
   -- what an operation turns
   pub of_steps : {op : Op} {come : Outcome} → LeadsTo words shapes u v (Steps shape op come)
-      → LeadsTo words shapes u v (Turns shape (λ books after. step_of op books ≡ step_with come after))
+      → LeadsTo words shapes u v (Turns shape (λ books after. step_of op books ≡ step_of_outcome come after))
   of_steps h = leads_less words shapes u v _ _ (λ x y k. record { at = λ books stand. let last = k.comes books stand in (last.0, last.2, last.1) }) h
 
   -- books stand after changes
@@ -68,20 +68,20 @@ module _ {W S O A : Type 0} {words : AnyWords W S O} {shapes : Shapes S} {shape 
     (steps : LeadsTo words shapes v w (Steps shape op come)) where
   -- one operation more
   stepped : Turned words shapes shape u w (λ books last. (now : ClearingBooks)
-      × SoFar script values number (op ∷ rest) books now × (step_of op now ≡ step_with come last))
+      × SoFar script values number (op ∷ rest) books now × (step_of op now ≡ step_of_outcome come last))
   stepped = turn_then goes before (of_steps steps)
 
   -- it gives a value
   pub run_gives : (value : Value) → come ≡ outcome.Gives value → Turned words shapes shape u w (SoFar script (values ++ value ∷ []) (number + 1) rest)
-  run_gives value is = turned_less stepped (λ books last sized k. goes_on op rest _ values number k.0 k.1 value last (k.2 ∙ ap (λ o. step_with o last) is))
+  run_gives value is = turned_less stepped (λ books last sized k. goes_on op rest _ values number k.0 k.1 value last (k.2 ∙ ap (λ o. step_of_outcome o last) is))
 
   -- it is declined
   pub run_declined : (why : Decline) → come ≡ outcome.Declines why → LeadsTo words shapes u w (Runs shape script (reply.Declined number why))
-  run_declined why is = turned_runs stepped (λ books last k. is_declined op rest _ values number k.0 k.1 why (k.2 ∙ ap (λ o. step_with o last) is))
+  run_declined why is = turned_runs stepped (λ books last k. is_declined op rest _ values number k.0 k.1 why (k.2 ∙ ap (λ o. step_of_outcome o last) is))
 
   -- it finds no block
   pub run_full : come ≡ outcome.FindsNoBlock → LeadsTo words shapes u w (Runs shape script (reply.Full number))
-  run_full is = turned_runs stepped (λ books last k. finds_no_block op rest _ values number k.0 k.1 (k.2 ∙ ap (λ o. step_with o last) is))
+  run_full is = turned_runs stepped (λ books last k. finds_no_block op rest _ values number k.0 k.1 (k.2 ∙ ap (λ o. step_of_outcome o last) is))
 
 -- the reply of a run is the interpreter's
 outcome_reply : (books after : ClearingBooks) (answer : Reply) → (outcome_from books (run_with answer after)).0 ≡ answer

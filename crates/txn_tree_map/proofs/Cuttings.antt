@@ -17,7 +17,7 @@ use Rattle.txn_alloc.proofs.Cells.{value_less, less_block, has_not, has_times, t
 use Rattle.txn_tree_map.specs.declared.map.TreeMap.{TreeMap}
 use Rattle.txn_tree_map.specs.Trees.{Tree, priority_of, name_of, rank_of, cells_of, IsAbove, IsRising, TreeHolds, tree_part}
 use Rattle.txn_tree_map.specs.Trees.Tree.{Node}
-use Rattle.txn_tree_map.specs.Paths.{place_of, before_of, after_of, IsAt}
+use Rattle.txn_tree_map.specs.Paths.{place_at_end, before_of, after_of, HangsAt}
 use Rattle.txn_tree_map.specs.Searches.{IsFoundAt}
 use Rattle.txn_tree_map.specs.Joins.{IsHoleOrName, ArePair, Joins, IsCut}
 use Rattle.txn_tree_map.proofs.Rising.{rising_first, rising_last, rising_cut, rising_above, value_between}
@@ -112,7 +112,7 @@ module _ (map : TreeMap) (key place b : ℕ) (s : List ℕ) (h : IsFoundAt map k
     joined_cells = sym same_both ∙ j.cells
 
     -- a word of the path's blocks but the place, and the root where it is not the place, stays
-    path_kept : (d a : ℕ) → 1 ≤ count_on d h.path → IsInBlock map.arena d a → a ≢ place_of map.arena map.root h.path → slice_get t a ≡ slice_get s a
+    path_kept : (d a : ℕ) → 1 ≤ count_on d h.path → IsInBlock map.arena d a → a ≢ place_at_end map.arena map.root h.path → slice_get t a ≡ slice_get s a
     path_kept d a k mine ne = kept.same a (λ m. elim m [
       | inl e ↦ ne (e ∙ h.at)
       | inr q ↦
@@ -127,7 +127,7 @@ module _ (map : TreeMap) (key place b : ℕ) (s : List ℕ) (h : IsFoundAt map k
           omega (arith, there, below_times d, k, once d)
     ])
 
-    root_kept : map.root ≢ place_of map.arena map.root h.path → slice_get t map.root ≡ slice_get s map.root
+    root_kept : map.root ≢ place_at_end map.arena map.root h.path → slice_get t map.root ≡ slice_get s map.root
     root_kept ne = kept.same map.root (λ m. elim m [
       | inl e ↦ ne (e ∙ h.at)
       | inr q ↦
@@ -141,7 +141,7 @@ module _ (map : TreeMap) (key place b : ℕ) (s : List ℕ) (h : IsFoundAt map k
           at_outside map s h.path node h.is_at q.0 (omega (arith, there, below_times q.0)) own
     ])
 
-    pub cut_at : IsAt map h.path j.tree t
+    pub cut_at : HangsAt map h.path j.tree t
     cut_at =
         let lower : rank_of j.tree ≤ priority_of h.cell.key =
         j.lower (priority_of h.cell.key) (omega (arith, ap rank_of same_first, h.is_at.heap.0)) (omega (arith, ap rank_of same_second, h.is_at.heap.1)) in

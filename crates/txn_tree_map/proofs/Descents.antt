@@ -10,7 +10,7 @@ use Rattle.txn_alloc.proofs.Cells.{all_append, all_first, all_last}
 use Rattle.txn_tree_map.specs.declared.map.TreeMap.{TreeMap}
 use Rattle.txn_tree_map.specs.Trees.{Tree, priority_of, name_of, rank_of, cells_of, IsSpelled, IsAbove, IsRising, TreeHolds}
 use Rattle.txn_tree_map.specs.Trees.Tree.{Leaf, Node}
-use Rattle.txn_tree_map.specs.Paths.{Step, Path, whole_of, before_of, after_of, IsHigh, IsBelow, IsAt}
+use Rattle.txn_tree_map.specs.Paths.{Step, Path, whole_of, before_of, after_of, IsHigh, IsBelow, HangsAt}
 use Rattle.txn_tree_map.specs.Searches.{HasTop, IsNamed, IsPassed, IsFoundAt, IsMissing}
 use Rattle.txn_tree_map.proofs.Rising.{above_more, below_more, rising_below, rising_above, value_there, value_between}
 use Rattle.txn_tree_map.proofs.Places.{at_step, at_room, at_name, at_value}
@@ -114,7 +114,7 @@ side_right key k e ne = grind (arith, rules, e, ne)
 
 module _ (map : TreeMap) (key floor : ℕ) (s : List ℕ) where
   -- the search begins at the root
-  pub passed_tree : (tree : Tree) → IsAt map [] tree s → floor ≤ 2 ^ 64 → IsPassed map key floor map.root 0 s
+  pub passed_tree : (tree : Tree) → HangsAt map [] tree s → floor ≤ 2 ^ 64 → IsPassed map key floor map.root 0 s
   passed_tree tree m le = record {
     path = [];
     rest = tree;
@@ -134,7 +134,7 @@ module _ (map : TreeMap) (key floor : ℕ) (s : List ℕ) where
   }
 
   passed_leaf : (p n : ℕ) → (h : IsPassed map key floor p n s) → h.rest ≡ Leaf → IsMissing map key s
-  passed_leaf p n h e = record { path = h.path; is_at = subst (λ t. IsAt map h.path t s) e h.is_at; low = h.low; high = h.high }
+  passed_leaf p n h e = record { path = h.path; is_at = subst (λ t. HangsAt map h.path t s) e h.is_at; low = h.low; high = h.high }
 
   pub rest_name : (p n m : ℕ) (h : IsPassed map key floor p n s) → slice_get s p ≡ Some m → name_of h.rest ≡ m
   rest_name p n m h e = same_Some (name_of h.rest) m (sym (at_name map s h.path h.rest h.is_at) ∙ ap (λ q. slice_get s q) (sym h.at) ∙ e)
@@ -157,7 +157,7 @@ module _ (map : TreeMap) (key floor : ℕ) (s : List ℕ) where
         left = node.left;
         cell = node.cell;
         right = node.right;
-        is_at = subst (λ t. IsAt map h.path t s) node.is h.is_at;
+        is_at = subst (λ t. HangsAt map h.path t s) node.is h.is_at;
         at = h.at;
         is_block = node.is_block;
         is_key = node.is_key ∙ e;
@@ -174,7 +174,7 @@ module _ (map : TreeMap) (key floor : ℕ) (s : List ℕ) where
       let left : Bool = nat_lt key k in
       let order : NodeOrder h.path l r c =
       node_order h.path l r c (subst (λ t. IsRising (before_of h.path ++ (cells_of t ++ after_of h.path))) node.is h.is_at.search) in
-      let down : IsAt map (step_down left l c r ∷ h.path) (child_of left l r) s =
+      let down : HangsAt map (step_down left l c r ∷ h.path) (child_of left l r) s =
       at_step map s h.path h.rest h.is_at (step_down left l c r) (child_of left l r) (node.is ∙ node_whole left l r c) in
       let whole : length (cells_of h.rest) ≡ length (cells_of (Node l c r)) = ap (λ t. length (cells_of t)) node.is in
       record {

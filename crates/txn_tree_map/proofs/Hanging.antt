@@ -10,7 +10,7 @@ use Rattle.txn_alloc.specs.FreeLists.{block_at, IsInBlock}
 use Rattle.txn_alloc.proofs.Cells.{times_in, times-append, one_in, one_here}
 use Rattle.txn_tree_map.specs.Trees.{Tree, name_of, cells_of, IsSpelled}
 use Rattle.txn_tree_map.specs.Trees.Tree.{Leaf}
-use Rattle.txn_tree_map.specs.Paths.{Step, Path, whole_of, plug, place_of, before_of, after_of, IsHung}
+use Rattle.txn_tree_map.specs.Paths.{Step, Path, whole_of, plug, place_at_end, before_of, after_of, IsHung}
 use Rattle.txn_tree_map.proofs.Trees.{count_in, count_on, times_cells, cells_plug, count_plug, SameIn, spelled_stays, hung_again, spelled_whole}
 use Rattle.txn_tree_map.proofs.Places.{hung_name}
 
@@ -23,8 +23,8 @@ times_around b path =
     omega (arith, whole, parts, same, times-append b (before_of path) (after_of path))
 
 -- the place at the end of a path is its root, or in one of its blocks
-pub place_mine : (arena : Arena) (root : ℕ) (path : Path) → (place_of arena root path ≡ root)
-    ⊎ ((d : ℕ) × (1 ≤ count_on d path) × ((place_of arena root path ≡ block_at arena d + 2) ⊎ (place_of arena root path ≡ block_at arena d + 3)))
+pub place_mine : (arena : Arena) (root : ℕ) (path : Path) → (place_at_end arena root path ≡ root)
+    ⊎ ((d : ℕ) × (1 ≤ count_on d path) × ((place_at_end arena root path ≡ block_at arena d + 2) ⊎ (place_at_end arena root path ≡ block_at arena d + 3)))
 place_mine arena root [] = inl refl
 place_mine arena root (st ∷ path) =
     let one : one_in st.cell.block st.cell ≡ 1 = one_here st.cell.block st.cell refl in
@@ -41,7 +41,7 @@ named_block arena b d a h (inr e) = omega (arith, h.low, h.high, e)
 
 module _ (arena : Arena) (s : List ℕ) (root : ℕ) (path : Path) (x m : ℕ) (hung : IsHung arena s root path x) where
   abbrev pub hole : ℕ
-  hole = place_of arena root path
+  hole = place_at_end arena root path
 
   pub hole_within : hole < length s
   hole_within = slice_get_within s hole x (hung_name arena s root path x hung)
@@ -86,10 +86,10 @@ pub hung_step : (arena : Arena) (s : List ℕ) (root : ℕ) (path : Path) (x : �
     → IsHung arena s root path x → IsSpelled arena s (whole_of st below)
     → ((b : ℕ) → count_on b path + count_in b (whole_of st below) ≤ 1)
     → ((b : ℕ) → 1 ≤ count_on b path + count_in b (whole_of st below) → ¬ IsInBlock arena b root)
-    → IsHung arena (slice_set s (place_of arena root path) (st.cell.block + 1)) root (st ∷ path) (name_of below)
-    × IsSpelled arena (slice_set s (place_of arena root path) (st.cell.block + 1)) below
+    → IsHung arena (slice_set s (place_at_end arena root path) (st.cell.block + 1)) root (st ∷ path) (name_of below)
+    × IsSpelled arena (slice_set s (place_at_end arena root path) (st.cell.block + 1)) below
 hung_step arena s root path x st below hung spelled once out =
-    let t : List ℕ = slice_set s (place_of arena root path) (st.cell.block + 1) in
+    let t : List ℕ = slice_set s (place_at_end arena root path) (st.cell.block + 1) in
     let whole : IsSpelled arena t (whole_of st below) =
     spelled_stays arena s t (whole_of st below) (same_in arena s root path x (st.cell.block + 1) hung
     (λ b. count_in b (whole_of st below)) once (λ b k. out b (omega (arith, k)))) spelled in

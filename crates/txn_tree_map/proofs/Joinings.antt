@@ -10,7 +10,7 @@ use Rattle.txn_alloc.proofs.Cells.{all_append, all_last, times_in, times-append,
 use Rattle.txn_tree_map.specs.declared.map.TreeMap.{TreeMap}
 use Rattle.txn_tree_map.specs.Trees.{Tree, priority_of, name_of, rank_of, cells_of, IsSpelled, IsRising, IsHeap, IsLaid}
 use Rattle.txn_tree_map.specs.Trees.Tree.{Leaf, Node}
-use Rattle.txn_tree_map.specs.Paths.{Step, plug, place_of, before_of, after_of, IsHung, IsHigh}
+use Rattle.txn_tree_map.specs.Paths.{Step, plug, place_at_end, before_of, after_of, IsHung, IsHigh}
 use Rattle.txn_tree_map.specs.Changes.{Hangs}
 use Rattle.txn_tree_map.specs.Joins.{IsHoleOrName, ArePair, IsJoined, IsGathered, Joins}
 use Rattle.txn_alloc.proofs.Counting.{length_below}
@@ -150,9 +150,9 @@ module _ (map : TreeMap) (hole left right turns place left_rest right_rest : ℕ
         let r : Tree = node.right in
         let st : Step = step_down false l c r in
         let spelled : IsSpelled a s (Node l c r) = subst (λ z. IsSpelled a s z) node.is h.left_spelled in
-        let u : List ℕ = slice_set s (place_of a hole h.path) (c.block + 1) in
+        let u : List ℕ = slice_set s (place_at_end a hole h.path) (c.block + 1) in
         let same : t ≡ u = hangs.changed ∙ ap (λ z. slice_set s z left_rest) h.at
-        ∙ ap (λ z. slice_set s (place_of a hole h.path) z) (left_is ∙ ap (λ z. z + 1) (sym node.is_block)) in
+        ∙ ap (λ z. slice_set s (place_at_end a hole h.path) z) (left_is ∙ ap (λ z. z + 1) (sym node.is_block)) in
         let counts : (e : ℕ) → count_in e h.lefts ≡ count_in e (Node l c r) = λ e. ap (λ z. count_in e z) node.is in
         let step = hung_step a s hole h.path h.place_has st r h.hung spelled (λ e. omega (arith, once e, counts e))
         (λ e m. out e (omega (arith, m, counts e))) in
@@ -191,7 +191,7 @@ module _ (map : TreeMap) (hole left right turns place left_rest right_rest : ℕ
           left_heap = heap.3;
           right_heap = h.right_heap;
           count = omega (arith, h.count, longer, length-append (cells_of l) (c ∷ cells_of r));
-          kept = keeps_set (IsHoleOrName map hole cells_both) old s (place_of a hole h.path) (c.block + 1) h.kept
+          kept = keeps_set (IsHoleOrName map hole cells_both) old s (place_at_end a hole h.path) (c.block + 1) h.kept
               (subst (λ z. IsHoleOrName map hole cells_both z) h.at joined_own);
         })
 
@@ -207,9 +207,9 @@ module _ (map : TreeMap) (hole left right turns place left_rest right_rest : ℕ
         let r : Tree = node.right in
         let st : Step = step_down true l c r in
         let spelled : IsSpelled a s (Node l c r) = subst (λ z. IsSpelled a s z) node.is h.right_spelled in
-        let u : List ℕ = slice_set s (place_of a hole h.path) (c.block + 1) in
+        let u : List ℕ = slice_set s (place_at_end a hole h.path) (c.block + 1) in
         let same : t ≡ u = hangs.changed ∙ ap (λ z. slice_set s z right_rest) h.at
-        ∙ ap (λ z. slice_set s (place_of a hole h.path) z) (right_is ∙ ap (λ z. z + 1) (sym node.is_block)) in
+        ∙ ap (λ z. slice_set s (place_at_end a hole h.path) z) (right_is ∙ ap (λ z. z + 1) (sym node.is_block)) in
         let counts : (e : ℕ) → count_in e h.rights ≡ count_in e (Node l c r) = λ e. ap (λ z. count_in e z) node.is in
         let step = hung_step a s hole h.path h.place_has st l h.hung spelled (λ e. omega (arith, once e, counts e))
         (λ e m. out e (omega (arith, m, counts e))) in
@@ -247,7 +247,7 @@ module _ (map : TreeMap) (hole left right turns place left_rest right_rest : ℕ
           left_heap = h.left_heap;
           right_heap = heap.2;
           count = omega (arith, h.count, longer, length-append (cells_of l) (c ∷ cells_of r));
-          kept = keeps_set (IsHoleOrName map hole cells_both) old s (place_of a hole h.path) (c.block + 1) h.kept
+          kept = keeps_set (IsHoleOrName map hole cells_both) old s (place_at_end a hole h.path) (c.block + 1) h.kept
               (subst (λ z. IsHoleOrName map hole cells_both z) h.at joined_own);
         })
 
@@ -333,7 +333,7 @@ module _ (map : TreeMap) (hole left right place name : ℕ) (old s : List ℕ) (
   pub joins_end : Joins map hole left right old (slice_set s place name)
   joins_end =
       let a : Arena = map.arena in
-      let u : List ℕ = slice_set s (place_of a hole h.path) name in
+      let u : List ℕ = slice_set s (place_at_end a hole h.path) name in
       let same : slice_set s place name ≡ u = ap (λ z. slice_set s z name) h.at in
       let hung : IsHung a u hole h.path name =
       hung_here a s hole h.path h.place_has name h.hung (λ b. omega (arith, gathered_once b)) (λ b k. gathered_out b (omega (arith, k))) in
@@ -351,6 +351,6 @@ module _ (map : TreeMap) (hole left right place name : ℕ) (old s : List ℕ) (
         lower = λ top p q. (high_plug top h.path h.last (h.falls top p q) h.heap).0;
         heap = (high_plug (rank_of h.first + rank_of h.second) h.path h.last
             (h.falls (rank_of h.first + rank_of h.second) (omega arith) (omega arith)) h.heap).1;
-        kept = keeps_set (IsHoleOrName map hole all_both) old s (place_of a hole h.path) name h.kept
+        kept = keeps_set (IsHoleOrName map hole all_both) old s (place_at_end a hole h.path) name h.kept
             (subst (λ z. IsHoleOrName map hole all_both z) h.at gathered_own);
       })

@@ -9,9 +9,9 @@ use Rattle.txn_tree_map.specs.declared.map.TreeMap.{TreeMap}
 use Rattle.txn_tree_map.specs.declared.find.Named.{Named}
 use Rattle.txn_tree_map.specs.Trees.{Tree, name_of, cells_of, TreeHolds, tree_part}
 use Rattle.txn_tree_map.specs.Trees.Tree.{Leaf, Node}
-use Rattle.txn_tree_map.specs.Paths.{Path, place_of, before_of, after_of, IsAt}
+use Rattle.txn_tree_map.specs.Paths.{Path, place_at_end, before_of, after_of, HangsAt}
 use Rattle.txn_tree_map.specs.Searches.{IsKeyOrName, IsOfTree, IsLink, IsPlace, IsPlaceOrKey, IsNamed, IsPassed, IsFoundAt}
-use Rattle.txn_tree_map.specs.Sums.{IsNear, IsNearest}
+use Rattle.txn_tree_map.specs.Sums.{IsNear, IsFirstFrom}
 use Rattle.txn_tree_map.proofs.Trees.{count_in, count_on}
 use Rattle.txn_tree_map.proofs.Places.{at_tree, at_times, at_cells, at_used}
 use Rattle.txn_tree_map.proofs.Descents.{IsNode, node_named, passed_node}
@@ -29,14 +29,14 @@ pub top_count : (tree : Tree) (b : ℕ) → name_of tree ≡ b + 1 → 1 ≤ cou
 top_count Leaf b e = absurd (omega (arith, e))
 top_count (Node left c right) b e = let one : one_in b c ≡ 1 = one_here b c (omega (arith, e)) in omega (arith, one)
 
-module _ (map : TreeMap) (s : List ℕ) (path : Path) (tree : Tree) (m : IsAt map path tree s) where
+module _ (map : TreeMap) (s : List ℕ) (path : Path) (tree : Tree) (m : HangsAt map path tree s) where
   pub of_tree : (b : ℕ) → 1 ≤ count_on b path + count_in b tree → IsOfTree map b s
   of_tree b k other_path other n =
       ap (λ cs. has_block b cs) (at_cells map s path tree m other_path other n)
       ∙ times_has b (before_of path ++ (cells_of tree ++ after_of path)) (omega (arith, k, at_times map s path tree m b))
 
   -- the place at the end of the path
-  pub at_link : IsLink map s (place_of map.arena map.root path)
+  pub at_link : IsLink map s (place_at_end map.arena map.root path)
   at_link = elim (place_mine map.arena map.root path) [ inl e ↦ inl e | inr d ↦ inr (d.0, of_tree d.0 (omega (arith, d.1)), inr d.2) ]
 
   -- the key of the node that hangs there
@@ -70,7 +70,7 @@ pub found_place : (map : TreeMap) (key p b : ℕ) (s : List ℕ) → IsFoundAt m
 found_place map key p b s h = subst (IsLink map s) (sym h.at) (at_link map s h.path (Node h.left h.cell h.right) h.is_at)
 
 -- the block of the first node from a key on
-pub nearest_of : (map : TreeMap) (least : ℕ) (node : Named) (s : List ℕ) → IsNearest map least (Some node) s → IsOfTree map node.block s
+pub nearest_of : (map : TreeMap) (least : ℕ) (node : Named) (s : List ℕ) → IsFirstFrom map least (Some node) s → IsOfTree map node.block s
 nearest_of map least node s h other_path other n =
     ap (λ cs. has_block node.block cs) (at_cells map s [] h.tree h.is_at other_path other n
     ∙ append-nil (cells_of h.tree) ∙ h.cells ∙ ap (λ z. h.lows ++ z) h.first.2)

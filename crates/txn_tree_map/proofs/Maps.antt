@@ -19,7 +19,7 @@ use Rattle.txn_alloc.proofs.Founds.{InsertsIn}
 use Rattle.txn_tree_map.specs.declared.map.TreeMap.{TreeMap}
 use Rattle.txn_tree_map.specs.Trees.{Tree, name_of, cells_of, IsRising, IsLaid, TreeHolds, tree_part}
 use Rattle.txn_tree_map.specs.Trees.Tree.{Leaf, Node}
-use Rattle.txn_tree_map.specs.Paths.{Path, plug, before_of, after_of, IsAt}
+use Rattle.txn_tree_map.specs.Paths.{Path, plug, before_of, after_of, HangsAt}
 use Rattle.txn_tree_map.specs.Searches.{IsMissing}
 use Rattle.txn_tree_map.specs.Changes.{CanPut, IsPut}
 use Rattle.txn_tree_map.proofs.Rising.{value_there}
@@ -32,15 +32,15 @@ use Rattle.txn_tree_map.proofs.Gets.{used_below}
 -- in one word list the map is one
 pub one_map : (map : TreeMap) (s : List ℕ) (f g : Entries) (u w : Blocks) → TreeHolds map s f u → TreeHolds map s g w → (f ≡ g) × (u ≡ w)
 one_map map s f g u w h k =
-    let m : IsAt map [] h.tree s = at_tree map s f u h in (
+    let m : HangsAt map [] h.tree s = at_tree map s f u h in (
       entry_map.same_map nat_cmp_total nat_cmp-IsAntisymmetric f g (λ q. at_value map s [] h.tree m f u h q ∙ sym (at_value map s [] h.tree m g w k q)),
       set.same_set nat_cmp_total nat_cmp-IsAntisymmetric u w (λ q. at_used map s [] h.tree m f u h q ∙ sym (at_used map s [] h.tree m g w k q)),
     )
 
 -- a place in a tree whose words stay
-pub at_stays : (map : TreeMap) (s t : List ℕ) (path : Path) (tree : Tree) → IsAt map path tree s → length t ≡ length s
+pub at_stays : (map : TreeMap) (s t : List ℕ) (path : Path) (tree : Tree) → HangsAt map path tree s → length t ≡ length s
     → slice_get t map.root ≡ slice_get s map.root
-    → ((b a : ℕ) → 1 ≤ count_on b path + count_in b tree → IsInBlock map.arena b a → slice_get t a ≡ slice_get s a) → IsAt map path tree t
+    → ((b a : ℕ) → 1 ≤ count_on b path + count_in b tree → IsInBlock map.arena b a → slice_get t a ≡ slice_get s a) → HangsAt map path tree t
 at_stays map s t path tree m e root same = record {
   laid = laid_alike map s t e m.laid;
   hung = hung_stays map.arena s t map.root path (name_of tree) root (λ b a k mine. same b a (omega (arith, k)) mine) m.hung;
@@ -51,11 +51,11 @@ at_stays map s t path tree m e root same = record {
 }
 
 -- the whole of a place, with what its cells say
-pub holds_at : (map : TreeMap) (s : List ℕ) (path : Path) (tree : Tree) (f : Entries) (u : Blocks) → IsAt map path tree s
+pub holds_at : (map : TreeMap) (s : List ℕ) (path : Path) (tree : Tree) (f : Entries) (u : Blocks) → HangsAt map path tree s
     → ((key : ℕ) → entry_map.get f key ≡ value_of key (before_of path ++ (cells_of tree ++ after_of path)))
     → ((b : ℕ) → set.contains u b ≡ has_block b (before_of path ++ (cells_of tree ++ after_of path))) → TreeHolds map s f u
 holds_at map s path tree f u m entries used =
-    let whole : IsAt map [] (plug path tree) s = at_root map s path tree m in
+    let whole : HangsAt map [] (plug path tree) s = at_root map s path tree m in
     record {
       laid = m.laid;
       tree = plug path tree;
@@ -71,14 +71,14 @@ pub tree_stands : (map : TreeMap) (s t : List ℕ) (f : Entries) (u : Blocks) �
     → slice_get t map.root ≡ slice_get s map.root
     → ((b a : ℕ) → set.contains u b ≡ true → IsInBlock map.arena b a → slice_get t a ≡ slice_get s a) → TreeHolds map t f u
 tree_stands map s t f u h e root blocks =
-    let m : IsAt map [] h.tree s = at_tree map s f u h in
+    let m : HangsAt map [] h.tree s = at_tree map s f u h in
     holds_at map t [] h.tree f u
     (at_stays map s t [] h.tree m e root (λ b a k mine. blocks b a (at_used map s [] h.tree m f u h b
     ∙ times_has b (cells_of h.tree ++ []) (omega (arith, k, at_times map s [] h.tree m b))) mine))
     (at_value map s [] h.tree m f u h) (at_used map s [] h.tree m f u h)
 
 -- it stands too where heads alone are written
-pub at_headed : (map : TreeMap) (s t : List ℕ) (path : Path) (tree : Tree) → IsAt map path tree s → KeepsOthers (IsHead map.arena) s t → IsAt map path tree t
+pub at_headed : (map : TreeMap) (s t : List ℕ) (path : Path) (tree : Tree) → HangsAt map path tree s → KeepsOthers (IsHead map.arena) s t → HangsAt map path tree t
 at_headed map s t path tree m kept = at_stays map s t path tree m kept.count (kept.same map.root m.laid.no_head)
     (λ b a k mine. kept.same a (m.laid.arena.outside b a (at_below map s path tree m b k) mine))
 

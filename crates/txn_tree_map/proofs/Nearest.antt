@@ -9,16 +9,16 @@ use Rattle.txn_tree_map.specs.declared.map.TreeMap.{TreeMap}
 use Rattle.txn_tree_map.specs.declared.find.Named.{Named}
 use Rattle.txn_tree_map.specs.Trees.{Tree, name_of, cells_of, IsRising}
 use Rattle.txn_tree_map.specs.Trees.Tree.{Leaf, Node}
-use Rattle.txn_tree_map.specs.Paths.{plug, before_of, after_of, IsAt}
+use Rattle.txn_tree_map.specs.Paths.{plug, before_of, after_of, HangsAt}
 use Rattle.txn_tree_map.specs.Searches.{HasTop, IsNamed}
-use Rattle.txn_tree_map.specs.Sums.{IsNear, IsNearest}
+use Rattle.txn_tree_map.specs.Sums.{IsNear, IsFirstFrom}
 use Rattle.txn_tree_map.proofs.Rising.{below_more}
 use Rattle.txn_tree_map.proofs.Trees.{cells_plug}
 use Rattle.txn_tree_map.proofs.Places.{at_step, at_room, at_name, at_root}
 use Rattle.txn_tree_map.proofs.Descents.{IsNode, NodeOrder, node_order, node_named, node_whole, child_shorter, leaf_named, leaf_short, step_down}
 
 module _ (map : TreeMap) (least : ℕ) (s : List ℕ) where
-  pub near_none : (tree : Tree) → IsAt map [] tree s → IsNear map least None map.root 0 s
+  pub near_none : (tree : Tree) → HangsAt map [] tree s → IsNear map least None map.root 0 s
   near_none tree m = record {
     path = [];
     rest = tree;
@@ -37,7 +37,7 @@ module _ (map : TreeMap) (least : ℕ) (s : List ℕ) where
     head = (ap (λ q. slice_get s q) h.at ∙ at_name map s h.path h.rest h.is_at, h.is_at.spelled);
   }
 
-  near_leaf : (best : Option Named) (p n : ℕ) (h : IsNear map least best p n s) → h.rest ≡ Leaf → IsNearest map least best s
+  near_leaf : (best : Option Named) (p n : ℕ) (h : IsNear map least best p n s) → h.rest ≡ Leaf → IsFirstFrom map least best s
   near_leaf best p n h e = record {
     tree = plug h.path h.rest;
     is_at = at_root map s h.path h.rest h.is_at;
@@ -52,10 +52,10 @@ module _ (map : TreeMap) (least : ℕ) (s : List ℕ) where
   pub near_name : (best : Option Named) (p n m : ℕ) (h : IsNear map least best p n s) → slice_get s p ≡ Some m → name_of h.rest ≡ m
   near_name best p n m h e = same_Some (name_of h.rest) m (sym (at_name map s h.path h.rest h.is_at) ∙ ap (λ q. slice_get s q) (sym h.at) ∙ e)
 
-  pub near_end : (best : Option Named) (p n : ℕ) → IsNear map least best p n s → slice_get s p ≡ Some 0 → IsNearest map least best s
+  pub near_end : (best : Option Named) (p n : ℕ) → IsNear map least best p n s → slice_get s p ≡ Some 0 → IsFirstFrom map least best s
   near_end best p n h e = near_leaf best p n h (leaf_named h.rest (near_name best p n 0 h e))
 
-  pub near_all : (best : Option Named) (p n : ℕ) → map.arena.blocks ≤ n → IsNear map least best p n s → IsNearest map least best s
+  pub near_all : (best : Option Named) (p n : ℕ) → map.arena.blocks ≤ n → IsNear map least best p n s → IsFirstFrom map least best s
   near_all best p n le h = near_leaf best p n h (leaf_short h.rest (omega (arith, h.count, le)))
 
   -- one node is passed

@@ -13,7 +13,7 @@ use Rattle.txn_alloc.proofs.Cells.{times_in, times-append, times_has, all_first,
 use Rattle.txn_tree_map.specs.declared.map.TreeMap.{TreeMap}
 use Rattle.txn_tree_map.specs.Trees.{Tree, priority_of, name_of, rank_of, cells_of, IsSpelled, IsAbove, IsRising, IsHeap, IsLaid}
 use Rattle.txn_tree_map.specs.Trees.Tree.{Leaf, Node}
-use Rattle.txn_tree_map.specs.Paths.{Step, plug, place_of, before_of, after_of, IsHung, IsHigh, IsBelow}
+use Rattle.txn_tree_map.specs.Paths.{Step, plug, place_at_end, before_of, after_of, IsHung, IsHigh, IsBelow}
 use Rattle.txn_tree_map.specs.Changes.{Hangs, IsNameIn, IsWhole, IsParted, Splits}
 use Rattle.txn_alloc.proofs.Counting.{length_below}
 use Rattle.txn_tree_map.proofs.Rising.{rising_once, rising_first, rising_last, rising_below, rising_above}
@@ -164,9 +164,9 @@ module _ (map : TreeMap) (key block name turns smaller greater rest : ℕ) (old 
         let p : ℕ = block_at a block + 2 in
         let q : ℕ = block_at a block + 3 in
         let spelled : IsSpelled a s (Node l c r) = subst (λ z. IsSpelled a s z) node.is h.spelled in
-        let u : List ℕ = slice_set s (place_of a p h.low_path) (c.block + 1) in
+        let u : List ℕ = slice_set s (place_at_end a p h.low_path) (c.block + 1) in
         let same : t ≡ u = hangs.changed ∙ ap (λ z. slice_set s z rest) h.smaller_at
-        ∙ ap (λ z. slice_set s (place_of a p h.low_path) z) (is_name ∙ ap (λ z. z + 1) (sym node.is_block)) in
+        ∙ ap (λ z. slice_set s (place_at_end a p h.low_path) z) (is_name ∙ ap (λ z. z + 1) (sym node.is_block)) in
         let counts : (d : ℕ) → count_in d h.inner ≡ count_in d (Node l c r) = λ d. ap (λ z. count_in d z) node.is in
         let step = hung_step a s p h.low_path h.smaller_has st r h.low_hung spelled
         (λ d. omega (arith, once d, counts d)) (λ d m. out p d (inl refl) (omega (arith, m, counts d))) in
@@ -208,7 +208,7 @@ module _ (map : TreeMap) (key block name turns smaller greater rest : ℕ) (old 
           high_falls = high_lower (priority_of key) h.high_path (rank_of r) (rank_of h.inner) lower h.high_falls;
           heap = falls.1;
           count = omega (arith, h.count, longer, length-append (cells_of l) (c ∷ cells_of r));
-          kept = keeps_set (IsNameIn map block h.tree) old s (place_of a p h.low_path) (c.block + 1) h.kept
+          kept = keeps_set (IsNameIn map block h.tree) old s (place_at_end a p h.low_path) (c.block + 1) h.kept
               (subst (λ z. IsNameIn map block h.tree z) h.smaller_at smaller_own);
         })
 
@@ -225,9 +225,9 @@ module _ (map : TreeMap) (key block name turns smaller greater rest : ℕ) (old 
         let p : ℕ = block_at a block + 2 in
         let q : ℕ = block_at a block + 3 in
         let spelled : IsSpelled a s (Node l c r) = subst (λ z. IsSpelled a s z) node.is h.spelled in
-        let u : List ℕ = slice_set s (place_of a q h.high_path) (c.block + 1) in
+        let u : List ℕ = slice_set s (place_at_end a q h.high_path) (c.block + 1) in
         let same : t ≡ u = hangs.changed ∙ ap (λ z. slice_set s z rest) h.greater_at
-        ∙ ap (λ z. slice_set s (place_of a q h.high_path) z) (is_name ∙ ap (λ z. z + 1) (sym node.is_block)) in
+        ∙ ap (λ z. slice_set s (place_at_end a q h.high_path) z) (is_name ∙ ap (λ z. z + 1) (sym node.is_block)) in
         let counts : (d : ℕ) → count_in d h.inner ≡ count_in d (Node l c r) = λ d. ap (λ z. count_in d z) node.is in
         let step = hung_step a s q h.high_path h.greater_has st l h.high_hung spelled
         (λ d. omega (arith, once d, counts d)) (λ d m. out q d (inr refl) (omega (arith, m, counts d))) in
@@ -267,7 +267,7 @@ module _ (map : TreeMap) (key block name turns smaller greater rest : ℕ) (old 
           high_falls = falls.0;
           heap = falls.1;
           count = omega (arith, h.count, longer, length-append (cells_of l) (c ∷ cells_of r));
-          kept = keeps_set (IsNameIn map block h.tree) old s (place_of a q h.high_path) (c.block + 1) h.kept
+          kept = keeps_set (IsNameIn map block h.tree) old s (place_at_end a q h.high_path) (c.block + 1) h.kept
               (subst (λ z. IsNameIn map block h.tree z) h.greater_at greater_own);
         })
 
@@ -319,8 +319,8 @@ splits_end map key block name smaller greater old s h =
     let a : Arena = map.arena in
     let p : ℕ = block_at a block + 2 in
     let q : ℕ = block_at a block + 3 in
-    let t : List ℕ = slice_set s (place_of a p h.low_path) 0 in
-    let u : List ℕ = slice_set t (place_of a q h.high_path) 0 in
+    let t : List ℕ = slice_set s (place_at_end a p h.low_path) 0 in
+    let u : List ℕ = slice_set t (place_at_end a q h.high_path) 0 in
     let same : slice_set (slice_set s smaller 0) greater 0 ≡ u =
     ap (λ z. slice_set (slice_set s z 0) greater 0) h.smaller_at ∙ ap (λ z. slice_set t z 0) h.greater_at in
     let once : (b : ℕ) → count_on b h.low_path + count_in b h.inner + count_on b h.high_path ≤ 1 =
@@ -348,10 +348,10 @@ splits_end map key block name smaller greater old s h =
     let lows = high_plug (priority_of key) h.low_path Leaf (subst (λ z. IsHigh (priority_of key) h.low_path (rank_of z)) leaf h.low_falls) tt in
     let highs = high_plug (priority_of key) h.high_path Leaf (subst (λ z. IsHigh (priority_of key) h.high_path (rank_of z)) leaf h.high_falls) tt in
     let kept_t : KeepsOthers (IsNameIn map block h.tree) old t =
-    keeps_set (IsNameIn map block h.tree) old s (place_of a p h.low_path) 0 h.kept
+    keeps_set (IsNameIn map block h.tree) old s (place_at_end a p h.low_path) 0 h.kept
     (subst (λ z. IsNameIn map block h.tree z) h.smaller_at (smaller_own map key block name 0 smaller greater 0 old s h)) in
     let kept_u : KeepsOthers (IsNameIn map block h.tree) old u =
-    keeps_set (IsNameIn map block h.tree) old t (place_of a q h.high_path) 0 kept_t
+    keeps_set (IsNameIn map block h.tree) old t (place_at_end a q h.high_path) 0 kept_t
     (subst (λ z. IsNameIn map block h.tree z) h.greater_at (greater_own map key block name 0 smaller greater 0 old s h)) in
     subst (λ z. Splits map key block name old z) (sym same)
     (record {

@@ -13,7 +13,7 @@ use Rattle.txn_alloc.proofs.Cells.{all_append, times_in, has_times, times_has}
 use Rattle.txn_tree_map.specs.declared.map.TreeMap.{TreeMap}
 use Rattle.txn_tree_map.specs.Trees.{Tree, priority_of, name_of, rank_of, cells_of, HasNode, IsSpelled, IsRising, IsHeap, TreeHolds}
 use Rattle.txn_tree_map.specs.Trees.Tree.{Leaf, Node}
-use Rattle.txn_tree_map.specs.Paths.{Step, Path, whole_of, plug, place_of, before_of, after_of, IsHung, IsHigh, IsAt}
+use Rattle.txn_tree_map.specs.Paths.{Step, Path, whole_of, plug, place_at_end, before_of, after_of, IsHung, IsHigh, HangsAt}
 use Rattle.txn_alloc.proofs.Counting.{times_all, length_below}
 use Rattle.txn_tree_map.proofs.Rising.{rising_once}
 use Rattle.txn_tree_map.proofs.Trees.{count_in, count_on, times_cells, cells_step, cells_plug, count_plug, all_tree, all_before, all_after, spelled_whole}
@@ -29,7 +29,7 @@ rank_small (Node left c right) = omega (arith, priority_small c.key)
 
 -- the word at the end of a hung path
 pub hung_name : (arena : Arena) (s : List ℕ) (root : ℕ) (path : Path) (name : ℕ) → IsHung arena s root path name
-    → slice_get s (place_of arena root path) ≡ Some name
+    → slice_get s (place_at_end arena root path) ≡ Some name
 hung_name arena s root [] name h = h
 hung_name arena s root (st ∷ path) name h = at (st.left) h.0
   where
@@ -70,7 +70,7 @@ high_lower top (st ∷ path) m n le h = (omega (arith, h.0), h.1, h.2, h.3)
 
 module _ (map : TreeMap) (s : List ℕ) where
   -- the whole tree
-  pub at_tree : (f : Entries) (u : Blocks) (hold : TreeHolds map s f u) → IsAt map [] hold.tree s
+  pub at_tree : (f : Entries) (u : Blocks) (hold : TreeHolds map s f u) → HangsAt map [] hold.tree s
   at_tree f u hold = record {
     laid = hold.laid;
     hung = hold.spelled.0;
@@ -80,12 +80,12 @@ module _ (map : TreeMap) (s : List ℕ) where
     heap = hold.heap;
   }
 
-  module _ (path : Path) (tree : Tree) (m : IsAt map path tree s) where
+  module _ (path : Path) (tree : Tree) (m : HangsAt map path tree s) where
     abbrev pub all_cells : List Cell
     all_cells = before_of path ++ (cells_of tree ++ after_of path)
 
     -- one step down
-    pub at_step : (st : Step) (below : Tree) → tree ≡ whole_of st below → IsAt map (st ∷ path) below s
+    pub at_step : (st : Step) (below : Tree) → tree ≡ whole_of st below → HangsAt map (st ∷ path) below s
     at_step st below e =
         let hung : IsHung map.arena s map.root path (name_of (whole_of st below)) = subst (λ t. IsHung map.arena s map.root path (name_of t)) e m.hung in
         let parts = spelled_whole map.arena s st below (subst (λ t. IsSpelled map.arena s t) e m.spelled) in
@@ -133,11 +133,11 @@ module _ (map : TreeMap) (s : List ℕ) where
     pub at_outside : (b : ℕ) → 1 ≤ count_on b path + count_in b tree → ¬ IsInBlock map.arena b map.root
     at_outside b k = m.laid.outside b (at_below b k)
 
-    pub at_name : slice_get s (place_of map.arena map.root path) ≡ Some (name_of tree)
+    pub at_name : slice_get s (place_at_end map.arena map.root path) ≡ Some (name_of tree)
     at_name = hung_name map.arena s map.root path (name_of tree) m.hung
 
-    pub at_within : place_of map.arena map.root path < length s
-    at_within = slice_get_within s (place_of map.arena map.root path) (name_of tree) at_name
+    pub at_within : place_at_end map.arena map.root path < length s
+    at_within = slice_get_within s (place_at_end map.arena map.root path) (name_of tree) at_name
 
     -- what a map that is held there says of it
     module _ (f : Entries) (u : Blocks) (hold : TreeHolds map s f u) where
@@ -165,7 +165,7 @@ module _ (map : TreeMap) (s : List ℕ) where
       used_from b k = at_used b ∙ times_has b all_cells (omega (arith, k, at_times b))
 
     -- the whole, from the root
-    pub at_root : IsAt map [] (plug path tree) s
+    pub at_root : HangsAt map [] (plug path tree) s
     at_root =
         let whole = hung_plug map.arena s map.root path tree m.hung m.spelled in
         record {
@@ -178,7 +178,7 @@ module _ (map : TreeMap) (s : List ℕ) where
         }
 
     -- another place in the same list is in the same tree
-    pub at_cells : (other_path : Path) (other : Tree) → IsAt map other_path other s
+    pub at_cells : (other_path : Path) (other : Tree) → HangsAt map other_path other s
         → before_of other_path ++ (cells_of other ++ after_of other_path) ≡ all_cells
     at_cells other_path other k =
         let one = hung_plug map.arena s map.root path tree m.hung m.spelled in

@@ -13,7 +13,7 @@ use Rattle.txn_alloc.proofs.Lists.{same_block}
 use Rattle.txn_tree_map.specs.declared.map.TreeMap.{TreeMap}
 use Rattle.txn_tree_map.specs.Trees.{Tree, name_of, cells_of, HasNode, IsRising}
 use Rattle.txn_tree_map.specs.Trees.Tree.{Leaf, Node}
-use Rattle.txn_tree_map.specs.Paths.{place_of, before_of, after_of, IsHung, IsAt}
+use Rattle.txn_tree_map.specs.Paths.{place_at_end, before_of, after_of, IsHung, HangsAt}
 use Rattle.txn_tree_map.specs.Searches.{IsKeyOrName, IsSeat}
 use Rattle.txn_tree_map.specs.Changes.{IsNameIn, IsWhole, Splits, CanPut, IsRootOrIn, IsPut, IsWordIn}
 use Rattle.txn_tree_map.proofs.Rising.{below_other, above_other, rising_first, rising_last, rising_put}
@@ -203,7 +203,7 @@ module _ (map : TreeMap) (key value block place name : ℕ) (r : List ℕ) (can 
     cell = record { block = block; key = key; value = value }
 
     abbrev pub put_words : List ℕ
-    put_words = slice_set u (place_of map.arena map.root seat.path) (block + 1)
+    put_words = slice_set u (place_at_end map.arena map.root seat.path) (block + 1)
 
     -- the block's words after the split
     node_u : HasNode map.arena u cell (name_of split.left) (name_of split.right)
@@ -228,7 +228,7 @@ module _ (map : TreeMap) (key value block place name : ℕ) (r : List ℕ) (can 
 
     -- the written place is in none of the blocks of the new node and its subtrees
     place_apart : (b a : ℕ) → (b ≡ block) ⊎ (1 ≤ count_in b seat.rest) → IsInBlock map.arena b a → slice_get put_words a ≡ slice_get u a
-    place_apart b a k mine = get_set_other u (place_of map.arena map.root seat.path) a (block + 1) (λ e. elim (place_mine map.arena map.root seat.path) [
+    place_apart b a k mine = get_set_other u (place_at_end map.arena map.root seat.path) a (block + 1) (λ e. elim (place_mine map.arena map.root seat.path) [
       | inl at ↦ seat.is_at.laid.outside b
           (elim k [ inl z ↦ subst (λ d. d < map.arena.blocks) (sym z) can.below | inr z ↦ at_below map r seat.path seat.rest seat.is_at b (omega (arith, z)) ])
           (subst (λ y. IsInBlock map.arena b y) (e ∙ at) mine)
@@ -249,7 +249,7 @@ module _ (map : TreeMap) (key value block place name : ℕ) (r : List ℕ) (can 
           ]
     ])
 
-    put_is_at : IsAt map seat.path (Node split.left cell split.right) put_words
+    put_is_at : HangsAt map seat.path (Node split.left cell split.right) put_words
     put_is_at =
         let rising : IsRising ((before_of seat.path ++ cells_of split.left) ++ (cells_of split.right ++ after_of seat.path)) =
         subst (λ cs. IsRising cs) (ap (λ z. before_of seat.path ++ (z ++ after_of seat.path)) parts ∙ around_parts) seat.is_at.search in
@@ -258,7 +258,7 @@ module _ (map : TreeMap) (key value block place name : ℕ) (r : List ℕ) (can 
         (all_append (λ c. c.key < key) (before_of seat.path) (cells_of split.left) seat.low split.low)
         (all_append (λ c. key < c.key) (cells_of split.right) (after_of seat.path) split.high seat.high) in
         record {
-          laid = laid_alike map r put_words (length-set u (place_of map.arena map.root seat.path) (block + 1) ∙ kept.count ∙ long) seat.is_at.laid;
+          laid = laid_alike map r put_words (length-set u (place_at_end map.arena map.root seat.path) (block + 1) ∙ kept.count ∙ long) seat.is_at.laid;
           hung = hung_here map.arena u map.root seat.path (name_of seat.rest) (block + 1) hung_u
               (λ b. omega (arith, once b)) (λ b k. at_outside map r seat.path seat.rest seat.is_at b (omega (arith, k)));
           spelled = (
@@ -288,7 +288,7 @@ module _ (map : TreeMap) (key value block place name : ℕ) (r : List ℕ) (can 
           ∙ ap (λ z. before_of seat.path ++ z) (append_assoc (cells_of split.left) (cells_of split.right) (after_of seat.path))
           ∙ sym (append_assoc (before_of seat.path) (cells_of split.left) (cells_of split.right ++ after_of seat.path));
       low = all_append (λ c. c.key < key) (before_of seat.path) (cells_of split.left) seat.low split.low;
-      kept = keeps_set own r u (place_of map.arena map.root seat.path) (block + 1)
+      kept = keeps_set own r u (place_at_end map.arena map.root seat.path) (block + 1)
           (keeps_then own r with_value u
           (record { count = long; same = λ a no. written_other a (λ m. no (inr (block, inl refl, m))) })
           (record { count = kept.count; same = λ a no. kept.same a (λ n. no (name_own a n)) }))

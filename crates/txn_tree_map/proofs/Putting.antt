@@ -14,7 +14,7 @@ use Rattle.txn_words.specs.Looks.{Looks}
 use Rattle.txn_words.proofs.Looks.{seen_before}
 use Rattle.txn_tree_map.specs.declared.map.TreeMap.{TreeMap}
 use Rattle.txn_tree_map.specs.Trees.Tree.{Leaf}
-use Rattle.txn_tree_map.specs.Paths.{place_of}
+use Rattle.txn_tree_map.specs.Paths.{place_at_end}
 use Rattle.txn_tree_map.specs.Searches.{IsLink, IsSeat}
 use Rattle.txn_tree_map.specs.Changes.{IsWhole, CanSplit, Splits, IsSplitOwn, CanPut, IsPut, IsPutOwn, IsSplitSeen, IsPutSeen}
 use Rattle.txn_tree_map.proofs.Places.{at_within}
@@ -74,7 +74,7 @@ module _ (map : TreeMap) (key value block place name : ℕ) (n : ℕ) (G : List 
             subst (λ z. Splits map key block name z (after x s)) (written s (fits_w s fit)) (split.at s (fits_x s fit)) in
             let last : after y s ≡ put_words map key value block place name (after t s) (can_before s fit_u) seat (after x s) done =
             after_write_end x y place m s three ∙ ap (λ z. slice_set (after x s) z m) seat.at
-            ∙ ap (λ z. slice_set (after x s) (place_of map.arena map.root seat.path) z) is_name in
+            ∙ ap (λ z. slice_set (after x s) (place_at_end map.arena map.root seat.path) z) is_name in
             subst (λ z. IsPut map key value block (after t s) z) (sym last)
             (put_done map key value block place name (after t s) (can_before s fit_u) seat (after x s) done);
       }

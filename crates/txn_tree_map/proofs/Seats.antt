@@ -6,7 +6,7 @@ use Rattle.txn_alloc.proofs.Cells.{all_append, all_first, all_last}
 use Rattle.txn_tree_map.specs.declared.map.TreeMap.{TreeMap}
 use Rattle.txn_tree_map.specs.Trees.{priority_of, rank_of, cells_of}
 use Rattle.txn_tree_map.specs.Trees.Tree.{Leaf, Node}
-use Rattle.txn_tree_map.specs.Paths.{plug, before_of, after_of, IsAt}
+use Rattle.txn_tree_map.specs.Paths.{plug, before_of, after_of, HangsAt}
 use Rattle.txn_tree_map.specs.Searches.{IsNamed, IsPassed, IsMissing, IsSeat}
 use Rattle.txn_tree_map.proofs.Rising.{below_other, above_other}
 use Rattle.txn_tree_map.proofs.Places.{priority_small, at_root, at_cells}
@@ -39,7 +39,7 @@ module _ (map : TreeMap) (key : ℕ) (s : List ℕ) where
   seat_leaf p n h e = record {
     path = h.path;
     rest = Leaf;
-    is_at = subst (λ t. IsAt map h.path t s) e h.is_at;
+    is_at = subst (λ t. HangsAt map h.path t s) e h.is_at;
     at = h.at;
     low = h.low;
     high = h.high;

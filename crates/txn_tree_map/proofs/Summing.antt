@@ -11,8 +11,8 @@ use Rattle.txn_alloc.proofs.Cells.{all_append, all_last, all_map}
 use Rattle.txn_tree_map.specs.declared.map.TreeMap.{TreeMap}
 use Rattle.txn_tree_map.specs.declared.find.Named.{Named}
 use Rattle.txn_tree_map.specs.Trees.{Tree, cells_of, IsAbove, IsRising, TreeHolds}
-use Rattle.txn_tree_map.specs.Paths.{IsAt, IsBelow}
-use Rattle.txn_tree_map.specs.Sums.{IsFrom, IsNearest, sum_cells, counted, IsSummed, IsTotal, IsNext, HasNoneTo}
+use Rattle.txn_tree_map.specs.Paths.{HangsAt, IsBelow}
+use Rattle.txn_tree_map.specs.Sums.{IsFrom, IsFirstFrom, sum_cells, counted, IsSummed, IsTotal, IsNext, HasNoneTo}
 use Rattle.txn_tree_map.proofs.Rising.{below_more, rising_above}
 use Rattle.txn_tree_map.proofs.Trees.{all_tree}
 use Rattle.txn_tree_map.proofs.Places.{at_tree, at_cells, at_room}
@@ -99,14 +99,14 @@ from_more j k cs le h = all_map (λ c. k ≤ c.key) (λ c. j ≤ c.key) cs (λ c
 
 module _ (map : TreeMap) (s : List ℕ) where
   -- two trees of the map in one list have the same cells
-  trees_same : (one two : Tree) → IsAt map [] one s → IsAt map [] two s → cells_of one ≡ cells_of two
+  trees_same : (one two : Tree) → HangsAt map [] one s → HangsAt map [] two s → cells_of one ≡ cells_of two
   trees_same one two m k = sym (append-nil (cells_of one)) ∙ at_cells map s [] two k [] one m ∙ append-nil (cells_of two)
 
-  tree_rises : (tree : Tree) → IsAt map [] tree s → IsRising (cells_of tree)
+  tree_rises : (tree : Tree) → HangsAt map [] tree s → IsRising (cells_of tree)
   tree_rises tree m = subst (λ cs. IsRising cs) (append-nil (cells_of tree)) m.search
 
   -- the block and the value of a cell of the tree
-  cell_node : (tree : Tree) (lows highs : List Cell) (c : Cell) → IsAt map [] tree s → cells_of tree ≡ lows ++ c ∷ highs
+  cell_node : (tree : Tree) (lows highs : List Cell) (c : Cell) → HangsAt map [] tree s → cells_of tree ≡ lows ++ c ∷ highs
       → (c.block < map.arena.blocks) × (slice_get s (block_at map.arena c.block + 1) ≡ Some c.value) × (slice_get s (block_at map.arena c.block) ≡ Some c.key)
   cell_node tree lows highs c m e =
       let P : Cell → Type 0 = λ d. (d.block < map.arena.blocks)
@@ -115,7 +115,7 @@ module _ (map : TreeMap) (s : List ℕ) where
       (all_last P lows (c ∷ highs) (subst (λ cs. AllByRecursion P cs) e all)).0
 
   -- the first node from a key on
-  module _ (least : ℕ) (node : Named) (h : IsNearest map least (Some node) s) where
+  module _ (least : ℕ) (node : Named) (h : IsFirstFrom map least (Some node) s) where
     node_cells : cells_of h.tree ≡ h.lows ++ h.first.0 ∷ h.first.1
     node_cells = h.cells ∙ ap (λ z. h.lows ++ z) h.first.2
 
@@ -167,7 +167,7 @@ module _ (map : TreeMap) (s : List ℕ) where
           );
         }
 
-  pub nearest_none : (least high : ℕ) → IsNearest map least None s → HasNoneTo map least high s
+  pub nearest_none : (least high : ℕ) → IsFirstFrom map least None s → HasNoneTo map least high s
   nearest_none least high h = record {
     tree = h.tree;
     is_at = h.is_at;
@@ -181,7 +181,7 @@ module _ (map : TreeMap) (s : List ℕ) where
 
   module _ (low high : ℕ) where
     -- nothing is summed yet
-    pub summed_none : (tree : Tree) → IsAt map [] tree s → IsSummed map low high low 0 0 s
+    pub summed_none : (tree : Tree) → HangsAt map [] tree s → IsSummed map low high low 0 0 s
     summed_none tree m =
         let p : PartedAt low (cells_of tree) = parted_at low (cells_of tree) (tree_rises tree m) in
         let room : length (cells_of tree ++ []) ≤ map.arena.blocks = at_room map s [] tree m in

@@ -15,7 +15,7 @@ use Rattle.txn_tree_map.specs.declared.find.Named.{Named}
 use Rattle.txn_tree_map.specs.declared.walk.Walk.{Walk}
 use Rattle.txn_tree_map.specs.Trees.{tree_part}
 use Rattle.txn_tree_map.specs.Searches.{IsLink}
-use Rattle.txn_tree_map.specs.Sums.{IsAnyWord, IsNearest, IsNext, HasNoneTo, IsSummed, IsTotal}
+use Rattle.txn_tree_map.specs.Sums.{IsAnyWord, IsFirstFrom, IsNext, HasNoneTo, IsSummed, IsTotal}
 use Rattle.txn_tree_map.specs.Walks.{IsWalk, HasCome}
 use Rattle.txn_alloc.proofs.Founds.{IsNearOr, looks_value}
 use Rattle.txn_tree_map.proofs.Links.{nearest_of, tree_uses, link_seen}
@@ -25,26 +25,26 @@ module _ (map : TreeMap) (n : ℕ) (G : List ℕ → Type 0) (t u : Trace) where
   -- what a walk that has come to the first node from a key on says of it, and where it then stands
   module _ (walk : Walk) (least : ℕ) where
     pub come_some : (node : Named) → Looks n G t u (IsLink map) (HasCome map walk least (Some node))
-        → Looks n G t u (IsLink map) (IsNearest map least (Some node))
-    come_some node l = looks_map n G t (IsLink map) u (HasCome map walk least (Some node)) (IsNearest map least (Some node)) (λ s h. h.0) l
+        → Looks n G t u (IsLink map) (IsFirstFrom map least (Some node))
+    come_some node l = looks_map n G t (IsLink map) u (HasCome map walk least (Some node)) (IsFirstFrom map least (Some node)) (λ s h. h.0) l
 
-    pub come_none : walk.whole ≡ true → Looks n G t u (IsLink map) (HasCome map walk least None) → Looks n G t u (IsLink map) (IsNearest map least None)
-    come_none whole l = looks_map n G t (IsLink map) u (HasCome map walk least None) (IsNearest map least None) (λ s h. h whole) l
+    pub come_none : walk.whole ≡ true → Looks n G t u (IsLink map) (HasCome map walk least None) → Looks n G t u (IsLink map) (IsFirstFrom map least None)
+    come_none whole l = looks_map n G t (IsLink map) u (HasCome map walk least None) (IsFirstFrom map least None) (λ s h. h whole) l
 
     pub come_behind : (node : Named) → Looks n G t u (IsLink map) (HasCome map walk least (Some node)) → InEach n G u (IsWalk map walk (node.key + 1) 0)
     come_behind node l = record { at = λ s fit. (l.holds s fit).1 }
 
   -- the first node from a key on, and its value
   module _ (least high : ℕ) where
-    pub none_from : Looks n G t u (IsLink map) (IsNearest map least None) → Looks n G t u IsAnyWord (HasNoneTo map least high)
-    none_from l = looks_map n G t IsAnyWord u (IsNearest map least None) (HasNoneTo map least high)
-        (λ s h. nearest_none map s least high h) (looks_wider n G t u (IsLink map) IsAnyWord (IsNearest map least None) (λ s h a k. tt) l)
+    pub none_from : Looks n G t u (IsLink map) (IsFirstFrom map least None) → Looks n G t u IsAnyWord (HasNoneTo map least high)
+    none_from l = looks_map n G t IsAnyWord u (IsFirstFrom map least None) (HasNoneTo map least high)
+        (λ s h. nearest_none map s least high h) (looks_wider n G t u (IsLink map) IsAnyWord (IsFirstFrom map least None) (λ s h a k. tt) l)
 
-    pub past_from : (node : Named) → high < node.key → Looks n G t u (IsLink map) (IsNearest map least (Some node))
+    pub past_from : (node : Named) → high < node.key → Looks n G t u (IsLink map) (IsFirstFrom map least (Some node))
         → Looks n G t u IsAnyWord (HasNoneTo map least high)
-    past_from node lt l = looks_map n G t IsAnyWord u (IsNearest map least (Some node)) (HasNoneTo map least high)
+    past_from node lt l = looks_map n G t IsAnyWord u (IsFirstFrom map least (Some node)) (HasNoneTo map least high)
         (λ s h. nearest_past map s least node h high lt)
-        (looks_wider n G t u (IsLink map) IsAnyWord (IsNearest map least (Some node)) (λ s h a k. tt) l)
+        (looks_wider n G t u (IsLink map) IsAnyWord (IsFirstFrom map least (Some node)) (λ s h a k. tt) l)
 
     pub links_from : {P : List ℕ → Type 0} → Looks n G t u (IsLink map) P → InEach n G t (HasMap (tree_part map))
         → (s : List ℕ) → Fits n G u s → AppendsReads t u (MayReadRange (tree_part map) least high (after t s) (after u s))
@@ -53,15 +53,15 @@ module _ (map : TreeMap) (n : ℕ) (G : List ℕ → Type 0) (t u : Trace) where
         sees_more (IsLink map (after t s)) (MayReadRange (tree_part map) least high (after t s) (after u s)) t u
         (λ a k. link_seen map (after t s) o.entries o.used o.holds least (λ d. (least ≤ d) × (d ≤ high)) a k) (l.reads s fit)
 
-    pub node_below : (node : Named) → Looks n G t u (IsLink map) (IsNearest map least (Some node)) → SomeFits n G u → node.block < map.arena.blocks
+    pub node_below : (node : Named) → Looks n G t u (IsLink map) (IsFirstFrom map least (Some node)) → SomeFits n G u → node.block < map.arena.blocks
     node_below node l some = nearest_below map (after u some.0) least node (l.holds some.0 some.1)
 
-    pub node_from : (node : Named) → Looks n G t u (IsLink map) (IsNearest map least (Some node)) → SomeFits n G u → least ≤ node.key
+    pub node_from : (node : Named) → Looks n G t u (IsLink map) (IsFirstFrom map least (Some node)) → SomeFits n G u → least ≤ node.key
     node_from node l some = nearest_from map (after u some.0) least node (l.holds some.0 some.1)
 
     module _ (node : Named) (v : Trace) (q x : ℕ) (is_value : q ≡ block_at map.arena node.block + 1)
-        (l : Looks n G t u (IsLink map) (IsNearest map least (Some node))) (e : v ≡ u ++ Read q x ∷ []) where
-      both_from : Looks n G t v (IsNearOr (IsLink map) q) (λ s. IsNearest map least (Some node) s × (slice_get s q ≡ Some x))
+        (l : Looks n G t u (IsLink map) (IsFirstFrom map least (Some node))) (e : v ≡ u ++ Read q x ∷ []) where
+      both_from : Looks n G t v (IsNearOr (IsLink map) q) (λ s. IsFirstFrom map least (Some node) s × (slice_get s q ≡ Some x))
       both_from = looks_value n G t u l v q x e
 
       pub next_from : Looks n G t v IsAnyWord (IsNext map least node.key x)

@@ -10,7 +10,7 @@ use Rattle.txn_alloc.specs.EntryMaps.{Cell}
 use Rattle.txn_alloc.proofs.Cells.{all_append, one_in, one_here, times_in, times-append}
 use Rattle.txn_tree_map.specs.Trees.{Tree, name_of, cells_of, HasNode, IsSpelled}
 use Rattle.txn_tree_map.specs.Trees.Tree.{Leaf, Node}
-use Rattle.txn_tree_map.specs.Paths.{Step, Path, whole_of, plug, place_of, before_of, after_of, IsHung}
+use Rattle.txn_tree_map.specs.Paths.{Step, Path, whole_of, plug, place_at_end, before_of, after_of, IsHung}
 
 -- how often a block stands in a tree, and on a path
 abbrev pub count_in : ℕ → Tree → ℕ
@@ -205,9 +205,9 @@ module _ (arena : Arena) (s t : List ℕ) where
   -- the path is hung as before, and its last word names another tree
   pub hung_again : (root : ℕ) (path : Path) (n m : ℕ)
       → ((b : ℕ) → count_on b path ≤ 1) → ((b : ℕ) → 1 ≤ count_on b path → ¬ IsInBlock arena b root)
-      → (root ≢ place_of arena root path → slice_get t root ≡ slice_get s root)
-      → ((b a : ℕ) → 1 ≤ count_on b path → IsInBlock arena b a → a ≢ place_of arena root path → slice_get t a ≡ slice_get s a)
-      → slice_get t (place_of arena root path) ≡ Some m → IsHung arena s root path n → IsHung arena t root path m
+      → (root ≢ place_at_end arena root path → slice_get t root ≡ slice_get s root)
+      → ((b a : ℕ) → 1 ≤ count_on b path → IsInBlock arena b a → a ≢ place_at_end arena root path → slice_get t a ≡ slice_get s a)
+      → slice_get t (place_at_end arena root path) ≡ Some m → IsHung arena s root path n → IsHung arena t root path m
   hung_again root [] n m once outside at same there h = there
   hung_again root (st ∷ path) n m once outside at same there h =
       let c : Cell = st.cell in

@@ -14,7 +14,7 @@ use Rattle.txn_alloc.proofs.Cells.{all_append, value_less, has_middle, less_bloc
 use Rattle.txn_tree_map.specs.declared.map.TreeMap.{TreeMap}
 use Rattle.txn_tree_map.specs.Trees.{cells_of, IsRising, TreeHolds, tree_part}
 use Rattle.txn_tree_map.specs.Trees.Tree.{Node}
-use Rattle.txn_tree_map.specs.Paths.{before_of, after_of, IsAt, IsBelow}
+use Rattle.txn_tree_map.specs.Paths.{before_of, after_of, HangsAt, IsBelow}
 use Rattle.txn_tree_map.specs.Searches.{IsFoundAt}
 use Rattle.txn_tree_map.proofs.Rising.{rising_cut, rising_put, rising_below, rising_above, value_there}
 use Rattle.txn_tree_map.proofs.Trees.{count_in, count_on, spelled_stays, hung_stays}
@@ -70,7 +70,7 @@ module _ (map : TreeMap) (key p b x : ℕ) (s : List ℕ) (h : IsFoundAt map key
   at_word : (j : ℕ) → j < 4 → j ≢ 1 → slice_get with_value (block_at map.arena h.cell.block + j) ≡ slice_get s (block_at map.arena h.cell.block + j)
   at_word j lt ne = get_set_other s (block_at map.arena b + 1) (block_at map.arena h.cell.block + j) x (λ e. ne (omega (arith, e, h.is_block)))
 
-  pub at_valued : IsAt map h.path (Node h.left valued h.right) with_value
+  pub at_valued : HangsAt map h.path (Node h.left valued h.right) with_value
   at_valued =
       let fits : block_at map.arena b + 4 ≤ length s = h.is_at.laid.arena.blocks b found_below in
       let node = h.is_at.spelled.0 in

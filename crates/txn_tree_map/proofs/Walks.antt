@@ -15,9 +15,9 @@ use Rattle.txn_tree_map.specs.declared.walk.Walk.{Walk}
 use Rattle.txn_tree_map.specs.declared.walk.TheConstants.{KEPT}
 use Rattle.txn_tree_map.specs.Trees.{Tree, name_of, rank_of, cells_of, IsRising, IsHeap}
 use Rattle.txn_tree_map.specs.Trees.Tree.{Leaf, Node}
-use Rattle.txn_tree_map.specs.Paths.{Step, Path, whole_of, plug, before_of, after_of, IsHung, IsHigh, IsAt}
+use Rattle.txn_tree_map.specs.Paths.{Step, Path, whole_of, plug, before_of, after_of, IsHung, IsHigh, HangsAt}
 use Rattle.txn_tree_map.specs.Searches.{HasTop, IsNamed, IsPlace, IsPlaceOrKey, IsLink}
-use Rattle.txn_tree_map.specs.Sums.{IsNearest}
+use Rattle.txn_tree_map.specs.Sums.{IsFirstFrom}
 use Rattle.txn_tree_map.specs.Walks.{lefts_of, Keeps, IsWalk}
 use Rattle.txn_tree_map.proofs.Rising.{below_more}
 use Rattle.txn_tree_map.proofs.Trees.{cells_plug, cells_step, name_whole, whole_spelled}
@@ -93,7 +93,7 @@ kept_on dropped gone near node there lefts old new e before after same =
 
 module _ (map : TreeMap) (s : List ℕ) where
   -- one step up
-  at_up : (st : Step) (path : Path) (tree : Tree) → IsAt map (st ∷ path) tree s → IsAt map path (whole_of st tree) s
+  at_up : (st : Step) (path : Path) (tree : Tree) → HangsAt map (st ∷ path) tree s → HangsAt map path (whole_of st tree) s
   at_up st path tree m = record {
     laid = m.laid;
     hung = subst (λ n. IsHung map.arena s map.root path n) (sym (name_whole map.arena s st tree)) m.hung.2;
@@ -111,7 +111,7 @@ module _ (map : TreeMap) (s : List ℕ) where
       heap true = (m.high.0, m.high.1, m.heap, m.high.2)
       heap false = (m.high.1, m.high.0, m.high.2, m.heap)
 
-  room_below : (path : Path) (tree : Tree) → IsAt map path tree s → length (cells_of tree) ≤ map.arena.blocks
+  room_below : (path : Path) (tree : Tree) → HangsAt map path tree s → length (cells_of tree) ≤ map.arena.blocks
   room_below path tree m =
       let room : length (before_of path ++ (cells_of tree ++ after_of path)) ≤ map.arena.blocks = at_room map s path tree m in
       omega (arith, room, length-append (before_of path) (cells_of tree ++ after_of path), length-append (cells_of tree) (after_of path))
@@ -122,20 +122,20 @@ module _ (map : TreeMap) (s : List ℕ) where
     pub left : Tree
     pub cell : Cell
     pub right : Tree
-    pub is_at : IsAt map above (Node left cell right) s
+    pub is_at : HangsAt map above (Node left cell right) s
     pub is_block : cell.block ≡ n.block
     pub is_key : cell.key ≡ n.key
     pub lefts : lefts_of above ≡ ns
     pub cells : highs ≡ cell ∷ (cells_of right ++ after_of above)
 
-  turn : (path : Path) (tree : Tree) (ns : List Named) (n : Named) → IsAt map path tree s → lefts_of path ≡ ns ++ n ∷ [] → IsTurn (after_of path) ns n
+  turn : (path : Path) (tree : Tree) (ns : List Named) (n : Named) → HangsAt map path tree s → lefts_of path ≡ ns ++ n ∷ [] → IsTurn (after_of path) ns n
   turn [] tree ns n m e = absurd (no_end ns n (sym e))
   turn (st ∷ path) tree ns n m e = go st.left (at_up st path tree m) e (turn path (whole_of st tree) ns n (at_up st path tree m))
     where
       named : Named
       named = record { block = st.cell.block; key = st.cell.key }
 
-      go : (left : Bool) → IsAt map path (if left then Node tree st.cell st.other else Node st.other st.cell tree) s
+      go : (left : Bool) → HangsAt map path (if left then Node tree st.cell st.other else Node st.other st.cell tree) s
           → lefts_of path ++ (if left then named ∷ [] else []) ≡ ns ++ n ∷ [] → (lefts_of path ≡ ns ++ n ∷ [] → IsTurn (after_of path) ns n)
           → IsTurn ((if left then st.cell ∷ cells_of st.other else []) ++ after_of path) ns n
       go true up k rest =
@@ -155,7 +155,7 @@ module _ (map : TreeMap) (s : List ℕ) where
 
   module _ (walk : Walk) (least : ℕ) where
     -- at the root
-    pub walk_root : (tree : Tree) → IsAt map [] tree s → walk.place ≡ map.root → walk.kept.items ≡ [] → IsWalk map walk least 0 s
+    pub walk_root : (tree : Tree) → HangsAt map [] tree s → walk.place ≡ map.root → walk.kept.items ≡ [] → IsWalk map walk least 0 s
     walk_root tree m place none = record {
       path = [];
       rest = tree;
@@ -170,7 +170,7 @@ module _ (map : TreeMap) (s : List ℕ) where
     }
 
     module _ (n : ℕ) (h : IsWalk map walk least n s) where
-      pub walk_tree : IsAt map [] (plug h.path h.rest) s
+      pub walk_tree : HangsAt map [] (plug h.path h.rest) s
       walk_tree = at_root map s h.path h.rest h.is_at
 
       pub walk_top : HasTop map walk.place s
@@ -282,7 +282,7 @@ module _ (map : TreeMap) (s : List ℕ) where
       cells_there : cells_of (plug h.path h.rest) ≡ before_of h.path ++ after_of h.path
       cells_there = cells_plug h.path h.rest ∙ ap (λ t. before_of h.path ++ (cells_of t ++ after_of h.path)) leaf
 
-      pub walk_none : walk.kept.items ≡ [] → walk.whole ≡ true → IsNearest map least None s
+      pub walk_none : walk.kept.items ≡ [] → walk.whole ≡ true → IsFirstFrom map least None s
       walk_none none whole = record {
         tree = plug h.path h.rest;
         is_at = at_root map s h.path h.rest h.is_at;
@@ -299,7 +299,7 @@ module _ (map : TreeMap) (s : List ℕ) where
         turned = turn h.path h.rest (h.dropped ++ near) node h.is_at
             (h.kept ∙ ap (λ z. h.dropped ++ z) e ∙ sym (append_assoc h.dropped near (node ∷ [])))
 
-        pub walk_first : IsNearest map least (Some node) s
+        pub walk_first : IsFirstFrom map least (Some node) s
         walk_first = record {
           tree = plug h.path h.rest;
           is_at = at_root map s h.path h.rest h.is_at;
@@ -317,7 +317,7 @@ module _ (map : TreeMap) (s : List ℕ) where
             let t = turned in
             let c : Cell = t.cell in
             let order : NodeOrder t.above t.left t.right c = node_order t.above t.left t.right c t.is_at.search in
-            let below : IsAt map (step_down false t.left c t.right ∷ t.above) t.right s = at_step map s t.above (Node t.left c t.right) t.is_at
+            let below : HangsAt map (step_down false t.left c t.right ∷ t.above) t.right s = at_step map s t.above (Node t.left c t.right) t.is_at
             (step_down false t.left c t.right) t.right (node_whole false t.left t.right c) in
             let le : c.key ≤ node.key + 1 = omega (arith, t.is_key) in
             let room : length (cells_of t.right) ≤ map.arena.blocks = room_below (step_down false t.left c t.right ∷ t.above) t.right below in

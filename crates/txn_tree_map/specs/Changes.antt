@@ -7,7 +7,7 @@ use Rattle.txn_alloc.specs.EntryMaps.{Cell, has_block}
 use Rattle.txn_tree_map.specs.declared.map.TreeMap.{TreeMap}
 use Rattle.txn_tree_map.specs.Trees.{Tree, priority_of, name_of, rank_of, cells_of, IsSpelled, HasTree, IsAbove, IsRising, IsHeap, IsLaid}
 use Rattle.txn_tree_map.specs.Trees.Tree.{Node}
-use Rattle.txn_tree_map.specs.Paths.{Path, place_of, before_of, after_of, IsHung, IsHigh, IsBelow, IsAt}
+use Rattle.txn_tree_map.specs.Paths.{Path, place_at_end, before_of, after_of, IsHung, IsHigh, IsBelow, HangsAt}
 use Rattle.txn_tree_map.specs.Searches.{IsKeyOrName, IsMissing}
 
 -- from state to state: the word at the hole has the name, and nothing else changed; the inner word held what was answered
@@ -52,8 +52,8 @@ pub record IsParted (map : TreeMap) (key block name turns smaller greater rest :
   pub high_path : Path
   pub inner : Tree
   pub is_rest : name_of inner ≡ rest
-  pub smaller_at : smaller ≡ place_of map.arena (block_at map.arena block + 2) low_path
-  pub greater_at : greater ≡ place_of map.arena (block_at map.arena block + 3) high_path
+  pub smaller_at : smaller ≡ place_at_end map.arena (block_at map.arena block + 2) low_path
+  pub greater_at : greater ≡ place_at_end map.arena (block_at map.arena block + 3) high_path
   pub smaller_has : ℕ
   pub greater_has : ℕ
   pub low_hung : IsHung map.arena new (block_at map.arena block + 2) low_path smaller_has
@@ -135,7 +135,7 @@ pub record IsPut (map : TreeMap) (key value block : ℕ) (old new : List ℕ) : 
   pub path : Path
   pub left : Tree
   pub right : Tree
-  pub is_at : IsAt map path (Node left (record { block = block; key = key; value = value }) right) new
+  pub is_at : HangsAt map path (Node left (record { block = block; key = key; value = value }) right) new
   pub cells : before_of before.missing.path ++ after_of before.missing.path ≡ (before_of path ++ cells_of left) ++ (cells_of right ++ after_of path)
   pub low : IsBelow key (before_of path ++ cells_of left)
   pub kept : KeepsOthers (IsRootOrIn map block (before_of before.missing.path ++ after_of before.missing.path)) old new

@@ -5,7 +5,7 @@ use Rattle.txn_alloc.specs.FreeLists.{block_at, IsInBlock}
 use Rattle.txn_alloc.specs.EntryMaps.{Cell, has_block}
 use Rattle.txn_tree_map.specs.declared.map.TreeMap.{TreeMap}
 use Rattle.txn_tree_map.specs.Trees.{Tree, name_of, rank_of, cells_of, IsSpelled, HasTree, IsRising, IsHeap, IsLaid}
-use Rattle.txn_tree_map.specs.Paths.{Path, place_of, before_of, after_of, IsHung, IsHigh, IsAt}
+use Rattle.txn_tree_map.specs.Paths.{Path, place_at_end, before_of, after_of, IsHung, IsHigh, HangsAt}
 use Rattle.txn_tree_map.specs.Searches.{IsKeyOrName, IsFoundAt}
 
 -- a is the hole, or names a subtree in the block of one of the cells
@@ -51,7 +51,7 @@ pub record IsJoined (map : TreeMap) (hole left right turns place left_rest right
   pub rights : Tree
   pub left_name : name_of lefts ≡ left_rest
   pub right_name : name_of rights ≡ right_rest
-  pub at : place ≡ place_of map.arena hole path
+  pub at : place ≡ place_at_end map.arena hole path
   pub place_has : ℕ
   pub hung : IsHung map.arena new hole path place_has
   pub left_spelled : IsSpelled map.arena new lefts
@@ -88,7 +88,7 @@ pub record IsGathered (map : TreeMap) (hole left right place name : ℕ) (old ne
   pub path : Path
   pub last : Tree
   pub is_name : name_of last ≡ name
-  pub at : place ≡ place_of map.arena hole path
+  pub at : place ≡ place_at_end map.arena hole path
   pub place_has : ℕ
   pub hung : IsHung map.arena new hole path place_has
   pub spelled : IsSpelled map.arena new last
@@ -124,7 +124,7 @@ pub record IsCut (map : TreeMap) (key place block value : ℕ) (old new : List �
   pub before : IsFoundAt map key place block old
   pub value_there : slice_get old (block_at map.arena block + 1) ≡ Some value
   pub tree : Tree
-  pub is_at : IsAt map before.path tree new
+  pub is_at : HangsAt map before.path tree new
   pub cells : cells_of before.left ++ cells_of before.right ≡ cells_of tree
   pub kept : KeepsOthers (IsHoleOrName map place (cells_of before.left ++ cells_of before.right)) old new
 

@@ -28,9 +28,9 @@ plug [] tree = tree
 plug (st ∷ path) tree = plug path (whole_of st tree)
 
 -- the place of the word at the end of the path
-abbrev pub place_of : Arena → ℕ → Path → ℕ
-place_of arena root [] = root
-place_of arena root (st ∷ path) = block_at arena st.cell.block + (if st.left then 2 else 3)
+abbrev pub place_at_end : Arena → ℕ → Path → ℕ
+place_at_end arena root [] = root
+place_at_end arena root (st ∷ path) = block_at arena st.cell.block + (if st.left then 2 else 3)
 
 -- the cells left of the place, and those right of it
 abbrev pub before_of : Path → List Cell
@@ -59,7 +59,7 @@ abbrev pub IsBelow : ℕ → List Cell → Type 0
 IsBelow key cs = AllByRecursion (λ c. c.key < key) cs
 
 -- the map's tree is the path with this tree at its end
-pub record IsAt (map : TreeMap) (path : Path) (tree : Tree) (words : List ℕ) : Type 0 where
+pub record HangsAt (map : TreeMap) (path : Path) (tree : Tree) (words : List ℕ) : Type 0 where
   pub laid : IsLaid map words
   pub hung : IsHung map.arena words map.root path (name_of tree)
   pub spelled : IsSpelled map.arena words tree

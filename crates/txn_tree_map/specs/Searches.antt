@@ -5,7 +5,7 @@ use Rattle.txn_alloc.specs.EntryMaps.{Cell, has_block}
 use Rattle.txn_tree_map.specs.declared.map.TreeMap.{TreeMap}
 use Rattle.txn_tree_map.specs.Trees.{Tree, priority_of, cells_of, rank_of, name_of, HasTree, IsLaid, IsAbove}
 use Rattle.txn_tree_map.specs.Trees.Tree.{Leaf, Node}
-use Rattle.txn_tree_map.specs.Paths.{Path, place_of, before_of, after_of, IsAt, IsBelow, IsHigh}
+use Rattle.txn_tree_map.specs.Paths.{Path, place_at_end, before_of, after_of, HangsAt, IsBelow, IsHigh}
 
 -- a is the word of the key of block b, or names one of its subtrees
 abbrev pub IsKeyOrName : TreeMap → ℕ → ℕ → Type 0
@@ -14,7 +14,7 @@ IsKeyOrName map b a = (a ≡ block_at map.arena b) ⊎ ((a ≡ block_at map.aren
 -- block b is one of the tree's, wherever in it one stands
 abbrev pub IsOfTree : TreeMap → ℕ → List ℕ → Type 0
 IsOfTree map b words =
-    (path : Path) (tree : Tree) → IsAt map path tree words → has_block b (before_of path ++ (cells_of tree ++ after_of path)) ≡ true
+    (path : Path) (tree : Tree) → HangsAt map path tree words → has_block b (before_of path ++ (cells_of tree ++ after_of path)) ≡ true
 
 -- the root, or in a block of the tree the word of its key or of a name: what a search reads
 abbrev pub IsLink : TreeMap → List ℕ → ℕ → Type 0
@@ -47,8 +47,8 @@ IsEnd place words = slice_get words place ≡ Some 0
 pub record IsPassed (map : TreeMap) (key floor place passed : ℕ) (words : List ℕ) : Type 0 where
   pub path : Path
   pub rest : Tree
-  pub is_at : IsAt map path rest words
-  pub at : place ≡ place_of map.arena map.root path
+  pub is_at : HangsAt map path rest words
+  pub at : place ≡ place_at_end map.arena map.root path
   pub low : IsBelow key (before_of path)
   pub high : IsAbove key (after_of path)
   pub higher : IsHigh (2 ^ 64) path floor
@@ -60,15 +60,15 @@ pub record IsFoundAt (map : TreeMap) (key place block : ℕ) (words : List ℕ) 
   pub left : Tree
   pub cell : Cell
   pub right : Tree
-  pub is_at : IsAt map path (Node left cell right) words
-  pub at : place ≡ place_of map.arena map.root path
+  pub is_at : HangsAt map path (Node left cell right) words
+  pub at : place ≡ place_at_end map.arena map.root path
   pub is_block : cell.block ≡ block
   pub is_key : cell.key ≡ key
 
 -- the key is in no cell: the place where it would hang is a leaf
 pub record IsMissing (map : TreeMap) (key : ℕ) (words : List ℕ) : Type 0 where
   pub path : Path
-  pub is_at : IsAt map path Leaf words
+  pub is_at : HangsAt map path Leaf words
   pub low : IsBelow key (before_of path)
   pub high : IsAbove key (after_of path)
 
@@ -76,8 +76,8 @@ pub record IsMissing (map : TreeMap) (key : ℕ) (words : List ℕ) : Type 0 whe
 pub record IsSeat (map : TreeMap) (key place name : ℕ) (words : List ℕ) : Type 0 where
   pub path : Path
   pub rest : Tree
-  pub is_at : IsAt map path rest words
-  pub at : place ≡ place_of map.arena map.root path
+  pub is_at : HangsAt map path rest words
+  pub at : place ≡ place_at_end map.arena map.root path
   pub low : IsBelow key (before_of path)
   pub high : IsAbove key (after_of path)
   pub higher : IsHigh (2 ^ 64) path (priority_of key + 1)

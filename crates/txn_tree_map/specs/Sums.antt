@@ -5,7 +5,7 @@ use Rattle.txn_alloc.specs.EntryMaps.{Cell}
 use Rattle.txn_tree_map.specs.declared.map.TreeMap.{TreeMap}
 use Rattle.txn_tree_map.specs.declared.find.Named.{Named}
 use Rattle.txn_tree_map.specs.Trees.{Tree, cells_of}
-use Rattle.txn_tree_map.specs.Paths.{Path, place_of, before_of, after_of, IsAt, IsBelow}
+use Rattle.txn_tree_map.specs.Paths.{Path, place_at_end, before_of, after_of, HangsAt, IsBelow}
 
 -- all keys are this one or above it
 abbrev pub IsFrom : ℕ → List Cell → Type 0
@@ -20,17 +20,17 @@ IsFirst (Some node) cs = (c : Cell) × (rest : List Cell) × (cs ≡ c ∷ rest)
 pub record IsNear (map : TreeMap) (least : ℕ) (best : Option Named) (place passed : ℕ) (words : List ℕ) : Type 0 where
   pub path : Path
   pub rest : Tree
-  pub is_at : IsAt map path rest words
-  pub at : place ≡ place_of map.arena map.root path
+  pub is_at : HangsAt map path rest words
+  pub at : place ≡ place_at_end map.arena map.root path
   pub low : IsBelow least (before_of path)
   pub high : IsFrom least (after_of path)
   pub first : IsFirst best (after_of path)
   pub count : passed + length (cells_of rest) ≤ map.arena.blocks
 
 -- of the tree's cells from the key on, this is the first
-pub record IsNearest (map : TreeMap) (least : ℕ) (best : Option Named) (words : List ℕ) : Type 0 where
+pub record IsFirstFrom (map : TreeMap) (least : ℕ) (best : Option Named) (words : List ℕ) : Type 0 where
   pub tree : Tree
-  pub is_at : IsAt map [] tree words
+  pub is_at : HangsAt map [] tree words
   pub lows : List Cell
   pub highs : List Cell
   pub cells : cells_of tree ≡ lows ++ highs
@@ -50,7 +50,7 @@ counted low high c = if nat_le low c.key && nat_le c.key high then c.value else 
 -- the cells below a key are summed, so many that no more than the other blocks are left
 pub record IsSummed (map : TreeMap) (low high least turns total : ℕ) (words : List ℕ) : Type 0 where
   pub tree : Tree
-  pub is_at : IsAt map [] tree words
+  pub is_at : HangsAt map [] tree words
   pub done : List Cell
   pub rest : List Cell
   pub cells : cells_of tree ≡ done ++ rest
@@ -62,13 +62,13 @@ pub record IsSummed (map : TreeMap) (low high least turns total : ℕ) (words : 
 -- all cells are summed
 pub record IsTotal (map : TreeMap) (low high total : ℕ) (words : List ℕ) : Type 0 where
   pub tree : Tree
-  pub is_at : IsAt map [] tree words
+  pub is_at : HangsAt map [] tree words
   pub sum : total ≡ sum_cells (counted low high) (cells_of tree)
 
 -- of the tree's cells from the key on, the first has this key and this value
 pub record IsNext (map : TreeMap) (least key value : ℕ) (words : List ℕ) : Type 0 where
   pub tree : Tree
-  pub is_at : IsAt map [] tree words
+  pub is_at : HangsAt map [] tree words
   pub lows : List Cell
   pub cell : Cell
   pub highs : List Cell
@@ -81,7 +81,7 @@ pub record IsNext (map : TreeMap) (least key value : ℕ) (words : List ℕ) : T
 -- no cell has a key from the least to the high one, both included
 pub record HasNoneTo (map : TreeMap) (least high : ℕ) (words : List ℕ) : Type 0 where
   pub tree : Tree
-  pub is_at : IsAt map [] tree words
+  pub is_at : HangsAt map [] tree words
   pub lows : List Cell
   pub highs : List Cell
   pub cells : cells_of tree ≡ lows ++ highs

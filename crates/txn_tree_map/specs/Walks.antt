@@ -5,8 +5,8 @@ use Rattle.txn_tree_map.specs.declared.find.Named.{Named}
 use Rattle.txn_tree_map.specs.declared.walk.Walk.{Walk}
 use Rattle.txn_tree_map.specs.declared.walk.TheConstants.{KEPT}
 use Rattle.txn_tree_map.specs.Trees.{Tree, cells_of}
-use Rattle.txn_tree_map.specs.Paths.{Path, place_of, before_of, after_of, IsAt, IsBelow}
-use Rattle.txn_tree_map.specs.Sums.{IsFrom, IsNearest}
+use Rattle.txn_tree_map.specs.Paths.{Path, place_at_end, before_of, after_of, HangsAt, IsBelow}
+use Rattle.txn_tree_map.specs.Sums.{IsFrom, IsFirstFrom}
 
 -- the nodes at which a path goes to the left, from the root downwards
 abbrev pub lefts_of : Path → List Named
@@ -27,8 +27,8 @@ pub record Keeps (node : Named) (old new : Walk) : Type 0 where
 pub record IsWalk (map : TreeMap) (walk : Walk) (least passed : ℕ) (words : List ℕ) : Type 0 where
   pub path : Path
   pub rest : Tree
-  pub is_at : IsAt map path rest words
-  pub at : walk.place ≡ place_of map.arena map.root path
+  pub is_at : HangsAt map path rest words
+  pub at : walk.place ≡ place_at_end map.arena map.root path
   pub low : IsBelow least (before_of path)
   pub high : IsFrom least (after_of path)
   pub dropped : List Named
@@ -38,5 +38,5 @@ pub record IsWalk (map : TreeMap) (walk : Walk) (least passed : ℕ) (words : Li
 
 -- the walk has come to the first node from a key on, and stands right behind it; or to none, and where it is whole there is none
 abbrev pub HasCome : TreeMap → Walk → ℕ → Option Named → List ℕ → Type 0
-HasCome map walk least (Some node) words = IsNearest map least (Some node) words × IsWalk map walk (node.key + 1) 0 words
-HasCome map walk least None words = walk.whole ≡ true → IsNearest map least None words
+HasCome map walk least (Some node) words = IsFirstFrom map least (Some node) words × IsWalk map walk (node.key + 1) 0 words
+HasCome map walk least None words = walk.whole ≡ true → IsFirstFrom map least None words

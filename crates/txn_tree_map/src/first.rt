@@ -6,7 +6,7 @@ ghost use Rattle.txn_words.specs.Looks.{Looks};
 ghost use Rattle.txn_alloc.specs.EntryMaps.{HasMap};
 ghost use Rattle.txn_tree_map.specs.Trees.{tree_part};
 ghost use Rattle.txn_tree_map.specs.Searches.{IsLink};
-ghost use Rattle.txn_tree_map.specs.Sums.{IsNearest};
+ghost use Rattle.txn_tree_map.specs.Sums.{IsFirstFrom};
 
 use crate::find::{Named, look, side};
 use crate::map::TreeMap;
@@ -28,7 +28,7 @@ pub(crate) fn first_at<W: Words>(
     requires ready { IsReady W.Words w.old }
     requires order { InEachState W.Words W.Shape.Shape w.old (HasMap (tree_part map.now)) }
     ensures nearest { IfOk result (λ answer.
-        Looks (W.Shape.word_count (W.shape w.old)) (W.Shape.good (W.shape w.old)) (W.trace w.old) (W.trace w.new) (IsLink map.now) (IsNearest map.now least answer)) }
+        Looks (W.Shape.word_count (W.shape w.old)) (W.Shape.good (W.shape w.old)) (W.trace w.old) (W.trace w.new) (IsLink map.now) (IsFirstFrom map.now least answer)) }
     ensures goes_on { GoesOn W.Words w.old w.new result }
 {
     let mut best = None;

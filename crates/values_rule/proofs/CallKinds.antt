@@ -13,12 +13,12 @@ use Rattle.locks_rule.specs.Locks.{IsSeat}
 use Rattle.locks_rule.proofs.Counting.{calls_below-more}
 use Rattle.locks_rule.proofs.Own.{own}
 use Rattle.values_rule.specs.Asides.{IsAside}
-use Rattle.values_rule.specs.Keeping.{KeepsValues}
+use Rattle.values_rule.specs.Keeping.{KeepsValueRule}
 use Rattle.values_rule.specs.Steps.{MayBeginCall, begin_call_action, MayClearStamp, clear_stamp_action}
 use Rattle.values_rule.proofs.Asides.{words_apart, seen_aside, undo_empty, fresh_trace, values_ended}
 use Rattle.values_rule.proofs.Frames.{moves}
 
-pub begin_call_values : (good : List ℕ → Type 0) (j : ℕ) → KeepsValues good (MayBeginCall j) (begin_call_action j)
+pub begin_call_values : (good : List ℕ → Type 0) (j : ℕ) → KeepsValueRule good (MayBeginCall j) (begin_call_action j)
 begin_call_values good j n base ws vs id v h q me may =
     let o = own n base ws vs id j v h me may.who in
     let i : ℕ = calls_word v.seats j in
@@ -65,7 +65,7 @@ begin_call_values good j n base ws vs id v h q me may =
       };
     }
 
-pub clear_stamp_values : (good : List ℕ → Type 0) (j : ℕ) → KeepsValues good (MayClearStamp j) (clear_stamp_action j)
+pub clear_stamp_values : (good : List ℕ → Type 0) (j : ℕ) → KeepsValueRule good (MayClearStamp j) (clear_stamp_action j)
 clear_stamp_values good j n base ws vs id v h q me may =
     let o = own n base ws vs id j v h me may.who in
     let w : View = (clear_stamp_action j v).view (history_of vs) (slice_index ws (stamps_word v.seats j)) in

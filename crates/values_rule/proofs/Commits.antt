@@ -30,7 +30,7 @@ use Rattle.history_model.proofs.TraceAgree.{legal_agree}
 use Rattle.locks_rule.specs.Locks.{LocksHold, IsSeat}
 use Rattle.locks_rule.proofs.Counting.{calls_below-same}
 use Rattle.locks_rule.proofs.Own.{Own, own}
-use Rattle.values_rule.specs.Keeping.{KeepsValues}
+use Rattle.values_rule.specs.Keeping.{KeepsValueRule}
 use Rattle.values_rule.specs.Steps.{MayCommitCall, entry_of, commit_call_action}
 use Rattle.values_rule.specs.Values.{value_at, oldest, SeenPrefixes, HistoryLegal, CallsCounted, UndoRestores, TraceCurrent, FloorAndAbandoned, ValuesHold}
 use Rattle.values_rule.proofs.Counting.{history_is, open_count-set}
@@ -381,5 +381,5 @@ module _ (good : List ℕ → Type 0) (n : ℕ) (base ws : List ℕ) (vs : List 
     floor = floor_part;
   }
 
-pub commit_call_values : (good : List ℕ → Type 0) (j : ℕ) (kept : Bool) → KeepsValues good (MayCommitCall good j kept) (commit_call_action j kept)
+pub commit_call_values : (good : List ℕ → Type 0) (j : ℕ) (kept : Bool) → KeepsValueRule good (MayCommitCall good j kept) (commit_call_action j kept)
 commit_call_values good j kept n base ws vs id v h q me may = commits good n base ws vs id j kept v h q me may

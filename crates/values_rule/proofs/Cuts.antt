@@ -19,7 +19,7 @@ use Rattle.history_model.proofs.SetLemmas.{differ, has-nil, has-one, has-without
 use Rattle.locks_rule.specs.Joins.{MayTakeNote, left_by_note, note_of}
 use Rattle.locks_rule.specs.Locks.{IsSeat}
 use Rattle.locks_rule.specs.Splits.{MaySplitSeat, left_by_split, given_by_split}
-use Rattle.values_rule.specs.Keeping.{KeepsValuesSplit}
+use Rattle.values_rule.specs.Keeping.{KeepsValueRuleSplit}
 use Rattle.values_rule.specs.Values.{ValuesHold}
 use Rattle.values_rule.proofs.Counting.{saw_all, history_is, open_count-set}
 use Rattle.values_rule.proofs.Members.{none_in}
@@ -178,13 +178,13 @@ module _ (good : List ℕ → Type 0) (n : ℕ) (base : List ℕ) (ws : List ℕ
           floor = omega arith;
         })
 
-pub split_seat_values : (good : List ℕ → Type 0) (j : ℕ) → KeepsValuesSplit good (MaySplitSeat j) left_by_split given_by_split
+pub split_seat_values : (good : List ℕ → Type 0) (j : ℕ) → KeepsValueRuleSplit good (MaySplitSeat j) left_by_split given_by_split
 split_seat_values good j n base ws vs id v h q me may =
     rearranged good n base ws vs (slice_set vs id (left_by_split v) ++ given_by_split v ∷ []) (StepTouches id)
     (NewByCut vs id (left_by_split v) (given_by_split v)) q
     (seat_cut good n base ws vs id v q me may.phase j may)
 
-pub take_note_values : (good : List ℕ → Type 0) → KeepsValuesSplit good MayTakeNote left_by_note note_of
+pub take_note_values : (good : List ℕ → Type 0) → KeepsValueRuleSplit good MayTakeNote left_by_note note_of
 take_note_values good n base ws vs id v h q me may =
     rearranged good n base ws vs (slice_set vs id (left_by_note v) ++ note_of v ∷ []) (StepTouches id) (NewByCut vs id (left_by_note v) (note_of v)) q
     (note_cut good n base ws vs id v q me may.phase)

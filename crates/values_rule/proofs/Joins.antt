@@ -19,7 +19,7 @@ use Rattle.history_model.proofs.SetLemmas.{differ, has-nil}
 use Rattle.locks_rule.specs.Joins.{longer, old_of, MayMeetNote, after_note, MayJoinSeats, after_joining, spent_view, views_joined}
 use Rattle.locks_rule.specs.Locks.{IsSeat}
 use Rattle.locks_rule.proofs.Joining.{is_either, not_one, has-append, has-append_first, has-append_second}
-use Rattle.values_rule.specs.Keeping.{KeepsValuesJoin}
+use Rattle.values_rule.specs.Keeping.{KeepsValueRuleJoin}
 use Rattle.values_rule.specs.Values.{ValuesHold}
 use Rattle.values_rule.proofs.Counting.{saw_all, history_is, no_more, open_count-set}
 use Rattle.values_rule.proofs.Members.{none_in, in_two}
@@ -184,13 +184,13 @@ module _ (good : List ℕ → Type 0) (n : ℕ) (base : List ℕ) (ws : List ℕ
           omega arith;
     }
 
-pub meet_note_values : (good : List ℕ → Type 0) → KeepsValuesJoin good MayMeetNote after_note
+pub meet_note_values : (good : List ℕ → Type 0) → KeepsValueRuleJoin good MayMeetNote after_note
 meet_note_values good n base ws vs id other v w h q ne me it may =
     rearranged good n base ws vs (views_joined id other (after_note v w) vs) (JoinTouches id other) (NewByJoin id (after_note v w) other spent_view) q
     (joins good n base ws vs id other v w q ne me it may.phase may.note_phase (after_note v w)
     (note_resting good n base ws vs id other v w q ne me it may.phase may.note_phase may) refl)
 
-pub join_seats_values : (good : List ℕ → Type 0) → KeepsValuesJoin good MayJoinSeats after_joining
+pub join_seats_values : (good : List ℕ → Type 0) → KeepsValueRuleJoin good MayJoinSeats after_joining
 join_seats_values good n base ws vs id other v w h q ne me it may =
     rearranged good n base ws vs (views_joined id other (after_joining v w) vs) (JoinTouches id other) (NewByJoin id (after_joining v w) other spent_view) q
     (joins good n base ws vs id other v w q ne me it may.phase may.other_phase (after_joining v w)

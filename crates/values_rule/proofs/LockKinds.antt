@@ -19,7 +19,7 @@ use Rattle.locks_rule.specs.Steps.{claim_writer_action, scan_row_action, release
 use Rattle.locks_rule.proofs.Asides.{picked}
 use Rattle.locks_rule.proofs.Own.{own}
 use Rattle.values_rule.specs.Asides.{IsAside, SameCalls, SameValues}
-use Rattle.values_rule.specs.Keeping.{KeepsValues}
+use Rattle.values_rule.specs.Keeping.{KeepsValueRule}
 use Rattle.values_rule.specs.Values.{ValuesHold}
 use Rattle.values_rule.proofs.Asides.{words_apart, aside_keeps, values_ended}
 
@@ -71,7 +71,7 @@ asked_met v a k i = record {
   writes = λ l g. g;
 }
 
-pub set_read_bit_values : (good : List ℕ → Type 0) (j k a : ℕ) → KeepsValues good (MaySetReadBit j k a) (set_read_bit_action j k a)
+pub set_read_bit_values : (good : List ℕ → Type 0) (j k a : ℕ) → KeepsValueRule good (MaySetReadBit j k a) (set_read_bit_action j k a)
 set_read_bit_values good j k a n base ws vs id v h q me may =
     let o = own n base ws vs id j v h me may.who in
     let lock : a % LOCKS ≡ k = may.lock in
@@ -94,7 +94,7 @@ read_asks v a k = record {
   writes = λ l g. g;
 }
 
-pub load_writer_values : (good : List ℕ → Type 0) (j k a : ℕ) → KeepsValues good (MayLoadWriter j k a) (load_writer_action j k a)
+pub load_writer_values : (good : List ℕ → Type 0) (j k a : ℕ) → KeepsValueRule good (MayLoadWriter j k a) (load_writer_action j k a)
 load_writer_values good j k a n base ws vs id v h q me may =
     let o = own n base ws vs id j v h me may.who in
     let lock : a % LOCKS ≡ k = may.lock in
@@ -118,7 +118,7 @@ claim_asks v a k free =
       writes = writes;
     }
 
-pub claim_writer_values : (good : List ℕ → Type 0) (j k a : ℕ) → KeepsValues good (MayClaimWriter j k a) (claim_writer_action j k a)
+pub claim_writer_values : (good : List ℕ → Type 0) (j k a : ℕ) → KeepsValueRule good (MayClaimWriter j k a) (claim_writer_action j k a)
 claim_writer_values good j k a n base ws vs id v h q me may =
     let o = own n base ws vs id j v h me may.who in
     let lock : a % LOCKS ≡ k = may.lock in
@@ -143,7 +143,7 @@ scan_asks v k i =
       writes = writes;
     }
 
-pub scan_row_values : (good : List ℕ → Type 0) (j k i : ℕ) → KeepsValues good (MayScanRow j k i) (scan_row_action j k i)
+pub scan_row_values : (good : List ℕ → Type 0) (j k i : ℕ) → KeepsValueRule good (MayScanRow j k i) (scan_row_action j k i)
 scan_row_values good j k i n base ws vs id v h q me may =
     let o = own n base ws vs id j v h me may.who in
     let c = h.claims_show_in_writers id k v me may.claim in
@@ -188,7 +188,7 @@ release_calls v w may seen olds who joined call floor abandoned stamp phase = re
   stamp = λ busy. omega arith;
 }
 
-pub clear_read_bit_values : (good : List ℕ → Type 0) (j k : ℕ) → KeepsValues good (MayClearReadBit j k) (clear_read_bit_action j k)
+pub clear_read_bit_values : (good : List ℕ → Type 0) (j k : ℕ) → KeepsValueRule good (MayClearReadBit j k) (clear_read_bit_action j k)
 clear_read_bit_values good j k n base ws vs id v h q me may =
     let o = own n base ws vs id j v h me may.who in
     let near : k < LOCKS = asked_below v k (h.bits_were_asked id k v me may.bit) in
@@ -199,7 +199,7 @@ clear_read_bit_values good j k n base ws vs id v h q me may =
     (words_apart n ws (row_word v.seats j k) x (row_aside n v.seats j k o.seats o.below near))
     (release_calls v w may.release refl refl refl refl refl refl refl refl refl) (released_attempt v.phase) none none
 
-pub release_writer_values : (good : List ℕ → Type 0) (j k : ℕ) → KeepsValues good (MayReleaseWriter j k) (release_writer_action j k)
+pub release_writer_values : (good : List ℕ → Type 0) (j k : ℕ) → KeepsValueRule good (MayReleaseWriter j k) (release_writer_action j k)
 release_writer_values good j k n base ws vs id v h q me may =
     let o = own n base ws vs id j v h me may.who in
     let c = h.claims_show_in_writers id k v me may.claim in

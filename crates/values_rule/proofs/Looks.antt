@@ -4,13 +4,13 @@ use Rattle.std.proofs.Common.{ℕ, List, [], slice_index, slice_set, refl}
 use Rattle.history_model.specs.declared.view.View.{View}
 use Rattle.history_model.specs.Table.{history_of, serial_word}
 use Rattle.values_rule.specs.Asides.{GoesOn}
-use Rattle.values_rule.specs.Keeping.{KeepsValues}
+use Rattle.values_rule.specs.Keeping.{KeepsValueRule}
 use Rattle.values_rule.specs.Steps.{MayLoadSerial, load_serial_action}
 use Rattle.values_rule.proofs.Asides.{SameWords, words_unchanged, seen_whole, calls_aside, undo_aside, trace_aside, floor_resting}
 use Rattle.values_rule.proofs.Frames.{moves}
 use Rattle.values_rule.proofs.Members.{none_in}
 
-pub load_serial_values : (good : List ℕ → Type 0) → KeepsValues good MayLoadSerial load_serial_action
+pub load_serial_values : (good : List ℕ → Type 0) → KeepsValueRule good MayLoadSerial load_serial_action
 load_serial_values good n base ws vs id v h q me may =
     let w : View = record v { seen = history_of vs; olds = [] } in
     let ws' : List ℕ = slice_set ws serial_word (slice_index ws serial_word) in

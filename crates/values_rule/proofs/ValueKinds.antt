@@ -22,7 +22,7 @@ use Rattle.history_model.proofs.TraceLaws.{legal_read, legal_write}
 use Rattle.locks_rule.specs.Locks.{LocksHold}
 use Rattle.locks_rule.proofs.Own.{Own, own}
 use Rattle.values_rule.specs.Asides.{SameCalls}
-use Rattle.values_rule.specs.Keeping.{KeepsValues}
+use Rattle.values_rule.specs.Keeping.{KeepsValueRule}
 use Rattle.values_rule.specs.Steps.{MayLoadValue, load_value_action, MayStoreValue, store_value_action, known_value, MayUndoStore, undo_store_action}
 use Rattle.values_rule.specs.Steps.{undoing_phase}
 use Rattle.values_rule.specs.Values.{value_at, oldest, ValuesHold}
@@ -62,7 +62,7 @@ nobody_noted good n base ws vs id j v h q me single a granted none other u k = d
 not_none : (a old : ℕ) {o : Option ℕ} → (y : ℕ) × (o ≡ Some y) → o ≡ None → ⊥
 not_none a old s e = let z : Some s.0 ≡ None = sym s.1 ∙ e in cc
 
-pub load_value_values : (good : List ℕ → Type 0) (j a : ℕ) → KeepsValues good (MayLoadValue j a) (load_value_action j a)
+pub load_value_values : (good : List ℕ → Type 0) (j a : ℕ) → KeepsValueRule good (MayLoadValue j a) (load_value_action j a)
 load_value_values good j a n base ws vs id v h q me may =
     let o = own n base ws vs id j v h me may.who in
     let i : ℕ = value_word v.seats a in
@@ -114,7 +114,7 @@ load_value_values good j a n base ws vs id v h q me may =
       floor = floor_aside good n base ws vs id v h q me w ws' s;
     }
 
-pub store_value_values : (good : List ℕ → Type 0) (j a x : ℕ) → KeepsValues good (MayStoreValue j a) (store_value_action j a x)
+pub store_value_values : (good : List ℕ → Type 0) (j a x : ℕ) → KeepsValueRule good (MayStoreValue j a) (store_value_action j a x)
 store_value_values good j a x n base ws vs id v h q me may =
     let o = own n base ws vs id j v h me may.who in
     let i : ℕ = value_word v.seats a in
@@ -228,7 +228,7 @@ undoing_rests Releasing o t = cc
 open_begun : (p : Phase) → is_open p ≡ true → p ≢ Idle
 open_begun p o e = let z : true ≡ false = sym o ∙ ap is_open e in cc
 
-pub undo_store_values : (good : List ℕ → Type 0) (j a old : ℕ) → KeepsValues good (MayUndoStore j a old) (undo_store_action j a old)
+pub undo_store_values : (good : List ℕ → Type 0) (j a old : ℕ) → KeepsValueRule good (MayUndoStore j a old) (undo_store_action j a old)
 undo_store_values good j a old n base ws vs id v h q me may =
     let o = own n base ws vs id j v h me may.who in
     let i : ℕ = value_word v.seats a in

@@ -16,7 +16,7 @@ ghost use Rattle.locks_rule.specs.Joins.{MayTakeNote, left_by_note, note_of, May
 ghost use Rattle.locks_rule.specs.Splits.{MaySplitSeat, left_by_split, given_by_split};
 ghost use Rattle.locks_rule.specs.Steps.{MaySetReadBit, MayClearReadBit, MayLoadWriter, MayClaimWriter, MayScanRow, MayReleaseWriter, set_read_bit_action, clear_read_bit_action, load_writer_action, claim_writer_action, scan_row_action, release_writer_action};
 ghost use Rattle.values_rule.specs.Asides.{IsAside, IsLoad, SameValues, IsNewCause, GivesWay, Restarts};
-ghost use Rattle.values_rule.specs.Keeping.{KeepsValues, KeepsValuesSplit, KeepsValuesJoin};
+ghost use Rattle.values_rule.specs.Keeping.{KeepsValueRule, KeepsValueRuleSplit, KeepsValueRuleJoin};
 ghost use Rattle.values_rule.specs.Steps.{MayBeginCall, MayLoadValue, MayStoreValue, MayUndoStore, MayCommitCall, MayClearStamp, MayLoadSerial, begin_call_action, load_value_action, store_value_action, undo_store_action, commit_call_action, clear_stamp_action, load_serial_action};
 ghost use Rattle.values_rule.specs.Undone.{UndoingRestores};
 ghost use Rattle.values_rule.specs.Values.{ValuesHold};
@@ -27,14 +27,14 @@ use history_model::Shape;
 pub fn begin_call<S: Shape>()
     ensures locks { (n : ℕ) (base : List ℕ) (j : ℕ)
         → Keeps (LocksHold n base) (MayBeginCall j) (begin_call_action j) }
-    ensures values { (shape : _) (j : ℕ) → KeepsValues (S.good shape) (MayBeginCall j) (begin_call_action j) }
+    ensures values { (shape : _) (j : ℕ) → KeepsValueRule (S.good shape) (MayBeginCall j) (begin_call_action j) }
 {}
 
 /// A seat that loads a value under a lock keeps both invariants: the value is what its own events and the history leave.
 pub fn load_value<S: Shape>()
     ensures locks { (n : ℕ) (base : List ℕ) (j a : ℕ)
         → Keeps (LocksHold n base) (MayLoadValue j a) (load_value_action j a) }
-    ensures values { (shape : _) (j a : ℕ) → KeepsValues (S.good shape) (MayLoadValue j a) (load_value_action j a) }
+    ensures values { (shape : _) (j a : ℕ) → KeepsValueRule (S.good shape) (MayLoadValue j a) (load_value_action j a) }
 {}
 
 /// A seat that stores a value under the exclusive lock, with the old one noted, keeps both invariants.
@@ -42,7 +42,7 @@ pub fn store_value<S: Shape>()
     ensures locks { (n : ℕ) (base : List ℕ) (j a x : ℕ)
         → Keeps (LocksHold n base) (MayStoreValue j a) (store_value_action j a x) }
     ensures values { (shape : _) (j a x : ℕ)
-        → KeepsValues (S.good shape) (MayStoreValue j a) (store_value_action j a x) }
+        → KeepsValueRule (S.good shape) (MayStoreValue j a) (store_value_action j a x) }
 {}
 
 /// A seat that writes its newest note back keeps both invariants.
@@ -50,7 +50,7 @@ pub fn undo_store<S: Shape>()
     ensures locks { (n : ℕ) (base : List ℕ) (j a old : ℕ)
         → Keeps (LocksHold n base) (MayUndoStore j a old) (undo_store_action j a old) }
     ensures values { (shape : _) (j a old : ℕ)
-        → KeepsValues (S.good shape) (MayUndoStore j a old) (undo_store_action j a old) }
+        → KeepsValueRule (S.good shape) (MayUndoStore j a old) (undo_store_action j a old) }
 {}
 
 /// A seat that commits keeps both invariants, whether its writes are kept or not: the history has one legal entry more.
@@ -58,72 +58,72 @@ pub fn commit_call<S: Shape>()
     ensures locks { (shape : _) (n : ℕ) (base : List ℕ) (j : ℕ) (kept : Bool)
         → Keeps (LocksHold n base) (MayCommitCall (S.good shape) j kept) (commit_call_action j kept) }
     ensures values { (shape : _) (j : ℕ) (kept : Bool)
-        → KeepsValues (S.good shape) (MayCommitCall (S.good shape) j kept) (commit_call_action j kept) }
+        → KeepsValueRule (S.good shape) (MayCommitCall (S.good shape) j kept) (commit_call_action j kept) }
 {}
 
 /// A seat that ends its call keeps both invariants: it has no lock and nothing to undo.
 pub fn clear_stamp<S: Shape>()
     ensures locks { (n : ℕ) (base : List ℕ) (j : ℕ)
         → Keeps (LocksHold n base) (MayClearStamp j) (clear_stamp_action j) }
-    ensures values { (shape : _) (j : ℕ) → KeepsValues (S.good shape) (MayClearStamp j) (clear_stamp_action j) }
+    ensures values { (shape : _) (j : ℕ) → KeepsValueRule (S.good shape) (MayClearStamp j) (clear_stamp_action j) }
 {}
 
 /// A seat that loads the counter of entries between calls keeps both invariants: it has seen the whole history.
 pub fn load_serial<S: Shape>()
     ensures locks { (n : ℕ) (base : List ℕ) → Keeps (LocksHold n base) MayLoadSerial load_serial_action }
-    ensures values { (shape : _) → KeepsValues (S.good shape) MayLoadSerial load_serial_action }
+    ensures values { (shape : _) → KeepsValueRule (S.good shape) MayLoadSerial load_serial_action }
 {}
 
 /// A seat that sets its read bit keeps the value invariant.
 pub fn set_read_bit<S: Shape>()
-    ensures { (shape : _) (j k a : ℕ) → KeepsValues (S.good shape) (MaySetReadBit j k a) (set_read_bit_action j k a) }
+    ensures { (shape : _) (j k a : ℕ) → KeepsValueRule (S.good shape) (MaySetReadBit j k a) (set_read_bit_action j k a) }
 {}
 
 /// A seat that looks at a writer word keeps the value invariant.
 pub fn load_writer<S: Shape>()
-    ensures { (shape : _) (j k a : ℕ) → KeepsValues (S.good shape) (MayLoadWriter j k a) (load_writer_action j k a) }
+    ensures { (shape : _) (j k a : ℕ) → KeepsValueRule (S.good shape) (MayLoadWriter j k a) (load_writer_action j k a) }
 {}
 
 /// A seat that claims a writer word keeps the value invariant.
 pub fn claim_writer<S: Shape>()
     ensures { (shape : _) (j k a : ℕ)
-        → KeepsValues (S.good shape) (MayClaimWriter j k a) (claim_writer_action j k a) }
+        → KeepsValueRule (S.good shape) (MayClaimWriter j k a) (claim_writer_action j k a) }
 {}
 
 /// A seat that scans another's row keeps the value invariant.
 pub fn scan_row<S: Shape>()
-    ensures { (shape : _) (j k i : ℕ) → KeepsValues (S.good shape) (MayScanRow j k i) (scan_row_action j k i) }
+    ensures { (shape : _) (j k i : ℕ) → KeepsValueRule (S.good shape) (MayScanRow j k i) (scan_row_action j k i) }
 {}
 
 /// A seat that clears its read bit keeps the value invariant: nothing is left to undo, and no attempt goes on.
 pub fn clear_read_bit<S: Shape>()
-    ensures { (shape : _) (j k : ℕ) → KeepsValues (S.good shape) (MayClearReadBit j k) (clear_read_bit_action j k) }
+    ensures { (shape : _) (j k : ℕ) → KeepsValueRule (S.good shape) (MayClearReadBit j k) (clear_read_bit_action j k) }
 {}
 
 /// A seat that gives its claim up keeps the value invariant: nothing is left to undo, and no attempt goes on.
 pub fn release_writer<S: Shape>()
     ensures { (shape : _) (j k : ℕ)
-        → KeepsValues (S.good shape) (MayReleaseWriter j k) (release_writer_action j k) }
+        → KeepsValueRule (S.good shape) (MayReleaseWriter j k) (release_writer_action j k) }
 {}
 
 /// A view that gives up its first number to a new seat keeps the value invariant.
 pub fn split_seat<S: Shape>()
-    ensures { (shape : _) (j : ℕ) → KeepsValuesSplit (S.good shape) (MaySplitSeat j) left_by_split given_by_split }
+    ensures { (shape : _) (j : ℕ) → KeepsValueRuleSplit (S.good shape) (MaySplitSeat j) left_by_split given_by_split }
 {}
 
 /// A view that gives off a note keeps the value invariant: the note has seen what the view has.
 pub fn take_note<S: Shape>()
-    ensures { (shape : _) → KeepsValuesSplit (S.good shape) MayTakeNote left_by_note note_of }
+    ensures { (shape : _) → KeepsValueRuleSplit (S.good shape) MayTakeNote left_by_note note_of }
 {}
 
 /// A view that takes in a note keeps the value invariant: the longer of two beginnings of one history is one, too.
 pub fn meet_note<S: Shape>()
-    ensures { (shape : _) → KeepsValuesJoin (S.good shape) MayMeetNote after_note }
+    ensures { (shape : _) → KeepsValueRuleJoin (S.good shape) MayMeetNote after_note }
 {}
 
 /// A view that takes in another with its numbers keeps the value invariant.
 pub fn join_seats<S: Shape>()
-    ensures { (shape : _) → KeepsValuesJoin (S.good shape) MayJoinSeats after_joining }
+    ensures { (shape : _) → KeepsValueRuleJoin (S.good shape) MayJoinSeats after_joining }
 {}
 
 /// A step of any kind keeps the value invariant where its word is not the counter of entries, of no calls and of no

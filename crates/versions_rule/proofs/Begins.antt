@@ -17,14 +17,14 @@ use Rattle.values_rule.proofs.Members.{none_in}
 use Rattle.values_rule.proofs.Notes.{oldest-nil}
 use Rattle.values_rule.proofs.Asides.{fresh_trace}
 use Rattle.versions_rule.specs.History.{last_call, now_of}
-use Rattle.versions_rule.specs.Keeping.{KeepsValues}
+use Rattle.versions_rule.specs.Keeping.{KeepsValueRule}
 use Rattle.versions_rule.specs.Records.{CallsCounted}
 use Rattle.versions_rule.specs.Steps.{MayBeginCall, begin_call_action}
 use Rattle.versions_rule.proofs.Frames.{recorded_to}
 use Rattle.versions_rule.proofs.Moves.{moves}
 use Rattle.versions_rule.proofs.Owing.{version_kept}
 
-pub begin_call_values : (good : List ℕ → Type 0) (j : ℕ) → KeepsValues good (MayBeginCall j) (begin_call_action j)
+pub begin_call_values : (good : List ℕ → Type 0) (j : ℕ) → KeepsValueRule good (MayBeginCall j) (begin_call_action j)
 begin_call_values good j n base ws vs id v h q me may =
     let o = own n base ws vs id j v h me may.who in
     let i : ℕ = calls_word v.seats j in

@@ -34,7 +34,7 @@ use Rattle.values_rule.proofs.Members.{in_join, none_in, in_first, in_second}
 use Rattle.values_rule.proofs.Notes.{oldest-nil, option_cases, is_missing}
 use Rattle.values_rule.proofs.Frames.{shut_out}
 use Rattle.versions_rule.specs.History.{last_call, knew_of, item_of_entry, items_of, version_at, owed_by, next_version, now_of, writes_lock}
-use Rattle.versions_rule.specs.Keeping.{KeepsValues}
+use Rattle.versions_rule.specs.Keeping.{KeepsValueRule}
 use Rattle.versions_rule.specs.Records.{IsRecorded, Knew, KnewSoMany, AreCauses, RecordsClosed, CallsCounted, FloorAndAbandoned}
 use Rattle.versions_rule.specs.Steps.{MayCommitCall, entry_of, locks_of, after_commit, commit_call_action}
 use Rattle.versions_rule.specs.Versions.{ItemsArranged, OwedHeld, UsesCurrent, ValuesHold}
@@ -583,5 +583,5 @@ module _ (good : List ℕ → Type 0) (n : ℕ) (base ws : List ℕ) (vs : List 
     floor = floor_part;
   }
 
-pub commit_call_values : (good : List ℕ → Type 0) (j : ℕ) (kept : Bool) → KeepsValues good (MayCommitCall good j kept) (commit_call_action j kept)
+pub commit_call_values : (good : List ℕ → Type 0) (j : ℕ) (kept : Bool) → KeepsValueRule good (MayCommitCall good j kept) (commit_call_action j kept)
 commit_call_values good j kept n base ws vs id v h q me may = commits good n base ws vs id j kept v h q me may

@@ -23,7 +23,7 @@ use Rattle.values_rule.specs.Values.{oldest, UndoRestores, TraceCurrent}
 use Rattle.values_rule.proofs.Members.{none_in}
 use Rattle.values_rule.proofs.Notes.{oldest-nil}
 use Rattle.versions_rule.specs.History.{last_call, items_of, owed_by, next_version, now_of}
-use Rattle.versions_rule.specs.Keeping.{KeepsValuesSplit}
+use Rattle.versions_rule.specs.Keeping.{KeepsValueRuleSplit}
 use Rattle.versions_rule.specs.Records.{IsRecorded, RecordsClosed, CallsCounted}
 use Rattle.versions_rule.specs.Versions.{ValuesHold}
 use Rattle.versions_rule.proofs.Frames.{records_move, items_kept, now_kept}
@@ -276,10 +276,10 @@ module _ (good : List ℕ → Type 0) (n : ℕ) (base ws : List ℕ) (vs : List 
       alone = λ i single. refl;
     }
 
-pub take_note_values : (good : List ℕ → Type 0) → KeepsValuesSplit good MayTakeNote left_by_note note_of
+pub take_note_values : (good : List ℕ → Type 0) → KeepsValueRuleSplit good MayTakeNote left_by_note note_of
 take_note_values good n base ws vs id v h q me may = cuts good n base ws vs id v (left_by_note v) (note_of v) h q me may.phase
     (note_left good n base ws vs id v q me may.phase) (note_given good n base ws vs id v q me may.phase)
 
-pub split_seat_values : (good : List ℕ → Type 0) (j : ℕ) → KeepsValuesSplit good (MaySplitSeat j) left_by_split given_by_split
+pub split_seat_values : (good : List ℕ → Type 0) (j : ℕ) → KeepsValueRuleSplit good (MaySplitSeat j) left_by_split given_by_split
 split_seat_values good j n base ws vs id v h q me may = cuts good n base ws vs id v (left_by_split v) (given_by_split v) h q me may.phase
     (seat_left good n base ws vs id v q me may.phase j may) (seat_given good n base ws vs id v q me may.phase j may)

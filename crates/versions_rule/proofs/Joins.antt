@@ -23,7 +23,7 @@ use Rattle.values_rule.proofs.Members.{none_in}
 use Rattle.values_rule.proofs.Notes.{oldest-nil}
 use Rattle.versions_rule.specs.History.{last_call, items_of, owed_by, next_version, now_of}
 use Rattle.versions_rule.specs.Joins.{lacking, gains, after_note, after_joining}
-use Rattle.versions_rule.specs.Keeping.{KeepsValuesJoin}
+use Rattle.versions_rule.specs.Keeping.{KeepsValueRuleJoin}
 use Rattle.versions_rule.specs.Records.{IsRecorded, RecordsClosed, CallsCounted}
 use Rattle.versions_rule.specs.Versions.{ValuesHold}
 use Rattle.versions_rule.proofs.Frames.{records_move, items_kept, now_kept}
@@ -290,7 +290,7 @@ module _ (good : List ℕ → Type 0) (n : ℕ) (base ws : List ℕ) (vs : List 
     };
   }
 
-pub meet_note_values : (good : List ℕ → Type 0) → KeepsValuesJoin good MayMeetNote after_note
+pub meet_note_values : (good : List ℕ → Type 0) → KeepsValueRuleJoin good MayMeetNote after_note
 meet_note_values good n base ws vs id other v w h q ne me it may =
     joins good n base ws vs id other v w (after_note v w) h q ne me it may.phase may.note_phase record {
       seen = refl;
@@ -303,7 +303,7 @@ meet_note_values good n base ws vs id other v w h q ne me it may =
       alone = λ j single. q.calls.alone_unjoined id j v me single;
     }
 
-pub join_seats_values : (good : List ℕ → Type 0) → KeepsValuesJoin good MayJoinSeats after_joining
+pub join_seats_values : (good : List ℕ → Type 0) → KeepsValueRuleJoin good MayJoinSeats after_joining
 join_seats_values good n base ws vs id other v w h q ne me it may =
     joins good n base ws vs id other v w (after_joining v w) h q ne me it may.phase may.other_phase record {
       seen = refl;

@@ -20,7 +20,7 @@ use Rattle.locks_rule.specs.Steps.{scan_row_action, release_writer_action}
 use Rattle.locks_rule.proofs.Asides.{picked}
 use Rattle.locks_rule.proofs.Own.{own, lock_near}
 use Rattle.values_rule.specs.Steps.{clear_stamp_action}
-use Rattle.versions_rule.specs.Keeping.{KeepsValues, SameValues, SameWords}
+use Rattle.versions_rule.specs.Keeping.{KeepsValueRule, SameValues, SameWords}
 use Rattle.versions_rule.specs.Steps.{MayReleaseUnowed, MayClearStamp}
 use Rattle.versions_rule.specs.Versions.{ValuesHold}
 use Rattle.versions_rule.proofs.Excludes.{attempt_open}
@@ -75,7 +75,7 @@ asked_met : (v : View) (a k i : ℕ) → SameValues v (after_meeting (after_aski
 asked_met v a k i = same_values v (after_meeting (after_asking v a) k i) refl refl refl refl refl refl refl refl refl refl
     refl refl refl (λ l g. g) (λ l g. g)
 
-pub set_read_bit_values : (good : List ℕ → Type 0) (j k a : ℕ) → KeepsValues good (MaySetReadBit j k a) (set_read_bit_action j k a)
+pub set_read_bit_values : (good : List ℕ → Type 0) (j k a : ℕ) → KeepsValueRule good (MaySetReadBit j k a) (set_read_bit_action j k a)
 set_read_bit_values good j k a n base ws vs id v h q me may =
     let o = own n base ws vs id j v h me may.who in
     let lock : a % LOCKS ≡ k = may.lock in
@@ -89,7 +89,7 @@ read_asks : (v : View) (a k : ℕ) → SameValues v (record (after_asking v a) {
 read_asks v a k = same_values v (record (after_asking v a) { reads = k ∷ v.reads }) refl refl refl refl refl refl refl refl refl
     refl refl refl refl (λ l t. has-join_old l k v.reads t) (λ l g. g)
 
-pub load_writer_values : (good : List ℕ → Type 0) (j k a : ℕ) → KeepsValues good (MayLoadWriter j k a) (load_writer_action j k a)
+pub load_writer_values : (good : List ℕ → Type 0) (j k a : ℕ) → KeepsValueRule good (MayLoadWriter j k a) (load_writer_action j k a)
 load_writer_values good j k a n base ws vs id v h q me may =
     let o = own n base ws vs id j v h me may.who in
     let lock : a % LOCKS ≡ k = may.lock in
@@ -107,7 +107,7 @@ claim_asks v a k free = same_values v (record (after_asking v a) { claims = k �
     (λ l g. let other : l ≢ k = λ e. free (subst (λ (y : ℕ). HasClaim v y) e g.0) in
     (has-join_old l k v.claims g.0, λ i lt away. pair-without_other l i k v.scans other ∙ g.1 i lt away))
 
-pub claim_writer_values : (good : List ℕ → Type 0) (j k a : ℕ) → KeepsValues good (MayClaimWriter j k a) (claim_writer_action j k a)
+pub claim_writer_values : (good : List ℕ → Type 0) (j k a : ℕ) → KeepsValueRule good (MayClaimWriter j k a) (claim_writer_action j k a)
 claim_writer_values good j k a n base ws vs id v h q me may =
     let o = own n base ws vs id j v h me may.who in
     let lock : a % LOCKS ≡ k = may.lock in
@@ -122,7 +122,7 @@ scan_asks : (v : View) (k i : ℕ) → SameValues v (record v { scans = (k, i) �
 scan_asks v k i = same_values v (record v { scans = (k, i) ∷ v.scans }) refl refl refl refl refl refl refl refl refl refl
     refl refl refl (λ l g. g) (λ l g. (g.0, λ m lt away. pair-join_old l m k i v.scans (g.1 m lt away)))
 
-pub scan_row_values : (good : List ℕ → Type 0) (j k i : ℕ) → KeepsValues good (MayScanRow j k i) (scan_row_action j k i)
+pub scan_row_values : (good : List ℕ → Type 0) (j k i : ℕ) → KeepsValueRule good (MayScanRow j k i) (scan_row_action j k i)
 scan_row_values good j k i n base ws vs id v h q me may =
     let o = own n base ws vs id j v h me may.who in
     let c = h.claims_show_in_writers id k v me may.claim in
@@ -205,7 +205,7 @@ module _ (good : List ℕ → Type 0) (n : ℕ) (base ws ws' : List ℕ) (vs : L
   released : ValuesHold good n base ws' (slice_set vs id w)
   released = by_phase v.phase refl
 
-pub clear_read_bit_values : (good : List ℕ → Type 0) (j k : ℕ) → KeepsValues good (MayClearReadBit j k) (clear_read_bit_action j k)
+pub clear_read_bit_values : (good : List ℕ → Type 0) (j k : ℕ) → KeepsValueRule good (MayClearReadBit j k) (clear_read_bit_action j k)
 clear_read_bit_values good j k n base ws vs id v h q me may =
     let o = own n base ws vs id j v h me may.who in
     let near : k < LOCKS = lock_near v k (h.bits_were_asked id k v me may.bit) in
@@ -227,7 +227,7 @@ clear_read_bit_values good j k n base ws vs id v h q me may =
       held = λ l t g. g;
     }) (row_stays n v.seats j k ws x o.seats o.below near)
 
-pub release_writer_values : (good : List ℕ → Type 0) (j k : ℕ) → KeepsValues good (MayReleaseUnowed j k) (release_writer_action j k)
+pub release_writer_values : (good : List ℕ → Type 0) (j k : ℕ) → KeepsValueRule good (MayReleaseUnowed j k) (release_writer_action j k)
 release_writer_values good j k n base ws vs id v h q me may =
     let o = own n base ws vs id j v h me may.releases.who in
     let c = h.claims_show_in_writers id k v me may.releases.claim in
@@ -249,7 +249,7 @@ release_writer_values good j k n base ws vs id v h q me may =
           (has-without_other l k v.claims other ∙ g.0, λ i lt away. pair-without_other l i k v.scans other ∙ g.1 i lt away);
     }) (writer_stays n v.seats k ws 0 o.seats c.2)
 
-pub clear_stamp_values : (good : List ℕ → Type 0) (j : ℕ) → KeepsValues good (MayClearStamp j) (clear_stamp_action j)
+pub clear_stamp_values : (good : List ℕ → Type 0) (j : ℕ) → KeepsValueRule good (MayClearStamp j) (clear_stamp_action j)
 clear_stamp_values good j n base ws vs id v h q me may =
     let o = own n base ws vs id j v h me may.who in
     let w : View = record v { phase = Idle; stamp = 0; announced = false } in

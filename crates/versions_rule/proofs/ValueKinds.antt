@@ -27,7 +27,7 @@ use Rattle.values_rule.specs.Values.{value_at, oldest}
 use Rattle.values_rule.proofs.Notes.{option_cases, is_missing, oldest_more, oldest_first, oldest_one, oldest_other, oldest_apart, older_is}
 use Rattle.values_rule.proofs.Frames.{shut_out}
 use Rattle.values_rule.proofs.ValueKinds.{in_base, set_here, set_there}
-use Rattle.versions_rule.specs.Keeping.{KeepsValues}
+use Rattle.versions_rule.specs.Keeping.{KeepsValueRule}
 use Rattle.versions_rule.specs.Steps.{MayLoadValue, MayStoreValue, MayUndoStore}
 use Rattle.versions_rule.specs.Versions.{ValuesHold}
 use Rattle.versions_rule.specs.History.{now_of}
@@ -57,7 +57,7 @@ not_none a old s e = let z : Some s.0 ≡ None = sym s.1 ∙ e in cc
 was_read : (t : Trace) (a : ℕ) → (before : Trace) × (old : ℕ) × (t ≡ before ++ Read a old ∷ []) → Touches t a
 was_read t a r = subst (λ (l : Trace). Touches l a) (sym r.2) (length r.0, r.1, inl (get_last r.0 (Read a r.1)))
 
-pub load_value_values : (good : List ℕ → Type 0) (j a : ℕ) → KeepsValues good (MayLoadValue j a) (load_value_action j a)
+pub load_value_values : (good : List ℕ → Type 0) (j a : ℕ) → KeepsValueRule good (MayLoadValue j a) (load_value_action j a)
 load_value_values good j a n base ws vs id v h q me may =
     let o = own n base ws vs id j v h me may.who in
     let i : ℕ = value_word v.seats a in
@@ -111,7 +111,7 @@ load_value_values good j a n base ws vs id v h q me may =
       rested = λ t. q.trace.rested id v me t;
     })
 
-pub store_value_values : (good : List ℕ → Type 0) (j a x : ℕ) → KeepsValues good (MayStoreValue j a) (store_value_action j a x)
+pub store_value_values : (good : List ℕ → Type 0) (j a x : ℕ) → KeepsValueRule good (MayStoreValue j a) (store_value_action j a x)
 store_value_values good j a x n base ws vs id v h q me may =
     let o = own n base ws vs id j v h me may.who in
     let i : ℕ = value_word v.seats a in
@@ -229,7 +229,7 @@ undoing_rests Withdrawing o (inl t) = cc
 undoing_rests Withdrawing o (inr t) = cc
 undoing_rests Releasing o t = cc
 
-pub undo_store_values : (good : List ℕ → Type 0) (j a old : ℕ) → KeepsValues good (MayUndoStore j a old) (undo_store_action j a old)
+pub undo_store_values : (good : List ℕ → Type 0) (j a old : ℕ) → KeepsValueRule good (MayUndoStore j a old) (undo_store_action j a old)
 undo_store_values good j a old n base ws vs id v h q me may =
     let o = own n base ws vs id j v h me may.who in
     let i : ℕ = value_word v.seats a in

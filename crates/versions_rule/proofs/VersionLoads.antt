@@ -19,7 +19,7 @@ use Rattle.values_rule.specs.Values.{UndoRestores, TraceCurrent}
 use Rattle.values_rule.proofs.Members.{in_join, none_in, in_first}
 use Rattle.versions_rule.specs.Records.{AreCauses}
 use Rattle.versions_rule.specs.History.{items_of, owed_by, next_version, now_of}
-use Rattle.versions_rule.specs.Keeping.{KeepsValues}
+use Rattle.versions_rule.specs.Keeping.{KeepsValueRule}
 use Rattle.versions_rule.specs.Steps.{MayLoadVersion, load_version_action}
 use Rattle.versions_rule.specs.Versions.{ValuesHold}
 use Rattle.versions_rule.proofs.Asides.{aside_drops}
@@ -130,7 +130,7 @@ module _ (good : List ℕ → Type 0) (n : ℕ) (base ws : List ℕ) (vs : List 
     };
   }
 
-pub load_version_values : (good : List ℕ → Type 0) (j k : ℕ) → KeepsValues good (MayLoadVersion j k) (load_version_action j k)
+pub load_version_values : (good : List ℕ → Type 0) (j k : ℕ) → KeepsValueRule good (MayLoadVersion j k) (load_version_action j k)
 load_version_values good j k n base ws vs id v h q me may =
     subst (λ (l : List ℕ). ValuesHold good n base l (slice_set vs id (record v { uses = v.uses ++ (k, slice_index ws (version_word v.seats k)) ∷ [] })))
     (sym (set-get_or ws (version_word v.seats k) 0)) (loads good n base ws vs id j k v h q me may)

@@ -20,7 +20,7 @@ use Rattle.values_rule.specs.Values.{value_at, UndoRestores, TraceCurrent}
 use Rattle.values_rule.proofs.Frames.{shut_out}
 use Rattle.versions_rule.specs.Records.{AreCauses}
 use Rattle.versions_rule.specs.History.{version_at, items_of, owed_by, next_version, now_of}
-use Rattle.versions_rule.specs.Keeping.{KeepsValues}
+use Rattle.versions_rule.specs.Keeping.{KeepsValueRule}
 use Rattle.versions_rule.specs.Steps.{MayStoreVersion, store_version_action}
 use Rattle.versions_rule.specs.Versions.{ValuesHold}
 use Rattle.versions_rule.proofs.Asides.{aside_drops}
@@ -152,5 +152,5 @@ module _ (good : List ℕ → Type 0) (n : ℕ) (base ws : List ℕ) (vs : List 
     };
   }
 
-pub store_version_values : (good : List ℕ → Type 0) (j k x : ℕ) → KeepsValues good (MayStoreVersion j k x) (store_version_action j k x)
+pub store_version_values : (good : List ℕ → Type 0) (j k x : ℕ) → KeepsValueRule good (MayStoreVersion j k x) (store_version_action j k x)
 store_version_values good j k x n base ws vs id v h q me may = stores good n base ws vs id j k x v h q me may

@@ -18,7 +18,7 @@ ghost use Rattle.locks_rule.specs.Steps.{MaySetReadBit, MayClearReadBit, MayLoad
 ghost use Rattle.values_rule.specs.Steps.{load_value_action, store_value_action, undo_store_action, clear_stamp_action};
 ghost use Rattle.versions_rule.specs.Closing.{OfEveryArrangement, ArePlaced, LeavesGood, AttemptsAreLegal, UndoingRestores, OfOneForAll, AgreeWithTable, HasArrangement, MemoryIsLeft};
 ghost use Rattle.versions_rule.specs.Joins.{after_note, after_joining};
-ghost use Rattle.versions_rule.specs.Keeping.{KeepsValues, KeepsValuesSplit, KeepsValuesJoin, GivingWayKeeps, RestartKeeps, GivingUpKeeps, QuietKeeps, AsideKeeps};
+ghost use Rattle.versions_rule.specs.Keeping.{KeepsValueRule, KeepsValueRuleSplit, KeepsValueRuleJoin, GivingWayKeeps, RestartKeeps, GivingUpKeeps, QuietKeeps, AsideKeeps};
 ghost use Rattle.versions_rule.specs.Opening.{OpeningHolds};
 ghost use Rattle.versions_rule.specs.Steps.{MayBeginCall, begin_call_action, MayLoadVersion, load_version_action, MayStoreVersion, store_version_action, MayLoadValue, MayStoreValue, MayUndoStore, MayCommitCall, commit_call_action, MayReleaseUnowed, MayClearStamp};
 
@@ -28,7 +28,7 @@ use history_model::Shape;
 pub fn begin_call<S: Shape>()
     ensures locks { (n : ℕ) (base : List ℕ) (j : ℕ)
         → Keeps (LocksHold n base) (MayBeginCall j) (begin_call_action j) }
-    ensures values { (shape : _) (j : ℕ) → KeepsValues (S.good shape) (MayBeginCall j) (begin_call_action j) }
+    ensures values { (shape : _) (j : ℕ) → KeepsValueRule (S.good shape) (MayBeginCall j) (begin_call_action j) }
 {}
 
 /// A seat that loads the version of a lock that it holds keeps both invariants: nobody owes the lock a version, so what
@@ -37,7 +37,7 @@ pub fn load_version<S: Shape>()
     ensures locks { (n : ℕ) (base : List ℕ) (j k : ℕ)
         → Keeps (LocksHold n base) (MayLoadVersion j k) (load_version_action j k) }
     ensures values { (shape : _) (j k : ℕ)
-        → KeepsValues (S.good shape) (MayLoadVersion j k) (load_version_action j k) }
+        → KeepsValueRule (S.good shape) (MayLoadVersion j k) (load_version_action j k) }
 {}
 
 /// A seat that loads a value under a lock whose version it found keeps both invariants: the value is what its own
@@ -46,7 +46,7 @@ pub fn load_value<S: Shape>()
     ensures locks { (n : ℕ) (base : List ℕ) (j a : ℕ)
         → Keeps (LocksHold n base) (MayLoadValue j a) (load_value_action j a) }
     ensures values { (shape : _) (j a : ℕ)
-        → KeepsValues (S.good shape) (MayLoadValue j a) (load_value_action j a) }
+        → KeepsValueRule (S.good shape) (MayLoadValue j a) (load_value_action j a) }
 {}
 
 /// A seat that stores a value under the exclusive lock, with the old one noted, keeps both invariants.
@@ -54,7 +54,7 @@ pub fn store_value<S: Shape>()
     ensures locks { (n : ℕ) (base : List ℕ) (j a x : ℕ)
         → Keeps (LocksHold n base) (MayStoreValue j a) (store_value_action j a x) }
     ensures values { (shape : _) (j a x : ℕ)
-        → KeepsValues (S.good shape) (MayStoreValue j a) (store_value_action j a x) }
+        → KeepsValueRule (S.good shape) (MayStoreValue j a) (store_value_action j a x) }
 {}
 
 /// A seat that writes its newest note back keeps both invariants.
@@ -62,7 +62,7 @@ pub fn undo_store<S: Shape>()
     ensures locks { (n : ℕ) (base : List ℕ) (j a old : ℕ)
         → Keeps (LocksHold n base) (MayUndoStore j a old) (undo_store_action j a old) }
     ensures values { (shape : _) (j a old : ℕ)
-        → KeepsValues (S.good shape) (MayUndoStore j a old) (undo_store_action j a old) }
+        → KeepsValueRule (S.good shape) (MayUndoStore j a old) (undo_store_action j a old) }
 {}
 
 /// A seat that commits keeps both invariants, whether its writes are kept or not, and stores to a word of its own: its
@@ -71,7 +71,7 @@ pub fn commit_call<S: Shape>()
     ensures locks { (shape : _) (n : ℕ) (base : List ℕ) (j : ℕ) (kept : Bool)
         → Keeps (LocksHold n base) (MayCommitCall (S.good shape) j kept) (commit_call_action j kept) }
     ensures values { (shape : _) (j : ℕ) (kept : Bool)
-        → KeepsValues (S.good shape) (MayCommitCall (S.good shape) j kept) (commit_call_action j kept) }
+        → KeepsValueRule (S.good shape) (MayCommitCall (S.good shape) j kept) (commit_call_action j kept) }
 {}
 
 /// A seat that raises the version of a lock that its kept call wrote keeps both invariants: the version that the lock
@@ -80,46 +80,46 @@ pub fn store_version<S: Shape>()
     ensures locks { (n : ℕ) (base : List ℕ) (j k x : ℕ)
         → Keeps (LocksHold n base) (MayStoreVersion j k x) (store_version_action j k x) }
     ensures values { (shape : _) (j k x : ℕ)
-        → KeepsValues (S.good shape) (MayStoreVersion j k x) (store_version_action j k x) }
+        → KeepsValueRule (S.good shape) (MayStoreVersion j k x) (store_version_action j k x) }
 {}
 
 /// A seat that ends its call keeps both invariants: it has no lock, and nothing to undo.
 pub fn clear_stamp<S: Shape>()
     ensures locks { (n : ℕ) (base : List ℕ) (j : ℕ)
         → Keeps (LocksHold n base) (MayClearStamp j) (clear_stamp_action j) }
-    ensures values { (shape : _) (j : ℕ) → KeepsValues (S.good shape) (MayClearStamp j) (clear_stamp_action j) }
+    ensures values { (shape : _) (j : ℕ) → KeepsValueRule (S.good shape) (MayClearStamp j) (clear_stamp_action j) }
 {}
 
 /// A seat that sets its read bit keeps the value invariant.
 pub fn set_read_bit<S: Shape>()
-    ensures { (shape : _) (j k a : ℕ) → KeepsValues (S.good shape) (MaySetReadBit j k a) (set_read_bit_action j k a) }
+    ensures { (shape : _) (j k a : ℕ) → KeepsValueRule (S.good shape) (MaySetReadBit j k a) (set_read_bit_action j k a) }
 {}
 
 /// A seat that looks at a writer word keeps the value invariant.
 pub fn load_writer<S: Shape>()
-    ensures { (shape : _) (j k a : ℕ) → KeepsValues (S.good shape) (MayLoadWriter j k a) (load_writer_action j k a) }
+    ensures { (shape : _) (j k a : ℕ) → KeepsValueRule (S.good shape) (MayLoadWriter j k a) (load_writer_action j k a) }
 {}
 
 /// A seat that claims a writer word keeps the value invariant.
 pub fn claim_writer<S: Shape>()
     ensures { (shape : _) (j k a : ℕ)
-        → KeepsValues (S.good shape) (MayClaimWriter j k a) (claim_writer_action j k a) }
+        → KeepsValueRule (S.good shape) (MayClaimWriter j k a) (claim_writer_action j k a) }
 {}
 
 /// A seat that scans another's row keeps the value invariant.
 pub fn scan_row<S: Shape>()
-    ensures { (shape : _) (j k i : ℕ) → KeepsValues (S.good shape) (MayScanRow j k i) (scan_row_action j k i) }
+    ensures { (shape : _) (j k i : ℕ) → KeepsValueRule (S.good shape) (MayScanRow j k i) (scan_row_action j k i) }
 {}
 
 /// A seat that clears its read bit keeps the value invariant: nothing is left to undo, and no attempt goes on.
 pub fn clear_read_bit<S: Shape>()
-    ensures { (shape : _) (j k : ℕ) → KeepsValues (S.good shape) (MayClearReadBit j k) (clear_read_bit_action j k) }
+    ensures { (shape : _) (j k : ℕ) → KeepsValueRule (S.good shape) (MayClearReadBit j k) (clear_read_bit_action j k) }
 {}
 
 /// A seat that gives up the claim of a lock that is owed no version keeps the value invariant.
 pub fn release_writer<S: Shape>()
     ensures { (shape : _) (j k : ℕ)
-        → KeepsValues (S.good shape) (MayReleaseUnowed j k) (release_writer_action j k) }
+        → KeepsValueRule (S.good shape) (MayReleaseUnowed j k) (release_writer_action j k) }
 {}
 
 /// A load with which an attempt gives way keeps the value invariant, and reads no word that all share: what the attempt
@@ -151,24 +151,24 @@ pub fn aside<S: Shape>()
 
 /// A view that gives up its first number to a new seat keeps the value invariant.
 pub fn split_seat<S: Shape>()
-    ensures { (shape : _) (j : ℕ) → KeepsValuesSplit (S.good shape) (MaySplitSeat j) left_by_split given_by_split }
+    ensures { (shape : _) (j : ℕ) → KeepsValueRuleSplit (S.good shape) (MaySplitSeat j) left_by_split given_by_split }
 {}
 
 /// A view that gives off a note keeps the value invariant: the note has seen what the view has.
 pub fn take_note<S: Shape>()
-    ensures { (shape : _) → KeepsValuesSplit (S.good shape) MayTakeNote left_by_note note_of }
+    ensures { (shape : _) → KeepsValueRuleSplit (S.good shape) MayTakeNote left_by_note note_of }
 {}
 
 /// A view that takes in a note keeps both invariants: it has then seen what either had seen, each entry once.
 pub fn meet_note<S: Shape>()
     ensures locks { (n : ℕ) (base : List ℕ) → KeepsJoin (LocksHold n base) MayMeetNote after_note }
-    ensures values { (shape : _) → KeepsValuesJoin (S.good shape) MayMeetNote after_note }
+    ensures values { (shape : _) → KeepsValueRuleJoin (S.good shape) MayMeetNote after_note }
 {}
 
 /// A view that takes in another with its numbers keeps both invariants.
 pub fn join_seats<S: Shape>()
     ensures locks { (n : ℕ) (base : List ℕ) → KeepsJoin (LocksHold n base) MayJoinSeats after_joining }
-    ensures values { (shape : _) → KeepsValuesJoin (S.good shape) MayJoinSeats after_joining }
+    ensures values { (shape : _) → KeepsValueRuleJoin (S.good shape) MayJoinSeats after_joining }
 {}
 
 /// The value invariant holds of a table as it begins.

@@ -31,7 +31,7 @@ use Rattle.word_table.specs.Copies.{PassView}
 use Rattle.word_table.specs.Desks.{DeskView}
 use Rattle.worker_pool.specs.declared.done.Done.{Done}
 use Rattle.worker_pool.specs.Counting.{times, once_below}
-use Rattle.worker_pool.specs.Days.{place_of, places_of, IsDay}
+use Rattle.worker_pool.specs.Days.{place_of_item, places_of_items, IsDay}
 use Rattle.worker_pool.specs.Inner.Makers.{serials_by, IsMade}
 use Rattle.worker_pool.specs.Inner.Workers.{tally_number, IsDone, Tally}
 use Rattle.worker_pool.proofs.Serials.{serials-append, serials-others, serials_rise, serials_sum}
@@ -262,19 +262,19 @@ module _ (desk : DeskView BooksShape) (input : ClearingInput) (history : List En
   below_all : All (λ (item : Done). item.restarts < desk.seats) all_items
   below_all = all_flat (λ (item : Done). item.restarts < desk.seats) items_of ws (λ k d lt. (worked k d lt).made.below)
 
-  only_all : All (λ (item : Done). IsPlace input (place_of item)) all_items
-  only_all = all_flat (λ (item : Done). IsPlace input (place_of item)) items_of ws (λ k d lt. (worked k d lt).run.only)
+  only_all : All (λ (item : Done). IsPlace input (place_of_item item)) all_items
+  only_all = all_flat (λ (item : Done). IsPlace input (place_of_item item)) items_of ws (λ k d lt. (worked k d lt).run.only)
 
   module _ (once : (x : ℕ) → total_had ws x ≡ once_below x (length input.callers)) where
-    once_all : (p : Place) → IsPlace input p → count_by (λ q. q.caller == p.caller && q.index == p.index) (places_of all_items) ≡ 1
+    once_all : (p : Place) → IsPlace input p → count_by (λ q. q.caller == p.caller && q.index == p.index) (places_of_items all_items) ≡ 1
     once_all p there =
         let test : Place → ℕ = λ q. cond (q.caller == p.caller && q.index == p.index) 1 0 in
-        let by_worker : Tally → ℕ = λ w. sum_by (λ item. test (place_of item)) w.share.done.items in
+        let by_worker : Tally → ℕ = λ w. sum_by (λ item. test (place_of_item item)) w.share.done.items in
         let one : once_below p.caller (length input.callers) ≡ 1 = grind (arith, there.0) in
         let none : one_if (p.caller == 0 && nat_lt p.index 0) ≡ zero = grind (arith, nat_tests) in
         let each : All (λ w. by_worker w ≡ w.had p.caller) ws = λ k d lt.
-        sym (sum_over test place_of (get_or ws k d).share.done.items) ∙ omega (arith, (worked k d lt).run.each p there, none) in
-        sum_over test place_of all_items ∙ counted_by (λ item. test (place_of item)) items_of ws
+        sym (sum_over test place_of_item (get_or ws k d).share.done.items) ∙ omega (arith, (worked k d lt).run.each p there, none) in
+        sum_over test place_of_item all_items ∙ counted_by (λ item. test (place_of_item item)) items_of ws
         ∙ sum_alike by_worker (λ w. w.had p.caller) ws each ∙ once p.caller ∙ one
 
     keeps_all : AllPairs InOrder all_items
@@ -308,12 +308,12 @@ module _ (desk : DeskView BooksShape) (input : ClearingInput) (history : List En
       made_sorted : All (IsMade desk input history) done
       made_sorted = All-permutation (IsMade desk input history) all_items done moved made_all
 
-      journal_sorted : IsJournal input (places_of done)
+      journal_sorted : IsJournal input (places_of_items done)
       journal_sorted = record {
-        only = All-map (IsPlace input) place_of done (All-permutation (λ (item : Done). IsPlace input (place_of item)) all_items done moved only_all);
+        only = All-map (IsPlace input) place_of_item done (All-permutation (λ (item : Done). IsPlace input (place_of_item item)) all_items done moved only_all);
         once = λ p there. sum_by-IsPermutation (λ (q : Place). cond (q.caller == p.caller && q.index == p.index) 1 0)
-            (places_of all_items) (places_of done) (IsPermutation-map place_of all_items done moved) ∙ once_all p there;
-        rising = pairs_map (λ (p q : Place). p.caller ≡ q.caller → p.index < q.index) place_of done
+            (places_of_items all_items) (places_of_items done) (IsPermutation-map place_of_item all_items done moved) ∙ once_all p there;
+        rising = pairs_map (λ (p q : Place). p.caller ≡ q.caller → p.index < q.index) place_of_item done
             (rising_indexes all_items done moved (length history) serials_sorted keeps_all);
       }
 
@@ -328,14 +328,14 @@ module _ (desk : DeskView BooksShape) (input : ClearingInput) (history : List En
           let seen_all : take n history ≡ history =
           take_all n history (omega (arith, as_many refused desk input history done opening serials_sorted made_sorted)) in
           let end = to n (omega arith) in
-          let at_end : Stands desk.shape (replay desk.base history) (books_after input input.books (places_of done)) =
-          subst (λ (h : List Entry). Stands desk.shape (replay desk.base h) (books_after input input.books (places_of done))) seen_all
-          (subst (λ (l : List Done). Stands desk.shape (replay desk.base (take n history)) (books_after input input.books (places_of l))) whole end.stands) in
+          let at_end : Stands desk.shape (replay desk.base history) (books_after input input.books (places_of_items done)) =
+          subst (λ (h : List Entry). Stands desk.shape (replay desk.base h) (books_after input input.books (places_of_items done))) seen_all
+          (subst (λ (l : List Done). Stands desk.shape (replay desk.base (take n history)) (books_after input input.books (places_of_items l))) whole end.stands) in
           record {
             entries = entries_of refused desk input history done opening serials_sorted made_sorted;
             journal = journal_sorted;
             below = All-permutation (λ (item : Done). item.restarts < desk.seats) all_items done moved below_all;
-            replies = subst (λ (l : List Done). map (λ (item : Done). item.reply) l ≡ replies_of input input.books (places_of l)) whole end.replies;
+            replies = subst (λ (l : List Done). map (λ (item : Done). item.reply) l ≡ replies_of input input.books (places_of_items l)) whole end.replies;
             stands = λ k le. (to k le).stands;
-            left = subst (λ w. Stands desk.shape w (books_after input input.books (places_of done))) (sym left) at_end;
+            left = subst (λ w. Stands desk.shape w (books_after input input.books (places_of_items done))) (sym left) at_end;
           }

@@ -27,7 +27,7 @@ use Rattle.txn_books.specs.Standing.{Stands}
 use Rattle.txn_books.specs.Meaning.{is_done, ScriptMeans}
 use Rattle.word_table.specs.Desks.{DeskView}
 use Rattle.worker_pool.specs.declared.done.Done.{Done}
-use Rattle.worker_pool.specs.Days.{place_of, places_of, IsEntryOf, AreEntriesOf}
+use Rattle.worker_pool.specs.Days.{place_of_item, places_of_items, IsEntryOf, AreEntriesOf}
 use Rattle.worker_pool.specs.Inner.Makers.{IsMade}
 
 -- the replies with one more script
@@ -57,8 +57,8 @@ after_one refused shape base entries e script answer books means stands = by_kep
 
 -- the first items, as far as a place
 pub record RunsTo (desk : DeskView BooksShape) (input : ClearingInput) (history : List Entry) (done : List Done) (k : ℕ) : Type 0 where
-  pub replies : map (λ (item : Done). item.reply) (take k done) ≡ replies_of input input.books (places_of (take k done))
-  pub stands : Stands desk.shape (replay desk.base (take k history)) (books_after input input.books (places_of (take k done)))
+  pub replies : map (λ (item : Done). item.reply) (take k done) ≡ replies_of input input.books (places_of_items (take k done))
+  pub stands : Stands desk.shape (replay desk.base (take k history)) (books_after input input.books (places_of_items (take k done)))
 
 module _ (refused : RefusedChangesNothing) (desk : DeskView BooksShape) (input : ClearingInput) (history : List Entry) (done : List Done)
     (opening : Stands desk.shape desk.base input.books)
@@ -101,7 +101,7 @@ module _ (refused : RefusedChangesNothing) (desk : DeskView BooksShape) (input :
           let lt : k < length done = omega arith in
           let x : Done = get_or done k d in
           let m = made k d lt in
-          let books : ClearingBooks = books_after input input.books (places_of (take k done)) in
+          let books : ClearingBooks = books_after input input.books (places_of_items (take k done)) in
           let script = script_at input x.caller x.index in
           let here = place_at k d lt in
           let means : ScriptMeans desk.shape script (replay desk.base (take k history)) m.entry.kept x.reply
@@ -114,14 +114,14 @@ module _ (refused : RefusedChangesNothing) (desk : DeskView BooksShape) (input :
           let entry : get_or history k m.entry ≡ m.entry = get_or_from_slice_get history k m.entry m.entry (entry_at k d lt) in
           let seen : take (suc k) history ≡ take k history ++ m.entry ∷ [] = ap (λ n. take n history) next
           ∙ take_more history k m.entry long ∙ ap (λ e. take k history ++ e ∷ []) entry in
-          let places : places_of (take (suc k) done) ≡ places_of (take k done) ++ place_of x ∷ [] = ap places_of taken ∙ map_push place_of (take k done) x in
-          let left : books_after input input.books (places_of (take (suc k) done)) ≡ (outcome_of script books).1 =
-          ap (books_after input input.books) places ∙ books_after-push input input.books (places_of (take k done)) (place_of x) in
+          let places : places_of_items (take (suc k) done) ≡ places_of_items (take k done) ++ place_of_item x ∷ [] = ap places_of_items taken ∙ map_push place_of_item (take k done) x in
+          let left : books_after input input.books (places_of_items (take (suc k) done)) ≡ (outcome_of script books).1 =
+          ap (books_after input input.books) places ∙ books_after-push input input.books (places_of_items (take k done)) (place_of_item x) in
           let told : x.reply ≡ (outcome_of script books).0 = means.replies books prev.stands in
           record {
             replies = ap (map (λ (item : Done). item.reply)) taken ∙ map_push (λ (item : Done). item.reply) (take k done) x
-                ∙ ap (λ rs. rs ++ x.reply ∷ []) prev.replies ∙ ap (λ r. replies_of input input.books (places_of (take k done)) ++ r ∷ []) told
-                ∙ sym (replies_of-push input input.books (places_of (take k done)) (place_of x)) ∙ ap (replies_of input input.books) (sym places);
+                ∙ ap (λ rs. rs ++ x.reply ∷ []) prev.replies ∙ ap (λ r. replies_of input input.books (places_of_items (take k done)) ++ r ∷ []) told
+                ∙ sym (replies_of-push input input.books (places_of_items (take k done)) (place_of_item x)) ∙ ap (replies_of input input.books) (sym places);
             stands = subst (λ (b : ClearingBooks). Stands desk.shape (replay desk.base (take (suc k) history)) b) (sym left)
                 (subst (λ (h : List Entry). Stands desk.shape (replay desk.base h) (outcome_of script books).1) (sym seen)
                 (after_one refused desk.shape desk.base (take k history) m.entry script x.reply books means prev.stands));

@@ -10,7 +10,7 @@ use Rattle.script_reader.specs.Input.{ClearingInput, caller_at}
 use Rattle.script_reader.specs.Journal.{Place, IsPlace}
 use Rattle.worker_pool.specs.Counting.{HadOneMore}
 use Rattle.worker_pool.specs.declared.done.Done.{Done}
-use Rattle.worker_pool.specs.Days.{place_of, places_of}
+use Rattle.worker_pool.specs.Days.{place_of_item, places_of_items}
 use Rattle.worker_pool.specs.Inner.Makers.{RanScripts, RunsEach}
 
 -- 1 where the test says so, and else 0
@@ -41,7 +41,7 @@ module _ (input : ClearingInput) (h : ℕ → ℕ) (c : ℕ) where
   -- nothing was run of callers that were not had
   pub ran_nothing : ((x : ℕ) → h x ≡ 0) → (done : List Done) → done ≡ [] → RanScripts input h c 0 done
   ran_nothing none done is = subst (λ (l : List Done). RanScripts input h c 0 l) (sym is) (record {
-    only = All-nil (λ (item : Done). IsPlace input (place_of item));
+    only = All-nil (λ (item : Done). IsPlace input (place_of_item item));
     each = λ p there. omega (arith, none p.caller, none_yet c p);
     rising = λ i j d lt short. absurd (omega arith);
     among = All-nil (λ (item : Done). h item.caller ≡ 0 → (item.caller ≡ c) × (item.index < 0));
@@ -57,18 +57,18 @@ module _ (input : ClearingInput) (h : ℕ → ℕ) (c : ℕ) where
   }
 
   -- the next script of a caller of whom nothing was run before
-  pub ran_script : (i : ℕ) (old new : List Done) (item : Done) → h c ≡ 0 → IsPlace input (place_of item)
+  pub ran_script : (i : ℕ) (old new : List Done) (item : Done) → h c ≡ 0 → IsPlace input (place_of_item item)
       → item.caller ≡ c → item.index ≡ i → new ≡ old ++ item ∷ []
       → RanScripts input h c i old → RanScripts input h c (i + 1) new
   ran_script i old new item none there caller index is r = subst (λ (l : List Done). RanScripts input h c (i + 1) l) (sym is) (record {
-    only = All-push (λ (x : Done). IsPlace input (place_of x)) old item r.only there;
+    only = All-push (λ (x : Done). IsPlace input (place_of_item x)) old item r.only there;
     each = λ p within.
         let its : one_if (item.caller == p.caller && item.index == p.index) ≡ one_if (c == p.caller && i == p.index) =
         (λ t. one_if (caller t == p.caller && index t == p.index)) in
         omega (
           arith,
-          ap (count_by (λ q. q.caller == p.caller && q.index == p.index)) (map_push place_of old item),
-          one_place_more p (place_of item) (places_of old),
+          ap (count_by (λ q. q.caller == p.caller && q.index == p.index)) (map_push place_of_item old item),
+          one_place_more p (place_of_item item) (places_of_items old),
           r.each p within,
           its,
           next_index c i p,

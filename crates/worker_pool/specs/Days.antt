@@ -20,12 +20,12 @@ pub record AreAllNew {S : Type 0} (desk : DeskView S) (passes : List PassView) :
   pub each : (j : ℕ) → j < desk.seats → slice_get passes j ≡ Some (record { table = desk.table; view = opening_view desk.base desk.seats (j ∷ []) [] })
 
 -- the place of the script that an item is about
-abbrev pub place_of : Done → Place
-place_of item = record { caller = item.caller; index = item.index }
+abbrev pub place_of_item : Done → Place
+place_of_item item = record { caller = item.caller; index = item.index }
 
 -- the places of items
-abbrev pub places_of : List Done → List Place
-places_of done = map place_of done
+abbrev pub places_of_items : List Done → List Place
+places_of_items done = map place_of_item done
 
 -- the entry is of the item's seat and call, and has as many attempts that gave way as the item has restarts
 pub record IsEntryOf (item : Done) (entry : Entry) : Type 0 where
@@ -46,9 +46,9 @@ AreCallersWhole done = (j k : ℕ) (x y : Done) → slice_get done j ≡ Some x 
 -- of the interpreter; each has its entry; and before and after each item the words stand for the books of the interpreter
 pub record IsDay (input : ClearingInput) (closed : ClosedView BooksShape) (done : List Done) : Type 0 where
   pub entries : AreEntriesOf done closed.history
-  pub journal : IsJournal input (places_of done)
+  pub journal : IsJournal input (places_of_items done)
   pub below : All (λ item. item.restarts < closed.seats) done
-  pub replies : map (λ item. item.reply) done ≡ replies_of input input.books (places_of done)
+  pub replies : map (λ item. item.reply) done ≡ replies_of input input.books (places_of_items done)
   pub stands : (k : ℕ) → k ≤ length done
-      → Stands closed.shape (replay closed.base (take k closed.history)) (books_after input input.books (places_of (take k done)))
-  pub left : Stands closed.shape closed.words (books_after input input.books (places_of done))
+      → Stands closed.shape (replay closed.base (take k closed.history)) (books_after input input.books (places_of_items (take k done)))
+  pub left : Stands closed.shape closed.words (books_after input input.books (places_of_items done))

@@ -7,7 +7,7 @@ use Rattle.script_reader.specs.Input.{ClearingInput, caller_at}
 use Rattle.books_report.specs.declared.limits.TheConstants.{RESTARTS_BELOW}
 use Rattle.books_report.specs.declared.check.Checked.{Checked}
 use Rattle.books_report.specs.declared.check.Checked.TheVariants.{Agrees, Differs}
-use Rattle.books_report.specs.Output.{Ran, places_of, books_after, journal_line, IsOutput}
+use Rattle.books_report.specs.Output.{Ran, places_run, books_after, journal_line, IsOutput}
 use Rattle.books_report.specs.Checking.{MayFollow, FollowInTurn, IsFirstWrongLine}
 
 -- the books and numbers of scripts are for the callers of the input
@@ -18,8 +18,8 @@ pub record IsFor (input : ClearingInput) (books : ClearingBooks) (done : List �
 -- these scripts were run: they leave the books, and there are so many of each caller
 pub record HasRun (input : ClearingInput) (scripts : List Ran) (books : ClearingBooks) (done : List ℕ) : Type 0 where
   pub in_turn : FollowInTurn input RESTARTS_BELOW [] scripts
-  pub books_are : books ≡ books_after input input.books (places_of scripts)
-  pub done_are : (c : ℕ) → c < length input.callers → slice_index done c ≡ count_by (λ p. p.caller == c) (places_of scripts)
+  pub books_are : books ≡ books_after input input.books (places_run scripts)
+  pub done_are : (c : ℕ) → c < length input.callers → slice_index done c ≡ count_by (λ p. p.caller == c) (places_run scripts)
 
 -- the text begins with the line of a script that may follow; what is left stands behind it
 pub record BeginsWithLine (input : ClearingInput) (scripts : List Ran) (text left : List ℕ) (books : ClearingBooks) (done : List ℕ) : Type 0 where

@@ -12,7 +12,7 @@ use Rattle.script_reader.specs.Journal.{Place, IsPlace}
 use Rattle.txn_books.specs.declared.shape.BooksShape.{BooksShape}
 use Rattle.txn_books.specs.Meaning.{ScriptMeans}
 use Rattle.worker_pool.specs.declared.done.Done.{Done}
-use Rattle.worker_pool.specs.Days.{place_of, places_of, IsEntryOf}
+use Rattle.worker_pool.specs.Days.{place_of_item, places_of_items, IsEntryOf}
 
 -- the serials of a seat's entries in a list whose first has this serial
 abbrev pub serials_by : ℕ → ℕ → List Entry → List ℕ
@@ -44,8 +44,8 @@ pub record HasMade (desk : DeskView BooksShape) (input : ClearingInput) (who : �
 
 -- of caller x the items are all scripts, h x times, and for caller c the first i scripts beside, in their order
 pub record RanScripts (input : ClearingInput) (h : ℕ → ℕ) (c i : ℕ) (done : List Done) : Type 0 where
-  pub only : All (λ item. IsPlace input (place_of item)) done
-  pub each : (p : Place) → IsPlace input p → count_by (λ q. q.caller == p.caller && q.index == p.index) (places_of done)
+  pub only : All (λ item. IsPlace input (place_of_item item)) done
+  pub each : (p : Place) → IsPlace input p → count_by (λ q. q.caller == p.caller && q.index == p.index) (places_of_items done)
       ≡ h p.caller + (if p.caller == c && nat_lt p.index i then 1 else 0)
   pub rising : AllPairs (λ x y. x.caller ≡ y.caller → x.index < y.index) done
   pub among : All (λ item. h item.caller ≡ 0 → (item.caller ≡ c) × (item.index < i)) done

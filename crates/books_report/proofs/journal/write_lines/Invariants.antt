@@ -4,7 +4,7 @@ use Rattle.std.specs.Slice.Iter.{iter_rest}
 use Rattle.std.specs.String.{string_bytes}
 use Rattle.script_reader.specs.Journal.{IsPlace}
 use Rattle.books_report.specs.Output.{journal_lines}
-use Rattle.books_report.specs.Lines.{lent, place_of, scripts_of}
+use Rattle.books_report.specs.Lines.{lent, place_of_line, scripts_of}
 use Rattle.books_report.proofs.journal.write_lines.Given as goal
 
 -- the text so far and the lines that are left are the whole
@@ -12,7 +12,7 @@ abbrev pub invariant-loop-line : goal.invariant-loop-line
 invariant-loop-line l = record {
   left : l.serial + length (iter_rest (zip_first l.line-iterator)) ≡ length l.lines + 1;
   beside : length (iter_rest (zip_first l.line-iterator)) ≡ length (iter_rest (zip_second l.line-iterator));
-  places : All (λ x. IsPlace l.input (place_of x)) (iter_rest (zip_first l.line-iterator));
+  places : All (λ x. IsPlace l.input (place_of_line x)) (iter_rest (zip_first l.line-iterator));
   text : string_bytes l.text
       ++ journal_lines l.input l.serial (scripts_of (iter_rest (zip_first l.line-iterator)) (lent (iter_rest (zip_second l.line-iterator))))
       ≡ string_bytes l.fn.text ++ journal_lines l.input 1 (scripts_of l.lines (lent l.replies));

@@ -1,7 +1,7 @@
 use Rattle.std.proofs.Common.{All, List, map, ap, ◌∙◌, subst, sym}
 use Rattle.std.proofs.lemmas.Result.{IfOk-weaker}
 use Rattle.script_reader.specs.Journal.{IsPlace}
-use Rattle.books_report.specs.Lines.{lent, place_of}
+use Rattle.books_report.specs.Lines.{lent, place_of_line}
 use Rattle.books_report.specs.declared.line.Line.{Line}
 use Rattle.worker_pool.specs.declared.done.Done.{Done}
 use Rattle.twoplsf.specs.Day.{line_of}
@@ -12,7 +12,7 @@ pub journal_text-requires-clause-places : goal.journal_text-requires-clause-plac
 journal_text-requires-clause-places c =
     let input = c.args.input.now in
     let lines_are = c.deref-3.ensures.value ∙ c.in_ok-lines.ensures ∙ ap (map line_of) c.deref.ensures.value in
-    subst (λ (l : List Line). All (λ (x : Line). IsPlace input (place_of x)) l) (sym lines_are)
+    subst (λ (l : List Line). All (λ (x : Line). IsPlace input (place_of_line x)) l) (sym lines_are)
     (lines_places input c.args.workers c.args.day.now c.requires.day)
 
 pub returns : goal.returns

@@ -5,7 +5,7 @@ use Rattle.txn_alloc.specs.FreeLists.{block_at}
 use Rattle.txn_words.proofs.Looks.{looks_none, looks_map, looks_grow, looks_each, looks_from}
 use Rattle.txn_words.proofs.CallLaws.{goes, goes_then, goes_as}
 use Rattle.txn_tree_map.specs.Searches.{HasTop, IsNamed, IsEnd, IsLink, IsPlace, IsPlaceOrKey}
-use Rattle.txn_tree_map.specs.Sums.{IsNear, IsNearest}
+use Rattle.txn_tree_map.specs.Sums.{IsNear, IsFirstFrom}
 use Rattle.txn_tree_map.proofs.Places.{at_tree}
 use Rattle.txn_tree_map.proofs.Nearest.{near_none, near_top, near_end, near_all, near_down}
 use Rattle.txn_tree_map.proofs.Links.{near_place, near_near}
@@ -40,7 +40,7 @@ returns-in-None g c =
     let on = c.in_ok-look.ensures.goes_on in
     record {
       nearest =
-          looks_map _ _ _ (IsLink m) _ _ (IsNearest m c.args.least c.loop.best)
+          looks_map _ _ _ (IsLink m) _ _ (IsFirstFrom m c.args.least c.loop.best)
           (λ s h. near_end m c.args.least s c.loop.best c.loop.place c.loop.counter h.0 h.1)
           (looks_grow _ _ _ (IsLink m) _ _ (IsPlace c.loop.place) _ (IsEnd c.loop.place)
           (λ s p q. near_place m c.args.least s c.loop.best c.loop.place c.loop.counter p) i.looks
@@ -80,7 +80,7 @@ returns g c =
     let m = c.args.map.now in
     let i = c.loop.invariant in
     record {
-      nearest = looks_map _ _ _ (IsLink m) _ _ (IsNearest m c.args.least c.loop.best)
+      nearest = looks_map _ _ _ (IsLink m) _ _ (IsFirstFrom m c.args.least c.loop.best)
           (λ s h. near_all m c.args.least s c.loop.best c.loop.place c.loop.counter (omega (arith, c.loop-test.false)) h) c.loop.invariant.looks;
       goes_on = goes_as (goes i.shape i.origin i.looks.begins i.stop i.sound) i.stop;
     }
