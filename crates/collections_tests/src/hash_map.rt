@@ -44,7 +44,8 @@ enum Call {
 fn is_answered<W: Words>(map: &ChainMap, w: &mut W, call: &Call) -> Result<bool, Stop>
     requires ready { IsReady W.Words w.old }
     requires order { InEachState W.Words W.Shape.Shape w.old (HasMapApart (chain_part map.now)) }
-    ensures order { OnOk result (InEachState W.Words W.Shape.Shape w.new (HasMapApart (chain_part map.now))) }
+    ensures order { OnOk result
+        (InEachState W.Words W.Shape.Shape w.new (HasMapApart (chain_part map.now))) }
     ensures goes_on { GoesOn W.Words w.old w.new result }
 {
     Ok(match *call {
@@ -69,7 +70,13 @@ fn first_wrong<W: Words>(map: &ChainMap, w: &mut W, calls: &[Call]) -> Result<Op
 
 // The words of a map with no entry: 0 all, but for two that say which blocks are free.
 fn empty_words(alloc: Global) -> Result<Vec<u64>, AllocError>
-    ensures good { IfOk result (λ words. IsGood 285 (HasMapApart (chain_part (record { buckets = 17; arena = record { heads = 1; first = 277; blocks = 2 } }))) words.items) }
+    ensures good { IfOk result
+        (λ words.
+        IsGood 285
+        (HasMapApart
+        (chain_part
+        (record { buckets = 17; arena = record { heads = 1; first = 277; blocks = 2 } })))
+        words.items) }
 {
     let mut words = vec![in alloc; 0u64; 285]?;
     words[1] = 1;

@@ -159,7 +159,8 @@ enum ChainCall {
 fn chains_answer<W: Words>(w: &mut W, chains: &ChainMap, call: &ChainCall) -> Result<bool, Stop>
     requires ready { IsReady W.Words w.old }
     requires order { InEachState W.Words W.Shape.Shape w.old (HasMapApart (chain_part chains.now)) }
-    ensures order { OnOk result (InEachState W.Words W.Shape.Shape w.new (HasMapApart (chain_part chains.now))) }
+    ensures order { OnOk result
+        (InEachState W.Words W.Shape.Shape w.new (HasMapApart (chain_part chains.now))) }
     ensures goes_on { GoesOn W.Words w.old w.new result }
 {
     Ok(match *call {
@@ -213,7 +214,8 @@ fn is_put<W: Words>(
 ) -> Result<bool, Stop>
     requires ready { IsReady W.Words w.old }
     requires order { InEachState W.Words W.Shape.Shape w.old (HasMapApart (tree_part tree.now)) }
-    ensures order { OnOk result (InEachState W.Words W.Shape.Shape w.new (HasMapApart (tree_part tree.now))) }
+    ensures order { OnOk result
+        (InEachState W.Words W.Shape.Shape w.new (HasMapApart (tree_part tree.now))) }
     ensures goes_on { GoesOn W.Words w.old w.new result }
 {
     let put = tree.insert(w, key, value)?;
@@ -224,7 +226,8 @@ fn is_put<W: Words>(
 fn two_are_put<W: Words>(w: &mut W) -> Result<bool, Stop>
     requires ready { IsReady W.Words w.old }
     requires order { InEachState W.Words W.Shape.Shape w.old (HasMapApart (tree_part TREE)) }
-    ensures order { OnOk result (InEachState W.Words W.Shape.Shape w.new (HasMapApart (tree_part TREE))) }
+    ensures order { OnOk result
+        (InEachState W.Words W.Shape.Shape w.new (HasMapApart (tree_part TREE))) }
     ensures goes_on { GoesOn W.Words w.old w.new result }
 {
     if !is_put(w, &TREE, 7, 70, Put::New)? {
@@ -243,7 +246,8 @@ fn two_are_put<W: Words>(w: &mut W) -> Result<bool, Stop>
 fn sum_and_remove<W: Words>(w: &mut W, tree: &TreeMap) -> Result<(u128, Option<u64>), Stop>
     requires ready { IsReady W.Words w.old }
     requires order { InEachState W.Words W.Shape.Shape w.old (HasMapApart (tree_part tree.now)) }
-    ensures order { OnOk result (InEachState W.Words W.Shape.Shape w.new (HasFreeBlocks tree.now.arena)) }
+    ensures order { OnOk result
+        (InEachState W.Words W.Shape.Shape w.new (HasFreeBlocks tree.now.arena)) }
     ensures goes_on { GoesOn W.Words w.old w.new result }
 {
     let total = tree.sum_range(w, 1, 9)?;

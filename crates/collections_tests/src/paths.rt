@@ -62,7 +62,8 @@ fn put_all<W: Words>(w: &mut W, map: &TreeMap, spacing: u32) -> Result<bool, Sto
     requires ready { IsReady W.Words w.old }
     requires order { InEachState W.Words W.Shape.Shape w.old (HasMapApart (tree_part map.now)) }
     ensures ready { OnOk result (IsReady W.Words w.new) }
-    ensures order { OnOk result (InEachState W.Words W.Shape.Shape w.new (HasMapApart (tree_part map.now))) }
+    ensures order { OnOk result
+        (InEachState W.Words W.Shape.Shape w.new (HasMapApart (tree_part map.now))) }
 {
     for number in 1u32..601 {
         let key = u64::from(number) * u64::from(spacing);
@@ -82,7 +83,8 @@ fn first_wrong<W: Words>(
     requires ready { IsReady W.Words w.old }
     requires order { InEachState W.Words W.Shape.Shape w.old (HasMap (tree_part map.now)) }
     ensures ready { OnOk result (IsReady W.Words w.new) }
-    ensures order { OnOk result (InEachState W.Words W.Shape.Shape w.new (HasMap (tree_part map.now))) }
+    ensures order { OnOk result
+        (InEachState W.Words W.Shape.Shape w.new (HasMap (tree_part map.now))) }
 {
     for (number, &(low, high, sum)) in sums.iter().enumerate() {
         if map.sum_range(w, low, high)? != sum {

@@ -74,7 +74,8 @@ fn first_wrong<W: Words>(ring: &Ring, w: &mut W, calls: &[Call]) -> Result<Optio
 
 // 285 words that are 0, but for two beside the ring.
 fn marked_words(alloc: Global) -> Result<Vec<u64>, AllocError>
-    ensures good { IfOk result (λ words. IsGood 285 (IsInOrder (record { at = 273; capacity = 1 })) words.items) }
+    ensures good { IfOk result
+        (λ words. IsGood 285 (IsInOrder (record { at = 273; capacity = 1 })) words.items) }
 {
     let mut words = vec![in alloc; 0u64; 285]?;
     words[1] = 1;

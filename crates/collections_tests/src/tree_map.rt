@@ -48,7 +48,8 @@ enum Call {
 fn is_answered<W: Words>(map: &TreeMap, w: &mut W, call: &Call) -> Result<bool, Stop>
     requires ready { IsReady W.Words w.old }
     requires order { InEachState W.Words W.Shape.Shape w.old (HasMapApart (tree_part map.now)) }
-    ensures order { OnOk result (InEachState W.Words W.Shape.Shape w.new (HasMapApart (tree_part map.now))) }
+    ensures order { OnOk result
+        (InEachState W.Words W.Shape.Shape w.new (HasMapApart (tree_part map.now))) }
     ensures goes_on { GoesOn W.Words w.old w.new result }
 {
     Ok(match *call {
@@ -65,7 +66,8 @@ fn first_wrong<W: Words>(map: &TreeMap, w: &mut W, calls: &[Call]) -> Result<Opt
     requires ready { IsReady W.Words w.old }
     requires order { InEachState W.Words W.Shape.Shape w.old (HasMapApart (tree_part map.now)) }
     ensures ready { OnOk result (IsReady W.Words w.new) }
-    ensures order { OnOk result (InEachState W.Words W.Shape.Shape w.new (HasMapApart (tree_part map.now))) }
+    ensures order { OnOk result
+        (InEachState W.Words W.Shape.Shape w.new (HasMapApart (tree_part map.now))) }
 {
     for (number, call) in calls.iter().enumerate() {
         if !is_answered(map, w, call)? {
@@ -90,7 +92,12 @@ fn one_is_free<W: Words>(w: &mut W, arena: &Arena) -> Result<bool, Stop>
 
 // The words of a map with no entry: 0 all, but for two that say which blocks are free.
 fn empty_words(alloc: Global) -> Result<Vec<u64>, AllocError>
-    ensures good { IfOk result (λ words. IsGood 285 (λ w. (map : HasMapApart (tree_part (record { root = 0; arena = record { heads = 1; first = 277; blocks = 2 } })) w) × (map.entries ≡ empty)) words.items) }
+    ensures good { IfOk result
+        (λ words.
+        IsGood 285
+        (λ w. (map : HasMapApart
+        (tree_part (record { root = 0; arena = record { heads = 1; first = 277; blocks = 2 } })) w)
+        × (map.entries ≡ empty)) words.items) }
 {
     let mut words = vec![in alloc; 0u64; 285]?;
     words[1] = 1;

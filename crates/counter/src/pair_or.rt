@@ -21,7 +21,8 @@ pub struct AddPairOr {
 fn add_fitting<W: Words>(w: &mut W, by: u64) -> Result<bool, Stop>
     requires ready { IsReady W.Words w.old }
     requires within { 0 < W.Shape.word_count (W.shape w.old) }
-    ensures added { IfOk result (λ fits. LeadsTo W.Words W.Shape.Shape w.old w.new (AddsWhereFits by fits)) }
+    ensures added { IfOk result
+        (λ fits. LeadsTo W.Words W.Shape.Shape w.old w.new (AddsWhereFits by fits)) }
     ensures goes_on { GoesOn W.Words w.old w.new result }
 {
     let v = w.read(0)?;
@@ -36,7 +37,8 @@ fn add_fitting<W: Words>(w: &mut W, by: u64) -> Result<bool, Stop>
 fn add_pair<W: Words>(w: &mut W, first: u64, second: u64) -> Result<bool, Stop>
     requires ready { IsReady W.Words w.old }
     requires within { 0 < W.Shape.word_count (W.shape w.old) }
-    ensures added { IfOk result (λ fits. LeadsTo W.Words W.Shape.Shape w.old w.new (AddsWhereFits (first + second) fits)) }
+    ensures added { IfOk result
+        (λ fits. LeadsTo W.Words W.Shape.Shape w.old w.new (AddsWhereFits (first + second) fits)) }
     ensures goes_on { GoesOn W.Words w.old w.new result }
 {
     let before = w.mark();

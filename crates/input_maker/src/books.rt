@@ -90,7 +90,8 @@ fn write_positions(text: &mut String) -> Result<(), AllocError>
 
 /// Appends the lines of the opening books.
 pub(crate) fn write_opening(text: &mut String) -> Result<(), AllocError>
-    ensures { OnOk result (string_bytes text.new ≡ string_bytes text.old ++ books_lines made_books) }
+    ensures { OnOk result
+        (string_bytes text.new ≡ string_bytes text.old ++ books_lines made_books) }
 {
     write_header(text, BLOCKS, INSTRUMENTS, RING)?;
     write_accounts(text)?;

@@ -30,9 +30,15 @@ pub(crate) fn open_three(
     alloc: Global,
 ) -> Result<(Desk<Triple>, Pass<Triple>, Pass<Triple>, Pass<Triple>), OutOfMemory>
     ensures words { IfOk result (λ opened. length opened.0.base ≡ 3) }
-    ensures zero { IfOk result (λ opened. opened.1 ≡ record { table = opened.0.table; view = opening_view opened.0.base 3 (0 ∷ []) [] }) }
-    ensures one { IfOk result (λ opened. opened.2 ≡ record { table = opened.0.table; view = opening_view opened.0.base 3 (1 ∷ []) [] }) }
-    ensures two { IfOk result (λ opened. opened.3 ≡ record { table = opened.0.table; view = opening_view opened.0.base 3 (2 ∷ []) [] }) }
+    ensures zero { IfOk result
+        (λ opened. opened.1
+        ≡ record { table = opened.0.table; view = opening_view opened.0.base 3 (0 ∷ []) [] }) }
+    ensures one { IfOk result
+        (λ opened. opened.2
+        ≡ record { table = opened.0.table; view = opening_view opened.0.base 3 (1 ∷ []) [] }) }
+    ensures two { IfOk result
+        (λ opened. opened.3
+        ≡ record { table = opened.0.table; view = opening_view opened.0.base 3 (2 ∷ []) [] }) }
 {
     let base = vec![in alloc; 0u64, 0, 0]?;
     let (desk, mut passes) = Desk::new(alloc, Triple, base, 3)?;
@@ -52,13 +58,16 @@ pub(crate) fn open_three(
 pub(crate) fn ask(desk: &Desk<Triple>, pass: &mut Pass<Triple>, a: u64) -> Tried
     requires desk { pass.old.table ≡ desk.now.table }
     requires words { (a < 3) × (length pass.old.view.base ≡ 3) }
-    requires fresh { (pass.old.view.phase ≡ Phase.Running) × (pass.old.view.undo ≡ []) × (pass.old.view.met ≡ []) }
+    requires fresh { (pass.old.view.phase ≡ Phase.Running) × (pass.old.view.undo ≡ [])
+        × (pass.old.view.met ≡ []) }
     ensures desk { (pass.new.table ≡ desk.now.table) × (length pass.new.view.base ≡ 3) }
     ensures rest { (pass.new.view.undo ≡ []) × (pass.new.view.met ≡ []) }
     ensures granted { result ≡ Tried.Granted
-        → (pass.new.view.phase ≡ Phase.Running) × (pass.new.view.abandoned ≡ pass.old.view.abandoned) }
+        → (pass.new.view.phase ≡ Phase.Running)
+        × (pass.new.view.abandoned ≡ pass.old.view.abandoned) }
     ensures waits { (j : ℕ) → result ≡ Tried.Wait j
-        → (pass.new.view.phase ≡ Phase.Running) × (pass.new.view.abandoned ≡ pass.old.view.abandoned) }
+        → (pass.new.view.phase ≡ Phase.Running)
+        × (pass.new.view.abandoned ≡ pass.old.view.abandoned) }
     ensures yields { (cause : Cause) → result ≡ Tried.Yield cause
         → (pass.new.view.phase ≡ Phase.Yielding) × (cause.seat < pass.new.view.seats)
         × (newest (past_causes pass.new.view) ≡ Some cause)
@@ -75,15 +84,28 @@ fn hold_own(
     two: &mut Pass<Triple>,
 ) -> bool
     requires words { length desk.now.base ≡ 3 }
-    requires zero { zero.old ≡ record { table = desk.now.table; view = opening_view desk.now.base 3 (0 ∷ []) [] } }
-    requires one { one.old ≡ record { table = desk.now.table; view = opening_view desk.now.base 3 (1 ∷ []) [] } }
-    requires two { two.old ≡ record { table = desk.now.table; view = opening_view desk.now.base 3 (2 ∷ []) [] } }
+    requires zero { zero.old
+        ≡ record { table = desk.now.table; view = opening_view desk.now.base 3 (0 ∷ []) [] } }
+    requires one { one.old ≡ record {
+      table = desk.now.table;
+      view = opening_view desk.now.base 3
+          (1 ∷ []) [];
+    } }
+    requires two { two.old ≡ record {
+      table = desk.now.table;
+      view = opening_view desk.now.base 3
+          (2 ∷ []) [];
+    } }
     ensures zero { (zero.new.table ≡ desk.now.table) × (length zero.new.view.base ≡ 3) }
     ensures one { (one.new.table ≡ desk.now.table) × (length one.new.view.base ≡ 3) }
     ensures two { (two.new.table ≡ desk.now.table) × (length two.new.view.base ≡ 3) }
-    ensures run { IsTrue result → (zero.new.view.phase ≡ Phase.Running) × (one.new.view.phase ≡ Phase.Running) × (two.new.view.phase ≡ Phase.Running) }
-    ensures undone { IsTrue result → (zero.new.view.undo ≡ []) × (one.new.view.undo ≡ []) × (two.new.view.undo ≡ []) }
-    ensures judged { IsTrue result → (zero.new.view.met ≡ []) × (one.new.view.met ≡ []) × (two.new.view.met ≡ []) }
+    ensures run { IsTrue result
+        → (zero.new.view.phase ≡ Phase.Running) × (one.new.view.phase ≡ Phase.Running)
+        × (two.new.view.phase ≡ Phase.Running) }
+    ensures undone { IsTrue result
+        → (zero.new.view.undo ≡ []) × (one.new.view.undo ≡ []) × (two.new.view.undo ≡ []) }
+    ensures judged { IsTrue result
+        → (zero.new.view.met ≡ []) × (one.new.view.met ≡ []) × (two.new.view.met ≡ []) }
     ensures fresh { IsTrue result → two.new.view.abandoned ≡ [] }
 {
     let _ = desk.begin(zero);
@@ -101,7 +123,8 @@ fn hold_own(
 // Asks for word 2: for whom the call waits, and its timestamp then.
 pub(crate) fn wait_for_third(desk: &Desk<Triple>, pass: &mut Pass<Triple>) -> Option<(u32, u64)>
     requires desk { (pass.old.table ≡ desk.now.table) × (length pass.old.view.base ≡ 3) }
-    requires fresh { (pass.old.view.phase ≡ Phase.Running) × (pass.old.view.undo ≡ []) × (pass.old.view.met ≡ []) }
+    requires fresh { (pass.old.view.phase ≡ Phase.Running) × (pass.old.view.undo ≡ [])
+        × (pass.old.view.met ≡ []) }
     ensures desk { (pass.new.table ≡ desk.now.table) × (length pass.new.view.base ≡ 3) }
     ensures runs { OnSome result (pass.new.view.phase ≡ Phase.Running) }
     ensures rest { (pass.new.view.undo ≡ []) × (pass.new.view.met ≡ []) }
@@ -116,11 +139,14 @@ pub(crate) fn wait_for_third(desk: &Desk<Triple>, pass: &mut Pass<Triple>) -> Op
 fn give_way(desk: &Desk<Triple>, pass: &mut Pass<Triple>, a: u64) -> Option<(Cause, u64)>
     requires desk { (pass.old.table ≡ desk.now.table) × (length pass.old.view.base ≡ 3) }
     requires word { a < 3 }
-    requires fresh { (pass.old.view.phase ≡ Phase.Running) × (pass.old.view.undo ≡ []) × (pass.old.view.met ≡ []) }
+    requires fresh { (pass.old.view.phase ≡ Phase.Running) × (pass.old.view.undo ≡ [])
+        × (pass.old.view.met ≡ []) }
     ensures desk { (pass.new.table ≡ desk.now.table) × (length pass.new.view.base ≡ 3) }
-    ensures yields { IfSome result (λ gave. (pass.new.view.phase ≡ Phase.Yielding) × (gave.0.seat < pass.new.view.seats)
+    ensures yields { IfSome result
+        (λ gave. (pass.new.view.phase ≡ Phase.Yielding) × (gave.0.seat < pass.new.view.seats)
         × (newest (past_causes pass.new.view) ≡ Some gave.0)) }
-    ensures more { OnSome result (length pass.new.view.abandoned ≡ length pass.old.view.abandoned + 1) }
+    ensures more { OnSome result
+        (length pass.new.view.abandoned ≡ length pass.old.view.abandoned + 1) }
     ensures rest { (pass.new.view.undo ≡ []) × (pass.new.view.met ≡ []) }
 {
     let Tried::Yield(cause) = ask(desk, pass, a) else {
@@ -191,14 +217,18 @@ fn give_way_again(
 ) -> Option<(Cause, u64)>
     requires desk { (pass.old.table ≡ desk.now.table) × (length pass.old.view.base ≡ 3) }
     requires word { a < 3 }
-    requires yields { (pass.old.view.phase ≡ Phase.Yielding) × (pass.old.view.undo ≡ []) × (pass.old.view.met ≡ []) }
-    requires cause { (cause.seat < pass.old.view.seats) × (newest (past_causes pass.old.view) ≡ Some cause) }
+    requires yields { (pass.old.view.phase ≡ Phase.Yielding) × (pass.old.view.undo ≡ [])
+        × (pass.old.view.met ≡ []) }
+    requires cause { (cause.seat < pass.old.view.seats)
+        × (newest (past_causes pass.old.view) ≡ Some cause) }
     requires no_claim { (k : ℕ) → ¬ HasClaim pass.old.view k }
     requires no_bit { (k : ℕ) → ¬ HasBit pass.old.view k }
     ensures desk { (pass.new.table ≡ desk.now.table) × (length pass.new.view.base ≡ 3) }
-    ensures yields { IfSome result (λ gave. (pass.new.view.phase ≡ Phase.Yielding) × (gave.0.seat < pass.new.view.seats)
+    ensures yields { IfSome result
+        (λ gave. (pass.new.view.phase ≡ Phase.Yielding) × (gave.0.seat < pass.new.view.seats)
         × (newest (past_causes pass.new.view) ≡ Some gave.0)) }
-    ensures more { OnSome result (length pass.new.view.abandoned ≡ length pass.old.view.abandoned + 1) }
+    ensures more { OnSome result
+        (length pass.new.view.abandoned ≡ length pass.old.view.abandoned + 1) }
     ensures undone { OnSome result (pass.new.view.undo ≡ []) }
     ensures no_claim { OnSome result ((k : ℕ) → ¬ HasClaim pass.new.view k) }
     ensures no_bit { OnSome result ((k : ℕ) → ¬ HasBit pass.new.view k) }
@@ -217,11 +247,13 @@ fn give_way_again(
 fn commit_again(desk: &Desk<Triple>, pass: &mut Pass<Triple>, cause: Cause) -> bool
     requires desk { (pass.old.table ≡ desk.now.table) × (length pass.old.view.base ≡ 3) }
     requires yields { (pass.old.view.phase ≡ Phase.Yielding) × (pass.old.view.undo ≡ []) }
-    requires cause { (cause.seat < pass.old.view.seats) × (newest (past_causes pass.old.view) ≡ Some cause) }
+    requires cause { (cause.seat < pass.old.view.seats)
+        × (newest (past_causes pass.old.view) ≡ Some cause) }
     requires no_claim { (k : ℕ) → ¬ HasClaim pass.old.view k }
     requires no_bit { (k : ℕ) → ¬ HasBit pass.old.view k }
     ensures entry { IsTrue result → (earlier : List Entry) × (entry : Entry)
-        × (pass.new.view.seen ≡ earlier ++ entry ∷ []) × (length entry.abandoned ≡ length pass.old.view.abandoned) }
+        × (pass.new.view.seen ≡ earlier ++ entry ∷ [])
+        × (length entry.abandoned ≡ length pass.old.view.abandoned) }
 {
     if !desk.gone(pass, cause.seat, cause.stamp) {
         return false;
@@ -239,16 +271,27 @@ fn ask_for_others(
     two: &mut Pass<Triple>,
 ) -> Option<((u32, u64), (u32, u64), (Cause, u64))>
     requires words { length desk.now.base ≡ 3 }
-    requires zero { zero.old ≡ record { table = desk.now.table; view = opening_view desk.now.base 3 (0 ∷ []) [] } }
-    requires one { one.old ≡ record { table = desk.now.table; view = opening_view desk.now.base 3 (1 ∷ []) [] } }
-    requires two { two.old ≡ record { table = desk.now.table; view = opening_view desk.now.base 3 (2 ∷ []) [] } }
-    ensures zero { OnSome result ((zero.new.table ≡ desk.now.table) × (length zero.new.view.base ≡ 3)
+    requires zero { zero.old
+        ≡ record { table = desk.now.table; view = opening_view desk.now.base 3 (0 ∷ []) [] } }
+    requires one { one.old ≡ record {
+      table = desk.now.table;
+      view = opening_view desk.now.base 3
+          (1 ∷ []) [];
+    } }
+    requires two { two.old ≡ record {
+      table = desk.now.table;
+      view = opening_view desk.now.base 3
+          (2 ∷ []) [];
+    } }
+    ensures zero { OnSome result
+        ((zero.new.table ≡ desk.now.table) × (length zero.new.view.base ≡ 3)
         × (zero.new.view.phase ≡ Phase.Running) × (zero.new.view.undo ≡ [])) }
     ensures one { OnSome result ((one.new.table ≡ desk.now.table) × (length one.new.view.base ≡ 3)
         × (one.new.view.phase ≡ Phase.Running) × (one.new.view.undo ≡ [])) }
     ensures two { OnSome result ((two.new.table ≡ desk.now.table) × (length two.new.view.base ≡ 3)
         × (two.new.view.undo ≡ []) × (two.new.view.met ≡ [])) }
-    ensures yields { IfSome result (λ met. (two.new.view.phase ≡ Phase.Yielding) × (met.2.0.seat < two.new.view.seats)
+    ensures yields { IfSome result
+        (λ met. (two.new.view.phase ≡ Phase.Yielding) × (met.2.0.seat < two.new.view.seats)
         × (newest (past_causes two.new.view) ≡ Some met.2.0)) }
     ensures once { OnSome result (length two.new.view.abandoned ≡ 1) }
 {
@@ -275,8 +318,10 @@ fn end_in_turn(
     requires one { (one.old.table ≡ desk.now.table) × (length one.old.view.base ≡ 3)
         × (one.old.view.phase ≡ Phase.Running) × (one.old.view.undo ≡ []) }
     requires two { (two.old.table ≡ desk.now.table) × (length two.old.view.base ≡ 3)
-        × (two.old.view.phase ≡ Phase.Yielding) × (two.old.view.undo ≡ []) × (two.old.view.met ≡ []) }
-    requires cause { (cause.seat < two.old.view.seats) × (newest (past_causes two.old.view) ≡ Some cause) }
+        × (two.old.view.phase ≡ Phase.Yielding) × (two.old.view.undo ≡ [])
+        × (two.old.view.met ≡ []) }
+    requires cause { (cause.seat < two.old.view.seats)
+        × (newest (past_causes two.old.view) ≡ Some cause) }
     requires once { length two.old.view.abandoned ≡ 1 }
     ensures entry { OnSome result ((earlier : List Entry) × (entry : Entry)
         × (two.new.view.seen ≡ earlier ++ entry ∷ []) × (length entry.abandoned ≡ 2)) }
@@ -305,9 +350,18 @@ fn reach_bound(
     two: &mut Pass<Triple>,
 ) -> Option<((u32, u64), (u32, u64), (Cause, u64), (Cause, u64))>
     requires words { length desk.now.base ≡ 3 }
-    requires zero { zero.old ≡ record { table = desk.now.table; view = opening_view desk.now.base 3 (0 ∷ []) [] } }
-    requires one { one.old ≡ record { table = desk.now.table; view = opening_view desk.now.base 3 (1 ∷ []) [] } }
-    requires two { two.old ≡ record { table = desk.now.table; view = opening_view desk.now.base 3 (2 ∷ []) [] } }
+    requires zero { zero.old
+        ≡ record { table = desk.now.table; view = opening_view desk.now.base 3 (0 ∷ []) [] } }
+    requires one { one.old ≡ record {
+      table = desk.now.table;
+      view = opening_view desk.now.base 3
+          (1 ∷ []) [];
+    } }
+    requires two { two.old ≡ record {
+      table = desk.now.table;
+      view = opening_view desk.now.base 3
+          (2 ∷ []) [];
+    } }
     ensures entry { OnSome result ((earlier : List Entry) × (entry : Entry)
         × (two.new.view.seen ≡ earlier ++ entry ∷ []) × (length entry.abandoned ≡ 2)) }
 {

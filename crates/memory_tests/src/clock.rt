@@ -68,7 +68,8 @@ fn claim_or_meet(desk: &Desk<Pair>, pass: &mut Pass<Pair>, a: u64) -> Option<u32
     requires phase { pass.old.view.phase ≡ Phase.Running }
     ensures desk { pass.new.table ≡ desk.now.table }
     ensures call { SameCall pass.old.view pass.new.view }
-    ensures met { IfSome result (λ other. (other < pass.old.view.seats) × (has other pass.new.view.met ≡ true)) }
+    ensures met { IfSome result
+        (λ other. (other < pass.old.view.seats) × (has other pass.new.view.met ≡ true)) }
 {
     match desk.claim(pass, a) {
         Claimed::Pending => None,
@@ -85,7 +86,8 @@ fn judge_met(desk: &Desk<Pair>, pass: &mut Pass<Pair>, other: u32) -> Turn
     ensures undone { pass.new.view.undo ≡ pass.old.view.undo }
     ensures who { pass.new.view.who ≡ pass.old.view.who }
     ensures waits { result ≡ Turn.Waits
-        → (pass.new.view.phase ≡ Phase.Running) × (pass.new.view.abandoned ≡ pass.old.view.abandoned) }
+        → (pass.new.view.phase ≡ Phase.Running)
+        × (pass.new.view.abandoned ≡ pass.old.view.abandoned) }
     ensures yields { (other stamp : ℕ) → result ≡ Turn.Yields other stamp
         → (pass.new.view.phase ≡ Phase.Yielding) × (other < pass.new.view.seats)
         × (newest (past_causes pass.new.view) ≡ Some (record { seat = other; stamp = stamp }))
@@ -107,7 +109,8 @@ fn claim_or_judge(desk: &Desk<Pair>, pass: &mut Pass<Pair>, a: u64) -> Turn
     ensures undone { pass.new.view.undo ≡ [] }
     ensures who { pass.new.view.who ≡ pass.old.view.who }
     ensures waits { result ≡ Turn.Waits
-        → (pass.new.view.phase ≡ Phase.Running) × (pass.new.view.abandoned ≡ pass.old.view.abandoned) }
+        → (pass.new.view.phase ≡ Phase.Running)
+        × (pass.new.view.abandoned ≡ pass.old.view.abandoned) }
     ensures yields { (other stamp : ℕ) → result ≡ Turn.Yields other stamp
         → (pass.new.view.phase ≡ Phase.Yielding) × (other < pass.new.view.seats)
         × (newest (past_causes pass.new.view) ≡ Some (record { seat = other; stamp = stamp }))
@@ -125,7 +128,9 @@ fn release(desk: &Desk<Pair>, pass: &mut Pass<Pair>) -> bool
     requires yields { (pass.old.view.phase ≡ Phase.Yielding) × (pass.old.view.undo ≡ []) }
     ensures desk { (pass.new.table ≡ desk.now.table) × (length pass.new.view.base ≡ 2) }
     ensures yields { (pass.new.view.phase ≡ Phase.Yielding) × (pass.new.view.undo ≡ []) }
-    ensures rest { (pass.new.view.who ≡ pass.old.view.who) × (pass.new.view.seats ≡ pass.old.view.seats) × (pass.new.view.abandoned ≡ pass.old.view.abandoned) }
+    ensures rest { (pass.new.view.who ≡ pass.old.view.who)
+        × (pass.new.view.seats ≡ pass.old.view.seats)
+        × (pass.new.view.abandoned ≡ pass.old.view.abandoned) }
     ensures no_claim { IsTrue result → (k : ℕ) → ¬ HasClaim pass.new.view k }
     ensures no_bit { IsTrue result → (k : ℕ) → ¬ HasBit pass.new.view k }
 {
@@ -171,7 +176,8 @@ fn commit_again(
 ) -> Option<u64>
     requires desk { (pass.old.table ≡ desk.now.table) × (length pass.old.view.base ≡ 2) }
     requires yields { (pass.old.view.phase ≡ Phase.Yielding) × (pass.old.view.undo ≡ []) }
-    requires cause { (other < pass.old.view.seats) × (newest (past_causes pass.old.view) ≡ Some (record { seat = other; stamp = stamp })) }
+    requires cause { (other < pass.old.view.seats)
+        × (newest (past_causes pass.old.view) ≡ Some (record { seat = other; stamp = stamp })) }
     requires no_claim { (k : ℕ) → ¬ HasClaim pass.old.view k }
     requires no_bit { (k : ℕ) → ¬ HasBit pass.old.view k }
     requires restarts { length pass.old.view.abandoned ≡ restarts }
@@ -191,13 +197,22 @@ fn want_each_others(
     one: &mut Pass<Pair>,
 ) -> Option<(u32, u64)>
     requires words { length desk.now.base ≡ 2 }
-    requires zero { zero.old ≡ record { table = desk.now.table; view = opening_view desk.now.base 2 (0 ∷ []) [] } }
-    requires one { one.old ≡ record { table = desk.now.table; view = opening_view desk.now.base 2 (1 ∷ []) [] } }
+    requires zero { zero.old
+        ≡ record { table = desk.now.table; view = opening_view desk.now.base 2 (0 ∷ []) [] } }
+    requires one { one.old ≡ record {
+      table = desk.now.table;
+      view = opening_view desk.now.base 2
+          (1 ∷ []) [];
+    } }
     ensures zero { (zero.new.table ≡ desk.now.table) × (length zero.new.view.base ≡ 2) }
     ensures one { (one.new.table ≡ desk.now.table) × (length one.new.view.base ≡ 2) }
-    ensures waits { OnSome result ((zero.new.view.phase ≡ Phase.Running) × (zero.new.view.undo ≡ [])) }
-    ensures yields { IfSome result (λ cause. (one.new.view.phase ≡ Phase.Yielding) × (one.new.view.undo ≡ []) × (cause.0 < one.new.view.seats)
-        × (newest (past_causes one.new.view) ≡ Some (record { seat = cause.0; stamp = cause.1 })) × (length one.new.view.abandoned ≡ 1)) }
+    ensures waits { OnSome result
+        ((zero.new.view.phase ≡ Phase.Running) × (zero.new.view.undo ≡ [])) }
+    ensures yields { IfSome result
+        (λ cause. (one.new.view.phase ≡ Phase.Yielding) × (one.new.view.undo ≡ [])
+        × (cause.0 < one.new.view.seats)
+        × (newest (past_causes one.new.view) ≡ Some (record { seat = cause.0; stamp = cause.1 }))
+        × (length one.new.view.abandoned ≡ 1)) }
 {
     let _ = desk.begin(zero);
     let _ = desk.begin(one);
@@ -226,8 +241,10 @@ fn end_in_turn(
     requires zero { (zero.old.table ≡ desk.now.table) × (length zero.old.view.base ≡ 2) }
     requires runs { (zero.old.view.phase ≡ Phase.Running) × (zero.old.view.undo ≡ []) }
     requires one { (one.old.table ≡ desk.now.table) × (length one.old.view.base ≡ 2) }
-    requires yields { (one.old.view.phase ≡ Phase.Yielding) × (one.old.view.undo ≡ []) × (cause.0 < one.old.view.seats)
-        × (newest (past_causes one.old.view) ≡ Some (record { seat = cause.0; stamp = cause.1 })) × (length one.old.view.abandoned ≡ 1) }
+    requires yields { (one.old.view.phase ≡ Phase.Yielding) × (one.old.view.undo ≡ [])
+        × (cause.0 < one.old.view.seats)
+        × (newest (past_causes one.old.view) ≡ Some (record { seat = cause.0; stamp = cause.1 }))
+        × (length one.old.view.abandoned ≡ 1) }
     ensures entry { OnSome result ((earlier : List Entry) × (entry : Entry)
         × (one.new.view.seen ≡ earlier ++ entry ∷ []) × (length entry.abandoned ≡ 1)) }
 {
@@ -250,8 +267,13 @@ fn cross(
     one: &mut Pass<Pair>,
 ) -> Option<((u32, u64), (u64, u64), (u64, u64))>
     requires words { length desk.now.base ≡ 2 }
-    requires zero { zero.old ≡ record { table = desk.now.table; view = opening_view desk.now.base 2 (0 ∷ []) [] } }
-    requires one { one.old ≡ record { table = desk.now.table; view = opening_view desk.now.base 2 (1 ∷ []) [] } }
+    requires zero { zero.old
+        ≡ record { table = desk.now.table; view = opening_view desk.now.base 2 (0 ∷ []) [] } }
+    requires one { one.old ≡ record {
+      table = desk.now.table;
+      view = opening_view desk.now.base 2
+          (1 ∷ []) [];
+    } }
 {
     let cause = want_each_others(desk, zero, one)?;
     let stamps = (zero.stamp(), one.stamp());
@@ -272,9 +294,15 @@ fn open_three(
     alloc: Global,
 ) -> Result<(Desk<Pair>, Pass<Pair>, Pass<Pair>, Pass<Pair>), OutOfMemory>
     ensures words { IfOk result (λ opened. length opened.0.base ≡ 2) }
-    ensures zero { IfOk result (λ opened. opened.1 ≡ record { table = opened.0.table; view = opening_view opened.0.base 3 (0 ∷ []) [] }) }
-    ensures one { IfOk result (λ opened. opened.2 ≡ record { table = opened.0.table; view = opening_view opened.0.base 3 (1 ∷ []) [] }) }
-    ensures two { IfOk result (λ opened. opened.3 ≡ record { table = opened.0.table; view = opening_view opened.0.base 3 (2 ∷ []) [] }) }
+    ensures zero { IfOk result
+        (λ opened. opened.1
+        ≡ record { table = opened.0.table; view = opening_view opened.0.base 3 (0 ∷ []) [] }) }
+    ensures one { IfOk result
+        (λ opened. opened.2
+        ≡ record { table = opened.0.table; view = opening_view opened.0.base 3 (1 ∷ []) [] }) }
+    ensures two { IfOk result
+        (λ opened. opened.3
+        ≡ record { table = opened.0.table; view = opening_view opened.0.base 3 (2 ∷ []) [] }) }
 {
     let base = vec![in alloc; 0u64, 0]?;
     let (desk, mut passes) = Desk::new(alloc, Pair, base, 3)?;
@@ -298,14 +326,26 @@ fn meet_third(
     two: &mut Pass<Pair>,
 ) -> bool
     requires words { length desk.now.base ≡ 2 }
-    requires zero { zero.old ≡ record { table = desk.now.table; view = opening_view desk.now.base 3 (0 ∷ []) [] } }
-    requires one { one.old ≡ record { table = desk.now.table; view = opening_view desk.now.base 3 (1 ∷ []) [] } }
-    requires two { two.old ≡ record { table = desk.now.table; view = opening_view desk.now.base 3 (2 ∷ []) [] } }
+    requires zero { zero.old
+        ≡ record { table = desk.now.table; view = opening_view desk.now.base 3 (0 ∷ []) [] } }
+    requires one { one.old ≡ record {
+      table = desk.now.table;
+      view = opening_view desk.now.base 3
+          (1 ∷ []) [];
+    } }
+    requires two { two.old ≡ record {
+      table = desk.now.table;
+      view = opening_view desk.now.base 3
+          (2 ∷ []) [];
+    } }
     ensures zero { (zero.new.table ≡ desk.now.table) × (length zero.new.view.base ≡ 2) }
     ensures one { (one.new.table ≡ desk.now.table) × (length one.new.view.base ≡ 2) }
     ensures two { (two.new.table ≡ desk.now.table) × (length two.new.view.base ≡ 2) }
-    ensures run { IsTrue result → (zero.new.view.phase ≡ Phase.Running) × (one.new.view.phase ≡ Phase.Running) × (two.new.view.phase ≡ Phase.Running) }
-    ensures undone { (zero.new.view.undo ≡ []) × (one.new.view.undo ≡ []) × (two.new.view.undo ≡ []) }
+    ensures run { IsTrue result
+        → (zero.new.view.phase ≡ Phase.Running) × (one.new.view.phase ≡ Phase.Running)
+        × (two.new.view.phase ≡ Phase.Running) }
+    ensures undone { (zero.new.view.undo ≡ []) × (one.new.view.undo ≡ [])
+        × (two.new.view.undo ≡ []) }
     ensures fresh { two.new.view.abandoned ≡ [] }
 {
     let _ = desk.begin(zero);
@@ -334,9 +374,12 @@ fn give_way_to(
     ensures run { OnSome result (third.new.view.phase ≡ Phase.Yielding) }
     ensures undone { third.new.view.undo ≡ [] }
     ensures cause { IfSome result (λ cause. (cause.0 < third.new.view.seats)
-        × (newest (past_causes third.new.view) ≡ Some (record { seat = cause.0; stamp = cause.1 }))) }
-    ensures free { OnSome result (((k : ℕ) → ¬ HasClaim third.new.view k) × ((k : ℕ) → ¬ HasBit third.new.view k)) }
-    ensures more { OnSome result (length third.new.view.abandoned ≡ length third.old.view.abandoned + 1) }
+        × (newest (past_causes third.new.view)
+        ≡ Some (record { seat = cause.0; stamp = cause.1 }))) }
+    ensures free { OnSome result
+        (((k : ℕ) → ¬ HasClaim third.new.view k) × ((k : ℕ) → ¬ HasBit third.new.view k)) }
+    ensures more { OnSome result
+        (length third.new.view.abandoned ≡ length third.old.view.abandoned + 1) }
 {
     if !hold(desk, first, 1) {
         return None;
@@ -361,8 +404,10 @@ fn give_way_twice(
     requires zero { (zero.old.table ≡ desk.now.table) × (length zero.old.view.base ≡ 2) }
     requires one { (one.old.table ≡ desk.now.table) × (length one.old.view.base ≡ 2) }
     requires two { (two.old.table ≡ desk.now.table) × (length two.old.view.base ≡ 2) }
-    requires run { (zero.old.view.phase ≡ Phase.Running) × (one.old.view.phase ≡ Phase.Running) × (two.old.view.phase ≡ Phase.Running) }
-    requires undone { (zero.old.view.undo ≡ []) × (one.old.view.undo ≡ []) × (two.old.view.undo ≡ []) }
+    requires run { (zero.old.view.phase ≡ Phase.Running) × (one.old.view.phase ≡ Phase.Running)
+        × (two.old.view.phase ≡ Phase.Running) }
+    requires undone { (zero.old.view.undo ≡ []) × (one.old.view.undo ≡ [])
+        × (two.old.view.undo ≡ []) }
     requires fresh { two.old.view.abandoned ≡ [] }
     ensures entry { OnSome result ((earlier : List Entry) × (entry : Entry)
         × (two.new.view.seen ≡ earlier ++ entry ∷ []) × (length entry.abandoned ≡ 2)) }
@@ -384,9 +429,18 @@ fn restart_twice(
     two: &mut Pass<Pair>,
 ) -> Option<((u32, u64), (u32, u64), u64)>
     requires words { length desk.now.base ≡ 2 }
-    requires zero { zero.old ≡ record { table = desk.now.table; view = opening_view desk.now.base 3 (0 ∷ []) [] } }
-    requires one { one.old ≡ record { table = desk.now.table; view = opening_view desk.now.base 3 (1 ∷ []) [] } }
-    requires two { two.old ≡ record { table = desk.now.table; view = opening_view desk.now.base 3 (2 ∷ []) [] } }
+    requires zero { zero.old
+        ≡ record { table = desk.now.table; view = opening_view desk.now.base 3 (0 ∷ []) [] } }
+    requires one { one.old ≡ record {
+      table = desk.now.table;
+      view = opening_view desk.now.base 3
+          (1 ∷ []) [];
+    } }
+    requires two { two.old ≡ record {
+      table = desk.now.table;
+      view = opening_view desk.now.base 3
+          (2 ∷ []) [];
+    } }
 {
     if !meet_third(desk, zero, one, two) {
         return None;

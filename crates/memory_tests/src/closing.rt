@@ -123,8 +123,11 @@ fn a_table_is_closed_or_no_memory_is_found(rt: HostRuntime) {
 
 // A desk of two words with sixteen passes, of which the last stands apart.
 fn open_sixteen(alloc: Global) -> Result<(Desk<Pair>, Vec<Pass<Pair>>, Pass<Pair>), OutOfMemory>
-    ensures all { IfOk result (λ opened. AreAllPasses opened.0.table opened.0.seats (opened.1.items ++ opened.2 ∷ [])) }
-    ensures last { IfOk result (λ opened. (opened.2.table ≡ opened.0.table) × (opened.2.view.phase ≡ Phase.Idle) × (length opened.2.view.base ≡ 2)) }
+    ensures all { IfOk result
+        (λ opened. AreAllPasses opened.0.table opened.0.seats (opened.1.items ++ opened.2 ∷ [])) }
+    ensures last { IfOk result
+        (λ opened. (opened.2.table ≡ opened.0.table) × (opened.2.view.phase ≡ Phase.Idle)
+        × (length opened.2.view.base ≡ 2)) }
 {
     let base = vec![in alloc; 3u64, 4]?;
     let (desk, mut passes) = Desk::new(alloc, Pair, base, 16)?;

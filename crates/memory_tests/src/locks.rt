@@ -27,7 +27,9 @@ impl Shape for AnyWords {
 // A desk of 1,030 words, all 0, with one pass.
 fn open_one(alloc: Global) -> Result<(Desk<AnyWords>, Pass<AnyWords>), OutOfMemory>
     ensures words { IfOk result (λ opened. length opened.0.base ≡ 1030) }
-    ensures pass { IfOk result (λ opened. opened.1 ≡ record { table = opened.0.table; view = opening_view opened.0.base 1 (0 ∷ []) [] }) }
+    ensures pass { IfOk result
+        (λ opened. opened.1
+        ≡ record { table = opened.0.table; view = opening_view opened.0.base 1 (0 ∷ []) [] }) }
 {
     let base = vec![in alloc; 0u64; 1030]?;
     let (desk, mut passes) = Desk::new(alloc, AnyWords, base, 1)?;
@@ -40,8 +42,12 @@ fn open_one(alloc: Global) -> Result<(Desk<AnyWords>, Pass<AnyWords>), OutOfMemo
 // A desk of 1,030 words, all 0, with two passes.
 fn open_two(alloc: Global) -> Result<(Desk<AnyWords>, Pass<AnyWords>, Pass<AnyWords>), OutOfMemory>
     ensures words { IfOk result (λ opened. length opened.0.base ≡ 1030) }
-    ensures zero { IfOk result (λ opened. opened.1 ≡ record { table = opened.0.table; view = opening_view opened.0.base 2 (0 ∷ []) [] }) }
-    ensures one { IfOk result (λ opened. opened.2 ≡ record { table = opened.0.table; view = opening_view opened.0.base 2 (1 ∷ []) [] }) }
+    ensures zero { IfOk result
+        (λ opened. opened.1
+        ≡ record { table = opened.0.table; view = opening_view opened.0.base 2 (0 ∷ []) [] }) }
+    ensures one { IfOk result
+        (λ opened. opened.2
+        ≡ record { table = opened.0.table; view = opening_view opened.0.base 2 (1 ∷ []) [] }) }
 {
     let base = vec![in alloc; 0u64; 1030]?;
     let (desk, mut passes) = Desk::new(alloc, AnyWords, base, 2)?;
@@ -59,7 +65,8 @@ fn unshare_all<S: Shape>(desk: &Desk<S>, pass: &mut Pass<S>)
     requires desk { pass.old.table ≡ desk.now.table }
     requires undo { pass.old.view.undo ≡ [] }
     requires begun { pass.old.view.phase ≢ Phase.Idle }
-    ensures begun { (pass.new.table ≡ desk.now.table) × (pass.new.view.undo ≡ []) × (pass.new.view.phase ≢ Phase.Idle) }
+    ensures begun { (pass.new.table ≡ desk.now.table) × (pass.new.view.undo ≡ [])
+        × (pass.new.view.phase ≢ Phase.Idle) }
     ensures words { pass.new.view.base ≡ pass.old.view.base }
 {
     let mut from = 0;
@@ -77,7 +84,8 @@ fn unclaim_all<S: Shape>(desk: &Desk<S>, pass: &mut Pass<S>)
     requires desk { pass.old.table ≡ desk.now.table }
     requires undo { pass.old.view.undo ≡ [] }
     requires begun { pass.old.view.phase ≢ Phase.Idle }
-    ensures begun { (pass.new.table ≡ desk.now.table) × (pass.new.view.undo ≡ []) × (pass.new.view.phase ≢ Phase.Idle) }
+    ensures begun { (pass.new.table ≡ desk.now.table) × (pass.new.view.undo ≡ [])
+        × (pass.new.view.phase ≢ Phase.Idle) }
     ensures words { pass.new.view.base ≡ pass.old.view.base }
 {
     let mut from = 0;
@@ -93,7 +101,8 @@ fn unclaim_all<S: Shape>(desk: &Desk<S>, pass: &mut Pass<S>)
 // Begins the first call of a pass.
 fn begin(desk: &Desk<AnyWords>, pass: &mut Pass<AnyWords>) -> u32
     requires desk { pass.old.table ≡ desk.now.table }
-    requires fresh { (pass.old.view.phase ≡ Phase.Idle) × (pass.old.view.call ≡ 0) × (pass.old.view.undo ≡ []) }
+    requires fresh { (pass.old.view.phase ≡ Phase.Idle) × (pass.old.view.call ≡ 0)
+        × (pass.old.view.undo ≡ []) }
     ensures desk { pass.new.table ≡ desk.now.table }
     ensures begun { (pass.new.view.undo ≡ []) × (pass.new.view.phase ≢ Phase.Idle) }
     ensures words { pass.new.view.base ≡ pass.old.view.base }
@@ -284,16 +293,32 @@ fn visit_together<S: Shape + Send + Sync, R: Threads + Sync>(
     one: Pass<S>,
 ) -> ((Shared, Shared), (Shared, Shared))
     requires words { length desk.now.base ≡ 1030 }
-    requires zero { zero ≡ record { table = desk.now.table; view = opening_view desk.now.base 2 (0 ∷ []) [] } }
-    requires one { one ≡ record { table = desk.now.table; view = opening_view desk.now.base 2 (1 ∷ []) [] } }
+    requires zero { zero ≡ record {
+      table = desk.now.table;
+      view = opening_view desk.now.base 2
+          (0 ∷ []) [];
+    } }
+    requires one { one ≡ record {
+      table = desk.now.table;
+      view = opening_view desk.now.base 2
+          (1 ∷ []) [];
+    } }
 {
     thread::join(
         rt,
         move || -> (Shared, Shared)
-            requires { (zero ≡ record { table = desk.now.table; view = opening_view desk.now.base 2 (0 ∷ []) [] }) × (length desk.now.base ≡ 1030) }
+            requires { (zero ≡ record {
+              table = desk.now.table;
+              view = opening_view desk.now.base 2
+                  (0 ∷ []) [];
+            }) × (length desk.now.base ≡ 1030) }
         { visit(desk, zero, 5, 7) },
         move || -> (Shared, Shared)
-            requires { (one ≡ record { table = desk.now.table; view = opening_view desk.now.base 2 (1 ∷ []) [] }) × (length desk.now.base ≡ 1030) }
+            requires { (one ≡ record {
+              table = desk.now.table;
+              view = opening_view desk.now.base 2
+                  (1 ∷ []) [];
+            }) × (length desk.now.base ≡ 1030) }
         { visit(desk, one, 1029, 9) },
     )
 }

@@ -104,8 +104,16 @@ fn lead(
     gate: &Turns,
 ) -> Option<((u32, u64), (u32, u64))>
     requires words { length desk.now.base ≡ 3 }
-    requires zero { zero ≡ record { table = desk.now.table; view = opening_view desk.now.base 3 (0 ∷ []) [] } }
-    requires one { one ≡ record { table = desk.now.table; view = opening_view desk.now.base 3 (1 ∷ []) [] } }
+    requires zero { zero ≡ record {
+      table = desk.now.table;
+      view = opening_view desk.now.base 3
+          (0 ∷ []) [];
+    } }
+    requires one { one ≡ record {
+      table = desk.now.table;
+      view = opening_view desk.now.base 3
+          (1 ∷ []) [];
+    } }
 {
     if !begin_with(desk, &mut zero, 0) {
         return None;
@@ -142,7 +150,11 @@ fn follow<R: Wait>(
     mut two: Pass<Triple>,
     gate: &Turns,
 ) -> Result<(u64, u32), OutOfMemory>
-    requires two { two ≡ record { table = desk.now.table; view = opening_view desk.now.base 3 (2 ∷ []) [] } }
+    requires two { two ≡ record {
+      table = desk.now.table;
+      view = opening_view desk.now.base 3
+          (2 ∷ []) [];
+    } }
 {
     let receipt: Receipt<()> = transact(rt, alloc, desk, &mut two, &WriteAll, gate)?;
     Ok((receipt.serial, receipt.restarts))
@@ -165,19 +177,43 @@ fn run_three<R: Threads + Wait + Sync>(
     gate: &Turns,
 ) -> Ended
     requires words { length desk.now.base ≡ 3 }
-    requires zero { zero ≡ record { table = desk.now.table; view = opening_view desk.now.base 3 (0 ∷ []) [] } }
-    requires one { one ≡ record { table = desk.now.table; view = opening_view desk.now.base 3 (1 ∷ []) [] } }
-    requires two { two ≡ record { table = desk.now.table; view = opening_view desk.now.base 3 (2 ∷ []) [] } }
+    requires zero { zero ≡ record {
+      table = desk.now.table;
+      view = opening_view desk.now.base 3
+          (0 ∷ []) [];
+    } }
+    requires one { one ≡ record {
+      table = desk.now.table;
+      view = opening_view desk.now.base 3
+          (1 ∷ []) [];
+    } }
+    requires two { two ≡ record {
+      table = desk.now.table;
+      view = opening_view desk.now.base 3
+          (2 ∷ []) [];
+    } }
 {
     thread::join(
         rt,
         move || -> Option<((u32, u64), (u32, u64))>
             requires { (length desk.now.base ≡ 3)
-                × (zero ≡ record { table = desk.now.table; view = opening_view desk.now.base 3 (0 ∷ []) [] })
-                × (one ≡ record { table = desk.now.table; view = opening_view desk.now.base 3 (1 ∷ []) [] }) }
+                × (zero ≡ record {
+                  table = desk.now.table;
+                  view = opening_view desk.now.base 3
+                      (0 ∷ []) [];
+                })
+                × (one ≡ record {
+                  table = desk.now.table;
+                  view = opening_view desk.now.base 3
+                      (1 ∷ []) [];
+                }) }
         { lead(desk, zero, one, gate) },
         move || -> Result<(u64, u32), OutOfMemory>
-            requires { two ≡ record { table = desk.now.table; view = opening_view desk.now.base 3 (2 ∷ []) [] } }
+            requires { two ≡ record {
+              table = desk.now.table;
+              view = opening_view desk.now.base 3
+                  (2 ∷ []) [];
+            } }
         { follow(rt, alloc, desk, two, gate) },
     )
 }

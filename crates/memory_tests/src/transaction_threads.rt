@@ -193,7 +193,8 @@ fn cross<R: Threads + Wait + Sync, G: Gate>(
     calls: u16,
     gate: &G,
 ) -> (Ended, Ended)
-    requires zero { (zero.table ≡ desk.now.table) × (zero.view.phase ≡ Idle) × (zero.view.call ≡ 0) }
+    requires zero { (zero.table ≡ desk.now.table) × (zero.view.phase ≡ Idle)
+        × (zero.view.call ≡ 0) }
     requires one { (one.table ≡ desk.now.table) × (one.view.phase ≡ Idle) × (one.view.call ≡ 0) }
     ensures zero { (result.0.0.table ≡ desk.now.table) × (result.0.0.view.phase ≡ Idle)
         × (result.0.0.view.who ≡ zero.view.who) }
@@ -205,13 +206,15 @@ fn cross<R: Threads + Wait + Sync, G: Gate>(
     thread::join(
         rt,
         move || -> Ended
-            requires { (zero.table ≡ desk.now.table) × (zero.view.phase ≡ Idle) × (zero.view.call ≡ 0) }
+            requires { (zero.table ≡ desk.now.table) × (zero.view.phase ≡ Idle)
+                × (zero.view.call ≡ 0) }
             ensures { (result.0.table ≡ desk.entry.now.table) × (result.0.view.phase ≡ Idle)
                 × (result.0.view.who ≡ zero.view.who)
                 × (0 < desk.entry.now.seats → IfOk result.1 (λ most. most < desk.entry.now.seats)) }
         { add_all(rt, alloc, desk, zero, left, calls, gate) },
         move || -> Ended
-            requires { (one.table ≡ desk.now.table) × (one.view.phase ≡ Idle) × (one.view.call ≡ 0) }
+            requires { (one.table ≡ desk.now.table) × (one.view.phase ≡ Idle)
+                × (one.view.call ≡ 0) }
             ensures { (result.0.table ≡ desk.entry.now.table) × (result.0.view.phase ≡ Idle)
                 × (result.0.view.who ≡ one.view.who)
                 × (0 < desk.entry.now.seats → IfOk result.1 (λ most. most < desk.entry.now.seats)) }
@@ -230,10 +233,12 @@ fn cross_twice<R: Threads + Wait + Sync>(
     three: Pass<Pair>,
     calls: u16,
 ) -> ((Ended, Ended), (Ended, Ended))
-    requires zero { (zero.table ≡ desk.now.table) × (zero.view.phase ≡ Idle) × (zero.view.call ≡ 0) }
+    requires zero { (zero.table ≡ desk.now.table) × (zero.view.phase ≡ Idle)
+        × (zero.view.call ≡ 0) }
     requires one { (one.table ≡ desk.now.table) × (one.view.phase ≡ Idle) × (one.view.call ≡ 0) }
     requires two { (two.table ≡ desk.now.table) × (two.view.phase ≡ Idle) × (two.view.call ≡ 0) }
-    requires three { (three.table ≡ desk.now.table) × (three.view.phase ≡ Idle) × (three.view.call ≡ 0) }
+    requires three { (three.table ≡ desk.now.table) × (three.view.phase ≡ Idle)
+        × (three.view.call ≡ 0) }
     ensures zero { (result.0.0.0.table ≡ desk.now.table) × (result.0.0.0.view.phase ≡ Idle)
         × (result.0.0.0.view.who ≡ zero.view.who) }
     ensures one { (result.0.1.0.table ≡ desk.now.table) × (result.0.1.0.view.phase ≡ Idle)
@@ -268,7 +273,8 @@ fn cross_twice<R: Threads + Wait + Sync>(
         move || -> (Ended, Ended)
             requires { IsSync R.row
                 × (two.table ≡ desk.now.table) × (two.view.phase ≡ Idle) × (two.view.call ≡ 0)
-                × (three.table ≡ desk.now.table) × (three.view.phase ≡ Idle) × (three.view.call ≡ 0) }
+                × (three.table ≡ desk.now.table) × (three.view.phase ≡ Idle)
+                × (three.view.call ≡ 0) }
             ensures { (result.0.0.table ≡ desk.entry.now.table) × (result.0.0.view.phase ≡ Idle)
                 × (result.0.0.view.who ≡ two.view.who)
                 × (result.1.0.table ≡ desk.entry.now.table) × (result.1.0.view.phase ≡ Idle)
@@ -337,10 +343,12 @@ fn close_four(
     three: Pass<Pair>,
 ) -> Result<Vec<u64>, OutOfMemory>
     requires seats { desk.seats ≡ 4 }
-    requires zero { (zero.table ≡ desk.table) × (zero.view.who ≡ 0 ∷ []) × (zero.view.phase ≡ Idle) }
+    requires zero { (zero.table ≡ desk.table) × (zero.view.who ≡ 0 ∷ [])
+        × (zero.view.phase ≡ Idle) }
     requires one { (one.table ≡ desk.table) × (one.view.who ≡ 1 ∷ []) × (one.view.phase ≡ Idle) }
     requires two { (two.table ≡ desk.table) × (two.view.who ≡ 2 ∷ []) × (two.view.phase ≡ Idle) }
-    requires three { (three.table ≡ desk.table) × (three.view.who ≡ 3 ∷ []) × (three.view.phase ≡ Idle) }
+    requires three { (three.table ≡ desk.table) × (three.view.who ≡ 3 ∷ [])
+        × (three.view.phase ≡ Idle) }
 {
     let passes = vec![in alloc; zero, one, two, three]?;
     match desk.close(alloc, passes) {

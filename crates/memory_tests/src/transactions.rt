@@ -117,7 +117,8 @@ pub(crate) fn close_two<S: Shape>(
     one: Pass<S>,
 ) -> Result<Vec<u64>, OutOfMemory>
     requires seats { desk.seats ≡ 2 }
-    requires zero { (zero.table ≡ desk.table) × (zero.view.who ≡ 0 ∷ []) × (zero.view.phase ≡ Idle) }
+    requires zero { (zero.table ≡ desk.table) × (zero.view.who ≡ 0 ∷ [])
+        × (zero.view.phase ≡ Idle) }
     requires one { (one.table ≡ desk.table) × (one.view.who ≡ 1 ∷ []) × (one.view.phase ≡ Idle) }
 {
     let passes = vec![in alloc; zero, one]?;

@@ -29,8 +29,12 @@ impl Shape for Pair {
 pub(crate) fn open_pair(alloc: Global) -> Result<(Desk<Pair>, Pass<Pair>, Pass<Pair>), OutOfMemory>
     ensures words { IfOk result (λ opened. length opened.0.base ≡ 2) }
     ensures seats { IfOk result (λ opened. opened.0.seats ≡ 2) }
-    ensures zero { IfOk result (λ opened. opened.1 ≡ record { table = opened.0.table; view = opening_view opened.0.base 2 (0 ∷ []) [] }) }
-    ensures one { IfOk result (λ opened. opened.2 ≡ record { table = opened.0.table; view = opening_view opened.0.base 2 (1 ∷ []) [] }) }
+    ensures zero { IfOk result
+        (λ opened. opened.1
+        ≡ record { table = opened.0.table; view = opening_view opened.0.base 2 (0 ∷ []) [] }) }
+    ensures one { IfOk result
+        (λ opened. opened.2
+        ≡ record { table = opened.0.table; view = opening_view opened.0.base 2 (1 ∷ []) [] }) }
 {
     let base = vec![in alloc; 0u64, 0]?;
     let (desk, mut passes) = Desk::new(alloc, Pair, base, 2)?;
@@ -47,13 +51,16 @@ pub(crate) fn open_pair(alloc: Global) -> Result<(Desk<Pair>, Pass<Pair>, Pass<P
 fn ask(desk: &Desk<Pair>, pass: &mut Pass<Pair>, a: u64) -> Tried
     requires desk { pass.old.table ≡ desk.now.table }
     requires words { (a < 2) × (length pass.old.view.base ≡ 2) }
-    requires fresh { (pass.old.view.phase ≡ Phase.Running) × (pass.old.view.undo ≡ []) × (pass.old.view.met ≡ []) }
+    requires fresh { (pass.old.view.phase ≡ Phase.Running) × (pass.old.view.undo ≡ [])
+        × (pass.old.view.met ≡ []) }
     ensures desk { (pass.new.table ≡ desk.now.table) × (length pass.new.view.base ≡ 2) }
     ensures rest { (pass.new.view.undo ≡ []) × (pass.new.view.met ≡ []) }
     ensures granted { result ≡ Tried.Granted
-        → (pass.new.view.phase ≡ Phase.Running) × (pass.new.view.abandoned ≡ pass.old.view.abandoned) }
+        → (pass.new.view.phase ≡ Phase.Running)
+        × (pass.new.view.abandoned ≡ pass.old.view.abandoned) }
     ensures waits { (j : ℕ) → result ≡ Tried.Wait j
-        → (pass.new.view.phase ≡ Phase.Running) × (pass.new.view.abandoned ≡ pass.old.view.abandoned) }
+        → (pass.new.view.phase ≡ Phase.Running)
+        × (pass.new.view.abandoned ≡ pass.old.view.abandoned) }
     ensures yields { (cause : Cause) → result ≡ Tried.Yield cause
         → (pass.new.view.phase ≡ Phase.Yielding) × (cause.seat < pass.new.view.seats)
         × (newest (past_causes pass.new.view) ≡ Some cause)
@@ -70,12 +77,21 @@ fn ask_for_each_others(
     one: &mut Pass<Pair>,
 ) -> Option<(u32, Cause)>
     requires words { length desk.now.base ≡ 2 }
-    requires zero { zero.old ≡ record { table = desk.now.table; view = opening_view desk.now.base 2 (0 ∷ []) [] } }
-    requires one { one.old ≡ record { table = desk.now.table; view = opening_view desk.now.base 2 (1 ∷ []) [] } }
+    requires zero { zero.old
+        ≡ record { table = desk.now.table; view = opening_view desk.now.base 2 (0 ∷ []) [] } }
+    requires one { one.old ≡ record {
+      table = desk.now.table;
+      view = opening_view desk.now.base 2
+          (1 ∷ []) [];
+    } }
     ensures zero { (zero.new.table ≡ desk.now.table) × (length zero.new.view.base ≡ 2) }
     ensures one { (one.new.table ≡ desk.now.table) × (length one.new.view.base ≡ 2) }
-    ensures waits { OnSome result ((zero.new.view.phase ≡ Phase.Running) × (zero.new.view.undo ≡ []) × (zero.new.view.met ≡ [])) }
-    ensures yields { IfSome result (λ met. (one.new.view.phase ≡ Phase.Yielding) × (one.new.view.undo ≡ []) × (met.1.seat < one.new.view.seats)
+    ensures waits { OnSome result
+        ((zero.new.view.phase ≡ Phase.Running) × (zero.new.view.undo ≡ [])
+        × (zero.new.view.met ≡ [])) }
+    ensures yields { IfSome result
+        (λ met. (one.new.view.phase ≡ Phase.Yielding) × (one.new.view.undo ≡ [])
+        × (met.1.seat < one.new.view.seats)
         × (newest (past_causes one.new.view) ≡ Some met.1) × (length one.new.view.abandoned ≡ 1)) }
 {
     let _ = desk.begin(zero);
@@ -101,7 +117,8 @@ fn release(desk: &Desk<Pair>, pass: &mut Pass<Pair>) -> bool
     requires yields { (pass.old.view.phase ≡ Phase.Yielding) × (pass.old.view.undo ≡ []) }
     ensures desk { (pass.new.table ≡ desk.now.table) × (length pass.new.view.base ≡ 2) }
     ensures yields { (pass.new.view.phase ≡ Phase.Yielding) × (pass.new.view.undo ≡ []) }
-    ensures rest { (pass.new.view.seats ≡ pass.old.view.seats) × (pass.new.view.abandoned ≡ pass.old.view.abandoned) }
+    ensures rest { (pass.new.view.seats ≡ pass.old.view.seats)
+        × (pass.new.view.abandoned ≡ pass.old.view.abandoned) }
     ensures no_claim { IsTrue result → (k : ℕ) → ¬ HasClaim pass.new.view k }
     ensures no_bit { IsTrue result → (k : ℕ) → ¬ HasBit pass.new.view k }
 {
@@ -136,7 +153,8 @@ fn end(desk: &Desk<Pair>, pass: &mut Pass<Pair>) -> bool
 // Asks for word 1, commits, and ends the call: the entry's place.
 fn take_and_end(desk: &Desk<Pair>, pass: &mut Pass<Pair>) -> Option<u64>
     requires desk { (pass.old.table ≡ desk.now.table) × (length pass.old.view.base ≡ 2) }
-    requires fresh { (pass.old.view.phase ≡ Phase.Running) × (pass.old.view.undo ≡ []) × (pass.old.view.met ≡ []) }
+    requires fresh { (pass.old.view.phase ≡ Phase.Running) × (pass.old.view.undo ≡ [])
+        × (pass.old.view.met ≡ []) }
 {
     let Tried::Granted = ask(desk, pass, 1) else {
         return None;
@@ -153,7 +171,8 @@ fn take_and_end(desk: &Desk<Pair>, pass: &mut Pass<Pair>) -> Option<u64>
 fn commit_again(desk: &Desk<Pair>, pass: &mut Pass<Pair>, cause: Cause) -> Option<u64>
     requires desk { (pass.old.table ≡ desk.now.table) × (length pass.old.view.base ≡ 2) }
     requires yields { (pass.old.view.phase ≡ Phase.Yielding) × (pass.old.view.undo ≡ []) }
-    requires cause { (cause.seat < pass.old.view.seats) × (newest (past_causes pass.old.view) ≡ Some cause) }
+    requires cause { (cause.seat < pass.old.view.seats)
+        × (newest (past_causes pass.old.view) ≡ Some cause) }
     requires no_claim { (k : ℕ) → ¬ HasClaim pass.old.view k }
     requires no_bit { (k : ℕ) → ¬ HasBit pass.old.view k }
     requires restarts { length pass.old.view.abandoned ≡ 1 }
@@ -174,9 +193,11 @@ fn end_in_turn(
     cause: Cause,
 ) -> Option<(u64, u64)>
     requires zero { (zero.old.table ≡ desk.now.table) × (length zero.old.view.base ≡ 2) }
-    requires runs { (zero.old.view.phase ≡ Phase.Running) × (zero.old.view.undo ≡ []) × (zero.old.view.met ≡ []) }
+    requires runs { (zero.old.view.phase ≡ Phase.Running) × (zero.old.view.undo ≡ [])
+        × (zero.old.view.met ≡ []) }
     requires one { (one.old.table ≡ desk.now.table) × (length one.old.view.base ≡ 2) }
-    requires yields { (one.old.view.phase ≡ Phase.Yielding) × (one.old.view.undo ≡ []) × (cause.seat < one.old.view.seats)
+    requires yields { (one.old.view.phase ≡ Phase.Yielding) × (one.old.view.undo ≡ [])
+        × (cause.seat < one.old.view.seats)
         × (newest (past_causes one.old.view) ≡ Some cause) × (length one.old.view.abandoned ≡ 1) }
     ensures entry { OnSome result ((earlier : List Entry) × (entry : Entry)
         × (one.new.view.seen ≡ earlier ++ entry ∷ []) × (length entry.abandoned ≡ 1)) }
@@ -200,8 +221,13 @@ fn cross(
     one: &mut Pass<Pair>,
 ) -> Option<(u32, Cause, (u64, u64), (u64, u64))>
     requires words { length desk.now.base ≡ 2 }
-    requires zero { zero.old ≡ record { table = desk.now.table; view = opening_view desk.now.base 2 (0 ∷ []) [] } }
-    requires one { one.old ≡ record { table = desk.now.table; view = opening_view desk.now.base 2 (1 ∷ []) [] } }
+    requires zero { zero.old
+        ≡ record { table = desk.now.table; view = opening_view desk.now.base 2 (0 ∷ []) [] } }
+    requires one { one.old ≡ record {
+      table = desk.now.table;
+      view = opening_view desk.now.base 2
+          (1 ∷ []) [];
+    } }
 {
     let (other, cause) = ask_for_each_others(desk, zero, one)?;
     let stamps = (zero.stamp(), one.stamp());

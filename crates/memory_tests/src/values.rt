@@ -32,8 +32,12 @@ pub(crate) fn open_pair(
 ) -> Result<(Desk<Pair>, Pass<Pair>, Pass<Pair>), OutOfMemory>
     ensures words { IfOk result (λ opened. length opened.0.base ≡ 2) }
     ensures seats { IfOk result (λ opened. opened.0.seats ≡ 2) }
-    ensures zero { IfOk result (λ opened. opened.1 ≡ record { table = opened.0.table; view = opening_view opened.0.base 2 (0 ∷ []) [] }) }
-    ensures one { IfOk result (λ opened. opened.2 ≡ record { table = opened.0.table; view = opening_view opened.0.base 2 (1 ∷ []) [] }) }
+    ensures zero { IfOk result
+        (λ opened. opened.1
+        ≡ record { table = opened.0.table; view = opening_view opened.0.base 2 (0 ∷ []) [] }) }
+    ensures one { IfOk result
+        (λ opened. opened.2
+        ≡ record { table = opened.0.table; view = opening_view opened.0.base 2 (1 ∷ []) [] }) }
 {
     let base = vec![in alloc; first, second]?;
     let (desk, mut passes) = Desk::new(alloc, Pair, base, 2)?;
@@ -56,7 +60,8 @@ pub(crate) fn hold(desk: &Desk<Pair>, pass: &mut Pass<Pair>, a: u32) -> bool
     ensures fresh { (pass.new.view.phase ≡ Phase.Running) × (pass.new.view.undo ≡ []) }
     ensures number { pass.new.view.who ≡ pass.old.view.who }
     ensures held { IsTrue result → HasWriteGrant pass.new.view a }
-    ensures attempts { (pass.new.view.abandoned ≡ pass.old.view.abandoned) × (pass.new.view.trace ≡ pass.old.view.trace) }
+    ensures attempts { (pass.new.view.abandoned ≡ pass.old.view.abandoned)
+        × (pass.new.view.trace ≡ pass.old.view.trace) }
 {
     for _ in 0..u64::MAX {
         if let Claimed::Pending = desk.claim(pass, u64::from(a)) {
@@ -204,8 +209,10 @@ fn call_by_turns(
     zero: &mut Pass<Pair>,
     one: &mut Pass<Pair>,
 ) -> Option<((u64, u64), (u64, u64), u64, (u64, u64))>
-    requires zero { (zero.old.table ≡ desk.now.table) × (length zero.old.view.base ≡ 2) × (zero.old.view.phase ≡ Phase.Idle) }
-    requires one { (one.old.table ≡ desk.now.table) × (length one.old.view.base ≡ 2) × (one.old.view.phase ≡ Phase.Idle) }
+    requires zero { (zero.old.table ≡ desk.now.table) × (length zero.old.view.base ≡ 2)
+        × (zero.old.view.phase ≡ Phase.Idle) }
+    requires one { (one.old.table ≡ desk.now.table) × (length one.old.view.base ≡ 2)
+        × (one.old.view.phase ≡ Phase.Idle) }
     requires undo { one.old.view.undo ≡ [] }
 {
     let first = add(desk, zero, 1)?;
@@ -229,8 +236,10 @@ fn read_after_reverting(
     zero: &mut Pass<Pair>,
     one: &mut Pass<Pair>,
 ) -> Option<((u64, u64), (u64, u64))>
-    requires zero { (zero.old.table ≡ desk.now.table) × (length zero.old.view.base ≡ 2) × (zero.old.view.phase ≡ Phase.Idle) }
-    requires one { (one.old.table ≡ desk.now.table) × (length one.old.view.base ≡ 2) × (one.old.view.phase ≡ Phase.Idle) }
+    requires zero { (zero.old.table ≡ desk.now.table) × (length zero.old.view.base ≡ 2)
+        × (zero.old.view.phase ≡ Phase.Idle) }
+    requires one { (one.old.table ≡ desk.now.table) × (length one.old.view.base ≡ 2)
+        × (one.old.view.phase ≡ Phase.Idle) }
     requires undo { one.old.view.undo ≡ [] }
 {
     let reverted = revert_one(desk, zero)?;
@@ -270,16 +279,32 @@ fn count_together<R: Threads + Sync>(
     one: Pass<Pair>,
 ) -> (Result<Vec<u64>, OutOfMemory>, Result<Vec<u64>, OutOfMemory>)
     requires words { length desk.now.base ≡ 2 }
-    requires zero { zero ≡ record { table = desk.now.table; view = opening_view desk.now.base 2 (0 ∷ []) [] } }
-    requires one { one ≡ record { table = desk.now.table; view = opening_view desk.now.base 2 (1 ∷ []) [] } }
+    requires zero { zero ≡ record {
+      table = desk.now.table;
+      view = opening_view desk.now.base 2
+          (0 ∷ []) [];
+    } }
+    requires one { one ≡ record {
+      table = desk.now.table;
+      view = opening_view desk.now.base 2
+          (1 ∷ []) [];
+    } }
 {
     thread::join(
         rt,
         move || -> Result<Vec<u64>, OutOfMemory>
-            requires { (zero ≡ record { table = desk.now.table; view = opening_view desk.now.base 2 (0 ∷ []) [] }) × (length desk.now.base ≡ 2) }
+            requires { (zero ≡ record {
+              table = desk.now.table;
+              view = opening_view desk.now.base 2
+                  (0 ∷ []) [];
+            }) × (length desk.now.base ≡ 2) }
         { count(alloc, desk, zero) },
         move || -> Result<Vec<u64>, OutOfMemory>
-            requires { (one ≡ record { table = desk.now.table; view = opening_view desk.now.base 2 (1 ∷ []) [] }) × (length desk.now.base ≡ 2) }
+            requires { (one ≡ record {
+              table = desk.now.table;
+              view = opening_view desk.now.base 2
+                  (1 ∷ []) [];
+            }) × (length desk.now.base ≡ 2) }
         { count(alloc, desk, one) },
     )
 }

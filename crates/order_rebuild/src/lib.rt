@@ -28,7 +28,8 @@ mod turn;
 /// The places of the items in the order in which they may be printed: again and again, of the items that may come, the
 /// one of the least caller. Of a list that cannot be put in order it says nothing.
 pub fn order_of<P: Placed>(alloc: Global, done: &[P]) -> Result<Vec<usize>, OutOfMemory>
-    ensures { Orderable (map P.spot done.now) → IfOk result (λ out. IsOrder (map P.spot done.now) out.items) }
+    ensures { Orderable (map P.spot done.now)
+        → IfOk result (λ out. IsOrder (map P.spot done.now) out.items) }
 {
     let lines = Lines::of(alloc, done)?;
     let mut left = vec![in alloc; true; done.len()]?;

@@ -31,7 +31,8 @@ pub(crate) struct Lines {
 
 /// Puts in the turns of an item's uses.
 fn push_turns(turns: &mut Vec<Turn>, uses: &[LockUse], item: usize) -> Result<(), OutOfMemory>
-    ensures { OnOk result (GainTurns uses.now item (length uses.now) turns.old.items turns.new.items) }
+    ensures { OnOk result
+        (GainTurns uses.now item (length uses.now) turns.old.items turns.new.items) }
 {
     let rising = is_rising(uses);
     for i in 0..uses.len() {
@@ -57,7 +58,8 @@ fn turns_of<P: Placed>(alloc: Global, done: &[P]) -> Result<Vec<Turn>, OutOfMemo
 
 /// The same turns, in order.
 fn sorted_turns<P: Placed>(alloc: Global, done: &[P]) -> Result<Vec<Turn>, OutOfMemory>
-    ensures turns { IfOk result (λ turns. AreTurns (map P.spot done.now) (length done.now) turns.items) }
+    ensures turns { IfOk result
+        (λ turns. AreTurns (map P.spot done.now) (length done.now) turns.items) }
     ensures sorted { IfOk result (λ turns. IsNonDecreasingBy (λ (t : Turn). t.code) turns.items) }
 {
     let mut turns = turns_of(alloc, done)?;
@@ -86,7 +88,8 @@ fn items_of(alloc: Global, turns: &[Turn]) -> Result<Vec<usize>, OutOfMemory>
 /// At each place the first place of the line.
 fn bases_of(alloc: Global, codes: &[u128]) -> Result<Vec<usize>, OutOfMemory>
     requires { IsNonDecreasing codes.now }
-    ensures { IfOk result (λ base. AreStarts (λ i. slice_index codes.now i / LINE) (length codes.now) base.items) }
+    ensures { IfOk result
+        (λ base. AreStarts (λ i. slice_index codes.now i / LINE) (length codes.now) base.items) }
 {
     let mut base = Vec::with_capacity(alloc, codes.len())?;
     let mut start = 0;
@@ -102,7 +105,8 @@ fn bases_of(alloc: Global, codes: &[u128]) -> Result<Vec<usize>, OutOfMemory>
 /// At each place the first place of those that stand level with it.
 fn firsts_of(alloc: Global, codes: &[u128]) -> Result<Vec<usize>, OutOfMemory>
     requires { IsNonDecreasing codes.now }
-    ensures { IfOk result (λ first. AreStarts (λ i. slice_index codes.now i) (length codes.now) first.items) }
+    ensures { IfOk result
+        (λ first. AreStarts (λ i. slice_index codes.now i) (length codes.now) first.items) }
 {
     let mut first = Vec::with_capacity(alloc, codes.len())?;
     let mut start = 0;
@@ -119,7 +123,8 @@ fn firsts_of(alloc: Global, codes: &[u128]) -> Result<Vec<usize>, OutOfMemory>
 fn befores_of(alloc: Global, item: &[usize], last: &mut [usize]) -> Result<Vec<usize>, OutOfMemory>
     requires inside { (i : ℕ) → i < length item.now → slice_index item.now i < length last.old }
     requires empty { (p : ℕ) → slice_index last.old p ≡ 0 }
-    ensures { IfOk result (λ before. AreChains item.now (length item.now) (length last.old) before.items last.new) }
+    ensures { IfOk result
+        (λ before. AreChains item.now (length item.now) (length last.old) before.items last.new) }
 {
     let mut before = Vec::with_capacity(alloc, item.len())?;
     for i in 0..item.len() {
@@ -137,7 +142,8 @@ fn chains_of(
     count: usize,
 ) -> Result<(Vec<usize>, Vec<usize>), OutOfMemory>
     requires { (i : ℕ) → i < length item.now → slice_index item.now i < count }
-    ensures chains { IfOk result (λ r. AreChains item.now (length item.now) count r.0.items r.1.items) }
+    ensures chains { IfOk result
+        (λ r. AreChains item.now (length item.now) count r.0.items r.1.items) }
     ensures count { IfOk result (λ r. vec_len r.1 ≡ count) }
 {
     let mut last = vec![in alloc; 0; count]?;

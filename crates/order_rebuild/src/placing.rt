@@ -27,7 +27,8 @@ pub(crate) fn place_all(
     requires wait { wait.old ≡ lines.now.last.items }
     requires ready { heap_items ready ≡ [] }
     requires out { out.old.items ≡ [] }
-    ensures { (list : List Spot) → AreLines list lines.now → Orderable list → OnOk result (IsOrder list out.new.items) }
+    ensures { (list : List Spot) → AreLines list lines.now → Orderable list
+        → OnOk result (IsOrder list out.new.items) }
 {
     settle_all(lines, next, wait, &mut ready)?;
     'all: while let Some(comer) = ready.pop() {

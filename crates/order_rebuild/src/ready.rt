@@ -33,9 +33,11 @@ fn first_closed(lines: &Lines, next: &[usize], q: usize, from: usize) -> usize
     requires next { length next.now ≡ places lines.now }
     requires inside { q < items lines.now }
     requires own { (e : ℕ) → from ≡ suc e → (e < places lines.now) × (item_at lines.now e ≡ q) }
-    requires above { (i : ℕ) → i < places lines.now → item_at lines.now i ≡ q → from ≤ i → IsOpen lines.now next.now i }
+    requires above { (i : ℕ) → i < places lines.now → item_at lines.now i ≡ q → from ≤ i
+        → IsOpen lines.now next.now i }
     ensures own { (e : ℕ) → result ≡ suc e → (e < places lines.now) × (item_at lines.now e ≡ q) }
-    ensures above { (i : ℕ) → i < places lines.now → item_at lines.now i ≡ q → result ≤ i → IsOpen lines.now next.now i }
+    ensures above { (i : ℕ) → i < places lines.now → item_at lines.now i ≡ q → result ≤ i
+        → IsOpen lines.now next.now i }
     ensures closed { (e : ℕ) → result ≡ suc e → IsOpen lines.now next.now e → ⊥ }
 {
     let mut at = from;
@@ -61,9 +63,12 @@ fn settle(
     requires next { length next.now ≡ places lines.now }
     requires waits { AreWaits lines.now next.now wait.old }
     ensures waits { OnOk result (AreWaits lines.now next.now wait.new) }
-    ensures closed { OnOk result ((e : ℕ) → slice_index wait.new q ≡ suc e → IsOpen lines.now next.now e → ⊥) }
-    ensures others { OnOk result ((p : ℕ) → p ≢ q → slice_index wait.new p ≡ slice_index wait.old p) }
-    ensures ready { OnOk result (KeepsReady lines.now wait.old (heap_items ready.old) wait.new (heap_items ready.new)) }
+    ensures closed { OnOk result
+        ((e : ℕ) → slice_index wait.new q ≡ suc e → IsOpen lines.now next.now e → ⊥) }
+    ensures others { OnOk result
+        ((p : ℕ) → p ≢ q → slice_index wait.new p ≡ slice_index wait.old p) }
+    ensures ready { OnOk result
+        (KeepsReady lines.now wait.old (heap_items ready.old) wait.new (heap_items ready.new)) }
 {
     let from = wait[q];
     if from == 0 {
@@ -91,7 +96,8 @@ fn settle_level(
     requires closed { AreClosed lines.now next.now wait.old (λ e. first_at lines.now e ≡ start) }
     ensures waits { OnOk result (AreWaits lines.now next.now wait.new) }
     ensures closed { OnOk result (AreClosed lines.now next.now wait.new (λ e. ⊥)) }
-    ensures ready { OnOk result (KeepsReady lines.now wait.old (heap_items ready.old) wait.new (heap_items ready.new)) }
+    ensures ready { OnOk result
+        (KeepsReady lines.now wait.old (heap_items ready.old) wait.new (heap_items ready.new)) }
 {
     for i in start..lines.item.len() {
         if lines.first[i] != start {
@@ -114,7 +120,8 @@ pub(crate) fn settle_all(
     requires waits { AreWaits lines.now next.now wait.old }
     ensures waits { OnOk result (AreWaits lines.now next.now wait.new) }
     ensures closed { OnOk result (AreClosed lines.now next.now wait.new (λ e. ⊥)) }
-    ensures ready { OnOk result (KeepsReady lines.now wait.old (heap_items ready.old) wait.new (heap_items ready.new)) }
+    ensures ready { OnOk result
+        (KeepsReady lines.now wait.old (heap_items ready.old) wait.new (heap_items ready.new)) }
 {
     for i in 0..lines.item.len() {
         settle(lines, next, wait, ready, lines.item[i])?;
@@ -126,7 +133,9 @@ pub(crate) fn settle_all(
 fn is_passed(lines: &Lines, left: &[bool], line: usize, i: usize) -> bool
     requires rows { AreRows lines.now }
     requires left { length left.now ≡ items lines.now }
-    ensures { IsTrue result ↔ ((i < places lines.now) × (base_at lines.now i ≡ line) × (slice_get left.now (item_at lines.now i) ≡ Some false)) }
+    ensures { IsTrue result
+        ↔ ((i < places lines.now) × (base_at lines.now i ≡ line)
+        × (slice_get left.now (item_at lines.now i) ≡ Some false)) }
 {
     i < lines.item.len() && lines.base[i] == line && !left[lines.item[i]]
 }
@@ -151,8 +160,10 @@ fn advance(
     ensures waits { OnOk result (AreWaits lines.now next.new wait.new) }
     ensures closed { OnOk result (AreClosed lines.now next.new wait.new (λ e. ⊥)) }
     ensures stopped { OnOk result (IsStopped lines.now left.now next.new line) }
-    ensures others { OnOk result ((b : ℕ) → b ≢ line → slice_index next.new b ≡ slice_index next.old b) }
-    ensures ready { OnOk result (KeepsReady lines.now wait.old (heap_items ready.old) wait.new (heap_items ready.new)) }
+    ensures others { OnOk result
+        ((b : ℕ) → b ≢ line → slice_index next.new b ≡ slice_index next.old b) }
+    ensures ready { OnOk result
+        (KeepsReady lines.now wait.old (heap_items ready.old) wait.new (heap_items ready.new)) }
 {
     'on: while is_passed(lines, left, line, next[line]) {
         let start = next[line] + 1;
@@ -182,7 +193,8 @@ pub(crate) fn let_go(
     ensures stopped { OnOk result (AreStopped lines.now left.now next.new p 0) }
     ensures waits { OnOk result (AreWaits lines.now next.new wait.new) }
     ensures closed { OnOk result (AreClosed lines.now next.new wait.new (λ e. ⊥)) }
-    ensures ready { OnOk result (KeepsReady lines.now wait.old (heap_items ready.old) wait.new (heap_items ready.new)) }
+    ensures ready { OnOk result
+        (KeepsReady lines.now wait.old (heap_items ready.old) wait.new (heap_items ready.new)) }
 {
     let mut at = lines.last[p];
     'down: while at > 0 {

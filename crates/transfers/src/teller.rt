@@ -48,7 +48,9 @@ fn make_moves<R: Wait>(
     requires none { told.old.items ≡ [] }
     requires room { 2 * length moves.now ≤ LAST_CALL }
     ensures next { IsNext pass.old pass.new }
-    ensures served { OnOk result (IsServed desk.now.base pass.new.view.seen (number pass.new.view) moves.now told.new.items) }
+    ensures served { OnOk result
+        (IsServed desk.now.base pass.new.view.seen (number pass.new.view) moves.now
+        told.new.items) }
 {
     desk.began_good();
     let audit = Audit { vault };

@@ -137,7 +137,8 @@ fn serve_words<R: Threads + Wait + Sync, S: Source, K: Sink, G: Gate>(
         → sink.new ≡ sink.old }
 
     ensures day { IsAnyRunCommand (map string_bytes words.now) → IfSome result.day
-        (λ day. OfBytesRead (S.left source.old) (λ bytes. IsDayFor (map string_bytes words.now) bytes
+        (λ day. OfBytesRead (S.left source.old)
+        (λ bytes. IsDayFor (map string_bytes words.now) bytes
         (K.taken sink.old) (K.taken sink.new) day)) }
     ensures drill_day { IsDrill (map string_bytes words.now)
         → IfSome result.day (IsDrillDay (map string_bytes words.now)) }
@@ -158,7 +159,8 @@ fn serve_words<R: Threads + Wait + Sync, S: Source, K: Sink, G: Gate>(
         → (result.status ≡ Status.TooLarge) ⊎ (result.status ≡ Status.WriteFault)
         ⊎ (result.status ≡ Status.OutOfMemory) }
     ensures read_fault { result.status ≡ Status.ReadFault
-        → IsReading (map string_bytes words.now) × Rose (S.faults source.old) (S.faults source.new) }
+        → IsReading (map string_bytes words.now)
+        × Rose (S.faults source.old) (S.faults source.new) }
     ensures write_fault { result.status ≡ Status.WriteFault
         → Rose (K.faults sink.old) (K.faults sink.new) }
 {
@@ -219,7 +221,8 @@ pub fn serve<R: Threads + Wait + Sync, S: Source, K: Sink, G: Gate>(
     // The day is there exactly where scripts were run and their output was printed, or their sums after a drill: then it
     // is a day of the input by as many workers as the words say, and the text of `run` is the output for its items.
     ensures day { IsAnyRunCommand (map string_bytes words.now) → IfSome result.day
-        (λ day. OfBytesRead (S.left source.old) (λ bytes. IsDayFor (map string_bytes words.now) bytes
+        (λ day. OfBytesRead (S.left source.old)
+        (λ bytes. IsDayFor (map string_bytes words.now) bytes
         (K.taken sink.old) (K.taken sink.new) day)) }
     ensures drill_day { IsDrill (map string_bytes words.now)
         → IfSome result.day (IsDrillDay (map string_bytes words.now)) }
@@ -266,7 +269,8 @@ pub fn serve<R: Threads + Wait + Sync, S: Source, K: Sink, G: Gate>(
     // Bytes that do not have the input that the command reads: the first faulty line is refused, with the first reason
     // that applies to it. (`first_fault`, `first_fault_in_front` and `bad_input` follow from `text` and the laws of
     // texts.)
-    ensures first_fault { IsAnyRunCommand (map string_bytes words.now) → result.status ≡ Status.BadInput
+    ensures first_fault { IsAnyRunCommand (map string_bytes words.now)
+        → result.status ≡ Status.BadInput
         → IfSome (S.left source.old)
         (λ bytes. (number : ℕ) (why : Fault) → IsFirstFault bytes number why
         → Appends (K.taken sink.old) (K.taken sink.new) (refused_line number why)) }

@@ -32,7 +32,8 @@ pub fn serve_surely<R: Threads + Wait + Sync, G: Gate>(
     ensures no_write_fault { result.status ≢ Status.WriteFault }
 
     // Valid words, and a valid input within the size: done, or out of memory.
-    ensures run { IsAnyRunCommand (map string_bytes words.now) → length bytes.items ≤ MOST_INPUT_BYTES
+    ensures run { IsAnyRunCommand (map string_bytes words.now)
+        → length bytes.items ≤ MOST_INPUT_BYTES
         → IsValidInput bytes.items
         → (result.status ≡ Status.Done) ⊎ (result.status ≡ Status.OutOfMemory) }
     ensures check { IsCheck (map string_bytes words.now) → length bytes.items ≤ MOST_INPUT_BYTES

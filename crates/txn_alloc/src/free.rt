@@ -15,9 +15,11 @@ pub(crate) fn nearest<W: Words>(w: &mut W, arena: &Arena, near: u64) -> Result<O
     requires ready { IsReady W.Words w.old }
     requires order { InEachState W.Words W.Shape.Shape w.old (IsInOrder arena.now) }
     ensures found { IfOk result (λ answer. IfSome answer (λ b.
-        Looks (W.Shape.word_count (W.shape w.old)) (W.Shape.good (W.shape w.old)) (W.trace w.old) (W.trace w.new) (λ _. IsHeadTo arena.now near b) (IsNearest arena.now near b))) }
+        Looks (W.Shape.word_count (W.shape w.old)) (W.Shape.good (W.shape w.old)) (W.trace w.old)
+        (W.trace w.new) (λ _. IsHeadTo arena.now near b) (IsNearest arena.now near b))) }
     ensures none { IfOk result (λ answer. IfNone answer
-        (Looks (W.Shape.word_count (W.shape w.old)) (W.Shape.good (W.shape w.old)) (W.trace w.old) (W.trace w.new) (λ _. IsHead arena.now)
+        (Looks (W.Shape.word_count (W.shape w.old)) (W.Shape.good (W.shape w.old)) (W.trace w.old)
+        (W.trace w.new) (λ _. IsHead arena.now)
         (λ words. (h : ℕ) → h < HEADS → slice_get words (arena.now.heads + h) ≡ Some 0))) }
     ensures block { IfOk result (λ answer. IfSome answer (λ b. b < arena.now.blocks)) }
     ensures goes_on { GoesOn W.Words w.old w.new result }
@@ -40,17 +42,22 @@ pub fn take_near<W: Words>(w: &mut W, arena: &Arena, near: u64) -> Result<Option
     requires order { InEachState W.Words W.Shape.Shape w.old (IsInOrder arena.now) }
 
     // The block leaves the free ones, of which nothing else changes.
-    ensures taken { IfOk result (λ block. LeadsTo W.Words W.Shape.Shape w.old w.new (Takes arena.now block)) }
+    ensures taken { IfOk result
+        (λ block. LeadsTo W.Words W.Shape.Shape w.old w.new (Takes arena.now block)) }
 
     // It is the one at the head of the first list that was not empty, from that of `near` on.
     ensures nearest { IfOk result (λ block.
-        IfSome block (λ b. LeadsTo W.Words W.Shape.Shape w.old w.new (λ before _. IsNearest arena.now near b before))) }
+        IfSome block
+        (λ b. LeadsTo W.Words W.Shape.Shape w.old w.new
+        (λ before _. IsNearest arena.now near b before))) }
 
     // It answers None exactly where in every state none is free.
     ensures none { IfOk result (λ block.
-        IfNone block (LeadsTo W.Words W.Shape.Shape w.old w.new (λ before _. HasNone arena.now before))) }
+        IfNone block
+        (LeadsTo W.Words W.Shape.Shape w.old w.new (λ before _. HasNone arena.now before))) }
     ensures none_if { IfOk result (λ block.
-        LeadsTo W.Words W.Shape.Shape w.old w.new (λ before _. HasNone arena.now before) → block ≡ None) }
+        LeadsTo W.Words W.Shape.Shape w.old w.new (λ before _. HasNone arena.now before)
+        → block ≡ None) }
 
     // The block is one of the arena's, and in no list.
     ensures number { IfOk result (λ block. IfSome block (λ b. b < arena.now.blocks)) }
@@ -60,7 +67,8 @@ pub fn take_near<W: Words>(w: &mut W, arena: &Arena, near: u64) -> Result<Option
     ensures order { OnOk result (InEachState W.Words W.Shape.Shape w.new (IsInOrder arena.now)) }
 
     // No word is written but the head for the block that it takes, so every other stays. Where it takes none, no word is.
-    ensures frame { IfOk result (λ block. WritesOnly W.Words w.old w.new (IsWrittenByTake arena.now block)) }
+    ensures frame { IfOk result
+        (λ block. WritesOnly W.Words w.old w.new (IsWrittenByTake arena.now block)) }
     ensures others { IfOk result (λ block.
         LeadsTo W.Words W.Shape.Shape w.old w.new (KeepsOthers (IsWrittenByTake arena.now block))) }
 
@@ -84,17 +92,22 @@ pub fn take<W: Words>(w: &mut W, arena: &Arena) -> Result<Option<Block>, Stop>
     requires order { InEachState W.Words W.Shape.Shape w.old (IsInOrder arena.now) }
 
     // The block leaves the free ones, of which nothing else changes.
-    ensures taken { IfOk result (λ block. LeadsTo W.Words W.Shape.Shape w.old w.new (Takes arena.now block)) }
+    ensures taken { IfOk result
+        (λ block. LeadsTo W.Words W.Shape.Shape w.old w.new (Takes arena.now block)) }
 
     // It is the one at the head of the first list that was not empty, from that of number 0 on.
     ensures nearest { IfOk result (λ block.
-        IfSome block (λ b. LeadsTo W.Words W.Shape.Shape w.old w.new (λ before _. IsNearest arena.now 0 b before))) }
+        IfSome block
+        (λ b. LeadsTo W.Words W.Shape.Shape w.old w.new
+        (λ before _. IsNearest arena.now 0 b before))) }
 
     // It answers None exactly where in every state none is free.
     ensures none { IfOk result (λ block.
-        IfNone block (LeadsTo W.Words W.Shape.Shape w.old w.new (λ before _. HasNone arena.now before))) }
+        IfNone block
+        (LeadsTo W.Words W.Shape.Shape w.old w.new (λ before _. HasNone arena.now before))) }
     ensures none_if { IfOk result (λ block.
-        LeadsTo W.Words W.Shape.Shape w.old w.new (λ before _. HasNone arena.now before) → block ≡ None) }
+        LeadsTo W.Words W.Shape.Shape w.old w.new (λ before _. HasNone arena.now before)
+        → block ≡ None) }
 
     // The block is one of the arena's, and in no list.
     ensures number { IfOk result (λ block. IfSome block (λ b. b < arena.now.blocks)) }
@@ -104,7 +117,8 @@ pub fn take<W: Words>(w: &mut W, arena: &Arena) -> Result<Option<Block>, Stop>
     ensures order { OnOk result (InEachState W.Words W.Shape.Shape w.new (IsInOrder arena.now)) }
 
     // No word is written but the head for the block that it takes, so every other stays. Where it takes none, no word is.
-    ensures frame { IfOk result (λ block. WritesOnly W.Words w.old w.new (IsWrittenByTake arena.now block)) }
+    ensures frame { IfOk result
+        (λ block. WritesOnly W.Words w.old w.new (IsWrittenByTake arena.now block)) }
     ensures others { IfOk result (λ block.
         LeadsTo W.Words W.Shape.Shape w.old w.new (KeepsOthers (IsWrittenByTake arena.now block))) }
 
@@ -125,7 +139,8 @@ pub fn give<W: Words>(w: &mut W, arena: &Arena, block: Block) -> Result<(), Stop
     requires lacks { InEachState W.Words W.Shape.Shape w.old (Lacks arena.now block) }
 
     // The block is free, beside those that were.
-    ensures given { OnOk result (LeadsTo W.Words W.Shape.Shape w.old w.new (Gives arena.now block)) }
+    ensures given { OnOk result
+        (LeadsTo W.Words W.Shape.Shape w.old w.new (Gives arena.now block)) }
     ensures order { OnOk result (InEachState W.Words W.Shape.Shape w.new (IsInOrder arena.now)) }
 
     // No word but the head for the block and its first word is written, so every other stays.
@@ -134,7 +149,8 @@ pub fn give<W: Words>(w: &mut W, arena: &Arena, block: Block) -> Result<(), Stop
         LeadsTo W.Words W.Shape.Shape w.old w.new (KeepsOthers (IsHeadOrFirst arena.now block))) }
 
     // Neither is another read.
-    ensures reads { OnOk result (AppendsReads (W.trace w.old) (W.trace w.new) (IsHeadOrFirst arena.now block)) }
+    ensures reads { OnOk result
+        (AppendsReads (W.trace w.old) (W.trace w.new) (IsHeadOrFirst arena.now block)) }
     ensures goes_on { GoesOn W.Words w.old w.new result }
 {
     let number = block.number();

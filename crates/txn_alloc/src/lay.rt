@@ -15,7 +15,8 @@ pub fn lay_free(words: &mut [u64], arena: &Arena, order: &[u32])
     requires laid_out { IsLaidOut arena.now words.old }
     requires below { All (λ b. b < arena.now.blocks) order.now }
     requires once { IsDistinct nat_eq order.now }
-    ensures lists { (h : ℕ) → h < HEADS → HasList arena.now words.new (arena.now.heads + h) (of_list h order.now) }
+    ensures lists { (h : ℕ) → h < HEADS
+        → HasList arena.now words.new (arena.now.heads + h) (of_list h order.now) }
     ensures free { FreeListsHold arena.now words.new (set.from_list order.now) }
 
     // No word is written but the heads and the first words of these blocks.
@@ -31,7 +32,10 @@ pub fn lay_free(words: &mut [u64], arena: &Arena, order: &[u32])
 fn put_first(words: &mut [u64], arena: &Arena, block: u32)
     requires laid_out { IsLaidOut arena.now words.old }
     requires below { block < arena.now.blocks }
-    ensures { words.new ≡ slice_set (slice_set words.old (block_at arena.now block) (get_or words.old (head_of arena.now block) 0)) (head_of arena.now block) (block + 1) }
+    ensures { words.new
+        ≡ slice_set
+        (slice_set words.old (block_at arena.now block)
+        (get_or words.old (head_of arena.now block) 0)) (head_of arena.now block) (block + 1) }
 {
     let head = arena.head_of(u64::from(block)) as usize;
     words[arena.place_of(block) as usize] = words[head];

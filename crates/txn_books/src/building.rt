@@ -212,7 +212,8 @@ fn list_blocks(
 ) -> Result<Vec<u32>, OutOfMemory>
     requires order { IsInOrder arena.now words.now }
     requires list { list < HEADS }
-    ensures { IfOk result (λ order. HasList arena.now words.now (arena.now.heads + list) order.items) }
+    ensures { IfOk result
+        (λ order. HasList arena.now words.now (arena.now.heads + list) order.items) }
 {
     let mut order = Vec::new(alloc);
     let mut name = words[(arena.heads + list) as usize];
@@ -228,7 +229,9 @@ fn list_blocks(
 /// The free blocks, list after list.
 fn free_blocks(alloc: Global, arena: &Arena, words: &[u64]) -> Result<Vec<u32>, OutOfMemory>
     requires { IsInOrder arena.now words.now }
-    ensures { IfOk result (λ order. (free : Blocks) → FreeListsHold arena.now words.now free → AreFree free order.items) }
+    ensures { IfOk result
+        (λ order. (free : Blocks) → FreeListsHold arena.now words.now free
+        → AreFree free order.items) }
 {
     let mut order = Vec::new(alloc);
     for list in 0..HEADS {
@@ -241,9 +244,11 @@ fn free_blocks(alloc: Global, arena: &Arena, words: &[u64]) -> Result<Vec<u32>, 
 /// Lists the free blocks of each list by rising number.
 fn sort_free(alloc: Global, shape: &BooksShape, words: Vec<u64>) -> Result<Vec<u64>, OutOfMemory>
     requires { (books : ClearingBooks) × IsBuilt shape.now words.items books }
-    ensures built { IfOk result (λ left. (books : ClearingBooks) → IsBuilt shape.now words.items books
+    ensures built { IfOk result
+        (λ left. (books : ClearingBooks) → IsBuilt shape.now words.items books
         → IsBuilt shape.now left.items books) }
-    ensures rising { IfOk result (λ left. (h : ℕ) → h < HEADS → HasRisingList (arena_of shape.now) left.items h) }
+    ensures rising { IfOk result
+        (λ left. (h : ℕ) → h < HEADS → HasRisingList (arena_of shape.now) left.items h) }
 {
     let arena = shape.arena();
     let mut order = free_blocks(alloc, &arena, &words)?;
@@ -257,7 +262,9 @@ fn sort_free(alloc: Global, shape: &BooksShape, words: Vec<u64>) -> Result<Vec<u
 pub fn build(alloc: Global, books: &Books) -> Result<Vec<u64>, OutOfMemory>
     ensures count { IfOk result (λ words. length words.items ≡ words_of (shape_of books.now)) }
     ensures stands { IfOk result (λ words. Stands (shape_of books.now) words.items books.now) }
-    ensures rising { IfOk result (λ words. (h : ℕ) → h < HEADS → HasRisingList (arena_of (shape_of books.now)) words.items h) }
+    ensures rising { IfOk result
+        (λ words. (h : ℕ) → h < HEADS
+        → HasRisingList (arena_of (shape_of books.now)) words.items h) }
 {
     books.ranges();
     let shape = BooksShape::of(books);

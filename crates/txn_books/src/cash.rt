@@ -70,7 +70,8 @@ pub fn remove_account<W: Words>(w: &mut W, shape: &BooksShape, account: u32) -> 
     requires stands { InEachState W.Words W.Shape.Shape w.old (IsGoodFor shape.now) }
     requires nothing { InEachState W.Words W.Shape.Shape w.old
         (OfModel (Stands shape.now) (λ books. holds_any books account ≡ false)) }
-    ensures changed { OnOk result (LeadsTo W.Words W.Shape.Shape w.old w.new (Changes (Stands shape.now)
+    ensures changed { OnOk result
+        (LeadsTo W.Words W.Shape.Shape w.old w.new (Changes (Stands shape.now)
         (λ books. record books { accounts = map.remove books.accounts account }))) }
     ensures stands { OnOk result (InEachState W.Words W.Shape.Shape w.new (IsGoodFor shape.now)) }
     ensures goes_on { GoesOn W.Words w.old w.new result }

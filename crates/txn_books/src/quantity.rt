@@ -29,7 +29,8 @@ pub fn quantity<W: Words>(
     requires account { IsAccountNumber account }
     requires instrument { IsWithin 1 shape.now.instruments instrument }
     ensures told { IfOk result (λ answer. LeadsTo W.Words W.Shape.Shape w.old w.new
-        (Tells (Stands shape.now) (λ books. map.get books.positions (account, instrument)) answer)) }
+        (Tells (Stands shape.now) (λ books. map.get books.positions (account, instrument))
+        answer)) }
     ensures range { IfOk result (λ answer. IfSome answer (IsWithin 1 GREATEST_QUANTITY)) }
     ensures stands { OnOk result (InEachState W.Words W.Shape.Shape w.new (IsGoodFor shape.now)) }
     ensures goes_on { GoesOn W.Words w.old w.new result }
@@ -97,7 +98,8 @@ fn worth_in<W: Words>(
     requires stands { InEachState W.Words W.Shape.Shape w.old (IsGoodFor shape.now) }
     requires account { IsAccountNumber account }
     requires instrument { IsWithin 1 shape.now.instruments instrument }
-    ensures told { IfOk result (λ answer. LeadsTo W.Words W.Shape.Shape w.old w.new (Tells (Stands shape.now)
+    ensures told { IfOk result
+        (λ answer. LeadsTo W.Words W.Shape.Shape w.old w.new (Tells (Stands shape.now)
         (λ books. position_of books account instrument * price_of books instrument) answer)) }
     ensures range { IfOk result (λ answer. answer ≤ GREATEST_QUANTITY * GREATEST_PRICE) }
     ensures stands { OnOk result (InEachState W.Words W.Shape.Shape w.new (IsGoodFor shape.now)) }

@@ -91,7 +91,8 @@ fn add_calls(books: &mut Books, ring: &Ring, words: &[u64]) -> Result<(), OutOfM
 
 /// The item of a queue at a number, counted from 0 at the front.
 fn queued(ring: &Ring, words: &[u64], number: u64) -> (u64, u64)
-    requires { (items : List (ℕ × ℕ)) × QueueHolds ring.now words.now items × (number < length items) }
+    requires { (items : List (ℕ × ℕ)) × QueueHolds ring.now words.now items
+        × (number < length items) }
     ensures { (items : List (ℕ × ℕ)) → QueueHolds ring.now words.now items
         → slice_get items number ≡ Some result }
 {

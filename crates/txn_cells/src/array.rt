@@ -96,15 +96,18 @@ impl<T: Coded> CellArray<T> {
     pub fn get<W: Words>(&self, w: &mut W, i: u32) -> Result<T, Stop>
         requires ready { IsReady W.Words w.old }
         requires place { i < self.now.len }
-        requires cells { InEachState W.Words W.Shape.Shape w.old (AreCells T.Coded self.now.at self.now.len) }
+        requires cells { InEachState W.Words W.Shape.Shape w.old
+            (AreCells T.Coded self.now.at self.now.len) }
 
         // In every state that fits, it is the value that the cell has.
         ensures typed { IfOk result (λ x. LeadsTo W.Words W.Shape.Shape w.old w.new
             (DoesTyped T.Coded self.now.at self.now.len (Get i x ∷ []))) }
 
-        ensures cells { OnOk result (InEachState W.Words W.Shape.Shape w.new (AreCells T.Coded self.now.at self.now.len)) }
+        ensures cells { OnOk result
+            (InEachState W.Words W.Shape.Shape w.new (AreCells T.Coded self.now.at self.now.len)) }
         ensures frame { OnOk result (WritesOnly W.Words w.old w.new (λ _. ⊥)) }
-        ensures reads { OnOk result (ReadsOnly W.Words w.old w.new (IsOfCell T.WORDS self.now.at i)) }
+        ensures reads { OnOk result
+            (ReadsOnly W.Words w.old w.new (IsOfCell T.WORDS self.now.at i)) }
         ensures goes_on { GoesOn W.Words w.old w.new result }
     {
         let words = self.read_cell(w, i)?;
@@ -118,15 +121,19 @@ impl<T: Coded> CellArray<T> {
     pub fn set<W: Words>(&self, w: &mut W, i: u32, value: &T) -> Result<(), Stop>
         requires ready { IsReady W.Words w.old }
         requires place { i < self.now.len }
-        requires cells { InEachState W.Words W.Shape.Shape w.old (AreCells T.Coded self.now.at self.now.len) }
+        requires cells { InEachState W.Words W.Shape.Shape w.old
+            (AreCells T.Coded self.now.at self.now.len) }
 
         // In every state that fits, the cell has this value, and the others have theirs.
         ensures typed { OnOk result (LeadsTo W.Words W.Shape.Shape w.old w.new
             (DoesTyped T.Coded self.now.at self.now.len (Set i value.now ∷ []))) }
 
-        ensures cells { OnOk result (InEachState W.Words W.Shape.Shape w.new (AreCells T.Coded self.now.at self.now.len)) }
-        ensures frame { OnOk result (WritesOnly W.Words w.old w.new (IsOfCell T.WORDS self.now.at i)) }
-        ensures reads { OnOk result (ReadsOnly W.Words w.old w.new (IsOfCell T.WORDS self.now.at i)) }
+        ensures cells { OnOk result
+            (InEachState W.Words W.Shape.Shape w.new (AreCells T.Coded self.now.at self.now.len)) }
+        ensures frame { OnOk result
+            (WritesOnly W.Words w.old w.new (IsOfCell T.WORDS self.now.at i)) }
+        ensures reads { OnOk result
+            (ReadsOnly W.Words w.old w.new (IsOfCell T.WORDS self.now.at i)) }
         ensures goes_on { GoesOn W.Words w.old w.new result }
     {
         value.tell();
@@ -138,13 +145,16 @@ impl<T: Coded> CellArray<T> {
     pub fn swap<W: Words>(&self, w: &mut W, i: u32, j: u32) -> Result<(), Stop>
         requires ready { IsReady W.Words w.old }
         requires places { (i < self.now.len) × (j < self.now.len) }
-        requires cells { InEachState W.Words W.Shape.Shape w.old (AreCells T.Coded self.now.at self.now.len) }
+        requires cells { InEachState W.Words W.Shape.Shape w.old
+            (AreCells T.Coded self.now.at self.now.len) }
 
         // There are two values, those of the cells in every state that fits, which are put in crosswise.
         ensures typed { OnOk result ((x : _) × (y : _) × LeadsTo W.Words W.Shape.Shape w.old w.new
-            (DoesTyped T.Coded self.now.at self.now.len (Get i x ∷ Get j y ∷ Set i y ∷ Set j x ∷ []))) }
+            (DoesTyped T.Coded self.now.at self.now.len
+            (Get i x ∷ Get j y ∷ Set i y ∷ Set j x ∷ []))) }
 
-        ensures cells { OnOk result (InEachState W.Words W.Shape.Shape w.new (AreCells T.Coded self.now.at self.now.len)) }
+        ensures cells { OnOk result
+            (InEachState W.Words W.Shape.Shape w.new (AreCells T.Coded self.now.at self.now.len)) }
         ensures frame { OnOk result (WritesOnly W.Words w.old w.new
             (λ a. IsOfCell T.WORDS self.now.at i a ⊎ IsOfCell T.WORDS self.now.at j a)) }
         ensures reads { OnOk result (ReadsOnly W.Words w.old w.new
@@ -173,8 +183,10 @@ impl<T: Coded> CellArray<T> {
     ) -> Result<[u64; MOST_WORDS_OF_A_CELL as usize], Stop>
         requires ready { IsReady W.Words w.old }
         requires place { i < self.now.len }
-        requires cells { InEachState W.Words W.Shape.Shape w.old (AreCells T.Coded self.now.at self.now.len) }
-        ensures looks { IfOk result (λ words. Looks (W.Shape.word_count (W.shape w.old)) (W.Shape.good (W.shape w.old))
+        requires cells { InEachState W.Words W.Shape.Shape w.old
+            (AreCells T.Coded self.now.at self.now.len) }
+        ensures looks { IfOk result
+            (λ words. Looks (W.Shape.word_count (W.shape w.old)) (W.Shape.good (W.shape w.old))
             (W.trace w.old) (W.trace w.new) (λ _. IsOfCell T.WORDS self.now.at i)
             (λ s. cell_words T.Coded self.now.at i s ≡ take T.WORDS words)) }
         ensures goes_on { GoesOn W.Words w.old w.new result }
@@ -191,12 +203,15 @@ impl<T: Coded> CellArray<T> {
     fn write_cell<W: Words>(&self, w: &mut W, i: u32, words: &[u64]) -> Result<(), Stop>
         requires ready { IsReady W.Words w.old }
         requires place { i < self.now.len }
-        requires cells { InEachState W.Words W.Shape.Shape w.old (AreCells T.Coded self.now.at self.now.len) }
+        requires cells { InEachState W.Words W.Shape.Shape w.old
+            (AreCells T.Coded self.now.at self.now.len) }
         requires count { length words.now ≡ T.WORDS }
         ensures puts { OnOk result (LeadsTo W.Words W.Shape.Shape w.old w.new
             (PutsWords (self.now.at + i * T.WORDS) words.now)) }
-        ensures frame { OnOk result (WritesOnly W.Words w.old w.new (IsOfCell T.WORDS self.now.at i)) }
-        ensures reads { OnOk result (ReadsOnly W.Words w.old w.new (IsOfCell T.WORDS self.now.at i)) }
+        ensures frame { OnOk result
+            (WritesOnly W.Words w.old w.new (IsOfCell T.WORDS self.now.at i)) }
+        ensures reads { OnOk result
+            (ReadsOnly W.Words w.old w.new (IsOfCell T.WORDS self.now.at i)) }
         ensures goes_on { GoesOn W.Words w.old w.new result }
     {
         let first = self.first_word(i);

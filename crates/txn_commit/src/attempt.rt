@@ -157,11 +157,13 @@ fn put_back<S: Shape>(
     place: usize,
 ) -> Result<(), OutOfMemory>
     requires place { place < count_writes pass.old.view.trace }
-    requires sound { IsSoundAttempt S.word_count S.good desk.now began.now.value pass.old undo.old None }
+    requires sound { IsSoundAttempt S.word_count S.good desk.now began.now.value pass.old undo.old
+        None }
     ensures back { OnOk result (PutsBack (S.word_count desk.now.shape) (S.good desk.now.shape) place
         pass.old.view.trace pass.new.view.trace) }
     ensures begins { Begins pass.old.view.trace pass.new.view.trace }
-    ensures sound { IsSoundAttempt S.word_count S.good desk.now began.now.value pass.new undo.new None }
+    ensures sound { IsSoundAttempt S.word_count S.good desk.now began.now.value pass.new undo.new
+        None }
     ensures events { DidEvents pass.old.view pass.new.view }
     ensures full { OnErr result (UNDO_ROOM ≤ length undo.new.list) }
     ensures memory { OnErr result (undo.old.spare ≡ 0) }
@@ -185,11 +187,13 @@ fn go_back<S: Shape>(
     to: usize,
 ) -> Result<(), OutOfMemory>
     requires mark { to ≤ count_writes pass.old.view.trace }
-    requires sound { IsSoundAttempt S.word_count S.good desk.now began.now.value pass.old undo.old None }
+    requires sound { IsSoundAttempt S.word_count S.good desk.now began.now.value pass.old undo.old
+        None }
     ensures back { OnOk result (TakesBack (S.word_count desk.now.shape) (S.good desk.now.shape) to
         pass.old.view.trace pass.new.view.trace) }
     ensures begins { Begins pass.old.view.trace pass.new.view.trace }
-    ensures sound { IsSoundAttempt S.word_count S.good desk.now began.now.value pass.new undo.new None }
+    ensures sound { IsSoundAttempt S.word_count S.good desk.now began.now.value pass.new undo.new
+        None }
     ensures events { DidEvents pass.old.view pass.new.view }
     ensures full { OnErr result (UNDO_ROOM ≤ length undo.new.list) }
     ensures memory { OnErr result (to + undo.old.spare < count_writes pass.old.view.trace) }
@@ -278,7 +282,8 @@ impl<'a, S: Shape, G: Gate, R: Wait> Words for Attempt<'a, S, G, R> {
         requires going { stop_of self.old.halt ≡ None }
         requires sound { IsSoundAttempt S.word_count S.good self.old.desk.now self.old.began.value
             self.old.pass.now self.old.undo self.old.halt }
-        ensures value { OnOk result (EndsWithWrite self.old.pass.now.view.trace self.new.pass.now.view.trace a v) }
+        ensures value { OnOk result
+            (EndsWithWrite self.old.pass.now.view.trace self.new.pass.now.view.trace a v) }
         ensures begins { Begins self.old.pass.now.view.trace self.new.pass.now.view.trace }
         ensures stops { stop_of self.new.halt ≡ stop_after result }
         ensures shape { self.new.desk.now.shape ≡ self.old.desk.now.shape }
@@ -289,7 +294,8 @@ impl<'a, S: Shape, G: Gate, R: Wait> Words for Attempt<'a, S, G, R> {
 
         ensures memory { 0 < self.old.undo.spare → result ≢ Err Memory }
         ensures asked { GainsAtMost a self.old.pass.now.view.asked self.new.pass.now.view.asked }
-        ensures writes { AsksToWrite (lock_of_word a) self.old.pass.now.view self.new.pass.now.view }
+        ensures writes { AsksToWrite (lock_of_word a) self.old.pass.now.view
+            self.new.pass.now.view }
     {
         match ask_to_write(self.rt, self.desk, self.pass, a) {
             Asked::Held => {}
@@ -344,7 +350,8 @@ impl<'a, S: Shape, G: Gate, R: Wait> Words for Attempt<'a, S, G, R> {
         requires going { stop_of self.old.halt ≡ None }
         requires sound { IsSoundAttempt S.word_count S.good self.old.desk.now self.old.began.value
             self.old.pass.now self.old.undo self.old.halt }
-        ensures back { OnOk result (TakesBack (S.word_count self.old.desk.now.shape) (S.good self.old.desk.now.shape)
+        ensures back { OnOk result
+            (TakesBack (S.word_count self.old.desk.now.shape) (S.good self.old.desk.now.shape)
             m.writes self.old.pass.now.view.trace self.new.pass.now.view.trace) }
         ensures begins { Begins self.old.pass.now.view.trace self.new.pass.now.view.trace }
         ensures stops { stop_of self.new.halt ≡ stop_after result }

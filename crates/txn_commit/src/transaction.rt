@@ -160,12 +160,14 @@ fn run_attempts<S: Shape, G: Gate, R: Wait, J: Job<Shape = S>>(
     ensures entry { IfOk result (λ receipt. GetsEntry attempt.old.desk.now.base (J.means job.now)
         (number attempt.old.pass.now.view) call
         attempt.old.pass.now.view.seen attempt.new.pass.now.view.seen receipt) }
-    ensures legal { OnOk result (IsLegalFor S.Shape attempt.old.desk.now attempt.new.pass.now.view.seen) }
+    ensures legal { OnOk result
+        (IsLegalFor S.Shape attempt.old.desk.now attempt.new.pass.now.view.seen) }
     ensures few { IfOk result (λ receipt. receipt.restarts < attempt.old.desk.now.seats) }
     ensures committed { OnOk result (attempt.new.pass.now.view.phase ≡ Phase.Releasing) }
     ensures others { OnErr result (GainsOthers (number attempt.old.pass.now.view)
         attempt.old.pass.now.view.seen attempt.new.pass.now.view.seen) }
-    ensures floor { OnErr result (attempt.new.pass.now.view.floor ≡ attempt.old.pass.now.view.floor) }
+    ensures floor { OnErr result
+        (attempt.new.pass.now.view.floor ≡ attempt.old.pass.now.view.floor) }
     ensures given_up { OnErr result (is_attempt attempt.new.pass.now.view.phase ≡ true) }
     ensures footprint { OnOk result (AsksItsFootprint attempt.new.pass.now.view) }
     ensures left { OnErr result (LeavesFootprint attempt.new.pass.now.view) }

@@ -25,9 +25,11 @@ pub(crate) fn find<W: Words>(w: &mut W, map: &ChainMap, key: u64) -> Result<Opti
     requires ready { IsReady W.Words w.old }
     requires order { InEachState W.Words W.Shape.Shape w.old (HasMap (chain_part map.now)) }
     ensures found { IfOk result (λ answer. IfSome answer (λ f.
-        Looks (W.Shape.word_count (W.shape w.old)) (W.Shape.good (W.shape w.old)) (W.trace w.old) (W.trace w.new) (IsLink map.now key) (IsFoundAt map.now key f.place f.block))) }
+        Looks (W.Shape.word_count (W.shape w.old)) (W.Shape.good (W.shape w.old)) (W.trace w.old)
+        (W.trace w.new) (IsLink map.now key) (IsFoundAt map.now key f.place f.block))) }
     ensures missing { IfOk result (λ answer. IfNone answer
-        (Looks (W.Shape.word_count (W.shape w.old)) (W.Shape.good (W.shape w.old)) (W.trace w.old) (W.trace w.new) (IsLink map.now key) (IsMissing map.now key))) }
+        (Looks (W.Shape.word_count (W.shape w.old)) (W.Shape.good (W.shape w.old)) (W.trace w.old)
+        (W.trace w.new) (IsLink map.now key) (IsMissing map.now key))) }
     ensures block { IfOk result (λ answer. IfSome answer (λ f. f.block < map.now.arena.blocks)) }
     ensures goes_on { GoesOn W.Words w.old w.new result }
 {

@@ -22,9 +22,11 @@ pub(crate) fn put_in_front<W: Words>(
     requires ready { IsReady W.Words w.old }
     requires laid { InEachState W.Words W.Shape.Shape w.old (IsLaid map.now) }
     requires block { block < map.now.arena.blocks }
-    ensures put { OnOk result (LeadsTo W.Words W.Shape.Shape w.old w.new (IsPutInFront map.now key value block)) }
+    ensures put { OnOk result
+        (LeadsTo W.Words W.Shape.Shape w.old w.new (IsPutInFront map.now key value block)) }
     ensures frame { OnOk result (WritesOnly W.Words w.old w.new (IsBucketOrIn map.now key block)) }
-    ensures reads { OnOk result (AppendsReads (W.trace w.old) (W.trace w.new) (IsBucketOrIn map.now key block)) }
+    ensures reads { OnOk result
+        (AppendsReads (W.trace w.old) (W.trace w.new) (IsBucketOrIn map.now key block)) }
     ensures goes_on { GoesOn W.Words w.old w.new result }
 {
     let place = map.buckets + bucket(key);

@@ -17,14 +17,18 @@ impl ChainMap {
         requires order { InEachState W.Words W.Shape.Shape w.old (HasMap (chain_part self.now)) }
 
         // Nothing changes, and the answer is what the map has at the key.
-        ensures found { IfOk result (λ answer. LeadsTo W.Words W.Shape.Shape w.old w.new (Finds (chain_part self.now) key answer)) }
-        ensures order { OnOk result (InEachState W.Words W.Shape.Shape w.new (HasMap (chain_part self.now))) }
+        ensures found { IfOk result
+            (λ answer.
+            LeadsTo W.Words W.Shape.Shape w.old w.new (Finds (chain_part self.now) key answer)) }
+        ensures order { OnOk result
+            (InEachState W.Words W.Shape.Shape w.new (HasMap (chain_part self.now))) }
 
         // No word is written.
         ensures frame { OnOk result (WritesOnly W.Words w.old w.new (λ a. ⊥)) }
 
         // Of the map's own blocks keys and links are read, and the value of the key.
-        ensures reads { OnOk result (ReadsWithin W.Words W.Shape.Shape w.old w.new (MayRead (chain_part self.now) key)) }
+        ensures reads { OnOk result
+            (ReadsWithin W.Words W.Shape.Shape w.old w.new (MayRead (chain_part self.now) key)) }
         ensures goes_on { GoesOn W.Words w.old w.new result }
     {
         match find(w, self, key)? {

@@ -18,10 +18,13 @@ impl ChainMap {
     /// gives.
     pub fn insert<W: Words>(&self, w: &mut W, key: u64, value: u64) -> Result<Put, Stop>
         requires ready { IsReady W.Words w.old }
-        requires order { InEachState W.Words W.Shape.Shape w.old (HasMapApart (chain_part self.now)) }
+        requires order { InEachState W.Words W.Shape.Shape w.old
+            (HasMapApart (chain_part self.now)) }
 
         // The map has the value at the key, and else what it had.
-        ensures put { IfOk result (λ put. LeadsTo W.Words W.Shape.Shape w.old w.new (Inserts (chain_part self.now) key value put)) }
+        ensures put { IfOk result
+            (λ put. LeadsTo W.Words W.Shape.Shape w.old w.new
+            (Inserts (chain_part self.now) key value put)) }
 
         // A key that is new gets the block that a take near the key gives.
         ensures nearest { IfOk result (λ put. put ≡ New
@@ -29,14 +32,19 @@ impl ChainMap {
 
         // It answers Full exactly where in every state the key is absent and no block is free.
         ensures full { IfOk result (λ put.
-            put ≡ Full → LeadsTo W.Words W.Shape.Shape w.old w.new (λ before _. LacksRoom (chain_part self.now) key before)) }
+            put ≡ Full
+            → LeadsTo W.Words W.Shape.Shape w.old w.new
+            (λ before _. LacksRoom (chain_part self.now) key before)) }
         ensures full_if { IfOk result (λ put.
-            LeadsTo W.Words W.Shape.Shape w.old w.new (λ before _. LacksRoom (chain_part self.now) key before) → put ≡ Full) }
+            LeadsTo W.Words W.Shape.Shape w.old w.new
+            (λ before _. LacksRoom (chain_part self.now) key before) → put ≡ Full) }
 
-        ensures order { OnOk result (InEachState W.Words W.Shape.Shape w.new (HasMapApart (chain_part self.now))) }
+        ensures order { OnOk result
+            (InEachState W.Words W.Shape.Shape w.new (HasMapApart (chain_part self.now))) }
 
         // No word is written but the key's bucket, the words of the map's blocks and the head for the block that it takes.
-        ensures frame { OnOk result (WritesWithin W.Words W.Shape.Shape w.old w.new (IsOwn (chain_part self.now) key)) }
+        ensures frame { OnOk result
+            (WritesWithin W.Words W.Shape.Shape w.old w.new (IsOwn (chain_part self.now) key)) }
 
         // Where the key was there, the word of its value alone is written.
         ensures old { IfOk result (λ put. (was : ℕ)
@@ -44,12 +52,14 @@ impl ChainMap {
             → WritesWithin W.Words W.Shape.Shape w.old w.new (IsValue (chain_part self.now) key)) }
 
         // Where there is no room, no word is written.
-        ensures full_frame { IfOk result (λ put. put ≡ Full → WritesOnly W.Words w.old w.new (λ a. ⊥)) }
+        ensures full_frame { IfOk result
+            (λ put. put ≡ Full → WritesOnly W.Words w.old w.new (λ a. ⊥)) }
 
         // Of the map's own blocks keys and links are read, and the value of the key; beside them, where a block is taken the
         // heads from that of the key round to its own, and its words, and where none is free the heads.
         ensures reads { IfOk result (λ put.
-            ReadsWithin W.Words W.Shape.Shape w.old w.new (MayReadToInsert (chain_part self.now) key put)) }
+            ReadsWithin W.Words W.Shape.Shape w.old w.new
+            (MayReadToInsert (chain_part self.now) key put)) }
         ensures goes_on { GoesOn W.Words w.old w.new result }
     {
         match find(w, self, key)? {

@@ -15,21 +15,28 @@ impl ChainMap {
     /// Takes the key out, and gives its block back. Answers the value that it had.
     pub fn remove<W: Words>(&self, w: &mut W, key: u64) -> Result<Option<u64>, Stop>
         requires ready { IsReady W.Words w.old }
-        requires order { InEachState W.Words W.Shape.Shape w.old (HasMapApart (chain_part self.now)) }
+        requires order { InEachState W.Words W.Shape.Shape w.old
+            (HasMapApart (chain_part self.now)) }
 
         // The map has the key no more, and else what it had, and the key's block is free.
-        ensures removed { IfOk result (λ answer. LeadsTo W.Words W.Shape.Shape w.old w.new (Removes (chain_part self.now) key answer)) }
-        ensures order { OnOk result (InEachState W.Words W.Shape.Shape w.new (HasMapApart (chain_part self.now))) }
+        ensures removed { IfOk result
+            (λ answer.
+            LeadsTo W.Words W.Shape.Shape w.old w.new (Removes (chain_part self.now) key answer)) }
+        ensures order { OnOk result
+            (InEachState W.Words W.Shape.Shape w.new (HasMapApart (chain_part self.now))) }
 
         // No word is written but the key's bucket, the words of the map's blocks and the head for the block that it gives back.
-        ensures frame { OnOk result (WritesWithin W.Words W.Shape.Shape w.old w.new (IsOwn (chain_part self.now) key)) }
+        ensures frame { OnOk result
+            (WritesWithin W.Words W.Shape.Shape w.old w.new (IsOwn (chain_part self.now) key)) }
 
         // Where the key is absent, no word is written.
-        ensures none_frame { IfOk result (λ answer. IfNone answer (WritesOnly W.Words w.old w.new (λ a. ⊥))) }
+        ensures none_frame { IfOk result
+            (λ answer. IfNone answer (WritesOnly W.Words w.old w.new (λ a. ⊥))) }
 
         // Of the map's own blocks keys and links are read, and the value of the key; where a block is given back, its head too.
         ensures reads { IfOk result (λ answer.
-            ReadsWithin W.Words W.Shape.Shape w.old w.new (MayReadToRemove (chain_part self.now) key answer)) }
+            ReadsWithin W.Words W.Shape.Shape w.old w.new
+            (MayReadToRemove (chain_part self.now) key answer)) }
         ensures goes_on { GoesOn W.Words w.old w.new result }
     {
         match find(w, self, key)? {

@@ -31,15 +31,18 @@ impl Ring {
         ensures full { IfOk result (λ answer. answer ≡ false →
             LeadsTo W.Words W.Shape.Shape w.old w.new (λ before _. IsFull self.now before)) }
         ensures full_if { IfOk result (λ answer.
-            LeadsTo W.Words W.Shape.Shape w.old w.new (λ before _. IsFull self.now before) → answer ≡ false) }
+            LeadsTo W.Words W.Shape.Shape w.old w.new (λ before _. IsFull self.now before)
+            → answer ≡ false) }
 
         ensures order { OnOk result (InEachState W.Words W.Shape.Shape w.new (IsInOrder self.now)) }
 
         // No word but the ring's own is written, so every other stays, and none but these is read. A push that is
         // refused writes nothing.
         ensures frame { OnOk result (WritesOnly W.Words w.old w.new (IsOwn self.now)) }
-        ensures others { OnOk result (LeadsTo W.Words W.Shape.Shape w.old w.new (KeepsOthers (IsOwn self.now))) }
-        ensures full_frame { IfOk result (λ answer. answer ≡ false → WritesOnly W.Words w.old w.new (λ _. ⊥)) }
+        ensures others { OnOk result
+            (LeadsTo W.Words W.Shape.Shape w.old w.new (KeepsOthers (IsOwn self.now))) }
+        ensures full_frame { IfOk result
+            (λ answer. answer ≡ false → WritesOnly W.Words w.old w.new (λ _. ⊥)) }
         ensures reads { OnOk result (ReadsOnly W.Words w.old w.new (IsOwn self.now)) }
         ensures goes_on { GoesOn W.Words w.old w.new result }
     {
@@ -70,17 +73,21 @@ impl Ring {
 
         // It answers None exactly where in every state the queue holds no item.
         ensures none { IfOk result (λ answer.
-            IfNone answer (LeadsTo W.Words W.Shape.Shape w.old w.new (λ before _. IsEmpty self.now before))) }
+            IfNone answer
+            (LeadsTo W.Words W.Shape.Shape w.old w.new (λ before _. IsEmpty self.now before))) }
         ensures none_if { IfOk result (λ answer.
-            LeadsTo W.Words W.Shape.Shape w.old w.new (λ before _. IsEmpty self.now before) → answer ≡ None) }
+            LeadsTo W.Words W.Shape.Shape w.old w.new (λ before _. IsEmpty self.now before)
+            → answer ≡ None) }
 
         ensures order { OnOk result (InEachState W.Words W.Shape.Shape w.new (IsInOrder self.now)) }
 
         // No word but the ring's own is written, so every other stays, and none but these is read. A pop that finds
         // no item writes nothing.
         ensures frame { OnOk result (WritesOnly W.Words w.old w.new (IsOwn self.now)) }
-        ensures others { OnOk result (LeadsTo W.Words W.Shape.Shape w.old w.new (KeepsOthers (IsOwn self.now))) }
-        ensures none_frame { IfOk result (λ answer. IfNone answer (WritesOnly W.Words w.old w.new (λ _. ⊥))) }
+        ensures others { OnOk result
+            (LeadsTo W.Words W.Shape.Shape w.old w.new (KeepsOthers (IsOwn self.now))) }
+        ensures none_frame { IfOk result
+            (λ answer. IfNone answer (WritesOnly W.Words w.old w.new (λ _. ⊥))) }
         ensures reads { OnOk result (ReadsOnly W.Words w.old w.new (IsOwn self.now)) }
         ensures goes_on { GoesOn W.Words w.old w.new result }
     {
@@ -103,12 +110,14 @@ impl Ring {
     pub fn len<W: Words>(&self, w: &mut W) -> Result<u64, Stop>
         requires ready { IsReady W.Words w.old }
         requires order { InEachState W.Words W.Shape.Shape w.old (IsInOrder self.now) }
-        ensures count { IfOk result (λ n. InEachState W.Words W.Shape.Shape w.new (HasCount self.now n)) }
+        ensures count { IfOk result
+            (λ n. InEachState W.Words W.Shape.Shape w.new (HasCount self.now n)) }
         ensures order { OnOk result (InEachState W.Words W.Shape.Shape w.new (IsInOrder self.now)) }
 
         // No word is written, so nothing changes.
         ensures frame { OnOk result (WritesOnly W.Words w.old w.new (λ _. ⊥)) }
-        ensures same { OnOk result (LeadsTo W.Words W.Shape.Shape w.old w.new (λ before after. after ≡ before)) }
+        ensures same { OnOk result
+            (LeadsTo W.Words W.Shape.Shape w.old w.new (λ before after. after ≡ before)) }
         ensures reads { OnOk result (ReadsOnly W.Words w.old w.new (IsOwn self.now)) }
         ensures goes_on { GoesOn W.Words w.old w.new result }
     {

@@ -31,10 +31,14 @@ pub(crate) fn look<W: Words>(w: &mut W, map: &TreeMap, place: u64) -> Result<Opt
     requires ready { IsReady W.Words w.old }
     requires top { InEachState W.Words W.Shape.Shape w.old (HasTop map.now place) }
     ensures named { IfOk result (λ answer. IfSome answer (λ node.
-        Looks (W.Shape.word_count (W.shape w.old)) (W.Shape.good (W.shape w.old)) (W.trace w.old) (W.trace w.new) (IsPlaceOrKey map.now place node.block) (IsNamed map.now place node.block node.key))) }
+        Looks (W.Shape.word_count (W.shape w.old)) (W.Shape.good (W.shape w.old)) (W.trace w.old)
+        (W.trace w.new) (IsPlaceOrKey map.now place node.block)
+        (IsNamed map.now place node.block node.key))) }
     ensures end { IfOk result (λ answer. IfNone answer
-        (Looks (W.Shape.word_count (W.shape w.old)) (W.Shape.good (W.shape w.old)) (W.trace w.old) (W.trace w.new) (IsPlace place) (IsEnd place))) }
-    ensures block { IfOk result (λ answer. IfSome answer (λ node. node.block < map.now.arena.blocks)) }
+        (Looks (W.Shape.word_count (W.shape w.old)) (W.Shape.good (W.shape w.old)) (W.trace w.old)
+        (W.trace w.new) (IsPlace place) (IsEnd place))) }
+    ensures block { IfOk result
+        (λ answer. IfSome answer (λ node. node.block < map.now.arena.blocks)) }
     ensures goes_on { GoesOn W.Words w.old w.new result }
 {
     let blocks = map.arena.blocks;
@@ -53,9 +57,11 @@ pub(crate) fn find<W: Words>(w: &mut W, map: &TreeMap, key: u64) -> Result<Optio
     requires ready { IsReady W.Words w.old }
     requires order { InEachState W.Words W.Shape.Shape w.old (HasMap (tree_part map.now)) }
     ensures found { IfOk result (λ answer. IfSome answer (λ f.
-        Looks (W.Shape.word_count (W.shape w.old)) (W.Shape.good (W.shape w.old)) (W.trace w.old) (W.trace w.new) (IsLink map.now) (IsFoundAt map.now key f.place f.block))) }
+        Looks (W.Shape.word_count (W.shape w.old)) (W.Shape.good (W.shape w.old)) (W.trace w.old)
+        (W.trace w.new) (IsLink map.now) (IsFoundAt map.now key f.place f.block))) }
     ensures missing { IfOk result (λ answer. IfNone answer
-        (Looks (W.Shape.word_count (W.shape w.old)) (W.Shape.good (W.shape w.old)) (W.trace w.old) (W.trace w.new) (IsLink map.now) (IsMissing map.now key))) }
+        (Looks (W.Shape.word_count (W.shape w.old)) (W.Shape.good (W.shape w.old)) (W.trace w.old)
+        (W.trace w.new) (IsLink map.now) (IsMissing map.now key))) }
     ensures block { IfOk result (λ answer. IfSome answer (λ f. f.block < map.now.arena.blocks)) }
     ensures goes_on { GoesOn W.Words w.old w.new result }
 {

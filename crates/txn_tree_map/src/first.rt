@@ -28,7 +28,8 @@ pub(crate) fn first_at<W: Words>(
     requires ready { IsReady W.Words w.old }
     requires order { InEachState W.Words W.Shape.Shape w.old (HasMap (tree_part map.now)) }
     ensures nearest { IfOk result (λ answer.
-        Looks (W.Shape.word_count (W.shape w.old)) (W.Shape.good (W.shape w.old)) (W.trace w.old) (W.trace w.new) (IsLink map.now) (IsFirstFrom map.now least answer)) }
+        Looks (W.Shape.word_count (W.shape w.old)) (W.Shape.good (W.shape w.old)) (W.trace w.old)
+        (W.trace w.new) (IsLink map.now) (IsFirstFrom map.now least answer)) }
     ensures goes_on { GoesOn W.Words w.old w.new result }
 {
     let mut best = None;

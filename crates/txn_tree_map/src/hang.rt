@@ -11,9 +11,11 @@ use txn_words::{Stop, Words};
 pub(crate) fn hang<W: Words>(w: &mut W, hole: u64, name: u64, inner: u64) -> Result<u64, Stop>
     requires ready { IsReady W.Words w.old }
     requires within { InEachState W.Words W.Shape.Shape w.old (AreWithin hole inner) }
-    ensures hung { IfOk result (λ rest. LeadsTo W.Words W.Shape.Shape w.old w.new (Hangs hole name inner rest)) }
+    ensures hung { IfOk result
+        (λ rest. LeadsTo W.Words W.Shape.Shape w.old w.new (Hangs hole name inner rest)) }
     ensures frame { OnOk result (WritesOnly W.Words w.old w.new (λ a. a ≡ hole)) }
-    ensures reads { OnOk result (AppendsReads (W.trace w.old) (W.trace w.new) (λ a. (a ≡ hole) ⊎ (a ≡ inner))) }
+    ensures reads { OnOk result
+        (AppendsReads (W.trace w.old) (W.trace w.new) (λ a. (a ≡ hole) ⊎ (a ≡ inner))) }
     ensures goes_on { GoesOn W.Words w.old w.new result }
 {
     let rest = w.read(inner)?;

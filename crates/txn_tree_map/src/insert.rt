@@ -25,9 +25,12 @@ pub(crate) fn put_in<W: Words>(
 ) -> Result<(), Stop>
     requires ready { IsReady W.Words w.old }
     requires missing { InEachState W.Words W.Shape.Shape w.old (CanPut map.now key block) }
-    ensures put { OnOk result (LeadsTo W.Words W.Shape.Shape w.old w.new (IsPut map.now key value block)) }
-    ensures frame { OnOk result (WritesWithin W.Words W.Shape.Shape w.old w.new (IsPutOwn map.now key block)) }
-    ensures reads { OnOk result (ReadsWithin W.Words W.Shape.Shape w.old w.new (IsPutSeen map.now key block)) }
+    ensures put { OnOk result
+        (LeadsTo W.Words W.Shape.Shape w.old w.new (IsPut map.now key value block)) }
+    ensures frame { OnOk result
+        (WritesWithin W.Words W.Shape.Shape w.old w.new (IsPutOwn map.now key block)) }
+    ensures reads { OnOk result
+        (ReadsWithin W.Words W.Shape.Shape w.old w.new (IsPutSeen map.now key block)) }
     ensures goes_on { GoesOn W.Words w.old w.new result }
 {
     let seat = find_seat(w, map, key)?;
@@ -44,11 +47,13 @@ impl TreeMap {
     /// gives.
     pub fn insert<W: Words>(&self, w: &mut W, key: u64, value: u64) -> Result<Put, Stop>
         requires ready { IsReady W.Words w.old }
-        requires order { InEachState W.Words W.Shape.Shape w.old (HasMapApart (tree_part self.now)) }
+        requires order { InEachState W.Words W.Shape.Shape w.old
+            (HasMapApart (tree_part self.now)) }
 
         // The map has the value at the key, and else what it had.
         ensures put { IfOk result (λ put.
-            LeadsTo W.Words W.Shape.Shape w.old w.new (Inserts (tree_part self.now) key value put)) }
+            LeadsTo W.Words W.Shape.Shape w.old w.new
+            (Inserts (tree_part self.now) key value put)) }
 
         // A key that is new gets the block that a take near the key gives.
         ensures nearest { IfOk result (λ put. put ≡ New
@@ -56,9 +61,11 @@ impl TreeMap {
 
         // It answers Full exactly where in every state the key is absent and no block is free.
         ensures full { IfOk result (λ put. put ≡ Full
-            → LeadsTo W.Words W.Shape.Shape w.old w.new (λ before _. LacksRoom (tree_part self.now) key before)) }
+            → LeadsTo W.Words W.Shape.Shape w.old w.new
+            (λ before _. LacksRoom (tree_part self.now) key before)) }
         ensures full_if { IfOk result (λ put.
-            LeadsTo W.Words W.Shape.Shape w.old w.new (λ before _. LacksRoom (tree_part self.now) key before)
+            LeadsTo W.Words W.Shape.Shape w.old w.new
+            (λ before _. LacksRoom (tree_part self.now) key before)
             → put ≡ Full) }
 
         ensures order { OnOk result (
@@ -73,12 +80,14 @@ impl TreeMap {
             → WritesWithin W.Words W.Shape.Shape w.old w.new (IsValue (tree_part self.now) key)) }
 
         // Where there is no room, no word is written.
-        ensures full_frame { IfOk result (λ put. put ≡ Full → WritesOnly W.Words w.old w.new (λ a. ⊥)) }
+        ensures full_frame { IfOk result
+            (λ put. put ≡ Full → WritesOnly W.Words w.old w.new (λ a. ⊥)) }
 
         // Of the map's own blocks keys and links are read, and the value of the key; beside them, where a block is taken the
         // heads from that of the key round to its own, and its words, and where none is free the heads.
         ensures reads { IfOk result (λ put.
-            ReadsWithin W.Words W.Shape.Shape w.old w.new (MayReadToInsert (tree_part self.now) key put)) }
+            ReadsWithin W.Words W.Shape.Shape w.old w.new
+            (MayReadToInsert (tree_part self.now) key put)) }
         ensures goes_on { GoesOn W.Words w.old w.new result }
     {
         match find(w, self, key)? {

@@ -24,12 +24,15 @@ pub(crate) fn join_one<W: Words>(w: &mut W, map: &TreeMap, gap: Gap) -> Result<G
     requires ready { IsReady W.Words w.old }
     requires left { gap.left ≢ 0 }
     requires right { gap.right ≢ 0 }
-    requires joined { InEachState W.Words W.Shape.Shape w.old (CanGoOn map.now gap.place gap.left gap.right) }
+    requires joined { InEachState W.Words W.Shape.Shape w.old
+        (CanGoOn map.now gap.place gap.left gap.right) }
     ensures joined { IfOk result (λ next.
-        LeadsTo W.Words W.Shape.Shape w.old w.new (JoinsOne map.now gap.place gap.left gap.right next.place next.left next.right)) }
+        LeadsTo W.Words W.Shape.Shape w.old w.new
+        (JoinsOne map.now gap.place gap.left gap.right next.place next.left next.right)) }
     ensures frame { OnOk result (WritesOnly W.Words w.old w.new (λ a. a ≡ gap.place)) }
     ensures reads { OnOk result (
-        AppendsReads (W.trace w.old) (W.trace w.new) (IsPlaceOrTop map.now gap.place gap.left gap.right)) }
+        AppendsReads (W.trace w.old) (W.trace w.new)
+        (IsPlaceOrTop map.now gap.place gap.left gap.right)) }
     ensures goes_on { GoesOn W.Words w.old w.new result }
 {
     let Gap { place, left, right } = gap;
@@ -67,9 +70,12 @@ pub(crate) fn gather<W: Words>(
     requires ready { IsReady W.Words w.old }
     requires pair { InEachState W.Words W.Shape.Shape w.old (CanJoin map.now hole left right) }
     ensures gathered { IfOk result (λ last.
-        LeadsTo W.Words W.Shape.Shape w.old w.new (IsGathered map.now hole left right last.place last.name)) }
-    ensures frame { OnOk result (WritesWithin W.Words W.Shape.Shape w.old w.new (IsJoinOwn map.now hole left right)) }
-    ensures reads { OnOk result (ReadsWithin W.Words W.Shape.Shape w.old w.new (IsJoinSeen map.now hole left right)) }
+        LeadsTo W.Words W.Shape.Shape w.old w.new
+        (IsGathered map.now hole left right last.place last.name)) }
+    ensures frame { OnOk result
+        (WritesWithin W.Words W.Shape.Shape w.old w.new (IsJoinOwn map.now hole left right)) }
+    ensures reads { OnOk result
+        (ReadsWithin W.Words W.Shape.Shape w.old w.new (IsJoinSeen map.now hole left right)) }
     ensures goes_on { GoesOn W.Words w.old w.new result }
 {
     let mut gap = Gap {
@@ -108,9 +114,12 @@ pub(crate) fn join<W: Words>(
 ) -> Result<(), Stop>
     requires ready { IsReady W.Words w.old }
     requires pair { InEachState W.Words W.Shape.Shape w.old (CanJoin map.now hole left right) }
-    ensures joined { OnOk result (LeadsTo W.Words W.Shape.Shape w.old w.new (Joins map.now hole left right)) }
-    ensures frame { OnOk result (WritesWithin W.Words W.Shape.Shape w.old w.new (IsJoinOwn map.now hole left right)) }
-    ensures reads { OnOk result (ReadsWithin W.Words W.Shape.Shape w.old w.new (IsJoinSeen map.now hole left right)) }
+    ensures joined { OnOk result
+        (LeadsTo W.Words W.Shape.Shape w.old w.new (Joins map.now hole left right)) }
+    ensures frame { OnOk result
+        (WritesWithin W.Words W.Shape.Shape w.old w.new (IsJoinOwn map.now hole left right)) }
+    ensures reads { OnOk result
+        (ReadsWithin W.Words W.Shape.Shape w.old w.new (IsJoinSeen map.now hole left right)) }
     ensures goes_on { GoesOn W.Words w.old w.new result }
 {
     let last = gather(w, map, hole, left, right)?;

@@ -17,10 +17,13 @@ use txn_words::{Stop, Words};
 pub(crate) fn cut<W: Words>(w: &mut W, map: &TreeMap, found: Found) -> Result<u64, Stop>
     requires ready { IsReady W.Words w.old }
     requires block { found.block < map.now.arena.blocks }
-    requires can { InEachState W.Words W.Shape.Shape w.old (CanCut map.now found.place found.block) }
+    requires can { InEachState W.Words W.Shape.Shape w.old
+        (CanCut map.now found.place found.block) }
     ensures cut { IfOk result (λ value.
         LeadsTo W.Words W.Shape.Shape w.old w.new (Cuts map.now found.place found.block value)) }
-    ensures frame { OnOk result (WritesWithin W.Words W.Shape.Shape w.old w.new (IsCutOwn map.now found.place found.block)) }
+    ensures frame { OnOk result
+        (WritesWithin W.Words W.Shape.Shape w.old w.new
+        (IsCutOwn map.now found.place found.block)) }
     ensures reads { OnOk result (
         ReadsWithin W.Words W.Shape.Shape w.old w.new (IsCutSeen map.now found.place found.block)) }
     ensures goes_on { GoesOn W.Words w.old w.new result }
@@ -37,7 +40,8 @@ impl TreeMap {
     /// Takes the key out, and gives its block back. Answers the value that it had.
     pub fn remove<W: Words>(&self, w: &mut W, key: u64) -> Result<Option<u64>, Stop>
         requires ready { IsReady W.Words w.old }
-        requires order { InEachState W.Words W.Shape.Shape w.old (HasMapApart (tree_part self.now)) }
+        requires order { InEachState W.Words W.Shape.Shape w.old
+            (HasMapApart (tree_part self.now)) }
 
         // The map has the key no more, and else what it had, and the key's block is free.
         ensures removed { IfOk result (λ answer.
@@ -50,11 +54,13 @@ impl TreeMap {
             WritesWithin W.Words W.Shape.Shape w.old w.new (IsOwn (tree_part self.now) key)) }
 
         // Where the key is absent, no word is written.
-        ensures none_frame { IfOk result (λ answer. IfNone answer (WritesOnly W.Words w.old w.new (λ a. ⊥))) }
+        ensures none_frame { IfOk result
+            (λ answer. IfNone answer (WritesOnly W.Words w.old w.new (λ a. ⊥))) }
 
         // Of the map's own blocks keys and links are read, and the value of the key; where a block is given back, its head too.
         ensures reads { IfOk result (λ answer.
-            ReadsWithin W.Words W.Shape.Shape w.old w.new (MayReadToRemove (tree_part self.now) key answer)) }
+            ReadsWithin W.Words W.Shape.Shape w.old w.new
+            (MayReadToRemove (tree_part self.now) key answer)) }
         ensures goes_on { GoesOn W.Words w.old w.new result }
     {
         match find(w, self, key)? {

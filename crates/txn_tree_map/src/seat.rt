@@ -21,7 +21,8 @@ pub(crate) fn find_seat<W: Words>(w: &mut W, map: &TreeMap, key: u64) -> Result<
     requires ready { IsReady W.Words w.old }
     requires missing { InEachState W.Words W.Shape.Shape w.old (IsMissing map.now key) }
     ensures seat { IfOk result (λ seat.
-        Looks (W.Shape.word_count (W.shape w.old)) (W.Shape.good (W.shape w.old)) (W.trace w.old) (W.trace w.new) (IsLink map.now) (IsSeat map.now key seat.place seat.name)) }
+        Looks (W.Shape.word_count (W.shape w.old)) (W.Shape.good (W.shape w.old)) (W.trace w.old)
+        (W.trace w.new) (IsLink map.now) (IsSeat map.now key seat.place seat.name)) }
     ensures goes_on { GoesOn W.Words w.old w.new result }
 {
     let rank = priority(key);

@@ -28,12 +28,17 @@ pub(crate) fn part_one<W: Words>(
 ) -> Result<Ends, Stop>
     requires ready { IsReady W.Words w.old }
     requires rest { ends.rest ≢ 0 }
-    requires parted { InEachState W.Words W.Shape.Shape w.old (CanPart map.now key ends.smaller ends.greater ends.rest) }
+    requires parted { InEachState W.Words W.Shape.Shape w.old
+        (CanPart map.now key ends.smaller ends.greater ends.rest) }
     ensures parted { IfOk result (λ next.
-        LeadsTo W.Words W.Shape.Shape w.old w.new (PartsOne map.now key ends.smaller ends.greater ends.rest next.smaller next.greater next.rest)) }
-    ensures frame { OnOk result (WritesOnly W.Words w.old w.new (λ a. (a ≡ ends.smaller) ⊎ (a ≡ ends.greater))) }
+        LeadsTo W.Words W.Shape.Shape w.old w.new
+        (PartsOne map.now key ends.smaller ends.greater ends.rest next.smaller next.greater
+        next.rest)) }
+    ensures frame { OnOk result
+        (WritesOnly W.Words w.old w.new (λ a. (a ≡ ends.smaller) ⊎ (a ≡ ends.greater))) }
     ensures reads { OnOk result (
-        AppendsReads (W.trace w.old) (W.trace w.new) (IsEndOrTop map.now ends.smaller ends.greater ends.rest)) }
+        AppendsReads (W.trace w.old) (W.trace w.new)
+        (IsEndOrTop map.now ends.smaller ends.greater ends.rest)) }
     ensures goes_on { GoesOn W.Words w.old w.new result }
 {
     let Ends {
@@ -72,9 +77,12 @@ pub(crate) fn part<W: Words>(
     requires ready { IsReady W.Words w.old }
     requires whole { InEachState W.Words W.Shape.Shape w.old (CanSplit map.now key block name) }
     ensures parted { IfOk result (λ ends.
-        LeadsTo W.Words W.Shape.Shape w.old w.new (IsParted map.now key block name 0 ends.smaller ends.greater 0)) }
-    ensures frame { OnOk result (WritesWithin W.Words W.Shape.Shape w.old w.new (IsSplitOwn map.now key block name)) }
-    ensures reads { OnOk result (ReadsWithin W.Words W.Shape.Shape w.old w.new (IsSplitSeen map.now key block name)) }
+        LeadsTo W.Words W.Shape.Shape w.old w.new
+        (IsParted map.now key block name 0 ends.smaller ends.greater 0)) }
+    ensures frame { OnOk result
+        (WritesWithin W.Words W.Shape.Shape w.old w.new (IsSplitOwn map.now key block name)) }
+    ensures reads { OnOk result
+        (ReadsWithin W.Words W.Shape.Shape w.old w.new (IsSplitSeen map.now key block name)) }
     ensures goes_on { GoesOn W.Words w.old w.new result }
 {
     let at = map.arena.place_of(block);
@@ -102,9 +110,12 @@ pub(crate) fn split<W: Words>(
 ) -> Result<(), Stop>
     requires ready { IsReady W.Words w.old }
     requires whole { InEachState W.Words W.Shape.Shape w.old (CanSplit map.now key block name) }
-    ensures split { OnOk result (LeadsTo W.Words W.Shape.Shape w.old w.new (Splits map.now key block name)) }
-    ensures frame { OnOk result (WritesWithin W.Words W.Shape.Shape w.old w.new (IsSplitOwn map.now key block name)) }
-    ensures reads { OnOk result (ReadsWithin W.Words W.Shape.Shape w.old w.new (IsSplitSeen map.now key block name)) }
+    ensures split { OnOk result
+        (LeadsTo W.Words W.Shape.Shape w.old w.new (Splits map.now key block name)) }
+    ensures frame { OnOk result
+        (WritesWithin W.Words W.Shape.Shape w.old w.new (IsSplitOwn map.now key block name)) }
+    ensures reads { OnOk result
+        (ReadsWithin W.Words W.Shape.Shape w.old w.new (IsSplitSeen map.now key block name)) }
     ensures goes_on { GoesOn W.Words w.old w.new result }
 {
     let ends = part(w, map, key, block, name)?;

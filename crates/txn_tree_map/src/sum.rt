@@ -33,17 +33,20 @@ pub(crate) fn next_entry<W: Words>(
     requires order { InEachState W.Words W.Shape.Shape w.old (HasMap (tree_part map.now)) }
     requires walk { InEachState W.Words W.Shape.Shape w.old (IsWalk map.now walk.old least 0) }
     ensures next { IfOk result (λ answer. IfSome answer (λ entry.
-        Looks (W.Shape.word_count (W.shape w.old)) (W.Shape.good (W.shape w.old)) (W.trace w.old) (W.trace w.new) IsAnyWord (IsNext map.now least entry.key entry.value))) }
+        Looks (W.Shape.word_count (W.shape w.old)) (W.Shape.good (W.shape w.old)) (W.trace w.old)
+        (W.trace w.new) IsAnyWord (IsNext map.now least entry.key entry.value))) }
     ensures walk { IfOk result (λ answer. IfSome answer (λ entry.
         InEachState W.Words W.Shape.Shape w.new (IsWalk map.now walk.new (entry.key + 1) 0))) }
     ensures none { IfOk result (λ answer. IfNone answer
-        (Looks (W.Shape.word_count (W.shape w.old)) (W.Shape.good (W.shape w.old)) (W.trace w.old) (W.trace w.new) IsAnyWord (HasNoneTo map.now least high))) }
+        (Looks (W.Shape.word_count (W.shape w.old)) (W.Shape.good (W.shape w.old)) (W.trace w.old)
+        (W.trace w.new) IsAnyWord (HasNoneTo map.now least high))) }
     ensures low { IfOk result (λ answer. IfSome answer (λ entry. least ≤ entry.key)) }
     ensures high { IfOk result (λ answer. IfSome answer (λ entry. entry.key ≤ high)) }
     // A number of 64 bits, which callers' proofs know of no field of a struct.
     ensures small { IfOk result (λ answer. IfSome answer (λ entry. entry.value < 2 ^ 64)) }
     ensures reads { OnOk result (
-        ReadsWithin W.Words W.Shape.Shape w.old w.new (MayReadRange (tree_part map.now) least high)) }
+        ReadsWithin W.Words W.Shape.Shape w.old w.new
+        (MayReadRange (tree_part map.now) least high)) }
     ensures goes_on { GoesOn W.Words w.old w.new result }
 {
     match next_node(w, map, walk, least)? {
@@ -109,7 +112,8 @@ impl TreeMap {
 
         // Nothing changes, and the answer is the sum.
         ensures sum { IfOk result (λ total.
-            LeadsTo W.Words W.Shape.Shape w.old w.new (SumsRange (tree_part self.now) low high total)) }
+            LeadsTo W.Words W.Shape.Shape w.old w.new
+            (SumsRange (tree_part self.now) low high total)) }
         ensures order { OnOk result (
             InEachState W.Words W.Shape.Shape w.new (HasMap (tree_part self.now))) }
 
@@ -118,7 +122,8 @@ impl TreeMap {
 
         // Of the map's own blocks keys and links are read, and the values of these keys.
         ensures reads { OnOk result (
-            ReadsWithin W.Words W.Shape.Shape w.old w.new (MayReadRange (tree_part self.now) low high)) }
+            ReadsWithin W.Words W.Shape.Shape w.old w.new
+            (MayReadRange (tree_part self.now) low high)) }
         ensures goes_on { GoesOn W.Words w.old w.new result }
     {
         let mut walk = Walk::new(self);

@@ -95,7 +95,8 @@ fn descend<W: Words>(w: &mut W, map: &TreeMap, walk: &mut Walk, least: u64) -> R
     requires ready { IsReady W.Words w.old }
     requires walk { InEachState W.Words W.Shape.Shape w.old (IsWalk map.now walk.old least 0) }
     ensures end { OnOk result (
-        Looks (W.Shape.word_count (W.shape w.old)) (W.Shape.good (W.shape w.old)) (W.trace w.old) (W.trace w.new) (IsLink map.now) (IsWalk map.now walk.new least map.now.arena.blocks)) }
+        Looks (W.Shape.word_count (W.shape w.old)) (W.Shape.good (W.shape w.old)) (W.trace w.old)
+        (W.trace w.new) (IsLink map.now) (IsWalk map.now walk.new least map.now.arena.blocks)) }
     ensures whole { OnOk result (walk.new.kept.items ≡ [] → walk.new.whole ≡ walk.old.whole) }
     ensures goes_on { GoesOn W.Words w.old w.new result }
 {
@@ -122,7 +123,8 @@ fn next_kept<W: Words>(
     requires ready { IsReady W.Words w.old }
     requires walk { InEachState W.Words W.Shape.Shape w.old (IsWalk map.now walk.old least 0) }
     ensures come { IfOk result (λ answer.
-        Looks (W.Shape.word_count (W.shape w.old)) (W.Shape.good (W.shape w.old)) (W.trace w.old) (W.trace w.new) (IsLink map.now) (HasCome map.now walk.new least answer)) }
+        Looks (W.Shape.word_count (W.shape w.old)) (W.Shape.good (W.shape w.old)) (W.trace w.old)
+        (W.trace w.new) (IsLink map.now) (HasCome map.now walk.new least answer)) }
     ensures whole { IfOk result (λ answer. IfNone answer (walk.new.whole ≡ walk.old.whole)) }
     ensures goes_on { GoesOn W.Words w.old w.new result }
 {
@@ -146,7 +148,8 @@ pub(crate) fn next_node<W: Words>(
     requires ready { IsReady W.Words w.old }
     requires walk { InEachState W.Words W.Shape.Shape w.old (IsWalk map.now walk.old least 0) }
     ensures come { IfOk result (λ answer.
-        Looks (W.Shape.word_count (W.shape w.old)) (W.Shape.good (W.shape w.old)) (W.trace w.old) (W.trace w.new) (IsLink map.now) (HasCome map.now walk.new least answer)) }
+        Looks (W.Shape.word_count (W.shape w.old)) (W.Shape.good (W.shape w.old)) (W.trace w.old)
+        (W.trace w.new) (IsLink map.now) (HasCome map.now walk.new least answer)) }
     ensures whole { IfOk result (λ answer. IfNone answer (walk.new.whole ≡ true)) }
     ensures goes_on { GoesOn W.Words w.old w.new result }
 {

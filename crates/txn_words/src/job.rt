@@ -46,12 +46,14 @@ pub trait Job {
 
         // For every good list that fits what was done, verdict and answer are the job's meaning ..
         ensures meaning { IfOk result (λ v. (s : List ℕ)
-            → Fits (Self.Shape.word_count (shape self.now)) (Self.Shape.good (shape self.now)) (W.trace w.new) s
+            → Fits (Self.Shape.word_count (shape self.now)) (Self.Shape.good (shape self.now))
+            (W.trace w.new) s
             → means self.now s (is_kept v) (answer_of v) (after (W.trace w.new) s)) }
 
         // .. and what is kept is good.
         ensures good { IfOk result (λ v. is_kept v ≡ true → (s : List ℕ)
-            → Fits (Self.Shape.word_count (shape self.now)) (Self.Shape.good (shape self.now)) (W.trace w.new) s
+            → Fits (Self.Shape.word_count (shape self.now)) (Self.Shape.good (shape self.now))
+            (W.trace w.new) s
             → Self.Shape.good (shape self.now) (after (W.trace w.new) s)) }
 
         // It goes on to the end unless the words stop, and yields exactly where they do.

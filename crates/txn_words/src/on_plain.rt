@@ -22,8 +22,11 @@ pub fn run_on_plain<S: Shape, J: Job<Shape = S>>(
     requires good { IsGood (S.word_count shape) (S.good shape) words.items }
     requires job { J.shape job.now ≡ shape }
     ensures origin { IfOk result (λ r. r.1.origin ≡ words.items) }
-    ensures meaning { IfOk result (λ r. J.means job.now words.items (is_kept r.0) (answer_of r.0) (after r.1.trace words.items)) }
-    ensures kept_good { IfOk result (λ r. is_kept r.0 ≡ true → S.good shape (after r.1.trace words.items)) }
+    ensures meaning { IfOk result
+        (λ r. J.means job.now words.items (is_kept r.0) (answer_of r.0)
+        (after r.1.trace words.items)) }
+    ensures kept_good { IfOk result
+        (λ r. is_kept r.0 ≡ true → S.good shape (after r.1.trace words.items)) }
 {
     let mut plain = Plain::new(alloc, shape, words);
     match job.run(&mut plain) {

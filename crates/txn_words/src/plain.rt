@@ -60,7 +60,12 @@ impl<S: Shape> Plain<S> {
     #[tactic(auto, unfolding(history_model::specs::Traces::after, history_model::specs::Traces::IsLegalTrace, history_model::specs::Undoing::notes_of))]
     pub fn new(alloc: Global, shape: S, words: Vec<u64>) -> Plain<S>
         requires { IsGood (S.word_count shape) (S.good shape) words.items }
-        ensures view { result ≡ record { shape = shape; origin = words.items; trace = []; stop = None } }
+        ensures view { result ≡ record {
+          shape = shape;
+          origin = words.items;
+          trace = [];
+          stop = None;
+        } }
         ensures sound { IsSoundPlain (S.word_count result.shape) (S.good result.shape) result }
     {
         let start = Snapshot::of(&words);
@@ -110,9 +115,11 @@ impl<S: Shape> Plain<S> {
     fn put(&mut self, a: u64, v: u64) -> Result<(), OutOfMemory>
         requires within { a < S.word_count self.old.shape }
         ensures ok { OnOk result ((was : ℕ)
-            × (self.new ≡ record self.old { trace = self.old.trace ++ Read a was ∷ Write a v ∷ [] })) }
+            × (self.new
+            ≡ record self.old { trace = self.old.trace ++ Read a was ∷ Write a v ∷ [] })) }
         ensures err { OnErr result (self.new ≡ self.old) }
-        ensures fits { Fits (S.word_count self.new.shape) (S.good self.new.shape) self.new.trace self.new.origin }
+        ensures fits { Fits (S.word_count self.new.shape) (S.good self.new.shape) self.new.trace
+            self.new.origin }
     {
         let old = self.words[a as usize];
         self.trace.reserve(2)?;
@@ -133,11 +140,13 @@ impl<S: Shape> Plain<S> {
     // Writes the value back that was noted of one write. A refusal changes nothing.
     fn put_back(&mut self, place: usize) -> Result<(), OutOfMemory>
         requires place { place < count_writes self.old.trace }
-        ensures back { OnOk result (PutsBack (S.word_count self.old.shape) (S.good self.old.shape) place
+        ensures back { OnOk result
+            (PutsBack (S.word_count self.old.shape) (S.good self.old.shape) place
             self.old.trace self.new.trace) }
         ensures same { self.new ≡ record self.old { trace = self.new.trace } }
         ensures err { OnErr result (self.new ≡ self.old) }
-        ensures fits { Fits (S.word_count self.new.shape) (S.good self.new.shape) self.new.trace self.new.origin }
+        ensures fits { Fits (S.word_count self.new.shape) (S.good self.new.shape) self.new.trace
+            self.new.origin }
     {
         let (a, old) = self.undo.at(place);
         self.put(a, old)
@@ -147,12 +156,14 @@ impl<S: Shape> Plain<S> {
 // Writes the noted values back down to a place, newest first.
 fn go_back<S: Shape>(plain: &mut Plain<S>, to: usize) -> Result<(), OutOfMemory>
     requires mark { to ≤ count_writes plain.old.trace }
-    requires fits { Fits (S.word_count plain.old.shape) (S.good plain.old.shape) plain.old.trace plain.old.origin }
+    requires fits { Fits (S.word_count plain.old.shape) (S.good plain.old.shape) plain.old.trace
+        plain.old.origin }
     ensures back { OnOk result (TakesBack (S.word_count plain.old.shape) (S.good plain.old.shape) to
         plain.old.trace plain.new.trace) }
     ensures same { plain.new ≡ record plain.old { trace = plain.new.trace } }
     ensures begins { Begins plain.old.trace plain.new.trace }
-    ensures fits { Fits (S.word_count plain.new.shape) (S.good plain.new.shape) plain.new.trace plain.new.origin }
+    ensures fits { Fits (S.word_count plain.new.shape) (S.good plain.new.shape) plain.new.trace
+        plain.new.origin }
 {
     let mut place = plain.noted();
     while place > to {
@@ -208,13 +219,15 @@ impl<S: Shape> Words for Plain<S> {
     fn read(&mut self, a: u64) -> Result<u64, Stop>
         requires within { a < S.word_count self.old.shape }
         requires going { self.old.stop ≡ None }
-        requires sound { IsSoundPlain (S.word_count self.old.shape) (S.good self.old.shape) self.old }
+        requires sound { IsSoundPlain (S.word_count self.old.shape) (S.good self.old.shape)
+            self.old }
         ensures value { IfOk result (λ v. self.new.trace ≡ self.old.trace ++ Read a v ∷ []) }
         ensures begins { Begins self.old.trace self.new.trace }
         ensures stops { self.new.stop ≡ stop_after result }
         ensures shape { self.new.shape ≡ self.old.shape }
         ensures origin { self.new.origin ≡ self.old.origin }
-        ensures sound { IsSoundPlain (S.word_count self.new.shape) (S.good self.new.shape) self.new }
+        ensures sound { IsSoundPlain (S.word_count self.new.shape) (S.good self.new.shape)
+            self.new }
         ensures never_yields { result ≢ Err Stop.Yield }
     {
         let v = self.words[a as usize];
@@ -230,13 +243,15 @@ impl<S: Shape> Words for Plain<S> {
     fn write(&mut self, a: u64, v: u64) -> Result<(), Stop>
         requires within { a < S.word_count self.old.shape }
         requires going { self.old.stop ≡ None }
-        requires sound { IsSoundPlain (S.word_count self.old.shape) (S.good self.old.shape) self.old }
+        requires sound { IsSoundPlain (S.word_count self.old.shape) (S.good self.old.shape)
+            self.old }
         ensures value { OnOk result (EndsWithWrite self.old.trace self.new.trace a v) }
         ensures begins { Begins self.old.trace self.new.trace }
         ensures stops { self.new.stop ≡ stop_after result }
         ensures shape { self.new.shape ≡ self.old.shape }
         ensures origin { self.new.origin ≡ self.old.origin }
-        ensures sound { IsSoundPlain (S.word_count self.new.shape) (S.good self.new.shape) self.new }
+        ensures sound { IsSoundPlain (S.word_count self.new.shape) (S.good self.new.shape)
+            self.new }
         ensures never_yields { result ≢ Err Stop.Yield }
     {
         match self.put(a, v) {
@@ -250,7 +265,8 @@ impl<S: Shape> Words for Plain<S> {
 
     fn mark(&mut self) -> Mark
         requires going { self.old.stop ≡ None }
-        requires sound { IsSoundPlain (S.word_count self.old.shape) (S.good self.old.shape) self.old }
+        requires sound { IsSoundPlain (S.word_count self.old.shape) (S.good self.old.shape)
+            self.old }
         ensures writes { result.writes ≡ count_writes self.old.trace }
         ensures same { self.new ≡ self.old }
     {
@@ -262,14 +278,16 @@ impl<S: Shape> Words for Plain<S> {
     fn back_to(&mut self, m: Mark) -> Result<(), Stop>
         requires mark { m.writes ≤ count_writes self.old.trace }
         requires going { self.old.stop ≡ None }
-        requires sound { IsSoundPlain (S.word_count self.old.shape) (S.good self.old.shape) self.old }
+        requires sound { IsSoundPlain (S.word_count self.old.shape) (S.good self.old.shape)
+            self.old }
         ensures back { OnOk result (TakesBack (S.word_count self.old.shape) (S.good self.old.shape)
             m.writes self.old.trace self.new.trace) }
         ensures begins { Begins self.old.trace self.new.trace }
         ensures stops { self.new.stop ≡ stop_after result }
         ensures shape { self.new.shape ≡ self.old.shape }
         ensures origin { self.new.origin ≡ self.old.origin }
-        ensures sound { IsSoundPlain (S.word_count self.new.shape) (S.good self.new.shape) self.new }
+        ensures sound { IsSoundPlain (S.word_count self.new.shape) (S.good self.new.shape)
+            self.new }
         ensures never_yields { result ≢ Err Stop.Yield }
     {
         match go_back(self, m.writes) {

@@ -112,7 +112,8 @@ pub trait Words {
         requires mark { m.writes ≤ count_writes (trace self.old) }
         requires going { stop self.old ≡ None }
         requires sound { is_sound self.old }
-        ensures back { OnOk result (TakesBack (Self.Shape.word_count (shape self.old)) (Self.Shape.good (shape self.old))
+        ensures back { OnOk result
+            (TakesBack (Self.Shape.word_count (shape self.old)) (Self.Shape.good (shape self.old))
             m.writes (trace self.old) (trace self.new)) }
         ensures begins { Begins (trace self.old) (trace self.new) }
         ensures stops { stop self.new ≡ stop_after result }
@@ -122,5 +123,7 @@ pub trait Words {
         ensures never_yields { result ≢ Err Stop.Yield };
 
     /// Some good list fits the trace, after a `Stop` too.
-    ghost fits: { (words : Self) → is_sound words → SomeFits (Self.Shape.word_count (shape words)) (Self.Shape.good (shape words)) (trace words) };
+    ghost fits: { (words : Self) → is_sound words
+        → SomeFits (Self.Shape.word_count (shape words)) (Self.Shape.good (shape words))
+        (trace words) };
 }

@@ -61,7 +61,8 @@ impl UndoLog {
     /// The pair that was noted last, which stays in the log.
     pub fn newest(&self) -> Option<(u64, u64)>
         ensures none { IsNone result ↔ (self.now.list ≡ []) }
-        ensures last { IfSome result (λ pair. self.now.list ≡ older_than_newest self.now.list ++ pair ∷ []) }
+        ensures last { IfSome result
+            (λ pair. self.now.list ≡ older_than_newest self.now.list ++ pair ∷ []) }
         ensures place { result ≡ slice_get self.now.list (length self.now.list - 1) }
     {
         self.entries.last().copied()

@@ -27,14 +27,16 @@ use history_model::Shape;
 pub fn begin_call<S: Shape>()
     ensures locks { (n : ℕ) (base : List ℕ) (j : ℕ)
         → Keeps (LocksHold n base) (MayBeginCall j) (begin_call_action j) }
-    ensures values { (shape : _) (j : ℕ) → KeepsValueRule (S.good shape) (MayBeginCall j) (begin_call_action j) }
+    ensures values { (shape : _) (j : ℕ)
+        → KeepsValueRule (S.good shape) (MayBeginCall j) (begin_call_action j) }
 {}
 
 /// A seat that loads a value under a lock keeps both invariants: the value is what its own events and the history leave.
 pub fn load_value<S: Shape>()
     ensures locks { (n : ℕ) (base : List ℕ) (j a : ℕ)
         → Keeps (LocksHold n base) (MayLoadValue j a) (load_value_action j a) }
-    ensures values { (shape : _) (j a : ℕ) → KeepsValueRule (S.good shape) (MayLoadValue j a) (load_value_action j a) }
+    ensures values { (shape : _) (j a : ℕ)
+        → KeepsValueRule (S.good shape) (MayLoadValue j a) (load_value_action j a) }
 {}
 
 /// A seat that stores a value under the exclusive lock, with the old one noted, keeps both invariants.
@@ -56,32 +58,38 @@ pub fn undo_store<S: Shape>()
 /// A seat that commits keeps both invariants, whether its writes are kept or not: the history has one legal entry more.
 pub fn commit_call<S: Shape>()
     ensures locks { (shape : _) (n : ℕ) (base : List ℕ) (j : ℕ) (kept : Bool)
-        → Keeps (LocksHold n base) (MayCommitCall (S.good shape) j kept) (commit_call_action j kept) }
+        → Keeps (LocksHold n base) (MayCommitCall (S.good shape) j kept)
+        (commit_call_action j kept) }
     ensures values { (shape : _) (j : ℕ) (kept : Bool)
-        → KeepsValueRule (S.good shape) (MayCommitCall (S.good shape) j kept) (commit_call_action j kept) }
+        → KeepsValueRule (S.good shape) (MayCommitCall (S.good shape) j kept)
+        (commit_call_action j kept) }
 {}
 
 /// A seat that ends its call keeps both invariants: it has no lock and nothing to undo.
 pub fn clear_stamp<S: Shape>()
     ensures locks { (n : ℕ) (base : List ℕ) (j : ℕ)
         → Keeps (LocksHold n base) (MayClearStamp j) (clear_stamp_action j) }
-    ensures values { (shape : _) (j : ℕ) → KeepsValueRule (S.good shape) (MayClearStamp j) (clear_stamp_action j) }
+    ensures values { (shape : _) (j : ℕ)
+        → KeepsValueRule (S.good shape) (MayClearStamp j) (clear_stamp_action j) }
 {}
 
 /// A seat that loads the counter of entries between calls keeps both invariants: it has seen the whole history.
 pub fn load_serial<S: Shape>()
-    ensures locks { (n : ℕ) (base : List ℕ) → Keeps (LocksHold n base) MayLoadSerial load_serial_action }
+    ensures locks { (n : ℕ) (base : List ℕ)
+        → Keeps (LocksHold n base) MayLoadSerial load_serial_action }
     ensures values { (shape : _) → KeepsValueRule (S.good shape) MayLoadSerial load_serial_action }
 {}
 
 /// A seat that sets its read bit keeps the value invariant.
 pub fn set_read_bit<S: Shape>()
-    ensures { (shape : _) (j k a : ℕ) → KeepsValueRule (S.good shape) (MaySetReadBit j k a) (set_read_bit_action j k a) }
+    ensures { (shape : _) (j k a : ℕ)
+        → KeepsValueRule (S.good shape) (MaySetReadBit j k a) (set_read_bit_action j k a) }
 {}
 
 /// A seat that looks at a writer word keeps the value invariant.
 pub fn load_writer<S: Shape>()
-    ensures { (shape : _) (j k a : ℕ) → KeepsValueRule (S.good shape) (MayLoadWriter j k a) (load_writer_action j k a) }
+    ensures { (shape : _) (j k a : ℕ)
+        → KeepsValueRule (S.good shape) (MayLoadWriter j k a) (load_writer_action j k a) }
 {}
 
 /// A seat that claims a writer word keeps the value invariant.
@@ -92,12 +100,14 @@ pub fn claim_writer<S: Shape>()
 
 /// A seat that scans another's row keeps the value invariant.
 pub fn scan_row<S: Shape>()
-    ensures { (shape : _) (j k i : ℕ) → KeepsValueRule (S.good shape) (MayScanRow j k i) (scan_row_action j k i) }
+    ensures { (shape : _) (j k i : ℕ)
+        → KeepsValueRule (S.good shape) (MayScanRow j k i) (scan_row_action j k i) }
 {}
 
 /// A seat that clears its read bit keeps the value invariant: nothing is left to undo, and no attempt goes on.
 pub fn clear_read_bit<S: Shape>()
-    ensures { (shape : _) (j k : ℕ) → KeepsValueRule (S.good shape) (MayClearReadBit j k) (clear_read_bit_action j k) }
+    ensures { (shape : _) (j k : ℕ)
+        → KeepsValueRule (S.good shape) (MayClearReadBit j k) (clear_read_bit_action j k) }
 {}
 
 /// A seat that gives its claim up keeps the value invariant: nothing is left to undo, and no attempt goes on.
@@ -108,7 +118,8 @@ pub fn release_writer<S: Shape>()
 
 /// A view that gives up its first number to a new seat keeps the value invariant.
 pub fn split_seat<S: Shape>()
-    ensures { (shape : _) (j : ℕ) → KeepsValueRuleSplit (S.good shape) (MaySplitSeat j) left_by_split given_by_split }
+    ensures { (shape : _) (j : ℕ)
+        → KeepsValueRuleSplit (S.good shape) (MaySplitSeat j) left_by_split given_by_split }
 {}
 
 /// A view that gives off a note keeps the value invariant: the note has seen what the view has.

@@ -28,7 +28,8 @@ use history_model::Shape;
 pub fn begin_call<S: Shape>()
     ensures locks { (n : ℕ) (base : List ℕ) (j : ℕ)
         → Keeps (LocksHold n base) (MayBeginCall j) (begin_call_action j) }
-    ensures values { (shape : _) (j : ℕ) → KeepsValueRule (S.good shape) (MayBeginCall j) (begin_call_action j) }
+    ensures values { (shape : _) (j : ℕ)
+        → KeepsValueRule (S.good shape) (MayBeginCall j) (begin_call_action j) }
 {}
 
 /// A seat that loads the version of a lock that it holds keeps both invariants: nobody owes the lock a version, so what
@@ -69,9 +70,11 @@ pub fn undo_store<S: Shape>()
 /// entry may stand behind all others, since every version that it used is the newest.
 pub fn commit_call<S: Shape>()
     ensures locks { (shape : _) (n : ℕ) (base : List ℕ) (j : ℕ) (kept : Bool)
-        → Keeps (LocksHold n base) (MayCommitCall (S.good shape) j kept) (commit_call_action j kept) }
+        → Keeps (LocksHold n base) (MayCommitCall (S.good shape) j kept)
+        (commit_call_action j kept) }
     ensures values { (shape : _) (j : ℕ) (kept : Bool)
-        → KeepsValueRule (S.good shape) (MayCommitCall (S.good shape) j kept) (commit_call_action j kept) }
+        → KeepsValueRule (S.good shape) (MayCommitCall (S.good shape) j kept)
+        (commit_call_action j kept) }
 {}
 
 /// A seat that raises the version of a lock that its kept call wrote keeps both invariants: the version that the lock
@@ -87,17 +90,20 @@ pub fn store_version<S: Shape>()
 pub fn clear_stamp<S: Shape>()
     ensures locks { (n : ℕ) (base : List ℕ) (j : ℕ)
         → Keeps (LocksHold n base) (MayClearStamp j) (clear_stamp_action j) }
-    ensures values { (shape : _) (j : ℕ) → KeepsValueRule (S.good shape) (MayClearStamp j) (clear_stamp_action j) }
+    ensures values { (shape : _) (j : ℕ)
+        → KeepsValueRule (S.good shape) (MayClearStamp j) (clear_stamp_action j) }
 {}
 
 /// A seat that sets its read bit keeps the value invariant.
 pub fn set_read_bit<S: Shape>()
-    ensures { (shape : _) (j k a : ℕ) → KeepsValueRule (S.good shape) (MaySetReadBit j k a) (set_read_bit_action j k a) }
+    ensures { (shape : _) (j k a : ℕ)
+        → KeepsValueRule (S.good shape) (MaySetReadBit j k a) (set_read_bit_action j k a) }
 {}
 
 /// A seat that looks at a writer word keeps the value invariant.
 pub fn load_writer<S: Shape>()
-    ensures { (shape : _) (j k a : ℕ) → KeepsValueRule (S.good shape) (MayLoadWriter j k a) (load_writer_action j k a) }
+    ensures { (shape : _) (j k a : ℕ)
+        → KeepsValueRule (S.good shape) (MayLoadWriter j k a) (load_writer_action j k a) }
 {}
 
 /// A seat that claims a writer word keeps the value invariant.
@@ -108,12 +114,14 @@ pub fn claim_writer<S: Shape>()
 
 /// A seat that scans another's row keeps the value invariant.
 pub fn scan_row<S: Shape>()
-    ensures { (shape : _) (j k i : ℕ) → KeepsValueRule (S.good shape) (MayScanRow j k i) (scan_row_action j k i) }
+    ensures { (shape : _) (j k i : ℕ)
+        → KeepsValueRule (S.good shape) (MayScanRow j k i) (scan_row_action j k i) }
 {}
 
 /// A seat that clears its read bit keeps the value invariant: nothing is left to undo, and no attempt goes on.
 pub fn clear_read_bit<S: Shape>()
-    ensures { (shape : _) (j k : ℕ) → KeepsValueRule (S.good shape) (MayClearReadBit j k) (clear_read_bit_action j k) }
+    ensures { (shape : _) (j k : ℕ)
+        → KeepsValueRule (S.good shape) (MayClearReadBit j k) (clear_read_bit_action j k) }
 {}
 
 /// A seat that gives up the claim of a lock that is owed no version keeps the value invariant.
@@ -151,7 +159,8 @@ pub fn aside<S: Shape>()
 
 /// A view that gives up its first number to a new seat keeps the value invariant.
 pub fn split_seat<S: Shape>()
-    ensures { (shape : _) (j : ℕ) → KeepsValueRuleSplit (S.good shape) (MaySplitSeat j) left_by_split given_by_split }
+    ensures { (shape : _) (j : ℕ)
+        → KeepsValueRuleSplit (S.good shape) (MaySplitSeat j) left_by_split given_by_split }
 {}
 
 /// A view that gives off a note keeps the value invariant: the note has seen what the view has.
@@ -167,7 +176,8 @@ pub fn meet_note<S: Shape>()
 
 /// A view that takes in another with its numbers keeps both invariants.
 pub fn join_seats<S: Shape>()
-    ensures locks { (n : ℕ) (base : List ℕ) → KeepsJoin (LocksHold n base) MayJoinSeats after_joining }
+    ensures locks { (n : ℕ) (base : List ℕ)
+        → KeepsJoin (LocksHold n base) MayJoinSeats after_joining }
     ensures values { (shape : _) → KeepsValueRuleJoin (S.good shape) MayJoinSeats after_joining }
 {}
 
@@ -180,7 +190,8 @@ pub fn opening<S: Shape>()
 /// had seen; each front leaves good words, and so does the whole. What an open attempt has done is legal behind all.
 pub fn every_arrangement_legal<S: Shape>()
     ensures placed { (shape : _) → OfEveryArrangement (S.good shape) (ArePlaced (S.good shape)) }
-    ensures leaves_good { (shape : _) → OfEveryArrangement (S.good shape) (LeavesGood (S.good shape)) }
+    ensures leaves_good { (shape : _)
+        → OfEveryArrangement (S.good shape) (LeavesGood (S.good shape)) }
     ensures attempts_legal { (shape : _) → OfEveryArrangement (S.good shape) AttemptsAreLegal }
 {}
 

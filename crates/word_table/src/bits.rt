@@ -30,7 +30,8 @@ pub(crate) fn raised(row: &[u64; 16], lock: u32) -> u64
 /// The word of the lock's bit with the bit cleared.
 pub(crate) fn lowered(row: &[u64; 16], lock: u32) -> u64
     requires { lock < LOCKS }
-    ensures value { result ≡ bit_and (slice_index row.now (lock / 64)) (bit_not w64 (2 ^ (lock % 64))) }
+    ensures value { result ≡ bit_and (slice_index row.now (lock / 64))
+        (bit_not w64 (2 ^ (lock % 64))) }
     ensures fits { slice_index row.now (lock / 64) < 2 ^ 64 }
 {
     row[(lock / 64) as usize] & !(1 << (lock % 64))
@@ -47,7 +48,8 @@ pub(crate) fn raise(row: &mut [u64; 16], lock: u32)
 /// The lock leaves the set.
 pub(crate) fn lower(row: &mut [u64; 16], lock: u32)
     requires { lock < LOCKS }
-    ensures { (locks : List ℕ) → ShowsLocks row.old locks → ShowsLocks row.new (without lock locks) }
+    ensures { (locks : List ℕ) → ShowsLocks row.old locks
+        → ShowsLocks row.new (without lock locks) }
 {
     row[(lock / 64) as usize] = lowered(row, lock);
 }
@@ -55,7 +57,8 @@ pub(crate) fn lower(row: &mut [u64; 16], lock: u32)
 /// The lock joins the set if `yes`.
 pub(crate) fn raise_if(row: &mut [u64; 16], lock: u32, yes: bool)
     requires { lock < LOCKS }
-    ensures { (locks : List ℕ) → ShowsLocks row.old locks → ShowsLocks row.new (if yes then lock ∷ locks else locks) }
+    ensures { (locks : List ℕ) → ShowsLocks row.old locks
+        → ShowsLocks row.new (if yes then lock ∷ locks else locks) }
 {
     if yes {
         raise(row, lock);
@@ -74,7 +77,8 @@ fn high_bits(word: u64, from: u32) -> u64
 /// The least lock of the set from `from` on.
 pub(crate) fn least_from(row: &[u64; 16], from: u32) -> Option<u32>
     requires { from < LOCKS }
-    ensures { (locks : List ℕ) → ShowsLocks row.now locks → IsLeast (λ k. (from ≤ k) × (has k locks ≡ true)) result }
+    ensures { (locks : List ℕ) → ShowsLocks row.now locks
+        → IsLeast (λ k. (from ≤ k) × (has k locks ≡ true)) result }
 {
     let first = from / 64;
     let rest = high_bits(row[first as usize], from % 64);
@@ -120,7 +124,8 @@ pub(crate) fn least_seat(seats: u64) -> Option<u32>
 /// No seat is scanned for the lock any more, if `yes`.
 pub(crate) fn forget_if(masks: &mut Vec<u64>, lock: u32, yes: bool)
     requires { lock < length masks.old.items }
-    ensures { (pairs : List (ℕ × ℕ)) → ShowsPairs masks.old.items pairs → ShowsPairs masks.new.items (if yes then without_first lock pairs else pairs) }
+    ensures { (pairs : List (ℕ × ℕ)) → ShowsPairs masks.old.items pairs
+        → ShowsPairs masks.new.items (if yes then without_first lock pairs else pairs) }
 {
     if yes {
         masks[lock as usize] = 0;
@@ -130,7 +135,8 @@ pub(crate) fn forget_if(masks: &mut Vec<u64>, lock: u32, yes: bool)
 /// The seat is scanned for the lock, if `yes`.
 pub(crate) fn note_if(masks: &mut Vec<u64>, lock: u32, seat: u32, yes: bool)
     requires { (lock < length masks.old.items) × (seat < 64) }
-    ensures { (pairs : List (ℕ × ℕ)) → ShowsPairs masks.old.items pairs → ShowsPairs masks.new.items (if yes then (lock, seat) ∷ pairs else pairs) }
+    ensures { (pairs : List (ℕ × ℕ)) → ShowsPairs masks.old.items pairs
+        → ShowsPairs masks.new.items (if yes then (lock, seat) ∷ pairs else pairs) }
 {
     if yes {
         masks[lock as usize] |= 1 << seat;

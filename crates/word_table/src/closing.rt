@@ -79,10 +79,12 @@ pub(crate) fn room_for(alloc: Global, count: usize) -> Result<Vec<u64>, OutOfMem
 
 // The seat takes in another with its numbers.
 fn join_one<S: Shape>(table: &TableWords<S>, seat: &mut Seat<(), View>, other: Seat<(), View>)
-    requires table { (seat.old.table_id ≡ table.now.table_id) × (other.table_id ≡ table.now.table_id) }
+    requires table { (seat.old.table_id ≡ table.now.table_id)
+        × (other.table_id ≡ table.now.table_id) }
     requires words { 0 < table.now.table_id.words }
     requires seat { (seat.old.me.0.phase ≡ Idle) × (j : ℕ) × (has j seat.old.me.0.who ≡ true) }
-    requires other { (other.me.1 ≡ []) × (other.me.0.phase ≡ Idle) × (j : ℕ) × (has j other.me.0.who ≡ true) }
+    requires other { (other.me.1 ≡ []) × (other.me.0.phase ≡ Idle) × (j : ℕ)
+        × (has j other.me.0.who ≡ true) }
     ensures table { seat.new.table_id ≡ seat.old.table_id }
     ensures seat { seat.new.me ≡ (after_joining seat.old.me.0 other.me.0, seat.old.me.1) }
 {
@@ -96,8 +98,10 @@ pub(crate) fn gather<S: Shape>(
     mut passes: Vec<Pass<S>>,
 ) -> Seat<(), View>
     requires words { 0 < table.now.table_id.words }
-    requires all { AreAllPasses table.now.table_id table.now.key.seats (passes.items ++ first ∷ []) }
-    ensures { IsGathered table.now.table_id (passes.items ++ first ∷ []) [] result.table_id result.me }
+    requires all { AreAllPasses table.now.table_id table.now.key.seats
+        (passes.items ++ first ∷ []) }
+    ensures { IsGathered table.now.table_id (passes.items ++ first ∷ []) [] result.table_id
+        result.me }
 {
     let mut seat = first.into_seat();
     while let Some(pass) = passes.pop() {

@@ -31,9 +31,12 @@ fn deal_one<S: Shape>(
 ) -> Seat<(), View>
     requires counts { (j + 1 < n) × (n ≡ table.now.key.seats) × (0 < table.now.table_id.words) }
     requires table { seat.old.table_id ≡ table.now.table_id }
-    requires seat { seat.old.me ≡ (opening_view table.now.key.base.items n (numbers j (n - j)) [], []) }
-    ensures table { (seat.new.table_id ≡ seat.old.table_id) × (result.table_id ≡ seat.old.table_id) }
-    ensures left { seat.new.me ≡ (opening_view table.now.key.base.items n (numbers (j + 1) (n - (j + 1))) [], []) }
+    requires seat { seat.old.me
+        ≡ (opening_view table.now.key.base.items n (numbers j (n - j)) [], []) }
+    ensures table { (seat.new.table_id ≡ seat.old.table_id)
+        × (result.table_id ≡ seat.old.table_id) }
+    ensures left { seat.new.me
+        ≡ (opening_view table.now.key.base.items n (numbers (j + 1) (n - (j + 1))) [], []) }
     ensures dealt { result.me ≡ (opening_view table.now.key.base.items n (j ∷ []) [], []) }
 {
     table.split_seat::<FirstNumber>(seat)
@@ -48,12 +51,17 @@ pub(crate) fn deal<S: Shape>(
 ) -> Result<Vec<Pass<S>>, OutOfMemory>
     requires counts { (1 ≤ n) × (n ≤ MOST_PASSES) × (n ≡ table.now.key.seats) }
     requires base { length table.now.key.base.items ≤ MOST_WORDS }
-    requires table { (seat.table_id ≡ table.now.table_id) × (seat.table_id.words ≡ table_words n (length table.now.key.base.items)) }
+    requires table { (seat.table_id ≡ table.now.table_id)
+        × (seat.table_id.words ≡ table_words n (length table.now.key.base.items)) }
     requires seat { seat.me ≡ (opening_view table.now.key.base.items n (numbers 0 n) [], []) }
     ensures count { IfOk result (λ passes. length passes.items ≡ n) }
     ensures passes { IfOk result (λ passes. (j : ℕ) → j < n
         → slice_get passes.items j
-        ≡ Some (record { table = table.now.table_id; view = opening_view table.now.key.base.items n (j ∷ []) [] })) }
+        ≡ Some (record {
+          table = table.now.table_id;
+          view = opening_view table.now.key.base.items n
+              (j ∷ []) [];
+        })) }
 {
     let mut passes = Vec::new(alloc);
     for j in 0..n - 1 {

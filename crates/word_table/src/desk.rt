@@ -83,10 +83,16 @@ impl<S: Shape> Desk<S> {
         requires good { IsGood (S.word_count shape) (S.good shape) base.items }
         requires words { (1 ≤ length base.items) × (length base.items ≤ MOST_WORDS) }
         requires seats { (1 ≤ n) × (n ≤ MOST_PASSES) }
-        ensures desk { IfOk result (λ made. (made.0.base ≡ base.items) × (made.0.seats ≡ n) × (made.0.shape ≡ shape)) }
+        ensures desk { IfOk result
+            (λ made. (made.0.base ≡ base.items) × (made.0.seats ≡ n) × (made.0.shape ≡ shape)) }
         ensures count { IfOk result (λ made. length made.1.items ≡ n) }
         ensures passes { IfOk result (λ made. (j : ℕ) → j < n
-            → slice_get made.1.items j ≡ Some (record { table = made.0.table; view = opening_view base.items n (j ∷ []) [] })) }
+            → slice_get made.1.items j
+            ≡ Some (record {
+              table = made.0.table;
+              view = opening_view base.items n (j ∷ [])
+                  [];
+            })) }
         ensures all { IfOk result (λ made. AreAllPasses made.0.table made.0.seats made.1.items) }
     {
         let words = lay(alloc, &base, n)?;
@@ -132,7 +138,8 @@ impl<S: Shape> Desk<S> {
         requires note { note.table ≡ self.now.table }
         requires phase { pass.old.view.phase ≡ Phase.Idle }
         ensures desk { pass.new.table ≡ pass.old.table }
-        ensures rest { pass.new.view ≡ record pass.old.view { seen = pass.new.view.seen; olds = []; met = [] } }
+        ensures rest { pass.new.view
+            ≡ record pass.old.view { seen = pass.new.view.seen; olds = []; met = [] } }
         ensures kept { IsPrefix pass.old.view.seen pass.new.view.seen }
         ensures told { IsPrefix note.seen pass.new.view.seen }
         ensures legal { IsLegalFor S.Shape self.now pass.new.view.seen }
@@ -154,11 +161,14 @@ impl<S: Shape> Desk<S> {
     fn close_into(self, mut words: Vec<u64>, mut passes: Vec<Pass<S>>) -> Closed<S>
         requires room { length words.items ≡ length self.base }
         requires all { AreAllPasses self.table self.seats passes.items }
-        ensures desk { (result.base ≡ self.base) × (result.seats ≡ self.seats) × (result.shape ≡ self.shape) }
+        ensures desk { (result.base ≡ self.base) × (result.seats ≡ self.seats)
+            × (result.shape ≡ self.shape) }
         ensures legal { IsLegalFor S.Shape self result.history }
         ensures words { result.words ≡ replay self.base result.history }
-        ensures seen { (pass : PassView) → IsIn pass passes.items → IsPrefix pass.view.seen result.history }
-        ensures longest { (pass : PassView) × IsIn pass passes.items × (pass.view.seen ≡ result.history) }
+        ensures seen { (pass : PassView) → IsIn pass passes.items
+            → IsPrefix pass.view.seen result.history }
+        ensures longest { (pass : PassView) × IsIn pass passes.items
+            × (pass.view.seen ≡ result.history) }
         ensures owners { AreOwnersAmong passes.items result.history }
     {
         let Desk { table, seats } = self;
@@ -178,7 +188,8 @@ impl<S: Shape> Desk<S> {
     /// began with. Memory is taken first, and where there is none, nothing was done.
     pub fn close(self, alloc: Global, passes: Vec<Pass<S>>) -> Result<Closed<S>, CloseRefused<S>>
         requires all { AreAllPasses self.table self.seats passes.items }
-        ensures desk { IfOk result (λ closed. (closed.base ≡ self.base) × (closed.seats ≡ self.seats)
+        ensures desk { IfOk result
+            (λ closed. (closed.base ≡ self.base) × (closed.seats ≡ self.seats)
             × (closed.shape ≡ self.shape)) }
         ensures legal { IfOk result (λ closed. IsLegalFor S.Shape self closed.history) }
         ensures words { IfOk result (λ closed. closed.words ≡ replay self.base closed.history) }
@@ -187,7 +198,8 @@ impl<S: Shape> Desk<S> {
         ensures longest { IfOk result (λ closed. (pass : PassView) × IsIn pass passes.items
             × (pass.view.seen ≡ closed.history)) }
         ensures owners { IfOk result (λ closed. AreOwnersAmong passes.items closed.history) }
-        ensures refused { IfErr result (λ refused. (refused.desk ≡ self) × (refused.passes ≡ passes)) }
+        ensures refused { IfErr result
+            (λ refused. (refused.desk ≡ self) × (refused.passes ≡ passes)) }
     {
         match room_for(alloc, self.memory_words()) {
             Ok(words) => Ok(self.close_into(words, passes)),

@@ -36,9 +36,11 @@ pub fn every_cut<S: Shape>()
 /// Two views that are joined keep the whole rule: one that takes in a note, and one that takes in another's numbers.
 pub fn every_join<S: Shape>()
     ensures notes { (shape : _) (n : ℕ) (base : List ℕ)
-        → KeepsJoin (IsSound (IsGood (S.word_count shape) (S.good shape)) n base) MayMeetNote after_note }
+        → KeepsJoin (IsSound (IsGood (S.word_count shape) (S.good shape)) n base) MayMeetNote
+        after_note }
     ensures seats { (shape : _) (n : ℕ) (base : List ℕ)
-        → KeepsJoin (IsSound (IsGood (S.word_count shape) (S.good shape)) n base) MayJoinSeats after_joining }
+        → KeepsJoin (IsSound (IsGood (S.word_count shape) (S.good shape)) n base) MayJoinSeats
+        after_joining }
 {}
 
 /// Every state of every run meets the rule: for every shape, every number of seats, every good memory to begin with,

@@ -48,7 +48,8 @@ impl<S: Shape> Pass<S> {
     // A pass that has done nothing.
     pub(crate) fn of(seat: Seat<(), View>, seats: u32, who: u32, scans: Vec<u64>) -> Pass<S>
         requires seat { seat.me ≡ (opening_view seat.me.0.base seats (who ∷ []) [], []) }
-        requires counts { (who < seats) × (seats ≤ MOST_PASSES) × (length seat.me.0.base ≤ MOST_WORDS) }
+        requires counts { (who < seats) × (seats ≤ MOST_PASSES)
+            × (length seat.me.0.base ≤ MOST_WORDS) }
         requires table { seat.table_id.words ≡ table_words seats (length seat.me.0.base) }
         requires scans { scans.items ≡ replicate LOCKS 0 }
         ensures table { result.table ≡ seat.table_id }
@@ -158,7 +159,8 @@ impl<S: Shape> Pass<S> {
     pub fn unscanned(&self, k: u32) -> Option<u32>
         requires { k < LOCKS }
         ensures least { IsLeast (IsUnscanned self.now.view k) result }
-        ensures all_scanned { IsNone result → HasClaim self.now.view k → HasWriteGrant self.now.view k }
+        ensures all_scanned { IsNone result → HasClaim self.now.view k
+            → HasWriteGrant self.now.view k }
     {
         if !self.has_claim(k) {
             return None;

@@ -113,10 +113,12 @@ fn load_by<S: Shape, A: Kind>(
 ) -> u64
     requires table { (seat.old.table_id ≡ table.now.table_id) × (word < table.now.table_id.words) }
     requires kind { step.now ≡ A.step }
-    requires action { let x : Action = action_of step.now seat.old.me.0 in (word ≡ x.at) × ((w : ℕ) → x.writes w ≡ w) }
+    requires action { let x : Action = action_of step.now seat.old.me.0 in (word ≡ x.at)
+        × ((w : ℕ) → x.writes w ≡ w) }
     requires sound { (words : List ℕ) (views : List View)
         → GroundHolds S.word_count S.good table.now.key words views → A.sound words views }
-    requires may { May (IsGood (S.word_count table.now.key.shape) (S.good table.now.key.shape)) step.now seat.old.me.0 }
+    requires may { May (IsGood (S.word_count table.now.key.shape) (S.good table.now.key.shape))
+        step.now seat.old.me.0 }
     ensures seat { seat.new.table_id ≡ seat.old.table_id }
     ensures took { Took A.sound (action_of step.now seat.old.me.0) seat.old.me seat.new.me result }
 {
@@ -132,14 +134,17 @@ fn store_by<S: Shape, A: Kind>(
 )
     requires table { (seat.old.table_id ≡ table.now.table_id) × (word < table.now.table_id.words) }
     requires kind { step.now ≡ A.step }
-    requires action { let x : Action = action_of step.now seat.old.me.0 in (word ≡ x.at) × ((h : List Entry) (w : ℕ) → x.view h w ≡ x.view [] new) }
+    requires action { let x : Action = action_of step.now seat.old.me.0 in (word ≡ x.at)
+        × ((h : List Entry) (w : ℕ) → x.view h w ≡ x.view [] new) }
     requires sound { (words : List ℕ) (views : List View)
         → GroundHolds S.word_count S.good table.now.key words views → A.sound words views }
-    requires may { May (IsGood (S.word_count table.now.key.shape) (S.good table.now.key.shape)) step.now seat.old.me.0 }
+    requires may { May (IsGood (S.word_count table.now.key.shape) (S.good table.now.key.shape))
+        step.now seat.old.me.0 }
     requires stored { Stores (action_of step.now seat.old.me.0) seat.old.me.0 new }
     ensures seat { seat.new.table_id ≡ seat.old.table_id }
     ensures view { seat.new.me ≡ ((action_of step.now seat.old.me.0).view [] new, seat.old.me.1) }
-    ensures took { (found : ℕ) × Took A.sound (action_of step.now seat.old.me.0) seat.old.me seat.new.me found }
+    ensures took { (found : ℕ)
+        × Took A.sound (action_of step.now seat.old.me.0) seat.old.me seat.new.me found }
 {
     table.store::<Puts<A>>(seat, word, new)
 }
@@ -154,10 +159,12 @@ fn exchange_by<S: Shape, A: Kind>(
 ) -> u64
     requires table { (seat.old.table_id ≡ table.now.table_id) × (word < table.now.table_id.words) }
     requires kind { step.now ≡ A.step }
-    requires action { let x : Action = action_of step.now seat.old.me.0 in (word ≡ x.at) × ((w : ℕ) → x.writes w ≡ if w == old then new else w) }
+    requires action { let x : Action = action_of step.now seat.old.me.0 in (word ≡ x.at)
+        × ((w : ℕ) → x.writes w ≡ if w == old then new else w) }
     requires sound { (words : List ℕ) (views : List View)
         → GroundHolds S.word_count S.good table.now.key words views → A.sound words views }
-    requires may { May (IsGood (S.word_count table.now.key.shape) (S.good table.now.key.shape)) step.now seat.old.me.0 }
+    requires may { May (IsGood (S.word_count table.now.key.shape) (S.good table.now.key.shape))
+        step.now seat.old.me.0 }
     ensures seat { seat.new.table_id ≡ seat.old.table_id }
     ensures took { Took A.sound (action_of step.now seat.old.me.0) seat.old.me seat.new.me result }
 {
@@ -172,11 +179,14 @@ fn add_by<S: Shape, A: Kind>(
 ) -> u64
     requires table { (seat.old.table_id ≡ table.now.table_id) × (word < table.now.table_id.words) }
     requires kind { step.now ≡ A.step }
-    requires action { let x : Action = action_of step.now seat.old.me.0 in (word ≡ x.at) × ((w : ℕ) → x.writes w ≡ w + 1) }
+    requires action { let x : Action = action_of step.now seat.old.me.0 in (word ≡ x.at)
+        × ((w : ℕ) → x.writes w ≡ w + 1) }
     requires sound { (words : List ℕ) (views : List View)
         → GroundHolds S.word_count S.good table.now.key words views → A.sound words views }
-    requires may { May (IsGood (S.word_count table.now.key.shape) (S.good table.now.key.shape)) step.now seat.old.me.0 }
-    requires room { Grows (IsGood (S.word_count table.now.key.shape) (S.good table.now.key.shape)) (action_of step.now seat.old.me.0) seat.old.me.0 }
+    requires may { May (IsGood (S.word_count table.now.key.shape) (S.good table.now.key.shape))
+        step.now seat.old.me.0 }
+    requires room { Grows (IsGood (S.word_count table.now.key.shape) (S.good table.now.key.shape))
+        (action_of step.now seat.old.me.0) seat.old.me.0 }
     ensures seat { seat.new.table_id ≡ seat.old.table_id }
     ensures took { Took A.sound (action_of step.now seat.old.me.0) seat.old.me seat.new.me result }
 {
@@ -191,10 +201,13 @@ pub(crate) fn load<S: Shape>(
     step: &Step,
 ) -> u64
     requires table { (seat.old.table_id ≡ table.now.table_id) × (word < table.now.table_id.words) }
-    requires action { let x : Action = action_of step.now seat.old.me.0 in (word ≡ x.at) × ((w : ℕ) → x.writes w ≡ w) }
-    requires may { May (IsGood (S.word_count table.now.key.shape) (S.good table.now.key.shape)) step.now seat.old.me.0 }
+    requires action { let x : Action = action_of step.now seat.old.me.0 in (word ≡ x.at)
+        × ((w : ℕ) → x.writes w ≡ w) }
+    requires may { May (IsGood (S.word_count table.now.key.shape) (S.good table.now.key.shape))
+        step.now seat.old.me.0 }
     ensures seat { seat.new.table_id ≡ seat.old.table_id }
-    ensures took { Took (GroundHolds S.word_count S.good table.now.key) (action_of step.now seat.old.me.0) seat.old.me seat.new.me result }
+    ensures took { Took (GroundHolds S.word_count S.good table.now.key)
+        (action_of step.now seat.old.me.0) seat.old.me seat.new.me result }
 {
     load_by::<S, Brand>(table, seat, word, step)
 }
@@ -208,12 +221,16 @@ pub(crate) fn store<S: Shape>(
     step: &Step,
 )
     requires table { (seat.old.table_id ≡ table.now.table_id) × (word < table.now.table_id.words) }
-    requires action { let x : Action = action_of step.now seat.old.me.0 in (word ≡ x.at) × ((h : List Entry) (w : ℕ) → x.view h w ≡ x.view [] new) }
-    requires may { May (IsGood (S.word_count table.now.key.shape) (S.good table.now.key.shape)) step.now seat.old.me.0 }
+    requires action { let x : Action = action_of step.now seat.old.me.0 in (word ≡ x.at)
+        × ((h : List Entry) (w : ℕ) → x.view h w ≡ x.view [] new) }
+    requires may { May (IsGood (S.word_count table.now.key.shape) (S.good table.now.key.shape))
+        step.now seat.old.me.0 }
     requires stored { Stores (action_of step.now seat.old.me.0) seat.old.me.0 new }
     ensures seat { seat.new.table_id ≡ seat.old.table_id }
     ensures view { seat.new.me ≡ ((action_of step.now seat.old.me.0).view [] new, seat.old.me.1) }
-    ensures took { (found : ℕ) × Took (GroundHolds S.word_count S.good table.now.key) (action_of step.now seat.old.me.0) seat.old.me seat.new.me found }
+    ensures took { (found : ℕ)
+        × Took (GroundHolds S.word_count S.good table.now.key) (action_of step.now seat.old.me.0)
+        seat.old.me seat.new.me found }
 {
     store_by::<S, Brand>(table, seat, word, new, step)
 }
@@ -228,10 +245,13 @@ pub(crate) fn exchange<S: Shape>(
     step: &Step,
 ) -> u64
     requires table { (seat.old.table_id ≡ table.now.table_id) × (word < table.now.table_id.words) }
-    requires action { let x : Action = action_of step.now seat.old.me.0 in (word ≡ x.at) × ((w : ℕ) → x.writes w ≡ if w == old then new else w) }
-    requires may { May (IsGood (S.word_count table.now.key.shape) (S.good table.now.key.shape)) step.now seat.old.me.0 }
+    requires action { let x : Action = action_of step.now seat.old.me.0 in (word ≡ x.at)
+        × ((w : ℕ) → x.writes w ≡ if w == old then new else w) }
+    requires may { May (IsGood (S.word_count table.now.key.shape) (S.good table.now.key.shape))
+        step.now seat.old.me.0 }
     ensures seat { seat.new.table_id ≡ seat.old.table_id }
-    ensures took { Took (GroundHolds S.word_count S.good table.now.key) (action_of step.now seat.old.me.0) seat.old.me seat.new.me result }
+    ensures took { Took (GroundHolds S.word_count S.good table.now.key)
+        (action_of step.now seat.old.me.0) seat.old.me seat.new.me result }
 {
     exchange_by::<S, Brand>(table, seat, word, old, new, step)
 }
@@ -244,11 +264,15 @@ pub(crate) fn add<S: Shape>(
     step: &Step,
 ) -> u64
     requires table { (seat.old.table_id ≡ table.now.table_id) × (word < table.now.table_id.words) }
-    requires action { let x : Action = action_of step.now seat.old.me.0 in (word ≡ x.at) × ((w : ℕ) → x.writes w ≡ w + 1) }
-    requires may { May (IsGood (S.word_count table.now.key.shape) (S.good table.now.key.shape)) step.now seat.old.me.0 }
-    requires room { Grows (IsGood (S.word_count table.now.key.shape) (S.good table.now.key.shape)) (action_of step.now seat.old.me.0) seat.old.me.0 }
+    requires action { let x : Action = action_of step.now seat.old.me.0 in (word ≡ x.at)
+        × ((w : ℕ) → x.writes w ≡ w + 1) }
+    requires may { May (IsGood (S.word_count table.now.key.shape) (S.good table.now.key.shape))
+        step.now seat.old.me.0 }
+    requires room { Grows (IsGood (S.word_count table.now.key.shape) (S.good table.now.key.shape))
+        (action_of step.now seat.old.me.0) seat.old.me.0 }
     ensures seat { seat.new.table_id ≡ seat.old.table_id }
-    ensures took { Took (GroundHolds S.word_count S.good table.now.key) (action_of step.now seat.old.me.0) seat.old.me seat.new.me result }
+    ensures took { Took (GroundHolds S.word_count S.good table.now.key)
+        (action_of step.now seat.old.me.0) seat.old.me seat.new.me result }
     ensures fits { result + 1 < 2 ^ 64 }
 {
     add_by::<S, Brand>(table, seat, word, step)

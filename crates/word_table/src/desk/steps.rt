@@ -41,7 +41,8 @@ impl<S: Shape> Desk<S> {
         ensures granted { result ≡ Shared.Granted → IsGranted pass.new.view (lock_of_word a) }
         ensures met { (j : ℕ) → result ≡ Shared.Met j → MetOn (RuleHolds S.Shape self.now)
             (load_writer_action (number pass.old.view) (lock_of_word a) a)
-            pass.old.view (with_bit (lock_of_word a) a pass.old.view) pass.new.view (lock_of_word a) j }
+            pass.old.view (with_bit (lock_of_word a) a pass.old.view) pass.new.view (lock_of_word a)
+            j }
         ensures bit { (j : ℕ) → result ≡ Shared.Met j → HasBit pass.new.view (lock_of_word a) }
         ensures held { IsGranted pass.old.view (lock_of_word a)
             → (result ≡ Shared.Granted) × (pass.new.view ≡ pass.old.view) }
@@ -90,10 +91,13 @@ impl<S: Shape> Desk<S> {
         requires claim { (k < LOCKS) × HasClaim pass.old.view k }
         requires other { (other < pass.old.view.seats) × (other ≢ number pass.old.view) }
         ensures desk { pass.new.table ≡ pass.old.table }
-        ensures step { ScannedBy (RuleHolds S.Shape self.now) pass.old.view k other result pass.new.view }
+        ensures step { ScannedBy (RuleHolds S.Shape self.now) pass.old.view k other result
+            pass.new.view }
         ensures clear { result ≡ Scanned.Clear → IsScanned pass.new.view k other }
-        ensures met { (j : ℕ) → result ≡ Scanned.Met j → (j ≡ other) × MetOn (RuleHolds S.Shape self.now)
-            (scan_row_action (number pass.old.view) k other) pass.old.view pass.old.view pass.new.view k j }
+        ensures met { (j : ℕ) → result ≡ Scanned.Met j
+            → (j ≡ other) × MetOn (RuleHolds S.Shape self.now)
+            (scan_row_action (number pass.old.view) k other) pass.old.view pass.old.view
+            pass.new.view k j }
         ensures call { SameCall pass.old.view pass.new.view }
         ensures grants { GrantsStay pass.old.view pass.new.view }
     {
@@ -107,9 +111,11 @@ impl<S: Shape> Desk<S> {
         requires undone { (pass.old.view.undo ≡ []) ⊎ (pass.old.view.phase ≡ Phase.Releasing) }
         requires begun { pass.old.view.phase ≢ Phase.Idle }
         ensures desk { pass.new.table ≡ pass.old.table }
-        ensures step { pass.new.view ≡ (release_writer_action (number pass.old.view) k pass.old.view).view [] 0 }
+        ensures step { pass.new.view
+            ≡ (release_writer_action (number pass.old.view) k pass.old.view).view [] 0 }
         ensures taken { (found : ℕ) × TakenIn (RuleHolds S.Shape self.now)
-            (release_writer_action (number pass.old.view) k pass.old.view) pass.old.view found pass.new.view }
+            (release_writer_action (number pass.old.view) k pass.old.view) pass.old.view found
+            pass.new.view }
         ensures gone { ¬ HasClaim pass.new.view k }
     {
         pass.release_writer(&self.table.shared, k);
@@ -122,9 +128,11 @@ impl<S: Shape> Desk<S> {
         requires undone { (pass.old.view.undo ≡ []) ⊎ (pass.old.view.phase ≡ Phase.Releasing) }
         requires begun { pass.old.view.phase ≢ Phase.Idle }
         ensures desk { pass.new.table ≡ pass.old.table }
-        ensures step { pass.new.view ≡ (clear_read_bit_action (number pass.old.view) k pass.old.view).view [] 0 }
+        ensures step { pass.new.view
+            ≡ (clear_read_bit_action (number pass.old.view) k pass.old.view).view [] 0 }
         ensures taken { (found : ℕ) × TakenIn (RuleHolds S.Shape self.now)
-            (clear_read_bit_action (number pass.old.view) k pass.old.view) pass.old.view found pass.new.view }
+            (clear_read_bit_action (number pass.old.view) k pass.old.view) pass.old.view found
+            pass.new.view }
         ensures gone { ¬ HasBit pass.new.view k × ¬ HasReadGrant pass.new.view k }
     {
         pass.clear_read_bit(&self.table.shared, k);
@@ -137,9 +145,11 @@ impl<S: Shape> Desk<S> {
         requires room { pass.old.view.call < LAST_CALL }
         ensures desk { pass.new.table ≡ pass.old.table }
         ensures number { result ≡ pass.old.view.call + 1 }
-        ensures step { pass.new.view ≡ (begin_call_action (number pass.old.view) pass.old.view).view [] 0 }
+        ensures step { pass.new.view
+            ≡ (begin_call_action (number pass.old.view) pass.old.view).view [] 0 }
         ensures taken { (found : ℕ) × TakenIn (RuleHolds S.Shape self.now)
-            (begin_call_action (number pass.old.view) pass.old.view) pass.old.view found pass.new.view }
+            (begin_call_action (number pass.old.view) pass.old.view) pass.old.view found
+            pass.new.view }
         ensures fits { ReadsHistory (AreGoodWords S.Shape self.now)
             self.now.seats self.now.base pass.new.view }
     {
@@ -154,9 +164,11 @@ impl<S: Shape> Desk<S> {
         requires word { a < length pass.old.view.base }
         requires granted { IsGranted pass.old.view (lock_of_word a) }
         ensures desk { pass.new.table ≡ pass.old.table }
-        ensures event { pass.new.view ≡ record pass.old.view { trace = pass.old.view.trace ++ Read a result ∷ [] } }
+        ensures event { pass.new.view
+            ≡ record pass.old.view { trace = pass.old.view.trace ++ Read a result ∷ [] } }
         ensures taken { TakenIn (RuleHolds S.Shape self.now)
-            (load_value_action (number pass.old.view) a pass.old.view) pass.old.view result pass.new.view }
+            (load_value_action (number pass.old.view) a pass.old.view) pass.old.view result
+            pass.new.view }
         ensures fits { ReadsHistory (AreGoodWords S.Shape self.now)
             self.now.seats self.now.base pass.new.view }
     {
@@ -170,13 +182,17 @@ impl<S: Shape> Desk<S> {
         requires phase { pass.old.view.phase ≡ Phase.Running }
         requires word { a < length pass.old.view.base }
         requires granted { HasWriteGrant pass.old.view (lock_of_word a) }
-        requires read { (before : List Event) × (old : ℕ) × (pass.old.view.trace ≡ before ++ Read a old ∷ []) }
+        requires read { (before : List Event) × (old : ℕ)
+            × (pass.old.view.trace ≡ before ++ Read a old ∷ []) }
         ensures desk { pass.new.table ≡ pass.old.table }
-        ensures step { pass.new.view ≡ (store_value_action (number pass.old.view) a value pass.old.view).view [] 0 }
-        ensures noted { (before : List Event) (old : ℕ) → pass.old.view.trace ≡ before ++ Read a old ∷ []
+        ensures step { pass.new.view
+            ≡ (store_value_action (number pass.old.view) a value pass.old.view).view [] 0 }
+        ensures noted { (before : List Event) (old : ℕ)
+            → pass.old.view.trace ≡ before ++ Read a old ∷ []
             → pass.new.view.undo ≡ pass.old.view.undo ++ (a, old) ∷ [] }
         ensures taken { (found : ℕ) × TakenIn (RuleHolds S.Shape self.now)
-            (store_value_action (number pass.old.view) a value pass.old.view) pass.old.view found pass.new.view }
+            (store_value_action (number pass.old.view) a value pass.old.view) pass.old.view found
+            pass.new.view }
     {
         pass.store_value(&self.table.shared, a, value);
     }
@@ -189,10 +205,13 @@ impl<S: Shape> Desk<S> {
         requires word { a < length pass.old.view.base }
         requires newest { (older : Notes) × (pass.old.view.undo ≡ older ++ (a, old) ∷ []) }
         ensures desk { pass.new.table ≡ pass.old.table }
-        ensures step { pass.new.view ≡ (undo_store_action (number pass.old.view) a old pass.old.view).view [] 0 }
-        ensures undone { (older : Notes) → pass.old.view.undo ≡ older ++ (a, old) ∷ [] → pass.new.view.undo ≡ older }
+        ensures step { pass.new.view
+            ≡ (undo_store_action (number pass.old.view) a old pass.old.view).view [] 0 }
+        ensures undone { (older : Notes) → pass.old.view.undo ≡ older ++ (a, old) ∷ []
+            → pass.new.view.undo ≡ older }
         ensures taken { (found : ℕ) × TakenIn (RuleHolds S.Shape self.now)
-            (undo_store_action (number pass.old.view) a old pass.old.view) pass.old.view found pass.new.view }
+            (undo_store_action (number pass.old.view) a old pass.old.view) pass.old.view found
+            pass.new.view }
     {
         pass.undo_store(&self.table.shared, a, old);
     }
@@ -210,7 +229,8 @@ impl<S: Shape> Desk<S> {
             → AreGoodWords S.Shape self.now (after pass.old.view.trace words) }
         requires undone { kept ≡ false → pass.old.view.undo ≡ [] }
         ensures desk { pass.new.table ≡ pass.old.table }
-        ensures entry { CommitsAt (S.word_count self.now.shape) (S.good self.now.shape) self.now.base
+        ensures entry { CommitsAt (S.word_count self.now.shape) (S.good self.now.shape)
+            self.now.base
             kept pass.old.view pass.new.view result }
         ensures place { result ≡ length pass.new.view.seen }
         ensures bounded { AreRestartsBounded self.now.seats (number pass.old.view) pass.old.view }
@@ -218,7 +238,8 @@ impl<S: Shape> Desk<S> {
             → IsPrefix told pass.new.view.seen × (length told < result) }
         ensures legal { IsLegalFor S.Shape self.now pass.new.view.seen }
         ensures taken { (found : ℕ) × (result ≡ found + 1) × TakenIn (RuleHolds S.Shape self.now)
-            (commit_call_action (number pass.old.view) kept pass.old.view) pass.old.view found pass.new.view }
+            (commit_call_action (number pass.old.view) kept pass.old.view) pass.old.view found
+            pass.new.view }
     {
         pass.commit_call(&self.table.shared, kept) + 1
     }
@@ -226,15 +247,18 @@ impl<S: Shape> Desk<S> {
     /// Ends the call, once all its locks are released. A call that ends without an entry did nothing.
     pub fn finish_call(&self, pass: &mut Pass<S>)
         requires desk { pass.old.table ≡ self.now.table }
-        requires phase { (is_attempt pass.old.view.phase ≡ true) ⊎ (pass.old.view.phase ≡ Phase.Releasing) }
+        requires phase { (is_attempt pass.old.view.phase ≡ true)
+            ⊎ (pass.old.view.phase ≡ Phase.Releasing) }
         requires no_bit { (k : ℕ) → ¬ HasBit pass.old.view k }
         requires no_claim { (k : ℕ) → ¬ HasClaim pass.old.view k }
         requires undone { pass.old.view.undo ≡ [] }
         ensures desk { pass.new.table ≡ pass.old.table }
-        ensures step { pass.new.view ≡ (clear_stamp_action (number pass.old.view) pass.old.view).view [] 0 }
+        ensures step { pass.new.view
+            ≡ (clear_stamp_action (number pass.old.view) pass.old.view).view [] 0 }
         ensures bounded { AreRestartsBounded self.now.seats (number pass.old.view) pass.old.view }
         ensures taken { (found : ℕ) × TakenIn (RuleHolds S.Shape self.now)
-            (clear_stamp_action (number pass.old.view) pass.old.view) pass.old.view found pass.new.view }
+            (clear_stamp_action (number pass.old.view) pass.old.view) pass.old.view found
+            pass.new.view }
     {
         pass.clear_stamp(&self.table.shared);
     }
@@ -246,9 +270,11 @@ impl<S: Shape> Desk<S> {
         requires unjudged { pass.old.view.met ≢ [] }
         requires unstamped { pass.old.view.stamp ≡ 0 }
         ensures desk { pass.new.table ≡ pass.old.table }
-        ensures step { pass.new.view ≡ record pass.old.view { stamp = result; draws = pass.old.view.draws + 1 } }
+        ensures step { pass.new.view
+            ≡ record pass.old.view { stamp = result; draws = pass.old.view.draws + 1 } }
         ensures taken { (found : ℕ) × (result ≡ found + 1) × TakenIn (RuleHolds S.Shape self.now)
-            (draw_stamp_action (number pass.old.view) pass.old.view) pass.old.view found pass.new.view }
+            (draw_stamp_action (number pass.old.view) pass.old.view) pass.old.view found
+            pass.new.view }
     {
         pass.draw_stamp(&self.table.shared)
     }
@@ -260,9 +286,11 @@ impl<S: Shape> Desk<S> {
         requires stamped { 0 < pass.old.view.stamp }
         requires unannounced { pass.old.view.announced ≡ false }
         ensures desk { pass.new.table ≡ pass.old.table }
-        ensures step { pass.new.view ≡ (announce_stamp_action (number pass.old.view) pass.old.view).view [] 0 }
+        ensures step { pass.new.view
+            ≡ (announce_stamp_action (number pass.old.view) pass.old.view).view [] 0 }
         ensures taken { (found : ℕ) × TakenIn (RuleHolds S.Shape self.now)
-            (announce_stamp_action (number pass.old.view) pass.old.view) pass.old.view found pass.new.view }
+            (announce_stamp_action (number pass.old.view) pass.old.view) pass.old.view found
+            pass.new.view }
     {
         pass.announce_stamp(&self.table.shared);
     }
@@ -276,7 +304,8 @@ impl<S: Shape> Desk<S> {
         requires other { other < pass.old.view.seats }
         requires met { has other pass.old.view.met ≡ true }
         ensures desk { pass.new.table ≡ pass.old.table }
-        ensures step { JudgedBy (RuleHolds S.Shape self.now) pass.old.view other result pass.new.view }
+        ensures step { JudgedBy (RuleHolds S.Shape self.now) pass.old.view other result
+            pass.new.view }
         ensures waits { result ≡ Judged.Wait
             → pass.new.view ≡ record pass.old.view { met = without other pass.old.view.met } }
         ensures yields { (stamp : ℕ) → result ≡ Judged.Yield stamp
@@ -296,7 +325,8 @@ impl<S: Shape> Desk<S> {
         requires desk { pass.old.table ≡ self.now.table }
         requires phase { pass.old.view.phase ≡ Phase.Yielding }
         requires other { other < pass.old.view.seats }
-        requires cause { newest (past_causes pass.old.view) ≡ Some (record { seat = other; stamp = stamp }) }
+        requires cause { newest (past_causes pass.old.view)
+            ≡ Some (record { seat = other; stamp = stamp }) }
         requires no_bit { (k : ℕ) → ¬ HasBit pass.old.view k }
         requires no_claim { (k : ℕ) → ¬ HasClaim pass.old.view k }
         requires undone { pass.old.view.undo ≡ [] }
@@ -305,8 +335,10 @@ impl<S: Shape> Desk<S> {
             × TakenIn (RuleHolds S.Shape self.now)
             (load_cause_stamp_action (number pass.old.view) other stamp pass.old.view)
             pass.old.view found pass.new.view }
-        ensures restarts { result ≡ true → pass.new.view ≡ record pass.old.view { phase = Phase.Running; trace = [] } }
-        ensures waits { result ≡ false → pass.new.view ≡ record pass.old.view { waits = pass.old.view.waits + 1 } }
+        ensures restarts { result ≡ true
+            → pass.new.view ≡ record pass.old.view { phase = Phase.Running; trace = [] } }
+        ensures waits { result ≡ false
+            → pass.new.view ≡ record pass.old.view { waits = pass.old.view.waits + 1 } }
         ensures fits { result ≡ true
             → ReadsHistory (AreGoodWords S.Shape self.now)
             self.now.seats self.now.base pass.new.view }

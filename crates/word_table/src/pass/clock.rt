@@ -40,9 +40,12 @@ impl<S: Shape> Pass<S> {
         requires unjudged { self.old.view.met ≢ [] }
         requires unstamped { self.old.view.stamp ≡ 0 }
         ensures table { self.new.table ≡ self.old.table }
-        ensures view { self.new.view ≡ record self.old.view { stamp = result; draws = self.old.view.draws + 1 } }
-        ensures taken { (found : ℕ) × (result ≡ found + 1) × TakenIn (GroundHolds S.word_count S.good table.now.key)
-            (draw_stamp_action (number self.old.view) self.old.view) self.old.view found self.new.view }
+        ensures view { self.new.view
+            ≡ record self.old.view { stamp = result; draws = self.old.view.draws + 1 } }
+        ensures taken { (found : ℕ) × (result ≡ found + 1)
+            × TakenIn (GroundHolds S.word_count S.good table.now.key)
+            (draw_stamp_action (number self.old.view) self.old.view) self.old.view found
+            self.new.view }
     {
         let found = step::add(
             table,
@@ -63,9 +66,11 @@ impl<S: Shape> Pass<S> {
         requires stamped { 0 < self.old.view.stamp }
         requires unannounced { self.old.view.announced ≡ false }
         ensures table { self.new.table ≡ self.old.table }
-        ensures view { self.new.view ≡ (announce_stamp_action (number self.old.view) self.old.view).view [] 0 }
+        ensures view { self.new.view
+            ≡ (announce_stamp_action (number self.old.view) self.old.view).view [] 0 }
         ensures taken { (found : ℕ) × TakenIn (GroundHolds S.word_count S.good table.now.key)
-            (announce_stamp_action (number self.old.view) self.old.view) self.old.view found self.new.view }
+            (announce_stamp_action (number self.old.view) self.old.view) self.old.view found
+            self.new.view }
     {
         self.call.announced = true;
         let own_word = place_of_stamp(self.call.seats, self.call.who);
@@ -89,7 +94,8 @@ impl<S: Shape> Pass<S> {
         requires other { other < self.old.view.seats }
         requires met { has other self.old.view.met ≡ true }
         ensures table { self.new.table ≡ self.old.table }
-        ensures judged { JudgedBy (GroundHolds S.word_count S.good table.now.key) self.old.view other result self.new.view }
+        ensures judged { JudgedBy (GroundHolds S.word_count S.good table.now.key) self.old.view
+            other result self.new.view }
         ensures one { self.old.view.who ≡ number self.old.view ∷ [] }
         ensures no_cause { self.old.view.due ≡ None }
     {
@@ -123,14 +129,17 @@ impl<S: Shape> Pass<S> {
         requires table { self.old.table ≡ table.now.table_id }
         requires phase { self.old.view.phase ≡ Phase.Yielding }
         requires other { other < self.old.view.seats }
-        requires cause { newest (past_causes self.old.view) ≡ Some (record { seat = other; stamp = stamp }) }
+        requires cause { newest (past_causes self.old.view)
+            ≡ Some (record { seat = other; stamp = stamp }) }
         requires no_bit { (k : ℕ) → ¬ HasBit self.old.view k }
         requires no_claim { (k : ℕ) → ¬ HasClaim self.old.view k }
         requires undone { self.old.view.undo ≡ [] }
         ensures table { self.new.table ≡ self.old.table }
         ensures taken { TakenIn (GroundHolds S.word_count S.good table.now.key)
-            (load_cause_stamp_action (number self.old.view) other stamp self.old.view) self.old.view result self.new.view }
-        ensures fits { result ≢ stamp → ReadsHistory (IsGood (S.word_count table.now.key.shape) (S.good table.now.key.shape))
+            (load_cause_stamp_action (number self.old.view) other stamp self.old.view) self.old.view
+            result self.new.view }
+        ensures fits { result ≢ stamp
+            → ReadsHistory (IsGood (S.word_count table.now.key.shape) (S.good table.now.key.shape))
             table.now.key.seats table.now.key.base.items self.new.view }
     {
         let shown = step::load(
@@ -151,15 +160,19 @@ impl<S: Shape> Pass<S> {
     // The store of 0 to the own STAMPS word.
     pub(crate) fn clear_stamp(&mut self, table: &TableWords<S>)
         requires table { self.old.table ≡ table.now.table_id }
-        requires phase { (is_attempt self.old.view.phase ≡ true) ⊎ (self.old.view.phase ≡ Phase.Releasing) }
+        requires phase { (is_attempt self.old.view.phase ≡ true)
+            ⊎ (self.old.view.phase ≡ Phase.Releasing) }
         requires no_bit { (k : ℕ) → ¬ HasBit self.old.view k }
         requires no_claim { (k : ℕ) → ¬ HasClaim self.old.view k }
         requires undone { self.old.view.undo ≡ [] }
         ensures table { self.new.table ≡ self.old.table }
-        ensures view { self.new.view ≡ (clear_stamp_action (number self.old.view) self.old.view).view [] 0 }
+        ensures view { self.new.view
+            ≡ (clear_stamp_action (number self.old.view) self.old.view).view [] 0 }
         ensures taken { (found : ℕ) × TakenIn (GroundHolds S.word_count S.good table.now.key)
-            (clear_stamp_action (number self.old.view) self.old.view) self.old.view found self.new.view }
-        ensures bounded { AreRestartsBounded table.now.key.seats (number self.old.view) self.old.view }
+            (clear_stamp_action (number self.old.view) self.old.view) self.old.view found
+            self.new.view }
+        ensures bounded { AreRestartsBounded table.now.key.seats (number self.old.view)
+            self.old.view }
     {
         self.call.phase = Phase::Idle;
         self.call.stamp = 0;

@@ -33,11 +33,15 @@ impl<S: Shape> Pass<S> {
     pub(crate) fn set_read_bit(&mut self, table: &TableWords<S>, a: u64)
         requires table { self.old.table ≡ table.now.table_id }
         requires phase { self.old.view.phase ≡ Phase.Running }
-        requires bit { ¬ IsGranted self.old.view (lock_of_word a) × ¬ HasBit self.old.view (lock_of_word a) }
+        requires bit { ¬ IsGranted self.old.view (lock_of_word a)
+            × ¬ HasBit self.old.view (lock_of_word a) }
         ensures table { self.new.table ≡ self.old.table }
-        ensures view { self.new.view ≡ (set_read_bit_action (number self.old.view) (lock_of_word a) a self.old.view).view [] 0 }
+        ensures view { self.new.view
+            ≡ (set_read_bit_action (number self.old.view) (lock_of_word a) a self.old.view).view []
+            0 }
         ensures taken { (found : ℕ) × TakenIn (GroundHolds S.word_count S.good table.now.key)
-            (set_read_bit_action (number self.old.view) (lock_of_word a) a self.old.view) self.old.view found self.new.view }
+            (set_read_bit_action (number self.old.view) (lock_of_word a) a self.old.view)
+            self.old.view found self.new.view }
     {
         let lock = lock_of(a);
         let new = bits::raised(&self.locks.bits, lock);
@@ -79,7 +83,8 @@ impl<S: Shape> Pass<S> {
         requires bit { HasBit self.old.view (lock_of_word a) }
         ensures table { self.new.table ≡ self.old.table }
         ensures taken { TakenIn (GroundHolds S.word_count S.good table.now.key)
-            (load_writer_action (number self.old.view) (lock_of_word a) a self.old.view) self.old.view result self.new.view }
+            (load_writer_action (number self.old.view) (lock_of_word a) a self.old.view)
+            self.old.view result self.new.view }
         ensures small { result ≤ MOST_PASSES }
     {
         let lock = lock_of(a);
@@ -105,7 +110,8 @@ impl<S: Shape> Pass<S> {
         requires phase { self.old.view.phase ≡ Phase.Running }
         requires bit { HasBit self.old.view (lock_of_word a) }
         ensures table { self.new.table ≡ self.old.table }
-        ensures looked { Looked (GroundHolds S.word_count S.good table.now.key) self.old.view a result self.new.view }
+        ensures looked { Looked (GroundHolds S.word_count S.good table.now.key) self.old.view a
+            result self.new.view }
         ensures one { self.old.view.who ≡ number self.old.view ∷ [] }
     {
         let who = self.who();
@@ -120,7 +126,8 @@ impl<S: Shape> Pass<S> {
         requires claim { ¬ HasClaim self.old.view (lock_of_word a) }
         ensures table { self.new.table ≡ self.old.table }
         ensures taken { TakenIn (GroundHolds S.word_count S.good table.now.key)
-            (claim_writer_action (number self.old.view) (lock_of_word a) a self.old.view) self.old.view result self.new.view }
+            (claim_writer_action (number self.old.view) (lock_of_word a) a self.old.view)
+            self.old.view result self.new.view }
         ensures other { result ≢ number self.old.view + 1 }
         ensures small { result ≤ MOST_PASSES }
         ensures one { self.old.view.who ≡ number self.old.view ∷ [] }
@@ -153,7 +160,8 @@ impl<S: Shape> Pass<S> {
         requires other { (other < self.old.view.seats) × (other ≢ number self.old.view) }
         ensures table { self.new.table ≡ self.old.table }
         ensures taken { TakenIn (GroundHolds S.word_count S.good table.now.key)
-            (scan_row_action (number self.old.view) k other self.old.view) self.old.view result self.new.view }
+            (scan_row_action (number self.old.view) k other self.old.view) self.old.view result
+            self.new.view }
         ensures one { self.old.view.who ≡ number self.old.view ∷ [] }
     {
         let found = step::load(
@@ -178,7 +186,8 @@ impl<S: Shape> Pass<S> {
         requires claim { (k < LOCKS) × HasClaim self.old.view k }
         requires other { (other < self.old.view.seats) × (other ≢ number self.old.view) }
         ensures table { self.new.table ≡ self.old.table }
-        ensures scanned { ScannedBy (GroundHolds S.word_count S.good table.now.key) self.old.view k other result self.new.view }
+        ensures scanned { ScannedBy (GroundHolds S.word_count S.good table.now.key) self.old.view k
+            other result self.new.view }
         ensures one { self.old.view.who ≡ number self.old.view ∷ [] }
     {
         let found = self.scan_row(table, k, other);
@@ -192,9 +201,11 @@ impl<S: Shape> Pass<S> {
         requires undone { (self.old.view.undo ≡ []) ⊎ (self.old.view.phase ≡ Phase.Releasing) }
         requires begun { self.old.view.phase ≢ Phase.Idle }
         ensures table { self.new.table ≡ self.old.table }
-        ensures view { self.new.view ≡ (release_writer_action (number self.old.view) k self.old.view).view [] 0 }
+        ensures view { self.new.view
+            ≡ (release_writer_action (number self.old.view) k self.old.view).view [] 0 }
         ensures taken { (found : ℕ) × TakenIn (GroundHolds S.word_count S.good table.now.key)
-            (release_writer_action (number self.old.view) k self.old.view) self.old.view found self.new.view }
+            (release_writer_action (number self.old.view) k self.old.view) self.old.view found
+            self.new.view }
     {
         let nobody = 0;
         bits::lower(&mut self.locks.claims, k);
@@ -220,9 +231,11 @@ impl<S: Shape> Pass<S> {
         requires undone { (self.old.view.undo ≡ []) ⊎ (self.old.view.phase ≡ Phase.Releasing) }
         requires begun { self.old.view.phase ≢ Phase.Idle }
         ensures table { self.new.table ≡ self.old.table }
-        ensures view { self.new.view ≡ (clear_read_bit_action (number self.old.view) k self.old.view).view [] 0 }
+        ensures view { self.new.view
+            ≡ (clear_read_bit_action (number self.old.view) k self.old.view).view [] 0 }
         ensures taken { (found : ℕ) × TakenIn (GroundHolds S.word_count S.good table.now.key)
-            (clear_read_bit_action (number self.old.view) k self.old.view) self.old.view found self.new.view }
+            (clear_read_bit_action (number self.old.view) k self.old.view) self.old.view found
+            self.new.view }
     {
         let new = bits::lowered(&self.locks.bits, k);
         bits::lower(&mut self.locks.bits, k);

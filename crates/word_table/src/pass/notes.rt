@@ -50,10 +50,12 @@ impl<S: Shape> Pass<S> {
         requires table { self.old.table ≡ table.now.table_id }
         requires phase { self.old.view.phase ≡ Phase.Idle }
         ensures table { self.new.table ≡ self.old.table }
-        ensures view { self.new.view ≡ record self.old.view { seen = self.new.view.seen; olds = [] } }
+        ensures view { self.new.view
+            ≡ record self.old.view { seen = self.new.view.seen; olds = [] } }
         ensures taken { (found : ℕ) × TakenIn (GroundHolds S.word_count S.good table.now.key)
             (load_serial_action self.old.view) self.old.view found self.new.view }
-        ensures legal { IsLegalHistory (IsGood (S.word_count table.now.key.shape) (S.good table.now.key.shape))
+        ensures legal { IsLegalHistory
+            (IsGood (S.word_count table.now.key.shape) (S.good table.now.key.shape))
             table.now.key.seats table.now.key.base.items self.new.view.seen }
     {
         step::load(table, &mut self.seat, PLACE_OF_SERIAL, &Step::LoadSerial);
@@ -65,10 +67,13 @@ impl<S: Shape> Pass<S> {
         requires note { note.table ≡ table.now.table_id }
         requires phase { self.old.view.phase ≡ Phase.Idle }
         ensures table { self.new.table ≡ self.old.table }
-        ensures rest { self.new.view ≡ record self.old.view { seen = self.new.view.seen; olds = []; met = [] } }
+        ensures rest { self.new.view
+            ≡ record self.old.view { seen = self.new.view.seen; olds = []; met = [] } }
         ensures taken { (found : ℕ) × TakenIn (GroundHolds S.word_count S.good table.now.key)
-            (load_serial_action (after_told self.old.view note.seen)) (after_told self.old.view note.seen) found self.new.view }
-        ensures legal { IsLegalHistory (IsGood (S.word_count table.now.key.shape) (S.good table.now.key.shape))
+            (load_serial_action (after_told self.old.view note.seen))
+            (after_told self.old.view note.seen) found self.new.view }
+        ensures legal { IsLegalHistory
+            (IsGood (S.word_count table.now.key.shape) (S.good table.now.key.shape))
             table.now.key.seats table.now.key.base.items self.new.view.seen }
     {
         self.join_note(table, note);

@@ -44,10 +44,13 @@ impl<S: Shape> Pass<S> {
         requires room { self.old.view.call < LAST_CALL }
         ensures table { self.new.table ≡ self.old.table }
         ensures number { result ≡ self.old.view.call + 1 }
-        ensures view { self.new.view ≡ (begin_call_action (number self.old.view) self.old.view).view [] 0 }
+        ensures view { self.new.view
+            ≡ (begin_call_action (number self.old.view) self.old.view).view [] 0 }
         ensures taken { (found : ℕ) × TakenIn (GroundHolds S.word_count S.good table.now.key)
-            (begin_call_action (number self.old.view) self.old.view) self.old.view found self.new.view }
-        ensures fits { ReadsHistory (IsGood (S.word_count table.now.key.shape) (S.good table.now.key.shape))
+            (begin_call_action (number self.old.view) self.old.view) self.old.view found
+            self.new.view }
+        ensures fits { ReadsHistory
+            (IsGood (S.word_count table.now.key.shape) (S.good table.now.key.shape))
             table.now.key.seats table.now.key.base.items self.new.view }
     {
         let next = self.call.calls + 1;
@@ -73,8 +76,10 @@ impl<S: Shape> Pass<S> {
         requires granted { IsGranted self.old.view (lock_of_word a) }
         ensures table { self.new.table ≡ self.old.table }
         ensures taken { TakenIn (GroundHolds S.word_count S.good table.now.key)
-            (load_value_action (number self.old.view) a self.old.view) self.old.view result self.new.view }
-        ensures fits { ReadsHistory (IsGood (S.word_count table.now.key.shape) (S.good table.now.key.shape))
+            (load_value_action (number self.old.view) a self.old.view) self.old.view result
+            self.new.view }
+        ensures fits { ReadsHistory
+            (IsGood (S.word_count table.now.key.shape) (S.good table.now.key.shape))
             table.now.key.seats table.now.key.base.items self.new.view }
     {
         step::load(
@@ -94,11 +99,14 @@ impl<S: Shape> Pass<S> {
         requires phase { self.old.view.phase ≡ Phase.Running }
         requires word { a < length self.old.view.base }
         requires granted { HasWriteGrant self.old.view (lock_of_word a) }
-        requires read { (before : List Event) × (old : ℕ) × (self.old.view.trace ≡ before ++ Read a old ∷ []) }
+        requires read { (before : List Event) × (old : ℕ)
+            × (self.old.view.trace ≡ before ++ Read a old ∷ []) }
         ensures table { self.new.table ≡ self.old.table }
-        ensures view { self.new.view ≡ (store_value_action (number self.old.view) a value self.old.view).view [] 0 }
+        ensures view { self.new.view
+            ≡ (store_value_action (number self.old.view) a value self.old.view).view [] 0 }
         ensures taken { (found : ℕ) × TakenIn (GroundHolds S.word_count S.good table.now.key)
-            (store_value_action (number self.old.view) a value self.old.view) self.old.view found self.new.view }
+            (store_value_action (number self.old.view) a value self.old.view) self.old.view found
+            self.new.view }
     {
         step::store(
             table,
@@ -120,9 +128,11 @@ impl<S: Shape> Pass<S> {
         requires word { a < length self.old.view.base }
         requires newest { (older : Notes) × (self.old.view.undo ≡ older ++ (a, old) ∷ []) }
         ensures table { self.new.table ≡ self.old.table }
-        ensures view { self.new.view ≡ (undo_store_action (number self.old.view) a old self.old.view).view [] 0 }
+        ensures view { self.new.view
+            ≡ (undo_store_action (number self.old.view) a old self.old.view).view [] 0 }
         ensures taken { (found : ℕ) × TakenIn (GroundHolds S.word_count S.good table.now.key)
-            (undo_store_action (number self.old.view) a old self.old.view) self.old.view found self.new.view }
+            (undo_store_action (number self.old.view) a old self.old.view) self.old.view found
+            self.new.view }
     {
         let undoing = after_undo(self.call.phase);
         self.call.phase = undoing;
@@ -147,17 +157,22 @@ impl<S: Shape> Pass<S> {
         requires leaves_good { kept ≡ true → (words : List ℕ)
             → IsGood (S.word_count table.now.key.shape) (S.good table.now.key.shape) words
             → IsLegalTrace self.old.view.trace words
-            → IsGood (S.word_count table.now.key.shape) (S.good table.now.key.shape) (after self.old.view.trace words) }
+            → IsGood (S.word_count table.now.key.shape) (S.good table.now.key.shape)
+            (after self.old.view.trace words) }
         requires undone { kept ≡ false → self.old.view.undo ≡ [] }
         ensures table { self.new.table ≡ self.old.table }
         ensures taken { TakenIn (GroundHolds S.word_count S.good table.now.key)
-            (commit_call_action (number self.old.view) kept self.old.view) self.old.view result self.new.view }
-        ensures commits { CommitsAt (S.word_count table.now.key.shape) (S.good table.now.key.shape) table.now.key.base.items
+            (commit_call_action (number self.old.view) kept self.old.view) self.old.view result
+            self.new.view }
+        ensures commits { CommitsAt (S.word_count table.now.key.shape) (S.good table.now.key.shape)
+            table.now.key.base.items
             kept self.old.view self.new.view (result + 1) }
-        ensures legal { IsLegalHistory (IsGood (S.word_count table.now.key.shape) (S.good table.now.key.shape))
+        ensures legal { IsLegalHistory
+            (IsGood (S.word_count table.now.key.shape) (S.good table.now.key.shape))
             table.now.key.seats table.now.key.base.items self.new.view.seen }
         ensures room { result + 1 < 2 ^ 64 }
-        ensures bounded { AreRestartsBounded table.now.key.seats (number self.old.view) self.old.view }
+        ensures bounded { AreRestartsBounded table.now.key.seats (number self.old.view)
+            self.old.view }
     {
         self.call.phase = Phase::Releasing;
         step::add(
