@@ -1,12 +1,16 @@
 -- What holds of a step, and of the run of a script, wherever it is done.
-use Rattle.std.proofs.Common.{◌≡◌, ◌≢◌, ℕ, ◌+◌, Bool, true, false, if◌then◌else◌, List, [], ◌∷◌, refl, ap, subst, ◌∙◌}
+use Rattle.std.proofs.Common.{◌≡◌, ◌≢◌, ℕ, ◌+◌, Bool, true, false, if◌then◌else◌, List, [], ◌∷◌, ◌++◌, length, refl, ap, subst, ◌∙◌}
 use Rattle.books_model.specs.declared.script.Op.{Op}
 use Rattle.books_model.specs.declared.reply.Decline.{Decline}
 use Rattle.books_model.specs.declared.reply.Value.{Value}
+use Rattle.books_model.specs.declared.reply.Value.TheVariants as value
+use Rattle.books_model.specs.declared.script.Part.{Part}
+use Rattle.books_model.specs.declared.script.Part.TheVariants as part
+use Rattle.books_model.specs.Scripts.{operations_in}
 use Rattle.books_model.specs.declared.reply.Reply.{Reply}
 use Rattle.books_model.specs.declared.reply.Reply.TheVariants as reply
 use Rattle.books_model.specs.Books.{ClearingBooks}
-use Rattle.books_model.specs.Interpreter.{Step, Gives, Declines, FindsNoBlock, Run, Ends, Stops, step_of, run_from, after_value, after_step, outcome_from}
+use Rattle.books_model.specs.Interpreter.{Step, Gives, Declines, FindsNoBlock, Run, Ends, Stops, step_of, run_from, run_part, run_parts, then_run, either_of, after_value, after_values, after_step, outcome_from}
 
 -- what holds of the value and the books of a step that is done
 pub WhereDone : (Value → ClearingBooks → Type 0) → Step → Type 0
@@ -61,6 +65,36 @@ step_first C S k (Gives v next) follows h f = let g = f v next h in value_first 
 step_first C S k (Declines why) follows h f = tt
 step_first C S k FindsNoBlock follows h f = tt
 
+-- values in front of a run
+values_first : (C : List Value → ClearingBooks → Type 0) (values : List Value) (r : Run)
+    → WhereEnds (λ more after. C (values ++ more) after) r → WhereEnds C (after_values values r)
+values_first C values (Ends more after) h = h
+values_first C values (Stops stop) h = tt
+
+-- a run, and what goes on from its books
+pub run_first : (C S : List Value → ClearingBooks → Type 0) (r : Run) (follows : ClearingBooks → Run) → WhereEnds S r
+    → ((values : List Value) (next : ClearingBooks) → S values next → WhereEnds (λ more after. C (values ++ more) after) (follows next))
+    → WhereEnds C (then_run r follows)
+run_first C S (Ends values next) follows h f = values_first C values (follows next) (f values next h)
+run_first C S (Stops stop) follows h f = tt
+
+-- an alternative, by what holds of its branches
+pub either_holds : (C : List Value → ClearingBooks → Type 0) (r s : Run) → WhereEnds (λ values after. C (value.First ∷ values) after) r
+    → WhereEnds (λ values after. C (value.Second ∷ values) after) s → WhereEnds C (either_of r s)
+either_holds C (Ends values after) s h k = h
+either_holds C (Stops stop) s h k = value_first C (λ values after. C (value.Second ∷ values) after) value.Second s (λ values after d. d) k
+
+-- what follows from what holds where a run ends holds there
+pub weaker : (C D : List Value → ClearingBooks → Type 0) (r : Run)
+    → ((values : List Value) (after : ClearingBooks) → C values after → D values after) → WhereEnds C r → WhereEnds D r
+weaker C D (Ends values after) f h = f values after h
+weaker C D (Stops stop) f h = tt
+
+-- two facts where a run ends
+pub both : (C D : List Value → ClearingBooks → Type 0) (r : Run) → WhereEnds C r → WhereEnds D r → WhereEnds (λ values after. C values after × D values after) r
+both C D (Ends values after) h k = (h, k)
+both C D (Stops stop) h k = tt
+
 -- the books after a run, where they were before if it stops
 pub outcome_holds : (C : ClearingBooks → Type 0) (before : ClearingBooks) (r : Run) → C before → WhereEnds (λ _ after. C after) r → C (outcome_from before r).1
 outcome_holds C before (Ends values after) h k = k
@@ -83,18 +117,45 @@ ends_done C before (Ends found left) values after h no_stop is =
     subst (C values) b (subst (λ vs. C vs left) v h)
 ends_done C before (Stops stop) values after h no_stop is = absurd (no_stop stop refl (ap (λ (p : Reply × ClearingBooks). p.0) is))
 
-value_no_done : (v : Value) (r : Run) (stop : Reply) (values : List Value)
-    → ((stop : Reply) → r ≡ Stops stop → stop ≢ reply.Done values) → after_value v r ≡ Stops stop → stop ≢ reply.Done values
-value_no_done v (Ends found after) stop values no_stop is = absurd (cc)
-value_no_done v (Stops other) stop values no_stop is = no_stop stop is
-
 -- a run that stops has a reply that is not Done
-pub stops_no_done : (k : ℕ) (ops : List Op) (books : ClearingBooks) (values : List Value) (stop : Reply)
-    → run_from k ops books ≡ Stops stop → stop ≢ reply.Done values
-stops_no_done k [] books values stop is = absurd (cc)
-stops_no_done k (o ∷ ops) books values stop is = of_step (step_of o books) (λ next s e. stops_no_done (k + 1) ops next values s e) is where
-  of_step : (s : Step) → ((next : ClearingBooks) (stop : Reply) → run_from (k + 1) ops next ≡ Stops stop
-      → stop ≢ reply.Done values) → after_step k s (λ next. run_from (k + 1) ops next) ≡ Stops stop → stop ≢ reply.Done values
-  of_step (Gives v next) more is = value_no_done v (run_from (k + 1) ops next) stop values (more next) is
-  of_step (Declines why) more is = λ done. let e : reply.Declined k why ≡ reply.Done values = (let f : reply.Declined k why ≡ stop = cc in f ∙ done) in cc
-  of_step FindsNoBlock more is = λ done. let e : reply.Full k ≡ reply.Done values = (let f : reply.Full k ≡ stop = cc in f ∙ done) in cc
+abbrev NoDone : Run → Type 0
+NoDone r = (values : List Value) (stop : Reply) → r ≡ Stops stop → stop ≢ reply.Done values
+
+no_done_refused : (stop : Reply) → ((values : List Value) → stop ≢ reply.Done values) → NoDone (Stops stop)
+no_done_refused stop refused values other is = let same : stop ≡ other = cc in λ done. refused values (same ∙ done)
+
+no_done_ends : (values : List Value) (after : ClearingBooks) → NoDone (Ends values after)
+no_done_ends values after others stop is = absurd (cc)
+
+value_no_done : (v : Value) (r : Run) → NoDone r → NoDone (after_value v r)
+value_no_done v (Ends found after) h = no_done_ends (v ∷ found) after
+value_no_done v (Stops stop) h = h
+
+values_no_done : (vs : List Value) (r : Run) → NoDone r → NoDone (after_values vs r)
+values_no_done vs (Ends found after) h = no_done_ends (vs ++ found) after
+values_no_done vs (Stops stop) h = h
+
+run_no_done : (k : ℕ) (ops : List Op) (books : ClearingBooks) → NoDone (run_from k ops books)
+run_no_done k [] books = no_done_ends [] books
+run_no_done k (o ∷ ops) books = of_step (step_of o books) (λ next. run_no_done (k + 1) ops next) where
+  of_step : (s : Step) → ((next : ClearingBooks) → NoDone (run_from (k + 1) ops next)) → NoDone (after_step k s (λ next. run_from (k + 1) ops next))
+  of_step (Gives v next) behind = value_no_done v _ (behind next)
+  of_step (Declines why) behind = no_done_refused (reply.Declined k why) (λ values is. cc)
+  of_step FindsNoBlock behind = no_done_refused (reply.Full k) (λ values is. cc)
+
+either_no_done : (r s : Run) → NoDone s → NoDone (either_of r s)
+either_no_done (Ends values after) s h = no_done_ends (value.First ∷ values) after
+either_no_done (Stops stop) s h = value_no_done value.Second s h
+
+part_no_done : (k : ℕ) (p : Part) (books : ClearingBooks) → NoDone (run_part k p books)
+part_no_done k (part.One o) books = run_no_done k (o ∷ []) books
+part_no_done k (part.Either first second) books = either_no_done _ _ (run_no_done (k + length first) second books)
+
+pub stops_no_done : (k : ℕ) (parts : List Part) (books : ClearingBooks) → NoDone (run_parts k parts books)
+stops_no_done k [] books = no_done_ends [] books
+stops_no_done k (p ∷ parts) books =
+    of_run (run_part k p books) (part_no_done k p books) (λ next. stops_no_done (k + length (operations_in p)) parts next) where
+  of_run : (r : Run) → NoDone r → ((next : ClearingBooks) → NoDone (run_parts (k + length (operations_in p)) parts next))
+      → NoDone (then_run r (λ next. run_parts (k + length (operations_in p)) parts next))
+  of_run (Ends values next) h behind = values_no_done values _ (behind next)
+  of_run (Stops stop) h behind = h

@@ -1,17 +1,22 @@
 -- Books stay in range, whatever is run on them.
 use Rattle.std.proofs.Common.{◌≡◌, ℕ, zero, suc, ◌+◌, ◌-◌, ◌*◌, ◌<◌, ◌≤◌, Bool, true, false, cond, not, ◌&&◌, ◌||◌, ◌==◌, nat_lt, List, [], ◌∷◌, length, drop}
-use Rattle.std.proofs.Common.{Option, Some, None, IsSome, is_some, unwrap_or, refl, sym, ap, subst, ◌∙◌, arith}
+use Rattle.std.proofs.Common.{All, Option, Some, None, IsSome, is_some, unwrap_or, refl, sym, ap, subst, ◌∙◌, arith}
 use Rattle.std.proofs.Math.Nat.{mul-le-mul_left}
 use Rattle.std.specs.Cmp.{nat_cmp_total}
 use Rattle.std.specs.List.{AllByRecursion}
 use Rattle.std.specs.FinMap as map
 use Rattle.std.proofs.lemmas.Bool.{and_parts}
+use Rattle.std.proofs.lemmas.List.Elements.{All-weaker, recursion_from_All}
 use Rattle.books_model.specs.declared.limits.TheConstants.{GREATEST_CASH, GREATEST_QUANTITY, GREATEST_RATE, GREATEST_SHORTFALL}
 use Rattle.books_model.specs.declared.script.Op.{Op}
 use Rattle.books_model.specs.declared.script.Op.TheVariants as op
-use Rattle.books_model.specs.Books.{ClearingBooks, cash_of, position_of, price_of, put_cash, used}
+use Rattle.books_model.specs.declared.script.Part.{Part}
+use Rattle.books_model.specs.declared.script.Part.TheVariants as part
+use Rattle.books_model.specs.Scripts.{operations_in, operations_of}
+use Rattle.books_model.specs.Books.{ClearingBooks, HaveSameSizes, cash_of, position_of, price_of, put_cash, used}
 use Rattle.books_model.specs.Ranges.{AreInRange, IsWithin, IsAccountNumber, IsOperationFor}
 use Rattle.books_model.specs.Interpreter.{holds_any, is_account, is_full, margin_of, next_of, put_position, shortfall_of, worth_of, run_from, step_of, trade_of}
+use Rattle.books_model.specs.Interpreter.{run_part, run_parts}
 use Rattle.books_model.proofs.Comparing.{at_least_one, below_most, enough, none_of, not_apart}
 use Rattle.books_model.proofs.Maps.{stays_after_insert}
 use Rattle.books_model.proofs.InRange.{put_cash-in_range, put_call-in_range, change-in_range, used_after_insert}
@@ -19,7 +24,9 @@ use Rattle.books_model.proofs.Drafts.{room_left, quantity-in_range, price-in_ran
 use Rattle.books_model.proofs.Drafts.{taken-in_range, put_position-apart}
 use Rattle.books_model.proofs.Entries.{AllByRecursion-weaker}
 use Rattle.books_model.proofs.Sums.{worth_below, worth_first, worth_next, worth_last, price_of_most}
-use Rattle.books_model.proofs.Outcomes.{WhereDone, WhereEnds, choice, gives, declines, finds_no_block, step_first}
+use Rattle.books_model.proofs.Outcomes.{WhereDone, WhereEnds, choice, gives, declines, finds_no_block, step_first, run_first, either_holds, both}
+use Rattle.books_model.proofs.Branches.{All-front, All-back}
+use Rattle.books_model.proofs.SizeLaws.{part_keeps}
 
 -- in range, with as many instruments
 abbrev pub Stays : ClearingBooks → ClearingBooks → Type 0
@@ -207,3 +214,25 @@ run_stays k (o ∷ ops) books h each =
           (operation_for books next stays.1) ops each.1),
       λ values after i. i,
     ))
+
+-- and after a part
+part_stays : (k : ℕ) (p : Part) (books : ClearingBooks) → AreInRange books
+    → All (IsOperationFor books) (operations_in p) → WhereEnds (λ _ after. AreInRange after) (run_part k p books)
+part_stays k (part.One o) books h each = run_stays k (o ∷ []) books h (recursion_from_All (IsOperationFor books) (o ∷ []) each)
+part_stays k (part.Either first second) books h each =
+    either_holds (λ _ after. AreInRange after) _ _
+    (run_stays k first books h (recursion_from_All (IsOperationFor books) first (All-front (IsOperationFor books) first second each)))
+    (run_stays (k + length first) second books h (recursion_from_All (IsOperationFor books) second (All-back (IsOperationFor books) first second each)))
+
+-- and after a run of parts
+pub parts_stay : (k : ℕ) (parts : List Part) (books : ClearingBooks) → AreInRange books
+    → All (IsOperationFor books) (operations_of parts) → WhereEnds (λ _ after. AreInRange after) (run_parts k parts books)
+parts_stay k [] books h each = h
+parts_stay k (p ∷ parts) books h each =
+    run_first (λ _ after. AreInRange after) (λ _ after. AreInRange after × HaveSameSizes books after) (run_part k p books)
+    (λ next. run_parts (k + length (operations_in p)) parts next)
+    (both (λ _ after. AreInRange after) (λ _ after. HaveSameSizes books after) _
+    (part_stays k p books h (All-front (IsOperationFor books) (operations_in p) (operations_of parts) each)) (part_keeps k p books))
+    (λ values next first. parts_stay (k + length (operations_in p)) parts next first.0
+    (All-weaker (IsOperationFor books) (IsOperationFor next) (operation_for books next first.1.instruments)
+    (operations_of parts) (All-back (IsOperationFor books) (operations_in p) (operations_of parts) each)))

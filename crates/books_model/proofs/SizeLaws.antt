@@ -4,11 +4,14 @@ use Rattle.std.specs.FinMap as map
 use Rattle.books_model.specs.declared.limits.TheConstants.{GREATEST_CASH}
 use Rattle.books_model.specs.declared.script.Op.{Op}
 use Rattle.books_model.specs.declared.script.Op.TheVariants as op
+use Rattle.books_model.specs.declared.script.Part.{Part}
+use Rattle.books_model.specs.declared.script.Part.TheVariants as part
+use Rattle.books_model.specs.Scripts.{operations_in}
 use Rattle.books_model.specs.declared.reply.Value.{Value}
 use Rattle.books_model.specs.Books.{ClearingBooks, HaveSameSizes, cash_of}
-use Rattle.books_model.specs.Interpreter.{holds_any, is_account, is_full, next_of, shortfall_of, run_from, step_of}
+use Rattle.books_model.specs.Interpreter.{holds_any, is_account, is_full, next_of, shortfall_of, run_from, step_of, run_part, run_parts}
 use Rattle.books_model.proofs.CashLaws.{traded}
-use Rattle.books_model.proofs.Outcomes.{WhereDone, WhereEnds, choice, gives, declines, finds_no_block, step_first}
+use Rattle.books_model.proofs.Outcomes.{WhereDone, WhereEnds, choice, gives, declines, finds_no_block, step_first, run_first, either_holds, weaker}
 
 -- the sizes are those of the books before
 abbrev Keeps : ClearingBooks → Value → ClearingBooks → Type 0
@@ -19,7 +22,7 @@ pub same_sizes : (books : ClearingBooks) → HaveSameSizes books books
 same_sizes books = record { blocks = refl; instruments = refl; ring = refl }
 
 -- the sizes of books that have those of others, which have those of the first
-sizes-trans : (a b c : ClearingBooks) → HaveSameSizes a b → HaveSameSizes b c → HaveSameSizes a c
+pub sizes-trans : (a b c : ClearingBooks) → HaveSameSizes a b → HaveSameSizes b c → HaveSameSizes a c
 sizes-trans a b c h k = record { blocks = k.blocks ∙ h.blocks; instruments = k.instruments ∙ h.instruments; ring = k.ring ∙ h.ring }
 
 -- the front of the queue is taken, or there is none
@@ -66,3 +69,18 @@ run_keeps k [] books = same_sizes books
 run_keeps k (o ∷ ops) books =
     step_first (λ _ after. HaveSameSizes books after) (Keeps books) k (step_of o books) (λ next. run_from (k + 1) ops next) (step_keeps o books)
     (λ v next first. (λ _ after. HaveSameSizes next after, run_keeps (k + 1) ops next, λ values after rest. sizes-trans books next after first rest))
+
+-- each part keeps them
+pub part_keeps : (k : ℕ) (p : Part) (books : ClearingBooks) → WhereEnds (λ _ after. HaveSameSizes books after) (run_part k p books)
+part_keeps k (part.One o) books = run_keeps k (o ∷ []) books
+part_keeps k (part.Either first second) books =
+    either_holds (λ _ after. HaveSameSizes books after) _ _ (run_keeps k first books) (run_keeps (k + length first) second books)
+
+-- and so does a run of parts
+pub parts_keep : (k : ℕ) (parts : List Part) (books : ClearingBooks) → WhereEnds (λ _ after. HaveSameSizes books after) (run_parts k parts books)
+parts_keep k [] books = same_sizes books
+parts_keep k (p ∷ parts) books =
+    run_first (λ _ after. HaveSameSizes books after) (λ _ after. HaveSameSizes books after) (run_part k p books)
+    (λ next. run_parts (k + length (operations_in p)) parts next) (part_keeps k p books)
+    (λ values next first. weaker (λ _ after. HaveSameSizes next after) (λ _ after. HaveSameSizes books after) _
+    (λ more after rest. sizes-trans books next after first rest) (parts_keep (k + length (operations_in p)) parts next))

@@ -5,12 +5,15 @@ use Rattle.std.specs.FinMap as map
 use Rattle.books_model.specs.declared.limits.TheConstants.{GREATEST_CASH, GREATEST_QUANTITY}
 use Rattle.books_model.specs.declared.script.Op.{Op}
 use Rattle.books_model.specs.declared.script.Op.TheVariants as op
+use Rattle.books_model.specs.declared.script.Part.{Part}
+use Rattle.books_model.specs.declared.script.Part.TheVariants as part
 use Rattle.books_model.specs.declared.reply.Decline.{Decline}
 use Rattle.books_model.specs.declared.reply.Decline.TheVariants as decline
 use Rattle.books_model.specs.declared.reply.Value.{Value}
 use Rattle.books_model.specs.declared.reply.Value.TheVariants as value
 use Rattle.books_model.specs.declared.reply.Reply.{Reply}
 use Rattle.books_model.specs.declared.reply.Reply.TheVariants as reply
+use Rattle.books_model.specs.Scripts.{operations_in}
 use Rattle.books_model.specs.Books.{ClearingBooks, used, cash_of, position_of, price_of, put_cash}
 
 abbrev pub is_account : ClearingBooks → ℕ → Bool
@@ -141,11 +144,36 @@ abbrev pub run_from : ℕ → List Op → ClearingBooks → Run
 run_from k [] books = Ends [] books
 run_from k (op ∷ ops) books = after_step k (step_of op books) (λ next. run_from (k + 1) ops next)
 
+-- the first branch of an alternative; where it is refused the second, which is run on the books from before the first
+abbrev pub either_of : Run → Run → Run
+either_of (Ends values after) second = Ends (value.First ∷ values) after
+either_of (Stops stop) second = after_value value.Second second
+
+-- a part, the first operation of which has number k: numbers go on through both branches, whichever is run
+abbrev pub run_part : ℕ → Part → ClearingBooks → Run
+run_part k (part.One o) books = run_from k (o ∷ []) books
+run_part k (part.Either first second) books = either_of (run_from k first books) (run_from (k + length first) second books)
+
+-- values in front of those of a run
+abbrev pub after_values : List Value → Run → Run
+after_values values (Ends more books) = Ends (values ++ more) books
+after_values values (Stops stop) = Stops stop
+
+-- a run, and what goes on from its books
+abbrev pub then_run : Run → (ClearingBooks → Run) → Run
+then_run (Ends values books) follows = after_values values (follows books)
+then_run (Stops stop) follows = Stops stop
+
+-- parts, the first operation of which has number k
+abbrev pub run_parts : ℕ → List Part → ClearingBooks → Run
+run_parts k [] books = Ends [] books
+run_parts k (p ∷ parts) books = then_run (run_part k p books) (λ next. run_parts (k + length (operations_in p)) parts next)
+
 -- a script that is refused changes nothing
 abbrev pub outcome_from : ClearingBooks → Run → Reply × ClearingBooks
 outcome_from before (Ends values after) = (reply.Done values, after)
 outcome_from before (Stops stop) = (stop, before)
 
 -- what a script replies, and the books that it leaves
-abbrev pub outcome_of : List Op → ClearingBooks → Reply × ClearingBooks
-outcome_of script books = outcome_from books (run_from 1 script books)
+abbrev pub outcome_of : List Part → ClearingBooks → Reply × ClearingBooks
+outcome_of script books = outcome_from books (run_parts 1 script books)

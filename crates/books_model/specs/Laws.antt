@@ -1,23 +1,25 @@
 -- Laws of the language, in the words of clearing.
-use Rattle.std.specs.Prelude.{◌≡◌, ◌≢◌, ℕ, ◌+◌, ◌==◌, if◌then◌else◌, List, [], ◌∷◌, ◌++◌, sum_by}
-use Rattle.std.specs.List.{flat_map}
-use Rattle.std.specs.FinMap as map
+use Rattle.std.specs.Prelude.{◌≡◌, ◌≢◌, ℕ, ◌+◌, ◌==◌, if◌then◌else◌, List, [], ◌∷◌, ◌++◌, drop, length, map, sum_by}
+use Rattle.std.specs.List.{flat_map, zip}
+use Rattle.std.specs.FinMap as finmap
 use Rattle.books_model.specs.declared.script.Op.{Op}
 use Rattle.books_model.specs.declared.script.Op.TheVariants as op
+use Rattle.books_model.specs.declared.script.Part.{Part}
+use Rattle.books_model.specs.declared.script.Part.TheVariants as part
 use Rattle.books_model.specs.declared.reply.Value.{Value}
 use Rattle.books_model.specs.declared.reply.Value.TheVariants as value
 use Rattle.books_model.specs.declared.reply.Reply.TheVariants as reply
 use Rattle.books_model.specs.Books.{ClearingBooks, HaveSameSizes}
 use Rattle.books_model.specs.Ranges.{AreInRange, IsScriptFor}
-use Rattle.books_model.specs.Interpreter.{Gives, step_of, outcome_of}
+use Rattle.books_model.specs.Interpreter.{Gives, step_of, run_from, outcome_from, outcome_of}
 
 -- the cash of all accounts
 abbrev pub all_cash : ClearingBooks → ℕ
-all_cash books = sum_by (λ e. e.1) (map.entries books.accounts)
+all_cash books = sum_by (λ e. e.1) (finmap.entries books.accounts)
 
 -- what all accounts hold of an instrument
 abbrev pub all_held : ClearingBooks → ℕ → ℕ
-all_held books i = sum_by (λ e. if e.0.1 == i then e.1 else 0) (map.entries books.positions)
+all_held books i = sum_by (λ e. if e.0.1 == i then e.1 else 0) (finmap.entries books.positions)
 
 -- an operation that is done leads from books to others
 abbrev pub Leads : Op → ClearingBooks → ClearingBooks → Type 0
@@ -25,7 +27,7 @@ Leads o before after = (v : Value) × (step_of o before ≡ Gives v after)
 
 -- a script whose reply is not Done leaves the books
 abbrev pub RefusedChangesNothing : Type 0
-RefusedChangesNothing = (script : List Op) (books : ClearingBooks)
+RefusedChangesNothing = (script : List Part) (books : ClearingBooks)
     → ((values : List Value) → (outcome_of script books).0 ≢ reply.Done values) → (outcome_of script books).1 ≡ books
 
 -- a move keeps all cash
@@ -50,15 +52,15 @@ WithdrawTakesItsAmount = (a x : ℕ) (before after : ClearingBooks) → Leads (o
 
 -- books in range stay in range, whatever script for them is run: so blocks and queue never hold more than they can
 abbrev pub BooksStayInRange : Type 0
-BooksStayInRange = (script : List Op) (books : ClearingBooks) → AreInRange books → IsScriptFor books script → AreInRange (outcome_of script books).1
+BooksStayInRange = (script : List Part) (books : ClearingBooks) → AreInRange books → IsScriptFor books script → AreInRange (outcome_of script books).1
 
 -- no script changes the sizes of books
 abbrev pub ScriptsKeepSizes : Type 0
-ScriptsKeepSizes = (script : List Op) (books : ClearingBooks) → HaveSameSizes books (outcome_of script books).1
+ScriptsKeepSizes = (script : List Part) (books : ClearingBooks) → HaveSameSizes books (outcome_of script books).1
 
 -- a script for books is one for others with as many instruments
 abbrev pub ScriptsGoByInstruments : Type 0
-ScriptsGoByInstruments = (script : List Op) (books others : ClearingBooks) → others.instruments ≡ books.instruments
+ScriptsGoByInstruments = (script : List Part) (books others : ClearingBooks) → others.instruments ≡ books.instruments
     → IsScriptFor books script → IsScriptFor others script
 
 -- the margin call that an operation queues, from what it tells
@@ -66,10 +68,16 @@ abbrev pub queued_by : Op → Value → List (ℕ × ℕ)
 queued_by (op.Margin a m) (value.Number shortfall) = if shortfall == 0 then [] else (a, shortfall) ∷ []
 queued_by _ _ = []
 
+-- the operations of a script that were done, each with its value: of an alternative those of the branch that its value names
+abbrev pub done_of : List Part → List Value → List (Op × Value)
+done_of (part.One o ∷ parts) (v ∷ values) = (o, v) ∷ done_of parts values
+done_of (part.Either first second ∷ parts) (value.First ∷ values) = zip first values ++ done_of parts (drop (length first) values)
+done_of (part.Either first second ∷ parts) (value.Second ∷ values) = zip second values ++ done_of parts (drop (length second) values)
+done_of _ _ = []
+
 -- the margin calls that a script queues
-abbrev pub queued : List Op → List Value → List (ℕ × ℕ)
-queued (o ∷ ops) (v ∷ values) = queued_by o v ++ queued ops values
-queued _ _ = []
+abbrev pub queued : List Part → List Value → List (ℕ × ℕ)
+queued script values = flat_map (λ d. queued_by d.0 d.1) (done_of script values)
 
 -- the margin call that a value tells of
 abbrev pub taken_by : Value → List (ℕ × ℕ)
@@ -78,5 +86,9 @@ taken_by _ = []
 
 -- What was queued, and behind it what a script queues, is what the script takes, and behind it what is queued after it.
 abbrev pub QueueIsFirstInFirstOut : Type 0
-QueueIsFirstInFirstOut = (script : List Op) (values : List Value) (before after : ClearingBooks) → outcome_of script before ≡ (reply.Done values, after)
+QueueIsFirstInFirstOut = (script : List Part) (values : List Value) (before after : ClearingBooks) → outcome_of script before ≡ (reply.Done values, after)
     → before.calls ++ queued script values ≡ flat_map taken_by values ++ after.calls
+
+-- a script without alternatives is its operations, run in order: the first that is refused is its reply
+abbrev pub OperationsAlone : Type 0
+OperationsAlone = (ops : List Op) (books : ClearingBooks) → outcome_of (map part.One ops) books ≡ outcome_from books (run_from 1 ops books)

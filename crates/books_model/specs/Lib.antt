@@ -1,4 +1,5 @@
 pub mod Books
+pub mod Scripts
 pub mod Ranges
 pub mod Interpreter
 pub mod Words

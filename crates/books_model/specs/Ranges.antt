@@ -1,11 +1,13 @@
 -- The ranges of sizes, of the numbers in books, and of the numbers in scripts.
-use Rattle.std.specs.Prelude.{◌≡◌, ℕ, ◌≤◌, List, length, All, Some, IsSome}
+use Rattle.std.specs.Prelude.{◌≡◌, ℕ, ◌≤◌, List, length, sum_by, All, Some, IsSome}
 use Rattle.std.specs.FinMap as map
 use Rattle.books_model.specs.declared.limits.TheConstants.{MOST_BLOCKS, MOST_INSTRUMENTS, MOST_RING, GREATEST_ACCOUNT, GREATEST_CASH, GREATEST_AMOUNT}
-use Rattle.books_model.specs.declared.limits.TheConstants.{GREATEST_PRICE, GREATEST_QUANTITY, GREATEST_RATE, GREATEST_SHORTFALL, MOST_OPERATIONS}
+use Rattle.books_model.specs.declared.limits.TheConstants.{GREATEST_PRICE, GREATEST_QUANTITY, GREATEST_RATE, GREATEST_SHORTFALL, MOST_OPERATIONS, MOST_ALTERNATIVES}
 use Rattle.books_model.specs.declared.script.Op.{Op}
 use Rattle.books_model.specs.declared.script.Op.TheVariants as op
+use Rattle.books_model.specs.declared.script.Part.{Part}
 use Rattle.books_model.specs.Books.{ClearingBooks, used}
+use Rattle.books_model.specs.Scripts.{operations_of, alternatives_in}
 
 -- from one number to another, both included
 abbrev pub IsWithin : ℕ → ℕ → ℕ → Type 0
@@ -50,7 +52,8 @@ IsOperationFor books op.Next = Unit {0}
 IsOperationFor books (op.Show a) = IsAccountNumber a
 IsOperationFor books (op.Sum a b) = IsAccountNumber a × IsAccountNumber b
 
--- a script that books can be given: not too many operations, and each number in its range
-pub record IsScriptFor (books : ClearingBooks) (script : List Op) : Type 0 where
-  pub few : length script ≤ MOST_OPERATIONS
-  pub each : All (IsOperationFor books) script
+-- a script that books can be given: not too many operations and alternatives, and each number in its range
+pub record IsScriptFor (books : ClearingBooks) (script : List Part) : Type 0 where
+  pub few : length (operations_of script) ≤ MOST_OPERATIONS
+  pub few_alternatives : sum_by alternatives_in script ≤ MOST_ALTERNATIVES
+  pub each : All (IsOperationFor books) (operations_of script)

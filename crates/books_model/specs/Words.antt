@@ -12,6 +12,8 @@ value_word value.Done = codes "ok"
 value_word (value.Number n) = decimal n
 value_word (value.Call a d) = decimal a ++ codes ":" ++ decimal d
 value_word value.Nothing = codes "none"
+value_word value.First = codes "first"
+value_word value.Second = codes "second"
 
 -- the word of a reason to decline
 abbrev pub decline_word : Decline → List ℕ

@@ -1,6 +1,6 @@
 //! The changes of a script, gathered beside the books.
 
-ghost use Rattle.std.specs.Prelude.{◌≡◌, ℕ, ◌+◌, ◌<◌, ◌≤◌, ◌^◌, ◌==◌, false, Some, None, IsSome, IfSome, OnOk, is_some, if◌then◌else◌, drop, length, slice_get};
+ghost use Rattle.std.specs.Prelude.{◌≡◌, ℕ, ◌+◌, ◌<◌, ◌≤◌, ◌^◌, ◌==◌, false, Some, None, IsSome, IfSome, IfOk, OnOk, is_some, if◌then◌else◌, drop, length, slice_get};
 ghost use Rattle.std.specs.FinMap as map;
 ghost use Rattle.books_model.specs.Inner.Changes.{before_between, now_between};
 
@@ -84,6 +84,17 @@ impl<'a> Draft<'a> {
             },
             used: books.used(),
         }
+    }
+
+    /// An equal draft of the same books.
+    pub(crate) fn copy(&self) -> Result<Draft<'a>, OutOfMemory>
+        ensures { IfOk result (λ copy. copy ≡ self.now) }
+    {
+        Ok(Draft {
+            books: self.books,
+            changes: self.changes.copy()?,
+            used: self.used,
+        })
     }
 
     /// The changes, which the books can take once they are no longer lent.

@@ -1,11 +1,11 @@
 //! Laws of the language, each the contract of a function that does nothing.
 
 ghost use Rattle.std.specs.Prelude.{◌≡◌};
-ghost use Rattle.books_model.specs.Laws.{RefusedChangesNothing, MoveKeepsAllCash, TradeKeepsAllCash, TradeKeepsQuantities, DepositAddsItsAmount, WithdrawTakesItsAmount, BooksStayInRange, ScriptsKeepSizes, ScriptsGoByInstruments, QueueIsFirstInFirstOut};
+ghost use Rattle.books_model.specs.Laws.{RefusedChangesNothing, MoveKeepsAllCash, TradeKeepsAllCash, TradeKeepsQuantities, DepositAddsItsAmount, WithdrawTakesItsAmount, BooksStayInRange, ScriptsKeepSizes, ScriptsGoByInstruments, QueueIsFirstInFirstOut, OperationsAlone};
 
 use crate::limits::{
     GREATEST_ACCOUNT, GREATEST_AMOUNT, GREATEST_CASH, GREATEST_PRICE, GREATEST_QUANTITY,
-    GREATEST_RATE, GREATEST_SHORTFALL, MOST_BLOCKS, MOST_INSTRUMENTS, MOST_OPERATIONS, MOST_RING,
+    GREATEST_RATE, GREATEST_SHORTFALL, MOST_BLOCKS, MOST_ALTERNATIVES, MOST_INSTRUMENTS, MOST_OPERATIONS, MOST_RING,
 };
 
 /// The limits of the language, in digits: whatever cites them by name means these numbers.
@@ -21,6 +21,7 @@ pub fn limits_are_those_of_the_language()
     ensures rate { GREATEST_RATE ≡ 100 }
     ensures shortfall { GREATEST_SHORTFALL ≡ 64_000_000_000_000_000 }
     ensures operations { MOST_OPERATIONS ≡ 64 }
+    ensures alternatives { MOST_ALTERNATIVES ≡ 64 }
 {}
 
 /// A script that is declined or finds no block changes nothing.
@@ -71,4 +72,9 @@ pub fn scripts_go_by_instruments()
 /// Margin calls are taken in the order in which they were queued.
 pub fn queue_is_first_in_first_out()
     ensures { QueueIsFirstInFirstOut }
+{}
+
+/// A script without alternatives replies what its operations come to, run in order.
+pub fn operations_alone()
+    ensures { OperationsAlone }
 {}

@@ -14,4 +14,4 @@ pub mod script;
 pub use books::Books;
 pub use reply::{Decline, Reply, Value, Values};
 pub use run::run_plain;
-pub use script::{Op, Script};
+pub use script::{Op, Ops, Part, Script};

@@ -32,3 +32,6 @@ pub const GREATEST_SHORTFALL: u64 = 64_000_000_000_000_000;
 
 /// The most operations of a script.
 pub const MOST_OPERATIONS: usize = 64;
+
+/// The most alternatives of a script.
+pub const MOST_ALTERNATIVES: usize = 64;

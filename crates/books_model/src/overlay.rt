@@ -1,12 +1,12 @@
 //! Changes of maps and of a queue, gathered beside them, and how they are put in.
 
-ghost use Rattle.std.specs.Prelude.{◌≡◌, ℕ, ◌≤◌, ◌+◌, ◌++◌, IsSome, IfSome, IfNone, OnOk, OnErr, drop, length};
+ghost use Rattle.std.specs.Prelude.{◌≡◌, ℕ, ◌≤◌, ◌+◌, ◌++◌, IsSome, IfSome, IfNone, IfOk, OnOk, OnErr, drop, length};
 ghost use Rattle.std.specs.BTreeMap.{IsOrdered};
 ghost use Rattle.std.specs.FinMap as map;
 ghost use Rattle.std.specs.Ordering.{nat_cmp};
 ghost use Rattle.std.specs.VecDeque.{deque_capacity, deque_len};
 ghost use Rattle.books_model.specs.Books.{position_cmp};
-ghost use Rattle.books_model.specs.Inner.Changes.{HasRoomFor, IsRoomier, KnowBefore, changed, new_value as value_of_new, set_at};
+ghost use Rattle.books_model.specs.Inner.Changes.{HasRoomFor, IsCopyOf, IsRoomier, KnowBefore, changed, new_value as value_of_new, set_at};
 
 use io_ends::OutOfMemory;
 use std::collections::{BTreeMap, VecDeque};
@@ -28,6 +28,21 @@ pub(crate) struct Changes {
     pub(crate) taken: usize,
     /// The margin calls that joined its back.
     pub(crate) added: Vec<(u32, u64)>,
+}
+
+impl Changes {
+    /// Equal changes.
+    pub(crate) fn copy(&self) -> Result<Changes, OutOfMemory>
+        ensures { IfOk result (λ copy. IsCopyOf self.now copy) }
+    {
+        Ok(Changes {
+            accounts: self.accounts.clone()?,
+            positions: self.positions.clone()?,
+            prices: self.prices.clone()?,
+            taken: self.taken,
+            added: self.added.clone()?,
+        })
+    }
 }
 
 /// Keys of maps: those that compare alike are one.

@@ -52,7 +52,7 @@ impl fmt::Display for Decline {
     }
 }
 
-/// What an operation tells.
+/// What an operation tells, or an alternative.
 #[derive(Clone, Copy, Debug, PartialEq, Eq)]
 pub enum Value {
     /// It was done.
@@ -63,6 +63,10 @@ pub enum Value {
     Call(u32, u64),
     /// No margin call was queued.
     Nothing,
+    /// Of an alternative the first branch was done: the values of its operations come next.
+    First,
+    /// The first branch was refused, and the second was done: the values of its operations come next.
+    Second,
 }
 
 impl fmt::Display for Value {
@@ -77,11 +81,13 @@ impl fmt::Display for Value {
             Value::Number(n) => write!(f, "{n}"),
             Value::Call(account, shortfall) => write!(f, "{account}:{shortfall}"),
             Value::Nothing => f.write_str("none"),
+            Value::First => f.write_str("first"),
+            Value::Second => f.write_str("second"),
         }
     }
 }
 
-/// The values of operations, in order.
+/// The values of operations and alternatives, in order.
 #[derive(Debug, Drop)]
 pub struct Values {
     values: Vec<Value>,
@@ -112,6 +118,14 @@ impl Values {
         ensures err { OnErr result (self.new ≡ self.old) }
     {
         self.values.push(value)?;
+        Ok(())
+    }
+
+    // Adds values at the end.
+    pub(crate) fn append(&mut self, more: &Values) -> Result<(), OutOfMemory>
+        ensures ok { OnOk result (self.new ≡ self.old ++ more.now) }
+    {
+        self.values.extend_from_slice(&more.values)?;
         Ok(())
     }
 
@@ -169,7 +183,7 @@ impl<'a> IntoIterator for &'a Values {
 /// What a script replies. Operations are numbered from 1.
 #[derive(Debug, Drop)]
 pub enum Reply {
-    /// Every operation was done, and each told a value.
+    /// It came to its end. Each operation that was done tells a value, and each alternative which branch that was.
     Done(Values),
     /// The operation with this number was declined, and the script changed nothing.
     Declined(u32, Decline),

@@ -1,4 +1,4 @@
-//! Scripts: lists of operations on clearing books.
+//! Scripts: operations on clearing books, and alternatives of them.
 
 ghost use Rattle.std.specs.Prelude.{◌≡◌, ◌<◌, ◌↔◌, [], ◌∷◌, ◌++◌, length, IsTrue, Some, OnOk, OnErr, slice_get};
 ghost use Rattle.std.specs.Slice.Iter.{iter_rest};
@@ -35,27 +35,27 @@ pub enum Op {
     Sum(u32, u32),
 }
 
-/// Operations that are run in order, all or none.
+/// Operations in order.
 #[derive(Debug, Drop)]
-pub struct Script {
+pub struct Ops {
     operations: Vec<Op>,
 }
 
-impl Model for Script {
+impl Model for Ops {
     ghost use Rattle.std.specs.Prelude.{List};
     ghost use Rattle.books_model.specs.declared.script.Op.{Op};
 
     ghost Value = { List Op };
 
-    ghost view = { λ s. s.operations.items };
+    ghost view = { λ o. o.operations.items };
 }
 
-impl Script {
-    /// A script with no operation. It takes no memory.
-    pub fn new(alloc: Global) -> Script
+impl Ops {
+    /// No operations. It takes no memory.
+    pub fn new(alloc: Global) -> Ops
         ensures { result ≡ [] }
     {
-        Script {
+        Ops {
             operations: Vec::new(alloc),
         }
     }
@@ -69,14 +69,14 @@ impl Script {
         Ok(())
     }
 
-    /// How many operations it has.
+    /// How many operations there are.
     pub fn len(&self) -> usize
         ensures { result ≡ length self.now }
     {
         self.operations.len()
     }
 
-    /// Whether it has no operation.
+    /// Whether there is no operation.
     pub fn is_empty(&self) -> bool
         ensures { IsTrue result ↔ (self.now ≡ []) }
     {
@@ -99,10 +99,95 @@ impl Script {
     }
 }
 
-impl<'a> IntoIterator for &'a Script {
+impl<'a> IntoIterator for &'a Ops {
     type Item = &'a Op;
 
     type IntoIter = slice::Iter<'a, Op>;
+
+    ghost into_iter_gives = { λ ops it. iter_rest it ≡ ops.now };
+
+    fn into_iter(self) -> Self::IntoIter {
+        self.iter()
+    }
+}
+
+/// A part of a script.
+#[derive(Debug, Drop)]
+pub enum Part {
+    /// One operation.
+    One(Op),
+    /// An alternative: the operations of the first branch or, where one of them is refused, those of the second in their place.
+    Either(Ops, Ops),
+}
+
+/// Parts that are run in order, all or none.
+#[derive(Debug, Drop)]
+pub struct Script {
+    parts: Vec<Part>,
+}
+
+impl Model for Script {
+    ghost use Rattle.std.specs.Prelude.{List};
+    ghost use Rattle.books_model.specs.declared.script.Part.{Part};
+
+    ghost Value = { List Part };
+
+    ghost view = { λ s. s.parts.items };
+}
+
+impl Script {
+    /// A script with no part. It takes no memory.
+    pub fn new(alloc: Global) -> Script
+        ensures { result ≡ [] }
+    {
+        Script {
+            parts: Vec::new(alloc),
+        }
+    }
+
+    /// Adds a part at the end.
+    pub fn push(&mut self, part: Part) -> Result<(), OutOfMemory>
+        ensures ok { OnOk result (self.new ≡ self.old ++ part ∷ []) }
+        ensures err { OnErr result (self.new ≡ self.old) }
+    {
+        self.parts.push(part)?;
+        Ok(())
+    }
+
+    /// How many parts it has.
+    pub fn len(&self) -> usize
+        ensures { result ≡ length self.now }
+    {
+        self.parts.len()
+    }
+
+    /// Whether it has no part.
+    pub fn is_empty(&self) -> bool
+        ensures { IsTrue result ↔ (self.now ≡ []) }
+    {
+        self.parts.is_empty()
+    }
+
+    /// The parts in order.
+    pub fn iter(&self) -> slice::Iter<'_, Part>
+        ensures { iter_rest result ≡ self.now }
+    {
+        self.parts.iter()
+    }
+
+    /// The part at a place, from 0.
+    pub fn at(&self, index: usize) -> &Part
+        requires { index < length self.now }
+        ensures { slice_get self.now index ≡ Some result.now }
+    {
+        &self.parts[index]
+    }
+}
+
+impl<'a> IntoIterator for &'a Script {
+    type Item = &'a Part;
+
+    type IntoIter = slice::Iter<'a, Part>;
 
     ghost into_iter_gives = { λ script it. iter_rest it ≡ script.now };
 

@@ -70,3 +70,11 @@ pub record AreChangesOf (books : ClearingBooks) (c : Changes) : Type 0 where
   pub positions : KnowBefore books.positions c.positions.entries
   pub prices : KnowBefore books.prices c.prices.entries
   pub taken : c.taken ≤ length books.calls + length c.added.items
+
+-- changes that are the same
+pub record IsCopyOf (c copy : Changes) : Type 0 where
+  pub accounts : copy.accounts.entries ≡ c.accounts.entries
+  pub positions : copy.positions.entries ≡ c.positions.entries
+  pub prices : copy.prices.entries ≡ c.prices.entries
+  pub taken : copy.taken ≡ c.taken
+  pub added : copy.added.items ≡ c.added.items

@@ -1,8 +1,8 @@
-use Rattle.books_model.specs.Interpreter.{run_from}
+use Rattle.books_model.specs.Interpreter.{run_parts}
 use Rattle.books_model.proofs.Outcomes.{ends_done, stops_no_done}
-use Rattle.books_model.proofs.QueueLaws.{run_in_order}
+use Rattle.books_model.proofs.QueueLaws.{parts_in_order}
 use Rattle.books_model.proofs.laws.queue_is_first_in_first_out.Goals as goal
 
 pub returns : goal.returns
-returns c = λ script values before after is. ends_done _ before (run_from 1 script before) values after
-    (run_in_order 1 script before) (λ stop e. stops_no_done 1 script before values stop e) is
+returns c = λ script values before after is. ends_done _ before (run_parts 1 script before) values after
+    (parts_in_order 1 script before) (λ stop e. stops_no_done 1 script before values stop e) is

@@ -1,6 +1,6 @@
-use Rattle.books_model.specs.Interpreter.{run_from}
+use Rattle.books_model.specs.Interpreter.{run_parts}
 use Rattle.books_model.proofs.Outcomes.{stops_refused}
 use Rattle.books_model.proofs.laws.refused_changes_nothing.Goals as goal
 
 pub returns : goal.returns
-returns c = λ script books refused. stops_refused books (run_from 1 script books) refused
+returns c = λ script books refused. stops_refused books (run_parts 1 script books) refused

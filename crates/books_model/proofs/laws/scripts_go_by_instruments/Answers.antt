@@ -1,4 +1,5 @@
 use Rattle.std.proofs.lemmas.List.Elements.{All-weaker}
+use Rattle.books_model.specs.Scripts.{operations_of}
 use Rattle.books_model.specs.Ranges.{IsOperationFor}
 use Rattle.books_model.proofs.RangeLaws.{operation_for}
 use Rattle.books_model.proofs.laws.scripts_go_by_instruments.Goals as goal
@@ -6,6 +7,7 @@ use Rattle.books_model.proofs.laws.scripts_go_by_instruments.Goals as goal
 pub returns : goal.returns
 returns c = λ script books others same valid. record {
   few = valid.few;
-  each =
-      All-weaker (IsOperationFor books) (IsOperationFor others) (operation_for books others same) script valid.each;
+  few_alternatives = valid.few_alternatives;
+  each = All-weaker (IsOperationFor books) (IsOperationFor others)
+      (operation_for books others same) (operations_of script) valid.each;
 }

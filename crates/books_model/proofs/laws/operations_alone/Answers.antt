@@ -1,0 +1,7 @@
+use Rattle.std.proofs.Common.{ap}
+use Rattle.books_model.specs.Interpreter.{outcome_from}
+use Rattle.books_model.proofs.Runs.{operations_alone}
+use Rattle.books_model.proofs.laws.operations_alone.Goals as goal
+
+pub returns : goal.returns
+returns c = λ ops books. ap (outcome_from books) (operations_alone 1 ops books)
