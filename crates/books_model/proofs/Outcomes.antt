@@ -155,7 +155,7 @@ pub stops_no_done : (k : ℕ) (parts : List Part) (books : ClearingBooks) → No
 stops_no_done k [] books = no_done_ends [] books
 stops_no_done k (p ∷ parts) books =
     of_run (run_part k p books) (part_no_done k p books) (λ next. stops_no_done (k + length (operations_in p)) parts next) where
-  of_run : (r : Run) → NoDone r → ((next : ClearingBooks) → NoDone (run_parts (k + length (operations_in p)) parts next))
-      → NoDone (then_run r (λ next. run_parts (k + length (operations_in p)) parts next))
-  of_run (Ends values next) h behind = values_no_done values _ (behind next)
-  of_run (Stops stop) h behind = h
+      of_run : (r : Run) → NoDone r → ((next : ClearingBooks) → NoDone (run_parts (k + length (operations_in p)) parts next))
+          → NoDone (then_run r (λ next. run_parts (k + length (operations_in p)) parts next))
+      of_run (Ends values next) h behind = values_no_done values _ (behind next)
+      of_run (Stops stop) h behind = h

@@ -73,10 +73,10 @@ one_value_each k [] books = refl
 one_value_each k (o ∷ ops) books =
     step_first (λ values _. length values ≡ length (o ∷ ops)) (λ _ _. Unit {0}) k (step_of o books) (λ next. run_from (k + 1) ops next) (any (step_of o books))
     (λ v next _. (λ values _. length values ≡ length ops, one_value_each (k + 1) ops next, λ values after same. ap suc same)) where
-  any : (s : Step) → WhereDone (λ _ _. Unit {0}) s
-  any (Gives v after) = gives _ v after tt
-  any (Declines why) = declines _ why
-  any FindsNoBlock = finds_no_block _
+      any : (s : Step) → WhereDone (λ _ _. Unit {0}) s
+      any (Gives v after) = gives _ v after tt
+      any (Declines why) = declines _ why
+      any FindsNoBlock = finds_no_block _
 
 -- each run keeps the order
 run_in_order : (k : ℕ) (ops : List Op) (books : ClearingBooks)

@@ -5,7 +5,8 @@ ghost use Rattle.books_model.specs.Laws.{RefusedChangesNothing, MoveKeepsAllCash
 
 use crate::limits::{
     GREATEST_ACCOUNT, GREATEST_AMOUNT, GREATEST_CASH, GREATEST_PRICE, GREATEST_QUANTITY,
-    GREATEST_RATE, GREATEST_SHORTFALL, MOST_BLOCKS, MOST_ALTERNATIVES, MOST_INSTRUMENTS, MOST_OPERATIONS, MOST_RING,
+    GREATEST_RATE, GREATEST_SHORTFALL, MOST_ALTERNATIVES, MOST_BLOCKS, MOST_INSTRUMENTS,
+    MOST_OPERATIONS, MOST_RING,
 };
 
 /// The limits of the language, in digits: whatever cites them by name means these numbers.

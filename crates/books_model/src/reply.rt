@@ -112,6 +112,15 @@ impl Values {
         }
     }
 
+    /// This value alone.
+    pub fn only(alloc: Global, value: Value) -> Result<Values, OutOfMemory>
+        ensures { IfOk result (λ values. values ≡ value ∷ []) }
+    {
+        let mut values = Values::new(alloc);
+        values.push(value)?;
+        Ok(values)
+    }
+
     /// Adds a value at the end.
     pub fn push(&mut self, value: Value) -> Result<(), OutOfMemory>
         ensures ok { OnOk result (self.new ≡ self.old ++ value ∷ []) }
@@ -121,8 +130,8 @@ impl Values {
         Ok(())
     }
 
-    // Adds values at the end.
-    pub(crate) fn append(&mut self, more: &Values) -> Result<(), OutOfMemory>
+    /// Adds values at the end.
+    pub fn append(&mut self, more: &Values) -> Result<(), OutOfMemory>
         ensures ok { OnOk result (self.new ≡ self.old ++ more.now) }
     {
         self.values.extend_from_slice(&more.values)?;

@@ -59,15 +59,6 @@ fn run_operations(
     Ok(Reply::Done(values))
 }
 
-// The value of an alternative, in front of those of its branch.
-fn values_of(alloc: Global, branch: Value) -> Result<Values, OutOfMemory>
-    ensures { IfOk result (λ values. values ≡ branch ∷ []) }
-{
-    let mut values = Values::new(alloc);
-    values.push(branch)?;
-    Ok(values)
-}
-
 // Runs the first branch of an alternative on a copy of the draft, and where it is refused the second on the draft.
 fn run_either(
     alloc: Global,
@@ -83,12 +74,12 @@ fn run_either(
     ensures before { draft.new.before ≡ draft.old.before }
 {
     let mut trial = draft.copy()?;
-    let named = values_of(alloc, Value::First)?;
+    let named = Values::only(alloc, Value::First)?;
     if let Reply::Done(values) = run_operations(first, number, &mut trial, named)? {
         *draft = trial;
         return Ok(Reply::Done(values));
     }
-    let named = values_of(alloc, Value::Second)?;
+    let named = Values::only(alloc, Value::Second)?;
     run_operations(second, number + first.len() as u32, draft, named)
 }
 

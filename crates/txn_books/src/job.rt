@@ -1,15 +1,18 @@
 //! A script as a job over any words of a shape.
 
-ghost use Rattle.std.specs.Prelude.{◌≡◌, IfOk, OnOk};
+ghost use Rattle.std.specs.Prelude.{◌≡◌, ◌≤◌, ◌+◌, ◌++◌, ◌∷◌, [], length, All, IfOk, OnOk};
+ghost use Rattle.books_model.specs.declared.limits.TheConstants.{MOST_OPERATIONS};
+ghost use Rattle.books_model.specs.Interpreter.{after_values, run_from, run_part, run_parts};
 ghost use Rattle.txn_words.specs.Calls.{IsReady, InEachState, LeadsTo};
 ghost use Rattle.txn_words.specs.Verdicts.{is_kept, answer_of};
 ghost use Rattle.txn_books.specs.Standing.{IsGoodFor};
 ghost use Rattle.txn_books.specs.Meaning.{IsScriptIn, is_done};
+ghost use Rattle.txn_books.specs.Operating.{IsOperationIn};
 ghost use Rattle.txn_books.specs.Inner.Scripts.{Runs, HandsOn};
 
 use crate::operations::{Outcome, run_operation};
 use crate::shape::BooksShape;
-use books_model::{Reply, Script, Values};
+use books_model::{Ops, Part, Reply, Script, Value, Values};
 use std::alloc::Global;
 use std::marker::Model;
 use txn_words::{Job, Stop, Verdict, Words};
@@ -77,7 +80,67 @@ impl<'s> Job for ScriptJob<'s> {
     }
 }
 
-// Runs the operations in order, up to the first that is refused. What that one wrote stands, as all before it.
+// Runs operations in order, up to the first that is refused. The first has this number, and these are the values so far.
+// What the one that is refused wrote stands, as all before it.
+fn run_operations<W: Words>(
+    w: &mut W,
+    shape: &BooksShape,
+    operations: &Ops,
+    first: u32,
+    so_far: Values,
+) -> Result<Reply, Stop>
+    requires ready { IsReady W.Words w.old }
+    requires stands { InEachState W.Words W.Shape.Shape w.old (IsGoodFor shape.now) }
+    requires few { first + length operations.now ≤ MOST_OPERATIONS + 1 }
+    requires range { All (IsOperationIn shape.now) operations.now }
+    ensures runs { IfOk result (λ answer. LeadsTo W.Words W.Shape.Shape w.old w.new
+        (Runs shape.now (λ books. after_values so_far (run_from first operations.now books))
+        answer)) }
+    ensures stands { OnOk result (InEachState W.Words W.Shape.Shape w.new (IsGoodFor shape.now)) }
+    ensures hands_on { HandsOn W.Words w.old w.new result }
+{
+    let mut values = so_far;
+    let mut number = first;
+    for operation in operations {
+        match run_operation(w, shape, *operation)? {
+            Outcome::Gives(value) => values.push(value)?,
+            Outcome::Declines(why) => return Ok(Reply::Declined(number, why)),
+            Outcome::FindsNoBlock => return Ok(Reply::Full(number)),
+        }
+        number += 1;
+    }
+    Ok(Reply::Done(values))
+}
+
+// Runs the first branch of an alternative. Where it is refused, its writes go back, and the second is run.
+fn run_either<W: Words>(
+    alloc: Global,
+    w: &mut W,
+    shape: &BooksShape,
+    first: &Ops,
+    second: &Ops,
+    number: u32,
+) -> Result<Reply, Stop>
+    requires ready { IsReady W.Words w.old }
+    requires stands { InEachState W.Words W.Shape.Shape w.old (IsGoodFor shape.now) }
+    requires few { number + length first.now + length second.now ≤ MOST_OPERATIONS + 1 }
+    requires range { All (IsOperationIn shape.now) (first.now ++ second.now) }
+    ensures runs { IfOk result (λ answer. LeadsTo W.Words W.Shape.Shape w.old w.new
+        (Runs shape.now (run_part number (Part.Either first.now second.now)) answer)) }
+    ensures stands { OnOk result (InEachState W.Words W.Shape.Shape w.new (IsGoodFor shape.now)) }
+    ensures hands_on { HandsOn W.Words w.old w.new result }
+{
+    let named = Values::only(alloc, Value::First)?;
+    let before = w.mark();
+    if let Reply::Done(values) = run_operations(w, shape, first, number, named)? {
+        return Ok(Reply::Done(values));
+    }
+    w.back_to(before)?;
+    let named = Values::only(alloc, Value::Second)?;
+    run_operations(w, shape, second, number + first.len() as u32, named)
+}
+
+// Runs the parts in order, up to the first that is refused.
 fn run_script<W: Words>(
     alloc: Global,
     w: &mut W,
@@ -88,19 +151,30 @@ fn run_script<W: Words>(
     requires stands { InEachState W.Words W.Shape.Shape w.old (IsGoodFor shape.now) }
     requires range { IsScriptIn shape.now script.now }
     ensures runs { IfOk result (λ answer. LeadsTo W.Words W.Shape.Shape w.old w.new
-        (Runs shape.now script.now answer)) }
+        (Runs shape.now (run_parts 1 script.now) answer)) }
     ensures stands { OnOk result (InEachState W.Words W.Shape.Shape w.new (IsGoodFor shape.now)) }
     ensures hands_on { HandsOn W.Words w.old w.new result }
 {
     let mut values = Values::new(alloc);
     let mut number = 1;
-    for operation in script {
-        match run_operation(w, shape, *operation)? {
-            Outcome::Gives(value) => values.push(value)?,
-            Outcome::Declines(why) => return Ok(Reply::Declined(number, why)),
-            Outcome::FindsNoBlock => return Ok(Reply::Full(number)),
+    for part in script {
+        match part {
+            Part::One(operation) => {
+                match run_operation(w, shape, *operation)? {
+                    Outcome::Gives(value) => values.push(value)?,
+                    Outcome::Declines(why) => return Ok(Reply::Declined(number, why)),
+                    Outcome::FindsNoBlock => return Ok(Reply::Full(number)),
+                }
+                number += 1;
+            }
+            Part::Either(first, second) => {
+                match run_either(alloc, w, shape, first, second, number)? {
+                    Reply::Done(more) => values.append(&more)?,
+                    refused => return Ok(refused),
+                }
+                number += (first.len() + second.len()) as u32;
+            }
         }
-        number += 1;
     }
     Ok(Reply::Done(values))
 }

@@ -1,10 +1,9 @@
--- What the operations of a script together come to, and what a call leaves that may find no memory of its own.
+-- What a script, or a branch of it, comes to, and what a call leaves that may find no memory of its own.
 use Rattle.std.specs.Prelude.{◌≡◌, ◌↔◌, ℕ, List, None, Some, Result, Err, OnOk}
 use Rattle.history_model.specs.Traces.{Begins}
-use Rattle.books_model.specs.declared.script.Op.{Op}
 use Rattle.books_model.specs.declared.reply.Reply.{Reply}
 use Rattle.books_model.specs.Books.{ClearingBooks}
-use Rattle.books_model.specs.Interpreter.{run_from}
+use Rattle.books_model.specs.Interpreter.{Run}
 use Rattle.books_model.specs.Inner.Steps.{run_with}
 use Rattle.txn_words.specs.declared.words.Stop.{Stop}
 use Rattle.txn_words.specs.declared.words.Stop.TheVariants.{Yield}
@@ -12,11 +11,11 @@ use Rattle.txn_words.specs.declared.words.Words.{Ghosts as AnyWords}
 use Rattle.txn_books.specs.declared.shape.BooksShape.{BooksShape}
 use Rattle.txn_books.specs.Standing.{Stands}
 
--- from state to state: the operations run as the interpreter runs them, with this reply, and the words then stand for
--- the books that they leave; where one is refused, for some books of which nothing is said
-pub record Runs (shape : BooksShape) (script : List Op) (answer : Reply) (old new : List ℕ) : Type 0 where
+-- from state to state: the interpreter's run on the books ends with this reply, and the words then stand for the books
+-- that it leaves; where an operation is refused, for some books of which nothing is said
+pub record Runs (shape : BooksShape) (run : ClearingBooks → Run) (answer : Reply) (old new : List ℕ) : Type 0 where
   pub comes : (books : ClearingBooks) → Stands shape old books → (after : ClearingBooks)
-      × (run_from 1 script books ≡ run_with answer after) × Stands shape new after
+      × (run books ≡ run_with answer after) × Stands shape new after
 
 -- what a call on words leaves that may find no memory of its own: it goes on to the end unless the words stop, and
 -- yields exactly where they do

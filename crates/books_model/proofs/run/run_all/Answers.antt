@@ -57,9 +57,15 @@ loop-part-preserved c =
     let here = (goal.at.loop-part-preserved c).In-Some in
     let more = length-append c.in-Either.first c.in-Either.second in
     record {
-      left = omega (arith, c.loop-part.invariant.left, c.len.ensures, c.len-in-Either.ensures, more,
-          length-append (c.in-Either.first ++ c.in-Either.second) (operations_of rest),
-          ap (λ parts. length (operations_of parts)) (from_here here p c.in-Either.is));
+      left = omega (
+        arith,
+        c.loop-part.invariant.left,
+        c.len.ensures,
+        c.len-in-Either.ensures,
+        more,
+        length-append (c.in-Either.first ++ c.in-Either.second) (operations_of rest),
+        ap (λ parts. length (operations_of parts)) (from_here here p c.in-Either.is),
+      );
       each = subst (λ books. All (IsOperationFor books) (operations_of rest)) (sym c.in_ok-refused-in-Either.ensures.before)
           (All-back (IsOperationFor c.loop-part.draft.before) (c.in-Either.first ++ c.in-Either.second) (operations_of rest) (ranges here p c.in-Either.is));
       run = ap (λ values. after_values values (run_parts (c.loop-part.number + (c.len.result + c.len-in-Either.result)) rest c.run_either.new.draft.after))
