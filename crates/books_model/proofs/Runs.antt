@@ -77,7 +77,7 @@ pub parts_end : (whole : Run) (values : List Value) (k : ℕ) (books : ClearingB
 parts_end whole values k books so_far = sym so_far ∙ after_values-ends values books
 
 -- one value in front of a run
-after_one : (v : Value) (run : Run) → after_values (v ∷ []) run ≡ after_value v run
+pub after_one : (v : Value) (run : Run) → after_values (v ∷ []) run ≡ after_value v run
 after_one v (Ends more books) = refl
 after_one v (Stops stop) = refl
 
