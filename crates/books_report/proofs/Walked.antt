@@ -8,7 +8,7 @@ use Rattle.std.specs.FinMap as map
 use Rattle.books_model.specs.Books.{ClearingBooks, position_cmp}
 use Rattle.books_model.specs.Ranges.{AreInRange}
 use Rattle.books_model.specs.Inner.Keys.{positions_total}
-use Rattle.books_model.proofs.Keys.{is_lt-nat_cmp}
+use Rattle.books_model.proofs.Maps.Keys.{is_lt-nat_cmp}
 use Rattle.books_report.proofs.Walks.{up_to, none_up_to, below_found}
 
 -- no account is up to 0

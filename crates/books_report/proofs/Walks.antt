@@ -10,7 +10,7 @@ use Rattle.std.specs.FinMap.Entries as entries
 use Rattle.std.specs.FinMap.Entries.{below_all, is_sorted}
 use Rattle.std.proofs.lemmas.List.Sums.{length-filter, count_by-le-length}
 use Rattle.std.proofs.lemmas.List.{flat_map_more}
-use Rattle.books_model.proofs.Keys.{below_first, below_rest, sorted_first, sorted_rest, below_less, less_of}
+use Rattle.books_model.proofs.Maps.Keys.{below_first, below_rest, sorted_first, sorted_rest, below_less, less_of}
 
 -- the entries whose keys are not later than a key
 abbrev pub up_to : {K X : Type 0} → (K → K → Bool) → K → List (K × X) → List (K × X)

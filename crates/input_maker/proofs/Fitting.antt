@@ -9,7 +9,7 @@ use Rattle.std.proofs.lemmas.List.FromFn.{length-map-range_with_len}
 use Rattle.books_model.specs.declared.script.Op.{Op}
 use Rattle.books_model.specs.declared.script.Op.TheVariants as op
 use Rattle.books_model.specs.Ranges.{IsWithin}
-use Rattle.books_model.proofs.Entries.{AllByRecursion-weaker, sum_by-most}
+use Rattle.books_model.proofs.Maps.Entries.{AllByRecursion-weaker, sum_by-most}
 use Rattle.script_reader.specs.declared.words.TheConstants.{SPACE, LINE_FEED}
 use Rattle.script_reader.specs.Text.{line, number, header_line, account_line, price_line, position_line, books_lines, operation_words, operation_lines}
 use Rattle.script_reader.specs.Text.{scripts_line, end_line, finish_line}

@@ -14,7 +14,7 @@ use Rattle.std.proofs.lemmas.List.{append-nil}
 use Rattle.std.proofs.lemmas.List.Elements.{recursion_from_All}
 use Rattle.books_model.specs.Books.{ClearingBooks, position_cmp}
 use Rattle.books_model.specs.Ranges.{AreInRange, IsCall}
-use Rattle.books_model.proofs.Maps.{positions_total}
+use Rattle.books_model.proofs.Maps.Trees.{positions_total}
 use Rattle.script_reader.specs.Lines.{AreWords}
 use Rattle.script_reader.specs.Text.{header_words, account_words, price_words, position_words, call_words}
 use Rattle.script_reader.specs.Inner.LinesAsWords.{books_words}

@@ -12,7 +12,7 @@ use Rattle.std.proofs.lemmas.Bool.{leb-false, ltb-true, false≢true, eqb-true}
 use Rattle.std.proofs.lemmas.Cmp.{ranked}
 use Rattle.books_model.specs.Books.{ClearingBooks, empty_books, position_cmp, put_cash, put_price, put_quantity, put_call, used}
 use Rattle.books_model.specs.Ranges.{AreInRange, IsWithin, IsAccountNumber, IsInstrumentOf, IsCall}
-use Rattle.books_model.proofs.Maps.{positions_total}
+use Rattle.books_model.proofs.Maps.Trees.{positions_total}
 use Rattle.books_model.proofs.InRange.{empty_books-in_range, put_cash-in_range, put_price-in_range, put_quantity-in_range, put_call-in_range, used_after_insert}
 use Rattle.books_model.proofs.InRange.{used_after_price, used_after_position}
 use Rattle.std.specs.Str.{bytes_eq}

@@ -13,7 +13,7 @@ use Rattle.books_model.specs.declared.reply.Reply.TheVariants as reply
 use Rattle.books_model.specs.Books.{ClearingBooks}
 use Rattle.books_model.specs.Interpreter.{Run, Ends, Stops, step_of, run_from, outcome_from, outcome_of}
 use Rattle.books_model.specs.Inner.Steps.{run_with}
-use Rattle.books_model.proofs.Runs.{after_values, goes_on, is_declined, finds_no_block, ends}
+use Rattle.books_model.proofs.Scripts.Runs.{after_values, goes_on, is_declined, finds_no_block, ends}
 use Rattle.txn_words.specs.declared.words.Stop.{Stop}
 use Rattle.txn_words.specs.declared.words.Words.{Ghosts as AnyWords}
 use Rattle.txn_words.specs.Calls.{GoesOn, InEachState, LeadsTo}

@@ -2,7 +2,7 @@ use Rattle.std.proofs.Common.{◌≡◌, ◌+◌, length, All}
 use Rattle.std.specs.Slice.Iter.{iter_rest}
 use Rattle.books_model.specs.Ranges.{IsOperationFor}
 use Rattle.books_model.specs.Interpreter.{run_from}
-use Rattle.books_model.proofs.Runs.{after_values}
+use Rattle.books_model.proofs.Scripts.Runs.{after_values}
 use Rattle.books_model.proofs.run.run_all.Given as goal
 
 -- the values so far and the run of the operations that are left are the whole run

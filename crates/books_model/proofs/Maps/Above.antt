@@ -11,8 +11,8 @@ use Rattle.std.specs.Cmp.{IsTotalOrder, nat_cmp_total, nat_cmp_is}
 use Rattle.std.specs.FinMap as map
 use Rattle.std.proofs.lemmas.Cmp.{ranked}
 use Rattle.std.proofs.lemmas.Map.Keys.{le_from_not_gt}
-use Rattle.books_model.proofs.Keys.{is_lt-nat_cmp}
-use Rattle.books_model.proofs.Maps.{get-lookup, entries-from_entries}
+use Rattle.books_model.proofs.Maps.Keys.{is_lt-nat_cmp}
+use Rattle.books_model.proofs.Maps.Trees.{get-lookup, entries-from_entries}
 
 -- a test that passes puts an entry first in both searches, and one that fails leaves them
 first_of_both : {X : Type 0} (above : Bool) (e : X) (found : Option X) (kept : List X) → found ≡ slice_get kept 0

@@ -7,8 +7,8 @@ use Rattle.books_model.specs.declared.script.Op.TheVariants as op
 use Rattle.books_model.specs.declared.reply.Value.{Value}
 use Rattle.books_model.specs.Books.{ClearingBooks, HaveSameSizes, cash_of}
 use Rattle.books_model.specs.Interpreter.{holds_any, is_account, is_full, next_of, shortfall_of, run_from, step_of}
-use Rattle.books_model.proofs.CashLaws.{traded}
-use Rattle.books_model.proofs.Outcomes.{WhereDone, WhereEnds, choice, gives, declines, finds_no_block, step_first}
+use Rattle.books_model.proofs.Scripts.CashLaws.{traded}
+use Rattle.books_model.proofs.Scripts.Outcomes.{WhereDone, WhereEnds, choice, gives, declines, finds_no_block, step_first}
 
 -- the sizes are those of the books before
 abbrev Keeps : ClearingBooks → Value → ClearingBooks → Type 0

@@ -13,8 +13,8 @@ use Rattle.std.proofs.lemmas.Map.Entries.{lookup_head, none_past_head}
 use Rattle.std.proofs.lemmas.Map.Keys.{IsDistinct-from_sorted}
 use Rattle.std.proofs.lemmas.Map.Lookups.{CmpEqualImpliesEq}
 use Rattle.std.proofs.lemmas.Map.Views.{tells_apart}
-use Rattle.books_model.proofs.Comparing.{none_of}
-use Rattle.books_model.proofs.Maps.{stays_after_insert}
+use Rattle.books_model.proofs.Maps.Comparing.{none_of}
+use Rattle.books_model.proofs.Maps.Trees.{stays_after_insert}
 use Rattle.books_model.specs.declared.overlay.Change.{Change}
 use Rattle.books_model.specs.Inner.Changes.{set_at, changed, change_at, new_value, now_or, KnowBefore, HasRoomFor, IsRoomier}
 

@@ -14,11 +14,11 @@ use Rattle.books_model.specs.declared.reply.Value.TheVariants as value
 use Rattle.books_model.specs.Books.{ClearingBooks, cash_of, position_of, price_of, put_cash}
 use Rattle.books_model.specs.Interpreter.{is_account, is_full, put_position, step_of}
 use Rattle.books_model.specs.Laws.{all_cash, all_held}
-use Rattle.books_model.proofs.Comparing.{enough, not_apart}
-use Rattle.books_model.proofs.Maps.{positions_total, exact_positions}
-use Rattle.books_model.proofs.Entries.{weigh, sum_by-set_at}
+use Rattle.books_model.proofs.Maps.Comparing.{enough, not_apart}
+use Rattle.books_model.proofs.Maps.Trees.{positions_total, exact_positions}
+use Rattle.books_model.proofs.Maps.Entries.{weigh, sum_by-set_at}
 use Rattle.books_model.proofs.Drafts.{put_position-apart}
-use Rattle.books_model.proofs.Outcomes.{WhereDone, choice, gives, declines, finds_no_block}
+use Rattle.books_model.proofs.Scripts.Outcomes.{WhereDone, choice, gives, declines, finds_no_block}
 
 -- all cash, where one account has other cash
 all_cash-put_cash : (books : ClearingBooks) (a cash : ℕ) → all_cash (put_cash books a cash) + cash_of books a ≡ all_cash books + cash

@@ -9,8 +9,8 @@ use Rattle.books_model.specs.declared.reply.Value.{Value}
 use Rattle.books_model.specs.Books.{ClearingBooks, cash_of}
 use Rattle.books_model.specs.Interpreter.{holds_any, is_account, is_full, margin_of, next_of, shortfall_of, run_from, step_of}
 use Rattle.books_model.specs.Laws.{queued_by, queued, taken_by}
-use Rattle.books_model.proofs.CashLaws.{traded}
-use Rattle.books_model.proofs.Outcomes.{WhereDone, WhereEnds, choice, gives, declines, finds_no_block, step_first}
+use Rattle.books_model.proofs.Scripts.CashLaws.{traded}
+use Rattle.books_model.proofs.Scripts.Outcomes.{WhereDone, WhereEnds, choice, gives, declines, finds_no_block, step_first}
 
 -- what was queued and what an operation queues is what it takes and what is queued after it
 abbrev InOrder : Op → ClearingBooks → Value → ClearingBooks → Type 0

@@ -12,14 +12,14 @@ use Rattle.books_model.specs.declared.script.Op.TheVariants as op
 use Rattle.books_model.specs.Books.{ClearingBooks, cash_of, position_of, price_of, put_cash, used}
 use Rattle.books_model.specs.Ranges.{AreInRange, IsWithin, IsAccountNumber, IsOperationFor}
 use Rattle.books_model.specs.Interpreter.{holds_any, is_account, is_full, margin_of, next_of, put_position, shortfall_of, worth_of, run_from, step_of, trade_of}
-use Rattle.books_model.proofs.Comparing.{at_least_one, below_most, enough, none_of, not_apart}
-use Rattle.books_model.proofs.Maps.{stays_after_insert}
+use Rattle.books_model.proofs.Maps.Comparing.{at_least_one, below_most, enough, none_of, not_apart}
+use Rattle.books_model.proofs.Maps.Trees.{stays_after_insert}
 use Rattle.books_model.proofs.InRange.{put_cash-in_range, put_call-in_range, change-in_range, used_after_insert}
 use Rattle.books_model.proofs.Drafts.{room_left, quantity-in_range, price-in_range, priced-in_range, held-in_range, unheld-in_range, closed-in_range}
 use Rattle.books_model.proofs.Drafts.{taken-in_range, put_position-apart}
-use Rattle.books_model.proofs.Entries.{AllByRecursion-weaker}
-use Rattle.books_model.proofs.Sums.{worth_below, worth_first, worth_next, worth_last, price_of_most}
-use Rattle.books_model.proofs.Outcomes.{WhereDone, WhereEnds, choice, gives, declines, finds_no_block, step_first}
+use Rattle.books_model.proofs.Maps.Entries.{AllByRecursion-weaker}
+use Rattle.books_model.proofs.Sums.{most_worth, worth_below, worth_first, worth_next, worth_last, price_of_most}
+use Rattle.books_model.proofs.Scripts.Outcomes.{WhereDone, WhereEnds, choice, gives, declines, finds_no_block, step_first}
 
 -- in range, with as many instruments
 abbrev pub Stays : ClearingBooks → ClearingBooks → Type 0
@@ -87,7 +87,7 @@ exchanged books a b i q h some apart buyer seller price sells limit =
     full x t none test = ap (λ x. not (is_some {T = ℕ} x) && t) (sym none) ∙ test
 
 -- what an account's positions are worth is in range
-worth_most : (books : ClearingBooks) (a n : ℕ) → AreInRange books → worth_below books a (n + 1) ≤ n * 1000000000000000
+worth_most : (books : ClearingBooks) (a n : ℕ) → AreInRange books → worth_below books a (n + 1) ≤ n * most_worth
 worth_most books a zero h = omega (arith, worth_first books a h)
 worth_most books a (suc n) h =
     let before = worth_most books a n h in
@@ -103,7 +103,7 @@ shortfall_most : (books : ClearingBooks) (a rate : ℕ) → AreInRange books →
 shortfall_most books a rate h fits =
     let most = worth_most books a books.instruments h in
     let last = worth_last books a h in
-    let product : worth_of books a * rate ≤ worth_of books a * 100 = mul-le-mul_left (worth_of books a) fits in
+    let product : worth_of books a * rate ≤ worth_of books a * GREATEST_RATE = mul-le-mul_left (worth_of books a) fits in
     omega (arith, most, last, product, h.instruments.1)
 
 -- the queue's front is taken, or there is none

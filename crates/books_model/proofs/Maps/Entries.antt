@@ -13,7 +13,7 @@ use Rattle.std.proofs.lemmas.Bool.{cases_lt}
 use Rattle.std.proofs.lemmas.List.Sums.{sum_by-cons}
 use Rattle.std.proofs.lemmas.Map.Lookups.{CmpEqualImpliesEq}
 use Rattle.std.proofs.lemmas.Map.Views.{tells_apart}
-use Rattle.books_model.proofs.Keys.{below_first, below_rest, sorted_first, sorted_rest, below_less}
+use Rattle.books_model.proofs.Maps.Keys.{below_first, below_rest, sorted_first, sorted_rest, below_less}
 use Rattle.books_model.specs.Inner.Changes.{set_at}
 
 -- a property of all entries, at another function that is the same at them

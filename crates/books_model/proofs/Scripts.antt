@@ -1,0 +1,12 @@
+-- a run of operations, from any of them on
+pub mod Runs
+-- what holds of a step, and of the run of a script, wherever it is done
+pub mod Outcomes
+-- what operations do to all cash, and to all that is held of an instrument
+pub mod CashLaws
+-- books stay in range, whatever is run on them
+pub mod RangeLaws
+-- no script changes the sizes of books
+pub mod SizeLaws
+-- margin calls are taken in the order in which they were queued
+pub mod QueueLaws
