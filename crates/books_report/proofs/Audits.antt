@@ -11,7 +11,7 @@ use Rattle.script_reader.specs.declared.words.TheConstants.{SPACE, LINE_FEED}
 use Rattle.script_reader.specs.Text.{line, number}
 use Rattle.script_reader.specs.Input.{ClearingInput, caller_at, script_at}
 use Rattle.script_reader.specs.Journal.{IsPlace}
-use Rattle.script_reader.proofs.Cutting.{line-append}
+use Rattle.script_reader.proofs.Tokens.Cutting.{line-append}
 use Rattle.books_report.specs.declared.limits.TheConstants.{RESTARTS_BELOW}
 use Rattle.books_report.specs.declared.line.Line.{Line}
 use Rattle.books_report.specs.Words.{reply_words}

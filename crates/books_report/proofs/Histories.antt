@@ -9,7 +9,7 @@ use Rattle.std.proofs.lemmas.Slice.Eq.{bytes_eq-Decides}
 use Rattle.script_reader.specs.Lines.{word_at}
 use Rattle.script_reader.specs.Text.{line}
 use Rattle.script_reader.specs.Input.{Caller, ClearingInput, IsInput, IsName, caller_at, count_scripts}
-use Rattle.script_reader.proofs.Cutting.{line_once}
+use Rattle.script_reader.proofs.Tokens.Cutting.{line_once}
 use Rattle.books_report.specs.Output.{Ran, places_run, reply_to, books_after, journal_line}
 use Rattle.books_report.specs.Checking.{IsNext, MayFollow, FollowInTurn, lines_of, closing_lines, lines_behind, output_lines}
 use Rattle.books_report.proofs.Turns.{turns, gone_of, none_left}

@@ -13,8 +13,8 @@ use Rattle.books_model.specs.Ranges.{AreInRange}
 use Rattle.script_reader.specs.declared.words.TheConstants.{SPACE, LINE_FEED}
 use Rattle.script_reader.specs.Lines.{IsFreeOf}
 use Rattle.script_reader.specs.Text.{account_line, price_line, position_line, call_line, finish_line}
-use Rattle.script_reader.proofs.Cutting.{join-free}
-use Rattle.script_reader.proofs.Fronting.{count_line}
+use Rattle.script_reader.proofs.Tokens.Cutting.{join-free}
+use Rattle.script_reader.proofs.Texts.Fronting.{count_line}
 use Rattle.books_report.specs.Checking.{closing_lines}
 use Rattle.books_report.specs.Inner.Audit.{StopsAfter, in_common}
 use Rattle.books_report.proofs.Rows.{IsRow}

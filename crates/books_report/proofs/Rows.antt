@@ -19,8 +19,8 @@ use Rattle.script_reader.specs.Lines.{IsFreeOf, IsWord, AreWords}
 use Rattle.script_reader.specs.Text.{line, number, header_words, header_line, account_line, account_words, price_line, price_words, position_line}
 use Rattle.script_reader.specs.Text.{position_words, call_line, call_words, finish_line, books_lines}
 use Rattle.script_reader.specs.Input.{ClearingInput, IsInput, IsName, caller_at, count_scripts}
-use Rattle.script_reader.proofs.Cutting.{free-append, line_once, word_from_test}
-use Rattle.script_reader.proofs.Submitting.{caller-AreWords}
+use Rattle.script_reader.proofs.Tokens.Cutting.{free-append, line_once, word_from_test}
+use Rattle.script_reader.proofs.Grouped.Submitting.{caller-AreWords}
 use Rattle.books_report.specs.Words.{reply_words}
 use Rattle.books_report.specs.Output.{Ran, places_run, journal_line, journal_lines, books_after, output_of}
 use Rattle.books_report.specs.Checking.{FollowInTurn, lines_of, closing_lines, lines_behind, output_lines}

@@ -11,7 +11,7 @@ use Rattle.std.proofs.lemmas.Bool.Decides.{nat_tests, eqb_tells}
 use Rattle.books_model.specs.Books.{ClearingBooks}
 use Rattle.script_reader.specs.Input.{Caller, ClearingInput, caller_at, count_scripts}
 use Rattle.script_reader.specs.Journal.{Place, IsPlace, IsJournal}
-use Rattle.script_reader.proofs.Sections.{all_follow}
+use Rattle.script_reader.proofs.Printing.Sections.{all_follow}
 use Rattle.books_report.specs.Output.{Ran, places_run, books_left, replies_of, books_after}
 use Rattle.books_report.specs.Checking.{IsNext, MayFollow, FollowInTurn}
 use Rattle.books_report.proofs.Classes.{sums, sums-same, sums-ones, sums-tight, by_classes, sum_by_all}

@@ -1,6 +1,6 @@
 //! Whether a text is an output of an input.
 
-ghost use Rattle.std.specs.Prelude.{◌≡◌, ◌≢◌, ℕ, ◌+◌, ◌<◌, ◌≤◌, ◌==◌, ◌^◌, List, ◌∷◌, ◌++◌, Ok, Some, codes, length, replicate, count_by, slice_index, IfOk, IfSome, IfNone, IsSomeAnd, OnOk};
+ghost use Rattle.std.specs.Prelude.{◌≡◌, ◌≢◌, ℕ, ◌+◌, ◌<◌, ◌==◌, ◌^◌, List, ◌∷◌, ◌++◌, Ok, Some, codes, length, replicate, count_by, slice_index, IfOk, IfSome, IfNone, IsSomeAnd, OnOk};
 ghost use Rattle.std.specs.List.{concat};
 ghost use Rattle.script_reader.specs.declared.words.TheConstants.{SPACE, LINE_FEED};
 ghost use Rattle.script_reader.specs.Lines.{IsFreeOf};

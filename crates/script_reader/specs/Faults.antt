@@ -57,7 +57,9 @@ is_late before words = list_any (λ w. nat_lt (kind_of words) (kind_of w)) (drop
 
 -- this line takes a block, and does not rise above all of its kind before it
 abbrev pub is_low : List Words → Words → Bool
-is_low before words = list_any (λ w. takes_block w && ((kind_of w == kind_of words) && not (is_below (key_of w) (key_of words)))) (drop 1 before)
+is_low before words =
+    list_any (λ w. takes_block w
+    && ((kind_of w == kind_of words) && not (is_below (key_of w) (key_of words)))) (drop 1 before)
 
 -- a line before it is this kind of line for the number
 abbrev pub is_given : List Words → List ℕ → ℕ → Bool
@@ -122,7 +124,8 @@ inside_fault before words =
 
 -- whether the last line before that begins or ends a script begins one
 abbrev pub is_inside : List Words → Bool
-is_inside before = fold (λ inside w. if begins (codes "script") w then true else (if is_only (codes "end") w then false else inside)) false before
+is_inside before =
+    fold (λ inside w. if begins (codes "script") w then true else (if is_only (codes "end") w then false else inside)) false before
 
 -- what is wrong with a line of a text, beside the lines before it
 abbrev pub fault_of : List Words → Words → Option Fault

@@ -9,8 +9,8 @@ use Rattle.script_reader.specs.Faults.{IsFirstFault, IsFrontFault}
 use Rattle.script_reader.specs.Input.{ClearingInput}
 use Rattle.script_reader.specs.Grammar.{AreTwoTexts}
 use Rattle.twoplsf.specs.Command.{IsAnyRunCommand, IsCheck, IsDrill, IsMaking, IsReading}
-use Rattle.script_reader.proofs.Deciding.{not_both, one_fault}
-use Rattle.script_reader.proofs.FrontLaws.{never_both, one_front}
+use Rattle.script_reader.proofs.Texts.Deciding.{not_both, one_fault}
+use Rattle.script_reader.proofs.Texts.FrontLaws.{never_both, one_front}
 use Rattle.books_report.specs.declared.limits.TheConstants.{RESTARTS_BELOW}
 use Rattle.books_report.specs.Output.{IsOutput}
 use Rattle.books_report.specs.Checking.{IsFirstWrongLine}

@@ -24,11 +24,13 @@ pub record HasFront (input : ClearingInput) (before after : List ℕ) : Type 0 w
 
 -- the line begins a script, for which and for whose caller there is room; the text before begins with its other lines, and goes
 -- on with the text after; and more is the callers with the script
-pub record IsAdded (books : ClearingBooks) (words : List (List ℕ)) (callers more : List Caller) (before after : List ℕ) : Type 0 where
+pub record IsAdded (books : ClearingBooks) (words : List (List ℕ)) (callers more : List Caller) (before after : List ℕ)
+    : Type 0 where
   pub submission : Submission
   pub begins : words ≡ codes "script" ∷ submission.caller ∷ []
   pub named : IsName submission.caller
-  pub room : (nat_le MOST_SCRIPTS (count_scripts callers) || (not (is_caller submission.caller callers) && nat_le MOST_CALLERS (length callers))) ≡ false
+  pub room : (nat_le MOST_SCRIPTS (count_scripts callers)
+      || (not (is_caller submission.caller callers) && nat_le MOST_CALLERS (length callers))) ≡ false
   pub valid : IsScriptFor books submission.script
   pub text : before ≡ operation_lines submission.script ++ (end_line ++ after)
   pub made : more ≡ add_submission callers submission

@@ -19,9 +19,9 @@ use Rattle.script_reader.specs.Input.{Submission, first_seen}
 use Rattle.script_reader.specs.Inner.LinesAsWords.{submission_words}
 use Rattle.script_reader.specs.Forms.{Words, script_forms, begins, is_only, form_of, ranges_of, is_script_line, are_numbers, are_in_range}
 use Rattle.script_reader.specs.Faults.{first_reason, is_inside, operations_before, callers_before, outside_fault, inside_fault, books_fault, fault_of}
-use Rattle.script_reader.proofs.Numerals.{value_of_number}
+use Rattle.script_reader.proofs.Tokens.Numerals.{value_of_number}
 use Rattle.script_reader.proofs.Conditions.{any_never}
-use Rattle.script_reader.proofs.Printed.{Printed, IsSmall, header_of, entries_of, print, any_entry}
+use Rattle.script_reader.proofs.Printing.Printed.{Printed, IsSmall, header_of, entries_of, print, any_entry}
 
 -- the lines behind the books: the line `scripts`, and scripts that have ended
 abbrev pub ended : List Submission → List Words

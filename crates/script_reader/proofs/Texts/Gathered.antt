@@ -18,13 +18,13 @@ use Rattle.script_reader.specs.Inner.Callers.{is_caller}
 use Rattle.script_reader.specs.Grammar.{submission_lines}
 use Rattle.script_reader.specs.Forms.{Words, is_only, is_script_line}
 use Rattle.script_reader.specs.Faults.{first_reason, IsFaultyBehind, fault_of}
-use Rattle.script_reader.proofs.Scripted.{ended, outside_fault_is, is_beyond_at}
-use Rattle.script_reader.proofs.BooksFaultless.{printed}
-use Rattle.script_reader.proofs.ScriptsFaultless.{scripts_faultless}
-use Rattle.script_reader.proofs.Submitting.{caller-AreWords}
-use Rattle.script_reader.proofs.OneReading.{text_of_submission, flat_of_flat}
-use Rattle.script_reader.proofs.Reaching.{scripts_counted, callers_counted, caller_named}
-use Rattle.script_reader.proofs.Following.{behind_more}
+use Rattle.script_reader.proofs.Printing.Scripted.{ended, outside_fault_is, is_beyond_at}
+use Rattle.script_reader.proofs.WithoutFault.BooksFaultless.{printed}
+use Rattle.script_reader.proofs.WithoutFault.ScriptsFaultless.{scripts_faultless}
+use Rattle.script_reader.proofs.Grouped.Submitting.{caller-AreWords}
+use Rattle.script_reader.proofs.Texts.OneReading.{text_of_submission, flat_of_flat}
+use Rattle.script_reader.proofs.Texts.Reaching.{scripts_counted, callers_counted, caller_named}
+use Rattle.script_reader.proofs.Texts.Following.{behind_more}
 
 -- a fault behind scripts that were read
 pub behind_scripts : (b : ClearingBooks) (range : AreInRange b) (subs : List Submission) (start left after : List ℕ)

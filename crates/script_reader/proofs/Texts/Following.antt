@@ -10,7 +10,7 @@ use Rattle.script_reader.specs.Lines.{IsFreeOf, AreWords}
 use Rattle.script_reader.specs.Text.{line}
 use Rattle.script_reader.specs.Forms.{Words}
 use Rattle.script_reader.specs.Faults.{AreFaultless, StartsFaulty, IsFaultyBehind, fault_of}
-use Rattle.script_reader.proofs.Faultless.{faultless_append}
+use Rattle.script_reader.proofs.WithoutFault.Faultless.{faultless_append}
 
 -- a line is not empty
 pub line_shorter : (words : Words) (before after : List ℕ) → before ≡ line words ++ after → length after < length before

@@ -8,9 +8,10 @@ use Rattle.std.proofs.lemmas.List.{append-nil, map-append, length-map}
 use Rattle.std.proofs.lemmas.List.Concat.{flat_map-append}
 use Rattle.std.proofs.lemmas.List.Elements.{recursion_from_All}
 use Rattle.std.proofs.lemmas.List.Sums.{fold-append}
+use Rattle.script_reader.specs.Inner.Rows.{price_ranges}
 use Rattle.books_model.specs.Books.{ClearingBooks}
 use Rattle.books_model.specs.Ranges.{AreInRange, IsOperationFor}
-use Rattle.books_model.specs.declared.limits.TheConstants.{MOST_OPERATIONS}
+use Rattle.books_model.specs.declared.limits.TheConstants.{MOST_OPERATIONS, GREATEST_RATE}
 use Rattle.books_model.specs.declared.script.Op.{Op}
 use Rattle.books_model.specs.declared.script.Op.TheVariants as op
 use Rattle.script_reader.specs.declared.limits.TheConstants.{MOST_CALLERS, MOST_SCRIPTS}
@@ -19,44 +20,44 @@ use Rattle.script_reader.specs.Lines.{AreWords}
 use Rattle.script_reader.specs.Text.{operation_words}
 use Rattle.script_reader.specs.Inner.LinesAsWords.{books_words, submission_words, lines_so_far, lines_inside}
 use Rattle.script_reader.specs.Input.{Submission, AreCallersFor, add_name, callers_of, first_seen, count_scripts}
-use Rattle.script_reader.specs.Forms.{Words, is_only}
+use Rattle.script_reader.specs.Forms.{Words, is_only, accounts, amounts, quantities}
 use Rattle.script_reader.specs.Faults.{first_reason, AreFaultless}
-use Rattle.script_reader.proofs.Cutting.{word_from_test}
-use Rattle.script_reader.proofs.Scripted.{ended, opened, is_beyond_at, outside_fault_is, inside_fault_is}
-use Rattle.script_reader.proofs.NoFault.{operation_has_none, end_has_none, scripts_has_none}
-use Rattle.script_reader.proofs.Faultless.{faultless_append, row_are_words}
-use Rattle.script_reader.proofs.BooksFaultless.{printed, printed_small, instruments_fit, books_faultless}
-use Rattle.script_reader.proofs.Submitting.{IsGoodScript, scripts_are_good, caller-AreWords, count-fold}
-use Rattle.script_reader.proofs.Grouping.{callers_of-gathered}
+use Rattle.script_reader.proofs.Tokens.Cutting.{word_from_test}
+use Rattle.script_reader.proofs.Printing.Scripted.{ended, opened, is_beyond_at, outside_fault_is, inside_fault_is}
+use Rattle.script_reader.proofs.WithoutFault.NoFault.{operation_has_none, end_has_none, scripts_has_none}
+use Rattle.script_reader.proofs.WithoutFault.Faultless.{faultless_append, row_are_words}
+use Rattle.script_reader.proofs.WithoutFault.BooksFaultless.{printed, printed_small, instruments_fit, books_faultless}
+use Rattle.script_reader.proofs.Grouped.Submitting.{IsGoodScript, scripts_are_good, caller-AreWords, count-fold}
+use Rattle.script_reader.proofs.Grouped.Grouping.{callers_of-gathered}
 
 -- the words of an operation are those of a line
 pub operation-AreWords : (books : ClearingBooks) → books.instruments < 2 ^ 64 → (o : Op) → IsOperationFor books o → AreWords (operation_words o)
 operation-AreWords books fits (op.OpenAccount a) h =
-    row_are_words (codes "open") (a ∷ []) ((1, 4294967295) ∷ []) (word_from_test (codes "open") refl) refl (h, lit< tt, tt)
+    row_are_words (codes "open") (a ∷ []) (accounts ∷ []) (word_from_test (codes "open") refl) refl (h, lit< tt, tt)
 operation-AreWords books fits (op.Close a) h =
-    row_are_words (codes "close") (a ∷ []) ((1, 4294967295) ∷ []) (word_from_test (codes "close") refl) refl (h, lit< tt, tt)
+    row_are_words (codes "close") (a ∷ []) (accounts ∷ []) (word_from_test (codes "close") refl) refl (h, lit< tt, tt)
 operation-AreWords books fits (op.Deposit a x) h =
-    row_are_words (codes "deposit") (a ∷ x ∷ []) ((1, 4294967295) ∷ (1, 1000000000000000) ∷ [])
+    row_are_words (codes "deposit") (a ∷ x ∷ []) (accounts ∷ amounts ∷ [])
     (word_from_test (codes "deposit") refl) refl (h.0, lit< tt, (h.1, lit< tt, tt))
 operation-AreWords books fits (op.Withdraw a x) h =
-    row_are_words (codes "withdraw") (a ∷ x ∷ []) ((1, 4294967295) ∷ (1, 1000000000000000) ∷ [])
+    row_are_words (codes "withdraw") (a ∷ x ∷ []) (accounts ∷ amounts ∷ [])
     (word_from_test (codes "withdraw") refl) refl (h.0, lit< tt, (h.1, lit< tt, tt))
 operation-AreWords books fits (op.Move a b x) h =
-    row_are_words (codes "move") (a ∷ b ∷ x ∷ []) ((1, 4294967295) ∷ (1, 4294967295) ∷ (1, 1000000000000000) ∷ [])
+    row_are_words (codes "move") (a ∷ b ∷ x ∷ []) (accounts ∷ accounts ∷ amounts ∷ [])
     (word_from_test (codes "move") refl) refl (h.0, lit< tt, (h.1, lit< tt, (h.2, lit< tt, tt)))
 operation-AreWords books fits (op.Price i q) h =
-    row_are_words (codes "price") (i ∷ q ∷ []) ((1, books.instruments) ∷ (1, 1000000000) ∷ [])
+    row_are_words (codes "price") (i ∷ q ∷ []) (price_ranges books.instruments)
     (word_from_test (codes "price") refl) refl (h.0, fits, (h.1, lit< tt, tt))
 operation-AreWords books fits (op.Trade a b i q) h =
-    row_are_words (codes "trade") (a ∷ b ∷ i ∷ q ∷ []) ((1, 4294967295) ∷ (1, 4294967295) ∷ (1, books.instruments)
-    ∷ (1, 1000000) ∷ []) (word_from_test (codes "trade") refl) refl (h.0, lit< tt, (h.1, lit< tt, (h.2, fits, (h.3, lit< tt, tt))))
+    row_are_words (codes "trade") (a ∷ b ∷ i ∷ q ∷ []) (accounts ∷ accounts ∷ (1, books.instruments)
+    ∷ quantities ∷ []) (word_from_test (codes "trade") refl) refl (h.0, lit< tt, (h.1, lit< tt, (h.2, fits, (h.3, lit< tt, tt))))
 operation-AreWords books fits (op.Margin a m) h =
-    row_are_words (codes "margin") (a ∷ m ∷ []) ((1, 4294967295) ∷ (1, 100) ∷ []) (word_from_test (codes "margin") refl) refl (h.0, lit< tt, (h.1, lit< tt, tt))
+    row_are_words (codes "margin") (a ∷ m ∷ []) (accounts ∷ (1, GREATEST_RATE) ∷ []) (word_from_test (codes "margin") refl) refl (h.0, lit< tt, (h.1, lit< tt, tt))
 operation-AreWords books fits op.Next h = row_are_words (codes "next") [] [] (word_from_test (codes "next") refl) refl tt
 operation-AreWords books fits (op.Show a) h =
-    row_are_words (codes "show") (a ∷ []) ((1, 4294967295) ∷ []) (word_from_test (codes "show") refl) refl (h, lit< tt, tt)
+    row_are_words (codes "show") (a ∷ []) (accounts ∷ []) (word_from_test (codes "show") refl) refl (h, lit< tt, tt)
 operation-AreWords books fits (op.Sum a b) h =
-    row_are_words (codes "sum") (a ∷ b ∷ []) ((1, 4294967295) ∷ (1, 4294967295) ∷ [])
+    row_are_words (codes "sum") (a ∷ b ∷ []) (accounts ∷ accounts ∷ [])
     (word_from_test (codes "sum") refl) refl (h.0, lit< tt, (h.1, lit< tt, tt))
 
 -- no operation is the line `finish`

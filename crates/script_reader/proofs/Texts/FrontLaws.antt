@@ -1,11 +1,10 @@
 -- A text begins with that of an input, or has a first fault there.
-use Rattle.std.proofs.Common.{◌≡◌, ◌⊎◌, inl, inr, ℕ, List, [], sym, ap, subst, ◌∙◌}
+use Rattle.std.proofs.Common.{◌⊎◌, inl, inr, ℕ, List, [], sym, subst}
 use Rattle.std.proofs.lemmas.List.{append-nil}
-use Rattle.script_reader.specs.Input.{ClearingInput}
-use Rattle.script_reader.specs.Grammar.{Spells, IsValidInput, AreTwoTexts, BeginWithInput}
+use Rattle.script_reader.specs.Grammar.{Spells, IsValidInput, BeginWithInput}
 use Rattle.script_reader.specs.Statements.{HasFault, HasFrontFault, OneFront}
-use Rattle.script_reader.proofs.Deciding.{either, front_not_both, fronts_once}
-use Rattle.script_reader.proofs.OneInput.{one_input}
+use Rattle.script_reader.proofs.Texts.Deciding.{either, front_not_both, fronts_once}
+use Rattle.script_reader.proofs.Texts.OneInput.{one_input}
 
 front_of : (text : List ℕ) → IsValidInput text ⊎ HasFault text → BeginWithInput text ⊎ HasFrontFault text
 front_of text (inl valid) = inl (record {

@@ -15,10 +15,10 @@ use Rattle.script_reader.specs.declared.words.TheConstants.{SPACE, LINE_FEED}
 use Rattle.script_reader.specs.Lines.{IsFreeOf, AreWords}
 use Rattle.script_reader.specs.Input.{Caller, Submission, AreCallersFor, count_scripts, add_name, callers_of, IsName}
 use Rattle.script_reader.specs.Inner.Callers.{add_submission, is_caller}
-use Rattle.script_reader.proofs.Cutting.{word_from_test}
+use Rattle.script_reader.proofs.Tokens.Cutting.{word_from_test}
 use Rattle.script_reader.proofs.Conditions.{both}
-use Rattle.script_reader.proofs.Gathering.{choice-cons, any-map, count-add}
-use Rattle.script_reader.proofs.Grouping.{add_name-distinct, callers_of-gathered}
+use Rattle.script_reader.proofs.Grouped.Gathering.{choice-cons, any-map, count-add}
+use Rattle.script_reader.proofs.Grouped.Grouping.{add_name-distinct, callers_of-gathered}
 
 -- what holds of callers holds after one more script, if it holds of a caller with it
 all-add : (P : Caller → Type 0) (s : Submission)

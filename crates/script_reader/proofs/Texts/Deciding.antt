@@ -16,15 +16,15 @@ use Rattle.script_reader.specs.Inner.LinesAsWords.{lines_so_far}
 use Rattle.script_reader.specs.Forms.{Words, is_only}
 use Rattle.script_reader.specs.Faults.{AreFaultless, IsFrontFault, IsFirstFault, fault_of}
 use Rattle.script_reader.specs.Statements.{HasFault}
-use Rattle.script_reader.proofs.Cutting.{found_at, found_none, taken}
-use Rattle.script_reader.proofs.LineKinds.{only_word}
-use Rattle.script_reader.proofs.Printed.{books_fault_is}
-use Rattle.script_reader.proofs.Scripted.{in_books, outside_fault_is, inside_fault_is}
-use Rattle.script_reader.proofs.Faultless.{faultless_append}
-use Rattle.script_reader.proofs.BooksFaultless.{printed, printed_small}
-use Rattle.script_reader.proofs.ScriptsFaultless.{input_faultless}
-use Rattle.script_reader.proofs.OneReading.{text_of_input, finish_once, no_fault, fault_once}
-use Rattle.script_reader.proofs.Reaching.{IsReached, AtStart, InBooks, Outside, WithinScript, Between, reach_all}
+use Rattle.script_reader.proofs.Tokens.Cutting.{found_at, found_none, taken}
+use Rattle.script_reader.proofs.LineFaults.LineKinds.{only_word}
+use Rattle.script_reader.proofs.Printing.Printed.{books_fault_is}
+use Rattle.script_reader.proofs.Printing.Scripted.{in_books, outside_fault_is, inside_fault_is}
+use Rattle.script_reader.proofs.WithoutFault.Faultless.{faultless_append}
+use Rattle.script_reader.proofs.WithoutFault.BooksFaultless.{printed, printed_small}
+use Rattle.script_reader.proofs.WithoutFault.ScriptsFaultless.{input_faultless}
+use Rattle.script_reader.proofs.Texts.OneReading.{text_of_input, finish_once, no_fault, fault_once}
+use Rattle.script_reader.proofs.Texts.Reaching.{IsReached, AtStart, InBooks, Outside, WithinScript, Between, reach_all}
 
 -- the last line stands behind scripts that have ended
 pub at_finish : (lines : List Words) → IsReached lines → fault_of lines (codes "finish" ∷ []) ≡ None → Between lines

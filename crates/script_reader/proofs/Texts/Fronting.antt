@@ -16,11 +16,11 @@ use Rattle.script_reader.specs.Grammar.{submission_lines, input_text}
 use Rattle.script_reader.specs.Inner.Scripts.{IsReadOf, HasFront}
 use Rattle.script_reader.specs.Forms.{Words}
 use Rattle.script_reader.specs.Faults.{AreFaultless, IsFaultyBehind}
-use Rattle.script_reader.proofs.Cutting.{join-free}
-use Rattle.script_reader.proofs.OneReading.{text_of_books}
-use Rattle.script_reader.proofs.ScriptsFaultless.{input_faultless}
-use Rattle.script_reader.proofs.Reaching.{no_callers}
-use Rattle.script_reader.proofs.Following.{behind_more}
+use Rattle.script_reader.proofs.Tokens.Cutting.{join-free}
+use Rattle.script_reader.proofs.Texts.OneReading.{text_of_books}
+use Rattle.script_reader.proofs.WithoutFault.ScriptsFaultless.{input_faultless}
+use Rattle.script_reader.proofs.Texts.Reaching.{no_callers}
+use Rattle.script_reader.proofs.Texts.Following.{behind_more}
 
 -- a fault behind books that were read
 pub behind_books : (b : ClearingBooks) (range : AreInRange b) (start left after : List ℕ) (why : Fault)

@@ -18,17 +18,17 @@ use Rattle.books_model.proofs.Maps.Trees.{positions_total}
 use Rattle.script_reader.specs.Lines.{AreWords}
 use Rattle.script_reader.specs.Text.{header_words, account_words, price_words, position_words, call_words}
 use Rattle.script_reader.specs.Inner.LinesAsWords.{books_words}
-use Rattle.script_reader.specs.Forms.{Words}
+use Rattle.script_reader.specs.Forms.{Words, sizes}
 use Rattle.script_reader.specs.Faults.{first_reason, header_fault, AreFaultless}
 use Rattle.script_reader.specs.declared.fault.Fault.TheVariants as fault
-use Rattle.script_reader.proofs.Cutting.{word_from_test}
-use Rattle.script_reader.proofs.Numerals.{number-IsWord}
+use Rattle.script_reader.proofs.Tokens.Cutting.{word_from_test}
+use Rattle.script_reader.proofs.Tokens.Numerals.{number-IsWord}
 use Rattle.script_reader.proofs.Conditions.{or_right}
-use Rattle.script_reader.proofs.Printed.{Printed, IsSmall}
-use Rattle.script_reader.proofs.NoFault.{AreWithin, texts_are_numbers, texts_are_in_range}
-use Rattle.script_reader.proofs.Sections.{rises_entries, rises_follow, number_less, pair_less, each_entry, all_follow}
-use Rattle.script_reader.proofs.Faultless.{faultless_append, IsAccount, IsPrice, IsPosition, IsMarginCall, small_account, small_price, small_position}
-use Rattle.script_reader.proofs.Faultless.{accounts_faultless, prices_faultless, positions_faultless, calls_faultless}
+use Rattle.script_reader.proofs.Printing.Printed.{Printed, IsSmall}
+use Rattle.script_reader.proofs.WithoutFault.NoFault.{AreWithin, texts_are_numbers, texts_are_in_range}
+use Rattle.script_reader.proofs.Printing.Sections.{rises_entries, rises_follow, number_less, pair_less, each_entry, all_follow}
+use Rattle.script_reader.proofs.WithoutFault.Faultless.{faultless_append, IsAccount, IsPrice, IsPosition, IsMarginCall, small_account, small_price, small_position}
+use Rattle.script_reader.proofs.WithoutFault.Faultless.{accounts_faultless, prices_faultless, positions_faultless, calls_faultless}
 
 -- a key that is found is one of the keys
 pub found_is_given : (a : ℕ) (es : List (ℕ × ℕ)) → IsSome (find nat_cmp a es) → list_any (λ x. x.0 == a) es ≡ true
@@ -140,14 +140,14 @@ module _ (b : ClearingBooks) (range : AreInRange b) where
     );
   }
 
-  sizes_within : AreWithin (b.blocks ∷ b.instruments ∷ b.ring ∷ []) ((1, 16384) ∷ (1, 64) ∷ (1, 1024) ∷ [])
+  sizes_within : AreWithin (b.blocks ∷ b.instruments ∷ b.ring ∷ []) sizes
   sizes_within = (range.blocks, lit< tt, (range.instruments, lit< tt, (range.ring, lit< tt, tt)))
 
   pub header_has_none : header_fault (header_words b) ≡ None
   header_has_none i = first_reason (
       (false, fault.Header)
-      ∷ (not (texts_are_numbers (b.blocks ∷ b.instruments ∷ b.ring ∷ []) ((1, 16384) ∷ (1, 64) ∷ (1, 1024) ∷ []) refl sizes_within i), fault.Number)
-      ∷ (not (texts_are_in_range (b.blocks ∷ b.instruments ∷ b.ring ∷ []) ((1, 16384) ∷ (1, 64) ∷ (1, 1024) ∷ []) sizes_within i), fault.Limit)
+      ∷ (not (texts_are_numbers (b.blocks ∷ b.instruments ∷ b.ring ∷ []) sizes refl sizes_within i), fault.Number)
+      ∷ (not (texts_are_in_range (b.blocks ∷ b.instruments ∷ b.ring ∷ []) sizes sizes_within i), fault.Limit)
       ∷ []
       )
 

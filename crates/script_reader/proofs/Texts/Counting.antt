@@ -18,12 +18,12 @@ use Rattle.script_reader.specs.Grammar.{Spells}
 use Rattle.script_reader.specs.Forms.{Words, is_only, begins, value_at, are_numbers, are_in_range, ranges_of, form_of, books_forms}
 use Rattle.script_reader.specs.Faults.{StartsFaulty, IsFaultyBehind, fault_of, books_fault, inside_fault, outside_fault, is_inside, is_late, is_low, is_given}
 use Rattle.script_reader.specs.Faults.{takes_block, size_at}
-use Rattle.script_reader.proofs.Submitting.{IsGoodScript, scripts_are_good}
-use Rattle.script_reader.proofs.Scripted.{opened}
-use Rattle.script_reader.proofs.Reaching.{IsReached, AtStart, InBooks, Outside, WithinScript, reach_all, scripts_counted}
-use Rattle.script_reader.proofs.Fronting.{count_line, count_lines, take_front}
-use Rattle.script_reader.proofs.OneReading.{finish_words}
-use Rattle.script_reader.proofs.Deciding.{spelled}
+use Rattle.script_reader.proofs.Grouped.Submitting.{IsGoodScript, scripts_are_good}
+use Rattle.script_reader.proofs.Printing.Scripted.{opened}
+use Rattle.script_reader.proofs.Texts.Reaching.{IsReached, AtStart, InBooks, Outside, WithinScript, reach_all, scripts_counted}
+use Rattle.script_reader.proofs.Texts.Fronting.{count_line, count_lines, take_front}
+use Rattle.script_reader.proofs.Texts.OneReading.{finish_words}
+use Rattle.script_reader.proofs.Texts.Deciding.{spelled}
 
 -- books have few lines
 few_of_books : (b : ClearingBooks) → AreInRange b → length (books_words b) ≤ 20000

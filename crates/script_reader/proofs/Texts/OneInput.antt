@@ -16,15 +16,15 @@ use Rattle.script_reader.specs.Input.{ClearingInput, Submission, AreCallersFor, 
 use Rattle.script_reader.specs.Grammar.{Spells}
 use Rattle.script_reader.specs.Lines.{word_at}
 use Rattle.script_reader.specs.Forms.{Words, begins, is_only, value_of, value_at}
-use Rattle.script_reader.proofs.Numerals.{value_of_number}
-use Rattle.script_reader.proofs.Scripted.{ended}
-use Rattle.script_reader.proofs.Sections.{all_follow}
-use Rattle.script_reader.proofs.Faultless.{IsAccount, IsPrice, IsPosition, IsMarginCall}
-use Rattle.script_reader.proofs.BooksFaultless.{blocks_fit, instruments_fit, ring_fits, accounts_are, prices_are, positions_are, calls_are}
-use Rattle.script_reader.proofs.Submitting.{IsGoodScript, scripts_are_good}
-use Rattle.script_reader.proofs.OneReading.{finish_once}
-use Rattle.script_reader.proofs.Reaching.{operation_goes_on}
-use Rattle.script_reader.proofs.Deciding.{spelled, spelled_lines}
+use Rattle.script_reader.proofs.Tokens.Numerals.{value_of_number}
+use Rattle.script_reader.proofs.Printing.Scripted.{ended}
+use Rattle.script_reader.proofs.Printing.Sections.{all_follow}
+use Rattle.script_reader.proofs.WithoutFault.Faultless.{IsAccount, IsPrice, IsPosition, IsMarginCall}
+use Rattle.script_reader.proofs.WithoutFault.BooksFaultless.{blocks_fit, instruments_fit, ring_fits, accounts_are, prices_are, positions_are, calls_are}
+use Rattle.script_reader.proofs.Grouped.Submitting.{IsGoodScript, scripts_are_good}
+use Rattle.script_reader.proofs.Texts.OneReading.{finish_once}
+use Rattle.script_reader.proofs.Texts.Reaching.{operation_goes_on}
+use Rattle.script_reader.proofs.Texts.Deciding.{spelled, spelled_lines}
 
 -- numbers with the same text are the same
 number_once : (n m : ℕ) → n < 2 ^ 64 → m < 2 ^ 64 → number n ≡ number m → n ≡ m

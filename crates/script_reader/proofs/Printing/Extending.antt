@@ -22,15 +22,16 @@ use Rattle.script_reader.specs.Number.{is_number}
 use Rattle.script_reader.specs.Text.{number, header_words, account_words, price_words, position_words, call_words}
 use Rattle.script_reader.specs.Inner.LinesAsWords.{books_words}
 use Rattle.std.specs.Option.{is_none}
-use Rattle.script_reader.specs.Forms.{Words, books_forms, begins, form_of, ranges_of, value_of, value_at, are_numbers, are_in_range}
+use Rattle.books_model.specs.declared.limits.TheConstants.{GREATEST_ACCOUNT, GREATEST_CASH, GREATEST_PRICE, GREATEST_QUANTITY, GREATEST_SHORTFALL, MOST_BLOCKS, MOST_INSTRUMENTS, MOST_RING}
+use Rattle.script_reader.specs.Forms.{Words, books_forms, begins, form_of, ranges_of, value_of, value_at, are_numbers, are_in_range, accounts, prices, quantities}
 use Rattle.script_reader.specs.declared.fault.Fault.TheVariants as fault
 use Rattle.script_reader.specs.Faults.{header_fault, kind_of, takes_block, key_of, is_below}
 use Rattle.script_reader.proofs.Conditions.{both, passed, neither, or_false, is_some_list}
-use Rattle.script_reader.proofs.LineKinds.{none_applies, ranged}
-use Rattle.script_reader.proofs.Printed.{Printed, fault_at, is_late_in, is_low_in}
-use Rattle.script_reader.proofs.Sections.{entries_above, absent_above, less_number, less_pair, all_follow}
-use Rattle.script_reader.proofs.Growing.{account_more, price_more, position_more, call_more}
-use Rattle.script_reader.proofs.BooksFaultless.{printed, instruments_fit}
+use Rattle.script_reader.proofs.LineFaults.LineKinds.{none_applies, ranged}
+use Rattle.script_reader.proofs.Printing.Printed.{Printed, fault_at, is_late_in, is_low_in}
+use Rattle.script_reader.proofs.Printing.Sections.{entries_above, absent_above, less_number, less_pair, all_follow}
+use Rattle.script_reader.proofs.Printing.Growing.{account_more, price_more, position_more, call_more}
+use Rattle.script_reader.proofs.WithoutFault.BooksFaultless.{printed, instruments_fit}
 
 -- a list with no element
 pub no_elements : {A : Type 0} (xs : List A) → is_some_list xs ≡ false → xs ≡ []
@@ -131,7 +132,7 @@ module _ (b : ClearingBooks) (range : AreInRange b) where
     pub account : a ≡ number (value_of a)
     pub amount : cash ≡ number (value_of cash)
     pub number_is : IsAccountNumber (value_of a)
-    pub fits : value_of cash ≤ 1000000000000000
+    pub fits : value_of cash ≤ GREATEST_CASH
     pub absent : finmap.get b.accounts (value_of a) ≡ None
     pub room : used b < b.blocks
     pub in_range : AreInRange (put_cash b (value_of a) (value_of cash))
@@ -144,7 +145,7 @@ module _ (b : ClearingBooks) (range : AreInRange b) where
       let no_prices = no_elements (finmap.entries b.prices) late.0 in
       let no_positions = no_elements (finmap.entries b.positions) (neither late.1).0 in
       let no_calls = no_elements b.calls (neither late.1).1 in
-      let read = read_two a cash (1, 4294967295) (0, 1000000000000000) (lit< tt) (lit< tt) none.numbers none.ranges in
+      let read = read_two a cash accounts (0, GREATEST_CASH) (lit< tt) (lit< tt) none.numbers none.ranges in
       let low = all_are_below (λ e. (e.0, 0)) (value_of a, 0) (finmap.entries b.accounts) (sym (or_false _) ∙ none.rises) in
       let behind = all_follow (λ e. is_below (e.0, 0) (value_of a, 0) ≡ true) (λ e. nat_cmp e.0 (value_of a) ≡ Less)
       (finmap.entries b.accounts) (λ e g. less_number e.0 (value_of a) (below_is_less e.0 (value_of a) g)) low in
@@ -173,7 +174,7 @@ module _ (b : ClearingBooks) (range : AreInRange b) where
     pub instrument : i ≡ number (value_of i)
     pub amount : price ≡ number (value_of price)
     pub number_is : IsInstrumentOf b (value_of i)
-    pub fits : IsWithin 1 1000000000 (value_of price)
+    pub fits : IsWithin 1 GREATEST_PRICE (value_of price)
     pub absent : finmap.get b.prices (value_of i) ≡ None
     pub room : used b < b.blocks
     pub in_range : AreInRange (put_price b (value_of i) (value_of price))
@@ -185,7 +186,7 @@ module _ (b : ClearingBooks) (range : AreInRange b) where
       let late = neither none.in_order in
       let no_positions = no_elements (finmap.entries b.positions) late.0 in
       let no_calls = no_elements b.calls late.1 in
-      let read = read_two i price (1, b.instruments) (1, 1000000000) (instruments_fit b range) (lit< tt) none.numbers none.ranges in
+      let read = read_two i price (1, b.instruments) prices (instruments_fit b range) (lit< tt) none.numbers none.ranges in
       let low = all_are_below (λ e. (e.0, 0)) (value_of i, 0) (finmap.entries b.prices) (sym (or_false _) ∙ none.rises) in
       let behind = all_follow (λ e. is_below (e.0, 0) (value_of i, 0) ≡ true) (λ e. nat_cmp e.0 (value_of i) ≡ Less)
       (finmap.entries b.prices) (λ e g. less_number e.0 (value_of i) (below_is_less e.0 (value_of i) g)) low in
@@ -215,7 +216,7 @@ module _ (b : ClearingBooks) (range : AreInRange b) where
     pub account : a ≡ number (value_of a)
     pub instrument : i ≡ number (value_of i)
     pub amount : quantity ≡ number (value_of quantity)
-    pub fits : IsWithin 1 1000000 (value_of quantity)
+    pub fits : IsWithin 1 GREATEST_QUANTITY (value_of quantity)
     pub given : IsSome (finmap.get b.accounts (value_of a))
     pub priced : IsSome (finmap.get b.prices (value_of i))
     pub absent : finmap.get b.positions (value_of a, value_of i) ≡ None
@@ -227,8 +228,8 @@ module _ (b : ClearingBooks) (range : AreInRange b) where
   adds_position a i quantity h =
       let none = has_no_fault (printed b) (codes "position" ∷ a ∷ i ∷ quantity ∷ []) h in
       let no_calls = no_elements b.calls none.in_order in
-      let first = ranged a 1 4294967295 (lit< tt) (both none.numbers).0 (both none.ranges).0 in
-      let read = read_two i quantity (1, b.instruments) (1, 1000000) (instruments_fit b range) (lit< tt) (both none.numbers).1 (both none.ranges).1 in
+      let first = ranged a 1 GREATEST_ACCOUNT (lit< tt) (both none.numbers).0 (both none.ranges).0 in
+      let read = read_two i quantity (1, b.instruments) quantities (instruments_fit b range) (lit< tt) (both none.numbers).1 (both none.ranges).1 in
       let low = all_are_below (λ e. e.0) (value_of a, value_of i) (finmap.entries b.positions) none.rises in
       let behind = all_follow (λ e. is_below e.0 (value_of a, value_of i) ≡ true)
       (λ e. position_cmp e.0 (value_of a, value_of i) ≡ Less) (finmap.entries b.positions) (λ e g. less_pair e.0 (value_of a, value_of i) g) low in
@@ -270,7 +271,7 @@ module _ (b : ClearingBooks) (range : AreInRange b) where
   pub adds_call : (a shortfall : List ℕ) → fault_at (printed b) (codes "call" ∷ a ∷ shortfall ∷ []) ≡ None → AddsCall a shortfall
   adds_call a shortfall h =
       let none = has_no_fault (printed b) (codes "call" ∷ a ∷ shortfall ∷ []) h in
-      let read = read_two a shortfall (1, 4294967295) (1, 64000000000000000) (lit< tt) (lit< tt) none.numbers none.ranges in
+      let read = read_two a shortfall accounts (1, GREATEST_SHORTFALL) (lit< tt) (lit< tt) none.numbers none.ranges in
       let room = leb-false b.ring (length b.calls) none.queued in
       record {
         account = read.0;
@@ -306,9 +307,9 @@ header_adds words none =
     let n3 = none_applies _ fault.Limit _ n2.1 in
     let numbers = passed n2.0 in
     let ranges = passed n3.0 in
-    let blocks = ranged (word_at words 3) 1 16384 (lit< tt) (both numbers).0 (both ranges).0 in
-    let instruments = ranged (word_at words 5) 1 64 (lit< tt) (both (both numbers).1).0 (both (both ranges).1).0 in
-    let ring = ranged (word_at words 7) 1 1024 (lit< tt) (both (both (both numbers).1).1).0 (both (both (both ranges).1).1).0 in
+    let blocks = ranged (word_at words 3) 1 MOST_BLOCKS (lit< tt) (both numbers).0 (both ranges).0 in
+    let instruments = ranged (word_at words 5) 1 MOST_INSTRUMENTS (lit< tt) (both (both numbers).1).0 (both (both ranges).1).0 in
+    let ring = ranged (word_at words 7) 1 MOST_RING (lit< tt) (both (both (both numbers).1).1).0 (both (both (both ranges).1).1).0 in
     let form = both (passed n1.0) in
     let form1 = both form.0 in
     let form2 = both form1.0 in

@@ -7,21 +7,22 @@ use Rattle.script_reader.specs.Lines.{word_at}
 use Rattle.script_reader.specs.Forms.{Words, begins, value_of, value_at, is_in_range, are_numbers, are_in_range}
 use Rattle.script_reader.specs.Faults.{first_reason}
 use Rattle.script_reader.specs.Inner.Rows.{numbers_fault}
+use Rattle.script_reader.proofs.Tokens.Numerals.{greatest_u64}
 use Rattle.script_reader.proofs.Conditions.{both, and_true}
 
 -- a number that was read is in the range where its word is
-pub ranged_true : (word : List ℕ) (low high n : ℕ) → high < 18446744073709551615
-    → n ≡ min (value_of word) 18446744073709551615 → IsWithin low high n → is_in_range (word, (low, high)) ≡ true
+pub ranged_true : (word : List ℕ) (low high n : ℕ) → high < greatest_u64
+    → n ≡ min (value_of word) greatest_u64 → IsWithin low high n → is_in_range (word, (low, high)) ≡ true
 ranged_true word low high n exact e h =
     and_true (le-leb low (value_of word) (omega (arith, e, h.0, h.1, exact))) (le-leb (value_of word) high (omega (arith, e, h.0, h.1, exact)))
 
 -- and is the word's value there
-pub ranged_value : (word : List ℕ) (low high n : ℕ) → high < 18446744073709551615
-    → n ≡ min (value_of word) 18446744073709551615 → IsWithin low high n → n ≡ value_of word
+pub ranged_value : (word : List ℕ) (low high n : ℕ) → high < greatest_u64
+    → n ≡ min (value_of word) greatest_u64 → IsWithin low high n → n ≡ value_of word
 ranged_value word low high n exact e h = omega (arith, e, h.1, exact)
 
-pub ranged_false : (word : List ℕ) (low high n : ℕ) → high < 18446744073709551615
-    → n ≡ min (value_of word) 18446744073709551615 → (IsWithin low high n → ⊥) → is_in_range (word, (low, high)) ≡ false
+pub ranged_false : (word : List ℕ) (low high n : ℕ) → high < greatest_u64
+    → n ≡ min (value_of word) greatest_u64 → (IsWithin low high n → ⊥) → is_in_range (word, (low, high)) ≡ false
 ranged_false word low high n exact e out = by (is_in_range (word, (low, high))) refl
   where
     by : (b : Bool) → is_in_range (word, (low, high)) ≡ b → b ≡ false

@@ -3,19 +3,20 @@ use Rattle.std.proofs.Common.{lit<, ◌≡◌, ℕ, ◌+◌, ◌<◌, ◌^◌, B
 use Rattle.std.proofs.Common.{length, Some, None, refl, sym, ap, subst, ◌∙◌, arith}
 use Rattle.std.specs.List.{list_any, AllByRecursion}
 use Rattle.std.proofs.lemmas.Bool.{le-leb, lt-leb, lt-ltb}
-use Rattle.books_model.specs.declared.limits.TheConstants.{MOST_OPERATIONS}
+use Rattle.script_reader.specs.Inner.Rows.{account_ranges, price_ranges, position_ranges, call_ranges}
+use Rattle.books_model.specs.declared.limits.TheConstants.{MOST_OPERATIONS, GREATEST_RATE}
 use Rattle.books_model.specs.Ranges.{IsWithin, IsOperationFor}
 use Rattle.books_model.specs.Books.{ClearingBooks}
 use Rattle.books_model.specs.declared.script.Op.{Op}
 use Rattle.books_model.specs.declared.script.Op.TheVariants as op
 use Rattle.script_reader.specs.declared.fault.Fault.TheVariants as fault
 use Rattle.script_reader.specs.Text.{number, account_words, price_words, position_words, call_words, operation_words}
-use Rattle.script_reader.specs.Forms.{value_of, are_numbers, are_in_range}
+use Rattle.script_reader.specs.Forms.{value_of, are_numbers, are_in_range, accounts, amounts, quantities}
 use Rattle.script_reader.specs.Faults.{first_reason, is_below, fault_of}
-use Rattle.script_reader.proofs.Numerals.{value_of_number, number-IsNumber}
+use Rattle.script_reader.proofs.Tokens.Numerals.{value_of_number, number-IsNumber}
 use Rattle.script_reader.proofs.Conditions.{and_true, or_false, is_some_list}
-use Rattle.script_reader.proofs.Printed.{Printed, IsSmall, print, books_fault_is, is_late_in, is_low_in}
-use Rattle.script_reader.proofs.Scripted.{in_books, inside_at}
+use Rattle.script_reader.proofs.Printing.Printed.{Printed, IsSmall, print, books_fault_is, is_late_in, is_low_in}
+use Rattle.script_reader.proofs.Printing.Scripted.{in_books, inside_at}
 
 -- numbers in their ranges, which have texts
 abbrev pub AreWithin : List ℕ → List (ℕ × ℕ) → Type 0
@@ -55,15 +56,15 @@ all_below n (e ∷ es) all = (below_number e.0 n all.0, all_below n es all.1)
 module _ (p : Printed) (small : IsSmall p) where
   -- an account behind lower ones, where nothing else is given and a block is left
   pub account_has_none : (e : ℕ × ℕ) → p.prices ≡ [] → p.positions ≡ [] → p.calls ≡ []
-      → AreWithin (e.0 ∷ e.1 ∷ []) ((1, 4294967295) ∷ (0, 1000000000000000) ∷ []) → AllByRecursion (λ x. x.0 < e.0) p.accounts → length p.accounts < p.blocks
+      → AreWithin (e.0 ∷ e.1 ∷ []) account_ranges → AllByRecursion (λ x. x.0 < e.0) p.accounts → length p.accounts < p.blocks
       → fault_of (print p) (account_words e) ≡ None
   account_has_none e no_prices no_positions no_calls within rises room =
       in_books p (account_words e) ∙ books_fault_is p (account_words e) small
       ∙ (λ i. first_reason (
       (false, fault.Word)
       ∷ (late i, fault.Order)
-      ∷ (not (texts_are_numbers (e.0 ∷ e.1 ∷ []) ((1, 4294967295) ∷ (0, 1000000000000000) ∷ []) refl within i), fault.Number)
-      ∷ (not (texts_are_in_range (e.0 ∷ e.1 ∷ []) ((1, 4294967295) ∷ (0, 1000000000000000) ∷ []) within i) || false, fault.Limit)
+      ∷ (not (texts_are_numbers (e.0 ∷ e.1 ∷ []) account_ranges refl within i), fault.Number)
+      ∷ (not (texts_are_in_range (e.0 ∷ e.1 ∷ []) account_ranges within i) || false, fault.Limit)
       ∷ (low i, fault.Order)
       ∷ (false, fault.Account)
       ∷ (false, fault.Price)
@@ -84,7 +85,7 @@ module _ (p : Printed) (small : IsSmall p) where
 
   -- a price likewise
   pub price_has_none : (e : ℕ × ℕ) → p.positions ≡ [] → p.calls ≡ []
-      → AreWithin (e.0 ∷ e.1 ∷ []) ((1, p.instruments) ∷ (1, 1000000000) ∷ [])
+      → AreWithin (e.0 ∷ e.1 ∷ []) (price_ranges p.instruments)
       → AllByRecursion (λ x. x.0 < e.0) p.prices → length p.accounts + length p.prices < p.blocks
       → fault_of (print p) (price_words e) ≡ None
   price_has_none e no_positions no_calls within rises room =
@@ -92,8 +93,8 @@ module _ (p : Printed) (small : IsSmall p) where
       ∙ (λ i. first_reason (
       (false, fault.Word)
       ∷ (is_some_list (no_positions i) || is_some_list (no_calls i), fault.Order)
-      ∷ (not (texts_are_numbers (e.0 ∷ e.1 ∷ []) ((1, p.instruments) ∷ (1, 1000000000) ∷ []) refl within i), fault.Number)
-      ∷ (not (texts_are_in_range (e.0 ∷ e.1 ∷ []) ((1, p.instruments) ∷ (1, 1000000000) ∷ []) within i) || false, fault.Limit)
+      ∷ (not (texts_are_numbers (e.0 ∷ e.1 ∷ []) (price_ranges p.instruments) refl within i), fault.Number)
+      ∷ (not (texts_are_in_range (e.0 ∷ e.1 ∷ []) (price_ranges p.instruments) within i) || false, fault.Limit)
       ∷ (low i, fault.Order)
       ∷ (false, fault.Account)
       ∷ (false, fault.Price)
@@ -111,7 +112,7 @@ module _ (p : Printed) (small : IsSmall p) where
 
   -- a position likewise, of an account and of an instrument with a price that are given
   pub position_has_none : (e : (ℕ × ℕ) × ℕ) → p.calls ≡ []
-      → AreWithin (e.0.0 ∷ e.0.1 ∷ e.1 ∷ []) ((1, 4294967295) ∷ (1, p.instruments) ∷ (1, 1000000) ∷ [])
+      → AreWithin (e.0.0 ∷ e.0.1 ∷ e.1 ∷ []) (position_ranges p.instruments)
       → AllByRecursion (λ x. is_below x.0 e.0 ≡ true) p.positions
       → list_any (λ x. x.0 == e.0.0) p.accounts ≡ true → list_any (λ x. x.0 == e.0.1) p.prices ≡ true
       → length p.accounts + length p.prices + length p.positions < p.blocks
@@ -121,8 +122,8 @@ module _ (p : Printed) (small : IsSmall p) where
       ∙ (λ i. first_reason (
       (false, fault.Word)
       ∷ (is_some_list (no_calls i), fault.Order)
-      ∷ (not (texts_are_numbers (e.0.0 ∷ e.0.1 ∷ e.1 ∷ []) ((1, 4294967295) ∷ (1, p.instruments) ∷ (1, 1000000) ∷ []) refl within i), fault.Number)
-      ∷ (not (texts_are_in_range (e.0.0 ∷ e.0.1 ∷ e.1 ∷ []) ((1, 4294967295) ∷ (1, p.instruments) ∷ (1, 1000000) ∷ []) within i) || false, fault.Limit)
+      ∷ (not (texts_are_numbers (e.0.0 ∷ e.0.1 ∷ e.1 ∷ []) (position_ranges p.instruments) refl within i), fault.Number)
+      ∷ (not (texts_are_in_range (e.0.0 ∷ e.0.1 ∷ e.1 ∷ []) (position_ranges p.instruments) within i) || false, fault.Limit)
       ∷ (low i, fault.Order)
       ∷ (not (given i), fault.Account)
       ∷ (not (priced i), fault.Price)
@@ -146,16 +147,16 @@ module _ (p : Printed) (small : IsSmall p) where
       priced = (λ i. list_any (λ x. x.0 == second i) p.prices) ∙ price
 
   -- a margin call, where the queue has room
-  pub call_has_none : (e : ℕ × ℕ) → AreWithin (e.0 ∷ e.1 ∷ []) ((1, 4294967295) ∷ (1, 64000000000000000) ∷ [])
+  pub call_has_none : (e : ℕ × ℕ) → AreWithin (e.0 ∷ e.1 ∷ []) call_ranges
       → length p.calls < p.ring → fault_of (print p) (call_words e) ≡ None
   call_has_none e within room =
       in_books p (call_words e) ∙ books_fault_is p (call_words e) small
       ∙ (λ i. first_reason (
       (false, fault.Word)
       ∷ (false, fault.Order)
-      ∷ (not (texts_are_numbers (e.0 ∷ e.1 ∷ []) ((1, 4294967295) ∷ (1, 64000000000000000) ∷ []) refl within i), fault.Number)
+      ∷ (not (texts_are_numbers (e.0 ∷ e.1 ∷ []) call_ranges refl within i), fault.Number)
       ∷ (
-        not (texts_are_in_range (e.0 ∷ e.1 ∷ []) ((1, 4294967295) ∷ (1, 64000000000000000) ∷ []) within i) || lt-leb
+        not (texts_are_in_range (e.0 ∷ e.1 ∷ []) call_ranges within i) || lt-leb
             p.ring (length p.calls) room i,
         fault.Limit,
       )
@@ -184,20 +185,20 @@ module _ (books : ClearingBooks) (fits : books.instruments < 2 ^ 64) (ops : List
 
   -- an operation has no fault, unless there are too many before it
   pub operation_fault : (o : Op) → IsOperationFor books o → inside_at books.instruments ops (operation_words o) ≡ (if full then Some fault.Limit else None)
-  operation_fault (op.OpenAccount a) h = row (a ∷ []) ((1, 4294967295) ∷ []) refl (h, lit< tt, tt)
-  operation_fault (op.Close a) h = row (a ∷ []) ((1, 4294967295) ∷ []) refl (h, lit< tt, tt)
-  operation_fault (op.Deposit a x) h = row (a ∷ x ∷ []) ((1, 4294967295) ∷ (1, 1000000000000000) ∷ []) refl (h.0, lit< tt, (h.1, lit< tt, tt))
-  operation_fault (op.Withdraw a x) h = row (a ∷ x ∷ []) ((1, 4294967295) ∷ (1, 1000000000000000) ∷ []) refl (h.0, lit< tt, (h.1, lit< tt, tt))
+  operation_fault (op.OpenAccount a) h = row (a ∷ []) (accounts ∷ []) refl (h, lit< tt, tt)
+  operation_fault (op.Close a) h = row (a ∷ []) (accounts ∷ []) refl (h, lit< tt, tt)
+  operation_fault (op.Deposit a x) h = row (a ∷ x ∷ []) (accounts ∷ amounts ∷ []) refl (h.0, lit< tt, (h.1, lit< tt, tt))
+  operation_fault (op.Withdraw a x) h = row (a ∷ x ∷ []) (accounts ∷ amounts ∷ []) refl (h.0, lit< tt, (h.1, lit< tt, tt))
   operation_fault (op.Move a b x) h =
-      row (a ∷ b ∷ x ∷ []) ((1, 4294967295) ∷ (1, 4294967295) ∷ (1, 1000000000000000) ∷ []) refl (h.0, lit< tt, (h.1, lit< tt, (h.2, lit< tt, tt)))
-  operation_fault (op.Price i q) h = row (i ∷ q ∷ []) ((1, books.instruments) ∷ (1, 1000000000) ∷ []) refl (h.0, fits, (h.1, lit< tt, tt))
+      row (a ∷ b ∷ x ∷ []) (accounts ∷ accounts ∷ amounts ∷ []) refl (h.0, lit< tt, (h.1, lit< tt, (h.2, lit< tt, tt)))
+  operation_fault (op.Price i q) h = row (i ∷ q ∷ []) (price_ranges books.instruments) refl (h.0, fits, (h.1, lit< tt, tt))
   operation_fault (op.Trade a b i q) h =
-      row (a ∷ b ∷ i ∷ q ∷ []) ((1, 4294967295) ∷ (1, 4294967295) ∷ (1, books.instruments) ∷ (1, 1000000) ∷ []) refl
+      row (a ∷ b ∷ i ∷ q ∷ []) (accounts ∷ accounts ∷ (1, books.instruments) ∷ quantities ∷ []) refl
       (h.0, lit< tt, (h.1, lit< tt, (h.2, fits, (h.3, lit< tt, tt))))
-  operation_fault (op.Margin a m) h = row (a ∷ m ∷ []) ((1, 4294967295) ∷ (1, 100) ∷ []) refl (h.0, lit< tt, (h.1, lit< tt, tt))
+  operation_fault (op.Margin a m) h = row (a ∷ m ∷ []) (accounts ∷ (1, GREATEST_RATE) ∷ []) refl (h.0, lit< tt, (h.1, lit< tt, tt))
   operation_fault op.Next h = row [] [] refl tt
-  operation_fault (op.Show a) h = row (a ∷ []) ((1, 4294967295) ∷ []) refl (h, lit< tt, tt)
-  operation_fault (op.Sum a b) h = row (a ∷ b ∷ []) ((1, 4294967295) ∷ (1, 4294967295) ∷ []) refl (h.0, lit< tt, (h.1, lit< tt, tt))
+  operation_fault (op.Show a) h = row (a ∷ []) (accounts ∷ []) refl (h, lit< tt, tt)
+  operation_fault (op.Sum a b) h = row (a ∷ b ∷ []) (accounts ∷ accounts ∷ []) refl (h.0, lit< tt, (h.1, lit< tt, tt))
 
 pub operation_has_none : (books : ClearingBooks) → books.instruments < 2 ^ 64 → (ops : List Op)
     → length ops < MOST_OPERATIONS → (o : Op) → IsOperationFor books o → inside_at books.instruments ops (operation_words o) ≡ None

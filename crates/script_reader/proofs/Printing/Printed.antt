@@ -9,7 +9,7 @@ use Rattle.script_reader.specs.declared.fault.Fault.TheVariants as fault
 use Rattle.script_reader.specs.Text.{number, account_words, price_words, position_words, call_words}
 use Rattle.script_reader.specs.Forms.{Words, books_forms, begins, form_of, ranges_of, value_of, value_at, are_numbers, are_in_range}
 use Rattle.script_reader.specs.Faults.{first_reason, kind_of, takes_block, key_of, is_below, is_late, is_low, is_given, books_fault}
-use Rattle.script_reader.proofs.Numerals.{value_of_number}
+use Rattle.script_reader.proofs.Tokens.Numerals.{value_of_number}
 use Rattle.script_reader.proofs.Conditions.{is_some_list, any_part, any_last, count_part, count_last, any_never, any_fixed, any_agree, any_and, or_false}
 use Rattle.script_reader.proofs.Conditions.{count_never, count_always}
 

@@ -15,7 +15,7 @@ use Rattle.script_reader.specs.Input.{Submission}
 use Rattle.script_reader.specs.Grammar.{submission_lines, input_text}
 use Rattle.script_reader.specs.Forms.{Words, is_only}
 use Rattle.script_reader.specs.Faults.{AreFaultless, StartsFaulty, fault_of}
-use Rattle.script_reader.proofs.Cutting.{line_once, no_line, word_from_test}
+use Rattle.script_reader.proofs.Tokens.Cutting.{line_once, no_line, word_from_test}
 
 -- pieces of pieces
 pub flat_of_map : {A B C : Type 0} (g : B → List C) (f : A → B) (xs : List A) → flat_map g (map f xs) ≡ flat_map (λ x. g (f x)) xs

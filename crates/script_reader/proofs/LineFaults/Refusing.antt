@@ -5,6 +5,7 @@ use Rattle.std.specs.List.{list_any}
 use Rattle.std.specs.Option.{is_none}
 use Rattle.std.proofs.lemmas.Option.{none-some}
 use Rattle.std.specs.FinMap as finmap
+use Rattle.books_model.specs.declared.limits.TheConstants.{GREATEST_CASH, GREATEST_PRICE, GREATEST_QUANTITY}
 use Rattle.books_model.specs.Books.{ClearingBooks, put_cash, put_price, put_quantity, put_call, used}
 use Rattle.books_model.specs.Ranges.{AreInRange, IsWithin, IsAccountNumber, IsInstrumentOf, IsCall}
 use Rattle.script_reader.specs.declared.fault.Fault.{Fault}
@@ -12,13 +13,13 @@ use Rattle.script_reader.specs.declared.fault.Fault.TheVariants as fault
 use Rattle.script_reader.specs.Inner.LinesAsWords.{books_words}
 use Rattle.script_reader.specs.Forms.{Words, Form, form, books_forms, begins, form_of, ranges_of, value_at, are_numbers, are_in_range}
 use Rattle.script_reader.specs.Faults.{first_reason, kind_of, key_of, takes_block, fault_of}
-use Rattle.script_reader.specs.Inner.Rows.{HasNumbers}
+use Rattle.script_reader.specs.Inner.Rows.{HasNumbers, account_ranges, price_ranges, position_ranges, call_ranges}
 use Rattle.script_reader.proofs.Conditions.{any_fixed, is_some_list}
-use Rattle.script_reader.proofs.Printed.{books_fault_is, fault_at, is_late_in, is_low_in}
-use Rattle.script_reader.proofs.Scripted.{in_books}
-use Rattle.script_reader.proofs.LineKinds.{behind_keyword, two_words, three_words}
-use Rattle.script_reader.proofs.BooksFaultless.{printed, printed_small}
-use Rattle.script_reader.proofs.Extending.{adds_account, adds_price, adds_position, adds_call}
+use Rattle.script_reader.proofs.Printing.Printed.{books_fault_is, fault_at, is_late_in, is_low_in}
+use Rattle.script_reader.proofs.Printing.Scripted.{in_books}
+use Rattle.script_reader.proofs.LineFaults.LineKinds.{behind_keyword, two_words, three_words}
+use Rattle.script_reader.proofs.WithoutFault.BooksFaultless.{printed, printed_small}
+use Rattle.script_reader.proofs.Printing.Extending.{adds_account, adds_price, adds_position, adds_call}
 
 -- the reasons against a line of books, in their order
 abbrev pub reasons : Bool → Bool → Bool → Bool → Bool → Bool → Bool → Bool → Option Fault
@@ -78,38 +79,38 @@ module _ (b : ClearingBooks) (range : AreInRange b) (words : Words) where
 
   pub account_fault : (begins (codes "account") words && length words == 3) ≡ true
       → fault_of (books_words b) words ≡ reasons false (is_late_in 0 (printed b)) (not (are_numbers (drop 1 words)))
-      (not (are_in_range (drop 1 words) ((1, 4294967295) ∷ (0, 1000000000000000) ∷ [])) || false)
+      (not (are_in_range (drop 1 words) account_ranges) || false)
       (is_low_in 0 (value_at words 1, 0) (printed b)) false false (has_no_block b)
   account_fault row =
       let k = behind_keyword (codes "account") 2 words row in
       let rest = two_words (drop 1 words) k.1 in
       let e : words ≡ codes "account" ∷ rest.0 ∷ rest.1 ∷ [] = k.0 ∙ ap (λ l. codes "account" ∷ l) rest.2 in
-      by_kind (form (codes "account") ((1, 4294967295) ∷ (0, 1000000000000000) ∷ [])) 0 (value_at words 1, 0) false
+      by_kind (form (codes "account") account_ranges) 0 (value_at words 1, 0) false
       false true (ap (form_of (books_forms b.instruments)) e) (ap kind_of e) (ap key_of e
       ∙ sym (ap (λ w. (value_at w 1, 0)) e)) (ap (begins (codes "call")) e) (ap (begins (codes "position")) e) (ap takes_block e)
 
   pub price_fault : (begins (codes "price") words && length words == 3) ≡ true
       → fault_of (books_words b) words ≡ reasons false (is_late_in 1 (printed b)) (not (are_numbers (drop 1 words)))
-      (not (are_in_range (drop 1 words) ((1, b.instruments) ∷ (1, 1000000000) ∷ [])) || false)
+      (not (are_in_range (drop 1 words) (price_ranges b.instruments)) || false)
       (is_low_in 1 (value_at words 1, 0) (printed b)) false false (has_no_block b)
   price_fault row =
       let k = behind_keyword (codes "price") 2 words row in
       let rest = two_words (drop 1 words) k.1 in
       let e : words ≡ codes "price" ∷ rest.0 ∷ rest.1 ∷ [] = k.0 ∙ ap (λ l. codes "price" ∷ l) rest.2 in
-      by_kind (form (codes "price") ((1, b.instruments) ∷ (1, 1000000000) ∷ [])) 1 (value_at words 1, 0) false false
+      by_kind (form (codes "price") (price_ranges b.instruments)) 1 (value_at words 1, 0) false false
       true (ap (form_of (books_forms b.instruments)) e) (ap kind_of e) (ap key_of e
       ∙ sym (ap (λ w. (value_at w 1, 0)) e)) (ap (begins (codes "call")) e) (ap (begins (codes "position")) e) (ap takes_block e)
 
   pub position_fault : (begins (codes "position") words && length words == 4) ≡ true
       → fault_of (books_words b) words ≡ reasons false (is_late_in 2 (printed b)) (not (are_numbers (drop 1 words)))
-      (not (are_in_range (drop 1 words) ((1, 4294967295) ∷ (1, b.instruments) ∷ (1, 1000000) ∷ [])) || false)
+      (not (are_in_range (drop 1 words) (position_ranges b.instruments)) || false)
       (is_low_in 2 (value_at words 1, value_at words 2) (printed b))
       (not (list_any (λ e. e.0 == value_at words 1) (printed b).accounts)) (not (list_any (λ e. e.0 == value_at words 2) (printed b).prices)) (has_no_block b)
   position_fault row =
       let k = behind_keyword (codes "position") 3 words row in
       let rest = three_words (drop 1 words) k.1 in
       let e : words ≡ codes "position" ∷ rest.0 ∷ rest.1 ∷ rest.2 ∷ [] = k.0 ∙ ap (λ l. codes "position" ∷ l) rest.3 in
-      by_kind (form (codes "position") ((1, 4294967295) ∷ (1, b.instruments) ∷ (1, 1000000) ∷ [])) 2 (
+      by_kind (form (codes "position") (position_ranges b.instruments)) 2 (
         value_at words 1,
         value_at words 2,
       ) false true true (ap (form_of (books_forms b.instruments)) e) (ap kind_of e) (ap key_of e
@@ -117,12 +118,12 @@ module _ (b : ClearingBooks) (range : AreInRange b) (words : Words) where
 
   pub call_fault : (begins (codes "call") words && length words == 3) ≡ true
       → fault_of (books_words b) words ≡ reasons false false (not (are_numbers (drop 1 words)))
-      (not (are_in_range (drop 1 words) ((1, 4294967295) ∷ (1, 64000000000000000) ∷ [])) || nat_le b.ring (length b.calls)) false false false false
+      (not (are_in_range (drop 1 words) call_ranges) || nat_le b.ring (length b.calls)) false false false false
   call_fault row =
       let k = behind_keyword (codes "call") 2 words row in
       let rest = two_words (drop 1 words) k.1 in
       let e : words ≡ codes "call" ∷ rest.0 ∷ rest.1 ∷ [] = k.0 ∙ ap (λ l. codes "call" ∷ l) rest.2 in
-      by_kind (form (codes "call") ((1, 4294967295) ∷ (1, 64000000000000000) ∷ [])) 3 (value_at words 1, 0) true false
+      by_kind (form (codes "call") call_ranges) 3 (value_at words 1, 0) true false
       false (ap (form_of (books_forms b.instruments)) e) (ap kind_of e) (ap key_of e
       ∙ sym (ap (λ w. (value_at w 1, 0)) e)) (ap (begins (codes "call")) e) (ap (begins (codes "position")) e) (ap takes_block e)
 
@@ -135,10 +136,10 @@ module _ (b : ClearingBooks) (range : AreInRange b) (words : Words) where
       ∙ by (form_of (books_forms b.instruments) words) none
     where
       none : form_of (books_forms b.instruments) words ≡ None
-      none i = cond (a i) (Some (form (codes "account") ((1, 4294967295) ∷ (0, 1000000000000000) ∷ [])))
-          (cond (p i) (Some (form (codes "price") ((1, b.instruments) ∷ (1, 1000000000) ∷ [])))
-          (cond (q i) (Some (form (codes "position") ((1, 4294967295) ∷ (1, b.instruments) ∷ (1, 1000000) ∷ [])))
-          (cond (c i) (Some (form (codes "call") ((1, 4294967295) ∷ (1, 64000000000000000) ∷ [])))
+      none i = cond (a i) (Some (form (codes "account") account_ranges))
+          (cond (p i) (Some (form (codes "price") (price_ranges b.instruments)))
+          (cond (q i) (Some (form (codes "position") (position_ranges b.instruments)))
+          (cond (c i) (Some (form (codes "call") call_ranges))
           (cond (s i) (Some (form (codes "scripts") [])) None))))
 
       by : (o : Option Form) → o ≡ None
@@ -154,7 +155,7 @@ module _ (b : ClearingBooks) (range : AreInRange b) (words : Words) where
 -- what is wrong with a position whose numbers are read
 pub position_reasons : (b : ClearingBooks) (range : AreInRange b) (words : Words) (low account price full : Bool)
     → (begins (codes "position") words && length words == 4) ≡ true → list_any (λ _. true) b.calls ≡ false
-    → HasNumbers words ((1, 4294967295) ∷ (1, b.instruments) ∷ (1, 1000000) ∷ [])
+    → HasNumbers words (position_ranges b.instruments)
     → is_low_in 2 (value_at words 1, value_at words 2) (printed b) ≡ low
     → list_any (λ e. e.0 == value_at words 1) (printed b).accounts ≡ account
     → list_any (λ e. e.0 == value_at words 2) (printed b).prices ≡ price → has_no_block b ≡ full
@@ -172,7 +173,7 @@ module _ (b : ClearingBooks) (range : AreInRange b) where
   -- what a line of an account adds
   pub record GivesAccount (words : Words) : Type 0 where
     pub number_is : IsAccountNumber (value_at words 1)
-    pub fits : value_at words 2 ≤ 1000000000000000
+    pub fits : value_at words 2 ≤ GREATEST_CASH
     pub absent : finmap.get b.accounts (value_at words 1) ≡ None
     pub room : used b < b.blocks
     pub lines : books_words (put_cash b (value_at words 1) (value_at words 2)) ≡ books_words b ++ words ∷ []
@@ -188,7 +189,7 @@ module _ (b : ClearingBooks) (range : AreInRange b) where
 
   pub record GivesPrice (words : Words) : Type 0 where
     pub number_is : IsInstrumentOf b (value_at words 1)
-    pub fits : IsWithin 1 1000000000 (value_at words 2)
+    pub fits : IsWithin 1 GREATEST_PRICE (value_at words 2)
     pub absent : finmap.get b.prices (value_at words 1) ≡ None
     pub room : used b < b.blocks
     pub lines : books_words (put_price b (value_at words 1) (value_at words 2)) ≡ books_words b ++ words ∷ []
@@ -204,7 +205,7 @@ module _ (b : ClearingBooks) (range : AreInRange b) where
   pub record GivesPosition (words : Words) : Type 0 where
     pub given : IsSome (finmap.get b.accounts (value_at words 1))
     pub priced : IsSome (finmap.get b.prices (value_at words 2))
-    pub fits : IsWithin 1 1000000 (value_at words 3)
+    pub fits : IsWithin 1 GREATEST_QUANTITY (value_at words 3)
     pub absent : finmap.get b.positions (value_at words 1, value_at words 2) ≡ None
     pub room : used b < b.blocks
     pub lines : books_words (put_quantity b (value_at words 1) (value_at words 2) (value_at words 3)) ≡ books_words b ++ words ∷ []

@@ -7,6 +7,7 @@ use Rattle.script_reader.specs.Lines.{word_at}
 use Rattle.script_reader.specs.Forms.{Words, value_of, is_in_range, are_numbers, are_in_range}
 use Rattle.script_reader.specs.Faults.{first_reason}
 use Rattle.script_reader.specs.Inner.Rows.{numbers_fault}
+use Rattle.script_reader.proofs.Tokens.Numerals.{greatest_u64}
 use Rattle.script_reader.proofs.Conditions.{both}
 
 -- two tests of which one does not pass, before others
@@ -16,8 +17,8 @@ not_both true false more h = refl
 not_both false b more h = refl
 
 -- a word that is in a range, and the number that was read of it
-within_of : (word : List ℕ) (r : ℕ × ℕ) (n : ℕ) → r.1 < 18446744073709551615
-    → n ≡ min (value_of word) 18446744073709551615 → is_in_range (word, r) ≡ true → IsWithin r.0 r.1 n
+within_of : (word : List ℕ) (r : ℕ × ℕ) (n : ℕ) → r.1 < greatest_u64
+    → n ≡ min (value_of word) greatest_u64 → is_in_range (word, r) ≡ true → IsWithin r.0 r.1 n
 within_of word r n exact e is =
     let parts = both is in
     let above = leb-true r.0 (value_of word) parts.0 in
@@ -25,8 +26,8 @@ within_of word r n exact e is =
     (omega (arith, e, above, below, exact), omega (arith, e, above, below, exact))
 
 -- two numbers that are not both in their ranges, as their words
-pub pair_false : (w v : List ℕ) (r s : ℕ × ℕ) (n m : ℕ) → r.1 < 18446744073709551615 → s.1 < 18446744073709551615
-    → n ≡ min (value_of w) 18446744073709551615 → m ≡ min (value_of v) 18446744073709551615
+pub pair_false : (w v : List ℕ) (r s : ℕ × ℕ) (n m : ℕ) → r.1 < greatest_u64 → s.1 < greatest_u64
+    → n ≡ min (value_of w) greatest_u64 → m ≡ min (value_of v) greatest_u64
     → (IsWithin r.0 r.1 n × IsWithin s.0 s.1 m → ⊥) → (is_in_range (w, r) && is_in_range (v, s)) ≡ false
 pair_false w v r s n m exact_r exact_s e f out = by (is_in_range (w, r)) (is_in_range (v, s)) refl refl
   where

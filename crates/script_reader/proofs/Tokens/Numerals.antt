@@ -65,13 +65,17 @@ digits-free c (b ∷ word) low digits =
 pub number-IsWord : (n : ℕ) → n < 2 ^ 64 → IsWord (number n)
 number-IsWord n small = (digits-free SPACE _ (lit< tt) (digits_decimal model n small), digits-free LINE_FEED _ (lit< tt) (digits_decimal model n small))
 
+-- the greatest number of 64 bits, as which a greater one is read
+abbrev pub greatest_u64 : ℕ
+greatest_u64 = 18446744073709551615
+
 -- what was read of a word, below the greatest number, is the word's number
-pub read_is : (word : List ℕ) (n : ℕ) → IsNumber word × (min (digits_value 10 word) 18446744073709551615 ≡ n) → n < 18446744073709551615 → word ≡ number n
+pub read_is : (word : List ℕ) (n : ℕ) → IsNumber word × (min (digits_value 10 word) greatest_u64 ≡ n) → n < greatest_u64 → word ≡ number n
 read_is word n h small = let same : digits_value 10 word ≡ n = omega arith in text_of_number word h.0 (omega arith) ∙ ap number same
 
 -- a number is read as itself
 pub number_is_read : (r : Option ℕ) (word : List ℕ) (n : ℕ)
-    → SomeIff r (IsNumber word) (min (digits_value 10 word) 18446744073709551615) → n < 18446744073709551615 → word ≡ number n → r ≡ Some n
+    → SomeIff r (IsNumber word) (min (digits_value 10 word) greatest_u64) → n < greatest_u64 → word ≡ number n → r ≡ Some n
 number_is_read None word n h small e = absurd (h (subst IsNumber (sym e) (number-IsNumber n (omega arith))))
 number_is_read (Some x) word n h small e =
     let value : digits_value 10 word ≡ n = ap (digits_value 10) e ∙ value_of_number n (omega arith) in
@@ -80,6 +84,6 @@ number_is_read (Some x) word n h small e =
 
 -- what was read, or a fault, is the word's number
 pub read_found : {E : Type 0} (r : Option ℕ) (word : List ℕ) (fault : E)
-    → SomeIff r (IsNumber word) (min (digits_value 10 word) 18446744073709551615) → IfOk (ok_or r fault) (λ n. n < 18446744073709551615 → word ≡ number n)
+    → SomeIff r (IsNumber word) (min (digits_value 10 word) greatest_u64) → IfOk (ok_or r fault) (λ n. n < greatest_u64 → word ≡ number n)
 read_found None word fault h = tt
 read_found (Some x) word fault h = λ small. read_is word x (h.0, sym h.1) small

@@ -13,7 +13,7 @@ use Rattle.script_reader.specs.Number.{is_number}
 use Rattle.script_reader.specs.Text.{number, operation_words}
 use Rattle.script_reader.specs.Forms.{Words, Form, books_forms, script_forms, begins, is_only, has_form, form_of, ranges_of, value_of, are_numbers}
 use Rattle.script_reader.specs.Forms.{are_in_range}
-use Rattle.script_reader.proofs.Numerals.{text_of_number}
+use Rattle.script_reader.proofs.Tokens.Numerals.{text_of_number}
 use Rattle.script_reader.proofs.Conditions.{both}
 
 -- a reason that does not apply, and what follows it

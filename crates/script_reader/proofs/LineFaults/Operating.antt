@@ -6,7 +6,7 @@ use Rattle.script_reader.specs.Text.{number}
 use Rattle.script_reader.specs.Forms.{Words, begins, value_of, value_at, is_in_range, are_numbers, are_in_range}
 use Rattle.script_reader.specs.Inner.Rows.{HasNumbers}
 use Rattle.script_reader.proofs.Conditions.{both}
-use Rattle.script_reader.proofs.LineKinds.{behind_keyword, one_word, two_words, three_words, four_words, ranged}
+use Rattle.script_reader.proofs.LineFaults.LineKinds.{behind_keyword, one_word, two_words, three_words, four_words, ranged}
 
 -- a number and its text
 read : (word : List ℕ) (r : ℕ × ℕ) (n : ℕ) → r.1 < 2 ^ 64 → n ≡ value_of word → is_number word ≡ true

@@ -23,14 +23,14 @@ use Rattle.script_reader.specs.Inner.Callers.{is_caller}
 use Rattle.script_reader.specs.Forms.{Words, script_forms, form_of, ranges_of, is_only, is_script_line, value_of, are_numbers, are_in_range}
 use Rattle.script_reader.specs.Faults.{AreFaultless, fault_of}
 use Rattle.script_reader.proofs.Conditions.{both, passed, neither, any_last}
-use Rattle.script_reader.proofs.Printed.{books_fault_is, fault_at}
-use Rattle.script_reader.proofs.Scripted.{ended, opened, in_books, is_beyond_at, outside_at, outside_fault_is, inside_at, inside_fault_is}
-use Rattle.script_reader.proofs.LineKinds.{none_applies, books_line, BooksLine, AccountLine, PriceLine, PositionLine, CallLine, ScriptsLine, line_words}
-use Rattle.script_reader.proofs.LineKinds.{one_word, behind_keyword, operation_line}
-use Rattle.script_reader.proofs.BooksFaultless.{printed, printed_small, instruments_fit}
-use Rattle.script_reader.proofs.Submitting.{callers_more, count-fold}
-use Rattle.script_reader.proofs.Grouping.{callers_of-push, callers_of-gathered, no-names}
-use Rattle.script_reader.proofs.Extending.{has_no_fault, adds_account, adds_price, adds_position, adds_call, header_adds, books_of_header}
+use Rattle.script_reader.proofs.Printing.Printed.{books_fault_is, fault_at}
+use Rattle.script_reader.proofs.Printing.Scripted.{ended, opened, in_books, is_beyond_at, outside_at, outside_fault_is, inside_at, inside_fault_is}
+use Rattle.script_reader.proofs.LineFaults.LineKinds.{none_applies, books_line, BooksLine, AccountLine, PriceLine, PositionLine, CallLine, ScriptsLine, line_words}
+use Rattle.script_reader.proofs.LineFaults.LineKinds.{one_word, behind_keyword, operation_line}
+use Rattle.script_reader.proofs.WithoutFault.BooksFaultless.{printed, printed_small, instruments_fit}
+use Rattle.script_reader.proofs.Grouped.Submitting.{callers_more, count-fold}
+use Rattle.script_reader.proofs.Grouped.Grouping.{callers_of-push, callers_of-gathered, no-names}
+use Rattle.script_reader.proofs.Printing.Extending.{has_no_fault, adds_account, adds_price, adds_position, adds_call, header_adds, books_of_header}
 
 -- books in range, and callers for them whose scripts have ended
 pub record Between (lines : List Words) : Type 0 where

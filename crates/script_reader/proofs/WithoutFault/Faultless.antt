@@ -3,16 +3,17 @@ use Rattle.std.proofs.Common.{◌≡◌, ℕ, ◌+◌, ◌<◌, ◌≤◌, ◌^�
 use Rattle.std.proofs.Common.{arith}
 use Rattle.std.specs.List.{list_any, AllByRecursion}
 use Rattle.std.proofs.lemmas.List.{append-nil}
+use Rattle.script_reader.specs.Inner.Rows.{account_ranges, price_ranges, position_ranges, call_ranges}
 use Rattle.script_reader.specs.Lines.{IsWord, AreWords}
 use Rattle.script_reader.specs.Text.{number, account_words, price_words, position_words, call_words}
 use Rattle.script_reader.specs.Forms.{Words}
 use Rattle.script_reader.specs.Faults.{AreFaultless, is_below}
-use Rattle.script_reader.proofs.Cutting.{word_from_test}
-use Rattle.script_reader.proofs.Numerals.{number-IsWord}
-use Rattle.script_reader.proofs.Printed.{Printed, IsSmall, header_of, print}
-use Rattle.script_reader.proofs.Growing.{account_more, price_more, position_more, call_more}
-use Rattle.script_reader.proofs.NoFault.{AreWithin, account_has_none, price_has_none, position_has_none, call_has_none}
-use Rattle.script_reader.proofs.Sections.{Rises}
+use Rattle.script_reader.proofs.Tokens.Cutting.{word_from_test}
+use Rattle.script_reader.proofs.Tokens.Numerals.{number-IsWord}
+use Rattle.script_reader.proofs.Printing.Printed.{Printed, IsSmall, header_of, print}
+use Rattle.script_reader.proofs.Printing.Growing.{account_more, price_more, position_more, call_more}
+use Rattle.script_reader.proofs.WithoutFault.NoFault.{AreWithin, account_has_none, price_has_none, position_has_none, call_has_none}
+use Rattle.script_reader.proofs.Printing.Sections.{Rises}
 
 -- lines without fault, behind lines without fault
 pub faultless_append : (before xs ys : List Words) → AreFaultless before xs → AreFaultless (before ++ xs) ys → AreFaultless before (xs ++ ys)
@@ -37,16 +38,16 @@ all_more P (y ∷ xs) x all here = (all.0, all_more P xs x all.1 here)
 
 -- what the numbers of entries keep to
 abbrev pub IsAccount : ℕ × ℕ → Type 0
-IsAccount e = AreWithin (e.0 ∷ e.1 ∷ []) ((1, 4294967295) ∷ (0, 1000000000000000) ∷ [])
+IsAccount e = AreWithin (e.0 ∷ e.1 ∷ []) account_ranges
 
 abbrev pub IsPrice : ℕ → ℕ × ℕ → Type 0
-IsPrice instruments e = AreWithin (e.0 ∷ e.1 ∷ []) ((1, instruments) ∷ (1, 1000000000) ∷ [])
+IsPrice instruments e = AreWithin (e.0 ∷ e.1 ∷ []) (price_ranges instruments)
 
 abbrev pub IsPosition : ℕ → (ℕ × ℕ) × ℕ → Type 0
-IsPosition instruments e = AreWithin (e.0.0 ∷ e.0.1 ∷ e.1 ∷ []) ((1, 4294967295) ∷ (1, instruments) ∷ (1, 1000000) ∷ [])
+IsPosition instruments e = AreWithin (e.0.0 ∷ e.0.1 ∷ e.1 ∷ []) (position_ranges instruments)
 
 abbrev pub IsMarginCall : ℕ × ℕ → Type 0
-IsMarginCall e = AreWithin (e.0 ∷ e.1 ∷ []) ((1, 4294967295) ∷ (1, 64000000000000000) ∷ [])
+IsMarginCall e = AreWithin (e.0 ∷ e.1 ∷ []) call_ranges
 
 pub small_account : (e : ℕ × ℕ) → IsAccount e → e.0 < 2 ^ 64
 small_account e h = omega (arith, h.0.1)
@@ -88,7 +89,7 @@ module _ (blocks instruments ring : ℕ) (small_blocks : blocks < 2 ^ 64) (small
         prices = tt;
         positions = tt;
       } in (
-        row_are_words (codes "account") (e.0 ∷ e.1 ∷ []) ((1, 4294967295) ∷ (0, 1000000000000000) ∷ []) (word_from_test (codes "account") refl) refl all.0,
+        row_are_words (codes "account") (e.0 ∷ e.1 ∷ []) account_ranges (word_from_test (codes "account") refl) refl all.0,
         account_has_none p is_small e refl refl refl all.0 rises.0 (omega (arith, room)),
         refl,
         subst (λ ls. AreFaultless (header_of p ∷ ls) (map account_words rest)) (account_more done [] [] [] e refl refl refl)
@@ -114,7 +115,7 @@ module _ (blocks instruments ring : ℕ) (small_blocks : blocks < 2 ^ 64) (small
           prices = small;
           positions = tt;
         } in (
-          row_are_words (codes "price") (e.0 ∷ e.1 ∷ []) ((1, instruments) ∷ (1, 1000000000) ∷ []) (word_from_test (codes "price") refl) refl all.0,
+          row_are_words (codes "price") (e.0 ∷ e.1 ∷ []) (price_ranges instruments) (word_from_test (codes "price") refl) refl all.0,
           price_has_none p is_small e refl refl all.0 rises.0 (omega (arith, room)),
           refl,
           subst (λ ls. AreFaultless (header_of p ∷ ls) (map price_words rest)) (price_more accounts done [] [] e refl refl)
@@ -147,8 +148,7 @@ module _ (blocks instruments ring : ℕ) (small_blocks : blocks < 2 ^ 64) (small
             prices = small_prices;
             positions = small;
           } in (
-            row_are_words (codes "position") (e.0.0 ∷ e.0.1 ∷ e.1 ∷ []) ((1, 4294967295) ∷ (1, instruments)
-                ∷ (1, 1000000) ∷ []) (word_from_test (codes "position") refl) refl all.0,
+            row_are_words (codes "position") (e.0.0 ∷ e.0.1 ∷ e.1 ∷ []) (position_ranges instruments) (word_from_test (codes "position") refl) refl all.0,
             position_has_none p is_small e refl all.0 rises.0 given.0.0 given.0.1 (omega (arith, room)),
             refl,
             subst (λ ls. AreFaultless (header_of p ∷ ls) (map position_words rest)) (position_more accounts prices done [] e refl)
@@ -172,7 +172,7 @@ module _ (blocks instruments ring : ℕ) (small_blocks : blocks < 2 ^ 64) (small
               prices = small_prices;
               positions = small_positions;
             } in (
-              row_are_words (codes "call") (e.0 ∷ e.1 ∷ []) ((1, 4294967295) ∷ (1, 64000000000000000) ∷ []) (word_from_test (codes "call") refl) refl all.0,
+              row_are_words (codes "call") (e.0 ∷ e.1 ∷ []) call_ranges (word_from_test (codes "call") refl) refl all.0,
               call_has_none p is_small e all.0 (omega (arith, room)),
               refl,
               subst (λ ls. AreFaultless (header_of p ∷ ls) (map call_words rest))

@@ -8,7 +8,7 @@ use Rattle.script_reader.specs.declared.fault.Fault.TheVariants as fault
 use Rattle.script_reader.specs.Forms.{Words, Form, form, script_forms, begins, has_form, form_of, ranges_of, are_numbers, are_in_range}
 use Rattle.script_reader.specs.Faults.{first_reason}
 use Rattle.script_reader.specs.Inner.Rows.{numbers_fault, row_fault}
-use Rattle.script_reader.proofs.LineKinds.{behind_keyword, one_word, two_words, three_words, four_words}
+use Rattle.script_reader.proofs.LineFaults.LineKinds.{behind_keyword, one_word, two_words, three_words, four_words}
 
 -- a line of another length is none of this keyword and this length
 pub other_length : (k : List ℕ) (n : ℕ) (words : Words) → (length words ≡ n → ⊥) → (begins k words && length words == n) ≡ false
