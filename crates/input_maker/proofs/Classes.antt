@@ -13,7 +13,7 @@ use Rattle.books_model.specs.Books.{position_cmp}
 use Rattle.books_model.proofs.Maps.Trees.{positions_total, exact_positions}
 use Rattle.books_model.proofs.Maps.Entries.{AllByRecursion-weaker, All-entries, weigh, sum_by-one}
 use Rattle.script_reader.proofs.Conditions.{count_always}
-use Rattle.books_report.proofs.Classes.{sums, by_classes}
+use Rattle.books_report.proofs.Order.Classes.{sums, by_classes}
 
 -- what those weigh that pass a test, where each of them weighs the same
 pub same_weight : {A : Type 0} (t : A → Bool) (w : A → ℕ) (d : ℕ) (xs : List A) → ((x : A) → t x ≡ true → w x ≡ d)

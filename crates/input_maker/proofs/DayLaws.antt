@@ -9,7 +9,7 @@ use Rattle.script_reader.specs.declared.limits.TheConstants.{MOST_SCRIPTS}
 use Rattle.script_reader.specs.Input.{ClearingInput, count_scripts, script_at}
 use Rattle.script_reader.specs.Journal.{Place, IsPlace, IsJournal}
 use Rattle.books_report.specs.Output.{books_after}
-use Rattle.books_report.proofs.Turns.{length_of_journal, next_of_journal}
+use Rattle.books_report.proofs.Order.Turns.{length_of_journal, next_of_journal}
 use Rattle.input_maker.specs.Made.{made_books, made_input}
 use Rattle.input_maker.specs.Statements.{AreForMake}
 use Rattle.input_maker.specs.Days.{all_deposits, deposits_of, FirstKindIsDone, MadeCash, MadeQuantities, NoneIsFull, SecondKindKeepsCash}

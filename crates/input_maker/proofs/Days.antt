@@ -18,7 +18,7 @@ use Rattle.books_model.proofs.Scripts.SizeLaws.{run_keeps}
 use Rattle.script_reader.specs.Input.{ClearingInput, script_at}
 use Rattle.script_reader.specs.Journal.{Place}
 use Rattle.books_report.specs.Output.{books_left, books_after}
-use Rattle.books_report.proofs.Classes.{sums-same}
+use Rattle.books_report.proofs.Order.Classes.{sums-same}
 use Rattle.input_maker.specs.Made.{made_books}
 use Rattle.input_maker.specs.Days.{all_quantities, deposits_of, paid_in_by}
 use Rattle.input_maker.proofs.Rooms.{AreOfDay, quantities_together}

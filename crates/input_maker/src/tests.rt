@@ -1,6 +1,5 @@
 //! Draws and texts that were reckoned by hand.
 
-
 use crate::generator::Generator;
 use crate::make_input;
 use std::test::Fail;

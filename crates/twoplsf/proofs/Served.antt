@@ -14,7 +14,7 @@ use Rattle.script_reader.proofs.Texts.FrontLaws.{never_both, one_front}
 use Rattle.books_report.specs.declared.limits.TheConstants.{RESTARTS_BELOW}
 use Rattle.books_report.specs.Output.{IsOutput}
 use Rattle.books_report.specs.Checking.{IsFirstWrongLine}
-use Rattle.books_report.proofs.Wrong.{one_wrong, none_of_output}
+use Rattle.books_report.proofs.Checks.Wrong.{one_wrong, none_of_output}
 use Rattle.script_reader.specs.declared.limits.TheConstants.{MOST_INPUT_BYTES}
 use Rattle.twoplsf.specs.declared.answer.Answer.{Answer}
 use Rattle.twoplsf.specs.declared.answer.Answer.TheVariants.{Output, Agrees, Difference, Refusal}

@@ -9,10 +9,10 @@ use Rattle.script_reader.specs.Input.{ClearingInput, IsInput, caller_at, count_s
 use Rattle.books_report.specs.Output.{Ran, places_run, books_after, journal_line, IsOutput}
 use Rattle.books_report.specs.Checking.{MayFollow, FollowInTurn, lines_of, closing_lines, lines_behind, output_lines, CanBegin, IsFirstWrongLine}
 use Rattle.books_report.specs.Inner.Audit.{StopsBefore, StopsAfter}
-use Rattle.books_report.proofs.Turns.{gone_of, journal_of_turns, length_of_journal, turns_of_journal, below_of_turns, replies_of_turns}
-use Rattle.books_report.proofs.Rows.{IsRow, row_some, all_first, concat-both, output_rows, output_text, behind_all, behind_some}
-use Rattle.books_report.proofs.Comparing.{Compared, AreSame, IsShorter, IsLonger, compared}
-use Rattle.books_report.proofs.Histories.{journal_so_far, length-lines_of, follows_others, GoesOn, goes_on_behind, length_of_same, closing_of_all}
+use Rattle.books_report.proofs.Order.Turns.{gone_of, journal_of_turns, length_of_journal, turns_of_journal, below_of_turns, replies_of_turns}
+use Rattle.books_report.proofs.Outputs.Rows.{IsRow, row_some, all_first, concat-both, output_rows, output_text, behind_all, behind_some}
+use Rattle.books_report.proofs.Checks.Comparing.{Compared, AreSame, IsShorter, IsLonger, compared}
+use Rattle.books_report.proofs.Order.Histories.{journal_so_far, length-lines_of, follows_others, GoesOn, goes_on_behind, length_of_same, closing_of_all}
 
 -- the first line behind others is one line
 row_behind : (xs : List (List ℕ)) (y : List ℕ) (ys : List (List ℕ)) → AllByRecursion IsRow (xs ++ y ∷ ys) → IsRow y

@@ -2,7 +2,7 @@ use Rattle.std.proofs.Common.{◌≡◌, ◌≢◌, ℕ, Bor, Option, Some, None
 use Rattle.std.specs.Option.{IfSome, IfNone, MatchOption}
 use Rattle.std.proofs.lemmas.Bool.Decides.{Decides-eqb}
 use Rattle.std.proofs.lemmas.Slice.Eq.{strip_prefix_is}
-use Rattle.books_report.proofs.check.behind.Goals as goal
+use Rattle.books_report.proofs.check.text_behind.Goals as goal
 
 pub returns : goal.returns
 returns c =

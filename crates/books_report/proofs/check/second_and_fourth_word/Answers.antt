@@ -1,5 +1,5 @@
-use Rattle.books_report.proofs.Cuts.{cut_is, can_cut}
-use Rattle.books_report.proofs.check.second_and_fourth.Goals as goal
+use Rattle.books_report.proofs.Checks.Cuts.{cut_is, can_cut}
+use Rattle.books_report.proofs.check.second_and_fourth_word.Goals as goal
 
 pub returns-in_err-text : goal.returns-in_err-text
 returns-in_err-text c = λ a b third d rest e fa fb fc fd. absurd (can_cut _ a _ c.in_err-text.ensures.none e)

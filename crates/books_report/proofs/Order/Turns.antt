@@ -14,7 +14,7 @@ use Rattle.script_reader.specs.Journal.{Place, IsPlace, IsJournal}
 use Rattle.script_reader.proofs.Printing.Sections.{all_follow}
 use Rattle.books_report.specs.Output.{Ran, places_run, books_left, replies_of, books_after}
 use Rattle.books_report.specs.Checking.{IsNext, MayFollow, FollowInTurn}
-use Rattle.books_report.proofs.Classes.{sums, sums-same, sums-ones, sums-tight, by_classes, sum_by_all}
+use Rattle.books_report.proofs.Order.Classes.{sums, sums-same, sums-ones, sums-tight, by_classes, sum_by_all}
 
 -- how many scripts of a caller were run
 abbrev pub turns : List Place → ℕ → ℕ

@@ -17,8 +17,8 @@ use Rattle.script_reader.proofs.Tokens.Cutting.{join-free}
 use Rattle.script_reader.proofs.Texts.Fronting.{count_line}
 use Rattle.books_report.specs.Checking.{closing_lines}
 use Rattle.books_report.specs.Inner.Audit.{StopsAfter, in_common}
-use Rattle.books_report.proofs.Rows.{IsRow}
-use Rattle.books_report.proofs.Deciding.{begins_or_not, stops_here, stops_later}
+use Rattle.books_report.proofs.Outputs.Rows.{IsRow}
+use Rattle.books_report.proofs.Checks.Deciding.{begins_or_not, stops_here, stops_later}
 
 -- how many lines end in bytes
 abbrev pub feeds : List ℕ → ℕ

@@ -11,9 +11,9 @@ use Rattle.books_report.specs.Output.{Ran, places_run, reply_to, books_after, jo
 use Rattle.books_report.specs.Checking.{MayFollow, FollowInTurn, lines_of, closing_lines}
 use Rattle.books_report.specs.Statements.{HasWrongLine}
 use Rattle.books_report.specs.Inner.Audit.{StopsBefore, StopsAfter}
-use Rattle.books_report.proofs.Turns.{turns, turns_more}
-use Rattle.books_report.proofs.Histories.{journal_so_far}
-use Rattle.books_report.proofs.Wrong.{wrong_title, wrong_script, wrong_closing, is_output}
+use Rattle.books_report.proofs.Order.Turns.{turns, turns_more}
+use Rattle.books_report.proofs.Order.Histories.{journal_so_far}
+use Rattle.books_report.proofs.Checks.Wrong.{wrong_title, wrong_script, wrong_closing, is_output}
 
 -- a text begins with another, or does not
 pub begins_or_not : (p s : List ℕ) → ((after : List ℕ) × (s ≡ p ++ after)) ⊎ ((after : List ℕ) → s ≢ p ++ after)

@@ -1,6 +1,6 @@
 use Rattle.std.proofs.Common.{◌++◌, codes}
-use Rattle.books_report.proofs.Found.{IsRead}
-use Rattle.books_report.proofs.check.found_behind.Given as goal
+use Rattle.books_report.proofs.Checks.Found.{IsRead}
+use Rattle.books_report.proofs.check.check_journal.Given as goal
 
 -- the lines of the scripts so far are right
 abbrev pub invariant-loop-run : goal.invariant-loop-run

@@ -12,9 +12,9 @@ use Rattle.books_report.specs.declared.check.Checked.TheVariants.{Agrees, Differ
 use Rattle.books_report.specs.Output.{Ran, IsOutput}
 use Rattle.books_report.specs.Checking.{closing_lines, IsFirstWrongLine}
 use Rattle.books_report.specs.Inner.Audit.{IsFor, HasRun, BeginsWithLine, BeginsWithNone, StopsAfter, IsFound}
-use Rattle.books_report.proofs.Histories.{journal_so_far}
-use Rattle.books_report.proofs.Wrong.{one_wrong, none_of_output, wrong_script, wrong_closing, is_output}
-use Rattle.books_report.proofs.Deciding.{text_more}
+use Rattle.books_report.proofs.Order.Histories.{journal_so_far}
+use Rattle.books_report.proofs.Checks.Wrong.{one_wrong, none_of_output, wrong_script, wrong_closing, is_output}
+use Rattle.books_report.proofs.Checks.Deciding.{text_more}
 
 -- the lines of so many scripts were read, and the text goes on with what is left
 pub record IsRead (input : ClearingInput) (text left : List ℕ) (books : ClearingBooks) (done : List ℕ) (count : ℕ) : Type 0 where

@@ -1,7 +1,7 @@
 -- Lines of one text, and what stands behind them.
 use Rattle.std.proofs.Common.{◌≡◌, ℕ, List, [], ◌∷◌, ◌++◌, refl, sym, ◌∙◌, append_assoc}
 use Rattle.std.specs.List.{AllByRecursion, concat}
-use Rattle.books_report.proofs.Rows.{IsRow, row_once}
+use Rattle.books_report.proofs.Outputs.Rows.{IsRow, row_once}
 
 -- how two lists of lines compare with which one text begins: they are the same, or one goes on behind the other
 pub data Compared (ls ms : List (List ℕ)) (x y : List ℕ) : Type 0 where

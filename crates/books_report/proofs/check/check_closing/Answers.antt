@@ -7,10 +7,10 @@ use Rattle.books_model.specs.Books.{ClearingBooks}
 use Rattle.script_reader.specs.Text.{books_lines, finish_line}
 use Rattle.books_report.specs.Checking.{closing_lines}
 use Rattle.books_report.specs.Inner.Audit.{StopsAfter}
-use Rattle.books_report.proofs.Rows.{closing_rows, closing_text}
-use Rattle.books_report.proofs.InCommon.{feeds, stops_in_common, stops_within, few_closing}
+use Rattle.books_report.proofs.Outputs.Rows.{closing_rows, closing_text}
+use Rattle.books_report.proofs.Checks.InCommon.{feeds, stops_in_common, stops_within, few_closing}
 use Rattle.books_report.specs.Inner.Audit.{in_common}
-use Rattle.books_report.proofs.check.closing_differs.Goals as goal
+use Rattle.books_report.proofs.check.check_closing.Goals as goal
 
 -- what was written are the closing lines
 written : (b : ClearingBooks) (none books all expected : List ℕ) → expected ≡ all → all ≡ books ++ finish_line

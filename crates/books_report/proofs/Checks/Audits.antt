@@ -19,7 +19,7 @@ use Rattle.books_report.specs.Output.{Ran, places_run, reply_to, books_left, boo
 use Rattle.books_report.specs.Lines.{place_of_line, ran_of_line}
 use Rattle.books_report.specs.Checking.{MayFollow}
 use Rattle.books_report.specs.Inner.Audit.{HasRun, BeginsWithLine, four_words}
-use Rattle.books_report.proofs.Turns.{turns, turns-push, books_after_ran, turns_more}
+use Rattle.books_report.proofs.Order.Turns.{turns, turns-push, books_after_ran, turns_more}
 
 -- a reply has a first word
 some_words : (r : Reply) → (w : List ℕ) × ((words : List (List ℕ)) × (reply_words r ≡ w ∷ words))

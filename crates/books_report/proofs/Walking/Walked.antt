@@ -9,7 +9,7 @@ use Rattle.books_model.specs.Books.{ClearingBooks, position_cmp}
 use Rattle.books_model.specs.Ranges.{AreInRange}
 use Rattle.books_model.specs.Inner.Keys.{positions_total}
 use Rattle.books_model.proofs.Maps.Keys.{is_lt-nat_cmp}
-use Rattle.books_report.proofs.Walks.{up_to, none_up_to, below_found}
+use Rattle.books_report.proofs.Walking.Walks.{up_to, none_up_to, below_found}
 
 -- no account is up to 0
 pub accounts_from : (books : ClearingBooks) → AreInRange books → up_to nat_lt 0 (map.entries books.accounts) ≡ []

@@ -12,8 +12,8 @@ use Rattle.script_reader.specs.Input.{Caller, ClearingInput, IsInput, IsName, ca
 use Rattle.script_reader.proofs.Tokens.Cutting.{line_once}
 use Rattle.books_report.specs.Output.{Ran, places_run, reply_to, books_after, journal_line}
 use Rattle.books_report.specs.Checking.{IsNext, MayFollow, FollowInTurn, lines_of, closing_lines, lines_behind, output_lines}
-use Rattle.books_report.proofs.Turns.{turns, gone_of, none_left}
-use Rattle.books_report.proofs.Rows.{journal_words, journal-AreWords, caller_named, behind_all, behind_some}
+use Rattle.books_report.proofs.Order.Turns.{turns, gone_of, none_left}
+use Rattle.books_report.proofs.Outputs.Rows.{journal_words, journal-AreWords, caller_named, behind_all, behind_some}
 
 -- the first line of an output, and those of scripts behind it
 abbrev pub journal_so_far : ClearingInput → List Ran → List (List ℕ)

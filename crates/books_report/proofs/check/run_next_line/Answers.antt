@@ -6,8 +6,8 @@ use Rattle.books_model.specs.Interpreter.{outcome_of}
 use Rattle.books_report.specs.Inner.Audit.{HasRun, BeginsWithLine, BeginsWithNone}
 use Rattle.books_report.specs.Output.{Ran, journal_line}
 use Rattle.books_report.specs.Lines.{ran_of_line}
-use Rattle.books_report.proofs.Audits.{named, begins_with_line, expected_begins}
-use Rattle.books_report.proofs.check.next_line.Goals as goal
+use Rattle.books_report.proofs.Checks.Audits.{named, begins_with_line, expected_begins}
+use Rattle.books_report.proofs.check.run_next_line.Goals as goal
 
 pub returns-in_default : goal.returns-in_default
 returns-in_default c = record {
@@ -28,8 +28,8 @@ returns-in_err-write_line c = let failed = c.from_residual-in_err-write_line.ens
 pub returns : goal.returns
 returns c = record {
   fits = search rules;
-  right = right_by c.behind.result c.behind.ensures.begins;
-  wrong = wrong_by c.behind.result c.behind.ensures.none;
+  right = right_by c.text_behind.result c.text_behind.ensures.begins;
+  wrong = wrong_by c.text_behind.result c.text_behind.ensures.none;
 }
   where
     right_by : (r : Option (Bor (List ℕ))) → IfSome r (λ left. c.args.text.now ≡ c.as_bytes.result.now ++ left.now)
