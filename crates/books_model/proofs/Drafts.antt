@@ -13,10 +13,10 @@ use Rattle.books_model.specs.Books.{ClearingBooks, position_cmp, used, put_cash,
 use Rattle.books_model.specs.Ranges.{AreInRange, IsWithin, IsCall, IsInstrumentOf}
 use Rattle.books_model.specs.Interpreter.{holds_any, is_full, put_position}
 use Rattle.books_model.specs.Inner.Draft.{set_account, set_position, set_price}
-use Rattle.books_model.proofs.Comparing.{below_most}
-use Rattle.books_model.proofs.Maps.{positions_total, exact_positions}
+use Rattle.books_model.proofs.Maps.Comparing.{below_most}
+use Rattle.books_model.proofs.Maps.Trees.{positions_total, exact_positions}
 use Rattle.books_model.proofs.InRange.{put_price-in_range, put_quantity-in_range, used_after_price, used_after_position}
-use Rattle.books_model.proofs.Entries.{len-set_at, len_positive, none_found}
+use Rattle.books_model.proofs.Maps.Entries.{len-set_at, len_positive, none_found}
 
 -- how many blocks are used after an account is changed
 pub used_account : (books : ClearingBooks) (a : ℕ) (w : Option ℕ)

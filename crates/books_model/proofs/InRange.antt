@@ -6,7 +6,7 @@ use Rattle.std.specs.FinMap as map
 use Rattle.std.proofs.lemmas.List.Elements.{All-push}
 use Rattle.std.proofs.lemmas.Map.Lookups.{exact_unsigned}
 use Rattle.std.proofs.lemmas.Option.{none-some}
-use Rattle.books_model.proofs.Maps.{positions_total, exact_positions, found_after_insert, stays_after_insert, len_after_change, len_after_insert}
+use Rattle.books_model.proofs.Maps.Trees.{positions_total, exact_positions, found_after_insert, stays_after_insert, len_after_change, len_after_insert}
 use Rattle.books_model.specs.declared.limits.TheConstants.{MOST_BLOCKS, MOST_INSTRUMENTS, MOST_RING, GREATEST_CASH, GREATEST_PRICE, GREATEST_QUANTITY}
 use Rattle.books_model.specs.Books.{ClearingBooks, empty_books, put_call, put_cash, put_price, put_quantity, used, position_cmp}
 use Rattle.books_model.specs.Ranges.{AreInRange, IsWithin, IsAccountNumber, IsCall, IsInstrumentOf}

@@ -22,9 +22,9 @@ use Rattle.books_model.specs.Books.{ClearingBooks, position_cmp, price_of}
 use Rattle.books_model.specs.Ranges.{AreInRange, IsWithin}
 use Rattle.books_model.specs.Interpreter.{cash_between, worth_of, holds_any}
 use Rattle.books_model.specs.Inner.Changes.{KnowBefore, changed, now_or, set_at, before_between, now_between}
-use Rattle.books_model.proofs.Maps.{positions_total, exact_positions, entries-from_entries}
-use Rattle.books_model.proofs.Changes.{get-changed, change_at_first, none_further, KnowBefore-further, KnowBefore-past}
-use Rattle.books_model.proofs.Entries.{weigh, All-entries, some_found, sum_by-filter, sum_by-same, sum_by-plus, sum_by-most, sum_by-set_at, sum_by-one}
+use Rattle.books_model.proofs.Maps.Trees.{positions_total, exact_positions, entries-from_entries}
+use Rattle.books_model.proofs.Maps.Changes.{get-changed, change_at_first, none_further, KnowBefore-further, KnowBefore-past}
+use Rattle.books_model.proofs.Maps.Entries.{weigh, All-entries, some_found, sum_by-filter, sum_by-same, sum_by-plus, sum_by-most, sum_by-set_at, sum_by-one}
 
 -- the tests of a range are those of its ends
 tests_of : (a b k : ℕ) → (is_le (nat_cmp a k) && not (is_lt (nat_cmp b k))) ≡ (nat_le a k && nat_le k b)
@@ -266,8 +266,11 @@ holds_one books a i (Some v) is some =
     (sym (map.get-entries books.positions (a, i)) ∙ sym is) (eq-eqb a a refl))
 
 -- the most that a position is worth
+abbrev pub most_worth : ℕ
+most_worth = GREATEST_QUANTITY * GREATEST_PRICE
+
 pub price_of_most : (quantity price : Option ℕ) (q p : ℕ) → IfSome quantity (IsWithin 1 GREATEST_QUANTITY)
-    → IfSome price (IsWithin 1 GREATEST_PRICE) → q ≡ unwrap_or quantity 0 → p ≡ unwrap_or price 0 → q * p ≤ 1000000000000000
+    → IfSome price (IsWithin 1 GREATEST_PRICE) → q ≡ unwrap_or quantity 0 → p ≡ unwrap_or price 0 → q * p ≤ most_worth
 price_of_most quantity price q p most_quantity most_price e f =
     times q p (e_most quantity q GREATEST_QUANTITY most_quantity e) (e_most price p GREATEST_PRICE most_price f)
   where
@@ -275,8 +278,8 @@ price_of_most quantity price q p most_quantity most_price e f =
     e_most None n most h e = omega arith
     e_most (Some v) n most h e = omega (arith, h.1)
 
-    times : (q p : ℕ) → q ≤ 1000000 → p ≤ 1000000000 → q * p ≤ 1000000000000000
-    times q p h k = let m : q * p ≤ 1000000 * 1000000000 = mul-le-mul h k in omega (arith, m)
+    times : (q p : ℕ) → q ≤ GREATEST_QUANTITY → p ≤ GREATEST_PRICE → q * p ≤ most_worth
+    times q p h k = mul-le-mul h k
 
 -- no account lies between a number and one below it
 pub none_between : (books : ClearingBooks) (a b : ℕ) → b < a → 0 ≡ cash_between books a b

@@ -110,7 +110,11 @@ step_of (op.Trade a b i q) books = declines_first (
     ∷ (not (map.contains_key books.prices i), decline.Price)
     ∷ (nat_lt (position_of books b i) q, decline.Quantity)
     ∷ (nat_lt (cash_of books a) (q * price_of books i), decline.Cash)
-    ∷ (nat_lt GREATEST_CASH (cash_of books b + q * price_of books i) || nat_lt GREATEST_QUANTITY (position_of books a i + q), decline.Limit)
+    ∷ (
+      nat_lt GREATEST_CASH (cash_of books b + q * price_of books i)
+          || nat_lt GREATEST_QUANTITY (position_of books a i + q),
+      decline.Limit,
+    )
     ∷ []
     ) (trade_of books (put_position books b i (position_of books b i - q)) a b i q (q * price_of books i))
 step_of (op.Margin a m) books = declines_first (

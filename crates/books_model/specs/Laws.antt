@@ -32,23 +32,32 @@ RefusedChangesNothing = (script : List Part) (books : ClearingBooks)
 
 -- a move keeps all cash
 abbrev pub MoveKeepsAllCash : Type 0
-MoveKeepsAllCash = (a b x : ℕ) (before after : ClearingBooks) → Leads (op.Move a b x) before after → all_cash after ≡ all_cash before
+MoveKeepsAllCash =
+    (a b x : ℕ) (before after : ClearingBooks) → Leads (op.Move a b x) before after → all_cash after ≡ all_cash before
 
 -- a trade keeps all cash
 abbrev pub TradeKeepsAllCash : Type 0
-TradeKeepsAllCash = (a b i q : ℕ) (before after : ClearingBooks) → Leads (op.Trade a b i q) before after → all_cash after ≡ all_cash before
+TradeKeepsAllCash =
+    (a b i q : ℕ) (before after : ClearingBooks) → Leads (op.Trade a b i q) before after
+    → all_cash after ≡ all_cash before
 
 -- a trade keeps what all accounts hold of each instrument
 abbrev pub TradeKeepsQuantities : Type 0
-TradeKeepsQuantities = (a b i q : ℕ) (before after : ClearingBooks) → Leads (op.Trade a b i q) before after → (j : ℕ) → all_held after j ≡ all_held before j
+TradeKeepsQuantities =
+    (a b i q : ℕ) (before after : ClearingBooks) → Leads (op.Trade a b i q) before after → (j : ℕ)
+    → all_held after j ≡ all_held before j
 
 -- a deposit adds its amount to all cash
 abbrev pub DepositAddsItsAmount : Type 0
-DepositAddsItsAmount = (a x : ℕ) (before after : ClearingBooks) → Leads (op.Deposit a x) before after → all_cash after ≡ all_cash before + x
+DepositAddsItsAmount =
+    (a x : ℕ) (before after : ClearingBooks) → Leads (op.Deposit a x) before after
+    → all_cash after ≡ all_cash before + x
 
 -- a withdrawal takes its amount from all cash
 abbrev pub WithdrawTakesItsAmount : Type 0
-WithdrawTakesItsAmount = (a x : ℕ) (before after : ClearingBooks) → Leads (op.Withdraw a x) before after → all_cash after + x ≡ all_cash before
+WithdrawTakesItsAmount =
+    (a x : ℕ) (before after : ClearingBooks) → Leads (op.Withdraw a x) before after
+    → all_cash after + x ≡ all_cash before
 
 -- books in range stay in range, whatever script for them is run: so blocks and queue never hold more than they can
 abbrev pub BooksStayInRange : Type 0

@@ -31,7 +31,8 @@ pub record AreInRange (books : ClearingBooks) : Type 0 where
   pub instruments : IsWithin 1 MOST_INSTRUMENTS books.instruments
   pub ring : IsWithin 1 MOST_RING books.ring
   pub accounts : (a cash : ℕ) → map.get books.accounts a ≡ Some cash → IsAccountNumber a × (cash ≤ GREATEST_CASH)
-  pub prices : (i price : ℕ) → map.get books.prices i ≡ Some price → IsInstrumentOf books i × IsWithin 1 GREATEST_PRICE price
+  pub prices : (i price : ℕ) → map.get books.prices i ≡ Some price
+      → IsInstrumentOf books i × IsWithin 1 GREATEST_PRICE price
   pub positions : (a i quantity : ℕ) → map.get books.positions (a, i) ≡ Some quantity
       → IsSome (map.get books.accounts a) × IsSome (map.get books.prices i) × IsWithin 1 GREATEST_QUANTITY quantity
   pub calls : All IsCall books.calls
@@ -46,7 +47,8 @@ IsOperationFor books (op.Deposit a x) = IsAccountNumber a × IsWithin 1 GREATEST
 IsOperationFor books (op.Withdraw a x) = IsAccountNumber a × IsWithin 1 GREATEST_AMOUNT x
 IsOperationFor books (op.Move a b x) = IsAccountNumber a × IsAccountNumber b × IsWithin 1 GREATEST_AMOUNT x
 IsOperationFor books (op.Price i p) = IsInstrumentOf books i × IsWithin 1 GREATEST_PRICE p
-IsOperationFor books (op.Trade a b i q) = IsAccountNumber a × IsAccountNumber b × IsInstrumentOf books i × IsWithin 1 GREATEST_QUANTITY q
+IsOperationFor books (op.Trade a b i q) =
+    IsAccountNumber a × IsAccountNumber b × IsInstrumentOf books i × IsWithin 1 GREATEST_QUANTITY q
 IsOperationFor books (op.Margin a m) = IsAccountNumber a × IsWithin 1 GREATEST_RATE m
 IsOperationFor books op.Next = Unit {0}
 IsOperationFor books (op.Show a) = IsAccountNumber a

@@ -3,7 +3,7 @@
 ghost use Rattle.std.specs.Prelude.{◌≡◌, ℕ, ◌<◌, ◌≤◌, Some, None, IsSome, IfSome, IfNone, IfOk, OnOk, OnErr, find, nat_lt, length, option_map, slice_get};
 ghost use Rattle.std.specs.BTreeMap.Range.{IsLtBy, IsLeBy};
 ghost use Rattle.std.specs.FinMap as map;
-ghost use Rattle.std.specs.Ordering.{nat_cmp, is_lt};
+ghost use Rattle.std.specs.Ordering.{is_lt};
 
 use crate::limits::{
     GREATEST_CASH, GREATEST_PRICE, GREATEST_QUANTITY, MOST_BLOCKS, MOST_INSTRUMENTS, MOST_RING,

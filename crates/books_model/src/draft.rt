@@ -1,6 +1,6 @@
 //! The changes of a script, gathered beside the books.
 
-ghost use Rattle.std.specs.Prelude.{◌≡◌, ℕ, ◌+◌, ◌<◌, ◌≤◌, ◌^◌, ◌==◌, false, Some, None, IsSome, IfSome, IfOk, OnOk, is_some, if◌then◌else◌, drop, length, slice_get};
+ghost use Rattle.std.specs.Prelude.{◌≡◌, ◌+◌, ◌<◌, ◌≤◌, ◌^◌, ◌==◌, false, Some, None, IsSome, IfSome, IfOk, OnOk, is_some, if◌then◌else◌, drop, length, slice_get};
 ghost use Rattle.std.specs.FinMap as map;
 ghost use Rattle.books_model.specs.Inner.Changes.{before_between, now_between};
 

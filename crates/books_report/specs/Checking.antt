@@ -1,5 +1,5 @@
--- The first line of a text that is wrong, where the text should be an output of an input. Lines are numbered from 1, and
--- each is taken with its line feed.
+-- The first line of a text that is wrong, where the text should be an output of an input. Lines are numbered from 1,
+-- and each is taken with its line feed.
 use Rattle.std.specs.Prelude.{◌≡◌, ◌≢◌, ℕ, ◌+◌, ◌<◌, ◌==◌, if◌then◌else◌, List, [], ◌∷◌, ◌++◌, map as map_list, length, count_by, codes}
 use Rattle.std.specs.List.{concat}
 use Rattle.std.specs.FinMap as map
@@ -9,7 +9,8 @@ use Rattle.script_reader.specs.Input.{ClearingInput, caller_at, count_scripts}
 use Rattle.script_reader.specs.Journal.{Place, IsPlace}
 use Rattle.books_report.specs.Output.{Ran, places_run, journal_line, reply_to, books_after}
 
--- the script at a place can come next, behind those at other places: its caller has it left, and none of its own before it
+-- the script at a place can come next, behind those at other places: its caller has it left, and none of its own
+-- before it
 pub record IsNext (input : ClearingInput) (before : List Place) (place : Place) : Type 0 where
   pub left : IsPlace input place
   pub next : place.index ≡ count_by (λ p. p.caller == place.caller) before
@@ -46,7 +47,8 @@ closing_lines books =
 -- the lines behind those of the journal: none, as long as a script is left
 abbrev pub lines_behind : ClearingInput → List Ran → List (List ℕ)
 lines_behind input scripts =
-    if length scripts == count_scripts input.callers then closing_lines (books_after input input.books (places_run scripts)) else []
+    if length scripts == count_scripts input.callers then closing_lines (books_after input input.books (places_run scripts))
+    else []
 
 -- the lines of an output up to where these scripts, in their order, lead
 abbrev pub output_lines : ClearingInput → List Ran → List (List ℕ)
@@ -67,9 +69,9 @@ pub record AreAll (input : ClearingInput) (limit : ℕ) (lines : List (List ℕ)
   pub run : length scripts ≡ count_scripts input.callers
   pub lines_are : output_lines input scripts ≡ lines
 
--- The first wrong line of a text. An output can begin with the lines before it, and what is left begins with no line that
--- can come next; and where they are all of an output, something is left. So a line that is missing is wrong, one without
--- its line feed is, and what stands behind the last line is.
+-- The first wrong line of a text. An output can begin with the lines before it, and what is left begins with no line
+-- that can come next; and where they are all of an output, something is left. So a line that is missing is wrong, one
+-- without its line feed is, and what stands behind the last line is.
 pub record IsFirstWrongLine (input : ClearingInput) (limit : ℕ) (text : List ℕ) (number : ℕ) : Type 0 where
   pub before : List (List ℕ)
   pub left : List ℕ

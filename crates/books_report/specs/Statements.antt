@@ -8,12 +8,13 @@ use Rattle.script_reader.specs.Journal.{Place, IsJournal}
 use Rattle.books_report.specs.Output.{books_after, IsOutput}
 use Rattle.books_report.specs.Checking.{IsFirstWrongLine}
 
--- The books that the interpreter leaves at the end of a journal open a new input: their lines, and any scripts of callers
--- that are for the opening books, are the text of an input that opens with them.
+-- The books that the interpreter leaves at the end of a journal open a new input: their lines, and any scripts of
+-- callers that are for the opening books, are the text of an input that opens with them.
 abbrev pub ClosingBooksOpen : Type 0
 ClosingBooksOpen = (input : ClearingInput) (order : List Place) (submissions : List Submission)
     → IsInput input → IsJournal input order → AreCallersFor input.books (callers_of submissions)
-    → Spells (books_lines (books_after input input.books order) ++ scripts_line ++ flat_map submission_lines submissions ++ finish_line)
+    → Spells (books_lines (books_after input input.books order) ++ scripts_line ++ flat_map submission_lines submissions
+    ++ finish_line)
     (record { books = books_after input input.books order; callers = callers_of submissions })
 
 -- the text has a first wrong line
@@ -22,8 +23,10 @@ HasWrongLine input limit text = (number : ℕ) × IsFirstWrongLine input limit t
 
 -- a text that is an output has no wrong line, and one that has none is an output
 pub record OutputOrWrong : Type 0 where
-  pub either : (input : ClearingInput) (limit : ℕ) (text : List ℕ) → IsInput input → IsOutput input limit text ⊎ HasWrongLine input limit text
-  pub not_both : (input : ClearingInput) (limit : ℕ) (text : List ℕ) → IsInput input → IsOutput input limit text → ¬ HasWrongLine input limit text
+  pub either : (input : ClearingInput) (limit : ℕ) (text : List ℕ) → IsInput input
+      → IsOutput input limit text ⊎ HasWrongLine input limit text
+  pub not_both : (input : ClearingInput) (limit : ℕ) (text : List ℕ) → IsInput input → IsOutput input limit text
+      → ¬ HasWrongLine input limit text
 
 -- a text has one first wrong line at most
 abbrev pub OneWrongLine : Type 0

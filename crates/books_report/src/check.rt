@@ -1,6 +1,6 @@
 //! Whether a text is an output of an input.
 
-ghost use Rattle.std.specs.Prelude.{◌≡◌, ◌≢◌, ℕ, ◌+◌, ◌<◌, ◌≤◌, ◌==◌, ◌^◌, List, ◌∷◌, ◌++◌, Ok, Some, codes, length, replicate, count_by, slice_index, IfOk, IfSome, IfNone, IsSomeAnd, OnOk};
+ghost use Rattle.std.specs.Prelude.{◌≡◌, ◌≢◌, ℕ, ◌+◌, ◌<◌, ◌==◌, ◌^◌, List, ◌∷◌, ◌++◌, Ok, Some, codes, length, replicate, count_by, slice_index, IfOk, IfSome, IfNone, IsSomeAnd, OnOk};
 ghost use Rattle.std.specs.List.{concat};
 ghost use Rattle.script_reader.specs.declared.words.TheConstants.{SPACE, LINE_FEED};
 ghost use Rattle.script_reader.specs.Lines.{IsFreeOf};
@@ -34,7 +34,7 @@ pub enum Checked {
 }
 
 // The first word of a text and what stands behind the space after it.
-fn cut(text: &[u8]) -> Option<(&[u8], &[u8])>
+fn first_word_and_rest(text: &[u8]) -> Option<(&[u8], &[u8])>
     ensures found { IfSome result (λ parts. (text.now ≡ parts.0.now ++ SPACE ∷ parts.1.now)
         × IsFreeOf SPACE parts.0.now) }
     ensures none { IfNone result (IsFreeOf SPACE text.now) }
@@ -45,15 +45,15 @@ fn cut(text: &[u8]) -> Option<(&[u8], &[u8])>
 }
 
 // The second and the fourth word of a text.
-fn second_and_fourth(text: &[u8]) -> Option<(&[u8], &[u8])>
+fn second_and_fourth_word(text: &[u8]) -> Option<(&[u8], &[u8])>
     ensures { (a b c d rest : List ℕ) → text.now ≡ four_words a b c d rest
         → IsFreeOf SPACE a → IsFreeOf SPACE b → IsFreeOf SPACE c → IsFreeOf SPACE d
         → IsSomeAnd result (λ words. (words.0.now ≡ b) × (words.1.now ≡ d)) }
 {
-    let (_, text) = cut(text)?;
-    let (second, text) = cut(text)?;
-    let (_, text) = cut(text)?;
-    let (fourth, _) = cut(text)?;
+    let (_, text) = first_word_and_rest(text)?;
+    let (second, text) = first_word_and_rest(text)?;
+    let (_, text) = first_word_and_rest(text)?;
+    let (fourth, _) = first_word_and_rest(text)?;
     Some((second, fourth))
 }
 
@@ -100,7 +100,7 @@ fn named_line(input: &Input, done: &[u32], text: &[u8]) -> Option<Line>
           restarts = restarts;
         }) }
 {
-    let (name, restarts) = second_and_fourth(text)?;
+    let (name, restarts) = second_and_fourth_word(text)?;
     let caller = caller_of(input, name)?;
     let restarts = number_of(restarts)?;
     let index = done[caller as usize];
@@ -116,7 +116,7 @@ fn named_line(input: &Input, done: &[u32], text: &[u8]) -> Option<Line>
 }
 
 // What stands behind the front of a text.
-fn behind<'a>(text: &'a [u8], front: &[u8]) -> Option<&'a [u8]>
+fn text_behind<'a>(text: &'a [u8], front: &[u8]) -> Option<&'a [u8]>
     ensures begins { IfSome result (λ left. text.now ≡ front.now ++ left.now) }
     ensures none { IfNone result ((left : List ℕ) → text.now ≢ front.now ++ left) }
 {
@@ -125,7 +125,7 @@ fn behind<'a>(text: &'a [u8], front: &[u8]) -> Option<&'a [u8]>
 
 // Runs the script that the next line of a text names, on the books that the scripts so far leave, and counts it as done.
 // What is left stands behind the line, where that is right.
-fn next_line<'a>(
+fn run_next_line<'a>(
     alloc: Global,
     input: &Input,
     books: &mut Books,
@@ -155,7 +155,7 @@ fn next_line<'a>(
     let mut expected = String::new(alloc);
     let name = input.name(line.caller);
     write_line(&mut expected, u64::from(serial), name, line, &reply)?;
-    Ok(behind(text, expected.as_bytes()))
+    Ok(text_behind(text, expected.as_bytes()))
 }
 
 // How many lines two texts have in common, from the first.
@@ -175,7 +175,7 @@ fn lines_in_common(expected: &[u8], text: &[u8]) -> usize
 }
 
 // How many lines of a text are those of the closing books and the last one, where the text is not all of them.
-fn closing_differs(alloc: Global, books: &Books, text: &[u8]) -> Result<Option<u32>, OutOfMemory>
+fn check_closing(alloc: Global, books: &Books, text: &[u8]) -> Result<Option<u32>, OutOfMemory>
     ensures same { IfOk result (λ lines. IfNone lines
         (text.now ≡ concat (closing_lines books.now))) }
     ensures stops { IfOk result (λ lines. IfSome lines
@@ -194,7 +194,7 @@ fn closing_differs(alloc: Global, books: &Books, text: &[u8]) -> Result<Option<u
 }
 
 // What the check of a text finds behind its first line, from the opening books on and with no script done.
-fn found_behind(
+fn check_journal(
     alloc: Global,
     input: &Input,
     books: &mut Books,
@@ -209,28 +209,28 @@ fn found_behind(
 {
     let mut left = journal;
     for run in 0..input.scripts() {
-        match next_line(alloc, input, books, done, run + 1, left)? {
+        match run_next_line(alloc, input, books, done, run + 1, left)? {
             Some(after) => left = after,
             None => return Ok(Checked::Differs(run + 2)),
         }
     }
-    match closing_differs(alloc, books, left)? {
+    match check_closing(alloc, books, left)? {
         None => Ok(Checked::Agrees),
         Some(lines) => Ok(Checked::Differs(input.scripts() + lines + 2)),
     }
 }
 
 // What the check of a text finds, out of memory aside.
-fn found_in(alloc: Global, input: &Input, text: &[u8]) -> Result<Checked, OutOfMemory>
+fn check_lines(alloc: Global, input: &Input, text: &[u8]) -> Result<Checked, OutOfMemory>
     requires valid { IsInput input.now }
     ensures { IfOk result (λ checked. IsFound input.now text.now checked) }
 {
-    let Some(journal) = behind(text, b"journal\n") else {
+    let Some(journal) = text_behind(text, b"journal\n") else {
         return Ok(Checked::Differs(1));
     };
     let mut books = input.books().copy()?;
     let mut done = vec![in alloc; 0; input.callers() as usize]?;
-    found_behind(alloc, input, &mut books, &mut done, journal)
+    check_journal(alloc, input, &mut books, &mut done, journal)
 }
 
 /// Whether a text is an output of an input, whatever the order of its scripts and the restarts below their limit. Each
@@ -246,5 +246,5 @@ pub fn check_text(alloc: Global, input: &Input, text: &[u8]) -> Result<Checked, 
 {
     // That an input is valid.
     let _ = input.callers();
-    found_in(alloc, input, text)
+    check_lines(alloc, input, text)
 }

@@ -15,9 +15,9 @@ use Rattle.std.proofs.lemmas.List.Sums.{fold_push}
 use Rattle.script_reader.specs.declared.limits.TheConstants.{MOST_CALLERS, MOST_SCRIPTS}
 use Rattle.script_reader.specs.Input.{Submission, AreCallersFor, IsName, add_name, first_seen, callers_of}
 use Rattle.script_reader.specs.Inner.Callers.{is_caller}
-use Rattle.script_reader.proofs.Grouping.{callers_of-push, no-names}
-use Rattle.script_reader.proofs.Reaching.{scripts_counted, callers_counted, caller_named}
-use Rattle.script_reader.proofs.Submitting.{callers_more}
+use Rattle.script_reader.proofs.Grouped.Grouping.{callers_of-push, no-names}
+use Rattle.script_reader.proofs.Texts.Reaching.{scripts_counted, callers_counted, caller_named}
+use Rattle.script_reader.proofs.Grouped.Submitting.{callers_more}
 use Rattle.input_maker.specs.Made.{made_books, caller_name, script_from, made_submission, made_submissions, submissions_to, state_of_script}
 use Rattle.input_maker.specs.Statements.{MadeInputsAreInputs}
 use Rattle.input_maker.proofs.Listing.{submissions-none, submissions-more}

@@ -10,10 +10,10 @@ use Rattle.std.proofs.lemmas.Bool.Decides.{eqb_tells}
 use Rattle.std.proofs.lemmas.List.Sums.{sum_by-cons}
 use Rattle.std.proofs.lemmas.Map.Lookups.{CmpEqualImpliesEq, exact_unsigned}
 use Rattle.books_model.specs.Books.{position_cmp}
-use Rattle.books_model.proofs.Maps.{positions_total, exact_positions}
-use Rattle.books_model.proofs.Entries.{AllByRecursion-weaker, All-entries, weigh, sum_by-one}
+use Rattle.books_model.proofs.Maps.Trees.{positions_total, exact_positions}
+use Rattle.books_model.proofs.Maps.Entries.{AllByRecursion-weaker, All-entries, weigh, sum_by-one}
 use Rattle.script_reader.proofs.Conditions.{count_always}
-use Rattle.books_report.proofs.Classes.{sums, by_classes}
+use Rattle.books_report.proofs.Order.Classes.{sums, by_classes}
 
 -- what those weigh that pass a test, where each of them weighs the same
 pub same_weight : {A : Type 0} (t : A → Bool) (w : A → ℕ) (d : ℕ) (xs : List A) → ((x : A) → t x ≡ true → w x ≡ d)

@@ -4,12 +4,12 @@ use Rattle.std.specs.List.{AllByRecursion}
 use Rattle.std.proofs.lemmas.List.{get_or_append_left}
 use Rattle.std.proofs.lemmas.List.Elements.{recursion_from_All}
 use Rattle.books_model.specs.Interpreter.{outcome_of}
-use Rattle.books_model.proofs.Entries.{AllByRecursion-weaker, sum_by-most}
+use Rattle.books_model.proofs.Maps.Entries.{AllByRecursion-weaker, sum_by-most}
 use Rattle.script_reader.specs.declared.limits.TheConstants.{MOST_SCRIPTS}
 use Rattle.script_reader.specs.Input.{ClearingInput, count_scripts, script_at}
 use Rattle.script_reader.specs.Journal.{Place, IsPlace, IsJournal}
 use Rattle.books_report.specs.Output.{books_after}
-use Rattle.books_report.proofs.Turns.{length_of_journal, next_of_journal}
+use Rattle.books_report.proofs.Order.Turns.{length_of_journal, next_of_journal}
 use Rattle.input_maker.specs.Made.{made_books, made_input}
 use Rattle.input_maker.specs.Statements.{AreForMake}
 use Rattle.input_maker.specs.Days.{all_deposits, deposits_of, FirstKindIsDone, MadeCash, MadeQuantities, NoneIsFull, SecondKindKeepsCash}

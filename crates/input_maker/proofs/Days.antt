@@ -12,13 +12,13 @@ use Rattle.books_model.specs.Ranges.{AreInRange, IsOperationFor}
 use Rattle.books_model.specs.Interpreter.{Step, Gives, Declines, FindsNoBlock, Run, Ends, Stops, step_of, run_from, after_value, after_step, outcome_from}
 use Rattle.books_model.specs.Interpreter.{outcome_of}
 use Rattle.books_model.specs.Laws.{all_cash, all_held}
-use Rattle.books_model.proofs.Outcomes.{WhereEnds}
-use Rattle.books_model.proofs.RangeLaws.{operation_for, run_stays}
-use Rattle.books_model.proofs.SizeLaws.{run_keeps}
+use Rattle.books_model.proofs.Scripts.Outcomes.{WhereEnds}
+use Rattle.books_model.proofs.Scripts.RangeLaws.{operation_for, run_stays}
+use Rattle.books_model.proofs.Scripts.SizeLaws.{run_keeps}
 use Rattle.script_reader.specs.Input.{ClearingInput, script_at}
 use Rattle.script_reader.specs.Journal.{Place}
 use Rattle.books_report.specs.Output.{books_left, books_after}
-use Rattle.books_report.proofs.Classes.{sums-same}
+use Rattle.books_report.proofs.Order.Classes.{sums-same}
 use Rattle.input_maker.specs.Made.{made_books}
 use Rattle.input_maker.specs.Days.{all_quantities, deposits_of, paid_in_by}
 use Rattle.input_maker.proofs.Rooms.{AreOfDay, quantities_together}

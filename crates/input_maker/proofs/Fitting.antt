@@ -1,24 +1,21 @@
 -- A generated text is small enough to be read.
-use Rattle.std.proofs.Common.{◌≡◌, ℕ, Bool, ◌+◌, ◌*◌, ◌%◌, ◌<◌, ◌≤◌, ◌^◌, List, [], ◌∷◌, ◌++◌, codes, map, length, refl, sym, ap, subst, ◌∙◌, length-append}
+use Rattle.std.proofs.Common.{◌≡◌, ℕ, Bool, ◌+◌, ◌*◌, ◌%◌, ◌<◌, ◌≤◌, List, [], ◌∷◌, ◌++◌, codes, map, length, refl, ap, length-append}
 use Rattle.std.proofs.Common.{arith}
-use Rattle.std.specs.List.{AllByRecursion, All, flat_map, join_with_byte, range_with_len}
+use Rattle.std.specs.List.{AllByRecursion, flat_map, join_with_byte, range_with_len}
 use Rattle.std.proofs.lemmas.Fmt.{length-decimal-le}
 use Rattle.std.proofs.lemmas.List.Concat.{length-flat_map}
-use Rattle.std.proofs.lemmas.List.Elements.{recursion_from_All}
 use Rattle.std.proofs.lemmas.List.FromFn.{length-map-range_with_len}
 use Rattle.books_model.specs.declared.script.Op.{Op}
-use Rattle.books_model.specs.declared.script.Op.TheVariants as op
-use Rattle.books_model.specs.Ranges.{IsWithin}
-use Rattle.books_model.proofs.Entries.{AllByRecursion-weaker, sum_by-most}
+use Rattle.books_model.proofs.Maps.Entries.{AllByRecursion-weaker, sum_by-most}
 use Rattle.script_reader.specs.declared.words.TheConstants.{SPACE, LINE_FEED}
 use Rattle.script_reader.specs.Text.{line, number, header_line, account_line, price_line, position_line, books_lines, operation_words, operation_lines}
 use Rattle.script_reader.specs.Text.{scripts_line, end_line, finish_line}
 use Rattle.script_reader.specs.Input.{Submission}
 use Rattle.script_reader.specs.Grammar.{submission_lines}
-use Rattle.input_maker.specs.Made.{made_books, accounts_to, prices_to, positions_to, caller_name, script_from, state_of_script, made_submission, submissions_to}
-use Rattle.input_maker.specs.Statements.{AreForMake, MadeInputsFit}
+use Rattle.input_maker.specs.Made.{made_books, accounts_to, prices_to, positions_to, caller_name, state_of_script, made_submission, submissions_to}
+use Rattle.input_maker.specs.Statements.{MadeInputsFit}
 use Rattle.input_maker.proofs.Opening.{all_mapped, accounts_length, prices_length, positions_length, IsPosition, positions_hold, opening_lines}
-use Rattle.input_maker.proofs.Making.{IsMade, IsMadeOnce, IsMadeScript, made_deposit, made_price, made_next, made_sum, made_move, made_trade, made_margin}
+use Rattle.input_maker.proofs.Making.{IsMade, IsMadeOnce, made_deposit, made_price, made_next, made_sum, made_move, made_trade, made_margin}
 use Rattle.input_maker.proofs.Making.{made_show, script_made}
 
 -- the bytes of words, with one behind each

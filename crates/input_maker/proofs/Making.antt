@@ -1,5 +1,5 @@
 -- The operations and scripts that are made, of the first kind and of the second, and that each script of a made input is one.
-use Rattle.std.proofs.Common.{◌≡◌, ℕ, ◌+◌, ◌*◌, ◌/◌, ◌<◌, ◌≤◌, ◌==◌, ◌&&◌, Bool, true, false, if◌then◌else◌, List, [], ◌∷◌, map, filter, length, refl, sym, ap}
+use Rattle.std.proofs.Common.{◌≡◌, ℕ, ◌+◌, ◌*◌, ◌<◌, ◌≤◌, ◌==◌, ◌&&◌, Bool, true, false, if◌then◌else◌, List, [], ◌∷◌, map, filter, length, refl, sym, ap}
 use Rattle.std.proofs.Common.{◌∙◌, true≢false, arith}
 use Rattle.std.specs.List.{All, AllByRecursion, list_all, range_with_len}
 use Rattle.std.specs.Str.{bytes_eq}
@@ -10,9 +10,9 @@ use Rattle.std.proofs.lemmas.List.Sums.{sum_by-cons}
 use Rattle.books_model.specs.declared.script.Op.{Op}
 use Rattle.books_model.specs.declared.script.Op.TheVariants as op
 use Rattle.books_model.specs.Ranges.{IsWithin, IsOperationFor, IsScriptFor}
-use Rattle.books_model.proofs.Entries.{AllByRecursion-weaker, sum_by-most}
+use Rattle.books_model.proofs.Maps.Entries.{AllByRecursion-weaker, sum_by-most}
 use Rattle.script_reader.specs.Input.{Submission, first_seen, scripts_by, callers_of}
-use Rattle.input_maker.specs.Generator.{drawn, next_state, state_after}
+use Rattle.input_maker.specs.Generator.{drawn, state_after}
 use Rattle.input_maker.specs.Made.{made_books, first_kind, second_kind, operation_from, operations_from, script_from, made_submission, submissions_to}
 use Rattle.input_maker.specs.Made.{state_of_script, state_after_operations}
 use Rattle.input_maker.specs.Days.{IsOfFirstKind, deposits_of, is_of_first_kind, paid_in_by}
@@ -110,7 +110,7 @@ deposits_most first script m =
 -- a draw is below its bound
 drawn_below : (n x : ℕ) → 0 < n → drawn n x < n
 unfolding drawn
-drawn_below n x some = mod-lt (next_state x / 65536) some
+drawn_below n x some = mod-lt _ some
 
 -- a draw and one
 within_one : (n x : ℕ) → 0 < n → IsWithin 1 n (1 + drawn n x)

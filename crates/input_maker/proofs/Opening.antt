@@ -14,8 +14,8 @@ use Rattle.std.proofs.lemmas.List.{append-nil}
 use Rattle.books_model.specs.Books.{position_cmp, used}
 use Rattle.books_model.specs.Ranges.{IsWithin, AreInRange}
 use Rattle.script_reader.specs.Text.{books_lines, header_line, account_line, price_line, position_line}
-use Rattle.script_reader.proofs.Sections.{less_number}
-use Rattle.books_report.proofs.Rows.{all_both}
+use Rattle.script_reader.proofs.Printing.Sections.{less_number}
+use Rattle.books_report.proofs.Outputs.Rows.{all_both}
 use Rattle.input_maker.specs.Made.{accounts_to, prices_to, positions_in, positions_to, made_books}
 
 and_T : (r : Ordering) (b : Bool) → r ≡ Less → T b → T (is_lt r && b)

@@ -11,10 +11,10 @@ use Rattle.books_model.specs.Interpreter.{is_full, put_position}
 use Rattle.books_model.specs.Laws.{all_cash, all_held}
 use Rattle.books_model.specs.Inner.Draft.{set_position}
 use Rattle.books_model.proofs.Drafts.{used_position}
-use Rattle.books_model.proofs.Entries.{AllByRecursion-weaker, All-entries, weigh, sum_by-set_at}
-use Rattle.books_model.proofs.Maps.{positions_total, exact_positions, found_after_insert, stays_after_insert}
-use Rattle.script_reader.proofs.BooksFaultless.{some_of}
-use Rattle.books_report.proofs.Classes.{sums, by_weights}
+use Rattle.books_model.proofs.Maps.Entries.{AllByRecursion-weaker, All-entries, weigh, sum_by-set_at}
+use Rattle.books_model.proofs.Maps.Trees.{positions_total, exact_positions, found_after_insert, stays_after_insert}
+use Rattle.script_reader.proofs.WithoutFault.BooksFaultless.{some_of}
+use Rattle.books_report.proofs.Order.Classes.{sums, by_weights}
 use Rattle.input_maker.specs.Days.{all_quantities}
 use Rattle.input_maker.proofs.Classes.{numbers_most, pairs_most}
 

@@ -11,8 +11,8 @@ use Rattle.books_model.specs.declared.reply.Value.{Value}
 use Rattle.books_model.specs.Books.{ClearingBooks, cash_of, position_of, price_of}
 use Rattle.books_model.specs.Interpreter.{Step, Gives, Declines, FindsNoBlock, is_account, is_full, next_of, put_position, shortfall_of, step_of}
 use Rattle.books_model.specs.Laws.{all_cash, all_held}
-use Rattle.books_model.proofs.CashLaws.{deposited, moved, traded_cash, traded_quantities}
-use Rattle.books_model.proofs.Outcomes.{done}
+use Rattle.books_model.proofs.Scripts.CashLaws.{deposited, moved, traded_cash, traded_quantities}
+use Rattle.books_model.proofs.Scripts.Outcomes.{done}
 use Rattle.input_maker.specs.Days.{paid_in_by}
 use Rattle.input_maker.proofs.Making.{IsMade, made_deposit, made_price, made_next, made_sum, made_move, made_trade, made_margin, made_show, chosen}
 use Rattle.input_maker.proofs.Rooms.{HasAccounts, AreOfDay, other_cash, not_full, not_full_after, cash_within}

@@ -9,7 +9,7 @@ use Rattle.books_model.specs.declared.script.Op.{Op}
 use Rattle.books_model.specs.Laws.{all_cash}
 use Rattle.script_reader.specs.Input.{Caller, ClearingInput, caller_at, script_at}
 use Rattle.script_reader.specs.Journal.{Place, IsJournal}
-use Rattle.books_report.proofs.Classes.{sums-same, by_weights, sum_by_all}
+use Rattle.books_report.proofs.Order.Classes.{sums-same, by_weights, sum_by_all}
 use Rattle.input_maker.specs.Made.{accounts_to, positions_in, positions_to, made_books}
 use Rattle.input_maker.specs.Days.{all_quantities}
 use Rattle.input_maker.proofs.Opening.{accounts_entries, positions_entries}

@@ -54,27 +54,39 @@ books_at seed callers scripts before = books_after (made_input seed callers scri
 
 -- the closing cash is the opening cash and all deposits, in every order
 abbrev pub MadeCash : Type 0
-MadeCash = (seed callers scripts : ℕ) (order : List Place) → AreForMake seed callers scripts → IsJournal (made_input seed callers scripts) order
+MadeCash =
+    (seed callers scripts : ℕ) (order : List Place) → AreForMake seed callers scripts
+    → IsJournal (made_input seed callers scripts) order
     → all_cash (books_at seed callers scripts order) ≡ 200000000 + all_deposits (made_input seed callers scripts)
 
 -- all quantities are what they were
 abbrev pub MadeQuantities : Type 0
-MadeQuantities = (seed callers scripts : ℕ) (order : List Place) → AreForMake seed callers scripts → IsJournal (made_input seed callers scripts) order
+MadeQuantities =
+    (seed callers scripts : ℕ) (order : List Place) → AreForMake seed callers scripts
+    → IsJournal (made_input seed callers scripts) order
     → all_quantities (books_at seed callers scripts order) ≡ 160000
 
 -- no script of the first kind is declined
 abbrev pub FirstKindIsDone : Type 0
-FirstKindIsDone = (seed callers scripts : ℕ) (before : List Place) (place : Place) (behind : List Place) → StandsIn seed callers scripts before place behind
+FirstKindIsDone =
+    (seed callers scripts : ℕ) (before : List Place) (place : Place) (behind : List Place)
+    → StandsIn seed callers scripts before place behind
     → IsOfFirstKind (script_at (made_input seed callers scripts) place.caller place.index)
-    → (values : List Value) × (reply_to (made_input seed callers scripts) (books_at seed callers scripts before) place ≡ reply.Done values)
+    → (values : List Value)
+    × (reply_to (made_input seed callers scripts) (books_at seed callers scripts before) place ≡ reply.Done values)
 
 -- none of the second kind changes the sum of all cash
 abbrev pub SecondKindKeepsCash : Type 0
-SecondKindKeepsCash = (seed callers scripts : ℕ) (before : List Place) (place : Place) (behind : List Place) → StandsIn seed callers scripts before place behind
+SecondKindKeepsCash =
+    (seed callers scripts : ℕ) (before : List Place) (place : Place) (behind : List Place)
+    → StandsIn seed callers scripts before place behind
     → (¬ IsOfFirstKind (script_at (made_input seed callers scripts) place.caller place.index))
-    → all_cash (books_left (made_input seed callers scripts) (books_at seed callers scripts before) place) ≡ all_cash (books_at seed callers scripts before)
+    → all_cash (books_left (made_input seed callers scripts) (books_at seed callers scripts before) place)
+    ≡ all_cash (books_at seed callers scripts before)
 
 -- blocks never run out
 abbrev pub NoneIsFull : Type 0
-NoneIsFull = (seed callers scripts : ℕ) (before : List Place) (place : Place) (behind : List Place) → StandsIn seed callers scripts before place behind
+NoneIsFull =
+    (seed callers scripts : ℕ) (before : List Place) (place : Place) (behind : List Place)
+    → StandsIn seed callers scripts before place behind
     → (k : ℕ) → reply_to (made_input seed callers scripts) (books_at seed callers scripts before) place ≢ reply.Full k

@@ -1,4 +1,5 @@
--- The numbers that a seed gives: a linear congruential generator, with the numbers of the example of `rand` in the standard of C.
+-- The numbers that a seed gives: a linear congruential generator, with the numbers of the example of `rand` in the
+-- standard of C.
 use Rattle.std.specs.Prelude.{ℕ, zero, suc, ◌+◌, ◌*◌, ◌/◌, ◌%◌}
 
 -- the state after a draw

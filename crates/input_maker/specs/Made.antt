@@ -93,7 +93,8 @@ state_of_script seed (suc k) = state_after_script (state_of_script seed k)
 
 -- the script with a number, from 0, of the callers by turns
 abbrev pub made_submission : ℕ → ℕ → ℕ → Submission
-made_submission seed callers k = record { caller = caller_name (k % callers); script = script_from (state_of_script seed k) }
+made_submission seed callers k =
+    record { caller = caller_name (k % callers); script = script_from (state_of_script seed k) }
 
 -- the first n scripts
 unfoldable pub submissions_to : ℕ → ℕ → ℕ → List Submission
@@ -105,7 +106,8 @@ made_submissions seed callers scripts = submissions_to seed callers (callers * s
 
 -- the input
 abbrev pub made_input : ℕ → ℕ → ℕ → ClearingInput
-made_input seed callers scripts = record { books = made_books; callers = callers_of (made_submissions seed callers scripts) }
+made_input seed callers scripts =
+    record { books = made_books; callers = callers_of (made_submissions seed callers scripts) }
 
 -- its text, with the scripts in the order in which they are drawn
 abbrev pub made_input_text : ℕ → ℕ → ℕ → List ℕ

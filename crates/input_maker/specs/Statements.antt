@@ -20,4 +20,6 @@ MadeInputsAreInputs = (seed callers scripts : ℕ) → AreForMake seed callers s
 
 -- and it is small enough to be read
 abbrev pub MadeInputsFit : Type 0
-MadeInputsFit = (seed callers scripts : ℕ) → AreForMake seed callers scripts → length (made_input_text seed callers scripts) ≤ MOST_INPUT_BYTES
+MadeInputsFit =
+    (seed callers scripts : ℕ) → AreForMake seed callers scripts
+    → length (made_input_text seed callers scripts) ≤ MOST_INPUT_BYTES

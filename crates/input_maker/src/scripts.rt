@@ -5,7 +5,7 @@ ghost use Rattle.std.specs.String.{string_bytes};
 ghost use Rattle.std.specs.List.{flat_map};
 ghost use Rattle.script_reader.specs.Text.{operation_lines};
 ghost use Rattle.script_reader.specs.Grammar.{submission_lines};
-ghost use Rattle.input_maker.specs.Made.{caller_name, letter, operations_from, script_from, state_after_operations, state_after_script, state_of_script, submissions_to};
+ghost use Rattle.input_maker.specs.Made.{caller_name, letter, operations_from, script_from, state_after_operations, state_after_script, submissions_to};
 
 use crate::generator::Generator;
 use crate::operations::{next_operation, write_operation};

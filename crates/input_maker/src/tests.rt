@@ -1,7 +1,5 @@
 //! Draws and texts that were reckoned by hand.
 
-ghost use Rattle.std.specs.Prelude.{◌≤◌};
-
 use crate::generator::Generator;
 use crate::make_input;
 use std::test::Fail;

@@ -10,9 +10,9 @@ use Rattle.std.specs.FinMap.{get-entries}
 use Rattle.std.proofs.lemmas.Option.{none-some}
 use Rattle.books_model.specs.Books.{position_cmp}
 use Rattle.script_reader.specs.Faults.{is_below}
-use Rattle.script_reader.proofs.Sections.{pair_less, less_pair, less_is}
-use Rattle.script_reader.proofs.BooksFaultless.{found_is_given, some_of}
-use Rattle.script_reader.proofs.Extending.{key_found}
+use Rattle.script_reader.proofs.Printing.Sections.{pair_less, less_pair, less_is}
+use Rattle.script_reader.proofs.WithoutFault.BooksFaultless.{found_is_given, some_of}
+use Rattle.script_reader.proofs.Printing.Extending.{key_found}
 
 -- a search finds where a test that agrees passes
 pub found_any : {A : Type 0} (p q : A → Bool) (xs : List A) → AllByRecursion (λ x. p x ≡ q x) xs → is_some (find p xs) ≡ list_any q xs

@@ -1,6 +1,7 @@
 -- The first fault of a text: its line, and the first reason that applies to that line beside those before it.
--- Reasons are tried in this order, each where it can apply: header, word, order of kinds, number, limit, order of lines,
--- account, price, blocks. `IsFirstFault` has what is beside them: a line that does not exist, or comes after the last.
+-- Reasons are tried in this order, each where it can apply: header, word, order of kinds, number, limit, order of
+-- lines, account, price, blocks. `IsFirstFault` has what is beside them: a line that does not exist, or comes after
+-- the last.
 use Rattle.std.specs.Prelude.{◌≡◌, ◌≢◌, ◌⊎◌, ℕ, ◌+◌, Bool, true, false, not, ◌&&◌, ◌||◌, ◌==◌, nat_lt, nat_le, if◌then◌else◌, List, [], ◌∷◌, ◌++◌, Option, Some}
 use Rattle.std.specs.Prelude.{None, codes, length, drop, map, filter, fold, count_by, slice_index_or}
 use Rattle.std.specs.List.{list_any, flat_map, position_or_len}
@@ -57,7 +58,9 @@ is_late before words = list_any (λ w. nat_lt (kind_of words) (kind_of w)) (drop
 
 -- this line takes a block, and does not rise above all of its kind before it
 abbrev pub is_low : List Words → Words → Bool
-is_low before words = list_any (λ w. takes_block w && ((kind_of w == kind_of words) && not (is_below (key_of w) (key_of words)))) (drop 1 before)
+is_low before words =
+    list_any (λ w. takes_block w
+    && ((kind_of w == kind_of words) && not (is_below (key_of w) (key_of words)))) (drop 1 before)
 
 -- a line before it is this kind of line for the number
 abbrev pub is_given : List Words → List ℕ → ℕ → Bool
@@ -122,7 +125,8 @@ inside_fault before words =
 
 -- whether the last line before that begins or ends a script begins one
 abbrev pub is_inside : List Words → Bool
-is_inside before = fold (λ inside w. if begins (codes "script") w then true else (if is_only (codes "end") w then false else inside)) false before
+is_inside before =
+    fold (λ inside w. if begins (codes "script") w then true else (if is_only (codes "end") w then false else inside)) false before
 
 -- what is wrong with a line of a text, beside the lines before it
 abbrev pub fault_of : List Words → Words → Option Fault
@@ -132,7 +136,8 @@ fault_of (header ∷ lines) words =
     else (if is_inside (header ∷ lines) then inside_fault (header ∷ lines) words
     else outside_fault (header ∷ lines) words)
 
--- no line of a list is faulty beside the lines before it and those of the list ahead of it, and none is the last of a text
+-- no line of a list is faulty beside the lines before it and those of the list ahead of it, and none is the last of a
+-- text
 abbrev pub AreFaultless : List Words → List Words → Type 0
 AreFaultless before [] = Unit {0}
 AreFaultless before (words ∷ more) = AreWords words × (fault_of before words ≡ None)
@@ -144,7 +149,8 @@ StartsFaulty before text left why =
     ((words : Words) × AreWords words × (text ≡ line words ++ left) × (fault_of before words ≡ Some why))
     ⊎ (IsFreeOf LINE_FEED text × (left ≡ text) × (why ≡ fault.End))
 
--- behind the lines before, the text has lines without fault, and then the fault; what is left stands behind the faulty line
+-- behind the lines before, the text has lines without fault, and then the fault; what is left stands behind the
+-- faulty line
 pub record IsFaultyBehind (before : List Words) (text left : List ℕ) (why : Fault) : Type 0 where
   pub more : List Words
   pub rest : List ℕ

@@ -93,7 +93,8 @@ is_script_line words = begins (codes "script") words && length words == 2 && is_
 -- eight words, with those of a header around its sizes
 abbrev pub is_header : Words → Bool
 is_header words =
-    (length words == 8) && bytes_eq (word_at words 0) (codes "books") && bytes_eq (word_at words 1) (codes "1") && bytes_eq (word_at words 2) (codes "blocks")
+    (length words == 8) && bytes_eq (word_at words 0) (codes "books") && bytes_eq (word_at words 1) (codes "1")
+    && bytes_eq (word_at words 2) (codes "blocks")
     && bytes_eq (word_at words 4) (codes "instruments") && bytes_eq (word_at words 6) (codes "ring")
 
 -- the words of a header that are sizes

@@ -1,4 +1,5 @@
--- The grammar of inputs, as the text that an input has. Each number and each space has one spelling, so a text is that of one input at most.
+-- The grammar of inputs, as the text that an input has. Each number and each space has one spelling, so a text is
+-- that of one input at most.
 use Rattle.std.specs.Prelude.{◌≡◌, ℕ, List, [], ◌∷◌, ◌++◌, codes}
 use Rattle.std.specs.List.{flat_map}
 use Rattle.books_model.specs.Books.{ClearingBooks}

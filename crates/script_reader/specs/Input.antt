@@ -32,7 +32,8 @@ pub record Submission : Type 0 where
 
 -- whether a name is some letters from `a` to `z`
 abbrev pub is_name : List ℕ → Bool
-is_name name = nat_le 1 (length name) && nat_le (length name) LONGEST_NAME && list_all (λ c. nat_le 97 c && nat_le c 122) name
+is_name name =
+    nat_le 1 (length name) && nat_le (length name) LONGEST_NAME && list_all (λ c. nat_le 97 c && nat_le c 122) name
 
 abbrev pub IsName : List ℕ → Type 0
 IsName name = is_name name ≡ true
@@ -51,7 +52,8 @@ scripts_by name submissions = map (λ s. s.script) (filter (λ s. bytes_eq name 
 
 -- the callers of the scripts of a text
 abbrev pub callers_of : List Submission → List Caller
-callers_of submissions = map (λ name. record { name = name; scripts = scripts_by name submissions }) (first_seen (map (λ s. s.caller) submissions))
+callers_of submissions =
+    map (λ name. record { name = name; scripts = scripts_by name submissions }) (first_seen (map (λ s. s.caller) submissions))
 
 abbrev pub count_scripts : List Caller → ℕ
 count_scripts callers = sum_by (λ c. length c.scripts) callers

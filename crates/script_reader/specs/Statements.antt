@@ -34,5 +34,7 @@ pub record FrontOrFaulty : Type 0 where
 
 -- where a text begins with that of an input, its bytes, the input and what follows are one
 abbrev pub OneFront : Type 0
-OneFront = (bytes : List ℕ) (input other : ClearingInput) (text rest : List ℕ) (this : AreTwoTexts bytes input text) (that : AreTwoTexts bytes other rest)
+OneFront =
+    (bytes : List ℕ) (input other : ClearingInput) (text rest : List ℕ)
+    (this : AreTwoTexts bytes input text) (that : AreTwoTexts bytes other rest)
     → (this.front ≡ that.front) × (input ≡ other) × (text ≡ rest)

@@ -5,7 +5,7 @@ ghost use Rattle.std.specs.Prelude.{map};
 ghost use Rattle.std.specs.List.{position_or_len};
 ghost use Rattle.std.specs.Str.{bytes_eq};
 ghost use Rattle.std.specs.String.{string_bytes};
-ghost use Rattle.script_reader.specs.Input.{Caller, add_name, count_scripts};
+ghost use Rattle.script_reader.specs.Input.{add_name, count_scripts};
 ghost use Rattle.script_reader.specs.Inner.Placed.{put_script};
 
 use crate::limits::{MOST_CALLERS, MOST_SCRIPTS};

@@ -1,7 +1,6 @@
 //! A whole text, or a prefix of it.
 
-ghost use Rattle.std.specs.Prelude.{◌≡◌, ◌≢◌, ◌⊎◌, ℕ, ◌+◌, ◌≤◌, ◌<◌, ◌^◌, ◌==◌, ◌++◌, [], List, IfOk, MatchResult, Err, length, take, count_by};
-ghost use Rattle.std.specs.List.{flat_map};
+ghost use Rattle.std.specs.Prelude.{◌≡◌, ◌≢◌, ◌⊎◌, ℕ, ◌+◌, ◌≤◌, ◌<◌, ◌^◌, [], IfOk, MatchResult, Err, length, take};
 ghost use Rattle.script_reader.specs.declared.fault.Fault.{Fault as AnyFault};
 ghost use Rattle.script_reader.specs.declared.words.TheConstants.{LINE_FEED};
 ghost use Rattle.script_reader.specs.Input.{ClearingInput};

@@ -1,14 +1,13 @@
 //! Words that are numbers, and their ranges.
 
-ghost use Rattle.std.specs.Prelude.{◌≡◌, ℕ, ◌<◌, ◌≤◌, ◌^◌, ◌↔◌, true, min, IsTrue, IfOk, IfErr, OnOk, Some, length};
+ghost use Rattle.std.specs.Prelude.{◌≡◌, ◌<◌, true, min, IfErr, OnOk, Some};
 ghost use Rattle.std.specs.Option.{SomeIff};
 ghost use Rattle.std.specs.Result.{OkIff};
-ghost use Rattle.std.specs.List.{list_all};
 ghost use Rattle.std.specs.Char.{is_ascii_digit};
 ghost use Rattle.std.specs.Str.{all_ascii_digits};
 ghost use Rattle.std.specs.Str.Parse.{digits_value};
 ghost use Rattle.books_model.specs.Ranges.{IsWithin};
-ghost use Rattle.script_reader.specs.Number.{IsNumber, is_number};
+ghost use Rattle.script_reader.specs.Number.{IsNumber};
 
 use crate::fault::Fault;
 

@@ -1,9 +1,7 @@
 //! The scripts of a text.
 
-ghost use Rattle.std.specs.Prelude.{◌≡◌, ℕ, List, [], ◌∷◌, ◌++◌, false, codes, IfOk, OnOk, Err};
-ghost use Rattle.std.specs.List.{flat_map};
-ghost use Rattle.books_model.specs.Books.{ClearingBooks};
-ghost use Rattle.books_model.specs.Ranges.{IsScriptFor, AreInRange};
+ghost use Rattle.std.specs.Prelude.{◌≡◌, ℕ, List, [], ◌++◌, false, codes, IfOk, OnOk, Err};
+ghost use Rattle.books_model.specs.Ranges.{IsScriptFor};
 ghost use Rattle.script_reader.specs.declared.fault.Fault.{Fault as AnyFault};
 ghost use Rattle.script_reader.specs.Text.{line, operation_lines, end_line};
 ghost use Rattle.script_reader.specs.Input.{Submission, callers_of};

@@ -6,7 +6,7 @@ use Rattle.books_model.specs.Ranges.{IsWithin}
 use Rattle.script_reader.specs.declared.limits.TheConstants.{MOST_WORKERS}
 use Rattle.script_reader.specs.Number.{IsNumber}
 use Rattle.script_reader.specs.Text.{number}
-use Rattle.script_reader.proofs.Numerals.{read_is}
+use Rattle.script_reader.proofs.Tokens.Numerals.{read_is, greatest_u64}
 use Rattle.twoplsf.specs.Command.{IsRunCommand, IsMakeCommand, IsDrillCommand}
 use Rattle.twoplsf.specs.Commands.{ArePlanned}
 
@@ -40,10 +40,10 @@ five_of f (a ∷ xs) x y z u v five first second third fourth fifth =
 
 -- what was read of a word is its number
 pub number_of : (r : Option ℕ) (word : List ℕ) (w : ℕ)
-    → SomeIff r (IsNumber word) (min (digits_value 10 word) 18446744073709551615) → r ≡ Some w → w < 18446744073709551615 → word ≡ number w
-number_of r word w reads is few = by_some (subst (λ o. SomeIff o (IsNumber word) (min (digits_value 10 word) 18446744073709551615)) is reads)
+    → SomeIff r (IsNumber word) (min (digits_value 10 word) greatest_u64) → r ≡ Some w → w < greatest_u64 → word ≡ number w
+number_of r word w reads is few = by_some (subst (λ o. SomeIff o (IsNumber word) (min (digits_value 10 word) greatest_u64)) is reads)
   where
-    by_some : IsNumber word × (w ≡ min (digits_value 10 word) 18446744073709551615) → word ≡ number w
+    by_some : IsNumber word × (w ≡ min (digits_value 10 word) greatest_u64) → word ≡ number w
     by_some h = read_is word w (h.0, sym h.1) few
 
 -- the words of `run`, and of commands that make their input

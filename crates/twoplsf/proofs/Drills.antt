@@ -4,9 +4,9 @@ use Rattle.std.proofs.lemmas.List.{length-map}
 use Rattle.std.proofs.lemmas.List.FromFn.{length-map-range_with_len}
 use Rattle.books_model.specs.Laws.{all_cash}
 use Rattle.script_reader.specs.Input.{ClearingInput}
-use Rattle.script_reader.proofs.Reaching.{scripts_counted}
+use Rattle.script_reader.proofs.Texts.Reaching.{scripts_counted}
 use Rattle.books_report.specs.Output.{IsOutput}
-use Rattle.books_report.proofs.Turns.{length_of_journal}
+use Rattle.books_report.proofs.Order.Turns.{length_of_journal}
 use Rattle.input_maker.specs.Made.{made_input, made_submission, made_submissions, submissions_to}
 use Rattle.input_maker.specs.Statements.{AreForMake}
 use Rattle.input_maker.specs.Days.{MadeCash, MadeQuantities, all_deposits, all_quantities}

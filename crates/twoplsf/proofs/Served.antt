@@ -9,12 +9,12 @@ use Rattle.script_reader.specs.Faults.{IsFirstFault, IsFrontFault}
 use Rattle.script_reader.specs.Input.{ClearingInput}
 use Rattle.script_reader.specs.Grammar.{AreTwoTexts}
 use Rattle.twoplsf.specs.Command.{IsAnyRunCommand, IsCheck, IsDrill, IsMaking, IsReading}
-use Rattle.script_reader.proofs.Deciding.{not_both, one_fault}
-use Rattle.script_reader.proofs.FrontLaws.{never_both, one_front}
+use Rattle.script_reader.proofs.Texts.Deciding.{not_both, one_fault}
+use Rattle.script_reader.proofs.Texts.FrontLaws.{never_both, one_front}
 use Rattle.books_report.specs.declared.limits.TheConstants.{RESTARTS_BELOW}
 use Rattle.books_report.specs.Output.{IsOutput}
 use Rattle.books_report.specs.Checking.{IsFirstWrongLine}
-use Rattle.books_report.proofs.Wrong.{one_wrong, none_of_output}
+use Rattle.books_report.proofs.Checks.Wrong.{one_wrong, none_of_output}
 use Rattle.script_reader.specs.declared.limits.TheConstants.{MOST_INPUT_BYTES}
 use Rattle.twoplsf.specs.declared.answer.Answer.{Answer}
 use Rattle.twoplsf.specs.declared.answer.Answer.TheVariants.{Output, Agrees, Difference, Refusal}

@@ -11,9 +11,9 @@ use Rattle.std.proofs.lemmas.Map.Lookups.{exact_unsigned}
 use Rattle.books_model.specs.declared.limits.TheConstants.{MOST_BLOCKS, GREATEST_CASH, GREATEST_QUANTITY}
 use Rattle.books_model.specs.Books.{ClearingBooks}
 use Rattle.books_model.specs.Ranges.{AreInRange}
-use Rattle.books_model.proofs.Maps.{positions_total, exact_positions}
-use Rattle.books_model.proofs.Entries.{AllByRecursion-weaker, All-entries, sum_by-filter, sum_by-most}
-use Rattle.books_report.proofs.Walks.{up_to, up_to-next}
+use Rattle.books_model.proofs.Maps.Trees.{positions_total, exact_positions}
+use Rattle.books_model.proofs.Maps.Entries.{AllByRecursion-weaker, All-entries, sum_by-filter, sum_by-most}
+use Rattle.books_report.proofs.Walking.Walks.{up_to, up_to-next}
 
 -- what some of the terms add up to is no more than all of them could
 sum_of_some : {X : Type 0} (p : X → Bool) (f : X → ℕ) (most : ℕ) (xs : List X) → AllByRecursion (λ x. f x ≤ most) xs → sum_by f (filter p xs) ≤ length xs * most

@@ -30,7 +30,8 @@ pub record OfBytesRead (left : Option (List ℕ)) (P : List ℕ → Type 0) : Ty
   pub told : IfSome left (λ all. all ≡ bytes)
   pub holds : P bytes
 
--- the words are `run W`, the bytes are the text of an input, and this text is an output of that input with each number of restarts below W
+-- the words are `run W`, the bytes are the text of an input, and this text is an output of that input with each
+-- number of restarts below W
 pub record IsOutputFor (words : List (List ℕ)) (bytes text : List ℕ) : Type 0 where
   pub workers : ℕ
   pub command : IsRunCommand words workers
@@ -96,8 +97,8 @@ IsAnswerTo workers bytes (Agrees text) = ⊥
 IsAnswerTo workers bytes (Difference text) = ⊥
 IsAnswerTo workers bytes (Refusal text) = IsRefusalOf bytes text.items
 
--- the day of a run: that of the input that the bytes spell, by as many workers as the words say; and what was printed is
--- the output for its items, in their order and with their restarts
+-- the day of a run: that of the input that the bytes spell, by as many workers as the words say; and what was printed
+-- is the output for its items, in their order and with their restarts
 pub record IsDayFor (words : List (List ℕ)) (bytes : List ℕ) (before now : Option (List ℕ)) (day : DayEnd) : Type 0 where
   pub workers : ℕ
   pub command : IsRunCommand words workers

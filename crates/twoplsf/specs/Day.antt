@@ -30,8 +30,9 @@ journal_of day = map ran_of_item day.done.items
 abbrev pub closing_books : ClearingInput → DayEnd → ClearingBooks
 closing_books input day = books_after input input.books (days.places_of day.done.items)
 
--- a day of the input by so many workers: a table with a seat for each, whose words stood for the opening books, and a legal
--- history of all that was done on it, whose replay its words are at the end; each caller was run whole by one worker
+-- a day of the input by so many workers: a table with a seat for each, whose words stood for the opening books, and a
+-- legal history of all that was done on it, whose replay its words are at the end; each caller was run whole by one
+-- worker
 pub record IsDayOf (input : ClearingInput) (workers : ℕ) (day : DayEnd) : Type 0 where
   pub seats : day.closed.seats ≡ workers
   pub opening : Stands day.closed.shape day.closed.base input.books

@@ -18,8 +18,9 @@ exit_status status.ReadFault = 5
 exit_status status.WriteFault = 6
 exit_status status.OutOfMemory = 7
 
--- the number that the program ends with, for words, for what the source had left and has left now, what the sink had taken
--- and has taken now, and whether a read or a write failed: it is that of a status, which goes with what was printed
+-- the number that the program ends with, for words, for what the source had left and has left now, what the sink had
+-- taken and has taken now, and whether a read or a write failed: it is that of a status, which goes with what was
+-- printed
 pub record EndsWith (n : ℕ) (words : List (List ℕ)) (left now before after : Option (List ℕ)) (read_failed write_failed : Type 0) : Type 0 where
   pub is : Status
   pub number_is : n ≡ exit_status is

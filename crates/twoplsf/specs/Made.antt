@@ -13,8 +13,8 @@ use Rattle.twoplsf.specs.Day.{IsDayOf}
 abbrev pub sum_line : List ℕ → ℕ → List ℕ
 sum_line name n = line (name ∷ number n ∷ [])
 
--- what `drill` prints: how many scripts were run, the sums of the closing cash and of the closing quantities, and that the
--- output of the run is one of the input
+-- what `drill` prints: how many scripts were run, the sums of the closing cash and of the closing quantities, and
+-- that the output of the run is one of the input
 abbrev pub drill_text : ℕ → ℕ → ℕ → List ℕ
 drill_text seed callers scripts =
     sum_line (codes "scripts") (callers * scripts)

@@ -4,7 +4,7 @@ use Rattle.std.proofs.Common.{refl, sym, ◌∙◌, subst, arith}
 use Rattle.std.specs.Cmp.{nat_cmp_total}
 use Rattle.std.specs.FinMap as map
 use Rattle.std.proofs.lemmas.Map.Lookups.{exact_unsigned}
-use Rattle.books_model.proofs.Entries.{All-entries, sum_by-most}
+use Rattle.books_model.proofs.Maps.Entries.{All-entries, sum_by-most}
 use Rattle.books_model.proofs.Drafts.{closed-in_range}
 use Rattle.books_model.specs.declared.limits.TheConstants.{GREATEST_CASH}
 use Rattle.books_model.specs.Books.{ClearingBooks, used, put_cash}

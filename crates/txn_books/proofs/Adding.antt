@@ -7,7 +7,7 @@ use Rattle.std.specs.Cmp.{IsTotalOrder, nat_cmp_total}
 use Rattle.std.specs.FinMap.{nat_cmp-IsAntisymmetric}
 use Rattle.std.specs.FinMap as entry_map
 use Rattle.std.proofs.lemmas.Map.Lookups.{CmpEqualImpliesEq}
-use Rattle.books_model.proofs.Maps.{len_after_insert}
+use Rattle.books_model.proofs.Maps.Trees.{len_after_insert}
 use Rattle.txn_books.proofs.ChainedChanges.{put_here, put_there}
 use Rattle.txn_alloc.specs.EntryMaps.{Cell, Entries, value_of, HasKeysOnce}
 use Rattle.txn_alloc.proofs.Cells.{value_first, value_later, insert_same, insert_other}

@@ -14,7 +14,7 @@ use Rattle.books_model.specs.declared.limits.TheConstants.{MOST_INSTRUMENTS}
 use Rattle.books_model.specs.Books.{ClearingBooks, position_cmp}
 use Rattle.books_model.specs.Ranges.{AreInRange}
 use Rattle.books_model.specs.Inner.Keys.{positions_total, exact_positions}
-use Rattle.books_model.proofs.Entries.{All-entries}
+use Rattle.books_model.proofs.Maps.Entries.{All-entries}
 use Rattle.txn_books.specs.Layout.{price_key_of, position_key_of, chained}
 use Rattle.txn_books.specs.Statements.{IsInstrument}
 use Rattle.txn_books.proofs.Keyed.{less_than, AreBelow, AreFrom, find_none, find_past, find_front, sorted_append, all_keyed, sorted_keyed, find_keyed}

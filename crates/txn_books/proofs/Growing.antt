@@ -11,7 +11,7 @@ use Rattle.std.proofs.lemmas.Option.{same_Some, get_or_from_slice_get, slice_get
 use Rattle.books_model.specs.Books.{ClearingBooks, position_cmp}
 use Rattle.books_model.specs.Ranges.{AreInRange, IsCall}
 use Rattle.books_model.specs.Inner.Keys.{positions_total, exact_positions}
-use Rattle.books_model.proofs.Keys.{is_lt-nat_cmp}
+use Rattle.books_model.proofs.Maps.Keys.{is_lt-nat_cmp}
 use Rattle.txn_alloc.specs.EntryMaps.{Entries}
 use Rattle.txn_books.specs.Inner.Reading.{AddsUp, nothing_yet, with_accounts, with_prices, with_positions}
 use Rattle.txn_books.specs.Inner.Building.{above}

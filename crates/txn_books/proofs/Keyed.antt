@@ -9,7 +9,7 @@ use Rattle.std.specs.FinMap.Entries.{find, is_sorted, below_all}
 use Rattle.std.specs.FinMap.{nat_cmp-IsAntisymmetric}
 use Rattle.std.proofs.lemmas.Map.Lookups.{CmpEqualImpliesEq}
 use Rattle.std.proofs.lemmas.Map.Views.{tells_apart}
-use Rattle.books_model.proofs.Keys.{below_first, below_rest, sorted_first, sorted_rest, is_lt-nat_cmp}
+use Rattle.books_model.proofs.Maps.Keys.{below_first, below_rest, sorted_first, sorted_rest, is_lt-nat_cmp}
 
 -- what a truth says as a test
 pub holds : (b : Bool) → T b → b ≡ true

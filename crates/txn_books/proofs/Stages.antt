@@ -12,7 +12,7 @@ use Rattle.books_model.specs.declared.limits.TheConstants.{MOST_INSTRUMENTS}
 use Rattle.books_model.specs.Books.{ClearingBooks, position_cmp, empty_books}
 use Rattle.books_model.specs.Ranges.{AreInRange}
 use Rattle.books_model.specs.Inner.Keys.{positions_total, exact_positions}
-use Rattle.books_model.proofs.Maps.{found_after_insert}
+use Rattle.books_model.proofs.Maps.Trees.{found_after_insert}
 use Rattle.txn_alloc.specs.EntryMaps.{Entries, Blocks, HasMap}
 use Rattle.txn_tree_map.specs.Trees.{TreeHolds, tree_part}
 use Rattle.txn_hash_map.specs.Chains.{ChainsHold, chain_part}

@@ -11,8 +11,8 @@ use Rattle.std.specs.FinMap.Entries.{below_all, is_sorted}
 use Rattle.std.proofs.lemmas.Option.{same_Some}
 use Rattle.std.proofs.lemmas.Map.Lookups.{CmpEqualImpliesEq}
 use Rattle.std.proofs.lemmas.Map.Views.{tells_apart}
-use Rattle.books_model.proofs.Keys.{below_first, below_rest, sorted_first, sorted_rest, below_less}
-use Rattle.books_model.proofs.Entries.{All-entries}
+use Rattle.books_model.proofs.Maps.Keys.{below_first, below_rest, sorted_first, sorted_rest, below_less}
+use Rattle.books_model.proofs.Maps.Entries.{All-entries}
 use Rattle.txn_books.specs.Inner.Reading.{AddsUp}
 use Rattle.txn_books.specs.Inner.Building.{above}
 use Rattle.txn_books.proofs.Adding.{or_else}

@@ -21,7 +21,7 @@ use Rattle.books_model.specs.Laws.{RefusedChangesNothing}
 use Rattle.script_reader.specs.Input.{ClearingInput, script_at}
 use Rattle.script_reader.specs.Journal.{Place}
 use Rattle.books_report.specs.Output.{reply_to, books_left, replies_of, books_after}
-use Rattle.books_report.proofs.Turns.{books_after-push}
+use Rattle.books_report.proofs.Order.Turns.{books_after-push}
 use Rattle.txn_books.specs.declared.shape.BooksShape.{BooksShape}
 use Rattle.txn_books.specs.Standing.{Stands}
 use Rattle.txn_books.specs.Meaning.{is_done, ScriptMeans}

@@ -39,10 +39,12 @@ KnowBefore {K} {R} m es = (k : K) (change : Change) → change_at R es k ≡ Som
 
 -- each key that changes give a value is a key of the map, so that putting them in takes no memory
 abbrev pub HasRoomFor : {K : Type 0} {R : K → K → Ordering} → map.FinMap R ℕ → List (K × Change) → Type 0
-HasRoomFor {K} {R} m es = (k : K) (change : Change) → change_at R es k ≡ Some change → IsSome change.now → IsSome (map.get m k)
+HasRoomFor {K} {R} m es =
+    (k : K) (change : Change) → change_at R es k ≡ Some change → IsSome change.now → IsSome (map.get m k)
 
 -- a map in which room was made: what the map had before stands, and only keys of changes are new
-pub record IsRoomier {K : Type 0} {R : K → K → Ordering} (es : List (K × Change)) (before after : map.FinMap R ℕ) : Type 0 where
+pub record IsRoomier {K : Type 0} {R : K → K → Ordering} (es : List (K × Change)) (before after : map.FinMap R ℕ)
+    : Type 0 where
   pub kept : (k : K) → IsSome (map.get before k) → map.get after k ≡ map.get before k
   pub others : (k : K) → change_at R es k ≡ None → map.get after k ≡ map.get before k
 

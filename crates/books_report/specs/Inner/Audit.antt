@@ -19,10 +19,12 @@ pub record IsFor (input : ClearingInput) (books : ClearingBooks) (done : List �
 pub record HasRun (input : ClearingInput) (scripts : List Ran) (books : ClearingBooks) (done : List ℕ) : Type 0 where
   pub in_turn : FollowInTurn input RESTARTS_BELOW [] scripts
   pub books_are : books ≡ books_after input input.books (places_run scripts)
-  pub done_are : (c : ℕ) → c < length input.callers → slice_index done c ≡ count_by (λ p. p.caller == c) (places_run scripts)
+  pub done_are : (c : ℕ) → c < length input.callers
+      → slice_index done c ≡ count_by (λ p. p.caller == c) (places_run scripts)
 
 -- the text begins with the line of a script that may follow; what is left stands behind it
-pub record BeginsWithLine (input : ClearingInput) (scripts : List Ran) (text left : List ℕ) (books : ClearingBooks) (done : List ℕ) : Type 0 where
+pub record BeginsWithLine (input : ClearingInput) (scripts : List Ran) (text left : List ℕ)
+    (books : ClearingBooks) (done : List ℕ) : Type 0 where
   pub ran : Ran
   pub may_follow : MayFollow input RESTARTS_BELOW scripts ran
   pub text_is : text ≡ journal_line (length scripts + 1) (caller_at input ran.place.caller).name ran ++ left

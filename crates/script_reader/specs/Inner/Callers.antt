@@ -26,7 +26,8 @@ pub record IsEven (store : Callers) : Type 0 where
 abbrev pub add_submission : List Caller → Submission → List Caller
 add_submission [] s = record { name = s.caller; scripts = s.script ∷ [] } ∷ []
 add_submission (c ∷ callers) s =
-    if bytes_eq s.caller c.name then record { name = c.name; scripts = c.scripts ++ s.script ∷ [] } ∷ callers else c ∷ add_submission callers s
+    if bytes_eq s.caller c.name then record { name = c.name; scripts = c.scripts ++ s.script ∷ [] } ∷ callers
+    else c ∷ add_submission callers s
 
 -- some caller has this name
 abbrev pub is_caller : List ℕ → List Caller → Bool

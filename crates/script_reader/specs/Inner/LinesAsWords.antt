@@ -26,4 +26,5 @@ lines_so_far books submissions = books_words books ++ ((codes "scripts" ∷ []) 
 
 -- these lines, and those of a script that has not ended
 abbrev pub lines_inside : ClearingBooks → List Submission → List ℕ → List Op → List (List (List ℕ))
-lines_inside books submissions name script = lines_so_far books submissions ++ ((codes "script" ∷ name ∷ []) ∷ map_list operation_words script)
+lines_inside books submissions name script =
+    lines_so_far books submissions ++ ((codes "script" ∷ name ∷ []) ∷ map_list operation_words script)

@@ -3,7 +3,8 @@ use Rattle.std.specs.Prelude.{◌≡◌, ℕ, true, not, List, [], ◌∷◌, Op
 use Rattle.std.specs.Option.{is_none}
 use Rattle.script_reader.specs.declared.fault.Fault.{Fault}
 use Rattle.script_reader.specs.declared.fault.Fault.TheVariants as fault
-use Rattle.script_reader.specs.Forms.{Words, Form, form_of, ranges_of, are_numbers, are_in_range}
+use Rattle.books_model.specs.declared.limits.TheConstants.{GREATEST_CASH, GREATEST_SHORTFALL}
+use Rattle.script_reader.specs.Forms.{Words, Form, accounts, prices, quantities, form_of, ranges_of, are_numbers, are_in_range}
 use Rattle.script_reader.specs.Faults.{first_reason}
 
 -- each word behind the first is a number in its range
@@ -29,3 +30,16 @@ row_fault forms words =
     ∷ (not (are_in_range (drop 1 words) (ranges_of form)), fault.Limit)
     ∷ []
     )
+
+-- the ranges of the numbers in each row of books, of as many instruments
+abbrev pub account_ranges : List (ℕ × ℕ)
+account_ranges = accounts ∷ (0, GREATEST_CASH) ∷ []
+
+abbrev pub price_ranges : ℕ → List (ℕ × ℕ)
+price_ranges instruments = (1, instruments) ∷ prices ∷ []
+
+abbrev pub position_ranges : ℕ → List (ℕ × ℕ)
+position_ranges instruments = accounts ∷ (1, instruments) ∷ quantities ∷ []
+
+abbrev pub call_ranges : List (ℕ × ℕ)
+call_ranges = accounts ∷ (1, GREATEST_SHORTFALL) ∷ []

@@ -9,7 +9,8 @@ use Rattle.script_reader.specs.Input.{Caller, ClearingInput, Submission, AreCall
 use Rattle.script_reader.specs.Inner.Callers.{is_caller, add_submission}
 use Rattle.script_reader.specs.Grammar.{Spells, submission_lines}
 
--- the text before begins with scripts that make the callers, and with the line `finish`, and goes on with the text after
+-- the text before begins with scripts that make the callers, and with the line `finish`, and goes on with the text
+-- after
 pub record IsReadOf (books : ClearingBooks) (callers : List Caller) (before after : List ℕ) : Type 0 where
   pub submissions : List Submission
   pub text : before ≡ flat_map submission_lines submissions ++ (finish_line ++ after)
@@ -22,13 +23,15 @@ pub record HasFront (input : ClearingInput) (before after : List ℕ) : Type 0 w
   pub text : before ≡ front ++ after
   pub spelled : Spells front input
 
--- the line begins a script, for which and for whose caller there is room; the text before begins with its other lines, and goes
--- on with the text after; and more is the callers with the script
-pub record IsAdded (books : ClearingBooks) (words : List (List ℕ)) (callers more : List Caller) (before after : List ℕ) : Type 0 where
+-- the line begins a script, for which and for whose caller there is room; the text before begins with its other
+-- lines, and goes on with the text after; and more is the callers with the script
+pub record IsAdded (books : ClearingBooks) (words : List (List ℕ)) (callers more : List Caller) (before after : List ℕ)
+    : Type 0 where
   pub submission : Submission
   pub begins : words ≡ codes "script" ∷ submission.caller ∷ []
   pub named : IsName submission.caller
-  pub room : (nat_le MOST_SCRIPTS (count_scripts callers) || (not (is_caller submission.caller callers) && nat_le MOST_CALLERS (length callers))) ≡ false
+  pub room : (nat_le MOST_SCRIPTS (count_scripts callers)
+      || (not (is_caller submission.caller callers) && nat_le MOST_CALLERS (length callers))) ≡ false
   pub valid : IsScriptFor books submission.script
   pub text : before ≡ operation_lines submission.script ++ (end_line ++ after)
   pub made : more ≡ add_submission callers submission

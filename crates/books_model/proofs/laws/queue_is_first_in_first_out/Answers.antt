@@ -1,6 +1,6 @@
 use Rattle.books_model.specs.Interpreter.{run_parts}
-use Rattle.books_model.proofs.Outcomes.{ends_done, stops_no_done}
-use Rattle.books_model.proofs.QueueLaws.{parts_in_order}
+use Rattle.books_model.proofs.Scripts.Outcomes.{ends_done, stops_no_done}
+use Rattle.books_model.proofs.Scripts.QueueLaws.{parts_in_order}
 use Rattle.books_model.proofs.laws.queue_is_first_in_first_out.Goals as goal
 
 pub returns : goal.returns

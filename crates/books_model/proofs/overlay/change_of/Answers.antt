@@ -1,5 +1,5 @@
 use Rattle.std.proofs.Common.{◌∙◌}
-use Rattle.books_model.proofs.Changes.{changed-found, changed-missed}
+use Rattle.books_model.proofs.Maps.Changes.{changed-found, changed-missed}
 use Rattle.books_model.proofs.overlay.change_of.Goals as goal
 
 pub returns-clause-changed : goal.returns-clause-changed

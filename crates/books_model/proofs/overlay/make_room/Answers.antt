@@ -4,8 +4,8 @@ use Rattle.std.specs.Map.{keys_of}
 use Rattle.std.specs.List.Sorted.{IsStrictlySortedBy}
 use Rattle.std.proofs.lemmas.Map.Keys.{sorted_tail}
 use Rattle.books_model.specs.declared.overlay.Change.{Change}
-use Rattle.books_model.proofs.Maps.{from_entries-inserted}
-use Rattle.books_model.proofs.Changes.{IsMaking, making-new, making-old}
+use Rattle.books_model.proofs.Maps.Trees.{from_entries-inserted}
+use Rattle.books_model.proofs.Maps.Changes.{IsMaking, making-new, making-old}
 use Rattle.books_model.proofs.overlay.make_room.Goals as goal
 
 pub loop-key-preserved-in_ok-insert : goal.loop-key-preserved-in_ok-insert

@@ -1,5 +1,5 @@
 use Rattle.books_model.specs.declared.overlay.Change.{Change}
-use Rattle.books_model.proofs.Changes.{changed-noted, KnowBefore-noted}
+use Rattle.books_model.proofs.Maps.Changes.{changed-noted, KnowBefore-noted}
 use Rattle.books_model.proofs.overlay.note_change.Goals as goal
 
 pub returns-clause-ok : goal.returns-clause-ok

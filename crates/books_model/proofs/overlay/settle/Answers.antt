@@ -5,7 +5,7 @@ use Rattle.std.specs.List.Sorted.{IsStrictlySortedBy}
 use Rattle.std.proofs.lemmas.Map.Keys.{sorted_tail}
 use Rattle.books_model.specs.declared.overlay.Change.{Change}
 use Rattle.books_model.specs.Inner.Changes.{HasRoomFor, changed, set_at}
-use Rattle.books_model.proofs.Changes.{HasRoomFor-further, changed-first, change_at_first}
+use Rattle.books_model.proofs.Maps.Changes.{HasRoomFor-further, changed-first, change_at_first}
 use Rattle.books_model.proofs.overlay.settle.Goals as goal
 
 pub set_value-requires : goal.set_value-requires

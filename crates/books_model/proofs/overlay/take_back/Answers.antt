@@ -5,8 +5,8 @@ use Rattle.std.specs.List.Sorted.{IsStrictlySortedBy}
 use Rattle.std.proofs.lemmas.Map.Keys.{sorted_tail}
 use Rattle.books_model.specs.Inner.Changes.{KnowBefore, IsRoomier}
 use Rattle.books_model.specs.declared.overlay.Change.{Change}
-use Rattle.books_model.proofs.Maps.{from_entries-removed}
-use Rattle.books_model.proofs.Changes.{KnowBefore-further, change_at_first, roomier-taken, roomier-left, roomier-none}
+use Rattle.books_model.proofs.Maps.Trees.{from_entries-removed}
+use Rattle.books_model.proofs.Maps.Changes.{KnowBefore-further, change_at_first, roomier-taken, roomier-left, roomier-none}
 use Rattle.books_model.proofs.overlay.take_back.Goals as goal
 
 pub loop-key-preserved-then-is_none : goal.loop-key-preserved-then-is_none

@@ -7,8 +7,8 @@ use Rattle.books_model.specs.Scripts.{operations_of}
 use Rattle.books_model.specs.Ranges.{IsOperationFor}
 use Rattle.books_model.specs.Interpreter.{after_step, after_values, run_from, run_parts}
 use Rattle.books_model.specs.Inner.Steps.{run_with, step_with}
-use Rattle.books_model.proofs.Branches.{All-front, All-back}
-use Rattle.books_model.proofs.Runs.{part_ends, part_stops, parts_end}
+use Rattle.books_model.proofs.Scripts.Branches.{All-front, All-back}
+use Rattle.books_model.proofs.Scripts.Runs.{part_ends, part_stops, parts_end}
 use Rattle.books_model.proofs.run.run_all.Goals as goal
 use Rattle.books_model.proofs.run.run_all.Goals.{In-Some}
 

@@ -1,7 +1,7 @@
 use Rattle.std.proofs.Common.{All, sym, subst, arith}
 use Rattle.books_model.specs.Inner.Draft.{Drafted}
 use Rattle.books_model.specs.Ranges.{IsOperationFor}
-use Rattle.books_model.proofs.Branches.{All-front, All-back}
+use Rattle.books_model.proofs.Scripts.Branches.{All-front, All-back}
 use Rattle.books_model.proofs.run.run_either.Goals as goal
 
 pub run_operations-requires-clause-range : goal.run_operations-requires-clause-range

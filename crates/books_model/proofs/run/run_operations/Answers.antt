@@ -6,7 +6,7 @@ use Rattle.books_model.specs.declared.script.Op.{Op}
 use Rattle.books_model.specs.Ranges.{IsOperationFor}
 use Rattle.books_model.specs.Interpreter.{after_values, run_from}
 use Rattle.books_model.specs.Inner.Steps.{step_with}
-use Rattle.books_model.proofs.Runs.{goes_on, is_declined, finds_no_block, ends}
+use Rattle.books_model.proofs.Scripts.Runs.{goes_on, is_declined, finds_no_block, ends}
 use Rattle.books_model.proofs.run.run_operations.Goals as goal
 use Rattle.books_model.proofs.run.run_operations.Goals.{In-Some}
 

@@ -3,10 +3,10 @@ use Rattle.std.specs.Cmp.{nat_cmp_total}
 use Rattle.std.specs.String.{string_bytes}
 use Rattle.std.specs.List.{flat_map}
 use Rattle.std.specs.FinMap.{entries, entries_sorted}
-use Rattle.books_model.proofs.Keys.{is_lt-nat_cmp}
+use Rattle.books_model.proofs.Maps.Keys.{is_lt-nat_cmp}
 use Rattle.script_reader.specs.Text.{account_line}
-use Rattle.books_report.proofs.Walks.{up_to, up_to-next, up_to_all, written_next}
-use Rattle.books_report.proofs.Walked.{accounts_from}
+use Rattle.books_report.proofs.Walking.Walks.{up_to, up_to-next, up_to_all, written_next}
+use Rattle.books_report.proofs.Walking.Walked.{accounts_from}
 use Rattle.books_report.proofs.books.write_accounts.Goals as goal
 
 pub loop-account-init : goal.loop-account-init

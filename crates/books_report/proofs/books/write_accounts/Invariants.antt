@@ -1,9 +1,9 @@
-use Rattle.std.proofs.Common.{◌≡◌, ◌-◌, ◌++◌, nat_lt}
+use Rattle.std.proofs.Common.{◌≡◌, ◌-◌, ◌^◌, ◌++◌, nat_lt}
 use Rattle.std.specs.String.{string_bytes}
 use Rattle.std.specs.List.{flat_map}
 use Rattle.std.specs.FinMap.{entries}
 use Rattle.script_reader.specs.Text.{account_line}
-use Rattle.books_report.proofs.Walks.{up_to}
+use Rattle.books_report.proofs.Walking.Walks.{up_to}
 use Rattle.books_report.proofs.books.write_accounts.Given as goal
 
 -- the accounts up to the last one are written
@@ -11,4 +11,4 @@ abbrev pub invariant-loop-account : goal.invariant-loop-account
 invariant-loop-account l = string_bytes l.text ≡ string_bytes l.fn.text ++ flat_map account_line (up_to nat_lt l.last (entries l.books.accounts))
 
 abbrev pub decreases-loop-account : goal.decreases-loop-account
-decreases-loop-account l = 4294967296 - l.last
+decreases-loop-account l = 2 ^ 32 - l.last

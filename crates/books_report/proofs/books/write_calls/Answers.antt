@@ -1,8 +1,8 @@
 use Rattle.std.specs.String.{string_bytes}
 use Rattle.std.proofs.Common.{take, ◌+◌}
 use Rattle.script_reader.specs.Text.{call_line}
-use Rattle.books_report.proofs.Journals.{take_next}
-use Rattle.books_report.proofs.Walks.{written_next}
+use Rattle.books_report.proofs.Outputs.Journals.{take_next}
+use Rattle.books_report.proofs.Walking.Walks.{written_next}
 use Rattle.books_report.proofs.books.write_calls.Goals as goal
 
 pub loop-place-preserved : goal.loop-place-preserved

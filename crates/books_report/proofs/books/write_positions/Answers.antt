@@ -6,8 +6,8 @@ use Rattle.std.specs.FinMap.{entries, entries_sorted}
 use Rattle.books_model.specs.Books.{position_cmp}
 use Rattle.books_model.specs.Inner.Keys.{positions_total}
 use Rattle.script_reader.specs.Text.{position_line}
-use Rattle.books_report.proofs.Walks.{up_to, up_to-next, up_to_all, fewer_left, written_next}
-use Rattle.books_report.proofs.Walked.{positions_from, found_entry, found_nothing}
+use Rattle.books_report.proofs.Walking.Walks.{up_to, up_to-next, up_to_all, fewer_left, written_next}
+use Rattle.books_report.proofs.Walking.Walked.{positions_from, found_entry, found_nothing}
 use Rattle.books_report.proofs.books.write_positions.Goals as goal
 
 abbrev later : ℕ × ℕ → ℕ × ℕ → Bool

@@ -5,7 +5,7 @@ use Rattle.std.specs.Ordering.{is_lt}
 use Rattle.std.specs.FinMap.{entries}
 use Rattle.books_model.specs.Books.{position_cmp}
 use Rattle.script_reader.specs.Text.{position_line}
-use Rattle.books_report.proofs.Walks.{up_to}
+use Rattle.books_report.proofs.Walking.Walks.{up_to}
 use Rattle.books_report.proofs.books.write_positions.Given as goal
 
 -- the positions up to the last one are written

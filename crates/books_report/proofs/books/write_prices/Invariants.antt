@@ -1,9 +1,9 @@
-use Rattle.std.proofs.Common.{◌≡◌, ◌-◌, ◌++◌, nat_lt}
+use Rattle.std.proofs.Common.{◌≡◌, ◌-◌, ◌^◌, ◌++◌, nat_lt}
 use Rattle.std.specs.String.{string_bytes}
 use Rattle.std.specs.List.{flat_map}
 use Rattle.std.specs.FinMap.{entries}
 use Rattle.script_reader.specs.Text.{price_line}
-use Rattle.books_report.proofs.Walks.{up_to}
+use Rattle.books_report.proofs.Walking.Walks.{up_to}
 use Rattle.books_report.proofs.books.write_prices.Given as goal
 
 -- the prices up to the last one are written
@@ -11,4 +11,4 @@ abbrev pub invariant-loop-instrument : goal.invariant-loop-instrument
 invariant-loop-instrument l = string_bytes l.text ≡ string_bytes l.fn.text ++ flat_map price_line (up_to nat_lt l.last (entries l.books.prices))
 
 abbrev pub decreases-loop-instrument : goal.decreases-loop-instrument
-decreases-loop-instrument l = 4294967296 - l.last
+decreases-loop-instrument l = 2 ^ 32 - l.last

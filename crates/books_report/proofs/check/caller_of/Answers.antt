@@ -2,9 +2,9 @@ use Rattle.std.proofs.Common.{◌≡◌, ◌≢◌, ℕ, ◌<◌, length, Option
 use Rattle.std.specs.Option.{IfSome, IfNone}
 use Rattle.std.specs.Str.{IsUtf8}
 use Rattle.script_reader.specs.Input.{caller_at}
-use Rattle.script_reader.proofs.Naming.{IsName-text}
-use Rattle.books_report.proofs.Rows.{caller_named}
-use Rattle.books_report.proofs.Histories.{one_caller}
+use Rattle.script_reader.proofs.Tokens.Naming.{IsName-text}
+use Rattle.books_report.proofs.Outputs.Rows.{caller_named}
+use Rattle.books_report.proofs.Order.Histories.{one_caller}
 use Rattle.books_report.proofs.check.caller_of.Goals as goal
 
 pub returns-in_default : goal.returns-in_default

@@ -7,11 +7,11 @@ use Rattle.books_report.specs.declared.check.Checked.TheVariants.{Agrees, Differ
 use Rattle.books_report.specs.Output.{IsOutput}
 use Rattle.books_report.specs.Checking.{IsFirstWrongLine}
 use Rattle.books_report.specs.Inner.Audit.{IsFound}
-use Rattle.books_report.proofs.Found.{agrees_found, differs_found}
+use Rattle.books_report.proofs.Checks.Found.{agrees_found, differs_found}
 use Rattle.books_report.proofs.check.check_text.Goals as goal
 
 pub returns-clause-output : goal.returns-clause-output
-returns-clause-output c = λ output. by output c.found_in.result c.found_in.ensures
+returns-clause-output c = λ output. by output c.check_lines.result c.check_lines.ensures
   where
     by : IsOutput c.args.input.now RESTARTS_BELOW c.args.text.now → (r : Result Checked OutOfMemory)
         → IfOk r (IsFound c.args.input.now c.args.text.now) → IfOk r (λ checked. checked ≡ Agrees)
@@ -19,7 +19,7 @@ returns-clause-output c = λ output. by output c.found_in.result c.found_in.ensu
     by output (Err e) found = tt
 
 pub returns-clause-wrong : goal.returns-clause-wrong
-returns-clause-wrong c = λ line wrong. by line wrong c.found_in.result c.found_in.ensures
+returns-clause-wrong c = λ line wrong. by line wrong c.check_lines.result c.check_lines.ensures
   where
     by : (line : ℕ) → IsFirstWrongLine c.args.input.now RESTARTS_BELOW c.args.text.now line
         → (r : Result Checked OutOfMemory) → IfOk r (IsFound c.args.input.now c.args.text.now) → IfOk r (λ checked. checked ≡ Differs line)

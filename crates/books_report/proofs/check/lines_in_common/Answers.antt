@@ -2,7 +2,7 @@ use Rattle.std.proofs.Common.{◌≡◌, ◌⊎◌, inl, inr, ℕ, List, [], ◌
 use Rattle.std.specs.Iterator.Adapters.{zip_first, zip_second}
 use Rattle.std.specs.Slice.Iter.{iter_rest}
 use Rattle.books_report.specs.Inner.Audit.{in_common}
-use Rattle.books_report.proofs.InCommon.{feeds}
+use Rattle.books_report.proofs.Checks.InCommon.{feeds}
 use Rattle.books_report.proofs.check.lines_in_common.Goals as goal
 
 -- nothing is in common with nothing

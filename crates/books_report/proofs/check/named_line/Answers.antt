@@ -4,8 +4,8 @@ use Rattle.script_reader.specs.declared.words.TheConstants.{SPACE}
 use Rattle.script_reader.specs.Lines.{IsFreeOf}
 use Rattle.script_reader.specs.Text.{number}
 use Rattle.script_reader.specs.Input.{ClearingInput, IsInput, caller_at}
-use Rattle.script_reader.proofs.Submitting.{caller-AreWords}
-use Rattle.books_report.proofs.Rows.{number-word, caller_named}
+use Rattle.script_reader.proofs.Grouped.Submitting.{caller-AreWords}
+use Rattle.books_report.proofs.Outputs.Rows.{number-word, caller_named}
 use Rattle.books_report.proofs.check.named_line.Goals as goal
 
 -- names and numbers have no space

@@ -2,7 +2,7 @@ use Rattle.std.proofs.Common.{◌≡◌, ◌++◌, ◌/◌, ap, ◌∙◌, arith
 use Rattle.std.proofs.lemmas.Result.{IfOk-weaker}
 use Rattle.std.specs.String.{string_bytes}
 use Rattle.script_reader.specs.Text.{number}
-use Rattle.books_report.proofs.Decimals.{two_more}
+use Rattle.books_report.proofs.Outputs.Decimals.{two_more}
 use Rattle.books_report.proofs.decimal.+push_number.Goals as goal
 use Rattle.books_report.proofs.decimal.+push_number.Goals.{then-most-lt100+in_ok-push_short, else-most-lt100+in_ok-push_number+in_ok-push_pair}
 

@@ -1,6 +1,6 @@
 use Rattle.std.proofs.lemmas.Result.{IfOk-weaker}
 use Rattle.std.specs.String.{string_bytes}
-use Rattle.books_report.proofs.Decimals.{one_digit, two_digits}
+use Rattle.books_report.proofs.Outputs.Decimals.{one_digit, two_digits}
 use Rattle.books_report.proofs.decimal.push_short.Goals as goal
 
 pub returns-then-value-lt10 : goal.returns-then-value-lt10

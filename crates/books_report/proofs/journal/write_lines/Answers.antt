@@ -7,7 +7,7 @@ use Rattle.script_reader.specs.Journal.{IsPlace}
 use Rattle.books_model.specs.declared.reply.Reply.{Reply}
 use Rattle.books_report.specs.declared.line.Line.{Line}
 use Rattle.books_report.specs.Lines.{lent, place_of_line}
-use Rattle.books_report.proofs.Journals.{line_next}
+use Rattle.books_report.proofs.Outputs.Journals.{line_next}
 use Rattle.books_report.proofs.journal.write_lines.Goals as goal
 
 pub loop-line-preserved : goal.loop-line-preserved

@@ -1,4 +1,4 @@
-use Rattle.books_report.proofs.Closing.{closing_books_open}
+use Rattle.books_report.proofs.Outputs.Closing.{closing_books_open}
 use Rattle.books_report.proofs.laws.closing_books_open.Goals as goal
 
 pub returns : goal.returns

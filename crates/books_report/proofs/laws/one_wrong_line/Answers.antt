@@ -1,4 +1,4 @@
-use Rattle.books_report.proofs.Wrong.{one_wrong}
+use Rattle.books_report.proofs.Checks.Wrong.{one_wrong}
 use Rattle.books_report.proofs.laws.one_wrong_line.Goals as goal
 
 pub returns : goal.returns

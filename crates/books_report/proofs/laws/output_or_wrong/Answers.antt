@@ -1,5 +1,5 @@
-use Rattle.books_report.proofs.Wrong.{none_of_output}
-use Rattle.books_report.proofs.Deciding.{decided}
+use Rattle.books_report.proofs.Checks.Wrong.{none_of_output}
+use Rattle.books_report.proofs.Checks.Deciding.{decided}
 use Rattle.books_report.proofs.laws.output_or_wrong.Goals as goal
 
 pub returns : goal.returns

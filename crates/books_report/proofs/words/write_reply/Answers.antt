@@ -1,6 +1,6 @@
 use Rattle.std.proofs.lemmas.Result.{IfOk-weaker}
 use Rattle.std.specs.String.{string_bytes}
-use Rattle.books_report.proofs.Journals.{done_values}
+use Rattle.books_report.proofs.Outputs.Journals.{done_values}
 use Rattle.books_report.proofs.words.write_reply.Goals as goal
 
 pub returns-in_ok-push_str-in-Done : goal.returns-in_ok-push_str-in-Done

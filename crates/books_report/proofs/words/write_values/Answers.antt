@@ -3,7 +3,7 @@ use Rattle.std.specs.Slice.Iter.{iter_rest}
 use Rattle.std.specs.String.{string_bytes}
 use Rattle.std.specs.List.{flat_map}
 use Rattle.std.proofs.lemmas.List.{nil_from_length}
-use Rattle.books_report.proofs.Journals.{spaced_word, value_next}
+use Rattle.books_report.proofs.Outputs.Journals.{spaced_word, value_next}
 use Rattle.books_report.proofs.words.write_values.Goals as goal
 
 pub loop-value-preserved : goal.loop-value-preserved

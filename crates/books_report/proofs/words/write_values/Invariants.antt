@@ -2,7 +2,7 @@ use Rattle.std.proofs.Common.{◌≡◌, ◌++◌}
 use Rattle.std.specs.Slice.Iter.{iter_rest}
 use Rattle.std.specs.String.{string_bytes}
 use Rattle.std.specs.List.{flat_map}
-use Rattle.books_report.proofs.Journals.{spaced_word}
+use Rattle.books_report.proofs.Outputs.Journals.{spaced_word}
 use Rattle.books_report.proofs.words.write_values.Given as goal
 
 -- the text so far and the values that are left are the whole

@@ -1,7 +1,7 @@
 use Rattle.std.proofs.Common.{◌+◌}
 use Rattle.std.specs.String.{string_bytes}
 use Rattle.script_reader.specs.Text.{account_line}
-use Rattle.books_report.proofs.Walks.{written_next}
+use Rattle.books_report.proofs.Walking.Walks.{written_next}
 use Rattle.input_maker.specs.Made.{accounts_to}
 use Rattle.input_maker.proofs.Listing.{written_none, accounts-more, accounts-none}
 use Rattle.input_maker.proofs.books.write_accounts.Goals as goal

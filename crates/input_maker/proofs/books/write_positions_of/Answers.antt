@@ -1,7 +1,7 @@
 use Rattle.std.proofs.Common.{◌+◌}
 use Rattle.std.specs.String.{string_bytes}
 use Rattle.script_reader.specs.Text.{position_line}
-use Rattle.books_report.proofs.Walks.{written_next}
+use Rattle.books_report.proofs.Walking.Walks.{written_next}
 use Rattle.input_maker.specs.Made.{positions_in}
 use Rattle.input_maker.proofs.Listing.{written_none, positions_in-more, positions_in-none}
 use Rattle.input_maker.proofs.books.write_positions_of.Goals as goal

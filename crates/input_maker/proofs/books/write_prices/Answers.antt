@@ -1,7 +1,7 @@
 use Rattle.std.proofs.Common.{◌+◌, ◌*◌}
 use Rattle.std.specs.String.{string_bytes}
 use Rattle.script_reader.specs.Text.{price_line}
-use Rattle.books_report.proofs.Walks.{written_next}
+use Rattle.books_report.proofs.Walking.Walks.{written_next}
 use Rattle.input_maker.specs.Made.{prices_to}
 use Rattle.input_maker.proofs.Listing.{written_none, prices-more, prices-none}
 use Rattle.input_maker.proofs.books.write_prices.Goals as goal

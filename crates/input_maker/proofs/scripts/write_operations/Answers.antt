@@ -2,7 +2,7 @@ use Rattle.std.proofs.Common.{◌+◌, ◌++◌, List, ℕ, sym, ap, ◌∙◌}
 use Rattle.std.specs.String.{string_bytes}
 use Rattle.books_model.specs.declared.script.Op.{Op}
 use Rattle.script_reader.specs.Text.{line, operation_words}
-use Rattle.books_report.proofs.Walks.{written_next}
+use Rattle.books_report.proofs.Walking.Walks.{written_next}
 use Rattle.input_maker.specs.Generator.{state_after}
 use Rattle.input_maker.specs.Made.{operation_from, operations_from, state_after_operations}
 use Rattle.input_maker.proofs.Listing.{written_none, operations-none, operations-more, states-none, states-more}

@@ -1,7 +1,7 @@
 use Rattle.std.proofs.Common.{◌+◌, ◌%◌, ◌++◌, ℕ, sym, ap, ◌∙◌}
 use Rattle.std.specs.String.{string_bytes}
 use Rattle.script_reader.specs.Grammar.{submission_lines}
-use Rattle.books_report.proofs.Walks.{written_next}
+use Rattle.books_report.proofs.Walking.Walks.{written_next}
 use Rattle.input_maker.specs.Made.{caller_name, script_from, state_after_script, made_submission, submissions_to}
 use Rattle.input_maker.proofs.Listing.{written_none, submissions-none, submissions-more, scripts-none, scripts-more}
 use Rattle.input_maker.proofs.scripts.write_scripts.Goals as goal

@@ -1,9 +1,10 @@
 use Rattle.std.proofs.Common.{ap, sym, subst, ◌∙◌, ◌≤◌}
 use Rattle.std.specs.FinMap as map
+use Rattle.books_model.specs.declared.limits.TheConstants.{GREATEST_CASH}
 use Rattle.books_model.specs.Books.{put_cash}
 use Rattle.books_model.specs.Ranges.{IsAccountNumber}
 use Rattle.script_reader.specs.Inner.LinesAsWords.{books_words}
-use Rattle.script_reader.proofs.Refusing.{gives_account}
+use Rattle.script_reader.proofs.LineFaults.Refusing.{gives_account}
 use Rattle.script_reader.proofs.books.add_account.Goals as goal
 
 pub add_account-requires-clause-account : goal.add_account-requires-clause-account
@@ -13,7 +14,7 @@ add_account-requires-clause-account c =
 
 pub add_account-requires-clause-cash : goal.add_account-requires-clause-cash
 add_account-requires-clause-cash c =
-    subst (λ n. n ≤ 1000000000000000) (sym c.in_ok-account.ensures.found.1)
+    subst (λ n. n ≤ GREATEST_CASH) (sym c.in_ok-account.ensures.found.1)
     (gives_account c.args.books.now c.ranges-2.ensures c.args.words.now c.requires c.in_ok-account.ensures.fine).fits
 
 pub add_account-requires-clause-absent : goal.add_account-requires-clause-absent

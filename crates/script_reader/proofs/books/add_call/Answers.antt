@@ -2,7 +2,7 @@ use Rattle.std.proofs.Common.{ap, sym, subst, ◌∙◌}
 use Rattle.books_model.specs.Books.{put_call}
 use Rattle.books_model.specs.Ranges.{IsCall}
 use Rattle.script_reader.specs.Inner.LinesAsWords.{books_words}
-use Rattle.script_reader.proofs.Refusing.{gives_call}
+use Rattle.script_reader.proofs.LineFaults.Refusing.{gives_call}
 use Rattle.script_reader.proofs.books.add_call.Goals as goal
 
 pub add_call-requires-clause-call : goal.add_call-requires-clause-call

@@ -1,6 +1,6 @@
 use Rattle.std.proofs.Common.{◌≡◌, Some, sym, ap, ◌∙◌}
 use Rattle.script_reader.specs.declared.fault.Fault.TheVariants as fault
-use Rattle.script_reader.proofs.Refusing.{word_fault}
+use Rattle.script_reader.proofs.LineFaults.Refusing.{word_fault}
 use Rattle.script_reader.proofs.books.add_line.Goals as goal
 
 pub returns-clause-fault : goal.returns-clause-fault

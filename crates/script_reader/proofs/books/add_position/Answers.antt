@@ -1,9 +1,10 @@
 use Rattle.std.proofs.Common.{ap, sym, subst, ◌∙◌, IsSome}
 use Rattle.std.specs.FinMap as map
+use Rattle.books_model.specs.declared.limits.TheConstants.{GREATEST_QUANTITY}
 use Rattle.books_model.specs.Books.{put_quantity}
 use Rattle.books_model.specs.Ranges.{IsWithin}
 use Rattle.script_reader.specs.Inner.LinesAsWords.{books_words}
-use Rattle.script_reader.proofs.Refusing.{gives_position}
+use Rattle.script_reader.proofs.LineFaults.Refusing.{gives_position}
 use Rattle.script_reader.proofs.books.add_position.Goals as goal
 
 pub add_position-requires-clause-account : goal.add_position-requires-clause-account
@@ -18,7 +19,7 @@ add_position-requires-clause-price c =
 
 pub add_position-requires-clause-quantity : goal.add_position-requires-clause-quantity
 add_position-requires-clause-quantity c =
-    subst (IsWithin 1 1000000) (sym c.in_ok-account.ensures.found.2) (gives_position c.args.books.now c.ranges-2.ensures
+    subst (IsWithin 1 GREATEST_QUANTITY) (sym c.in_ok-account.ensures.found.2) (gives_position c.args.books.now c.ranges-2.ensures
     c.args.words.now c.requires c.in_ok-account.ensures.fine).fits
 
 pub add_position-requires-clause-absent : goal.add_position-requires-clause-absent

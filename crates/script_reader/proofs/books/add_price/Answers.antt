@@ -1,9 +1,10 @@
 use Rattle.std.proofs.Common.{ap, sym, subst, ◌∙◌}
 use Rattle.std.specs.FinMap as map
+use Rattle.books_model.specs.declared.limits.TheConstants.{GREATEST_PRICE}
 use Rattle.books_model.specs.Books.{put_price}
 use Rattle.books_model.specs.Ranges.{IsWithin, IsInstrumentOf}
 use Rattle.script_reader.specs.Inner.LinesAsWords.{books_words}
-use Rattle.script_reader.proofs.Refusing.{gives_price}
+use Rattle.script_reader.proofs.LineFaults.Refusing.{gives_price}
 use Rattle.script_reader.proofs.books.add_price.Goals as goal
 
 pub add_price-requires-clause-instrument : goal.add_price-requires-clause-instrument
@@ -13,7 +14,7 @@ add_price-requires-clause-instrument c =
 
 pub add_price-requires-clause-price : goal.add_price-requires-clause-price
 add_price-requires-clause-price c =
-    subst (IsWithin 1 1000000000) (sym c.in_ok-instrument.ensures.found.1)
+    subst (IsWithin 1 GREATEST_PRICE) (sym c.in_ok-instrument.ensures.found.1)
     (gives_price c.args.books.now c.ranges-2.ensures c.args.words.now c.requires c.in_ok-instrument.ensures.fine).fits
 
 pub add_price-requires-clause-absent : goal.add_price-requires-clause-absent

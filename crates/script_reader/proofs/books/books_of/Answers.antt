@@ -5,9 +5,9 @@ use Rattle.std.specs.List.{flat_map}
 use Rattle.script_reader.specs.declared.fault.Refusal.TheVariants as refusal
 use Rattle.script_reader.specs.Text.{line}
 use Rattle.script_reader.specs.Faults.{AreFaultless, IsFaultyBehind}
-use Rattle.script_reader.proofs.BooksFaultless.{books_faultless}
-use Rattle.script_reader.proofs.Extending.{header_adds, books_of_header}
-use Rattle.script_reader.proofs.Following.{behind_more, behind_end, behind_line}
+use Rattle.script_reader.proofs.WithoutFault.BooksFaultless.{books_faultless}
+use Rattle.script_reader.proofs.Printing.Extending.{header_adds, books_of_header}
+use Rattle.script_reader.proofs.Texts.Following.{behind_more, behind_end, behind_line}
 use Rattle.script_reader.proofs.books.books_of.Goals as goal
 
 pub returns-in_err-words-clause-fault : goal.returns-in_err-words-clause-fault

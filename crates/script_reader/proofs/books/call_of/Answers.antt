@@ -1,7 +1,7 @@
 use Rattle.std.proofs.Common.{◌≡◌, true, false, not, ◌||◌, nat_le, length, ◌∙◌, arith}
 use Rattle.std.proofs.lemmas.Bool.{le-leb, lt-leb}
 use Rattle.std.proofs.lemmas.Result.{err_from_is_err_and}
-use Rattle.script_reader.proofs.Refusing.{reasons, numbers_first, call_fault}
+use Rattle.script_reader.proofs.LineFaults.Refusing.{reasons, numbers_first, call_fault}
 use Rattle.script_reader.proofs.books.call_of.Goals as goal
 
 pub returns-in_err-account-clause-err : goal.returns-in_err-account-clause-err

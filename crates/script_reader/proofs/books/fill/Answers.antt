@@ -9,9 +9,9 @@ use Rattle.script_reader.specs.Text.{line}
 use Rattle.script_reader.specs.Inner.LinesAsWords.{books_words}
 use Rattle.script_reader.specs.Forms.{Words}
 use Rattle.script_reader.specs.Faults.{AreFaultless, fault_of}
-use Rattle.script_reader.proofs.LineKinds.{only_word}
-use Rattle.script_reader.proofs.BooksFaultless.{books_faultless}
-use Rattle.script_reader.proofs.Following.{line_shorter, more_text, faultless_rest, behind_more, behind_end, behind_line}
+use Rattle.script_reader.proofs.LineFaults.LineKinds.{only_word}
+use Rattle.script_reader.proofs.WithoutFault.BooksFaultless.{books_faultless}
+use Rattle.script_reader.proofs.Texts.Following.{line_shorter, more_text, faultless_rest, behind_more, behind_end, behind_line}
 use Rattle.script_reader.proofs.books.fill.Goals as goal
 
 -- the lines that were read are those of books in range

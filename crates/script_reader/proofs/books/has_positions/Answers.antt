@@ -4,9 +4,9 @@ use Rattle.std.specs.Ordering.{is_lt}
 use Rattle.std.specs.FinMap as map
 use Rattle.std.proofs.lemmas.Bool.{lt-ltb}
 use Rattle.books_model.specs.Books.{position_cmp}
-use Rattle.books_model.proofs.Maps.{positions_total}
-use Rattle.script_reader.proofs.Sections.{each_entry, less_pair}
-use Rattle.script_reader.proofs.BooksFaultless.{some_of}
+use Rattle.books_model.proofs.Maps.Trees.{positions_total}
+use Rattle.script_reader.proofs.Printing.Sections.{each_entry, less_pair}
+use Rattle.script_reader.proofs.WithoutFault.BooksFaultless.{some_of}
 use Rattle.script_reader.proofs.Finding.{found_any, map_found}
 use Rattle.script_reader.proofs.books.has_positions.Goals as goal
 

@@ -3,13 +3,14 @@ use Rattle.std.specs.List.{list_any}
 use Rattle.std.specs.Option.{is_some}
 use Rattle.std.specs.FinMap as map
 use Rattle.std.proofs.lemmas.Result.{err_from_is_err_and}
-use Rattle.script_reader.specs.Forms.{are_numbers, are_in_range, value_at}
-use Rattle.script_reader.specs.Inner.Rows.{HasNumbers, numbers_fault}
+use Rattle.books_model.specs.declared.limits.TheConstants.{GREATEST_ACCOUNT}
+use Rattle.script_reader.specs.Forms.{are_numbers, are_in_range, value_at, accounts, quantities}
+use Rattle.script_reader.specs.Inner.Rows.{HasNumbers, numbers_fault, position_ranges}
 use Rattle.script_reader.proofs.Conditions.{is_some_list}
-use Rattle.script_reader.proofs.Printed.{is_low_in}
-use Rattle.script_reader.proofs.BooksFaultless.{printed}
-use Rattle.script_reader.proofs.Refusing.{reasons, numbers_first, some_is, has_no_block, position_fault, position_reasons}
-use Rattle.script_reader.proofs.Ranging.{first_within, second_within, row_length}
+use Rattle.script_reader.proofs.Printing.Printed.{is_low_in}
+use Rattle.script_reader.proofs.WithoutFault.BooksFaultless.{printed}
+use Rattle.script_reader.proofs.LineFaults.Refusing.{reasons, numbers_first, some_is, has_no_block, position_fault, position_reasons}
+use Rattle.script_reader.proofs.Tokens.Ranging.{first_within, second_within, row_length}
 use Rattle.script_reader.proofs.Finding.{low_position_found, given_is_found}
 use Rattle.script_reader.proofs.books.position_of.Goals as goal
 use Rattle.script_reader.proofs.books.position_of.Goals.{In_ok-account}
@@ -21,7 +22,7 @@ returns-then-has_calls-clause-err c =
     let late : is_some_list b.calls ≡ true = sym (some_is b.calls) ∙ sym c.has_calls.ensures ∙ c.if-has_calls.true in
     position_fault b c.ranges-2.ensures c.args.words.now c.requires
     ∙ (λ i. reasons false (late i) (not (are_numbers (drop 1 c.args.words.now)))
-    (not (are_in_range (drop 1 c.args.words.now) ((1, 4294967295) ∷ (1, b.instruments) ∷ (1, 1000000) ∷ [])) ||
+    (not (are_in_range (drop 1 c.args.words.now) (position_ranges b.instruments)) ||
     false) (is_low_in 2 (value_at c.args.words.now 1, value_at c.args.words.now 2) (printed b))
     (not (list_any (λ e. e.0 == value_at c.args.words.now 1) (map.entries b.accounts)))
     (not (list_any (λ e. e.0 == value_at c.args.words.now 2) (map.entries b.prices))) (has_no_block b))
@@ -34,25 +35,25 @@ returns-in_err-account-clause-err c =
     rw (p.1, p.2) (
     position_fault b c.ranges-2.ensures c.args.words.now c.requires
     ∙ (λ i. reasons false (late i) (not (are_numbers (drop 1 c.args.words.now)))
-    (not (are_in_range (drop 1 c.args.words.now) ((1, 4294967295) ∷ (1, b.instruments) ∷ (1, 1000000) ∷ [])) ||
+    (not (are_in_range (drop 1 c.args.words.now) (position_ranges b.instruments)) ||
     false) (is_low_in 2 (value_at c.args.words.now 1, value_at c.args.words.now 2) (printed b))
     (not (list_any (λ e. e.0 == value_at c.args.words.now 1) (map.entries b.accounts)))
     (not (list_any (λ e. e.0 == value_at c.args.words.now 2) (map.entries b.prices))) (has_no_block b))
     ∙ numbers_first _ _ false (is_low_in 2 (value_at c.args.words.now 1, value_at c.args.words.now 2) (printed b))
     (not (list_any (λ e. e.0 == value_at c.args.words.now 1) (map.entries b.accounts)))
     (not (list_any (λ e. e.0 == value_at c.args.words.now 2) (map.entries b.prices))) (has_no_block b) _
-    (subst (λ r. numbers_fault c.args.words.now ((1, 4294967295) ∷ r ∷ (1, 1000000) ∷ [])
+    (subst (λ r. numbers_fault c.args.words.now (accounts ∷ r ∷ quantities ∷ [])
     ≡ Some c.in_err-account.field-0.0) c.instruments_of-instruments.ensures.number c.in_err-account.ensures.err)
     )
 
 -- the numbers of the line
-numbers_of : (c : In_ok-account) → HasNumbers c.args.words.now ((1, 4294967295) ∷ (1, c.args.books.now.instruments) ∷ (1, 1000000) ∷ [])
-numbers_of c = subst (λ r. HasNumbers c.args.words.now ((1, 4294967295) ∷ r ∷ (1, 1000000) ∷ []))
+numbers_of : (c : In_ok-account) → HasNumbers c.args.words.now (position_ranges c.args.books.now.instruments)
+numbers_of c = subst (λ r. HasNumbers c.args.words.now (accounts ∷ r ∷ quantities ∷ []))
     c.instruments_of-instruments.ensures.number c.in_ok-account.ensures.found.0
 
-account_within : (c : In_ok-account) → IsWithin 1 4294967295 c.in_ok-account.account
-account_within c = subst (IsWithin 1 4294967295) (sym c.in_ok-account.ensures.found.1)
-    (first_within c.args.words.now 1 4294967295 _ (omega (arith, row_length (codes "position") 4 c.args.words.now c.requires)) (numbers_of c).in_range)
+account_within : (c : In_ok-account) → IsWithin 1 GREATEST_ACCOUNT c.in_ok-account.account
+account_within c = subst (IsWithin 1 GREATEST_ACCOUNT) (sym c.in_ok-account.ensures.found.1)
+    (first_within c.args.words.now 1 GREATEST_ACCOUNT _ (omega (arith, row_length (codes "position") 4 c.args.words.now c.requires)) (numbers_of c).in_range)
 
 instrument_within : (c : In_ok-account) → IsWithin 1 c.args.books.now.instruments c.in_ok-account.instrument
 instrument_within c = subst (IsWithin 1 c.args.books.now.instruments) (sym c.in_ok-account.ensures.found.2)
@@ -73,8 +74,8 @@ returns-then-is_some-clause-err c =
     let b = c.args.books.now in
     let words = c.args.words.now in
     let found = c.in_ok-account.ensures.found in
-    let numbers : HasNumbers words ((1, 4294967295) ∷ (1, b.instruments) ∷ (1, 1000000) ∷ []) =
-    subst (λ r. HasNumbers words ((1, 4294967295) ∷ r ∷ (1, 1000000) ∷ [])) c.instruments_of-instruments.ensures.number found.0 in
+    let numbers : HasNumbers words (position_ranges b.instruments) =
+    subst (λ r. HasNumbers words (accounts ∷ r ∷ quantities ∷ [])) c.instruments_of-instruments.ensures.number found.0 in
     let some : 1 ≤ c.in_ok-account.instrument =
     subst (λ n. 1 ≤ n) (sym found.2)
     (second_within words 1 b.instruments _ _ (omega (arith, row_length (codes "position") 4 words c.requires)) numbers.in_range).0 in
@@ -90,8 +91,8 @@ returns-then-is_none-clause-err c =
     let b = c.args.books.now in
     let words = c.args.words.now in
     let found = c.in_ok-account.ensures.found in
-    let numbers : HasNumbers words ((1, 4294967295) ∷ (1, b.instruments) ∷ (1, 1000000) ∷ []) =
-    subst (λ r. HasNumbers words ((1, 4294967295) ∷ r ∷ (1, 1000000) ∷ [])) c.instruments_of-instruments.ensures.number found.0 in
+    let numbers : HasNumbers words (position_ranges b.instruments) =
+    subst (λ r. HasNumbers words (accounts ∷ r ∷ quantities ∷ [])) c.instruments_of-instruments.ensures.number found.0 in
     let some : 1 ≤ c.in_ok-account.instrument =
     subst (λ n. 1 ≤ n) (sym found.2)
     (second_within words 1 b.instruments _ _ (omega (arith, row_length (codes "position") 4 words c.requires)) numbers.in_range).0 in
@@ -108,8 +109,8 @@ returns-then-is_none-2-clause-err c =
     let b = c.args.books.now in
     let words = c.args.words.now in
     let found = c.in_ok-account.ensures.found in
-    let numbers : HasNumbers words ((1, 4294967295) ∷ (1, b.instruments) ∷ (1, 1000000) ∷ []) =
-    subst (λ r. HasNumbers words ((1, 4294967295) ∷ r ∷ (1, 1000000) ∷ [])) c.instruments_of-instruments.ensures.number found.0 in
+    let numbers : HasNumbers words (position_ranges b.instruments) =
+    subst (λ r. HasNumbers words (accounts ∷ r ∷ quantities ∷ [])) c.instruments_of-instruments.ensures.number found.0 in
     let some : 1 ≤ c.in_ok-account.instrument =
     subst (λ n. 1 ≤ n) (sym found.2)
     (second_within words 1 b.instruments _ _ (omega (arith, row_length (codes "position") 4 words c.requires)) numbers.in_range).0 in
@@ -127,8 +128,8 @@ returns-then-is_full-clause-err c =
     let b = c.args.books.now in
     let words = c.args.words.now in
     let found = c.in_ok-account.ensures.found in
-    let numbers : HasNumbers words ((1, 4294967295) ∷ (1, b.instruments) ∷ (1, 1000000) ∷ []) =
-    subst (λ r. HasNumbers words ((1, 4294967295) ∷ r ∷ (1, 1000000) ∷ [])) c.instruments_of-instruments.ensures.number found.0 in
+    let numbers : HasNumbers words (position_ranges b.instruments) =
+    subst (λ r. HasNumbers words (accounts ∷ r ∷ quantities ∷ [])) c.instruments_of-instruments.ensures.number found.0 in
     let some : 1 ≤ c.in_ok-account.instrument =
     subst (λ n. 1 ≤ n) (sym found.2)
     (second_within words 1 b.instruments _ _ (omega (arith, row_length (codes "position") 4 words c.requires)) numbers.in_range).0 in
@@ -146,8 +147,8 @@ returns-clause-fine c =
     let b = c.args.books.now in
     let words = c.args.words.now in
     let found = c.in_ok-account.ensures.found in
-    let numbers : HasNumbers words ((1, 4294967295) ∷ (1, b.instruments) ∷ (1, 1000000) ∷ []) =
-    subst (λ r. HasNumbers words ((1, 4294967295) ∷ r ∷ (1, 1000000) ∷ [])) c.instruments_of-instruments.ensures.number found.0 in
+    let numbers : HasNumbers words (position_ranges b.instruments) =
+    subst (λ r. HasNumbers words (accounts ∷ r ∷ quantities ∷ [])) c.instruments_of-instruments.ensures.number found.0 in
     let some : 1 ≤ c.in_ok-account.instrument =
     subst (λ n. 1 ≤ n) (sym found.2)
     (second_within words 1 b.instruments _ _ (omega (arith, row_length (codes "position") 4 words c.requires)) numbers.in_range).0 in

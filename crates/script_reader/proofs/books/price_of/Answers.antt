@@ -3,22 +3,22 @@ use Rattle.std.specs.Option.{is_some}
 use Rattle.std.specs.FinMap as map
 use Rattle.std.proofs.lemmas.Result.{err_from_is_err_and}
 use Rattle.books_model.specs.Ranges.{IsWithin}
-use Rattle.script_reader.specs.Forms.{are_numbers, are_in_range, value_at}
-use Rattle.script_reader.specs.Inner.Rows.{HasNumbers, numbers_fault}
+use Rattle.script_reader.specs.Forms.{are_numbers, are_in_range, value_at, prices}
+use Rattle.script_reader.specs.Inner.Rows.{HasNumbers, numbers_fault, price_ranges}
 use Rattle.script_reader.proofs.Conditions.{or_false}
-use Rattle.script_reader.proofs.Printed.{is_late_in, is_low_in}
-use Rattle.script_reader.proofs.BooksFaultless.{printed}
-use Rattle.script_reader.proofs.Refusing.{reasons, numbers_first, some_is, has_no_block, price_fault}
-use Rattle.script_reader.proofs.Ranging.{first_within, row_length}
+use Rattle.script_reader.proofs.Printing.Printed.{is_late_in, is_low_in}
+use Rattle.script_reader.proofs.WithoutFault.BooksFaultless.{printed}
+use Rattle.script_reader.proofs.LineFaults.Refusing.{reasons, numbers_first, some_is, has_no_block, price_fault}
+use Rattle.script_reader.proofs.Tokens.Ranging.{first_within, row_length}
 use Rattle.script_reader.proofs.Finding.{low_found}
 use Rattle.script_reader.proofs.books.price_of.Goals as goal
 use Rattle.script_reader.proofs.books.price_of.Goals.{In_ok-instrument}
 
 instrument_within : (c : In_ok-instrument) → IsWithin 1 c.args.books.now.instruments c.in_ok-instrument.instrument
 instrument_within c = subst (IsWithin 1 c.args.books.now.instruments) (sym c.in_ok-instrument.ensures.found.1)
-    (first_within c.args.words.now 1 c.args.books.now.instruments ((1, 1000000000) ∷ [])
+    (first_within c.args.words.now 1 c.args.books.now.instruments (prices ∷ [])
     (omega (arith, row_length (codes "price") 3 c.args.words.now c.requires))
-    (subst (λ r. HasNumbers c.args.words.now (r ∷ (1, 1000000000) ∷ [])) c.instruments_of-instruments.ensures.number
+    (subst (λ r. HasNumbers c.args.words.now (r ∷ prices ∷ [])) c.instruments_of-instruments.ensures.number
     c.in_ok-instrument.ensures.found.0).in_range)
 
 pub overflow_cast-instrument : goal.overflow_cast-instrument
@@ -34,7 +34,7 @@ returns-then-is_past_prices-clause-err c =
     ∙ sym c.is_past_prices.ensures ∙ c.if-is_past_prices.true in
     price_fault b c.ranges-2.ensures c.args.words.now c.requires
     ∙ (λ i. reasons false (late i) (not (are_numbers (drop 1 c.args.words.now)))
-    (not (are_in_range (drop 1 c.args.words.now) ((1, b.instruments) ∷ (1, 1000000000) ∷ [])) || false)
+    (not (are_in_range (drop 1 c.args.words.now) (price_ranges b.instruments)) || false)
     (is_low_in 1 (value_at c.args.words.now 1, 0) (printed b)) false false (has_no_block b))
 
 pub returns-in_err-instrument-clause-err : goal.returns-in_err-instrument-clause-err
@@ -46,10 +46,10 @@ returns-in_err-instrument-clause-err c =
     rw (p.1, p.2) (
     price_fault b c.ranges-2.ensures c.args.words.now c.requires
     ∙ (λ i. reasons false (late i) (not (are_numbers (drop 1 c.args.words.now)))
-    (not (are_in_range (drop 1 c.args.words.now) ((1, b.instruments) ∷ (1, 1000000000) ∷ [])) || false)
+    (not (are_in_range (drop 1 c.args.words.now) (price_ranges b.instruments)) || false)
     (is_low_in 1 (value_at c.args.words.now 1, 0) (printed b)) false false (has_no_block b))
     ∙ numbers_first _ _ false (is_low_in 1 (value_at c.args.words.now 1, 0) (printed b)) false false (has_no_block b) _
-    (subst (λ r. numbers_fault c.args.words.now (r ∷ (1, 1000000000) ∷ []) ≡ Some c.in_err-instrument.field-0.0)
+    (subst (λ r. numbers_fault c.args.words.now (r ∷ prices ∷ []) ≡ Some c.in_err-instrument.field-0.0)
     c.instruments_of-instruments.ensures.number c.in_err-instrument.ensures.err)
     )
 
@@ -58,9 +58,9 @@ returns-then-is_some-clause-err c =
     let b = c.args.books.now in
     let late : is_late_in 1 (printed b) ≡ false = sym (λ i. some_is (map.entries b.positions) i || some_is b.calls i)
     ∙ sym c.is_past_prices.ensures ∙ c.if-is_past_prices.false in
-    let found : HasNumbers c.args.words.now ((1, b.instruments) ∷ (1, 1000000000) ∷ [])
+    let found : HasNumbers c.args.words.now (price_ranges b.instruments)
     × (c.in_ok-instrument.instrument ≡ value_at c.args.words.now 1) = (
-      subst (λ r. HasNumbers c.args.words.now (r ∷ (1, 1000000000) ∷ [])) c.instruments_of-instruments.ensures.number
+      subst (λ r. HasNumbers c.args.words.now (r ∷ prices ∷ [])) c.instruments_of-instruments.ensures.number
           c.in_ok-instrument.ensures.found.0,
       c.in_ok-instrument.ensures.found.1,
     ) in
@@ -69,7 +69,7 @@ returns-then-is_some-clause-err c =
     (omega (
       arith,
       found.1,
-      (first_within c.args.words.now 1 b.instruments ((1, 1000000000) ∷ [])
+      (first_within c.args.words.now 1 b.instruments (prices ∷ [])
           (omega (arith, row_length (codes "price") 3 c.args.words.now c.requires)) found.0.in_range).0,
     )) found.1)
     ∙ sym (ap is_some c.price_after.ensures.first) ∙ sym c.is_some.ensures ∙ c.if-is_some.true in
@@ -81,9 +81,9 @@ returns-then-is_full-clause-err c =
     let b = c.args.books.now in
     let late : is_late_in 1 (printed b) ≡ false = sym (λ i. some_is (map.entries b.positions) i || some_is b.calls i)
     ∙ sym c.is_past_prices.ensures ∙ c.if-is_past_prices.false in
-    let found : HasNumbers c.args.words.now ((1, b.instruments) ∷ (1, 1000000000) ∷ [])
+    let found : HasNumbers c.args.words.now (price_ranges b.instruments)
     × (c.in_ok-instrument.instrument ≡ value_at c.args.words.now 1) = (
-      subst (λ r. HasNumbers c.args.words.now (r ∷ (1, 1000000000) ∷ [])) c.instruments_of-instruments.ensures.number
+      subst (λ r. HasNumbers c.args.words.now (r ∷ prices ∷ [])) c.instruments_of-instruments.ensures.number
           c.in_ok-instrument.ensures.found.0,
       c.in_ok-instrument.ensures.found.1,
     ) in
@@ -92,7 +92,7 @@ returns-then-is_full-clause-err c =
     (omega (
       arith,
       found.1,
-      (first_within c.args.words.now 1 b.instruments ((1, 1000000000) ∷ [])
+      (first_within c.args.words.now 1 b.instruments (prices ∷ [])
           (omega (arith, row_length (codes "price") 3 c.args.words.now c.requires)) found.0.in_range).0,
     )) found.1)
     ∙ sym (ap is_some c.price_after.ensures.first) ∙ sym c.is_some.ensures ∙ c.if-is_some.false in
@@ -105,9 +105,9 @@ returns-clause-fine c =
     let b = c.args.books.now in
     let late : is_late_in 1 (printed b) ≡ false = sym (λ i. some_is (map.entries b.positions) i || some_is b.calls i)
     ∙ sym c.is_past_prices.ensures ∙ c.if-is_past_prices.false in
-    let found : HasNumbers c.args.words.now ((1, b.instruments) ∷ (1, 1000000000) ∷ [])
+    let found : HasNumbers c.args.words.now (price_ranges b.instruments)
     × (c.in_ok-instrument.instrument ≡ value_at c.args.words.now 1) = (
-      subst (λ r. HasNumbers c.args.words.now (r ∷ (1, 1000000000) ∷ [])) c.instruments_of-instruments.ensures.number
+      subst (λ r. HasNumbers c.args.words.now (r ∷ prices ∷ [])) c.instruments_of-instruments.ensures.number
           c.in_ok-instrument.ensures.found.0,
       c.in_ok-instrument.ensures.found.1,
     ) in
@@ -116,7 +116,7 @@ returns-clause-fine c =
     (omega (
       arith,
       found.1,
-      (first_within c.args.words.now 1 b.instruments ((1, 1000000000) ∷ [])
+      (first_within c.args.words.now 1 b.instruments (prices ∷ [])
           (omega (arith, row_length (codes "price") 3 c.args.words.now c.requires)) found.0.in_range).0,
     )) found.1)
     ∙ sym (ap is_some c.price_after.ensures.first) ∙ sym c.is_some.ensures ∙ c.if-is_some.false in

@@ -1,19 +1,20 @@
 use Rattle.std.proofs.Common.{lit<, ◌≡◌, Bool, true, false, not, ◌&&◌, ◌∷◌, [], Some, refl, sym, ap, ◌∙◌}
 use Rattle.std.proofs.lemmas.Result.{err_from_is_err_and}
+use Rattle.books_model.specs.declared.limits.TheConstants.{MOST_BLOCKS, MOST_INSTRUMENTS, MOST_RING}
 use Rattle.script_reader.specs.declared.fault.Fault.TheVariants as fault
 use Rattle.script_reader.specs.Number.{is_number}
 use Rattle.script_reader.specs.Lines.{word_at}
 use Rattle.script_reader.specs.Forms.{Words, is_header, is_in_range}
 use Rattle.script_reader.specs.Faults.{first_reason, header_fault}
 use Rattle.script_reader.proofs.Conditions.{and_true}
-use Rattle.script_reader.proofs.Ranging.{ranged_true, ranged_false, ranged_value}
-use Rattle.script_reader.proofs.Pairs.{not_both, pair_false}
+use Rattle.script_reader.proofs.Tokens.Ranging.{ranged_true, ranged_false, ranged_value}
+use Rattle.script_reader.proofs.Tokens.Pairs.{not_both, pair_false}
 use Rattle.script_reader.proofs.books.sizes_of.Goals as goal
 
 -- what is wrong with a header whose words and whose numbers are tested
 tested : (words : Words) (header numbers ranges : Bool) → is_header words ≡ header
     → (is_number (word_at words 3) && (is_number (word_at words 5) && (is_number (word_at words 7) && true))) ≡ numbers
-    → (is_in_range (word_at words 3, (1, 16384)) && (is_in_range (word_at words 5, (1, 64)) && (is_in_range (word_at words 7, (1, 1024)) && true))) ≡ ranges
+    → (is_in_range (word_at words 3, (1, MOST_BLOCKS)) && (is_in_range (word_at words 5, (1, MOST_INSTRUMENTS)) && (is_in_range (word_at words 7, (1, MOST_RING)) && true))) ≡ ranges
     → header_fault words ≡ first_reason ((not header, fault.Header) ∷ (not numbers, fault.Number) ∷ (not ranges, fault.Limit) ∷ [])
 tested words header numbers ranges h n r i = first_reason ((not (h i), fault.Header) ∷ (not (n i), fault.Number) ∷ (not (r i), fault.Limit) ∷ [])
 
@@ -25,8 +26,8 @@ no_number words h n = tested words true false _ h n refl
 -- a header whose numbers are not in their ranges
 beyond : (words : Words) → is_header words ≡ true
     → (is_number (word_at words 3) && (is_number (word_at words 5) && (is_number (word_at words 7) && true))) ≡ true
-    → (is_in_range (word_at words 3, (1, 16384)) &&
-    (is_in_range (word_at words 5, (1, 64)) && (is_in_range (word_at words 7, (1, 1024)) && true))) ≡ false → header_fault words ≡ Some fault.Limit
+    → (is_in_range (word_at words 3, (1, MOST_BLOCKS)) &&
+    (is_in_range (word_at words 5, (1, MOST_INSTRUMENTS)) && (is_in_range (word_at words 7, (1, MOST_RING)) && true))) ≡ false → header_fault words ≡ Some fault.Limit
 beyond words h n r = tested words true true false h n r
 
 pub returns-in_err-blocks-clause-err : goal.returns-in_err-blocks-clause-err
@@ -53,8 +54,8 @@ returns-in_err-both_within-clause-err c =
     rw (p.1, p.2) (
     beyond c.args.words.now (sym c.is_header.ensures ∙ c.if-not-is_header.false)
     (and_true c.in_ok-blocks.ensures.found.0 (and_true c.in_ok-blocks.ensures.found.1 (and_true c.in_ok-ring.ensures.found.0 refl)))
-    (not_both _ _ (is_in_range (word_at c.args.words.now 7, (1, 1024)) && true)
-    (pair_false (word_at c.args.words.now 3) (word_at c.args.words.now 5) (1, 16384) (1, 64) c.in_ok-blocks.blocks
+    (not_both _ _ (is_in_range (word_at c.args.words.now 7, (1, MOST_RING)) && true)
+    (pair_false (word_at c.args.words.now 3) (word_at c.args.words.now 5) (1, MOST_BLOCKS) (1, MOST_INSTRUMENTS) c.in_ok-blocks.blocks
     c.in_ok-blocks.instruments (lit< tt) (lit< tt) c.in_ok-blocks.ensures.found.2 c.in_ok-blocks.ensures.found.3 c.in_err-both_within.ensures.err.1))
     ∙ ap Some (sym c.in_err-both_within.ensures.err.0)
     )
@@ -65,11 +66,11 @@ returns-in_err-within-clause-err c =
     rw (p.1, p.2) (
     beyond c.args.words.now (sym c.is_header.ensures ∙ c.if-not-is_header.false)
     (and_true c.in_ok-blocks.ensures.found.0 (and_true c.in_ok-blocks.ensures.found.1 (and_true c.in_ok-ring.ensures.found.0 refl)))
-    (λ t. (ranged_true (word_at c.args.words.now 3) 1 16384 c.in_ok-blocks.blocks (lit< tt)
+    (λ t. (ranged_true (word_at c.args.words.now 3) 1 MOST_BLOCKS c.in_ok-blocks.blocks (lit< tt)
     c.in_ok-blocks.ensures.found.2 c.in_ok-both_within.ensures.ok.0) t &&
-    ((ranged_true (word_at c.args.words.now 5) 1 64 c.in_ok-blocks.instruments (lit< tt)
+    ((ranged_true (word_at c.args.words.now 5) 1 MOST_INSTRUMENTS c.in_ok-blocks.instruments (lit< tt)
     c.in_ok-blocks.ensures.found.3 c.in_ok-both_within.ensures.ok.1) t &&
-    ((ranged_false (word_at c.args.words.now 7) 1 1024 c.in_ok-ring.ring (lit< tt) c.in_ok-ring.ensures.found.1 c.in_err-within.ensures.range) t && true)))
+    ((ranged_false (word_at c.args.words.now 7) 1 MOST_RING c.in_ok-ring.ring (lit< tt) c.in_ok-ring.ensures.found.1 c.in_err-within.ensures.range) t && true)))
     ∙ ap Some (sym c.in_err-within.ensures.err)
     )
 
@@ -77,16 +78,16 @@ pub returns-clause-fine : goal.returns-clause-fine
 returns-clause-fine c = tested c.args.words.now true true true (sym c.is_header.ensures ∙ c.if-not-is_header.false)
     (and_true c.in_ok-blocks.ensures.found.0
     (and_true c.in_ok-blocks.ensures.found.1 (and_true c.in_ok-ring.ensures.found.0 refl)))
-    (and_true (ranged_true (word_at c.args.words.now 3) 1 16384 c.in_ok-blocks.blocks (lit< tt)
+    (and_true (ranged_true (word_at c.args.words.now 3) 1 MOST_BLOCKS c.in_ok-blocks.blocks (lit< tt)
     c.in_ok-blocks.ensures.found.2 c.in_ok-both_within.ensures.ok.0)
-    (and_true (ranged_true (word_at c.args.words.now 5) 1 64 c.in_ok-blocks.instruments (lit< tt)
+    (and_true (ranged_true (word_at c.args.words.now 5) 1 MOST_INSTRUMENTS c.in_ok-blocks.instruments (lit< tt)
     c.in_ok-blocks.ensures.found.3 c.in_ok-both_within.ensures.ok.1)
-    (and_true (ranged_true (word_at c.args.words.now 7) 1 1024 c.in_ok-ring.ring (lit< tt) c.in_ok-ring.ensures.found.1 c.in_ok-within.ensures.range.0) refl)))
+    (and_true (ranged_true (word_at c.args.words.now 7) 1 MOST_RING c.in_ok-ring.ring (lit< tt) c.in_ok-ring.ensures.found.1 c.in_ok-within.ensures.range.0) refl)))
 
 pub returns-clause-found : goal.returns-clause-found
 returns-clause-found c = (
-  ranged_value (word_at c.args.words.now 3) 1 16384 c.in_ok-blocks.blocks (lit< tt) c.in_ok-blocks.ensures.found.2 c.in_ok-both_within.ensures.ok.0,
-  ranged_value (word_at c.args.words.now 5) 1 64 c.in_ok-blocks.instruments (lit< tt) c.in_ok-blocks.ensures.found.3 c.in_ok-both_within.ensures.ok.1,
-  c.in_ok-within.ensures.range.1 ∙ ranged_value (word_at c.args.words.now 7) 1 1024 c.in_ok-ring.ring (lit< tt)
+  ranged_value (word_at c.args.words.now 3) 1 MOST_BLOCKS c.in_ok-blocks.blocks (lit< tt) c.in_ok-blocks.ensures.found.2 c.in_ok-both_within.ensures.ok.0,
+  ranged_value (word_at c.args.words.now 5) 1 MOST_INSTRUMENTS c.in_ok-blocks.instruments (lit< tt) c.in_ok-blocks.ensures.found.3 c.in_ok-both_within.ensures.ok.1,
+  c.in_ok-within.ensures.range.1 ∙ ranged_value (word_at c.args.words.now 7) 1 MOST_RING c.in_ok-ring.ring (lit< tt)
       c.in_ok-ring.ensures.found.1 c.in_ok-within.ensures.range.0,
 )

@@ -3,7 +3,7 @@ use Rattle.std.specs.List.{position_or_len}
 use Rattle.std.specs.Str.{bytes_eq}
 use Rattle.std.specs.String.{string_bytes}
 use Rattle.script_reader.specs.Input.{add_name}
-use Rattle.script_reader.proofs.Gathering.{any-map, keys-add, name-known, position-found, position-map}
+use Rattle.script_reader.proofs.Grouped.Gathering.{any-map, keys-add, name-known, position-found, position-map}
 use Rattle.script_reader.proofs.callers.place_of.Goals as goal
 
 pub returns-in-Some-clause-names : goal.returns-in-Some-clause-names

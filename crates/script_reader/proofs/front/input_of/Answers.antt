@@ -3,7 +3,7 @@ use Rattle.std.proofs.lemmas.Result.{err_from_is_err_and}
 use Rattle.script_reader.specs.declared.fault.Refusal.TheVariants as refusal
 use Rattle.script_reader.specs.Inner.Callers.{callers_in}
 use Rattle.script_reader.specs.Inner.Scripts.{HasFront}
-use Rattle.script_reader.proofs.Fronting.{behind_books, front_of}
+use Rattle.script_reader.proofs.Texts.Fronting.{behind_books, front_of}
 use Rattle.script_reader.proofs.front.input_of.Goals as goal
 
 pub returns-in_err-callers-clause-fault : goal.returns-in_err-callers-clause-fault

@@ -10,10 +10,10 @@ use Rattle.script_reader.specs.Input.{ClearingInput}
 use Rattle.script_reader.specs.Grammar.{Spells}
 use Rattle.script_reader.specs.Inner.Scripts.{HasFront}
 use Rattle.script_reader.specs.Faults.{IsFaultyBehind, IsFrontFault}
-use Rattle.script_reader.proofs.Counting.{Told, told, feeds}
-use Rattle.script_reader.proofs.Deciding.{front_not_both, fronts_once, one_fault}
-use Rattle.script_reader.proofs.Fronting.{take_front}
-use Rattle.script_reader.proofs.OneInput.{one_input}
+use Rattle.script_reader.proofs.Texts.Counting.{Told, told, feeds}
+use Rattle.script_reader.proofs.Texts.Deciding.{front_not_both, fronts_once, one_fault}
+use Rattle.script_reader.proofs.Texts.Fronting.{take_front}
+use Rattle.script_reader.proofs.Texts.OneInput.{one_input}
 use Rattle.script_reader.proofs.front.read_front.Goals as goal
 
 -- a text that was read behind, and the number of its faulty line

@@ -10,10 +10,10 @@ use Rattle.script_reader.specs.declared.words.TheConstants.{LINE_FEED}
 use Rattle.script_reader.specs.Input.{ClearingInput}
 use Rattle.script_reader.specs.Grammar.{Spells}
 use Rattle.script_reader.specs.Faults.{GoesOn, IsFirstFault}
-use Rattle.script_reader.proofs.Counting.{few_of_input}
-use Rattle.script_reader.proofs.Deciding.{not_both, one_fault}
-use Rattle.script_reader.proofs.Fronting.{take_front}
-use Rattle.script_reader.proofs.OneInput.{one_input}
+use Rattle.script_reader.proofs.Texts.Counting.{few_of_input}
+use Rattle.script_reader.proofs.Texts.Deciding.{not_both, one_fault}
+use Rattle.script_reader.proofs.Texts.Fronting.{take_front}
+use Rattle.script_reader.proofs.Texts.OneInput.{one_input}
 use Rattle.script_reader.proofs.front.read_input.Goals as goal
 
 -- a text that goes on begins with one of an input

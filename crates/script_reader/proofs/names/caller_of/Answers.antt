@@ -3,7 +3,7 @@ use Rattle.std.specs.Result.{IfOk}
 use Rattle.script_reader.specs.declared.fault.Fault.{Fault}
 use Rattle.script_reader.specs.Input.{IsName}
 use Rattle.script_reader.specs.Lines.{word_at}
-use Rattle.script_reader.proofs.LineKinds.{behind_keyword, one_word}
+use Rattle.script_reader.proofs.LineFaults.LineKinds.{behind_keyword, one_word}
 use Rattle.script_reader.proofs.names.caller_of.Goals as goal
 
 pub returns-clause-found : goal.returns-clause-found

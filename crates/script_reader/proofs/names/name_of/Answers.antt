@@ -1,5 +1,5 @@
 use Rattle.std.proofs.Common.{sym, ◌∙◌}
-use Rattle.script_reader.proofs.Naming.{IsName-text}
+use Rattle.script_reader.proofs.Tokens.Naming.{IsName-text}
 use Rattle.script_reader.proofs.names.name_of.Goals as goal
 
 pub returns-in_default-clause-none : goal.returns-in_default-clause-none

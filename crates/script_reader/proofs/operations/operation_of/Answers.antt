@@ -1,5 +1,5 @@
 use Rattle.std.proofs.Common.{codes, sym, ◌∙◌}
-use Rattle.script_reader.proofs.LineKinds.{only_word}
+use Rattle.script_reader.proofs.LineFaults.LineKinds.{only_word}
 use Rattle.script_reader.proofs.operations.operation_of.Goals as goal
 
 pub returns-in_default-clause-found : goal.returns-in_default-clause-found

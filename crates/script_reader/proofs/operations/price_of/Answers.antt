@@ -1,10 +1,10 @@
 use Rattle.std.proofs.Common.{lit<, ◌≡◌, ◌∷◌, [], codes, Some, refl, subst, arith}
 use Rattle.std.proofs.lemmas.Result.{err_from_is_err_and}
-use Rattle.script_reader.specs.Forms.{script_forms}
+use Rattle.script_reader.specs.Forms.{script_forms, prices}
 use Rattle.script_reader.specs.Inner.Rows.{HasNumbers, numbers_fault}
-use Rattle.script_reader.proofs.BooksFaultless.{instruments_fit}
-use Rattle.script_reader.proofs.Operating.{row_two}
-use Rattle.script_reader.proofs.RowFaults.{two_wrong}
+use Rattle.script_reader.proofs.WithoutFault.BooksFaultless.{instruments_fit}
+use Rattle.script_reader.proofs.LineFaults.Operating.{row_two}
+use Rattle.script_reader.proofs.LineFaults.RowFaults.{two_wrong}
 use Rattle.script_reader.proofs.operations.price_of.Goals as goal
 
 pub returns-in_err-instrument-clause-err : goal.returns-in_err-instrument-clause-err
@@ -13,23 +13,20 @@ returns-in_err-instrument-clause-err c =
     rw (p.1, p.2) (two_wrong (script_forms c.args.books.now.instruments) c.args.words.now (codes "price") (
       1,
       c.args.books.now.instruments,
-    ) (1, 1000000000) _ (λ a b. refl) c.requires
-    (subst (λ r. numbers_fault c.args.words.now (r ∷ (1, 1000000000) ∷ []) ≡ Some c.in_err-instrument.field-0.0)
+    ) prices _ (λ a b. refl) c.requires
+    (subst (λ r. numbers_fault c.args.words.now (r ∷ prices ∷ []) ≡ Some c.in_err-instrument.field-0.0)
     c.instruments_of.ensures.number c.in_err-instrument.ensures.err))
 
 pub overflow_cast-result : goal.overflow_cast-result
-overflow_cast-result c = let read = row_two (codes "price") c.args.words.now (1, c.args.books.now.instruments) (
-  1,
-  1000000000,
-) c.in_ok-instrument.instrument c.in_ok-instrument.price c.requires
+overflow_cast-result c = let read = row_two (codes "price") c.args.words.now (1, c.args.books.now.instruments) prices c.in_ok-instrument.instrument c.in_ok-instrument.price c.requires
     (instruments_fit c.args.books.now c.ranges-2.ensures) (lit< tt)
-    (subst (λ r. HasNumbers c.args.words.now (r ∷ (1, 1000000000) ∷ [])) c.instruments_of.ensures.number
+    (subst (λ r. HasNumbers c.args.words.now (r ∷ prices ∷ [])) c.instruments_of.ensures.number
     c.in_ok-instrument.ensures.found.0) c.in_ok-instrument.ensures.found.1 c.in_ok-instrument.ensures.found.2 in
     omega (arith, read.0.0.1, c.ranges-2.ensures.instruments.1)
 
 pub returns-clause-found : goal.returns-clause-found
-returns-clause-found c = row_two (codes "price") c.args.words.now (1, c.args.books.now.instruments) (1, 1000000000)
+returns-clause-found c = row_two (codes "price") c.args.words.now (1, c.args.books.now.instruments) prices
     c.in_ok-instrument.instrument c.in_ok-instrument.price c.requires
     (instruments_fit c.args.books.now c.ranges-2.ensures) (lit< tt)
-    (subst (λ r. HasNumbers c.args.words.now (r ∷ (1, 1000000000) ∷ [])) c.instruments_of.ensures.number
+    (subst (λ r. HasNumbers c.args.words.now (r ∷ prices ∷ [])) c.instruments_of.ensures.number
     c.in_ok-instrument.ensures.found.0) c.in_ok-instrument.ensures.found.1 c.in_ok-instrument.ensures.found.2

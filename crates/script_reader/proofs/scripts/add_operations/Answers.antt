@@ -15,14 +15,14 @@ use Rattle.script_reader.specs.Input.{Submission}
 use Rattle.script_reader.specs.Inner.LinesAsWords.{lines_so_far, lines_inside}
 use Rattle.script_reader.specs.Forms.{Words}
 use Rattle.script_reader.specs.Faults.{IsFaultyBehind, fault_of}
-use Rattle.script_reader.proofs.LineKinds.{only_word}
-use Rattle.script_reader.proofs.Scripted.{opened, inside_at, inside_fault_is}
-use Rattle.script_reader.proofs.NoFault.{operation_fault}
-use Rattle.script_reader.proofs.BooksFaultless.{printed, printed_small, instruments_fit}
-use Rattle.script_reader.proofs.ScriptsFaultless.{operations_faultless}
-use Rattle.script_reader.proofs.OneReading.{flat_of_map}
-use Rattle.script_reader.proofs.Refusing.{row_first}
-use Rattle.script_reader.proofs.Following.{line_shorter, more_text, behind_more, behind_end, behind_line}
+use Rattle.script_reader.proofs.LineFaults.LineKinds.{only_word}
+use Rattle.script_reader.proofs.Printing.Scripted.{opened, inside_at, inside_fault_is}
+use Rattle.script_reader.proofs.WithoutFault.NoFault.{operation_fault}
+use Rattle.script_reader.proofs.WithoutFault.BooksFaultless.{printed, printed_small, instruments_fit}
+use Rattle.script_reader.proofs.WithoutFault.ScriptsFaultless.{operations_faultless}
+use Rattle.script_reader.proofs.Texts.OneReading.{flat_of_map}
+use Rattle.script_reader.proofs.LineFaults.Refusing.{row_first}
+use Rattle.script_reader.proofs.Texts.Following.{line_shorter, more_text, behind_more, behind_end, behind_line}
 use Rattle.script_reader.proofs.scripts.add_operations.Goals as goal
 
 -- a fault behind operations that were read

@@ -6,8 +6,8 @@ use Rattle.script_reader.specs.declared.fault.Refusal.TheVariants as refusal
 use Rattle.script_reader.specs.Input.{count_scripts}
 use Rattle.script_reader.specs.Inner.LinesAsWords.{lines_so_far}
 use Rattle.script_reader.specs.Inner.Callers.{is_caller}
-use Rattle.script_reader.proofs.Following.{behind_line}
-use Rattle.script_reader.proofs.Gathered.{behind_script, outside_word, outside_limit, beyond_is}
+use Rattle.script_reader.proofs.Texts.Following.{behind_line}
+use Rattle.script_reader.proofs.Texts.Gathered.{behind_script, outside_word, outside_limit, beyond_is}
 use Rattle.script_reader.proofs.scripts.add_script.Goals as goal
 
 pub returns-in_err-name-clause-fault : goal.returns-in_err-name-clause-fault

@@ -9,12 +9,12 @@ use Rattle.script_reader.specs.Input.{AreCallersFor, callers_of, count_scripts}
 use Rattle.script_reader.specs.Inner.LinesAsWords.{lines_so_far}
 use Rattle.script_reader.specs.Inner.Callers.{is_caller, add_submission}
 use Rattle.script_reader.proofs.Conditions.{neither}
-use Rattle.script_reader.proofs.Grouping.{callers_of-push}
-use Rattle.script_reader.proofs.Submitting.{callers_more}
-use Rattle.script_reader.proofs.LineKinds.{only_word}
-use Rattle.script_reader.proofs.Reaching.{no_callers}
-use Rattle.script_reader.proofs.Following.{line_shorter, behind_end}
-use Rattle.script_reader.proofs.Gathered.{behind_scripts, one_more_script, last_text}
+use Rattle.script_reader.proofs.Grouped.Grouping.{callers_of-push}
+use Rattle.script_reader.proofs.Grouped.Submitting.{callers_more}
+use Rattle.script_reader.proofs.LineFaults.LineKinds.{only_word}
+use Rattle.script_reader.proofs.Texts.Reaching.{no_callers}
+use Rattle.script_reader.proofs.Texts.Following.{line_shorter, behind_end}
+use Rattle.script_reader.proofs.Texts.Gathered.{behind_scripts, one_more_script, last_text}
 use Rattle.script_reader.proofs.scripts.gather.Goals as goal
 
 pub loop-words-init : goal.loop-words-init

@@ -7,8 +7,8 @@ use Rattle.std.proofs.lemmas.List.Sums.{count_by_more_no, count_by_more_yes}
 use Rattle.script_reader.specs.declared.words.TheConstants.{SPACE, LINE_FEED}
 use Rattle.script_reader.specs.Inner.Cuts.{word_end, IsCut}
 use Rattle.script_reader.proofs.Conditions.{neither}
-use Rattle.script_reader.proofs.Cutting.{first_is_at, none_is_at, found_at, found_none, taken}
-use Rattle.script_reader.proofs.Parting.{end_kept, end_here, last_end}
+use Rattle.script_reader.proofs.Tokens.Cutting.{first_is_at, none_is_at, found_at, found_none, taken}
+use Rattle.script_reader.proofs.Tokens.Parting.{end_kept, end_here, last_end}
 use Rattle.script_reader.proofs.words.first_line.Goals as goal
 use Rattle.script_reader.proofs.words.first_line.Goals.{then-text-i-gt-SPACE-via-then-text-i-gt-SPACE}
 use Rattle.script_reader.proofs.words.first_line.Goals.{then-text-i-gt-SPACE-via-else-text-i-gt-SPACE+then-not-ends_word}

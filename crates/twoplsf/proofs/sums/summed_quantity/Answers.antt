@@ -3,8 +3,8 @@ use Rattle.std.specs.Ordering.{is_lt}
 use Rattle.std.specs.FinMap.{entries, entries_sorted}
 use Rattle.books_model.specs.Books.{position_cmp}
 use Rattle.books_model.specs.Inner.Keys.{positions_total}
-use Rattle.books_report.proofs.Walks.{up_to_all, fewer_left}
-use Rattle.books_report.proofs.Walked.{positions_from, found_entry, found_nothing}
+use Rattle.books_report.proofs.Walking.Walks.{up_to_all, fewer_left}
+use Rattle.books_report.proofs.Walking.Walked.{positions_from, found_entry, found_nothing}
 use Rattle.twoplsf.proofs.Summing.{summed_next, some_quantity}
 use Rattle.twoplsf.proofs.sums.summed_quantity.Goals as goal
 

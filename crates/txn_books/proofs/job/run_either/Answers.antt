@@ -5,7 +5,7 @@ use Rattle.books_model.specs.declared.reply.Reply.{Reply}
 use Rattle.books_model.specs.declared.reply.Value.{Value}
 use Rattle.books_model.specs.declared.reply.Value.TheVariants as value
 use Rattle.books_model.specs.Interpreter.{Stops, after_values, run_from}
-use Rattle.books_model.proofs.Branches.{All-front, All-back}
+use Rattle.books_model.proofs.Scripts.Branches.{All-front, All-back}
 use Rattle.txn_words.specs.Calls.{LeadsTo}
 use Rattle.txn_words.specs.Marks.{TakesBack}
 use Rattle.txn_words.proofs.GoingBack.{marked_stays, same_as_at_mark}

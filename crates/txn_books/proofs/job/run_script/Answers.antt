@@ -5,8 +5,8 @@ use Rattle.books_model.specs.declared.script.Part.{Part}
 use Rattle.books_model.specs.declared.script.Part.TheVariants as part
 use Rattle.books_model.specs.Scripts.{operations_of}
 use Rattle.books_model.specs.Interpreter.{run_parts}
-use Rattle.books_model.proofs.Branches.{All-front, All-back}
-use Rattle.books_model.proofs.Runs.{after_values-none}
+use Rattle.books_model.proofs.Scripts.Branches.{All-front, All-back}
+use Rattle.books_model.proofs.Scripts.Runs.{after_values-none}
 use Rattle.history_model.proofs.TraceLaws.{begins_trans}
 use Rattle.txn_books.specs.Operating.{IsOperationIn}
 use Rattle.txn_books.proofs.Turning.{Turned}

@@ -6,7 +6,7 @@ use Rattle.txn_words.specs.Calls.{GoesOn}
 use Rattle.txn_words.proofs.CallLaws.{goes_then, goes_as}
 use Rattle.books_model.specs.Books.{put_cash}
 use Rattle.books_model.specs.Interpreter.{put_position}
-use Rattle.books_model.proofs.Maps.{stays_after_insert}
+use Rattle.books_model.proofs.Maps.Trees.{stays_after_insert}
 use Rattle.txn_books.specs.Inner.Trading.{sold}
 use Rattle.txn_books.proofs.Turning.{turn_then, turned_less, of_change, each_turned}
 use Rattle.txn_books.proofs.TradeSides.{has_sold, has_bought, bought, exchanges}

@@ -4,7 +4,7 @@ use Rattle.std.proofs.lemmas.Map.Lookups.{exact_unsigned}
 use Rattle.books_model.specs.Books.{put_price, used}
 use Rattle.books_model.specs.Ranges.{AreInRange}
 use Rattle.books_model.specs.contracts.books.Books.{the_view}
-use Rattle.books_model.proofs.Maps.{from_entries-inserted}
+use Rattle.books_model.proofs.Maps.Trees.{from_entries-inserted}
 use Rattle.books_model.proofs.InRange.{put_price-in_range, used_after_price}
 use Rattle.books_model.proofs.books.Books.add_price.Goals as goal
 use Rattle.books_model.proofs.books.Books.add_price.Goals.{In_ok-insert}

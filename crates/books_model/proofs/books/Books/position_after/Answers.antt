@@ -3,8 +3,8 @@ use Rattle.std.specs.List.{slice_get}
 use Rattle.std.specs.Option.{option_map}
 use Rattle.std.specs.Ordering.{is_lt}
 use Rattle.books_model.specs.Books.{position_cmp}
-use Rattle.books_model.proofs.Maps.{positions_total}
-use Rattle.books_model.proofs.Above.{first_above, least_above, none_above}
+use Rattle.books_model.proofs.Maps.Trees.{positions_total}
+use Rattle.books_model.proofs.Maps.Above.{first_above, least_above, none_above}
 use Rattle.books_model.proofs.books.Books.position_after.Goals as goal
 
 -- a key and its quantity, side by side

@@ -7,8 +7,8 @@ use Rattle.books_model.specs.Books.{ClearingBooks, position_cmp}
 use Rattle.books_model.specs.Ranges.{AreInRange}
 use Rattle.books_model.specs.Inner.Changes.{AreChangesOf, changed, changed_books}
 use Rattle.books_model.specs.contracts.books.Books.{the_view}
-use Rattle.books_model.proofs.Maps.{positions_total, exact_positions}
-use Rattle.books_model.proofs.Changes.{changed-roomier}
+use Rattle.books_model.proofs.Maps.Trees.{positions_total, exact_positions}
+use Rattle.books_model.proofs.Maps.Changes.{changed-roomier}
 use Rattle.books_model.proofs.books.Books.put_in.Goals as goal
 use Rattle.books_model.proofs.books.Books.put_in.Goals.{After-make_all_room, After-take_back-in-Err-2, After-drop_front}
 

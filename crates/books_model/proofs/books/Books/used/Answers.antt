@@ -2,7 +2,7 @@ use Rattle.std.proofs.Common.{◌≡◌, ◌+◌, ap, ◌∙◌, arith}
 use Rattle.std.specs.Cmp.{nat_cmp_total}
 use Rattle.books_model.specs.Books.{used}
 use Rattle.books_model.specs.contracts.books.Books.{the_view}
-use Rattle.books_model.proofs.Maps.{len-from_entries, positions_total}
+use Rattle.books_model.proofs.Maps.Trees.{len-from_entries, positions_total}
 use Rattle.books_model.proofs.books.Books.used.Goals as goal
 use Rattle.books_model.proofs.books.Books.used.Goals.{After-len-3}
 

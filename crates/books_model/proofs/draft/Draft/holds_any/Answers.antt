@@ -2,7 +2,7 @@ use Rattle.std.proofs.Common.{◌≡◌, None, sym, ap, subst, ◌∙◌, inl, i
 use Rattle.std.specs.FinMap as map
 use Rattle.std.proofs.lemmas.Bool.{cases_lt}
 use Rattle.books_model.specs.Ranges.{AreInRange}
-use Rattle.books_model.proofs.Comparing.{none_of}
+use Rattle.books_model.proofs.Maps.Comparing.{none_of}
 use Rattle.books_model.proofs.Sums.{holds_nothing, holds_one}
 use Rattle.books_model.proofs.draft.Draft.holds_any.Goals as goal
 

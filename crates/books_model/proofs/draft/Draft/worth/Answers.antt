@@ -1,6 +1,6 @@
 use Rattle.std.proofs.Common.{◌≡◌, ◌+◌, ◌*◌, ◌≤◌, ℕ, Option, unwrap_or, sym, ap, subst, ◌∙◌, arith}
 use Rattle.books_model.specs.Ranges.{AreInRange}
-use Rattle.books_model.proofs.Sums.{worth_below, worth_first, worth_next, worth_last, price_of_most}
+use Rattle.books_model.proofs.Sums.{most_worth, worth_below, worth_first, worth_next, worth_last, price_of_most}
 use Rattle.books_model.proofs.draft.Draft.worth.Goals as goal
 
 pub loop-instrument-init : goal.loop-instrument-init
@@ -14,7 +14,7 @@ loop-instrument-preserved c =
     let quantity = c.unwrap_or-quantity.ensures ∙ ap (λ (x : Option ℕ). unwrap_or x 0) c.quantity.ensures.value in
     let price = c.unwrap_or-price.ensures ∙ ap (λ (x : Option ℕ). unwrap_or x 0) c.price.ensures.value in
     let worth : c.unwrap_or-quantity.result * c.unwrap_or-price.result ≡ _ = λ i. quantity i * price i in
-    let most : c.unwrap_or-quantity.result * c.unwrap_or-price.result ≤ 1000000000000000 =
+    let most : c.unwrap_or-quantity.result * c.unwrap_or-price.result ≤ most_worth =
     price_of_most c.quantity.result c.price.result _ _ c.quantity.ensures.range c.price.ensures.range
     c.unwrap_or-quantity.ensures c.unwrap_or-price.ensures in
     record {

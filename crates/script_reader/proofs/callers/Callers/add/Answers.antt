@@ -2,7 +2,7 @@ use Rattle.std.proofs.Common.{◌+◌, sym, ap, ◌∙◌}
 use Rattle.std.specs.String.{string_bytes}
 use Rattle.script_reader.specs.Input.{count_scripts}
 use Rattle.script_reader.specs.Inner.Callers.{callers_in}
-use Rattle.script_reader.proofs.Gathering.{store-add, even_after, count-add}
+use Rattle.script_reader.proofs.Grouped.Gathering.{store-add, even_after, count-add}
 use Rattle.script_reader.proofs.callers.Callers.add.Goals as goal
 
 pub returns-clause-added : goal.returns-clause-added

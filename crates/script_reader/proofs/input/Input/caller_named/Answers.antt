@@ -1,8 +1,8 @@
 use Rattle.std.proofs.Common.{◌≡◌, ◌<◌, ℕ, ◌≢◌, length, [], sym, subst, arith}
 use Rattle.std.specs.String.{string_bytes}
 use Rattle.script_reader.specs.Input.{ClearingInput, caller_at}
-use Rattle.script_reader.proofs.Gathering.{count_callers}
-use Rattle.script_reader.proofs.Besides.{named_where_found, no_caller_named}
+use Rattle.script_reader.proofs.Grouped.Gathering.{count_callers}
+use Rattle.script_reader.proofs.Grouped.Besides.{named_where_found, no_caller_named}
 use Rattle.script_reader.proofs.input.Input.caller_named.Goals as goal
 
 pub overflow_cast-result : goal.overflow_cast-result

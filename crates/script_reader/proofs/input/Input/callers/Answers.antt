@@ -1,6 +1,6 @@
 use Rattle.std.proofs.Common.{length, sym, ap, ◌∙◌, arith}
 use Rattle.std.specs.String.{string_bytes}
-use Rattle.script_reader.proofs.Gathering.{count_callers}
+use Rattle.script_reader.proofs.Grouped.Gathering.{count_callers}
 use Rattle.script_reader.proofs.input.Input.callers.Goals as goal
 
 pub overflow_cast-result : goal.overflow_cast-result

@@ -1,8 +1,8 @@
 use Rattle.std.proofs.Common.{◌<◌, [], length, slice_index_or, sym, ap, ◌∙◌, arith}
 use Rattle.std.specs.String.{string_bytes}
 use Rattle.script_reader.specs.Input.{Caller, caller_at}
-use Rattle.script_reader.proofs.Gathering.{count_callers}
-use Rattle.script_reader.proofs.Besides.{scripts_beside, same_at}
+use Rattle.script_reader.proofs.Grouped.Gathering.{count_callers}
+use Rattle.script_reader.proofs.Grouped.Besides.{scripts_beside, same_at}
 use Rattle.script_reader.proofs.input.Input.script.Goals as goal
 
 pub index-requires : goal.index-requires

@@ -3,8 +3,8 @@ use Rattle.std.specs.String.{string_bytes}
 use Rattle.std.proofs.lemmas.List.Sums.{get_or-le-sum_by}
 use Rattle.script_reader.specs.Input.{Caller, caller_at}
 use Rattle.script_reader.specs.Inner.Callers.{beside}
-use Rattle.script_reader.proofs.Gathering.{count_callers}
-use Rattle.script_reader.proofs.Besides.{scripts_beside}
+use Rattle.script_reader.proofs.Grouped.Gathering.{count_callers}
+use Rattle.script_reader.proofs.Grouped.Besides.{scripts_beside}
 use Rattle.script_reader.proofs.input.Input.scripts_of.Goals as goal
 
 pub index-requires : goal.index-requires

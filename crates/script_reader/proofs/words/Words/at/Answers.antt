@@ -1,6 +1,6 @@
 use Rattle.std.proofs.Common.{sym, ap, ◌∙◌, arith}
 use Rattle.script_reader.specs.Lines.{word_at}
-use Rattle.script_reader.proofs.Parting.{cut_first, cut_later}
+use Rattle.script_reader.proofs.Tokens.Parting.{cut_first, cut_later}
 use Rattle.script_reader.proofs.words.Words.at.Goals as goal
 
 pub between-requires-clause-within : goal.between-requires-clause-within

@@ -4,8 +4,8 @@ use Rattle.script_reader.specs.Number.{is_number}
 use Rattle.script_reader.specs.Lines.{word_at}
 use Rattle.script_reader.specs.Forms.{is_in_range, are_numbers, are_in_range}
 use Rattle.script_reader.proofs.Conditions.{and_true}
-use Rattle.script_reader.proofs.Ranging.{behind_five, limit_fault, ranged_true, ranged_value}
-use Rattle.script_reader.proofs.Pairs.{not_both, number_fault, pair_false}
+use Rattle.script_reader.proofs.Tokens.Ranging.{behind_five, limit_fault, ranged_true, ranged_value}
+use Rattle.script_reader.proofs.Tokens.Pairs.{not_both, number_fault, pair_false}
 use Rattle.script_reader.proofs.words.Words.four_numbers.Goals as goal
 
 pub returns-in_err-a-clause-err : goal.returns-in_err-a-clause-err

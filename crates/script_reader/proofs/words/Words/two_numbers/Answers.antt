@@ -3,8 +3,8 @@ use Rattle.std.proofs.lemmas.Result.{err_from_is_err_and}
 use Rattle.script_reader.specs.Lines.{word_at}
 use Rattle.script_reader.specs.Forms.{are_numbers, are_in_range}
 use Rattle.script_reader.proofs.Conditions.{and_true}
-use Rattle.script_reader.proofs.Ranging.{limit_fault, ranged_true, ranged_value}
-use Rattle.script_reader.proofs.Pairs.{behind_three, not_both, number_fault, pair_false}
+use Rattle.script_reader.proofs.Tokens.Ranging.{limit_fault, ranged_true, ranged_value}
+use Rattle.script_reader.proofs.Tokens.Pairs.{behind_three, not_both, number_fault, pair_false}
 use Rattle.script_reader.proofs.words.Words.two_numbers.Goals as goal
 
 pub returns-in_err-a-clause-err : goal.returns-in_err-a-clause-err

@@ -1,0 +1,155 @@
+-- Margin calls are taken in the order in which they were queued.
+use Rattle.std.proofs.Common.{◌≡◌, ℕ, ◌+◌, cond, not, ◌&&◌, ◌==◌, nat_lt, List, [], ◌∷◌, ◌++◌, length, drop, suc, refl, sym, ap, ◌∙◌, arith, append-nil, append_assoc}
+use Rattle.std.specs.List.{flat_map, zip}
+use Rattle.std.proofs.Math.Seq.{drop-append_seam}
+use Rattle.std.proofs.lemmas.Grind.{flat_map-append}
+use Rattle.std.specs.FinMap as map
+use Rattle.books_model.specs.declared.limits.TheConstants.{GREATEST_CASH}
+use Rattle.books_model.specs.declared.script.Op.{Op}
+use Rattle.books_model.specs.declared.script.Op.TheVariants as op
+use Rattle.books_model.specs.declared.reply.Value.{Value}
+use Rattle.books_model.specs.declared.reply.Value.TheVariants as value
+use Rattle.books_model.specs.declared.script.Part.{Part}
+use Rattle.books_model.specs.declared.script.Part.TheVariants as part
+use Rattle.books_model.specs.Scripts.{operations_in}
+use Rattle.books_model.specs.Books.{ClearingBooks, cash_of}
+use Rattle.books_model.specs.Interpreter.{holds_any, is_account, is_full, margin_of, next_of, shortfall_of, run_from, run_part, run_parts, step_of, Step, Gives, Declines, FindsNoBlock}
+use Rattle.books_model.specs.Laws.{queued_by, done_of, queued, taken_by}
+use Rattle.books_model.proofs.Scripts.CashLaws.{traded}
+use Rattle.books_model.proofs.Scripts.Outcomes.{WhereDone, WhereEnds, choice, gives, declines, finds_no_block, step_first, run_first, either_holds, weaker, both}
+
+-- what was queued and what an operation queues is what it takes and what is queued after it
+abbrev InOrder : Op → ClearingBooks → Value → ClearingBooks → Type 0
+InOrder o books v after = books.calls ++ queued_by o v ≡ taken_by v ++ after.calls
+
+-- the front is taken, or there is none
+next_in_order : (books : ClearingBooks) (calls : List (ℕ × ℕ)) → books.calls ≡ calls → WhereDone (InOrder op.Next books) (next_of books calls)
+next_in_order books [] is = gives _ _ _ (append-nil books.calls)
+next_in_order books (call ∷ calls) is = gives _ _ _ (append-nil books.calls ∙ is)
+
+-- a shortfall joins the back
+margin_in_order : (books : ClearingBooks) (a m shortfall : ℕ) → WhereDone (InOrder (op.Margin a m) books) (margin_of books a shortfall)
+margin_in_order books a m shortfall =
+    choice _ (shortfall == 0) _ _ (λ _. gives _ _ _ (append-nil books.calls)) (λ some.
+    gives _ _ _ (ap (λ t. books.calls ++ cond t [] ((a, shortfall) ∷ [])) some))
+
+-- each operation keeps the order
+step_in_order : (o : Op) (books : ClearingBooks) → WhereDone (InOrder o books) (step_of o books)
+step_in_order (op.OpenAccount a) books =
+    choice _ (is_account books a) _ _ (λ _. declines _ _) (λ _. choice _ (is_full books) _ _ (λ _. finds_no_block _)
+    (λ _. gives _ _ _ (append-nil books.calls)))
+step_in_order (op.Close a) books =
+    choice _ (not (is_account books a)) _ _ (λ _. declines _ _)
+    (λ _. choice _ (not (cash_of books a == 0)) _ _ (λ _. declines _ _)
+    (λ _. choice _ (holds_any books a) _ _ (λ _. declines _ _) (λ _. gives _ _ _ (append-nil books.calls))))
+step_in_order (op.Deposit a x) books =
+    choice _ (not (is_account books a)) _ _ (λ _. declines _ _)
+    (λ _. choice _ (nat_lt GREATEST_CASH (cash_of books a + x)) _ _ (λ _. declines _ _) (λ _. gives _ _ _ (append-nil books.calls)))
+step_in_order (op.Withdraw a x) books =
+    choice _ (not (is_account books a)) _ _ (λ _. declines _ _)
+    (λ _. choice _ (nat_lt (cash_of books a) x) _ _ (λ _. declines _ _) (λ _. gives _ _ _ (append-nil books.calls)))
+step_in_order (op.Move a b x) books =
+    choice _ (a == b) _ _ (λ _. declines _ _) (λ _. choice _ (not (is_account books a && is_account books b)) _ _ (λ _. declines _ _) (λ _.
+    choice _ (nat_lt (cash_of books a) x) _ _ (λ _. declines _ _)
+    (λ _. choice _ (nat_lt GREATEST_CASH (cash_of books b + x)) _ _ (λ _. declines _ _) (λ _. gives _ _ _ (append-nil books.calls)))))
+step_in_order (op.Price i p) books =
+    choice _ (not (map.contains_key books.prices i) && is_full books) _ _ (λ _. finds_no_block _) (λ _. gives _ _ _ (append-nil books.calls))
+step_in_order (op.Trade a b i q) books = traded _ books a b i q (λ _ _ _. append-nil books.calls)
+step_in_order (op.Margin a m) books =
+    choice _ (not (is_account books a)) _ _ (λ _. declines _ _) (λ _.
+    choice _ (not (shortfall_of books a m == 0) && (length books.calls == books.ring)) _ _ (λ _. declines _ _)
+    (λ _. margin_in_order books a m (shortfall_of books a m)))
+step_in_order op.Next books = next_in_order books books.calls refl
+step_in_order (op.Show a) books = choice _ (not (is_account books a)) _ _ (λ _. declines _ _) (λ _. gives _ _ _ (append-nil books.calls))
+step_in_order (op.Sum a b) books = gives _ _ _ (append-nil books.calls)
+
+-- the margin calls that operations queue, each with its value
+abbrev queued_of : List (Op × Value) → List (ℕ × ℕ)
+queued_of done = flat_map (λ d. queued_by d.0 d.1) done
+
+-- each operation of a run tells a value
+pub one_value_each : (k : ℕ) (ops : List Op) (books : ClearingBooks) → WhereEnds (λ values _. length values ≡ length ops) (run_from k ops books)
+one_value_each k [] books = refl
+one_value_each k (o ∷ ops) books =
+    step_first (λ values _. length values ≡ length (o ∷ ops)) (λ _ _. Unit {0}) k (step_of o books) (λ next. run_from (k + 1) ops next) (any (step_of o books))
+    (λ v next _. (λ values _. length values ≡ length ops, one_value_each (k + 1) ops next, λ values after same. ap suc same)) where
+      any : (s : Step) → WhereDone (λ _ _. Unit {0}) s
+      any (Gives v after) = gives _ v after tt
+      any (Declines why) = declines _ why
+      any FindsNoBlock = finds_no_block _
+
+-- each run keeps the order
+run_in_order : (k : ℕ) (ops : List Op) (books : ClearingBooks)
+    → WhereEnds (λ values after. books.calls ++ queued_of (zip ops values) ≡ flat_map taken_by values ++ after.calls) (run_from k ops books)
+run_in_order k [] books = append-nil books.calls
+run_in_order k (o ∷ ops) books =
+    step_first (λ values after. books.calls ++ queued_of (zip (o ∷ ops) values) ≡ flat_map taken_by values ++ after.calls)
+    (InOrder o books) k (step_of o books) (λ next. run_from (k + 1) ops next) (step_in_order o books)
+    (λ v next first. (
+      λ values after. next.calls ++ queued_of (zip ops values) ≡ flat_map taken_by values ++ after.calls,
+      run_in_order (k + 1) ops next,
+      λ values after rest.
+          sym (append_assoc books.calls (queued_by o v) (queued_of (zip ops values))) ∙ ap (λ xs. xs ++ queued_of (zip ops values)) first
+          ∙ append_assoc (taken_by v) next.calls (queued_of (zip ops values)) ∙ ap (λ xs. taken_by v ++ xs) rest
+          ∙ sym (append_assoc (taken_by v) (flat_map taken_by values) after.calls),
+    ))
+
+-- a part did these operations with these values, in front of what the parts behind it do, and kept the order
+record DoneInOrder (p : Part) (books : ClearingBooks) (values : List Value) (after : ClearingBooks) : Type 0 where
+  done : List (Op × Value)
+  first : (parts : List Part) (more : List Value) → done_of (p ∷ parts) (values ++ more) ≡ done ++ done_of parts more
+  order : books.calls ++ queued_of done ≡ flat_map taken_by values ++ after.calls
+
+-- values of operations, and behind them those of others
+zip-front : (ops : List Op) (values more : List Value) → length values ≡ length ops → zip ops (values ++ more) ≡ zip ops values
+zip-front [] values more same = refl
+zip-front (o ∷ ops) [] more same = absurd (cc)
+zip-front (o ∷ ops) (v ∷ values) more same = ap (λ pairs. (o, v) ∷ pairs) (zip-front ops values more (omega (arith, same)))
+
+behind : (ops : List Op) (values more : List Value) → length values ≡ length ops → drop (length ops) (values ++ more) ≡ more
+behind ops values more same = ap (λ n. drop n (values ++ more)) (sym same) ∙ drop-append_seam values more
+
+one_in_order : (o : Op) (books : ClearingBooks) (values : List Value) (after : ClearingBooks) → length values ≡ 1
+    → books.calls ++ queued_of (zip (o ∷ []) values) ≡ flat_map taken_by values ++ after.calls → DoneInOrder (part.One o) books values after
+one_in_order o books [] after same order = absurd (cc)
+one_in_order o books (v ∷ w ∷ values) after same order = absurd (omega (arith, same))
+one_in_order o books (v ∷ []) after same order = record { done = (o, v) ∷ []; first = λ parts more. refl; order = order }
+
+-- each part keeps the order
+part_in_order : (k : ℕ) (p : Part) (books : ClearingBooks) → WhereEnds (λ values after. DoneInOrder p books values after) (run_part k p books)
+part_in_order k (part.One o) books =
+    weaker _ (λ values after. DoneInOrder (part.One o) books values after) _ (λ values after h. one_in_order o books values after h.0 h.1)
+    (both _ _ _ (one_value_each k (o ∷ []) books) (run_in_order k (o ∷ []) books))
+part_in_order k (part.Either first second) books =
+    either_holds (λ values after. DoneInOrder (part.Either first second) books values after) _ _
+    (weaker _ (λ values after. DoneInOrder (part.Either first second) books (value.First ∷ values) after) _ (λ values after h. record {
+      done = zip first values;
+      first = λ parts more. ap (λ front. front ++ done_of parts (drop (length first) (values ++ more))) (zip-front first values more h.0)
+          ∙ ap (λ back. zip first values ++ done_of parts back) (behind first values more h.0);
+      order = h.1;
+    }) (both _ _ _ (one_value_each k first books) (run_in_order k first books)))
+    (weaker _ (λ values after. DoneInOrder (part.Either first second) books (value.Second ∷ values) after) _ (λ values after h. record {
+      done = zip second values;
+      first = λ parts more. ap (λ front. front ++ done_of parts (drop (length second) (values ++ more))) (zip-front second values more h.0)
+          ∙ ap (λ back. zip second values ++ done_of parts back) (behind second values more h.0);
+      order = h.1;
+    }) (both _ _ _ (one_value_each (k + length first) second books) (run_in_order (k + length first) second books)))
+
+-- and so does a run of parts
+pub parts_in_order : (k : ℕ) (parts : List Part) (books : ClearingBooks)
+    → WhereEnds (λ values after. books.calls ++ queued parts values ≡ flat_map taken_by values ++ after.calls) (run_parts k parts books)
+parts_in_order k [] books = append-nil books.calls
+parts_in_order k (p ∷ parts) books =
+    run_first (λ values after. books.calls ++ queued (p ∷ parts) values ≡ flat_map taken_by values ++ after.calls)
+    (λ values after. DoneInOrder p books values after) (run_part k p books) (λ next. run_parts (k + length (operations_in p)) parts next)
+    (part_in_order k p books)
+    (λ values next here. weaker (λ more after. next.calls ++ queued parts more ≡ flat_map taken_by more ++ after.calls)
+    (λ more after. books.calls ++ queued (p ∷ parts) (values ++ more) ≡ flat_map taken_by (values ++ more) ++ after.calls) _
+    (λ more after rest.
+    ap (λ done. books.calls ++ queued_of done) (here.first parts more)
+    ∙ ap (λ calls. books.calls ++ calls) (flat_map-append (λ (d : Op × Value). queued_by d.0 d.1) here.done (done_of parts more))
+    ∙ sym (append_assoc books.calls (queued_of here.done) (queued parts more)) ∙ ap (λ calls. calls ++ queued parts more) here.order
+    ∙ append_assoc (flat_map taken_by values) next.calls (queued parts more) ∙ ap (λ calls. flat_map taken_by values ++ calls) rest
+    ∙ sym (append_assoc (flat_map taken_by values) (flat_map taken_by more) after.calls)
+    ∙ ap (λ calls. calls ++ after.calls) (sym (flat_map-append taken_by values more)))
+    (parts_in_order (k + length (operations_in p)) parts next))

@@ -1,0 +1,246 @@
+-- Lines by their kinds, and what is known of a line that no reason applies to.
+use Rattle.std.proofs.Common.{lit<, ◌≡◌, ℕ, ◌+◌, ◌<◌, ◌^◌, ◌⊎◌, inl, inr, Bool, true, false, ◌&&◌, ◌==◌, nat_le, cond, if◌then◌else◌, List, [], ◌∷◌, codes}
+use Rattle.std.proofs.Common.{drop, length, Option, Some, None, refl, ap, subst, ◌∙◌, arith}
+use Rattle.std.specs.Option.{is_none}
+use Rattle.std.proofs.lemmas.Bool.{leb-true, eqb-true}
+use Rattle.std.proofs.lemmas.Slice.Eq.{bytes_eq-Decides}
+use Rattle.books_model.specs.Ranges.{IsWithin, IsOperationFor}
+use Rattle.books_model.specs.Books.{ClearingBooks}
+use Rattle.books_model.specs.declared.script.Op.{Op}
+use Rattle.books_model.specs.declared.script.Op.TheVariants as op
+use Rattle.script_reader.specs.declared.fault.Fault.{Fault}
+use Rattle.script_reader.specs.Number.{is_number}
+use Rattle.script_reader.specs.Text.{number, operation_words}
+use Rattle.script_reader.specs.Forms.{Words, Form, books_forms, script_forms, begins, is_only, has_form, form_of, ranges_of, value_of, are_numbers}
+use Rattle.script_reader.specs.Forms.{are_in_range}
+use Rattle.script_reader.proofs.Tokens.Numerals.{text_of_number}
+use Rattle.script_reader.proofs.Conditions.{both}
+
+-- a reason that does not apply, and what follows it
+pub none_applies : (c : Bool) (why : Fault) (rest : Option Fault) → (if c then Some why else rest) ≡ None → (c ≡ false) × (rest ≡ None)
+none_applies true why rest h = cc
+none_applies false why rest h = (refl, h)
+
+-- one of some forms is that of the line
+pub IsOneOf : List Form → Words → Type 0
+IsOneOf [] words = ⊥
+IsOneOf (f ∷ forms) words = (has_form words f ≡ true) ⊎ IsOneOf forms words
+
+pub one_of : (forms : List Form) (words : Words) → is_none (form_of forms words) ≡ false → IsOneOf forms words
+unfolding IsOneOf
+one_of [] words h = cc
+one_of (f ∷ forms) words h = by (has_form words f) refl h (one_of forms words)
+  where
+    by : (b : Bool) → has_form words f ≡ b → is_none (cond b (Some f) (form_of forms words)) ≡ false
+        → (is_none (form_of forms words) ≡ false → IsOneOf forms words) → IsOneOf (f ∷ forms) words
+    by true e g rest = inl e
+    by false e g rest = inr (rest g)
+
+-- a line of a form begins with its word, and has so many words behind it
+pub behind_keyword : (k : List ℕ) (n : ℕ) (words : Words) → (begins k words && length words == 1 + n) ≡ true
+    → (words ≡ k ∷ drop 1 words) × (length (drop 1 words) ≡ n)
+behind_keyword k n [] h = absurd (omega (arith, eqb-true 0 (1 + n) (both h).1))
+behind_keyword k n (w ∷ words) h = (ap (λ w. w ∷ words) ((bytes_eq-Decides w k).0 (both h).0), omega (arith, eqb-true (length (w ∷ words)) (1 + n) (both h).1))
+
+-- words by their number
+pub no_words : (words : Words) → length words ≡ 0 → words ≡ []
+no_words [] h = refl
+no_words (w ∷ words) h = absurd (omega arith)
+
+-- a line that is one word
+pub only_word : (k : List ℕ) (words : Words) → is_only k words ≡ true → words ≡ k ∷ []
+only_word k words h = let is = behind_keyword k 0 words h in is.0 ∙ ap (λ l. k ∷ l) (no_words (drop 1 words) is.1)
+
+pub one_word : (words : Words) → length words ≡ 1 → (a : List ℕ) × (words ≡ a ∷ [])
+one_word [] h = absurd (omega arith)
+one_word (a ∷ words) h = (a, ap (λ l. a ∷ l) (no_words words (omega arith)))
+
+pub two_words : (words : Words) → length words ≡ 2 → (a b : List ℕ) × (words ≡ a ∷ b ∷ [])
+two_words [] h = absurd (omega arith)
+two_words (a ∷ words) h = let rest = one_word words (omega arith) in (a, rest.0, ap (λ l. a ∷ l) rest.1)
+
+pub three_words : (words : Words) → length words ≡ 3 → (a b c : List ℕ) × (words ≡ a ∷ b ∷ c ∷ [])
+three_words [] h = absurd (omega arith)
+three_words (a ∷ words) h = let rest = two_words words (omega arith) in (a, rest.0, rest.1, ap (λ l. a ∷ l) rest.2)
+
+pub four_words : (words : Words) → length words ≡ 4 → (a b c d : List ℕ) × (words ≡ a ∷ b ∷ c ∷ d ∷ [])
+four_words [] h = absurd (omega arith)
+four_words (a ∷ words) h = let rest = three_words words (omega arith) in (a, rest.0, rest.1, rest.2, ap (λ l. a ∷ l) rest.3)
+
+-- a word that is a number in a range is the text of its value
+pub ranged : (word : List ℕ) (low high : ℕ) → high < 2 ^ 64 → is_number word ≡ true → (nat_le low (value_of word) && nat_le (value_of word) high) ≡ true
+    → (word ≡ number (value_of word)) × IsWithin low high (value_of word)
+ranged word low high fits is within =
+    let parts = both within in
+    let above = leb-true low (value_of word) parts.0 in
+    let below = leb-true (value_of word) high parts.1 in
+    (text_of_number word is (omega arith), (above, below))
+
+-- what a line of books is, by its kind
+pub data BooksLine : Type 0 where
+  AccountLine : (a cash : List ℕ) → BooksLine
+  PriceLine : (i price : List ℕ) → BooksLine
+  PositionLine : (a i quantity : List ℕ) → BooksLine
+  CallLine : (a shortfall : List ℕ) → BooksLine
+  ScriptsLine : BooksLine
+
+abbrev pub line_words : BooksLine → Words
+line_words (AccountLine a cash) = codes "account" ∷ a ∷ cash ∷ []
+line_words (PriceLine i price) = codes "price" ∷ i ∷ price ∷ []
+line_words (PositionLine a i quantity) = codes "position" ∷ a ∷ i ∷ quantity ∷ []
+line_words (CallLine a shortfall) = codes "call" ∷ a ∷ shortfall ∷ []
+line_words ScriptsLine = codes "scripts" ∷ []
+
+pub books_line : (instruments : ℕ) (words : Words) → is_none (form_of (books_forms instruments) words) ≡ false → (l : BooksLine) × (words ≡ line_words l)
+unfolding IsOneOf
+books_line instruments words h = elim (one_of (books_forms instruments) words h) [
+  | inl is ↦ let k = behind_keyword (codes "account") 2 words is in let rest = two_words (drop 1 words) k.1 in
+      (AccountLine rest.0 rest.1, k.0 ∙ ap (λ l. codes "account" ∷ l) rest.2)
+  | inr other ↦ elim other [
+    | inl is ↦ let k = behind_keyword (codes "price") 2 words is in let rest = two_words (drop 1 words) k.1 in
+        (PriceLine rest.0 rest.1, k.0 ∙ ap (λ l. codes "price" ∷ l) rest.2)
+    | inr other ↦ elim other [
+      | inl is ↦ let k = behind_keyword (codes "position") 3 words is in let rest = three_words (drop 1 words) k.1 in
+          (PositionLine rest.0 rest.1 rest.2, k.0 ∙ ap (λ l. codes "position" ∷ l) rest.3)
+      | inr other ↦ elim other [
+        | inl is ↦ let k = behind_keyword (codes "call") 2 words is in let rest = two_words (drop 1 words) k.1 in
+            (CallLine rest.0 rest.1, k.0 ∙ ap (λ l. codes "call" ∷ l) rest.2)
+        | inr other ↦ elim other [
+          | inl is ↦ let k = behind_keyword (codes "scripts") 0 words is in (ScriptsLine, k.0 ∙ ap (λ l. codes "scripts" ∷ l) (no_words (drop 1 words) k.1))
+          | inr none ↦ absurd none
+        ]
+      ]
+    ]
+  ]
+]
+
+-- words that were read as numbers, each in its range
+abbrev pub AreRead : Words → List (ℕ × ℕ) → Type 0
+AreRead [] ranges = Unit {0}
+AreRead (w ∷ words) [] = Unit {0}
+AreRead (w ∷ words) (r ∷ ranges) = (r.1 < 2 ^ 64 → (w ≡ number (value_of w)) × IsWithin r.0 r.1 (value_of w)) × AreRead words ranges
+
+pub are_read : (words : Words) (ranges : List (ℕ × ℕ)) → are_numbers words ≡ true → are_in_range words ranges ≡ true → AreRead words ranges
+are_read [] ranges n r = tt
+are_read (w ∷ words) [] n r = tt
+are_read (w ∷ words) (range ∷ ranges) n r = ((λ fits. ranged w range.0 range.1 fits (both n).0 (both r).0), are_read words ranges (both n).1 (both r).1)
+
+-- the numbers of a line that has these words
+read_line : (forms : List Form) (words these : Words) → words ≡ these → are_numbers (drop 1 words) ≡ true
+    → are_in_range (drop 1 words) (ranges_of (form_of forms words)) ≡ true
+    → AreRead (drop 1 these) (ranges_of (form_of forms these))
+read_line forms words these e n r =
+    are_read (drop 1 these) (ranges_of (form_of forms these)) (subst (λ w. are_numbers (drop 1 w) ≡ true) e n)
+    (subst (λ w. are_in_range (drop 1 w) (ranges_of (form_of forms w)) ≡ true) e r)
+
+-- the operation of a line of a script, unless it is the line that ends it
+pub operation_line : (books : ClearingBooks) (words : Words) → books.instruments < 2 ^ 64
+    → is_none (form_of (script_forms books.instruments) words) ≡ false → are_numbers (drop 1 words) ≡ true
+    → are_in_range (drop 1 words) (ranges_of (form_of (script_forms books.instruments) words)) ≡ true
+    → (words ≡ codes "end" ∷ []) ⊎ ((o : Op) × IsOperationFor books o × (words ≡ operation_words o))
+unfolding IsOneOf
+operation_line books words few h n r = elim (one_of (script_forms books.instruments) words h) [
+  | inl is ↦ let k = behind_keyword (codes "open") 1 words is in let rest = one_word (drop 1 words) k.1 in
+      let e : words ≡ codes "open" ∷ rest.0 ∷ [] = k.0 ∙ ap (λ l. codes "open" ∷ l) rest.1 in let read =
+      read_line (script_forms books.instruments) words (codes "open" ∷ rest.0 ∷ []) e n r in
+      inr (op.OpenAccount (value_of rest.0), (read.0 (lit< tt)).1, e ∙ (λ i. codes "open" ∷ (read.0 (lit< tt)).0 i ∷ []))
+  | inr other ↦ elim other [
+    | inl is ↦ let k = behind_keyword (codes "close") 1 words is in let rest = one_word (drop 1 words) k.1 in
+        let e : words ≡ codes "close" ∷ rest.0 ∷ [] = k.0 ∙ ap (λ l. codes "close" ∷ l) rest.1 in let read =
+        read_line (script_forms books.instruments) words (codes "close" ∷ rest.0 ∷ []) e n r in
+        inr (op.Close (value_of rest.0), (read.0 (lit< tt)).1, e ∙ (λ i. codes "close" ∷ (read.0 (lit< tt)).0 i ∷ []))
+    | inr other ↦ elim other [
+      | inl is ↦ let k = behind_keyword (codes "deposit") 2 words is in let rest = two_words (drop 1 words) k.1 in
+          let e : words ≡ codes "deposit" ∷ rest.0 ∷ rest.1 ∷ [] = k.0 ∙ ap (λ l. codes "deposit" ∷ l) rest.2 in
+          let read = read_line (script_forms books.instruments) words (codes "deposit" ∷ rest.0 ∷ rest.1 ∷ []) e n r in
+          inr (
+            op.Deposit (value_of rest.0) (value_of rest.1),
+            ((read.0 (lit< tt)).1, (read.1.0 (lit< tt)).1),
+            e
+                ∙ (λ i. codes "deposit" ∷ (read.0 (lit< tt)).0 i ∷ (read.1.0 (lit< tt)).0 i ∷ []),
+          )
+      | inr other ↦ elim other [
+        | inl is ↦ let k = behind_keyword (codes "withdraw") 2 words is in let rest = two_words (drop 1 words) k.1 in
+            let e : words ≡ codes "withdraw" ∷ rest.0 ∷ rest.1 ∷ [] = k.0 ∙ ap (λ l. codes "withdraw" ∷ l) rest.2 in
+            let read = read_line (script_forms books.instruments) words (codes "withdraw" ∷ rest.0 ∷ rest.1 ∷ []) e n
+            r in inr (
+              op.Withdraw (value_of rest.0) (value_of rest.1),
+              ((read.0 (lit< tt)).1, (read.1.0 (lit< tt)).1),
+              e
+                  ∙ (λ i. codes "withdraw" ∷ (read.0 (lit< tt)).0 i ∷ (read.1.0 (lit< tt)).0 i ∷ []),
+            )
+        | inr other ↦ elim other [
+          | inl is ↦ let k = behind_keyword (codes "move") 3 words is in let rest = three_words (drop 1 words) k.1 in
+              let e : words ≡ codes "move" ∷ rest.0 ∷ rest.1 ∷ rest.2 ∷ [] = k.0 ∙ ap (λ l. codes "move" ∷ l) rest.3 in
+              let read = read_line (script_forms books.instruments) words (codes "move" ∷ rest.0 ∷ rest.1 ∷ rest.2 ∷ [])
+              e n r in inr (
+                op.Move (value_of rest.0) (value_of rest.1) (value_of rest.2),
+                ((read.0 (lit< tt)).1, (read.1.0 (lit< tt)).1, (read.1.1.0 (lit< tt)).1),
+                e
+                    ∙ (λ i. codes "move" ∷ (read.0 (lit< tt)).0 i ∷ (read.1.0 (lit< tt)).0 i ∷ (read.1.1.0 (lit< tt)).0 i ∷ []),
+              )
+          | inr other ↦ elim other [
+            | inl is ↦ let k = behind_keyword (codes "price") 2 words is in let rest = two_words (drop 1 words) k.1 in
+                let e : words ≡ codes "price" ∷ rest.0 ∷ rest.1 ∷ [] = k.0 ∙ ap (λ l. codes "price" ∷ l) rest.2 in
+                let read = read_line (script_forms books.instruments) words (codes "price" ∷ rest.0 ∷ rest.1 ∷ []) e n
+                r in inr (
+                  op.Price (value_of rest.0) (value_of rest.1),
+                  ((read.0 few).1, (read.1.0 (lit< tt)).1),
+                  e
+                      ∙ (λ i. codes "price" ∷ (read.0 few).0 i ∷ (read.1.0 (lit< tt)).0 i ∷ []),
+                )
+            | inr other ↦ elim other [
+              | inl is ↦ let k = behind_keyword (codes "trade") 4 words is in let rest =
+                  four_words (drop 1 words) k.1 in let e : words ≡ codes "trade" ∷ rest.0 ∷ rest.1 ∷ rest.2 ∷ rest.3
+                  ∷ [] = k.0 ∙ ap (λ l. codes "trade" ∷ l) rest.4 in let read =
+                  read_line (script_forms books.instruments) words (codes "trade" ∷ rest.0 ∷ rest.1 ∷ rest.2 ∷ rest.3
+                  ∷ []) e n r in inr (
+                    op.Trade (value_of rest.0) (value_of rest.1) (value_of rest.2) (value_of rest.3),
+                    ((read.0 (lit< tt)).1, (read.1.0 (lit< tt)).1, (read.1.1.0 few).1, (read.1.1.1.0 (lit< tt)).1),
+                    e
+                        ∙ (λ i. codes "trade" ∷ (read.0 (lit< tt)).0 i ∷ (read.1.0 (lit< tt)).0 i ∷ (read.1.1.0 few).0 i ∷ (read.1.1.1.0 (lit< tt)).0 i ∷ []),
+                  )
+              | inr other ↦ elim other [
+                | inl is ↦ let k = behind_keyword (codes "margin") 2 words is in let rest =
+                    two_words (drop 1 words) k.1 in let e : words ≡ codes "margin" ∷ rest.0 ∷ rest.1 ∷ [] = k.0
+                    ∙ ap (λ l. codes "margin" ∷ l) rest.2 in let read =
+                    read_line (script_forms books.instruments) words (codes "margin" ∷ rest.0 ∷ rest.1 ∷ []) e n r in
+                    inr (
+                      op.Margin (value_of rest.0) (value_of rest.1),
+                      ((read.0 (lit< tt)).1, (read.1.0 (lit< tt)).1),
+                      e ∙ (λ i. codes "margin" ∷ (read.0 (lit< tt)).0 i ∷ (read.1.0 (lit< tt)).0 i ∷ []),
+                    )
+                | inr other ↦ elim other [
+                  | inl is ↦ let k = behind_keyword (codes "next") 0 words is in
+                      inr (op.Next, tt, k.0 ∙ ap (λ l. codes "next" ∷ l) (no_words (drop 1 words) k.1))
+                  | inr other ↦ elim other [
+                    | inl is ↦ let k = behind_keyword (codes "show") 1 words is in let rest =
+                        one_word (drop 1 words) k.1 in let e : words ≡ codes "show" ∷ rest.0 ∷ [] = k.0
+                        ∙ ap (λ l. codes "show" ∷ l) rest.1 in let read =
+                        read_line (script_forms books.instruments) words (codes "show" ∷ rest.0 ∷ []) e n r in
+                        inr (op.Show (value_of rest.0), (read.0 (lit< tt)).1, e ∙ (λ i. codes "show" ∷ (read.0 (lit< tt)).0 i ∷ []))
+                    | inr other ↦ elim other [
+                      | inl is ↦ let k = behind_keyword (codes "sum") 2 words is in let rest =
+                          two_words (drop 1 words) k.1 in let e : words ≡ codes "sum" ∷ rest.0 ∷ rest.1 ∷ [] = k.0
+                          ∙ ap (λ l. codes "sum" ∷ l) rest.2 in let read =
+                          read_line (script_forms books.instruments) words (codes "sum" ∷ rest.0 ∷ rest.1 ∷ []) e n r in
+                          inr (
+                            op.Sum (value_of rest.0) (value_of rest.1),
+                            ((read.0 (lit< tt)).1, (read.1.0 (lit< tt)).1),
+                            e ∙ (λ i. codes "sum" ∷ (read.0 (lit< tt)).0 i ∷ (read.1.0 (lit< tt)).0 i ∷ []),
+                          )
+                      | inr other ↦ elim other [
+                        | inl is ↦ let k = behind_keyword (codes "end") 0 words is in inl (k.0 ∙ ap (λ l. codes "end" ∷ l) (no_words (drop 1 words) k.1))
+                        | inr none ↦ absurd none
+                      ]
+                    ]
+                  ]
+                ]
+              ]
+            ]
+          ]
+        ]
+      ]
+    ]
+  ]
+]

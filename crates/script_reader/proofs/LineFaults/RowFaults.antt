@@ -1,0 +1,89 @@
+-- What is wrong with a line of a script, by its form.
+use Rattle.std.proofs.Common.{◌≡◌, ℕ, Bool, true, false, not, ◌&&◌, ◌==◌, cond, List, [], ◌∷◌, codes, drop, length, Some, None, refl, ap, ◌∙◌}
+use Rattle.std.specs.List.{AllByRecursion}
+use Rattle.std.specs.Option.{is_none}
+use Rattle.std.proofs.lemmas.Bool.{eqb-true}
+use Rattle.script_reader.specs.declared.fault.Fault.{Fault}
+use Rattle.script_reader.specs.declared.fault.Fault.TheVariants as fault
+use Rattle.script_reader.specs.Forms.{Words, Form, form, script_forms, begins, has_form, form_of, ranges_of, are_numbers, are_in_range}
+use Rattle.script_reader.specs.Faults.{first_reason}
+use Rattle.script_reader.specs.Inner.Rows.{numbers_fault, row_fault}
+use Rattle.script_reader.proofs.LineFaults.LineKinds.{behind_keyword, one_word, two_words, three_words, four_words}
+
+-- a line of another length is none of this keyword and this length
+pub other_length : (k : List ℕ) (n : ℕ) (words : Words) → (length words ≡ n → ⊥) → (begins k words && length words == n) ≡ false
+other_length k n words other = by (begins k words) (length words == n) refl
+  where
+    by : (a b : Bool) → (length words == n) ≡ b → (a && b) ≡ false
+    by true true e = absurd (other (eqb-true (length words) n e))
+    by true false e = refl
+    by false b e = refl
+
+-- a line that has none of some forms
+no_form : (forms : List Form) (words : Words) → AllByRecursion (λ f. has_form words f ≡ false) forms → form_of forms words ≡ None
+no_form [] words all = refl
+no_form (f ∷ forms) words all = (λ i. cond (all.0 i) (Some f) (form_of forms words)) ∙ no_form forms words all.1
+
+module _ (forms : List Form) (words : Words) where
+  word_wrong : AllByRecursion (λ f. has_form words f ≡ false) forms → row_fault forms words ≡ Some fault.Word
+  word_wrong all i = first_reason (
+      (is_none (no_form forms words all i), fault.Word)
+      ∷ (not (are_numbers (drop 1 words)), fault.Number)
+      ∷ (not (are_in_range (drop 1 words) (ranges_of (no_form forms words all i))), fault.Limit)
+      ∷ []
+      )
+
+  -- what is wrong with the numbers of a line that has a form
+  numbers_wrong : (f : Form) (why : Fault) → form_of forms words ≡ Some f → numbers_fault words f.ranges ≡ Some why → row_fault forms words ≡ Some why
+  numbers_wrong f why e h = (λ i. first_reason (
+      (is_none (e i), fault.Word)
+      ∷ (not (are_numbers (drop 1 words)), fault.Number)
+      ∷ (not (are_in_range (drop 1 words) (ranges_of (e i))), fault.Limit)
+      ∷ []
+      )) ∙ h
+
+  pub one_wrong : (k : List ℕ) (r : ℕ × ℕ) (why : Fault) → ((a : List ℕ) → form_of forms (k ∷ a ∷ []) ≡ Some (form k (r ∷ [])))
+      → (begins k words && length words == 2) ≡ true → numbers_fault words (r ∷ []) ≡ Some why → row_fault forms words ≡ Some why
+  one_wrong k r why is row h =
+      let behind = behind_keyword k 1 words row in
+      let rest = one_word (drop 1 words) behind.1 in
+      numbers_wrong (form k (r ∷ [])) why (ap (form_of forms) (behind.0 ∙ ap (λ l. k ∷ l) rest.1) ∙ is rest.0) h
+
+  pub two_wrong : (k : List ℕ) (r s : ℕ × ℕ) (why : Fault) → ((a b : List ℕ) → form_of forms (k ∷ a ∷ b ∷ []) ≡ Some (form k (r ∷ s ∷ [])))
+      → (begins k words && length words == 3) ≡ true → numbers_fault words (r ∷ s ∷ []) ≡ Some why → row_fault forms words ≡ Some why
+  two_wrong k r s why is row h =
+      let behind = behind_keyword k 2 words row in
+      let rest = two_words (drop 1 words) behind.1 in
+      numbers_wrong (form k (r ∷ s ∷ [])) why (ap (form_of forms) (behind.0 ∙ ap (λ l. k ∷ l) rest.2) ∙ is rest.0 rest.1) h
+
+  pub three_wrong : (k : List ℕ) (r s t : ℕ × ℕ) (why : Fault) → ((a b c : List ℕ) → form_of forms (k ∷ a ∷ b ∷ c ∷ []) ≡ Some (form k (r ∷ s ∷ t ∷ [])))
+      → (begins k words && length words == 4) ≡ true → numbers_fault words (r ∷ s ∷ t ∷ []) ≡ Some why → row_fault forms words ≡ Some why
+  three_wrong k r s t why is row h =
+      let behind = behind_keyword k 3 words row in
+      let rest = three_words (drop 1 words) behind.1 in
+      numbers_wrong (form k (r ∷ s ∷ t ∷ [])) why (ap (form_of forms) (behind.0 ∙ ap (λ l. k ∷ l) rest.3) ∙ is rest.0 rest.1 rest.2) h
+
+  pub four_wrong : (k : List ℕ) (r s t u : ℕ × ℕ) (why : Fault)
+      → ((a b c d : List ℕ) → form_of forms (k ∷ a ∷ b ∷ c ∷ d ∷ []) ≡ Some (form k (r ∷ s ∷ t ∷ u ∷ [])))
+      → (begins k words && length words == 5) ≡ true → numbers_fault words (r ∷ s ∷ t ∷ u ∷ []) ≡ Some why → row_fault forms words ≡ Some why
+  four_wrong k r s t u why is row h =
+      let behind = behind_keyword k 4 words row in
+      let rest = four_words (drop 1 words) behind.1 in
+      numbers_wrong (form k (r ∷ s ∷ t ∷ u ∷ [])) why (ap (form_of forms) (behind.0 ∙ ap (λ l. k ∷ l) rest.4) ∙ is rest.0 rest.1 rest.2 rest.3) h
+
+-- a line that is none of a script
+pub unknown_word : (n : ℕ) (words : Words)
+    → (begins (codes "open") words && length words == 2) ≡ false
+    → (begins (codes "close") words && length words == 2) ≡ false
+    → (begins (codes "deposit") words && length words == 3) ≡ false
+    → (begins (codes "withdraw") words && length words == 3) ≡ false
+    → (begins (codes "move") words && length words == 4) ≡ false
+    → (begins (codes "price") words && length words == 3) ≡ false
+    → (begins (codes "trade") words && length words == 5) ≡ false
+    → (begins (codes "margin") words && length words == 3) ≡ false
+    → (begins (codes "next") words && length words == 1) ≡ false
+    → (begins (codes "show") words && length words == 2) ≡ false
+    → (begins (codes "sum") words && length words == 3) ≡ false
+    → (begins (codes "end") words && length words == 1) ≡ false
+    → row_fault (script_forms n) words ≡ Some fault.Word
+unknown_word n words a b c d e f g h i j k l = word_wrong (script_forms n) words (a, (b, (c, (d, (e, (f, (g, (h, (i, (j, (k, (l, tt))))))))))))

@@ -1,0 +1,180 @@
+-- How many lines are read, and which of them is faulty.
+use Rattle.std.proofs.Common.{◌≡◌, ◌≢◌, ◌⊎◌, inl, inr, ℕ, ◌+◌, ◌-◌, ◌*◌, ◌<◌, ◌≤◌, ◌^◌, ◌==◌, Bool, true, false, not, ◌&&◌, ◌||◌, nat_le, if◌then◌else◌, List}
+use Rattle.std.proofs.Common.{[], ◌∷◌, ◌++◌, codes, map, take, drop, length, Option, Some, None, refl, sym, ap, ◌∙◌, append_assoc, length-append, arith}
+use Rattle.std.specs.List.{flat_map, list_any, count_by, AllByRecursion}
+use Rattle.std.specs.FinMap as finmap
+use Rattle.std.specs.FinMap.{len-entries}
+use Rattle.std.proofs.lemmas.List.{length-map}
+use Rattle.std.proofs.lemmas.List.Sums.{sum_by-append}
+use Rattle.books_model.specs.Books.{ClearingBooks}
+use Rattle.books_model.specs.Ranges.{AreInRange}
+use Rattle.script_reader.specs.declared.words.TheConstants.{LINE_FEED}
+use Rattle.script_reader.specs.declared.fault.Fault.{Fault}
+use Rattle.script_reader.specs.declared.fault.Fault.TheVariants as fault
+use Rattle.script_reader.specs.Text.{line, finish_line, account_words, price_words, position_words, call_words, operation_words}
+use Rattle.script_reader.specs.Inner.LinesAsWords.{books_words, submission_words, lines_so_far}
+use Rattle.script_reader.specs.Input.{ClearingInput, Submission, AreCallersFor, callers_of}
+use Rattle.script_reader.specs.Grammar.{Spells}
+use Rattle.script_reader.specs.Forms.{Words, is_only, begins, value_at, are_numbers, are_in_range, ranges_of, form_of, books_forms}
+use Rattle.script_reader.specs.Faults.{StartsFaulty, IsFaultyBehind, fault_of, books_fault, inside_fault, outside_fault, is_inside, is_late, is_low, is_given}
+use Rattle.script_reader.specs.Faults.{takes_block, size_at}
+use Rattle.script_reader.proofs.Grouped.Submitting.{IsGoodScript, scripts_are_good}
+use Rattle.script_reader.proofs.Printing.Scripted.{opened}
+use Rattle.script_reader.proofs.Texts.Reaching.{IsReached, AtStart, InBooks, Outside, WithinScript, reach_all, scripts_counted}
+use Rattle.script_reader.proofs.Texts.Fronting.{count_line, count_lines, take_front}
+use Rattle.script_reader.proofs.Texts.OneReading.{finish_words}
+use Rattle.script_reader.proofs.Texts.Deciding.{spelled}
+
+-- books have few lines
+few_of_books : (b : ClearingBooks) → AreInRange b → length (books_words b) ≤ 20000
+few_of_books b range = omega (
+  arith,
+  length-append (map account_words (finmap.entries b.accounts)) (map price_words (finmap.entries b.prices)
+      ++ (map position_words (finmap.entries b.positions) ++ map call_words b.calls)),
+  length-append (map price_words (finmap.entries b.prices)) (map position_words (finmap.entries b.positions) ++ map call_words b.calls),
+  length-append (map position_words (finmap.entries b.positions)) (map call_words b.calls),
+  length-map (finmap.entries b.accounts) account_words,
+  length-map (finmap.entries b.prices) price_words,
+  length-map (finmap.entries b.positions) position_words,
+  length-map b.calls call_words,
+  len-entries b.accounts,
+  len-entries b.prices,
+  len-entries b.positions,
+  range.blocks_used,
+  range.blocks.1,
+  range.queue,
+  range.ring.1,
+)
+
+-- scripts have few lines each
+few_each : (b : ClearingBooks) (subs : List Submission) → AllByRecursion (IsGoodScript b) subs → length (flat_map submission_words subs) ≤ 66 * length subs
+few_each b [] good = omega arith
+few_each b (s ∷ subs) good = omega (
+  arith,
+  length-append (submission_words s) (flat_map submission_words subs),
+  length-append (map operation_words s.script) ((codes "end" ∷ []) ∷ []),
+  length-map s.script operation_words,
+  good.0.script.few,
+  few_each b subs good.1,
+)
+
+-- so have books and scripts
+few_so_far : (b : ClearingBooks) (subs : List Submission) → AreInRange b → AreCallersFor b (callers_of subs) → length (lines_so_far b subs) ≤ 4400000
+few_so_far b subs range valid = omega (
+  arith,
+  length-append (books_words b) ((codes "scripts" ∷ []) ∷ flat_map submission_words subs),
+  few_of_books b range,
+  few_each b subs (scripts_are_good b subs valid),
+  scripts_counted subs,
+  valid.few_scripts,
+)
+
+-- so have lines without fault, whatever they are
+few_lines : (lines : List Words) → IsReached lines → length lines ≤ 4500000
+few_lines lines (AtStart e) = omega (arith, ap length e)
+few_lines lines (InBooks b range e) = omega (arith, ap length e, few_of_books b range)
+few_lines lines (Outside r) = omega (arith, ap length r.lines_are, few_so_far r.books r.subs r.range r.valid)
+few_lines lines (WithinScript r) = omega (
+  arith,
+  ap length r.lines_are,
+  length-append (lines_so_far r.books r.subs) (opened r.name r.ops),
+  length-map r.ops operation_words,
+  few_so_far r.books r.subs r.range r.valid,
+  r.script.few,
+)
+
+-- another reason comes before those that follow
+other : (c : Bool) (why : Fault) (rest : Option Fault) → why ≢ fault.End → rest ≢ Some fault.End → (if c then Some why else rest) ≢ Some fault.End
+other true why rest differs none = λ e. differs cc
+other false why rest differs none = none
+
+no_more : None ≢ Some fault.End
+no_more = λ e. cc
+
+-- a line that is there is not missing
+not_missing : (before : List Words) (words : Words) → fault_of before words ≢ Some fault.End
+not_missing [] words = other _ fault.Header _ (λ e. cc) (other _ fault.Number _ (λ e. cc) (other _ fault.Limit _ (λ e. cc) no_more))
+not_missing (header ∷ lines) words = by (list_any (is_only (codes "scripts")) (header ∷ lines)) (is_inside (header ∷ lines))
+    (other _ fault.Word _ (λ e. cc) (other (is_late before words) fault.Order _ (λ e. cc)
+    (other (not (are_numbers (drop 1 words))) fault.Number _ (λ e. cc) (other is_beyond_limits fault.Limit _ (λ e. cc)
+    (other (is_low before words) fault.Order _ (λ e. cc) (other (lacks (codes "account") 1) fault.Account _ (λ e. cc)
+    (other (lacks (codes "price") 2) fault.Price _ (λ e. cc)
+    (other (takes_block words && nat_le (size_at before 3) (count_by takes_block before)) fault.Blocks _ (λ e. cc) no_more))))))))
+    (other _ fault.Word _ (λ e. cc) (other _ fault.Number _ (λ e. cc) (other _ fault.Limit _ (λ e. cc) no_more)))
+    (other _ fault.Word _ (λ e. cc) (other _ fault.Limit _ (λ e. cc) no_more))
+  where
+    before : List Words
+    before = header ∷ lines
+
+    is_beyond_limits : Bool
+    is_beyond_limits = not (are_in_range (drop 1 words) (ranges_of (form_of (books_forms (size_at before 5)) words))) ||
+        (begins (codes "call") words && nat_le (size_at before 7) (count_by (begins (codes "call")) before))
+
+    lacks : List ℕ → ℕ → Bool
+    lacks keyword place = begins (codes "position") words && not (is_given before keyword (value_at words place))
+
+    by : (scripts inside : Bool) → books_fault (header ∷ lines) words ≢ Some fault.End
+        → inside_fault (header ∷ lines) words ≢ Some fault.End → outside_fault (header ∷ lines) words ≢ Some fault.End
+        → (if not scripts then books_fault (header ∷ lines) words else
+        (if inside then inside_fault (header ∷ lines) words else outside_fault (header ∷ lines) words)) ≢ Some fault.End
+    by false inside in_books within between = in_books
+    by true true in_books within between = within
+    by true false in_books within between = between
+
+-- the line feeds of what was read
+abbrev pub feeds : List ℕ → List ℕ → ℕ
+feeds text left = count_by (λ b. b == LINE_FEED) (take (length text - length left) text)
+
+-- what the line feeds of what was read tell of the faulty line
+pub record Told (text left : List ℕ) (why : Fault) (before : ℕ) : Type 0 where
+  pub shorter : length left ≤ length text
+  pub few : feeds text left + 1 < 2 ^ 32
+  pub either : (why ≡ fault.End) ⊎ (why ≢ fault.End)
+  pub missing : why ≡ fault.End → feeds text left ≡ before
+  pub whole : why ≢ fault.End → feeds text left ≡ before + 1
+
+pub told : (text left : List ℕ) (why : Fault) → (h : IsFaultyBehind [] text left why) → Told text left why (length h.more)
+told text left why h = by h.here
+  where
+    few : length h.more ≤ 4500000
+    few = few_lines h.more (reach_all [] h.more (AtStart refl) h.faultless)
+
+    lines : List ℕ
+    lines = flat_map line h.more
+
+    by : StartsFaulty h.more h.rest left why → Told text left why (length h.more)
+    by (inl (words, are, is, faulty)) =
+        let e : text ≡ (lines ++ line words) ++ left = h.text_is ∙ ap (λ l. lines ++ l) is ∙ sym (append_assoc lines (line words) left) in
+        let counted : feeds text left ≡ length h.more + 1 =
+        ap (count_by (λ b. b == LINE_FEED)) (take_front text (lines ++ line words) left _ e refl)
+        ∙ sum_by-append (λ b. if b == LINE_FEED then 1 else 0) lines (line words)
+        ∙ (λ i. count_lines [] h.more h.faultless i + count_line words are i) in
+        record {
+          shorter = omega (arith, ap length e, length-append (lines ++ line words) left);
+          few = omega (arith, counted, few);
+          either = inr (λ is_end. not_missing h.more words (faulty ∙ ap Some is_end));
+          missing = λ is_end. absurd (not_missing h.more words (faulty ∙ ap Some is_end));
+          whole = λ other. counted;
+        }
+    by (inr (free, same, is_end)) =
+        let e : text ≡ lines ++ left = h.text_is ∙ ap (λ l. lines ++ l) (sym same) in
+        let counted : feeds text left ≡ length h.more =
+        ap (count_by (λ b. b == LINE_FEED)) (take_front text lines left _ e refl) ∙ count_lines [] h.more h.faultless in
+        record {
+          shorter = omega (arith, ap length e, length-append lines left);
+          few = omega (arith, counted, few);
+          either = inl is_end;
+          missing = λ is_end. counted;
+          whole = λ other. absurd (other is_end);
+        }
+
+-- the text of an input has few line feeds
+pub few_of_input : (text : List ℕ) (input : ClearingInput) → Spells text input → count_by (λ b. b == LINE_FEED) text + 1 < 2 ^ 32
+few_of_input text input h = omega (
+  arith,
+  ap (count_by (λ b. b == LINE_FEED)) (spelled text input h).text_is,
+  sum_by-append (λ b. if b == LINE_FEED then 1 else 0) (flat_map line (spelled text input h).lines) finish_line,
+  count_lines [] (spelled text input h).lines (spelled text input h).faultless,
+  count_line (codes "finish" ∷ []) finish_words,
+  few_lines (spelled text input h).lines (reach_all [] (spelled text input h).lines (AtStart refl) (spelled text input h).faultless),
+)

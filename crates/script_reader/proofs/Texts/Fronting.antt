@@ -1,0 +1,80 @@
+-- The front of a text: its input, or its fault and the number of the faulty line.
+use Rattle.std.proofs.Common.{◌≡◌, ℕ, ◌+◌, ◌-◌, ◌==◌, cond, List, [], ◌∷◌, ◌++◌, codes, take, length, refl, sym, ap, ◌∙◌, append_assoc, length-append, arith}
+use Rattle.std.specs.List.{flat_map, count_by, join_with_byte}
+use Rattle.std.proofs.lemmas.List.{append-nil}
+use Rattle.std.proofs.lemmas.List.Concat.{flat_map-append}
+use Rattle.std.proofs.lemmas.List.Sums.{sum_by-append, sum_by-cons}
+use Rattle.books_model.specs.Books.{ClearingBooks}
+use Rattle.books_model.specs.Ranges.{AreInRange}
+use Rattle.script_reader.specs.declared.words.TheConstants.{SPACE, LINE_FEED}
+use Rattle.script_reader.specs.declared.fault.Fault.{Fault}
+use Rattle.script_reader.specs.Lines.{IsFreeOf, AreWords}
+use Rattle.script_reader.specs.Text.{line, books_lines, scripts_line, finish_line}
+use Rattle.script_reader.specs.Inner.LinesAsWords.{books_words, lines_so_far}
+use Rattle.script_reader.specs.Input.{Caller}
+use Rattle.script_reader.specs.Grammar.{submission_lines, input_text}
+use Rattle.script_reader.specs.Inner.Scripts.{IsReadOf, HasFront}
+use Rattle.script_reader.specs.Forms.{Words}
+use Rattle.script_reader.specs.Faults.{AreFaultless, IsFaultyBehind}
+use Rattle.script_reader.proofs.Tokens.Cutting.{join-free}
+use Rattle.script_reader.proofs.Texts.OneReading.{text_of_books}
+use Rattle.script_reader.proofs.WithoutFault.ScriptsFaultless.{input_faultless}
+use Rattle.script_reader.proofs.Texts.Reaching.{no_callers}
+use Rattle.script_reader.proofs.Texts.Following.{behind_more}
+
+-- a fault behind books that were read
+pub behind_books : (b : ClearingBooks) (range : AreInRange b) (start left after : List ℕ) (why : Fault)
+    → start ≡ flat_map line (books_words b) ++ (scripts_line ++ left) → IsFaultyBehind (lines_so_far b []) left after why → IsFaultyBehind [] start after why
+behind_books b range start left after why text h =
+    behind_more [] (lines_so_far b []) start left after why (input_faultless b range [] (no_callers b))
+    (text ∙ sym (append_assoc (flat_map line (books_words b)) scripts_line left)
+    ∙ ap (λ l. l ++ left) (ap (λ l. flat_map line (books_words b) ++ l) (sym (append-nil scripts_line))
+    ∙ sym (flat_map-append line (books_words b) ((codes "scripts" ∷ []) ∷ [])))) h
+
+-- the front of books and scripts that were read
+pub front_of : (b : ClearingBooks) (callers : List Caller) (start middle after : List ℕ) → AreInRange b
+    → start ≡ flat_map line (books_words b) ++ (scripts_line ++ middle) → IsReadOf b callers middle after
+    → HasFront (record { books = b; callers = callers }) start after
+front_of b callers start middle after range text rest =
+    let S : List ℕ = flat_map submission_lines rest.submissions in
+    record {
+      front = input_text b rest.submissions;
+      text = text ∙ (λ i. text_of_books b i ++ (scripts_line ++ rest.text i))
+          ∙ sym (append_assoc (books_lines b) scripts_line (S ++ (finish_line ++ after)))
+          ∙ sym (append_assoc (books_lines b ++ scripts_line) S (finish_line ++ after))
+          ∙ sym (append_assoc (books_lines b ++ scripts_line ++ S) finish_line after);
+      spelled = record { submissions = rest.submissions; text = refl; callers = rest.made; valid = record { books = range; callers = rest.valid } };
+    }
+
+-- what stands in front of a rest
+pub take_front : (start front after : List ℕ) (end : ℕ) → start ≡ front ++ after → end ≡ length start - length after → take end start ≡ front
+take_front start front after end e is =
+    let long : end ≡ length front = omega (arith, is, ap length e, length-append front after) in
+    (λ i. take (long i) (e i)) ∙ take_all front after
+  where
+    take_all : (front after : List ℕ) → take (length front) (front ++ after) ≡ front
+    take_all [] after = refl
+    take_all (x ∷ front) after = ap (λ l. x ∷ l) (take_all front after)
+
+-- a byte is not counted where there is none
+count_free : (c : ℕ) (xs : List ℕ) → IsFreeOf c xs → count_by (λ b. b == c) xs ≡ 0
+count_free c [] f = refl
+count_free c (x ∷ xs) f = sum_by-cons (λ b. cond (b == c) 1 0) x xs ∙ (λ i. cond (f.0 i) 1 0 + count_free c xs f.1 i) ∙ omega arith
+
+-- a line has one line feed
+pub count_line : (words : Words) → AreWords words → count_by (λ b. b == LINE_FEED) (line words) ≡ 1
+count_line words are = omega (
+  arith,
+  sum_by-append (λ b. cond (b == LINE_FEED) 1 0) (join_with_byte SPACE words) (LINE_FEED ∷ []),
+  count_free LINE_FEED (join_with_byte SPACE words) (join-free words are.each),
+)
+
+-- lines have one each
+pub count_lines : (before lines : List Words) → AreFaultless before lines → count_by (λ b. b == LINE_FEED) (flat_map line lines) ≡ length lines
+count_lines before [] f = refl
+count_lines before (w ∷ lines) f = omega (
+  arith,
+  sum_by-append (λ b. cond (b == LINE_FEED) 1 0) (line w) (flat_map line lines),
+  count_line w f.0,
+  count_lines (before ++ w ∷ []) lines f.3,
+)

@@ -1,0 +1,108 @@
+-- Scripts that were read, and the fault behind them.
+use Rattle.std.proofs.Common.{◌≡◌, ℕ, true, false, not, ◌&&◌, ◌||◌, nat_le, List, [], ◌∷◌, ◌++◌, codes, length, Some, None, refl, sym, ap, subst, ◌∙◌}
+use Rattle.std.proofs.Common.{append_assoc}
+use Rattle.std.specs.List.{flat_map}
+use Rattle.std.proofs.lemmas.List.{append-nil}
+use Rattle.std.proofs.lemmas.List.Concat.{flat_map-append}
+use Rattle.books_model.specs.Books.{ClearingBooks}
+use Rattle.books_model.specs.Ranges.{AreInRange}
+use Rattle.books_model.specs.declared.script.Op.{Op}
+use Rattle.script_reader.specs.declared.limits.TheConstants.{MOST_CALLERS, MOST_SCRIPTS}
+use Rattle.script_reader.specs.declared.fault.Fault.{Fault}
+use Rattle.script_reader.specs.declared.fault.Fault.TheVariants as fault
+use Rattle.script_reader.specs.Lines.{word_at}
+use Rattle.script_reader.specs.Text.{line, operation_lines, end_line, finish_line}
+use Rattle.script_reader.specs.Inner.LinesAsWords.{books_words, submission_words, lines_so_far, lines_inside}
+use Rattle.script_reader.specs.Input.{Submission, AreCallersFor, callers_of, count_scripts, IsName}
+use Rattle.script_reader.specs.Inner.Callers.{is_caller}
+use Rattle.script_reader.specs.Grammar.{submission_lines}
+use Rattle.script_reader.specs.Forms.{Words, is_only, is_script_line}
+use Rattle.script_reader.specs.Faults.{first_reason, IsFaultyBehind, fault_of}
+use Rattle.script_reader.proofs.Printing.Scripted.{ended, outside_fault_is, is_beyond_at}
+use Rattle.script_reader.proofs.WithoutFault.BooksFaultless.{printed}
+use Rattle.script_reader.proofs.WithoutFault.ScriptsFaultless.{scripts_faultless}
+use Rattle.script_reader.proofs.Grouped.Submitting.{caller-AreWords}
+use Rattle.script_reader.proofs.Texts.OneReading.{text_of_submission, flat_of_flat}
+use Rattle.script_reader.proofs.Texts.Reaching.{scripts_counted, callers_counted, caller_named}
+use Rattle.script_reader.proofs.Texts.Following.{behind_more}
+
+-- a fault behind scripts that were read
+pub behind_scripts : (b : ClearingBooks) (range : AreInRange b) (subs : List Submission) (start left after : List ℕ)
+    (why : Fault) → AreCallersFor b (callers_of subs) → start ≡ flat_map line (flat_map submission_words subs) ++ left
+    → IsFaultyBehind (lines_so_far b subs) left after why → IsFaultyBehind (lines_so_far b []) start after why
+behind_scripts b range subs start left after why valid text h =
+    behind_more (lines_so_far b []) (flat_map submission_words subs) start left after why (scripts_faultless b range subs valid) text
+    (subst (λ l. IsFaultyBehind l left after why) (sym (append_assoc (books_words b) (ended []) (flat_map submission_words subs))) h)
+
+-- a line between scripts that is neither the last one nor begins a script
+pub outside_word : (b : ClearingBooks) (subs : List Submission) (words : Words) → is_only (codes "finish") words ≡ false
+    → is_script_line words ≡ false → fault_of (lines_so_far b subs) words ≡ Some fault.Word
+outside_word b subs words more no_script =
+    outside_fault_is (printed b) subs words
+    ∙ (λ i. first_reason ((not (more i || no_script i), fault.Word) ∷ (is_script_line words && is_beyond_at subs (word_at words 1), fault.Limit) ∷ []))
+
+-- the line that begins a script
+begins_script : (name : List ℕ) (words : Words) → words ≡ codes "script" ∷ name ∷ [] → IsName name → is_script_line words ≡ true
+begins_script name words is named = ap is_script_line is ∙ named
+
+-- one script too many, or one caller
+pub outside_limit : (b : ClearingBooks) (subs : List Submission) (name : List ℕ) (words : Words)
+    → words ≡ codes "script" ∷ name ∷ [] → IsName name → is_beyond_at subs name ≡ true → fault_of (lines_so_far b subs) words ≡ Some fault.Limit
+outside_limit b subs name words is named beyond =
+    ap (fault_of (lines_so_far b subs)) is ∙ outside_fault_is (printed b) subs (codes "script" ∷ name ∷ [])
+    ∙ (λ i. first_reason ((not (false || named i), fault.Word) ∷ (named i && beyond i, fault.Limit) ∷ []))
+
+-- neither
+pub outside_none : (b : ClearingBooks) (subs : List Submission) (name : List ℕ) → IsName name
+    → is_beyond_at subs name ≡ false → fault_of (lines_so_far b subs) (codes "script" ∷ name ∷ []) ≡ None
+outside_none b subs name named room =
+    outside_fault_is (printed b) subs (codes "script" ∷ name ∷ [])
+    ∙ (λ i. first_reason ((not (false || named i), fault.Word) ∷ (named i && room i, fault.Limit) ∷ []))
+
+-- a fault inside the script that begins here
+pub behind_script : (b : ClearingBooks) (subs : List Submission) (name : List ℕ) (words : Words)
+    (left middle after : List ℕ) (why : Fault) → words ≡ codes "script" ∷ name ∷ [] → IsName name → is_beyond_at subs name ≡ false
+    → left ≡ line words ++ middle → IsFaultyBehind (lines_inside b subs name []) middle after why → IsFaultyBehind (lines_so_far b subs) left after why
+behind_script b subs name words left middle after why is named room text h =
+    let first : Words = codes "script" ∷ name ∷ [] in
+    behind_more (lines_so_far b subs) (first ∷ []) left middle after why
+    (caller-AreWords name named, outside_none b subs name named room, refl, tt)
+    (text ∙ ap (λ w. line w ++ middle) is ∙ ap (λ l. l ++ middle) (sym (append-nil (line first)))) h
+
+-- whether there are too many scripts or callers, as it is looked up
+pub beyond_is : (subs : List Submission) (name : List ℕ)
+    → (nat_le MOST_SCRIPTS (count_scripts (callers_of subs)) || (not (is_caller name (callers_of subs)) && nat_le
+    MOST_CALLERS (length (callers_of subs)))) ≡ is_beyond_at subs name
+beyond_is subs name i = nat_le MOST_SCRIPTS (scripts_counted subs i) || (not (caller_named name subs i) && nat_le MOST_CALLERS (callers_counted subs i))
+
+-- the text of scripts, with one more
+pub one_more_script : (start left middle after : List ℕ) (subs : List Submission) (name : List ℕ) (script : List Op)
+    (words : Words) → start ≡ flat_map line (flat_map submission_words subs) ++ left
+    → left ≡ line words ++ middle → words ≡ codes "script" ∷ name ∷ [] → middle ≡ operation_lines script ++ (end_line ++ after)
+    → start ≡ flat_map line (flat_map submission_words (subs ++ record { caller = name; script = script } ∷ [])) ++ after
+one_more_script start left middle after subs name script words text first is rest =
+    let s : Submission = record { caller = name; script = script } in
+    let S : List ℕ = flat_map line (flat_map submission_words subs) in
+    let one : left ≡ submission_lines s ++ after =
+    first ∙ (λ i. line (is i) ++ rest i)
+    ∙ ap (λ l. line (codes "script" ∷ name ∷ []) ++ l) (sym (append_assoc (operation_lines script) end_line after))
+    ∙ sym (append_assoc (line (codes "script" ∷ name ∷ [])) (operation_lines script ++ end_line) after)
+    ∙ ap (λ l. l ++ after) (sym (append_assoc (line (codes "script" ∷ name ∷ [])) (operation_lines script) end_line)) in
+    text ∙ ap (λ l. S ++ l) one ∙ sym (append_assoc S (submission_lines s) after)
+    ∙ ap (λ l. l ++ after) (
+    ap (λ l. S ++ l) (sym (text_of_submission s))
+    ∙ sym (flat_map-append line (flat_map submission_words subs) (submission_words s))
+    ∙ ap (flat_map line) (ap (λ l. flat_map submission_words subs ++ l) (sym (append-nil (submission_words s)))
+    ∙ sym (flat_map-append submission_words subs (s ∷ [])))
+    )
+
+-- the text of scripts and of the last line
+pub last_text : (start left after : List ℕ) (subs : List Submission) (words : Words)
+    → start ≡ flat_map line (flat_map submission_words subs) ++ left → left ≡ line words ++ after → words ≡ codes "finish" ∷ []
+    → start ≡ flat_map submission_lines subs ++ (finish_line ++ after)
+last_text start left after subs words text last is =
+    text ∙ (λ i. (flat_of_flat line submission_words subs ∙ each subs) i ++ (last ∙ ap (λ w. line w ++ after) is) i)
+  where
+    each : (subs : List Submission) → flat_map (λ s. flat_map line (submission_words s)) subs ≡ flat_map submission_lines subs
+    each [] = refl
+    each (s ∷ subs) = λ i. text_of_submission s i ++ each subs i

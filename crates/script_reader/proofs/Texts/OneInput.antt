@@ -1,0 +1,214 @@
+-- A text is of one input at most.
+use Rattle.std.proofs.Common.{◌≡◌, ℕ, ◌<◌, ◌^◌, Bool, true, false, not, if◌then◌else◌, List, [], ◌∷◌, ◌++◌, codes, map, refl, sym, ap, subst, ◌∙◌, append_assoc}
+use Rattle.std.proofs.Common.{true≢false, arith}
+use Rattle.std.specs.List.{flat_map, AllByRecursion}
+use Rattle.std.specs.FinMap as finmap
+use Rattle.std.specs.FinMap.{same_entries_map}
+use Rattle.std.proofs.lemmas.List.{append-nil}
+use Rattle.std.proofs.lemmas.List.Elements.{recursion_from_All}
+use Rattle.books_model.specs.Books.{ClearingBooks}
+use Rattle.books_model.specs.Ranges.{AreInRange, IsOperationFor}
+use Rattle.books_model.specs.declared.script.Op.{Op}
+use Rattle.books_model.specs.declared.script.Op.TheVariants as op
+use Rattle.script_reader.specs.Text.{line, number, header_words, account_words, price_words, position_words, call_words, operation_words, finish_line}
+use Rattle.script_reader.specs.Inner.LinesAsWords.{books_words, submission_words, lines_so_far}
+use Rattle.script_reader.specs.Input.{ClearingInput, Submission, AreCallersFor, callers_of}
+use Rattle.script_reader.specs.Grammar.{Spells}
+use Rattle.script_reader.specs.Lines.{word_at}
+use Rattle.script_reader.specs.Forms.{Words, begins, is_only, value_of, value_at}
+use Rattle.script_reader.proofs.Tokens.Numerals.{value_of_number}
+use Rattle.script_reader.proofs.Printing.Scripted.{ended}
+use Rattle.script_reader.proofs.Printing.Sections.{all_follow}
+use Rattle.script_reader.proofs.WithoutFault.Faultless.{IsAccount, IsPrice, IsPosition, IsMarginCall}
+use Rattle.script_reader.proofs.WithoutFault.BooksFaultless.{blocks_fit, instruments_fit, ring_fits, accounts_are, prices_are, positions_are, calls_are}
+use Rattle.script_reader.proofs.Grouped.Submitting.{IsGoodScript, scripts_are_good}
+use Rattle.script_reader.proofs.Texts.OneReading.{finish_once}
+use Rattle.script_reader.proofs.Texts.Reaching.{operation_goes_on}
+use Rattle.script_reader.proofs.Texts.Deciding.{spelled, spelled_lines}
+
+-- numbers with the same text are the same
+number_once : (n m : ℕ) → n < 2 ^ 64 → m < 2 ^ 64 → number n ≡ number m → n ≡ m
+number_once n m fits also e = sym (value_of_number n fits) ∙ ap value_of e ∙ value_of_number m also
+
+-- the first line fails a test, or there is none
+abbrev pub StopsAt : (Words → Bool) → List Words → Type 0
+StopsAt t [] = Unit {0}
+StopsAt t (w ∷ ws) = t w ≡ false
+
+-- so it is behind lines that fail
+stops_behind : {A : Type 0} (t : Words → Bool) (f : A → Words) (xs : List A) (ys : List Words)
+    → ((x : A) → t (f x) ≡ false) → StopsAt t ys → StopsAt t (map f xs ++ ys)
+stops_behind t f [] ys fails stops = stops
+stops_behind t f (x ∷ xs) ys fails stops = fails x
+
+module _ {A : Type 0} (t : Words → Bool) (f : A → Words) (P : A → Type 0) (once : (x y : A) → P x → P y → f x ≡ f y
+    → x ≡ y) (passes : (x : A) → t (f x) ≡ true) where
+  -- lines that pass, in front of one that does not, are the same
+  pub part_once : (xs us : List A) (ys vs : List Words) → AllByRecursion P xs → AllByRecursion P us → StopsAt t ys
+      → StopsAt t vs → map f xs ++ ys ≡ map f us ++ vs → (xs ≡ us) × (ys ≡ vs)
+  part_once [] [] ys vs p q s r e = (refl, e)
+  part_once [] (u ∷ us) ys vs p q s r e = absurd (true≢false (sym (passes u) ∙ subst (λ l. StopsAt t l) e s))
+  part_once (x ∷ xs) [] ys vs p q s r e = absurd (true≢false (sym (passes x) ∙ subst (λ l. StopsAt t l) (sym e) r))
+  part_once (x ∷ xs) (u ∷ us) ys vs p q s r e =
+      let heads : f x ≡ f u = cc in
+      let rest = part_once xs us ys vs p.1 q.1 s r cc in
+      ((λ i. once x u p.0 q.0 heads i ∷ rest.0 i), rest.1)
+
+-- two numbers that have texts, and three
+abbrev AreSmall : ℕ × ℕ → Type 0
+AreSmall e = (e.0 < 2 ^ 64) × (e.1 < 2 ^ 64)
+
+abbrev AllSmall : (ℕ × ℕ) × ℕ → Type 0
+AllSmall e = AreSmall e.0 × (e.1 < 2 ^ 64)
+
+pair_once : (keyword : List ℕ) (e f : ℕ × ℕ) → AreSmall e → AreSmall f → keyword ∷ number e.0 ∷ number e.1 ∷ [] ≡ keyword ∷ number f.0 ∷ number f.1 ∷ [] → e ≡ f
+pair_once keyword e f h k same i = (number_once e.0 f.0 h.0 k.0 (ap (λ w. word_at w 1) same) i, number_once e.1 f.1 h.1 k.1 (ap (λ w. word_at w 2) same) i)
+
+position_once : (e f : (ℕ × ℕ) × ℕ) → AllSmall e → AllSmall f → position_words e ≡ position_words f → e ≡ f
+position_once e f h k same i = (
+  (number_once e.0.0 f.0.0 h.0.0 k.0.0 (ap (λ w. word_at w 1) same) i, number_once e.0.1 f.0.1 h.0.1 k.0.1 (ap (λ w. word_at w 2) same) i),
+  number_once e.1 f.1 h.1 k.1 (ap (λ w. word_at w 3) same) i,
+)
+
+module _ (b : ClearingBooks) (r : AreInRange b) where
+  small_accounts : AllByRecursion AreSmall (finmap.entries b.accounts)
+  small_accounts = all_follow IsAccount AreSmall (finmap.entries b.accounts) (λ e h. (omega (arith, h.0.1), omega (arith, h.2.0.1))) (accounts_are b r)
+
+  small_prices : AllByRecursion AreSmall (finmap.entries b.prices)
+  small_prices = all_follow (IsPrice b.instruments) AreSmall (finmap.entries b.prices)
+      (λ e h. (omega (arith, h.0.1, h.1), omega (arith, h.2.0.1))) (prices_are b r)
+
+  small_positions : AllByRecursion AllSmall (finmap.entries b.positions)
+  small_positions = all_follow (IsPosition b.instruments) AllSmall (finmap.entries b.positions)
+      (λ e h. ((omega (arith, h.0.1), omega (arith, h.2.0.1, h.2.1)), omega (arith, h.2.2.0.1))) (positions_are b r)
+
+  small_calls : AllByRecursion AreSmall b.calls
+  small_calls = all_follow IsMarginCall AreSmall b.calls (λ e h. (omega (arith, h.0.1), omega (arith, h.2.0.1))) (calls_are b r)
+
+-- the operation of its words
+abbrev operation_of : Words → Op
+operation_of w =
+    if begins (codes "open") w then op.OpenAccount (value_at w 1)
+    else (if begins (codes "close") w then op.Close (value_at w 1)
+    else (if begins (codes "deposit") w then op.Deposit (value_at w 1) (value_at w 2)
+    else (if begins (codes "withdraw") w then op.Withdraw (value_at w 1) (value_at w 2)
+    else (if begins (codes "move") w then op.Move (value_at w 1) (value_at w 2) (value_at w 3)
+    else (if begins (codes "price") w then op.Price (value_at w 1) (value_at w 2)
+    else (if begins (codes "trade") w then op.Trade (value_at w 1) (value_at w 2) (value_at w 3) (value_at w 4)
+    else (if begins (codes "margin") w then op.Margin (value_at w 1) (value_at w 2)
+    else (if begins (codes "show") w then op.Show (value_at w 1)
+    else (if begins (codes "sum") w then op.Sum (value_at w 1) (value_at w 2)
+    else op.Next)))))))))
+
+module _ (b : ClearingBooks) (fits : b.instruments < 2 ^ 64) where
+  is_operation_of : (o : Op) → IsOperationFor b o → operation_of (operation_words o) ≡ o
+  is_operation_of (op.OpenAccount a) h i = op.OpenAccount (value_of_number a (omega (arith, h.1)) i)
+  is_operation_of (op.Close a) h i = op.Close (value_of_number a (omega (arith, h.1)) i)
+  is_operation_of (op.Deposit a x) h i = op.Deposit (value_of_number a (omega (arith, h.0.1)) i) (value_of_number x (omega (arith, h.1.1)) i)
+  is_operation_of (op.Withdraw a x) h i = op.Withdraw (value_of_number a (omega (arith, h.0.1)) i) (value_of_number x (omega (arith, h.1.1)) i)
+  is_operation_of (op.Move a c x) h i =
+      op.Move (value_of_number a (omega (arith, h.0.1)) i) (value_of_number c (omega (arith, h.1.1)) i) (value_of_number x (omega (arith, h.2.1)) i)
+  is_operation_of (op.Price n q) h i = op.Price (value_of_number n (omega (arith, h.0.1, fits)) i) (value_of_number q (omega (arith, h.1.1)) i)
+  is_operation_of (op.Trade a c n q) h i =
+      op.Trade (value_of_number a (omega (arith, h.0.1)) i) (value_of_number c (omega (arith, h.1.1)) i)
+      (value_of_number n (omega (arith, h.2.1, fits)) i) (value_of_number q (omega (arith, h.3.1)) i)
+  is_operation_of (op.Margin a m) h i = op.Margin (value_of_number a (omega (arith, h.0.1)) i) (value_of_number m (omega (arith, h.1.1)) i)
+  is_operation_of op.Next h i = op.Next
+  is_operation_of (op.Show a) h i = op.Show (value_of_number a (omega (arith, h.1)) i)
+  is_operation_of (op.Sum a c) h i = op.Sum (value_of_number a (omega (arith, h.0.1)) i) (value_of_number c (omega (arith, h.1.1)) i)
+
+  operation_once : (o q : Op) → IsOperationFor b o → IsOperationFor b q → operation_words o ≡ operation_words q → o ≡ q
+  operation_once o q h k e = sym (is_operation_of o h) ∙ ap operation_of e ∙ is_operation_of q k
+
+  -- scripts with the same lines are the same
+  scripts_once : (subs vs : List Submission) → AllByRecursion (IsGoodScript b) subs → AllByRecursion (IsGoodScript b) vs
+      → flat_map submission_words subs ≡ flat_map submission_words vs → subs ≡ vs
+  scripts_once [] [] p q e = refl
+  scripts_once [] (v ∷ vs) p q e = cc
+  scripts_once (s ∷ subs) [] p q e = cc
+  scripts_once (s ∷ subs) (v ∷ vs) p q e =
+      let end : Words = codes "end" ∷ [] in
+      let heads : codes "script" ∷ s.caller ∷ [] ≡ codes "script" ∷ v.caller ∷ [] = cc in
+      let tails : (map operation_words s.script ++ end ∷ []) ++ flat_map submission_words subs
+      ≡ (map operation_words v.script ++ end ∷ []) ++ flat_map submission_words vs = cc in
+      let parts = part_once (λ w. not (is_only (codes "end") w)) operation_words (IsOperationFor b) operation_once
+      (λ o. ap not (operation_goes_on o)) s.script v.script (end ∷ flat_map submission_words subs) (end ∷ flat_map submission_words vs)
+      (recursion_from_All _ _ p.0.script.each) (recursion_from_All _ _ q.0.script.each) refl refl
+      (sym (append_assoc (map operation_words s.script) (end ∷ []) (flat_map submission_words subs)) ∙ tails
+      ∙ append_assoc (map operation_words v.script) (end ∷ []) (flat_map submission_words vs)) in
+      let more : flat_map submission_words subs ≡ flat_map submission_words vs = cc in
+      let rest = scripts_once subs vs p.1 q.1 more in
+      let names : s.caller ≡ v.caller = ap (λ w. word_at w 1) heads in
+      (λ i. record { caller = names i; script = parts.0 i } ∷ rest i)
+
+-- the lines of books in front of others
+tail_form : (b : ClearingBooks) (rest : List Words) → books_words b ++ rest
+    ≡ header_words b ∷ (map account_words (finmap.entries b.accounts)
+    ++ (map price_words (finmap.entries b.prices) ++ (map position_words (finmap.entries b.positions) ++ (map call_words b.calls ++ rest))))
+tail_form b rest = ap (λ l. header_words b ∷ l) (
+    append_assoc (map account_words (finmap.entries b.accounts)) _ rest
+    ∙ ap (λ l. map account_words (finmap.entries b.accounts) ++ l) (append_assoc (map price_words (finmap.entries b.prices)) _ rest)
+    ∙ ap (λ l. map account_words (finmap.entries b.accounts) ++ (map price_words (finmap.entries b.prices) ++ l))
+    (append_assoc (map position_words (finmap.entries b.positions)) _ rest)
+    )
+
+-- books and scripts with the same lines are the same
+lines_once : (b c : ClearingBooks) (subs vs : List Submission) → AreInRange b → AreInRange c
+    → AreCallersFor b (callers_of subs) → AreCallersFor c (callers_of vs) → lines_so_far b subs ≡ lines_so_far c vs → (b ≡ c) × (subs ≡ vs)
+lines_once b c subs vs r s valid also e =
+    let S : List Words = ended subs in
+    let V : List Words = ended vs in
+    let same = sym (tail_form b S) ∙ e ∙ tail_form c V in
+    let heads : header_words b ≡ header_words c = cc in
+    let blocks = number_once b.blocks c.blocks (blocks_fit b r) (blocks_fit c s) (ap (λ w. word_at w 3) heads) in
+    let instruments = number_once b.instruments c.instruments (instruments_fit b r) (instruments_fit c s) (ap (λ w. word_at w 5) heads) in
+    let ring = number_once b.ring c.ring (ring_fits b r) (ring_fits c s) (ap (λ w. word_at w 7) heads) in
+    let accounts = part_once (begins (codes "account")) account_words AreSmall (pair_once (codes "account")) (λ x. refl)
+    (finmap.entries b.accounts) (finmap.entries c.accounts) _ _ (small_accounts b r) (small_accounts c s)
+    (stops_behind (begins (codes "account")) price_words (finmap.entries b.prices) _ (λ x. refl)
+    (stops_behind (begins (codes "account")) position_words (finmap.entries b.positions) _ (λ x. refl)
+    (stops_behind (begins (codes "account")) call_words b.calls S (λ x. refl) refl)))
+    (stops_behind (begins (codes "account")) price_words (finmap.entries c.prices) _ (λ x. refl)
+    (stops_behind (begins (codes "account")) position_words (finmap.entries c.positions) _ (λ x. refl)
+    (stops_behind (begins (codes "account")) call_words c.calls V (λ x. refl) refl)))
+    cc in
+    let prices = part_once (begins (codes "price")) price_words AreSmall (pair_once (codes "price")) (λ x. refl)
+    (finmap.entries b.prices) (finmap.entries c.prices) _ _ (small_prices b r) (small_prices c s)
+    (stops_behind (begins (codes "price")) position_words (finmap.entries b.positions) _ (λ x. refl)
+    (stops_behind (begins (codes "price")) call_words b.calls S (λ x. refl) refl))
+    (stops_behind (begins (codes "price")) position_words (finmap.entries c.positions) _ (λ x. refl)
+    (stops_behind (begins (codes "price")) call_words c.calls V (λ x. refl) refl))
+    accounts.1 in
+    let positions = part_once (begins (codes "position")) position_words AllSmall position_once (λ x. refl)
+    (finmap.entries b.positions) (finmap.entries c.positions) _ _ (small_positions b r) (small_positions c s)
+    (stops_behind (begins (codes "position")) call_words b.calls S (λ x. refl) refl)
+    (stops_behind (begins (codes "position")) call_words c.calls V (λ x. refl) refl)
+    prices.1 in
+    let calls = part_once (begins (codes "call")) call_words AreSmall (pair_once (codes "call")) (λ x. refl) b.calls
+    c.calls S V (small_calls b r) (small_calls c s) refl refl positions.1 in
+    let books : b ≡ c = λ t. record {
+      blocks = blocks t;
+      instruments = instruments t;
+      ring = ring t;
+      accounts = same_entries_map b.accounts c.accounts accounts.0 t;
+      positions = same_entries_map b.positions c.positions positions.0 t;
+      prices = same_entries_map b.prices c.prices prices.0 t;
+      calls = calls.0 t;
+    } in
+    let scripts : flat_map submission_words subs ≡ flat_map submission_words vs = let rest : S ≡ V = calls.1 in cc in (
+      books,
+      scripts_once b (instruments_fit b r) subs vs (scripts_are_good b subs valid)
+          (subst (λ d. AllByRecursion (IsGoodScript d) vs) (sym books) (scripts_are_good c vs also)) scripts,
+    )
+
+pub one_input : (text : List ℕ) (input other : ClearingInput) → Spells text input → Spells text other → input ≡ other
+one_input text input other h k =
+    let s = spelled text input h in
+    let t = spelled text other k in
+    let lines = finish_once [] s.lines t.lines [] [] s.faultless t.faultless
+    (ap (λ l. flat_map line s.lines ++ l) (append-nil finish_line) ∙ sym s.text_is ∙ t.text_is
+    ∙ ap (λ l. flat_map line t.lines ++ l) (sym (append-nil finish_line))) in
+    let same = lines_once input.books other.books h.submissions k.submissions h.valid.books k.valid.books
+    (subst (AreCallersFor input.books) h.callers h.valid.callers)
+    (subst (AreCallersFor other.books) k.callers k.valid.callers) (sym (spelled_lines text input h) ∙ lines.0 ∙ spelled_lines text other k) in
+    (λ t. record { books = same.0 t; callers = (h.callers ∙ ap callers_of same.1 ∙ sym k.callers) t })

@@ -1,0 +1,186 @@
+-- The lines of books in range have no fault.
+use Rattle.std.proofs.Common.{lit<, ◌≡◌, ℕ, ◌+◌, ◌<◌, ◌≤◌, ◌^◌, true, false, not, ◌||◌, ◌==◌, cond, List, [], ◌∷◌, ◌++◌, codes, map, length, Option, Some, None}
+use Rattle.std.proofs.Common.{IsSome, refl, sym, ap, subst, ◌∙◌, append_assoc, arith}
+use Rattle.std.specs.List.{list_any, AllByRecursion}
+use Rattle.std.specs.Cmp.{nat_cmp_total}
+use Rattle.std.specs.Ordering.{nat_cmp, is_eq}
+use Rattle.std.specs.declared.cmp.Ordering.{Ordering}
+use Rattle.std.specs.declared.cmp.Ordering.TheVariants.{Less, Equal, Greater}
+use Rattle.std.specs.FinMap as finmap
+use Rattle.std.specs.FinMap.{find, get-entries, len-entries}
+use Rattle.std.proofs.lemmas.Bool.{eq-eqb}
+use Rattle.std.proofs.lemmas.Cmp.{ranked}
+use Rattle.std.proofs.lemmas.List.{append-nil}
+use Rattle.std.proofs.lemmas.List.Elements.{recursion_from_All}
+use Rattle.books_model.specs.Books.{ClearingBooks, position_cmp}
+use Rattle.books_model.specs.Ranges.{AreInRange, IsCall}
+use Rattle.books_model.proofs.Maps.Trees.{positions_total}
+use Rattle.script_reader.specs.Lines.{AreWords}
+use Rattle.script_reader.specs.Text.{header_words, account_words, price_words, position_words, call_words}
+use Rattle.script_reader.specs.Inner.LinesAsWords.{books_words}
+use Rattle.script_reader.specs.Forms.{Words, sizes}
+use Rattle.script_reader.specs.Faults.{first_reason, header_fault, AreFaultless}
+use Rattle.script_reader.specs.declared.fault.Fault.TheVariants as fault
+use Rattle.script_reader.proofs.Tokens.Cutting.{word_from_test}
+use Rattle.script_reader.proofs.Tokens.Numerals.{number-IsWord}
+use Rattle.script_reader.proofs.Conditions.{or_right}
+use Rattle.script_reader.proofs.Printing.Printed.{Printed, IsSmall}
+use Rattle.script_reader.proofs.WithoutFault.NoFault.{AreWithin, texts_are_numbers, texts_are_in_range}
+use Rattle.script_reader.proofs.Printing.Sections.{rises_entries, rises_follow, number_less, pair_less, each_entry, all_follow}
+use Rattle.script_reader.proofs.WithoutFault.Faultless.{faultless_append, IsAccount, IsPrice, IsPosition, IsMarginCall, small_account, small_price, small_position}
+use Rattle.script_reader.proofs.WithoutFault.Faultless.{accounts_faultless, prices_faultless, positions_faultless, calls_faultless}
+
+-- a key that is found is one of the keys
+pub found_is_given : (a : ℕ) (es : List (ℕ × ℕ)) → IsSome (find nat_cmp a es) → list_any (λ x. x.0 == a) es ≡ true
+found_is_given a [] h = cc
+found_is_given a (e ∷ es) h = by (nat_cmp a e.0) refl h (found_is_given a es)
+  where
+    by : (r : Ordering) → nat_cmp a e.0 ≡ r → IsSome (cond (is_eq r) (Some e.1) (find nat_cmp a es))
+        → (IsSome (find nat_cmp a es) → list_any (λ x. x.0 == a) es ≡ true) → ((e.0 == a) || list_any (λ x. x.0 == a) es) ≡ true
+    by Equal same there rest = ap (λ b. b || list_any (λ x. x.0 == a) es) (eq-eqb e.0 a (sym (ranked a e.0 Equal (sym same))))
+    by Less same there rest = or_right (e.0 == a) (rest there)
+    by Greater same there rest = or_right (e.0 == a) (rest there)
+
+-- books in range, as they are printed
+abbrev pub printed : ClearingBooks → Printed
+printed b = record {
+  blocks = b.blocks;
+  instruments = b.instruments;
+  ring = b.ring;
+  accounts =
+      finmap.entries b.accounts;
+  prices = finmap.entries b.prices;
+  positions = finmap.entries b.positions;
+  calls = b.calls;
+}
+
+-- what is given of each of some entries
+given_for : (m : finmap.FinMap nat_cmp ℕ) (a : ℕ) → IsSome (finmap.get m a) → list_any (λ x. x.0 == a) (finmap.entries m) ≡ true
+given_for m a h = found_is_given a (finmap.entries m) (subst IsSome (get-entries m a) h)
+
+pub some_of : {A : Type 0} (o : Option A) → IsSome o → (x : A) × (o ≡ Some x)
+some_of None h = cc
+some_of (Some x) h = (x, refl)
+
+module _ (b : ClearingBooks) (range : AreInRange b) where
+  pub blocks_fit : b.blocks < 2 ^ 64
+  blocks_fit = omega (arith, range.blocks.1)
+
+  pub instruments_fit : b.instruments < 2 ^ 64
+  instruments_fit = omega (arith, range.instruments.1)
+
+  pub ring_fits : b.ring < 2 ^ 64
+  ring_fits = omega (arith, range.ring.1)
+
+  -- the entries keep to their ranges
+  pub accounts_are : AllByRecursion IsAccount (finmap.entries b.accounts)
+  accounts_are = each_entry nat_cmp nat_cmp_total IsAccount b.accounts (λ e found. let h =
+      range.accounts e.0 e.1 found in (h.0, lit< tt, ((omega arith, h.1), lit< tt, tt)))
+
+  pub prices_are : AllByRecursion (IsPrice b.instruments) (finmap.entries b.prices)
+  prices_are = each_entry nat_cmp nat_cmp_total (IsPrice b.instruments) b.prices (λ e found. let h =
+      range.prices e.0 e.1 found in (h.0, instruments_fit, (h.1, lit< tt, tt)))
+
+  pub positions_are : AllByRecursion (IsPosition b.instruments) (finmap.entries b.positions)
+  positions_are = each_entry position_cmp positions_total (IsPosition b.instruments) b.positions (λ e found.
+      let h = range.positions e.0.0 e.0.1 e.1 found in
+      let account = some_of (finmap.get b.accounts e.0.0) h.0 in
+      let price = some_of (finmap.get b.prices e.0.1) h.1 in
+      ((range.accounts e.0.0 account.0 account.1).0, lit< tt, ((range.prices e.0.1 price.0 price.1).0, instruments_fit, (h.2, lit< tt, tt))))
+
+  positions_given : AllByRecursion (λ e. (list_any (λ x. x.0 == e.0.0) (finmap.entries b.accounts) ≡ true)
+      × (list_any (λ x. x.0 == e.0.1) (finmap.entries b.prices) ≡ true)) (finmap.entries b.positions)
+  positions_given = each_entry position_cmp positions_total _ b.positions (λ e found. let h =
+      range.positions e.0.0 e.0.1 e.1 found in (given_for b.accounts e.0.0 h.0, given_for b.prices e.0.1 h.1))
+
+  pub calls_are : AllByRecursion IsMarginCall b.calls
+  calls_are = all_follow IsCall IsMarginCall b.calls (λ e h. (h.0, lit< tt, (h.1, lit< tt, tt))) (recursion_from_All IsCall b.calls range.calls)
+
+  pub small_accounts : AllByRecursion (λ e. e.0 < 2 ^ 64) (finmap.entries b.accounts)
+  small_accounts = all_follow IsAccount (λ e. e.0 < 2 ^ 64) (finmap.entries b.accounts) small_account accounts_are
+
+  pub small_prices : AllByRecursion (λ e. e.0 < 2 ^ 64) (finmap.entries b.prices)
+  small_prices = all_follow (IsPrice b.instruments) (λ e. e.0 < 2 ^ 64) (finmap.entries b.prices) (small_price b.instruments) prices_are
+
+  pub small_positions : AllByRecursion (λ e. (e.0.0 < 2 ^ 64) × (e.0.1 < 2 ^ 64)) (finmap.entries b.positions)
+  small_positions = all_follow (IsPosition b.instruments) (λ e. (e.0.0 < 2 ^ 64)
+      × (e.0.1 < 2 ^ 64)) (finmap.entries b.positions) (small_position b.instruments) positions_are
+
+  -- what is printed of them has texts
+  pub printed_small : IsSmall (printed b)
+  printed_small = record {
+    blocks = blocks_fit;
+    instruments = instruments_fit;
+    ring = ring_fits;
+    accounts =
+        small_accounts;
+    prices = small_prices;
+    positions = small_positions;
+  }
+
+  -- the header
+  pub header_words_are : AreWords (header_words b)
+  header_words_are = record {
+    some = omega arith;
+    each = (
+      word_from_test (codes "books") refl,
+      (
+        word_from_test (codes "1") refl,
+        (
+          word_from_test (codes "blocks") refl,
+          (
+            number-IsWord b.blocks blocks_fit,
+            (
+              word_from_test (codes "instruments") refl,
+              (number-IsWord b.instruments instruments_fit, (word_from_test (codes "ring") refl, (number-IsWord b.ring ring_fits, tt))),
+            ),
+          ),
+        ),
+      ),
+    );
+  }
+
+  sizes_within : AreWithin (b.blocks ∷ b.instruments ∷ b.ring ∷ []) sizes
+  sizes_within = (range.blocks, lit< tt, (range.instruments, lit< tt, (range.ring, lit< tt, tt)))
+
+  pub header_has_none : header_fault (header_words b) ≡ None
+  header_has_none i = first_reason (
+      (false, fault.Header)
+      ∷ (not (texts_are_numbers (b.blocks ∷ b.instruments ∷ b.ring ∷ []) sizes refl sizes_within i), fault.Number)
+      ∷ (not (texts_are_in_range (b.blocks ∷ b.instruments ∷ b.ring ∷ []) sizes sizes_within i), fault.Limit)
+      ∷ []
+      )
+
+  -- all lines of the books
+  pub books_faultless : AreFaultless [] (books_words b)
+  books_faultless =
+      let A : List Words = map account_words (finmap.entries b.accounts) in
+      let P : List Words = map price_words (finmap.entries b.prices) in
+      let Q : List Words = map position_words (finmap.entries b.positions) in
+      let h : Words = header_words b in
+      let room : length (finmap.entries b.accounts) + length (finmap.entries b.prices)
+      + length (finmap.entries b.positions) ≤ b.blocks =
+      omega (arith, range.blocks_used, len-entries b.accounts, len-entries b.prices, len-entries b.positions) in (
+        header_words_are,
+        header_has_none,
+        refl,
+        faultless_append (h ∷ []) A _
+            (accounts_faultless b.blocks b.instruments b.ring blocks_fit instruments_fit ring_fits []
+            (finmap.entries b.accounts) tt accounts_are (rises_follow _ _ [] _ (λ x e. number_less x.0 e.0)
+            (rises_entries nat_cmp b.accounts)) (omega (arith, room)))
+            (faultless_append (h ∷ A) P _
+            (subst (λ l. AreFaultless (h ∷ l) P) (append-nil A)
+            (prices_faultless b.blocks b.instruments b.ring blocks_fit instruments_fit ring_fits
+            (finmap.entries b.accounts) small_accounts [] (finmap.entries b.prices) tt prices_are
+            (rises_follow _ _ [] _ (λ x e. number_less x.0 e.0) (rises_entries nat_cmp b.prices)) (omega (arith, room))))
+            (faultless_append (h ∷ (A ++ P)) Q _
+            (subst (λ l. AreFaultless (h ∷ (A ++ l)) Q) (append-nil P)
+            (positions_faultless b.blocks b.instruments b.ring blocks_fit instruments_fit ring_fits
+            (finmap.entries b.accounts) small_accounts (finmap.entries b.prices) small_prices []
+            (finmap.entries b.positions) tt positions_are positions_given
+            (rises_follow _ _ [] _ (λ x e. pair_less x.0 e.0) (rises_entries position_cmp b.positions)) (omega (arith, room))))
+            (subst (λ l. AreFaultless (h ∷ l) (map call_words b.calls)) (ap (λ l. A ++ (P ++ l)) (append-nil Q) ∙ sym (append_assoc A P Q))
+            (calls_faultless b.blocks b.instruments b.ring blocks_fit instruments_fit ring_fits
+            (finmap.entries b.accounts) small_accounts (finmap.entries b.prices) small_prices
+            (finmap.entries b.positions) small_positions [] b.calls calls_are (omega (arith, range.queue)))))),
+      )

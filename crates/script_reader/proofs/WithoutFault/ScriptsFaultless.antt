@@ -1,0 +1,186 @@
+-- The lines of scripts have no fault.
+use Rattle.std.proofs.Common.{lit<, ◌≡◌, ℕ, ◌+◌, ◌<◌, ◌≤◌, ◌^◌, Bool, true, false, not, ◌&&◌, ◌||◌, nat_le, if◌then◌else◌, List, [], ◌∷◌, ◌++◌, codes, map}
+use Rattle.std.proofs.Common.{fold, length, refl, sym, ap, subst, ◌∙◌, append_assoc, length-append, arith}
+use Rattle.std.specs.List.{list_any, flat_map, AllByRecursion}
+use Rattle.std.specs.Str.{bytes_eq}
+use Rattle.std.proofs.lemmas.Bool.{lt-leb}
+use Rattle.std.proofs.lemmas.List.{append-nil, map-append, length-map}
+use Rattle.std.proofs.lemmas.List.Concat.{flat_map-append}
+use Rattle.std.proofs.lemmas.List.Elements.{recursion_from_All}
+use Rattle.std.proofs.lemmas.List.Sums.{fold-append}
+use Rattle.script_reader.specs.Inner.Rows.{price_ranges}
+use Rattle.books_model.specs.Books.{ClearingBooks}
+use Rattle.books_model.specs.Ranges.{AreInRange, IsOperationFor}
+use Rattle.books_model.specs.declared.limits.TheConstants.{MOST_OPERATIONS, GREATEST_RATE}
+use Rattle.books_model.specs.declared.script.Op.{Op}
+use Rattle.books_model.specs.declared.script.Op.TheVariants as op
+use Rattle.script_reader.specs.declared.limits.TheConstants.{MOST_CALLERS, MOST_SCRIPTS}
+use Rattle.script_reader.specs.declared.fault.Fault.TheVariants as fault
+use Rattle.script_reader.specs.Lines.{AreWords}
+use Rattle.script_reader.specs.Text.{operation_words}
+use Rattle.script_reader.specs.Inner.LinesAsWords.{books_words, submission_words, lines_so_far, lines_inside}
+use Rattle.script_reader.specs.Input.{Submission, AreCallersFor, add_name, callers_of, first_seen, count_scripts}
+use Rattle.script_reader.specs.Forms.{Words, is_only, accounts, amounts, quantities}
+use Rattle.script_reader.specs.Faults.{first_reason, AreFaultless}
+use Rattle.script_reader.proofs.Tokens.Cutting.{word_from_test}
+use Rattle.script_reader.proofs.Printing.Scripted.{ended, opened, is_beyond_at, outside_fault_is, inside_fault_is}
+use Rattle.script_reader.proofs.WithoutFault.NoFault.{operation_has_none, end_has_none, scripts_has_none}
+use Rattle.script_reader.proofs.WithoutFault.Faultless.{faultless_append, row_are_words}
+use Rattle.script_reader.proofs.WithoutFault.BooksFaultless.{printed, printed_small, instruments_fit, books_faultless}
+use Rattle.script_reader.proofs.Grouped.Submitting.{IsGoodScript, scripts_are_good, caller-AreWords, count-fold}
+use Rattle.script_reader.proofs.Grouped.Grouping.{callers_of-gathered}
+
+-- the words of an operation are those of a line
+pub operation-AreWords : (books : ClearingBooks) → books.instruments < 2 ^ 64 → (o : Op) → IsOperationFor books o → AreWords (operation_words o)
+operation-AreWords books fits (op.OpenAccount a) h =
+    row_are_words (codes "open") (a ∷ []) (accounts ∷ []) (word_from_test (codes "open") refl) refl (h, lit< tt, tt)
+operation-AreWords books fits (op.Close a) h =
+    row_are_words (codes "close") (a ∷ []) (accounts ∷ []) (word_from_test (codes "close") refl) refl (h, lit< tt, tt)
+operation-AreWords books fits (op.Deposit a x) h =
+    row_are_words (codes "deposit") (a ∷ x ∷ []) (accounts ∷ amounts ∷ [])
+    (word_from_test (codes "deposit") refl) refl (h.0, lit< tt, (h.1, lit< tt, tt))
+operation-AreWords books fits (op.Withdraw a x) h =
+    row_are_words (codes "withdraw") (a ∷ x ∷ []) (accounts ∷ amounts ∷ [])
+    (word_from_test (codes "withdraw") refl) refl (h.0, lit< tt, (h.1, lit< tt, tt))
+operation-AreWords books fits (op.Move a b x) h =
+    row_are_words (codes "move") (a ∷ b ∷ x ∷ []) (accounts ∷ accounts ∷ amounts ∷ [])
+    (word_from_test (codes "move") refl) refl (h.0, lit< tt, (h.1, lit< tt, (h.2, lit< tt, tt)))
+operation-AreWords books fits (op.Price i q) h =
+    row_are_words (codes "price") (i ∷ q ∷ []) (price_ranges books.instruments)
+    (word_from_test (codes "price") refl) refl (h.0, fits, (h.1, lit< tt, tt))
+operation-AreWords books fits (op.Trade a b i q) h =
+    row_are_words (codes "trade") (a ∷ b ∷ i ∷ q ∷ []) (accounts ∷ accounts ∷ (1, books.instruments)
+    ∷ quantities ∷ []) (word_from_test (codes "trade") refl) refl (h.0, lit< tt, (h.1, lit< tt, (h.2, fits, (h.3, lit< tt, tt))))
+operation-AreWords books fits (op.Margin a m) h =
+    row_are_words (codes "margin") (a ∷ m ∷ []) (accounts ∷ (1, GREATEST_RATE) ∷ []) (word_from_test (codes "margin") refl) refl (h.0, lit< tt, (h.1, lit< tt, tt))
+operation-AreWords books fits op.Next h = row_are_words (codes "next") [] [] (word_from_test (codes "next") refl) refl tt
+operation-AreWords books fits (op.Show a) h =
+    row_are_words (codes "show") (a ∷ []) (accounts ∷ []) (word_from_test (codes "show") refl) refl (h, lit< tt, tt)
+operation-AreWords books fits (op.Sum a b) h =
+    row_are_words (codes "sum") (a ∷ b ∷ []) (accounts ∷ accounts ∷ [])
+    (word_from_test (codes "sum") refl) refl (h.0, lit< tt, (h.1, lit< tt, tt))
+
+-- no operation is the line `finish`
+operation_unfinished : (o : Op) → is_only (codes "finish") (operation_words o) ≡ false
+operation_unfinished (op.OpenAccount a) = refl
+operation_unfinished (op.Close a) = refl
+operation_unfinished (op.Deposit a x) = refl
+operation_unfinished (op.Withdraw a x) = refl
+operation_unfinished (op.Move a b x) = refl
+operation_unfinished (op.Price i q) = refl
+operation_unfinished (op.Trade a b i q) = refl
+operation_unfinished (op.Margin a m) = refl
+operation_unfinished op.Next = refl
+operation_unfinished (op.Show a) = refl
+operation_unfinished (op.Sum a b) = refl
+
+-- the names that are seen do not become fewer
+length-add_name : (seen : List (List ℕ)) (name : List ℕ) → length seen ≤ length (add_name seen name)
+length-add_name seen name = by (list_any (bytes_eq name) seen)
+  where
+    by : (b : Bool) → length seen ≤ length (if b then seen else seen ++ name ∷ [])
+    by true = omega arith
+    by false = omega (arith, length-append seen (name ∷ []))
+
+length-seen : (names seen : List (List ℕ)) → length seen ≤ length (fold add_name seen names)
+length-seen [] seen = omega arith
+length-seen (n ∷ names) seen = omega (arith, length-add_name seen n, length-seen names (add_name seen n))
+
+module _ (b : ClearingBooks) (range : AreInRange b) where
+  -- lines behind scripts that have ended
+  before : List Submission → List Words
+  before subs = books_words b ++ ended subs
+
+  -- operations, behind those of an open script
+  pub operations_faultless : (subs : List Submission) (name : List ℕ) (done rest : List Op)
+      → AllByRecursion (IsOperationFor b) rest → length done + length rest ≤ MOST_OPERATIONS
+      → AreFaultless (lines_inside b subs name done) (map operation_words rest)
+  operations_faultless subs name done [] all room = tt
+  operations_faultless subs name done (o ∷ rest) all room =
+      let more : lines_inside b subs name done ++ operation_words o ∷ [] ≡ lines_inside b subs name (done ++ o ∷ []) =
+      append_assoc (lines_so_far b subs) (opened name done) (operation_words o ∷ [])
+      ∙ ap (λ l. lines_so_far b subs ++ ((codes "script" ∷ name ∷ []) ∷ l)) (sym (map-append operation_words done (o ∷ []))) in (
+        operation-AreWords b (instruments_fit b range) o all.0,
+        inside_fault_is (printed b) subs name done (operation_words o) (printed_small b range)
+            ∙ operation_has_none b (instruments_fit b range) done (omega (arith, room)) o all.0,
+        operation_unfinished o,
+        subst (λ ls. AreFaultless ls (map operation_words rest)) (sym more)
+            (operations_faultless subs name (done ++ o ∷ []) rest all.1 (omega (arith, room, length-append done (o ∷ [])))),
+      )
+
+  -- the names of the callers of scripts
+  names_of : List Submission → List (List ℕ)
+  names_of subs = map (λ s. s.caller) subs
+
+  -- a script that may follow is not beyond
+  not_beyond : (done rest : List Submission) (s : Submission) → length done + length (s ∷ rest) ≤ MOST_SCRIPTS
+      → length (first_seen (map (λ s. s.caller) (done ++ s ∷ rest))) ≤ MOST_CALLERS → is_beyond_at done s.caller ≡ false
+  not_beyond done rest s room space =
+      ap (λ c. c || (not (list_any (bytes_eq s.caller) seen) && nat_le MOST_CALLERS (length seen))) (lt-leb MOST_SCRIPTS (length done) (omega (arith, room)))
+      ∙ by (list_any (bytes_eq s.caller) seen) refl
+    where
+      seen : List (List ℕ)
+      seen = first_seen (map (λ s. s.caller) done)
+
+      whole : first_seen (map (λ s. s.caller) (done ++ s ∷ rest)) ≡ fold add_name (add_name seen s.caller) (map (λ s. s.caller) rest)
+      whole = ap first_seen (map-append (λ s. s.caller) done (s ∷ rest))
+          ∙ fold-append add_name [] (map (λ s. s.caller) done) (s.caller ∷ map (λ s. s.caller) rest)
+
+      by : (c : Bool) → list_any (bytes_eq s.caller) seen ≡ c → (not c && nat_le MOST_CALLERS (length seen)) ≡ false
+      by true e = refl
+      by false e =
+          let more : length (add_name seen s.caller) ≡ length seen + 1 =
+          ap (λ c. length (if c then seen else seen ++ s.caller ∷ [])) e ∙ length-append seen (s.caller ∷ []) in
+          lt-leb MOST_CALLERS (length seen) (omega (arith, more, space, ap length whole, length-seen (map (λ s. s.caller) rest) (add_name seen s.caller)))
+
+  -- a script behind others
+  submission_faultless : (done rest : List Submission) (s : Submission) → IsGoodScript b s
+      → length done + length (s ∷ rest) ≤ MOST_SCRIPTS → length (first_seen (map (λ s. s.caller) (done ++ s ∷ rest))) ≤ MOST_CALLERS
+      → AreFaultless (lines_so_far b done) (submission_words s)
+  submission_faultless done rest s good room space = (
+    caller-AreWords s.caller good.name,
+    outside_fault_is (printed b) done (codes "script" ∷ s.caller ∷ [])
+        ∙ (λ i. first_reason ((not (false || good.name i), fault.Word) ∷ (good.name i && not_beyond done rest s room space i, fault.Limit) ∷ [])),
+    refl,
+    faultless_append (lines_inside b done s.caller []) (map operation_words s.script) ((codes "end" ∷ []) ∷ [])
+        (operations_faultless done s.caller [] s.script (recursion_from_All (IsOperationFor b) s.script good.script.each) (omega (arith, good.script.few)))
+        (subst (λ ls. AreFaultless ls ((codes "end" ∷ []) ∷ []))
+        (sym (append_assoc (lines_so_far b done) ((codes "script" ∷ s.caller ∷ []) ∷ []) (map operation_words s.script))) (
+          record { some = omega arith; each = (word_from_test (codes "end") refl, tt) },
+          inside_fault_is (printed b) done s.caller s.script (codes "end" ∷ []) (printed_small b range) ∙ end_has_none b.instruments s.script,
+          refl,
+          tt,
+        )),
+  )
+
+  pub submissions_faultless : (done rest : List Submission) → AllByRecursion (IsGoodScript b) rest
+      → length done + length rest ≤ MOST_SCRIPTS → length (first_seen (map (λ s. s.caller) (done ++ rest))) ≤ MOST_CALLERS
+      → AreFaultless (lines_so_far b done) (flat_map submission_words rest)
+  submissions_faultless done [] all room space = tt
+  submissions_faultless done (s ∷ rest) all room space =
+      let one : flat_map submission_words (s ∷ []) ≡ submission_words s = append-nil (submission_words s) in
+      let more : lines_so_far b done ++ submission_words s ≡ lines_so_far b (done ++ s ∷ []) =
+      append_assoc (books_words b) (ended done) (submission_words s)
+      ∙ ap (λ l. books_words b ++ ((codes "scripts" ∷ []) ∷ l)) (ap (λ l. flat_map submission_words done ++ l) (sym one)
+      ∙ sym (flat_map-append submission_words done (s ∷ []))) in
+      faultless_append (lines_so_far b done) (submission_words s) (flat_map submission_words rest)
+      (submission_faultless done rest s all.0 room space)
+      (subst (λ ls. AreFaultless ls (flat_map submission_words rest)) (sym more)
+      (submissions_faultless (done ++ s ∷ []) rest all.1 (omega (arith, room, length-append done (s ∷ [])))
+      (subst (λ l. length (first_seen (map (λ s. s.caller) l)) ≤ MOST_CALLERS) (sym (append_assoc done (s ∷ []) rest)) space)))
+
+  -- the lines of scripts of callers
+  pub scripts_faultless : (subs : List Submission) → AreCallersFor b (callers_of subs) → AreFaultless (lines_so_far b []) (flat_map submission_words subs)
+  scripts_faultless subs valid =
+      let counted : count_scripts (callers_of subs) ≡ length subs = ap count_scripts (callers_of-gathered subs) ∙ count-fold [] subs ∙ omega arith in
+      let named : length (callers_of subs) ≡ length (first_seen (map (λ s. s.caller) subs)) = simp length-map in
+      submissions_faultless [] subs (scripts_are_good b subs valid) (omega (arith, valid.few_scripts, counted)) (omega (arith, valid.few, named))
+
+  -- all lines of an input before its last
+  pub input_faultless : (subs : List Submission) → AreCallersFor b (callers_of subs) → AreFaultless [] (lines_so_far b subs)
+  input_faultless subs valid = faultless_append [] (books_words b) (ended subs) (books_faultless b range) (
+    record { some = omega arith; each = (word_from_test (codes "scripts") refl, tt) },
+    scripts_has_none (printed b) (printed_small b range),
+    refl,
+    scripts_faultless subs valid,
+  )
