@@ -10,6 +10,8 @@ pub mod OneInput
 pub mod FrontLaws
 -- lines that were read, and the fault behind them
 pub mod Following
+-- the branches of an alternative that were read, and the fault behind them
+pub mod Branching
 -- scripts that were read, and the fault behind them
 pub mod Gathered
 -- the front of a text: its input, or its fault and the number of the faulty line

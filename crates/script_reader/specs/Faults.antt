@@ -7,7 +7,7 @@ use Rattle.std.specs.Prelude.{None, codes, length, drop, map, filter, fold, coun
 use Rattle.std.specs.List.{list_any, flat_map, position_or_len}
 use Rattle.std.specs.Option.{is_none}
 use Rattle.std.specs.Str.{bytes_eq}
-use Rattle.books_model.specs.declared.limits.TheConstants.{MOST_OPERATIONS}
+use Rattle.books_model.specs.declared.limits.TheConstants.{MOST_OPERATIONS, MOST_ALTERNATIVES}
 use Rattle.script_reader.specs.declared.limits.TheConstants.{MOST_CALLERS, MOST_SCRIPTS}
 use Rattle.script_reader.specs.declared.words.TheConstants.{LINE_FEED}
 use Rattle.script_reader.specs.declared.fault.Fault.{Fault}
@@ -16,7 +16,7 @@ use Rattle.script_reader.specs.Lines.{IsFreeOf, AreWords, word_at}
 use Rattle.script_reader.specs.Text.{line}
 use Rattle.script_reader.specs.Input.{ClearingInput, first_seen}
 use Rattle.script_reader.specs.Grammar.{Spells}
-use Rattle.script_reader.specs.Forms.{Words, sizes, books_forms, script_forms, begins, is_only, form_of, ranges_of, is_header, is_script_line, size_words}
+use Rattle.script_reader.specs.Forms.{Words, Region, OutsideScripts, InScript, InFirstBranch, InSecondBranch, sizes, books_forms, script_forms, begins, is_only, form_of, ranges_of, is_header, is_script_line, size_words}
 use Rattle.script_reader.specs.Forms.{value_at, are_numbers, are_in_range}
 
 -- the first reason of a list that applies
@@ -104,37 +104,70 @@ outside_fault before words = first_reason (
     ∷ []
     )
 
--- how many lines stand behind the last that begins a script
+-- where the line behind a line stands, by where that line does
+abbrev pub region_after : Region → Words → Region
+region_after region words =
+    if begins (codes "script") words then InScript
+    else (if is_only (codes "end") words then OutsideScripts
+    else (if is_only (codes "try") words then InFirstBranch
+    else (if is_only (codes "else") words then InSecondBranch
+    else (if is_only (codes "done") words then InScript
+    else region))))
+
+-- where the line behind lines of books and scripts stands
+abbrev pub region_behind : List Words → Region
+region_behind before = fold region_after OutsideScripts before
+
+-- the line is no operation
+abbrev pub is_turning : Words → Bool
+is_turning words = is_only (codes "end") words || is_only (codes "try") words || is_only (codes "else") words || is_only (codes "done") words
+
+-- the lines of the script that has not ended: those behind the last line that begins one
+abbrev pub script_before : List Words → List Words
+script_before before = fold (λ lines w. if begins (codes "script") w then [] else lines ++ w ∷ []) [] before
+
+-- how many operations it has, those of both branches of an alternative counted
 abbrev pub operations_before : List Words → ℕ
-operations_before before = fold (λ n w. if begins (codes "script") w then 0 else n + 1) 0 before
+operations_before before = count_by (λ w. not (is_turning w)) (script_before before)
+
+-- how many alternatives begin in it
+abbrev pub alternatives_before : List Words → ℕ
+alternatives_before before = count_by (is_only (codes "try")) (script_before before)
+
+-- the line is one operation too many, or one alternative
+abbrev pub is_too_many : ℕ → ℕ → Words → Bool
+is_too_many operations alternatives words =
+    not (is_turning words) && nat_le MOST_OPERATIONS operations
+    || is_only (codes "try") words && nat_le MOST_ALTERNATIVES alternatives
 
 -- what is wrong with a line of a script
-abbrev pub inside_fault : List Words → Words → Option Fault
-inside_fault before words =
-    let form = form_of (script_forms (size_at before 5)) words in
+abbrev pub inside_fault : Region → List Words → Words → Option Fault
+inside_fault region before words =
+    let form = form_of (script_forms region (size_at before 5)) words in
     first_reason (
     (is_none form, fault.Word)
     ∷ (not (are_numbers (drop 1 words)), fault.Number)
     ∷ (
       not (are_in_range (drop 1 words) (ranges_of form)) ||
-          (not (is_only (codes "end") words) && nat_le MOST_OPERATIONS (operations_before before)),
+          is_too_many (operations_before before) (alternatives_before before) words,
       fault.Limit,
     )
     ∷ []
     )
 
--- whether the last line before that begins or ends a script begins one
-abbrev pub is_inside : List Words → Bool
-is_inside before =
-    fold (λ inside w. if begins (codes "script") w then true else (if is_only (codes "end") w then false else inside)) false before
+-- what is wrong with a line behind the line `scripts`
+abbrev pub scripts_fault : Region → List Words → Words → Option Fault
+scripts_fault OutsideScripts before words = outside_fault before words
+scripts_fault InScript before words = inside_fault InScript before words
+scripts_fault InFirstBranch before words = inside_fault InFirstBranch before words
+scripts_fault InSecondBranch before words = inside_fault InSecondBranch before words
 
 -- what is wrong with a line of a text, beside the lines before it
 abbrev pub fault_of : List Words → Words → Option Fault
 fault_of [] words = header_fault words
 fault_of (header ∷ lines) words =
     if not (list_any (is_only (codes "scripts")) (header ∷ lines)) then books_fault (header ∷ lines) words
-    else (if is_inside (header ∷ lines) then inside_fault (header ∷ lines) words
-    else outside_fault (header ∷ lines) words)
+    else scripts_fault (region_behind (header ∷ lines)) (header ∷ lines) words
 
 -- no line of a list is faulty beside the lines before it and those of the list ahead of it, and none is the last of a
 -- text

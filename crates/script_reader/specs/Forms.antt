@@ -1,5 +1,5 @@
 -- The kinds of line of a text: the first word of each, and the range of each number after it.
-use Rattle.std.specs.Prelude.{ℕ, ◌+◌, Bool, ◌&&◌, ◌==◌, nat_le, List, [], ◌∷◌, Option, Some, None, codes, length, find}
+use Rattle.std.specs.Prelude.{ℕ, ◌+◌, Bool, ◌&&◌, ◌==◌, nat_le, List, [], ◌∷◌, ◌++◌, Option, Some, None, codes, length, find}
 use Rattle.std.specs.List.{list_all, zip}
 use Rattle.std.specs.Str.{bytes_eq}
 use Rattle.std.specs.Str.Parse.{digits_value}
@@ -48,9 +48,9 @@ books_forms instruments =
     ∷ form (codes "scripts") []
     ∷ []
 
--- the operations of a script on books with so many instruments, and the line that ends it
-abbrev pub script_forms : ℕ → List Form
-script_forms instruments =
+-- the operations of a script on books with so many instruments
+abbrev pub operation_forms : ℕ → List Form
+operation_forms instruments =
     form (codes "open") (accounts ∷ [])
     ∷ form (codes "close") (accounts ∷ [])
     ∷ form (codes "deposit") (accounts ∷ amounts ∷ [])
@@ -62,8 +62,25 @@ script_forms instruments =
     ∷ form (codes "next") []
     ∷ form (codes "show") (accounts ∷ [])
     ∷ form (codes "sum") (accounts ∷ accounts ∷ [])
-    ∷ form (codes "end") []
     ∷ []
+
+-- where among the scripts of a text a line stands: between them, in one, or in a branch of an alternative
+pub data Region : Type 0 where
+  OutsideScripts : Region
+  InScript : Region
+  InFirstBranch : Region
+  InSecondBranch : Region
+
+-- the lines of a script that are no operations, by where they may stand
+abbrev pub turning_forms : Region → List Form
+turning_forms OutsideScripts = []
+turning_forms InScript = form (codes "end") [] ∷ form (codes "try") [] ∷ []
+turning_forms InFirstBranch = form (codes "else") [] ∷ []
+turning_forms InSecondBranch = form (codes "done") [] ∷ []
+
+-- the lines that may stand there, on books with so many instruments
+abbrev pub script_forms : Region → ℕ → List Form
+script_forms region instruments = operation_forms instruments ++ turning_forms region
 
 -- the line begins with this word
 abbrev pub begins : List ℕ → Words → Bool

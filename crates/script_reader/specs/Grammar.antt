@@ -3,12 +3,12 @@
 use Rattle.std.specs.Prelude.{◌≡◌, ℕ, List, [], ◌∷◌, ◌++◌, codes}
 use Rattle.std.specs.List.{flat_map}
 use Rattle.books_model.specs.Books.{ClearingBooks}
-use Rattle.script_reader.specs.Text.{line, books_lines, operation_lines, scripts_line, end_line, finish_line}
+use Rattle.script_reader.specs.Text.{line, books_lines, script_lines, scripts_line, end_line, finish_line}
 use Rattle.script_reader.specs.Input.{ClearingInput, Submission, IsInput, callers_of}
 
--- the line `script CALLER`, the operations, and the line `end`
+-- the line `script CALLER`, the operations and alternatives, and the line `end`
 abbrev pub submission_lines : Submission → List ℕ
-submission_lines s = line (codes "script" ∷ s.caller ∷ []) ++ operation_lines s.script ++ end_line
+submission_lines s = line (codes "script" ∷ s.caller ∷ []) ++ script_lines s.script ++ end_line
 
 -- the text of books and of scripts in the order in which they are given
 abbrev pub input_text : ClearingBooks → List Submission → List ℕ

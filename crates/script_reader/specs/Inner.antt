@@ -6,3 +6,4 @@ pub mod Placed
 pub mod Callers
 pub mod Scripts
 pub mod Cuts
+pub mod Branches

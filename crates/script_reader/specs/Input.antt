@@ -2,7 +2,7 @@
 use Rattle.std.specs.Prelude.{◌≡◌, ℕ, ◌≤◌, Bool, true, ◌&&◌, nat_le, List, [], ◌∷◌, ◌++◌, map, filter, fold, length, sum_by, All, if◌then◌else◌, slice_index_or}
 use Rattle.std.specs.List.{list_any, list_all, IsDistinct}
 use Rattle.std.specs.Str.{bytes_eq}
-use Rattle.books_model.specs.declared.script.Op.{Op}
+use Rattle.books_model.specs.declared.script.Part.{Part}
 use Rattle.books_model.specs.Books.{ClearingBooks}
 use Rattle.books_model.specs.Ranges.{AreInRange, IsScriptFor}
 use Rattle.script_reader.specs.declared.limits.TheConstants.{MOST_CALLERS, MOST_SCRIPTS, LONGEST_NAME}
@@ -10,7 +10,7 @@ use Rattle.script_reader.specs.declared.limits.TheConstants.{MOST_CALLERS, MOST_
 -- a caller: its name, and its scripts in the order in which they were given
 pub record Caller : Type 0 where
   pub name : List ℕ
-  pub scripts : List (List Op)
+  pub scripts : List (List Part)
 
 -- opening books, and the callers in the order in which they were first seen
 pub record ClearingInput : Type 0 where
@@ -22,13 +22,13 @@ abbrev pub caller_at : ClearingInput → ℕ → Caller
 caller_at input c = slice_index_or input.callers c (record { name = []; scripts = [] })
 
 -- a script of a caller, both from 0
-abbrev pub script_at : ClearingInput → ℕ → ℕ → List Op
+abbrev pub script_at : ClearingInput → ℕ → ℕ → List Part
 script_at input c i = slice_index_or (caller_at input c).scripts i []
 
 -- a script as it stands in a text, with the name of its caller
 pub record Submission : Type 0 where
   pub caller : List ℕ
-  pub script : List Op
+  pub script : List Part
 
 -- whether a name is some letters from `a` to `z`
 abbrev pub is_name : List ℕ → Bool
@@ -47,7 +47,7 @@ abbrev pub first_seen : List (List ℕ) → List (List ℕ)
 first_seen names = fold add_name [] names
 
 -- the scripts of one caller, in order
-abbrev pub scripts_by : List ℕ → List Submission → List (List Op)
+abbrev pub scripts_by : List ℕ → List Submission → List (List Part)
 scripts_by name submissions = map (λ s. s.script) (filter (λ s. bytes_eq name s.caller) submissions)
 
 -- the callers of the scripts of a text

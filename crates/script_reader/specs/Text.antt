@@ -1,10 +1,12 @@
 -- The text of clearing books and of scripts: lines of words.
-use Rattle.std.specs.Prelude.{ℕ, List, [], ◌∷◌, ◌++◌, codes}
+use Rattle.std.specs.Prelude.{ℕ, List, [], ◌∷◌, ◌++◌, codes, map as map_list}
 use Rattle.std.specs.List.{join_with_byte, flat_map}
 use Rattle.std.specs.Fmt.{decimal}
 use Rattle.std.specs.FinMap as map
 use Rattle.books_model.specs.declared.script.Op.{Op}
 use Rattle.books_model.specs.declared.script.Op.TheVariants as op
+use Rattle.books_model.specs.declared.script.Part.{Part}
+use Rattle.books_model.specs.declared.script.Part.TheVariants as part
 use Rattle.books_model.specs.Books.{ClearingBooks}
 use Rattle.script_reader.specs.declared.words.TheConstants.{SPACE, LINE_FEED}
 
@@ -85,9 +87,16 @@ operation_words op.Next = codes "next" ∷ []
 operation_words (op.Show a) = codes "show" ∷ number a ∷ []
 operation_words (op.Sum a b) = codes "sum" ∷ number a ∷ number b ∷ []
 
--- operations, a line each
-abbrev pub operation_lines : List Op → List ℕ
-operation_lines ops = flat_map (λ o. line (operation_words o)) ops
+-- the lines of a part, as their words: an operation, or an alternative with its two branches
+abbrev pub part_words : Part → List (List (List ℕ))
+part_words (part.One o) = operation_words o ∷ []
+part_words (part.Either first second) =
+    (codes "try" ∷ []) ∷ (map_list operation_words first
+    ++ ((codes "else" ∷ []) ∷ (map_list operation_words second ++ (codes "done" ∷ []) ∷ [])))
+
+-- the parts of a script
+abbrev pub script_lines : List Part → List ℕ
+script_lines script = flat_map line (flat_map part_words script)
 
 -- the line before the scripts
 abbrev pub scripts_line : List ℕ

@@ -4,7 +4,7 @@ ghost use Rattle.std.specs.Prelude.{◌≡◌, ℕ, ◌&&◌, ◌==◌, Some, tr
 ghost use Rattle.books_model.specs.Books.{ClearingBooks};
 ghost use Rattle.books_model.specs.Ranges.{IsOperationFor};
 ghost use Rattle.script_reader.specs.Text.{operation_words};
-ghost use Rattle.script_reader.specs.Forms.{begins, script_forms, is_only};
+ghost use Rattle.script_reader.specs.Forms.{begins, operation_forms};
 ghost use Rattle.script_reader.specs.Inner.Rows.{row_fault};
 
 use crate::fault::Fault;
@@ -12,13 +12,12 @@ use crate::rows::{ACCOUNTS, AMOUNTS, PRICES, QUANTITIES, RATES, instruments_of};
 use crate::words::Words;
 use books_model::{Books, Op};
 
-// The operation of a line in a script for the books. The line is not the one that ends the script.
+// The operation of a line in a script for the books.
 pub(crate) fn operation_of(words: &Words<'_>, books: &Books) -> Result<Op, Fault>
-    requires { is_only (codes "end") words.now ≡ false }
     ensures found { IfOk result
         (λ op. IsOperationFor books.now op × (words.now ≡ operation_words op)) }
     ensures err { IfErr result
-        (λ why. row_fault (script_forms books.now.instruments) words.now ≡ Some why) }
+        (λ why. row_fault (operation_forms books.now.instruments) words.now ≡ Some why) }
 {
     match words.len() {
         2 => with_one_number(words),
@@ -36,7 +35,7 @@ fn with_one_number(words: &Words<'_>) -> Result<Op, Fault>
     ensures found { IfOk result (λ op. (books : ClearingBooks) → IsOperationFor books op
         × (words.now ≡ operation_words op)) }
     ensures err { IfErr result
-        (λ why. (instruments : ℕ) → row_fault (script_forms instruments) words.now ≡ Some why) }
+        (λ why. (instruments : ℕ) → row_fault (operation_forms instruments) words.now ≡ Some why) }
 {
     if words.is_row(b"open", 2) {
         let account = words.one_number(ACCOUNTS)?;
@@ -59,7 +58,7 @@ fn with_two_numbers(words: &Words<'_>, books: &Books) -> Result<Op, Fault>
     ensures found { IfOk result
         (λ op. IsOperationFor books.now op × (words.now ≡ operation_words op)) }
     ensures err { IfErr result
-        (λ why. row_fault (script_forms books.now.instruments) words.now ≡ Some why) }
+        (λ why. row_fault (operation_forms books.now.instruments) words.now ≡ Some why) }
 {
     if words.is_row(b"deposit", 3) {
         let (account, amount) = words.two_numbers(ACCOUNTS, AMOUNTS)?;
@@ -89,7 +88,7 @@ fn price_of(words: &Words<'_>, books: &Books) -> Result<Op, Fault>
     ensures found { IfOk result
         (λ op. IsOperationFor books.now op × (words.now ≡ operation_words op)) }
     ensures err { IfErr result
-        (λ why. row_fault (script_forms books.now.instruments) words.now ≡ Some why) }
+        (λ why. row_fault (operation_forms books.now.instruments) words.now ≡ Some why) }
 {
     books.ranges();
     let (instrument, price) = words.two_numbers(instruments_of(books), PRICES)?;
@@ -102,7 +101,7 @@ fn with_three_numbers(words: &Words<'_>) -> Result<Op, Fault>
     ensures found { IfOk result (λ op. (books : ClearingBooks) → IsOperationFor books op
         × (words.now ≡ operation_words op)) }
     ensures err { IfErr result
-        (λ why. (instruments : ℕ) → row_fault (script_forms instruments) words.now ≡ Some why) }
+        (λ why. (instruments : ℕ) → row_fault (operation_forms instruments) words.now ≡ Some why) }
 {
     if words.is_row(b"move", 4) {
         let (from, to, amount) = words.three_numbers(ACCOUNTS, ACCOUNTS, AMOUNTS)?;
@@ -117,7 +116,7 @@ fn with_four_numbers(words: &Words<'_>, books: &Books) -> Result<Op, Fault>
     ensures found { IfOk result
         (λ op. IsOperationFor books.now op × (words.now ≡ operation_words op)) }
     ensures err { IfErr result
-        (λ why. row_fault (script_forms books.now.instruments) words.now ≡ Some why) }
+        (λ why. row_fault (operation_forms books.now.instruments) words.now ≡ Some why) }
 {
     books.ranges();
     if words.is_row(b"trade", 5) {

@@ -1,13 +1,18 @@
 //! The scripts of a text.
 
-ghost use Rattle.std.specs.Prelude.{◌≡◌, ℕ, List, [], ◌++◌, false, codes, IfOk, OnOk, Err};
-ghost use Rattle.books_model.specs.Ranges.{IsScriptFor};
+ghost use Rattle.std.specs.Prelude.{◌≡◌, ◌≤◌, ◌+◌, ℕ, List, All, [], ◌∷◌, ◌++◌, length, map, false, codes, IfOk, OnOk, Err};
+ghost use Rattle.std.specs.List.{flat_map};
+ghost use Rattle.books_model.specs.Ranges.{IsOperationFor, IsScriptFor};
+ghost use Rattle.books_model.specs.Scripts.{operations_of};
+ghost use Rattle.books_model.specs.declared.script.Op.{Op as AnyOp};
+ghost use Rattle.books_model.specs.declared.script.Part.{Part as AnyPart};
 ghost use Rattle.script_reader.specs.declared.fault.Fault.{Fault as AnyFault};
-ghost use Rattle.script_reader.specs.Text.{line, operation_lines, end_line};
+ghost use Rattle.script_reader.specs.Text.{line, operation_words, part_words, script_lines, end_line};
 ghost use Rattle.script_reader.specs.Input.{Submission, callers_of};
 ghost use Rattle.script_reader.specs.Lines.{AreWords};
 ghost use Rattle.script_reader.specs.Forms.{is_only};
-ghost use Rattle.script_reader.specs.Inner.LinesAsWords.{lines_so_far, lines_inside};
+ghost use Rattle.script_reader.specs.Inner.LinesAsWords.{BetweenParts, InFirst, lines_so_far, lines_inside, parts_with};
+ghost use Rattle.script_reader.specs.Inner.Branches.{branch_with, closing_word};
 ghost use Rattle.script_reader.specs.Inner.Callers.{callers_in, IsEven};
 ghost use Rattle.script_reader.specs.Faults.{IsFaultyBehind};
 ghost use Rattle.script_reader.specs.Inner.Scripts.{IsReadOf, IsAdded};
@@ -18,46 +23,169 @@ use crate::lines::Lines;
 use crate::names::caller_of;
 use crate::operations::operation_of;
 use crate::words::Words;
-use books_model::limits::MOST_OPERATIONS;
-use books_model::{Books, Script};
+use books_model::limits::{MOST_ALTERNATIVES, MOST_OPERATIONS};
+use books_model::{Books, Ops, Part, Script};
 use std::alloc::Global;
 
-// Adds the operations of the next lines to an empty script, up to the line that ends it.
-fn add_operations(lines: &mut Lines<'_>, books: &Books, script: &mut Script) -> Result<(), Refusal>
-    requires { script.old ≡ [] }
-    ensures range { OnOk result (IsScriptFor books.now script.new) }
-    ensures text { OnOk result
-        (lines.old ≡ operation_lines script.new ++ (end_line ++ lines.new)) }
+// A branch of an alternative.
+#[derive(Clone, Copy)]
+enum Branch {
+    First,
+    Second,
+}
+
+impl Branch {
+    // The word of the line that ends it.
+    fn closing(self) -> &'static [u8]
+        ensures { result.now ≡ closing_word self }
+    {
+        match self {
+            Branch::First => b"else",
+            Branch::Second => b"done",
+        }
+    }
+}
+
+// Adds the operations of the next lines to a branch that has none, up to the line that ends it. The script has this many
+// operations before them.
+fn add_branch(
+    lines: &mut Lines<'_>,
+    books: &Books,
+    branch: Branch,
+    so_far: usize,
+    operations: &mut Ops,
+) -> Result<(), Refusal>
+    requires none { operations.old ≡ [] }
+    requires few { so_far ≤ MOST_OPERATIONS }
+    ensures few { OnOk result (so_far + length operations.new ≤ MOST_OPERATIONS) }
+    ensures range { OnOk result (All (IsOperationFor books.now) operations.new) }
+    ensures text { OnOk result (lines.old ≡ flat_map line (map operation_words operations.new)
+        ++ (line (closing_word branch ∷ []) ++ lines.new)) }
     ensures fault { (why : AnyFault) → result ≡ Err (Refusal.LineFault why)
-        → (subs : List Submission) (name : List ℕ)
-        → IsFaultyBehind (lines_inside books.now subs name []) lines.old lines.new why }
+        → (subs : List Submission) (name : List ℕ) (parts : List AnyPart) (first : List AnyOp)
+        → length (operations_of (parts_with parts (branch_with branch first []))) ≡ so_far
+        → IsFaultyBehind (lines_inside books.now subs name parts (branch_with branch first []))
+        lines.old lines.new why }
 {
     books.ranges();
+    loop {
+        let words = lines.words()?;
+        if words.is_only(branch.closing()) {
+            return Ok(());
+        }
+        let operation = operation_of(&words, books)?;
+        if operations.len() >= MOST_OPERATIONS - so_far {
+            return Err(Refusal::LineFault(Fault::Limit));
+        }
+        operations.push(operation)?;
+    }
+}
+
+// The operations of a branch, and the line that ends it.
+fn branch_of(
+    alloc: Global,
+    lines: &mut Lines<'_>,
+    books: &Books,
+    branch: Branch,
+    so_far: usize,
+) -> Result<Ops, Refusal>
+    requires few { so_far ≤ MOST_OPERATIONS }
+    ensures few { IfOk result (λ operations. so_far + length operations ≤ MOST_OPERATIONS) }
+    ensures range { IfOk result (λ operations. All (IsOperationFor books.now) operations) }
+    ensures text { IfOk result
+        (λ operations. lines.old ≡ flat_map line (map operation_words operations)
+        ++ (line (closing_word branch ∷ []) ++ lines.new)) }
+    ensures fault { (why : AnyFault) → result ≡ Err (Refusal.LineFault why)
+        → (subs : List Submission) (name : List ℕ) (parts : List AnyPart) (first : List AnyOp)
+        → length (operations_of (parts_with parts (branch_with branch first []))) ≡ so_far
+        → IsFaultyBehind (lines_inside books.now subs name parts (branch_with branch first []))
+        lines.old lines.new why }
+{
+    let mut operations = Ops::new(alloc);
+    add_branch(lines, books, branch, so_far, &mut operations)?;
+    Ok(operations)
+}
+
+// The alternative behind the line that begins it, with the line that ends it. The script has this many operations before.
+fn alternative_of(
+    alloc: Global,
+    lines: &mut Lines<'_>,
+    books: &Books,
+    so_far: usize,
+) -> Result<(Ops, Ops), Refusal>
+    requires few { so_far ≤ MOST_OPERATIONS }
+    ensures few { IfOk result
+        (λ both. so_far + length both.0 + length both.1 ≤ MOST_OPERATIONS) }
+    ensures range { IfOk result (λ both. All (IsOperationFor books.now) (both.0 ++ both.1)) }
+    ensures text { IfOk result (λ both. line (codes "try" ∷ []) ++ lines.old
+        ≡ flat_map line (part_words (Part.Either both.0 both.1)) ++ lines.new) }
+    ensures fault { (why : AnyFault) → result ≡ Err (Refusal.LineFault why)
+        → (subs : List Submission) (name : List ℕ) (parts : List AnyPart)
+        → length (operations_of parts) ≡ so_far
+        → IsFaultyBehind (lines_inside books.now subs name parts (InFirst [])) lines.old lines.new
+        why }
+{
+    books.ranges();
+    let first = branch_of(alloc, lines, books, Branch::First, so_far)?;
+    let second = branch_of(alloc, lines, books, Branch::Second, so_far + first.len())?;
+    Ok((first, second))
+}
+
+// Adds the parts of the next lines to an empty script, up to the line that ends it.
+fn add_parts(
+    alloc: Global,
+    lines: &mut Lines<'_>,
+    books: &Books,
+    script: &mut Script,
+) -> Result<(), Refusal>
+    requires { script.old ≡ [] }
+    ensures range { OnOk result (IsScriptFor books.now script.new) }
+    ensures text { OnOk result (lines.old ≡ script_lines script.new ++ (end_line ++ lines.new)) }
+    ensures fault { (why : AnyFault) → result ≡ Err (Refusal.LineFault why)
+        → (subs : List Submission) (name : List ℕ)
+        → IsFaultyBehind (lines_inside books.now subs name [] BetweenParts) lines.old lines.new
+        why }
+{
+    books.ranges();
+    let mut operations = 0;
+    let mut alternatives = 0;
     loop {
         let words = lines.words()?;
         if words.is_only(b"end") {
             return Ok(());
         }
-        let operation = operation_of(&words, books)?;
-        if script.len() >= MOST_OPERATIONS {
-            return Err(Refusal::LineFault(Fault::Limit));
+        if words.is_only(b"try") {
+            if alternatives >= MOST_ALTERNATIVES {
+                return Err(Refusal::LineFault(Fault::Limit));
+            }
+            let (first, second) = alternative_of(alloc, lines, books, operations)?;
+            operations += first.len() + second.len();
+            alternatives += 1;
+            script.push(Part::Either(first, second))?;
+        } else {
+            let operation = operation_of(&words, books)?;
+            if operations >= MOST_OPERATIONS {
+                return Err(Refusal::LineFault(Fault::Limit));
+            }
+            operations += 1;
+            script.push(Part::One(operation))?;
         }
-        script.push(operation)?;
     }
 }
 
-// The operations of a script, and the line that ends it. What is wrong with its lines does not depend on the scripts
-// before it, nor on its caller.
+// The parts of a script, and the line that ends it. What is wrong with its lines does not depend on the scripts before it,
+// nor on its caller.
 fn script_of(alloc: Global, lines: &mut Lines<'_>, books: &Books) -> Result<Script, Refusal>
     ensures range { IfOk result (λ script. IsScriptFor books.now script) }
     ensures text { IfOk result
-        (λ script. lines.old ≡ operation_lines script ++ (end_line ++ lines.new)) }
+        (λ script. lines.old ≡ script_lines script ++ (end_line ++ lines.new)) }
     ensures fault { (why : AnyFault) → result ≡ Err (Refusal.LineFault why)
         → (subs : List Submission) (name : List ℕ)
-        → IsFaultyBehind (lines_inside books.now subs name []) lines.old lines.new why }
+        → IsFaultyBehind (lines_inside books.now subs name [] BetweenParts) lines.old lines.new
+        why }
 {
     let mut script = Script::new(alloc);
-    add_operations(lines, books, &mut script)?;
+    add_parts(alloc, lines, books, &mut script)?;
     Ok(script)
 }
 

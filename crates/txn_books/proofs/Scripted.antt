@@ -163,8 +163,7 @@ module _ {W S O : Type 0} {words : AnyWords W S O} {shapes : Shapes S} {shape : 
           let as_before = same.at s fit in
           record {
             at = λ books stand.
-                let last = there.comes books stand in
-                (
+                let last = there.comes books stand in (
                   books,
                   subst (λ z. Stands shape z books) (sym as_before) stand,
                   (refl, stopped (run_from k first books) answer last.0 refused last.1),

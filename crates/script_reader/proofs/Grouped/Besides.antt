@@ -9,11 +9,11 @@ use Rattle.std.proofs.lemmas.List.Sums.{fails_before_first}
 use Rattle.std.proofs.lemmas.Grind.{common_steps}
 use Rattle.std.proofs.lemmas.Option.{same_Some, none-some}
 use Rattle.std.proofs.lemmas.Slice.Eq.{bytes_eq-Decides}
-use Rattle.books_model.specs.declared.script.Op.{Op}
+use Rattle.books_model.specs.declared.script.Part.{Part}
 use Rattle.script_reader.specs.Input.{Caller}
 use Rattle.script_reader.specs.Inner.Callers.{beside}
 
-module _ {K V : Type 0} (bytes : K → List ℕ) (view : V → List (List Op)) where
+module _ {K V : Type 0} (bytes : K → List ℕ) (view : V → List (List Part)) where
   -- the name of a caller is that of its key
   pub name_beside : (keys : List K) (xs : List V) (i : ℕ) (k : K) (d : Caller) → length keys ≡ length xs
       → slice_get keys i ≡ Some k → (slice_index_or (beside (map bytes keys) (map view xs)) i d).name ≡ bytes k
@@ -38,12 +38,12 @@ same_at (x ∷ xs) zero d e less = refl
 same_at (x ∷ xs) (suc i) d e less = same_at xs i d e (omega arith)
 
 -- the names of callers
-names_beside : (names : List (List ℕ)) (scripts : List (List (List Op))) → length names ≡ length scripts → map (λ c. c.name) (beside names scripts) ≡ names
+names_beside : (names : List (List ℕ)) (scripts : List (List (List Part))) → length names ≡ length scripts → map (λ c. c.name) (beside names scripts) ≡ names
 names_beside [] scripts even = refl
 names_beside (n ∷ names) [] even = absurd (omega arith)
 names_beside (n ∷ names) (x ∷ scripts) even = ap (λ l. n ∷ l) (names_beside names scripts (omega arith))
 
-module _ {K V : Type 0} (bytes : K → List ℕ) (view : V → List (List Op)) (keys : List K) (xs : List V) (even : length keys ≡ length xs) (name : List ℕ) where
+module _ {K V : Type 0} (bytes : K → List ℕ) (view : V → List (List Part)) (keys : List K) (xs : List V) (even : length keys ≡ length xs) (name : List ℕ) where
   names_are : map (λ (c : Caller). c.name) (beside (map bytes keys) (map view xs)) ≡ map bytes keys
   names_are = names_beside (map bytes keys) (map view xs) (length-map keys bytes ∙ even ∙ sym (length-map xs view))
 

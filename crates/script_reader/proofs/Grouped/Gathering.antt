@@ -6,19 +6,19 @@ use Rattle.std.specs.Str.{bytes_eq}
 use Rattle.std.proofs.lemmas.List.{map-append, length-map}
 use Rattle.std.proofs.lemmas.Option.{same_Some}
 use Rattle.std.proofs.lemmas.List.Sums.{sum_by-cons}
-use Rattle.books_model.specs.declared.script.Op.{Op}
+use Rattle.books_model.specs.declared.script.Part.{Part}
 use Rattle.script_reader.specs.Input.{Caller, Submission, count_scripts, add_name}
 use Rattle.script_reader.specs.Inner.Callers.{beside, add_submission, is_caller}
 use Rattle.script_reader.specs.Inner.Placed.{put_script}
 
 -- a store has as many callers as names
-pub length-beside : (names : List (List ℕ)) (scripts : List (List (List Op))) → length names ≡ length scripts → length (beside names scripts) ≡ length names
+pub length-beside : (names : List (List ℕ)) (scripts : List (List (List Part))) → length names ≡ length scripts → length (beside names scripts) ≡ length names
 length-beside [] scripts e = refl
 length-beside (n ∷ names) [] e = absurd (omega arith)
 length-beside (n ∷ names) (x ∷ scripts) e = omega (arith, length-beside names scripts (omega arith))
 
 -- and each name is that of a caller
-pub is_caller-beside : (name : List ℕ) (names : List (List ℕ)) (scripts : List (List (List Op)))
+pub is_caller-beside : (name : List ℕ) (names : List (List ℕ)) (scripts : List (List (List Part)))
     → length names ≡ length scripts → is_caller name (beside names scripts) ≡ list_any (bytes_eq name) names
 is_caller-beside name [] scripts e = refl
 is_caller-beside name (n ∷ names) [] e = absurd (omega arith)
@@ -30,7 +30,7 @@ choice-cons true x xs ys = refl
 choice-cons false x xs ys = refl
 
 -- a script put at the place of its caller's name is one more script of the caller
-pub beside-add : (names : List (List ℕ)) (scripts : List (List (List Op))) (s : Submission) → length names ≡ length scripts
+pub beside-add : (names : List (List ℕ)) (scripts : List (List (List Part))) (s : Submission) → length names ≡ length scripts
     → beside (add_name names s.caller) (put_script scripts (position_or_len (bytes_eq s.caller) names) s.script) ≡ add_submission (beside names scripts) s
 beside-add [] [] s e = refl
 beside-add [] (x ∷ scripts) s e = absurd (omega arith)
@@ -54,7 +54,7 @@ beside-add (n ∷ names) (x ∷ scripts) s e =
         ∙ ap (λ l. record { name = n; scripts = x } ∷ l) rest
 
 -- names and scripts stay beside each other
-pub length-add : (names : List (List ℕ)) (scripts : List (List (List Op))) (name : List ℕ) (script : List Op) → length names ≡ length scripts
+pub length-add : (names : List (List ℕ)) (scripts : List (List (List Part))) (name : List ℕ) (script : List Part) → length names ≡ length scripts
     → length (add_name names name) ≡ length (put_script scripts (position_or_len (bytes_eq name) names) script)
 length-add [] [] name script e = refl
 length-add [] (x ∷ scripts) name script e = absurd (omega arith)
@@ -93,14 +93,14 @@ count-add (c ∷ callers) s = by (bytes_eq s.caller c.name) (count-add callers s
     )
 
 -- a list of scripts with one more at a place
-pub map-set-put : {V : Type 0} (view : V → List (List Op)) (xs : List V) (i : ℕ) (old new : V) (script : List Op)
+pub map-set-put : {V : Type 0} (view : V → List (List Part)) (xs : List V) (i : ℕ) (old new : V) (script : List Part)
     → i < length xs → slice_index_or xs i old ≡ old → view new ≡ view old ++ script ∷ [] → map view (set xs i new) ≡ put_script (map view xs) i script
 map-set-put view [] i old new script less at e = absurd (omega arith)
 map-set-put view (x ∷ xs) zero old new script less at e = ap (λ v. v ∷ map view xs) (e ∙ ap (λ o. view o ++ script ∷ []) (sym at))
 map-set-put view (x ∷ xs) (suc i) old new script less at e = ap (λ l. view x ∷ l) (map-set-put view xs i old new script (omega arith) at e)
 
 -- a list of scripts with one more caller
-pub map-push-put : {V : Type 0} (view : V → List (List Op)) (xs : List V) (i : ℕ) (new : V) (script : List Op)
+pub map-push-put : {V : Type 0} (view : V → List (List Part)) (xs : List V) (i : ℕ) (new : V) (script : List Part)
     → length xs ≤ i → view new ≡ script ∷ [] → map view (xs ++ new ∷ []) ≡ put_script (map view xs) i script
 map-push-put view [] i new script past e = ap (λ v. v ∷ []) e
 map-push-put view (x ∷ xs) zero new script past e = absurd (omega arith)
@@ -140,7 +140,7 @@ keys-add bytes keys key = by (list_any (λ k. bytes_eq (bytes key) (bytes k)) ke
     by true = refl
     by false = map-append bytes keys (key ∷ [])
 
-module _ {K V : Type 0} (bytes : K → List ℕ) (view : V → List (List Op)) (keys : List K) (xs : List V) (even : length keys ≡ length xs) where
+module _ {K V : Type 0} (bytes : K → List ℕ) (view : V → List (List Part)) (keys : List K) (xs : List V) (even : length keys ≡ length xs) where
   -- so are their views
   even_views : length (map bytes keys) ≡ length (map view xs)
   even_views = simp length-map even
@@ -153,7 +153,7 @@ module _ {K V : Type 0} (bytes : K → List ℕ) (view : V → List (List Op)) (
   pub has_caller : (name : List ℕ) → is_caller name (beside (map bytes keys) (map view xs)) ≡ list_any (λ k. bytes_eq name (bytes k)) keys
   has_caller name = is_caller-beside name (map bytes keys) (map view xs) even_views ∙ sym (any-map bytes name keys)
 
-  module _ (keys' : List K) (xs' : List V) (name : List ℕ) (script : List Op) (place : ℕ)
+  module _ (keys' : List K) (xs' : List V) (name : List ℕ) (script : List Part) (place : ℕ)
       (names_after : map bytes keys' ≡ add_name (map bytes keys) name)
       (at : place ≡ position_or_len (bytes_eq name) (map bytes keys))
       (put : map view xs' ≡ put_script (map view xs) place script) where

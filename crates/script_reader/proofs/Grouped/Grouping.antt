@@ -10,7 +10,7 @@ use Rattle.std.proofs.lemmas.List.Elements.{filter-append}
 use Rattle.std.proofs.lemmas.List.Sums.{fold_push}
 use Rattle.std.proofs.lemmas.Map.Keys.{IsDistinct-head, IsDistinct-tail, IsDistinct-push}
 use Rattle.std.proofs.lemmas.Slice.Eq.{bytes_eq-Decides}
-use Rattle.books_model.specs.declared.script.Op.{Op}
+use Rattle.books_model.specs.declared.script.Part.{Part}
 use Rattle.script_reader.specs.Input.{Caller, Submission, add_name, first_seen, scripts_by, callers_of}
 use Rattle.script_reader.specs.Inner.Callers.{add_submission}
 
@@ -105,7 +105,7 @@ scripts_by-push n subs s =
     by true = refl
     by false = refl
 
-module _ (scripts : List ℕ → List (List Op)) (s : Submission) where
+module _ (scripts : List ℕ → List (List Part)) (s : Submission) where
   -- a caller with its scripts
   abbrev had : List ℕ → Caller
   had n = record { name = n; scripts = scripts n }

@@ -1,5 +1,5 @@
 -- Lines by their kinds, and what is known of a line that no reason applies to.
-use Rattle.std.proofs.Common.{lit<, ◌≡◌, ℕ, ◌+◌, ◌<◌, ◌^◌, ◌⊎◌, inl, inr, Bool, true, false, ◌&&◌, ◌==◌, nat_le, cond, if◌then◌else◌, List, [], ◌∷◌, codes}
+use Rattle.std.proofs.Common.{lit<, ◌≡◌, ℕ, ◌+◌, ◌<◌, ◌^◌, ◌⊎◌, inl, inr, Bool, true, false, ◌&&◌, ◌==◌, nat_le, cond, if◌then◌else◌, List, [], ◌∷◌, ◌++◌, codes}
 use Rattle.std.proofs.Common.{drop, length, Option, Some, None, refl, ap, subst, ◌∙◌, arith}
 use Rattle.std.specs.Option.{is_none}
 use Rattle.std.proofs.lemmas.Bool.{leb-true, eqb-true}
@@ -11,7 +11,7 @@ use Rattle.books_model.specs.declared.script.Op.TheVariants as op
 use Rattle.script_reader.specs.declared.fault.Fault.{Fault}
 use Rattle.script_reader.specs.Number.{is_number}
 use Rattle.script_reader.specs.Text.{number, operation_words}
-use Rattle.script_reader.specs.Forms.{Words, Form, books_forms, script_forms, begins, is_only, has_form, form_of, ranges_of, value_of, are_numbers}
+use Rattle.script_reader.specs.Forms.{Words, Form, form, InScript, books_forms, operation_forms, turning_forms, begins, is_only, has_form, form_of, ranges_of, value_of, are_numbers}
 use Rattle.script_reader.specs.Forms.{are_in_range}
 use Rattle.script_reader.proofs.Tokens.Numerals.{text_of_number}
 use Rattle.script_reader.proofs.Conditions.{both}
@@ -133,26 +133,26 @@ read_line forms words these e n r =
     are_read (drop 1 these) (ranges_of (form_of forms these)) (subst (λ w. are_numbers (drop 1 w) ≡ true) e n)
     (subst (λ w. are_in_range (drop 1 w) (ranges_of (form_of forms w)) ≡ true) e r)
 
--- the operation of a line of a script, unless it is the line that ends it
-pub operation_line : (books : ClearingBooks) (words : Words) → books.instruments < 2 ^ 64
-    → is_none (form_of (script_forms books.instruments) words) ≡ false → are_numbers (drop 1 words) ≡ true
-    → are_in_range (drop 1 words) (ranges_of (form_of (script_forms books.instruments) words)) ≡ true
-    → (words ≡ codes "end" ∷ []) ⊎ ((o : Op) × IsOperationFor books o × (words ≡ operation_words o))
+-- the operation of a line of a script, unless it is one of other forms
+pub operation_line : (books : ClearingBooks) (others : List Form) (words : Words) → books.instruments < 2 ^ 64
+    → is_none (form_of (operation_forms books.instruments ++ others) words) ≡ false → are_numbers (drop 1 words) ≡ true
+    → are_in_range (drop 1 words) (ranges_of (form_of (operation_forms books.instruments ++ others) words)) ≡ true
+    → IsOneOf others words ⊎ ((o : Op) × IsOperationFor books o × (words ≡ operation_words o))
 unfolding IsOneOf
-operation_line books words few h n r = elim (one_of (script_forms books.instruments) words h) [
+operation_line books others words few h n r = elim (one_of (operation_forms books.instruments ++ others) words h) [
   | inl is ↦ let k = behind_keyword (codes "open") 1 words is in let rest = one_word (drop 1 words) k.1 in
       let e : words ≡ codes "open" ∷ rest.0 ∷ [] = k.0 ∙ ap (λ l. codes "open" ∷ l) rest.1 in let read =
-      read_line (script_forms books.instruments) words (codes "open" ∷ rest.0 ∷ []) e n r in
+      read_line (operation_forms books.instruments ++ others) words (codes "open" ∷ rest.0 ∷ []) e n r in
       inr (op.OpenAccount (value_of rest.0), (read.0 (lit< tt)).1, e ∙ (λ i. codes "open" ∷ (read.0 (lit< tt)).0 i ∷ []))
   | inr other ↦ elim other [
     | inl is ↦ let k = behind_keyword (codes "close") 1 words is in let rest = one_word (drop 1 words) k.1 in
         let e : words ≡ codes "close" ∷ rest.0 ∷ [] = k.0 ∙ ap (λ l. codes "close" ∷ l) rest.1 in let read =
-        read_line (script_forms books.instruments) words (codes "close" ∷ rest.0 ∷ []) e n r in
+        read_line (operation_forms books.instruments ++ others) words (codes "close" ∷ rest.0 ∷ []) e n r in
         inr (op.Close (value_of rest.0), (read.0 (lit< tt)).1, e ∙ (λ i. codes "close" ∷ (read.0 (lit< tt)).0 i ∷ []))
     | inr other ↦ elim other [
       | inl is ↦ let k = behind_keyword (codes "deposit") 2 words is in let rest = two_words (drop 1 words) k.1 in
           let e : words ≡ codes "deposit" ∷ rest.0 ∷ rest.1 ∷ [] = k.0 ∙ ap (λ l. codes "deposit" ∷ l) rest.2 in
-          let read = read_line (script_forms books.instruments) words (codes "deposit" ∷ rest.0 ∷ rest.1 ∷ []) e n r in
+          let read = read_line (operation_forms books.instruments ++ others) words (codes "deposit" ∷ rest.0 ∷ rest.1 ∷ []) e n r in
           inr (
             op.Deposit (value_of rest.0) (value_of rest.1),
             ((read.0 (lit< tt)).1, (read.1.0 (lit< tt)).1),
@@ -162,7 +162,7 @@ operation_line books words few h n r = elim (one_of (script_forms books.instrume
       | inr other ↦ elim other [
         | inl is ↦ let k = behind_keyword (codes "withdraw") 2 words is in let rest = two_words (drop 1 words) k.1 in
             let e : words ≡ codes "withdraw" ∷ rest.0 ∷ rest.1 ∷ [] = k.0 ∙ ap (λ l. codes "withdraw" ∷ l) rest.2 in
-            let read = read_line (script_forms books.instruments) words (codes "withdraw" ∷ rest.0 ∷ rest.1 ∷ []) e n
+            let read = read_line (operation_forms books.instruments ++ others) words (codes "withdraw" ∷ rest.0 ∷ rest.1 ∷ []) e n
             r in inr (
               op.Withdraw (value_of rest.0) (value_of rest.1),
               ((read.0 (lit< tt)).1, (read.1.0 (lit< tt)).1),
@@ -172,7 +172,7 @@ operation_line books words few h n r = elim (one_of (script_forms books.instrume
         | inr other ↦ elim other [
           | inl is ↦ let k = behind_keyword (codes "move") 3 words is in let rest = three_words (drop 1 words) k.1 in
               let e : words ≡ codes "move" ∷ rest.0 ∷ rest.1 ∷ rest.2 ∷ [] = k.0 ∙ ap (λ l. codes "move" ∷ l) rest.3 in
-              let read = read_line (script_forms books.instruments) words (codes "move" ∷ rest.0 ∷ rest.1 ∷ rest.2 ∷ [])
+              let read = read_line (operation_forms books.instruments ++ others) words (codes "move" ∷ rest.0 ∷ rest.1 ∷ rest.2 ∷ [])
               e n r in inr (
                 op.Move (value_of rest.0) (value_of rest.1) (value_of rest.2),
                 ((read.0 (lit< tt)).1, (read.1.0 (lit< tt)).1, (read.1.1.0 (lit< tt)).1),
@@ -182,7 +182,7 @@ operation_line books words few h n r = elim (one_of (script_forms books.instrume
           | inr other ↦ elim other [
             | inl is ↦ let k = behind_keyword (codes "price") 2 words is in let rest = two_words (drop 1 words) k.1 in
                 let e : words ≡ codes "price" ∷ rest.0 ∷ rest.1 ∷ [] = k.0 ∙ ap (λ l. codes "price" ∷ l) rest.2 in
-                let read = read_line (script_forms books.instruments) words (codes "price" ∷ rest.0 ∷ rest.1 ∷ []) e n
+                let read = read_line (operation_forms books.instruments ++ others) words (codes "price" ∷ rest.0 ∷ rest.1 ∷ []) e n
                 r in inr (
                   op.Price (value_of rest.0) (value_of rest.1),
                   ((read.0 few).1, (read.1.0 (lit< tt)).1),
@@ -193,7 +193,7 @@ operation_line books words few h n r = elim (one_of (script_forms books.instrume
               | inl is ↦ let k = behind_keyword (codes "trade") 4 words is in let rest =
                   four_words (drop 1 words) k.1 in let e : words ≡ codes "trade" ∷ rest.0 ∷ rest.1 ∷ rest.2 ∷ rest.3
                   ∷ [] = k.0 ∙ ap (λ l. codes "trade" ∷ l) rest.4 in let read =
-                  read_line (script_forms books.instruments) words (codes "trade" ∷ rest.0 ∷ rest.1 ∷ rest.2 ∷ rest.3
+                  read_line (operation_forms books.instruments ++ others) words (codes "trade" ∷ rest.0 ∷ rest.1 ∷ rest.2 ∷ rest.3
                   ∷ []) e n r in inr (
                     op.Trade (value_of rest.0) (value_of rest.1) (value_of rest.2) (value_of rest.3),
                     ((read.0 (lit< tt)).1, (read.1.0 (lit< tt)).1, (read.1.1.0 few).1, (read.1.1.1.0 (lit< tt)).1),
@@ -204,7 +204,7 @@ operation_line books words few h n r = elim (one_of (script_forms books.instrume
                 | inl is ↦ let k = behind_keyword (codes "margin") 2 words is in let rest =
                     two_words (drop 1 words) k.1 in let e : words ≡ codes "margin" ∷ rest.0 ∷ rest.1 ∷ [] = k.0
                     ∙ ap (λ l. codes "margin" ∷ l) rest.2 in let read =
-                    read_line (script_forms books.instruments) words (codes "margin" ∷ rest.0 ∷ rest.1 ∷ []) e n r in
+                    read_line (operation_forms books.instruments ++ others) words (codes "margin" ∷ rest.0 ∷ rest.1 ∷ []) e n r in
                     inr (
                       op.Margin (value_of rest.0) (value_of rest.1),
                       ((read.0 (lit< tt)).1, (read.1.0 (lit< tt)).1),
@@ -217,22 +217,19 @@ operation_line books words few h n r = elim (one_of (script_forms books.instrume
                     | inl is ↦ let k = behind_keyword (codes "show") 1 words is in let rest =
                         one_word (drop 1 words) k.1 in let e : words ≡ codes "show" ∷ rest.0 ∷ [] = k.0
                         ∙ ap (λ l. codes "show" ∷ l) rest.1 in let read =
-                        read_line (script_forms books.instruments) words (codes "show" ∷ rest.0 ∷ []) e n r in
+                        read_line (operation_forms books.instruments ++ others) words (codes "show" ∷ rest.0 ∷ []) e n r in
                         inr (op.Show (value_of rest.0), (read.0 (lit< tt)).1, e ∙ (λ i. codes "show" ∷ (read.0 (lit< tt)).0 i ∷ []))
                     | inr other ↦ elim other [
                       | inl is ↦ let k = behind_keyword (codes "sum") 2 words is in let rest =
                           two_words (drop 1 words) k.1 in let e : words ≡ codes "sum" ∷ rest.0 ∷ rest.1 ∷ [] = k.0
                           ∙ ap (λ l. codes "sum" ∷ l) rest.2 in let read =
-                          read_line (script_forms books.instruments) words (codes "sum" ∷ rest.0 ∷ rest.1 ∷ []) e n r in
+                          read_line (operation_forms books.instruments ++ others) words (codes "sum" ∷ rest.0 ∷ rest.1 ∷ []) e n r in
                           inr (
                             op.Sum (value_of rest.0) (value_of rest.1),
                             ((read.0 (lit< tt)).1, (read.1.0 (lit< tt)).1),
                             e ∙ (λ i. codes "sum" ∷ (read.0 (lit< tt)).0 i ∷ (read.1.0 (lit< tt)).0 i ∷ []),
                           )
-                      | inr other ↦ elim other [
-                        | inl is ↦ let k = behind_keyword (codes "end") 0 words is in inl (k.0 ∙ ap (λ l. codes "end" ∷ l) (no_words (drop 1 words) k.1))
-                        | inr none ↦ absurd none
-                      ]
+                      | inr other ↦ inl other
                     ]
                   ]
                 ]
@@ -243,4 +240,23 @@ operation_line books words few h n r = elim (one_of (script_forms books.instrume
       ]
     ]
   ]
+]
+
+-- the line that may stand between the parts of a script and is no operation
+pub end_or_try : (words : Words) → IsOneOf (turning_forms InScript) words → (words ≡ codes "end" ∷ []) ⊎ (words ≡ codes "try" ∷ [])
+unfolding IsOneOf
+end_or_try words h = elim h [
+  | inl is ↦ inl (only_word (codes "end") words is)
+  | inr other ↦ elim other [
+    | inl is ↦ inr (only_word (codes "try") words is)
+    | inr none ↦ absurd none
+  ]
+]
+
+-- and the one that may stand in a branch
+pub closing : (k : List ℕ) (words : Words) → IsOneOf (form k [] ∷ []) words → words ≡ k ∷ []
+unfolding IsOneOf
+closing k words h = elim h [
+  | inl is ↦ only_word k words is
+  | inr none ↦ absurd none
 ]

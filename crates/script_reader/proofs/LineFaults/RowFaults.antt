@@ -5,7 +5,7 @@ use Rattle.std.specs.Option.{is_none}
 use Rattle.std.proofs.lemmas.Bool.{eqb-true}
 use Rattle.script_reader.specs.declared.fault.Fault.{Fault}
 use Rattle.script_reader.specs.declared.fault.Fault.TheVariants as fault
-use Rattle.script_reader.specs.Forms.{Words, Form, form, script_forms, begins, has_form, form_of, ranges_of, are_numbers, are_in_range}
+use Rattle.script_reader.specs.Forms.{Words, Form, form, operation_forms, begins, has_form, form_of, ranges_of, are_numbers, are_in_range}
 use Rattle.script_reader.specs.Faults.{first_reason}
 use Rattle.script_reader.specs.Inner.Rows.{numbers_fault, row_fault}
 use Rattle.script_reader.proofs.LineFaults.LineKinds.{behind_keyword, one_word, two_words, three_words, four_words}
@@ -71,7 +71,7 @@ module _ (forms : List Form) (words : Words) where
       let rest = four_words (drop 1 words) behind.1 in
       numbers_wrong (form k (r ∷ s ∷ t ∷ u ∷ [])) why (ap (form_of forms) (behind.0 ∙ ap (λ l. k ∷ l) rest.4) ∙ is rest.0 rest.1 rest.2 rest.3) h
 
--- a line that is none of a script
+-- a line that is no operation
 pub unknown_word : (n : ℕ) (words : Words)
     → (begins (codes "open") words && length words == 2) ≡ false
     → (begins (codes "close") words && length words == 2) ≡ false
@@ -84,6 +84,5 @@ pub unknown_word : (n : ℕ) (words : Words)
     → (begins (codes "next") words && length words == 1) ≡ false
     → (begins (codes "show") words && length words == 2) ≡ false
     → (begins (codes "sum") words && length words == 3) ≡ false
-    → (begins (codes "end") words && length words == 1) ≡ false
-    → row_fault (script_forms n) words ≡ Some fault.Word
-unknown_word n words a b c d e f g h i j k l = word_wrong (script_forms n) words (a, (b, (c, (d, (e, (f, (g, (h, (i, (j, (k, (l, tt))))))))))))
+    → row_fault (operation_forms n) words ≡ Some fault.Word
+unknown_word n words a b c d e f g h i j k = word_wrong (operation_forms n) words (a, (b, (c, (d, (e, (f, (g, (h, (i, (j, (k, tt)))))))))))

@@ -1,22 +1,26 @@
 -- How many lines are read, and which of them is faulty.
 use Rattle.std.proofs.Common.{◌≡◌, ◌≢◌, ◌⊎◌, inl, inr, ℕ, ◌+◌, ◌-◌, ◌*◌, ◌<◌, ◌≤◌, ◌^◌, ◌==◌, Bool, true, false, not, ◌&&◌, ◌||◌, nat_le, if◌then◌else◌, List}
-use Rattle.std.proofs.Common.{[], ◌∷◌, ◌++◌, codes, map, take, drop, length, Option, Some, None, refl, sym, ap, ◌∙◌, append_assoc, length-append, arith}
+use Rattle.std.proofs.Common.{[], ◌∷◌, ◌++◌, codes, map, take, drop, length, sum_by, Option, Some, None, refl, sym, ap, ◌∙◌, append_assoc, length-append, arith}
 use Rattle.std.specs.List.{flat_map, list_any, count_by, AllByRecursion}
 use Rattle.std.specs.FinMap as finmap
 use Rattle.std.specs.FinMap.{len-entries}
 use Rattle.std.proofs.lemmas.List.{length-map}
-use Rattle.std.proofs.lemmas.List.Sums.{sum_by-append}
+use Rattle.std.proofs.lemmas.List.Concat.{flat_map-append}
+use Rattle.std.proofs.lemmas.List.Sums.{sum_by-append, sum_by-cons}
+use Rattle.books_model.specs.declared.script.Part.{Part}
+use Rattle.books_model.specs.declared.script.Part.TheVariants as part
+use Rattle.books_model.specs.Scripts.{operations_in, operations_of, alternatives_in}
 use Rattle.books_model.specs.Books.{ClearingBooks}
 use Rattle.books_model.specs.Ranges.{AreInRange}
 use Rattle.script_reader.specs.declared.words.TheConstants.{LINE_FEED}
 use Rattle.script_reader.specs.declared.fault.Fault.{Fault}
 use Rattle.script_reader.specs.declared.fault.Fault.TheVariants as fault
-use Rattle.script_reader.specs.Text.{line, finish_line, account_words, price_words, position_words, call_words, operation_words}
-use Rattle.script_reader.specs.Inner.LinesAsWords.{books_words, submission_words, lines_so_far}
+use Rattle.script_reader.specs.Text.{line, finish_line, account_words, price_words, position_words, call_words, operation_words, part_words}
+use Rattle.script_reader.specs.Inner.LinesAsWords.{Open, BetweenParts, InFirst, InSecond, open_words, parts_with, script_words, books_words, submission_words, lines_so_far}
 use Rattle.script_reader.specs.Input.{ClearingInput, Submission, AreCallersFor, callers_of}
 use Rattle.script_reader.specs.Grammar.{Spells}
-use Rattle.script_reader.specs.Forms.{Words, is_only, begins, value_at, are_numbers, are_in_range, ranges_of, form_of, books_forms}
-use Rattle.script_reader.specs.Faults.{StartsFaulty, IsFaultyBehind, fault_of, books_fault, inside_fault, outside_fault, is_inside, is_late, is_low, is_given}
+use Rattle.script_reader.specs.Forms.{Words, Region, OutsideScripts, InScript, InFirstBranch, InSecondBranch, is_only, begins, value_at, are_numbers, are_in_range, ranges_of, form_of, books_forms}
+use Rattle.script_reader.specs.Faults.{StartsFaulty, IsFaultyBehind, fault_of, books_fault, inside_fault, outside_fault, scripts_fault, region_behind, is_late, is_low, is_given}
 use Rattle.script_reader.specs.Faults.{takes_block, size_at}
 use Rattle.script_reader.proofs.Grouped.Submitting.{IsGoodScript, scripts_are_good}
 use Rattle.script_reader.proofs.Printing.Scripted.{opened}
@@ -46,20 +50,66 @@ few_of_books b range = omega (
   range.ring.1,
 )
 
+-- a part has a line for each operation, and three more where it is an alternative
+lines_of_part : (p : Part) → length (part_words p) ≡ length (operations_in p) + 3 * alternatives_in p
+lines_of_part (part.One o) = refl
+lines_of_part (part.Either first second) = omega (
+  arith,
+  length-append (map operation_words first) ((codes "else" ∷ []) ∷ (map operation_words second ++ (codes "done" ∷ []) ∷ [])),
+  length-append (map operation_words second) ((codes "done" ∷ []) ∷ []),
+  length-map first operation_words,
+  length-map second operation_words,
+  length-append first second,
+)
+
+lines_of_parts : (parts : List Part) → length (flat_map part_words parts) ≡ length (operations_of parts) + 3 * sum_by alternatives_in parts
+lines_of_parts [] = omega arith
+lines_of_parts (p ∷ parts) = omega (
+  arith,
+  length-append (part_words p) (flat_map part_words parts),
+  length-append (operations_in p) (operations_of parts),
+  sum_by-cons alternatives_in p parts,
+  lines_of_part p,
+  lines_of_parts parts,
+)
+
+-- an alternative that is open has no more lines than it has once it is done
+lines_of_open : (parts : List Part) (stage : Open) → length (script_words parts stage) ≤ length (flat_map part_words (parts_with parts stage))
+lines_of_open parts BetweenParts = omega (arith, length-append (flat_map part_words parts) [])
+lines_of_open parts (InFirst first) = omega (
+  arith,
+  length-append (flat_map part_words parts) (open_words (InFirst first)),
+  ap length (flat_map-append part_words parts (part.Either first [] ∷ [])),
+  length-append (flat_map part_words parts) (part_words (part.Either first []) ++ []),
+  length-append (part_words (part.Either first [])) [],
+  length-append (map operation_words first) ((codes "else" ∷ []) ∷ (codes "done" ∷ []) ∷ []),
+)
+lines_of_open parts (InSecond first second) = omega (
+  arith,
+  length-append (flat_map part_words parts) (open_words (InSecond first second)),
+  ap length (flat_map-append part_words parts (part.Either first second ∷ [])),
+  length-append (flat_map part_words parts) (part_words (part.Either first second) ++ []),
+  length-append (part_words (part.Either first second)) [],
+  length-append (map operation_words first) ((codes "else" ∷ []) ∷ (map operation_words second ++ (codes "done" ∷ []) ∷ [])),
+  length-append (map operation_words second) ((codes "done" ∷ []) ∷ []),
+  length-append (map operation_words first) ((codes "else" ∷ []) ∷ map operation_words second),
+)
+
 -- scripts have few lines each
-few_each : (b : ClearingBooks) (subs : List Submission) → AllByRecursion (IsGoodScript b) subs → length (flat_map submission_words subs) ≤ 66 * length subs
+few_each : (b : ClearingBooks) (subs : List Submission) → AllByRecursion (IsGoodScript b) subs → length (flat_map submission_words subs) ≤ 258 * length subs
 few_each b [] good = omega arith
 few_each b (s ∷ subs) good = omega (
   arith,
   length-append (submission_words s) (flat_map submission_words subs),
-  length-append (map operation_words s.script) ((codes "end" ∷ []) ∷ []),
-  length-map s.script operation_words,
+  length-append (flat_map part_words s.script) ((codes "end" ∷ []) ∷ []),
+  lines_of_parts s.script,
   good.0.script.few,
+  good.0.script.few_alternatives,
   few_each b subs good.1,
 )
 
 -- so have books and scripts
-few_so_far : (b : ClearingBooks) (subs : List Submission) → AreInRange b → AreCallersFor b (callers_of subs) → length (lines_so_far b subs) ≤ 4400000
+few_so_far : (b : ClearingBooks) (subs : List Submission) → AreInRange b → AreCallersFor b (callers_of subs) → length (lines_so_far b subs) ≤ 17000000
 few_so_far b subs range valid = omega (
   arith,
   length-append (books_words b) ((codes "scripts" ∷ []) ∷ flat_map submission_words subs),
@@ -70,17 +120,19 @@ few_so_far b subs range valid = omega (
 )
 
 -- so have lines without fault, whatever they are
-few_lines : (lines : List Words) → IsReached lines → length lines ≤ 4500000
+few_lines : (lines : List Words) → IsReached lines → length lines ≤ 17100000
 few_lines lines (AtStart e) = omega (arith, ap length e)
 few_lines lines (InBooks b range e) = omega (arith, ap length e, few_of_books b range)
 few_lines lines (Outside r) = omega (arith, ap length r.lines_are, few_so_far r.books r.subs r.range r.valid)
 few_lines lines (WithinScript r) = omega (
   arith,
   ap length r.lines_are,
-  length-append (lines_so_far r.books r.subs) (opened r.name r.ops),
-  length-map r.ops operation_words,
+  length-append (lines_so_far r.books r.subs) (opened r.name r.parts r.stage),
+  lines_of_open r.parts r.stage,
+  lines_of_parts (parts_with r.parts r.stage),
   few_so_far r.books r.subs r.range r.valid,
   r.script.few,
+  r.script.few_alternatives,
 )
 
 -- another reason comes before those that follow
@@ -94,13 +146,13 @@ no_more = λ e. cc
 -- a line that is there is not missing
 not_missing : (before : List Words) (words : Words) → fault_of before words ≢ Some fault.End
 not_missing [] words = other _ fault.Header _ (λ e. cc) (other _ fault.Number _ (λ e. cc) (other _ fault.Limit _ (λ e. cc) no_more))
-not_missing (header ∷ lines) words = by (list_any (is_only (codes "scripts")) (header ∷ lines)) (is_inside (header ∷ lines))
+not_missing (header ∷ lines) words = by (list_any (is_only (codes "scripts")) (header ∷ lines)) (region_behind (header ∷ lines))
     (other _ fault.Word _ (λ e. cc) (other (is_late before words) fault.Order _ (λ e. cc)
     (other (not (are_numbers (drop 1 words))) fault.Number _ (λ e. cc) (other is_beyond_limits fault.Limit _ (λ e. cc)
     (other (is_low before words) fault.Order _ (λ e. cc) (other (lacks (codes "account") 1) fault.Account _ (λ e. cc)
     (other (lacks (codes "price") 2) fault.Price _ (λ e. cc)
     (other (takes_block words && nat_le (size_at before 3) (count_by takes_block before)) fault.Blocks _ (λ e. cc) no_more))))))))
-    (other _ fault.Word _ (λ e. cc) (other _ fault.Number _ (λ e. cc) (other _ fault.Limit _ (λ e. cc) no_more)))
+    (λ region. other _ fault.Word _ (λ e. cc) (other _ fault.Number _ (λ e. cc) (other _ fault.Limit _ (λ e. cc) no_more)))
     (other _ fault.Word _ (λ e. cc) (other _ fault.Limit _ (λ e. cc) no_more))
   where
     before : List Words
@@ -113,13 +165,14 @@ not_missing (header ∷ lines) words = by (list_any (is_only (codes "scripts")) 
     lacks : List ℕ → ℕ → Bool
     lacks keyword place = begins (codes "position") words && not (is_given before keyword (value_at words place))
 
-    by : (scripts inside : Bool) → books_fault (header ∷ lines) words ≢ Some fault.End
-        → inside_fault (header ∷ lines) words ≢ Some fault.End → outside_fault (header ∷ lines) words ≢ Some fault.End
-        → (if not scripts then books_fault (header ∷ lines) words else
-        (if inside then inside_fault (header ∷ lines) words else outside_fault (header ∷ lines) words)) ≢ Some fault.End
-    by false inside in_books within between = in_books
-    by true true in_books within between = within
-    by true false in_books within between = between
+    by : (scripts : Bool) (region : Region) → books_fault (header ∷ lines) words ≢ Some fault.End
+        → ((region : Region) → inside_fault region (header ∷ lines) words ≢ Some fault.End) → outside_fault (header ∷ lines) words ≢ Some fault.End
+        → (if not scripts then books_fault (header ∷ lines) words else scripts_fault region (header ∷ lines) words) ≢ Some fault.End
+    by false region in_books within between = in_books
+    by true OutsideScripts in_books within between = between
+    by true InScript in_books within between = within InScript
+    by true InFirstBranch in_books within between = within InFirstBranch
+    by true InSecondBranch in_books within between = within InSecondBranch
 
 -- the line feeds of what was read
 abbrev pub feeds : List ℕ → List ℕ → ℕ
@@ -136,7 +189,7 @@ pub record Told (text left : List ℕ) (why : Fault) (before : ℕ) : Type 0 whe
 pub told : (text left : List ℕ) (why : Fault) → (h : IsFaultyBehind [] text left why) → Told text left why (length h.more)
 told text left why h = by h.here
   where
-    few : length h.more ≤ 4500000
+    few : length h.more ≤ 17100000
     few = few_lines h.more (reach_all [] h.more (AtStart refl) h.faultless)
 
     lines : List ℕ

@@ -1,5 +1,6 @@
 -- A text is of an input, or has a first fault.
-use Rattle.std.proofs.Common.{◌≡◌, ◌≢◌, ◌⊎◌, inl, inr, ℕ, suc, zero, ◌+◌, ◌-◌, ◌<◌, Bool, true, false, ◌==◌, List, [], ◌∷◌, ◌++◌, codes, length, take, drop}
+use Rattle.std.proofs.Common.{◌≡◌, ◌≢◌, ◌⊎◌, inl, inr, ℕ, suc, zero, ◌+◌, ◌-◌, ◌<◌, Bool, true, false, ◌==◌, List, [], ◌∷◌, ◌++◌, codes, length, take, drop, sum_by}
+use Rattle.books_model.specs.Scripts.{operations_of, alternatives_in}
 use Rattle.std.proofs.Common.{Option, Some, None, refl, sym, ap, subst, ◌∙◌, append_assoc, length-append, arith}
 use Rattle.std.specs.List.{flat_map, count_by, slice_split, position, join_with_byte}
 use Rattle.std.proofs.lemmas.List.{append-nil}
@@ -12,19 +13,26 @@ use Rattle.script_reader.specs.Lines.{AreWords}
 use Rattle.script_reader.specs.Text.{line, finish_line}
 use Rattle.script_reader.specs.Input.{ClearingInput, AreCallersFor, callers_of}
 use Rattle.script_reader.specs.Grammar.{Spells, IsValidInput}
-use Rattle.script_reader.specs.Inner.LinesAsWords.{lines_so_far}
+use Rattle.script_reader.specs.Inner.LinesAsWords.{Open, BetweenParts, InFirst, InSecond, parts_with, region_of, lines_so_far}
 use Rattle.script_reader.specs.Forms.{Words, is_only}
 use Rattle.script_reader.specs.Faults.{AreFaultless, IsFrontFault, IsFirstFault, fault_of}
 use Rattle.script_reader.specs.Statements.{HasFault}
 use Rattle.script_reader.proofs.Tokens.Cutting.{found_at, found_none, taken}
 use Rattle.script_reader.proofs.LineFaults.LineKinds.{only_word}
 use Rattle.script_reader.proofs.Printing.Printed.{books_fault_is}
-use Rattle.script_reader.proofs.Printing.Scripted.{in_books, outside_fault_is, inside_fault_is}
+use Rattle.script_reader.proofs.Printing.Scripted.{in_books, outside_fault_is, inside_at, inside_fault_is}
 use Rattle.script_reader.proofs.WithoutFault.Faultless.{faultless_append}
 use Rattle.script_reader.proofs.WithoutFault.BooksFaultless.{printed, printed_small}
 use Rattle.script_reader.proofs.WithoutFault.ScriptsFaultless.{input_faultless}
 use Rattle.script_reader.proofs.Texts.OneReading.{text_of_input, finish_once, no_fault, fault_once}
 use Rattle.script_reader.proofs.Texts.Reaching.{IsReached, AtStart, InBooks, Outside, WithinScript, Between, reach_all}
+
+-- the last line of a text is none of a script
+no_finish : (stage : Open) (instruments count alternatives : ℕ)
+    → inside_at (region_of stage) instruments count alternatives (codes "finish" ∷ []) ≡ Some fault.Word
+no_finish BetweenParts instruments count alternatives = refl
+no_finish (InFirst first) instruments count alternatives = refl
+no_finish (InSecond first second) instruments count alternatives = refl
 
 -- the last line stands behind scripts that have ended
 pub at_finish : (lines : List Words) → IsReached lines → fault_of lines (codes "finish" ∷ []) ≡ None → Between lines
@@ -35,7 +43,9 @@ at_finish lines (InBooks b range e) none =
 at_finish lines (Outside r) none = r
 at_finish lines (WithinScript r) none =
     absurd (none-some _ (sym (sym (ap (λ l. fault_of l (codes "finish" ∷ [])) r.lines_are
-    ∙ inside_fault_is (printed r.books) r.subs r.name r.ops (codes "finish" ∷ []) (printed_small r.books r.range)) ∙ none)))
+    ∙ inside_fault_is (printed r.books) r.subs r.name r.parts r.stage (codes "finish" ∷ []) (printed_small r.books r.range)
+    ∙ no_finish r.stage (printed r.books).instruments (length (operations_of (parts_with r.parts r.stage))) (sum_by alternatives_in (parts_with r.parts r.stage)))
+    ∙ none)))
 
 -- the lines of an input
 pub record Spelled (text : List ℕ) : Type 0 where

@@ -6,13 +6,13 @@ use Rattle.std.proofs.lemmas.List.{append-nil}
 use Rattle.std.proofs.lemmas.List.Concat.{flat_map-append}
 use Rattle.books_model.specs.Books.{ClearingBooks}
 use Rattle.books_model.specs.Ranges.{AreInRange}
-use Rattle.books_model.specs.declared.script.Op.{Op}
+use Rattle.books_model.specs.declared.script.Part.{Part}
 use Rattle.script_reader.specs.declared.limits.TheConstants.{MOST_CALLERS, MOST_SCRIPTS}
 use Rattle.script_reader.specs.declared.fault.Fault.{Fault}
 use Rattle.script_reader.specs.declared.fault.Fault.TheVariants as fault
 use Rattle.script_reader.specs.Lines.{word_at}
-use Rattle.script_reader.specs.Text.{line, operation_lines, end_line, finish_line}
-use Rattle.script_reader.specs.Inner.LinesAsWords.{books_words, submission_words, lines_so_far, lines_inside}
+use Rattle.script_reader.specs.Text.{line, script_lines, end_line, finish_line}
+use Rattle.script_reader.specs.Inner.LinesAsWords.{BetweenParts, books_words, submission_words, lines_so_far, lines_inside}
 use Rattle.script_reader.specs.Input.{Submission, AreCallersFor, callers_of, count_scripts, IsName}
 use Rattle.script_reader.specs.Inner.Callers.{is_caller}
 use Rattle.script_reader.specs.Grammar.{submission_lines}
@@ -62,7 +62,7 @@ outside_none b subs name named room =
 -- a fault inside the script that begins here
 pub behind_script : (b : ClearingBooks) (subs : List Submission) (name : List ℕ) (words : Words)
     (left middle after : List ℕ) (why : Fault) → words ≡ codes "script" ∷ name ∷ [] → IsName name → is_beyond_at subs name ≡ false
-    → left ≡ line words ++ middle → IsFaultyBehind (lines_inside b subs name []) middle after why → IsFaultyBehind (lines_so_far b subs) left after why
+    → left ≡ line words ++ middle → IsFaultyBehind (lines_inside b subs name [] BetweenParts) middle after why → IsFaultyBehind (lines_so_far b subs) left after why
 behind_script b subs name words left middle after why is named room text h =
     let first : Words = codes "script" ∷ name ∷ [] in
     behind_more (lines_so_far b subs) (first ∷ []) left middle after why
@@ -76,18 +76,18 @@ pub beyond_is : (subs : List Submission) (name : List ℕ)
 beyond_is subs name i = nat_le MOST_SCRIPTS (scripts_counted subs i) || (not (caller_named name subs i) && nat_le MOST_CALLERS (callers_counted subs i))
 
 -- the text of scripts, with one more
-pub one_more_script : (start left middle after : List ℕ) (subs : List Submission) (name : List ℕ) (script : List Op)
+pub one_more_script : (start left middle after : List ℕ) (subs : List Submission) (name : List ℕ) (script : List Part)
     (words : Words) → start ≡ flat_map line (flat_map submission_words subs) ++ left
-    → left ≡ line words ++ middle → words ≡ codes "script" ∷ name ∷ [] → middle ≡ operation_lines script ++ (end_line ++ after)
+    → left ≡ line words ++ middle → words ≡ codes "script" ∷ name ∷ [] → middle ≡ script_lines script ++ (end_line ++ after)
     → start ≡ flat_map line (flat_map submission_words (subs ++ record { caller = name; script = script } ∷ [])) ++ after
 one_more_script start left middle after subs name script words text first is rest =
     let s : Submission = record { caller = name; script = script } in
     let S : List ℕ = flat_map line (flat_map submission_words subs) in
     let one : left ≡ submission_lines s ++ after =
     first ∙ (λ i. line (is i) ++ rest i)
-    ∙ ap (λ l. line (codes "script" ∷ name ∷ []) ++ l) (sym (append_assoc (operation_lines script) end_line after))
-    ∙ sym (append_assoc (line (codes "script" ∷ name ∷ [])) (operation_lines script ++ end_line) after)
-    ∙ ap (λ l. l ++ after) (sym (append_assoc (line (codes "script" ∷ name ∷ [])) (operation_lines script) end_line)) in
+    ∙ ap (λ l. line (codes "script" ∷ name ∷ []) ++ l) (sym (append_assoc (script_lines script) end_line after))
+    ∙ sym (append_assoc (line (codes "script" ∷ name ∷ [])) (script_lines script ++ end_line) after)
+    ∙ ap (λ l. l ++ after) (sym (append_assoc (line (codes "script" ∷ name ∷ [])) (script_lines script) end_line)) in
     text ∙ ap (λ l. S ++ l) one ∙ sym (append_assoc S (submission_lines s) after)
     ∙ ap (λ l. l ++ after) (
     ap (λ l. S ++ l) (sym (text_of_submission s))

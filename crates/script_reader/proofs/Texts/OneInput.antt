@@ -1,5 +1,6 @@
 -- A text is of one input at most.
-use Rattle.std.proofs.Common.{◌≡◌, ℕ, ◌<◌, ◌^◌, Bool, true, false, not, if◌then◌else◌, List, [], ◌∷◌, ◌++◌, codes, map, refl, sym, ap, subst, ◌∙◌, append_assoc}
+use Rattle.std.proofs.Common.{◌≡◌, ℕ, ◌<◌, ◌^◌, Bool, true, false, not, if◌then◌else◌, List, [], ◌∷◌, ◌++◌, codes, map, drop, All, refl, sym, ap, subst, ◌∙◌, append_assoc}
+use Rattle.std.specs.List.{flat_map}
 use Rattle.std.proofs.Common.{true≢false, arith}
 use Rattle.std.specs.List.{flat_map, AllByRecursion}
 use Rattle.std.specs.FinMap as finmap
@@ -10,14 +11,19 @@ use Rattle.books_model.specs.Books.{ClearingBooks}
 use Rattle.books_model.specs.Ranges.{AreInRange, IsOperationFor}
 use Rattle.books_model.specs.declared.script.Op.{Op}
 use Rattle.books_model.specs.declared.script.Op.TheVariants as op
-use Rattle.script_reader.specs.Text.{line, number, header_words, account_words, price_words, position_words, call_words, operation_words, finish_line}
+use Rattle.books_model.specs.declared.script.Part.{Part}
+use Rattle.books_model.specs.declared.script.Part.TheVariants as part
+use Rattle.books_model.specs.Scripts.{operations_in, operations_of}
+use Rattle.books_model.proofs.Scripts.Branches.{All-front, All-back}
+use Rattle.script_reader.specs.Text.{line, number, header_words, account_words, price_words, position_words, call_words, operation_words, part_words, finish_line}
 use Rattle.script_reader.specs.Inner.LinesAsWords.{books_words, submission_words, lines_so_far}
 use Rattle.script_reader.specs.Input.{ClearingInput, Submission, AreCallersFor, callers_of}
 use Rattle.script_reader.specs.Grammar.{Spells}
 use Rattle.script_reader.specs.Lines.{word_at}
 use Rattle.script_reader.specs.Forms.{Words, begins, is_only, value_of, value_at}
 use Rattle.script_reader.proofs.Tokens.Numerals.{value_of_number}
-use Rattle.script_reader.proofs.Printing.Scripted.{ended}
+use Rattle.script_reader.proofs.Printing.Scripted.{ended, no_turning, no_try}
+use Rattle.script_reader.specs.Faults.{is_turning}
 use Rattle.script_reader.proofs.Printing.Sections.{all_follow}
 use Rattle.script_reader.proofs.WithoutFault.Faultless.{IsAccount, IsPrice, IsPosition, IsMarginCall}
 use Rattle.script_reader.proofs.WithoutFault.BooksFaultless.{blocks_fit, instruments_fit, ring_fits, accounts_are, prices_are, positions_are, calls_are}
@@ -120,6 +126,65 @@ module _ (b : ClearingBooks) (fits : b.instruments < 2 ^ 64) where
   operation_once : (o q : Op) → IsOperationFor b o → IsOperationFor b q → operation_words o ≡ operation_words q → o ≡ q
   operation_once o q h k e = sym (is_operation_of o h) ∙ ap operation_of e ∙ is_operation_of q k
 
+  -- operations in front of a line that is none are the same
+  branch_once : (word : List ℕ) → is_turning (word ∷ []) ≡ true → (ops others : List Op) (rest more : List Words)
+      → All (IsOperationFor b) ops → All (IsOperationFor b) others
+      → map operation_words ops ++ ((word ∷ []) ∷ rest) ≡ map operation_words others ++ ((word ∷ []) ∷ more) → (ops ≡ others) × (rest ≡ more)
+  branch_once word turns ops others rest more p q e =
+      let parts = part_once (λ w. not (is_turning w)) operation_words (IsOperationFor b) operation_once (λ o. ap not (no_turning o)) ops others
+      ((word ∷ []) ∷ rest) ((word ∷ []) ∷ more) (recursion_from_All _ _ p) (recursion_from_All _ _ q) (ap not turns) (ap not turns) e in
+      (parts.0, ap (drop 1) parts.1)
+
+  -- a line begins a part: it is not the line that ends a script
+  goes_on_part : (p : Part) (rest : List Words) → (words : Words) × (more : List Words) × (part_words p ++ rest ≡ words ∷ more) × (is_only (codes "end") words ≡ false)
+  goes_on_part (part.One o) rest = (operation_words o, rest, refl, operation_goes_on o)
+  goes_on_part (part.Either first second) rest = (codes "try" ∷ [], _, refl, refl)
+
+  -- the first part of lines is the same
+  one_part : (p q : Part) (rest more : List Words) → All (IsOperationFor b) (operations_in p) → All (IsOperationFor b) (operations_in q)
+      → part_words p ++ rest ≡ part_words q ++ more → (p ≡ q) × (rest ≡ more)
+  one_part (part.One o) (part.One w) rest more h k e =
+      let heads : operation_words o ≡ operation_words w = cc in
+      let tails : rest ≡ more = cc in
+      (ap part.One (operation_once o w (recursion_from_All (IsOperationFor b) (o ∷ []) h).0 (recursion_from_All (IsOperationFor b) (w ∷ []) k).0 heads), tails)
+  one_part (part.One o) (part.Either first second) rest more h k e =
+      let heads : operation_words o ≡ codes "try" ∷ [] = cc in
+      absurd (true≢false (sym (ap (is_only (codes "try")) heads) ∙ no_try o))
+  one_part (part.Either first second) (part.One o) rest more h k e =
+      let heads : codes "try" ∷ [] ≡ operation_words o = cc in
+      absurd (true≢false (ap (is_only (codes "try")) heads ∙ no_try o))
+  one_part (part.Either first second) (part.Either others last) rest more h k e =
+      let tails : (map operation_words first ++ ((codes "else" ∷ []) ∷ (map operation_words second ++ (codes "done" ∷ []) ∷ []))) ++ rest
+      ≡ (map operation_words others ++ ((codes "else" ∷ []) ∷ (map operation_words last ++ (codes "done" ∷ []) ∷ []))) ++ more = cc in
+      let one = branch_once (codes "else") refl first others _ _ (All-front (IsOperationFor b) first second h) (All-front (IsOperationFor b) others last k)
+      (sym (append_assoc (map operation_words first) _ rest) ∙ tails ∙ append_assoc (map operation_words others) _ more) in
+      let two = branch_once (codes "done") refl second last rest more (All-back (IsOperationFor b) first second h) (All-back (IsOperationFor b) others last k)
+      (sym (append_assoc (map operation_words second) ((codes "done" ∷ []) ∷ []) rest) ∙ one.1 ∙ append_assoc (map operation_words last) ((codes "done" ∷ []) ∷ []) more) in
+      ((λ i. part.Either (one.0 i) (two.0 i)), two.1)
+
+  -- parts in front of the line that ends their script are the same
+  script_once : (parts others : List Part) (rest more : List Words)
+      → All (IsOperationFor b) (operations_of parts) → All (IsOperationFor b) (operations_of others)
+      → flat_map part_words parts ++ ((codes "end" ∷ []) ∷ rest) ≡ flat_map part_words others ++ ((codes "end" ∷ []) ∷ more) → (parts ≡ others) × (rest ≡ more)
+  script_once [] [] rest more h k e = (refl, ap (drop 1) e)
+  script_once [] (q ∷ others) rest more h k e =
+      let begins = goes_on_part q (flat_map part_words others ++ ((codes "end" ∷ []) ∷ more)) in
+      let is : (codes "end" ∷ []) ∷ rest ≡ begins.0 ∷ begins.1 = e ∙ append_assoc (part_words q) (flat_map part_words others) _ ∙ begins.2 in
+      let heads : codes "end" ∷ [] ≡ begins.0 = cc in
+      absurd (true≢false (ap (is_only (codes "end")) heads ∙ begins.3))
+  script_once (p ∷ parts) [] rest more h k e =
+      let begins = goes_on_part p (flat_map part_words parts ++ ((codes "end" ∷ []) ∷ rest)) in
+      let is : (codes "end" ∷ []) ∷ more ≡ begins.0 ∷ begins.1 = sym e ∙ append_assoc (part_words p) (flat_map part_words parts) _ ∙ begins.2 in
+      let heads : codes "end" ∷ [] ≡ begins.0 = cc in
+      absurd (true≢false (ap (is_only (codes "end")) heads ∙ begins.3))
+  script_once (p ∷ parts) (q ∷ others) rest more h k e =
+      let one = one_part p q _ _ (All-front (IsOperationFor b) (operations_in p) (operations_of parts) h)
+      (All-front (IsOperationFor b) (operations_in q) (operations_of others) k)
+      (sym (append_assoc (part_words p) (flat_map part_words parts) _) ∙ e ∙ append_assoc (part_words q) (flat_map part_words others) _) in
+      let behind = script_once parts others rest more (All-back (IsOperationFor b) (operations_in p) (operations_of parts) h)
+      (All-back (IsOperationFor b) (operations_in q) (operations_of others) k) one.1 in
+      ((λ i. one.0 i ∷ behind.0 i), behind.1)
+
   -- scripts with the same lines are the same
   scripts_once : (subs vs : List Submission) → AllByRecursion (IsGoodScript b) subs → AllByRecursion (IsGoodScript b) vs
       → flat_map submission_words subs ≡ flat_map submission_words vs → subs ≡ vs
@@ -129,15 +194,12 @@ module _ (b : ClearingBooks) (fits : b.instruments < 2 ^ 64) where
   scripts_once (s ∷ subs) (v ∷ vs) p q e =
       let end : Words = codes "end" ∷ [] in
       let heads : codes "script" ∷ s.caller ∷ [] ≡ codes "script" ∷ v.caller ∷ [] = cc in
-      let tails : (map operation_words s.script ++ end ∷ []) ++ flat_map submission_words subs
-      ≡ (map operation_words v.script ++ end ∷ []) ++ flat_map submission_words vs = cc in
-      let parts = part_once (λ w. not (is_only (codes "end") w)) operation_words (IsOperationFor b) operation_once
-      (λ o. ap not (operation_goes_on o)) s.script v.script (end ∷ flat_map submission_words subs) (end ∷ flat_map submission_words vs)
-      (recursion_from_All _ _ p.0.script.each) (recursion_from_All _ _ q.0.script.each) refl refl
-      (sym (append_assoc (map operation_words s.script) (end ∷ []) (flat_map submission_words subs)) ∙ tails
-      ∙ append_assoc (map operation_words v.script) (end ∷ []) (flat_map submission_words vs)) in
-      let more : flat_map submission_words subs ≡ flat_map submission_words vs = cc in
-      let rest = scripts_once subs vs p.1 q.1 more in
+      let tails : (flat_map part_words s.script ++ end ∷ []) ++ flat_map submission_words subs
+      ≡ (flat_map part_words v.script ++ end ∷ []) ++ flat_map submission_words vs = cc in
+      let parts = script_once s.script v.script (flat_map submission_words subs) (flat_map submission_words vs) p.0.script.each q.0.script.each
+      (sym (append_assoc (flat_map part_words s.script) (end ∷ []) (flat_map submission_words subs)) ∙ tails
+      ∙ append_assoc (flat_map part_words v.script) (end ∷ []) (flat_map submission_words vs)) in
+      let rest = scripts_once subs vs p.1 q.1 parts.1 in
       let names : s.caller ≡ v.caller = ap (λ w. word_at w 1) heads in
       (λ i. record { caller = names i; script = parts.0 i } ∷ rest i)
 

@@ -9,7 +9,7 @@ use Rattle.books_model.specs.Books.{ClearingBooks}
 use Rattle.script_reader.specs.declared.fault.Fault.{Fault}
 use Rattle.script_reader.specs.Lines.{AreWords}
 use Rattle.script_reader.specs.Text.{line, header_line, account_words, account_line, price_words, price_line, position_words, position_line, call_words}
-use Rattle.script_reader.specs.Text.{call_line, books_lines, operation_words, operation_lines, scripts_line, end_line, finish_line}
+use Rattle.script_reader.specs.Text.{call_line, books_lines, part_words, script_lines, scripts_line, end_line, finish_line}
 use Rattle.script_reader.specs.Inner.LinesAsWords.{books_words, submission_words, lines_so_far}
 use Rattle.script_reader.specs.Input.{Submission}
 use Rattle.script_reader.specs.Grammar.{submission_lines, input_text}
@@ -48,9 +48,9 @@ text_of_books b =
 -- and the text of a script
 pub text_of_submission : (s : Submission) → flat_map line (submission_words s) ≡ submission_lines s
 text_of_submission s =
-    ap (λ l. line (codes "script" ∷ s.caller ∷ []) ++ l) (flat_map-append line (map operation_words s.script)
-    ((codes "end" ∷ []) ∷ []) ∙ (λ i. flat_of_map line operation_words s.script i ++ append-nil end_line i))
-    ∙ sym (append_assoc (line (codes "script" ∷ s.caller ∷ [])) (operation_lines s.script) end_line)
+    ap (λ l. line (codes "script" ∷ s.caller ∷ []) ++ l) (flat_map-append line (flat_map part_words s.script)
+    ((codes "end" ∷ []) ∷ []) ∙ ap (λ l. script_lines s.script ++ l) (append-nil end_line))
+    ∙ sym (append_assoc (line (codes "script" ∷ s.caller ∷ [])) (script_lines s.script) end_line)
 
 -- and the text of an input
 pub text_of_input : (b : ClearingBooks) (subs : List Submission) → input_text b subs ≡ flat_map line (lines_so_far b subs) ++ finish_line

@@ -1,5 +1,5 @@
 -- Lines without fault are those of books and scripts, as far as they go.
-use Rattle.std.proofs.Common.{◌≡◌, ◌⊎◌, inl, inr, ℕ, ◌<◌, Bool, true, false, not, ◌&&◌, ◌||◌, nat_le, List, [], ◌∷◌, ◌++◌, codes, map, drop, length, None, refl}
+use Rattle.std.proofs.Common.{◌≡◌, ◌⊎◌, inl, inr, ℕ, ◌<◌, Bool, true, false, not, ◌&&◌, ◌||◌, nat_le, List, [], ◌∷◌, ◌++◌, codes, map, drop, length, sum_by, All, None, refl}
 use Rattle.std.proofs.Common.{sym, ap, subst, ◌∙◌, append_assoc, length-append, arith}
 use Rattle.std.specs.List.{list_any, flat_map}
 use Rattle.std.specs.Option.{is_none}
@@ -10,23 +10,28 @@ use Rattle.std.proofs.lemmas.List.Concat.{flat_map-append}
 use Rattle.std.proofs.lemmas.List.Elements.{All-push}
 use Rattle.books_model.specs.Books.{ClearingBooks, put_cash, put_price, put_quantity, put_call}
 use Rattle.books_model.specs.Ranges.{AreInRange, IsScriptFor, IsOperationFor}
-use Rattle.books_model.specs.declared.limits.TheConstants.{MOST_OPERATIONS}
+use Rattle.books_model.specs.declared.limits.TheConstants.{MOST_ALTERNATIVES, MOST_OPERATIONS}
 use Rattle.books_model.specs.declared.script.Op.{Op}
 use Rattle.books_model.specs.declared.script.Op.TheVariants as op
+use Rattle.books_model.specs.declared.script.Part.{Part}
+use Rattle.books_model.specs.declared.script.Part.TheVariants as part
+use Rattle.books_model.specs.Scripts.{operations_of, alternatives_in}
 use Rattle.script_reader.specs.declared.limits.TheConstants.{MOST_CALLERS, MOST_SCRIPTS}
 use Rattle.script_reader.specs.declared.fault.Fault.TheVariants as fault
 use Rattle.script_reader.specs.Lines.{word_at}
-use Rattle.script_reader.specs.Text.{operation_words}
-use Rattle.script_reader.specs.Inner.LinesAsWords.{books_words, submission_words, lines_so_far, lines_inside}
+use Rattle.script_reader.specs.Text.{operation_words, part_words}
+use Rattle.script_reader.specs.Inner.LinesAsWords.{Open, BetweenParts, InFirst, InSecond, parts_with, region_of, script_words, books_words, submission_words, lines_so_far, lines_inside}
 use Rattle.script_reader.specs.Input.{Submission, AreCallersFor, callers_of, first_seen, count_scripts, scripts_by, is_name, IsName}
 use Rattle.script_reader.specs.Inner.Callers.{is_caller}
-use Rattle.script_reader.specs.Forms.{Words, script_forms, form_of, ranges_of, is_only, is_script_line, value_of, are_numbers, are_in_range}
-use Rattle.script_reader.specs.Faults.{AreFaultless, fault_of}
+use Rattle.script_reader.specs.Forms.{Words, Region, script_forms, turning_forms, form_of, ranges_of, is_only, is_script_line, value_of, are_numbers, are_in_range}
+use Rattle.script_reader.specs.Faults.{AreFaultless, fault_of, is_too_many}
 use Rattle.script_reader.proofs.Conditions.{both, passed, neither, any_last}
 use Rattle.script_reader.proofs.Printing.Printed.{books_fault_is, fault_at}
-use Rattle.script_reader.proofs.Printing.Scripted.{ended, opened, in_books, is_beyond_at, outside_at, outside_fault_is, inside_at, inside_fault_is}
+use Rattle.script_reader.proofs.Printing.Scripted.{ended, opened, in_books, is_beyond_at, outside_at, outside_fault_is, inside_at, inside_fault_is, no_turning}
+use Rattle.script_reader.proofs.Printing.Opened.{parts_more, open_more, words_more, operations_more, alternatives_more, words_try, operations_try, alternatives_try, words_else}
+use Rattle.script_reader.proofs.Printing.Opened.{words_done, inside_more}
 use Rattle.script_reader.proofs.LineFaults.LineKinds.{none_applies, books_line, BooksLine, AccountLine, PriceLine, PositionLine, CallLine, ScriptsLine, line_words}
-use Rattle.script_reader.proofs.LineFaults.LineKinds.{one_word, behind_keyword, operation_line}
+use Rattle.script_reader.proofs.LineFaults.LineKinds.{IsOneOf, one_word, behind_keyword, operation_line, end_or_try, closing}
 use Rattle.script_reader.proofs.WithoutFault.BooksFaultless.{printed, printed_small, instruments_fit}
 use Rattle.script_reader.proofs.Grouped.Submitting.{callers_more, count-fold}
 use Rattle.script_reader.proofs.Grouped.Grouping.{callers_of-push, callers_of-gathered, no-names}
@@ -45,14 +50,15 @@ pub record Inside (lines : List Words) : Type 0 where
   pub books : ClearingBooks
   pub subs : List Submission
   pub name : List ℕ
-  pub ops : List Op
+  pub parts : List Part
+  pub stage : Open
   pub range : AreInRange books
   pub valid : AreCallersFor books (callers_of subs)
   pub is_name : IsName name
-  pub script : IsScriptFor books ops
+  pub script : IsScriptFor books (parts_with parts stage)
   pub room : count_scripts (callers_of subs) < MOST_SCRIPTS
   pub space : is_caller name (callers_of subs) ≡ false → length (callers_of subs) < MOST_CALLERS
-  pub lines_are : lines ≡ lines_inside books subs name ops
+  pub lines_are : lines ≡ lines_inside books subs name parts stage
 
 -- how far lines without fault go
 pub data IsReached (lines : List Words) : Type 0 where
@@ -126,11 +132,12 @@ outside_step lines words r none more =
       books = r.books;
       subs = r.subs;
       name = name.0;
-      ops = [];
+      parts = [];
+      stage = BetweenParts;
       range = r.range;
       valid = r.valid;
       is_name = named;
-      script = record { few = omega arith; each = λ k d less. absurd (omega arith) };
+      script = record { few = omega arith; few_alternatives = omega arith; each = λ k d less. absurd (omega arith) };
       room = omega (arith, scripts_counted r.subs, leb-false MOST_SCRIPTS (length r.subs) limits.0);
       space = λ new. omega (arith, callers_counted r.subs, leb-false MOST_CALLERS _ (right (sym (caller_named name.0 r.subs) ∙ new) limits.1));
       lines_are = (λ t. r.lines_are t ++ is t ∷ []);
@@ -158,74 +165,142 @@ operation_goes_on op.Next = refl
 operation_goes_on (op.Show a) = refl
 operation_goes_on (op.Sum a b) = refl
 
+-- an operation for which there is room
+operation_has_room : (count alternatives : ℕ) (o : Op) → is_too_many count alternatives (operation_words o) ≡ false → nat_le MOST_OPERATIONS count ≡ false
+operation_has_room count alternatives o room =
+    let limit = neither room in
+    sym (ap (λ b. not b && nat_le MOST_OPERATIONS count) (no_turning o)) ∙ limit.0
+
 -- the lines of a script that ends
-ended_more : (b : ClearingBooks) (subs : List Submission) (name : List ℕ) (ops : List Op)
-    → lines_inside b subs name ops ++ (codes "end" ∷ []) ∷ [] ≡ lines_so_far b (subs ++ record { caller = name; script = ops } ∷ [])
-ended_more b subs name ops =
-    append_assoc (lines_so_far b subs) (opened name ops) ((codes "end" ∷ []) ∷ [])
-    ∙ append_assoc (books_words b) (ended subs) (opened name ops ++ (codes "end" ∷ []) ∷ [])
+ended_more : (b : ClearingBooks) (subs : List Submission) (name : List ℕ) (parts : List Part)
+    → lines_inside b subs name parts BetweenParts ++ (codes "end" ∷ []) ∷ [] ≡ lines_so_far b (subs ++ record { caller = name; script = parts } ∷ [])
+ended_more b subs name parts =
+    append_assoc (lines_so_far b subs) (opened name parts BetweenParts) ((codes "end" ∷ []) ∷ [])
+    ∙ append_assoc (books_words b) (ended subs) (opened name parts BetweenParts ++ (codes "end" ∷ []) ∷ [])
     ∙ ap (λ l. books_words b ++ ((codes "scripts" ∷ []) ∷ l)) (
-    ap (λ l. flat_map submission_words subs ++ l) (sym (append-nil (opened name ops ++ (codes "end" ∷ []) ∷ [])))
-    ∙ sym (flat_map-append submission_words subs (record { caller = name; script = ops } ∷ []))
+    ap (λ l. flat_map submission_words subs ++ ((codes "script" ∷ name ∷ []) ∷ (l ++ (codes "end" ∷ []) ∷ []))) (append-nil (flat_map part_words parts))
+    ∙ ap (λ l. flat_map submission_words subs ++ l) (sym (append-nil (submission_words (record { caller = name; script = parts }))))
+    ∙ sym (flat_map-append submission_words subs (record { caller = name; script = parts } ∷ []))
     )
 
 -- what is known of a line of a script to which no reason applies
-pub record HasNoFaultInside (instruments : ℕ) (ops : List Op) (words : Words) : Type 0 where
-  pub formed : is_none (form_of (script_forms instruments) words) ≡ false
+pub record HasNoFaultInside (region : Region) (instruments count alternatives : ℕ) (words : Words) : Type 0 where
+  pub formed : is_none (form_of (script_forms region instruments) words) ≡ false
   pub numbers : are_numbers (drop 1 words) ≡ true
-  pub ranges : are_in_range (drop 1 words) (ranges_of (form_of (script_forms instruments) words)) ≡ true
-  pub few : (not (is_only (codes "end") words) && nat_le MOST_OPERATIONS (length ops)) ≡ false
+  pub ranges : are_in_range (drop 1 words) (ranges_of (form_of (script_forms region instruments) words)) ≡ true
+  pub few : is_too_many count alternatives words ≡ false
 
-has_no_fault_inside : (instruments : ℕ) (ops : List Op) (words : Words) → inside_at instruments ops words ≡ None → HasNoFaultInside instruments ops words
-has_no_fault_inside instruments ops words none =
+has_no_fault_inside : (region : Region) (instruments count alternatives : ℕ) (words : Words)
+    → inside_at region instruments count alternatives words ≡ None → HasNoFaultInside region instruments count alternatives words
+has_no_fault_inside region instruments count alternatives words none =
     let n1 = none_applies _ fault.Word _ none in
     let n2 = none_applies _ fault.Number _ n1.1 in
     let n3 = none_applies _ fault.Limit _ n2.1 in
     let limit = neither n3.0 in
     record { formed = n1.0; numbers = passed n2.0; ranges = passed limit.0; few = limit.1 }
 
+-- a script that has not ended, with one more operation for which there is room
+operation_fits : (b : ClearingBooks) (parts : List Part) (stage : Open) (o : Op) → IsScriptFor b (parts_with parts stage) → IsOperationFor b o
+    → length (operations_of (parts_with parts stage)) < MOST_OPERATIONS
+    → IsScriptFor b (parts_with (parts_more parts stage o) (open_more stage o))
+operation_fits b parts stage o script fits room = record {
+  few = omega (arith, ap length (operations_more parts stage o), length-append (operations_of (parts_with parts stage)) (o ∷ []), room);
+  few_alternatives = omega (arith, alternatives_more parts stage o, script.few_alternatives);
+  each = subst (All (IsOperationFor b)) (sym (operations_more parts stage o))
+      (All-push (IsOperationFor b) (operations_of (parts_with parts stage)) o script.each fits);
+}
+
+-- the line that begins an alternative for which there is room
+try_fits : (b : ClearingBooks) (parts : List Part) → IsScriptFor b parts → sum_by alternatives_in parts < MOST_ALTERNATIVES
+    → IsScriptFor b (parts_with parts (InFirst []))
+try_fits b parts script room = record {
+  few = omega (arith, ap length (operations_try parts), script.few);
+  few_alternatives = omega (arith, alternatives_try parts, room);
+  each = subst (All (IsOperationFor b)) (sym (operations_try parts)) script.each;
+}
+
+module _ (lines : List Words) (words : Words) (r : Inside lines) (none : fault_of lines words ≡ None) where
+  -- no reason applies
+  no_reason : HasNoFaultInside (region_of r.stage) r.books.instruments (length (operations_of (parts_with r.parts r.stage)))
+      (sum_by alternatives_in (parts_with r.parts r.stage)) words
+  no_reason = has_no_fault_inside (region_of r.stage) r.books.instruments _ _ words
+      (sym (ap (λ l. fault_of l words) r.lines_are
+      ∙ inside_fault_is (printed r.books) r.subs r.name r.parts r.stage words (printed_small r.books r.range)) ∙ none)
+
+  -- the script goes on with this line
+  goes_on_with : (parts : List Part) (stage : Open) (these : Words) → words ≡ these → IsScriptFor r.books (parts_with parts stage)
+      → script_words parts stage ≡ script_words r.parts r.stage ++ these ∷ [] → IsReached (lines ++ words ∷ [])
+  goes_on_with parts stage these is script more = WithinScript (record {
+    books = r.books;
+    subs = r.subs;
+    name = r.name;
+    parts = parts;
+    stage = stage;
+    range = r.range;
+    valid = r.valid;
+    is_name = r.is_name;
+    script = script;
+    room = r.room;
+    space = r.space;
+    lines_are = (λ t. r.lines_are t ++ is t ∷ []) ∙ sym (inside_more r.books r.subs r.name r.parts parts r.stage stage (these ∷ []) more);
+  })
+
+  -- it goes on with an operation
+  with_operation : (o : Op) → IsOperationFor r.books o → words ≡ operation_words o → IsReached (lines ++ words ∷ [])
+  with_operation o fits is =
+      let room : nat_le MOST_OPERATIONS (length (operations_of (parts_with r.parts r.stage))) ≡ false =
+      operation_has_room _ _ o (ap (is_too_many (length (operations_of (parts_with r.parts r.stage))) (sum_by alternatives_in (parts_with r.parts r.stage))) (sym is)
+      ∙ no_reason.few) in
+      goes_on_with (parts_more r.parts r.stage o) (open_more r.stage o) (operation_words o) is
+      (operation_fits r.books r.parts r.stage o r.script fits (leb-false MOST_OPERATIONS _ room)) (words_more r.parts r.stage o)
+
 -- a line of a script
 within_step : (lines : List Words) (words : Words) → (r : Inside lines) → fault_of lines words ≡ None → IsReached (lines ++ words ∷ [])
-within_step lines words r none = by (operation_line r.books words (instruments_fit r.books r.range) n.formed n.numbers n.ranges)
+within_step lines words r none = by r.stage refl
   where
-    at : inside_at r.books.instruments r.ops words ≡ None
-    at = sym (ap (λ l. fault_of l words) r.lines_are ∙ inside_fault_is (printed r.books) r.subs r.name r.ops words (printed_small r.books r.range)) ∙ none
+    n : HasNoFaultInside (region_of r.stage) r.books.instruments (length (operations_of (parts_with r.parts r.stage)))
+        (sum_by alternatives_in (parts_with r.parts r.stage)) words
+    n = no_reason lines words r none
 
-    n : HasNoFaultInside r.books.instruments r.ops words
-    n = has_no_fault_inside r.books.instruments r.ops words at
+    line_is : IsOneOf (turning_forms (region_of r.stage)) words ⊎ ((o : Op) × IsOperationFor r.books o × (words ≡ operation_words o))
+    line_is = operation_line r.books (turning_forms (region_of r.stage)) words (instruments_fit r.books r.range) n.formed n.numbers n.ranges
 
     s : Submission
-    s = record { caller = r.name; script = r.ops }
+    s = record { caller = r.name; script = r.parts }
 
-    by : (words ≡ codes "end" ∷ []) ⊎ ((o : Op) × IsOperationFor r.books o × (words ≡ operation_words o)) → IsReached (lines ++ words ∷ [])
-    by (inl e) = Outside (record {
-      books = r.books;
-      subs = r.subs ++ s ∷ [];
-      range = r.range;
-      valid = subst (AreCallersFor r.books) (sym (callers_of-push r.subs s))
-          (callers_more r.books (callers_of r.subs) s r.valid r.is_name r.script r.room r.space);
-      lines_are = (λ t. r.lines_are t ++ e t ∷ []) ∙ ended_more r.books r.subs r.name r.ops;
-    })
-    by (inr o) = WithinScript (record {
-      books = r.books;
-      subs = r.subs;
-      name = r.name;
-      ops = r.ops ++ o.0 ∷ [];
-      range = r.range;
-      valid = r.valid;
-      is_name = r.is_name;
-      script = record {
-        few =
-            let room : nat_le MOST_OPERATIONS (length r.ops) ≡ false =
-            sym (ap (λ c. not c && nat_le MOST_OPERATIONS (length r.ops)) (ap (is_only (codes "end")) o.2 ∙ operation_goes_on o.0)) ∙ n.few in
-            omega (arith, leb-false MOST_OPERATIONS (length r.ops) room, length-append r.ops (o.0 ∷ []));
-        each = All-push (IsOperationFor r.books) r.ops o.0 r.script.each o.1;
-      };
-      room = r.room;
-      space = r.space;
-      lines_are = (λ t. r.lines_are t ++ o.2 t ∷ []) ∙ append_assoc (lines_so_far r.books r.subs) (opened r.name r.ops) (operation_words o.0 ∷ [])
-          ∙ ap (λ l. lines_so_far r.books r.subs ++ ((codes "script" ∷ r.name ∷ []) ∷ l)) (sym (map-append operation_words r.ops (o.0 ∷ [])));
-    })
+    at : (stage : Open) → r.stage ≡ stage → script_words r.parts r.stage ≡ script_words r.parts stage
+    at stage is = ap (script_words r.parts) is
+
+    by : (stage : Open) → r.stage ≡ stage → IsReached (lines ++ words ∷ [])
+    by stage is = turn stage is (subst (λ o. IsOneOf (turning_forms (region_of o)) words ⊎ ((o : Op) × IsOperationFor r.books o × (words ≡ operation_words o))) is line_is)
+      where
+        turn : (stage : Open) → r.stage ≡ stage
+            → IsOneOf (turning_forms (region_of stage)) words ⊎ ((o : Op) × IsOperationFor r.books o × (words ≡ operation_words o)) → IsReached (lines ++ words ∷ [])
+        turn stage is (inr o) = with_operation lines words r none o.0 o.1 o.2
+        turn BetweenParts is (inl turns) = elim (end_or_try words turns) [
+          | inl e ↦ Outside (record {
+            books = r.books;
+            subs = r.subs ++ s ∷ [];
+            range = r.range;
+            valid = subst (AreCallersFor r.books) (sym (callers_of-push r.subs s))
+                (callers_more r.books (callers_of r.subs) s r.valid r.is_name (subst (λ o. IsScriptFor r.books (parts_with r.parts o)) is r.script) r.room r.space);
+            lines_are = (λ t. r.lines_are t ++ e t ∷ [])
+                ∙ ap (λ o. lines_inside r.books r.subs r.name r.parts o ++ (codes "end" ∷ []) ∷ []) is ∙ ended_more r.books r.subs r.name r.parts;
+          })
+          | inr e ↦ goes_on_with lines words r none r.parts (InFirst []) (codes "try" ∷ []) e
+              (try_fits r.books r.parts (subst (λ o. IsScriptFor r.books (parts_with r.parts o)) is r.script)
+              (leb-false MOST_ALTERNATIVES _ (sym (ap (λ w. is_too_many (length (operations_of r.parts)) (sum_by alternatives_in r.parts) w) e)
+              ∙ ap (λ o. is_too_many (length (operations_of (parts_with r.parts o))) (sum_by alternatives_in (parts_with r.parts o)) words) (sym is) ∙ n.few)))
+              (words_try r.parts ∙ ap (λ l. l ++ (codes "try" ∷ []) ∷ []) (sym (at BetweenParts is)))
+        ]
+        turn (InFirst first) is (inl turns) =
+            goes_on_with lines words r none r.parts (InSecond first []) (codes "else" ∷ []) (closing (codes "else") words turns)
+            (subst (λ o. IsScriptFor r.books (parts_with r.parts o)) is r.script)
+            (words_else r.parts first ∙ ap (λ l. l ++ (codes "else" ∷ []) ∷ []) (sym (at (InFirst first) is)))
+        turn (InSecond first second) is (inl turns) =
+            goes_on_with lines words r none (r.parts ++ part.Either first second ∷ []) BetweenParts (codes "done" ∷ []) (closing (codes "done") words turns)
+            (subst (λ o. IsScriptFor r.books (parts_with r.parts o)) is r.script)
+            (words_done r.parts first second ∙ ap (λ l. l ++ (codes "done" ∷ []) ∷ []) (sym (at (InSecond first second) is)))
 
 -- one more line without fault
 pub reach : (lines : List Words) (words : Words) → IsReached lines → fault_of lines words ≡ None

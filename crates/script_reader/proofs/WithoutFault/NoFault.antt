@@ -4,14 +4,14 @@ use Rattle.std.proofs.Common.{length, Some, None, refl, sym, ap, subst, ◌∙�
 use Rattle.std.specs.List.{list_any, AllByRecursion}
 use Rattle.std.proofs.lemmas.Bool.{le-leb, lt-leb, lt-ltb}
 use Rattle.script_reader.specs.Inner.Rows.{account_ranges, price_ranges, position_ranges, call_ranges}
-use Rattle.books_model.specs.declared.limits.TheConstants.{MOST_OPERATIONS, GREATEST_RATE}
+use Rattle.books_model.specs.declared.limits.TheConstants.{MOST_ALTERNATIVES, MOST_OPERATIONS, GREATEST_RATE}
 use Rattle.books_model.specs.Ranges.{IsWithin, IsOperationFor}
 use Rattle.books_model.specs.Books.{ClearingBooks}
 use Rattle.books_model.specs.declared.script.Op.{Op}
 use Rattle.books_model.specs.declared.script.Op.TheVariants as op
 use Rattle.script_reader.specs.declared.fault.Fault.TheVariants as fault
 use Rattle.script_reader.specs.Text.{number, account_words, price_words, position_words, call_words, operation_words}
-use Rattle.script_reader.specs.Forms.{value_of, are_numbers, are_in_range, accounts, amounts, quantities}
+use Rattle.script_reader.specs.Forms.{Region, InScript, value_of, are_numbers, are_in_range, accounts, amounts, quantities}
 use Rattle.script_reader.specs.Faults.{first_reason, is_below, fault_of}
 use Rattle.script_reader.proofs.Tokens.Numerals.{value_of_number, number-IsNumber}
 use Rattle.script_reader.proofs.Conditions.{and_true, or_false, is_some_list}
@@ -171,20 +171,25 @@ module _ (p : Printed) (small : IsSmall p) where
   pub scripts_has_none : fault_of (print p) (codes "scripts" ∷ []) ≡ None
   scripts_has_none = in_books p (codes "scripts" ∷ []) ∙ books_fault_is p (codes "scripts" ∷ []) small
 
-module _ (books : ClearingBooks) (fits : books.instruments < 2 ^ 64) (ops : List Op) (full : Bool) (is_full : nat_le MOST_OPERATIONS (length ops) ≡ full) where
+module _ (books : ClearingBooks) (fits : books.instruments < 2 ^ 64) (region : Region) (count alternatives : ℕ) (full : Bool)
+    (is_full : nat_le MOST_OPERATIONS count ≡ full) where
   -- a line with numbers in their ranges, behind operations
   row : (ns : List ℕ) (ranges : List (ℕ × ℕ)) → length ns ≡ length ranges → AreWithin ns ranges
       → first_reason ((false, fault.Word) ∷ (not (are_numbers (map number ns)), fault.Number)
-      ∷ (not (are_in_range (map number ns) ranges) || nat_le MOST_OPERATIONS (length ops), fault.Limit) ∷ []) ≡ (if full then Some fault.Limit else None)
-  row ns ranges e within i = first_reason (
+      ∷ (not (are_in_range (map number ns) ranges) || (nat_le MOST_OPERATIONS count || false), fault.Limit) ∷ []) ≡ (if full then Some fault.Limit else None)
+  row ns ranges e within = (λ i. first_reason (
       (false, fault.Word)
       ∷ (not (texts_are_numbers ns ranges e within i), fault.Number)
-      ∷ (not (texts_are_in_range ns ranges within i) || is_full i, fault.Limit)
+      ∷ (not (texts_are_in_range ns ranges within i) || (is_full i || false), fault.Limit)
       ∷ []
-      )
+      )) ∙ limit_of full
+    where
+      limit_of : (b : Bool) → first_reason ((false, fault.Word) ∷ (false, fault.Number) ∷ (b || false, fault.Limit) ∷ []) ≡ (if b then Some fault.Limit else None)
+      limit_of true = refl
+      limit_of false = refl
 
   -- an operation has no fault, unless there are too many before it
-  pub operation_fault : (o : Op) → IsOperationFor books o → inside_at books.instruments ops (operation_words o) ≡ (if full then Some fault.Limit else None)
+  pub operation_fault : (o : Op) → IsOperationFor books o → inside_at region books.instruments count alternatives (operation_words o) ≡ (if full then Some fault.Limit else None)
   operation_fault (op.OpenAccount a) h = row (a ∷ []) (accounts ∷ []) refl (h, lit< tt, tt)
   operation_fault (op.Close a) h = row (a ∷ []) (accounts ∷ []) refl (h, lit< tt, tt)
   operation_fault (op.Deposit a x) h = row (a ∷ x ∷ []) (accounts ∷ amounts ∷ []) refl (h.0, lit< tt, (h.1, lit< tt, tt))
@@ -200,10 +205,12 @@ module _ (books : ClearingBooks) (fits : books.instruments < 2 ^ 64) (ops : List
   operation_fault (op.Show a) h = row (a ∷ []) (accounts ∷ []) refl (h, lit< tt, tt)
   operation_fault (op.Sum a b) h = row (a ∷ b ∷ []) (accounts ∷ accounts ∷ []) refl (h.0, lit< tt, (h.1, lit< tt, tt))
 
-pub operation_has_none : (books : ClearingBooks) → books.instruments < 2 ^ 64 → (ops : List Op)
-    → length ops < MOST_OPERATIONS → (o : Op) → IsOperationFor books o → inside_at books.instruments ops (operation_words o) ≡ None
-operation_has_none books fits ops room = operation_fault books fits ops false (lt-leb MOST_OPERATIONS (length ops) room)
+pub operation_has_none : (books : ClearingBooks) → books.instruments < 2 ^ 64 → (region : Region) (count alternatives : ℕ)
+    → count < MOST_OPERATIONS → (o : Op) → IsOperationFor books o → inside_at region books.instruments count alternatives (operation_words o) ≡ None
+operation_has_none books fits region count alternatives room =
+    operation_fault books fits region count alternatives false (lt-leb MOST_OPERATIONS count room)
 
--- the line that ends a script
-pub end_has_none : (instruments : ℕ) (ops : List Op) → inside_at instruments ops (codes "end" ∷ []) ≡ None
-end_has_none instruments ops = refl
+-- the line that begins an alternative, unless there are too many before it
+pub try_fault : (instruments count alternatives : ℕ) (full : Bool) → nat_le MOST_ALTERNATIVES alternatives ≡ full
+    → inside_at InScript instruments count alternatives (codes "try" ∷ []) ≡ (if full then Some fault.Limit else None)
+try_fault instruments count alternatives full is_full i = if is_full i then Some fault.Limit else None

@@ -1,30 +1,35 @@
 -- The lines of scripts have no fault.
 use Rattle.std.proofs.Common.{lit<, ◌≡◌, ℕ, ◌+◌, ◌<◌, ◌≤◌, ◌^◌, Bool, true, false, not, ◌&&◌, ◌||◌, nat_le, if◌then◌else◌, List, [], ◌∷◌, ◌++◌, codes, map}
-use Rattle.std.proofs.Common.{fold, length, refl, sym, ap, subst, ◌∙◌, append_assoc, length-append, arith}
+use Rattle.std.proofs.Common.{All, sum_by, None, fold, length, refl, sym, ap, subst, ◌∙◌, append_assoc, length-append, arith}
 use Rattle.std.specs.List.{list_any, flat_map, AllByRecursion}
 use Rattle.std.specs.Str.{bytes_eq}
 use Rattle.std.proofs.lemmas.Bool.{lt-leb}
 use Rattle.std.proofs.lemmas.List.{append-nil, map-append, length-map}
 use Rattle.std.proofs.lemmas.List.Concat.{flat_map-append}
 use Rattle.std.proofs.lemmas.List.Elements.{recursion_from_All}
-use Rattle.std.proofs.lemmas.List.Sums.{fold-append}
+use Rattle.std.proofs.lemmas.List.Sums.{fold-append, sum_by-append, sum_by-cons}
 use Rattle.script_reader.specs.Inner.Rows.{price_ranges}
 use Rattle.books_model.specs.Books.{ClearingBooks}
 use Rattle.books_model.specs.Ranges.{AreInRange, IsOperationFor}
-use Rattle.books_model.specs.declared.limits.TheConstants.{MOST_OPERATIONS, GREATEST_RATE}
+use Rattle.books_model.specs.declared.limits.TheConstants.{MOST_ALTERNATIVES, MOST_OPERATIONS, GREATEST_RATE}
 use Rattle.books_model.specs.declared.script.Op.{Op}
 use Rattle.books_model.specs.declared.script.Op.TheVariants as op
+use Rattle.books_model.specs.declared.script.Part.{Part}
+use Rattle.books_model.specs.declared.script.Part.TheVariants as part
+use Rattle.books_model.specs.Scripts.{operations_in, operations_of, alternatives_in}
+use Rattle.books_model.proofs.Scripts.Branches.{All-front, All-back}
 use Rattle.script_reader.specs.declared.limits.TheConstants.{MOST_CALLERS, MOST_SCRIPTS}
 use Rattle.script_reader.specs.declared.fault.Fault.TheVariants as fault
-use Rattle.script_reader.specs.Lines.{AreWords}
-use Rattle.script_reader.specs.Text.{operation_words}
-use Rattle.script_reader.specs.Inner.LinesAsWords.{books_words, submission_words, lines_so_far, lines_inside}
+use Rattle.script_reader.specs.Lines.{AreWords, IsWord}
+use Rattle.script_reader.specs.Text.{operation_words, part_words}
+use Rattle.script_reader.specs.Inner.LinesAsWords.{Open, BetweenParts, InFirst, InSecond, parts_with, region_of, script_words, books_words, submission_words, lines_so_far, lines_inside}
 use Rattle.script_reader.specs.Input.{Submission, AreCallersFor, add_name, callers_of, first_seen, count_scripts}
 use Rattle.script_reader.specs.Forms.{Words, is_only, accounts, amounts, quantities}
 use Rattle.script_reader.specs.Faults.{first_reason, AreFaultless}
 use Rattle.script_reader.proofs.Tokens.Cutting.{word_from_test}
-use Rattle.script_reader.proofs.Printing.Scripted.{ended, opened, is_beyond_at, outside_fault_is, inside_fault_is}
-use Rattle.script_reader.proofs.WithoutFault.NoFault.{operation_has_none, end_has_none, scripts_has_none}
+use Rattle.script_reader.proofs.Printing.Scripted.{ended, is_beyond_at, outside_fault_is, inside_at, inside_fault_is}
+use Rattle.script_reader.proofs.Printing.Opened.{parts_more, open_more, words_more, operations_more, words_try, operations_try, words_else, inside_more, rest_of_branch, first_count}
+use Rattle.script_reader.proofs.WithoutFault.NoFault.{operation_has_none, try_fault, scripts_has_none}
 use Rattle.script_reader.proofs.WithoutFault.Faultless.{faultless_append, row_are_words}
 use Rattle.script_reader.proofs.WithoutFault.BooksFaultless.{printed, printed_small, instruments_fit, books_faultless}
 use Rattle.script_reader.proofs.Grouped.Submitting.{IsGoodScript, scripts_are_good, caller-AreWords, count-fold}
@@ -92,21 +97,84 @@ module _ (b : ClearingBooks) (range : AreInRange b) where
   before subs = books_words b ++ ended subs
 
   -- operations, behind those of an open script
-  pub operations_faultless : (subs : List Submission) (name : List ℕ) (done rest : List Op)
-      → AllByRecursion (IsOperationFor b) rest → length done + length rest ≤ MOST_OPERATIONS
-      → AreFaultless (lines_inside b subs name done) (map operation_words rest)
-  operations_faultless subs name done [] all room = tt
-  operations_faultless subs name done (o ∷ rest) all room =
-      let more : lines_inside b subs name done ++ operation_words o ∷ [] ≡ lines_inside b subs name (done ++ o ∷ []) =
-      append_assoc (lines_so_far b subs) (opened name done) (operation_words o ∷ [])
-      ∙ ap (λ l. lines_so_far b subs ++ ((codes "script" ∷ name ∷ []) ∷ l)) (sym (map-append operation_words done (o ∷ []))) in (
-        operation-AreWords b (instruments_fit b range) o all.0,
-        inside_fault_is (printed b) subs name done (operation_words o) (printed_small b range)
-            ∙ operation_has_none b (instruments_fit b range) done (omega (arith, room)) o all.0,
-        operation_unfinished o,
-        subst (λ ls. AreFaultless ls (map operation_words rest)) (sym more)
-            (operations_faultless subs name (done ++ o ∷ []) rest all.1 (omega (arith, room, length-append done (o ∷ [])))),
-      )
+  pub operations_faultless : (subs : List Submission) (name : List ℕ) (parts : List Part) (stage : Open) (rest : List Op)
+      → AllByRecursion (IsOperationFor b) rest → length (operations_of (parts_with parts stage)) + length rest ≤ MOST_OPERATIONS
+      → AreFaultless (lines_inside b subs name parts stage) (map operation_words rest)
+  operations_faultless subs name parts stage [] all room = tt
+  operations_faultless subs name parts stage (o ∷ rest) all room = (
+    operation-AreWords b (instruments_fit b range) o all.0,
+    inside_fault_is (printed b) subs name parts stage (operation_words o) (printed_small b range)
+        ∙ operation_has_none b (instruments_fit b range) (region_of stage) (length (operations_of (parts_with parts stage))) _ (omega (arith, room)) o all.0,
+    operation_unfinished o,
+    subst (λ ls. AreFaultless ls (map operation_words rest))
+        (inside_more b subs name parts (parts_more parts stage o) stage (open_more stage o) (operation_words o ∷ []) (words_more parts stage o))
+        (operations_faultless subs name (parts_more parts stage o) (open_more stage o) rest all.1
+        (omega (arith, room, ap length (operations_more parts stage o), length-append (operations_of (parts_with parts stage)) (o ∷ [])))),
+  )
+
+  -- a line of one word of a script that turns it
+  pub turning_faultless : (subs : List Submission) (name : List ℕ) (parts : List Part) (stage : Open) (word : List ℕ)
+      → IsWord word → is_only (codes "finish") (word ∷ []) ≡ false
+      → inside_at (region_of stage) b.instruments (length (operations_of (parts_with parts stage))) (sum_by alternatives_in (parts_with parts stage)) (word ∷ []) ≡ None
+      → AreFaultless (lines_inside b subs name parts stage) ((word ∷ []) ∷ [])
+  turning_faultless subs name parts stage word is more none = (
+    record { some = omega arith; each = (is, tt) },
+    inside_fault_is (printed b) subs name parts stage (word ∷ []) (printed_small b range) ∙ none,
+    more,
+    tt,
+  )
+
+  -- a part behind others
+  part_faultless : (subs : List Submission) (name : List ℕ) (parts : List Part) (p : Part)
+      → All (IsOperationFor b) (operations_in p) → length (operations_of parts) + length (operations_in p) ≤ MOST_OPERATIONS
+      → sum_by alternatives_in parts + alternatives_in p ≤ MOST_ALTERNATIVES
+      → AreFaultless (lines_inside b subs name parts BetweenParts) (part_words p)
+  part_faultless subs name parts (part.One o) all room few =
+      operations_faultless subs name parts BetweenParts (o ∷ []) (recursion_from_All (IsOperationFor b) (o ∷ []) all) (omega (arith, room))
+  part_faultless subs name parts (part.Either first second) all room few =
+      let start = lines_inside b subs name parts BetweenParts in
+      let long = length-append first second in
+      let begun = inside_more b subs name parts parts BetweenParts (InFirst []) ((codes "try" ∷ []) ∷ []) (words_try parts) in
+      let branch = inside_more b subs name parts parts (InFirst []) (InFirst first) (map operation_words first) (rest_of_branch parts first second).0 in
+      let turned = inside_more b subs name parts parts (InFirst first) (InSecond first []) ((codes "else" ∷ []) ∷ []) (words_else parts first) in
+      let other = inside_more b subs name parts parts (InSecond first []) (InSecond first second) (map operation_words second) (rest_of_branch parts first second).1 in
+      let count = first_count parts first in
+      faultless_append start ((codes "try" ∷ []) ∷ []) (map operation_words first ++ ((codes "else" ∷ []) ∷ (map operation_words second ++ (codes "done" ∷ []) ∷ [])))
+      (turning_faultless subs name parts BetweenParts (codes "try") (word_from_test (codes "try") refl) refl
+      (try_fault b.instruments (length (operations_of parts)) (sum_by alternatives_in parts) false (lt-leb MOST_ALTERNATIVES (sum_by alternatives_in parts) (omega (arith, few)))))
+      (subst (λ ls. AreFaultless ls (map operation_words first ++ ((codes "else" ∷ []) ∷ (map operation_words second ++ (codes "done" ∷ []) ∷ [])))) begun
+      (faultless_append (lines_inside b subs name parts (InFirst [])) (map operation_words first) ((codes "else" ∷ []) ∷ (map operation_words second ++ (codes "done" ∷ []) ∷ []))
+      (operations_faultless subs name parts (InFirst []) first
+      (recursion_from_All (IsOperationFor b) first (All-front (IsOperationFor b) first second all)) (omega (arith, room, ap length (operations_try parts), long)))
+      (subst (λ ls. AreFaultless ls ((codes "else" ∷ []) ∷ (map operation_words second ++ (codes "done" ∷ []) ∷ []))) branch
+      (faultless_append (lines_inside b subs name parts (InFirst first)) ((codes "else" ∷ []) ∷ []) (map operation_words second ++ (codes "done" ∷ []) ∷ [])
+      (turning_faultless subs name parts (InFirst first) (codes "else") (word_from_test (codes "else") refl) refl refl)
+      (subst (λ ls. AreFaultless ls (map operation_words second ++ (codes "done" ∷ []) ∷ [])) turned
+      (faultless_append (lines_inside b subs name parts (InSecond first [])) (map operation_words second) ((codes "done" ∷ []) ∷ [])
+      (operations_faultless subs name parts (InSecond first []) second
+      (recursion_from_All (IsOperationFor b) second (All-back (IsOperationFor b) first second all)) (omega (arith, room, count, long)))
+      (subst (λ ls. AreFaultless ls ((codes "done" ∷ []) ∷ [])) other
+      (turning_faultless subs name parts (InSecond first second) (codes "done") (word_from_test (codes "done") refl) refl refl))))))))
+
+  -- parts behind others
+  pub parts_faultless : (subs : List Submission) (name : List ℕ) (done rest : List Part)
+      → All (IsOperationFor b) (operations_of rest) → length (operations_of done) + length (operations_of rest) ≤ MOST_OPERATIONS
+      → sum_by alternatives_in done + sum_by alternatives_in rest ≤ MOST_ALTERNATIVES
+      → AreFaultless (lines_inside b subs name done BetweenParts) (flat_map part_words rest)
+  parts_faultless subs name done [] all room few = tt
+  parts_faultless subs name done (p ∷ rest) all room few =
+      let one : flat_map part_words (p ∷ []) ≡ part_words p = append-nil (part_words p) in
+      let more : script_words (done ++ p ∷ []) BetweenParts ≡ script_words done BetweenParts ++ part_words p =
+      append-nil (flat_map part_words (done ++ p ∷ [])) ∙ flat_map-append part_words done (p ∷ [])
+      ∙ (λ i. sym (append-nil (flat_map part_words done)) i ++ one i) in
+      let long = length-append (operations_in p) (operations_of rest) in
+      let counted = sum_by-cons alternatives_in p rest in
+      faultless_append (lines_inside b subs name done BetweenParts) (part_words p) (flat_map part_words rest)
+      (part_faultless subs name done p (All-front (IsOperationFor b) (operations_in p) (operations_of rest) all) (omega (arith, room, long)) (omega (arith, few, counted)))
+      (subst (λ ls. AreFaultless ls (flat_map part_words rest)) (inside_more b subs name done (done ++ p ∷ []) BetweenParts BetweenParts (part_words p) more)
+      (parts_faultless subs name (done ++ p ∷ []) rest (All-back (IsOperationFor b) (operations_in p) (operations_of rest) all)
+      (omega (arith, room, long, ap length (flat_map-append operations_in done (p ∷ [])), length-append (operations_of done) (operations_in p ++ []), length-append (operations_in p) []))
+      (omega (arith, few, counted, sum_by-append alternatives_in done (p ∷ [])))))
 
   -- the names of the callers of scripts
   names_of : List Submission → List (List ℕ)
@@ -142,15 +210,11 @@ module _ (b : ClearingBooks) (range : AreInRange b) where
     outside_fault_is (printed b) done (codes "script" ∷ s.caller ∷ [])
         ∙ (λ i. first_reason ((not (false || good.name i), fault.Word) ∷ (good.name i && not_beyond done rest s room space i, fault.Limit) ∷ [])),
     refl,
-    faultless_append (lines_inside b done s.caller []) (map operation_words s.script) ((codes "end" ∷ []) ∷ [])
-        (operations_faultless done s.caller [] s.script (recursion_from_All (IsOperationFor b) s.script good.script.each) (omega (arith, good.script.few)))
+    faultless_append (lines_inside b done s.caller [] BetweenParts) (flat_map part_words s.script) ((codes "end" ∷ []) ∷ [])
+        (parts_faultless done s.caller [] s.script good.script.each (omega (arith, good.script.few)) (omega (arith, good.script.few_alternatives)))
         (subst (λ ls. AreFaultless ls ((codes "end" ∷ []) ∷ []))
-        (sym (append_assoc (lines_so_far b done) ((codes "script" ∷ s.caller ∷ []) ∷ []) (map operation_words s.script))) (
-          record { some = omega arith; each = (word_from_test (codes "end") refl, tt) },
-          inside_fault_is (printed b) done s.caller s.script (codes "end" ∷ []) (printed_small b range) ∙ end_has_none b.instruments s.script,
-          refl,
-          tt,
-        )),
+        (inside_more b done s.caller [] s.script BetweenParts BetweenParts (flat_map part_words s.script) (append-nil (flat_map part_words s.script)))
+        (turning_faultless done s.caller s.script BetweenParts (codes "end") (word_from_test (codes "end") refl) refl refl)),
   )
 
   pub submissions_faultless : (done rest : List Submission) → AllByRecursion (IsGoodScript b) rest

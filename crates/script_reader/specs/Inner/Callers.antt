@@ -3,12 +3,12 @@ use Rattle.std.specs.Prelude.{◌≡◌, ℕ, Bool, List, [], ◌∷◌, ◌++�
 use Rattle.std.specs.List.{list_any}
 use Rattle.std.specs.Str.{bytes_eq}
 use Rattle.std.specs.String.{string_bytes}
-use Rattle.books_model.specs.declared.script.Op.{Op}
+use Rattle.books_model.specs.declared.script.Part.{Part}
 use Rattle.script_reader.specs.declared.callers.Callers.{Callers}
 use Rattle.script_reader.specs.Input.{Caller, Submission, count_scripts}
 
 -- names beside scripts, as callers
-abbrev pub beside : List (List ℕ) → List (List (List Op)) → List Caller
+abbrev pub beside : List (List ℕ) → List (List (List Part)) → List Caller
 beside [] scripts = []
 beside (name ∷ names) [] = []
 beside (name ∷ names) (scripts ∷ others) = record { name = name; scripts = scripts } ∷ beside names others

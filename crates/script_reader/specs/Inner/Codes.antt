@@ -1,16 +1,16 @@
 -- How inputs are stored.
 use Rattle.std.specs.Prelude.{ℕ, List, refl}
 use Rattle.std.specs.Coded.{Coded, code_by, coded×, coded_ℕ, coded_list}
-use Rattle.books_model.specs.declared.script.Op.{Op}
-use Rattle.books_model.specs.contracts.script.Op as operation
+use Rattle.books_model.specs.declared.script.Part.{Part}
+use Rattle.books_model.specs.contracts.script.Part as part
 use Rattle.books_model.specs.Books.{ClearingBooks}
 use Rattle.books_model.specs.Inner.Codes.{books_code}
 use Rattle.script_reader.specs.Input.{Caller, ClearingInput}
 
 -- an input is stored as its books and, for each caller, the pair of its parts
 abbrev pub caller_code : Coded Caller
-caller_code = code_by (List ℕ × List (List Op))
-    (coded× (coded_list coded_ℕ) (coded_list (coded_list operation.the_row.coded))) (λ c. (c.name, c.scripts))
+caller_code = code_by (List ℕ × List (List Part))
+    (coded× (coded_list coded_ℕ) (coded_list (coded_list part.the_row.coded))) (λ c. (c.name, c.scripts))
     (λ p. record { name = p.0; scripts = p.1 }) (λ _. refl)
 
 abbrev pub input_code : Coded ClearingInput

@@ -4,7 +4,7 @@ use Rattle.std.specs.List.{flat_map}
 use Rattle.books_model.specs.Books.{ClearingBooks}
 use Rattle.books_model.specs.Ranges.{IsScriptFor}
 use Rattle.script_reader.specs.declared.limits.TheConstants.{MOST_CALLERS, MOST_SCRIPTS}
-use Rattle.script_reader.specs.Text.{operation_lines, end_line, finish_line}
+use Rattle.script_reader.specs.Text.{script_lines, end_line, finish_line}
 use Rattle.script_reader.specs.Input.{Caller, ClearingInput, Submission, AreCallersFor, IsName, callers_of, count_scripts}
 use Rattle.script_reader.specs.Inner.Callers.{is_caller, add_submission}
 use Rattle.script_reader.specs.Grammar.{Spells, submission_lines}
@@ -33,5 +33,5 @@ pub record IsAdded (books : ClearingBooks) (words : List (List ℕ)) (callers mo
   pub room : (nat_le MOST_SCRIPTS (count_scripts callers)
       || (not (is_caller submission.caller callers) && nat_le MOST_CALLERS (length callers))) ≡ false
   pub valid : IsScriptFor books submission.script
-  pub text : before ≡ operation_lines submission.script ++ (end_line ++ after)
+  pub text : before ≡ script_lines submission.script ++ (end_line ++ after)
   pub made : more ≡ add_submission callers submission

@@ -1,6 +1,6 @@
 use Rattle.std.proofs.Common.{lit<, ◌≡◌, ◌∷◌, [], codes, Some, refl, subst, arith}
 use Rattle.std.proofs.lemmas.Result.{err_from_is_err_and}
-use Rattle.script_reader.specs.Forms.{script_forms, prices}
+use Rattle.script_reader.specs.Forms.{operation_forms, prices}
 use Rattle.script_reader.specs.Inner.Rows.{HasNumbers, numbers_fault}
 use Rattle.script_reader.proofs.WithoutFault.BooksFaultless.{instruments_fit}
 use Rattle.script_reader.proofs.LineFaults.Operating.{row_two}
@@ -10,7 +10,7 @@ use Rattle.script_reader.proofs.operations.price_of.Goals as goal
 pub returns-in_err-instrument-clause-err : goal.returns-in_err-instrument-clause-err
 returns-in_err-instrument-clause-err c =
     let p = err_from_is_err_and c.from_residual.result c.from_residual.ensures.1 in
-    rw (p.1, p.2) (two_wrong (script_forms c.args.books.now.instruments) c.args.words.now (codes "price") (
+    rw (p.1, p.2) (two_wrong (operation_forms c.args.books.now.instruments) c.args.words.now (codes "price") (
       1,
       c.args.books.now.instruments,
     ) prices _ (λ a b. refl) c.requires

@@ -1,6 +1,6 @@
 use Rattle.std.proofs.Common.{lit<, ◌≡◌, ◌∷◌, [], codes, Some, refl, sym, subst, ◌∙◌, arith}
 use Rattle.std.proofs.lemmas.Result.{err_from_is_err_and}
-use Rattle.script_reader.specs.Forms.{script_forms, accounts, quantities}
+use Rattle.script_reader.specs.Forms.{operation_forms, accounts, quantities}
 use Rattle.script_reader.specs.Inner.Rows.{HasNumbers, numbers_fault}
 use Rattle.script_reader.proofs.WithoutFault.BooksFaultless.{instruments_fit}
 use Rattle.script_reader.proofs.LineFaults.Operating.{row_four}
@@ -10,7 +10,7 @@ use Rattle.script_reader.proofs.operations.with_four_numbers.Goals as goal
 pub returns-in_err-buyer-clause-err : goal.returns-in_err-buyer-clause-err
 returns-in_err-buyer-clause-err c =
     let p = err_from_is_err_and c.from_residual.result c.from_residual.ensures.1 in
-    rw (p.1, p.2) (four_wrong (script_forms c.args.books.now.instruments) c.args.words.now (codes "trade") accounts accounts (1, c.args.books.now.instruments) quantities _ (λ a b d e. refl) (sym c.is_row.ensures ∙ c.if-is_row.true)
+    rw (p.1, p.2) (four_wrong (operation_forms c.args.books.now.instruments) c.args.words.now (codes "trade") accounts accounts (1, c.args.books.now.instruments) quantities _ (λ a b d e. refl) (sym c.is_row.ensures ∙ c.if-is_row.true)
     (subst (λ r. numbers_fault c.args.words.now (accounts ∷ accounts ∷ r ∷ quantities ∷ [])
     ≡ Some c.in_err-buyer.field-0.0) c.instruments_of.ensures.number c.in_err-buyer.ensures.err))
 
@@ -66,4 +66,3 @@ returns-clause-err c =
     (other_length (codes "next") 1 c.args.words.now (λ e. omega (arith, e, c.requires)))
     (other_length (codes "show") 2 c.args.words.now (λ e. omega (arith, e, c.requires)))
     (other_length (codes "sum") 3 c.args.words.now (λ e. omega (arith, e, c.requires)))
-    (other_length (codes "end") 1 c.args.words.now (λ e. omega (arith, e, c.requires)))

@@ -1,6 +1,6 @@
 use Rattle.std.proofs.Common.{lit<, codes, refl, sym, ◌∙◌, arith}
 use Rattle.std.proofs.lemmas.Result.{err_from_is_err_and}
-use Rattle.script_reader.specs.Forms.{script_forms, accounts}
+use Rattle.script_reader.specs.Forms.{operation_forms, accounts}
 use Rattle.script_reader.proofs.LineFaults.Operating.{row_one}
 use Rattle.script_reader.proofs.LineFaults.RowFaults.{other_length, unknown_word, one_wrong}
 use Rattle.script_reader.proofs.operations.with_one_number.Goals as goal
@@ -8,7 +8,7 @@ use Rattle.script_reader.proofs.operations.with_one_number.Goals as goal
 pub returns-in_err-account-clause-err : goal.returns-in_err-account-clause-err
 returns-in_err-account-clause-err c =
     let p = err_from_is_err_and c.from_residual.result c.from_residual.ensures.1 in
-    rw (p.1, p.2) (λ n. one_wrong (script_forms n) c.args.words.now (codes "open") accounts _ (λ a. refl)
+    rw (p.1, p.2) (λ n. one_wrong (operation_forms n) c.args.words.now (codes "open") accounts _ (λ a. refl)
     (sym c.is_row.ensures ∙ c.if-is_row.true) c.in_err-account.ensures.err)
 
 pub overflow_cast-result : goal.overflow_cast-result
@@ -23,7 +23,7 @@ returns-then-is_row-clause-found c books =
 pub returns-in_err-account-2-clause-err : goal.returns-in_err-account-2-clause-err
 returns-in_err-account-2-clause-err c =
     let p = err_from_is_err_and c.from_residual-in_err-account-2.result c.from_residual-in_err-account-2.ensures.1 in
-    rw (p.1, p.2) (λ n. one_wrong (script_forms n) c.args.words.now (codes "close") accounts _ (λ a. refl)
+    rw (p.1, p.2) (λ n. one_wrong (operation_forms n) c.args.words.now (codes "close") accounts _ (λ a. refl)
     (sym c.is_row-2.ensures ∙ c.if-is_row-2.true) c.in_err-account-2.ensures.err)
 
 pub overflow_cast-result-then-is_row-2 : goal.overflow_cast-result-then-is_row-2
@@ -39,7 +39,7 @@ returns-then-is_row-2-clause-found c books =
 pub returns-in_err-account-3-clause-err : goal.returns-in_err-account-3-clause-err
 returns-in_err-account-3-clause-err c =
     let p = err_from_is_err_and c.from_residual-in_err-account-3.result c.from_residual-in_err-account-3.ensures.1 in
-    rw (p.1, p.2) (λ n. one_wrong (script_forms n) c.args.words.now (codes "show") accounts _ (λ a. refl)
+    rw (p.1, p.2) (λ n. one_wrong (operation_forms n) c.args.words.now (codes "show") accounts _ (λ a. refl)
     (sym c.is_row-3.ensures ∙ c.if-is_row-3.true) c.in_err-account-3.ensures.err)
 
 pub overflow_cast-result-then-is_row-3 : goal.overflow_cast-result-then-is_row-3
@@ -66,4 +66,3 @@ returns-clause-err c n =
     (other_length (codes "next") 1 c.args.words.now (λ e. omega (arith, e, c.requires)))
     (sym c.is_row-3.ensures ∙ c.if-is_row-3.false)
     (other_length (codes "sum") 3 c.args.words.now (λ e. omega (arith, e, c.requires)))
-    (other_length (codes "end") 1 c.args.words.now (λ e. omega (arith, e, c.requires)))

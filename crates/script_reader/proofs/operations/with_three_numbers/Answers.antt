@@ -1,6 +1,6 @@
 use Rattle.std.proofs.Common.{lit<, codes, refl, sym, ◌∙◌, arith}
 use Rattle.std.proofs.lemmas.Result.{err_from_is_err_and}
-use Rattle.script_reader.specs.Forms.{script_forms, accounts, amounts}
+use Rattle.script_reader.specs.Forms.{operation_forms, accounts, amounts}
 use Rattle.script_reader.proofs.LineFaults.Operating.{row_three}
 use Rattle.script_reader.proofs.LineFaults.RowFaults.{other_length, unknown_word, three_wrong}
 use Rattle.script_reader.proofs.operations.with_three_numbers.Goals as goal
@@ -8,7 +8,7 @@ use Rattle.script_reader.proofs.operations.with_three_numbers.Goals as goal
 pub returns-in_err-from-clause-err : goal.returns-in_err-from-clause-err
 returns-in_err-from-clause-err c =
     let p = err_from_is_err_and c.from_residual.result c.from_residual.ensures.1 in
-    rw (p.1, p.2) (λ n. three_wrong (script_forms n) c.args.words.now (codes "move") accounts accounts amounts _ (λ a b d. refl) (sym c.is_row.ensures ∙ c.if-is_row.true) c.in_err-from.ensures.err)
+    rw (p.1, p.2) (λ n. three_wrong (operation_forms n) c.args.words.now (codes "move") accounts accounts amounts _ (λ a b d. refl) (sym c.is_row.ensures ∙ c.if-is_row.true) c.in_err-from.ensures.err)
 
 pub overflow_cast-result : goal.overflow_cast-result
 overflow_cast-result c = let read = row_three (codes "move") c.args.words.now accounts accounts amounts c.in_ok-from.from c.in_ok-from.to c.in_ok-from.amount (sym c.is_row.ensures
@@ -40,4 +40,3 @@ returns-clause-err c n =
     (other_length (codes "next") 1 c.args.words.now (λ e. omega (arith, e, c.requires)))
     (other_length (codes "show") 2 c.args.words.now (λ e. omega (arith, e, c.requires)))
     (other_length (codes "sum") 3 c.args.words.now (λ e. omega (arith, e, c.requires)))
-    (other_length (codes "end") 1 c.args.words.now (λ e. omega (arith, e, c.requires)))

@@ -1,7 +1,7 @@
 use Rattle.std.proofs.Common.{lit<, codes, refl, sym, ◌∙◌, arith}
 use Rattle.std.proofs.lemmas.Result.{err_from_is_err_and}
 use Rattle.books_model.specs.declared.limits.TheConstants.{GREATEST_RATE}
-use Rattle.script_reader.specs.Forms.{script_forms, accounts, amounts}
+use Rattle.script_reader.specs.Forms.{operation_forms, accounts, amounts}
 use Rattle.script_reader.proofs.LineFaults.Operating.{row_two}
 use Rattle.script_reader.proofs.LineFaults.RowFaults.{other_length, unknown_word, two_wrong}
 use Rattle.script_reader.proofs.operations.with_two_numbers.Goals as goal
@@ -9,7 +9,7 @@ use Rattle.script_reader.proofs.operations.with_two_numbers.Goals as goal
 pub returns-in_err-account-clause-err : goal.returns-in_err-account-clause-err
 returns-in_err-account-clause-err c =
     let p = err_from_is_err_and c.from_residual.result c.from_residual.ensures.1 in
-    rw (p.1, p.2) (two_wrong (script_forms c.args.books.now.instruments) c.args.words.now (codes "deposit") accounts amounts _ (λ a b. refl) (sym c.is_row.ensures ∙ c.if-is_row.true) c.in_err-account.ensures.err)
+    rw (p.1, p.2) (two_wrong (operation_forms c.args.books.now.instruments) c.args.words.now (codes "deposit") accounts amounts _ (λ a b. refl) (sym c.is_row.ensures ∙ c.if-is_row.true) c.in_err-account.ensures.err)
 
 pub overflow_cast-result : goal.overflow_cast-result
 overflow_cast-result c = let read = row_two (codes "deposit") c.args.words.now accounts amounts
@@ -24,7 +24,7 @@ returns-then-is_row-clause-found c = row_two (codes "deposit") c.args.words.now 
 pub returns-in_err-account-2-clause-err : goal.returns-in_err-account-2-clause-err
 returns-in_err-account-2-clause-err c =
     let p = err_from_is_err_and c.from_residual-in_err-account-2.result c.from_residual-in_err-account-2.ensures.1 in
-    rw (p.1, p.2) (two_wrong (script_forms c.args.books.now.instruments) c.args.words.now (codes "withdraw") accounts amounts _ (λ a b. refl) (sym c.is_row-2.ensures ∙ c.if-is_row-2.true) c.in_err-account-2.ensures.err)
+    rw (p.1, p.2) (two_wrong (operation_forms c.args.books.now.instruments) c.args.words.now (codes "withdraw") accounts amounts _ (λ a b. refl) (sym c.is_row-2.ensures ∙ c.if-is_row-2.true) c.in_err-account-2.ensures.err)
 
 pub overflow_cast-result-then-is_row-2 : goal.overflow_cast-result-then-is_row-2
 overflow_cast-result-then-is_row-2 c = let read =
@@ -40,7 +40,7 @@ returns-then-is_row-2-clause-found c = row_two (codes "withdraw") c.args.words.n
 pub returns-in_err-account-3-clause-err : goal.returns-in_err-account-3-clause-err
 returns-in_err-account-3-clause-err c =
     let p = err_from_is_err_and c.from_residual-in_err-account-3.result c.from_residual-in_err-account-3.ensures.1 in
-    rw (p.1, p.2) (two_wrong (script_forms c.args.books.now.instruments) c.args.words.now (codes "margin") accounts (1, GREATEST_RATE) _ (λ a b. refl) (sym c.is_row-4.ensures ∙ c.if-is_row-4.true) c.in_err-account-3.ensures.err)
+    rw (p.1, p.2) (two_wrong (operation_forms c.args.books.now.instruments) c.args.words.now (codes "margin") accounts (1, GREATEST_RATE) _ (λ a b. refl) (sym c.is_row-4.ensures ∙ c.if-is_row-4.true) c.in_err-account-3.ensures.err)
 
 pub overflow_cast-result-then-is_row-4 : goal.overflow_cast-result-then-is_row-4
 overflow_cast-result-then-is_row-4 c = let read =
@@ -57,7 +57,7 @@ returns-then-is_row-4-clause-found c =
 pub returns-in_err-first-clause-err : goal.returns-in_err-first-clause-err
 returns-in_err-first-clause-err c =
     let p = err_from_is_err_and c.from_residual-in_err-first.result c.from_residual-in_err-first.ensures.1 in
-    rw (p.1, p.2) (two_wrong (script_forms c.args.books.now.instruments) c.args.words.now (codes "sum") accounts
+    rw (p.1, p.2) (two_wrong (operation_forms c.args.books.now.instruments) c.args.words.now (codes "sum") accounts
     accounts _ (λ a b. refl) (sym c.is_row-5.ensures ∙ c.if-is_row-5.true) c.in_err-first.ensures.err)
 
 pub overflow_cast-result-then-is_row-5 : goal.overflow_cast-result-then-is_row-5
@@ -94,4 +94,3 @@ returns-clause-err c =
     (other_length (codes "next") 1 c.args.words.now (λ e. omega (arith, e, c.requires)))
     (other_length (codes "show") 2 c.args.words.now (λ e. omega (arith, e, c.requires)))
     (sym c.is_row-5.ensures ∙ c.if-is_row-5.false)
-    (other_length (codes "end") 1 c.args.words.now (λ e. omega (arith, e, c.requires)))

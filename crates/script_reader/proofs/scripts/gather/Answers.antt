@@ -4,7 +4,7 @@ use Rattle.std.proofs.lemmas.Bool.{leb-false, true≢false}
 use Rattle.std.proofs.lemmas.Result.{err_from_is_err_and}
 use Rattle.script_reader.specs.declared.limits.TheConstants.{MOST_CALLERS, MOST_SCRIPTS}
 use Rattle.script_reader.specs.declared.fault.Refusal.TheVariants as refusal
-use Rattle.script_reader.specs.Text.{operation_lines, end_line}
+use Rattle.script_reader.specs.Text.{script_lines, end_line}
 use Rattle.script_reader.specs.Input.{AreCallersFor, callers_of, count_scripts}
 use Rattle.script_reader.specs.Inner.LinesAsWords.{lines_so_far}
 use Rattle.script_reader.specs.Inner.Callers.{is_caller, add_submission}
@@ -82,6 +82,6 @@ loop-words-smaller c =
       arith,
       line_shorter c.in_ok-words.words c.loop-words.lines c.words.new.self c.in_ok-words.ensures.found.1,
       ap length added.text,
-      length-append (operation_lines added.submission.script) (end_line ++ c.add_script.new.lines),
+      length-append (script_lines added.submission.script) (end_line ++ c.add_script.new.lines),
       length-append end_line c.add_script.new.lines,
     )

@@ -117,9 +117,15 @@ loop-part-preserved g c =
       origin = hands.origin ∙ i.origin;
       stop = hands.done;
       sound = hands.sound;
-      left = omega (arith, i.left, c.len.ensures, c.len-in-Either.ensures, more,
-          length-append (c.in-Either.first ++ c.in-Either.second) (operations_of rest),
-          ap (λ parts. length (operations_of parts)) (from_here g here p c.in-Either.is));
+      left = omega (
+        arith,
+        i.left,
+        c.len.ensures,
+        c.len-in-Either.ensures,
+        more,
+        length-append (c.in-Either.first ++ c.in-Either.second) (operations_of rest),
+        ap (λ parts. length (operations_of parts)) (from_here g here p c.in-Either.is),
+      );
       each = All-back (IsOperationIn c.args.shape.now) (c.in-Either.first ++ c.in-Either.second) (operations_of rest) (ranges g here p c.in-Either.is);
       run = subst (λ values. Turned g.W.Words g.W.Shape.Shape c.args.shape.now c.args.w.now c.run_either.new.w
           (SoFar (run_parts 1 c.args.script.now) values (run_parts (c.loop-part.number + (c.len.result + c.len-in-Either.result)) rest)))
