@@ -150,6 +150,7 @@ fn add_row(books: &mut Books, row: Row) -> Result<(), OutOfMemory>
     }
 }
 
+// Whether there is a line of a price.
 fn has_prices(books: &Books) -> bool
     ensures { result ≡ list_any (λ _. true) (map.entries books.now.prices) }
 {
@@ -157,6 +158,7 @@ fn has_prices(books: &Books) -> bool
     books.price_after(0).is_some()
 }
 
+// Whether there is a line of a position.
 fn has_positions(books: &Books) -> bool
     ensures { result ≡ list_any (λ _. true) (map.entries books.now.positions) }
 {
@@ -164,6 +166,7 @@ fn has_positions(books: &Books) -> bool
     books.position_after(0, 0).is_some()
 }
 
+// Whether there is a line of a margin call.
 fn has_calls(books: &Books) -> bool
     ensures { result ≡ list_any (λ _. true) books.now.calls }
 {
@@ -188,6 +191,7 @@ fn is_past_accounts(books: &Books) -> bool
     has_prices(books) || is_past_prices(books)
 }
 
+// Whether no block is left.
 fn is_full(books: &Books) -> bool
     ensures { result
         ≡ nat_le books.now.blocks

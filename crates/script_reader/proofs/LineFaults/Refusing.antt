@@ -206,7 +206,8 @@ module _ (b : ClearingBooks) (range : AreInRange b) where
       subst (λ w. IsRow b w (row.Account (value_at w 1) (value_at w 2))) (sym e)
       (record { fits = (h.number_is, h.fits, h.absent, h.room); lines = h.lines })
 
-  pub gives_price : (words : Words) → (begins (codes "price") words && length words == 3) ≡ true → fault_of (books_words b) words ≡ None → IsRow b words (row.Price (value_at words 1) (value_at words 2))
+  pub gives_price : (words : Words) → (begins (codes "price") words && length words == 3) ≡ true → fault_of (books_words b) words ≡ None
+      → IsRow b words (row.Price (value_at words 1) (value_at words 2))
   gives_price words is none =
       let k = behind_keyword (codes "price") 2 words is in
       let rest = two_words (drop 1 words) k.1 in
@@ -225,7 +226,8 @@ module _ (b : ClearingBooks) (range : AreInRange b) where
       subst (λ w. IsRow b w (row.Position (value_at w 1) (value_at w 2) (value_at w 3))) (sym e)
       (record { fits = (h.given, h.priced, h.fits, h.absent, h.room); lines = h.lines })
 
-  pub gives_call : (words : Words) → (begins (codes "call") words && length words == 3) ≡ true → fault_of (books_words b) words ≡ None → IsRow b words (row.Call (value_at words 1) (value_at words 2))
+  pub gives_call : (words : Words) → (begins (codes "call") words && length words == 3) ≡ true → fault_of (books_words b) words ≡ None
+      → IsRow b words (row.Call (value_at words 1) (value_at words 2))
   gives_call words is none =
       let k = behind_keyword (codes "call") 2 words is in
       let rest = two_words (drop 1 words) k.1 in

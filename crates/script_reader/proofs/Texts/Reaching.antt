@@ -25,7 +25,8 @@ use Rattle.script_reader.specs.Faults.{AreFaultless, fault_of}
 use Rattle.script_reader.proofs.Conditions.{both, passed, neither, any_last}
 use Rattle.script_reader.proofs.Printing.Printed.{books_fault_is, fault_at}
 use Rattle.script_reader.proofs.Printing.Scripted.{ended, opened, in_books, is_beyond_at, outside_at, outside_fault_is, inside_at, inside_fault_is}
-use Rattle.script_reader.proofs.LineFaults.LineKinds.{none_applies, books_line, BooksLine, AccountLine, PriceLine, PositionLine, CallLine, ScriptsLine, line_words}
+use Rattle.script_reader.proofs.LineFaults.LineKinds.{none_applies, books_line, BooksLine, AccountLine, PriceLine, PositionLine, CallLine, ScriptsLine}
+use Rattle.script_reader.proofs.LineFaults.LineKinds.{line_words}
 use Rattle.script_reader.proofs.LineFaults.LineKinds.{one_word, behind_keyword, operation_line}
 use Rattle.script_reader.proofs.WithoutFault.BooksFaultless.{printed, printed_small, instruments_fit}
 use Rattle.script_reader.proofs.Grouped.Submitting.{callers_more, count-fold}

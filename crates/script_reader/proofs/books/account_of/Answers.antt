@@ -16,7 +16,8 @@ early : (c : Else-is_past_accounts) → is_late_in 0 (printed c.args.books.now) 
 early c = accounts_late c.args.books.now ∙ sym c.is_past_accounts.ensures ∙ c.if-is_past_accounts.false
 
 account_within : (c : In_ok-account) → IsWithin 1 GREATEST_ACCOUNT c.in_ok-account.account
-account_within c = first_read (codes "account") 3 c.args.words.now 1 GREATEST_ACCOUNT _ _ (lit< tt) c.requires c.in_ok-account.ensures.found.0 c.in_ok-account.ensures.found.1
+account_within c = first_read (codes "account") 3 c.args.words.now 1 GREATEST_ACCOUNT _ _ (lit< tt) c.requires c.in_ok-account.ensures.found.0
+    c.in_ok-account.ensures.found.1
 
 pub overflow_cast-account : goal.overflow_cast-account
 overflow_cast-account c = omega (arith, (account_within c).1)
@@ -37,14 +38,16 @@ returns-then-is_some-clause-err c =
     let at = goal.at.returns-then-is_some-clause-err c in
     read_row (account_fault c.args.books.now c.ranges-2.ensures c.args.words.now c.requires)
     (early at.Else-is_past_accounts) c.in_ok-account.ensures.found.0 refl
-    (account_low c.args.books.now _ _ _ (account_within at.In_ok-account).0 c.in_ok-account.ensures.found.1 c.account_after.ensures.first ∙ sym c.is_some.ensures ∙ c.if-is_some.true) refl refl refl
+    (account_low c.args.books.now _ _ _ (account_within at.In_ok-account).0 c.in_ok-account.ensures.found.1 c.account_after.ensures.first
+    ∙ sym c.is_some.ensures ∙ c.if-is_some.true) refl refl refl
 
 pub returns-then-is_full-clause-err : goal.returns-then-is_full-clause-err
 returns-then-is_full-clause-err c =
     let at = goal.at.returns-then-is_full-clause-err c in
     read_row (account_fault c.args.books.now c.ranges-2.ensures c.args.words.now c.requires)
     (early at.Else-is_past_accounts) c.in_ok-account.ensures.found.0 refl
-    (account_low c.args.books.now _ _ _ (account_within at.In_ok-account).0 c.in_ok-account.ensures.found.1 c.account_after.ensures.first ∙ sym c.is_some.ensures ∙ c.if-is_some.false) refl refl (sym c.is_full.ensures ∙ c.if-is_full.true)
+    (account_low c.args.books.now _ _ _ (account_within at.In_ok-account).0 c.in_ok-account.ensures.found.1 c.account_after.ensures.first
+    ∙ sym c.is_some.ensures ∙ c.if-is_some.false) refl refl (sym c.is_full.ensures ∙ c.if-is_full.true)
 
 pub returns-clause-row : goal.returns-clause-row
 returns-clause-row c =
@@ -52,6 +55,7 @@ returns-clause-row c =
     let found = c.in_ok-account.ensures.found in
     let fine = read_row (account_fault c.args.books.now c.ranges-2.ensures c.args.words.now c.requires)
     (early at.Else-is_past_accounts) found.0 refl
-    (account_low c.args.books.now _ _ _ (account_within at.In_ok-account).0 c.in_ok-account.ensures.found.1 c.account_after.ensures.first ∙ sym c.is_some.ensures ∙ c.if-is_some.false) refl refl (sym c.is_full.ensures ∙ c.if-is_full.false) in
+    (account_low c.args.books.now _ _ _ (account_within at.In_ok-account).0 c.in_ok-account.ensures.found.1 c.account_after.ensures.first
+    ∙ sym c.is_some.ensures ∙ c.if-is_some.false) refl refl (sym c.is_full.ensures ∙ c.if-is_full.false) in
     subst (IsRow c.args.books.now c.args.words.now) (sym (λ i. row.Account (found.1 i) (found.2 i)))
     (gives_account c.args.books.now c.ranges-2.ensures c.args.words.now c.requires fine)

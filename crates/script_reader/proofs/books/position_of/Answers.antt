@@ -19,7 +19,8 @@ use Rattle.script_reader.proofs.books.position_of.Goals as goal
 use Rattle.script_reader.proofs.books.position_of.Goals.{In_ok-account, Else-is_some, Else-is_none, Else-is_none-2}
 
 numbers_of : (c : In_ok-account) → HasNumbers c.args.words.now (position_ranges c.args.books.now.instruments)
-numbers_of c = subst (λ r. HasNumbers c.args.words.now (accounts ∷ r ∷ quantities ∷ [])) c.instruments_of-instruments.ensures.number c.in_ok-account.ensures.found.0
+numbers_of c = subst (λ r. HasNumbers c.args.words.now (accounts ∷ r ∷ quantities ∷ [])) c.instruments_of-instruments.ensures.number
+    c.in_ok-account.ensures.found.0
 
 account_within : (c : In_ok-account) → IsWithin 1 GREATEST_ACCOUNT c.in_ok-account.account
 account_within c = first_read (codes "position") 4 c.args.words.now 1 GREATEST_ACCOUNT _ _ (lit< tt) c.requires (numbers_of c) c.in_ok-account.ensures.found.1

@@ -20,7 +20,8 @@ numbers_of : (c : In_ok-instrument) → HasNumbers c.args.words.now (price_range
 numbers_of c = subst (λ r. HasNumbers c.args.words.now (r ∷ prices ∷ [])) c.instruments_of-instruments.ensures.number c.in_ok-instrument.ensures.found.0
 
 instrument_within : (c : In_ok-instrument) → IsWithin 1 c.args.books.now.instruments c.in_ok-instrument.instrument
-instrument_within c = first_read (codes "price") 3 c.args.words.now 1 c.args.books.now.instruments _ _ (lit< tt) c.requires (numbers_of c) c.in_ok-instrument.ensures.found.1
+instrument_within c = first_read (codes "price") 3 c.args.words.now 1 c.args.books.now.instruments _ _ (lit< tt) c.requires (numbers_of c)
+    c.in_ok-instrument.ensures.found.1
 
 pub overflow_cast-instrument : goal.overflow_cast-instrument
 overflow_cast-instrument c = omega (arith, (instrument_within c).1, c.ranges-2.ensures.instruments.1)
