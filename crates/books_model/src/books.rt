@@ -224,7 +224,7 @@ impl Books {
         Ok(())
     }
 
-    /// Puts in the changes of a script. Out of memory, the books are as before.
+    // Puts in the changes of a script. Out of memory, the books are as before.
     pub(crate) fn put_in(&mut self, changes: &Changes) -> Result<(), OutOfMemory>
         requires changes { AreChangesOf self.old changes.now }
         requires range { AreInRange (changed_books self.old changes.now) }
@@ -251,7 +251,7 @@ impl Books {
         Ok(())
     }
 
-    /// The cash of all accounts from one number to another, both included.
+    // The cash of all accounts from one number to another, both included.
     pub(crate) fn cash_between(&self, low: u32, high: u32) -> u64
         requires { low ≤ high }
         ensures { result ≡ cash_between self.now low high }

@@ -16,18 +16,18 @@ use std::collections::BTreeMap;
 use std::marker::Model;
 use std::ops::Bound::Included;
 
-/// What one operation comes to.
+// What one operation comes to.
 #[derive(Clone, Copy)]
 pub(crate) enum Outcome {
-    /// It was done, and tells this.
+    // It was done, and tells this.
     Gives(Value),
-    /// It is declined.
+    // It is declined.
     Declines(Decline),
-    /// It finds no block.
+    // It finds no block.
     FindsNoBlock,
 }
 
-/// One side of a trade: an account, its cash, and what it holds of the instrument.
+// One side of a trade: an account, its cash, and what it holds of the instrument.
 #[derive(Clone, Copy)]
 pub(crate) struct Side {
     pub(crate) account: u32,
@@ -35,7 +35,7 @@ pub(crate) struct Side {
     pub(crate) held: Option<u64>,
 }
 
-/// The changes of a script so far, beside the books that they are for.
+// The changes of a script so far, beside the books that they are for.
 #[derive(Drop)]
 pub(crate) struct Draft<'a> {
     books: &'a Books,
@@ -67,7 +67,7 @@ impl<'a> Draft<'a> {
     ghost use Rattle.books_model.specs.Interpreter.{cash_between, holds_any, is_full, put_position, worth_of};
     ghost use Rattle.books_model.specs.Ranges.{AreInRange, IsCall, IsInstrumentOf, IsWithin};
 
-    /// No changes of these books. It takes no memory.
+    // No changes of these books. It takes no memory.
     pub(crate) fn new(alloc: Global, books: &'a Books) -> Draft<'a>
         ensures before { result.before ≡ books.now }
         ensures after { result.after ≡ books.now }
@@ -86,7 +86,7 @@ impl<'a> Draft<'a> {
         }
     }
 
-    /// An equal draft of the same books.
+    // An equal draft of the same books.
     pub(crate) fn copy(&self) -> Result<Draft<'a>, OutOfMemory>
         ensures { IfOk result (λ copy. copy ≡ self.now) }
     {
@@ -97,7 +97,7 @@ impl<'a> Draft<'a> {
         })
     }
 
-    /// The changes, which the books can take once they are no longer lent.
+    // The changes, which the books can take once they are no longer lent.
     pub(crate) fn into_changes(self) -> Changes
         ensures changes { AreChangesOf self.entry.before result }
         ensures after { changed_books self.entry.before result ≡ self.entry.after }
@@ -106,7 +106,7 @@ impl<'a> Draft<'a> {
         self.changes
     }
 
-    /// What holds of all drafts. It does nothing.
+    // What holds of all drafts. It does nothing.
     pub(crate) fn ranges(&self)
         ensures range { AreInRange self.now.after }
         ensures sizes { HaveSameSizes self.now.before self.now.after }
@@ -114,7 +114,7 @@ impl<'a> Draft<'a> {
         let _ = &self.books;
     }
 
-    /// The cash of an account after the changes.
+    // The cash of an account after the changes.
     pub(crate) fn cash(&self, account: u32) -> Option<u64>
         ensures value { result ≡ map.get self.now.after.accounts account }
         ensures range { IfSome result (λ cash. cash ≤ GREATEST_CASH) }
@@ -125,7 +125,7 @@ impl<'a> Draft<'a> {
         }
     }
 
-    /// How much an account holds of an instrument after the changes.
+    // How much an account holds of an instrument after the changes.
     pub(crate) fn quantity(&self, account: u32, instrument: u32) -> Option<u64>
         ensures value { result ≡ map.get self.now.after.positions (account, instrument) }
         ensures range { IfSome result (λ quantity. IsWithin 1 GREATEST_QUANTITY quantity) }
@@ -136,7 +136,7 @@ impl<'a> Draft<'a> {
         }
     }
 
-    /// The price of an instrument after the changes.
+    // The price of an instrument after the changes.
     pub(crate) fn price(&self, instrument: u32) -> Option<u64>
         ensures value { result ≡ map.get self.now.after.prices instrument }
         ensures range { IfSome result (λ price. IsWithin 1 GREATEST_PRICE price) }
@@ -147,7 +147,7 @@ impl<'a> Draft<'a> {
         }
     }
 
-    /// Whether no block is left.
+    // Whether no block is left.
     pub(crate) fn is_full(&self) -> bool
         ensures value { result ≡ is_full self.now.after }
         ensures range { AreInRange self.now.after }
@@ -155,7 +155,7 @@ impl<'a> Draft<'a> {
         self.used == self.books.blocks()
     }
 
-    /// Gives an account other cash than it had, or takes it out.
+    // Gives an account other cash than it had, or takes it out.
     pub(crate) fn change_account(
         &mut self,
         account: u32,
@@ -172,7 +172,7 @@ impl<'a> Draft<'a> {
         Ok(())
     }
 
-    /// Gives an account another position than it had, or takes it out.
+    // Gives an account another position than it had, or takes it out.
     pub(crate) fn change_position(
         &mut self,
         account: u32,
@@ -191,7 +191,7 @@ impl<'a> Draft<'a> {
         Ok(())
     }
 
-    /// Gives an instrument another price than it had.
+    // Gives an instrument another price than it had.
     pub(crate) fn change_price(
         &mut self,
         instrument: u32,
@@ -209,7 +209,7 @@ impl<'a> Draft<'a> {
         Ok(())
     }
 
-    /// Gives an account other cash than it had.
+    // Gives an account other cash than it had.
     pub(crate) fn set_cash(&mut self, account: u32, was: u64, cash: u64) -> Result<(), OutOfMemory>
         requires was { map.get self.old.after.accounts account ≡ Some was }
         requires range { cash ≤ GREATEST_CASH }
@@ -220,7 +220,7 @@ impl<'a> Draft<'a> {
         self.change_account(account, Some(was), Some(cash))
     }
 
-    /// Takes out an account that had this cash and holds nothing.
+    // Takes out an account that had this cash and holds nothing.
     pub(crate) fn remove_account(&mut self, account: u32, was: u64) -> Result<(), OutOfMemory>
         requires was { map.get self.old.after.accounts account ≡ Some was }
         requires nothing { holds_any self.old.after account ≡ false }
@@ -232,7 +232,7 @@ impl<'a> Draft<'a> {
         self.change_account(account, Some(was), None)
     }
 
-    /// Gives an instrument a price, for which there is a block where it has none.
+    // Gives an instrument a price, for which there is a block where it has none.
     pub(crate) fn put_price(
         &mut self,
         instrument: u32,
@@ -250,7 +250,7 @@ impl<'a> Draft<'a> {
         self.change_price(instrument, was, price)
     }
 
-    /// Gives an account other holdings of an instrument: no position where they are 0.
+    // Gives an account other holdings of an instrument: no position where they are 0.
     pub(crate) fn set_quantity(
         &mut self,
         account: u32,
@@ -274,7 +274,7 @@ impl<'a> Draft<'a> {
         self.change_position(account, instrument, was, Some(quantity))
     }
 
-    /// The front of the queue of margin calls after the changes.
+    // The front of the queue of margin calls after the changes.
     pub(crate) fn front(&self) -> Option<(u32, u64)>
         ensures { result ≡ slice_get self.now.after.calls 0 }
     {
@@ -286,7 +286,7 @@ impl<'a> Draft<'a> {
         self.changes.added.get(taken - queued).copied()
     }
 
-    /// Takes the front of the queue.
+    // Takes the front of the queue.
     pub(crate) fn take_front(&mut self)
         requires { 0 < length self.old.after.calls }
         ensures after { self.new.after
@@ -298,7 +298,7 @@ impl<'a> Draft<'a> {
         self.changes.taken += 1;
     }
 
-    /// Whether the queue holds as many margin calls as it can.
+    // Whether the queue holds as many margin calls as it can.
     pub(crate) fn is_queue_full(&self) -> bool
         ensures value { result ≡ (length self.now.after.calls == self.now.after.ring) }
         ensures range { AreInRange self.now.after }
@@ -307,7 +307,7 @@ impl<'a> Draft<'a> {
         calls == self.books.ring() as usize
     }
 
-    /// Queues a margin call.
+    // Queues a margin call.
     pub(crate) fn queue_call(&mut self, account: u32, shortfall: u64) -> Result<(), OutOfMemory>
         requires call { IsCall (account, shortfall) }
         requires room { length self.old.after.calls < self.old.after.ring }
@@ -318,7 +318,7 @@ impl<'a> Draft<'a> {
         Ok(())
     }
 
-    /// Whether an account holds a position.
+    // Whether an account holds a position.
     pub(crate) fn holds_any(&self, account: u32) -> bool
         ensures { result ≡ holds_any self.now.after account }
     {
@@ -330,7 +330,7 @@ impl<'a> Draft<'a> {
         false
     }
 
-    /// What an account's positions are worth.
+    // What an account's positions are worth.
     pub(crate) fn worth(&self, account: u32) -> u64
         ensures value { result ≡ worth_of self.now.after account }
         ensures range { result ≤ GREATEST_SHORTFALL }
@@ -344,7 +344,7 @@ impl<'a> Draft<'a> {
         total
     }
 
-    /// The cash of all accounts from one number to another, both included.
+    // The cash of all accounts from one number to another, both included.
     pub(crate) fn cash_between(&self, low: u32, high: u32) -> u64
         ensures { result ≡ cash_between self.now.after low high }
     {

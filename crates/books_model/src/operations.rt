@@ -18,7 +18,7 @@ impl<'a> Draft<'a> {
     ghost use Rattle.books_model.specs.Inner.Draft.{IsSideOf};
     ghost use Rattle.books_model.specs.Inner.Steps.{step_with};
 
-    /// One operation.
+    // One operation.
     pub(crate) fn run(&mut self, op: Op) -> Result<Outcome, OutOfMemory>
         requires range { IsOperationFor self.old.before op }
         ensures step { IfOk result (λ outcome. step_of op self.old.after

@@ -11,27 +11,27 @@ ghost use Rattle.books_model.specs.Inner.Changes.{HasRoomFor, IsCopyOf, IsRoomie
 use io_ends::OutOfMemory;
 use std::collections::{BTreeMap, VecDeque};
 
-/// What a key had before a script, and what it has after the operations so far.
+// What a key had before a script, and what it has after the operations so far.
 #[derive(Clone, Copy)]
 pub(crate) struct Change {
     pub(crate) before: Option<u64>,
     pub(crate) now: Option<u64>,
 }
 
-/// The changes of a script so far.
+// The changes of a script so far.
 #[derive(Drop)]
 pub(crate) struct Changes {
     pub(crate) accounts: BTreeMap<u32, Change>,
     pub(crate) positions: BTreeMap<(u32, u32), Change>,
     pub(crate) prices: BTreeMap<u32, Change>,
-    /// How many margin calls were taken from the front of the queue.
+    // How many margin calls were taken from the front of the queue.
     pub(crate) taken: usize,
-    /// The margin calls that joined its back.
+    // The margin calls that joined its back.
     pub(crate) added: Vec<(u32, u64)>,
 }
 
 impl Changes {
-    /// Equal changes.
+    // Equal changes.
     pub(crate) fn copy(&self) -> Result<Changes, OutOfMemory>
         ensures { IfOk result (λ copy. IsCopyOf self.now copy) }
     {
@@ -45,7 +45,7 @@ impl Changes {
     }
 }
 
-/// Keys of maps: those that compare alike are one.
+// Keys of maps: those that compare alike are one.
 pub(crate) trait Key: Ord + Copy {
     ghost exact: { map.IsAntisymmetric Self.cmp };
 }
@@ -60,7 +60,7 @@ impl Key for (u32, u32) {
     ghost exact = { exact_positions };
 }
 
-/// The change of a key, if it was changed.
+// The change of a key, if it was changed.
 pub(crate) fn change_of<K: Key>(changes: &BTreeMap<K, Change>, key: K) -> Option<Change>
     ensures changed { IfSome result (λ change. (m : map.FinMap K.cmp ℕ)
         → map.get (changed m changes.now.entries) key ≡ change.now) }
@@ -83,7 +83,7 @@ fn value_before<K: Key>(changes: &BTreeMap<K, Change>, key: K, was: Option<u64>)
     }
 }
 
-/// Adds a change of a key, from what it has after the changes so far.
+// Adds a change of a key, from what it has after the changes so far.
 pub(crate) fn note_change<K: Key>(
     changes: &mut BTreeMap<K, Change>,
     key: K,
@@ -113,7 +113,7 @@ fn new_value(change: Change) -> Option<u64>
     }
 }
 
-/// Inserts the keys that changes give a value and the map lacks, so that putting the changes in takes no memory.
+// Inserts the keys that changes give a value and the map lacks, so that putting the changes in takes no memory.
 pub(crate) fn make_room<K: Key>(
     values: &mut BTreeMap<K, u64>,
     changes: &BTreeMap<K, Change>,
@@ -133,7 +133,7 @@ pub(crate) fn make_room<K: Key>(
     Ok(())
 }
 
-/// Takes out the keys that room was made for.
+// Takes out the keys that room was made for.
 pub(crate) fn take_back<K: Key>(values: &mut BTreeMap<K, u64>, changes: &BTreeMap<K, Change>)
     ensures { (before : map.FinMap K.cmp ℕ) → KnowBefore before changes.now.entries
         → IsRoomier changes.now.entries before (map.from_entries {R = K.cmp} values.old.entries)
@@ -164,7 +164,7 @@ fn set_value<K: Key>(values: &mut BTreeMap<K, u64>, key: K, now: Option<u64>)
     }
 }
 
-/// Puts in changes for which there is room. It takes no memory.
+// Puts in changes for which there is room. It takes no memory.
 pub(crate) fn settle<K: Key>(values: &mut BTreeMap<K, u64>, changes: &BTreeMap<K, Change>)
     requires { HasRoomFor (map.from_entries {R = K.cmp} values.old.entries) changes.now.entries }
     ensures { map.from_entries {R = K.cmp} values.new.entries
@@ -175,7 +175,7 @@ pub(crate) fn settle<K: Key>(values: &mut BTreeMap<K, u64>, changes: &BTreeMap<K
     }
 }
 
-/// Makes room in all three maps.
+// Makes room in all three maps.
 pub(crate) fn make_all_room(
     accounts: &mut BTreeMap<u32, u64>,
     positions: &mut BTreeMap<(u32, u32), u64>,
@@ -210,7 +210,7 @@ pub(crate) fn make_all_room(
     make_room(prices, &changes.prices)
 }
 
-/// Puts items at the back of a queue that has room for them.
+// Puts items at the back of a queue that has room for them.
 pub(crate) fn append_all(queue: &mut VecDeque<(u32, u64)>, items: &[(u32, u64)])
     requires { deque_len queue.old + length items.now ≤ deque_capacity queue.old }
     ensures { queue.new.items ≡ queue.old.items ++ items.now }
@@ -220,7 +220,7 @@ pub(crate) fn append_all(queue: &mut VecDeque<(u32, u64)>, items: &[(u32, u64)])
     }
 }
 
-/// Takes items from the front of a queue.
+// Takes items from the front of a queue.
 pub(crate) fn drop_front(queue: &mut VecDeque<(u32, u64)>, count: usize)
     ensures { queue.new.items ≡ drop count queue.old.items }
 {

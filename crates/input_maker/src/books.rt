@@ -88,7 +88,7 @@ fn write_positions(text: &mut String) -> Result<(), AllocError>
     Ok(())
 }
 
-/// Appends the lines of the opening books.
+// Appends the lines of the opening books.
 pub(crate) fn write_opening(text: &mut String) -> Result<(), AllocError>
     ensures { OnOk result
         (string_bytes text.new ≡ string_bytes text.old ++ books_lines made_books) }

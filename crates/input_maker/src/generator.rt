@@ -12,14 +12,14 @@ const MODULUS: u64 = 2_147_483_648;
 // The lower bits of a state repeat soon, so a draw leaves them out.
 const LOWER_BITS: u32 = 65_536;
 
-/// A linear congruential generator.
+// A linear congruential generator.
 #[derive(Debug, Drop)]
 pub(crate) struct Generator {
     pub(crate) state: u32,
 }
 
 impl Generator {
-    /// The generator that begins with a seed.
+    // The generator that begins with a seed.
     pub(crate) fn new(seed: u32) -> Generator
         ensures { result.state ≡ seed }
     {
@@ -34,7 +34,7 @@ impl Generator {
         self.state = (sum % MODULUS) as u32;
     }
 
-    /// The next number, from 0 up to one below the bound.
+    // The next number, from 0 up to one below the bound.
     #[tactic(auto, unfolding(crate::specs::Generator::drawn))]
     pub(crate) fn draw(&mut self, below: u32) -> u32
         requires { 0 < below }

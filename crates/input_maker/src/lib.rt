@@ -1,13 +1,13 @@
 //! Inputs that a seed gives: a whole day's books and scripts to try things on.
 #![tactic(auto)]
 
-pub mod books;
-pub mod generator;
+mod books;
+mod generator;
 pub mod laws;
 pub mod limits;
 pub mod made;
-pub mod operations;
-pub mod scripts;
+mod operations;
+mod scripts;
 
 pub use made::make_input;
 

@@ -49,7 +49,7 @@ fn operation_of(kind: u32, which: u32, account: u32, other: u32, instrument: u32
     }
 }
 
-/// The next operation of a script of this kind.
+// The next operation of a script of this kind.
 #[tactic(auto, unfolding(crate::specs::Made::operation_from))]
 pub(crate) fn next_operation(generator: &mut Generator, kind: u32) -> Op
     ensures state { generator.new.state ≡ state_after 5 generator.old.state }
@@ -63,7 +63,7 @@ pub(crate) fn next_operation(generator: &mut Generator, kind: u32) -> Op
     operation_of(kind, which, account, other, instrument, u64::from(amount))
 }
 
-/// Appends the line of an operation.
+// Appends the line of an operation.
 pub(crate) fn write_operation(text: &mut String, operation: Op) -> Result<(), AllocError>
     ensures { OnOk result
         (string_bytes text.new ≡ string_bytes text.old ++ line (operation_words operation)) }

@@ -76,7 +76,7 @@ fn write_script(text: &mut String, generator: &mut Generator, caller: u32) -> Re
     text.push_str("end\n")
 }
 
-/// Appends so many scripts, of the callers by turns.
+// Appends so many scripts, of the callers by turns.
 pub(crate) fn write_scripts(
     text: &mut String,
     seed: u32,

@@ -2,6 +2,7 @@
 pub mod Codes
 pub mod LinesAsWords
 pub mod Rows
+pub mod BooksRows
 pub mod Placed
 pub mod Callers
 pub mod Scripts

@@ -7,6 +7,7 @@ ghost use Rattle.books_model.specs.Ranges.{AreInRange};
 ghost use Rattle.script_reader.specs.declared.fault.Fault.{Fault as AnyFault};
 ghost use Rattle.script_reader.specs.Text.{line};
 ghost use Rattle.script_reader.specs.Inner.LinesAsWords.{books_words};
+ghost use Rattle.script_reader.specs.Inner.BooksRows.{Fits, IsRow, with_row};
 ghost use Rattle.script_reader.specs.Forms.{begins, is_only, is_header, value_at};
 ghost use Rattle.script_reader.specs.Faults.{header_fault, fault_of, IsFaultyBehind};
 
@@ -18,7 +19,21 @@ use crate::rows::{
 };
 use crate::words::Words;
 use books_model::Books;
+use io_ends::OutOfMemory;
 use std::alloc::Global;
+
+// A row of books: what a line adds to them.
+#[derive(Clone, Copy, Debug, PartialEq, Eq)]
+pub(crate) enum Row {
+    // An account and its cash.
+    Account(u32, u64),
+    // An instrument and its price.
+    Price(u32, u64),
+    // An account, an instrument and a quantity.
+    Position(u32, u32, u64),
+    // An account and a shortfall.
+    Call(u32, u64),
+}
 
 // The books of the next lines, and the line that begins the scripts.
 pub(crate) fn books_of(alloc: Global, lines: &mut Lines<'_>) -> Result<Books, Refusal>
@@ -50,7 +65,8 @@ fn fill(lines: &mut Lines<'_>, books: &mut Books) -> Result<(), Refusal>
         if words.is_only(b"scripts") {
             return Ok(());
         }
-        add_line(books, &words)?;
+        let row = row_of(books, &words)?;
+        add_row(books, row)?;
     }
 }
 
@@ -97,29 +113,44 @@ fn is_header(words: &Words<'_>) -> bool
         && words.is(6, b"ring")
 }
 
-// Adds what a line gives to the books. It is not the line that begins the scripts.
-fn add_line(books: &mut Books, words: &Words<'_>) -> Result<(), Refusal>
+// The row that a line gives. It is not the line that begins the scripts.
+fn row_of(books: &Books, words: &Words<'_>) -> Result<Row, Fault>
     requires { is_only (codes "scripts") words.now ≡ false }
-    ensures added { OnOk result (books_words books.new ≡ books_words books.old ++ words.now ∷ []) }
-    ensures fault { (why : AnyFault) → result ≡ Err (Refusal.LineFault why)
-        → fault_of (books_words books.old) words.now ≡ Some why }
+    ensures row { IfOk result (λ row. IsRow books.now words.now row) }
+    ensures err { IfErr result (λ why. fault_of (books_words books.now) words.now ≡ Some why) }
 {
     books.ranges();
     if words.is_row(b"account", 3) {
-        return add_account(books, words);
+        return account_of(books, words);
     }
     if words.is_row(b"price", 3) {
-        return add_price(books, words);
+        return price_of(books, words);
     }
     if words.is_row(b"position", 4) {
-        return add_position(books, words);
+        return position_of(books, words);
     }
     if words.is_row(b"call", 3) {
-        return add_call(books, words);
+        return call_of(books, words);
     }
-    Err(Refusal::LineFault(Fault::Word))
+    Err(Fault::Word)
 }
 
+// Adds a row to the books.
+fn add_row(books: &mut Books, row: Row) -> Result<(), OutOfMemory>
+    requires { Fits books.old row }
+    ensures { OnOk result (books.new ≡ with_row books.old row) }
+{
+    match row {
+        Row::Account(account, cash) => books.add_account(account, cash),
+        Row::Price(instrument, price) => books.add_price(instrument, price),
+        Row::Position(account, instrument, quantity) => {
+            books.add_position(account, instrument, quantity)
+        }
+        Row::Call(account, shortfall) => books.add_call(account, shortfall),
+    }
+}
+
+// Whether there is a line of a price.
 fn has_prices(books: &Books) -> bool
     ensures { result ≡ list_any (λ _. true) (map.entries books.now.prices) }
 {
@@ -127,6 +158,7 @@ fn has_prices(books: &Books) -> bool
     books.price_after(0).is_some()
 }
 
+// Whether there is a line of a position.
 fn has_positions(books: &Books) -> bool
     ensures { result ≡ list_any (λ _. true) (map.entries books.now.positions) }
 {
@@ -134,6 +166,7 @@ fn has_positions(books: &Books) -> bool
     books.position_after(0, 0).is_some()
 }
 
+// Whether there is a line of a margin call.
 fn has_calls(books: &Books) -> bool
     ensures { result ≡ list_any (λ _. true) books.now.calls }
 {
@@ -158,6 +191,7 @@ fn is_past_accounts(books: &Books) -> bool
     has_prices(books) || is_past_prices(books)
 }
 
+// Whether no block is left.
 fn is_full(books: &Books) -> bool
     ensures { result
         ≡ nat_le books.now.blocks
@@ -167,11 +201,10 @@ fn is_full(books: &Books) -> bool
     books.used() >= books.blocks()
 }
 
-// The account and the cash of a line.
-fn account_of(books: &Books, words: &Words<'_>) -> Result<(u32, u64), Fault>
+// The row of a line that gives an account.
+fn account_of(books: &Books, words: &Words<'_>) -> Result<Row, Fault>
     requires { (begins (codes "account") words.now && length words.now == 3) ≡ true }
-    ensures fine { OnOk result (fault_of (books_words books.now) words.now ≡ None) }
-    ensures found { IfOk result (λ n. (n.0 ≡ value_at words.now 1) × (n.1 ≡ value_at words.now 2)) }
+    ensures row { IfOk result (λ row. IsRow books.now words.now row) }
     ensures err { IfErr result (λ why. fault_of (books_words books.now) words.now ≡ Some why) }
 {
     books.ranges();
@@ -186,26 +219,13 @@ fn account_of(books: &Books, words: &Words<'_>) -> Result<(u32, u64), Fault>
     if is_full(books) {
         return Err(Fault::Blocks);
     }
-    Ok((account, cash))
+    Ok(Row::Account(account, cash))
 }
 
-fn add_account(books: &mut Books, words: &Words<'_>) -> Result<(), Refusal>
-    requires { (begins (codes "account") words.now && length words.now == 3) ≡ true }
-    ensures added { OnOk result (books_words books.new ≡ books_words books.old ++ words.now ∷ []) }
-    ensures fault { (why : AnyFault) → result ≡ Err (Refusal.LineFault why)
-        → fault_of (books_words books.old) words.now ≡ Some why }
-{
-    books.ranges();
-    let (account, cash) = account_of(books, words)?;
-    books.add_account(account, cash)?;
-    Ok(())
-}
-
-// The instrument and the price of a line.
-fn price_of(books: &Books, words: &Words<'_>) -> Result<(u32, u64), Fault>
+// The row of a line that gives a price.
+fn price_of(books: &Books, words: &Words<'_>) -> Result<Row, Fault>
     requires { (begins (codes "price") words.now && length words.now == 3) ≡ true }
-    ensures fine { OnOk result (fault_of (books_words books.now) words.now ≡ None) }
-    ensures found { IfOk result (λ n. (n.0 ≡ value_at words.now 1) × (n.1 ≡ value_at words.now 2)) }
+    ensures row { IfOk result (λ row. IsRow books.now words.now row) }
     ensures err { IfErr result (λ why. fault_of (books_words books.now) words.now ≡ Some why) }
 {
     books.ranges();
@@ -221,28 +241,13 @@ fn price_of(books: &Books, words: &Words<'_>) -> Result<(u32, u64), Fault>
     if is_full(books) {
         return Err(Fault::Blocks);
     }
-    Ok((instrument, price))
+    Ok(Row::Price(instrument, price))
 }
 
-fn add_price(books: &mut Books, words: &Words<'_>) -> Result<(), Refusal>
-    requires { (begins (codes "price") words.now && length words.now == 3) ≡ true }
-    ensures added { OnOk result (books_words books.new ≡ books_words books.old ++ words.now ∷ []) }
-    ensures fault { (why : AnyFault) → result ≡ Err (Refusal.LineFault why)
-        → fault_of (books_words books.old) words.now ≡ Some why }
-{
-    books.ranges();
-    let (instrument, price) = price_of(books, words)?;
-    books.add_price(instrument, price)?;
-    Ok(())
-}
-
-// The account, the instrument and the quantity of a line.
-fn position_of(books: &Books, words: &Words<'_>) -> Result<(u32, u32, u64), Fault>
+// The row of a line that gives a position.
+fn position_of(books: &Books, words: &Words<'_>) -> Result<Row, Fault>
     requires { (begins (codes "position") words.now && length words.now == 4) ≡ true }
-    ensures fine { OnOk result (fault_of (books_words books.now) words.now ≡ None) }
-    ensures found { IfOk result
-        (λ n. (n.0 ≡ value_at words.now 1) × (n.1 ≡ value_at words.now 2)
-        × (n.2 ≡ value_at words.now 3)) }
+    ensures row { IfOk result (λ row. IsRow books.now words.now row) }
     ensures err { IfErr result (λ why. fault_of (books_words books.now) words.now ≡ Some why) }
 {
     books.ranges();
@@ -265,26 +270,13 @@ fn position_of(books: &Books, words: &Words<'_>) -> Result<(u32, u32, u64), Faul
     if is_full(books) {
         return Err(Fault::Blocks);
     }
-    Ok((account, instrument, quantity))
+    Ok(Row::Position(account, instrument, quantity))
 }
 
-fn add_position(books: &mut Books, words: &Words<'_>) -> Result<(), Refusal>
-    requires { (begins (codes "position") words.now && length words.now == 4) ≡ true }
-    ensures added { OnOk result (books_words books.new ≡ books_words books.old ++ words.now ∷ []) }
-    ensures fault { (why : AnyFault) → result ≡ Err (Refusal.LineFault why)
-        → fault_of (books_words books.old) words.now ≡ Some why }
-{
-    books.ranges();
-    let (account, instrument, quantity) = position_of(books, words)?;
-    books.add_position(account, instrument, quantity)?;
-    Ok(())
-}
-
-// The account and the shortfall of a line.
-fn call_of(books: &Books, words: &Words<'_>) -> Result<(u32, u64), Fault>
+// The row of a line that gives a margin call.
+fn call_of(books: &Books, words: &Words<'_>) -> Result<Row, Fault>
     requires { (begins (codes "call") words.now && length words.now == 3) ≡ true }
-    ensures fine { OnOk result (fault_of (books_words books.now) words.now ≡ None) }
-    ensures found { IfOk result (λ n. (n.0 ≡ value_at words.now 1) × (n.1 ≡ value_at words.now 2)) }
+    ensures row { IfOk result (λ row. IsRow books.now words.now row) }
     ensures err { IfErr result (λ why. fault_of (books_words books.now) words.now ≡ Some why) }
 {
     books.ranges();
@@ -292,17 +284,5 @@ fn call_of(books: &Books, words: &Words<'_>) -> Result<(u32, u64), Fault>
     if books.calls() >= books.ring() {
         return Err(Fault::Limit);
     }
-    Ok((account as u32, shortfall))
-}
-
-fn add_call(books: &mut Books, words: &Words<'_>) -> Result<(), Refusal>
-    requires { (begins (codes "call") words.now && length words.now == 3) ≡ true }
-    ensures added { OnOk result (books_words books.new ≡ books_words books.old ++ words.now ∷ []) }
-    ensures fault { (why : AnyFault) → result ≡ Err (Refusal.LineFault why)
-        → fault_of (books_words books.old) words.now ≡ Some why }
-{
-    books.ranges();
-    let (account, shortfall) = call_of(books, words)?;
-    books.add_call(account, shortfall)?;
-    Ok(())
+    Ok(Row::Call(account as u32, shortfall))
 }

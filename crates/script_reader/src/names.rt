@@ -24,12 +24,14 @@ fn name_of(word: &[u8]) -> Result<&str, Fault>
     Ok(name)
 }
 
+// Whether a word is a name.
 fn is_name(word: &[u8]) -> bool
     ensures { result ≡ is_name word.now }
 {
     !word.is_empty() && word.len() <= LONGEST_NAME && are_letters(word)
 }
 
+// Whether each byte is a small letter.
 fn are_letters(word: &[u8]) -> bool
     ensures { result ≡ list_all (λ b. nat_le 97 b && nat_le b 122) word.now }
 {

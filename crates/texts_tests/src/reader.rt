@@ -9,17 +9,17 @@ use std::test::Fail;
 
 const HEADER: &str = "books 1 blocks 4 instruments 1 ring 1\n";
 
-/// What an input tells.
+// What an input tells.
 enum Told<'a> {
-    /// The opening cash of an account, and how many blocks the books have.
+    // The opening cash of an account, and how many blocks the books have.
     Opening(u32, (Option<u64>, u32)),
-    /// How many callers and scripts there are.
+    // How many callers and scripts there are.
     Counts(u32, u32),
-    /// The name of a caller, and how many scripts it has.
+    // The name of a caller, and how many scripts it has.
     Caller(u32, (&'a str, u32)),
-    /// How many operations a script of a caller has.
+    // How many operations a script of a caller has.
     Length(u32, u32, usize),
-    /// An operation of a script of a caller.
+    // An operation of a script of a caller.
     Operation(u32, u32, usize, Op),
 }
 

@@ -2,8 +2,6 @@
 use Rattle.std.proofs.Common.{◌≡◌, ◌≢◌, ◌⊎◌, inl, inr, ℕ, ◌+◌, ◌<◌, ◌≤◌, ◌^◌, ◌==◌, cond, if◌then◌else◌, List, [], ◌∷◌, ◌++◌, length, map, count_by, refl, sym}
 use Rattle.std.proofs.Common.{ap, ◌∙◌, subst, length-append, arith}
 use Rattle.std.specs.List.{AllByRecursion, concat, join_with_byte}
-use Rattle.std.specs.FinMap as finmap
-use Rattle.std.specs.FinMap.{len-entries}
 use Rattle.std.proofs.lemmas.Bool.{eq-eqb}
 use Rattle.std.proofs.lemmas.Bool.Decides.{eqb_tells}
 use Rattle.std.proofs.lemmas.List.{length-map}
@@ -15,6 +13,7 @@ use Rattle.script_reader.specs.Lines.{IsFreeOf}
 use Rattle.script_reader.specs.Text.{account_line, price_line, position_line, call_line, finish_line}
 use Rattle.script_reader.proofs.Tokens.Cutting.{join-free}
 use Rattle.script_reader.proofs.Texts.Fronting.{count_line}
+use Rattle.script_reader.proofs.Texts.Counting.{few_entries}
 use Rattle.books_report.specs.Checking.{closing_lines}
 use Rattle.books_report.specs.Inner.Audit.{StopsAfter, in_common}
 use Rattle.books_report.proofs.Outputs.Rows.{IsRow}
@@ -87,20 +86,9 @@ stops_within lines text count s = omega (arith, s.count_is, ap length s.lines_ar
 pub few_closing : (b : ClearingBooks) → AreInRange b → length (closing_lines b) < 2 ^ 16
 few_closing b range = omega (
   arith,
-  length-append (map account_line (finmap.entries b.accounts)) (map price_line (finmap.entries b.prices)
-      ++ (map position_line (finmap.entries b.positions) ++ (map call_line b.calls ++ finish_line ∷ []))),
-  length-append (map price_line (finmap.entries b.prices)) (map position_line (finmap.entries b.positions) ++ (map call_line b.calls ++ finish_line ∷ [])),
-  length-append (map position_line (finmap.entries b.positions)) (map call_line b.calls ++ finish_line ∷ []),
+  few_entries b range account_line price_line position_line (map call_line b.calls ++ finish_line ∷ []),
   length-append (map call_line b.calls) (finish_line ∷ []),
-  length-map (finmap.entries b.accounts) account_line,
-  length-map (finmap.entries b.prices) price_line,
-  length-map (finmap.entries b.positions) position_line,
   length-map b.calls call_line,
-  len-entries b.accounts,
-  len-entries b.prices,
-  len-entries b.positions,
-  range.blocks_used,
-  range.blocks.1,
   range.queue,
   range.ring.1,
 )

@@ -236,7 +236,8 @@ turns_of_journal input limit before (ran ∷ scripts) j below replies = (
       (rest ∙ ap (λ books. replies_of input books (places_run scripts)) (sym (books_after_ran input before ran))),
 )
   where
-    rest : map (λ ran. ran.reply) scripts ≡ replies_of input (books_left input (books_after input input.books (places_run before)) ran.place) (places_run scripts)
+    rest : map (λ ran. ran.reply) scripts
+        ≡ replies_of input (books_left input (books_after input input.books (places_run before)) ran.place) (places_run scripts)
     rest = cc
 
 -- what scripts in turn say of their restarts and replies

@@ -1,19 +1,20 @@
 -- Why a line of books is refused, by its kind.
-use Rattle.std.proofs.Common.{◌≡◌, ℕ, ◌+◌, ◌<◌, ◌≤◌, Bool, true, false, not, ◌&&◌, ◌||◌, ◌==◌, nat_le, cond, List, [], ◌∷◌, ◌++◌, codes, drop, length, Option}
-use Rattle.std.proofs.Common.{Some, None, IsSome, subst, refl, sym, ap, ◌∙◌}
+use Rattle.std.proofs.Common.{◌≡◌, ℕ, ◌+◌, Bool, true, false, not, ◌&&◌, ◌||◌, ◌==◌, nat_le, cond, List, [], ◌∷◌, codes, drop, length, Option}
+use Rattle.std.proofs.Common.{Some, None, subst, refl, sym, ap, ◌∙◌}
 use Rattle.std.specs.List.{list_any}
 use Rattle.std.specs.Option.{is_none}
 use Rattle.std.proofs.lemmas.Option.{none-some}
 use Rattle.std.specs.FinMap as finmap
-use Rattle.books_model.specs.declared.limits.TheConstants.{GREATEST_CASH, GREATEST_PRICE, GREATEST_QUANTITY}
-use Rattle.books_model.specs.Books.{ClearingBooks, put_cash, put_price, put_quantity, put_call, used}
-use Rattle.books_model.specs.Ranges.{AreInRange, IsWithin, IsAccountNumber, IsInstrumentOf, IsCall}
+use Rattle.books_model.specs.Books.{ClearingBooks}
+use Rattle.books_model.specs.Ranges.{AreInRange}
 use Rattle.script_reader.specs.declared.fault.Fault.{Fault}
 use Rattle.script_reader.specs.declared.fault.Fault.TheVariants as fault
 use Rattle.script_reader.specs.Inner.LinesAsWords.{books_words}
 use Rattle.script_reader.specs.Forms.{Words, Form, form, books_forms, begins, form_of, ranges_of, value_at, are_numbers, are_in_range}
 use Rattle.script_reader.specs.Faults.{first_reason, kind_of, key_of, takes_block, fault_of}
-use Rattle.script_reader.specs.Inner.Rows.{HasNumbers, account_ranges, price_ranges, position_ranges, call_ranges}
+use Rattle.script_reader.specs.declared.books.Row.TheVariants as row
+use Rattle.script_reader.specs.Inner.BooksRows.{IsRow}
+use Rattle.script_reader.specs.Inner.Rows.{HasNumbers, numbers_fault, account_ranges, price_ranges, position_ranges, call_ranges}
 use Rattle.script_reader.proofs.Conditions.{any_fixed, is_some_list}
 use Rattle.script_reader.proofs.Printing.Printed.{books_fault_is, fault_at, is_late_in, is_low_in}
 use Rattle.script_reader.proofs.Printing.Scripted.{in_books}
@@ -60,6 +61,31 @@ some_is xs = any_fixed true xs
 abbrev pub has_no_block : ClearingBooks → Bool
 has_no_block b = nat_le b.blocks (length (printed b).accounts + length (printed b).prices + length (printed b).positions)
 
+-- the reasons against a row of a kind: its place, its numbers, how many there are, and then its key, what it is of and what it takes
+pub record IsRefused (b : ClearingBooks) (words : Words) (ranges : List (ℕ × ℕ)) (late many low account price full : Bool) : Type 0 where
+  pub fault : fault_of (books_words b) words
+      ≡ reasons false late (not (are_numbers (drop 1 words))) (not (are_in_range (drop 1 words) ranges) || many) low account price full
+
+module _ {b : ClearingBooks} {words : Words} {ranges : List (ℕ × ℕ)} {late many low account price full : Bool}
+    (refused : IsRefused b words ranges late many low account price full) where
+  -- a row behind lines of a later kind
+  pub late_row : late ≡ true → fault_of (books_words b) words ≡ Some fault.Order
+  late_row is = refused.fault ∙ (λ i. reasons false (is i) (not (are_numbers (drop 1 words)))
+      (not (are_in_range (drop 1 words) ranges) || many) low account price full)
+
+  -- a row whose numbers are wrong
+  pub numbers_row : {why : Fault} → late ≡ false → numbers_fault words ranges ≡ Some why → fault_of (books_words b) words ≡ Some why
+  numbers_row {why = why} early wrong = refused.fault
+      ∙ (λ i. reasons false (early i) (not (are_numbers (drop 1 words))) (not (are_in_range (drop 1 words) ranges) || many) low account price full)
+      ∙ numbers_first _ _ many low account price full why wrong
+
+  -- a row whose numbers are read
+  pub read_row : {many' low' account' price' full' : Bool} → late ≡ false → HasNumbers words ranges → many ≡ many' → low ≡ low'
+      → account ≡ account' → price ≡ price' → full ≡ full'
+      → fault_of (books_words b) words ≡ reasons false false false many' low' account' price' full'
+  read_row {many' = many'} {low' = low'} {account' = account'} {price' = price'} {full' = full'} early numbers m l a p f = refused.fault
+      ∙ (λ i. reasons false (early i) (not (numbers.numbers i)) (not (numbers.in_range i) || m i) (l i) (a i) (p i) (f i))
+
 module _ (b : ClearingBooks) (range : AreInRange b) (words : Words) where
   -- what is wrong with a line of a kind
   by_kind : (f : Form) (kind : ℕ) (key : ℕ × ℕ) (call position block : Bool)
@@ -78,54 +104,58 @@ module _ (b : ClearingBooks) (range : AreInRange b) (words : Words) where
       (position_is i && not (list_any (λ e. e.0 == value_at words 2) (printed b).prices)) (block_is i && has_no_block b))
 
   pub account_fault : (begins (codes "account") words && length words == 3) ≡ true
-      → fault_of (books_words b) words ≡ reasons false (is_late_in 0 (printed b)) (not (are_numbers (drop 1 words)))
-      (not (are_in_range (drop 1 words) account_ranges) || false)
-      (is_low_in 0 (value_at words 1, 0) (printed b)) false false (has_no_block b)
+      → IsRefused b words account_ranges (is_late_in 0 (printed b)) false (is_low_in 0 (value_at words 1, 0) (printed b)) false false (has_no_block b)
   account_fault row =
       let k = behind_keyword (codes "account") 2 words row in
       let rest = two_words (drop 1 words) k.1 in
       let e : words ≡ codes "account" ∷ rest.0 ∷ rest.1 ∷ [] = k.0 ∙ ap (λ l. codes "account" ∷ l) rest.2 in
-      by_kind (form (codes "account") account_ranges) 0 (value_at words 1, 0) false
-      false true (ap (form_of (books_forms b.instruments)) e) (ap kind_of e) (ap key_of e
-      ∙ sym (ap (λ w. (value_at w 1, 0)) e)) (ap (begins (codes "call")) e) (ap (begins (codes "position")) e) (ap takes_block e)
+      record {
+        fault = by_kind (form (codes "account") account_ranges) 0 (value_at words 1, 0) false
+            false true (ap (form_of (books_forms b.instruments)) e) (ap kind_of e) (ap key_of e
+            ∙ sym (ap (λ w. (value_at w 1, 0)) e)) (ap (begins (codes "call")) e) (ap (begins (codes "position")) e) (ap takes_block e);
+      }
 
   pub price_fault : (begins (codes "price") words && length words == 3) ≡ true
-      → fault_of (books_words b) words ≡ reasons false (is_late_in 1 (printed b)) (not (are_numbers (drop 1 words)))
-      (not (are_in_range (drop 1 words) (price_ranges b.instruments)) || false)
-      (is_low_in 1 (value_at words 1, 0) (printed b)) false false (has_no_block b)
+      → IsRefused b words (price_ranges b.instruments) (is_late_in 1 (printed b)) false (is_low_in 1 (value_at words 1, 0) (printed b)) false false
+      (has_no_block b)
   price_fault row =
       let k = behind_keyword (codes "price") 2 words row in
       let rest = two_words (drop 1 words) k.1 in
       let e : words ≡ codes "price" ∷ rest.0 ∷ rest.1 ∷ [] = k.0 ∙ ap (λ l. codes "price" ∷ l) rest.2 in
-      by_kind (form (codes "price") (price_ranges b.instruments)) 1 (value_at words 1, 0) false false
-      true (ap (form_of (books_forms b.instruments)) e) (ap kind_of e) (ap key_of e
-      ∙ sym (ap (λ w. (value_at w 1, 0)) e)) (ap (begins (codes "call")) e) (ap (begins (codes "position")) e) (ap takes_block e)
+      record {
+        fault = by_kind (form (codes "price") (price_ranges b.instruments)) 1 (value_at words 1, 0) false false
+            true (ap (form_of (books_forms b.instruments)) e) (ap kind_of e) (ap key_of e
+            ∙ sym (ap (λ w. (value_at w 1, 0)) e)) (ap (begins (codes "call")) e) (ap (begins (codes "position")) e) (ap takes_block e);
+      }
 
   pub position_fault : (begins (codes "position") words && length words == 4) ≡ true
-      → fault_of (books_words b) words ≡ reasons false (is_late_in 2 (printed b)) (not (are_numbers (drop 1 words)))
-      (not (are_in_range (drop 1 words) (position_ranges b.instruments)) || false)
+      → IsRefused b words (position_ranges b.instruments) (is_late_in 2 (printed b)) false
       (is_low_in 2 (value_at words 1, value_at words 2) (printed b))
-      (not (list_any (λ e. e.0 == value_at words 1) (printed b).accounts)) (not (list_any (λ e. e.0 == value_at words 2) (printed b).prices)) (has_no_block b)
+      (not (list_any (λ e. e.0 == value_at words 1) (printed b).accounts)) (not (list_any (λ e. e.0 == value_at words 2) (printed b).prices))
+      (has_no_block b)
   position_fault row =
       let k = behind_keyword (codes "position") 3 words row in
       let rest = three_words (drop 1 words) k.1 in
       let e : words ≡ codes "position" ∷ rest.0 ∷ rest.1 ∷ rest.2 ∷ [] = k.0 ∙ ap (λ l. codes "position" ∷ l) rest.3 in
-      by_kind (form (codes "position") (position_ranges b.instruments)) 2 (
-        value_at words 1,
-        value_at words 2,
-      ) false true true (ap (form_of (books_forms b.instruments)) e) (ap kind_of e) (ap key_of e
-      ∙ sym (ap (λ w. (value_at w 1, value_at w 2)) e)) (ap (begins (codes "call")) e) (ap (begins (codes "position")) e) (ap takes_block e)
+      record {
+        fault = by_kind (form (codes "position") (position_ranges b.instruments)) 2 (
+          value_at words 1,
+          value_at words 2,
+        ) false true true (ap (form_of (books_forms b.instruments)) e) (ap kind_of e) (ap key_of e
+            ∙ sym (ap (λ w. (value_at w 1, value_at w 2)) e)) (ap (begins (codes "call")) e) (ap (begins (codes "position")) e) (ap takes_block e);
+      }
 
   pub call_fault : (begins (codes "call") words && length words == 3) ≡ true
-      → fault_of (books_words b) words ≡ reasons false false (not (are_numbers (drop 1 words)))
-      (not (are_in_range (drop 1 words) call_ranges) || nat_le b.ring (length b.calls)) false false false false
+      → IsRefused b words call_ranges false (nat_le b.ring (length b.calls)) false false false false
   call_fault row =
       let k = behind_keyword (codes "call") 2 words row in
       let rest = two_words (drop 1 words) k.1 in
       let e : words ≡ codes "call" ∷ rest.0 ∷ rest.1 ∷ [] = k.0 ∙ ap (λ l. codes "call" ∷ l) rest.2 in
-      by_kind (form (codes "call") call_ranges) 3 (value_at words 1, 0) true false
-      false (ap (form_of (books_forms b.instruments)) e) (ap kind_of e) (ap key_of e
-      ∙ sym (ap (λ w. (value_at w 1, 0)) e)) (ap (begins (codes "call")) e) (ap (begins (codes "position")) e) (ap takes_block e)
+      record {
+        fault = by_kind (form (codes "call") call_ranges) 3 (value_at words 1, 0) true false
+            false (ap (form_of (books_forms b.instruments)) e) (ap kind_of e) (ap key_of e
+            ∙ sym (ap (λ w. (value_at w 1, 0)) e)) (ap (begins (codes "call")) e) (ap (begins (codes "position")) e) (ap takes_block e);
+      }
 
   -- no kind is that of the line
   pub word_fault : (begins (codes "account") words && length words == 3) ≡ false
@@ -152,82 +182,56 @@ module _ (b : ClearingBooks) (range : AreInRange b) (words : Words) where
       by None e = refl
       by (Some f) e = absurd (none-some _ (sym e))
 
--- what is wrong with a position whose numbers are read
-pub position_reasons : (b : ClearingBooks) (range : AreInRange b) (words : Words) (low account price full : Bool)
-    → (begins (codes "position") words && length words == 4) ≡ true → list_any (λ _. true) b.calls ≡ false
-    → HasNumbers words (position_ranges b.instruments)
-    → is_low_in 2 (value_at words 1, value_at words 2) (printed b) ≡ low
-    → list_any (λ e. e.0 == value_at words 1) (printed b).accounts ≡ account
-    → list_any (λ e. e.0 == value_at words 2) (printed b).prices ≡ price → has_no_block b ≡ full
-    → fault_of (books_words b) words ≡ reasons false false false false low (not account) (not price) full
-position_reasons b range words low account price full row late numbers low_is account_is price_is full_is =
-    position_fault b range words row
-    ∙ (λ i. reasons false ((sym (some_is b.calls) ∙ late) i) (not (numbers.numbers i))
-    (not (numbers.in_range i) || false) (low_is i) (not (account_is i)) (not (price_is i)) (full_is i))
+-- whether lines of a later kind stand behind those of accounts, of prices and of positions
+pub accounts_late : (b : ClearingBooks) → is_late_in 0 (printed b) ≡ (list_any (λ _. true) (finmap.entries b.prices)
+    || (list_any (λ _. true) (finmap.entries b.positions) || list_any (λ _. true) b.calls))
+accounts_late b = sym (λ i. some_is (finmap.entries b.prices) i || (some_is (finmap.entries b.positions) i || some_is b.calls i))
+
+pub prices_late : (b : ClearingBooks) → is_late_in 1 (printed b) ≡ (list_any (λ _. true) (finmap.entries b.positions) || list_any (λ _. true) b.calls)
+prices_late b = sym (λ i. some_is (finmap.entries b.positions) i || some_is b.calls i)
 
 module _ (b : ClearingBooks) (range : AreInRange b) where
   -- no reason applies to a line behind the lines of books
   at_books : (words : Words) → fault_of (books_words b) words ≡ None → fault_at (printed b) words ≡ None
   at_books words none = sym (in_books (printed b) words ∙ books_fault_is (printed b) words (printed_small b range)) ∙ none
 
-  -- what a line of an account adds
-  pub record GivesAccount (words : Words) : Type 0 where
-    pub number_is : IsAccountNumber (value_at words 1)
-    pub fits : value_at words 2 ≤ GREATEST_CASH
-    pub absent : finmap.get b.accounts (value_at words 1) ≡ None
-    pub room : used b < b.blocks
-    pub lines : books_words (put_cash b (value_at words 1) (value_at words 2)) ≡ books_words b ++ words ∷ []
-
+  -- the rows that lines without fault give
   pub gives_account : (words : Words) → (begins (codes "account") words && length words == 3) ≡ true
-      → fault_of (books_words b) words ≡ None → GivesAccount words
-  gives_account words row none =
-      let k = behind_keyword (codes "account") 2 words row in
+      → fault_of (books_words b) words ≡ None → IsRow b words (row.Account (value_at words 1) (value_at words 2))
+  gives_account words is none =
+      let k = behind_keyword (codes "account") 2 words is in
       let rest = two_words (drop 1 words) k.1 in
       let e : words ≡ codes "account" ∷ rest.0 ∷ rest.1 ∷ [] = k.0 ∙ ap (λ l. codes "account" ∷ l) rest.2 in
       let h = adds_account b range rest.0 rest.1 (subst (λ w. fault_at (printed b) w ≡ None) e (at_books words none)) in
-      subst GivesAccount (sym e) (record { number_is = h.number_is; fits = h.fits; absent = h.absent; room = h.room; lines = h.lines })
+      subst (λ w. IsRow b w (row.Account (value_at w 1) (value_at w 2))) (sym e)
+      (record { fits = (h.number_is, h.fits, h.absent, h.room); lines = h.lines })
 
-  pub record GivesPrice (words : Words) : Type 0 where
-    pub number_is : IsInstrumentOf b (value_at words 1)
-    pub fits : IsWithin 1 GREATEST_PRICE (value_at words 2)
-    pub absent : finmap.get b.prices (value_at words 1) ≡ None
-    pub room : used b < b.blocks
-    pub lines : books_words (put_price b (value_at words 1) (value_at words 2)) ≡ books_words b ++ words ∷ []
-
-  pub gives_price : (words : Words) → (begins (codes "price") words && length words == 3) ≡ true → fault_of (books_words b) words ≡ None → GivesPrice words
-  gives_price words row none =
-      let k = behind_keyword (codes "price") 2 words row in
+  pub gives_price : (words : Words) → (begins (codes "price") words && length words == 3) ≡ true → fault_of (books_words b) words ≡ None
+      → IsRow b words (row.Price (value_at words 1) (value_at words 2))
+  gives_price words is none =
+      let k = behind_keyword (codes "price") 2 words is in
       let rest = two_words (drop 1 words) k.1 in
       let e : words ≡ codes "price" ∷ rest.0 ∷ rest.1 ∷ [] = k.0 ∙ ap (λ l. codes "price" ∷ l) rest.2 in
       let h = adds_price b range rest.0 rest.1 (subst (λ w. fault_at (printed b) w ≡ None) e (at_books words none)) in
-      subst GivesPrice (sym e) (record { number_is = h.number_is; fits = h.fits; absent = h.absent; room = h.room; lines = h.lines })
-
-  pub record GivesPosition (words : Words) : Type 0 where
-    pub given : IsSome (finmap.get b.accounts (value_at words 1))
-    pub priced : IsSome (finmap.get b.prices (value_at words 2))
-    pub fits : IsWithin 1 GREATEST_QUANTITY (value_at words 3)
-    pub absent : finmap.get b.positions (value_at words 1, value_at words 2) ≡ None
-    pub room : used b < b.blocks
-    pub lines : books_words (put_quantity b (value_at words 1) (value_at words 2) (value_at words 3)) ≡ books_words b ++ words ∷ []
+      subst (λ w. IsRow b w (row.Price (value_at w 1) (value_at w 2))) (sym e)
+      (record { fits = (h.number_is, h.fits, h.absent, h.room); lines = h.lines })
 
   pub gives_position : (words : Words) → (begins (codes "position") words && length words == 4) ≡ true
-      → fault_of (books_words b) words ≡ None → GivesPosition words
-  gives_position words row none =
-      let k = behind_keyword (codes "position") 3 words row in
+      → fault_of (books_words b) words ≡ None → IsRow b words (row.Position (value_at words 1) (value_at words 2) (value_at words 3))
+  gives_position words is none =
+      let k = behind_keyword (codes "position") 3 words is in
       let rest = three_words (drop 1 words) k.1 in
       let e : words ≡ codes "position" ∷ rest.0 ∷ rest.1 ∷ rest.2 ∷ [] = k.0 ∙ ap (λ l. codes "position" ∷ l) rest.3 in
       let h = adds_position b range rest.0 rest.1 rest.2 (subst (λ w. fault_at (printed b) w ≡ None) e (at_books words none)) in
-      subst GivesPosition (sym e) (record { given = h.given; priced = h.priced; fits = h.fits; absent = h.absent; room = h.room; lines = h.lines })
+      subst (λ w. IsRow b w (row.Position (value_at w 1) (value_at w 2) (value_at w 3))) (sym e)
+      (record { fits = (h.given, h.priced, h.fits, h.absent, h.room); lines = h.lines })
 
-  pub record GivesCall (words : Words) : Type 0 where
-    pub call : IsCall (value_at words 1, value_at words 2)
-    pub room : length b.calls < b.ring
-    pub lines : books_words (put_call b (value_at words 1) (value_at words 2)) ≡ books_words b ++ words ∷ []
-
-  pub gives_call : (words : Words) → (begins (codes "call") words && length words == 3) ≡ true → fault_of (books_words b) words ≡ None → GivesCall words
-  gives_call words row none =
-      let k = behind_keyword (codes "call") 2 words row in
+  pub gives_call : (words : Words) → (begins (codes "call") words && length words == 3) ≡ true → fault_of (books_words b) words ≡ None
+      → IsRow b words (row.Call (value_at words 1) (value_at words 2))
+  gives_call words is none =
+      let k = behind_keyword (codes "call") 2 words is in
       let rest = two_words (drop 1 words) k.1 in
       let e : words ≡ codes "call" ∷ rest.0 ∷ rest.1 ∷ [] = k.0 ∙ ap (λ l. codes "call" ∷ l) rest.2 in
       let h = adds_call b range rest.0 rest.1 (subst (λ w. fault_at (printed b) w ≡ None) e (at_books words none)) in
-      subst GivesCall (sym e) (record { call = h.call; room = h.room; lines = h.lines })
+      subst (λ w. IsRow b w (row.Call (value_at w 1) (value_at w 2))) (sym e)
+      (record { fits = (h.call, h.room); lines = h.lines })

@@ -22,8 +22,10 @@ use Rattle.script_reader.specs.Number.{is_number}
 use Rattle.script_reader.specs.Text.{number, header_words, account_words, price_words, position_words, call_words}
 use Rattle.script_reader.specs.Inner.LinesAsWords.{books_words}
 use Rattle.std.specs.Option.{is_none}
-use Rattle.books_model.specs.declared.limits.TheConstants.{GREATEST_ACCOUNT, GREATEST_CASH, GREATEST_PRICE, GREATEST_QUANTITY, GREATEST_SHORTFALL, MOST_BLOCKS, MOST_INSTRUMENTS, MOST_RING}
-use Rattle.script_reader.specs.Forms.{Words, books_forms, begins, form_of, ranges_of, value_of, value_at, are_numbers, are_in_range, accounts, prices, quantities}
+use Rattle.books_model.specs.declared.limits.TheConstants.{GREATEST_ACCOUNT, GREATEST_CASH, GREATEST_PRICE, GREATEST_QUANTITY, GREATEST_SHORTFALL}
+use Rattle.books_model.specs.declared.limits.TheConstants.{MOST_BLOCKS, MOST_INSTRUMENTS, MOST_RING}
+use Rattle.script_reader.specs.Forms.{Words, books_forms, begins, form_of, ranges_of, value_of, value_at, are_numbers, are_in_range, accounts, prices}
+use Rattle.script_reader.specs.Forms.{quantities}
 use Rattle.script_reader.specs.declared.fault.Fault.TheVariants as fault
 use Rattle.script_reader.specs.Faults.{header_fault, kind_of, takes_block, key_of, is_below}
 use Rattle.script_reader.proofs.Conditions.{both, passed, neither, or_false, is_some_list}

@@ -7,6 +7,7 @@ use Rattle.std.specs.FinMap.{len-entries}
 use Rattle.std.proofs.lemmas.List.{length-map}
 use Rattle.std.proofs.lemmas.List.Concat.{flat_map-append}
 use Rattle.std.proofs.lemmas.List.Sums.{sum_by-append, sum_by-cons}
+use Rattle.books_model.specs.declared.limits.TheConstants.{MOST_BLOCKS}
 use Rattle.books_model.specs.declared.script.Part.{Part}
 use Rattle.books_model.specs.declared.script.Part.TheVariants as part
 use Rattle.books_model.specs.Scripts.{operations_in, operations_of, alternatives_in}
@@ -29,23 +30,31 @@ use Rattle.script_reader.proofs.Texts.Fronting.{count_line, count_lines, take_fr
 use Rattle.script_reader.proofs.Texts.OneReading.{finish_words}
 use Rattle.script_reader.proofs.Texts.Deciding.{spelled}
 
--- books have few lines
-few_of_books : (b : ClearingBooks) → AreInRange b → length (books_words b) ≤ 20000
-few_of_books b range = omega (
+-- lines for the entries of books in range, and lines behind them
+pub few_entries : {A : Type 0} (b : ClearingBooks) → AreInRange b → (f g : ℕ × ℕ → A) (h : (ℕ × ℕ) × ℕ → A) (ends : List A)
+    → length (map f (finmap.entries b.accounts) ++ (map g (finmap.entries b.prices) ++ (map h (finmap.entries b.positions) ++ ends)))
+    ≤ MOST_BLOCKS + length ends
+few_entries b range f g h ends = omega (
   arith,
-  length-append (map account_words (finmap.entries b.accounts)) (map price_words (finmap.entries b.prices)
-      ++ (map position_words (finmap.entries b.positions) ++ map call_words b.calls)),
-  length-append (map price_words (finmap.entries b.prices)) (map position_words (finmap.entries b.positions) ++ map call_words b.calls),
-  length-append (map position_words (finmap.entries b.positions)) (map call_words b.calls),
-  length-map (finmap.entries b.accounts) account_words,
-  length-map (finmap.entries b.prices) price_words,
-  length-map (finmap.entries b.positions) position_words,
-  length-map b.calls call_words,
+  length-append (map f (finmap.entries b.accounts)) (map g (finmap.entries b.prices) ++ (map h (finmap.entries b.positions) ++ ends)),
+  length-append (map g (finmap.entries b.prices)) (map h (finmap.entries b.positions) ++ ends),
+  length-append (map h (finmap.entries b.positions)) ends,
+  length-map (finmap.entries b.accounts) f,
+  length-map (finmap.entries b.prices) g,
+  length-map (finmap.entries b.positions) h,
   len-entries b.accounts,
   len-entries b.prices,
   len-entries b.positions,
   range.blocks_used,
   range.blocks.1,
+)
+
+-- books have few lines
+few_of_books : (b : ClearingBooks) → AreInRange b → length (books_words b) ≤ 20000
+few_of_books b range = omega (
+  arith,
+  few_entries b range account_words price_words position_words (map call_words b.calls),
+  length-map b.calls call_words,
   range.queue,
   range.ring.1,
 )

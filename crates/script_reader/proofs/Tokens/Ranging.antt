@@ -1,12 +1,12 @@
 -- What is wrong with the numbers of a line.
-use Rattle.std.proofs.Common.{◌≡◌, ℕ, ◌<◌, Bool, true, false, not, ◌&&◌, ◌==◌, min, List, [], ◌∷◌, drop, length, Some, refl, ap, ◌∙◌, arith}
+use Rattle.std.proofs.Common.{◌≡◌, ℕ, ◌<◌, Bool, true, false, not, ◌&&◌, ◌==◌, min, List, [], ◌∷◌, drop, length, Some, refl, sym, ap, subst, ◌∙◌, arith}
 use Rattle.std.proofs.lemmas.Bool.{le-leb, leb-true, eqb-true}
 use Rattle.books_model.specs.Ranges.{IsWithin}
 use Rattle.script_reader.specs.declared.fault.Fault.TheVariants as fault
 use Rattle.script_reader.specs.Lines.{word_at}
 use Rattle.script_reader.specs.Forms.{Words, begins, value_of, value_at, is_in_range, are_numbers, are_in_range}
 use Rattle.script_reader.specs.Faults.{first_reason}
-use Rattle.script_reader.specs.Inner.Rows.{numbers_fault}
+use Rattle.script_reader.specs.Inner.Rows.{HasNumbers, numbers_fault}
 use Rattle.script_reader.proofs.Tokens.Numerals.{greatest_u64}
 use Rattle.script_reader.proofs.Conditions.{both, and_true}
 
@@ -67,3 +67,14 @@ second_within (w ∷ a ∷ b ∷ words) low high first ranges long h = let parts
 -- a row has so many words
 pub row_length : (k : List ℕ) (n : ℕ) (words : Words) → (begins k words && length words == n) ≡ true → length words ≡ n
 row_length k n words h = eqb-true (length words) n (both h).1
+
+-- the first number of a row of so many words, and the second, as they are read
+pub first_read : (k : List ℕ) (n : ℕ) (words : Words) (low high : ℕ) (ranges : List (ℕ × ℕ)) (v : ℕ) → 1 < n
+    → (begins k words && length words == n) ≡ true → HasNumbers words ((low, high) ∷ ranges) → v ≡ value_at words 1 → IsWithin low high v
+first_read k n words low high ranges v more row numbers is =
+    subst (IsWithin low high) (sym is) (first_within words low high ranges (omega (arith, row_length k n words row, more)) numbers.in_range)
+
+pub second_read : (k : List ℕ) (n : ℕ) (words : Words) (low high : ℕ) (first : ℕ × ℕ) (ranges : List (ℕ × ℕ)) (v : ℕ) → 2 < n
+    → (begins k words && length words == n) ≡ true → HasNumbers words (first ∷ (low, high) ∷ ranges) → v ≡ value_at words 2 → IsWithin low high v
+second_read k n words low high first ranges v more row numbers is =
+    subst (IsWithin low high) (sym is) (second_within words low high first ranges (omega (arith, row_length k n words row, more)) numbers.in_range)

@@ -27,7 +27,8 @@ use Rattle.script_reader.proofs.Conditions.{or_right}
 use Rattle.script_reader.proofs.Printing.Printed.{Printed, IsSmall}
 use Rattle.script_reader.proofs.WithoutFault.NoFault.{AreWithin, texts_are_numbers, texts_are_in_range}
 use Rattle.script_reader.proofs.Printing.Sections.{rises_entries, rises_follow, number_less, pair_less, each_entry, all_follow}
-use Rattle.script_reader.proofs.WithoutFault.Faultless.{faultless_append, IsAccount, IsPrice, IsPosition, IsMarginCall, small_account, small_price, small_position}
+use Rattle.script_reader.proofs.WithoutFault.Faultless.{faultless_append, IsAccount, IsPrice, IsPosition, IsMarginCall, small_account, small_price}
+use Rattle.script_reader.proofs.WithoutFault.Faultless.{small_position}
 use Rattle.script_reader.proofs.WithoutFault.Faultless.{accounts_faultless, prices_faultless, positions_faultless, calls_faultless}
 
 -- a key that is found is one of the keys

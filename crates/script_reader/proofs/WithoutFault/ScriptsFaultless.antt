@@ -57,7 +57,8 @@ operation-AreWords books fits (op.Trade a b i q) h =
     row_are_words (codes "trade") (a ∷ b ∷ i ∷ q ∷ []) (accounts ∷ accounts ∷ (1, books.instruments)
     ∷ quantities ∷ []) (word_from_test (codes "trade") refl) refl (h.0, lit< tt, (h.1, lit< tt, (h.2, fits, (h.3, lit< tt, tt))))
 operation-AreWords books fits (op.Margin a m) h =
-    row_are_words (codes "margin") (a ∷ m ∷ []) (accounts ∷ (1, GREATEST_RATE) ∷ []) (word_from_test (codes "margin") refl) refl (h.0, lit< tt, (h.1, lit< tt, tt))
+    row_are_words (codes "margin") (a ∷ m ∷ []) (accounts ∷ (1, GREATEST_RATE) ∷ []) (word_from_test (codes "margin") refl) refl
+    (h.0, lit< tt, (h.1, lit< tt, tt))
 operation-AreWords books fits op.Next h = row_are_words (codes "next") [] [] (word_from_test (codes "next") refl) refl tt
 operation-AreWords books fits (op.Show a) h =
     row_are_words (codes "show") (a ∷ []) (accounts ∷ []) (word_from_test (codes "show") refl) refl (h, lit< tt, tt)

@@ -1,10 +1,9 @@
-use Rattle.std.proofs.Common.{◌≡◌, ◌∷◌, [], ◌++◌, List, codes, Err, sym, ap, subst, ◌∙◌, append_assoc}
+use Rattle.std.proofs.Common.{◌≡◌, ◌∷◌, [], ◌++◌, List, codes, Some, sym, ap, subst, ◌∙◌, append_assoc}
 use Rattle.std.specs.List.{flat_map}
 use Rattle.std.proofs.lemmas.List.Concat.{flat_map-append}
 use Rattle.std.proofs.lemmas.Result.{err_from_is_err_and}
 use Rattle.books_model.specs.Books.{ClearingBooks}
 use Rattle.books_model.specs.Ranges.{AreInRange}
-use Rattle.script_reader.specs.declared.fault.Refusal.TheVariants as refusal
 use Rattle.script_reader.specs.Text.{line}
 use Rattle.script_reader.specs.Inner.LinesAsWords.{books_words}
 use Rattle.script_reader.specs.Forms.{Words}
@@ -22,7 +21,7 @@ read_so_far books first more range whole = faultless_rest [] (books_words first)
 pub loop-words-preserved : goal.loop-words-preserved
 loop-words-preserved c = record {
   more = c.loop-words.invariant.more ++ c.in_ok-words.words ∷ [];
-  whole = c.in_ok-add_line.ensures.added ∙ ap (λ l. l ++ c.in_ok-words.words ∷ []) c.loop-words.invariant.whole
+  whole = (ap books_words c.in_ok-add_row.ensures ∙ c.in_ok-row.ensures.row.lines) ∙ ap (λ l. l ++ c.in_ok-words.words ∷ []) c.loop-words.invariant.whole
       ∙ append_assoc (books_words c.args.books.now) c.loop-words.invariant.more (c.in_ok-words.words ∷ []);
   text = more_text c.args.lines.now c.loop-words.lines c.words.new.self c.loop-words.invariant.more c.in_ok-words.words
       c.loop-words.invariant.text c.in_ok-words.ensures.found.1;
@@ -50,13 +49,13 @@ returns-then-is_only-clause-text c =
     (sym (flat_map-append line (books_words c.args.books.now) c.loop-words.invariant.more) ∙ ap (flat_map line) (sym c.loop-words.invariant.whole))
     ∙ ap (λ l. flat_map line (books_words c.loop-words.books) ++ l) (c.in_ok-words.ensures.found.1 ∙ ap (λ w. line w ++ c.words.new.self) scripts)
 
-pub returns-in_err-add_line-clause-fault : goal.returns-in_err-add_line-clause-fault
-returns-in_err-add_line-clause-fault c why e =
-    let p = err_from_is_err_and c.from_residual-in_err-add_line.result c.from_residual-in_err-add_line.ensures.1 in
-    let same : c.in_err-add_line.field-0.0 ≡ refusal.LineFault why = cc (p.1, p.2, e) in
+pub returns-in_err-row-clause-fault : goal.returns-in_err-row-clause-fault
+returns-in_err-row-clause-fault c why e =
+    let p = err_from_is_err_and c.from_residual-in_err-row.result c.from_residual-in_err-row.ensures.1 in
+    let same : c.in_err-row.field-0.0 ≡ why = cc (p.1, p.2, e) in
     behind_more (books_words c.args.books.now) c.loop-words.invariant.more c.args.lines.now c.loop-words.lines
     c.words.new.self why (read_so_far c.loop-words.books c.args.books.now c.loop-words.invariant.more
     c.ranges-in-loop-words.ensures c.loop-words.invariant.whole) c.loop-words.invariant.text
     (behind_line (books_words c.args.books.now ++ c.loop-words.invariant.more) c.loop-words.lines c.words.new.self
     c.in_ok-words.words why c.in_ok-words.ensures.found.0 c.in_ok-words.ensures.found.1
-    (ap (λ b. fault_of b c.in_ok-words.words) (sym c.loop-words.invariant.whole) ∙ c.add_line.ensures.fault why (c.in_err-add_line.was ∙ ap Err same)))
+    (ap (λ b. fault_of b c.in_ok-words.words) (sym c.loop-words.invariant.whole) ∙ c.in_err-row.ensures.err ∙ ap Some same))

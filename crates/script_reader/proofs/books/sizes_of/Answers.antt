@@ -14,7 +14,8 @@ use Rattle.script_reader.proofs.books.sizes_of.Goals as goal
 -- what is wrong with a header whose words and whose numbers are tested
 tested : (words : Words) (header numbers ranges : Bool) → is_header words ≡ header
     → (is_number (word_at words 3) && (is_number (word_at words 5) && (is_number (word_at words 7) && true))) ≡ numbers
-    → (is_in_range (word_at words 3, (1, MOST_BLOCKS)) && (is_in_range (word_at words 5, (1, MOST_INSTRUMENTS)) && (is_in_range (word_at words 7, (1, MOST_RING)) && true))) ≡ ranges
+    → (is_in_range (word_at words 3, (1, MOST_BLOCKS))
+    && (is_in_range (word_at words 5, (1, MOST_INSTRUMENTS)) && (is_in_range (word_at words 7, (1, MOST_RING)) && true))) ≡ ranges
     → header_fault words ≡ first_reason ((not header, fault.Header) ∷ (not numbers, fault.Number) ∷ (not ranges, fault.Limit) ∷ [])
 tested words header numbers ranges h n r i = first_reason ((not (h i), fault.Header) ∷ (not (n i), fault.Number) ∷ (not (r i), fault.Limit) ∷ [])
 
@@ -27,7 +28,8 @@ no_number words h n = tested words true false _ h n refl
 beyond : (words : Words) → is_header words ≡ true
     → (is_number (word_at words 3) && (is_number (word_at words 5) && (is_number (word_at words 7) && true))) ≡ true
     → (is_in_range (word_at words 3, (1, MOST_BLOCKS)) &&
-    (is_in_range (word_at words 5, (1, MOST_INSTRUMENTS)) && (is_in_range (word_at words 7, (1, MOST_RING)) && true))) ≡ false → header_fault words ≡ Some fault.Limit
+    (is_in_range (word_at words 5, (1, MOST_INSTRUMENTS)) && (is_in_range (word_at words 7, (1, MOST_RING)) && true))) ≡ false
+    → header_fault words ≡ Some fault.Limit
 beyond words h n r = tested words true true false h n r
 
 pub returns-in_err-blocks-clause-err : goal.returns-in_err-blocks-clause-err
@@ -82,12 +84,14 @@ returns-clause-fine c = tested c.args.words.now true true true (sym c.is_header.
     c.in_ok-blocks.ensures.found.2 c.in_ok-both_within.ensures.ok.0)
     (and_true (ranged_true (word_at c.args.words.now 5) 1 MOST_INSTRUMENTS c.in_ok-blocks.instruments (lit< tt)
     c.in_ok-blocks.ensures.found.3 c.in_ok-both_within.ensures.ok.1)
-    (and_true (ranged_true (word_at c.args.words.now 7) 1 MOST_RING c.in_ok-ring.ring (lit< tt) c.in_ok-ring.ensures.found.1 c.in_ok-within.ensures.range.0) refl)))
+    (and_true (ranged_true (word_at c.args.words.now 7) 1 MOST_RING c.in_ok-ring.ring (lit< tt) c.in_ok-ring.ensures.found.1
+    c.in_ok-within.ensures.range.0) refl)))
 
 pub returns-clause-found : goal.returns-clause-found
 returns-clause-found c = (
   ranged_value (word_at c.args.words.now 3) 1 MOST_BLOCKS c.in_ok-blocks.blocks (lit< tt) c.in_ok-blocks.ensures.found.2 c.in_ok-both_within.ensures.ok.0,
-  ranged_value (word_at c.args.words.now 5) 1 MOST_INSTRUMENTS c.in_ok-blocks.instruments (lit< tt) c.in_ok-blocks.ensures.found.3 c.in_ok-both_within.ensures.ok.1,
+  ranged_value (word_at c.args.words.now 5) 1 MOST_INSTRUMENTS c.in_ok-blocks.instruments (lit< tt) c.in_ok-blocks.ensures.found.3
+      c.in_ok-both_within.ensures.ok.1,
   c.in_ok-within.ensures.range.1 ∙ ranged_value (word_at c.args.words.now 7) 1 MOST_RING c.in_ok-ring.ring (lit< tt)
       c.in_ok-ring.ensures.found.1 c.in_ok-within.ensures.range.0,
 )

@@ -8,23 +8,27 @@ use Rattle.script_reader.proofs.operations.with_three_numbers.Goals as goal
 pub returns-in_err-from-clause-err : goal.returns-in_err-from-clause-err
 returns-in_err-from-clause-err c =
     let p = err_from_is_err_and c.from_residual.result c.from_residual.ensures.1 in
-    rw (p.1, p.2) (λ n. three_wrong (operation_forms n) c.args.words.now (codes "move") accounts accounts amounts _ (λ a b d. refl) (sym c.is_row.ensures ∙ c.if-is_row.true) c.in_err-from.ensures.err)
+    rw (p.1, p.2) (λ n. three_wrong (operation_forms n) c.args.words.now (codes "move") accounts accounts amounts _ (λ a b d. refl)
+    (sym c.is_row.ensures ∙ c.if-is_row.true) c.in_err-from.ensures.err)
 
 pub overflow_cast-result : goal.overflow_cast-result
-overflow_cast-result c = let read = row_three (codes "move") c.args.words.now accounts accounts amounts c.in_ok-from.from c.in_ok-from.to c.in_ok-from.amount (sym c.is_row.ensures
-    ∙ c.if-is_row.true) (lit< tt) (lit< tt) (lit< tt) c.in_ok-from.ensures.found.0 c.in_ok-from.ensures.found.1
-    c.in_ok-from.ensures.found.2 c.in_ok-from.ensures.found.3 in omega (arith, read.0.0.1)
+overflow_cast-result c = omega (
+  arith,
+  (row_three (codes "move") c.args.words.now accounts accounts amounts (sym c.is_row.ensures ∙ c.if-is_row.true) (lit< tt) (lit< tt) (lit< tt)
+      c.in_ok-from.ensures.found).0.0.1,
+)
 
 pub overflow_cast-result-then-is_row : goal.overflow_cast-result-then-is_row
-overflow_cast-result-then-is_row c = let read =
-    row_three (codes "move") c.args.words.now accounts accounts amounts c.in_ok-from.from
-    c.in_ok-from.to c.in_ok-from.amount (sym c.is_row.ensures ∙ c.if-is_row.true) (lit< tt) (lit< tt) (lit< tt)
-    c.in_ok-from.ensures.found.0 c.in_ok-from.ensures.found.1 c.in_ok-from.ensures.found.2 c.in_ok-from.ensures.found.3 in omega (arith, read.0.1.1)
+overflow_cast-result-then-is_row c = omega (
+  arith,
+  (row_three (codes "move") c.args.words.now accounts accounts amounts (sym c.is_row.ensures ∙ c.if-is_row.true) (lit< tt) (lit< tt) (lit< tt)
+      c.in_ok-from.ensures.found).0.1.1,
+)
 
 pub returns-then-is_row-clause-found : goal.returns-then-is_row-clause-found
-returns-then-is_row-clause-found c books = row_three (codes "move") c.args.words.now accounts accounts amounts c.in_ok-from.from c.in_ok-from.to c.in_ok-from.amount (sym c.is_row.ensures
-    ∙ c.if-is_row.true) (lit< tt) (lit< tt) (lit< tt) c.in_ok-from.ensures.found.0 c.in_ok-from.ensures.found.1
-    c.in_ok-from.ensures.found.2 c.in_ok-from.ensures.found.3
+returns-then-is_row-clause-found c books =
+    row_three (codes "move") c.args.words.now accounts accounts amounts (sym c.is_row.ensures ∙ c.if-is_row.true) (lit< tt) (lit< tt) (lit< tt)
+    c.in_ok-from.ensures.found
 
 pub returns-clause-err : goal.returns-clause-err
 returns-clause-err c n =

@@ -9,73 +9,72 @@ use Rattle.script_reader.proofs.operations.with_two_numbers.Goals as goal
 pub returns-in_err-account-clause-err : goal.returns-in_err-account-clause-err
 returns-in_err-account-clause-err c =
     let p = err_from_is_err_and c.from_residual.result c.from_residual.ensures.1 in
-    rw (p.1, p.2) (two_wrong (operation_forms c.args.books.now.instruments) c.args.words.now (codes "deposit") accounts amounts _ (λ a b. refl) (sym c.is_row.ensures ∙ c.if-is_row.true) c.in_err-account.ensures.err)
+    rw (p.1, p.2) (two_wrong (operation_forms c.args.books.now.instruments) c.args.words.now (codes "deposit") accounts amounts _ (λ a b. refl)
+    (sym c.is_row.ensures ∙ c.if-is_row.true) c.in_err-account.ensures.err)
 
 pub overflow_cast-result : goal.overflow_cast-result
-overflow_cast-result c = let read = row_two (codes "deposit") c.args.words.now accounts amounts
-    c.in_ok-account.account c.in_ok-account.amount (sym c.is_row.ensures ∙ c.if-is_row.true) (lit< tt) (lit< tt)
-    c.in_ok-account.ensures.found.0 c.in_ok-account.ensures.found.1 c.in_ok-account.ensures.found.2 in omega (arith, read.0.0.1)
+overflow_cast-result c = omega (
+  arith,
+  (row_two (codes "deposit") c.args.words.now accounts amounts (sym c.is_row.ensures ∙ c.if-is_row.true) (lit< tt) (lit< tt) c.in_ok-account.ensures.found).0.0.1,
+)
 
 pub returns-then-is_row-clause-found : goal.returns-then-is_row-clause-found
-returns-then-is_row-clause-found c = row_two (codes "deposit") c.args.words.now accounts amounts
-    c.in_ok-account.account c.in_ok-account.amount (sym c.is_row.ensures ∙ c.if-is_row.true) (lit< tt) (lit< tt)
-    c.in_ok-account.ensures.found.0 c.in_ok-account.ensures.found.1 c.in_ok-account.ensures.found.2
+returns-then-is_row-clause-found c =
+    row_two (codes "deposit") c.args.words.now accounts amounts (sym c.is_row.ensures ∙ c.if-is_row.true) (lit< tt) (lit< tt) c.in_ok-account.ensures.found
 
 pub returns-in_err-account-2-clause-err : goal.returns-in_err-account-2-clause-err
 returns-in_err-account-2-clause-err c =
     let p = err_from_is_err_and c.from_residual-in_err-account-2.result c.from_residual-in_err-account-2.ensures.1 in
-    rw (p.1, p.2) (two_wrong (operation_forms c.args.books.now.instruments) c.args.words.now (codes "withdraw") accounts amounts _ (λ a b. refl) (sym c.is_row-2.ensures ∙ c.if-is_row-2.true) c.in_err-account-2.ensures.err)
+    rw (p.1, p.2) (two_wrong (operation_forms c.args.books.now.instruments) c.args.words.now (codes "withdraw") accounts amounts _ (λ a b. refl)
+    (sym c.is_row-2.ensures ∙ c.if-is_row-2.true) c.in_err-account-2.ensures.err)
 
 pub overflow_cast-result-then-is_row-2 : goal.overflow_cast-result-then-is_row-2
-overflow_cast-result-then-is_row-2 c = let read =
-    row_two (codes "withdraw") c.args.words.now accounts amounts c.in_ok-account-2.account
-    c.in_ok-account-2.amount (sym c.is_row-2.ensures ∙ c.if-is_row-2.true) (lit< tt) (lit< tt)
-    c.in_ok-account-2.ensures.found.0 c.in_ok-account-2.ensures.found.1 c.in_ok-account-2.ensures.found.2 in omega (arith, read.0.0.1)
+overflow_cast-result-then-is_row-2 c = omega (
+  arith,
+  (row_two (codes "withdraw") c.args.words.now accounts amounts (sym c.is_row-2.ensures ∙ c.if-is_row-2.true) (lit< tt) (lit< tt) c.in_ok-account-2.ensures.found).0.0.1,
+)
 
 pub returns-then-is_row-2-clause-found : goal.returns-then-is_row-2-clause-found
-returns-then-is_row-2-clause-found c = row_two (codes "withdraw") c.args.words.now accounts amounts
-    c.in_ok-account-2.account c.in_ok-account-2.amount (sym c.is_row-2.ensures ∙ c.if-is_row-2.true) (lit< tt) (lit< tt)
-    c.in_ok-account-2.ensures.found.0 c.in_ok-account-2.ensures.found.1 c.in_ok-account-2.ensures.found.2
+returns-then-is_row-2-clause-found c =
+    row_two (codes "withdraw") c.args.words.now accounts amounts (sym c.is_row-2.ensures ∙ c.if-is_row-2.true) (lit< tt) (lit< tt) c.in_ok-account-2.ensures.found
 
 pub returns-in_err-account-3-clause-err : goal.returns-in_err-account-3-clause-err
 returns-in_err-account-3-clause-err c =
     let p = err_from_is_err_and c.from_residual-in_err-account-3.result c.from_residual-in_err-account-3.ensures.1 in
-    rw (p.1, p.2) (two_wrong (operation_forms c.args.books.now.instruments) c.args.words.now (codes "margin") accounts (1, GREATEST_RATE) _ (λ a b. refl) (sym c.is_row-4.ensures ∙ c.if-is_row-4.true) c.in_err-account-3.ensures.err)
+    rw (p.1, p.2) (two_wrong (operation_forms c.args.books.now.instruments) c.args.words.now (codes "margin") accounts (1, GREATEST_RATE) _ (λ a b. refl)
+    (sym c.is_row-4.ensures ∙ c.if-is_row-4.true) c.in_err-account-3.ensures.err)
 
 pub overflow_cast-result-then-is_row-4 : goal.overflow_cast-result-then-is_row-4
-overflow_cast-result-then-is_row-4 c = let read =
-    row_two (codes "margin") c.args.words.now accounts (1, GREATEST_RATE) c.in_ok-account-3.account c.in_ok-account-3.rate
-    (sym c.is_row-4.ensures ∙ c.if-is_row-4.true) (lit< tt) (lit< tt) c.in_ok-account-3.ensures.found.0
-    c.in_ok-account-3.ensures.found.1 c.in_ok-account-3.ensures.found.2 in omega (arith, read.0.0.1)
+overflow_cast-result-then-is_row-4 c = omega (
+  arith,
+  (row_two (codes "margin") c.args.words.now accounts (1, GREATEST_RATE) (sym c.is_row-4.ensures ∙ c.if-is_row-4.true) (lit< tt) (lit< tt) c.in_ok-account-3.ensures.found).0.0.1,
+)
 
 pub returns-then-is_row-4-clause-found : goal.returns-then-is_row-4-clause-found
 returns-then-is_row-4-clause-found c =
-    row_two (codes "margin") c.args.words.now accounts (1, GREATEST_RATE) c.in_ok-account-3.account c.in_ok-account-3.rate
-    (sym c.is_row-4.ensures ∙ c.if-is_row-4.true) (lit< tt) (lit< tt) c.in_ok-account-3.ensures.found.0
-    c.in_ok-account-3.ensures.found.1 c.in_ok-account-3.ensures.found.2
+    row_two (codes "margin") c.args.words.now accounts (1, GREATEST_RATE) (sym c.is_row-4.ensures ∙ c.if-is_row-4.true) (lit< tt) (lit< tt) c.in_ok-account-3.ensures.found
 
 pub returns-in_err-first-clause-err : goal.returns-in_err-first-clause-err
 returns-in_err-first-clause-err c =
     let p = err_from_is_err_and c.from_residual-in_err-first.result c.from_residual-in_err-first.ensures.1 in
-    rw (p.1, p.2) (two_wrong (operation_forms c.args.books.now.instruments) c.args.words.now (codes "sum") accounts
-    accounts _ (λ a b. refl) (sym c.is_row-5.ensures ∙ c.if-is_row-5.true) c.in_err-first.ensures.err)
+    rw (p.1, p.2) (two_wrong (operation_forms c.args.books.now.instruments) c.args.words.now (codes "sum") accounts accounts _ (λ a b. refl)
+    (sym c.is_row-5.ensures ∙ c.if-is_row-5.true) c.in_err-first.ensures.err)
 
 pub overflow_cast-result-then-is_row-5 : goal.overflow_cast-result-then-is_row-5
-overflow_cast-result-then-is_row-5 c = let read =
-    row_two (codes "sum") c.args.words.now accounts accounts c.in_ok-first.first c.in_ok-first.last
-    (sym c.is_row-5.ensures ∙ c.if-is_row-5.true) (lit< tt) (lit< tt) c.in_ok-first.ensures.found.0
-    c.in_ok-first.ensures.found.1 c.in_ok-first.ensures.found.2 in omega (arith, read.0.0.1)
+overflow_cast-result-then-is_row-5 c = omega (
+  arith,
+  (row_two (codes "sum") c.args.words.now accounts accounts (sym c.is_row-5.ensures ∙ c.if-is_row-5.true) (lit< tt) (lit< tt) c.in_ok-first.ensures.found).0.0.1,
+)
 
 pub overflow_cast-result-then-is_row-5-2 : goal.overflow_cast-result-then-is_row-5-2
-overflow_cast-result-then-is_row-5-2 c = let read =
-    row_two (codes "sum") c.args.words.now accounts accounts c.in_ok-first.first c.in_ok-first.last
-    (sym c.is_row-5.ensures ∙ c.if-is_row-5.true) (lit< tt) (lit< tt) c.in_ok-first.ensures.found.0
-    c.in_ok-first.ensures.found.1 c.in_ok-first.ensures.found.2 in omega (arith, read.0.1.1)
+overflow_cast-result-then-is_row-5-2 c = omega (
+  arith,
+  (row_two (codes "sum") c.args.words.now accounts accounts (sym c.is_row-5.ensures ∙ c.if-is_row-5.true) (lit< tt) (lit< tt) c.in_ok-first.ensures.found).0.1.1,
+)
 
 pub returns-then-is_row-5-clause-found : goal.returns-then-is_row-5-clause-found
 returns-then-is_row-5-clause-found c =
-    row_two (codes "sum") c.args.words.now accounts accounts c.in_ok-first.first c.in_ok-first.last
-    (sym c.is_row-5.ensures ∙ c.if-is_row-5.true) (lit< tt) (lit< tt) c.in_ok-first.ensures.found.0 c.in_ok-first.ensures.found.1 c.in_ok-first.ensures.found.2
+    row_two (codes "sum") c.args.words.now accounts accounts (sym c.is_row-5.ensures ∙ c.if-is_row-5.true) (lit< tt) (lit< tt) c.in_ok-first.ensures.found
 
 pub price_of-requires : goal.price_of-requires
 price_of-requires c = sym c.is_row-3.ensures ∙ c.if-is_row-3.true
