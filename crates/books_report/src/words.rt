@@ -31,6 +31,8 @@ fn write_value(text: &mut String, value: Value) -> Result<(), AllocError>
         Value::Number(number) => push_next(text, number),
         Value::Call(account, shortfall) => write_taken(text, account, shortfall),
         Value::Nothing => text.push_str(" none"),
+        Value::First => text.push_str(" first"),
+        Value::Second => text.push_str(" second"),
     }
 }
 

@@ -3,6 +3,7 @@ use Rattle.std.proofs.Common.{ℕ, ◌+◌, ◌*◌, ◌≤◌, Bool, List, [], 
 use Rattle.std.specs.List.{AllByRecursion}
 use Rattle.std.proofs.lemmas.List.{get_or_append_left}
 use Rattle.std.proofs.lemmas.List.Elements.{recursion_from_All}
+use Rattle.books_model.specs.Scripts.{operations_of}
 use Rattle.books_model.specs.Interpreter.{outcome_of}
 use Rattle.books_model.proofs.Maps.Entries.{AllByRecursion-weaker, sum_by-most}
 use Rattle.script_reader.specs.declared.limits.TheConstants.{MOST_SCRIPTS}
@@ -101,7 +102,7 @@ second_kind_keeps_cash seed callers scripts before place behind s second =
     let input = made_input seed callers scripts in
     let script = script_at input place.caller place.index in
     let next = next_goes input (input_made seed callers scripts s.range) before place behind s.journal in
-    let none = deposits_none next.0 script next.1.each (kind_is_not next.0 script next.1 second) in
+    let none = deposits_none next.0 (operations_of script) next.1.each (kind_is_not next.0 script next.1 second) in
     omega (arith, next.2.left.cash, none)
 
 pub none_is_full : NoneIsFull

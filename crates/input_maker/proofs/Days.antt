@@ -1,16 +1,19 @@
 -- Scripts of a generated day, one after the other.
-use Rattle.std.proofs.Common.{◌≡◌, ◌≢◌, ℕ, ◌+◌, ◌*◌, ◌≤◌, Bool, true, false, List, [], ◌∷◌, length, sum_by, refl, sym, subst, ◌∙◌, true≢false, arith}
+use Rattle.std.proofs.Common.{ap, ◌≡◌, ◌≢◌, ℕ, ◌+◌, ◌*◌, ◌≤◌, Bool, true, false, List, [], ◌∷◌, length, sum_by, refl, sym, subst, ◌∙◌, true≢false, arith}
 use Rattle.std.specs.List.{AllByRecursion}
 use Rattle.std.proofs.lemmas.List.Sums.{sum_by-cons}
 use Rattle.books_model.specs.declared.limits.TheConstants.{GREATEST_CASH}
 use Rattle.books_model.specs.declared.script.Op.{Op}
+use Rattle.books_model.specs.declared.script.Part.{Part}
+use Rattle.books_model.specs.Scripts.{operations_of}
+use Rattle.books_model.proofs.Scripts.Runs.{operations_alone}
 use Rattle.books_model.specs.declared.reply.Value.{Value}
 use Rattle.books_model.specs.declared.reply.Reply.{Reply}
 use Rattle.books_model.specs.declared.reply.Reply.TheVariants as reply
 use Rattle.books_model.specs.Books.{ClearingBooks, HaveSameSizes}
 use Rattle.books_model.specs.Ranges.{AreInRange, IsOperationFor}
 use Rattle.books_model.specs.Interpreter.{Step, Gives, Declines, FindsNoBlock, Run, Ends, Stops, step_of, run_from, after_value, after_step, outcome_from}
-use Rattle.books_model.specs.Interpreter.{outcome_of}
+use Rattle.books_model.specs.Interpreter.{run_parts, outcome_of}
 use Rattle.books_model.specs.Laws.{all_cash, all_held}
 use Rattle.books_model.proofs.Scripts.Outcomes.{WhereEnds}
 use Rattle.books_model.proofs.Scripts.RangeLaws.{operation_for, run_stays}
@@ -20,7 +23,7 @@ use Rattle.script_reader.specs.Journal.{Place}
 use Rattle.books_report.specs.Output.{books_left, books_after}
 use Rattle.books_report.proofs.Order.Classes.{sums-same}
 use Rattle.input_maker.specs.Made.{made_books}
-use Rattle.input_maker.specs.Days.{all_quantities, deposits_of, paid_in_by}
+use Rattle.input_maker.specs.Days.{all_quantities, deposits_in, deposits_of, paid_in_by}
 use Rattle.input_maker.proofs.Rooms.{AreOfDay, quantities_together}
 use Rattle.input_maker.proofs.Making.{IsMade, IsMadeScript, IsMadeOnce, operation_fits, pays_little, deposits_most, deposits_none}
 use Rattle.input_maker.proofs.Steps.{Goes, Follow, step_goes}
@@ -74,7 +77,7 @@ value_goes first C D v (Stops stop) h f = h
 -- the run of what is left of a made script
 run_goes : (first : Bool) (k : ℕ) (ops : List Op) (books : ClearingBooks) → AreOfDay books
     → all_cash books + length ops * 100 ≤ GREATEST_CASH → AllByRecursion (IsMade first) ops
-    → RunGoes first (Leave (deposits_of ops) books) (run_from k ops books)
+    → RunGoes first (Leave (deposits_in ops) books) (run_from k ops books)
 unfolding Goes
 run_goes first k [] books h room each = leave_all books h
 run_goes first k (o ∷ ops) books h room each =
@@ -82,13 +85,13 @@ run_goes first k (o ∷ ops) books h room each =
   where
     by : (s : Step) → step_of o books ≡ s → Goes first (Follow o books) s
         → ((next : ClearingBooks) → AreOfDay next → all_cash next + length ops * 100 ≤ GREATEST_CASH
-        → RunGoes first (Leave (deposits_of ops) next) (run_from (k + 1) ops next))
-        → RunGoes first (Leave (deposits_of (o ∷ ops)) books) (after_step k s (λ next. run_from (k + 1) ops next))
+        → RunGoes first (Leave (deposits_in ops) next) (run_from (k + 1) ops next))
+        → RunGoes first (Leave (deposits_in (o ∷ ops)) books) (after_step k s (λ next. run_from (k + 1) ops next))
     by (Gives v next) is g rest =
         let left = step_leaves books o v next h (operation_fits first o each.0) is g in
-        value_goes first (Leave (deposits_of (o ∷ ops)) books) (Leave (deposits_of ops) next) v (run_from (k + 1) ops next)
+        value_goes first (Leave (deposits_in (o ∷ ops)) books) (Leave (deposits_in ops) next) v (run_from (k + 1) ops next)
         (rest next left.day (omega (arith, room, left.cash, pays_little first o each.0)))
-        (λ after more. leave_both (paid_in_by o) (deposits_of ops) (deposits_of (o ∷ ops)) books next after left more (sum_by-cons paid_in_by o ops))
+        (λ after more. leave_both (paid_in_by o) (deposits_in ops) (deposits_in (o ∷ ops)) books next after left more (sum_by-cons paid_in_by o ops))
     by (Declines why) is g rest = (g, λ j e. cc)
     by FindsNoBlock is g rest = absurd g
 
@@ -109,11 +112,13 @@ run_outcome first paid books (Stops stop) h none g = record {
 }
 
 -- a made script
-pub script_goes : (first : Bool) (script : List Op) (books : ClearingBooks) → AreOfDay books
+pub script_goes : (first : Bool) (script : List Part) (books : ClearingBooks) → AreOfDay books
     → all_cash books + 300 ≤ GREATEST_CASH → IsMadeScript first script → IsOutcome first (deposits_of script) books (outcome_of script books)
 script_goes first script books h room m =
-    run_outcome first (deposits_of script) books (run_from 1 script books) h (deposits_none first script m.each)
-    (run_goes first 1 script books h (omega (arith, room, m.few)) m.each)
+    run_outcome first (deposits_of script) books (run_parts 1 script books) h (deposits_none first (operations_of script) m.each)
+    (subst (RunGoes first (Leave (deposits_of script) books))
+    (sym (ap (λ parts. run_parts 1 parts books) m.alone ∙ operations_alone 1 (operations_of script) books))
+    (run_goes first 1 (operations_of script) books h (omega (arith, room, m.few)) m.each))
 
 module _ (input : ClearingInput) where
   -- the deposits of the script at a place

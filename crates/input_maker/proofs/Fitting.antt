@@ -6,9 +6,12 @@ use Rattle.std.proofs.lemmas.Fmt.{length-decimal-le}
 use Rattle.std.proofs.lemmas.List.Concat.{length-flat_map}
 use Rattle.std.proofs.lemmas.List.FromFn.{length-map-range_with_len}
 use Rattle.books_model.specs.declared.script.Op.{Op}
+use Rattle.books_model.specs.declared.script.Part.{Part}
+use Rattle.books_model.specs.Scripts.{operations_of}
+use Rattle.input_maker.proofs.Listing.{lines_alone}
 use Rattle.books_model.proofs.Maps.Entries.{AllByRecursion-weaker, sum_by-most}
 use Rattle.script_reader.specs.declared.words.TheConstants.{SPACE, LINE_FEED}
-use Rattle.script_reader.specs.Text.{line, number, header_line, account_line, price_line, position_line, books_lines, operation_words, operation_lines}
+use Rattle.script_reader.specs.Text.{line, number, header_line, account_line, price_line, position_line, books_lines, operation_words, script_lines}
 use Rattle.script_reader.specs.Text.{scripts_line, end_line, finish_line}
 use Rattle.script_reader.specs.Input.{Submission}
 use Rattle.script_reader.specs.Grammar.{submission_lines}
@@ -125,10 +128,11 @@ operation_short first o (made_show a account) = let k : length (codes "show") �
     omega (arith, k, line2 (codes "show") (number a), three a (omega (arith, account.1)))
 
 -- those of a script
-script_short : (script : List Op) → IsMadeOnce script → length (operation_lines script) ≤ 78
+script_short : (script : List Part) → IsMadeOnce script → length (script_lines script) ≤ 78
 script_short script (first, made) =
-    let each = AllByRecursion-weaker (IsMade first) (λ o. length (line (operation_words o)) ≤ 26) (operation_short first) script made.each in
-    omega (arith, made.few, lines_most (λ o. line (operation_words o)) 26 script each)
+    let ops = operations_of script in
+    let each = AllByRecursion-weaker (IsMade first) (λ o. length (line (operation_words o)) ≤ 26) (operation_short first) ops made.each in
+    omega (arith, made.few, lines_most (λ o. line (operation_words o)) 26 ops each, ap (λ parts. length (script_lines parts)) made.alone, ap length (lines_alone ops))
 
 name_length : (c : ℕ) → length (caller_name c) ≡ 4
 unfolding caller_name
@@ -142,7 +146,7 @@ submission_short seed callers n =
     let k : length (codes "script") ≡ 6 = refl in
     let head : length begins ≤ 12 = omega (arith, k, line2 (codes "script") s.caller, name_length (n % callers)) in
     let end : length end_line ≤ 4 = omega arith in
-    let all = row3 begins (operation_lines s.script) end_line 12 78 4 head (script_short s.script (script_made (state_of_script seed n))) end in
+    let all = row3 begins (script_lines s.script) end_line 12 78 4 head (script_short s.script (script_made (state_of_script seed n))) end in
     omega (arith, all)
 
 submissions_short : (seed callers n : ℕ) → length (flat_map submission_lines (submissions_to seed callers n)) ≤ n * 100

@@ -1,13 +1,16 @@
 -- Lists of what is made, with one more.
-use Rattle.std.proofs.Common.{◌≡◌, ℕ, zero, suc, ◌+◌, ◌*◌, List, [], ◌∷◌, ◌++◌, refl, sym, ap, ◌∙◌, append_assoc, add-one, arith}
+use Rattle.std.proofs.Common.{map, ◌≡◌, ℕ, zero, suc, ◌+◌, ◌*◌, List, [], ◌∷◌, ◌++◌, refl, sym, ap, ◌∙◌, append_assoc, add-one, arith}
 use Rattle.std.specs.List.{flat_map, range_with_len}
 use Rattle.std.proofs.lemmas.List.{append-nil}
 use Rattle.std.proofs.lemmas.List.Concat.{flat_map-append}
 use Rattle.std.proofs.lemmas.List.FromFn.{map-range_with_len_more}
-use Rattle.script_reader.specs.Text.{position_line}
+use Rattle.books_model.specs.declared.script.Op.{Op}
+use Rattle.books_model.specs.declared.script.Part.TheVariants as part
+use Rattle.script_reader.specs.Text.{line, operation_words, position_line, script_lines}
+use Rattle.input_maker.specs.Lines.{operation_lines}
 use Rattle.input_maker.specs.Generator.{state_after}
 use Rattle.input_maker.specs.Made.{accounts_to, prices_to, positions_in, positions_to, operation_from, operations_from, state_after_operations}
-use Rattle.input_maker.specs.Made.{state_after_script, state_of_script, made_submission, submissions_to}
+use Rattle.input_maker.specs.Made.{script_from, script_operations, state_after_script, state_of_script, made_submission, submissions_to}
 
 -- one number more
 range-more : (a n : ℕ) → range_with_len a (suc n) ≡ range_with_len a n ++ (a + n) ∷ []
@@ -98,3 +101,12 @@ scripts-none seed = refl
 pub scripts-more : (seed n : ℕ) → state_of_script seed (n + 1) ≡ state_after_script (state_of_script seed n)
 unfolding state_of_script
 scripts-more seed n = ap (state_of_script seed) (add-one n)
+
+-- the lines of a script without alternatives
+pub lines_alone : (ops : List Op) → script_lines (map part.One ops) ≡ operation_lines ops
+lines_alone [] = refl
+lines_alone (o ∷ ops) = ap (λ l. line (operation_words o) ++ l) (lines_alone ops)
+
+pub script_written : (x : ℕ) → script_lines (script_from x) ≡ operation_lines (script_operations x)
+unfolding script_from
+script_written x = lines_alone (script_operations x)

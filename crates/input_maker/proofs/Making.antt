@@ -1,5 +1,5 @@
 -- The operations and scripts that are made, of the first kind and of the second, and that each script of a made input is one.
-use Rattle.std.proofs.Common.{◌≡◌, ℕ, ◌+◌, ◌*◌, ◌<◌, ◌≤◌, ◌==◌, ◌&&◌, Bool, true, false, if◌then◌else◌, List, [], ◌∷◌, map, filter, length, refl, sym, ap}
+use Rattle.std.proofs.Common.{sum_by, subst, ◌≡◌, ℕ, ◌+◌, ◌*◌, ◌<◌, ◌≤◌, ◌==◌, ◌&&◌, Bool, true, false, if◌then◌else◌, List, [], ◌∷◌, map, filter, length, refl, sym, ap}
 use Rattle.std.proofs.Common.{◌∙◌, true≢false, arith}
 use Rattle.std.specs.List.{All, AllByRecursion, list_all, range_with_len}
 use Rattle.std.specs.Str.{bytes_eq}
@@ -9,13 +9,16 @@ use Rattle.std.proofs.lemmas.List.FromFn.{length-map-range_with_len}
 use Rattle.std.proofs.lemmas.List.Sums.{sum_by-cons}
 use Rattle.books_model.specs.declared.script.Op.{Op}
 use Rattle.books_model.specs.declared.script.Op.TheVariants as op
+use Rattle.books_model.specs.declared.script.Part.{Part}
+use Rattle.books_model.specs.declared.script.Part.TheVariants as part
+use Rattle.books_model.specs.Scripts.{operations_of, alternatives_in}
 use Rattle.books_model.specs.Ranges.{IsWithin, IsOperationFor, IsScriptFor}
 use Rattle.books_model.proofs.Maps.Entries.{AllByRecursion-weaker, sum_by-most}
 use Rattle.script_reader.specs.Input.{Submission, first_seen, scripts_by, callers_of}
 use Rattle.input_maker.specs.Generator.{drawn, state_after}
-use Rattle.input_maker.specs.Made.{made_books, first_kind, second_kind, operation_from, operations_from, script_from, made_submission, submissions_to}
+use Rattle.input_maker.specs.Made.{made_books, first_kind, second_kind, operation_from, operations_from, script_from, script_operations, made_submission, submissions_to}
 use Rattle.input_maker.specs.Made.{state_of_script, state_after_operations}
-use Rattle.input_maker.specs.Days.{IsOfFirstKind, deposits_of, is_of_first_kind, paid_in_by}
+use Rattle.input_maker.specs.Days.{IsOfFirstKind, deposits_in, deposits_of, is_of_first_kind, paid_in_by}
 use Rattle.input_maker.proofs.Opening.{all_mapped}
 
 -- an operation that is made, with its numbers in their ranges
@@ -62,50 +65,62 @@ pays_nothing (op.Deposit a x) second = absurd (true≢false second)
 pays_nothing _ second = refl
 
 -- a script that is made
-pub record IsMadeScript (first : Bool) (script : List Op) : Type 0 where
-  pub each : AllByRecursion (IsMade first) script
-  pub some : 1 ≤ length script
-  pub few : length script ≤ 3
+pub record IsMadeScript (first : Bool) (script : List Part) : Type 0 where
+  pub alone : script ≡ map part.One (operations_of script)
+  pub each : AllByRecursion (IsMade first) (operations_of script)
+  pub some : 1 ≤ length (operations_of script)
+  pub few : length (operations_of script) ≤ 3
 
 -- of one kind or the other
-abbrev pub IsMadeOnce : List Op → Type 0
+abbrev pub IsMadeOnce : List Part → Type 0
 IsMadeOnce script = (first : Bool) × IsMadeScript first script
 
+-- operations alone are the operations of their script, and no alternatives
+operations_alone : (ops : List Op) → operations_of (map part.One ops) ≡ ops
+operations_alone [] = refl
+operations_alone (o ∷ ops) = ap (λ l. o ∷ l) (operations_alone ops)
+
+no_alternatives : (ops : List Op) → sum_by alternatives_in (map part.One ops) ≡ 0
+no_alternatives [] = refl
+no_alternatives (o ∷ ops) = omega (arith, sum_by-cons alternatives_in (part.One o) (map part.One ops), no_alternatives ops)
+
 -- it is for the opening books
-pub script_fits : (first : Bool) (script : List Op) → IsMadeScript first script → IsScriptFor made_books script
+pub script_fits : (first : Bool) (script : List Part) → IsMadeScript first script → IsScriptFor made_books script
 script_fits first script m = record {
   few = omega (arith, m.few);
-  each = All-from_recursion (IsOperationFor made_books) script
-      (AllByRecursion-weaker (IsMade first) (IsOperationFor made_books) (operation_fits first) script m.each);
+  few_alternatives = omega (arith, ap (λ parts. sum_by alternatives_in parts) m.alone, no_alternatives (operations_of script));
+  each = All-from_recursion (IsOperationFor made_books) (operations_of script)
+      (AllByRecursion-weaker (IsMade first) (IsOperationFor made_books) (operation_fits first) (operations_of script) m.each);
 }
 
 -- a script of such operations
-all_first : (ops : List Op) → AllByRecursion (IsMade true) ops → IsOfFirstKind ops
+all_first : (ops : List Op) → AllByRecursion (IsMade true) ops → list_all is_of_first_kind ops ≡ true
 all_first [] each = refl
 all_first (o ∷ ops) each = λ t. tells_kind true o each.0 t && all_first ops each.1 t
 
-not_first : (ops : List Op) → 1 ≤ length ops → AllByRecursion (IsMade false) ops → ¬ IsOfFirstKind ops
+not_first : (ops : List Op) → 1 ≤ length ops → AllByRecursion (IsMade false) ops → ¬ (list_all is_of_first_kind ops ≡ true)
 not_first [] some each is = omega (arith, some)
 not_first (o ∷ ops) some each is = true≢false (sym is ∙ ap (λ b. b && list_all is_of_first_kind ops) (tells_kind false o each.0))
 
 -- a made script is of the kind of its operations
-pub kind_is : (first : Bool) (script : List Op) → IsMadeScript first script → IsOfFirstKind script → first ≡ true
+pub kind_is : (first : Bool) (script : List Part) → IsMadeScript first script → IsOfFirstKind script → first ≡ true
 kind_is true script m is = refl
-kind_is false script m is = absurd (not_first script m.some m.each is)
+kind_is false script m is = absurd (not_first (operations_of script) m.some m.each is)
 
-pub kind_is_not : (first : Bool) (script : List Op) → IsMadeScript first script → (¬ IsOfFirstKind script) → first ≡ false
-kind_is_not true script m is_not = absurd (is_not (all_first script m.each))
+pub kind_is_not : (first : Bool) (script : List Part) → IsMadeScript first script → (¬ IsOfFirstKind script) → first ≡ false
+kind_is_not true script m is_not = absurd (is_not (all_first (operations_of script) m.each))
 kind_is_not false script m is_not = refl
 
 -- one of the second kind has no deposits
-pub deposits_none : (first : Bool) (ops : List Op) → AllByRecursion (IsMade first) ops → first ≡ false → deposits_of ops ≡ 0
+pub deposits_none : (first : Bool) (ops : List Op) → AllByRecursion (IsMade first) ops → first ≡ false → deposits_in ops ≡ 0
 deposits_none first [] each second = refl
 deposits_none first (o ∷ ops) each second =
     omega (arith, sum_by-cons paid_in_by o ops, pays_nothing o (tells_kind first o each.0 ∙ second), deposits_none first ops each.1 second)
 
-pub deposits_most : (first : Bool) (script : List Op) → IsMadeScript first script → deposits_of script ≤ 300
+pub deposits_most : (first : Bool) (script : List Part) → IsMadeScript first script → deposits_of script ≤ 300
 deposits_most first script m =
-    omega (arith, m.few, sum_by-most paid_in_by 100 script (AllByRecursion-weaker (IsMade first) (λ o. paid_in_by o ≤ 100) (pays_little first) script m.each))
+    omega (arith, m.few, sum_by-most paid_in_by 100 (operations_of script)
+    (AllByRecursion-weaker (IsMade first) (λ o. paid_in_by o ≤ 100) (pays_little first) (operations_of script) m.each))
 
 -- a draw is below its bound
 drawn_below : (n x : ℕ) → 0 < n → drawn n x < n
@@ -141,23 +156,32 @@ operation_from_made g x =
     (within_one 200 (state_after 1 x) (omega arith)) (within_one 200 (state_after 2 x) (omega arith))
     (within_one 8 (state_after 3 x) (omega arith)) (within_one 100 (state_after 4 x) (omega arith))
 
+-- a script of such operations alone
+made_of : (first : Bool) (ops : List Op) → AllByRecursion (IsMade first) ops → 1 ≤ length ops → length ops ≤ 3 → IsMadeScript first (map part.One ops)
+made_of first ops each some few =
+    let same = operations_alone ops in
+    record {
+      alone = ap (map part.One) (sym same);
+      each = subst (AllByRecursion (IsMade first)) (sym same) each;
+      some = omega (arith, ap length same, some);
+      few = omega (arith, ap length same, few);
+    }
+
 -- a script of the generator is made
 pub script_made : (x : ℕ) → IsMadeOnce (script_from x)
-unfolding script_from operations_from
+unfolding script_from script_operations operations_from
 script_made x =
     let make : ℕ → Op = λ k. operation_from (drawn 2 x) (state_after_operations k (state_after 2 x)) in
     let count = length-map-range_with_len make 0 (1 + drawn 3 (state_after 1 x)) in (
       drawn 2 x == 0,
-      record {
-        each = all_mapped (IsMade (drawn 2 x == 0)) make 0 (1 + drawn 3 (state_after 1 x)) (λ k low high.
-            operation_from_made (drawn 2 x) (state_after_operations k (state_after 2 x)));
-        some = omega (arith, count);
-        few = omega (arith, count, drawn_below 3 (state_after 1 x) (omega arith));
-      },
+      made_of (drawn 2 x == 0) (map make (range_with_len 0 (1 + drawn 3 (state_after 1 x))))
+          (all_mapped (IsMade (drawn 2 x == 0)) make 0 (1 + drawn 3 (state_after 1 x)) (λ k low high.
+          operation_from_made (drawn 2 x) (state_after_operations k (state_after 2 x))))
+          (omega (arith, count)) (omega (arith, count, drawn_below 3 (state_after 1 x) (omega arith))),
     )
 
 -- what holds of each script of a text holds of each of its callers' scripts
-of_callers : (P : List Op → Type 0) (subs : List Submission) → All (λ s. P s.script) subs → All (λ c. All P c.scripts) (callers_of subs)
+of_callers : (P : List Part → Type 0) (subs : List Submission) → All (λ s. P s.script) subs → All (λ c. All P c.scripts) (callers_of subs)
 of_callers P subs each =
     All-map (λ c. All P c.scripts) (λ name. record { name = name; scripts = scripts_by name subs }) (first_seen (map (λ s. s.caller) subs))
     (λ k d less. All-map P (λ s. s.script) (filter (λ s. bytes_eq _ s.caller) subs) (All-filter (λ s. bytes_eq _ s.caller) (λ s. P s.script) subs each))

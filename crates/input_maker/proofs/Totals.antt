@@ -5,7 +5,7 @@ use Rattle.std.specs.List.{flat_map, range_with_len}
 use Rattle.std.proofs.lemmas.Bool.{and_parts}
 use Rattle.std.proofs.lemmas.List.Elements.{recursion_from_All}
 use Rattle.std.proofs.lemmas.List.Sums.{sum_by-cons, sum_by-append}
-use Rattle.books_model.specs.declared.script.Op.{Op}
+use Rattle.books_model.specs.declared.script.Part.{Part}
 use Rattle.books_model.specs.Laws.{all_cash}
 use Rattle.script_reader.specs.Input.{Caller, ClearingInput, caller_at, script_at}
 use Rattle.script_reader.specs.Journal.{Place, IsJournal}
@@ -16,7 +16,7 @@ use Rattle.input_maker.proofs.Opening.{accounts_entries, positions_entries}
 use Rattle.input_maker.proofs.Classes.{same_weight}
 
 -- a sum over the scripts of an order is the sum over the callers' scripts
-pub sum_of_order : (input : ClearingInput) (w : List Op → ℕ) (order : List Place) → IsJournal input order
+pub sum_of_order : (input : ClearingInput) (w : List Part → ℕ) (order : List Place) → IsJournal input order
     → sum_by (λ p. w (script_at input p.caller p.index)) order ≡ sum_by (λ c. sum_by w c.scripts) input.callers
 sum_of_order input w order j =
     by_weights (λ p. true) (λ p. p.caller) at (length input.callers) order

@@ -4,6 +4,8 @@ use Rattle.std.specs.List.{list_all}
 use Rattle.std.specs.FinMap as map
 use Rattle.books_model.specs.declared.script.Op.{Op}
 use Rattle.books_model.specs.declared.script.Op.TheVariants as op
+use Rattle.books_model.specs.declared.script.Part.{Part}
+use Rattle.books_model.specs.Scripts.{operations_of}
 use Rattle.books_model.specs.declared.reply.Value.{Value}
 use Rattle.books_model.specs.declared.reply.Reply.TheVariants as reply
 use Rattle.books_model.specs.Books.{ClearingBooks}
@@ -19,9 +21,12 @@ abbrev pub paid_in_by : Op → ℕ
 paid_in_by (op.Deposit a x) = x
 paid_in_by _ = 0
 
--- the deposits of a script
-abbrev pub deposits_of : List Op → ℕ
-deposits_of script = sum_by paid_in_by script
+-- the deposits of operations, and of a script
+abbrev pub deposits_in : List Op → ℕ
+deposits_in ops = sum_by paid_in_by ops
+
+abbrev pub deposits_of : List Part → ℕ
+deposits_of script = deposits_in (operations_of script)
 
 -- all deposits of an input
 abbrev pub all_deposits : ClearingInput → ℕ
@@ -40,8 +45,8 @@ is_of_first_kind (op.Sum a b) = true
 is_of_first_kind _ = false
 
 -- each operation of the script is
-abbrev pub IsOfFirstKind : List Op → Type 0
-IsOfFirstKind script = list_all is_of_first_kind script ≡ true
+abbrev pub IsOfFirstKind : List Part → Type 0
+IsOfFirstKind script = list_all is_of_first_kind (operations_of script) ≡ true
 
 -- in some order of the scripts of a generated input, these stand before the one at a place, and these behind it
 pub record StandsIn (seed callers scripts : ℕ) (before : List Place) (place : Place) (behind : List Place) : Type 0 where

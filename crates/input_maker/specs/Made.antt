@@ -4,6 +4,8 @@ use Rattle.std.specs.List.{flat_map, range_with_len}
 use Rattle.std.specs.FinMap as map
 use Rattle.books_model.specs.declared.script.Op.{Op}
 use Rattle.books_model.specs.declared.script.Op.TheVariants as op
+use Rattle.books_model.specs.declared.script.Part.{Part}
+use Rattle.books_model.specs.declared.script.Part.TheVariants as part
 use Rattle.books_model.specs.Books.{ClearingBooks}
 use Rattle.script_reader.specs.Input.{ClearingInput, Submission, callers_of}
 use Rattle.script_reader.specs.Grammar.{input_text}
@@ -78,9 +80,12 @@ operations_from g x n = map_list (λ k. operation_from g (state_after_operations
 abbrev pub count_from : ℕ → ℕ
 count_from x = 1 + drawn 3 (state_after 1 x)
 
--- the script
-unfoldable pub script_from : ℕ → List Op
-script_from x = operations_from (drawn 2 x) (state_after 2 x) (count_from x)
+-- the script: these operations, and no alternatives
+unfoldable pub script_operations : ℕ → List Op
+script_operations x = operations_from (drawn 2 x) (state_after 2 x) (count_from x)
+
+unfoldable pub script_from : ℕ → List Part
+script_from x = map_list part.One (script_operations x)
 
 -- the state after it
 unfoldable pub state_after_script : ℕ → ℕ

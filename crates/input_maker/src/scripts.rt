@@ -3,9 +3,9 @@
 ghost use Rattle.std.specs.Prelude.{◌≡◌, ◌<◌, [], ◌∷◌, ◌++◌, OnOk};
 ghost use Rattle.std.specs.String.{string_bytes};
 ghost use Rattle.std.specs.List.{flat_map};
-ghost use Rattle.script_reader.specs.Text.{operation_lines};
+ghost use Rattle.input_maker.specs.Lines.{operation_lines};
 ghost use Rattle.script_reader.specs.Grammar.{submission_lines};
-ghost use Rattle.input_maker.specs.Made.{caller_name, letter, operations_from, script_from, state_after_operations, state_after_script, submissions_to};
+ghost use Rattle.input_maker.specs.Made.{caller_name, letter, operations_from, script_from, script_operations, state_after_operations, state_after_script, submissions_to};
 
 use crate::generator::Generator;
 use crate::operations::{next_operation, write_operation};
@@ -47,12 +47,12 @@ fn write_operations(
     Ok(())
 }
 
-#[tactic(auto, unfolding(crate::specs::Made::script_from, crate::specs::Made::state_after_script))]
+#[tactic(auto, unfolding(crate::specs::Made::script_operations, crate::specs::Made::state_after_script))]
 fn write_body(text: &mut String, generator: &mut Generator) -> Result<(), AllocError>
     ensures state { OnOk result
         (generator.new.state ≡ state_after_script generator.old.state) }
     ensures text { OnOk result (string_bytes text.new
-        ≡ string_bytes text.old ++ operation_lines (script_from generator.old.state)) }
+        ≡ string_bytes text.old ++ operation_lines (script_operations generator.old.state)) }
 {
     let kind = generator.draw(2);
     let count = 1 + generator.draw(3);

@@ -66,6 +66,8 @@ value-IsWord (value.Call a d) = (
   free-append LINE_FEED (number a ++ codes ":") (number d) (free-append LINE_FEED (number a) (codes ":") (number-word a).1 (refl, tt)) (number-word d).1,
 )
 value-IsWord value.Nothing = word_from_test (codes "none") refl
+value-IsWord value.First = word_from_test (codes "first") refl
+value-IsWord value.Second = word_from_test (codes "second") refl
 
 -- and why one is declined
 decline-IsWord : (why : Decline) → IsWord (decline_word why)

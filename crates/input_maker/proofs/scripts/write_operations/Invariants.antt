@@ -1,6 +1,6 @@
 use Rattle.std.proofs.Common.{◌≡◌, ◌++◌}
 use Rattle.std.specs.String.{string_bytes}
-use Rattle.script_reader.specs.Text.{operation_lines}
+use Rattle.input_maker.specs.Lines.{operation_lines}
 use Rattle.input_maker.specs.Made.{operations_from, state_after_operations}
 use Rattle.input_maker.proofs.scripts.write_operations.Given as goal
 
