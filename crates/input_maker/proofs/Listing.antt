@@ -1,12 +1,13 @@
 -- Lists of what is made, with one more.
-use Rattle.std.proofs.Common.{map, ◌≡◌, ℕ, zero, suc, ◌+◌, ◌*◌, List, [], ◌∷◌, ◌++◌, refl, sym, ap, ◌∙◌, append_assoc, add-one, arith}
+use Rattle.std.proofs.Common.{map, codes, ◌≡◌, ℕ, zero, suc, ◌+◌, ◌*◌, List, [], ◌∷◌, ◌++◌, refl, sym, ap, ◌∙◌, append_assoc, add-one, arith}
 use Rattle.std.specs.List.{flat_map, range_with_len}
 use Rattle.std.proofs.lemmas.List.{append-nil}
 use Rattle.std.proofs.lemmas.List.Concat.{flat_map-append}
 use Rattle.std.proofs.lemmas.List.FromFn.{map-range_with_len_more}
 use Rattle.books_model.specs.declared.script.Op.{Op}
 use Rattle.books_model.specs.declared.script.Part.TheVariants as part
-use Rattle.script_reader.specs.Text.{line, operation_words, position_line, script_lines}
+use Rattle.script_reader.specs.Text.{end_line, line, operation_words, position_line, script_lines}
+use Rattle.script_reader.specs.Grammar.{submission_lines}
 use Rattle.input_maker.specs.Lines.{operation_lines}
 use Rattle.input_maker.specs.Generator.{state_after}
 use Rattle.input_maker.specs.Made.{accounts_to, prices_to, positions_in, positions_to, operation_from, operations_from, state_after_operations}
@@ -107,6 +108,8 @@ pub lines_alone : (ops : List Op) → script_lines (map part.One ops) ≡ operat
 lines_alone [] = refl
 lines_alone (o ∷ ops) = ap (λ l. line (operation_words o) ++ l) (lines_alone ops)
 
-pub script_written : (x : ℕ) → script_lines (script_from x) ≡ operation_lines (script_operations x)
+-- the text of a made script
+pub script_written : (name : List ℕ) (x : ℕ)
+    → line (codes "script" ∷ name ∷ []) ++ operation_lines (script_operations x) ++ end_line ≡ submission_lines (record { caller = name; script = script_from x })
 unfolding script_from
-script_written x = lines_alone (script_operations x)
+script_written name x = ap (λ l. line (codes "script" ∷ name ∷ []) ++ l ++ end_line) (sym (lines_alone (script_operations x)))

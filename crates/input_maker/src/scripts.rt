@@ -1,11 +1,12 @@
 //! Scripts: how they are drawn, and their lines.
 
-ghost use Rattle.std.specs.Prelude.{◌≡◌, ◌<◌, [], ◌∷◌, ◌++◌, OnOk};
+ghost use Rattle.std.specs.Prelude.{◌≡◌, ◌<◌, [], ◌∷◌, ◌++◌, OnOk, codes};
 ghost use Rattle.std.specs.String.{string_bytes};
 ghost use Rattle.std.specs.List.{flat_map};
+ghost use Rattle.script_reader.specs.Text.{end_line, line};
 ghost use Rattle.input_maker.specs.Lines.{operation_lines};
 ghost use Rattle.script_reader.specs.Grammar.{submission_lines};
-ghost use Rattle.input_maker.specs.Made.{caller_name, letter, operations_from, script_from, script_operations, state_after_operations, state_after_script, submissions_to};
+ghost use Rattle.input_maker.specs.Made.{caller_name, letter, operations_from, script_operations, state_after_operations, state_after_script, submissions_to};
 
 use crate::generator::Generator;
 use crate::operations::{next_operation, write_operation};
@@ -64,10 +65,8 @@ fn write_script(text: &mut String, generator: &mut Generator, caller: u32) -> Re
     ensures state { OnOk result
         (generator.new.state ≡ state_after_script generator.old.state) }
     ensures text { OnOk result (string_bytes text.new ≡ string_bytes text.old
-        ++ submission_lines (record {
-          caller = caller_name caller;
-          script = script_from generator.old.state;
-        })) }
+        ++ (line (codes "script" ∷ caller_name caller ∷ [])
+        ++ operation_lines (script_operations generator.old.state) ++ end_line)) }
 {
     text.push_str("script ")?;
     write_name(text, caller)?;

@@ -13,7 +13,7 @@ use Rattle.history_model.proofs.HistoryLaws.{replay_nothing}
 use Rattle.history_model.proofs.ReplayLaws.{replay_kept, replay_reverted}
 use Rattle.books_model.specs.declared.reply.Reply.{Reply}
 use Rattle.books_model.specs.declared.reply.Value.{Value}
-use Rattle.books_model.specs.declared.script.Op.{Op}
+use Rattle.books_model.specs.declared.script.Part.{Part}
 use Rattle.books_model.specs.declared.reply.Reply.TheVariants as reply
 use Rattle.books_model.specs.Books.{ClearingBooks}
 use Rattle.books_model.specs.Interpreter.{outcome_of}
@@ -42,7 +42,7 @@ not_done answer refusal r same values e = let done : is_done answer ≡ true = a
 
 -- what a script leaves of words that stand for books, stands for the books that the interpreter leaves
 after_one : (refused : RefusedChangesNothing) (shape : BooksShape) (base : List ℕ) (entries : List Entry) (e : Entry)
-    (script : List Op) (answer : Reply) (books : ClearingBooks)
+    (script : List Part) (answer : Reply) (books : ClearingBooks)
     → ScriptMeans shape script (replay base entries) e.kept answer (after e.trace (replay base entries)) → Stands shape (replay base entries) books
     → Stands shape (replay base (entries ++ e ∷ [])) (outcome_of script books).1
 after_one refused shape base entries e script answer books means stands = by_kept e.kept refl

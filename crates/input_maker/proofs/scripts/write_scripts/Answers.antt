@@ -3,7 +3,7 @@ use Rattle.std.specs.String.{string_bytes}
 use Rattle.script_reader.specs.Grammar.{submission_lines}
 use Rattle.books_report.proofs.Walking.Walks.{written_next}
 use Rattle.input_maker.specs.Made.{caller_name, script_from, state_after_script, made_submission, submissions_to}
-use Rattle.input_maker.proofs.Listing.{written_none, submissions-none, submissions-more, scripts-none, scripts-more}
+use Rattle.input_maker.proofs.Listing.{script_written, written_none, submissions-none, submissions-more, scripts-none, scripts-more}
 use Rattle.input_maker.proofs.scripts.write_scripts.Goals as goal
 
 pub loop-place-init : goal.loop-place-init
@@ -24,6 +24,7 @@ loop-place-preserved c =
           (submissions_to seed callers place) (submissions_to seed callers (place + 1)) (made_submission seed callers place)
           c.loop-place.invariant.text
           (c.in_ok-write_script.ensures.text
+          ∙ ap (λ l. string_bytes c.loop-place.text ++ l) (script_written (caller_name (place % callers)) c.loop-place.generator.state)
           ∙ ap (λ (x : ℕ). string_bytes c.loop-place.text ++ submission_lines
           (record { caller = caller_name (place % callers); script = script_from x })) c.loop-place.invariant.state)
           (submissions-more seed callers place);

@@ -1,5 +1,5 @@
 use Rattle.std.proofs.Common.{◌≡◌, ℕ, ◌+◌, List, slice_index, refl, sym, ap, ◌∙◌, subst}
-use Rattle.books_model.specs.declared.script.Op.{Op}
+use Rattle.books_model.specs.declared.script.Part.{Part}
 use Rattle.history_model.specs.Views.{number}
 use Rattle.script_reader.specs.Input.{script_at}
 use Rattle.txn_books.specs.declared.shape.BooksShape.{BooksShape}
@@ -31,7 +31,7 @@ returns-clause-made g c = λ done made.
     let script_is : job.script ≡ script_at input c.args.caller c.args.index = ap (λ (j : ScriptOn). j.script) c.new-job.ensures ∙ c.script-script.ensures in
     let gets = subst (λ (s : BooksShape). GetsEntry desk.base
     (ScriptMeans s (script_at input c.args.caller c.args.index)) (number old.view) (old.view.call + 1) old.view.seen new.view.seen receipt) shape_is
-    (subst (λ (ops : List Op). GetsEntry desk.base (ScriptMeans job.shape ops) (number old.view) (old.view.call + 1)
+    (subst (λ (script : List Part). GetsEntry desk.base (ScriptMeans job.shape script) (number old.view) (old.view.call + 1)
     old.view.seen new.view.seen receipt) script_is e.entry) in
     let named : c.who.result ≡ number old.view = c.who.ensures.number ∙ ap (λ (w : List ℕ). slice_index w 0) e.seat.who in
     made_more desk input (number old.view) (old.view.call + 1) old.view.seen new.view.seen receipt item gets
