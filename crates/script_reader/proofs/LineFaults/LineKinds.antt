@@ -67,6 +67,27 @@ pub four_words : (words : Words) → length words ≡ 4 → (a b c d : List ℕ)
 four_words [] h = absurd (omega arith)
 four_words (a ∷ words) h = let rest = three_words words (omega arith) in (a, rest.0, rest.1, rest.2, ap (λ l. a ∷ l) rest.3)
 
+-- a row of a keyword and so many words
+module _ (k : List ℕ) (words : Words) where
+  pub one_behind : (begins k words && length words == 2) ≡ true → (a : List ℕ) × (words ≡ k ∷ a ∷ [])
+  one_behind row = let behind = behind_keyword k 1 words row in let rest = one_word (drop 1 words) behind.1 in (rest.0, behind.0 ∙ ap (λ l. k ∷ l) rest.1)
+
+  pub two_behind : (begins k words && length words == 3) ≡ true → (a b : List ℕ) × (words ≡ k ∷ a ∷ b ∷ [])
+  two_behind row =
+      let behind = behind_keyword k 2 words row in let rest = two_words (drop 1 words) behind.1 in (rest.0, rest.1, behind.0 ∙ ap (λ l. k ∷ l) rest.2)
+
+  pub three_behind : (begins k words && length words == 4) ≡ true → (a b c : List ℕ) × (words ≡ k ∷ a ∷ b ∷ c ∷ [])
+  three_behind row =
+      let behind = behind_keyword k 3 words row in
+      let rest = three_words (drop 1 words) behind.1 in
+      (rest.0, rest.1, rest.2, behind.0 ∙ ap (λ l. k ∷ l) rest.3)
+
+  pub four_behind : (begins k words && length words == 5) ≡ true → (a b c d : List ℕ) × (words ≡ k ∷ a ∷ b ∷ c ∷ d ∷ [])
+  four_behind row =
+      let behind = behind_keyword k 4 words row in
+      let rest = four_words (drop 1 words) behind.1 in
+      (rest.0, rest.1, rest.2, rest.3, behind.0 ∙ ap (λ l. k ∷ l) rest.4)
+
 -- a word that is a number in a range is the text of its value
 pub ranged : (word : List ℕ) (low high : ℕ) → high < 2 ^ 64 → is_number word ≡ true → (nat_le low (value_of word) && nat_le (value_of word) high) ≡ true
     → (word ≡ number (value_of word)) × IsWithin low high (value_of word)
@@ -94,19 +115,15 @@ line_words ScriptsLine = codes "scripts" ∷ []
 pub books_line : (instruments : ℕ) (words : Words) → is_none (form_of (books_forms instruments) words) ≡ false → (l : BooksLine) × (words ≡ line_words l)
 unfolding IsOneOf
 books_line instruments words h = elim (one_of (books_forms instruments) words h) [
-  | inl is ↦ let k = behind_keyword (codes "account") 2 words is in let rest = two_words (drop 1 words) k.1 in
-      (AccountLine rest.0 rest.1, k.0 ∙ ap (λ l. codes "account" ∷ l) rest.2)
+  | inl is ↦ let e = two_behind (codes "account") words is in (AccountLine e.0 e.1, e.2)
   | inr other ↦ elim other [
-    | inl is ↦ let k = behind_keyword (codes "price") 2 words is in let rest = two_words (drop 1 words) k.1 in
-        (PriceLine rest.0 rest.1, k.0 ∙ ap (λ l. codes "price" ∷ l) rest.2)
+    | inl is ↦ let e = two_behind (codes "price") words is in (PriceLine e.0 e.1, e.2)
     | inr other ↦ elim other [
-      | inl is ↦ let k = behind_keyword (codes "position") 3 words is in let rest = three_words (drop 1 words) k.1 in
-          (PositionLine rest.0 rest.1 rest.2, k.0 ∙ ap (λ l. codes "position" ∷ l) rest.3)
+      | inl is ↦ let e = three_behind (codes "position") words is in (PositionLine e.0 e.1 e.2, e.3)
       | inr other ↦ elim other [
-        | inl is ↦ let k = behind_keyword (codes "call") 2 words is in let rest = two_words (drop 1 words) k.1 in
-            (CallLine rest.0 rest.1, k.0 ∙ ap (λ l. codes "call" ∷ l) rest.2)
+        | inl is ↦ let e = two_behind (codes "call") words is in (CallLine e.0 e.1, e.2)
         | inr other ↦ elim other [
-          | inl is ↦ let k = behind_keyword (codes "scripts") 0 words is in (ScriptsLine, k.0 ∙ ap (λ l. codes "scripts" ∷ l) (no_words (drop 1 words) k.1))
+          | inl is ↦ (ScriptsLine, only_word (codes "scripts") words is)
           | inr none ↦ absurd none
         ]
       ]
@@ -140,94 +157,82 @@ pub operation_line : (books : ClearingBooks) (others : List Form) (words : Words
     → IsOneOf others words ⊎ ((o : Op) × IsOperationFor books o × (words ≡ operation_words o))
 unfolding IsOneOf
 operation_line books others words few h n r = elim (one_of (operation_forms books.instruments ++ others) words h) [
-  | inl is ↦ let k = behind_keyword (codes "open") 1 words is in let rest = one_word (drop 1 words) k.1 in
-      let e : words ≡ codes "open" ∷ rest.0 ∷ [] = k.0 ∙ ap (λ l. codes "open" ∷ l) rest.1 in let read =
-      read_line (operation_forms books.instruments ++ others) words (codes "open" ∷ rest.0 ∷ []) e n r in
-      inr (op.OpenAccount (value_of rest.0), (read.0 (lit< tt)).1, e ∙ (λ i. codes "open" ∷ (read.0 (lit< tt)).0 i ∷ []))
+  | inl is ↦ let e = one_behind (codes "open") words is in
+      let read = read_line (operation_forms books.instruments ++ others) words _ e.1 n r in
+      inr (op.OpenAccount (value_of e.0), (read.0 (lit< tt)).1, e.1 ∙ (λ i. codes "open" ∷ (read.0 (lit< tt)).0 i ∷ []))
   | inr other ↦ elim other [
-    | inl is ↦ let k = behind_keyword (codes "close") 1 words is in let rest = one_word (drop 1 words) k.1 in
-        let e : words ≡ codes "close" ∷ rest.0 ∷ [] = k.0 ∙ ap (λ l. codes "close" ∷ l) rest.1 in let read =
-        read_line (operation_forms books.instruments ++ others) words (codes "close" ∷ rest.0 ∷ []) e n r in
-        inr (op.Close (value_of rest.0), (read.0 (lit< tt)).1, e ∙ (λ i. codes "close" ∷ (read.0 (lit< tt)).0 i ∷ []))
+    | inl is ↦ let e = one_behind (codes "close") words is in
+        let read = read_line (operation_forms books.instruments ++ others) words _ e.1 n r in
+        inr (op.Close (value_of e.0), (read.0 (lit< tt)).1, e.1 ∙ (λ i. codes "close" ∷ (read.0 (lit< tt)).0 i ∷ []))
     | inr other ↦ elim other [
-      | inl is ↦ let k = behind_keyword (codes "deposit") 2 words is in let rest = two_words (drop 1 words) k.1 in
-          let e : words ≡ codes "deposit" ∷ rest.0 ∷ rest.1 ∷ [] = k.0 ∙ ap (λ l. codes "deposit" ∷ l) rest.2 in
-          let read = read_line (operation_forms books.instruments ++ others) words (codes "deposit" ∷ rest.0 ∷ rest.1 ∷ []) e n r in
+      | inl is ↦ let e = two_behind (codes "deposit") words is in
+          let read = read_line (operation_forms books.instruments ++ others) words _ e.2 n r in
           inr (
-            op.Deposit (value_of rest.0) (value_of rest.1),
+            op.Deposit (value_of e.0) (value_of e.1),
             ((read.0 (lit< tt)).1, (read.1.0 (lit< tt)).1),
-            e
+            e.2
                 ∙ (λ i. codes "deposit" ∷ (read.0 (lit< tt)).0 i ∷ (read.1.0 (lit< tt)).0 i ∷ []),
           )
       | inr other ↦ elim other [
-        | inl is ↦ let k = behind_keyword (codes "withdraw") 2 words is in let rest = two_words (drop 1 words) k.1 in
-            let e : words ≡ codes "withdraw" ∷ rest.0 ∷ rest.1 ∷ [] = k.0 ∙ ap (λ l. codes "withdraw" ∷ l) rest.2 in
-            let read = read_line (operation_forms books.instruments ++ others) words (codes "withdraw" ∷ rest.0 ∷ rest.1 ∷ []) e n
-            r in inr (
-              op.Withdraw (value_of rest.0) (value_of rest.1),
+        | inl is ↦ let e = two_behind (codes "withdraw") words is in
+            let read = read_line (operation_forms books.instruments ++ others) words _ e.2 n r in
+            inr (
+              op.Withdraw (value_of e.0) (value_of e.1),
               ((read.0 (lit< tt)).1, (read.1.0 (lit< tt)).1),
-              e
+              e.2
                   ∙ (λ i. codes "withdraw" ∷ (read.0 (lit< tt)).0 i ∷ (read.1.0 (lit< tt)).0 i ∷ []),
             )
         | inr other ↦ elim other [
-          | inl is ↦ let k = behind_keyword (codes "move") 3 words is in let rest = three_words (drop 1 words) k.1 in
-              let e : words ≡ codes "move" ∷ rest.0 ∷ rest.1 ∷ rest.2 ∷ [] = k.0 ∙ ap (λ l. codes "move" ∷ l) rest.3 in
-              let read = read_line (operation_forms books.instruments ++ others) words (codes "move" ∷ rest.0 ∷ rest.1 ∷ rest.2 ∷ [])
-              e n r in inr (
-                op.Move (value_of rest.0) (value_of rest.1) (value_of rest.2),
+          | inl is ↦ let e = three_behind (codes "move") words is in
+              let read = read_line (operation_forms books.instruments ++ others) words _ e.3 n r in
+              inr (
+                op.Move (value_of e.0) (value_of e.1) (value_of e.2),
                 ((read.0 (lit< tt)).1, (read.1.0 (lit< tt)).1, (read.1.1.0 (lit< tt)).1),
-                e
+                e.3
                     ∙ (λ i. codes "move" ∷ (read.0 (lit< tt)).0 i ∷ (read.1.0 (lit< tt)).0 i ∷ (read.1.1.0 (lit< tt)).0 i ∷ []),
               )
           | inr other ↦ elim other [
-            | inl is ↦ let k = behind_keyword (codes "price") 2 words is in let rest = two_words (drop 1 words) k.1 in
-                let e : words ≡ codes "price" ∷ rest.0 ∷ rest.1 ∷ [] = k.0 ∙ ap (λ l. codes "price" ∷ l) rest.2 in
-                let read = read_line (operation_forms books.instruments ++ others) words (codes "price" ∷ rest.0 ∷ rest.1 ∷ []) e n
-                r in inr (
-                  op.Price (value_of rest.0) (value_of rest.1),
+            | inl is ↦ let e = two_behind (codes "price") words is in
+                let read = read_line (operation_forms books.instruments ++ others) words _ e.2 n r in
+                inr (
+                  op.Price (value_of e.0) (value_of e.1),
                   ((read.0 few).1, (read.1.0 (lit< tt)).1),
-                  e
+                  e.2
                       ∙ (λ i. codes "price" ∷ (read.0 few).0 i ∷ (read.1.0 (lit< tt)).0 i ∷ []),
                 )
             | inr other ↦ elim other [
-              | inl is ↦ let k = behind_keyword (codes "trade") 4 words is in let rest =
-                  four_words (drop 1 words) k.1 in let e : words ≡ codes "trade" ∷ rest.0 ∷ rest.1 ∷ rest.2 ∷ rest.3
-                  ∷ [] = k.0 ∙ ap (λ l. codes "trade" ∷ l) rest.4 in let read =
-                  read_line (operation_forms books.instruments ++ others) words (codes "trade" ∷ rest.0 ∷ rest.1 ∷ rest.2 ∷ rest.3
-                  ∷ []) e n r in inr (
-                    op.Trade (value_of rest.0) (value_of rest.1) (value_of rest.2) (value_of rest.3),
+              | inl is ↦ let e = four_behind (codes "trade") words is in
+                  let read = read_line (operation_forms books.instruments ++ others) words _ e.4 n r in
+                  inr (
+                    op.Trade (value_of e.0) (value_of e.1) (value_of e.2)
+                        (value_of e.3),
                     ((read.0 (lit< tt)).1, (read.1.0 (lit< tt)).1, (read.1.1.0 few).1, (read.1.1.1.0 (lit< tt)).1),
-                    e
+                    e.4
                         ∙ (λ i. codes "trade" ∷ (read.0 (lit< tt)).0 i ∷ (read.1.0 (lit< tt)).0 i ∷ (read.1.1.0 few).0 i ∷ (read.1.1.1.0 (lit< tt)).0 i ∷ []),
                   )
               | inr other ↦ elim other [
-                | inl is ↦ let k = behind_keyword (codes "margin") 2 words is in let rest =
-                    two_words (drop 1 words) k.1 in let e : words ≡ codes "margin" ∷ rest.0 ∷ rest.1 ∷ [] = k.0
-                    ∙ ap (λ l. codes "margin" ∷ l) rest.2 in let read =
-                    read_line (operation_forms books.instruments ++ others) words (codes "margin" ∷ rest.0 ∷ rest.1 ∷ []) e n r in
+                | inl is ↦ let e = two_behind (codes "margin") words is in
+                    let read = read_line (operation_forms books.instruments ++ others) words _ e.2 n r in
                     inr (
-                      op.Margin (value_of rest.0) (value_of rest.1),
+                      op.Margin (value_of e.0) (value_of e.1),
                       ((read.0 (lit< tt)).1, (read.1.0 (lit< tt)).1),
-                      e ∙ (λ i. codes "margin" ∷ (read.0 (lit< tt)).0 i ∷ (read.1.0 (lit< tt)).0 i ∷ []),
+                      e.2
+                          ∙ (λ i. codes "margin" ∷ (read.0 (lit< tt)).0 i ∷ (read.1.0 (lit< tt)).0 i ∷ []),
                     )
                 | inr other ↦ elim other [
-                  | inl is ↦ let k = behind_keyword (codes "next") 0 words is in
-                      inr (op.Next, tt, k.0 ∙ ap (λ l. codes "next" ∷ l) (no_words (drop 1 words) k.1))
+                  | inl is ↦ inr (op.Next, tt, only_word (codes "next") words is)
                   | inr other ↦ elim other [
-                    | inl is ↦ let k = behind_keyword (codes "show") 1 words is in let rest =
-                        one_word (drop 1 words) k.1 in let e : words ≡ codes "show" ∷ rest.0 ∷ [] = k.0
-                        ∙ ap (λ l. codes "show" ∷ l) rest.1 in let read =
-                        read_line (operation_forms books.instruments ++ others) words (codes "show" ∷ rest.0 ∷ []) e n r in
-                        inr (op.Show (value_of rest.0), (read.0 (lit< tt)).1, e ∙ (λ i. codes "show" ∷ (read.0 (lit< tt)).0 i ∷ []))
+                    | inl is ↦ let e = one_behind (codes "show") words is in
+                        let read = read_line (operation_forms books.instruments ++ others) words _ e.1 n r in
+                        inr (op.Show (value_of e.0), (read.0 (lit< tt)).1, e.1 ∙ (λ i. codes "show" ∷ (read.0 (lit< tt)).0 i ∷ []))
                     | inr other ↦ elim other [
-                      | inl is ↦ let k = behind_keyword (codes "sum") 2 words is in let rest =
-                          two_words (drop 1 words) k.1 in let e : words ≡ codes "sum" ∷ rest.0 ∷ rest.1 ∷ [] = k.0
-                          ∙ ap (λ l. codes "sum" ∷ l) rest.2 in let read =
-                          read_line (operation_forms books.instruments ++ others) words (codes "sum" ∷ rest.0 ∷ rest.1 ∷ []) e n r in
+                      | inl is ↦ let e = two_behind (codes "sum") words is in
+                          let read = read_line (operation_forms books.instruments ++ others) words _ e.2 n r in
                           inr (
-                            op.Sum (value_of rest.0) (value_of rest.1),
+                            op.Sum (value_of e.0) (value_of e.1),
                             ((read.0 (lit< tt)).1, (read.1.0 (lit< tt)).1),
-                            e ∙ (λ i. codes "sum" ∷ (read.0 (lit< tt)).0 i ∷ (read.1.0 (lit< tt)).0 i ∷ []),
+                            e.2
+                                ∙ (λ i. codes "sum" ∷ (read.0 (lit< tt)).0 i ∷ (read.1.0 (lit< tt)).0 i ∷ []),
                           )
                       | inr other ↦ inl other
                     ]

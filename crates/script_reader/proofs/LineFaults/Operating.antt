@@ -6,7 +6,7 @@ use Rattle.script_reader.specs.Text.{number}
 use Rattle.script_reader.specs.Forms.{Words, begins, value_of, value_at, is_in_range, are_numbers, are_in_range}
 use Rattle.script_reader.specs.Inner.Rows.{HasNumbers}
 use Rattle.script_reader.proofs.Conditions.{both}
-use Rattle.script_reader.proofs.LineFaults.LineKinds.{behind_keyword, one_word, two_words, three_words, four_words, ranged}
+use Rattle.script_reader.proofs.LineFaults.LineKinds.{one_behind, two_behind, three_behind, four_behind, ranged}
 
 -- a number and its text
 read : (word : List ℕ) (r : ℕ × ℕ) (n : ℕ) → r.1 < 2 ^ 64 → n ≡ value_of word → is_number word ≡ true
@@ -17,9 +17,8 @@ read word r n fits e is within = let h = ranged word r.0 r.1 fits is within in (
 pub row_one : (k : List ℕ) (words : Words) (r : ℕ × ℕ) {n : ℕ} → (begins k words && length words == 2) ≡ true → r.1 < 2 ^ 64
     → HasNumbers words (r ∷ []) × (n ≡ value_at words 1) → IsWithin r.0 r.1 n × (words ≡ k ∷ number n ∷ [])
 row_one k words r {n} row f0 found =
-    let behind = behind_keyword k 1 words row in
-    let rest = one_word (drop 1 words) behind.1 in
-    let is : words ≡ k ∷ rest.0 ∷ [] = behind.0 ∙ ap (λ l. k ∷ l) rest.1 in
+    let rest = one_behind k words row in
+    let is = rest.1 in
     let numbers = subst (λ w. are_numbers (drop 1 w) ≡ true) is found.0.numbers in
     let within = subst (λ w. are_in_range (drop 1 w) (r ∷ []) ≡ true) is found.0.in_range in
     let n0 : (is_number rest.0 && true) ≡ true = numbers in
@@ -32,9 +31,8 @@ pub row_two : (k : List ℕ) (words : Words) (r s : ℕ × ℕ) {n m : ℕ} → 
     → HasNumbers words (r ∷ s ∷ []) × (n ≡ value_at words 1) × (m ≡ value_at words 2)
     → (IsWithin r.0 r.1 n × IsWithin s.0 s.1 m) × (words ≡ k ∷ number n ∷ number m ∷ [])
 row_two k words r s {n} {m} row f0 f1 found =
-    let behind = behind_keyword k 2 words row in
-    let rest = two_words (drop 1 words) behind.1 in
-    let is : words ≡ k ∷ rest.0 ∷ rest.1 ∷ [] = behind.0 ∙ ap (λ l. k ∷ l) rest.2 in
+    let rest = two_behind k words row in
+    let is = rest.2 in
     let numbers = subst (λ w. are_numbers (drop 1 w) ≡ true) is found.0.numbers in
     let within = subst (λ w. are_in_range (drop 1 w) (r ∷ s ∷ []) ≡ true) is found.0.in_range in
     let n0 : (is_number rest.0 && (is_number rest.1 && true)) ≡ true = numbers in
@@ -51,9 +49,8 @@ pub row_three : (k : List ℕ) (words : Words) (r s t : ℕ × ℕ) {n m l : ℕ
     → HasNumbers words (r ∷ s ∷ t ∷ []) × (n ≡ value_at words 1) × (m ≡ value_at words 2) × (l ≡ value_at words 3)
     → (IsWithin r.0 r.1 n × IsWithin s.0 s.1 m × IsWithin t.0 t.1 l) × (words ≡ k ∷ number n ∷ number m ∷ number l ∷ [])
 row_three k words r s t {n} {m} {l} row f0 f1 f2 found =
-    let behind = behind_keyword k 3 words row in
-    let rest = three_words (drop 1 words) behind.1 in
-    let is : words ≡ k ∷ rest.0 ∷ rest.1 ∷ rest.2 ∷ [] = behind.0 ∙ ap (λ l. k ∷ l) rest.3 in
+    let rest = three_behind k words row in
+    let is = rest.3 in
     let numbers = subst (λ w. are_numbers (drop 1 w) ≡ true) is found.0.numbers in
     let within = subst (λ w. are_in_range (drop 1 w) (r ∷ s ∷ t ∷ []) ≡ true) is found.0.in_range in
     let n0 : (is_number rest.0 && (is_number rest.1 && (is_number rest.2 && true))) ≡ true = numbers in
@@ -73,9 +70,8 @@ pub row_four : (k : List ℕ) (words : Words) (r s t u : ℕ × ℕ) {n m l o : 
     → HasNumbers words (r ∷ s ∷ t ∷ u ∷ []) × (n ≡ value_at words 1) × (m ≡ value_at words 2) × (l ≡ value_at words 3) × (o ≡ value_at words 4)
     → (IsWithin r.0 r.1 n × IsWithin s.0 s.1 m × IsWithin t.0 t.1 l × IsWithin u.0 u.1 o) × (words ≡ k ∷ number n ∷ number m ∷ number l ∷ number o ∷ [])
 row_four k words r s t u {n} {m} {l} {o} row f0 f1 f2 f3 found =
-    let behind = behind_keyword k 4 words row in
-    let rest = four_words (drop 1 words) behind.1 in
-    let is : words ≡ k ∷ rest.0 ∷ rest.1 ∷ rest.2 ∷ rest.3 ∷ [] = behind.0 ∙ ap (λ l. k ∷ l) rest.4 in
+    let rest = four_behind k words row in
+    let is = rest.4 in
     let numbers = subst (λ w. are_numbers (drop 1 w) ≡ true) is found.0.numbers in
     let within = subst (λ w. are_in_range (drop 1 w) (r ∷ s ∷ t ∷ u ∷ []) ≡ true) is found.0.in_range in
     let n0 : (is_number rest.0 && (is_number rest.1 && (is_number rest.2 && (is_number rest.3 && true)))) ≡ true = numbers in

@@ -18,7 +18,7 @@ use Rattle.script_reader.specs.Inner.Rows.{HasNumbers, numbers_fault, account_ra
 use Rattle.script_reader.proofs.Conditions.{any_fixed, is_some_list}
 use Rattle.script_reader.proofs.Printing.Printed.{books_fault_is, fault_at, is_late_in, is_low_in}
 use Rattle.script_reader.proofs.Printing.Scripted.{in_books}
-use Rattle.script_reader.proofs.LineFaults.LineKinds.{behind_keyword, two_words, three_words}
+use Rattle.script_reader.proofs.LineFaults.LineKinds.{two_behind, three_behind}
 use Rattle.script_reader.proofs.WithoutFault.BooksFaultless.{printed, printed_small}
 use Rattle.script_reader.proofs.Printing.Extending.{adds_account, adds_price, adds_position, adds_call}
 
@@ -106,26 +106,22 @@ module _ (b : ClearingBooks) (range : AreInRange b) (words : Words) where
   pub account_fault : (begins (codes "account") words && length words == 3) ≡ true
       → IsRefused b words account_ranges (is_late_in 0 (printed b)) false (is_low_in 0 (value_at words 1, 0) (printed b)) false false (has_no_block b)
   account_fault row =
-      let k = behind_keyword (codes "account") 2 words row in
-      let rest = two_words (drop 1 words) k.1 in
-      let e : words ≡ codes "account" ∷ rest.0 ∷ rest.1 ∷ [] = k.0 ∙ ap (λ l. codes "account" ∷ l) rest.2 in
+      let e = two_behind (codes "account") words row in
       record {
         fault = by_kind (form (codes "account") account_ranges) 0 (value_at words 1, 0) false
-            false true (ap (form_of (books_forms b.instruments)) e) (ap kind_of e) (ap key_of e
-            ∙ sym (ap (λ w. (value_at w 1, 0)) e)) (ap (begins (codes "call")) e) (ap (begins (codes "position")) e) (ap takes_block e);
+            false true (ap (form_of (books_forms b.instruments)) e.2) (ap kind_of e.2) (ap key_of e.2
+            ∙ sym (ap (λ w. (value_at w 1, 0)) e.2)) (ap (begins (codes "call")) e.2) (ap (begins (codes "position")) e.2) (ap takes_block e.2);
       }
 
   pub price_fault : (begins (codes "price") words && length words == 3) ≡ true
       → IsRefused b words (price_ranges b.instruments) (is_late_in 1 (printed b)) false (is_low_in 1 (value_at words 1, 0) (printed b)) false false
       (has_no_block b)
   price_fault row =
-      let k = behind_keyword (codes "price") 2 words row in
-      let rest = two_words (drop 1 words) k.1 in
-      let e : words ≡ codes "price" ∷ rest.0 ∷ rest.1 ∷ [] = k.0 ∙ ap (λ l. codes "price" ∷ l) rest.2 in
+      let e = two_behind (codes "price") words row in
       record {
         fault = by_kind (form (codes "price") (price_ranges b.instruments)) 1 (value_at words 1, 0) false false
-            true (ap (form_of (books_forms b.instruments)) e) (ap kind_of e) (ap key_of e
-            ∙ sym (ap (λ w. (value_at w 1, 0)) e)) (ap (begins (codes "call")) e) (ap (begins (codes "position")) e) (ap takes_block e);
+            true (ap (form_of (books_forms b.instruments)) e.2) (ap kind_of e.2) (ap key_of e.2
+            ∙ sym (ap (λ w. (value_at w 1, 0)) e.2)) (ap (begins (codes "call")) e.2) (ap (begins (codes "position")) e.2) (ap takes_block e.2);
       }
 
   pub position_fault : (begins (codes "position") words && length words == 4) ≡ true
@@ -134,27 +130,23 @@ module _ (b : ClearingBooks) (range : AreInRange b) (words : Words) where
       (not (list_any (λ e. e.0 == value_at words 1) (printed b).accounts)) (not (list_any (λ e. e.0 == value_at words 2) (printed b).prices))
       (has_no_block b)
   position_fault row =
-      let k = behind_keyword (codes "position") 3 words row in
-      let rest = three_words (drop 1 words) k.1 in
-      let e : words ≡ codes "position" ∷ rest.0 ∷ rest.1 ∷ rest.2 ∷ [] = k.0 ∙ ap (λ l. codes "position" ∷ l) rest.3 in
+      let e = three_behind (codes "position") words row in
       record {
         fault = by_kind (form (codes "position") (position_ranges b.instruments)) 2 (
           value_at words 1,
           value_at words 2,
-        ) false true true (ap (form_of (books_forms b.instruments)) e) (ap kind_of e) (ap key_of e
-            ∙ sym (ap (λ w. (value_at w 1, value_at w 2)) e)) (ap (begins (codes "call")) e) (ap (begins (codes "position")) e) (ap takes_block e);
+        ) false true true (ap (form_of (books_forms b.instruments)) e.3) (ap kind_of e.3) (ap key_of e.3
+            ∙ sym (ap (λ w. (value_at w 1, value_at w 2)) e.3)) (ap (begins (codes "call")) e.3) (ap (begins (codes "position")) e.3) (ap takes_block e.3);
       }
 
   pub call_fault : (begins (codes "call") words && length words == 3) ≡ true
       → IsRefused b words call_ranges false (nat_le b.ring (length b.calls)) false false false false
   call_fault row =
-      let k = behind_keyword (codes "call") 2 words row in
-      let rest = two_words (drop 1 words) k.1 in
-      let e : words ≡ codes "call" ∷ rest.0 ∷ rest.1 ∷ [] = k.0 ∙ ap (λ l. codes "call" ∷ l) rest.2 in
+      let e = two_behind (codes "call") words row in
       record {
         fault = by_kind (form (codes "call") call_ranges) 3 (value_at words 1, 0) true false
-            false (ap (form_of (books_forms b.instruments)) e) (ap kind_of e) (ap key_of e
-            ∙ sym (ap (λ w. (value_at w 1, 0)) e)) (ap (begins (codes "call")) e) (ap (begins (codes "position")) e) (ap takes_block e);
+            false (ap (form_of (books_forms b.instruments)) e.2) (ap kind_of e.2) (ap key_of e.2
+            ∙ sym (ap (λ w. (value_at w 1, 0)) e.2)) (ap (begins (codes "call")) e.2) (ap (begins (codes "position")) e.2) (ap takes_block e.2);
       }
 
   -- no kind is that of the line
@@ -199,39 +191,31 @@ module _ (b : ClearingBooks) (range : AreInRange b) where
   pub gives_account : (words : Words) → (begins (codes "account") words && length words == 3) ≡ true
       → fault_of (books_words b) words ≡ None → IsRow b words (row.Account (value_at words 1) (value_at words 2))
   gives_account words is none =
-      let k = behind_keyword (codes "account") 2 words is in
-      let rest = two_words (drop 1 words) k.1 in
-      let e : words ≡ codes "account" ∷ rest.0 ∷ rest.1 ∷ [] = k.0 ∙ ap (λ l. codes "account" ∷ l) rest.2 in
-      let h = adds_account b range rest.0 rest.1 (subst (λ w. fault_at (printed b) w ≡ None) e (at_books words none)) in
-      subst (λ w. IsRow b w (row.Account (value_at w 1) (value_at w 2))) (sym e)
+      let e = two_behind (codes "account") words is in
+      let h = adds_account b range e.0 e.1 (subst (λ w. fault_at (printed b) w ≡ None) e.2 (at_books words none)) in
+      subst (λ w. IsRow b w (row.Account (value_at w 1) (value_at w 2))) (sym e.2)
       (record { fits = (h.number_is, h.fits, h.absent, h.room); lines = h.lines })
 
   pub gives_price : (words : Words) → (begins (codes "price") words && length words == 3) ≡ true → fault_of (books_words b) words ≡ None
       → IsRow b words (row.Price (value_at words 1) (value_at words 2))
   gives_price words is none =
-      let k = behind_keyword (codes "price") 2 words is in
-      let rest = two_words (drop 1 words) k.1 in
-      let e : words ≡ codes "price" ∷ rest.0 ∷ rest.1 ∷ [] = k.0 ∙ ap (λ l. codes "price" ∷ l) rest.2 in
-      let h = adds_price b range rest.0 rest.1 (subst (λ w. fault_at (printed b) w ≡ None) e (at_books words none)) in
-      subst (λ w. IsRow b w (row.Price (value_at w 1) (value_at w 2))) (sym e)
+      let e = two_behind (codes "price") words is in
+      let h = adds_price b range e.0 e.1 (subst (λ w. fault_at (printed b) w ≡ None) e.2 (at_books words none)) in
+      subst (λ w. IsRow b w (row.Price (value_at w 1) (value_at w 2))) (sym e.2)
       (record { fits = (h.number_is, h.fits, h.absent, h.room); lines = h.lines })
 
   pub gives_position : (words : Words) → (begins (codes "position") words && length words == 4) ≡ true
       → fault_of (books_words b) words ≡ None → IsRow b words (row.Position (value_at words 1) (value_at words 2) (value_at words 3))
   gives_position words is none =
-      let k = behind_keyword (codes "position") 3 words is in
-      let rest = three_words (drop 1 words) k.1 in
-      let e : words ≡ codes "position" ∷ rest.0 ∷ rest.1 ∷ rest.2 ∷ [] = k.0 ∙ ap (λ l. codes "position" ∷ l) rest.3 in
-      let h = adds_position b range rest.0 rest.1 rest.2 (subst (λ w. fault_at (printed b) w ≡ None) e (at_books words none)) in
-      subst (λ w. IsRow b w (row.Position (value_at w 1) (value_at w 2) (value_at w 3))) (sym e)
+      let e = three_behind (codes "position") words is in
+      let h = adds_position b range e.0 e.1 e.2 (subst (λ w. fault_at (printed b) w ≡ None) e.3 (at_books words none)) in
+      subst (λ w. IsRow b w (row.Position (value_at w 1) (value_at w 2) (value_at w 3))) (sym e.3)
       (record { fits = (h.given, h.priced, h.fits, h.absent, h.room); lines = h.lines })
 
   pub gives_call : (words : Words) → (begins (codes "call") words && length words == 3) ≡ true → fault_of (books_words b) words ≡ None
       → IsRow b words (row.Call (value_at words 1) (value_at words 2))
   gives_call words is none =
-      let k = behind_keyword (codes "call") 2 words is in
-      let rest = two_words (drop 1 words) k.1 in
-      let e : words ≡ codes "call" ∷ rest.0 ∷ rest.1 ∷ [] = k.0 ∙ ap (λ l. codes "call" ∷ l) rest.2 in
-      let h = adds_call b range rest.0 rest.1 (subst (λ w. fault_at (printed b) w ≡ None) e (at_books words none)) in
-      subst (λ w. IsRow b w (row.Call (value_at w 1) (value_at w 2))) (sym e)
+      let e = two_behind (codes "call") words is in
+      let h = adds_call b range e.0 e.1 (subst (λ w. fault_at (printed b) w ≡ None) e.2 (at_books words none)) in
+      subst (λ w. IsRow b w (row.Call (value_at w 1) (value_at w 2))) (sym e.2)
       (record { fits = (h.call, h.room); lines = h.lines })

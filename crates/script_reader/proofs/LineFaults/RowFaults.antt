@@ -8,7 +8,7 @@ use Rattle.script_reader.specs.declared.fault.Fault.TheVariants as fault
 use Rattle.script_reader.specs.Forms.{Words, Form, form, operation_forms, begins, has_form, form_of, ranges_of, are_numbers, are_in_range}
 use Rattle.script_reader.specs.Faults.{first_reason}
 use Rattle.script_reader.specs.Inner.Rows.{numbers_fault, row_fault}
-use Rattle.script_reader.proofs.LineFaults.LineKinds.{behind_keyword, one_word, two_words, three_words, four_words}
+use Rattle.script_reader.proofs.LineFaults.LineKinds.{one_behind, two_behind, three_behind, four_behind}
 
 -- a line of another length is none of this keyword and this length
 pub other_length : (k : List ℕ) (n : ℕ) (words : Words) → (length words ≡ n → ⊥) → (begins k words && length words == n) ≡ false
@@ -45,31 +45,27 @@ module _ (forms : List Form) (words : Words) where
   pub one_wrong : (k : List ℕ) (r : ℕ × ℕ) (why : Fault) → ((a : List ℕ) → form_of forms (k ∷ a ∷ []) ≡ Some (form k (r ∷ [])))
       → (begins k words && length words == 2) ≡ true → numbers_fault words (r ∷ []) ≡ Some why → row_fault forms words ≡ Some why
   one_wrong k r why is row h =
-      let behind = behind_keyword k 1 words row in
-      let rest = one_word (drop 1 words) behind.1 in
-      numbers_wrong (form k (r ∷ [])) why (ap (form_of forms) (behind.0 ∙ ap (λ l. k ∷ l) rest.1) ∙ is rest.0) h
+      let e = one_behind k words row in
+      numbers_wrong (form k (r ∷ [])) why (ap (form_of forms) e.1 ∙ is e.0) h
 
   pub two_wrong : (k : List ℕ) (r s : ℕ × ℕ) (why : Fault) → ((a b : List ℕ) → form_of forms (k ∷ a ∷ b ∷ []) ≡ Some (form k (r ∷ s ∷ [])))
       → (begins k words && length words == 3) ≡ true → numbers_fault words (r ∷ s ∷ []) ≡ Some why → row_fault forms words ≡ Some why
   two_wrong k r s why is row h =
-      let behind = behind_keyword k 2 words row in
-      let rest = two_words (drop 1 words) behind.1 in
-      numbers_wrong (form k (r ∷ s ∷ [])) why (ap (form_of forms) (behind.0 ∙ ap (λ l. k ∷ l) rest.2) ∙ is rest.0 rest.1) h
+      let e = two_behind k words row in
+      numbers_wrong (form k (r ∷ s ∷ [])) why (ap (form_of forms) e.2 ∙ is e.0 e.1) h
 
   pub three_wrong : (k : List ℕ) (r s t : ℕ × ℕ) (why : Fault) → ((a b c : List ℕ) → form_of forms (k ∷ a ∷ b ∷ c ∷ []) ≡ Some (form k (r ∷ s ∷ t ∷ [])))
       → (begins k words && length words == 4) ≡ true → numbers_fault words (r ∷ s ∷ t ∷ []) ≡ Some why → row_fault forms words ≡ Some why
   three_wrong k r s t why is row h =
-      let behind = behind_keyword k 3 words row in
-      let rest = three_words (drop 1 words) behind.1 in
-      numbers_wrong (form k (r ∷ s ∷ t ∷ [])) why (ap (form_of forms) (behind.0 ∙ ap (λ l. k ∷ l) rest.3) ∙ is rest.0 rest.1 rest.2) h
+      let e = three_behind k words row in
+      numbers_wrong (form k (r ∷ s ∷ t ∷ [])) why (ap (form_of forms) e.3 ∙ is e.0 e.1 e.2) h
 
   pub four_wrong : (k : List ℕ) (r s t u : ℕ × ℕ) (why : Fault)
       → ((a b c d : List ℕ) → form_of forms (k ∷ a ∷ b ∷ c ∷ d ∷ []) ≡ Some (form k (r ∷ s ∷ t ∷ u ∷ [])))
       → (begins k words && length words == 5) ≡ true → numbers_fault words (r ∷ s ∷ t ∷ u ∷ []) ≡ Some why → row_fault forms words ≡ Some why
   four_wrong k r s t u why is row h =
-      let behind = behind_keyword k 4 words row in
-      let rest = four_words (drop 1 words) behind.1 in
-      numbers_wrong (form k (r ∷ s ∷ t ∷ u ∷ [])) why (ap (form_of forms) (behind.0 ∙ ap (λ l. k ∷ l) rest.4) ∙ is rest.0 rest.1 rest.2 rest.3) h
+      let e = four_behind k words row in
+      numbers_wrong (form k (r ∷ s ∷ t ∷ u ∷ [])) why (ap (form_of forms) e.4 ∙ is e.0 e.1 e.2 e.3) h
 
 -- a line that is no operation
 pub unknown_word : (n : ℕ) (words : Words)

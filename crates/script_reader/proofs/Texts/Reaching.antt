@@ -31,7 +31,7 @@ use Rattle.script_reader.proofs.Printing.Scripted.{ended, opened, in_books, is_b
 use Rattle.script_reader.proofs.Printing.Opened.{parts_more, open_more, words_more, operations_more, alternatives_more, words_try, operations_try, alternatives_try, words_else}
 use Rattle.script_reader.proofs.Printing.Opened.{words_done, inside_more}
 use Rattle.script_reader.proofs.LineFaults.LineKinds.{none_applies, books_line, BooksLine, AccountLine, PriceLine, PositionLine, CallLine, ScriptsLine, line_words}
-use Rattle.script_reader.proofs.LineFaults.LineKinds.{IsOneOf, one_word, behind_keyword, operation_line, end_or_try, closing}
+use Rattle.script_reader.proofs.LineFaults.LineKinds.{IsOneOf, one_behind, operation_line, end_or_try, closing}
 use Rattle.script_reader.proofs.WithoutFault.BooksFaultless.{printed, printed_small, instruments_fit}
 use Rattle.script_reader.proofs.Grouped.Submitting.{callers_more, count-fold}
 use Rattle.script_reader.proofs.Grouped.Grouping.{callers_of-push, callers_of-gathered, no-names}
@@ -121,9 +121,8 @@ outside_step lines words r none more =
     let n2 = none_applies _ fault.Limit _ n1.1 in
     let begins_script : is_script_line words ≡ true = other (passed n1.0) more in
     let form = both begins_script in
-    let k = behind_keyword (codes "script") 1 words form.0 in
-    let name = one_word (drop 1 words) k.1 in
-    let is : words ≡ codes "script" ∷ name.0 ∷ [] = k.0 ∙ ap (λ l. codes "script" ∷ l) name.1 in
+    let name = one_behind (codes "script") words form.0 in
+    let is = name.1 in
     let named : IsName name.0 = subst (λ w. is_name (word_at w 1) ≡ true) is form.1 in
     let beyond : is_beyond_at r.subs name.0 ≡ false =
     subst (λ w. is_beyond_at r.subs (word_at w 1) ≡ false) is (sym (ap (λ c. c && is_beyond_at r.subs (word_at words 1)) begins_script) ∙ n2.0) in

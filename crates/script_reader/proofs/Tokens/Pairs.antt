@@ -26,10 +26,10 @@ within_of word r n exact e is =
     (omega (arith, e, above, below, exact), omega (arith, e, above, below, exact))
 
 -- two numbers that are not both in their ranges, as their words
-pub pair_false : (w v : List ℕ) (r s : ℕ × ℕ) (n m : ℕ) → r.1 < greatest_u64 → s.1 < greatest_u64
+pub pair_false : (w v : List ℕ) {r s : ℕ × ℕ} {n m : ℕ} → r.1 < greatest_u64 → s.1 < greatest_u64
     → n ≡ min (value_of w) greatest_u64 → m ≡ min (value_of v) greatest_u64
     → (IsWithin r.0 r.1 n × IsWithin s.0 s.1 m → ⊥) → (is_in_range (w, r) && is_in_range (v, s)) ≡ false
-pair_false w v r s n m exact_r exact_s e f out = by (is_in_range (w, r)) (is_in_range (v, s)) refl refl
+pair_false w v {r} {s} {n} {m} exact_r exact_s e f out = by (is_in_range (w, r)) (is_in_range (v, s)) refl refl
   where
     by : (a b : Bool) → is_in_range (w, r) ≡ a → is_in_range (v, s) ≡ b → (a && b) ≡ false
     by true true g h = absurd (out (within_of w r n exact_r e g, within_of v s m exact_s f h))
@@ -37,9 +37,9 @@ pair_false w v r s n m exact_r exact_s e f out = by (is_in_range (w, r)) (is_in_
     by false b g h = refl
 
 -- a word that is no number
-pub number_fault : (words rest : Words) (ranges : List (ℕ × ℕ)) → drop 1 words ≡ rest → are_numbers rest ≡ false
+pub number_fault : (words : Words) {rest : Words} (ranges : List (ℕ × ℕ)) → drop 1 words ≡ rest → are_numbers rest ≡ false
     → numbers_fault words ranges ≡ Some fault.Number
-number_fault words rest ranges e none i =
+number_fault words {rest} ranges e none i =
     first_reason ((not ((ap are_numbers e ∙ none) i), fault.Number) ∷ (not (are_in_range (drop 1 words) ranges), fault.Limit) ∷ [])
 
 -- the words behind the first of three

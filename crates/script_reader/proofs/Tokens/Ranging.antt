@@ -11,19 +11,19 @@ use Rattle.script_reader.proofs.Tokens.Numerals.{greatest_u64}
 use Rattle.script_reader.proofs.Conditions.{both, and_true}
 
 -- a number that was read is in the range where its word is
-pub ranged_true : (word : List ℕ) (low high n : ℕ) → high < greatest_u64
+pub ranged_true : (word : List ℕ) {low high n : ℕ} → high < greatest_u64
     → n ≡ min (value_of word) greatest_u64 → IsWithin low high n → is_in_range (word, (low, high)) ≡ true
-ranged_true word low high n exact e h =
+ranged_true word {low} {high} {n} exact e h =
     and_true (le-leb low (value_of word) (omega (arith, e, h.0, h.1, exact))) (le-leb (value_of word) high (omega (arith, e, h.0, h.1, exact)))
 
 -- and is the word's value there
-pub ranged_value : (word : List ℕ) (low high n : ℕ) → high < greatest_u64
+pub ranged_value : (word : List ℕ) {low high n : ℕ} → high < greatest_u64
     → n ≡ min (value_of word) greatest_u64 → IsWithin low high n → n ≡ value_of word
-ranged_value word low high n exact e h = omega (arith, e, h.1, exact)
+ranged_value word {low} {high} {n} exact e h = omega (arith, e, h.1, exact)
 
-pub ranged_false : (word : List ℕ) (low high n : ℕ) → high < greatest_u64
+pub ranged_false : (word : List ℕ) {low high n : ℕ} → high < greatest_u64
     → n ≡ min (value_of word) greatest_u64 → (IsWithin low high n → ⊥) → is_in_range (word, (low, high)) ≡ false
-ranged_false word low high n exact e out = by (is_in_range (word, (low, high))) refl
+ranged_false word {low} {high} {n} exact e out = by (is_in_range (word, (low, high))) refl
   where
     by : (b : Bool) → is_in_range (word, (low, high)) ≡ b → b ≡ false
     by false f = refl
@@ -34,9 +34,9 @@ ranged_false word low high n exact e out = by (is_in_range (word, (low, high))) 
         absurd (out (omega (arith, e, above, below, exact), omega (arith, e, above, below, exact)))
 
 -- numbers out of a range
-pub limit_fault : (words rest : Words) (ranges : List (ℕ × ℕ)) → drop 1 words ≡ rest → are_numbers rest ≡ true
+pub limit_fault : (words : Words) {rest : Words} (ranges : List (ℕ × ℕ)) → drop 1 words ≡ rest → are_numbers rest ≡ true
     → are_in_range rest ranges ≡ false → numbers_fault words ranges ≡ Some fault.Limit
-limit_fault words rest ranges e numbers out i =
+limit_fault words {rest} ranges e numbers out i =
     first_reason ((not ((ap are_numbers e ∙ numbers) i), fault.Number) ∷ (not ((ap (λ l. are_in_range l ranges) e ∙ out) i), fault.Limit) ∷ [])
 
 -- the words behind the first of four, and of five

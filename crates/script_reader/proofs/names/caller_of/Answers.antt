@@ -3,14 +3,13 @@ use Rattle.std.specs.Result.{IfOk}
 use Rattle.script_reader.specs.declared.fault.Fault.{Fault}
 use Rattle.script_reader.specs.Input.{IsName}
 use Rattle.script_reader.specs.Lines.{word_at}
-use Rattle.script_reader.proofs.LineFaults.LineKinds.{behind_keyword, one_word}
+use Rattle.script_reader.proofs.LineFaults.LineKinds.{one_behind}
 use Rattle.script_reader.proofs.names.caller_of.Goals as goal
 
 pub returns-clause-found : goal.returns-clause-found
 returns-clause-found c =
-    let k = behind_keyword (codes "script") 1 c.args.words.now (sym c.is_row.ensures ∙ c.if-not-is_row.false) in
-    let rest = one_word _ k.1 in
-    let is = k.0 ∙ ap (λ l. codes "script" ∷ l) rest.1 in
+    let rest = one_behind (codes "script") c.args.words.now (sym c.is_row.ensures ∙ c.if-not-is_row.false) in
+    let is = rest.1 in
     let name : word_at c.args.words.now 1 ≡ rest.0 = ap (λ w. word_at w 1) is in
     by c.name_of.result c.name_of.ensures.found (is ∙ ap (λ w. codes "script" ∷ w ∷ []) (sym name ∙ sym c.at.ensures))
   where

@@ -12,10 +12,12 @@ returns-in_err-account-clause-err c =
     (sym c.is_row.ensures ∙ c.if-is_row.true) c.in_err-account.ensures.err)
 
 pub overflow_cast-result : goal.overflow_cast-result
-overflow_cast-result c = omega (arith, (row_one (codes "open") c.args.words.now accounts (sym c.is_row.ensures ∙ c.if-is_row.true) (lit< tt) c.in_ok-account.ensures.found).0.1)
+overflow_cast-result c = omega
+    (arith, (row_one (codes "open") c.args.words.now accounts (sym c.is_row.ensures ∙ c.if-is_row.true) (lit< tt) c.in_ok-account.ensures.found).0.1)
 
 pub returns-then-is_row-clause-found : goal.returns-then-is_row-clause-found
-returns-then-is_row-clause-found c books = row_one (codes "open") c.args.words.now accounts (sym c.is_row.ensures ∙ c.if-is_row.true) (lit< tt) c.in_ok-account.ensures.found
+returns-then-is_row-clause-found c books = row_one (codes "open") c.args.words.now accounts (sym c.is_row.ensures ∙ c.if-is_row.true) (lit< tt)
+    c.in_ok-account.ensures.found
 
 pub returns-in_err-account-2-clause-err : goal.returns-in_err-account-2-clause-err
 returns-in_err-account-2-clause-err c =
@@ -24,10 +26,12 @@ returns-in_err-account-2-clause-err c =
     (sym c.is_row-2.ensures ∙ c.if-is_row-2.true) c.in_err-account-2.ensures.err)
 
 pub overflow_cast-result-then-is_row-2 : goal.overflow_cast-result-then-is_row-2
-overflow_cast-result-then-is_row-2 c = omega (arith, (row_one (codes "close") c.args.words.now accounts (sym c.is_row-2.ensures ∙ c.if-is_row-2.true) (lit< tt) c.in_ok-account-2.ensures.found).0.1)
+overflow_cast-result-then-is_row-2 c = omega
+    (arith, (row_one (codes "close") c.args.words.now accounts (sym c.is_row-2.ensures ∙ c.if-is_row-2.true) (lit< tt) c.in_ok-account-2.ensures.found).0.1)
 
 pub returns-then-is_row-2-clause-found : goal.returns-then-is_row-2-clause-found
-returns-then-is_row-2-clause-found c books = row_one (codes "close") c.args.words.now accounts (sym c.is_row-2.ensures ∙ c.if-is_row-2.true) (lit< tt) c.in_ok-account-2.ensures.found
+returns-then-is_row-2-clause-found c books = row_one (codes "close") c.args.words.now accounts (sym c.is_row-2.ensures ∙ c.if-is_row-2.true) (lit< tt)
+    c.in_ok-account-2.ensures.found
 
 pub returns-in_err-account-3-clause-err : goal.returns-in_err-account-3-clause-err
 returns-in_err-account-3-clause-err c =
@@ -36,10 +40,12 @@ returns-in_err-account-3-clause-err c =
     (sym c.is_row-3.ensures ∙ c.if-is_row-3.true) c.in_err-account-3.ensures.err)
 
 pub overflow_cast-result-then-is_row-3 : goal.overflow_cast-result-then-is_row-3
-overflow_cast-result-then-is_row-3 c = omega (arith, (row_one (codes "show") c.args.words.now accounts (sym c.is_row-3.ensures ∙ c.if-is_row-3.true) (lit< tt) c.in_ok-account-3.ensures.found).0.1)
+overflow_cast-result-then-is_row-3 c = omega
+    (arith, (row_one (codes "show") c.args.words.now accounts (sym c.is_row-3.ensures ∙ c.if-is_row-3.true) (lit< tt) c.in_ok-account-3.ensures.found).0.1)
 
 pub returns-then-is_row-3-clause-found : goal.returns-then-is_row-3-clause-found
-returns-then-is_row-3-clause-found c books = row_one (codes "show") c.args.words.now accounts (sym c.is_row-3.ensures ∙ c.if-is_row-3.true) (lit< tt) c.in_ok-account-3.ensures.found
+returns-then-is_row-3-clause-found c books = row_one (codes "show") c.args.words.now accounts (sym c.is_row-3.ensures ∙ c.if-is_row-3.true) (lit< tt)
+    c.in_ok-account-3.ensures.found
 
 pub returns-clause-err : goal.returns-clause-err
 returns-clause-err c n =

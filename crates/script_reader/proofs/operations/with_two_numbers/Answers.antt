@@ -15,7 +15,8 @@ returns-in_err-account-clause-err c =
 pub overflow_cast-result : goal.overflow_cast-result
 overflow_cast-result c = omega (
   arith,
-  (row_two (codes "deposit") c.args.words.now accounts amounts (sym c.is_row.ensures ∙ c.if-is_row.true) (lit< tt) (lit< tt) c.in_ok-account.ensures.found).0.0.1,
+  (row_two (codes "deposit") c.args.words.now accounts amounts (sym c.is_row.ensures ∙ c.if-is_row.true) (lit< tt) (lit< tt)
+      c.in_ok-account.ensures.found).0.0.1,
 )
 
 pub returns-then-is_row-clause-found : goal.returns-then-is_row-clause-found
@@ -31,12 +32,14 @@ returns-in_err-account-2-clause-err c =
 pub overflow_cast-result-then-is_row-2 : goal.overflow_cast-result-then-is_row-2
 overflow_cast-result-then-is_row-2 c = omega (
   arith,
-  (row_two (codes "withdraw") c.args.words.now accounts amounts (sym c.is_row-2.ensures ∙ c.if-is_row-2.true) (lit< tt) (lit< tt) c.in_ok-account-2.ensures.found).0.0.1,
+  (row_two (codes "withdraw") c.args.words.now accounts amounts (sym c.is_row-2.ensures ∙ c.if-is_row-2.true) (lit< tt) (lit< tt)
+      c.in_ok-account-2.ensures.found).0.0.1,
 )
 
 pub returns-then-is_row-2-clause-found : goal.returns-then-is_row-2-clause-found
 returns-then-is_row-2-clause-found c =
-    row_two (codes "withdraw") c.args.words.now accounts amounts (sym c.is_row-2.ensures ∙ c.if-is_row-2.true) (lit< tt) (lit< tt) c.in_ok-account-2.ensures.found
+    row_two (codes "withdraw") c.args.words.now accounts amounts (sym c.is_row-2.ensures ∙ c.if-is_row-2.true) (lit< tt) (lit< tt)
+    c.in_ok-account-2.ensures.found
 
 pub returns-in_err-account-3-clause-err : goal.returns-in_err-account-3-clause-err
 returns-in_err-account-3-clause-err c =
@@ -47,12 +50,14 @@ returns-in_err-account-3-clause-err c =
 pub overflow_cast-result-then-is_row-4 : goal.overflow_cast-result-then-is_row-4
 overflow_cast-result-then-is_row-4 c = omega (
   arith,
-  (row_two (codes "margin") c.args.words.now accounts (1, GREATEST_RATE) (sym c.is_row-4.ensures ∙ c.if-is_row-4.true) (lit< tt) (lit< tt) c.in_ok-account-3.ensures.found).0.0.1,
+  (row_two (codes "margin") c.args.words.now accounts (1, GREATEST_RATE) (sym c.is_row-4.ensures ∙ c.if-is_row-4.true) (lit< tt) (lit< tt)
+      c.in_ok-account-3.ensures.found).0.0.1,
 )
 
 pub returns-then-is_row-4-clause-found : goal.returns-then-is_row-4-clause-found
 returns-then-is_row-4-clause-found c =
-    row_two (codes "margin") c.args.words.now accounts (1, GREATEST_RATE) (sym c.is_row-4.ensures ∙ c.if-is_row-4.true) (lit< tt) (lit< tt) c.in_ok-account-3.ensures.found
+    row_two (codes "margin") c.args.words.now accounts (1, GREATEST_RATE) (sym c.is_row-4.ensures ∙ c.if-is_row-4.true) (lit< tt) (lit< tt)
+    c.in_ok-account-3.ensures.found
 
 pub returns-in_err-first-clause-err : goal.returns-in_err-first-clause-err
 returns-in_err-first-clause-err c =
@@ -63,13 +68,15 @@ returns-in_err-first-clause-err c =
 pub overflow_cast-result-then-is_row-5 : goal.overflow_cast-result-then-is_row-5
 overflow_cast-result-then-is_row-5 c = omega (
   arith,
-  (row_two (codes "sum") c.args.words.now accounts accounts (sym c.is_row-5.ensures ∙ c.if-is_row-5.true) (lit< tt) (lit< tt) c.in_ok-first.ensures.found).0.0.1,
+  (row_two (codes "sum") c.args.words.now accounts accounts (sym c.is_row-5.ensures ∙ c.if-is_row-5.true) (lit< tt) (lit< tt)
+      c.in_ok-first.ensures.found).0.0.1,
 )
 
 pub overflow_cast-result-then-is_row-5-2 : goal.overflow_cast-result-then-is_row-5-2
 overflow_cast-result-then-is_row-5-2 c = omega (
   arith,
-  (row_two (codes "sum") c.args.words.now accounts accounts (sym c.is_row-5.ensures ∙ c.if-is_row-5.true) (lit< tt) (lit< tt) c.in_ok-first.ensures.found).0.1.1,
+  (row_two (codes "sum") c.args.words.now accounts accounts (sym c.is_row-5.ensures ∙ c.if-is_row-5.true) (lit< tt) (lit< tt)
+      c.in_ok-first.ensures.found).0.1.1,
 )
 
 pub returns-then-is_row-5-clause-found : goal.returns-then-is_row-5-clause-found

@@ -12,18 +12,15 @@ pub returns-in_err-a-clause-err : goal.returns-in_err-a-clause-err
 returns-in_err-a-clause-err c =
     let p = err_from_is_err_and c.from_residual.result c.from_residual.ensures.1 in
     rw (p.1, p.2) (
-    number_fault c.args.self.now (word_at c.args.self.now 1 ∷ word_at c.args.self.now 2 ∷ word_at c.args.self.now 3
-    ∷ []) (c.args.first ∷ c.args.second ∷ c.args.third ∷ []) (behind_four c.args.self.now c.requires.four)
-    (not_both _ _ (is_number (word_at c.args.self.now 3) && true) c.in_err-a.ensures.err.1)
-    ∙ ap Some (sym c.in_err-a.ensures.err.0)
+    number_fault c.args.self.now (c.args.first ∷ c.args.second ∷ c.args.third ∷ []) (behind_four c.args.self.now c.requires.four)
+    (not_both _ _ (is_number (word_at c.args.self.now 3) && true) c.in_err-a.ensures.err.1) ∙ ap Some (sym c.in_err-a.ensures.err.0)
     )
 
 pub returns-in_err-c-clause-err : goal.returns-in_err-c-clause-err
 returns-in_err-c-clause-err c =
     let p = err_from_is_err_and c.from_residual-in_err-c.result c.from_residual-in_err-c.ensures.1 in
     rw (p.1, p.2) (
-    number_fault c.args.self.now (word_at c.args.self.now 1 ∷ word_at c.args.self.now 2 ∷ word_at c.args.self.now 3
-    ∷ []) (c.args.first ∷ c.args.second ∷ c.args.third ∷ []) (behind_four c.args.self.now c.requires.four)
+    number_fault c.args.self.now (c.args.first ∷ c.args.second ∷ c.args.third ∷ []) (behind_four c.args.self.now c.requires.four)
     (λ t. c.in_ok-a.ensures.found.0 t && (c.in_ok-a.ensures.found.1 t && (c.in_err-c.ensures.err.1 t && true)))
     ∙ ap Some (sym c.in_err-c.ensures.err.0)
     )
@@ -32,12 +29,11 @@ pub returns-in_err-both_within-clause-err : goal.returns-in_err-both_within-clau
 returns-in_err-both_within-clause-err c =
     let p = err_from_is_err_and c.from_residual-in_err-both_within.result c.from_residual-in_err-both_within.ensures.1 in
     rw (p.1, p.2) (
-    limit_fault c.args.self.now (word_at c.args.self.now 1 ∷ word_at c.args.self.now 2 ∷ word_at c.args.self.now 3 ∷ [])
-    (c.args.first ∷ c.args.second ∷ c.args.third ∷ []) (behind_four c.args.self.now c.requires.four)
+    limit_fault c.args.self.now (c.args.first ∷ c.args.second ∷ c.args.third ∷ []) (behind_four c.args.self.now c.requires.four)
     (and_true c.in_ok-a.ensures.found.0 (and_true c.in_ok-a.ensures.found.1 (and_true c.in_ok-c.ensures.found.0 refl)))
     (not_both _ _ (is_in_range (word_at c.args.self.now 3, c.args.third) && true)
-    (pair_false (word_at c.args.self.now 1) (word_at c.args.self.now 2) c.args.first c.args.second c.in_ok-a.a
-    c.in_ok-a.b c.requires.exact.0 c.requires.exact.1 c.in_ok-a.ensures.found.2 c.in_ok-a.ensures.found.3 c.in_err-both_within.ensures.err.1))
+    (pair_false (word_at c.args.self.now 1) (word_at c.args.self.now 2) c.requires.exact.0 c.requires.exact.1 c.in_ok-a.ensures.found.2
+    c.in_ok-a.ensures.found.3 c.in_err-both_within.ensures.err.1))
     ∙ ap Some (sym c.in_err-both_within.ensures.err.0)
     )
 
@@ -45,16 +41,12 @@ pub returns-in_err-within-clause-err : goal.returns-in_err-within-clause-err
 returns-in_err-within-clause-err c =
     let p = err_from_is_err_and c.from_residual-in_err-within.result c.from_residual-in_err-within.ensures.1 in
     rw (p.1, p.2) (
-    limit_fault c.args.self.now (word_at c.args.self.now 1 ∷ word_at c.args.self.now 2 ∷ word_at c.args.self.now 3 ∷ [])
-    (c.args.first ∷ c.args.second ∷ c.args.third ∷ []) (behind_four c.args.self.now c.requires.four)
+    limit_fault c.args.self.now (c.args.first ∷ c.args.second ∷ c.args.third ∷ []) (behind_four c.args.self.now c.requires.four)
     (and_true c.in_ok-a.ensures.found.0 (and_true c.in_ok-a.ensures.found.1 (and_true c.in_ok-c.ensures.found.0 refl)))
-    (λ t. (ranged_true (word_at c.args.self.now 1) c.args.first.0 c.args.first.1 c.in_ok-a.a c.requires.exact.0
-    c.in_ok-a.ensures.found.2 c.in_ok-both_within.ensures.ok.0) t &&
-    ((ranged_true (word_at c.args.self.now 2) c.args.second.0 c.args.second.1 c.in_ok-a.b c.requires.exact.1
-    c.in_ok-a.ensures.found.3 c.in_ok-both_within.ensures.ok.1) t &&
-    ((ranged_false (word_at c.args.self.now 3) c.args.third.0 c.args.third.1 c.in_ok-c.c c.requires.exact.2
-    c.in_ok-c.ensures.found.1 c.in_err-within.ensures.range) t && true)))
-    ∙ ap Some (sym c.in_err-within.ensures.err)
+    (λ t. (ranged_true (word_at c.args.self.now 1) c.requires.exact.0 c.in_ok-a.ensures.found.2 c.in_ok-both_within.ensures.ok.0) t
+    && ((ranged_true (word_at c.args.self.now 2) c.requires.exact.1 c.in_ok-a.ensures.found.3 c.in_ok-both_within.ensures.ok.1) t
+    && ((ranged_false (word_at c.args.self.now 3) c.requires.exact.2
+    c.in_ok-c.ensures.found.1 c.in_err-within.ensures.range) t && true))) ∙ ap Some (sym c.in_err-within.ensures.err)
     )
 
 pub returns-clause-found : goal.returns-clause-found
@@ -62,19 +54,12 @@ returns-clause-found c = (
   record {
     numbers = ap are_numbers (behind_four c.args.self.now c.requires.four)
         ∙ and_true c.in_ok-a.ensures.found.0 (and_true c.in_ok-a.ensures.found.1 (and_true c.in_ok-c.ensures.found.0 refl));
-    in_range = ap (λ l. are_in_range l (c.args.first ∷ c.args.second ∷ c.args.third ∷ []))
-        (behind_four c.args.self.now c.requires.four)
-        ∙ and_true (ranged_true (word_at c.args.self.now 1) c.args.first.0 c.args.first.1 c.in_ok-a.a c.requires.exact.0
-        c.in_ok-a.ensures.found.2 c.in_ok-both_within.ensures.ok.0)
-        (and_true (ranged_true (word_at c.args.self.now 2) c.args.second.0 c.args.second.1 c.in_ok-a.b
-        c.requires.exact.1 c.in_ok-a.ensures.found.3 c.in_ok-both_within.ensures.ok.1)
-        (and_true (ranged_true (word_at c.args.self.now 3) c.args.third.0 c.args.third.1 c.in_ok-c.c c.requires.exact.2
-        c.in_ok-c.ensures.found.1 c.in_ok-within.ensures.range.0) refl));
+    in_range = ap (λ l. are_in_range l (c.args.first ∷ c.args.second ∷ c.args.third ∷ [])) (behind_four c.args.self.now c.requires.four)
+        ∙ and_true (ranged_true (word_at c.args.self.now 1) c.requires.exact.0 c.in_ok-a.ensures.found.2 c.in_ok-both_within.ensures.ok.0)
+        (and_true (ranged_true (word_at c.args.self.now 2) c.requires.exact.1 c.in_ok-a.ensures.found.3 c.in_ok-both_within.ensures.ok.1)
+        (and_true (ranged_true (word_at c.args.self.now 3) c.requires.exact.2 c.in_ok-c.ensures.found.1 c.in_ok-within.ensures.range.0) refl));
   },
-  ranged_value (word_at c.args.self.now 1) c.args.first.0 c.args.first.1 c.in_ok-a.a c.requires.exact.0
-      c.in_ok-a.ensures.found.2 c.in_ok-both_within.ensures.ok.0,
-  ranged_value (word_at c.args.self.now 2) c.args.second.0 c.args.second.1 c.in_ok-a.b c.requires.exact.1
-      c.in_ok-a.ensures.found.3 c.in_ok-both_within.ensures.ok.1,
-  c.in_ok-within.ensures.range.1 ∙ ranged_value (word_at c.args.self.now 3) c.args.third.0 c.args.third.1 c.in_ok-c.c
-      c.requires.exact.2 c.in_ok-c.ensures.found.1 c.in_ok-within.ensures.range.0,
+  ranged_value (word_at c.args.self.now 1) c.requires.exact.0 c.in_ok-a.ensures.found.2 c.in_ok-both_within.ensures.ok.0,
+  ranged_value (word_at c.args.self.now 2) c.requires.exact.1 c.in_ok-a.ensures.found.3 c.in_ok-both_within.ensures.ok.1,
+  c.in_ok-within.ensures.range.1 ∙ ranged_value (word_at c.args.self.now 3) c.requires.exact.2 c.in_ok-c.ensures.found.1 c.in_ok-within.ensures.range.0,
 )

@@ -11,8 +11,7 @@ pub returns-in_err-a-clause-err : goal.returns-in_err-a-clause-err
 returns-in_err-a-clause-err c =
     let p = err_from_is_err_and c.from_residual.result c.from_residual.ensures.1 in
     rw (p.1, p.2) (
-    number_fault c.args.self.now (word_at c.args.self.now 1 ∷ word_at c.args.self.now 2 ∷ [])
-    (c.args.first ∷ c.args.second ∷ []) (behind_three c.args.self.now c.requires.three)
+    number_fault c.args.self.now (c.args.first ∷ c.args.second ∷ []) (behind_three c.args.self.now c.requires.three)
     (not_both _ _ (true) c.in_err-a.ensures.err.1)
     ∙ ap Some (sym c.in_err-a.ensures.err.0)
     )
@@ -21,11 +20,10 @@ pub returns-in_err-both_within-clause-err : goal.returns-in_err-both_within-clau
 returns-in_err-both_within-clause-err c =
     let p = err_from_is_err_and c.from_residual-in_err-both_within.result c.from_residual-in_err-both_within.ensures.1 in
     rw (p.1, p.2) (
-    limit_fault c.args.self.now (word_at c.args.self.now 1 ∷ word_at c.args.self.now 2 ∷ [])
-    (c.args.first ∷ c.args.second ∷ []) (behind_three c.args.self.now c.requires.three)
+    limit_fault c.args.self.now (c.args.first ∷ c.args.second ∷ []) (behind_three c.args.self.now c.requires.three)
     (and_true c.in_ok-a.ensures.found.0 (and_true c.in_ok-a.ensures.found.1 refl))
-    (not_both _ _ (true) (pair_false (word_at c.args.self.now 1) (word_at c.args.self.now 2) c.args.first c.args.second
-    c.in_ok-a.a c.in_ok-a.b c.requires.exact.0 c.requires.exact.1 c.in_ok-a.ensures.found.2 c.in_ok-a.ensures.found.3 c.in_err-both_within.ensures.err.1))
+    (not_both _ _ (true) (pair_false (word_at c.args.self.now 1) (word_at c.args.self.now 2) c.requires.exact.0 c.requires.exact.1
+    c.in_ok-a.ensures.found.2 c.in_ok-a.ensures.found.3 c.in_err-both_within.ensures.err.1))
     ∙ ap Some (sym c.in_err-both_within.ensures.err.0)
     )
 
@@ -33,15 +31,10 @@ pub returns-clause-found : goal.returns-clause-found
 returns-clause-found c = (
   record {
     numbers = ap are_numbers (behind_three c.args.self.now c.requires.three) ∙ and_true c.in_ok-a.ensures.found.0 (and_true c.in_ok-a.ensures.found.1 refl);
-    in_range = ap (λ l. are_in_range l (c.args.first ∷ c.args.second ∷ []))
-        (behind_three c.args.self.now c.requires.three)
-        ∙ and_true (ranged_true (word_at c.args.self.now 1) c.args.first.0 c.args.first.1 c.in_ok-a.a c.requires.exact.0
-        c.in_ok-a.ensures.found.2 c.in_ok-both_within.ensures.ok.0)
-        (and_true (ranged_true (word_at c.args.self.now 2) c.args.second.0 c.args.second.1 c.in_ok-a.b
-        c.requires.exact.1 c.in_ok-a.ensures.found.3 c.in_ok-both_within.ensures.ok.1) refl);
+    in_range = ap (λ l. are_in_range l (c.args.first ∷ c.args.second ∷ [])) (behind_three c.args.self.now c.requires.three)
+        ∙ and_true (ranged_true (word_at c.args.self.now 1) c.requires.exact.0 c.in_ok-a.ensures.found.2 c.in_ok-both_within.ensures.ok.0)
+        (and_true (ranged_true (word_at c.args.self.now 2) c.requires.exact.1 c.in_ok-a.ensures.found.3 c.in_ok-both_within.ensures.ok.1) refl);
   },
-  ranged_value (word_at c.args.self.now 1) c.args.first.0 c.args.first.1 c.in_ok-a.a c.requires.exact.0
-      c.in_ok-a.ensures.found.2 c.in_ok-both_within.ensures.ok.0,
-  ranged_value (word_at c.args.self.now 2) c.args.second.0 c.args.second.1 c.in_ok-a.b c.requires.exact.1
-      c.in_ok-a.ensures.found.3 c.in_ok-both_within.ensures.ok.1,
+  ranged_value (word_at c.args.self.now 1) c.requires.exact.0 c.in_ok-a.ensures.found.2 c.in_ok-both_within.ensures.ok.0,
+  ranged_value (word_at c.args.self.now 2) c.requires.exact.1 c.in_ok-a.ensures.found.3 c.in_ok-both_within.ensures.ok.1,
 )
