@@ -1,5 +1,6 @@
 -- What was made stays made in a longer history, and a transaction more makes one move more.
-use Rattle.std.proofs.Common.{◌≡◌, ◌≢◌, ◌==◌, ℕ, ◌+◌, ◌<◌, Bool, true, false, List, [], ◌∷◌, ◌++◌, length, take, get_or, slice_get, ⊎_elim, length-append, sym, ap, ◌∙◌, subst, arith}
+use Rattle.std.proofs.Common.{◌≡◌, ◌≢◌, ◌==◌, ℕ, ◌+◌, ◌<◌, Bool, true, false, List, [], ◌∷◌, ◌++◌, length, take, get_or, slice_get, ⊎_elim, length-append, sym}
+use Rattle.std.proofs.Common.{ap, ◌∙◌, subst, arith}
 use Rattle.std.proofs.Math.Seq.{take-append_seam, get_or-append_seam}
 use Rattle.std.proofs.lemmas.Bool.Decides.{eqb_tells}
 use Rattle.std.proofs.lemmas.List.{append_assoc, get_or_append_left}
@@ -7,7 +8,8 @@ use Rattle.std.proofs.lemmas.Option.{slice_get_within}
 use Rattle.history_model.specs.declared.entry.Entry.{Entry}
 use Rattle.history_model.specs.Histories.{replay}
 use Rattle.history_model.specs.Traces.{after}
-use Rattle.history_model.proofs.HistoryLaws.{Agree, agree_longer, get_last}
+use Rattle.history_model.proofs.Histories.HistoryLaws.{Agree, agree_longer}
+use Rattle.history_model.proofs.ListPlaces.{get_last}
 use Rattle.transfer_jobs.specs.Moving.{Moves}
 use Rattle.txn_commit.specs.declared.transaction.Receipt.{Receipt}
 use Rattle.txn_commit.specs.Transactions.{GetsEntry}

@@ -12,7 +12,7 @@ use Rattle.std.specs.Ordering.{nat_cmp}
 use Rattle.std.specs.Cmp.{nat_cmp_total}
 use Rattle.std.specs.FinSet.{nat_cmp-IsAntisymmetric}
 use Rattle.std.specs.FinSet as set
-use Rattle.history_model.proofs.TraceLaws.{get_set_same, get_set_other}
+use Rattle.history_model.proofs.Traces.TraceLaws.{get_set_same, get_set_other}
 use Rattle.txn_alloc.specs.declared.arena.Arena.{Arena}
 use Rattle.txn_alloc.specs.declared.arena.TheConstants.{HEADS}
 use Rattle.txn_alloc.specs.FreeLists.{block_at, head_of, IsHead, IsInBlock, IsLaidOut, HasList, FreeListHolds, FreeListsHold, TakesBlock}

@@ -6,8 +6,8 @@ use Rattle.std.specs.FinSet as set
 use Rattle.history_model.specs.declared.event.Event.TheVariants.{Read}
 use Rattle.history_model.specs.Traces.{Trace, after, Begins}
 use Rattle.history_model.specs.Fitting.{Fits, SomeFits, InEach, Leads}
-use Rattle.history_model.proofs.TraceLaws.{read_there, after_read, length-after}
-use Rattle.history_model.proofs.FittingLaws.{fits_front, fits_begins}
+use Rattle.history_model.proofs.Traces.TraceLaws.{read_there, after_read, length-after}
+use Rattle.history_model.proofs.Traces.FittingLaws.{fits_front, fits_begins}
 use Rattle.txn_words.specs.Steps.{EndsWithWrite}
 use Rattle.txn_words.proofs.Steps.{after_write_end, fits_write_end}
 use Rattle.txn_alloc.specs.declared.arena.Arena.{Arena}

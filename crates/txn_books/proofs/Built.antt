@@ -5,7 +5,7 @@ use Rattle.std.specs.FinMap as entry_map
 use Rattle.std.proofs.lemmas.Bool.Decides.{nat_tests}
 use Rattle.history_model.specs.Traces.{after}
 use Rattle.history_model.specs.Fitting.{Fits, IsGood}
-use Rattle.history_model.proofs.TraceLaws.{length-after}
+use Rattle.history_model.proofs.Traces.TraceLaws.{length-after}
 use Rattle.txn_words.specs.Plainly.{PlainView, IsSoundPlain}
 use Rattle.books_model.specs.declared.limits.TheConstants.{GREATEST_CASH}
 use Rattle.books_model.specs.Books.{ClearingBooks, used, put_cash, put_quantity}

@@ -13,7 +13,7 @@ use Rattle.std.specs.FinMap.{gets, nat_cmp-IsAntisymmetric}
 use Rattle.std.specs.FinMap as entry_map
 use Rattle.std.specs.FinMap.Entries.{find, put}
 use Rattle.std.proofs.lemmas.Option.{same_Some}
-use Rattle.history_model.proofs.TraceLaws.{get_set_other}
+use Rattle.history_model.proofs.Traces.TraceLaws.{get_set_other}
 use Rattle.books_model.specs.Books.{ClearingBooks, position_cmp, empty_books, put_cash, put_price, put_quantity, put_call, used}
 use Rattle.books_model.specs.Ranges.{AreInRange}
 use Rattle.books_model.specs.Inner.Keys.{positions_total}

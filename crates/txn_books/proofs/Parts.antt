@@ -8,7 +8,7 @@ use Rattle.std.specs.FinMap as entry_map
 use Rattle.books_model.specs.Books.{ClearingBooks, position_cmp}
 use Rattle.history_model.specs.Traces.{Trace, after, Begins}
 use Rattle.history_model.specs.Fitting.{Fits, InEach, Leads}
-use Rattle.history_model.proofs.FittingLaws.{fits_begins, each_fresh}
+use Rattle.history_model.proofs.Traces.FittingLaws.{fits_begins, each_fresh}
 use Rattle.txn_words.specs.Frames.{KeepsOthers, AppendsOnly}
 use Rattle.txn_words.proofs.FrameLaws.{only_keeps}
 use Rattle.txn_alloc.specs.declared.put.Put.{Put}

@@ -3,8 +3,8 @@ use Rattle.std.proofs.Common.{◌≡◌, ℕ, ◌+◌, Bool, true, false, List, 
 use Rattle.history_model.specs.declared.shape.Shape.{Ghosts as Shapes}
 use Rattle.history_model.specs.Traces.{after}
 use Rattle.history_model.specs.Fitting.{Fits}
-use Rattle.history_model.proofs.TraceLaws.{begins_refl}
-use Rattle.history_model.proofs.FittingLaws.{each_fresh}
+use Rattle.history_model.proofs.Traces.TraceLaws.{begins_refl}
+use Rattle.history_model.proofs.Traces.FittingLaws.{each_fresh}
 use Rattle.books_model.specs.declared.script.Op.{Op}
 use Rattle.books_model.specs.declared.reply.Value.{Value}
 use Rattle.books_model.specs.declared.reply.Decline.{Decline}

@@ -2,7 +2,7 @@
 use Rattle.std.proofs.Common.{◌≡◌, ℕ, Bool, not, List, Result, if◌then◌else◌, refl, sym, ◌∙◌, subst}
 use Rattle.history_model.specs.declared.shape.Shape.{Ghosts as Shapes}
 use Rattle.history_model.specs.Traces.{Begins}
-use Rattle.history_model.proofs.TraceLaws.{begins_refl, begins_trans}
+use Rattle.history_model.proofs.Traces.TraceLaws.{begins_refl, begins_trans}
 use Rattle.books_model.specs.declared.script.Op.{Op}
 use Rattle.books_model.specs.Books.{ClearingBooks}
 use Rattle.books_model.specs.Interpreter.{step_of}

@@ -9,7 +9,7 @@ use Rattle.std.proofs.lemmas.Option.{same_Some, slice_get_within}
 use Rattle.std.specs.FinSet.{members}
 use Rattle.std.specs.FinSet as set
 use Rattle.std.specs.FinMap as entry_map
-use Rattle.history_model.proofs.TraceLaws.{get_set_same, get_set_other}
+use Rattle.history_model.proofs.Traces.TraceLaws.{get_set_same, get_set_other}
 use Rattle.txn_words.specs.Frames.{KeepsOthers}
 use Rattle.txn_alloc.specs.declared.arena.Arena.{Arena}
 use Rattle.txn_alloc.specs.FreeLists.{block_at, IsHead, IsInBlock, Lacks, Gives}

@@ -4,7 +4,7 @@ use Rattle.std.proofs.Common.{subst, arith, append_assoc}
 use mathlib.Core.Bool.{true≢false}
 use Rattle.std.proofs.lemmas.List.{length-set}
 use Rattle.std.specs.List.{AllByRecursion}
-use Rattle.history_model.proofs.TraceLaws.{get_set_same, get_set_other}
+use Rattle.history_model.proofs.Traces.TraceLaws.{get_set_same, get_set_other}
 use Rattle.txn_words.specs.Frames.{KeepsOthers}
 use Rattle.txn_alloc.specs.FreeLists.{block_at, IsInBlock}
 use Rattle.txn_alloc.specs.EntryMaps.{Cell, has_block}

@@ -2,8 +2,8 @@
 use Rattle.std.proofs.Common.{◌≡◌, ℕ, ◌+◌, ◌<◌, List, length, slice_set, inl, inr, refl, sym, ap, ◌∙◌, subst, arith}
 use Rattle.history_model.specs.Traces.{Trace, after, Begins}
 use Rattle.history_model.specs.Fitting.{Fits, SomeFits, InEach, Leads}
-use Rattle.history_model.proofs.TraceLaws.{length-after}
-use Rattle.history_model.proofs.FittingLaws.{fits_begins}
+use Rattle.history_model.proofs.Traces.TraceLaws.{length-after}
+use Rattle.history_model.proofs.Traces.FittingLaws.{fits_begins}
 use Rattle.txn_words.specs.Steps.{EndsWithWrite}
 use Rattle.txn_words.specs.Frames.{AppendsOnly, AppendsReads}
 use Rattle.txn_words.proofs.Steps.{after_write_end, fits_write_end}

@@ -6,7 +6,7 @@ use Rattle.std.specs.FinMap as entry_map
 use Rattle.history_model.specs.declared.event.Event.TheVariants.{Read}
 use Rattle.history_model.specs.Traces.{Trace, after, Begins}
 use Rattle.history_model.specs.Fitting.{Fits, InEach, Leads}
-use Rattle.history_model.proofs.FittingLaws.{fits_begins}
+use Rattle.history_model.proofs.Traces.FittingLaws.{fits_begins}
 use Rattle.txn_words.specs.Frames.{KeepsOthers, AppendsOnly, AppendsReads}
 use Rattle.txn_words.proofs.FrameLaws.{only_more, only_then}
 use Rattle.txn_words.proofs.ReadLaws.{sees_more, sees_then}

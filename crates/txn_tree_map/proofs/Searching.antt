@@ -3,7 +3,7 @@ use Rattle.std.proofs.Common.{◌≡◌, ℕ, ◌+◌, ◌<◌, List, length, sl
 use Rattle.std.proofs.lemmas.Option.{slice_get_within, same_Some}
 use Rattle.history_model.specs.Traces.{Trace, after}
 use Rattle.history_model.specs.Fitting.{SomeFits, InEach}
-use Rattle.history_model.proofs.TraceLaws.{length-after}
+use Rattle.history_model.proofs.Traces.TraceLaws.{length-after}
 use Rattle.txn_alloc.specs.declared.arena.Arena.{Arena}
 use Rattle.txn_alloc.proofs.Lists.{laid_kept}
 use Rattle.txn_tree_map.specs.declared.map.TreeMap.{TreeMap}

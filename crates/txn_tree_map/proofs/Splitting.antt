@@ -3,8 +3,8 @@ use Rattle.std.proofs.Common.{◌≡◌, ◌≢◌, ℕ, ◌+◌, ◌<◌, ◌�
 use Rattle.history_model.specs.declared.event.Event.TheVariants.{Read}
 use Rattle.history_model.specs.Traces.{Trace, after, Begins}
 use Rattle.history_model.specs.Fitting.{Fits, SomeFits, InEach, Leads}
-use Rattle.history_model.proofs.TraceLaws.{length-after}
-use Rattle.history_model.proofs.FittingLaws.{fits_begins}
+use Rattle.history_model.proofs.Traces.TraceLaws.{length-after}
+use Rattle.history_model.proofs.Traces.FittingLaws.{fits_begins}
 use Rattle.txn_words.specs.Steps.{EndsWithWrite}
 use Rattle.txn_words.specs.Frames.{AppendsOnly, AppendsReads}
 use Rattle.txn_words.proofs.Steps.{after_write_end, fits_write_end}

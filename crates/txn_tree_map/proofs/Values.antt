@@ -6,7 +6,7 @@ use native.Mathlib.Decide.{ℕ_discrete}
 use Rattle.std.proofs.lemmas.List.{length-set}
 use Rattle.std.specs.FinSet as set
 use Rattle.std.specs.FinMap as entry_map
-use Rattle.history_model.proofs.TraceLaws.{get_set_same, get_set_other}
+use Rattle.history_model.proofs.Traces.TraceLaws.{get_set_same, get_set_other}
 use Rattle.txn_alloc.specs.FreeLists.{block_at, IsInBlock}
 use Rattle.txn_alloc.specs.EntryMaps.{Cell, Entries, Blocks, value_of, has_block, HoldsApart}
 use Rattle.txn_alloc.proofs.Lists.{free_kept, same_block}

@@ -4,8 +4,8 @@ use Rattle.history_model.specs.declared.shape.Shape.{Ghosts as Shapes}
 use Rattle.history_model.specs.declared.event.Event.TheVariants.{Read}
 use Rattle.history_model.specs.Traces.{Trace, after, Begins}
 use Rattle.history_model.specs.Fitting.{Fits, InEach, Leads}
-use Rattle.history_model.proofs.TraceLaws.{read_there, after_read, begins_refl, begins_trans}
-use Rattle.history_model.proofs.FittingLaws.{fits_begins, each_at, leads_at}
+use Rattle.history_model.proofs.Traces.TraceLaws.{read_there, after_read, begins_refl, begins_trans}
+use Rattle.history_model.proofs.Traces.FittingLaws.{fits_begins, each_at, leads_at}
 use Rattle.txn_words.specs.declared.words.Words.{Ghosts as AnyWords}
 use Rattle.txn_words.specs.Calls.{InEachState, LeadsTo, WritesOnly, WritesWithin, ReadsWithin}
 use Rattle.txn_words.specs.Frames.{AppendsOnly, AppendsReads}

@@ -19,14 +19,15 @@ use Rattle.history_model.specs.Table.{Knows, history_of, serial_word, calls_word
 use Rattle.history_model.specs.Traces.{IsLegalTrace, Writes, after, value_after}
 use Rattle.history_model.specs.Undoing.{Notes}
 use Rattle.history_model.specs.Views.{number, IsGranted}
-use Rattle.history_model.proofs.EndEvents.{last_event, touched_if_written}
-use Rattle.history_model.proofs.HistoryLaws.{agree_longer, attempts_agree, attempts_wider, one_more_is_legal, replay_is_good, get_first, get_cases}
-use Rattle.history_model.proofs.LastEvents.{get-after-value_after, last_from_touched, unwritten_stays}
-use Rattle.history_model.proofs.Places.{same_view, put_here, put_there, put_cases}
-use Rattle.history_model.proofs.ReplayLaws.{replay_last, length-replay}
+use Rattle.history_model.proofs.Traces.EndEvents.{last_event, touched_if_written}
+use Rattle.history_model.proofs.Histories.HistoryLaws.{agree_longer, attempts_agree, attempts_wider, one_more_is_legal, replay_is_good}
+use Rattle.history_model.proofs.ListPlaces.{get_first, get_cases}
+use Rattle.history_model.proofs.Traces.LastEvents.{get-after-value_after, last_from_touched, unwritten_stays}
+use Rattle.history_model.proofs.Views.Places.{same_view, put_here, put_there, put_cases}
+use Rattle.history_model.proofs.Histories.ReplayLaws.{replay_last, length-replay}
 use Rattle.history_model.proofs.SetLemmas.{differ, has-join_same}
 use Rattle.history_model.proofs.TableLaws.{seen_at_most}
-use Rattle.history_model.proofs.TraceAgree.{legal_agree}
+use Rattle.history_model.proofs.Traces.TraceAgree.{legal_agree}
 use Rattle.locks_rule.specs.Locks.{LocksHold, IsSeat}
 use Rattle.locks_rule.proofs.Counting.{calls_below-same}
 use Rattle.locks_rule.proofs.Own.{Own, own}

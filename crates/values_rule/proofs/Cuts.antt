@@ -13,8 +13,8 @@ use Rattle.history_model.specs.Legal.{IsIn, IsPrefix}
 use Rattle.history_model.specs.Sets.{has, flag}
 use Rattle.history_model.specs.Table.{Knows, history_of}
 use Rattle.history_model.specs.Views.{number}
-use Rattle.history_model.proofs.Changes.{Change, StepTouches, NewByCut, change_cut}
-use Rattle.history_model.proofs.Places.{same_view, put_here, added_there}
+use Rattle.history_model.proofs.Views.Changes.{Change, StepTouches, NewByCut, change_cut}
+use Rattle.history_model.proofs.Views.Places.{same_view, put_here, added_there}
 use Rattle.history_model.proofs.SetLemmas.{differ, has-nil, has-one, has-without, has-join_same, has-join_old}
 use Rattle.locks_rule.specs.Joins.{MayTakeNote, left_by_note, note_of}
 use Rattle.locks_rule.specs.Locks.{IsSeat}

@@ -13,8 +13,8 @@ use Rattle.history_model.specs.Counts.{is_open}
 use Rattle.history_model.specs.Legal.{IsPrefix}
 use Rattle.history_model.specs.Sets.{has, flag}
 use Rattle.history_model.specs.Table.{Knows, history_of}
-use Rattle.history_model.proofs.Changes.{Change, JoinTouches, NewByJoin, change_join}
-use Rattle.history_model.proofs.Places.{same_view, put_here, put_there}
+use Rattle.history_model.proofs.Views.Changes.{Change, JoinTouches, NewByJoin, change_join}
+use Rattle.history_model.proofs.Views.Places.{same_view, put_here, put_there}
 use Rattle.history_model.proofs.SetLemmas.{differ, has-nil}
 use Rattle.locks_rule.specs.Joins.{longer, old_of, MayMeetNote, after_note, MayJoinSeats, after_joining, spent_view, views_joined}
 use Rattle.locks_rule.specs.Locks.{IsSeat}

@@ -12,7 +12,7 @@ use Rattle.history_model.specs.Legal.{IsIn, IsPrefix, AreAttemptsLegal, IsLegalH
 use Rattle.history_model.specs.Sets.{has}
 use Rattle.history_model.specs.Table.{Knows, history_of, calls_word}
 use Rattle.history_model.specs.Undoing.{Notes}
-use Rattle.history_model.proofs.Changes.{Change}
+use Rattle.history_model.proofs.Views.Changes.{Change}
 use Rattle.values_rule.specs.Values.{oldest, SeenPrefixes, CallsCounted, UndoRestores, TraceCurrent, FloorAndAbandoned, ValuesHold}
 use Rattle.values_rule.proofs.Notes.{oldest-nil}
 

@@ -11,7 +11,7 @@ use Rattle.history_model.specs.Counts.{is_open}
 use Rattle.history_model.specs.Legal.{IsIn}
 use Rattle.history_model.specs.Table.{Knows}
 use Rattle.history_model.specs.Views.{number}
-use Rattle.history_model.proofs.Places.{same_view, put_here, put_there, put_cases}
+use Rattle.history_model.proofs.Views.Places.{same_view, put_here, put_there, put_cases}
 use Rattle.locks_rule.specs.Locks.{LocksHold}
 use Rattle.versions_rule.specs.History.{knew_of, items_of}
 use Rattle.versions_rule.specs.Versions.{ValuesHold}

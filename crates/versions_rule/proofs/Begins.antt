@@ -9,7 +9,7 @@ use Rattle.history_model.specs.Counts.{is_open}
 use Rattle.history_model.specs.Sets.{has}
 use Rattle.history_model.specs.Table.{Knows, serial_word, calls_word, commits_word, version_word, value_word}
 use Rattle.history_model.specs.Undoing.{Notes}
-use Rattle.history_model.proofs.Places.{put_cases}
+use Rattle.history_model.proofs.Views.Places.{put_cases}
 use Rattle.history_model.proofs.SetLemmas.{has-nil, has-one, differ, not_true}
 use Rattle.locks_rule.proofs.Own.{own}
 use Rattle.values_rule.specs.Values.{value_at, oldest}

@@ -12,10 +12,10 @@ use Rattle.history_model.specs.Locks.{lock_of_word}
 use Rattle.history_model.specs.Sets.{has, flag}
 use Rattle.history_model.specs.Table.{Knows}
 use Rattle.history_model.specs.Undoing.{Notes}
-use Rattle.history_model.proofs.ItemDrops.{drops_agree, drops_arranged, drops_values}
-use Rattle.history_model.proofs.ItemEnds.{arranged}
-use Rattle.history_model.proofs.ItemOrders.{is_newest}
-use Rattle.history_model.proofs.Places.{same_view}
+use Rattle.history_model.proofs.Items.ItemDrops.{drops_agree, drops_arranged, drops_values}
+use Rattle.history_model.proofs.Items.ItemEnds.{arranged}
+use Rattle.history_model.proofs.Items.ItemOrders.{is_newest}
+use Rattle.history_model.proofs.Views.Places.{same_view}
 use Rattle.history_model.proofs.SetLemmas.{has-join_same}
 use Rattle.locks_rule.specs.Locks.{LocksHold, IsSeat}
 use Rattle.values_rule.specs.Values.{value_at, oldest}

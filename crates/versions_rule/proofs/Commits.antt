@@ -19,14 +19,14 @@ use Rattle.history_model.specs.Table.{Knows, serial_word, calls_word, commits_wo
 use Rattle.history_model.specs.Traces.{IsLegalTrace, Writes, after, value_after}
 use Rattle.history_model.specs.Undoing.{Notes}
 use Rattle.history_model.specs.Views.{number, HasWriteGrant, IsGranted}
-use Rattle.history_model.proofs.EndEvents.{last_event, touched_if_written}
-use Rattle.history_model.proofs.HistoryLaws.{get_cases}
-use Rattle.history_model.proofs.ItemEnds.{ends_agree, ends_arranged, ends_moved}
-use Rattle.history_model.proofs.ItemValues.{wrote_some}
-use Rattle.history_model.proofs.LastEvents.{get-after-value_after, last_from_touched, unwritten_stays}
-use Rattle.history_model.proofs.Places.{same_view, put_here, put_there, put_cases}
+use Rattle.history_model.proofs.Traces.EndEvents.{last_event, touched_if_written}
+use Rattle.history_model.proofs.ListPlaces.{get_cases}
+use Rattle.history_model.proofs.Items.ItemEnds.{ends_agree, ends_arranged, ends_moved}
+use Rattle.history_model.proofs.Items.ItemValues.{wrote_some}
+use Rattle.history_model.proofs.Traces.LastEvents.{get-after-value_after, last_from_touched, unwritten_stays}
+use Rattle.history_model.proofs.Views.Places.{same_view, put_here, put_there, put_cases}
 use Rattle.history_model.proofs.SetLemmas.{differ, has-join_same, has-nil}
-use Rattle.history_model.proofs.TraceAgree.{legal_agree}
+use Rattle.history_model.proofs.Traces.TraceAgree.{legal_agree}
 use Rattle.locks_rule.specs.Locks.{LocksHold, IsSeat}
 use Rattle.locks_rule.proofs.Own.{Own, is_own}
 use Rattle.values_rule.specs.Values.{value_at, oldest, UndoRestores, TraceCurrent}

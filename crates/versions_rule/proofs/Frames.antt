@@ -18,8 +18,8 @@ use Rattle.history_model.specs.Table.{Knows, calls_word, commits_word}
 use Rattle.history_model.specs.Traces.{Trace, Writes, Touches, IsLegalTrace, value_after}
 use Rattle.history_model.specs.Undoing.{Notes}
 use Rattle.history_model.specs.Views.{HasWriteGrant, IsGranted}
-use Rattle.history_model.proofs.ItemDrops.{drops_agree, drops_arranged, drops_values}
-use Rattle.history_model.proofs.Places.{same_view, put_here, put_there, put_cases}
+use Rattle.history_model.proofs.Items.ItemDrops.{drops_agree, drops_arranged, drops_values}
+use Rattle.history_model.proofs.Views.Places.{same_view, put_here, put_there, put_cases}
 use Rattle.locks_rule.specs.Locks.{IsSeat}
 use Rattle.values_rule.specs.Values.{value_at, oldest, UndoRestores, TraceCurrent}
 use Rattle.versions_rule.specs.History.{last_call, items_of, next_version, now_of}

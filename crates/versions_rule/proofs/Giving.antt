@@ -16,9 +16,9 @@ use Rattle.history_model.specs.Legal.{IsIn}
 use Rattle.history_model.specs.Sets.{has, flag}
 use Rattle.history_model.specs.Table.{Knows}
 use Rattle.history_model.specs.Views.{number}
-use Rattle.history_model.proofs.HistoryLaws.{get_cases, get_first, get_last}
-use Rattle.history_model.proofs.ItemEnds.{ends_agree, ends_arranged, ends_moved}
-use Rattle.history_model.proofs.Places.{same_view, put_here, put_there, put_cases}
+use Rattle.history_model.proofs.ListPlaces.{get_cases, get_first, get_last}
+use Rattle.history_model.proofs.Items.ItemEnds.{ends_agree, ends_arranged, ends_moved}
+use Rattle.history_model.proofs.Views.Places.{same_view, put_here, put_there, put_cases}
 use Rattle.history_model.proofs.SetLemmas.{differ, has-join_same}
 use Rattle.locks_rule.specs.Locks.{LocksHold}
 use Rattle.values_rule.specs.Values.{UndoRestores, TraceCurrent}

@@ -9,7 +9,7 @@ use Rattle.history_model.specs.Legal.{IsIn}
 use Rattle.history_model.specs.Sets.{has, flag}
 use Rattle.history_model.specs.Table.{Knows}
 use Rattle.history_model.specs.Undoing.{Notes}
-use Rattle.history_model.proofs.Places.{same_view, put_there, put_cases}
+use Rattle.history_model.proofs.Views.Places.{same_view, put_there, put_cases}
 use Rattle.locks_rule.specs.Locks.{LocksHold}
 use Rattle.values_rule.specs.Values.{oldest, UndoRestores, TraceCurrent}
 use Rattle.values_rule.proofs.Notes.{oldest-nil}

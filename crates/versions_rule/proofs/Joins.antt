@@ -12,8 +12,8 @@ use Rattle.history_model.specs.Legal.{IsIn}
 use Rattle.history_model.specs.Sets.{has, flag}
 use Rattle.history_model.specs.Table.{Knows}
 use Rattle.history_model.specs.Undoing.{Notes}
-use Rattle.history_model.proofs.Changes.{Change, JoinTouches, NewByJoin, change_join}
-use Rattle.history_model.proofs.Places.{same_view, put_here, put_there}
+use Rattle.history_model.proofs.Views.Changes.{Change, JoinTouches, NewByJoin, change_join}
+use Rattle.history_model.proofs.Views.Places.{same_view, put_here, put_there}
 use Rattle.history_model.proofs.SetLemmas.{differ, has-nil}
 use Rattle.locks_rule.specs.Joins.{MayMeetNote, MayJoinSeats, spent_view}
 use Rattle.locks_rule.specs.Locks.{LocksHold, IsSeat}

@@ -15,8 +15,8 @@ use Rattle.history_model.specs.Sets.{has}
 use Rattle.history_model.specs.Table.{Knows}
 use Rattle.history_model.specs.Traces.{IsLegalTrace}
 use Rattle.history_model.specs.Views.{number}
-use Rattle.history_model.proofs.ItemEnds.{arranged}
-use Rattle.history_model.proofs.ItemOrders.{is_legal, is_newest, end_good, length-replay_items}
+use Rattle.history_model.proofs.Items.ItemEnds.{arranged}
+use Rattle.history_model.proofs.Items.ItemOrders.{is_legal, is_newest, end_good, length-replay_items}
 use Rattle.history_model.proofs.SetLemmas.{has-join_same}
 use Rattle.locks_rule.specs.Locks.{LocksHold, IsSeat}
 use Rattle.versions_rule.specs.Closing.{IsPlaced}

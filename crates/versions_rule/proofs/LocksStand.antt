@@ -6,7 +6,7 @@ use Rattle.history_model.specs.declared.view.Phase.TheVariants.{Idle, Running, Y
 use Rattle.history_model.specs.Counts.{is_open}
 use Rattle.history_model.specs.Sets.{has}
 use Rattle.history_model.specs.Table.{history_of}
-use Rattle.history_model.proofs.Changes.{JoinTouches, NewByJoin}
+use Rattle.history_model.proofs.Views.Changes.{JoinTouches, NewByJoin}
 use Rattle.history_model.proofs.SetLemmas.{differ, not_true, has-nil}
 use Rattle.locks_rule.specs.Actions.{Keeps, found_by}
 use Rattle.locks_rule.specs.Joins.{KeepsJoin, MayMeetNote, MayJoinSeats, spent_view, views_joined}

@@ -15,8 +15,8 @@ use Rattle.history_model.specs.Sets.{has, flag}
 use Rattle.history_model.specs.Table.{Knows, serial_word}
 use Rattle.history_model.specs.Traces.{IsLegalTrace, Writes, Touches, value_after}
 use Rattle.history_model.specs.Views.{HasWriteGrant, IsGranted}
-use Rattle.history_model.proofs.LastEvents.{touched_by_last}
-use Rattle.history_model.proofs.Places.{same_view, put_here, put_there, put_cases}
+use Rattle.history_model.proofs.Traces.LastEvents.{touched_by_last}
+use Rattle.history_model.proofs.Views.Places.{same_view, put_here, put_there, put_cases}
 use Rattle.history_model.proofs.SetLemmas.{has-join_same}
 use Rattle.locks_rule.specs.Locks.{LocksHold, IsSeat}
 use Rattle.values_rule.specs.Values.{value_at, oldest, UndoRestores, TraceCurrent}

@@ -7,8 +7,8 @@ use Rattle.history_model.specs.Items.{value_at}
 use Rattle.history_model.specs.Locks.{lock_of_word}
 use Rattle.history_model.specs.Traces.{after}
 use Rattle.history_model.proofs.ListPlaces.{same_list}
-use Rattle.history_model.proofs.TraceLaws.{length-after}
-use Rattle.history_model.proofs.LastEvents.{get-after-last_written}
+use Rattle.history_model.proofs.Traces.TraceLaws.{length-after}
+use Rattle.history_model.proofs.Traces.LastEvents.{get-after-last_written}
 use Rattle.history_model.proofs.SetLemmas.{bool_cases}
 use Rattle.versions_rule.specs.History.{newest_from, newest}
 

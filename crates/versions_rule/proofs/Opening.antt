@@ -13,7 +13,7 @@ use Rattle.history_model.specs.Locks.{lock_of_word}
 use Rattle.history_model.specs.Sets.{has, flag}
 use Rattle.history_model.specs.Table.{Knows}
 use Rattle.history_model.specs.Undoing.{Notes}
-use Rattle.history_model.proofs.ItemValues.{value_at-first}
+use Rattle.history_model.proofs.Items.ItemValues.{value_at-first}
 use Rattle.history_model.proofs.SetLemmas.{differ, has-nil, bool_cases}
 use Rattle.locks_rule.specs.Locks.{LocksHold}
 use Rattle.values_rule.specs.Values.{value_at, oldest}

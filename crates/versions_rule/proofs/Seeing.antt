@@ -17,8 +17,8 @@ use Rattle.history_model.specs.Table.{Knows}
 use Rattle.history_model.specs.Traces.{IsLegalTrace}
 use Rattle.history_model.specs.Views.{number, IsGranted}
 use Rattle.history_model.specs.Arrangements.{ComesLast}
-use Rattle.history_model.proofs.Places.{same_view}
-use Rattle.history_model.proofs.TraceAgree.{legal_agree}
+use Rattle.history_model.proofs.Views.Places.{same_view}
+use Rattle.history_model.proofs.Traces.TraceAgree.{legal_agree}
 use Rattle.locks_rule.specs.Locks.{LocksHold}
 use Rattle.locks_rule.proofs.Own.{Own, own, own_number}
 use Rattle.values_rule.proofs.Frames.{shut_out}

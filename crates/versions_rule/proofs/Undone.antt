@@ -10,7 +10,7 @@ use Rattle.history_model.specs.declared.view.View.{View}
 use Rattle.history_model.specs.Table.{Knows, value_word}
 use Rattle.history_model.specs.Undoing.{Notes, written_back}
 use Rattle.history_model.proofs.ListPlaces.{same_list}
-use Rattle.history_model.proofs.TraceLaws.{get_set_same, get_set_other}
+use Rattle.history_model.proofs.Traces.TraceLaws.{get_set_same, get_set_other}
 use Rattle.values_rule.specs.Undone.{memory_of, undone_by}
 use Rattle.values_rule.specs.Values.{value_at, oldest}
 use Rattle.values_rule.proofs.Notes.{option_cases}

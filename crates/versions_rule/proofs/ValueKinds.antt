@@ -15,11 +15,12 @@ use Rattle.history_model.specs.Traces.{Trace, after, Writes, Touches, value_afte
 use Rattle.history_model.specs.Undoing.{Notes}
 use Rattle.history_model.specs.Views.{HasWriteGrant, IsGranted}
 use Rattle.history_model.specs.Legal.{IsIn}
-use Rattle.history_model.proofs.EndEvents.{touches_read, writes_read, writes_first, touches_write, writes_write, last_write, last_read_same, last_read_other}
-use Rattle.history_model.proofs.EndEvents.{last_write_same, last_write_other}
-use Rattle.history_model.proofs.Places.{same_view}
-use Rattle.history_model.proofs.TraceLaws.{legal_read, legal_write}
-use Rattle.history_model.proofs.HistoryLaws.{get_last}
+use Rattle.history_model.proofs.Traces.EndEvents.{touches_read, writes_read, writes_first, touches_write, writes_write, last_write, last_read_same}
+use Rattle.history_model.proofs.Traces.EndEvents.{last_read_other}
+use Rattle.history_model.proofs.Traces.EndEvents.{last_write_same, last_write_other}
+use Rattle.history_model.proofs.Views.Places.{same_view}
+use Rattle.history_model.proofs.Traces.TraceLaws.{legal_read, legal_write}
+use Rattle.history_model.proofs.ListPlaces.{get_last}
 use Rattle.locks_rule.specs.Locks.{LocksHold}
 use Rattle.locks_rule.proofs.Own.{own}
 use Rattle.values_rule.specs.Steps.{load_value_action, store_value_action, known_value, undo_store_action, undoing_phase}

@@ -13,7 +13,7 @@ use Rattle.history_model.specs.Table.{Knows, version_word}
 use Rattle.history_model.specs.Views.{IsGranted}
 use Rattle.history_model.specs.Locks.{lock_of_word}
 use Rattle.history_model.specs.Traces.{Touches}
-use Rattle.history_model.proofs.Places.{same_view, put_here, put_there, put_cases}
+use Rattle.history_model.proofs.Views.Places.{same_view, put_here, put_there, put_cases}
 use Rattle.locks_rule.specs.Locks.{LocksHold}
 use Rattle.values_rule.specs.Values.{UndoRestores, TraceCurrent}
 use Rattle.values_rule.proofs.Members.{in_join, none_in, in_first}

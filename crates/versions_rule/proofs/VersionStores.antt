@@ -12,7 +12,7 @@ use Rattle.history_model.specs.Legal.{IsIn}
 use Rattle.history_model.specs.Sets.{has, flag, without}
 use Rattle.history_model.specs.Table.{Knows, serial_word, calls_word, commits_word, version_word, value_word}
 use Rattle.history_model.specs.Views.{HasWriteGrant}
-use Rattle.history_model.proofs.Places.{same_view, put_here, put_there, put_cases}
+use Rattle.history_model.proofs.Views.Places.{same_view, put_here, put_there, put_cases}
 use Rattle.history_model.proofs.SetLemmas.{differ, has-without_same, has-without_other, has-without}
 use Rattle.locks_rule.specs.Locks.{LocksHold}
 use Rattle.locks_rule.proofs.Own.{Own}

@@ -1,4 +1,4 @@
-use Rattle.history_model.proofs.FittingLaws.{each_fresh}
+use Rattle.history_model.proofs.Traces.FittingLaws.{each_fresh}
 use Rattle.txn_alloc.specs.EntryMaps.{HasMapApart}
 use Rattle.txn_alloc.proofs.Parts.{held}
 use Rattle.txn_tree_map.specs.Trees.{tree_part}

@@ -1,6 +1,6 @@
 use Rattle.std.proofs.Common.{◌≡◌, ◌+◌, ◌*◌, ◌<◌, inl, inr, arith, ap, ◌∙◌, rules}
 use Rattle.std.proofs.lemmas.Result.{IfOk-from_err}
-use Rattle.history_model.proofs.TraceLaws.{begins_trans}
+use Rattle.history_model.proofs.Traces.TraceLaws.{begins_trans}
 use Rattle.txn_words.specs.Calls.{GoesOn}
 use Rattle.txn_words.proofs.CallLaws.{each_plain, state_after, goes_call, goes_then, goes_as}
 use Rattle.txn_words.proofs.ReadLaws.{sees_read, sees_then, sees_write}

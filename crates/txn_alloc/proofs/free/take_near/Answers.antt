@@ -1,7 +1,7 @@
 use Rattle.std.proofs.Common.{Some, inl, inr, arith, ap, ◌∙◌}
 use Rattle.history_model.specs.Fitting.{SomeFits}
-use Rattle.history_model.proofs.TraceLaws.{begins_trans}
-use Rattle.history_model.proofs.FittingLaws.{some_at}
+use Rattle.history_model.proofs.Traces.TraceLaws.{begins_trans}
+use Rattle.history_model.proofs.Traces.FittingLaws.{some_at}
 use Rattle.txn_words.proofs.CallLaws.{each_plain, leads_plain, state_after}
 use Rattle.txn_words.proofs.ReadLaws.{sees_read, sees_then, sees_write, sees_more}
 use Rattle.txn_words.proofs.FrameLaws.{only_read, only_write, only_then, only_more, writes_keep}

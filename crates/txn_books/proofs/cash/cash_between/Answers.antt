@@ -1,7 +1,7 @@
 use Rattle.std.proofs.Common.{◌<◌, ◌^◌, arith}
 use Rattle.books_model.specs.Interpreter.{cash_between}
 use Rattle.history_model.specs.Fitting.{SomeFits}
-use Rattle.history_model.proofs.FittingLaws.{some_at, fits_begins}
+use Rattle.history_model.proofs.Traces.FittingLaws.{some_at, fits_begins}
 use Rattle.txn_alloc.specs.EntryMaps.{SumsRange}
 use Rattle.txn_tree_map.specs.Trees.{tree_part}
 use Rattle.txn_books.specs.Layout.{tree_of}

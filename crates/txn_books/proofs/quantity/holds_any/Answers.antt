@@ -1,7 +1,7 @@
 use Rattle.std.proofs.Common.{◌≡◌, true, false, None, sym, ap, subst, ◌∙◌, inl, inr, arith}
 use Rattle.std.specs.FinMap as map
 use Rattle.std.proofs.lemmas.Bool.{cases_lt}
-use Rattle.history_model.proofs.TraceLaws.{begins_trans}
+use Rattle.history_model.proofs.Traces.TraceLaws.{begins_trans}
 use Rattle.books_model.specs.Interpreter.{holds_any}
 use Rattle.books_model.proofs.Comparing.{none_of}
 use Rattle.books_model.proofs.Sums.{holds_nothing, holds_one}

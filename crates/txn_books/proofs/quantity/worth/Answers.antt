@@ -1,5 +1,5 @@
 use Rattle.std.proofs.Common.{◌≡◌, ◌+◌, ◌*◌, refl, sym, ap, ◌∙◌, arith}
-use Rattle.history_model.proofs.TraceLaws.{begins_refl, begins_trans}
+use Rattle.history_model.proofs.Traces.TraceLaws.{begins_refl, begins_trans}
 use Rattle.books_model.specs.Books.{position_of, price_of}
 use Rattle.books_model.specs.Interpreter.{worth_of}
 use Rattle.books_model.proofs.Sums.{worth_below, worth_first, worth_next, worth_last}

@@ -1,7 +1,7 @@
 use Rattle.std.proofs.Common.{◌≡◌, ◌+◌, ◌*◌, ◌-◌, ◌<◌, Some, refl, ap, ◌∙◌, subst, rules, arith}
 use Rattle.std.proofs.lemmas.Result.{IfOk-from_err}
 use Rattle.history_model.specs.Fitting.{SomeFits}
-use Rattle.history_model.proofs.FittingLaws.{some_at}
+use Rattle.history_model.proofs.Traces.FittingLaws.{some_at}
 use Rattle.txn_words.specs.Calls.{GoesOn}
 use Rattle.txn_hash_map.specs.Searches.{IsPassed, IsFoundAt, IsMissing, IsLink}
 use Rattle.txn_hash_map.proofs.Steps.{bucket_fits, passed_none, passed_end, passed_more, passed_found, passed_all}

@@ -1,6 +1,6 @@
 use Rattle.std.proofs.Common.{refl, ◌∙◌, arith, rules}
 use Rattle.std.proofs.lemmas.Result.{IfOk-from_err}
-use Rattle.history_model.proofs.TraceLaws.{begins_refl, begins_trans}
+use Rattle.history_model.proofs.Traces.TraceLaws.{begins_refl, begins_trans}
 use Rattle.txn_words.proofs.FrameLaws.{only_same}
 use Rattle.txn_words.proofs.ReadLaws.{sees_same}
 use Rattle.txn_words.proofs.Looks.{each_from, leads_from}

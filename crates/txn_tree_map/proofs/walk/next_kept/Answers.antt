@@ -1,6 +1,6 @@
 use Rattle.std.proofs.Common.{◌≡◌, ◌+◌, ◌<◌, [], ◌∷◌, ◌++◌, Some, refl, arith, rules}
 use Rattle.history_model.specs.Fitting.{SomeFits}
-use Rattle.history_model.proofs.FittingLaws.{some_at}
+use Rattle.history_model.proofs.Traces.FittingLaws.{some_at}
 use Rattle.txn_words.proofs.Looks.{looks_map}
 use Rattle.txn_alloc.specs.FreeLists.{block_at}
 use Rattle.txn_tree_map.specs.Searches.{IsLink}

@@ -1,6 +1,6 @@
 use Rattle.std.proofs.Common.{◌≢◌, ◌+◌, ◌<◌, ◌≤◌, ◌^◌, ◌∙◌, sym, arith}
 use Rattle.history_model.specs.Fitting.{SomeFits}
-use Rattle.history_model.proofs.FittingLaws.{some_at}
+use Rattle.history_model.proofs.Traces.FittingLaws.{some_at}
 use Rattle.transfer_jobs.specs.declared.vault.Vault.{Vault}
 use Rattle.transfer_jobs.specs.Moving.{HasSum}
 use Rattle.transfer_jobs.proofs.Transferring.{too_little, has_room, keeps, stays_good}

@@ -2,8 +2,8 @@ use Rattle.std.proofs.Common.{◌≡◌, ℕ, ◌+◌, ◌-◌, ◌*◌, ◌%◌
 use Rattle.std.proofs.lemmas.Result.{IfOk-from_err}
 use Rattle.history_model.specs.Fitting.{SomeFits}
 use Rattle.history_model.specs.Traces.{Begins}
-use Rattle.history_model.proofs.TraceLaws.{begins_trans}
-use Rattle.history_model.proofs.FittingLaws.{some_at}
+use Rattle.history_model.proofs.Traces.TraceLaws.{begins_trans}
+use Rattle.history_model.proofs.Traces.FittingLaws.{some_at}
 use Rattle.txn_words.specs.Calls.{GoesOn, LeadsTo, WritesOnly}
 use Rattle.txn_words.proofs.CallLaws.{each_plain, leads_plain, state_after, goes_call, goes_then, goes_as}
 use Rattle.txn_words.proofs.FrameLaws.{only_read, only_write, only_then, writes_keep}

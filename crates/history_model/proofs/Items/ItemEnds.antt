@@ -7,10 +7,10 @@ use Rattle.history_model.specs.Items.{Uses, IsItem, LegalOnValues, StaysGood, wr
 use Rattle.history_model.specs.Arrangements.{IsArrangement, MayStandLast, Adds, RaisesVersions, WritesNewest, KeepsValues, ComesBefore}
 use Rattle.std.proofs.lemmas.Bool.{cases_Bool}
 use Rattle.std.proofs.lemmas.Option.{slice_get_within}
-use Rattle.history_model.proofs.HistoryLaws.{get_first, get_last, get_cases}
-use Rattle.history_model.proofs.LastEvents.{last_written-unwritten}
-use Rattle.history_model.proofs.ItemValues.{writer_is, value_at-next}
-use Rattle.history_model.proofs.ItemOrders.{kept_wrote, wrote_all}
+use Rattle.history_model.proofs.ListPlaces.{get_first, get_last, get_cases}
+use Rattle.history_model.proofs.Traces.LastEvents.{last_written-unwritten}
+use Rattle.history_model.proofs.Items.ItemValues.{writer_is, value_at-next}
+use Rattle.history_model.proofs.Items.ItemOrders.{kept_wrote, wrote_all}
 use Rattle.history_model.specs.Locks.{lock_of_word}
 use Rattle.history_model.specs.Legal.{IsIn}
 

@@ -1,5 +1,5 @@
 -- Going back to a mark.
-use Rattle.std.proofs.Common.{◌≡◌, ℕ, zero, suc, ◌+◌, ◌<◌, List, [], ◌∷◌, ◌++◌, length, drop, slice_get, slice_set, slice_index, Option, Some, refl, sym, ap}
+use Rattle.std.proofs.Common.{◌≡◌, ℕ, zero, suc, ◌<◌, List, [], ◌∷◌, ◌++◌, length, drop, slice_get, slice_set, slice_index, Option, Some, refl, sym, ap}
 use Rattle.std.proofs.Common.{◌∙◌, subst, arith, eq-eqb}
 use mathlib.Core.Logic.{dite}
 use native.Mathlib.Decide.{ℕ_discrete}
@@ -9,9 +9,9 @@ use Rattle.history_model.specs.declared.event.Event.TheVariants.{Read, Write}
 use Rattle.history_model.specs.Traces.{Trace, after, IsLegalTrace, Writes, value_after}
 use Rattle.history_model.specs.Undoing.{Notes, written_back, notes_of}
 use Rattle.history_model.specs.Marks.{count_writes}
-use Rattle.history_model.proofs.TraceLaws.{after-append, legal_parts, legal_read, read_there}
-use Rattle.history_model.proofs.LastEvents.{get-after-value_after}
-use Rattle.history_model.proofs.UndoLaws.{writes_undone}
+use Rattle.history_model.proofs.Traces.TraceLaws.{after-append, legal_parts, legal_read, read_there}
+use Rattle.history_model.proofs.Traces.LastEvents.{get-after-value_after}
+use Rattle.history_model.proofs.Traces.UndoLaws.{writes_undone}
 
 -- the notes of a front, and then those of the rest
 pub notes_by_parts : (t u : Trace) (s : List ℕ) → notes_of (t ++ u) s ≡ notes_of t s ++ notes_of u (after t s)

@@ -4,9 +4,9 @@ use Rattle.std.specs.Prelude.{if◌then◌else◌}
 use Rattle.history_model.specs.declared.item.Item.{Item}
 use Rattle.history_model.specs.Items.{Uses, AgreeWithVersions}
 use Rattle.history_model.specs.Arrangements.{IsArrangement, KeepsValues, Drops, passing}
-use Rattle.history_model.proofs.ItemOrders.{kept_wrote}
+use Rattle.history_model.proofs.Items.ItemOrders.{kept_wrote}
 use Rattle.std.proofs.lemmas.Bool.{cases_Bool}
-use Rattle.history_model.proofs.ItemEnds.{values_agree, writers_agree, legal_still}
+use Rattle.history_model.proofs.Items.ItemEnds.{values_agree, writers_agree, legal_still}
 use Rattle.history_model.specs.Locks.{lock_of_word}
 use Rattle.history_model.specs.Legal.{IsIn}
 

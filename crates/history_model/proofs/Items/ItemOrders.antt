@@ -11,9 +11,9 @@ use Rattle.std.proofs.lemmas.Bool.{cases_Bool}
 use Rattle.std.proofs.lemmas.List.{take_all}
 use Rattle.std.proofs.lemmas.Option.{slice_get_within}
 use Rattle.history_model.proofs.ListPlaces.{get-front, front-get, below_get, take-more, same_list}
-use Rattle.history_model.proofs.LastEvents.{get-after-last_written, last_written-unwritten}
-use Rattle.history_model.proofs.ReplayLaws.{length-effect}
-use Rattle.history_model.proofs.ItemValues.{wrote_some, writer_is, value_at-next, value_at-first}
+use Rattle.history_model.proofs.Traces.LastEvents.{get-after-last_written, last_written-unwritten}
+use Rattle.history_model.proofs.Histories.ReplayLaws.{length-effect}
+use Rattle.history_model.proofs.Items.ItemValues.{wrote_some, writer_is, value_at-next, value_at-first}
 use Rattle.history_model.specs.Locks.{lock_of_word}
 use Rattle.history_model.specs.Legal.{IsIn}
 use Rattle.history_model.specs.Histories.{after_effect, replay_effects}
