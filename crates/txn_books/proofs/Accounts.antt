@@ -15,7 +15,7 @@ use Rattle.txn_words.specs.Frames.{KeepsOthers}
 use Rattle.txn_alloc.specs.declared.put.Put.{Put}
 use Rattle.txn_alloc.specs.declared.put.Put.TheVariants.{New, Old, Full}
 use Rattle.txn_alloc.specs.EntryMaps.{HasMap, HasMapApart, Finds, IsOwn, Inserts, Removes, SumsRange}
-use Rattle.txn_alloc.proofs.Parts.{held}
+use Rattle.txn_alloc.proofs.Maps.Parts.{held}
 use Rattle.txn_tree_map.specs.Trees.{tree_part}
 use Rattle.txn_books.specs.declared.shape.BooksShape.{BooksShape}
 use Rattle.txn_books.specs.Layout.{shape_of, tree_of}

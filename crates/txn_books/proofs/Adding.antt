@@ -10,7 +10,7 @@ use Rattle.std.proofs.lemmas.Map.Lookups.{CmpEqualImpliesEq}
 use Rattle.books_model.proofs.Maps.{len_after_insert}
 use Rattle.txn_books.proofs.ChainedChanges.{put_here, put_there}
 use Rattle.txn_alloc.specs.EntryMaps.{Cell, Entries, value_of, HasKeysOnce}
-use Rattle.txn_alloc.proofs.Cells.{value_first, value_later, insert_same, insert_other}
+use Rattle.txn_alloc.proofs.Maps.Cells.{value_first, value_later, insert_same, insert_other}
 use Rattle.txn_books.specs.Inner.Reading.{AddsUp, entries_in}
 
 module _ {K : Type 0} {R : K → K → Ordering} (o : IsTotalOrder R) (exact : CmpEqualImpliesEq R) where

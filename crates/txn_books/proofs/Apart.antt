@@ -4,10 +4,10 @@ use Rattle.std.specs.FinSet as set
 use Rattle.txn_alloc.specs.declared.arena.Arena.{Arena}
 use Rattle.txn_alloc.specs.FreeLists.{IsHead, IsInBlock}
 use Rattle.txn_alloc.specs.EntryMaps.{Entries, Blocks, Part, IsOwn}
-use Rattle.txn_alloc.proofs.Counting.{times_of}
-use Rattle.txn_alloc.proofs.Lists.{same_block}
-use Rattle.txn_alloc.proofs.Parts.{IsOne, used_of}
-use Rattle.txn_alloc.proofs.Wider.{head_is}
+use Rattle.txn_alloc.proofs.Maps.Counting.{times_of}
+use Rattle.txn_alloc.proofs.FreeLists.Lists.{same_block}
+use Rattle.txn_alloc.proofs.Maps.Parts.{IsOne, used_of}
+use Rattle.txn_alloc.proofs.FreeLists.Wider.{head_is}
 use Rattle.txn_hash_map.specs.Chains.{IsBucket}
 use Rattle.txn_ring.specs.Queues as ring
 use Rattle.txn_books.specs.declared.shape.BooksShape.{BooksShape}

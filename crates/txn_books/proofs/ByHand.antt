@@ -24,8 +24,8 @@ use Rattle.txn_alloc.specs.declared.arena.TheConstants.{HEADS}
 use Rattle.txn_alloc.specs.FreeLists.{FreeListHolds, FreeListsHold, IsLaidOut}
 use Rattle.txn_alloc.proofs.Sets.{out_empty, contains-insert_other}
 use Rattle.txn_alloc.proofs.TwoBlocks.{only_one}
-use Rattle.txn_alloc.proofs.Cells.{value_none}
-use Rattle.txn_alloc.proofs.Counting.{times_of}
+use Rattle.txn_alloc.proofs.Maps.Cells.{value_none}
+use Rattle.txn_alloc.proofs.Maps.Counting.{times_of}
 use Rattle.txn_alloc.proofs.Zeros.{zero_there}
 use Rattle.txn_tree_map.specs.Trees.{TreeHolds}
 use Rattle.txn_tree_map.specs.Trees.Tree.{Leaf, Node}

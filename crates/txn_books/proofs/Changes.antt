@@ -8,8 +8,8 @@ use Rattle.books_model.specs.Books.{ClearingBooks, position_cmp}
 use Rattle.txn_words.specs.Frames.{KeepsOthers}
 use Rattle.txn_alloc.specs.FreeLists.{IsHead, IsInBlock, FreeListsHold}
 use Rattle.txn_alloc.specs.EntryMaps.{Entries, Blocks, IsOwn}
-use Rattle.txn_alloc.proofs.Counting.{times_of}
-use Rattle.txn_alloc.proofs.Lists.{free_kept}
+use Rattle.txn_alloc.proofs.Maps.Counting.{times_of}
+use Rattle.txn_alloc.proofs.FreeLists.Lists.{free_kept}
 use Rattle.txn_tree_map.specs.Trees.{TreeHolds, tree_part}
 use Rattle.txn_tree_map.proofs.Maps.{tree_stands}
 use Rattle.txn_tree_map.proofs.Gets.{used_below}

@@ -19,7 +19,7 @@ use Rattle.books_model.specs.Ranges.{IsWithin}
 use Rattle.books_model.proofs.InRange.{empty_books-in_range}
 use Rattle.txn_words.specs.Frames.{KeepsOthers}
 use Rattle.txn_alloc.specs.FreeLists.{IsHead, IsLaidOut, FreeListsHold}
-use Rattle.txn_alloc.proofs.Counting.{times_of}
+use Rattle.txn_alloc.proofs.Maps.Counting.{times_of}
 use Rattle.txn_alloc.proofs.Sets.{out_empty}
 use Rattle.txn_alloc.proofs.Zeros.{zero_there}
 use Rattle.txn_tree_map.specs.Trees.{TreeHolds}

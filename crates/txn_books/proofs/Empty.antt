@@ -8,7 +8,7 @@ use Rattle.std.specs.FinSet.{members}
 use Rattle.history_model.specs.Fitting.{IsGood}
 use Rattle.books_model.specs.Books.{ClearingBooks, empty_books}
 use Rattle.books_model.proofs.InRange.{empty_books-in_range}
-use Rattle.txn_alloc.proofs.Counting.{times_of}
+use Rattle.txn_alloc.proofs.Maps.Counting.{times_of}
 use Rattle.txn_alloc.proofs.Sets.{out_empty}
 use Rattle.txn_alloc.proofs.TwoBlocks.{with_links, AreLinked, linked}
 use Rattle.txn_tree_map.proofs.Lists as trees

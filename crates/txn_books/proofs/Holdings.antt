@@ -13,7 +13,7 @@ use Rattle.txn_words.specs.Frames.{KeepsOthers}
 use Rattle.txn_alloc.specs.declared.put.Put.{Put}
 use Rattle.txn_alloc.specs.declared.put.Put.TheVariants.{New, Old, Full}
 use Rattle.txn_alloc.specs.EntryMaps.{HasMap, HasMapApart, Finds, IsOwn, Inserts, Removes}
-use Rattle.txn_alloc.proofs.Parts.{held}
+use Rattle.txn_alloc.proofs.Maps.Parts.{held}
 use Rattle.txn_hash_map.specs.Chains.{chain_part}
 use Rattle.txn_books.specs.declared.shape.BooksShape.{BooksShape}
 use Rattle.txn_books.specs.Layout.{shape_of, chains_of, price_key_of, position_key_of, chained}

@@ -14,8 +14,8 @@ use Rattle.txn_words.proofs.FrameLaws.{only_keeps}
 use Rattle.txn_alloc.specs.declared.put.Put.{Put}
 use Rattle.txn_alloc.specs.declared.put.Put.TheVariants.{New, Old, Full}
 use Rattle.txn_alloc.specs.EntryMaps.{Blocks, HoldsApart, HasMapApart, IsOwn, InsertsNew, InsertsOld, Inserts, RemovesOne}
-use Rattle.txn_alloc.proofs.Counting.{times_of}
-use Rattle.txn_alloc.proofs.Parts.{free_unused}
+use Rattle.txn_alloc.proofs.Maps.Counting.{times_of}
+use Rattle.txn_alloc.proofs.Maps.Parts.{free_unused}
 use Rattle.txn_alloc.proofs.Sets.{in_here, out_itself, contains-insert_other, contains-remove_other}
 use Rattle.txn_tree_map.specs.Trees.{tree_part}
 use Rattle.txn_hash_map.specs.Chains.{ChainsHold, chain_part}

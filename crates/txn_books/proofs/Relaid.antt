@@ -22,8 +22,8 @@ use Rattle.txn_alloc.specs.declared.arena.TheConstants.{HEADS}
 use Rattle.txn_alloc.specs.FreeLists.{block_at, IsHead, IsInBlock, HasList, FreeListHolds, FreeListsHold}
 use Rattle.txn_alloc.proofs.Sets.{in_here, in_there, in_or, out_empty, out_rest, distinct_more}
 use Rattle.txn_alloc.specs.EntryMaps.{Blocks}
-use Rattle.txn_alloc.proofs.Counting.{times_of}
-use Rattle.txn_alloc.proofs.Lists.{blocks_of, same_block, one_list, free_below}
+use Rattle.txn_alloc.proofs.Maps.Counting.{times_of}
+use Rattle.txn_alloc.proofs.FreeLists.Lists.{blocks_of, same_block, one_list, free_below}
 use Rattle.txn_tree_map.proofs.Maps.{tree_stands}
 use Rattle.txn_hash_map.proofs.Stands.{chains_stand}
 use Rattle.txn_ring.proofs.Items.{queue_stands}

@@ -11,7 +11,7 @@ use Rattle.std.proofs.lemmas.Option.{same_Some}
 use Rattle.txn_alloc.specs.declared.arena.Arena.{Arena}
 use Rattle.txn_alloc.specs.FreeLists.{block_at}
 use Rattle.txn_alloc.specs.EntryMaps.{Cell, Entries, Blocks, value_of, HasKeysOnce}
-use Rattle.txn_alloc.proofs.Cells.{all_first, all_last, all_map, value_first, value_later, value_less, value_none}
+use Rattle.txn_alloc.proofs.Maps.Cells.{all_first, all_last, all_map, value_first, value_later, value_less, value_none}
 use Rattle.txn_tree_map.specs.declared.map.TreeMap.{TreeMap}
 use Rattle.txn_tree_map.specs.Trees.{Tree, name_of, cells_of, HasNode, IsSpelled, IsRising, IsAbove, TreeHolds}
 use Rattle.txn_tree_map.specs.Trees.Tree.{Leaf, Node}

@@ -15,8 +15,8 @@ use Rattle.books_model.specs.Books.{ClearingBooks, used}
 use Rattle.books_model.specs.Ranges.{AreInRange}
 use Rattle.books_model.specs.Inner.Keys.{positions_total, exact_positions}
 use Rattle.txn_alloc.specs.EntryMaps.{Blocks}
-use Rattle.txn_alloc.proofs.Counting.{times_of, lengths_sum}
-use Rattle.txn_alloc.proofs.Lists.{free_below}
+use Rattle.txn_alloc.proofs.Maps.Counting.{times_of, lengths_sum}
+use Rattle.txn_alloc.proofs.FreeLists.Lists.{free_below}
 use Rattle.txn_tree_map.specs.Trees.{TreeHolds}
 use Rattle.txn_tree_map.proofs.Maps as trees
 use Rattle.txn_tree_map.proofs.Numbers as tree_numbers

@@ -10,8 +10,8 @@ use Rattle.txn_words.proofs.Looks.{leads_back, each_looked, seen_before}
 use Rattle.txn_alloc.specs.declared.put.Put.TheVariants.{New}
 use Rattle.txn_alloc.specs.FreeLists.{IsHead, IsNearest, IsWrittenByTake, IsReadByTake, TakesBlock, Takes}
 use Rattle.txn_alloc.specs.EntryMaps.{Entries, Blocks, HasMapApart, HoldsApart, Inserts, TakesNearest, IsOwn, MayReadToInsert}
-use Rattle.txn_alloc.proofs.Parts.{IsOne}
-use Rattle.txn_alloc.proofs.Founds as founds
+use Rattle.txn_alloc.proofs.Maps.Parts.{IsOne}
+use Rattle.txn_alloc.proofs.Maps.Founds as founds
 use Rattle.txn_hash_map.specs.declared.map.ChainMap.{ChainMap}
 use Rattle.txn_hash_map.specs.Chains.{IsLaid, chain_part}
 use Rattle.txn_hash_map.specs.Searches.{IsMissing, IsLink, IsPutInFront, IsBucketOrIn}

@@ -12,16 +12,16 @@ use Rattle.txn_words.proofs.Steps.{after_write_end, fits_write_end}
 use Rattle.txn_words.proofs.FrameLaws.{only_more, only_then, only_write}
 use Rattle.txn_words.proofs.ReadLaws.{sees_more, sees_then, sees_write}
 use Rattle.txn_alloc.specs.FreeLists.{block_at, IsInBlock, IsHeadOrFirst, FreeListsHold, Lacks, Gives}
-use Rattle.txn_alloc.proofs.Wider.{IsAnyHeadOrIn}
+use Rattle.txn_alloc.proofs.FreeLists.Wider.{IsAnyHeadOrIn}
 use Rattle.txn_alloc.specs.FreeLists as lists
 use Rattle.txn_hash_map.specs.declared.map.ChainMap.{ChainMap}
 use Rattle.txn_alloc.specs.EntryMaps.{HasMapApart, Removes, IsUsedIn, IsMoved, IsOwn, MayReadToRemove}
 use Rattle.txn_hash_map.specs.Chains.{chain_part}
 use Rattle.txn_words.specs.Looks.{Looks}
 use Rattle.txn_hash_map.specs.Searches.{IsFoundAt, IsLink}
-use Rattle.txn_alloc.proofs.Parts.{moved_out}
+use Rattle.txn_alloc.proofs.Maps.Parts.{moved_out}
 use Rattle.txn_hash_map.proofs.Steps.{found_names, held_used}
-use Rattle.txn_alloc.proofs.Founds.{IsNearOr, value_seen, given_own, given_seen}
+use Rattle.txn_alloc.proofs.Maps.Founds.{IsNearOr, value_seen, given_own, given_seen}
 use Rattle.txn_hash_map.proofs.Looks.{near_own, keys_block}
 use Rattle.txn_hash_map.proofs.Inserts.{is_one}
 use Rattle.txn_hash_map.proofs.Cuts.{cut, cut_lacks, removed, removed_left, place_used}

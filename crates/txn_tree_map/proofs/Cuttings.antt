@@ -9,11 +9,11 @@ use Rattle.std.specs.FinMap as entry_map
 use Rattle.txn_words.specs.Frames.{KeepsOthers}
 use Rattle.txn_alloc.specs.declared.arena.Arena.{Arena}
 use Rattle.txn_alloc.specs.FreeLists.{block_at, IsHead, IsInBlock, FreeListsHold, Lacks, Gives}
-use Rattle.txn_alloc.proofs.Wider.{IsAnyHeadOrIn}
+use Rattle.txn_alloc.proofs.FreeLists.Wider.{IsAnyHeadOrIn}
 use Rattle.txn_alloc.specs.EntryMaps.{Cell, Entries, Blocks, value_of, has_block, HoldsApart, RemovesOne}
 use Rattle.txn_alloc.proofs.Sets.{out_both, out_itself, contains-remove_other}
-use Rattle.txn_alloc.proofs.Lists.{free_kept, free_below, one_set, same_block}
-use Rattle.txn_alloc.proofs.Cells.{value_less, less_block, has_not, has_times, times_in, times-append, one_in, one_here, remove_same, remove_other}
+use Rattle.txn_alloc.proofs.FreeLists.Lists.{free_kept, free_below, one_set, same_block}
+use Rattle.txn_alloc.proofs.Maps.Cells.{value_less, less_block, has_not, has_times, times_in, times-append, one_in, one_here, remove_same, remove_other}
 use Rattle.txn_tree_map.specs.declared.map.TreeMap.{TreeMap}
 use Rattle.txn_tree_map.specs.Trees.{Tree, priority_of, name_of, rank_of, cells_of, IsAbove, IsRising, TreeHolds, tree_part}
 use Rattle.txn_tree_map.specs.Trees.Tree.{Node}

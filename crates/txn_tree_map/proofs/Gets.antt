@@ -2,7 +2,7 @@
 use Rattle.std.proofs.Common.{◌≡◌, ℕ, ◌<◌, true, List, []}
 use Rattle.std.specs.FinSet as set
 use Rattle.txn_alloc.specs.EntryMaps.{Entries, Blocks, IsUsedIn}
-use Rattle.txn_alloc.proofs.Founds.{IsOwnNear, IsKeysBlock}
+use Rattle.txn_alloc.proofs.Maps.Founds.{IsOwnNear, IsKeysBlock}
 use Rattle.txn_tree_map.specs.declared.map.TreeMap.{TreeMap}
 use Rattle.txn_tree_map.specs.Trees.{TreeHolds, tree_part}
 use Rattle.txn_tree_map.specs.Searches.{IsLink, IsFoundAt}

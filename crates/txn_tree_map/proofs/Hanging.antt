@@ -7,7 +7,7 @@ use Rattle.history_model.proofs.Traces.TraceLaws.{get_set_same, get_set_other}
 use Rattle.txn_words.specs.Frames.{KeepsOthers}
 use Rattle.txn_alloc.specs.declared.arena.Arena.{Arena}
 use Rattle.txn_alloc.specs.FreeLists.{block_at, IsInBlock}
-use Rattle.txn_alloc.proofs.Cells.{times_in, times-append, one_in, one_here}
+use Rattle.txn_alloc.proofs.Maps.Cells.{times_in, times-append, one_in, one_here}
 use Rattle.txn_tree_map.specs.Trees.{Tree, name_of, cells_of, IsSpelled}
 use Rattle.txn_tree_map.specs.Trees.Tree.{Leaf}
 use Rattle.txn_tree_map.specs.Paths.{Step, Path, whole_of, plug, place_at_end, before_of, after_of, IsHung}

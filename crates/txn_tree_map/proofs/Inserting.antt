@@ -10,8 +10,8 @@ use Rattle.txn_words.proofs.Looks.{leads_back, seen_before}
 use Rattle.txn_alloc.specs.declared.put.Put.TheVariants.{New}
 use Rattle.txn_alloc.specs.FreeLists.{IsHead, IsInBlock, IsNearest, IsWrittenByTake, IsReadByTake, TakesBlock, Takes}
 use Rattle.txn_alloc.specs.EntryMaps.{Entries, Blocks, has_block, HasMapApart, HoldsApart, IsUsedIn, IsOwn, MayReadToInsert, Inserts, TakesNearest}
-use Rattle.txn_alloc.proofs.Parts.{IsOne}
-use Rattle.txn_alloc.proofs.Founds as founds
+use Rattle.txn_alloc.proofs.Maps.Parts.{IsOne}
+use Rattle.txn_alloc.proofs.Maps.Founds as founds
 use Rattle.txn_tree_map.specs.declared.map.TreeMap.{TreeMap}
 use Rattle.txn_tree_map.specs.Trees.{TreeHolds, tree_part}
 use Rattle.txn_tree_map.specs.Trees.Tree.{Leaf}

@@ -17,7 +17,7 @@ use Rattle.txn_tree_map.specs.Trees.{Tree, priority_of, cells_of}
 use Rattle.txn_tree_map.specs.Changes.{Hangs}
 use Rattle.txn_tree_map.specs.Joins.{IsHoleOrName, ArePair, IsJoined, CanGoOn, JoinsOne, IsGathered, Joins, IsJoinOwn, IsHoleOrWord, IsPlaceOrTop, IsJoinSeen}
 use Rattle.txn_alloc.specs.EntryMaps.{Cell}
-use Rattle.txn_alloc.proofs.Cells.{times_has}
+use Rattle.txn_alloc.proofs.Maps.Cells.{times_has}
 use Rattle.txn_tree_map.specs.Searches.{IsPlace}
 use Rattle.txn_tree_map.specs.Sums.{IsAnyWord}
 use Rattle.txn_tree_map.proofs.Trees.{count_in, one_tree}

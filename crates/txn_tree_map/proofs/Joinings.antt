@@ -6,14 +6,14 @@ use Rattle.std.proofs.lemmas.Option.{same_Some}
 use Rattle.txn_alloc.specs.declared.arena.Arena.{Arena}
 use Rattle.txn_alloc.specs.FreeLists.{block_at, IsInBlock}
 use Rattle.txn_alloc.specs.EntryMaps.{Cell}
-use Rattle.txn_alloc.proofs.Cells.{all_append, all_last, times_in, times-append, times_has}
+use Rattle.txn_alloc.proofs.Maps.Cells.{all_append, all_last, times_in, times-append, times_has}
 use Rattle.txn_tree_map.specs.declared.map.TreeMap.{TreeMap}
 use Rattle.txn_tree_map.specs.Trees.{Tree, priority_of, name_of, rank_of, cells_of, IsSpelled, IsRising, IsHeap, IsLaid}
 use Rattle.txn_tree_map.specs.Trees.Tree.{Leaf, Node}
 use Rattle.txn_tree_map.specs.Paths.{Step, plug, place_at_end, before_of, after_of, IsHung, IsHigh}
 use Rattle.txn_tree_map.specs.Changes.{Hangs}
 use Rattle.txn_tree_map.specs.Joins.{IsHoleOrName, ArePair, IsJoined, IsGathered, Joins}
-use Rattle.txn_alloc.proofs.Counting.{length_below}
+use Rattle.txn_alloc.proofs.Maps.Counting.{length_below}
 use Rattle.txn_tree_map.proofs.Rising.{rising_once, rising_first, rising_last, rising_above}
 use Rattle.txn_tree_map.proofs.Trees.{count_in, count_on, times_cells, cells_plug, all_tree, spelled_stays, hung_plug}
 use Rattle.txn_tree_map.proofs.Places.{high_plug, high_whole}

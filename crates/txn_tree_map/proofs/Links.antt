@@ -4,7 +4,7 @@ use Rattle.std.proofs.lemmas.List.{append-nil}
 use Rattle.std.specs.FinSet as set
 use Rattle.txn_alloc.specs.FreeLists.{block_at}
 use Rattle.txn_alloc.specs.EntryMaps.{Entries, Blocks, IsUsedIn, IsSeen, has_block}
-use Rattle.txn_alloc.proofs.Cells.{one_in, one_here, times_has, has_middle}
+use Rattle.txn_alloc.proofs.Maps.Cells.{one_in, one_here, times_has, has_middle}
 use Rattle.txn_tree_map.specs.declared.map.TreeMap.{TreeMap}
 use Rattle.txn_tree_map.specs.declared.find.Named.{Named}
 use Rattle.txn_tree_map.specs.Trees.{Tree, name_of, cells_of, TreeHolds, tree_part}

@@ -12,10 +12,10 @@ use Rattle.txn_alloc.specs.declared.arena.Arena.{Arena}
 use Rattle.txn_alloc.specs.FreeLists.{IsHead, IsInBlock, TakesBlock}
 use Rattle.txn_alloc.specs.EntryMaps.{Cell, Entries, Blocks, value_of, has_block, HoldsApart}
 use Rattle.txn_alloc.proofs.Sets.{in_here, out_itself, in_or, out_less, contains-insert_other}
-use Rattle.txn_alloc.proofs.Lists.{free_kept, free_below, same_block}
-use Rattle.txn_alloc.proofs.Cells.{value_less, has_middle, less_block, insert_same, insert_other, times_has}
-use Rattle.txn_alloc.proofs.Parts.{free_unused}
-use Rattle.txn_alloc.proofs.Founds.{InsertsIn}
+use Rattle.txn_alloc.proofs.FreeLists.Lists.{free_kept, free_below, same_block}
+use Rattle.txn_alloc.proofs.Maps.Cells.{value_less, has_middle, less_block, insert_same, insert_other, times_has}
+use Rattle.txn_alloc.proofs.Maps.Parts.{free_unused}
+use Rattle.txn_alloc.proofs.Maps.Founds.{InsertsIn}
 use Rattle.txn_tree_map.specs.declared.map.TreeMap.{TreeMap}
 use Rattle.txn_tree_map.specs.Trees.{Tree, name_of, cells_of, IsRising, IsLaid, TreeHolds, tree_part}
 use Rattle.txn_tree_map.specs.Trees.Tree.{Leaf, Node}

@@ -3,7 +3,7 @@ use Rattle.std.proofs.Common.{◌≡◌, ℕ, ◌+◌, ◌≤◌, List, [], sym,
 use Rattle.std.specs.FinSet as set
 use Rattle.std.specs.FinMap as entry_map
 use Rattle.txn_alloc.specs.EntryMaps.{Entries, Blocks}
-use Rattle.txn_alloc.proofs.Counting.{len_cells, len_blocks}
+use Rattle.txn_alloc.proofs.Maps.Counting.{len_cells, len_blocks}
 use Rattle.txn_tree_map.specs.declared.map.TreeMap.{TreeMap}
 use Rattle.txn_tree_map.specs.Trees.{cells_of, TreeHolds}
 use Rattle.txn_tree_map.proofs.Rising.{rising_keys}

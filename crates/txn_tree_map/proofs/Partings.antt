@@ -9,13 +9,13 @@ use Rattle.txn_words.specs.Frames.{KeepsOthers}
 use Rattle.txn_alloc.specs.declared.arena.Arena.{Arena}
 use Rattle.txn_alloc.specs.FreeLists.{block_at, IsInBlock}
 use Rattle.txn_alloc.specs.EntryMaps.{Cell, has_block}
-use Rattle.txn_alloc.proofs.Cells.{times_in, times-append, times_has, all_first, all_last}
+use Rattle.txn_alloc.proofs.Maps.Cells.{times_in, times-append, times_has, all_first, all_last}
 use Rattle.txn_tree_map.specs.declared.map.TreeMap.{TreeMap}
 use Rattle.txn_tree_map.specs.Trees.{Tree, priority_of, name_of, rank_of, cells_of, IsSpelled, IsAbove, IsRising, IsHeap, IsLaid}
 use Rattle.txn_tree_map.specs.Trees.Tree.{Leaf, Node}
 use Rattle.txn_tree_map.specs.Paths.{Step, plug, place_at_end, before_of, after_of, IsHung, IsHigh, IsBelow}
 use Rattle.txn_tree_map.specs.Changes.{Hangs, IsNameIn, IsWhole, IsParted, Splits}
-use Rattle.txn_alloc.proofs.Counting.{length_below}
+use Rattle.txn_alloc.proofs.Maps.Counting.{length_below}
 use Rattle.txn_tree_map.proofs.Rising.{rising_once, rising_first, rising_last, rising_below, rising_above}
 use Rattle.txn_tree_map.proofs.Trees.{count_in, count_on, times_cells, cells_plug, all_tree, hung_stays, hung_plug}
 use Rattle.txn_tree_map.proofs.Places.{high_plug, high_lower, high_whole}

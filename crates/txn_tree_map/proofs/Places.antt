@@ -9,12 +9,12 @@ use Rattle.std.specs.List.{AllByRecursion}
 use Rattle.txn_alloc.specs.declared.arena.Arena.{Arena}
 use Rattle.txn_alloc.specs.FreeLists.{block_at, IsInBlock}
 use Rattle.txn_alloc.specs.EntryMaps.{Cell, Entries, Blocks, value_of, has_block}
-use Rattle.txn_alloc.proofs.Cells.{all_append, times_in, has_times, times_has}
+use Rattle.txn_alloc.proofs.Maps.Cells.{all_append, times_in, has_times, times_has}
 use Rattle.txn_tree_map.specs.declared.map.TreeMap.{TreeMap}
 use Rattle.txn_tree_map.specs.Trees.{Tree, priority_of, name_of, rank_of, cells_of, HasNode, IsSpelled, IsRising, IsHeap, TreeHolds}
 use Rattle.txn_tree_map.specs.Trees.Tree.{Leaf, Node}
 use Rattle.txn_tree_map.specs.Paths.{Step, Path, whole_of, plug, place_at_end, before_of, after_of, IsHung, IsHigh, HangsAt}
-use Rattle.txn_alloc.proofs.Counting.{times_all, length_below}
+use Rattle.txn_alloc.proofs.Maps.Counting.{times_all, length_below}
 use Rattle.txn_tree_map.proofs.Rising.{rising_once}
 use Rattle.txn_tree_map.proofs.Trees.{count_in, count_on, times_cells, cells_step, cells_plug, count_plug, all_tree, all_before, all_after, spelled_whole}
 use Rattle.txn_tree_map.proofs.Trees.{name_whole, hung_plug, one_tree}

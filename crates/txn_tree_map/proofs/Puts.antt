@@ -8,8 +8,8 @@ use Rattle.history_model.proofs.Traces.TraceLaws.{get_set_same, get_set_other}
 use Rattle.txn_words.specs.Frames.{KeepsOthers}
 use Rattle.txn_alloc.specs.FreeLists.{block_at, IsInBlock}
 use Rattle.txn_alloc.specs.EntryMaps.{Cell, has_block}
-use Rattle.txn_alloc.proofs.Cells.{times_in, times-append, times_has, has_times, has_not, all_append, all_first, all_last}
-use Rattle.txn_alloc.proofs.Lists.{same_block}
+use Rattle.txn_alloc.proofs.Maps.Cells.{times_in, times-append, times_has, has_times, has_not, all_append, all_first, all_last}
+use Rattle.txn_alloc.proofs.FreeLists.Lists.{same_block}
 use Rattle.txn_tree_map.specs.declared.map.TreeMap.{TreeMap}
 use Rattle.txn_tree_map.specs.Trees.{Tree, name_of, cells_of, HasNode, IsRising}
 use Rattle.txn_tree_map.specs.Trees.Tree.{Leaf, Node}

@@ -11,10 +11,10 @@ use Rattle.txn_words.specs.Frames.{KeepsOthers, AppendsOnly, AppendsReads}
 use Rattle.txn_words.proofs.FrameLaws.{only_more, only_then}
 use Rattle.txn_words.proofs.ReadLaws.{sees_more, sees_then}
 use Rattle.txn_alloc.specs.FreeLists.{block_at, IsInBlock, IsHeadOrFirst, Lacks, Gives}
-use Rattle.txn_alloc.proofs.Wider.{IsAnyHeadOrIn}
-use Rattle.txn_alloc.proofs.Parts.{moved_out}
-use Rattle.txn_alloc.proofs.Founds.{given_own, given_seen}
-use Rattle.txn_alloc.proofs.Cells.{times_in, has_times}
+use Rattle.txn_alloc.proofs.FreeLists.Wider.{IsAnyHeadOrIn}
+use Rattle.txn_alloc.proofs.Maps.Parts.{moved_out}
+use Rattle.txn_alloc.proofs.Maps.Founds.{given_own, given_seen}
+use Rattle.txn_alloc.proofs.Maps.Cells.{times_in, has_times}
 use Rattle.txn_alloc.specs.FreeLists as lists
 use Rattle.txn_alloc.specs.EntryMaps.{HasMapApart, IsUsedIn, IsMoved, IsOwn, MayReadToRemove, Removes}
 use Rattle.txn_words.specs.Looks.{Looks}

@@ -3,8 +3,8 @@ use Rattle.std.proofs.Common.{◌≡◌, ◌≢◌, ℕ, ◌<◌, ◌≤◌, Lis
 use Rattle.std.specs.List.{AllByRecursion}
 use Rattle.txn_alloc.specs.declared.arena.Arena.{Arena}
 use Rattle.txn_alloc.specs.EntryMaps.{Cell, value_of, HasKeysOnce}
-use Rattle.txn_alloc.proofs.Cells.{all_append, all_first, all_last, all_map, value_none, value_past, value_first, times_in}
-use Rattle.txn_alloc.proofs.Counting.{AreKeyed, keyed_once}
+use Rattle.txn_alloc.proofs.Maps.Cells.{all_append, all_first, all_last, all_map, value_none, value_past, value_first, times_in}
+use Rattle.txn_alloc.proofs.Maps.Counting.{AreKeyed, keyed_once}
 use Rattle.txn_tree_map.specs.Trees.{IsAbove, IsRising}
 use Rattle.txn_tree_map.specs.Paths.{IsBelow}
 

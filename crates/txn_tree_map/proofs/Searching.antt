@@ -5,7 +5,7 @@ use Rattle.history_model.specs.Traces.{Trace, after}
 use Rattle.history_model.specs.Fitting.{SomeFits, InEach}
 use Rattle.history_model.proofs.Traces.TraceLaws.{length-after}
 use Rattle.txn_alloc.specs.declared.arena.Arena.{Arena}
-use Rattle.txn_alloc.proofs.Lists.{laid_kept}
+use Rattle.txn_alloc.proofs.FreeLists.Lists.{laid_kept}
 use Rattle.txn_tree_map.specs.declared.map.TreeMap.{TreeMap}
 use Rattle.txn_tree_map.specs.Trees.{Tree, name_of, IsSpelled, IsLaid}
 use Rattle.txn_tree_map.specs.Trees.Tree.{Leaf, Node}

@@ -2,7 +2,7 @@
 use Rattle.std.proofs.Common.{◌≡◌, ◌≢◌, ℕ, ◌+◌, ◌^◌, ◌<◌, ◌≤◌, List, ◌∷◌, ◌++◌, slice_get, Some, refl, ap, ◌∙◌, subst, arith}
 use Rattle.std.specs.List.{AllByRecursion}
 use Rattle.txn_alloc.specs.EntryMaps.{Cell}
-use Rattle.txn_alloc.proofs.Cells.{all_append, all_first, all_last}
+use Rattle.txn_alloc.proofs.Maps.Cells.{all_append, all_first, all_last}
 use Rattle.txn_tree_map.specs.declared.map.TreeMap.{TreeMap}
 use Rattle.txn_tree_map.specs.Trees.{priority_of, rank_of, cells_of}
 use Rattle.txn_tree_map.specs.Trees.Tree.{Leaf, Node}

@@ -15,7 +15,7 @@ use Rattle.txn_words.proofs.Looks.{looks_at, seen_before, leads_back}
 use Rattle.txn_tree_map.specs.declared.map.TreeMap.{TreeMap}
 use Rattle.txn_tree_map.specs.Changes.{Hangs, AreWithin, IsNameIn, CanSplit, IsParted, CanPart, PartsOne, Splits, IsSplitOwn, IsEndOrTop, IsWordIn, IsSplitSeen}
 use Rattle.txn_alloc.specs.EntryMaps.{has_block}
-use Rattle.txn_alloc.proofs.Cells.{times_has}
+use Rattle.txn_alloc.proofs.Maps.Cells.{times_has}
 use Rattle.txn_tree_map.specs.Trees.{Tree, cells_of}
 use Rattle.txn_tree_map.proofs.Trees.{count_in, one_tree}
 use Rattle.txn_tree_map.proofs.Links.{top_count}

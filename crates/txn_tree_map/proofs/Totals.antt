@@ -17,7 +17,7 @@ use Rattle.txn_tree_map.specs.Trees.{tree_part}
 use Rattle.txn_tree_map.specs.Searches.{IsLink}
 use Rattle.txn_tree_map.specs.Sums.{IsAnyWord, IsFirstFrom, IsNext, HasNoneTo, IsSummed, IsTotal}
 use Rattle.txn_tree_map.specs.Walks.{IsWalk, HasCome}
-use Rattle.txn_alloc.proofs.Founds.{IsNearOr, looks_value}
+use Rattle.txn_alloc.proofs.Maps.Founds.{IsNearOr, looks_value}
 use Rattle.txn_tree_map.proofs.Links.{nearest_of, tree_uses, link_seen}
 use Rattle.txn_tree_map.proofs.Summing.{nearest_below, nearest_key, nearest_from, nearest_next, nearest_past, nearest_none, total_sum}
 

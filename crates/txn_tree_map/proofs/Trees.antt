@@ -7,7 +7,7 @@ use Rattle.std.specs.List.{AllByRecursion}
 use Rattle.txn_alloc.specs.declared.arena.Arena.{Arena}
 use Rattle.txn_alloc.specs.FreeLists.{block_at, IsInBlock}
 use Rattle.txn_alloc.specs.EntryMaps.{Cell}
-use Rattle.txn_alloc.proofs.Cells.{all_append, one_in, one_here, times_in, times-append}
+use Rattle.txn_alloc.proofs.Maps.Cells.{all_append, one_in, one_here, times_in, times-append}
 use Rattle.txn_tree_map.specs.Trees.{Tree, name_of, cells_of, HasNode, IsSpelled}
 use Rattle.txn_tree_map.specs.Trees.Tree.{Leaf, Node}
 use Rattle.txn_tree_map.specs.Paths.{Step, Path, whole_of, plug, place_at_end, before_of, after_of, IsHung}

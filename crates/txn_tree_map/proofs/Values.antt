@@ -9,8 +9,8 @@ use Rattle.std.specs.FinMap as entry_map
 use Rattle.history_model.proofs.Traces.TraceLaws.{get_set_same, get_set_other}
 use Rattle.txn_alloc.specs.FreeLists.{block_at, IsInBlock}
 use Rattle.txn_alloc.specs.EntryMaps.{Cell, Entries, Blocks, value_of, has_block, HoldsApart}
-use Rattle.txn_alloc.proofs.Lists.{free_kept, same_block}
-use Rattle.txn_alloc.proofs.Cells.{all_append, value_less, has_middle, less_block, insert_same, insert_other, one_in, one_here}
+use Rattle.txn_alloc.proofs.FreeLists.Lists.{free_kept, same_block}
+use Rattle.txn_alloc.proofs.Maps.Cells.{all_append, value_less, has_middle, less_block, insert_same, insert_other, one_in, one_here}
 use Rattle.txn_tree_map.specs.declared.map.TreeMap.{TreeMap}
 use Rattle.txn_tree_map.specs.Trees.{cells_of, IsRising, TreeHolds, tree_part}
 use Rattle.txn_tree_map.specs.Trees.Tree.{Node}

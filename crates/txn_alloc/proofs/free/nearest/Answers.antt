@@ -4,8 +4,8 @@ use Rattle.history_model.specs.Fitting.{SomeFits}
 use Rattle.history_model.proofs.Traces.FittingLaws.{some_at}
 use Rattle.txn_words.specs.Calls.{GoesOn}
 use Rattle.txn_words.proofs.CallLaws.{each_plain, goes, goes_call, goes_then, goes_as}
-use Rattle.txn_alloc.proofs.Traces.{lies}
-use Rattle.txn_alloc.proofs.Takings.{none_passed, one_passed, found_block, found_below, all_passed}
+use Rattle.txn_alloc.proofs.FreeLists.Traces.{lies}
+use Rattle.txn_alloc.proofs.FreeLists.Takings.{none_passed, one_passed, found_block, found_below, all_passed}
 use Rattle.txn_alloc.proofs.free.nearest.Goals as goal
 
 pub loop-passed-init : goal.loop-passed-init

@@ -7,9 +7,9 @@ use Rattle.txn_words.proofs.ReadLaws.{sees_read, sees_then, sees_write, sees_mor
 use Rattle.txn_words.proofs.FrameLaws.{only_read, only_write, only_then, only_more, writes_keep}
 use Rattle.txn_words.proofs.Looks.{each_looked, each_from}
 use Rattle.txn_alloc.specs.FreeLists.{IsHeadTo, IsWrittenByTake, IsReadByTake, IsInOrder, HasNone, Lacks, Takes}
-use Rattle.txn_alloc.proofs.Rounds.{own_head, last_head}
-use Rattle.txn_alloc.proofs.Traces.{lies, taken_from_some, order_taken, lacks_itself}
-use Rattle.txn_alloc.proofs.Takings.{found_none, takes_nearest, takes_some}
+use Rattle.txn_alloc.proofs.FreeLists.Rounds.{own_head, last_head}
+use Rattle.txn_alloc.proofs.FreeLists.Traces.{lies, taken_from_some, order_taken, lacks_itself}
+use Rattle.txn_alloc.proofs.FreeLists.Takings.{found_none, takes_nearest, takes_some}
 use Rattle.txn_alloc.proofs.free.take_near.Goals as goal
 
 pub returns-in_default-clause-none : goal.returns-in_default-clause-none

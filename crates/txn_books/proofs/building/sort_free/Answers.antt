@@ -3,7 +3,7 @@ use Rattle.std.proofs.Math.Seq.{take-append_seam}
 use Rattle.std.proofs.lemmas.List.Sorted.{IsNonDecreasingBy-from_sort}
 use Rattle.std.proofs.lemmas.Map.Keys.{IsStrictlyIncreasing-from_distinct}
 use Rattle.books_model.specs.Books.{ClearingBooks}
-use Rattle.txn_alloc.proofs.Laid.{rising_of}
+use Rattle.txn_alloc.proofs.FreeLists.Laid.{rising_of}
 use Rattle.txn_books.specs.Layout.{arena_of}
 use Rattle.txn_alloc.specs.Laying.{of_list, HasRisingList}
 use Rattle.txn_books.specs.Inner.Building.{IsBuilt, AreFree}

@@ -7,7 +7,7 @@ use Rattle.txn_hash_map.specs.Searches.{IsPassed, IsFoundAt, IsMissing, IsLink}
 use Rattle.txn_hash_map.proofs.Steps.{bucket_fits, passed_none, passed_end, passed_more, passed_found, passed_all}
 use Rattle.txn_words.proofs.Looks.{looks_none, looks_map}
 use Rattle.txn_words.proofs.CallLaws.{goes, goes_call, goes_then, goes_as}
-use Rattle.txn_alloc.proofs.Traces.{laid_block}
+use Rattle.txn_alloc.proofs.FreeLists.Traces.{laid_block}
 use Rattle.txn_hash_map.proofs.Looks.{looks_within, looks_names, looks_name, looks_key}
 use Rattle.txn_hash_map.proofs.find.find.Goals as goal
 

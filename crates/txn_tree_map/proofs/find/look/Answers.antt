@@ -7,7 +7,7 @@ use Rattle.txn_words.specs.Calls.{GoesOn}
 use Rattle.txn_alloc.specs.FreeLists.{block_at}
 use Rattle.txn_words.proofs.Looks.{looks_at, looks_map, looks_read, looks_still, looks_wider}
 use Rattle.txn_tree_map.specs.Searches.{HasTop, IsPlace, IsPlaceOrKey, IsNamed, IsEnd}
-use Rattle.txn_alloc.proofs.Traces.{laid_block}
+use Rattle.txn_alloc.proofs.FreeLists.Traces.{laid_block}
 use Rattle.txn_tree_map.proofs.Searching.{top_within, top_below}
 use Rattle.txn_tree_map.proofs.find.look.Goals as goal
 

@@ -6,7 +6,7 @@ use Rattle.txn_words.specs.Calls.{GoesOn}
 use Rattle.txn_words.proofs.CallLaws.{each_plain, goes_call, goes_then, goes_as}
 use Rattle.txn_alloc.specs.FreeLists.{block_at}
 use Rattle.txn_words.proofs.Looks.{each_from, leads_from, within_from, reads_from}
-use Rattle.txn_alloc.proofs.Traces.{laid_block}
+use Rattle.txn_alloc.proofs.FreeLists.Traces.{laid_block}
 use Rattle.txn_tree_map.proofs.Putting.{seat_within, can_split, put_leads, put_own, put_seen}
 use Rattle.txn_tree_map.proofs.insert.put_in.Goals as goal
 

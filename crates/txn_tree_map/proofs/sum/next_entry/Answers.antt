@@ -6,7 +6,7 @@ use Rattle.txn_words.specs.Calls.{GoesOn}
 use Rattle.txn_words.proofs.CallLaws.{each_plain, goes_call, goes_then, goes_as}
 use Rattle.txn_words.proofs.Looks.{looks_at, each_looked, each_from}
 use Rattle.txn_alloc.specs.FreeLists.{block_at}
-use Rattle.txn_alloc.proofs.Traces.{laid_block}
+use Rattle.txn_alloc.proofs.FreeLists.Traces.{laid_block}
 use Rattle.txn_tree_map.specs.Walks.{IsWalk}
 use Rattle.txn_tree_map.proofs.Totals.{come_some, come_none, come_behind, none_from, past_from, links_from, node_below, node_from, next_from, value_from}
 use Rattle.txn_tree_map.proofs.sum.next_entry.Goals as goal

@@ -9,11 +9,11 @@ use Rattle.txn_alloc.specs.FreeLists.{block_at}
 use Rattle.txn_alloc.specs.EntryMaps.{HasMap, Finds}
 use Rattle.txn_hash_map.specs.Chains.{chain_part}
 use Rattle.txn_hash_map.specs.Searches.{IsLink}
-use Rattle.txn_alloc.proofs.Parts.{held_found, finds_none}
+use Rattle.txn_alloc.proofs.Maps.Parts.{held_found, finds_none}
 use Rattle.txn_hash_map.proofs.Steps.{missing_value}
 use Rattle.txn_words.proofs.Looks.{looks_only}
-use Rattle.txn_alloc.proofs.Traces.{laid_block}
-use Rattle.txn_alloc.proofs.Founds.{looks_value, IsNearOr, finds_some, sees_near, sees_value}
+use Rattle.txn_alloc.proofs.FreeLists.Traces.{laid_block}
+use Rattle.txn_alloc.proofs.Maps.Founds.{looks_value, IsNearOr, finds_some, sees_near, sees_value}
 use Rattle.txn_hash_map.proofs.Looks.{near_own, keys_block}
 use Rattle.txn_hash_map.proofs.map.ChainMap.get.Goals as goal
 

@@ -10,13 +10,13 @@ use Rattle.txn_alloc.specs.declared.put.Put.TheVariants.{New, Old, Full}
 use Rattle.txn_alloc.specs.FreeLists.{block_at, HasNone}
 use Rattle.txn_alloc.specs.EntryMaps.{HasMapApart, Inserts, LacksRoom}
 use Rattle.txn_hash_map.specs.Chains.{chain_part}
-use Rattle.txn_alloc.proofs.Wider.{take_keeps}
-use Rattle.txn_alloc.proofs.Parts.{order_inserted, lacks_room, not_new, not_old, new_not_old, old_not_new, full_not_new, full_not_old, new_not_full}
-use Rattle.txn_alloc.proofs.Parts.{old_not_full}
+use Rattle.txn_alloc.proofs.FreeLists.Wider.{take_keeps}
+use Rattle.txn_alloc.proofs.Maps.Parts.{order_inserted, lacks_room, not_new, not_old, new_not_old, old_not_new, full_not_new, full_not_old, new_not_full}
+use Rattle.txn_alloc.proofs.Maps.Parts.{old_not_full}
 use Rattle.txn_words.proofs.Looks.{leads_from, each_from, each_looked, leads_back}
 use Rattle.txn_hash_map.proofs.Steps.{missing_value}
-use Rattle.txn_alloc.proofs.Traces.{laid_block}
-use Rattle.txn_alloc.proofs.Founds.{looks_value, inserts_old, owns_old, owns_value, sees_old, sees_none}
+use Rattle.txn_alloc.proofs.FreeLists.Traces.{laid_block}
+use Rattle.txn_alloc.proofs.Maps.Founds.{looks_value, inserts_old, owns_old, owns_value, sees_old, sees_none}
 use Rattle.txn_hash_map.proofs.Looks.{near_own, keys_block}
 use Rattle.txn_hash_map.proofs.Changes.{inserted_old}
 use Rattle.txn_hash_map.proofs.Inserts.{inserts_new, takes_new, owns_new, sees_new, laid_taken}

@@ -9,13 +9,13 @@ use Rattle.txn_words.specs.Calls.{GoesOn}
 use Rattle.txn_alloc.specs.FreeLists.{block_at}
 use Rattle.txn_alloc.specs.EntryMaps.{HasMapApart, Removes}
 use Rattle.txn_hash_map.specs.Chains.{chain_part}
-use Rattle.txn_alloc.proofs.Wider.{give_keeps}
-use Rattle.txn_alloc.proofs.Parts.{held, order_removed, finds_none}
+use Rattle.txn_alloc.proofs.FreeLists.Wider.{give_keeps}
+use Rattle.txn_alloc.proofs.Maps.Parts.{held, order_removed, finds_none}
 use Rattle.txn_words.proofs.Looks.{looks_read, looks_only, leads_from, each_from}
 use Rattle.txn_hash_map.specs.Searches.{IsLink}
 use Rattle.txn_hash_map.proofs.Steps.{missing_value, found_of}
-use Rattle.txn_alloc.proofs.Traces.{laid_block}
-use Rattle.txn_alloc.proofs.Founds.{IsNearOr, looks_value, sees_near}
+use Rattle.txn_alloc.proofs.FreeLists.Traces.{laid_block}
+use Rattle.txn_alloc.proofs.Maps.Founds.{IsNearOr, looks_value, sees_near}
 use Rattle.txn_hash_map.proofs.Looks.{near_own}
 use Rattle.txn_hash_map.proofs.Removals.{place_within, order_cut, lacks_cut, removes_some, owns_removed, sees_removed}
 use Rattle.txn_hash_map.proofs.map.ChainMap.remove.Goals as goal

@@ -12,12 +12,12 @@ use Rattle.txn_alloc.specs.FreeLists as lists
 use Rattle.txn_alloc.specs.EntryMaps.{HasMapApart, Inserts, LacksRoom}
 use Rattle.txn_words.proofs.Looks.{each_looked, each_from, leads_from, leads_back, within_from, reads_from}
 use Rattle.txn_tree_map.specs.Trees.{tree_part}
-use Rattle.txn_alloc.proofs.Wider.{take_keeps}
-use Rattle.txn_alloc.proofs.Parts.{order_inserted, lacks_room, not_new, not_old, new_not_old, old_not_new, full_not_new, full_not_old, new_not_full}
-use Rattle.txn_alloc.proofs.Parts.{old_not_full}
+use Rattle.txn_alloc.proofs.FreeLists.Wider.{take_keeps}
+use Rattle.txn_alloc.proofs.Maps.Parts.{order_inserted, lacks_room, not_new, not_old, new_not_old, old_not_new, full_not_new, full_not_old, new_not_full}
+use Rattle.txn_alloc.proofs.Maps.Parts.{old_not_full}
 use Rattle.txn_tree_map.proofs.Descents.{missing_value}
-use Rattle.txn_alloc.proofs.Traces.{laid_block}
-use Rattle.txn_alloc.proofs.Founds.{looks_value, inserts_old, owns_old, owns_value, sees_old, sees_none}
+use Rattle.txn_alloc.proofs.FreeLists.Traces.{laid_block}
+use Rattle.txn_alloc.proofs.Maps.Founds.{looks_value, inserts_old, owns_old, owns_value, sees_old, sees_none}
 use Rattle.txn_tree_map.proofs.Gets.{near_own, keys_block}
 use Rattle.txn_tree_map.proofs.Values.{inserted_old}
 use Rattle.txn_tree_map.proofs.Inserting.{can_put_each, inserts_new, takes_new, owns_new, sees_new}

@@ -8,10 +8,10 @@ use Rattle.txn_words.proofs.Looks.{looks_each, looks_map, looks_only, each_from,
 use Rattle.txn_tree_map.specs.Trees.{tree_part}
 use Rattle.txn_tree_map.specs.Searches.{IsLink}
 use Rattle.txn_tree_map.specs.Joins.{CanCut}
-use Rattle.txn_alloc.proofs.Wider.{give_keeps}
-use Rattle.txn_alloc.proofs.Parts.{held, order_removed, finds_none}
+use Rattle.txn_alloc.proofs.FreeLists.Wider.{give_keeps}
+use Rattle.txn_alloc.proofs.Maps.Parts.{held, order_removed, finds_none}
 use Rattle.txn_tree_map.proofs.Descents.{missing_value}
-use Rattle.txn_alloc.proofs.Founds.{sees_near}
+use Rattle.txn_alloc.proofs.Maps.Founds.{sees_near}
 use Rattle.txn_tree_map.proofs.Gets.{near_own}
 use Rattle.txn_tree_map.proofs.Removing.{order_cut, lacks_cut, removes_some, owns_removed, sees_removed}
 use Rattle.txn_tree_map.proofs.map.TreeMap.remove.Goals as goal

@@ -18,7 +18,8 @@ use Rattle.std.proofs.lemmas.Option.{same_Some}
 use Rattle.txn_alloc.specs.declared.arena.Arena.{Arena}
 use Rattle.txn_alloc.specs.FreeLists.{block_at}
 use Rattle.txn_alloc.specs.EntryMaps.{Cell, Entries, value_of, has_block, HasKeysOnce}
-use Rattle.txn_alloc.proofs.Cells.{value_first, value_later, has_first, later_block, has_not, times_in, one_in, one_here, one_there, remove_same, remove_other}
+use Rattle.txn_alloc.proofs.Maps.Cells.{value_first, value_later, has_first, later_block, has_not, times_in, one_in, one_here, one_there, remove_same}
+use Rattle.txn_alloc.proofs.Maps.Cells.{remove_other}
 use Rattle.txn_alloc.proofs.Sets.{Blocks, out_empty, out_itself, contains-remove_other}
 
 -- 1 where the set has the block

@@ -16,7 +16,7 @@ use Rattle.history_model.proofs.Traces.TraceLaws.{get_set_same, get_set_other}
 use Rattle.txn_alloc.specs.declared.arena.Arena.{Arena}
 use Rattle.txn_alloc.specs.declared.arena.TheConstants.{HEADS}
 use Rattle.txn_alloc.specs.FreeLists.{block_at, head_of, IsHead, IsInBlock, IsLaidOut, HasList, FreeListHolds, FreeListsHold, TakesBlock}
-use Rattle.txn_alloc.proofs.Rounds.{list_lt, is_head}
+use Rattle.txn_alloc.proofs.FreeLists.Rounds.{list_lt, is_head}
 use Rattle.txn_alloc.proofs.Sets.{Blocks, in_here, in_there, in_or, out_empty, out_rest, out_itself, contains-insert_other, contains-remove_other}
 use Rattle.txn_alloc.proofs.Sets.{distinct_more}
 

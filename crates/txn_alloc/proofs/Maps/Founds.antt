@@ -19,7 +19,7 @@ use Rattle.txn_alloc.specs.FreeLists.{block_at, IsInBlock, IsHeadOrFirst, IsNear
 use Rattle.txn_alloc.specs.EntryMaps.{Entries, Blocks, Part, HasMap, HoldsApart, HasMapApart, Finds, IsUsedIn, IsMoved, IsSeen, IsOwn, IsValue, Inserts}
 use Rattle.txn_alloc.specs.EntryMaps.{TakesNearest, MayRead, MayReadToInsert, MayReadToRemove}
 use Rattle.txn_alloc.proofs.Sets.{in_here, in_or}
-use Rattle.txn_alloc.proofs.Parts.{IsOne, used_of, moved_in, each_held}
+use Rattle.txn_alloc.proofs.Maps.Parts.{IsOne, used_of, moved_in, each_held}
 
 -- what is near a search for the key is what a look for it may read
 abbrev pub IsOwnNear : Part → ℕ → (List ℕ → ℕ → Type 0) → Type 0

@@ -12,7 +12,7 @@ use Rattle.txn_alloc.specs.declared.put.Put.{Put}
 use Rattle.txn_alloc.specs.declared.put.Put.TheVariants.{New, Old, Full}
 use Rattle.txn_alloc.specs.FreeLists.{HasNone}
 use Rattle.txn_alloc.specs.EntryMaps.{Entries, Blocks, Part, HasMap, HoldsApart, HasMapApart, Finds, IsUsedIn, IsMoved, Inserts, LacksRoom, Removes}
-use Rattle.txn_alloc.proofs.Lists.{one_set}
+use Rattle.txn_alloc.proofs.FreeLists.Lists.{one_set}
 use Rattle.txn_alloc.proofs.Sets.{out_empty, out_itself}
 
 -- the three answers of an insert differ

@@ -13,7 +13,7 @@ use Rattle.txn_words.proofs.Steps.{after_write_end, fits_write_end}
 use Rattle.txn_alloc.specs.declared.arena.Arena.{Arena}
 use Rattle.txn_alloc.specs.FreeLists.{block_at, head_of, IsLaidOut, IsInOrder, FreeListsHold, HasNone, Lacks, TakesBlock, Takes, Gives}
 use Rattle.txn_alloc.proofs.Sets.{out_both, out_less, out_itself, out_empty}
-use Rattle.txn_alloc.proofs.Lists.{one_set, head_in, block_in, gave}
+use Rattle.txn_alloc.proofs.FreeLists.Lists.{one_set, head_in, block_in, gave}
 
 -- where an arena lies among n words
 pub record Lies (arena : Arena) (n : ℕ) : Type 0 where

@@ -14,8 +14,8 @@ use Rattle.txn_words.proofs.Looks.{looks_none, looks_map, looks_read, looks_stil
 use Rattle.txn_alloc.specs.declared.arena.Arena.{Arena}
 use Rattle.txn_alloc.specs.declared.arena.TheConstants.{HEADS}
 use Rattle.txn_alloc.specs.FreeLists.{block_at, head_of, steps_to, IsHead, IsHeadTo, IsNearest, IsInOrder, FreeListsHold, HasNone, TakesBlock, Takes}
-use Rattle.txn_alloc.proofs.Rounds.{is_head, same_head, from_own, steps_are, round_at}
-use Rattle.txn_alloc.proofs.Lists.{none_free, took, head_names}
+use Rattle.txn_alloc.proofs.FreeLists.Rounds.{is_head, same_head, from_own, steps_are, round_at}
+use Rattle.txn_alloc.proofs.FreeLists.Lists.{none_free, took, head_names}
 
 -- no list up to here names a block
 abbrev pub AreEmpty : Arena → ℕ → ℕ → List ℕ → Type 0

@@ -18,9 +18,9 @@ use Rattle.txn_alloc.specs.declared.arena.Arena.{Arena}
 use Rattle.txn_alloc.specs.declared.arena.TheConstants.{HEADS}
 use Rattle.txn_alloc.specs.FreeLists.{block_at, head_of, IsHead, IsLaidOut, HasList, FreeListsHold}
 use Rattle.txn_alloc.specs.Laying.{IsAmong, IsWrittenByLaying, of_list}
-use Rattle.txn_alloc.proofs.Rounds.{is_head}
+use Rattle.txn_alloc.proofs.FreeLists.Rounds.{is_head}
 use Rattle.txn_alloc.proofs.Sets.{in_here, in_there, in_or, out_empty, out_rest, contains-insert_other, distinct_more}
-use Rattle.txn_alloc.proofs.Lists.{blocks_of, list_kept, laid_kept, no_head, head_in, block_in}
+use Rattle.txn_alloc.proofs.FreeLists.Lists.{blocks_of, list_kept, laid_kept, no_head, head_in, block_in}
 
 -- a block of the list, and one of another
 pub of_here : (h b : ℕ) (bs : List ℕ) → b % HEADS ≡ h → of_list h (b ∷ bs) ≡ b ∷ of_list h bs

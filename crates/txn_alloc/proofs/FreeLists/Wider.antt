@@ -5,7 +5,7 @@ use Rattle.history_model.specs.Fitting.{Leads}
 use Rattle.txn_words.specs.Frames.{KeepsOthers}
 use Rattle.txn_alloc.specs.declared.arena.Arena.{Arena}
 use Rattle.txn_alloc.specs.FreeLists.{IsHead, IsInBlock, IsHeadFor, IsHeadOrFirst, IsWrittenByTake}
-use Rattle.txn_alloc.proofs.Rounds.{is_head}
+use Rattle.txn_alloc.proofs.FreeLists.Rounds.{is_head}
 
 -- a is a head, or a word of block b
 abbrev pub IsAnyHeadOrIn : Arena → ℕ → ℕ → Type 0
