@@ -6,3 +6,5 @@ pub mod Counting
 pub mod Parts
 -- what a call of any map on blocks leads to, writes and reads, where its search found the key and where it missed it
 pub mod Founds
+-- all that an insert of any map on blocks promises: where the key was there, where it was put in, and where no block was free
+pub mod Inserted

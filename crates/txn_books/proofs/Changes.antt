@@ -12,8 +12,8 @@ use Rattle.txn_alloc.proofs.Maps.Counting.{times_of}
 use Rattle.txn_alloc.proofs.FreeLists.Lists.{free_kept}
 use Rattle.txn_tree_map.specs.Trees.{TreeHolds, tree_part}
 use Rattle.txn_tree_map.proofs.Maps.{tree_stands}
-use Rattle.txn_tree_map.proofs.Gets.{used_below}
-use Rattle.txn_tree_map.proofs.Inserting as trees
+use Rattle.txn_tree_map.proofs.Searches.Gets.{used_below}
+use Rattle.txn_tree_map.proofs.Inserts.InsertCalls as trees
 use Rattle.txn_hash_map.specs.Chains.{IsBucket, ChainsHold, chain_part}
 use Rattle.txn_hash_map.proofs.Stands.{chains_stand}
 use Rattle.txn_hash_map.proofs.Steps.{uses_below}

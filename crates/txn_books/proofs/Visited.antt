@@ -16,8 +16,8 @@ use Rattle.txn_tree_map.specs.declared.map.TreeMap.{TreeMap}
 use Rattle.txn_tree_map.specs.Trees.{Tree, name_of, cells_of, HasNode, IsSpelled, IsRising, IsAbove, TreeHolds}
 use Rattle.txn_tree_map.specs.Trees.Tree.{Leaf, Node}
 use Rattle.txn_tree_map.specs.Paths.{IsBelow}
-use Rattle.txn_tree_map.proofs.Rising.{rising_first, rising_last, rising_below, rising_above, above_other, below_other, above_more, value_there}
-use Rattle.txn_tree_map.proofs.Places.{at_tree, at_room}
+use Rattle.txn_tree_map.proofs.Held.Rising.{rising_first, rising_last, rising_below, rising_above, above_other, below_other, above_more, value_there}
+use Rattle.txn_tree_map.proofs.Held.Places.{at_tree, at_room}
 use Rattle.txn_books.specs.Inner.Reading.{AddsUp, entries_in}
 use Rattle.txn_books.proofs.Adding.{or_else, or_none, adds_cells}
 

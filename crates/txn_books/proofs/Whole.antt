@@ -19,7 +19,7 @@ use Rattle.txn_alloc.proofs.Maps.Counting.{times_of, lengths_sum}
 use Rattle.txn_alloc.proofs.FreeLists.Lists.{free_below}
 use Rattle.txn_tree_map.specs.Trees.{TreeHolds}
 use Rattle.txn_tree_map.proofs.Maps as trees
-use Rattle.txn_tree_map.proofs.Numbers as tree_numbers
+use Rattle.txn_tree_map.proofs.Held.Numbers as tree_numbers
 use Rattle.txn_hash_map.specs.Chains.{ChainsHold}
 use Rattle.txn_hash_map.proofs.OneMap as chains
 use Rattle.txn_hash_map.proofs.Numbers as chain_numbers

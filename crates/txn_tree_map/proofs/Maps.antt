@@ -22,12 +22,12 @@ use Rattle.txn_tree_map.specs.Trees.Tree.{Leaf, Node}
 use Rattle.txn_tree_map.specs.Paths.{Path, plug, before_of, after_of, HangsAt}
 use Rattle.txn_tree_map.specs.Searches.{IsMissing}
 use Rattle.txn_tree_map.specs.Changes.{CanPut, IsPut}
-use Rattle.txn_tree_map.proofs.Rising.{value_there}
-use Rattle.txn_tree_map.proofs.Trees.{count_in, count_on, cells_plug, spelled_stays, hung_stays}
-use Rattle.txn_tree_map.proofs.Places.{at_tree, at_value, at_used, at_below, at_times, at_root}
-use Rattle.txn_tree_map.proofs.Descents.{around_node, missing_value}
-use Rattle.txn_tree_map.proofs.Searching.{laid_alike}
-use Rattle.txn_tree_map.proofs.Gets.{used_below}
+use Rattle.txn_tree_map.proofs.Held.Rising.{value_there}
+use Rattle.txn_tree_map.proofs.Held.Trees.{count_in, count_on, cells_plug, spelled_stays, hung_stays}
+use Rattle.txn_tree_map.proofs.Held.Places.{at_tree, at_value, at_used, at_below, at_times, at_root}
+use Rattle.txn_tree_map.proofs.Searches.SearchSteps.{around_node, missing_value}
+use Rattle.txn_tree_map.proofs.Searches.SearchCalls.{laid_alike}
+use Rattle.txn_tree_map.proofs.Searches.Gets.{used_below}
 
 -- in one word list the map is one
 pub one_map : (map : TreeMap) (s : List ℕ) (f g : Entries) (u w : Blocks) → TreeHolds map s f u → TreeHolds map s g w → (f ≡ g) × (u ≡ w)

@@ -7,8 +7,8 @@ use Rattle.txn_words.proofs.Looks.{each_from, leads_from}
 use Rattle.txn_words.specs.Calls.{GoesOn}
 use Rattle.txn_words.proofs.CallLaws.{goes, goes_then, goes_as}
 use Rattle.txn_tree_map.specs.Joins.{CanGoOn}
-use Rattle.txn_tree_map.proofs.Joinings.{joined_none, gathered_no_left, gathered_no_right, gathered_all}
-use Rattle.txn_tree_map.proofs.Joining.{joined_more, gap_own_more, gap_seen_more}
+use Rattle.txn_tree_map.proofs.Removals.JoinSteps.{joined_none, gathered_no_left, gathered_no_right, gathered_all}
+use Rattle.txn_tree_map.proofs.Removals.JoinCalls.{joined_more, gap_own_more, gap_seen_more}
 use Rattle.txn_tree_map.proofs.join.gather.Goals as goal
 
 pub loop-init : goal.loop-init

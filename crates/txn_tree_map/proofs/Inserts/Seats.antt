@@ -8,10 +8,10 @@ use Rattle.txn_tree_map.specs.Trees.{priority_of, rank_of, cells_of}
 use Rattle.txn_tree_map.specs.Trees.Tree.{Leaf, Node}
 use Rattle.txn_tree_map.specs.Paths.{plug, before_of, after_of, HangsAt}
 use Rattle.txn_tree_map.specs.Searches.{IsNamed, IsPassed, IsMissing, IsSeat}
-use Rattle.txn_tree_map.proofs.Rising.{below_other, above_other}
-use Rattle.txn_tree_map.proofs.Places.{priority_small, at_root, at_cells}
-use Rattle.txn_tree_map.proofs.Descents.{IsNode, leaf_named, leaf_short, passed_tree, passed_node, rest_name}
-use Rattle.txn_tree_map.proofs.Priorities.{priorities_differ}
+use Rattle.txn_tree_map.proofs.Held.Rising.{below_other, above_other}
+use Rattle.txn_tree_map.proofs.Held.Places.{priority_small, at_root, at_cells}
+use Rattle.txn_tree_map.proofs.Searches.SearchSteps.{IsNode, leaf_named, leaf_short, passed_tree, passed_node, rest_name}
+use Rattle.txn_tree_map.proofs.Held.Priorities.{priorities_differ}
 
 module _ (map : TreeMap) (key : ℕ) (s : List ℕ) where
   abbrev floor : ℕ

@@ -13,10 +13,10 @@ use Rattle.txn_tree_map.specs.declared.find.Named.{Named}
 use Rattle.txn_tree_map.specs.Trees.{Tree, cells_of, IsAbove, IsRising, TreeHolds}
 use Rattle.txn_tree_map.specs.Paths.{HangsAt, IsBelow}
 use Rattle.txn_tree_map.specs.Sums.{IsFrom, IsFirstFrom, sum_cells, counted, IsSummed, IsTotal, IsNext, HasNoneTo}
-use Rattle.txn_tree_map.proofs.Rising.{below_more, rising_above}
-use Rattle.txn_tree_map.proofs.Trees.{all_tree}
-use Rattle.txn_tree_map.proofs.Places.{at_tree, at_cells, at_room}
-use Rattle.txn_tree_map.proofs.Entries.{pairs_of, entries_cells}
+use Rattle.txn_tree_map.proofs.Held.Rising.{below_more, rising_above}
+use Rattle.txn_tree_map.proofs.Held.Trees.{all_tree}
+use Rattle.txn_tree_map.proofs.Held.Places.{at_tree, at_cells, at_room}
+use Rattle.txn_tree_map.proofs.Held.Entries.{pairs_of, entries_cells}
 
 -- sums over cells
 pub sum_pairs : (g : ℕ × ℕ → ℕ) (cs : List Cell) → sum_by g (pairs_of cs) ≡ sum_cells (λ c. g (c.key, c.value)) cs

@@ -19,11 +19,12 @@ use Rattle.txn_tree_map.specs.Paths.{Step, Path, whole_of, plug, before_of, afte
 use Rattle.txn_tree_map.specs.Searches.{HasTop, IsNamed, IsPlace, IsPlaceOrKey, IsLink}
 use Rattle.txn_tree_map.specs.Sums.{IsFirstFrom}
 use Rattle.txn_tree_map.specs.Walks.{lefts_of, Keeps, IsWalk}
-use Rattle.txn_tree_map.proofs.Rising.{below_more}
-use Rattle.txn_tree_map.proofs.Trees.{cells_plug, cells_step, name_whole, whole_spelled}
-use Rattle.txn_tree_map.proofs.Places.{at_step, at_room, at_name, at_root}
-use Rattle.txn_tree_map.proofs.Descents.{IsNode, NodeOrder, node_order, node_named, node_whole, child_shorter, leaf_named, leaf_short, step_down, low_down}
-use Rattle.txn_tree_map.proofs.Links.{at_link, node_link}
+use Rattle.txn_tree_map.proofs.Held.Rising.{below_more}
+use Rattle.txn_tree_map.proofs.Held.Trees.{cells_plug, cells_step, name_whole, whole_spelled}
+use Rattle.txn_tree_map.proofs.Held.Places.{at_step, at_room, at_name, at_root}
+use Rattle.txn_tree_map.proofs.Searches.SearchSteps.{IsNode, NodeOrder, node_order, node_named, node_whole, child_shorter, leaf_named, leaf_short, step_down}
+use Rattle.txn_tree_map.proofs.Searches.SearchSteps.{low_down}
+use Rattle.txn_tree_map.proofs.Searches.Links.{at_link, node_link}
 
 -- a list that ends in an element is not empty
 no_end : (ns : List Named) (n : Named) → ns ++ n ∷ [] ≡ [] → ⊥

@@ -18,8 +18,8 @@ use Rattle.txn_tree_map.specs.Trees.Tree.{Leaf}
 use Rattle.txn_tree_map.specs.Paths.{before_of, after_of}
 use Rattle.txn_tree_map.specs.Searches.{IsLink, IsMissing}
 use Rattle.txn_tree_map.specs.Changes.{CanPut, IsPut, IsPutOwn, IsPutSeen}
-use Rattle.txn_tree_map.proofs.Places.{at_used}
-use Rattle.txn_tree_map.proofs.Gets.{near_own}
+use Rattle.txn_tree_map.proofs.Held.Places.{at_used}
+use Rattle.txn_tree_map.proofs.Searches.Gets.{near_own}
 use Rattle.txn_tree_map.proofs.Maps.{one_map, tree_headed, can_put, inserted_new}
 
 -- in one word list the map is one

@@ -20,15 +20,15 @@ use Rattle.txn_tree_map.specs.Trees.Tree.{Node}
 use Rattle.txn_tree_map.specs.Paths.{place_at_end, before_of, after_of, HangsAt}
 use Rattle.txn_tree_map.specs.Searches.{IsFoundAt}
 use Rattle.txn_tree_map.specs.Joins.{IsHoleOrName, ArePair, Joins, IsCut}
-use Rattle.txn_tree_map.proofs.Rising.{rising_first, rising_last, rising_cut, rising_above, value_between}
-use Rattle.txn_tree_map.proofs.Trees.{count_in, count_on, times_cells, one_tree, hung_again}
-use Rattle.txn_tree_map.proofs.Places.{at_once, at_outside, at_within, at_value, at_used, used_from, high_lower}
-use Rattle.txn_tree_map.proofs.Descents.{around_node, found_value}
-use Rattle.txn_tree_map.proofs.Searching.{laid_alike}
-use Rattle.txn_tree_map.proofs.Hanging.{place_mine, times_around}
-use Rattle.txn_tree_map.proofs.Gets.{used_below}
+use Rattle.txn_tree_map.proofs.Held.Rising.{rising_first, rising_last, rising_cut, rising_above, value_between}
+use Rattle.txn_tree_map.proofs.Held.Trees.{count_in, count_on, times_cells, one_tree, hung_again}
+use Rattle.txn_tree_map.proofs.Held.Places.{at_once, at_outside, at_within, at_value, at_used, used_from, high_lower}
+use Rattle.txn_tree_map.proofs.Searches.SearchSteps.{around_node, found_value}
+use Rattle.txn_tree_map.proofs.Searches.SearchCalls.{laid_alike}
+use Rattle.txn_tree_map.proofs.Held.Hanging.{place_mine, times_around}
+use Rattle.txn_tree_map.proofs.Searches.Gets.{used_below}
 use Rattle.txn_tree_map.proofs.Maps.{holds_at, tree_stands}
-use Rattle.txn_tree_map.proofs.Values.{found_below, found_used, found_low}
+use Rattle.txn_tree_map.proofs.Inserts.Values.{found_below, found_used, found_low}
 
 module _ (map : TreeMap) (key place b : ℕ) (s : List ℕ) (h : IsFoundAt map key place b s) where
   abbrev node : Tree

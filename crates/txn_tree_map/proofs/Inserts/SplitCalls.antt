@@ -17,10 +17,10 @@ use Rattle.txn_tree_map.specs.Changes.{Hangs, AreWithin, IsNameIn, CanSplit, IsP
 use Rattle.txn_alloc.specs.EntryMaps.{has_block}
 use Rattle.txn_alloc.proofs.Maps.Cells.{times_has}
 use Rattle.txn_tree_map.specs.Trees.{Tree, cells_of}
-use Rattle.txn_tree_map.proofs.Trees.{count_in, one_tree}
-use Rattle.txn_tree_map.proofs.Links.{top_count}
-use Rattle.txn_tree_map.proofs.Partings.{parted_none, parted_times, smaller_within, greater_within, smaller_own, greater_own, parted_low, parted_high}
-use Rattle.txn_tree_map.proofs.Partings.{parted_other, parted_laid, parted_below, splits_end}
+use Rattle.txn_tree_map.proofs.Held.Trees.{count_in, one_tree}
+use Rattle.txn_tree_map.proofs.Searches.Links.{top_count}
+use Rattle.txn_tree_map.proofs.Inserts.SplitSteps.{parted_none, parted_times, smaller_within, greater_within, smaller_own, greater_own, parted_low, parted_high}
+use Rattle.txn_tree_map.proofs.Inserts.SplitSteps.{parted_other, parted_laid, parted_below, splits_end}
 
 module _ (n : ℕ) (G : List ℕ → Type 0) (t : Trace) where
   pub are_within : (hole inner : ℕ) → SomeFits n G t → InEach n G t (AreWithin hole inner) → (hole < n) × (inner < n)

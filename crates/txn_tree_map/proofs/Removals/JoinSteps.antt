@@ -14,13 +14,13 @@ use Rattle.txn_tree_map.specs.Paths.{Step, plug, place_at_end, before_of, after_
 use Rattle.txn_tree_map.specs.Changes.{Hangs}
 use Rattle.txn_tree_map.specs.Joins.{IsHoleOrName, ArePair, IsJoined, IsGathered, Joins}
 use Rattle.txn_alloc.proofs.Maps.Counting.{length_below}
-use Rattle.txn_tree_map.proofs.Rising.{rising_once, rising_first, rising_last, rising_above}
-use Rattle.txn_tree_map.proofs.Trees.{count_in, count_on, times_cells, cells_plug, all_tree, spelled_stays, hung_plug}
-use Rattle.txn_tree_map.proofs.Places.{high_plug, high_whole}
-use Rattle.txn_tree_map.proofs.Descents.{IsNode, node_named, leaf_named, leaf_short, step_down}
-use Rattle.txn_tree_map.proofs.Searching.{laid_alike, name_below}
-use Rattle.txn_tree_map.proofs.Hanging.{times_around, place_mine, hole_within, same_in, hung_here, hung_step, keeps_set, keeps_none}
-use Rattle.txn_tree_map.proofs.Partings.{some_word}
+use Rattle.txn_tree_map.proofs.Held.Rising.{rising_once, rising_first, rising_last, rising_above}
+use Rattle.txn_tree_map.proofs.Held.Trees.{count_in, count_on, times_cells, cells_plug, all_tree, spelled_stays, hung_plug}
+use Rattle.txn_tree_map.proofs.Held.Places.{high_plug, high_whole}
+use Rattle.txn_tree_map.proofs.Searches.SearchSteps.{IsNode, node_named, leaf_named, leaf_short, step_down}
+use Rattle.txn_tree_map.proofs.Searches.SearchCalls.{laid_alike, name_below}
+use Rattle.txn_tree_map.proofs.Held.Hanging.{times_around, place_mine, hole_within, same_in, hung_here, hung_step, keeps_set, keeps_none}
+use Rattle.txn_tree_map.proofs.Inserts.SplitSteps.{some_word}
 
 module _ (map : TreeMap) (hole left right : ℕ) (first second : Tree) (old : List ℕ) (w : ArePair map hole left right first second old) where
   abbrev pub both_cells : List Cell

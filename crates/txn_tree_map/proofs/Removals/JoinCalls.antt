@@ -20,11 +20,12 @@ use Rattle.txn_alloc.specs.EntryMaps.{Cell}
 use Rattle.txn_alloc.proofs.Maps.Cells.{times_has}
 use Rattle.txn_tree_map.specs.Searches.{IsPlace}
 use Rattle.txn_tree_map.specs.Sums.{IsAnyWord}
-use Rattle.txn_tree_map.proofs.Trees.{count_in, one_tree}
-use Rattle.txn_tree_map.proofs.Links.{top_count}
-use Rattle.txn_tree_map.proofs.Priorities.{priorities_differ}
-use Rattle.txn_tree_map.proofs.Joinings.{joined_times, joined_within, joined_own, joined_laid, joined_left_below, joined_right_below, tops_differ, joined_left}
-use Rattle.txn_tree_map.proofs.Joinings.{joined_right, gathered_own, gathered_within, joins_end}
+use Rattle.txn_tree_map.proofs.Held.Trees.{count_in, one_tree}
+use Rattle.txn_tree_map.proofs.Searches.Links.{top_count}
+use Rattle.txn_tree_map.proofs.Held.Priorities.{priorities_differ}
+use Rattle.txn_tree_map.proofs.Removals.JoinSteps.{joined_times, joined_within, joined_own, joined_laid, joined_left_below, joined_right_below, tops_differ}
+use Rattle.txn_tree_map.proofs.Removals.JoinSteps.{joined_left}
+use Rattle.txn_tree_map.proofs.Removals.JoinSteps.{joined_right, gathered_own, gathered_within, joins_end}
 
 module _ (map : TreeMap) (place left_rest right_rest : ℕ) where
   pub can_go_on_within : (s : List ℕ) (b : ℕ) → CanGoOn map place left_rest right_rest s → b < map.arena.blocks

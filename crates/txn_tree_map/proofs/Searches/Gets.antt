@@ -6,9 +6,9 @@ use Rattle.txn_alloc.proofs.Maps.Founds.{IsOwnNear, IsKeysBlock}
 use Rattle.txn_tree_map.specs.declared.map.TreeMap.{TreeMap}
 use Rattle.txn_tree_map.specs.Trees.{TreeHolds, tree_part}
 use Rattle.txn_tree_map.specs.Searches.{IsLink, IsFoundAt}
-use Rattle.txn_tree_map.proofs.Places.{at_tree, at_below, used_count}
-use Rattle.txn_tree_map.proofs.Descents.{found_value, found_key}
-use Rattle.txn_tree_map.proofs.Links.{found_of, tree_used, link_seen}
+use Rattle.txn_tree_map.proofs.Held.Places.{at_tree, at_below, used_count}
+use Rattle.txn_tree_map.proofs.Searches.SearchSteps.{found_value, found_key}
+use Rattle.txn_tree_map.proofs.Searches.Links.{found_of, tree_used, link_seen}
 
 -- a used block is one of the arena's
 pub used_below : (map : TreeMap) (s : List ℕ) (f : Entries) (u : Blocks) (b : ℕ) → TreeHolds map s f u → set.contains u b ≡ true → b < map.arena.blocks

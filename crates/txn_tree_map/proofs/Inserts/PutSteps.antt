@@ -16,12 +16,12 @@ use Rattle.txn_tree_map.specs.Trees.Tree.{Leaf, Node}
 use Rattle.txn_tree_map.specs.Paths.{place_at_end, before_of, after_of, IsHung, HangsAt}
 use Rattle.txn_tree_map.specs.Searches.{IsKeyOrName, IsSeat}
 use Rattle.txn_tree_map.specs.Changes.{IsNameIn, IsWhole, Splits, CanPut, IsRootOrIn, IsPut, IsWordIn}
-use Rattle.txn_tree_map.proofs.Rising.{below_other, above_other, rising_first, rising_last, rising_put}
-use Rattle.txn_tree_map.proofs.Trees.{count_in, count_on, times_cells, node_stays, spelled_stays, hung_stays, one_tree}
-use Rattle.txn_tree_map.proofs.Places.{at_once, at_below, at_outside, at_cells, at_times}
-use Rattle.txn_tree_map.proofs.Descents.{around_node}
-use Rattle.txn_tree_map.proofs.Searching.{laid_alike}
-use Rattle.txn_tree_map.proofs.Hanging.{hung_here, place_mine, keeps_set, keeps_then}
+use Rattle.txn_tree_map.proofs.Held.Rising.{below_other, above_other, rising_first, rising_last, rising_put}
+use Rattle.txn_tree_map.proofs.Held.Trees.{count_in, count_on, times_cells, node_stays, spelled_stays, hung_stays, one_tree}
+use Rattle.txn_tree_map.proofs.Held.Places.{at_once, at_below, at_outside, at_cells, at_times}
+use Rattle.txn_tree_map.proofs.Searches.SearchSteps.{around_node}
+use Rattle.txn_tree_map.proofs.Searches.SearchCalls.{laid_alike}
+use Rattle.txn_tree_map.proofs.Held.Hanging.{hung_here, place_mine, keeps_set, keeps_then}
 
 -- a word that names a subtree is in its block
 pub name_in : (map : TreeMap) (block : ℕ) (tree : Tree) (a : ℕ) (k : IsNameIn map block tree a) → IsInBlock map.arena k.owner a

@@ -12,11 +12,11 @@ use Rattle.txn_tree_map.specs.Trees.Tree.{Leaf, Node}
 use Rattle.txn_tree_map.specs.Paths.{Path, place_at_end, before_of, after_of, HangsAt}
 use Rattle.txn_tree_map.specs.Searches.{IsKeyOrName, IsOfTree, IsLink, IsPlace, IsPlaceOrKey, IsNamed, IsPassed, IsFoundAt}
 use Rattle.txn_tree_map.specs.Sums.{IsNear, IsFirstFrom}
-use Rattle.txn_tree_map.proofs.Trees.{count_in, count_on}
-use Rattle.txn_tree_map.proofs.Places.{at_tree, at_times, at_cells, at_used}
-use Rattle.txn_tree_map.proofs.Descents.{IsNode, node_named, passed_node}
-use Rattle.txn_tree_map.proofs.Hanging.{place_mine}
-use Rattle.txn_tree_map.proofs.Nearest.{near_name}
+use Rattle.txn_tree_map.proofs.Held.Trees.{count_in, count_on}
+use Rattle.txn_tree_map.proofs.Held.Places.{at_tree, at_times, at_cells, at_used}
+use Rattle.txn_tree_map.proofs.Searches.SearchSteps.{IsNode, node_named, passed_node}
+use Rattle.txn_tree_map.proofs.Held.Hanging.{place_mine}
+use Rattle.txn_tree_map.proofs.Searches.FirstSteps.{near_name}
 
 -- a tree has the block of its top
 pub node_count : (tree : Tree) (b k : ℕ) → IsNode tree b k → 1 ≤ count_in b tree

@@ -17,9 +17,9 @@ use Rattle.txn_tree_map.specs.Trees.Tree.{Leaf}
 use Rattle.txn_tree_map.specs.Paths.{place_at_end}
 use Rattle.txn_tree_map.specs.Searches.{IsLink, IsSeat}
 use Rattle.txn_tree_map.specs.Changes.{IsWhole, CanSplit, Splits, IsSplitOwn, CanPut, IsPut, IsPutOwn, IsSplitSeen, IsPutSeen}
-use Rattle.txn_tree_map.proofs.Places.{at_within}
-use Rattle.txn_tree_map.proofs.Puts.{put_whole, put_words, put_done, name_own, word_own, place_own}
-use Rattle.txn_tree_map.proofs.Links.{at_link}
+use Rattle.txn_tree_map.proofs.Held.Places.{at_within}
+use Rattle.txn_tree_map.proofs.Inserts.PutSteps.{put_whole, put_words, put_done, name_own, word_own, place_own}
+use Rattle.txn_tree_map.proofs.Searches.Links.{at_link}
 
 module _ (map : TreeMap) (key value block place name : ℕ) (n : ℕ) (G : List ℕ
     → Type 0) (t u : Trace) (l : Looks n G t u (IsLink map) (IsSeat map key place name)) (order : InEach n G t (CanPut map key block)) where

@@ -12,10 +12,10 @@ use Rattle.txn_tree_map.specs.Trees.Tree.{Leaf, Node}
 use Rattle.txn_tree_map.specs.Paths.{plug, before_of, after_of, HangsAt}
 use Rattle.txn_tree_map.specs.Searches.{HasTop, IsNamed}
 use Rattle.txn_tree_map.specs.Sums.{IsNear, IsFirstFrom}
-use Rattle.txn_tree_map.proofs.Rising.{below_more}
-use Rattle.txn_tree_map.proofs.Trees.{cells_plug}
-use Rattle.txn_tree_map.proofs.Places.{at_step, at_room, at_name, at_root}
-use Rattle.txn_tree_map.proofs.Descents.{IsNode, NodeOrder, node_order, node_named, node_whole, child_shorter, leaf_named, leaf_short, step_down}
+use Rattle.txn_tree_map.proofs.Held.Rising.{below_more}
+use Rattle.txn_tree_map.proofs.Held.Trees.{cells_plug}
+use Rattle.txn_tree_map.proofs.Held.Places.{at_step, at_room, at_name, at_root}
+use Rattle.txn_tree_map.proofs.Searches.SearchSteps.{IsNode, NodeOrder, node_order, node_named, node_whole, child_shorter, leaf_named, leaf_short, step_down}
 
 module _ (map : TreeMap) (least : ℕ) (s : List ℕ) where
   pub near_none : (tree : Tree) → HangsAt map [] tree s → IsNear map least None map.root 0 s

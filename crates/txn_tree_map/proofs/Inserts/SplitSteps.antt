@@ -16,12 +16,13 @@ use Rattle.txn_tree_map.specs.Trees.Tree.{Leaf, Node}
 use Rattle.txn_tree_map.specs.Paths.{Step, plug, place_at_end, before_of, after_of, IsHung, IsHigh, IsBelow}
 use Rattle.txn_tree_map.specs.Changes.{Hangs, IsNameIn, IsWhole, IsParted, Splits}
 use Rattle.txn_alloc.proofs.Maps.Counting.{length_below}
-use Rattle.txn_tree_map.proofs.Rising.{rising_once, rising_first, rising_last, rising_below, rising_above}
-use Rattle.txn_tree_map.proofs.Trees.{count_in, count_on, times_cells, cells_plug, all_tree, hung_stays, hung_plug}
-use Rattle.txn_tree_map.proofs.Places.{high_plug, high_lower, high_whole}
-use Rattle.txn_tree_map.proofs.Descents.{IsNode, node_named, leaf_named, leaf_short, step_down, low_down, high_down}
-use Rattle.txn_tree_map.proofs.Searching.{laid_alike, name_below}
-use Rattle.txn_tree_map.proofs.Hanging.{times_around, place_mine, named_block, hole_within, same_in, same_root, hung_here, hung_step, keeps_set, keeps_none}
+use Rattle.txn_tree_map.proofs.Held.Rising.{rising_once, rising_first, rising_last, rising_below, rising_above}
+use Rattle.txn_tree_map.proofs.Held.Trees.{count_in, count_on, times_cells, cells_plug, all_tree, hung_stays, hung_plug}
+use Rattle.txn_tree_map.proofs.Held.Places.{high_plug, high_lower, high_whole}
+use Rattle.txn_tree_map.proofs.Searches.SearchSteps.{IsNode, node_named, leaf_named, leaf_short, step_down, low_down, high_down}
+use Rattle.txn_tree_map.proofs.Searches.SearchCalls.{laid_alike, name_below}
+use Rattle.txn_tree_map.proofs.Held.Hanging.{times_around, place_mine, named_block, hole_within, same_in, same_root, hung_here, hung_step, keeps_set}
+use Rattle.txn_tree_map.proofs.Held.Hanging.{keeps_none}
 
 -- a word of the list has some value
 pub some_word : (s : List ℕ) (a : ℕ) → a < length s → slice_get s a ≡ Some (get_or s a 0)

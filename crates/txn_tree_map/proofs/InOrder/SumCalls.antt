@@ -18,8 +18,8 @@ use Rattle.txn_tree_map.specs.Searches.{IsLink}
 use Rattle.txn_tree_map.specs.Sums.{IsAnyWord, IsFirstFrom, IsNext, HasNoneTo, IsSummed, IsTotal}
 use Rattle.txn_tree_map.specs.Walks.{IsWalk, HasCome}
 use Rattle.txn_alloc.proofs.Maps.Founds.{IsNearOr, looks_value}
-use Rattle.txn_tree_map.proofs.Links.{nearest_of, tree_uses, link_seen}
-use Rattle.txn_tree_map.proofs.Summing.{nearest_below, nearest_key, nearest_from, nearest_next, nearest_past, nearest_none, total_sum}
+use Rattle.txn_tree_map.proofs.Searches.Links.{nearest_of, tree_uses, link_seen}
+use Rattle.txn_tree_map.proofs.InOrder.SumSteps.{nearest_below, nearest_key, nearest_from, nearest_next, nearest_past, nearest_none, total_sum}
 
 module _ (map : TreeMap) (n : ℕ) (G : List ℕ → Type 0) (t u : Trace) where
   -- what a walk that has come to the first node from a key on says of it, and where it then stands

@@ -16,11 +16,11 @@ use Rattle.txn_tree_map.specs.Trees.{cells_of, IsRising, TreeHolds, tree_part}
 use Rattle.txn_tree_map.specs.Trees.Tree.{Node}
 use Rattle.txn_tree_map.specs.Paths.{before_of, after_of, HangsAt, IsBelow}
 use Rattle.txn_tree_map.specs.Searches.{IsFoundAt}
-use Rattle.txn_tree_map.proofs.Rising.{rising_cut, rising_put, rising_below, rising_above, value_there}
-use Rattle.txn_tree_map.proofs.Trees.{count_in, count_on, spelled_stays, hung_stays}
-use Rattle.txn_tree_map.proofs.Places.{at_once, at_below, at_value, at_used}
-use Rattle.txn_tree_map.proofs.Descents.{NodeOrder, node_order, around_node}
-use Rattle.txn_tree_map.proofs.Searching.{laid_alike}
+use Rattle.txn_tree_map.proofs.Held.Rising.{rising_cut, rising_put, rising_below, rising_above, value_there}
+use Rattle.txn_tree_map.proofs.Held.Trees.{count_in, count_on, spelled_stays, hung_stays}
+use Rattle.txn_tree_map.proofs.Held.Places.{at_once, at_below, at_value, at_used}
+use Rattle.txn_tree_map.proofs.Searches.SearchSteps.{NodeOrder, node_order, around_node}
+use Rattle.txn_tree_map.proofs.Searches.SearchCalls.{laid_alike}
 use Rattle.txn_tree_map.proofs.Maps.{holds_at}
 
 module _ (map : TreeMap) (key p b x : ℕ) (s : List ℕ) (h : IsFoundAt map key p b s) where

@@ -15,9 +15,9 @@ use Rattle.txn_tree_map.specs.Trees.{Tree, priority_of, name_of, rank_of, cells_
 use Rattle.txn_tree_map.specs.Trees.Tree.{Leaf, Node}
 use Rattle.txn_tree_map.specs.Paths.{Step, Path, whole_of, plug, place_at_end, before_of, after_of, IsHung, IsHigh, HangsAt}
 use Rattle.txn_alloc.proofs.Maps.Counting.{times_all, length_below}
-use Rattle.txn_tree_map.proofs.Rising.{rising_once}
-use Rattle.txn_tree_map.proofs.Trees.{count_in, count_on, times_cells, cells_step, cells_plug, count_plug, all_tree, all_before, all_after, spelled_whole}
-use Rattle.txn_tree_map.proofs.Trees.{name_whole, hung_plug, one_tree}
+use Rattle.txn_tree_map.proofs.Held.Rising.{rising_once}
+use Rattle.txn_tree_map.proofs.Held.Trees.{count_in, count_on, times_cells, cells_step, cells_plug, count_plug, all_tree, all_before, all_after, spelled_whole}
+use Rattle.txn_tree_map.proofs.Held.Trees.{name_whole, hung_plug, one_tree}
 
 pub priority_small : (key : ℕ) → priority_of key < 2 ^ 64
 unfolding priority_of

@@ -12,8 +12,8 @@ use Rattle.txn_tree_map.specs.Trees.{Tree, priority_of, name_of, rank_of, cells_
 use Rattle.txn_tree_map.specs.Trees.Tree.{Leaf, Node}
 use Rattle.txn_tree_map.specs.Paths.{Step, Path, whole_of, before_of, after_of, IsHigh, IsBelow, HangsAt}
 use Rattle.txn_tree_map.specs.Searches.{HasTop, IsNamed, IsPassed, IsFoundAt, IsMissing}
-use Rattle.txn_tree_map.proofs.Rising.{above_more, below_more, rising_below, rising_above, value_there, value_between}
-use Rattle.txn_tree_map.proofs.Places.{at_step, at_room, at_name, at_value}
+use Rattle.txn_tree_map.proofs.Held.Rising.{above_more, below_more, rising_below, rising_above, value_there, value_between}
+use Rattle.txn_tree_map.proofs.Held.Places.{at_step, at_room, at_name, at_value}
 
 -- a tree whose name is 0, or that has no cells, is a leaf
 pub leaf_named : (tree : Tree) → name_of tree ≡ 0 → tree ≡ Leaf

@@ -24,11 +24,11 @@ use Rattle.txn_tree_map.specs.Trees.{name_of, cells_of, tree_part}
 use Rattle.txn_tree_map.specs.Trees.Tree.{Node}
 use Rattle.txn_tree_map.specs.Searches.{IsLink, IsPlace, IsKeyOrName, IsFoundAt}
 use Rattle.txn_tree_map.specs.Joins.{ArePair, CanJoin, Joins, IsJoinOwn, CanCut, IsCut, Cuts, IsCutOwn, IsHoleOrWord, IsJoinSeen, IsCutSeen}
-use Rattle.txn_tree_map.proofs.Descents.{found_key}
-use Rattle.txn_tree_map.proofs.Links.{of_tree, found_place, word_seen, link_seen}
-use Rattle.txn_tree_map.proofs.Inserting.{is_one}
-use Rattle.txn_tree_map.proofs.Values.{found_used}
-use Rattle.txn_tree_map.proofs.Cuttings.{below_times, found_pair, cut_done, cut_free, cut_lacks, removed, removed_map, written_used}
+use Rattle.txn_tree_map.proofs.Searches.SearchSteps.{found_key}
+use Rattle.txn_tree_map.proofs.Searches.Links.{of_tree, found_place, word_seen, link_seen}
+use Rattle.txn_tree_map.proofs.Inserts.InsertCalls.{is_one}
+use Rattle.txn_tree_map.proofs.Inserts.Values.{found_used}
+use Rattle.txn_tree_map.proofs.Removals.CutSteps.{below_times, found_pair, cut_done, cut_free, cut_lacks, removed, removed_map, written_used}
 
 -- the two subtrees, by the names that were read
 named_pair : (map : TreeMap) (key place b left right : ℕ) (s : List ℕ) (h : IsFoundAt map key place b s)

@@ -6,9 +6,9 @@ use Rattle.txn_alloc.specs.EntryMaps.{Entries, Blocks}
 use Rattle.txn_alloc.proofs.Maps.Counting.{len_cells, len_blocks}
 use Rattle.txn_tree_map.specs.declared.map.TreeMap.{TreeMap}
 use Rattle.txn_tree_map.specs.Trees.{cells_of, TreeHolds}
-use Rattle.txn_tree_map.proofs.Rising.{rising_keys}
-use Rattle.txn_tree_map.proofs.Trees.{count_in, times_cells}
-use Rattle.txn_tree_map.proofs.Places.{at_tree, at_once}
+use Rattle.txn_tree_map.proofs.Held.Rising.{rising_keys}
+use Rattle.txn_tree_map.proofs.Held.Trees.{count_in, times_cells}
+use Rattle.txn_tree_map.proofs.Held.Places.{at_tree, at_once}
 
 pub as_many_blocks : (map : TreeMap) (s : List ℕ) (f : Entries) (u : Blocks) → TreeHolds map s f u → set.len u ≡ entry_map.len f
 as_many_blocks map s f u h =
