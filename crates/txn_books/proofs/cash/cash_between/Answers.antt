@@ -7,8 +7,8 @@ use Rattle.txn_tree_map.specs.Trees.{tree_part}
 use Rattle.txn_books.specs.Layout.{tree_of}
 use Rattle.txn_words.specs.Access.{Tells}
 use Rattle.txn_books.specs.Standing.{Stands}
-use Rattle.txn_books.proofs.Calls.{leads_less, looked_stands}
-use Rattle.txn_books.proofs.Accounts.{tree_there, between_small, tells_between}
+use Rattle.txn_books.proofs.OnBooks.Calls.{leads_less, looked_stands}
+use Rattle.txn_books.proofs.OnBooks.Accounts.{tree_there, between_small, tells_between}
 use Rattle.txn_books.proofs.cash.cash_between.Goals as goal
 
 pub sum_range-requires-clause-order : goal.sum_range-requires-clause-order

@@ -6,7 +6,7 @@ use Rattle.txn_words.specs.Verdicts.{is_kept, answer_of}
 use Rattle.txn_books.specs.Layout.{words_of}
 use Rattle.txn_books.specs.Standing.{IsGoodFor}
 use Rattle.txn_books.specs.Meaning.{ScriptOn, ScriptMeans}
-use Rattle.txn_books.proofs.Scripted.{refused_stands}
+use Rattle.txn_books.proofs.OnBooks.Scripted.{refused_stands}
 use Rattle.txn_books.proofs.on_plain.run_on_plain.Goals as goal
 
 pub run_on_plain-requires-clause-good : goal.run_on_plain-requires-clause-good

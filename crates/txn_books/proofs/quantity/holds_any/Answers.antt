@@ -5,7 +5,7 @@ use Rattle.history_model.proofs.Traces.TraceLaws.{begins_trans}
 use Rattle.books_model.specs.Interpreter.{holds_any}
 use Rattle.books_model.proofs.Comparing.{none_of}
 use Rattle.books_model.proofs.Sums.{holds_nothing, holds_one}
-use Rattle.txn_books.proofs.Looking.{saw_told, told_saw, saw_then, saw_stands}
+use Rattle.txn_books.proofs.OnBooks.Looking.{saw_told, told_saw, saw_then, saw_stands}
 use Rattle.txn_books.proofs.quantity.holds_any.Goals as goal
 
 pub quantity-requires-clause-stands : goal.quantity-requires-clause-stands

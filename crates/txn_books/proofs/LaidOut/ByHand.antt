@@ -35,10 +35,10 @@ use Rattle.txn_ring.specs.Queues.{QueueHolds, HasItem}
 use Rattle.txn_books.specs.declared.shape.BooksShape.{BooksShape}
 use Rattle.txn_books.specs.Layout.{arena_of, tree_of, chains_of, queue_of, price_key_of, position_key_of, chained}
 use Rattle.txn_books.specs.Standing.{IsGoodFor}
-use Rattle.txn_books.proofs.Keyed.{find_none}
-use Rattle.txn_books.proofs.Apart.{three_among}
-use Rattle.txn_books.proofs.ChainedChanges.{put_here}
-use Rattle.txn_books.proofs.Emptied.{no_entries, all_once}
+use Rattle.txn_books.proofs.OneState.Keyed.{find_none}
+use Rattle.txn_books.proofs.OneState.Apart.{three_among}
+use Rattle.txn_books.proofs.OneState.ChainedChanges.{put_here}
+use Rattle.txn_books.proofs.LaidOut.Emptied.{no_entries, all_once}
 
 abbrev pub hand_shape : BooksShape
 hand_shape = record { blocks = 4; instruments = 1; ring = 2 }

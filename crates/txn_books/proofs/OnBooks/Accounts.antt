@@ -22,10 +22,10 @@ use Rattle.txn_books.specs.Layout.{shape_of, tree_of}
 use Rattle.txn_books.specs.Standing.{Stands, IsGoodFor}
 use Rattle.txn_words.specs.Access.{OfModel, Tells, Changes, ChangesWithRoom}
 use Rattle.txn_books.specs.Inner.Rooms.{had_room}
-use Rattle.txn_books.proofs.ChainedChanges.{remove_absent}
-use Rattle.txn_books.proofs.Parts.{good_parts, some_tree, tree_free, tree_new, tree_old, tree_cut}
-use Rattle.txn_books.proofs.States.{tree_apart, has_room, no_room, is_below, is_at}
-use Rattle.txn_books.proofs.Calls.{IsPut, IsCut}
+use Rattle.txn_books.proofs.OneState.ChainedChanges.{remove_absent}
+use Rattle.txn_books.proofs.OneState.Parts.{good_parts, some_tree, tree_free, tree_new, tree_old, tree_cut}
+use Rattle.txn_books.proofs.OneState.States.{tree_apart, has_room, no_room, is_below, is_at}
+use Rattle.txn_books.proofs.OnBooks.Calls.{IsPut, IsCut}
 
 -- a value that is counted, or 0 in its place
 counted_most : (b : Bool) (v most : ℕ) → v ≤ most → (if b then v else 0) ≤ most

@@ -15,10 +15,10 @@ use Rattle.books_model.proofs.Keys.{is_lt-nat_cmp}
 use Rattle.txn_alloc.specs.EntryMaps.{Entries}
 use Rattle.txn_books.specs.Inner.Reading.{AddsUp, nothing_yet, with_accounts, with_prices, with_positions}
 use Rattle.txn_books.specs.Inner.Building.{above}
-use Rattle.txn_books.proofs.Chained.{price_in, position_in}
-use Rattle.txn_books.proofs.Filling.{NextAccount, account_next, NewPrice, new_price, NewPosition, new_position}
-use Rattle.txn_books.proofs.Stages.{accounts_range, prices_range, positions_range}
-use Rattle.txn_books.proofs.Walking.{above_next, above_end, walk_all, above_zero}
+use Rattle.txn_books.proofs.OneState.Chained.{price_in, position_in}
+use Rattle.txn_books.proofs.ReadOff.Filling.{NextAccount, account_next, NewPrice, new_price, NewPosition, new_position}
+use Rattle.txn_books.proofs.ReadOff.Stages.{accounts_range, prices_range, positions_range}
+use Rattle.txn_books.proofs.ReadOff.Walking.{above_next, above_end, walk_all, above_zero}
 
 -- the first entry above a number, and none
 pub number_next : (k : ℕ) (e : ℕ × ℕ) (m : Entries) → Some e ≡ find (λ d. nat_lt k d.0) (entry_map.entries m)

@@ -20,10 +20,10 @@ use Rattle.txn_books.specs.Standing.{Stands, IsGoodFor}
 use Rattle.txn_words.specs.Access.{ChangesWithRoom}
 use Rattle.txn_books.specs.Access.{lacks_price_room, lacks_position_room}
 use Rattle.txn_books.specs.Inner.Building.{IsBuilt}
-use Rattle.txn_books.proofs.Calls.{IsPut}
-use Rattle.txn_books.proofs.States.{tree_apart, no_room}
-use Rattle.txn_books.proofs.Whole.{one_books}
-use Rattle.txn_books.proofs.Accounts.{account_new}
+use Rattle.txn_books.proofs.OnBooks.Calls.{IsPut}
+use Rattle.txn_books.proofs.OneState.States.{tree_apart, no_room}
+use Rattle.txn_books.proofs.OneState.Whole.{one_books}
+use Rattle.txn_books.proofs.OnBooks.Accounts.{account_new}
 
 -- words that stand for books are good
 pub built_good : (shape : BooksShape) (words : List ℕ) (books : ClearingBooks) → IsBuilt shape words books → IsGood (words_of shape) (IsGoodFor shape) words

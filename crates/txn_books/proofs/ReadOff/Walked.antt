@@ -18,7 +18,7 @@ use Rattle.txn_hash_map.specs.declared.map.TheConstants.{BUCKETS}
 use Rattle.txn_hash_map.specs.Chains.{HasChain, HasKeysIn, bucket_of, ChainsHold}
 use Rattle.txn_hash_map.proofs.Cells.{bucket_below, key_own, chain_short}
 use Rattle.txn_books.specs.Inner.Reading.{AddsUp, entries_in}
-use Rattle.txn_books.proofs.Adding.{or_else, or_none, put_all, get_all, adds_cells, adds_append}
+use Rattle.txn_books.proofs.ReadOff.Adding.{or_else, or_none, put_all, get_all, adds_cells, adds_append}
 
 -- four words in a row
 pub four_words : (ws : List ℕ) (p j : ℕ) → p + 4 ≤ length ws → j ≤ 3

@@ -12,9 +12,9 @@ use Rattle.txn_books.specs.declared.shape.BooksShape.{BooksShape}
 use Rattle.txn_books.specs.Layout.{queue_of}
 use Rattle.txn_books.specs.Standing.{Stands, IsGoodFor}
 use Rattle.txn_words.specs.Access.{ChangesWithRoom, TellsAndChanges}
-use Rattle.txn_books.proofs.Changes.{queue_change}
-use Rattle.txn_books.proofs.States.{queue_held, is_below, is_at}
-use Rattle.txn_books.proofs.Calls.{IsPushed, IsPopped}
+use Rattle.txn_books.proofs.OneState.Changes.{queue_change}
+use Rattle.txn_books.proofs.OneState.States.{queue_held, is_below, is_at}
+use Rattle.txn_books.proofs.OnBooks.Calls.{IsPushed, IsPopped}
 
 module _ (shape : BooksShape) where
   pub queue_there : (x : List ℕ) → IsGoodFor shape x → IsInOrder (queue_of shape) x

@@ -32,8 +32,8 @@ use Rattle.txn_books.specs.Inner.Building.{IsBuilt, AreFree}
 use Rattle.txn_books.specs.Layout.{shape_of, arena_of, tree_of, chains_of, queue_of, chained}
 use Rattle.txn_books.specs.Standing.{times_among, HasParts}
 use Rattle.txn_alloc.specs.Laying.{IsAmong, IsWrittenByLaying}
-use Rattle.txn_books.proofs.Apart.{member_one, bucket_apart, ring_apart, block_apart, root_apart}
-use Rattle.txn_books.proofs.Changes.{at_once, tree_below, chain_below}
+use Rattle.txn_books.proofs.OneState.Apart.{member_one, bucket_apart, ring_apart, block_apart, root_apart}
+use Rattle.txn_books.proofs.OneState.Changes.{at_once, tree_below, chain_below}
 
 -- the list goes on at a name: the blocks that were gone through, and then those, are all
 pub record GoesThrough (arena : Arena) (words : List ℕ) (name : ℕ) (gone whole : List ℕ) : Type 0 where

@@ -23,9 +23,9 @@ use Rattle.txn_books.specs.Standing.{Stands}
 use Rattle.txn_books.specs.Statements.{IsInstrument}
 use Rattle.txn_books.specs.Inner.Reading.{AddsUp, is_price_key, prices_in, positions_in, AddsAccounts, AddsPrices, AddsPositions, AddsCalls, nothing_yet}
 use Rattle.txn_books.specs.Inner.Reading.{with_accounts, with_prices, with_positions}
-use Rattle.txn_books.proofs.ChainedChanges.{put_here, put_there}
-use Rattle.txn_books.proofs.Chained.{IsPlace, price_in, position_in, get_price, get_position}
-use Rattle.txn_books.proofs.Filling.{price_below, price_above}
+use Rattle.txn_books.proofs.OneState.ChainedChanges.{put_here, put_there}
+use Rattle.txn_books.proofs.OneState.Chained.{IsPlace, price_in, position_in, get_price, get_position}
+use Rattle.txn_books.proofs.ReadOff.Filling.{price_below, price_above}
 
 -- what stands at a key is nothing, or something
 found : (o : Option ℕ) → (o ≡ None) ⊎ ((x : ℕ) × (o ≡ Some x))

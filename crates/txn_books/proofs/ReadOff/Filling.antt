@@ -10,7 +10,7 @@ use Rattle.books_model.specs.Books.{ClearingBooks, used, put_cash, put_price, pu
 use Rattle.books_model.specs.Ranges.{AreInRange, IsWithin, IsAccountNumber, IsInstrumentOf}
 use Rattle.books_model.specs.Inner.Keys.{positions_total, exact_positions}
 use Rattle.txn_books.specs.Inner.Reading.{AddsUp, is_price_key, prices_in, positions_in, AddsAccounts, AddsPrices, AddsPositions}
-use Rattle.txn_books.proofs.Adding.{adds_first, adds_length}
+use Rattle.txn_books.proofs.ReadOff.Adding.{adds_first, adds_length}
 
 -- which keys are those of prices
 pub is_price : (key : ℕ) → key < MOST_INSTRUMENTS → is_price_key key ≡ true

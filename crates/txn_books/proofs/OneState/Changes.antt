@@ -24,7 +24,7 @@ use Rattle.txn_ring.specs.Queues as ring
 use Rattle.txn_ring.proofs.Items.{queue_stands}
 use Rattle.txn_books.specs.Layout.{shape_of, arena_of, tree_of, chains_of, queue_of, chained}
 use Rattle.txn_books.specs.Standing.{times_among, HasParts}
-use Rattle.txn_books.proofs.Apart.{other_out, two_among, three_among, bucket_apart, ring_apart, block_apart, head_apart, root_apart, not_own}
+use Rattle.txn_books.proofs.OneState.Apart.{other_out, two_among, three_among, bucket_apart, ring_apart, block_apart, head_apart, root_apart, not_own}
 
 -- the blocks of a part are the arena's
 pub tree_below : (words : List ℕ) (books : ClearingBooks) (in_hand : List ℕ) (parts : HasParts words books in_hand)

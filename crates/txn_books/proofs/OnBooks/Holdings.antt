@@ -22,11 +22,11 @@ use Rattle.txn_books.specs.Statements.{IsInstrument}
 use Rattle.txn_words.specs.Access.{OfModel, Tells, ChangesWithRoom}
 use Rattle.txn_books.specs.Access.{lacks_price_room, lacks_position_room}
 use Rattle.txn_books.specs.Inner.Rooms.{had_room}
-use Rattle.txn_books.proofs.Chained.{price_in, get_price, get_position}
-use Rattle.txn_books.proofs.ChainedChanges.{price_chained, position_chained, position_unchained, remove_absent}
-use Rattle.txn_books.proofs.Parts.{good_parts, some_chains, chains_free, chain_new, chain_old, chain_cut}
-use Rattle.txn_books.proofs.States.{chains_apart, has_room, no_room}
-use Rattle.txn_books.proofs.Calls.{IsPut, IsCut}
+use Rattle.txn_books.proofs.OneState.Chained.{price_in, get_price, get_position}
+use Rattle.txn_books.proofs.OneState.ChainedChanges.{price_chained, position_chained, position_unchained, remove_absent}
+use Rattle.txn_books.proofs.OneState.Parts.{good_parts, some_chains, chains_free, chain_new, chain_old, chain_cut}
+use Rattle.txn_books.proofs.OneState.States.{chains_apart, has_room, no_room}
+use Rattle.txn_books.proofs.OnBooks.Calls.{IsPut, IsCut}
 
 -- the answer of an insert, by whether the key was there and whether the books are full
 room_new : (there : Bool) (n blocks : ℕ) → n < blocks → true ≡ not (not there && (n == blocks))

@@ -15,9 +15,9 @@ use Rattle.txn_books.specs.declared.operations.Outcome.{Outcome}
 use Rattle.txn_books.specs.Standing.{Stands, IsGoodFor}
 use Rattle.txn_words.specs.Access.{OfModel, Tells, Changes, ChangesWithRoom, TellsAndChanges}
 use Rattle.txn_books.specs.Operating.{step_of_outcome, Steps}
-use Rattle.txn_books.proofs.Calls.{leads_less}
-use Rattle.txn_books.proofs.Looking.{IsSized, Saw, saw_first, saw_told, saw_then, told_saw}
-use Rattle.txn_books.proofs.Whole.{one_books}
+use Rattle.txn_books.proofs.OnBooks.Calls.{leads_less}
+use Rattle.txn_books.proofs.OnBooks.Looking.{IsSized, Saw, saw_first, saw_told, saw_then, told_saw}
+use Rattle.txn_books.proofs.OneState.Whole.{one_books}
 
 -- from state to state: whatever books the words stood for, they stand for some that R leads to
 pub record Turns (shape : BooksShape) (R : ClearingBooks → ClearingBooks → Type 0) (old new : List ℕ) : Type 0 where

@@ -20,8 +20,8 @@ use Rattle.txn_books.specs.Standing.{Stands}
 use Rattle.txn_words.specs.Access.{OfModel, ChangesWithRoom}
 use Rattle.txn_books.specs.Access.{lacks_position_room}
 use Rattle.txn_books.specs.Inner.Trading.{side_with, MayExchange, Exchanges, sold, exchanged}
-use Rattle.txn_books.proofs.Calls.{leads_less}
-use Rattle.txn_books.proofs.Turning.{Turns, Turned, known, look_turn, turn_then, turned_less, of_room}
+use Rattle.txn_books.proofs.OnBooks.Calls.{leads_less}
+use Rattle.txn_books.proofs.OnBooks.Turning.{Turns, Turned, known, look_turn, turn_then, turned_less, of_room}
 
 -- a side that was found has its account's cash and holding
 pub found_side : (books : ClearingBooks) (a i : ℕ) (side : Side) (found : Option ℕ)

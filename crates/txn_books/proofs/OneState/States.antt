@@ -14,8 +14,8 @@ use Rattle.txn_ring.specs.Queues.{QueueHolds}
 use Rattle.txn_books.specs.declared.shape.BooksShape.{BooksShape}
 use Rattle.txn_books.specs.Layout.{tree_of, chains_of, queue_of, chained}
 use Rattle.txn_books.specs.Standing.{HasParts, Stands}
-use Rattle.txn_books.proofs.Whole.{counted}
-use Rattle.txn_books.proofs.Parts.{tree_free, chains_free}
+use Rattle.txn_books.proofs.OneState.Whole.{counted}
+use Rattle.txn_books.proofs.OneState.Parts.{tree_free, chains_free}
 
 module _ (shape : BooksShape) (words : List ℕ) (books : ClearingBooks) (stand : Stands shape words books) where
   pub tree_apart : HoldsApart (tree_part (tree_of shape)) words books.accounts stand.parts.tree_used stand.parts.free

@@ -16,8 +16,8 @@ use Rattle.txn_hash_map.proofs.Lists as chains
 use Rattle.txn_books.specs.declared.shape.BooksShape.{BooksShape}
 use Rattle.txn_books.specs.Layout.{chained}
 use Rattle.txn_books.specs.Standing.{HasParts, IsGoodFor}
-use Rattle.txn_books.proofs.Emptied.{none_chained}
-use Rattle.txn_books.proofs.Apart.{member_one, out_none, three_among}
+use Rattle.txn_books.proofs.LaidOut.Emptied.{none_chained}
+use Rattle.txn_books.proofs.OneState.Apart.{member_one, out_none, three_among}
 
 abbrev pub small : BooksShape
 small = record { blocks = 2; instruments = 1; ring = 1 }

@@ -8,7 +8,7 @@ use Rattle.std.specs.FinMap.{nat_cmp-IsAntisymmetric}
 use Rattle.std.specs.FinMap as entry_map
 use Rattle.std.proofs.lemmas.Map.Lookups.{CmpEqualImpliesEq}
 use Rattle.books_model.proofs.Maps.{len_after_insert}
-use Rattle.txn_books.proofs.ChainedChanges.{put_here, put_there}
+use Rattle.txn_books.proofs.OneState.ChainedChanges.{put_here, put_there}
 use Rattle.txn_alloc.specs.EntryMaps.{Cell, Entries, value_of, HasKeysOnce}
 use Rattle.txn_alloc.proofs.Maps.Cells.{value_first, value_later, insert_same, insert_other}
 use Rattle.txn_books.specs.Inner.Reading.{AddsUp, entries_in}

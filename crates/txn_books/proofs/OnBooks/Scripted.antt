@@ -25,8 +25,8 @@ use Rattle.txn_books.specs.Standing.{Stands, IsGoodFor}
 use Rattle.txn_books.specs.Operating.{step_of_outcome, Steps}
 use Rattle.txn_books.specs.Meaning.{is_done, ScriptMeans}
 use Rattle.txn_books.specs.Inner.Scripts.{Runs}
-use Rattle.txn_books.proofs.Calls.{leads_less}
-use Rattle.txn_books.proofs.Turning.{Turns, Turned, turn_then, turned_less}
+use Rattle.txn_books.proofs.OnBooks.Calls.{leads_less}
+use Rattle.txn_books.proofs.OnBooks.Turning.{Turns, Turned, turn_then, turned_less}
 
 -- the values so far, and the run of the operations that are left on the books as they are now, are the whole run
 abbrev pub SoFar : List Op → List Value → ℕ → List Op → ClearingBooks → ClearingBooks → Type 0

@@ -17,7 +17,7 @@ use Rattle.books_model.specs.Inner.Keys.{positions_total, exact_positions}
 use Rattle.txn_alloc.specs.EntryMaps.{Entries}
 use Rattle.txn_books.specs.Layout.{price_key_of, position_key_of, chained}
 use Rattle.txn_books.specs.Statements.{IsInstrument}
-use Rattle.txn_books.proofs.Chained.{key_differs, price_differs, get_price, get_position}
+use Rattle.txn_books.proofs.OneState.Chained.{key_differs, price_differs, get_price, get_position}
 
 -- a map after a put or a removal, at that key and at others
 module _ {K : Type 0} {R : K → K → Ordering} (total : IsTotalOrder R) (exact : CmpEqualImpliesEq R) (m : entry_map.FinMap R ℕ) (k : K) where

@@ -22,8 +22,8 @@ use Rattle.txn_hash_map.specs.Chains.{ChainsHold, chain_part}
 use Rattle.txn_books.specs.declared.shape.BooksShape.{BooksShape}
 use Rattle.txn_books.specs.Layout.{shape_of, words_of, tree_of, chains_of, chained}
 use Rattle.txn_books.specs.Standing.{times_among, HasParts, IsGoodFor}
-use Rattle.txn_books.proofs.Apart.{member_one, out_none, two_among, out_other}
-use Rattle.txn_books.proofs.Changes.{at_once, tree_below, chain_below, tree_change, chain_change}
+use Rattle.txn_books.proofs.OneState.Apart.{member_one, out_none, two_among, out_other}
+use Rattle.txn_books.proofs.OneState.Changes.{at_once, tree_below, chain_below, tree_change, chain_change}
 
 module _ (words : List ℕ) (books : ClearingBooks) (in_hand : List ℕ) (parts : HasParts words books in_hand) where
   -- neither the tree nor the chains use a free block

@@ -19,7 +19,7 @@ use Rattle.txn_tree_map.specs.Paths.{IsBelow}
 use Rattle.txn_tree_map.proofs.Held.Rising.{rising_first, rising_last, rising_below, rising_above, above_other, below_other, above_more, value_there}
 use Rattle.txn_tree_map.proofs.Held.Places.{at_tree, at_room}
 use Rattle.txn_books.specs.Inner.Reading.{AddsUp, entries_in}
-use Rattle.txn_books.proofs.Adding.{or_else, or_none, adds_cells}
+use Rattle.txn_books.proofs.ReadOff.Adding.{or_else, or_none, adds_cells}
 
 -- the cells of a tree, each before those below it, and then others
 abbrev pub down : Tree → List Cell → List Cell

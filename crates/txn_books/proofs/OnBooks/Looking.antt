@@ -11,7 +11,7 @@ use Rattle.txn_books.specs.declared.shape.BooksShape.{BooksShape}
 use Rattle.txn_books.specs.Layout.{shape_of}
 use Rattle.txn_books.specs.Standing.{Stands, IsGoodFor}
 use Rattle.txn_words.specs.Access.{OfModel, Tells}
-use Rattle.txn_books.proofs.Calls.{leads_less}
+use Rattle.txn_books.proofs.OnBooks.Calls.{leads_less}
 
 -- books of the shape's sizes, in range
 abbrev pub IsSized : BooksShape → ClearingBooks → Type 0

@@ -15,8 +15,8 @@ use Rattle.books_model.proofs.Keys.{below_first, below_rest, sorted_first, sorte
 use Rattle.books_model.proofs.Entries.{All-entries}
 use Rattle.txn_books.specs.Inner.Reading.{AddsUp}
 use Rattle.txn_books.specs.Inner.Building.{above}
-use Rattle.txn_books.proofs.Adding.{or_else}
-use Rattle.txn_books.proofs.ChainedChanges.{put_here, put_there}
+use Rattle.txn_books.proofs.ReadOff.Adding.{or_else}
+use Rattle.txn_books.proofs.OneState.ChainedChanges.{put_here, put_there}
 
 module _ {K : Type 0} {R : K → K → Ordering} (o : IsTotalOrder R) where
   all_above : (k : K) (es : List (K × ℕ)) → T (below_all R k es) → above R k es ≡ es

@@ -28,9 +28,9 @@ use Rattle.txn_ring.proofs.Items.{one_queue}
 use Rattle.txn_books.specs.declared.shape.BooksShape.{BooksShape}
 use Rattle.txn_books.specs.Layout.{shape_of, arena_of, tree_of, chains_of, queue_of, price_key_of, position_key_of, chained}
 use Rattle.txn_books.specs.Standing.{times_among, HasParts, Stands}
-use Rattle.txn_books.proofs.Apart.{out_none, three_among}
-use Rattle.txn_books.proofs.Chained.{price_in, position_in, get_price, get_position, len_chained}
-use Rattle.txn_books.proofs.Changes.{tree_below, chain_below}
+use Rattle.txn_books.proofs.OneState.Apart.{out_none, three_among}
+use Rattle.txn_books.proofs.OneState.Chained.{price_in, position_in, get_price, get_position, len_chained}
+use Rattle.txn_books.proofs.OneState.Changes.{tree_below, chain_below}
 
 -- books of the same parts are one
 same_books : (b c : ClearingBooks) → shape_of b ≡ shape_of c → b.accounts ≡ c.accounts → b.positions ≡ c.positions

@@ -17,7 +17,7 @@ use Rattle.books_model.specs.Inner.Keys.{positions_total, exact_positions}
 use Rattle.books_model.proofs.Entries.{All-entries}
 use Rattle.txn_books.specs.Layout.{price_key_of, position_key_of, chained}
 use Rattle.txn_books.specs.Statements.{IsInstrument}
-use Rattle.txn_books.proofs.Keyed.{less_than, AreBelow, AreFrom, find_none, find_past, find_front, sorted_append, all_keyed, sorted_keyed, find_keyed}
+use Rattle.txn_books.proofs.OneState.Keyed.{less_than, AreBelow, AreFrom, find_none, find_past, find_front, sorted_append, all_keyed, sorted_keyed, find_keyed}
 
 -- an account's number and an instrument's
 abbrev pub IsPlace : ℕ × ℕ → Type 0
