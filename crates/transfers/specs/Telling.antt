@@ -30,7 +30,8 @@ pub record HasMade (base : List ℕ) (old new : Teller) (pass : PassView) : Type
   pub served : IsServed base pass.view.seen (number pass.view) old.moves.items new.told.items
 
 -- each list was served, by the teller of its place
-pub record AreServed (base : List ℕ) (history : List Entry) (lists : List (List Move)) (tellers : List Teller) : Type 0 where
+pub record AreServed (base : List ℕ) (history : List Entry) (lists : List (List Move))
+    (tellers : List Teller) : Type 0 where
   pub count : length tellers ≡ length lists
   pub each : (k : ℕ) (moves : List Move) (teller : Teller) → k < length lists
       → IsServed base history k (get_or lists k moves) (get_or tellers k teller).told.items

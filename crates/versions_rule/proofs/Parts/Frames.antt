@@ -25,7 +25,7 @@ use Rattle.values_rule.specs.Values.{value_at, oldest, UndoRestores, TraceCurren
 use Rattle.versions_rule.specs.History.{last_call, items_of, next_version, now_of}
 use Rattle.versions_rule.specs.Records.{IsRecorded, Knew, RecordsClosed, CallsCounted}
 use Rattle.versions_rule.specs.Versions.{ItemsArranged}
-use Rattle.versions_rule.proofs.Newest.{newest_same}
+use Rattle.versions_rule.proofs.Told.Newest.{newest_same}
 
 -- the same entries are recorded, and each view has seen no less of its own
 pub records_move : (n : ℕ) (vs vs' : List View) → RecordsClosed n vs

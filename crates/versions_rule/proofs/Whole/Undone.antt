@@ -16,8 +16,8 @@ use Rattle.values_rule.specs.Values.{value_at, oldest}
 use Rattle.values_rule.proofs.Notes.{option_cases}
 use Rattle.versions_rule.specs.Closing.{UndoingRestores}
 use Rattle.versions_rule.specs.History.{items_of, next_version, now_of}
-use Rattle.versions_rule.proofs.Legality.{now_is}
-use Rattle.versions_rule.proofs.Newest.{length-newest}
+use Rattle.versions_rule.proofs.Whole.Legality.{now_is}
+use Rattle.versions_rule.proofs.Told.Newest.{length-newest}
 
 length-written_back : (notes : Notes) (s : List ℕ) → length (written_back notes s) ≡ length s
 unfolding written_back

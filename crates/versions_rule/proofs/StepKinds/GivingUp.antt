@@ -17,10 +17,10 @@ use Rattle.versions_rule.specs.History.{owed_by, next_version, now_of}
 use Rattle.versions_rule.specs.Keeping.{GivesUp, SameWords, GivingUpKeeps}
 use Rattle.versions_rule.specs.Records.{AreCauses}
 use Rattle.versions_rule.specs.Versions.{ValuesHold}
-use Rattle.versions_rule.proofs.Asides.{is_kept, entries_stay, giving_up_drops}
-use Rattle.versions_rule.proofs.Excludes.{attempt_open, open_begun, not_released}
-use Rattle.versions_rule.proofs.Frames.{records_same, calls_same, items_kept, now_kept}
-use Rattle.versions_rule.proofs.Owing.{owed_same}
+use Rattle.versions_rule.proofs.Parts.Asides.{is_kept, entries_stay, giving_up_drops}
+use Rattle.versions_rule.proofs.Told.Excludes.{attempt_open, open_begun, not_released}
+use Rattle.versions_rule.proofs.Parts.Frames.{records_same, calls_same, items_kept, now_kept}
+use Rattle.versions_rule.proofs.Told.Owing.{owed_same}
 
 module _ (good : List ℕ → Type 0) (n : ℕ) (base ws ws' : List ℕ) (vs : List View) (id j : ℕ) (v w : View)
     (h : LocksHold n base ws vs) (q : ValuesHold good n base ws vs) (me : Knows vs id v) (single : v.who ≡ j ∷ []) (opened : is_open v.phase ≡ true)

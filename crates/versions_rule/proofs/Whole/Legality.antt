@@ -23,10 +23,10 @@ use Rattle.versions_rule.specs.Closing.{IsPlaced}
 use Rattle.versions_rule.specs.History.{item_of_entry, items_of, next_version, now_of}
 use Rattle.versions_rule.specs.Records.{IsRecorded}
 use Rattle.versions_rule.specs.Versions.{ValuesHold}
-use Rattle.versions_rule.proofs.Excludes.{open_begun}
-use Rattle.versions_rule.proofs.ItemsIn.{IsAttemptOf, OfEntry, OfOpen, items_from}
-use Rattle.versions_rule.proofs.Knowing.{last_least, knew_at}
-use Rattle.versions_rule.proofs.Newest.{newest_is}
+use Rattle.versions_rule.proofs.Told.Excludes.{open_begun}
+use Rattle.versions_rule.proofs.Told.ItemsIn.{IsAttemptOf, OfEntry, OfOpen, items_from}
+use Rattle.versions_rule.proofs.Told.Knowing.{last_least, knew_at}
+use Rattle.versions_rule.proofs.Told.Newest.{newest_is}
 
 module _ (good : List ℕ → Type 0) (n : ℕ) (base ws : List ℕ) (vs : List View) (h : LocksHold n base ws vs) (q : ValuesHold good n base ws vs) where
   -- the seat of a view in an open call

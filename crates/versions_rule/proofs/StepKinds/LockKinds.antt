@@ -23,11 +23,11 @@ use Rattle.values_rule.specs.Steps.{clear_stamp_action}
 use Rattle.versions_rule.specs.Keeping.{KeepsValueRule, SameValues, SameWords}
 use Rattle.versions_rule.specs.Steps.{MayReleaseUnowed, MayClearStamp}
 use Rattle.versions_rule.specs.Versions.{ValuesHold}
-use Rattle.versions_rule.proofs.Excludes.{attempt_open}
-use Rattle.versions_rule.proofs.GivingUp.{giving_up_values}
-use Rattle.versions_rule.proofs.Owing.{version_kept}
-use Rattle.versions_rule.proofs.Quiet.{quiet_values}
-use Rattle.versions_rule.proofs.Same.{aside_values}
+use Rattle.versions_rule.proofs.Told.Excludes.{attempt_open}
+use Rattle.versions_rule.proofs.StepKinds.GivingUp.{giving_up_values}
+use Rattle.versions_rule.proofs.Told.Owing.{version_kept}
+use Rattle.versions_rule.proofs.StepKinds.Quiet.{quiet_values}
+use Rattle.versions_rule.proofs.StepKinds.Same.{aside_values}
 
 -- a store to a word between those of CALLS and those of COMMITS
 words_stay : (n : ℕ) (ws : List ℕ) (i x : ℕ) → stamps_word n 0 ≤ i → i < commits_word n 0 → SameWords n ws (slice_set ws i x)

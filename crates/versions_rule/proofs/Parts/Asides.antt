@@ -15,9 +15,9 @@ use Rattle.history_model.proofs.Views.Places.{same_view, put_here, put_there, pu
 use Rattle.locks_rule.specs.Locks.{LocksHold}
 use Rattle.versions_rule.specs.History.{knew_of, items_of}
 use Rattle.versions_rule.specs.Versions.{ValuesHold}
-use Rattle.versions_rule.proofs.Frames.{recorded_to, recorded_from}
-use Rattle.versions_rule.proofs.ItemsIn.{IsAttemptOf, OfEntry, OfOpen, items_from, items_into}
-use Rattle.versions_rule.proofs.Seeing.{is_j, only_me, earlier}
+use Rattle.versions_rule.proofs.Parts.Frames.{recorded_to, recorded_from}
+use Rattle.versions_rule.proofs.Told.ItemsIn.{IsAttemptOf, OfEntry, OfOpen, items_from, items_into}
+use Rattle.versions_rule.proofs.Told.Seeing.{is_j, only_me, earlier}
 
 -- an attempt of the view's own call
 abbrev pub OwnAttempt : View → Item → Type 0

@@ -29,13 +29,13 @@ use Rattle.versions_rule.specs.Keeping.{GivingWayKeeps}
 use Rattle.versions_rule.specs.Records.{AreCauses}
 use Rattle.versions_rule.specs.Steps.{attempt_of, after_giving_way}
 use Rattle.versions_rule.specs.Versions.{ValuesHold}
-use Rattle.versions_rule.proofs.Excludes.{open_begun, not_released}
-use Rattle.versions_rule.proofs.Frames.{records_same, calls_same, memory_same, recorded_to, recorded_from}
-use Rattle.versions_rule.proofs.ItemsIn.{IsAttemptOf, OfEntry, OfOpen, items_from, items_into, in_parts}
-use Rattle.versions_rule.proofs.Newest.{newest_moved}
-use Rattle.versions_rule.proofs.Owing.{owed_same}
-use Rattle.versions_rule.proofs.Seeing.{is_j, legal_on_values, comes_last}
-use Rattle.versions_rule.proofs.Uses.{use_found, item_formed}
+use Rattle.versions_rule.proofs.Told.Excludes.{open_begun, not_released}
+use Rattle.versions_rule.proofs.Parts.Frames.{records_same, calls_same, memory_same, recorded_to, recorded_from}
+use Rattle.versions_rule.proofs.Told.ItemsIn.{IsAttemptOf, OfEntry, OfOpen, items_from, items_into, in_parts}
+use Rattle.versions_rule.proofs.Told.Newest.{newest_moved}
+use Rattle.versions_rule.proofs.Told.Owing.{owed_same}
+use Rattle.versions_rule.proofs.Told.Seeing.{is_j, legal_on_values, comes_last}
+use Rattle.versions_rule.proofs.Told.Uses.{use_found, item_formed}
 
 module _ (good : List ℕ → Type 0) (n : ℕ) (base ws : List ℕ) (vs : List View) (id j : ℕ) (v : View) (cause : Cause) (met : List ℕ)
     (h : LocksHold n base ws vs) (q : ValuesHold good n base ws vs) (me : Knows vs id v) (single : v.who ≡ j ∷ []) (runs : v.phase ≡ Running)

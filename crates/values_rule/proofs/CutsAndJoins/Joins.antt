@@ -23,7 +23,7 @@ use Rattle.values_rule.specs.Keeping.{KeepsValueRuleJoin}
 use Rattle.values_rule.specs.Values.{ValuesHold}
 use Rattle.values_rule.proofs.Counting.{saw_all, history_is, no_more, open_count-set}
 use Rattle.values_rule.proofs.Members.{none_in, in_two}
-use Rattle.values_rule.proofs.Rearranging.{IsResting, Rearranges, rearranged}
+use Rattle.values_rule.proofs.CutsAndJoins.Rearranging.{IsResting, Rearranges, rearranged}
 
 -- the longer of two lists is one of them, and as long as each
 longer_cases : (xs ys : List Entry) (P : List Entry → Type 0) → P xs → P ys → P (longer xs ys)

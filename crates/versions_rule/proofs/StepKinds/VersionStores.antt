@@ -23,10 +23,10 @@ use Rattle.versions_rule.specs.History.{version_at, items_of, owed_by, next_vers
 use Rattle.versions_rule.specs.Keeping.{KeepsValueRule}
 use Rattle.versions_rule.specs.Steps.{MayStoreVersion, store_version_action}
 use Rattle.versions_rule.specs.Versions.{ValuesHold}
-use Rattle.versions_rule.proofs.Asides.{aside_drops}
-use Rattle.versions_rule.proofs.Frames.{records_same, calls_same, memory_same, items_kept, now_kept}
-use Rattle.versions_rule.proofs.Owing.{owed_same, owed_into, not_owed, version_is, version_apart}
-use Rattle.versions_rule.proofs.Seeing.{mine}
+use Rattle.versions_rule.proofs.Parts.Asides.{aside_drops}
+use Rattle.versions_rule.proofs.Parts.Frames.{records_same, calls_same, memory_same, items_kept, now_kept}
+use Rattle.versions_rule.proofs.Told.Owing.{owed_same, owed_into, not_owed, version_is, version_apart}
+use Rattle.versions_rule.proofs.Told.Seeing.{mine}
 
 module _ (good : List ℕ → Type 0) (n : ℕ) (base ws : List ℕ) (vs : List View) (id j k x : ℕ) (v : View)
     (h : LocksHold n base ws vs) (q : ValuesHold good n base ws vs) (me : Knows vs id v) (may : MayStoreVersion j k x v) where

@@ -23,7 +23,7 @@ use Rattle.values_rule.specs.Keeping.{KeepsValueRuleSplit}
 use Rattle.values_rule.specs.Values.{ValuesHold}
 use Rattle.values_rule.proofs.Counting.{saw_all, history_is, open_count-set}
 use Rattle.values_rule.proofs.Members.{none_in}
-use Rattle.values_rule.proofs.Rearranging.{IsResting, Rearranges, rearranged}
+use Rattle.values_rule.proofs.CutsAndJoins.Rearranging.{IsResting, Rearranges, rearranged}
 
 open_count-added : (vs : List View) (w : View) → open_count (vs ++ w ∷ []) ≡ open_count vs + flag (is_open w.phase)
 unfolding open_count

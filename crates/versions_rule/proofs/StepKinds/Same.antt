@@ -20,9 +20,9 @@ use Rattle.versions_rule.specs.History.{knew_of, item_of_attempt, now_of}
 use Rattle.versions_rule.specs.Keeping.{SameValues, SameWords, AsideKeeps}
 use Rattle.versions_rule.specs.Records.{AreCauses}
 use Rattle.versions_rule.specs.Versions.{ValuesHold}
-use Rattle.versions_rule.proofs.Asides.{OwnAttempt}
-use Rattle.versions_rule.proofs.Frames.{calls_same}
-use Rattle.versions_rule.proofs.Moves.{moves}
+use Rattle.versions_rule.proofs.Parts.Asides.{OwnAttempt}
+use Rattle.versions_rule.proofs.Parts.Frames.{calls_same}
+use Rattle.versions_rule.proofs.Parts.Moves.{moves}
 
 -- the same attempts of the same call
 pub same_attempt : (v w : View) → w.who ≡ v.who → w.seats ≡ v.seats → w.seen ≡ v.seen

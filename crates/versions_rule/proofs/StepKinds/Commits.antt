@@ -38,13 +38,13 @@ use Rattle.versions_rule.specs.Keeping.{KeepsValueRule}
 use Rattle.versions_rule.specs.Records.{IsRecorded, Knew, KnewSoMany, AreCauses, RecordsClosed, CallsCounted, FloorAndAbandoned}
 use Rattle.versions_rule.specs.Steps.{MayCommitCall, entry_of, locks_of, after_commit, commit_call_action}
 use Rattle.versions_rule.specs.Versions.{ItemsArranged, OwedHeld, UsesCurrent, ValuesHold}
-use Rattle.versions_rule.proofs.Excludes.{attempt_open, open_begun, not_released}
-use Rattle.versions_rule.proofs.ItemsIn.{IsAttemptOf, OfEntry, OfOpen, items_from, items_into, in_parts}
-use Rattle.versions_rule.proofs.Knowing.{last_least, last_is, last_more, knew_at, knew_past}
-use Rattle.versions_rule.proofs.Newest.{newest_moved, length-newest}
-use Rattle.versions_rule.proofs.Owing.{Owes, owed_into, owed_same, version_kept}
-use Rattle.versions_rule.proofs.Seeing.{mine, is_j, alone, not_j, earlier, called, last_less, knew_less, nobody_owes, legal_on_values, comes_last}
-use Rattle.versions_rule.proofs.Uses.{lock_written, written_lock, use_found, found_use, item_formed, noted_lock, lock_noted}
+use Rattle.versions_rule.proofs.Told.Excludes.{attempt_open, open_begun, not_released}
+use Rattle.versions_rule.proofs.Told.ItemsIn.{IsAttemptOf, OfEntry, OfOpen, items_from, items_into, in_parts}
+use Rattle.versions_rule.proofs.Told.Knowing.{last_least, last_is, last_more, knew_at, knew_past}
+use Rattle.versions_rule.proofs.Told.Newest.{newest_moved, length-newest}
+use Rattle.versions_rule.proofs.Told.Owing.{Owes, owed_into, owed_same, version_kept}
+use Rattle.versions_rule.proofs.Told.Seeing.{mine, is_j, alone, not_j, earlier, called, last_less, knew_less, nobody_owes, legal_on_values, comes_last}
+use Rattle.versions_rule.proofs.Told.Uses.{lock_written, written_lock, use_found, found_use, item_formed, noted_lock, lock_noted}
 
 module _ (good : List ℕ → Type 0) (n : ℕ) (base ws : List ℕ) (vs : List View) (id j : ℕ) (kept : Bool) (v : View)
     (h : LocksHold n base ws vs) (q : ValuesHold good n base ws vs) (me : Knows vs id v) (may : MayCommitCall good j kept v) where

@@ -23,9 +23,9 @@ use Rattle.versions_rule.specs.History.{last_call, items_of, version_at, owed_by
 use Rattle.versions_rule.specs.Opening.{IsUntouched, OpeningHolds}
 use Rattle.versions_rule.specs.Records.{IsRecorded}
 use Rattle.versions_rule.specs.Versions.{ValuesHold}
-use Rattle.versions_rule.proofs.ItemsIn.{OfEntry, OfOpen, items_from}
-use Rattle.versions_rule.proofs.Newest.{newest-at}
-use Rattle.versions_rule.proofs.Owing.{not_owed}
+use Rattle.versions_rule.proofs.Told.ItemsIn.{OfEntry, OfOpen, items_from}
+use Rattle.versions_rule.proofs.Told.Newest.{newest-at}
+use Rattle.versions_rule.proofs.Told.Owing.{not_owed}
 
 last-nil : (j : ℕ) → last_call j [] ≡ 0
 unfolding last_call

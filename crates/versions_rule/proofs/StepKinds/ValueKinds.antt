@@ -27,16 +27,16 @@ use Rattle.values_rule.specs.Steps.{load_value_action, store_value_action, known
 use Rattle.values_rule.specs.Values.{value_at, oldest}
 use Rattle.values_rule.proofs.Notes.{option_cases, is_missing, oldest_more, oldest_first, oldest_one, oldest_other, oldest_apart, older_is}
 use Rattle.values_rule.proofs.Frames.{shut_out}
-use Rattle.values_rule.proofs.ValueKinds.{in_base, set_here, set_there}
+use Rattle.values_rule.proofs.StepKinds.ValueKinds.{in_base, set_here, set_there}
 use Rattle.versions_rule.specs.Keeping.{KeepsValueRule}
 use Rattle.versions_rule.specs.Steps.{MayLoadValue, MayStoreValue, MayUndoStore}
 use Rattle.versions_rule.specs.Versions.{ValuesHold}
 use Rattle.versions_rule.specs.History.{now_of}
-use Rattle.versions_rule.proofs.Owing.{version_kept}
-use Rattle.versions_rule.proofs.Frames.{calls_same}
-use Rattle.versions_rule.proofs.Current.{current}
-use Rattle.versions_rule.proofs.Excludes.{open_begun, not_released}
-use Rattle.versions_rule.proofs.Moves.{moves}
+use Rattle.versions_rule.proofs.Told.Owing.{version_kept}
+use Rattle.versions_rule.proofs.Parts.Frames.{calls_same}
+use Rattle.versions_rule.proofs.Told.Current.{current}
+use Rattle.versions_rule.proofs.Told.Excludes.{open_begun, not_released}
+use Rattle.versions_rule.proofs.Parts.Moves.{moves}
 
 -- a word under the own exclusive lock that this seat has not noted, nobody has
 nobody_noted : (good : List ℕ → Type 0) (n : ℕ) (base ws : List ℕ) (vs : List View) (id j : ℕ) (v : View)

@@ -22,12 +22,12 @@ use Rattle.versions_rule.specs.History.{items_of, owed_by, next_version, now_of}
 use Rattle.versions_rule.specs.Keeping.{KeepsValueRule}
 use Rattle.versions_rule.specs.Steps.{MayLoadVersion, load_version_action}
 use Rattle.versions_rule.specs.Versions.{ValuesHold}
-use Rattle.versions_rule.proofs.Asides.{aside_drops}
-use Rattle.versions_rule.proofs.Excludes.{not_released, granted_near}
-use Rattle.versions_rule.proofs.Frames.{records_same, calls_same, memory_same, items_kept, now_kept}
-use Rattle.versions_rule.proofs.ItemsIn.{in_parts}
-use Rattle.versions_rule.proofs.Owing.{owed_same, version_is}
-use Rattle.versions_rule.proofs.Seeing.{mine, nobody_owes}
+use Rattle.versions_rule.proofs.Parts.Asides.{aside_drops}
+use Rattle.versions_rule.proofs.Told.Excludes.{not_released, granted_near}
+use Rattle.versions_rule.proofs.Parts.Frames.{records_same, calls_same, memory_same, items_kept, now_kept}
+use Rattle.versions_rule.proofs.Told.ItemsIn.{in_parts}
+use Rattle.versions_rule.proofs.Told.Owing.{owed_same, version_is}
+use Rattle.versions_rule.proofs.Told.Seeing.{mine, nobody_owes}
 
 module _ (good : List ℕ → Type 0) (n : ℕ) (base ws : List ℕ) (vs : List View) (id j k : ℕ) (v : View)
     (h : LocksHold n base ws vs) (q : ValuesHold good n base ws vs) (me : Knows vs id v) (may : MayLoadVersion j k v) where

@@ -18,10 +18,10 @@ use Rattle.versions_rule.specs.History.{now_of}
 use Rattle.versions_rule.specs.Keeping.{IsQuiet, SameWords, QuietKeeps, RestartKeeps}
 use Rattle.versions_rule.specs.Records.{AreCauses}
 use Rattle.versions_rule.specs.Versions.{ValuesHold}
-use Rattle.versions_rule.proofs.Excludes.{open_begun, not_released}
-use Rattle.versions_rule.proofs.Frames.{calls_same}
-use Rattle.versions_rule.proofs.Moves.{moves}
-use Rattle.versions_rule.proofs.Same.{same_attempt}
+use Rattle.versions_rule.proofs.Told.Excludes.{open_begun, not_released}
+use Rattle.versions_rule.proofs.Parts.Frames.{calls_same}
+use Rattle.versions_rule.proofs.Parts.Moves.{moves}
+use Rattle.versions_rule.proofs.StepKinds.Same.{same_attempt}
 
 module _ (good : List ℕ → Type 0) (n : ℕ) (base ws ws' : List ℕ) (vs : List View) (id : ℕ) (v w : View)
     (h : LocksHold n base ws vs) (q : ValuesHold good n base ws vs) (me : Knows vs id v) (s : IsQuiet v w) (words : SameWords n ws ws') where

@@ -12,7 +12,7 @@ use Rattle.values_rule.proofs.Members.{in_join, none_in, in_first, in_second}
 use Rattle.versions_rule.specs.History.{last_call}
 use Rattle.versions_rule.specs.Joins.{has_entry, lacking, gains}
 use Rattle.versions_rule.specs.Records.{IsApart}
-use Rattle.versions_rule.proofs.ItemsIn.{in_parts}
+use Rattle.versions_rule.proofs.Told.ItemsIn.{in_parts}
 
 pub entry_there : (who call : ℕ) (es : List Entry) → has_entry who call es ≡ true → (x : Entry) × IsIn x es × (x.who ≡ who) × (x.call ≡ call)
 unfolding has_entry

@@ -19,7 +19,7 @@ use Rattle.values_rule.proofs.Notes.{option_cases, is_missing}
 use Rattle.values_rule.proofs.Frames.{shut_out, attempt_runs}
 use Rattle.versions_rule.specs.Versions.{ValuesHold}
 use Rattle.versions_rule.specs.History.{items_of, next_version, now_of}
-use Rattle.versions_rule.proofs.Newest.{length-newest}
+use Rattle.versions_rule.proofs.Told.Newest.{length-newest}
 
 module _ (good : List ℕ → Type 0) (n : ℕ) (base ws : List ℕ) (vs : List View) (id j : ℕ) (v : View) (h : LocksHold n base ws vs)
     (q : ValuesHold good n base ws vs) (me : Knows vs id v)

@@ -26,10 +26,10 @@ use Rattle.versions_rule.specs.Joins.{lacking, gains, after_note, after_joining}
 use Rattle.versions_rule.specs.Keeping.{KeepsValueRuleJoin}
 use Rattle.versions_rule.specs.Records.{IsRecorded, RecordsClosed, CallsCounted}
 use Rattle.versions_rule.specs.Versions.{ValuesHold}
-use Rattle.versions_rule.proofs.Frames.{records_move, items_kept, now_kept}
-use Rattle.versions_rule.proofs.Gains.{gains_cases, gains_first, gains_second, gains_apart, last_append, in_lacking, there_entry}
-use Rattle.versions_rule.proofs.ItemsIn.{OfEntry, OfOpen, items_from, items_into}
-use Rattle.versions_rule.proofs.Owing.{owed_same}
+use Rattle.versions_rule.proofs.Parts.Frames.{records_move, items_kept, now_kept}
+use Rattle.versions_rule.proofs.CutsAndJoins.Gains.{gains_cases, gains_first, gains_second, gains_apart, last_append, in_lacking, there_entry}
+use Rattle.versions_rule.proofs.Told.ItemsIn.{OfEntry, OfOpen, items_from, items_into}
+use Rattle.versions_rule.proofs.Told.Owing.{owed_same}
 
 -- a view that took in another
 pub record IsUnion (v w y : View) : Type 0 where

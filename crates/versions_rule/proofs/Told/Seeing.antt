@@ -25,12 +25,12 @@ use Rattle.values_rule.proofs.Frames.{shut_out}
 use Rattle.versions_rule.specs.History.{last_call, knew_of, uses_of, items_of, owed_by, next_version, now_of, writes_lock}
 use Rattle.versions_rule.specs.Records.{IsRecorded}
 use Rattle.versions_rule.specs.Versions.{ValuesHold}
-use Rattle.versions_rule.proofs.Excludes.{attempt_open, open_begun, not_released}
-use Rattle.versions_rule.proofs.ItemsIn.{IsAttemptOf, OfEntry, OfOpen, items_from}
-use Rattle.versions_rule.proofs.Knowing.{last_is, knew_at, knew_past}
-use Rattle.versions_rule.proofs.Newest.{newest-at, length-newest}
-use Rattle.versions_rule.proofs.Owing.{not_owed}
-use Rattle.versions_rule.proofs.Uses.{use_found, found_use}
+use Rattle.versions_rule.proofs.Told.Excludes.{attempt_open, open_begun, not_released}
+use Rattle.versions_rule.proofs.Told.ItemsIn.{IsAttemptOf, OfEntry, OfOpen, items_from}
+use Rattle.versions_rule.proofs.Told.Knowing.{last_is, knew_at, knew_past}
+use Rattle.versions_rule.proofs.Told.Newest.{newest-at, length-newest}
+use Rattle.versions_rule.proofs.Told.Owing.{not_owed}
+use Rattle.versions_rule.proofs.Told.Uses.{use_found, found_use}
 
 module _ (good : List ℕ → Type 0) (n : ℕ) (base ws : List ℕ) (vs : List View) (id j : ℕ) (v : View)
     (h : LocksHold n base ws vs) (q : ValuesHold good n base ws vs) (me : Knows vs id v) (single : v.who ≡ j ∷ []) where

@@ -24,9 +24,9 @@ use Rattle.values_rule.proofs.Frames.{UndoMoves, TraceMoves, attempt_runs, shut_
 use Rattle.versions_rule.specs.History.{version_at, items_of, owed_by, next_version, now_of}
 use Rattle.versions_rule.specs.Records.{AreCauses, CallsCounted}
 use Rattle.versions_rule.specs.Versions.{ValuesHold}
-use Rattle.versions_rule.proofs.Asides.{OwnAttempt, aside_drops}
-use Rattle.versions_rule.proofs.Frames.{records_same, items_kept, now_kept}
-use Rattle.versions_rule.proofs.Owing.{owed_same}
+use Rattle.versions_rule.proofs.Parts.Asides.{OwnAttempt, aside_drops}
+use Rattle.versions_rule.proofs.Parts.Frames.{records_same, items_kept, now_kept}
+use Rattle.versions_rule.proofs.Told.Owing.{owed_same}
 
 -- uses and what is owed, where these are the versions
 pub record UsesMove (ws : List ℕ) (version : ℕ → ℕ) (v w : View) : Type 0 where

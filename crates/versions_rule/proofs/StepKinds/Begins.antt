@@ -20,9 +20,9 @@ use Rattle.versions_rule.specs.History.{last_call, now_of}
 use Rattle.versions_rule.specs.Keeping.{KeepsValueRule}
 use Rattle.versions_rule.specs.Records.{CallsCounted}
 use Rattle.versions_rule.specs.Steps.{MayBeginCall, begin_call_action}
-use Rattle.versions_rule.proofs.Frames.{recorded_to}
-use Rattle.versions_rule.proofs.Moves.{moves}
-use Rattle.versions_rule.proofs.Owing.{version_kept}
+use Rattle.versions_rule.proofs.Parts.Frames.{recorded_to}
+use Rattle.versions_rule.proofs.Parts.Moves.{moves}
+use Rattle.versions_rule.proofs.Told.Owing.{version_kept}
 
 pub begin_call_values : (good : List ℕ → Type 0) (j : ℕ) → KeepsValueRule good (MayBeginCall j) (begin_call_action j)
 begin_call_values good j n base ws vs id v h q me may =

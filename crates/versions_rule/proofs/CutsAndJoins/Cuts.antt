@@ -26,9 +26,9 @@ use Rattle.versions_rule.specs.History.{last_call, items_of, owed_by, next_versi
 use Rattle.versions_rule.specs.Keeping.{KeepsValueRuleSplit}
 use Rattle.versions_rule.specs.Records.{IsRecorded, RecordsClosed, CallsCounted}
 use Rattle.versions_rule.specs.Versions.{ValuesHold}
-use Rattle.versions_rule.proofs.Frames.{records_move, items_kept, now_kept}
-use Rattle.versions_rule.proofs.ItemsIn.{OfEntry, OfOpen, items_from, items_into}
-use Rattle.versions_rule.proofs.Owing.{owed_same}
+use Rattle.versions_rule.proofs.Parts.Frames.{records_move, items_kept, now_kept}
+use Rattle.versions_rule.proofs.Told.ItemsIn.{OfEntry, OfOpen, items_from, items_into}
+use Rattle.versions_rule.proofs.Told.Owing.{owed_same}
 
 -- a part of a view that is cut
 pub record IsPart (v u : View) : Type 0 where
