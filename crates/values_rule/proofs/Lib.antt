@@ -14,5 +14,7 @@ pub mod Members
 pub mod StepKinds
 -- views are cut and joined between calls
 pub mod CutsAndJoins
+-- what unfinished writes leave that are taken back
+pub mod WrittenBack
 -- the memory with all unfinished writes taken back
 pub mod Undone
