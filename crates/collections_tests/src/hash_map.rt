@@ -20,7 +20,10 @@ struct TwoEntries;
 impl Shape for TwoEntries {
     ghost word_count = { λ _. 285 };
 
-    ghost good = { λ _ words. HasMapApart (chain_part (record { buckets = 17; arena = record { heads = 1; first = 277; blocks = 2 } })) words };
+    ghost good = { λ _ words. HasMapApart (chain_part (record {
+      buckets = 17;
+      arena = record { heads = 1; first = 277; blocks = 2 };
+    })) words };
 }
 
 /// The map of these words. Keys 64, 208 and 441 have one bucket, the 141st after the first.

@@ -33,8 +33,10 @@ impl Shape for RoomForPaths {
 
     ghost word_count = { λ _. 2681 };
 
-    ghost good = { λ _ words. HasMapApart
-        (tree_part (record { root = 0; arena = record { heads = 1; first = 277; blocks = 601 } })) words };
+    ghost good = { λ _ words. HasMapApart (tree_part (record {
+      root = 0;
+      arena = record { heads = 1; first = 277; blocks = 601 };
+    })) words };
 }
 
 const MAP: TreeMap = TreeMap {

@@ -22,7 +22,10 @@ struct NoEntries;
 impl Shape for NoEntries {
     ghost word_count = { λ _. 285 };
 
-    ghost good = { λ _ words. (map : HasMapApart (tree_part (record { root = 0; arena = record { heads = 1; first = 277; blocks = 2 } })) words) × (map.entries ≡ empty) };
+    ghost good = { λ _ words. (map : HasMapApart (tree_part (record {
+      root = 0;
+      arena = record { heads = 1; first = 277; blocks = 2 };
+    })) words) × (map.entries ≡ empty) };
 }
 
 /// The map of these words.

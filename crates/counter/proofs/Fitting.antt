@@ -1,10 +1,10 @@
 -- Sums that fit, one after the other.
-use Rattle.std.proofs.Common.{◌≡◌, ℕ, ◌+◌, ◌<◌, ◌^◌, List, [], ◌∷◌, ◌++◌, true, false, slice_get, slice_set, Some, refl, sym, ap, ◌∙◌, arith}
+use Rattle.std.proofs.Common.{◌≡◌, ℕ, ◌+◌, ◌<◌, ◌≤◌, ◌^◌, List, [], ◌∷◌, ◌++◌, true, false, slice_get, slice_set, Some, refl, sym, ap, ◌∙◌, arith}
 use Rattle.std.proofs.lemmas.Option.{same_Some}
 use Rattle.history_model.specs.declared.event.Event.TheVariants.{Read}
 use Rattle.history_model.specs.Traces.{Trace, after}
-use Rattle.history_model.specs.Fitting.{Fits, Leads}
-use Rattle.history_model.proofs.TraceLaws.{get_set_same}
+use Rattle.history_model.specs.Fitting.{Leads}
+use Rattle.history_model.proofs.Traces.TraceLaws.{get_set_same}
 use Rattle.txn_words.specs.Steps.{EndsWithWrite}
 use Rattle.txn_words.proofs.JobLaws.{WasRead, was_read, was_put}
 use Rattle.txn_words.proofs.Steps.{fits_write_end}
@@ -62,7 +62,7 @@ neither_fits p o s m t f g = record {
 
 module _ (n : ℕ) (G : List ℕ → Type 0) (t u : Trace) (x by : ℕ) (read : u ≡ t ++ Read 0 x ∷ []) where
   -- what was read leaves no room
-  pub leads_not : 18446744073709551615 < x + by → Leads n G t u (AddsWhereFits by false)
+  pub leads_not : 2 ^ 64 ≤ x + by → Leads n G t u (AddsWhereFits by false)
   leads_not over = record {
     at = λ s fit. record {
       at = λ k is.

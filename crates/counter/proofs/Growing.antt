@@ -4,7 +4,7 @@ use Rattle.std.proofs.lemmas.Option.{same_Some}
 use Rattle.history_model.specs.declared.event.Event.TheVariants.{Read}
 use Rattle.history_model.specs.Traces.{Trace, after}
 use Rattle.history_model.specs.Fitting.{Fits, Leads}
-use Rattle.history_model.proofs.TraceLaws.{get_set_same}
+use Rattle.history_model.proofs.Traces.TraceLaws.{get_set_same}
 use Rattle.txn_words.specs.Steps.{EndsWithWrite}
 use Rattle.txn_words.proofs.JobLaws.{WasRead, was_read, fits_read, was_put}
 use Rattle.txn_words.proofs.Steps.{fits_write_end}

@@ -1,5 +1,5 @@
 -- What adding all amounts means, at the two ends of the loop.
-use Rattle.std.proofs.Common.{◌≡◌, ℕ, ◌+◌, ◌-◌, ◌<◌, ◌≤◌, List, [], ◌∷◌, ◌++◌, length, take, get_or, sum, true, false, slice_get, Some, refl, ap, subst, arith}
+use Rattle.std.proofs.Common.{◌≡◌, ℕ, ◌+◌, ◌<◌, ◌≤◌, ◌^◌, List, [], ◌∷◌, ◌++◌, length, take, get_or, sum, true, false, refl, ap, subst, arith}
 use Rattle.std.proofs.lemmas.List.{take_all}
 use Rattle.std.proofs.lemmas.List.Sums.{sum_by_more_le}
 use Rattle.history_model.specs.declared.event.Event.TheVariants.{Read}
@@ -10,14 +10,14 @@ use Rattle.counter.proofs.Growing.{Grown, grown_read}
 
 -- an amount that did not fit: not all of them do
 pub adds_none : (c : ℕ) (G : List ℕ → Type 0) (t u : Trace) (xs : List ℕ) (i x : ℕ)
-    → Leads c G [] t (Grown (sum (take i xs))) → u ≡ t ++ Read 0 x ∷ [] → i < length xs → 18446744073709551615 - x < get_or xs i 0
+    → Leads c G [] t (Grown (sum (take i xs))) → u ≡ t ++ Read 0 x ∷ [] → i < length xs → 2 ^ 64 ≤ x + get_or xs i 0
     → (s : List ℕ) → Fits c G u s → AddsAll xs s false (after u s)
 unfolding after
 adds_none c G t u xs i x grown e within over s fit = record {
   fits = λ n is small.
       let read : x ≡ n + sum (take i xs) = grown_read c G [] t u x (sum (take i xs)) grown e s fit n is small in
       let part : sum (take i xs) + get_or xs i 0 ≤ sum xs = sum_by_more_le (λ k. k) xs i 0 within in
-      (λ k. cc, λ below. absurd (omega (arith, read)));
+      (λ k. cc, λ below. absurd (omega (arith, read, over)));
   grown = λ n is small k. cc;
 }
 

@@ -22,10 +22,12 @@ AddsTo a by s t = (n : ℕ) → slice_get s a ≡ Some n → t ≡ slice_set s a
 
 -- the word at 0 has grown by `by` where the sum fits, and is what it was where it does not; the answer says which
 pub record AddsWhereFits (by : ℕ) (fits : Bool) (s t : List ℕ) : Type 0 where
-  pub at : (n : ℕ) → slice_get s 0 ≡ Some n → ((fits ≡ true) ↔ (n + by < 2 ^ 64)) × (slice_get t 0 ≡ Some (if fits then n + by else n))
+  pub at : (n : ℕ) → slice_get s 0 ≡ Some n
+      → ((fits ≡ true) ↔ (n + by < 2 ^ 64)) × (slice_get t 0 ≡ Some (if fits then n + by else n))
 
 -- the counter has grown by the pair where both fit, else by the other amount where that fits, and else nothing is kept
 pub record AddsPairOr (pair other : ℕ) (s : List ℕ) (kept : Bool) (t : List ℕ) : Type 0 where
   pub both : (n : ℕ) → slice_get s 0 ≡ Some n → n + pair < 2 ^ 64 → (kept ≡ true) × (slice_get t 0 ≡ Some (n + pair))
-  pub instead : (n : ℕ) → slice_get s 0 ≡ Some n → 2 ^ 64 ≤ n + pair → n + other < 2 ^ 64 → (kept ≡ true) × (slice_get t 0 ≡ Some (n + other))
+  pub instead : (n : ℕ) → slice_get s 0 ≡ Some n → 2 ^ 64 ≤ n + pair → n + other < 2 ^ 64
+      → (kept ≡ true) × (slice_get t 0 ≡ Some (n + other))
   pub neither : (n : ℕ) → slice_get s 0 ≡ Some n → 2 ^ 64 ≤ n + pair → 2 ^ 64 ≤ n + other → kept ≡ false

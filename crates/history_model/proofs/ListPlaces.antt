@@ -1,26 +1,50 @@
--- A list by its places: the front of a list, one element more, and lists that are one.
-use Rattle.std.proofs.Common.{◌≡◌, ℕ, zero, suc, ◌<◌, List, [], ◌∷◌, ◌++◌, length, slice_get, take, get_or, Some, refl, sym, ap, ◌∙◌, arith}
+-- A list by its places: its first part, one element more at its end, and lists that are one.
+use Rattle.std.proofs.Common.{◌≡◌, ℕ, zero, suc, ◌<◌, ◌⊎◌, inl, inr, ⊎_elim, List, [], ◌∷◌, ◌++◌, length, slice_get, take, get_or, Some, refl}
+use Rattle.std.proofs.Common.{sym, ap, ◌∙◌, arith}
 use Rattle.std.proofs.Math.Seq.{take-suc}
 use Rattle.std.proofs.lemmas.List.{same_lists}
-use Rattle.std.proofs.lemmas.Option.{slice_get_within, slice_get-get_or, get_or_from_slice_get}
+use Rattle.std.proofs.lemmas.Option.{slice_get_within, slice_get-get_or, get_or_from_slice_get, same_Some}
 
+-- what stands at a place of the first part
+pub get_first : {A : Type 0} (xs ys : List A) (i : ℕ) → i < length xs → slice_get (xs ++ ys) i ≡ slice_get xs i
+get_first [] ys i h = absurd (omega arith)
+get_first (x ∷ xs) ys zero h = refl
+get_first (x ∷ xs) ys (suc i) h = get_first xs ys i (omega arith)
+
+-- the one that was put at the end
+pub get_last : {A : Type 0} (xs : List A) (y : A) → slice_get (xs ++ y ∷ []) (length xs) ≡ Some y
+get_last [] y = refl
+get_last (x ∷ xs) y = get_last xs y
+
+-- an element of a list with one more at its end
+pub get_cases : {A : Type 0} (xs : List A) (y x : A) (i : ℕ) → slice_get (xs ++ y ∷ []) i ≡ Some x
+    → ((i < length xs) × (slice_get xs i ≡ Some x)) ⊎ ((i ≡ length xs) × (y ≡ x))
+get_cases [] y x zero e = inr (refl, same_Some y x e)
+get_cases [] y x (suc i) e = absurd (cc)
+get_cases (z ∷ xs) y x zero e = inl (omega arith, e)
+get_cases (z ∷ xs) y x (suc i) e = ⊎_elim (λ t. inl (omega (arith, t.0), t.1)) (λ t. inr (ap suc t.0, t.1)) (get_cases xs y x i e)
+
+-- what stands in the front of a list
 pub get-front : {A : Type 0} (p i : ℕ) (xs : List A) (x : A) → slice_get (take p xs) i ≡ Some x → (i < p) × (slice_get xs i ≡ Some x)
 get-front zero i xs x e = cc
 get-front (suc p) i [] x e = cc
 get-front (suc p) zero (y ∷ xs) x e = (omega arith, e)
 get-front (suc p) (suc i) (y ∷ xs) x e = let r = get-front p i xs x e in (omega (arith, r.0), r.1)
 
+-- and the other way round
 pub front-get : {A : Type 0} (p i : ℕ) (xs : List A) (x : A) → i < p → slice_get xs i ≡ Some x → slice_get (take p xs) i ≡ Some x
 front-get zero i xs x h e = absurd (omega arith)
 front-get (suc p) i [] x h e = cc
 front-get (suc p) zero (y ∷ xs) x h e = e
 front-get (suc p) (suc i) (y ∷ xs) x h e = front-get p i xs x (omega arith) e
 
+-- each place below the length has an element
 pub below_get : {A : Type 0} (i : ℕ) (xs : List A) → i < length xs → (x : A) × (slice_get xs i ≡ Some x)
 below_get i [] h = absurd (omega arith)
 below_get zero (y ∷ xs) h = (y, refl)
 below_get (suc i) (y ∷ xs) h = below_get i xs (omega arith)
 
+-- the front with one element more
 pub take-more : {A : Type 0} (p : ℕ) (xs : List A) (x : A) → slice_get xs p ≡ Some x → take (suc p) xs ≡ take p xs ++ x ∷ []
 take-more {A} p xs x e = take-suc xs p x (slice_get_within xs p x e) ∙ ap (λ (y : A). take p xs ++ y ∷ []) (get_or_from_slice_get xs p x x e)
 

@@ -16,12 +16,14 @@ OpenIsLegal base next items order = (x : Item) → LegalOnValues base items x
 abbrev pub OrderedIsLegal : (List ℕ → Type 0) → Type 0
 OrderedIsLegal good = (base : List ℕ) (next : ℕ → ℕ) (items order : List Item)
     → AgreeWithVersions good base next items → KeepsUses items order → LegalOrder good base order
-    × IsNewest base next items (replay_items base order) × good (replay_items base order) × OpenIsLegal base next items order
+    × IsNewest base next items (replay_items base order) × good (replay_items base order)
+    × OpenIsLegal base next items order
 
 -- and all such lists leave the same words
 abbrev pub SameWords : (List ℕ → Type 0) → Type 0
 SameWords good = (base : List ℕ) (next : ℕ → ℕ) (items one two : List Item)
-    → AgreeWithVersions good base next items → KeepsUses items one → KeepsUses items two → replay_items base one ≡ replay_items base two
+    → AgreeWithVersions good base next items → KeepsUses items one → KeepsUses items two
+    → replay_items base one ≡ replay_items base two
 
 -- an item that may stand last, put at the end of an arrangement, makes an arrangement
 abbrev pub StandsLast : (List ℕ → Type 0) → Type 0
@@ -34,5 +36,6 @@ StandsLast good = (base : List ℕ) (next raised : ℕ → ℕ) (items more orde
 -- an arrangement without some items that are no entries is an arrangement of the rest
 abbrev pub DropsItems : (List ℕ → Type 0) → Type 0
 DropsItems good = (base : List ℕ) (next : ℕ → ℕ) (items less order : List Item) (keep : Item → Bool)
-    → AgreeWithVersions good base next items → IsArrangement items order → ((z : Item) → IsIn z items → z.entry ≡ true → keep z ≡ true) → Drops keep items less
+    → AgreeWithVersions good base next items → IsArrangement items order
+    → ((z : Item) → IsIn z items → z.entry ≡ true → keep z ≡ true) → Drops keep items less
     → AgreeWithVersions good base next less × IsArrangement less (passing keep order) × KeepsValues base next items less

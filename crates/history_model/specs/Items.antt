@@ -51,13 +51,15 @@ value_at base items a (suc v) = value_left (writer_at (lock_of_word a) v items) 
 -- the list has the value of each word that the item uses, at the version at which it uses its lock
 abbrev pub HasValues : List ℕ → List Item → Item → List ℕ → Type 0
 HasValues base items x s =
-    (a v : ℕ) (wrote : Bool) → a < length base → Uses x (lock_of_word a) v wrote → slice_get s a ≡ Some (value_at base items a v)
+    (a v : ℕ) (wrote : Bool) → a < length base → Uses x (lock_of_word a) v wrote
+    → slice_get s a ≡ Some (value_at base items a v)
 
 -- what an item's uses say of its trace
 pub record IsItem (x : Item) : Type 0 where
   pub one_each : (k v w : ℕ) (b c : Bool) → Uses x k v b → Uses x k w c → (v ≡ w) × (b ≡ c)
   pub covered : (a : ℕ) → Touches x.trace a → (v : ℕ) × (b : Bool) × Uses x (lock_of_word a) v b
-  pub wrote : (k v : ℕ) (b : Bool) → Uses x k v b → (b ≡ true) ↔ ((x.kept ≡ true) × ((a : ℕ) × (lock_of_word a ≡ k) × Writes x.trace a))
+  pub wrote : (k v : ℕ) (b : Bool) → Uses x k v b
+      → (b ≡ true) ↔ ((x.kept ≡ true) × ((a : ℕ) × (lock_of_word a ≡ k) × Writes x.trace a))
   pub kept_entry : x.kept ≡ true → x.entry ≡ true
 
 -- the item's trace is legal on every list that has the values that it uses
@@ -66,7 +68,8 @@ LegalOnValues base items x = (s : List ℕ) → length s ≡ length base → Has
 
 -- a kept item leaves a good list on every good list on which its trace is legal
 abbrev pub StaysGood : (List ℕ → Type 0) → List ℕ → Item → Type 0
-StaysGood good base x = x.kept ≡ true → (s : List ℕ) → length s ≡ length base → good s → IsLegalTrace x.trace s → good (after x.trace s)
+StaysGood good base x =
+    x.kept ≡ true → (s : List ℕ) → length s ≡ length base → good s → IsLegalTrace x.trace s → good (after x.trace s)
 
 -- the base and the items agree with the versions that the locks have now, `next k` of lock k:
 -- each version below was written once, and each item read the values of the versions that it used
@@ -85,7 +88,8 @@ pub record KeepsUses (items order : List Item) : Type 0 where
   pub of_items : (x : Item) → IsIn x order → IsIn x items
   pub has_entries : (x : Item) → IsIn x items → x.entry ≡ true → IsIn x order
   pub no_repeat : (i j : ℕ) (x : Item) → slice_get order i ≡ Some x → slice_get order j ≡ Some x → i ≡ j
-  pub in_order : (i j : ℕ) (x y : Item) → slice_get order i ≡ Some x → slice_get order j ≡ Some y → i < j → UsedBefore y.uses x.uses → ⊥
+  pub in_order : (i j : ℕ) (x y : Item) → slice_get order i ≡ Some x → slice_get order j ≡ Some y → i < j
+      → UsedBefore y.uses x.uses → ⊥
 
 -- what the item comes to for the words
 abbrev pub item_effect : Item → Effect
@@ -102,4 +106,5 @@ LegalOrder good base order = (p : ℕ) (x : Item) → slice_get order p ≡ Some
 
 -- the list has the newest value of each word
 abbrev pub IsNewest : List ℕ → (ℕ → ℕ) → List Item → List ℕ → Type 0
-IsNewest base next items s = (a : ℕ) → a < length base → slice_get s a ≡ Some (value_at base items a (next (lock_of_word a)))
+IsNewest base next items s =
+    (a : ℕ) → a < length base → slice_get s a ≡ Some (value_at base items a (next (lock_of_word a)))

@@ -24,7 +24,8 @@ NotesCounted = (trace : Trace) (words : List ℕ) → length (notes_of trace wor
 abbrev pub RestUndone : Type 0
 RestUndone =
     (front rest : Trace) (words : List ℕ)
-    → written_back (drop (count_writes front) (notes_of (front ++ rest) words)) (after (front ++ rest) words) ≡ after front words
+    → written_back (drop (count_writes front) (notes_of (front ++ rest) words)) (after (front ++ rest) words)
+    ≡ after front words
 
 -- a read of a word and a write of it make one note more, of what was read
 abbrev pub OneNoteMore : Type 0

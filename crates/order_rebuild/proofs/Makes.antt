@@ -7,7 +7,7 @@ use Rattle.std.specs.List.Sorted.{IsPermutation}
 use Rattle.std.proofs.lemmas.List.Sorted.{Contains-permutation, IsPermutation-sym}
 use Rattle.std.proofs.lemmas.Option.{slice_get_within, slice_get-get_or, get_or_from_slice_get}
 use Rattle.history_model.specs.declared.item.LockUse.{LockUse}
-use Rattle.history_model.proofs.HistoryLaws.{get_first, get_last, get_cases}
+use Rattle.history_model.proofs.ListPlaces.{get_first, get_last, get_cases}
 use Rattle.order_rebuild.specs.declared.turn.TheConstants.{LINE}
 use Rattle.history_model.specs.declared.placed.Spot.{Spot}
 use Rattle.order_rebuild.specs.declared.turn.Turn.{Turn}

@@ -7,8 +7,7 @@ use mathlib.Core.Logic.{dite}
 use native.Mathlib.Decide.{ℕ_discrete}
 use Rattle.history_model.specs.Legal.{IsIn}
 use Rattle.std.proofs.lemmas.Option.{slice_get_within}
-use Rattle.history_model.proofs.HistoryLaws.{get_first, get_last, get_cases}
-use Rattle.history_model.proofs.ListPlaces.{below_get}
+use Rattle.history_model.proofs.ListPlaces.{below_get, get_first, get_last, get_cases}
 use Rattle.history_model.specs.declared.placed.Spot.{Spot}
 use Rattle.order_rebuild.specs.Order.{MayCome, IsNext, IsOrder, Orderable, IsRest, OpenAt, NoneOpen, LeastOpen}
 use Rattle.order_rebuild.proofs.Stuck.{is_in, not_stuck}

@@ -28,7 +28,8 @@ pub record AreGone (l : Lines) (left : List Bool) (next : List ℕ) : Type 0 whe
 
 -- the line can go no further
 abbrev pub IsStopped : Lines → List Bool → List ℕ → ℕ → Type 0
-IsStopped l left next b = slice_index next b < places l → base_at l (slice_index next b) ≡ b → slice_get left (item_at l (slice_index next b)) ≡ Some false → ⊥
+IsStopped l left next b = slice_index next b < places l → base_at l (slice_index next b) ≡ b
+    → slice_get left (item_at l (slice_index next b)) ≡ Some false → ⊥
 
 -- each line can go no further, or has a place of the item p below n
 abbrev pub AreStopped : Lines → List Bool → List ℕ → ℕ → ℕ → Type 0
@@ -64,4 +65,5 @@ pub record AreReady (l : Lines) (left : List Bool) (wait : List ℕ) (ready : Li
 
 -- whatever is left, the list stays right
 abbrev pub KeepsReady : Lines → List ℕ → List Comer → List ℕ → List Comer → Type 0
-KeepsReady l wait ready new_wait new_ready = (left : List Bool) → AreReady l left wait ready → AreReady l left new_wait new_ready
+KeepsReady l wait ready new_wait new_ready =
+    (left : List Bool) → AreReady l left wait ready → AreReady l left new_wait new_ready

@@ -65,7 +65,8 @@ pub record AreLines (list : List Spot) (l : Lines) : Type 0 where
   pub count : items l ≡ length list
   pub caller : (p : ℕ) (s : Spot) → slice_get list p ≡ Some s → caller_of l p ≡ s.caller
   pub to : (p q : ℕ) (x y : Spot) → slice_get list p ≡ Some x → slice_get list q ≡ Some y → p ≢ q → Precedes x y
-      → (i : ℕ) × (j : ℕ) × (j < places l) × (base_at l j ≤ i) × (i < first_at l j) × (item_at l i ≡ p) × (item_at l j ≡ q)
+      → (i : ℕ) × (j : ℕ) × (j < places l) × (base_at l j ≤ i) × (i < first_at l j) × (item_at l i ≡ p)
+      × (item_at l j ≡ q)
   pub from : (i j : ℕ) (x y : Spot) → j < places l → base_at l j ≤ i → i < first_at l j
       → slice_get list (item_at l i) ≡ Some x → slice_get list (item_at l j) ≡ Some y → Precedes x y
   pub apart : (i j : ℕ) → j < places l → base_at l j ≤ i → i < first_at l j → item_at l i ≢ item_at l j

@@ -12,7 +12,8 @@ Precedes x y = UsedBefore x.uses y.uses ⊎ ((x.caller ≡ y.caller) × (x.index
 pub record MayCome (list : List Spot) (placed : List ℕ) (p : ℕ) (spot : Spot) : Type 0 where
   pub at : slice_get list p ≡ Some spot
   pub fresh : IsIn p placed → ⊥
-  pub first : (q : ℕ) (other : Spot) → slice_get list q ≡ Some other → (IsIn q placed → ⊥) → q ≢ p → Precedes other spot → ⊥
+  pub first : (q : ℕ) (other : Spot) → slice_get list q ≡ Some other → (IsIn q placed → ⊥) → q ≢ p
+      → Precedes other spot → ⊥
 
 -- and its caller is the least of those that may come
 pub record IsNext (list : List Spot) (placed : List ℕ) (p : ℕ) : Type 0 where
@@ -28,10 +29,12 @@ pub record IsOrder (list : List Spot) (out : List ℕ) : Type 0 where
 -- no two items have the same caller and index, and some numbering keeps the order: each place has a number of its own,
 -- and no item has to come before one with a lower number
 pub record Orderable (list : List Spot) : Type 0 where
-  pub apart : (p q : ℕ) (x y : Spot) → slice_get list p ≡ Some x → slice_get list q ≡ Some y → x.caller ≡ y.caller → x.index ≡ y.index → p ≡ q
+  pub apart : (p q : ℕ) (x y : Spot) → slice_get list p ≡ Some x → slice_get list q ≡ Some y → x.caller ≡ y.caller
+      → x.index ≡ y.index → p ≡ q
   pub number : ℕ → ℕ
   pub own : (p q : ℕ) → p < length list → q < length list → number p ≡ number q → p ≡ q
-  pub in_order : (p q : ℕ) (x y : Spot) → slice_get list p ≡ Some x → slice_get list q ≡ Some y → number p < number q → Precedes y x → ⊥
+  pub in_order : (p q : ℕ) (x y : Spot) → slice_get list p ≡ Some x → slice_get list q ≡ Some y → number p < number q
+      → Precedes y x → ⊥
 
 -- the marks of those that are not placed
 pub record IsRest (list : List Spot) (placed : List ℕ) (left : List Bool) : Type 0 where
@@ -47,7 +50,8 @@ OneOrder = (list : List Spot) (one two : List ℕ) → Orderable list → IsOrde
 pub record OpenAt (list : List Spot) (left : List Bool) (p : ℕ) (spot : Spot) : Type 0 where
   pub at : slice_get list p ≡ Some spot
   pub mark : slice_get left p ≡ Some true
-  pub first : (q : ℕ) (other : Spot) → slice_get list q ≡ Some other → slice_get left q ≡ Some true → q ≢ p → Precedes other spot → ⊥
+  pub first : (q : ℕ) (other : Spot) → slice_get list q ≡ Some other → slice_get left q ≡ Some true → q ≢ p
+      → Precedes other spot → ⊥
 
 -- no item is open
 abbrev pub NoneOpen : List Spot → List Bool → Type 0

@@ -54,10 +54,13 @@ pub record AreTurns (list : List Spot) (n : ℕ) (turns : List Turn) : Type 0 wh
   pub sound : (i : ℕ) (t : Turn) → slice_get turns i ≡ Some t → (t.item < n) × IsTurnOf list t.item t.code
   pub of_uses : (p : ℕ) (s : Spot) (j : ℕ) (u : LockUse) → p < n → slice_get list p ≡ Some s
       → slice_get s.uses j ≡ Some u → (code : ℕ) × IsLockCode s.uses u.lock code × HasTurn turns p code
-  pub of_caller : (p : ℕ) (s : Spot) → p < n → slice_get list p ≡ Some s → (s.index < LINE) × HasTurn turns p (caller_code s.caller s.index)
+  pub of_caller : (p : ℕ) (s : Spot) → p < n → slice_get list p ≡ Some s
+      → (s.index < LINE) × HasTurn turns p (caller_code s.caller s.index)
 
 -- the turns gain those of the first n uses of the item p
 pub record GainTurns (us : List LockUse) (p n : ℕ) (old new : List Turn) : Type 0 where
   pub kept : (i : ℕ) (t : Turn) → slice_get old i ≡ Some t → slice_get new i ≡ Some t
-  pub sound : (i : ℕ) (t : Turn) → slice_get new i ≡ Some t → (slice_get old i ≡ Some t) ⊎ ((t.item ≡ p) × ((k : ℕ) × IsLockCode us k t.code))
-  pub whole : (j : ℕ) (u : LockUse) → j < n → slice_get us j ≡ Some u → (code : ℕ) × IsLockCode us u.lock code × HasTurn new p code
+  pub sound : (i : ℕ) (t : Turn) → slice_get new i ≡ Some t
+      → (slice_get old i ≡ Some t) ⊎ ((t.item ≡ p) × ((k : ℕ) × IsLockCode us k t.code))
+  pub whole : (j : ℕ) (u : LockUse) → j < n → slice_get us j ≡ Some u
+      → (code : ℕ) × IsLockCode us u.lock code × HasTurn new p code

@@ -2,7 +2,7 @@
 use Rattle.std.proofs.Common.{◌≡◌, ◌≢◌, ℕ, ◌+◌, ◌-◌, ◌<◌, ◌≤◌, List, length, sum, slice_index, slice_set, ◌∙◌, arith, rules}
 use Rattle.std.proofs.lemmas.List.Sums.{sum_by-set, get_or-le-sum_by}
 use Rattle.std.proofs.lemmas.Option.{get_or_from_slice_get, slice_get-get_or}
-use Rattle.history_model.proofs.TraceLaws.{get_set_other}
+use Rattle.history_model.proofs.Traces.TraceLaws.{get_set_other}
 use Rattle.transfer_jobs.specs.Moving.{moved}
 
 -- another word than the one that was set stays

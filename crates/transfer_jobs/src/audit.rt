@@ -3,7 +3,7 @@
 ghost use Rattle.transfer_jobs.specs.Moving.{TellsSum};
 
 use crate::vault::Vault;
-use txn_words::{Job, Stop, Verdict, Words};
+use txn_words::{Job, Stop, Verdict, Words, some_fits};
 
 /// TellsSum the sum of all words, and changes nothing.
 #[derive(Clone, Copy, Debug, PartialEq, Eq)]
@@ -27,7 +27,9 @@ impl Job for Audit {
     fn run<W: Words<Shape = Vault>>(&self, w: &mut W) -> Result<Verdict<u64>, Stop> {
         let mut total = 0;
         for place in 0..self.vault.words {
-            total += w.read(place)?;
+            let held = w.read(place)?;
+            some_fits(w, &self.vault);
+            total += held;
         }
         Ok(Verdict::Keep(total))
     }

@@ -3,7 +3,7 @@
 ghost use Rattle.transfer_jobs.specs.Moving.{Moves};
 
 use crate::vault::Vault;
-use txn_words::{Job, Stop, Verdict, Words};
+use txn_words::{Job, Stop, Verdict, Words, some_fits};
 
 /// Moves `amount` from the word at place `from` to the word at place `to`. It reverts where these are not two words of
 /// the vault, or the first has less.
@@ -43,6 +43,7 @@ impl Job for Transfer {
             return Ok(Verdict::Revert(()));
         }
         let target = w.read(to)?;
+        some_fits(w, &vault);
         w.write(from, held - amount)?;
         w.write(to, target + amount)?;
         Ok(Verdict::Keep(()))

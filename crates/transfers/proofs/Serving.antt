@@ -1,12 +1,14 @@
 -- What all tellers did together.
-use Rattle.std.proofs.Common.{◌≡◌, ℕ, ◌+◌, ◌<◌, [], ◌∷◌, List, Vec, Global, Result, Ok, Err, IfOk, map, length, get_or, slice_index, sum_by, sym, ap, ◌∙◌, subst, arith}
+use Rattle.std.proofs.Common.{◌≡◌, ℕ, ◌<◌, [], ◌∷◌, List, Vec, Global, Result, Ok, Err, IfOk, map, length, get_or, slice_index, sym, ap, ◌∙◌}
+use Rattle.std.proofs.Common.{subst, arith}
 use Rattle.std.proofs.lemmas.List.{get_or-map, length-map}
-use Rattle.std.proofs.lemmas.List.Sums.{sum_by-append}
 use Rattle.std.proofs.Math.ListN.{get_or-map as get_or_map}
 use Rattle.std.proofs.lemmas.Option.{slice_get-get_or}
 use Rattle.history_model.specs.declared.entry.Entry.{Entry}
 use Rattle.history_model.specs.Legal.{IsIn}
+use Rattle.history_model.specs.SeatEntries.{entries_of}
 use Rattle.history_model.specs.Views.{number}
+use Rattle.history_model.proofs.Histories.SeatEntries.{count_seen, all_done}
 use Rattle.word_table.specs.Closing.{ClosedView}
 use Rattle.word_table.specs.Copies.{PassView}
 use Rattle.word_table.specs.Desks.{DeskView}
@@ -14,18 +16,14 @@ use Rattle.txn_threads.specs.Clients.{HasSeenItsOwn, HaveWorked}
 use Rattle.transfer_jobs.specs.declared.vault.Vault.{Vault}
 use Rattle.transfers.specs.declared.teller.Move.{Move}
 use Rattle.transfers.specs.declared.teller.Teller.{Teller}
-use Rattle.transfers.specs.Telling.{entries_of, one_by, HasMade, AreServed, IsServed}
-use Rattle.transfers.proofs.Entries.{others_count}
-use Rattle.transfers.proofs.Making.{all_made}
+use Rattle.transfers.specs.Making.{Makes}
+use Rattle.transfers.specs.Telling.{HasMade, AreServed, IsServed}
 
 -- a pass has seen all entries of its own
 own_entries : (k : ℕ) (pass : PassView) (history : List Entry) → pass.view.who ≡ k ∷ [] → HasSeenItsOwn pass history
     → entries_of k history ≡ entries_of k pass.view.seen
 own_entries k pass history who saw =
-    let whole : entries_of k history ≡ entries_of k pass.view.seen + entries_of k saw.rest =
-    ap (sum_by (one_by k)) saw.seen ∙ sum_by-append (one_by k) pass.view.seen saw.rest in
-    let none : entries_of k saw.rest ≡ 0 = others_count k saw.rest (λ e is same. saw.by_others e is (ap (λ n. n ∷ []) same ∙ sym who)) in
-    omega (arith, whole, none)
+    count_seen k pass.view.seen history saw.rest saw.seen (λ e is same. saw.by_others e is (ap (λ n. n ∷ []) same ∙ sym who))
 
 -- two clauses of one answer give a third
 pub of_both : {T E : Type 0} (answer : Result T E) (P Q R : T → Type 0) → ((x : T) → P x → Q x → R x) → IfOk answer P → IfOk answer Q → IfOk answer R
@@ -46,7 +44,7 @@ of_all base k pass history moves told who saw served =
     let here : IsServed base pass.view.seen k moves told =
     subst (λ n. IsServed base pass.view.seen n moves told) (ap (λ l. slice_index l 0) who) served in
     record {
-      made = all_made base k pass.view.seen history saw.rest saw.seen moves (length moves) here.made;
+      made = all_done Makes base k pass.view.seen history saw.rest saw.seen moves (length moves) here.made;
       entries = own_entries k pass history who saw ∙ here.entries;
       audits = here.audits;
       tell = here.tell;

@@ -1,20 +1,13 @@
--- What a teller did, and how many entries of a history are a seat's.
-use Rattle.std.specs.Prelude.{◌≡◌, ℕ, ◌*◌, ◌==◌, ◌<◌, List, All, length, get_or, sum_by, if◌then◌else◌}
+-- What a teller did, and what all did together.
+use Rattle.std.specs.Prelude.{◌≡◌, ℕ, ◌*◌, ◌<◌, List, All, length, get_or}
 use Rattle.std.specs.List.{sum}
 use Rattle.history_model.specs.declared.entry.Entry.{Entry}
+use Rattle.history_model.specs.SeatEntries.{entries_of}
 use Rattle.history_model.specs.Views.{number}
 use Rattle.word_table.specs.Copies.{PassView}
 use Rattle.transfers.specs.declared.teller.Move.{Move}
 use Rattle.transfers.specs.declared.teller.Teller.{Teller}
 use Rattle.transfers.specs.Making.{AreMade}
-
--- one for an entry by this seat, and else none
-abbrev pub one_by : ℕ → Entry → ℕ
-one_by who e = if e.who == who then 1 else 0
-
--- how many entries are by this seat
-abbrev pub entries_of : ℕ → List Entry → ℕ
-entries_of who history = sum_by (one_by who) history
 
 -- all moves were made in their order, each by an entry of this seat; it has as many more, the audits, each of which told the
 -- sum of the words that the history began with
@@ -30,7 +23,8 @@ pub record HasMade (base : List ℕ) (old new : Teller) (pass : PassView) : Type
   pub served : IsServed base pass.view.seen (number pass.view) old.moves.items new.told.items
 
 -- each list was served, by the teller of its place
-pub record AreServed (base : List ℕ) (history : List Entry) (lists : List (List Move)) (tellers : List Teller) : Type 0 where
+pub record AreServed (base : List ℕ) (history : List Entry) (lists : List (List Move))
+    (tellers : List Teller) : Type 0 where
   pub count : length tellers ≡ length lists
   pub each : (k : ℕ) (moves : List Move) (teller : Teller) → k < length lists
       → IsServed base history k (get_or lists k moves) (get_or tellers k teller).told.items

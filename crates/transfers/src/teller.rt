@@ -77,7 +77,8 @@ impl Client for Teller {
 
     ghost shape = { λ teller. teller.vault };
 
-    ghost can_begin = { λ teller. (teller.told.items ≡ []) × (2 * length teller.moves.items ≤ LAST_CALL) };
+    ghost can_begin = { λ teller. (teller.told.items ≡ [])
+        × (2 * length teller.moves.items ≤ LAST_CALL) };
 
     ghost does = { λ desk old new _ pass. HasMade desk.base old new pass };
 

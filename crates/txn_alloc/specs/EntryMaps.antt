@@ -40,7 +40,8 @@ has_block b (c ∷ cs) = if c.block == b then true else has_block b cs
 
 -- the sum of the values of the keys from low to high
 abbrev pub sum_between : ℕ → ℕ → Entries → ℕ
-sum_between low high entries = sum_by (λ e. if nat_le low e.0 && nat_le e.0 high then e.1 else 0) (entry_map.entries entries)
+sum_between low high entries =
+    sum_by (λ e. if nat_le low e.0 && nat_le e.0 high then e.1 else 0) (entry_map.entries entries)
 
 -- a map's part of the words: its arena; which words hold which entries, in which blocks; the map's own words outside blocks
 -- that a call for a key goes through; and the words of a block that name other blocks
@@ -77,7 +78,8 @@ module _ (part : Part) where
 
   -- a block is used by the map
   abbrev pub IsUsedIn : List ℕ → ℕ → Type 0
-  IsUsedIn words b = (entries : Entries) × (used : Blocks) × part.Holds words entries used × (set.contains used b ≡ true)
+  IsUsedIn words b =
+      (entries : Entries) × (used : Blocks) × part.Holds words entries used × (set.contains used b ≡ true)
 
   -- a block is used in one of two states and not in the other: it was taken or given back between them
   abbrev pub IsMoved : List ℕ → List ℕ → ℕ → Type 0
@@ -87,7 +89,9 @@ module _ (part : Part) where
   abbrev pub IsSeenIn : (ℕ → Type 0) → List ℕ → ℕ → ℕ → Type 0
   IsSeenIn IsKey words b a =
       (a ≡ block_at part.arena b)
-      ⊎ (part.IsName b a ⊎ ((a ≡ block_at part.arena b + 1) × ((key : ℕ) × IsKey key × (slice_get words (block_at part.arena b) ≡ Some key))))
+      ⊎ (part.IsName b a
+      ⊎ ((a ≡ block_at part.arena b + 1)
+      × ((key : ℕ) × IsKey key × (slice_get words (block_at part.arena b) ≡ Some key))))
 
   -- what a search from a key on that asks for the values of these keys may read: the map's own words, of its own blocks alone
   abbrev pub IsSeen : ℕ → (ℕ → Type 0) → List ℕ → ℕ → Type 0
@@ -105,7 +109,8 @@ module _ (part : Part) where
   -- words, too; where none was free, the heads too
   abbrev pub MayReadToInsert : ℕ → Put → List ℕ → List ℕ → ℕ → Type 0
   MayReadToInsert key New before after a =
-      MayRead key before after a ⊎ ((b : ℕ) × IsMoved before after b × (IsHeadTo part.arena key b a ⊎ IsInBlock part.arena b a))
+      MayRead key before after a
+      ⊎ ((b : ℕ) × IsMoved before after b × (IsHeadTo part.arena key b a ⊎ IsInBlock part.arena b a))
   MayReadToInsert key (Old was) before after a = MayRead key before after a
   MayReadToInsert key Full before after a = MayRead key before after a ⊎ IsHead part.arena a
 
@@ -122,14 +127,16 @@ module _ (part : Part) where
   -- a is the word of the key's value, in a block that the map uses before
   abbrev pub IsValue : ℕ → List ℕ → List ℕ → ℕ → Type 0
   IsValue key before after a =
-      (b : ℕ) × IsUsedIn before b × (slice_get before (block_at part.arena b) ≡ Some key) × (a ≡ block_at part.arena b + 1)
+      (b : ℕ) × IsUsedIn before b × (slice_get before (block_at part.arena b) ≡ Some key)
+      × (a ≡ block_at part.arena b + 1)
 
   -- what a call for the key may write: the map's own words outside blocks, its blocks before and after, and the head for a block
   -- that was taken or given back
   abbrev pub IsOwn : ℕ → List ℕ → List ℕ → ℕ → Type 0
   IsOwn key before after a =
       part.IsRoot key a
-      ⊎ (((b : ℕ) × (IsUsedIn before b ⊎ IsUsedIn after b) × IsInBlock part.arena b a) ⊎ ((b : ℕ) × IsMoved before after b × IsHeadFor part.arena b a))
+      ⊎ (((b : ℕ) × (IsUsedIn before b ⊎ IsUsedIn after b) × IsInBlock part.arena b a)
+      ⊎ ((b : ℕ) × IsMoved before after b × IsHeadFor part.arena b a))
 
   -- the key was absent, and is there with the value, in a block that was free
   pub record InsertsNew (key value : ℕ) (new : List ℕ) (entries : Entries) (used free : Blocks) : Type 0 where
@@ -145,14 +152,16 @@ module _ (part : Part) where
 
   -- from state to state: the key has the value, or there was no room for it, and then nothing changes
   abbrev pub Inserts : ℕ → ℕ → Put → List ℕ → List ℕ → Type 0
-  Inserts key value New old new = (entries : Entries) (used free : Blocks) → HoldsApart old entries used free → InsertsNew key value new entries used free
+  Inserts key value New old new = (entries : Entries) (used free : Blocks) → HoldsApart old entries used free
+      → InsertsNew key value new entries used free
   Inserts key value (Old was) old new = (entries : Entries) (used free : Blocks) → HoldsApart old entries used free
       → InsertsOld key value was new entries used free
   Inserts key value Full old new = new ≡ old
 
   -- the key is absent, and no block is free
   abbrev pub LacksRoom : ℕ → List ℕ → Type 0
-  LacksRoom key words = (entries : Entries) (used free : Blocks) → HoldsApart words entries used free → (entry_map.get entries key ≡ None) × (free ≡ set.empty)
+  LacksRoom key words = (entries : Entries) (used free : Blocks) → HoldsApart words entries used free
+      → (entry_map.get entries key ≡ None) × (free ≡ set.empty)
 
   -- the key was there with a value, and is there no more; its block is free
   pub record RemovesOne (key was : ℕ) (new : List ℕ) (entries : Entries) (used free : Blocks) : Type 0 where
@@ -164,7 +173,8 @@ module _ (part : Part) where
   -- from state to state: the key is there no more, or was absent, and then nothing changes
   abbrev pub Removes : ℕ → Option ℕ → List ℕ → List ℕ → Type 0
   Removes key None old new = Finds key None old new
-  Removes key (Some was) old new = (entries : Entries) (used free : Blocks) → HoldsApart old entries used free → RemovesOne key was new entries used free
+  Removes key (Some was) old new = (entries : Entries) (used free : Blocks) → HoldsApart old entries used free
+      → RemovesOne key was new entries used free
 
   -- from state to state: nothing changes, and the total is the sum of the values of the keys from low to high
   pub record SumsRange (low high total : ℕ) (old new : List ℕ) : Type 0 where

@@ -104,8 +104,10 @@ pub record TakesBlock (arena : Arena) (b : ℕ) (old new : List ℕ) (free : set
 -- from state to state: a block is taken, or none, and then nothing changes
 abbrev pub Takes : Arena → Option ℕ → List ℕ → List ℕ → Type 0
 Takes arena None old new = new ≡ old
-Takes arena (Some b) old new = (free : set.FinSet nat_cmp) → FreeListsHold arena old free → TakesBlock arena b old new free
+Takes arena (Some b) old new =
+    (free : set.FinSet nat_cmp) → FreeListsHold arena old free → TakesBlock arena b old new free
 
 -- from state to state: block b is free too
 abbrev pub Gives : Arena → ℕ → List ℕ → List ℕ → Type 0
-Gives arena b old new = (free : set.FinSet nat_cmp) → FreeListsHold arena old free → FreeListsHold arena new (set.insert free b)
+Gives arena b old new =
+    (free : set.FinSet nat_cmp) → FreeListsHold arena old free → FreeListsHold arena new (set.insert free b)

@@ -11,4 +11,5 @@ lacks_price_room i books = not (map.contains_key books.prices i) && is_full book
 
 -- the account has no position of the instrument, and no block is left for one of this much; 0 takes none
 abbrev pub lacks_position_room : ℕ → ℕ → ℕ → ClearingBooks → Bool
-lacks_position_room a i quantity books = not (quantity == 0) && (not (map.contains_key books.positions (a, i)) && is_full books)
+lacks_position_room a i quantity books =
+    not (quantity == 0) && (not (map.contains_key books.positions (a, i)) && is_full books)

@@ -27,7 +27,9 @@ is_done (reply.Full k) = false
 
 -- what a script on these words means, for all books for which they stand: the reply is the interpreter's, the writes
 -- are kept exactly where it was done, and then the words that are left stand for the interpreter's books
-pub record ScriptMeans (shape : BooksShape) (script : List Part) (words : List ℕ) (kept : Bool) (answer : Reply) (left : List ℕ) : Type 0 where
+pub record ScriptMeans (shape : BooksShape) (script : List Part) (words : List ℕ) (kept : Bool) (answer : Reply)
+    (left : List ℕ) : Type 0 where
   pub replies : (books : ClearingBooks) → Stands shape words books → answer ≡ (outcome_of script books).0
   pub kept_where_done : kept ≡ is_done answer
-  pub leaves : kept ≡ true → (books : ClearingBooks) → Stands shape words books → Stands shape left (outcome_of script books).1
+  pub leaves : kept ≡ true → (books : ClearingBooks) → Stands shape words books
+      → Stands shape left (outcome_of script books).1

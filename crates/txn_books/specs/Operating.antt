@@ -22,4 +22,5 @@ step_of_outcome outcome.FindsNoBlock after = FindsNoBlock
 -- from state to state: the outcome is the interpreter's, and the words then stand for the books that its step leaves;
 -- where it is declined or finds no block, for some books of which nothing is said
 pub record Steps (shape : BooksShape) (op : Op) (outcome : Outcome) (old new : List ℕ) : Type 0 where
-  pub comes : (books : ClearingBooks) → Stands shape old books → (after : ClearingBooks) × (step_of op books ≡ step_of_outcome outcome after) × Stands shape new after
+  pub comes : (books : ClearingBooks) → Stands shape old books
+      → (after : ClearingBooks) × (step_of op books ≡ step_of_outcome outcome after) × Stands shape new after

@@ -25,7 +25,8 @@ pub record HasParts (words : List ℕ) (books : ClearingBooks) (in_hand : List �
   pub queue : QueueHolds (queue_of (shape_of books)) words books.calls
   pub free_lists : FreeListsHold (arena_of (shape_of books)) words free
   pub hand_below : All (λ b. b < books.blocks) in_hand
-  pub parted : (b : ℕ) → b < books.blocks → times_among b (tree_used ∷ chain_used ∷ free ∷ []) + count_by (λ c. c == b) in_hand ≡ 1
+  pub parted : (b : ℕ) → b < books.blocks
+      → times_among b (tree_used ∷ chain_used ∷ free ∷ []) + count_by (λ c. c == b) in_hand ≡ 1
 
 -- with no block in hand the words stand for the books
 abbrev pub StandsFor : List ℕ → ClearingBooks → Type 0

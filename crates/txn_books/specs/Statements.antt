@@ -24,18 +24,21 @@ IsInstrument i = IsWithin 1 MOST_INSTRUMENTS i
 -- different prices and positions have different keys
 pub record KeysDiffer : Type 0 where
   pub prices : (i j : ℕ) → 1 ≤ i → 1 ≤ j → price_key_of i ≡ price_key_of j → i ≡ j
-  pub positions : (a i b j : ℕ) → IsInstrument i → IsInstrument j → position_key_of a i ≡ position_key_of b j → (a ≡ b) × (i ≡ j)
+  pub positions : (a i b j : ℕ) → IsInstrument i → IsInstrument j → position_key_of a i ≡ position_key_of b j
+      → (a ≡ b) × (i ≡ j)
   pub apart : (i a j : ℕ) → IsInstrument i → 1 ≤ a → price_key_of i ≢ position_key_of a j
 
 -- words stand for one books at most
 abbrev pub OneBooks : Type 0
-OneBooks = (shape : BooksShape) (words : List ℕ) (books others : ClearingBooks) → Stands shape words books → Stands shape words others → books ≡ others
+OneBooks = (shape : BooksShape) (words : List ℕ) (books others : ClearingBooks) → Stands shape words books
+    → Stands shape words others → books ≡ others
 
 -- a call on the tree that wrote its own words alone, with as many of its blocks and the free ones in each place as before,
 -- leaves the other parts
 abbrev pub TreeChangeStands : Type 0
 TreeChangeStands =
-    (old new : List ℕ) (books : ClearingBooks) (in_hand : List ℕ) (parts : HasParts old books in_hand) (accounts : Entries) (used_after free : Blocks) (key : ℕ)
+    (old new : List ℕ) (books : ClearingBooks) (in_hand : List ℕ) (parts : HasParts old books in_hand)
+    (accounts : Entries) (used_after free : Blocks) (key : ℕ)
     → TreeHolds (tree_of (shape_of books)) new accounts used_after
     → FreeListsHold (arena_of (shape_of books)) new free
     → ((b : ℕ) → times_among b (used_after ∷ free ∷ []) ≡ times_among b (parts.tree_used ∷ parts.free ∷ []))
@@ -46,8 +49,10 @@ TreeChangeStands =
 abbrev pub ChainChangeStands : Type 0
 ChainChangeStands =
     (old new : List ℕ) (books : ClearingBooks) (in_hand : List ℕ) (parts : HasParts old books in_hand)
-    (positions : entry_map.FinMap position_cmp ℕ) (prices : entry_map.FinMap nat_cmp ℕ) (used_after free : Blocks) (key : ℕ)
-    → ChainsHold (chains_of (shape_of books)) new (chained (record books { positions = positions; prices = prices })) used_after
+    (positions : entry_map.FinMap position_cmp ℕ) (prices : entry_map.FinMap nat_cmp ℕ) (used_after free : Blocks)
+    (key : ℕ)
+    → ChainsHold (chains_of (shape_of books)) new
+    (chained (record books { positions = positions; prices = prices })) used_after
     → FreeListsHold (arena_of (shape_of books)) new free
     → ((b : ℕ) → times_among b (used_after ∷ free ∷ []) ≡ times_among b (parts.chain_used ∷ parts.free ∷ []))
     → KeepsOthers (IsOwn (chain_part (chains_of (shape_of books))) key old new) old new

@@ -2,8 +2,8 @@
 use Rattle.std.proofs.Common.{◌≡◌, ℕ, ◌+◌, ◌*◌, ◌<◌, ◌≤◌, List, [], ◌∷◌, ◌++◌, Some, length, slice_get, slice_set, refl, sym, ap, ◌∙◌, subst, arith}
 use Rattle.history_model.specs.Traces.{Trace, after, Begins}
 use Rattle.history_model.specs.Fitting.{Fits, SomeFits, InEach, Leads}
-use Rattle.history_model.proofs.TraceLaws.{length-after, begins_refl, begins_trans}
-use Rattle.history_model.proofs.FittingLaws.{fits_begins, leads_each}
+use Rattle.history_model.proofs.Traces.TraceLaws.{length-after, begins_refl, begins_trans}
+use Rattle.history_model.proofs.Traces.FittingLaws.{fits_begins, leads_each}
 use Rattle.txn_words.specs.Looks.{Looks}
 use Rattle.txn_cells.specs.declared.coded.Coded.{Ghosts as Codes}
 use Rattle.txn_cells.specs.declared.typed.TypedEvent.TheVariants.{Get, Set}

@@ -5,8 +5,8 @@ use Rattle.std.proofs.lemmas.Option.{get_or_from_slice_get}
 use Rattle.history_model.specs.declared.event.Event.TheVariants.{Read}
 use Rattle.history_model.specs.Traces.{Trace, after, Begins}
 use Rattle.history_model.specs.Fitting.{Fits, InEach, Leads}
-use Rattle.history_model.proofs.TraceLaws.{length-after}
-use Rattle.history_model.proofs.FittingLaws.{fits_begins}
+use Rattle.history_model.proofs.Traces.TraceLaws.{length-after}
+use Rattle.history_model.proofs.Traces.FittingLaws.{fits_begins}
 use Rattle.txn_words.specs.Looks.{Looks}
 use Rattle.txn_words.specs.Steps.{EndsWithWrite}
 use Rattle.txn_words.proofs.Looks.{looks_read, looks_map, looks_none}

@@ -16,7 +16,8 @@ pub record LimitsInDigits : Type 0 where
 module _ {T S : Type 0} (code : Codes T) (shapes : Shapes S) where
   -- words have one list of values at most
   abbrev pub OneList : Type 0
-  OneList = (at len : ℕ) (s : List ℕ) (xs ys : List T) → AreCellValues code at len s xs → AreCellValues code at len s ys → xs ≡ ys
+  OneList = (at len : ℕ) (s : List ℕ) (xs ys : List T) → AreCellValues code at len s xs → AreCellValues code at len s ys
+      → xs ≡ ys
 
   -- calls of cells, one after another from a trace on: on whatever good list the whole trace is legal, the typed events of
   -- all of them are legal on the values that the cells had, and lead to those that they have
@@ -26,4 +27,5 @@ module _ {T S : Type 0} (code : Codes T) (shapes : Shapes S) where
       → AreCalls code at len (shapes.word_count shape) (shapes.good shape) old calls
       → (s : List ℕ) → Fits (shapes.word_count shape) (shapes.good shape) (trace_after old calls) s
       → (values : List T) → AreCellValues code at len (after old s) values
-      → IsLegalTyped (typed_of calls) values × AreCellValues code at len (after (trace_after old calls) s) (after_typed (typed_of calls) values)
+      → IsLegalTyped (typed_of calls) values
+      × AreCellValues code at len (after (trace_after old calls) s) (after_typed (typed_of calls) values)

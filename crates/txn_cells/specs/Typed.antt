@@ -33,7 +33,8 @@ module _ {T : Type 0} (code : Codes T) (at len : ℕ) where
     -- from the old trace on, calls made these typed events, each with the trace as it left it
     unfoldable pub AreCalls : Trace → List (Trace × TypedTrace T) → Type 0
     AreCalls old [] = Unit {0}
-    AreCalls old (call ∷ calls) = Begins old call.0 × Leads word_count is_good old call.0 (DoesTyped call.1) × AreCalls call.0 calls
+    AreCalls old (call ∷ calls) =
+        Begins old call.0 × Leads word_count is_good old call.0 (DoesTyped call.1) × AreCalls call.0 calls
 
 -- the trace as the last call left it
 unfoldable pub trace_after : {T : Type 0} → Trace → List (Trace × TypedTrace T) → Trace

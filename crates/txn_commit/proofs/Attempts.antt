@@ -18,8 +18,8 @@ use Rattle.history_model.specs.Sets.{has_pair}
 use Rattle.history_model.specs.Traces.{Trace}
 use Rattle.history_model.specs.Undoing.{Notes, notes_of}
 use Rattle.history_model.specs.Views.{number, HasWriteGrant}
-use Rattle.history_model.proofs.FittingLaws.{fits_front, fits_write}
-use Rattle.history_model.proofs.MarkLaws.{notes_counted, read_unnoted, write_noted}
+use Rattle.history_model.proofs.Traces.FittingLaws.{fits_front, fits_write}
+use Rattle.history_model.proofs.Traces.MarkLaws.{notes_counted, read_unnoted, write_noted}
 use Rattle.stamps_rule.specs.Stamps.{AreRestartsBounded}
 use Rattle.values_rule.specs.Steps.{store_value_action}
 use Rattle.undo_log.specs.Room.{Room}

@@ -11,8 +11,8 @@ use Rattle.history_model.specs.Legal.{IsIn}
 use Rattle.history_model.specs.Locks.{lock_of_word}
 use Rattle.history_model.specs.Sets.{has, has_pair}
 use Rattle.history_model.specs.Traces.{Trace, Touches}
-use Rattle.history_model.proofs.EndEvents.{touches_first}
-use Rattle.history_model.proofs.HistoryLaws.{get_first}
+use Rattle.history_model.proofs.Traces.EndEvents.{touches_first}
+use Rattle.history_model.proofs.ListPlaces.{get_first}
 use Rattle.history_model.proofs.SetLemmas.{differ, has-nil}
 use Rattle.stamps_rule.proofs.LockKinds.{pair-append_old, pair-append_last}
 use Rattle.values_rule.specs.Steps.{entry_of}

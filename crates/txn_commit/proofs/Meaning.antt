@@ -5,7 +5,7 @@ use Rattle.history_model.specs.declared.entry.Entry.{Entry}
 use Rattle.history_model.specs.Histories.{replay}
 use Rattle.history_model.specs.Legal.{IsLegalHistory}
 use Rattle.history_model.specs.Traces.{after}
-use Rattle.history_model.proofs.HistoryLaws.{prefixes_leave_good}
+use Rattle.history_model.proofs.Histories.HistoryLaws.{prefixes_leave_good}
 use Rattle.txn_commit.specs.declared.transaction.Receipt.{Receipt}
 use Rattle.txn_commit.specs.Transactions.{GetsEntry, IsMeant}
 

@@ -8,8 +8,8 @@ use Rattle.std.specs.List.{AllByRecursion}
 use Rattle.std.proofs.lemmas.Option.{same_Some}
 use Rattle.txn_alloc.specs.declared.arena.Arena.{Arena}
 use Rattle.txn_alloc.specs.FreeLists.{block_at}
-use Rattle.txn_alloc.proofs.Cells.{value_first, value_later, has_first, has_later, has_not, one_in, one_here, times_in}
-use Rattle.txn_alloc.proofs.Counting.{AreKeyed, keyed_once, length_below}
+use Rattle.txn_alloc.proofs.Maps.Cells.{value_first, value_later, has_first, has_later, has_not, one_in, one_here, times_in}
+use Rattle.txn_alloc.proofs.Maps.Counting.{AreKeyed, keyed_once, length_below}
 use Rattle.txn_alloc.specs.declared.spread.TheConstants.{MULTIPLIER}
 use Rattle.txn_hash_map.specs.declared.map.TheConstants.{BUCKETS}
 use Rattle.txn_alloc.specs.EntryMaps.{Cell, value_of, has_block, HasKeysOnce}

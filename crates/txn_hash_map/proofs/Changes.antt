@@ -8,14 +8,14 @@ use Rattle.std.proofs.lemmas.List.{length-set}
 use Rattle.std.proofs.lemmas.Option.{same_Some}
 use Rattle.std.specs.FinSet as set
 use Rattle.std.specs.FinMap as entry_map
-use Rattle.history_model.proofs.TraceLaws.{get_set_same, get_set_other}
+use Rattle.history_model.proofs.Traces.TraceLaws.{get_set_same, get_set_other}
 use Rattle.txn_alloc.specs.declared.arena.Arena.{Arena}
 use Rattle.txn_words.specs.Frames.{KeepsOthers}
 use Rattle.txn_alloc.specs.FreeLists.{block_at, IsHead, IsInBlock, TakesBlock}
-use Rattle.txn_alloc.proofs.Lists.{free_kept, free_below, same_block}
+use Rattle.txn_alloc.proofs.FreeLists.Lists.{free_kept, free_below, same_block}
 use Rattle.txn_alloc.proofs.Sets.{in_here, in_there, in_or, out_less, out_itself}
-use Rattle.txn_alloc.proofs.Cells.{value_first, value_later, has_first, has_later, has_middle, insert_same, insert_other}
-use Rattle.txn_alloc.proofs.Parts.{free_unused}
+use Rattle.txn_alloc.proofs.Maps.Cells.{value_first, value_later, has_first, has_later, has_middle, insert_same, insert_other}
+use Rattle.txn_alloc.proofs.Maps.Parts.{free_unused}
 use Rattle.txn_hash_map.specs.declared.map.ChainMap.{ChainMap}
 use Rattle.txn_hash_map.specs.declared.map.TheConstants.{BUCKETS}
 use Rattle.txn_alloc.specs.EntryMaps.{Cell, value_of, has_block, Entries, Blocks, HoldsApart, HasKeysOnce}

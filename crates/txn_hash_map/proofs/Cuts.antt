@@ -9,15 +9,15 @@ use Rattle.std.proofs.lemmas.Option.{same_Some, slice_get_within}
 use Rattle.std.specs.FinSet.{members}
 use Rattle.std.specs.FinSet as set
 use Rattle.std.specs.FinMap as entry_map
-use Rattle.history_model.proofs.TraceLaws.{get_set_same, get_set_other}
+use Rattle.history_model.proofs.Traces.TraceLaws.{get_set_same, get_set_other}
 use Rattle.txn_words.specs.Frames.{KeepsOthers}
 use Rattle.txn_alloc.specs.declared.arena.Arena.{Arena}
 use Rattle.txn_alloc.specs.FreeLists.{block_at, IsHead, IsInBlock, Lacks, Gives}
-use Rattle.txn_alloc.proofs.Wider.{IsAnyHeadOrIn}
-use Rattle.txn_alloc.proofs.Lists.{free_kept, free_below, one_set, same_block}
+use Rattle.txn_alloc.proofs.FreeLists.Wider.{IsAnyHeadOrIn}
+use Rattle.txn_alloc.proofs.FreeLists.Lists.{free_kept, free_below, one_set, same_block}
 use Rattle.txn_alloc.proofs.Sets.{out_both, out_itself}
-use Rattle.txn_alloc.proofs.Cells.{value_past, value_first, value_later, value_less, has_middle, first_block, later_block, less_block, remove_same}
-use Rattle.txn_alloc.proofs.Cells.{remove_other}
+use Rattle.txn_alloc.proofs.Maps.Cells.{value_past, value_first, value_later, value_less, has_middle, first_block, later_block, less_block, remove_same}
+use Rattle.txn_alloc.proofs.Maps.Cells.{remove_other}
 use Rattle.txn_hash_map.specs.declared.map.ChainMap.{ChainMap}
 use Rattle.txn_hash_map.specs.declared.map.TheConstants.{BUCKETS}
 use Rattle.txn_alloc.specs.EntryMaps.{Cell, value_of, has_block, Entries, Blocks, HoldsApart, RemovesOne, HasKeysOnce}

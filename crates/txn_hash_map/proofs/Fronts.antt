@@ -4,8 +4,8 @@ use Rattle.std.proofs.lemmas.List.{length-set}
 use Rattle.history_model.specs.declared.event.Event.TheVariants.{Read}
 use Rattle.history_model.specs.Traces.{Trace, after}
 use Rattle.history_model.specs.Fitting.{Fits, SomeFits, InEach, Leads}
-use Rattle.history_model.proofs.TraceLaws.{read_there, after_read, length-after, get_set_same, get_set_other}
-use Rattle.history_model.proofs.FittingLaws.{fits_front}
+use Rattle.history_model.proofs.Traces.TraceLaws.{read_there, after_read, length-after, get_set_same, get_set_other}
+use Rattle.history_model.proofs.Traces.FittingLaws.{fits_front}
 use Rattle.txn_words.specs.Steps.{EndsWithWrite}
 use Rattle.txn_words.specs.Frames.{AppendsOnly, AppendsReads}
 use Rattle.txn_words.proofs.Steps.{after_write_end, fits_write_end}

@@ -2,16 +2,16 @@
 use Rattle.std.proofs.Common.{ℕ, inl, inr, List, Some}
 use Rattle.history_model.specs.Traces.{Trace, after, Begins}
 use Rattle.history_model.specs.Fitting.{Fits, InEach, Leads}
-use Rattle.history_model.proofs.TraceLaws.{begins_trans}
-use Rattle.history_model.proofs.FittingLaws.{fits_begins}
+use Rattle.history_model.proofs.Traces.TraceLaws.{begins_trans}
+use Rattle.history_model.proofs.Traces.FittingLaws.{fits_begins}
 use Rattle.txn_words.specs.Frames.{KeepsOthers, AppendsOnly, AppendsReads}
 use Rattle.txn_words.specs.Looks.{Looks}
 use Rattle.txn_words.proofs.Looks.{leads_back, each_looked, seen_before}
 use Rattle.txn_alloc.specs.declared.put.Put.TheVariants.{New}
 use Rattle.txn_alloc.specs.FreeLists.{IsHead, IsNearest, IsWrittenByTake, IsReadByTake, TakesBlock, Takes}
 use Rattle.txn_alloc.specs.EntryMaps.{Entries, Blocks, HasMapApart, HoldsApart, Inserts, TakesNearest, IsOwn, MayReadToInsert}
-use Rattle.txn_alloc.proofs.Parts.{IsOne}
-use Rattle.txn_alloc.proofs.Founds as founds
+use Rattle.txn_alloc.proofs.Maps.Parts.{IsOne}
+use Rattle.txn_alloc.proofs.Maps.Founds as founds
 use Rattle.txn_hash_map.specs.declared.map.ChainMap.{ChainMap}
 use Rattle.txn_hash_map.specs.Chains.{IsLaid, chain_part}
 use Rattle.txn_hash_map.specs.Searches.{IsMissing, IsLink, IsPutInFront, IsBucketOrIn}

@@ -3,11 +3,11 @@ use Rattle.std.proofs.Common.{◌≡◌, ℕ, ◌+◌, ◌<◌, List, [], ◌∷
 use Rattle.history_model.specs.declared.event.Event.TheVariants.{Read}
 use Rattle.history_model.specs.Traces.{Trace, after}
 use Rattle.history_model.specs.Fitting.{SomeFits}
-use Rattle.history_model.proofs.TraceLaws.{length-after}
+use Rattle.history_model.proofs.Traces.TraceLaws.{length-after}
 use Rattle.txn_alloc.specs.FreeLists.{block_at}
 use Rattle.txn_words.specs.Looks.{Looks}
 use Rattle.txn_words.proofs.Looks.{looks_map, looks_read}
-use Rattle.txn_alloc.proofs.Founds.{IsOwnNear, IsKeysBlock}
+use Rattle.txn_alloc.proofs.Maps.Founds.{IsOwnNear, IsKeysBlock}
 use Rattle.txn_hash_map.specs.declared.map.ChainMap.{ChainMap}
 use Rattle.txn_hash_map.specs.Chains.{chain_part}
 use Rattle.txn_hash_map.specs.Searches.{IsPassed, IsLink, IsFoundAt}

@@ -9,8 +9,8 @@ use Rattle.std.specs.FinSet as set
 use Rattle.std.specs.FinMap as entry_map
 use Rattle.txn_alloc.specs.FreeLists.{block_at}
 use Rattle.txn_alloc.specs.EntryMaps.{Cell, Entries, Blocks, value_of, has_block, HasKeysOnce}
-use Rattle.txn_alloc.proofs.Cells.{all_append, all_map, value_first, value_later, value_past, first_block, later_block, has_later}
-use Rattle.txn_alloc.proofs.Counting.{AreKeyed, len_cells, len_blocks, keyed_once}
+use Rattle.txn_alloc.proofs.Maps.Cells.{all_append, all_map, value_first, value_later, value_past, first_block, later_block, has_later}
+use Rattle.txn_alloc.proofs.Maps.Counting.{AreKeyed, len_cells, len_blocks, keyed_once}
 use Rattle.txn_hash_map.specs.declared.map.ChainMap.{ChainMap}
 use Rattle.txn_hash_map.specs.declared.map.TheConstants.{BUCKETS}
 use Rattle.txn_hash_map.specs.Chains.{HasChain, HasKeysIn, bucket_of, ChainsHold}

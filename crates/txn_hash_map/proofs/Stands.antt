@@ -3,8 +3,8 @@ use Rattle.std.proofs.Common.{◌≡◌, ℕ, ◌+◌, true, List, [], ◌∷◌
 use Rattle.std.specs.FinSet as set
 use Rattle.txn_alloc.specs.declared.arena.Arena.{Arena}
 use Rattle.txn_alloc.specs.FreeLists.{block_at, IsInBlock}
-use Rattle.txn_alloc.proofs.Lists.{laid_kept}
-use Rattle.txn_alloc.proofs.Cells.{has_first, has_later}
+use Rattle.txn_alloc.proofs.FreeLists.Lists.{laid_kept}
+use Rattle.txn_alloc.proofs.Maps.Cells.{has_first, has_later}
 use Rattle.txn_hash_map.specs.declared.map.ChainMap.{ChainMap}
 use Rattle.txn_alloc.specs.EntryMaps.{Cell, has_block, Entries, Blocks}
 use Rattle.txn_hash_map.specs.Chains.{HasChain, IsLaid, IsBucket, ChainsHold}

@@ -5,7 +5,7 @@ use Rattle.std.proofs.lemmas.Option.{slice_get_within, same_Some}
 use Rattle.std.specs.FinSet as set
 use Rattle.std.specs.FinMap as entry_map
 use Rattle.txn_alloc.specs.FreeLists.{block_at}
-use Rattle.txn_alloc.proofs.Cells.{value_past, value_first, value_later, has_middle}
+use Rattle.txn_alloc.proofs.Maps.Cells.{value_past, value_first, value_later, has_middle}
 use Rattle.txn_hash_map.specs.declared.map.ChainMap.{ChainMap}
 use Rattle.txn_alloc.specs.EntryMaps.{Cell, value_of, has_block, Entries, Blocks, IsUsedIn, IsSeen, HasKeysOnce}
 use Rattle.txn_hash_map.specs.Chains.{HasChain, bucket_of, IsLaid, ChainsHold, chain_part}

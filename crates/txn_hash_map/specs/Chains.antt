@@ -20,7 +20,8 @@ abbrev pub HasChain : Arena → List ℕ → ℕ → List Cell → Type 0
 HasChain arena words place [] = slice_get words place ≡ Some 0
 HasChain arena words place (c ∷ cs) =
     (slice_get words place ≡ Some (c.block + 1)) × (c.block < arena.blocks)
-    × (slice_get words (block_at arena c.block) ≡ Some c.key) × (slice_get words (block_at arena c.block + 1) ≡ Some c.value)
+    × (slice_get words (block_at arena c.block) ≡ Some c.key)
+    × (slice_get words (block_at arena c.block + 1) ≡ Some c.value)
     × HasChain arena words (block_at arena c.block + 2) cs
 
 -- each cell's key has this bucket

@@ -59,7 +59,8 @@ pub record IsPutInFront (map : ChainMap) (key value block : ℕ) (old new : List
   pub key_there : slice_get new (block_at map.arena block) ≡ Some key
   pub value_there : slice_get new (block_at map.arena block + 1) ≡ Some value
   pub next_there : slice_get new (block_at map.arena block + 2) ≡ slice_get old (map.buckets + bucket_of key)
-  pub others : (a : ℕ) → a ≢ map.buckets + bucket_of key → ¬ IsInBlock map.arena block a → slice_get new a ≡ slice_get old a
+  pub others : (a : ℕ) → a ≢ map.buckets + bucket_of key → ¬ IsInBlock map.arena block a
+      → slice_get new a ≡ slice_get old a
 
 -- a is the word of the key's bucket or in the block
 abbrev pub IsBucketOrIn : ChainMap → ℕ → ℕ → ℕ → Type 0

@@ -26,4 +26,5 @@ ChainsStand =
 -- a map uses as many blocks as it has entries
 abbrev pub AsManyBlocks : Type 0
 AsManyBlocks =
-    (map : ChainMap) (words : List ℕ) (entries : Entries) (used : Blocks) → ChainsHold map words entries used → set.len used ≡ entry_map.len entries
+    (map : ChainMap) (words : List ℕ) (entries : Entries) (used : Blocks) → ChainsHold map words entries used
+    → set.len used ≡ entry_map.len entries

@@ -5,8 +5,8 @@ use Rattle.std.proofs.lemmas.Option.{same_Some}
 use Rattle.history_model.specs.declared.event.Event.TheVariants.{Read}
 use Rattle.history_model.specs.Traces.{Trace, after, Begins}
 use Rattle.history_model.specs.Fitting.{Fits, SomeFits, InEach, Leads}
-use Rattle.history_model.proofs.TraceLaws.{length-after}
-use Rattle.history_model.proofs.FittingLaws.{Found, found, fits_begins}
+use Rattle.history_model.proofs.Traces.TraceLaws.{length-after}
+use Rattle.history_model.proofs.Traces.FittingLaws.{Found, found, fits_begins}
 use Rattle.txn_words.specs.Steps.{EndsWithWrite}
 use Rattle.txn_words.proofs.JobLaws.{WasRead, was_read, fits_read, was_put}
 use Rattle.txn_words.proofs.Steps.{fits_write_end}

@@ -3,7 +3,7 @@ use Rattle.std.proofs.Common.{◌≡◌, ℕ, ◌<◌, List, [], length, slice_g
 use Rattle.std.proofs.lemmas.List.{length-set, length-replicate, get_or-replicate}
 use Rattle.std.proofs.lemmas.Option.{slice_get-get_or}
 use Rattle.history_model.specs.Fitting.{IsGood}
-use Rattle.history_model.proofs.TraceLaws.{get_set_other}
+use Rattle.history_model.proofs.Traces.TraceLaws.{get_set_other}
 use Rattle.txn_ring.specs.declared.ring.Ring.{Ring}
 use Rattle.txn_ring.specs.Queues.{IsInOrder}
 use Rattle.txn_ring.proofs.Items.{starts_empty}

@@ -30,7 +30,8 @@ pub record QueueHolds (ring : Ring) (words : List ℕ) (items : List (ℕ × ℕ
   pub front_word : slice_get words ring.at ≡ Some front
   pub room : length items ≤ ring.capacity
   pub count_word : slice_get words (ring.at + 1) ≡ Some (length items)
-  pub stands : (i : ℕ) (item : ℕ × ℕ) → slice_get items i ≡ Some item → HasItem ring words ((front + i) % ring.capacity) item
+  pub stands : (i : ℕ) (item : ℕ × ℕ) → slice_get items i ≡ Some item
+      → HasItem ring words ((front + i) % ring.capacity) item
 
 -- the ring holds some queue
 abbrev pub IsInOrder : Ring → List ℕ → Type 0
@@ -50,7 +51,8 @@ HasCount ring n words = (items : List (ℕ × ℕ)) → QueueHolds ring words it
 
 -- from state to state: the item comes behind the others, or is refused, and then nothing changes
 abbrev pub Pushes : Ring → ℕ × ℕ → Bool → List ℕ → List ℕ → Type 0
-Pushes ring item true old new = (items : List (ℕ × ℕ)) → QueueHolds ring old items → QueueHolds ring new (items ++ item ∷ [])
+Pushes ring item true old new =
+    (items : List (ℕ × ℕ)) → QueueHolds ring old items → QueueHolds ring new (items ++ item ∷ [])
 Pushes ring item false old new = new ≡ old
 
 -- the item was the first, and the queue is the others

@@ -12,22 +12,22 @@ use Rattle.txn_alloc.specs.declared.arena.Arena.{Arena}
 use Rattle.txn_alloc.specs.FreeLists.{IsHead, IsInBlock, TakesBlock}
 use Rattle.txn_alloc.specs.EntryMaps.{Cell, Entries, Blocks, value_of, has_block, HoldsApart}
 use Rattle.txn_alloc.proofs.Sets.{in_here, out_itself, in_or, out_less, contains-insert_other}
-use Rattle.txn_alloc.proofs.Lists.{free_kept, free_below, same_block}
-use Rattle.txn_alloc.proofs.Cells.{value_less, has_middle, less_block, insert_same, insert_other, times_has}
-use Rattle.txn_alloc.proofs.Parts.{free_unused}
-use Rattle.txn_alloc.proofs.Founds.{InsertsIn}
+use Rattle.txn_alloc.proofs.FreeLists.Lists.{free_kept, free_below, same_block}
+use Rattle.txn_alloc.proofs.Maps.Cells.{value_less, has_middle, less_block, insert_same, insert_other, times_has}
+use Rattle.txn_alloc.proofs.Maps.Parts.{free_unused}
+use Rattle.txn_alloc.proofs.Maps.Founds.{InsertsIn}
 use Rattle.txn_tree_map.specs.declared.map.TreeMap.{TreeMap}
 use Rattle.txn_tree_map.specs.Trees.{Tree, name_of, cells_of, IsRising, IsLaid, TreeHolds, tree_part}
 use Rattle.txn_tree_map.specs.Trees.Tree.{Leaf, Node}
 use Rattle.txn_tree_map.specs.Paths.{Path, plug, before_of, after_of, HangsAt}
 use Rattle.txn_tree_map.specs.Searches.{IsMissing}
 use Rattle.txn_tree_map.specs.Changes.{CanPut, IsPut}
-use Rattle.txn_tree_map.proofs.Rising.{value_there}
-use Rattle.txn_tree_map.proofs.Trees.{count_in, count_on, cells_plug, spelled_stays, hung_stays}
-use Rattle.txn_tree_map.proofs.Places.{at_tree, at_value, at_used, at_below, at_times, at_root}
-use Rattle.txn_tree_map.proofs.Descents.{around_node, missing_value}
-use Rattle.txn_tree_map.proofs.Searching.{laid_alike}
-use Rattle.txn_tree_map.proofs.Gets.{used_below}
+use Rattle.txn_tree_map.proofs.Held.Rising.{value_there}
+use Rattle.txn_tree_map.proofs.Held.Trees.{count_in, count_on, cells_plug, spelled_stays, hung_stays}
+use Rattle.txn_tree_map.proofs.Held.Places.{at_tree, at_value, at_used, at_below, at_times, at_root}
+use Rattle.txn_tree_map.proofs.Searches.SearchSteps.{around_node, missing_value}
+use Rattle.txn_tree_map.proofs.Searches.SearchCalls.{laid_alike}
+use Rattle.txn_tree_map.proofs.Searches.Gets.{used_below}
 
 -- in one word list the map is one
 pub one_map : (map : TreeMap) (s : List ℕ) (f g : Entries) (u w : Blocks) → TreeHolds map s f u → TreeHolds map s g w → (f ≡ g) × (u ≡ w)

@@ -78,7 +78,8 @@ PartsOne map key smaller greater rest smaller' greater' rest' old new =
 
 -- a is one of the two ends, or in the block that the number names the word of the key or of a name
 abbrev pub IsEndOrTop : TreeMap → ℕ → ℕ → ℕ → ℕ → Type 0
-IsEndOrTop map smaller greater rest a = (a ≡ smaller) ⊎ ((a ≡ greater) ⊎ ((b : ℕ) × (rest ≡ b + 1) × IsKeyOrName map b a))
+IsEndOrTop map smaller greater rest a =
+    (a ≡ smaller) ⊎ ((a ≡ greater) ⊎ ((b : ℕ) × (rest ≡ b + 1) × IsKeyOrName map b a))
 
 -- some tree is parted so far
 pub record CanPart (map : TreeMap) (key smaller greater rest : ℕ) (words : List ℕ) : Type 0 where
@@ -107,7 +108,8 @@ pub record Splits (map : TreeMap) (key block name : ℕ) (old new : List ℕ) : 
 
 -- a names a subtree in the block, or in a block of a tree that the name heads
 abbrev pub IsSplitOwn : TreeMap → ℕ → ℕ → ℕ → List ℕ → List ℕ → ℕ → Type 0
-IsSplitOwn map key block name before after a = (tree : Tree) → IsWhole map key block name tree before → IsNameIn map block tree a
+IsSplitOwn map key block name before after a =
+    (tree : Tree) → IsWhole map key block name tree before → IsNameIn map block tree a
 
 -- a is the word of the key or of a name in the block, or in a block of the tree
 pub record IsWordIn (map : TreeMap) (block : ℕ) (tree : Tree) (a : ℕ) : Type 0 where
@@ -117,7 +119,8 @@ pub record IsWordIn (map : TreeMap) (block : ℕ) (tree : Tree) (a : ℕ) : Type
 
 -- the same of a tree that the name heads
 abbrev pub IsSplitSeen : TreeMap → ℕ → ℕ → ℕ → List ℕ → List ℕ → ℕ → Type 0
-IsSplitSeen map key block name before after a = (tree : Tree) → IsWhole map key block name tree before → IsWordIn map block tree a
+IsSplitSeen map key block name before after a =
+    (tree : Tree) → IsWhole map key block name tree before → IsWordIn map block tree a
 
 -- the key is in no cell, and the block is one of the arena's and in none of the tree's cells
 pub record CanPut (map : TreeMap) (key block : ℕ) (words : List ℕ) : Type 0 where
@@ -127,7 +130,8 @@ pub record CanPut (map : TreeMap) (key block : ℕ) (words : List ℕ) : Type 0 
 
 -- a is the root, or in the block, or in the block of one of the cells
 abbrev pub IsRootOrIn : TreeMap → ℕ → List Cell → ℕ → Type 0
-IsRootOrIn map block cs a = (a ≡ map.root) ⊎ ((b : ℕ) × ((b ≡ block) ⊎ (has_block b cs ≡ true)) × IsInBlock map.arena b a)
+IsRootOrIn map block cs a =
+    (a ≡ map.root) ⊎ ((b : ℕ) × ((b ≡ block) ⊎ (has_block b cs ≡ true)) × IsInBlock map.arena b a)
 
 -- from state to state: the key's cell is in its place among those that were there, in the block
 pub record IsPut (map : TreeMap) (key value block : ℕ) (old new : List ℕ) : Type 0 where
@@ -136,13 +140,15 @@ pub record IsPut (map : TreeMap) (key value block : ℕ) (old new : List ℕ) : 
   pub left : Tree
   pub right : Tree
   pub is_at : HangsAt map path (Node left (record { block = block; key = key; value = value }) right) new
-  pub cells : before_of before.missing.path ++ after_of before.missing.path ≡ (before_of path ++ cells_of left) ++ (cells_of right ++ after_of path)
+  pub cells : before_of before.missing.path ++ after_of before.missing.path
+      ≡ (before_of path ++ cells_of left) ++ (cells_of right ++ after_of path)
   pub low : IsBelow key (before_of path ++ cells_of left)
   pub kept : KeepsOthers (IsRootOrIn map block (before_of before.missing.path ++ after_of before.missing.path)) old new
 
 -- a is the root, or in the block, or in one of the tree's blocks
 abbrev pub IsPutOwn : TreeMap → ℕ → ℕ → List ℕ → List ℕ → ℕ → Type 0
-IsPutOwn map key block before after a = (can : CanPut map key block before) → IsRootOrIn map block (before_of can.missing.path ++ after_of can.missing.path) a
+IsPutOwn map key block before after a = (can : CanPut map key block before)
+    → IsRootOrIn map block (before_of can.missing.path ++ after_of can.missing.path) a
 
 -- a is the root, or in the block, or in one of the tree's blocks the word of the key or of a name
 abbrev pub IsPutSeen : TreeMap → ℕ → ℕ → List ℕ → List ℕ → ℕ → Type 0

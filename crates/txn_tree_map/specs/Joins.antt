@@ -42,7 +42,8 @@ pub record CanJoin (map : TreeMap) (hole left right : ℕ) (words : List ℕ) : 
   pub pair : ArePair map hole left right first second words
 
 -- the two trees are joined so far: a path leads from the hole down to the place, and what is to be joined still is headed by the two rests
-pub record IsJoined (map : TreeMap) (hole left right turns place left_rest right_rest : ℕ) (old new : List ℕ) : Type 0 where
+pub record IsJoined (map : TreeMap) (hole left right turns place left_rest right_rest : ℕ)
+    (old new : List ℕ) : Type 0 where
   pub first : Tree
   pub second : Tree
   pub pair : ArePair map hole left right first second old
@@ -56,7 +57,8 @@ pub record IsJoined (map : TreeMap) (hole left right turns place left_rest right
   pub hung : IsHung map.arena new hole path place_has
   pub left_spelled : IsSpelled map.arena new lefts
   pub right_spelled : IsSpelled map.arena new rights
-  pub cells : cells_of first ++ cells_of second ≡ before_of path ++ ((cells_of lefts ++ cells_of rights) ++ after_of path)
+  pub cells : cells_of first ++ cells_of second
+      ≡ before_of path ++ ((cells_of lefts ++ cells_of rights) ++ after_of path)
   pub left_falls : (top : ℕ) → rank_of first ≤ top → rank_of second ≤ top → IsHigh top path (rank_of lefts)
   pub right_falls : (top : ℕ) → rank_of first ≤ top → rank_of second ≤ top → IsHigh top path (rank_of rights)
   pub left_heap : IsHeap lefts
@@ -117,7 +119,8 @@ IsJoinOwn map hole left right before after a = (first second : Tree) → ArePair
 -- the same of a hole, and of what may be read of the two trees
 abbrev pub IsJoinSeen : TreeMap → ℕ → ℕ → ℕ → List ℕ → List ℕ → ℕ → Type 0
 IsJoinSeen map hole left right before after a =
-    (first second : Tree) → ArePair map hole left right first second before → IsHoleOrWord map hole (cells_of first ++ cells_of second) a
+    (first second : Tree) → ArePair map hole left right first second before
+    → IsHoleOrWord map hole (cells_of first ++ cells_of second) a
 
 -- the key's cell is out of the tree: where it was hangs one tree of the cells below it
 pub record IsCut (map : TreeMap) (key place block value : ℕ) (old new : List ℕ) : Type 0 where
@@ -135,14 +138,17 @@ pub record CanCut (map : TreeMap) (place block : ℕ) (words : List ℕ) : Type 
 
 -- from state to state: whichever key was found there, its cell is out of the tree
 abbrev pub Cuts : TreeMap → ℕ → ℕ → ℕ → List ℕ → List ℕ → Type 0
-Cuts map place block value old new = (key : ℕ) → IsFoundAt map key place block old → IsCut map key place block value old new
+Cuts map place block value old new =
+    (key : ℕ) → IsFoundAt map key place block old → IsCut map key place block value old new
 
 -- a is the place, or names a subtree in a block below the cell
 abbrev pub IsCutOwn : TreeMap → ℕ → ℕ → List ℕ → List ℕ → ℕ → Type 0
-IsCutOwn map place block before after a = (key : ℕ) (h : IsFoundAt map key place block before) → IsHoleOrName map place (cells_of h.left ++ cells_of h.right) a
+IsCutOwn map place block before after a = (key : ℕ) (h : IsFoundAt map key place block before)
+    → IsHoleOrName map place (cells_of h.left ++ cells_of h.right) a
 
 -- a is a word of the block's value or of a name in it, or may be read of the two trees below it
 abbrev pub IsCutSeen : TreeMap → ℕ → ℕ → List ℕ → List ℕ → ℕ → Type 0
 IsCutSeen map place block before after a =
     ((a ≡ block_at map.arena block + 1) ⊎ IsKeyOrName map block a)
-    ⊎ ((key : ℕ) (h : IsFoundAt map key place block before) → IsHoleOrWord map place (cells_of h.left ++ cells_of h.right) a)
+    ⊎ ((key : ℕ) (h : IsFoundAt map key place block before)
+    → IsHoleOrWord map place (cells_of h.left ++ cells_of h.right) a)

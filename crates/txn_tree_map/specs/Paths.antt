@@ -45,14 +45,16 @@ after_of (st ∷ path) = (if st.left then st.cell ∷ cells_of st.other else [])
 abbrev pub IsHung : Arena → List ℕ → ℕ → Path → ℕ → Type 0
 IsHung arena words root [] name = slice_get words root ≡ Some name
 IsHung arena words root (st ∷ path) name =
-    HasNode arena words st.cell (if st.left then name else name_of st.other) (if st.left then name_of st.other else name)
+    HasNode arena words st.cell (if st.left then name else name_of st.other)
+    (if st.left then name_of st.other else name)
     × IsSpelled arena words st.other × IsHung arena words root path (st.cell.block + 1)
 
 -- the priorities of the path fall from the top downwards, and what hangs at its end reaches no higher than the last
 abbrev pub IsHigh : ℕ → Path → ℕ → Type 0
 IsHigh top [] rank = rank ≤ top
 IsHigh top (st ∷ path) rank =
-    (rank ≤ priority_of st.cell.key) × (rank_of st.other ≤ priority_of st.cell.key) × IsHeap st.other × IsHigh top path (priority_of st.cell.key + 1)
+    (rank ≤ priority_of st.cell.key) × (rank_of st.other ≤ priority_of st.cell.key) × IsHeap st.other
+    × IsHigh top path (priority_of st.cell.key + 1)
 
 -- all keys are below this one
 abbrev pub IsBelow : ℕ → List Cell → Type 0

@@ -14,7 +14,8 @@ IsKeyOrName map b a = (a ≡ block_at map.arena b) ⊎ ((a ≡ block_at map.aren
 -- block b is one of the tree's, wherever in it one stands
 abbrev pub IsOfTree : TreeMap → ℕ → List ℕ → Type 0
 IsOfTree map b words =
-    (path : Path) (tree : Tree) → HangsAt map path tree words → has_block b (before_of path ++ (cells_of tree ++ after_of path)) ≡ true
+    (path : Path) (tree : Tree) → HangsAt map path tree words
+    → has_block b (before_of path ++ (cells_of tree ++ after_of path)) ≡ true
 
 -- the root, or in a block of the tree the word of its key or of a name: what a search reads
 abbrev pub IsLink : TreeMap → List ℕ → ℕ → Type 0
@@ -36,7 +37,8 @@ pub record HasTop (map : TreeMap) (place : ℕ) (words : List ℕ) : Type 0 wher
 
 -- the word at the place names the block, and this is its key
 abbrev pub IsNamed : TreeMap → ℕ → ℕ → ℕ → List ℕ → Type 0
-IsNamed map place block key words = (slice_get words place ≡ Some (block + 1)) × (slice_get words (block_at map.arena block) ≡ Some key)
+IsNamed map place block key words =
+    (slice_get words place ≡ Some (block + 1)) × (slice_get words (block_at map.arena block) ≡ Some key)
 
 -- the word at the place names none
 abbrev pub IsEnd : ℕ → List ℕ → Type 0

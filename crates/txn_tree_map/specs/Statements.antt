@@ -30,4 +30,5 @@ PrioritiesDiffer = (key other : ℕ) → key < 2 ^ 64 → other < 2 ^ 64 → pri
 -- a map uses as many blocks as it has entries
 abbrev pub AsManyBlocks : Type 0
 AsManyBlocks =
-    (map : TreeMap) (words : List ℕ) (entries : Entries) (used : Blocks) → TreeHolds map words entries used → set.len used ≡ entry_map.len entries
+    (map : TreeMap) (words : List ℕ) (entries : Entries) (used : Blocks) → TreeHolds map words entries used
+    → set.len used ≡ entry_map.len entries

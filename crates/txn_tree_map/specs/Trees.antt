@@ -37,7 +37,8 @@ pub record HasNode (arena : Arena) (words : List ℕ) (c : Cell) (left right : �
 -- each node's block has its cell and names its subtrees
 abbrev pub IsSpelled : Arena → List ℕ → Tree → Type 0
 IsSpelled arena words Leaf = Unit {0}
-IsSpelled arena words (Node left c right) = HasNode arena words c (name_of left) (name_of right) × IsSpelled arena words left × IsSpelled arena words right
+IsSpelled arena words (Node left c right) =
+    HasNode arena words c (name_of left) (name_of right) × IsSpelled arena words left × IsSpelled arena words right
 
 -- the word at this place heads this tree
 abbrev pub HasTree : Arena → List ℕ → ℕ → Tree → Type 0
@@ -69,7 +70,8 @@ rank_of (Node left c right) = priority_of c.key + 1
 -- a heap: the priority of each node is above those of the nodes right below it
 abbrev pub IsHeap : Tree → Type 0
 IsHeap Leaf = Unit {0}
-IsHeap (Node left c right) = (rank_of left ≤ priority_of c.key) × (rank_of right ≤ priority_of c.key) × IsHeap left × IsHeap right
+IsHeap (Node left c right) =
+    (rank_of left ≤ priority_of c.key) × (rank_of right ≤ priority_of c.key) × IsHeap left × IsHeap right
 
 -- the root is a word of the list, no head of the arena, and in no block
 pub record IsLaid (map : TreeMap) (words : List ℕ) : Type 0 where

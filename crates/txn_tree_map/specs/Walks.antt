@@ -11,7 +11,8 @@ use Rattle.txn_tree_map.specs.Sums.{IsFrom, IsFirstFrom}
 -- the nodes at which a path goes to the left, from the root downwards
 abbrev pub lefts_of : Path → List Named
 lefts_of [] = []
-lefts_of (st ∷ path) = lefts_of path ++ (if st.left then record { block = st.cell.block; key = st.cell.key } ∷ [] else [])
+lefts_of (st ∷ path) =
+    lefts_of path ++ (if st.left then record { block = st.cell.block; key = st.cell.key } ∷ [] else [])
 
 -- a walk keeps one node more; it drops none, or the farther half of a full room, and is not whole then
 pub record Keeps (node : Named) (old new : Walk) : Type 0 where
@@ -38,5 +39,6 @@ pub record IsWalk (map : TreeMap) (walk : Walk) (least passed : ℕ) (words : Li
 
 -- the walk has come to the first node from a key on, and stands right behind it; or to none, and where it is whole there is none
 abbrev pub HasCome : TreeMap → Walk → ℕ → Option Named → List ℕ → Type 0
-HasCome map walk least (Some node) words = IsFirstFrom map least (Some node) words × IsWalk map walk (node.key + 1) 0 words
+HasCome map walk least (Some node) words =
+    IsFirstFrom map least (Some node) words × IsWalk map walk (node.key + 1) 0 words
 HasCome map walk least None words = walk.whole ≡ true → IsFirstFrom map least None words

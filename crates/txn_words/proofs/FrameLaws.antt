@@ -6,8 +6,8 @@ use Rattle.history_model.specs.declared.shape.Shape.{Ghosts as Shapes}
 use Rattle.history_model.specs.declared.event.Event.{Event}
 use Rattle.history_model.specs.declared.event.Event.TheVariants.{Read, Write}
 use Rattle.history_model.specs.Traces.{Trace, after, Writes}
-use Rattle.history_model.proofs.TraceLaws.{after-append, length-after}
-use Rattle.history_model.proofs.LastEvents.{unwritten_stays}
+use Rattle.history_model.proofs.Traces.TraceLaws.{after-append, length-after}
+use Rattle.history_model.proofs.Traces.LastEvents.{unwritten_stays}
 use Rattle.txn_words.specs.declared.words.Words.{Ghosts as AnyWords}
 use Rattle.txn_words.specs.Steps.{EndsWithWrite}
 use Rattle.txn_words.specs.Frames.{AppendsOnly, KeepsOthers}

@@ -8,10 +8,10 @@ use Rattle.history_model.specs.Traces.{Trace, after, IsLegalTrace, Begins, Write
 use Rattle.history_model.specs.Fitting.{Fits, SomeFits}
 use Rattle.history_model.specs.Undoing.{Notes, written_back, notes_of}
 use Rattle.history_model.specs.Marks.{count_writes}
-use Rattle.history_model.proofs.TraceLaws.{legal_parts, legal_write, begins_refl, begins_trans}
-use Rattle.history_model.proofs.FittingLaws.{fits_begins}
-use Rattle.history_model.proofs.HistoryLaws.{get_first}
-use Rattle.history_model.proofs.MarkLaws.{notes_by_parts, notes_counted, rest_undone, written_reads_the_same, noted_was_written}
+use Rattle.history_model.proofs.Traces.TraceLaws.{legal_parts, legal_write, begins_refl, begins_trans}
+use Rattle.history_model.proofs.Traces.FittingLaws.{fits_begins}
+use Rattle.history_model.proofs.ListPlaces.{get_first}
+use Rattle.history_model.proofs.Traces.MarkLaws.{notes_by_parts, notes_counted, rest_undone, written_reads_the_same, noted_was_written}
 use Rattle.txn_words.specs.declared.words.Words.{Ghosts as AnyWords}
 use Rattle.txn_words.specs.Calls.{SameAsAtMark}
 use Rattle.txn_words.specs.Steps.{EndsWithWrite}

@@ -5,7 +5,7 @@ use Rattle.std.proofs.lemmas.Option.{get_or_from_slice_get, slice_get_within}
 use Rattle.history_model.specs.declared.event.Event.TheVariants.{Read}
 use Rattle.history_model.specs.Traces.{Trace, after}
 use Rattle.history_model.specs.Fitting.{Fits}
-use Rattle.history_model.proofs.FittingLaws.{Found, found}
+use Rattle.history_model.proofs.Traces.FittingLaws.{Found, found}
 use Rattle.txn_words.specs.Steps.{EndsWithWrite}
 use Rattle.txn_words.proofs.Steps.{after_write_end}
 

@@ -9,10 +9,10 @@ use Rattle.history_model.specs.Traces.{Trace, after, IsLegalTrace}
 use Rattle.history_model.specs.Fitting.{IsGood, Fits}
 use Rattle.history_model.specs.Undoing.{Notes, notes_of, written_back}
 use Rattle.history_model.specs.Marks.{count_writes}
-use Rattle.history_model.proofs.TraceLaws.{legal_read, legal_whole, after_read, after-append, length-after}
-use Rattle.history_model.proofs.FittingLaws.{fits_front}
-use Rattle.history_model.proofs.UndoLaws.{writes_undone}
-use Rattle.history_model.proofs.MarkLaws.{notes_counted, one_note_more, read_unnoted}
+use Rattle.history_model.proofs.Traces.TraceLaws.{legal_read, legal_whole, after_read, after-append, length-after}
+use Rattle.history_model.proofs.Traces.FittingLaws.{fits_front}
+use Rattle.history_model.proofs.Traces.UndoLaws.{writes_undone}
+use Rattle.history_model.proofs.Traces.MarkLaws.{notes_counted, one_note_more, read_unnoted}
 use Rattle.txn_words.specs.Plainly.{PlainView, Follows}
 
 one_within : (a was n : ℕ) → a < n → All (λ (note : ℕ × ℕ). note.0 < n) ((a, was) ∷ [])

@@ -3,9 +3,9 @@ use Rattle.std.proofs.Common.{◌≡◌, ℕ, List, [], ◌∷◌, ◌++◌, sli
 use Rattle.history_model.specs.declared.shape.Shape.{Ghosts as Shapes}
 use Rattle.history_model.specs.declared.event.Event.TheVariants.{Read}
 use Rattle.history_model.specs.Traces.{Trace, after, Begins}
-use Rattle.history_model.specs.Fitting.{Fits, InEach, Leads}
-use Rattle.history_model.proofs.TraceLaws.{read_there, after_read, begins_refl, begins_trans}
-use Rattle.history_model.proofs.FittingLaws.{fits_begins, each_at, leads_at}
+use Rattle.history_model.specs.Fitting.{Fits, SomeFits, InEach, Leads}
+use Rattle.history_model.proofs.Traces.TraceLaws.{read_there, after_read, begins_refl, begins_trans}
+use Rattle.history_model.proofs.Traces.FittingLaws.{fits_begins, some_at, each_at, leads_at}
 use Rattle.txn_words.specs.declared.words.Words.{Ghosts as AnyWords}
 use Rattle.txn_words.specs.Calls.{InEachState, LeadsTo, WritesOnly, WritesWithin, ReadsWithin}
 use Rattle.txn_words.specs.Frames.{AppendsOnly, AppendsReads}
@@ -128,6 +128,12 @@ leads_from words shapes u v w R e h =
 pub each_from : {W S O : Type 0} (words : AnyWords W S O) (shapes : Shapes S) (u v : W) (P : List ℕ → Type 0) → words.shape v ≡ words.shape u
     → InEach (shapes.word_count (words.shape u)) (shapes.good (words.shape u)) (words.trace v) P → InEachState words shapes v P
 each_from words shapes u v P e h = record { at = (each_at shapes.word_count shapes.good (words.trace v) P (words.shape u) (words.shape v) (sym e) h).at }
+
+-- a list that fits what a later call left, likewise
+pub some_from : {W S O : Type 0} (words : AnyWords W S O) (shapes : Shapes S) (u v : W) → words.shape v ≡ words.shape u
+    → SomeFits (shapes.word_count (words.shape v)) (shapes.good (words.shape v)) (words.trace v)
+    → SomeFits (shapes.word_count (words.shape u)) (shapes.good (words.shape u)) (words.trace v)
+some_from words shapes u v e some = some_at shapes.word_count shapes.good (words.trace v) (words.shape v) (words.shape u) e some
 
 -- a later call's frame, likewise
 pub within_from : {W S O : Type 0} (words : AnyWords W S O) (shapes : Shapes S) (u v w : W) (IsOwn : List ℕ → List ℕ → ℕ

@@ -3,8 +3,8 @@ use Rattle.std.proofs.Common.{◌≡◌, ℕ, List, [], ◌∷◌, inl, inr, sli
 use Rattle.history_model.specs.declared.event.Event.TheVariants.{Read, Write}
 use Rattle.history_model.specs.Traces.{Trace, after}
 use Rattle.history_model.specs.Fitting.{Fits}
-use Rattle.history_model.proofs.TraceLaws.{after-append}
-use Rattle.history_model.proofs.FittingLaws.{fits_front}
+use Rattle.history_model.proofs.Traces.TraceLaws.{after-append}
+use Rattle.history_model.proofs.Traces.FittingLaws.{fits_front}
 use Rattle.txn_words.specs.Steps.{EndsWithWrite}
 
 pub after_write_end : (t u : Trace) (a v : ℕ) (s : List ℕ) → EndsWithWrite t u a v → after u s ≡ slice_set (after t s) a v

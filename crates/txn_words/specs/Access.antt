@@ -7,7 +7,8 @@ abbrev pub OfModel : {Model : Type 0} → (List ℕ → Model → Type 0) → (M
 OfModel {Model} stands P words = (model : Model) → stands words model → P model
 
 -- from state to state: nothing changes, and the answer is what the model says
-pub record Tells {Model A : Type 0} (stands : List ℕ → Model → Type 0) (says : Model → A) (answer : A) (old new : List ℕ) : Type 0 where
+pub record Tells {Model A : Type 0} (stands : List ℕ → Model → Type 0) (says : Model → A) (answer : A)
+    (old new : List ℕ) : Type 0 where
   pub same : new ≡ old
   pub told : (model : Model) → stands old model → answer ≡ says model
 

@@ -36,7 +36,8 @@ module _ {W S O : Type 0} (words : AnyWords W S O) where
   module _ (shapes : Shapes S) where
     -- P holds in every good state that fits the trace
     pub record InEachState (w : W) (P : List ℕ → Type 0) : Type 0 where
-      pub at : (s : List ℕ) → Fits (shapes.word_count (words.shape w)) (shapes.good (words.shape w)) (words.trace w) s → P (after (words.trace w) s)
+      pub at : (s : List ℕ) → Fits (shapes.word_count (words.shape w)) (shapes.good (words.shape w)) (words.trace w) s
+          → P (after (words.trace w) s)
 
     -- R leads from what the old trace leaves to what the new one leaves, of every good list on which the new one is legal
     pub record LeadsTo (old new : W) (R : List ℕ → List ℕ → Type 0) : Type 0 where
@@ -47,19 +48,24 @@ module _ {W S O : Type 0} (words : AnyWords W S O) where
     -- that it appended is at a word that IsOwn holds of, from what the old trace leaves and what the new one leaves
     pub record WritesWithin (old new : W) (IsOwn : List ℕ → List ℕ → ℕ → Type 0) : Type 0 where
       pub at : (s : List ℕ) → Fits (shapes.word_count (words.shape old)) (shapes.good (words.shape old))
-          (words.trace new) s → AppendsOnly (words.trace old) (words.trace new) (IsOwn (after (words.trace old) s) (after (words.trace new) s))
+          (words.trace new) s
+          → AppendsOnly (words.trace old) (words.trace new)
+          (IsOwn (after (words.trace old) s) (after (words.trace new) s))
 
     -- what a call reads, likewise
     pub record ReadsWithin (old new : W) (IsSeen : List ℕ → List ℕ → ℕ → Type 0) : Type 0 where
       pub at : (s : List ℕ) → Fits (shapes.word_count (words.shape old)) (shapes.good (words.shape old))
-          (words.trace new) s → AppendsReads (words.trace old) (words.trace new) (IsSeen (after (words.trace old) s) (after (words.trace new) s))
+          (words.trace new) s
+          → AppendsReads (words.trace old) (words.trace new)
+          (IsSeen (after (words.trace old) s) (after (words.trace new) s))
 
     -- the law of marks: after going back to a mark that was taken where a front of the trace ended, the words are in each
     -- state what they were at the mark
     abbrev pub SameAsAtMark : Type 0
     SameAsAtMark =
         (marked old new : W)
-        → words.shape old ≡ words.shape marked → Begins (words.trace marked) (words.trace old) → Begins (words.trace old) (words.trace new)
+        → words.shape old ≡ words.shape marked → Begins (words.trace marked) (words.trace old)
+        → Begins (words.trace old) (words.trace new)
         → TakesBack (shapes.word_count (words.shape old)) (shapes.good (words.shape old))
         (count_writes (words.trace marked)) (words.trace old) (words.trace new)
         → LeadsTo marked new (λ before now. now ≡ before)

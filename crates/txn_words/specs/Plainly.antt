@@ -15,7 +15,8 @@ pub record PlainView (S : Type 0) : Type 0 where
 
 -- the trace is legal on the good list that it began from, the words are what it leaves of that list, and the notes are
 -- those of its writes, on whatever good list it is legal
-pub record Follows (word_count : ℕ) (is_good : List ℕ → Type 0) (origin : List ℕ) (trace : Trace) (notes : Notes) (words : List ℕ) : Type 0 where
+pub record Follows (word_count : ℕ) (is_good : List ℕ → Type 0) (origin : List ℕ) (trace : Trace) (notes : Notes)
+    (words : List ℕ) : Type 0 where
   pub fits : Fits word_count is_good trace origin
   pub same : words ≡ after trace origin
   pub noted : (s : List ℕ) → Fits word_count is_good trace s → notes ≡ notes_of trace s

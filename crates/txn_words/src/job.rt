@@ -2,7 +2,7 @@
 
 ghost use Rattle.std.specs.Prelude.{◌≡◌, ◌↔◌, ℕ, [], List, Bool, true, None, Some, Err, IfOk, OnOk};
 ghost use Rattle.history_model.specs.Traces.{after};
-ghost use Rattle.history_model.specs.Fitting.{Fits};
+ghost use Rattle.history_model.specs.Fitting.{Fits, SomeFits};
 ghost use Rattle.txn_words.specs.Verdicts.{is_kept, answer_of};
 
 use crate::words::{Stop, Words};
@@ -64,3 +64,11 @@ pub trait Job {
         ensures origin { W.origin w.new ≡ W.origin w.old }
         ensures sound { W.is_sound w.new };
 }
+
+/// Some good list fits what was done so far. It does nothing: a job calls it where it relies on what good lists have in
+/// common, as where a number has to fit.
+pub fn some_fits<W: Words>(w: &W, shape: &W::Shape)
+    requires shape { W.shape w.now ≡ shape.now }
+    requires sound { W.is_sound w.now }
+    ensures some { SomeFits (W.Shape.word_count shape.now) (W.Shape.good shape.now) (W.trace w.now) }
+{}

@@ -2,7 +2,8 @@
 //!
 //! `Words` is what code above sees of the memory, whatever is beneath: a plain list here, a shared table
 //! elsewhere. `Job` is a transaction over any words. `Plain` is the plain list: beside each job it shows what
-//! the job means, and `run_on_plain` runs it there. `specs/Calls` has what a call on words asks and leaves, for the contracts of collections.
+//! the job means, and `run_on_plain` runs it there. `specs/Calls` has what a call on words asks and leaves, for the
+//! contracts of collections.
 #![tactic(auto)]
 
 pub mod job;
@@ -11,7 +12,7 @@ pub mod on_plain;
 pub mod plain;
 pub mod words;
 
-pub use job::{Job, Verdict};
+pub use job::{Job, Verdict, some_fits};
 pub use on_plain::run_on_plain;
 pub use plain::Plain;
 pub use words::{Mark, Stop, Words};

@@ -33,8 +33,8 @@ impl Model for WordList {
 
 /// Words in a list of one's own, with the trace of all that was done to them, and an undo log.
 ///
-/// It gives way to nobody, and stops only where it is out of memory for its trace or its log. Contracts see its shape, the list that it
-/// was made from, the trace and the stop; the words are what the trace leaves of the list.
+/// It gives way to nobody, and stops only where it is out of memory for its trace or its log. Contracts see its shape, the
+/// list that it was made from, the trace and the stop; the words are what the trace leaves of the list.
 #[derive(Drop)]
 pub struct Plain<S: Shape> {
     shape: S,
@@ -50,9 +50,15 @@ impl<S: Shape> Model for Plain<S> {
 
     ghost Value = { PlainView S };
 
-    ghost view = { λ p. record { shape = p.shape; origin = p.start.value.items; trace = p.trace.items; stop = p.stop } };
+    ghost view = { λ p. record {
+      shape = p.shape;
+      origin = p.start.value.items;
+      trace = p.trace.items;
+      stop = p.stop;
+    } };
 
-    ghost invariant = { λ p. Follows (S.word_count p.shape) (S.good p.shape) p.start.value.items p.trace.items p.undo.list p.words.items };
+    ghost invariant = { λ p. Follows (S.word_count p.shape) (S.good p.shape)
+        p.start.value.items p.trace.items p.undo.list p.words.items };
 }
 
 impl<S: Shape> Plain<S> {

@@ -18,7 +18,8 @@ use Rattle.history_model.specs.Table.{Knows, history_of, serial_word, calls_word
 use Rattle.history_model.specs.Traces.{Trace, Touches, Writes, value_after, IsLegalTrace}
 use Rattle.history_model.specs.Undoing.{Notes}
 use Rattle.history_model.specs.Views.{HasWriteGrant, IsGranted}
-use Rattle.history_model.proofs.HistoryLaws.{get_cases, attempts_wider}
+use Rattle.history_model.proofs.Histories.HistoryLaws.{attempts_wider}
+use Rattle.history_model.proofs.ListPlaces.{get_cases}
 use Rattle.history_model.proofs.SetLemmas.{differ, has-join_same}
 use Rattle.history_model.proofs.TableLaws.{seen_at_most}
 use Rattle.locks_rule.specs.Actions.{Action, found_by, words_after, views_after}

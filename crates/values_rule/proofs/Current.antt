@@ -10,10 +10,10 @@ use Rattle.history_model.specs.Sets.{has}
 use Rattle.history_model.specs.Table.{Knows, history_of}
 use Rattle.history_model.specs.Traces.{after, value_after}
 use Rattle.history_model.specs.Views.{IsGranted}
-use Rattle.history_model.proofs.EndEvents.{last_event, no_event, touched_if_written}
-use Rattle.history_model.proofs.LastEvents.{get-after-value_after, last_from_touched}
-use Rattle.history_model.proofs.Places.{same_view}
-use Rattle.history_model.proofs.ReplayLaws.{length-replay}
+use Rattle.history_model.proofs.Traces.EndEvents.{last_event, no_event, touched_if_written}
+use Rattle.history_model.proofs.Traces.LastEvents.{get-after-value_after, last_from_touched}
+use Rattle.history_model.proofs.Views.Places.{same_view}
+use Rattle.history_model.proofs.Histories.ReplayLaws.{length-replay}
 use Rattle.history_model.proofs.SetLemmas.{has-join_same}
 use Rattle.locks_rule.specs.Locks.{LocksHold}
 use Rattle.values_rule.specs.Values.{value_at, oldest, ValuesHold}

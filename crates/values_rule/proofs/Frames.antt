@@ -17,10 +17,10 @@ use Rattle.history_model.specs.Table.{Knows, history_of, serial_word, calls_word
 use Rattle.history_model.specs.Traces.{IsLegalTrace, Writes, Touches, value_after}
 use Rattle.history_model.specs.Views.{HasWriteGrant, IsGranted}
 use Rattle.history_model.proofs.SetLemmas.{differ, not_true, has-join_same}
-use Rattle.history_model.proofs.Places.{same_view, put_here, put_there, put_cases}
+use Rattle.history_model.proofs.Views.Places.{same_view, put_here, put_there, put_cases}
 use Rattle.locks_rule.specs.Locks.{LocksHold, IsSeat}
 use Rattle.values_rule.specs.Values.{value_at, oldest, SeenPrefixes, HistoryLegal, CallsCounted, UndoRestores, TraceCurrent, FloorAndAbandoned, ValuesHold}
-use Rattle.history_model.proofs.LastEvents.{touched_by_last}
+use Rattle.history_model.proofs.Traces.LastEvents.{touched_by_last}
 use Rattle.values_rule.proofs.Counting.{saw_all, no_more, history_is, open_count-set}
 
 -- what was seen: no less, and no list of another's more

@@ -1,93 +1,15 @@
 -- The memory with all unfinished writes taken back is what the history leaves.
-use Rattle.std.proofs.Common.{◌≡◌, ℕ, zero, suc, ◌+◌, ◌<◌, ⊎_elim, List, [], ◌∷◌, length, Some, None, slice_get, slice_index, slice_set, get_or, refl, sym, ap}
-use Rattle.std.proofs.Common.{◌∙◌, subst, arith, eq-eqb, ne_eqb, length-drop, get_or-drop}
-use Rattle.std.proofs.lemmas.List.{length-set}
-use Rattle.std.proofs.lemmas.Option.{slice_get-get_or, same_Some}
-use mathlib.Core.Option.{some-injective}
-use mathlib.Core.Logic.{dite}
-use native.Mathlib.Decide.{ℕ_discrete}
-use Rattle.history_model.specs.declared.view.View.{View}
+use Rattle.std.proofs.Common.{◌≡◌, List, ℕ, length, arith, length-drop}
 use Rattle.history_model.specs.Histories.{replay}
-use Rattle.history_model.specs.Table.{Knows, history_of, value_word}
-use Rattle.history_model.specs.Undoing.{Notes, written_back}
-use Rattle.history_model.proofs.ReplayLaws.{length-replay}
-use Rattle.history_model.proofs.TraceLaws.{get_set_same, get_set_other}
-use Rattle.values_rule.specs.Undone.{memory_of, undone_by, UndoingRestores}
-use Rattle.values_rule.specs.Values.{value_at, oldest}
-use Rattle.values_rule.proofs.Notes.{option_cases}
-
-length-written_back : (notes : Notes) (s : List ℕ) → length (written_back notes s) ≡ length s
-unfolding written_back
-length-written_back [] s = refl
-length-written_back (note ∷ notes) s = length-set (written_back notes s) note.0 note.1 ∙ length-written_back notes s
-
--- a word that is noted gets its oldest value
-noted_back : (notes : Notes) (s : List ℕ) (a o : ℕ) → a < length s → oldest a notes ≡ Some o → slice_get (written_back notes s) a ≡ Some o
-unfolding written_back oldest
-noted_back [] s a o lt e = cc
-noted_back (note ∷ notes) s a o lt e = let long = length-written_back notes s in dite (ℕ_discrete a note.0)
-    (λ q. let is : note.1 ≡ o = same_Some note.1 o (rw (eq-eqb a note.0 q) at e) in
-    subst (λ (i : ℕ). slice_get (slice_set (written_back notes s) i note.1) a ≡ Some o) q
-    (get_set_same (written_back notes s) a note.1 (omega arith) ∙ ap (λ (x : ℕ). Some x) is))
-    (λ n. get_set_other (written_back notes s) note.0 a note.1 n ∙ noted_back notes s a o lt (rw (ne_eqb a note.0 n) at e))
-
--- and one that is not stays
-unnoted_back : (notes : Notes) (s : List ℕ) (a : ℕ) → oldest a notes ≡ None → slice_get (written_back notes s) a ≡ slice_get s a
-unfolding written_back oldest
-unnoted_back [] s a e = refl
-unnoted_back (note ∷ notes) s a e = dite (ℕ_discrete a note.0)
-    (λ q. absurd (let z = rw (eq-eqb a note.0 q) at e in cc))
-    (λ n. get_set_other (written_back notes s) note.0 a note.1 n ∙ unnoted_back notes s a (rw (ne_eqb a note.0 n) at e))
-
-length-undone_by : (vs : List View) (s : List ℕ) → length (undone_by vs s) ≡ length s
-unfolding undone_by
-length-undone_by [] s = refl
-length-undone_by (v ∷ vs) s = length-undone_by vs (written_back v.undo s) ∙ length-written_back v.undo s
-
--- where all notes of a word have the value x, and the word has it or is noted, it has x in the end
-settles : (vs : List View) (s : List ℕ) (a x : ℕ) → a < length s → ((id o : ℕ) (v : View) → Knows vs id v → oldest a v.undo ≡ Some o → Some x ≡ Some o)
-    → (((id : ℕ) (v : View) → Knows vs id v → oldest a v.undo ≡ None) → slice_get s a ≡ Some x) → slice_get (undone_by vs s) a ≡ Some x
-unfolding undone_by
-settles [] s a x lt agree rest = rest (λ id v e. absurd (cc e))
-settles (v ∷ vs) s a x lt agree rest =
-    let long = length-written_back v.undo s in
-    settles vs (written_back v.undo s) a x (omega arith) (λ id o u e. agree (suc id) o u e)
-    (λ free. ⊎_elim
-    (λ (none : oldest a v.undo ≡ None). unnoted_back v.undo s a none ∙ rest (λ id u e. first_or_rest id u e none free))
-    (λ (some : (o : ℕ) × (oldest a v.undo ≡ Some o)). noted_back v.undo s a some.0 lt some.1 ∙ sym (agree zero some.0 v refl some.1))
-    (option_cases (oldest a v.undo)))
-  where
-    first_or_rest : (id : ℕ) (u : View) → Knows (v ∷ vs) id u → oldest a v.undo ≡ None
-        → ((i : ℕ) (y : View) → Knows vs i y → oldest a y.undo ≡ None) → oldest a u.undo ≡ None
-    first_or_rest zero u e none free = subst (λ (y : View). oldest a y.undo ≡ None) (some-injective v u e) none
-    first_or_rest (suc id) u e none free = free id u e
-
--- lists with the same words are one
-same_list : (s r : List ℕ) → length s ≡ length r → ((a : ℕ) → a < length s → slice_get s a ≡ slice_get r a) → s ≡ r
-same_list [] [] e same = refl
-same_list [] (y ∷ r) e same = absurd (omega arith)
-same_list (x ∷ s) [] e same = absurd (omega arith)
-same_list (x ∷ s) (y ∷ r) e same =
-    let head : x ≡ y = same_Some x y (same zero (omega arith)) in
-    let tail : s ≡ r = same_list s r (omega arith) (λ a lt. same (suc a) (omega arith)) in
-    ap (λ (z : ℕ). z ∷ s) head ∙ ap (λ (l : List ℕ). y ∷ l) tail
+use Rattle.history_model.specs.Table.{history_of, value_word}
+use Rattle.history_model.proofs.Histories.ReplayLaws.{length-replay}
+use Rattle.values_rule.specs.Undone.{memory_of, UndoingRestores}
+use Rattle.values_rule.proofs.WrittenBack.{restored}
 
 pub undoing_restores : (good : List ℕ → Type 0) → UndoingRestores good
 undoing_restores good n base ws vs h q =
     let now : List ℕ = replay base (history_of vs) in
     let now_long : length now ≡ length base = length-replay base (history_of vs) in
-    let memory : List ℕ = memory_of n ws in
-    let memory_long : length memory ≡ length base = let d = length-drop (value_word n 0) ws in omega (arith, d, h.word_count) in
-    let undone_long = length-undone_by vs memory in
-    same_list (undone_by vs memory) now (omega arith)
-    (λ a lt.
-    let within : a < length base = omega arith in
-    let x : ℕ = slice_index now a in
-    let is : slice_get now a ≡ Some x = slice_get-get_or now a 0 (omega arith) in
-    let value : slice_get memory a ≡ Some (value_at n ws a) = slice_get-get_or memory a 0 (omega arith)
-    ∙ ap (λ (y : ℕ). Some y) (get_or-drop (value_word n 0) ws a 0 ∙ ap (λ (i : ℕ). get_or ws i 0) (shifted n a)) in
-    settles vs memory a x (omega arith) (λ id o v e t. sym is ∙ (q.undo.noted id a o v e t).2) (λ free. value
-    ∙ (sym (q.undo.unnoted a within free) ∙ is)) ∙ sym is)
-  where
-    shifted : (n a : ℕ) → value_word n 0 + a ≡ value_word n a
-    shifted n a = omega arith
+    let memory_long : length (memory_of n ws) ≡ length base = let d = length-drop (value_word n 0) ws in omega (arith, d, h.word_count) in
+    restored n ws now vs (omega (arith, now_long, memory_long)) (λ id a o v e t. (q.undo.noted id a o v e t).2)
+    (λ a lt free. q.undo.unnoted a (omega (arith, lt, now_long)) free)

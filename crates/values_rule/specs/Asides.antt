@@ -64,7 +64,8 @@ pub record GivesWay (cause : Cause) (history : List Entry) (v w : View) : Type 0
   pub seen : w.seen ≡ history
   pub olds : w.olds ≡ v.olds
   pub stamp : w.stamp ≡ v.stamp
-  pub abandoned : w.abandoned ≡ v.abandoned ++ record { cause = cause; front = length history; trace = v.trace; uses = [] } ∷ []
+  pub abandoned : w.abandoned
+      ≡ v.abandoned ++ record { cause = cause; front = length history; trace = v.trace; uses = [] } ∷ []
   pub undo : w.undo ≡ v.undo
   pub writes : (k : ℕ) → HasWriteGrant v k → HasWriteGrant w k
 

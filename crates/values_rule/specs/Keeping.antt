@@ -25,5 +25,6 @@ KeepsValueRuleSplit good may left given =
 abbrev pub KeepsValueRuleJoin : (List ℕ → Type 0) → (View → View → Type 0) → (View → View → View) → Type 0
 KeepsValueRuleJoin good may both =
     (n : ℕ) (base words : List ℕ) (views : List View) (id other : ℕ) (v w : View)
-    → LocksHold n base words views → ValuesHold good n base words views → other ≢ id → Knows views id v → Knows views other w → may v w
+    → LocksHold n base words views → ValuesHold good n base words views → other ≢ id → Knows views id v
+    → Knows views other w → may v w
     → ValuesHold good n base words (views_joined id other (both v w) views)

@@ -39,9 +39,11 @@ pub record HistoryLegal (good : List ℕ → Type 0) (n : ℕ) (base : List ℕ)
 
 -- each seat has seen its own entries, and there is at most one for each call that was begun
 pub record CallsCounted (n : ℕ) (words : List ℕ) (views : List View) : Type 0 where
-  pub own_seen : (id j q : ℕ) (v : View) (e : Entry) → IsSeat views id v j → slice_get (history_of views) q ≡ Some e → e.who ≡ j
+  pub own_seen : (id j q : ℕ) (v : View) (e : Entry) → IsSeat views id v j → slice_get (history_of views) q ≡ Some e
+      → e.who ≡ j
       → q < length v.seen
-  pub old_seen : (id j q : ℕ) (v : View) (o : Old) (e : Entry) → Knows views id v → IsIn o v.olds → has j o.numbers ≡ true
+  pub old_seen : (id j q : ℕ) (v : View) (o : Old) (e : Entry) → Knows views id v → IsIn o v.olds
+      → has j o.numbers ≡ true
       → slice_get (history_of views) q ≡ Some e → e.who ≡ j → q < length o.seen
   pub old_numbers : (id j : ℕ) (v : View) (o : Old) → Knows views id v → IsIn o v.olds → has j o.numbers ≡ true
       → (has j v.who ≡ true) × (v.joined ≡ true)
@@ -50,11 +52,14 @@ pub record CallsCounted (n : ℕ) (words : List ℕ) (views : List View) : Type 
   pub callers_alone : (id : ℕ) (v : View) → Knows views id v → v.phase ≢ Idle → (j : ℕ) × (v.who ≡ j ∷ [])
   pub alone_unjoined : (id j : ℕ) (v : View) → Knows views id v → v.who ≡ j ∷ [] → v.joined ≡ false
   -- an unjoined view of several numbers is the one from which the seats are made, and began no call
-  pub dealers_fresh : (id i j : ℕ) (v : View) → IsSeat views id v i → IsSeat views id v j → i ≢ j → v.joined ≡ false → v.call ≡ 0
-  pub calls_shown : (id j : ℕ) (v : View) → IsSeat views id v j → v.joined ≡ false → slice_index words (calls_word n j) ≡ v.call
+  pub dealers_fresh : (id i j : ℕ) (v : View) → IsSeat views id v i → IsSeat views id v j → i ≢ j → v.joined ≡ false
+      → v.call ≡ 0
+  pub calls_shown : (id j : ℕ) (v : View) → IsSeat views id v j → v.joined ≡ false
+      → slice_index words (calls_word n j) ≡ v.call
   pub entries_numbered : (id j q : ℕ) (v : View) (e : Entry) → IsSeat views id v j → v.joined ≡ false
       → slice_get (history_of views) q ≡ Some e → e.who ≡ j → e.call ≤ v.call
-  pub open_numbered : (id j q : ℕ) (v : View) (e : Entry) → IsSeat views id v j → v.joined ≡ false → is_open v.phase ≡ true
+  pub open_numbered : (id j q : ℕ) (v : View) (e : Entry) → IsSeat views id v j → v.joined ≡ false
+      → is_open v.phase ≡ true
       → slice_get (history_of views) q ≡ Some e → e.who ≡ j → e.call < v.call
   -- calls are counted from 1
   pub entries_from_one : (q : ℕ) (e : Entry) → slice_get (history_of views) q ≡ Some e → 0 < e.call
@@ -75,9 +80,12 @@ pub record TraceCurrent (n : ℕ) (base now words : List ℕ) (views : List View
   pub granted : (id a : ℕ) (v : View) → Knows views id v → is_attempt v.phase ≡ true → Touches v.trace a
       → (a < length base) × IsGranted v (lock_of_word a)
   pub legal : (id : ℕ) (v : View) → Knows views id v → is_attempt v.phase ≡ true → IsLegalTrace v.trace now
-  pub undo_written : (id a o : ℕ) (v : View) → Knows views id v → is_attempt v.phase ≡ true → oldest a v.undo ≡ Some o → Writes v.trace a
-  pub written_noted : (id a : ℕ) (v : View) → Knows views id v → v.phase ≡ Running → Writes v.trace a → IsSome (oldest a v.undo)
-  pub last_stands : (id a x : ℕ) (v : View) → Knows views id v → v.phase ≡ Running → value_after v.trace a None ≡ Some x → value_at n words a ≡ x
+  pub undo_written : (id a o : ℕ) (v : View) → Knows views id v → is_attempt v.phase ≡ true → oldest a v.undo ≡ Some o
+      → Writes v.trace a
+  pub written_noted : (id a : ℕ) (v : View) → Knows views id v → v.phase ≡ Running → Writes v.trace a
+      → IsSome (oldest a v.undo)
+  pub last_stands : (id a x : ℕ) (v : View) → Knows views id v → v.phase ≡ Running → value_after v.trace a None ≡ Some x
+      → value_at n words a ≡ x
   pub rested : (id : ℕ) (v : View) → Knows views id v → (v.phase ≡ Idle) ⊎ (v.phase ≡ Releasing) → v.undo ≡ []
 
 -- a call's floor is what was seen as it began, and its abandoned attempts are legal

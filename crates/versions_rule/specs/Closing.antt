@@ -20,7 +20,8 @@ use Rattle.versions_rule.specs.Versions.{ValuesHold}
 
 -- an item at place p: its trace is legal there, and good words are left; an entry stands behind its caller's earlier
 -- entries and behind all that its pass had seen, and an attempt that gave way behind these and before its call's entry
-pub record IsPlaced (good : List ℕ → Type 0) (n : ℕ) (base : List ℕ) (order : List Item) (p : ℕ) (x : Item) : Type 0 where
+pub record IsPlaced (good : List ℕ → Type 0) (n : ℕ) (base : List ℕ) (order : List Item) (p : ℕ)
+    (x : Item) : Type 0 where
   pub legal : IsLegalTrace x.trace (replay_items base (take p order))
   pub leaves_good : good (replay_items base (take (p + 1) order))
   pub by_seat : x.who < n
@@ -48,7 +49,8 @@ LeavesGood good n base views order = good (replay_items base order)
 
 -- what an attempt has done is legal behind all of it
 abbrev pub AttemptsAreLegal : ℕ → List ℕ → List View → List Item → Type 0
-AttemptsAreLegal n base views order = (id : ℕ) (v : View) → Knows views id v → is_attempt v.phase ≡ true → IsLegalTrace v.trace (replay_items base order)
+AttemptsAreLegal n base views order =
+    (id : ℕ) (v : View) → Knows views id v → is_attempt v.phase ≡ true → IsLegalTrace v.trace (replay_items base order)
 
 -- the memory with all unfinished writes taken back is what every arrangement leaves of the base
 abbrev pub UndoingRestores : (List ℕ → Type 0) → Type 0

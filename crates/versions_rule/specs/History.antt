@@ -61,7 +61,8 @@ item_of_attempt who call knew turn t = record {
 -- the items of the attempts of a call that gave way, numbered from `turn` on
 unfoldable pub items_of_attempts : ℕ → ℕ → List ℕ → ℕ → List Abandoned → List Item
 items_of_attempts who call knew turn [] = []
-items_of_attempts who call knew turn (t ∷ ts) = item_of_attempt who call knew turn t ∷ items_of_attempts who call knew (suc turn) ts
+items_of_attempts who call knew turn (t ∷ ts) =
+    item_of_attempt who call knew turn t ∷ items_of_attempts who call knew (suc turn) ts
 
 -- the item of an entry, behind the attempts of its call
 abbrev pub item_of_entry : Entry → Item
@@ -105,7 +106,8 @@ next_version n words views k = version_at n words k + flag (owed_by k views)
 -- the newest value of each word, where `next k` is the version of lock k, from word i on
 unfoldable pub newest_from : List ℕ → List Item → (ℕ → ℕ) → ℕ → List ℕ → List ℕ
 newest_from base items next i [] = []
-newest_from base items next i (x ∷ xs) = value_at base items i (next (lock_of_word i)) ∷ newest_from base items next (suc i) xs
+newest_from base items next i (x ∷ xs) =
+    value_at base items i (next (lock_of_word i)) ∷ newest_from base items next (suc i) xs
 
 -- the newest value of each word
 abbrev pub newest : List ℕ → List Item → (ℕ → ℕ) → List ℕ

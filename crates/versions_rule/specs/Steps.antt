@@ -54,7 +54,8 @@ pub record MayCommitCall (good : List ℕ → Type 0) (j : ℕ) (kept : Bool) (v
   pub who : v.who ≡ j ∷ []
   pub phase : is_attempt v.phase ≡ true
   pub runs : kept ≡ true → v.phase ≡ Running
-  pub leaves_good : kept ≡ true → (words : List ℕ) → good words → IsLegalTrace v.trace words → good (after v.trace words)
+  pub leaves_good : kept ≡ true → (words : List ℕ) → good words → IsLegalTrace v.trace words
+      → good (after v.trace words)
   pub undone : kept ≡ false → v.undo ≡ []
 
 -- the entry of the view's call, with the versions that it used and what its pass knew as the call began

@@ -11,9 +11,9 @@ use Rattle.history_model.specs.Legal.{IsLegalHistory}
 use Rattle.history_model.specs.Table.{Knows, history_of}
 use Rattle.history_model.specs.Traces.{Trace, value_after}
 use Rattle.history_model.specs.Views.{number}
-use Rattle.history_model.proofs.EndEvents.{last_read_same}
-use Rattle.history_model.proofs.HistoryLaws.{prefix_is_legal, replay_is_good}
-use Rattle.history_model.proofs.Places.{put_here}
+use Rattle.history_model.proofs.Traces.EndEvents.{last_read_same}
+use Rattle.history_model.proofs.Histories.HistoryLaws.{prefix_is_legal, replay_is_good}
+use Rattle.history_model.proofs.Views.Places.{put_here}
 use Rattle.locks_rule.specs.Actions.{views_after, found_by}
 use Rattle.values_rule.specs.Steps.{MayBeginCall, MayLoadValue, MayCommitCall, begin_call_action, load_value_action, store_value_action, known_value}
 use Rattle.values_rule.specs.Steps.{commit_call_action}

@@ -6,8 +6,8 @@ use mathlib.Core.Logic.{dite}
 use native.Mathlib.Decide.{ℕ_discrete}
 use Rattle.history_model.specs.declared.view.View.{View}
 use Rattle.history_model.specs.Table.{TableState, Knows}
-use Rattle.history_model.proofs.HistoryLaws.{get_first}
-use Rattle.history_model.proofs.Places.{added_here, added_there}
+use Rattle.history_model.proofs.ListPlaces.{get_first}
+use Rattle.history_model.proofs.Views.Places.{added_here, added_there}
 use Rattle.locks_rule.specs.Splits.{opening_view}
 use Rattle.word_table.specs.Meetings.{AreDealt, SeatsAreDealt}
 use Rattle.word_table.specs.Runs.{CutsSeat, Steps, IsRun}

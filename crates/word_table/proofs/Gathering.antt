@@ -20,7 +20,7 @@ use Rattle.history_model.specs.Sets.{has}
 use Rattle.history_model.specs.Table.{Knows, history_of, value_word}
 use Rattle.history_model.specs.Undoing.{Notes, written_back}
 use Rattle.history_model.specs.Views.{number}
-use Rattle.history_model.proofs.Places.{same_view, put_cases}
+use Rattle.history_model.proofs.Views.Places.{same_view, put_cases}
 use Rattle.history_model.proofs.SetLemmas.{has-join_same}
 use Rattle.locks_rule.specs.Joins.{old_of, after_joining, spent_view}
 use Rattle.locks_rule.specs.Locks.{IsSeat}

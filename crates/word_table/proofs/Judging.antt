@@ -12,7 +12,7 @@ use Rattle.history_model.specs.Legal.{IsPrefix, AreAttemptsLegal}
 use Rattle.history_model.specs.Sets.{has, without}
 use Rattle.history_model.specs.Table.{Knows, history_of}
 use Rattle.history_model.specs.Views.{number}
-use Rattle.history_model.proofs.Places.{put_here, put_cases}
+use Rattle.history_model.proofs.Views.Places.{put_here, put_cases}
 use Rattle.history_model.proofs.SetLemmas.{has-join_same}
 use Rattle.locks_rule.specs.Actions.{Action, found_by, words_after, views_after}
 use Rattle.locks_rule.specs.Locks.{IsSeat}

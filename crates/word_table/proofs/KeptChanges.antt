@@ -4,8 +4,8 @@ use Rattle.locks_rule.specs.Joins.{MayTakeNote, left_by_note, note_of, MayMeetNo
 use Rattle.locks_rule.specs.Splits.{KeepsSplit, MaySplitSeat, left_by_split, given_by_split}
 use Rattle.locks_rule.proofs.Joining.{meet_note_keeps, join_seats_keeps}
 use Rattle.locks_rule.proofs.Splitting.{split_seat_keeps, take_note_keeps}
-use Rattle.values_rule.proofs.Cuts.{split_seat_values, take_note_values}
-use Rattle.values_rule.proofs.Joins.{meet_note_values, join_seats_values}
+use Rattle.values_rule.proofs.CutsAndJoins.Cuts.{split_seat_values, take_note_values}
+use Rattle.values_rule.proofs.CutsAndJoins.Joins.{meet_note_values, join_seats_values}
 use Rattle.stamps_rule.proofs.Cuts.{split_seat_stamps, take_note_stamps}
 use Rattle.stamps_rule.proofs.Joins.{meet_note_stamps, join_seats_stamps}
 use Rattle.word_table.specs.Sound.{IsSound}

@@ -4,14 +4,14 @@ use Rattle.locks_rule.specs.Actions.{Keeps}
 use Rattle.locks_rule.specs.Locks.{LocksHold}
 use Rattle.locks_rule.proofs.Readers.{set_read_bit_keeps, clear_read_bit_keeps, load_writer_keeps}
 use Rattle.locks_rule.proofs.Writers.{claim_writer_keeps, scan_row_keeps, release_writer_keeps}
-use Rattle.values_rule.proofs.CallKinds.{begin_call_values, clear_stamp_values}
-use Rattle.values_rule.proofs.Commits.{commit_call_values}
-use Rattle.values_rule.proofs.LockKinds.{set_read_bit_values, clear_read_bit_values, load_writer_values, claim_writer_values, scan_row_values}
-use Rattle.values_rule.proofs.LockKinds.{release_writer_values}
-use Rattle.values_rule.proofs.LocksStand.{begin_call_locks, load_value_locks, store_value_locks, undo_store_locks, commit_call_locks, clear_stamp_locks}
-use Rattle.values_rule.proofs.LocksStand.{load_serial_locks}
-use Rattle.values_rule.proofs.Looks.{load_serial_values}
-use Rattle.values_rule.proofs.ValueKinds.{load_value_values, store_value_values, undo_store_values}
+use Rattle.values_rule.proofs.StepKinds.CallKinds.{begin_call_values, clear_stamp_values}
+use Rattle.values_rule.proofs.StepKinds.Commits.{commit_call_values}
+use Rattle.values_rule.proofs.StepKinds.LockKinds.{set_read_bit_values, clear_read_bit_values, load_writer_values, claim_writer_values, scan_row_values}
+use Rattle.values_rule.proofs.StepKinds.LockKinds.{release_writer_values}
+use Rattle.values_rule.proofs.StepKinds.LocksStand.{begin_call_locks, load_value_locks, store_value_locks, undo_store_locks, commit_call_locks, clear_stamp_locks}
+use Rattle.values_rule.proofs.StepKinds.LocksStand.{load_serial_locks}
+use Rattle.values_rule.proofs.StepKinds.Looks.{load_serial_values}
+use Rattle.values_rule.proofs.StepKinds.ValueKinds.{load_value_values, store_value_values, undo_store_values}
 use Rattle.stamps_rule.proofs.LockKinds.{set_read_bit_stamps, clear_read_bit_stamps, load_writer_stamps, claim_writer_stamps, scan_row_stamps}
 use Rattle.stamps_rule.proofs.LockKinds.{release_writer_stamps}
 use Rattle.stamps_rule.proofs.LocksStand.{draw_stamp_locks, announce_stamp_locks, judge_stamp_locks, load_serial_at_yield_locks, load_cause_stamp_locks}

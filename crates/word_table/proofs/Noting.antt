@@ -8,7 +8,7 @@ use Rattle.history_model.specs.declared.view.View.{View}
 use Rattle.history_model.specs.declared.view.Phase.TheVariants.{Idle}
 use Rattle.history_model.specs.Legal.{IsIn, IsPrefix, IsLegalHistory}
 use Rattle.history_model.specs.Table.{history_of}
-use Rattle.history_model.proofs.Places.{put_cases}
+use Rattle.history_model.proofs.Views.Places.{put_cases}
 use Rattle.locks_rule.specs.Joins.{left_by_note, note_of, old_of, after_told, after_note, spent_view}
 use Rattle.values_rule.specs.Steps.{load_serial_action}
 use Rattle.values_rule.proofs.Members.{in_second}

@@ -8,7 +8,7 @@ use Rattle.history_model.specs.Counts.{is_attempt, is_open, open_count}
 use Rattle.history_model.specs.Histories.{replay}
 use Rattle.history_model.specs.Legal.{IsPrefix}
 use Rattle.history_model.specs.Table.{Knows, history_of, calls_word, value_word}
-use Rattle.history_model.proofs.HistoryLaws.{replay_nothing}
+use Rattle.history_model.proofs.Histories.HistoryLaws.{replay_nothing}
 use Rattle.locks_rule.specs.Locks.{LocksHold}
 use Rattle.locks_rule.specs.Splits.{opening_view}
 use Rattle.values_rule.specs.Values.{oldest, ValuesHold}

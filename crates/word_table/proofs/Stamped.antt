@@ -13,8 +13,8 @@ use Rattle.history_model.specs.Views.{number}
 use Rattle.std.specs.Int.{bit_at}
 use mathlib.Core.Logic.{dite}
 use native.Mathlib.Decide.{ℕ_discrete}
-use Rattle.history_model.proofs.Changes.{Change, StepTouches, NewByStep, change_step, NewByCut, change_cut, NewByJoin, JoinTouches, change_join}
-use Rattle.history_model.proofs.Places.{same_view}
+use Rattle.history_model.proofs.Views.Changes.{Change, StepTouches, NewByStep, change_step, NewByCut, change_cut, NewByJoin, JoinTouches, change_join}
+use Rattle.history_model.proofs.Views.Places.{same_view}
 use Rattle.history_model.proofs.SetLemmas.{differ, has-nil, has-one, has-without, has-join_same}
 use Rattle.locks_rule.specs.Actions.{found_by}
 use Rattle.locks_rule.specs.Joins.{MayMeetNote, left_by_note, note_of, after_note, MayJoinSeats, after_joining, spent_view}

@@ -10,7 +10,7 @@ use Rattle.history_model.specs.Histories.{replay}
 use Rattle.history_model.specs.Legal.{IsPrefix}
 use Rattle.history_model.specs.Traces.{after}
 use Rattle.history_model.specs.Views.{number}
-use Rattle.history_model.proofs.HistoryLaws.{get_first, get_last}
+use Rattle.history_model.proofs.ListPlaces.{get_first, get_last}
 use Rattle.script_reader.specs.Input.{ClearingInput, script_at}
 use Rattle.txn_books.specs.declared.shape.BooksShape.{BooksShape}
 use Rattle.txn_books.specs.Meaning.{ScriptMeans}

@@ -9,8 +9,8 @@ use Rattle.std.proofs.lemmas.Option.{get_or_from_slice_get, slice_get_within}
 use Rattle.history_model.specs.declared.entry.Entry.{Entry}
 use Rattle.history_model.specs.Histories.{replay}
 use Rattle.history_model.specs.Traces.{after}
-use Rattle.history_model.proofs.HistoryLaws.{replay_nothing}
-use Rattle.history_model.proofs.ReplayLaws.{replay_kept, replay_reverted}
+use Rattle.history_model.proofs.Histories.HistoryLaws.{replay_nothing}
+use Rattle.history_model.proofs.Histories.ReplayLaws.{replay_kept, replay_reverted}
 use Rattle.books_model.specs.declared.reply.Reply.{Reply}
 use Rattle.books_model.specs.declared.reply.Value.{Value}
 use Rattle.books_model.specs.declared.script.Part.{Part}

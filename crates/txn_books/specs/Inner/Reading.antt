@@ -10,7 +10,8 @@ use Rattle.txn_ring.specs.declared.ring.Ring.{Ring}
 use Rattle.txn_ring.specs.Queues.{QueueHolds}
 
 -- to put these entries into the map one after another, each under a key that is new, makes the other map
-abbrev pub AddsUp : {K : Type 0} {R : K → K → Ordering} → entry_map.FinMap R ℕ → List (K × ℕ) → entry_map.FinMap R ℕ → Type 0
+abbrev pub AddsUp : {K : Type 0} {R : K → K → Ordering} → entry_map.FinMap R ℕ → List (K × ℕ) → entry_map.FinMap R ℕ
+    → Type 0
 AddsUp have [] whole = have ≡ whole
 AddsUp have (e ∷ es) whole = (entry_map.get have e.0 ≡ None) × AddsUp (entry_map.insert have e.0 e.1) es whole
 
@@ -28,7 +29,8 @@ prices_in es = map (λ e. (e.0 + 1, e.1)) (filter (λ e. is_price_key e.0) es)
 
 -- and the positions, each under its account and instrument
 abbrev pub positions_in : List (ℕ × ℕ) → List ((ℕ × ℕ) × ℕ)
-positions_in es = map (λ e. ((e.0 / MOST_INSTRUMENTS, e.0 % MOST_INSTRUMENTS + 1), e.1)) (filter (λ e. not (is_price_key e.0)) es)
+positions_in es =
+    map (λ e. ((e.0 / MOST_INSTRUMENTS, e.0 % MOST_INSTRUMENTS + 1), e.1)) (filter (λ e. not (is_price_key e.0)) es)
 
 -- the books with these accounts more are those others, which are in range
 pub record AddsAccounts (entries : List (ℕ × ℕ)) (books after : ClearingBooks) : Type 0 where

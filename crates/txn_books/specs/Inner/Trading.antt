@@ -36,10 +36,15 @@ sold i sells books = put_position books sells.account i sells.held
 
 -- both hold what their sides say, and have the cash
 abbrev pub exchanged : ℕ → Side → Side → ClearingBooks → ClearingBooks
-exchanged i buys sells books = put_cash (put_cash (put_position (sold i sells books) buys.account i buys.held) buys.account buys.cash) sells.account sells.cash
+exchanged i buys sells books =
+    put_cash (put_cash (put_position (sold i sells books) buys.account i buys.held) buys.account buys.cash)
+    sells.account sells.cash
 
 -- from state to state: both sides are exchanged, or the seller's position alone where the buyer's then lacks the room;
 -- the answer says whether it has it
-pub record Exchanges (shape : BooksShape) (i : ℕ) (buys sells : Side) (had_room : Bool) (old new : List ℕ) : Type 0 where
-  pub answer : (books : ClearingBooks) → Stands shape old books → had_room ≡ not (lacks_position_room buys.account i buys.held (sold i sells books))
-  pub left : (books : ClearingBooks) → Stands shape old books → Stands shape new (if had_room then exchanged i buys sells books else sold i sells books)
+pub record Exchanges (shape : BooksShape) (i : ℕ) (buys sells : Side) (had_room : Bool)
+    (old new : List ℕ) : Type 0 where
+  pub answer : (books : ClearingBooks) → Stands shape old books
+      → had_room ≡ not (lacks_position_room buys.account i buys.held (sold i sells books))
+  pub left : (books : ClearingBooks) → Stands shape old books
+      → Stands shape new (if had_room then exchanged i buys sells books else sold i sells books)

@@ -1,5 +1,5 @@
-use Rattle.txn_books.proofs.Parts.{fresh_books}
-use Rattle.txn_books.proofs.Empty.{small}
+use Rattle.txn_books.proofs.OneState.Parts.{fresh_books}
+use Rattle.txn_books.proofs.LaidOut.Empty.{small}
 use Rattle.collections_tests.proofs.access.a_margin_call_is_queued_and_taken.Goals as goal
 
 pub queue_call-requires-clause-stands : goal.queue_call-requires-clause-stands

@@ -1,5 +1,5 @@
-use Rattle.txn_books.proofs.Parts.{fresh_books}
-use Rattle.txn_books.proofs.Empty.{small}
+use Rattle.txn_books.proofs.OneState.Parts.{fresh_books}
+use Rattle.txn_books.proofs.LaidOut.Empty.{small}
 use Rattle.collections_tests.proofs.access.a_position_finds_no_block.Goals as goal
 
 pub put_price-requires-clause-stands : goal.put_price-requires-clause-stands

@@ -1,5 +1,5 @@
-use Rattle.txn_books.proofs.Parts.{fresh_books}
-use Rattle.txn_books.proofs.Empty.{small}
+use Rattle.txn_books.proofs.OneState.Parts.{fresh_books}
+use Rattle.txn_books.proofs.LaidOut.Empty.{small}
 use Rattle.collections_tests.proofs.access.an_account_is_given_cash.Goals as goal
 
 pub is_opened-requires-clause-stands : goal.is_opened-requires-clause-stands

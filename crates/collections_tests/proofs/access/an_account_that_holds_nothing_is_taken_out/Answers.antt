@@ -1,5 +1,5 @@
-use Rattle.txn_books.proofs.Parts.{fresh_books}
-use Rattle.txn_books.proofs.Empty.{small}
+use Rattle.txn_books.proofs.OneState.Parts.{fresh_books}
+use Rattle.txn_books.proofs.LaidOut.Empty.{small}
 use Rattle.collections_tests.proofs.access.an_account_that_holds_nothing_is_taken_out.Goals as goal
 
 pub quantity_and_worth-requires-clause-stands : goal.quantity_and_worth-requires-clause-stands

@@ -1,5 +1,5 @@
 use Rattle.std.proofs.Common.{refl}
-use Rattle.txn_books.proofs.Empty.{stands}
+use Rattle.txn_books.proofs.LaidOut.Empty.{stands}
 use Rattle.collections_tests.proofs.access.empty_books.Goals as goal
 
 pub new-requires : goal.new-requires

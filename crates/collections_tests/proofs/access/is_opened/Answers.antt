@@ -1,6 +1,6 @@
 use Rattle.std.proofs.Common.{ℕ, Option, Some, None, IsSome, refl, sym, subst}
 use Rattle.std.specs.FinMap as map
-use Rattle.txn_books.proofs.Looking.{each_says}
+use Rattle.txn_books.proofs.OnBooks.Looking.{each_says}
 use Rattle.collections_tests.proofs.access.is_opened.Goals as goal
 
 pub open_account-requires-clause-absent : goal.open_account-requires-clause-absent

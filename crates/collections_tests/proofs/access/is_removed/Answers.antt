@@ -1,6 +1,6 @@
 use Rattle.std.proofs.Common.{false, sym}
 use Rattle.books_model.specs.Interpreter.{holds_any}
-use Rattle.txn_books.proofs.Looking.{each_says}
+use Rattle.txn_books.proofs.OnBooks.Looking.{each_says}
 use Rattle.collections_tests.proofs.access.is_removed.Goals as goal
 
 pub remove_account-requires-clause-nothing : goal.remove_account-requires-clause-nothing

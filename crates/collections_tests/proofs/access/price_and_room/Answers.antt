@@ -1,6 +1,6 @@
 use Rattle.std.proofs.Common.{ℕ, Option, Some, IsSome, refl, subst}
 use Rattle.std.specs.FinMap as map
-use Rattle.txn_books.proofs.Looking.{each_says, still_says}
+use Rattle.txn_books.proofs.OnBooks.Looking.{each_says, still_says}
 use Rattle.collections_tests.proofs.access.price_and_room.Goals as goal
 
 pub set_quantity-requires-clause-account : goal.set_quantity-requires-clause-account

@@ -1,8 +1,8 @@
 use Rattle.txn_words.proofs.Looks.{each_from}
 use Rattle.txn_books.specs.Layout.{words_of}
 use Rattle.txn_books.specs.Standing.{IsGoodFor}
-use Rattle.txn_books.proofs.Parts.{fresh_parts, some_tree, some_chains, each_inserted}
-use Rattle.txn_books.proofs.Empty.{small}
+use Rattle.txn_books.proofs.OneState.Parts.{fresh_parts, some_tree, some_chains, each_inserted}
+use Rattle.txn_books.proofs.LaidOut.Empty.{small}
 use Rattle.collections_tests.proofs.access.tree_and_chains_share_the_blocks.Goals as goal
 
 pub insert-requires-clause-order : goal.insert-requires-clause-order

@@ -1,6 +1,6 @@
 use Rattle.std.proofs.Common.{[], ◌∷◌, ap, refl}
 use Rattle.std.specs.FinSet as set
-use Rattle.history_model.proofs.FittingLaws.{each_fresh}
+use Rattle.history_model.proofs.Traces.FittingLaws.{each_fresh}
 use Rattle.txn_words.specs.Plainly.{PlainView}
 use Rattle.collections_tests.specs.declared.blocks.TwoBlocks.{TwoBlocks}
 use Rattle.txn_alloc.specs.FreeLists.{IsInOrder}

@@ -4,7 +4,7 @@ use Rattle.std.specs.FinMap as entry_map
 use Rattle.books_model.specs.Books.{position_cmp, put_cash}
 use Rattle.txn_books.specs.Layout.{shape_of}
 use Rattle.txn_books.specs.Standing.{IsGoodFor}
-use Rattle.txn_books.proofs.Empty.{small}
+use Rattle.txn_books.proofs.LaidOut.Empty.{small}
 use Rattle.collections_tests.proofs.building.what_is_built_is_read.Goals as goal
 
 pub add_account-requires-clause-room : goal.add_account-requires-clause-room

@@ -1,6 +1,6 @@
 use Rattle.txn_words.proofs.CallLaws.{state_after}
 use Rattle.txn_alloc.specs.EntryMaps.{HasMapApart, Finds}
-use Rattle.txn_alloc.proofs.Parts.{held, order_found}
+use Rattle.txn_alloc.proofs.Maps.Parts.{held, order_found}
 use Rattle.txn_hash_map.specs.Chains.{chain_part}
 use Rattle.collections_tests.proofs.hash_map.is_answered.Goals as goal
 

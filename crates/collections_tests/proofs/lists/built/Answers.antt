@@ -2,7 +2,7 @@ use Rattle.std.proofs.Common.{◌≡◌, length, subst}
 use Rattle.books_model.specs.Books.{ClearingBooks}
 use Rattle.txn_books.specs.Layout.{words_of, shape_of}
 use Rattle.txn_books.specs.Standing.{Stands}
-use Rattle.txn_books.proofs.States.{tree_apart}
+use Rattle.txn_books.proofs.OneState.States.{tree_apart}
 use Rattle.collections_tests.proofs.lists.built.Goals as goal
 
 pub new-requires : goal.new-requires

@@ -1,4 +1,4 @@
-use Rattle.history_model.proofs.FittingLaws.{each_fresh}
+use Rattle.history_model.proofs.Traces.FittingLaws.{each_fresh}
 use Rattle.txn_alloc.specs.FreeLists.{IsInOrder}
 use Rattle.collections_tests.specs.declared.lists.TheConstants.{ARENA}
 use Rattle.collections_tests.proofs.lists.take_near_begins_at_its_own_list.Goals as goal

@@ -1,6 +1,6 @@
 use Rattle.txn_words.proofs.CallLaws.{state_after}
 use Rattle.txn_alloc.specs.EntryMaps.{HasMapApart, Finds}
-use Rattle.txn_alloc.proofs.Parts.{order_found}
+use Rattle.txn_alloc.proofs.Maps.Parts.{order_found}
 use Rattle.txn_hash_map.specs.Chains.{chain_part}
 use Rattle.collections_tests.proofs.parts.chains_answer.Goals as goal
 

@@ -1,5 +1,5 @@
-use Rattle.txn_books.proofs.Parts.{fresh_parts, some_chains}
-use Rattle.txn_books.proofs.Empty.{small}
+use Rattle.txn_books.proofs.OneState.Parts.{fresh_parts, some_chains}
+use Rattle.txn_books.proofs.LaidOut.Empty.{small}
 use Rattle.collections_tests.proofs.parts.chains_on_built_words.Goals as goal
 
 pub first_wrong_of_chains-requires-clause-order : goal.first_wrong_of_chains-requires-clause-order

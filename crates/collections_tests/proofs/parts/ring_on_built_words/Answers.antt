@@ -1,6 +1,6 @@
-use Rattle.txn_books.proofs.Parts.{fresh_books}
-use Rattle.txn_books.proofs.States.{queue_held}
-use Rattle.txn_books.proofs.Empty.{small}
+use Rattle.txn_books.proofs.OneState.Parts.{fresh_books}
+use Rattle.txn_books.proofs.OneState.States.{queue_held}
+use Rattle.txn_books.proofs.LaidOut.Empty.{small}
 use Rattle.collections_tests.proofs.parts.ring_on_built_words.Goals as goal
 
 pub first_wrong_of_ring-requires-clause-order : goal.first_wrong_of_ring-requires-clause-order

@@ -1,5 +1,5 @@
 use Rattle.std.specs.FinMap as entry_map
-use Rattle.history_model.proofs.FittingLaws.{each_fresh}
+use Rattle.history_model.proofs.Traces.FittingLaws.{each_fresh}
 use Rattle.txn_tree_map.proofs.Lists.{small, has_entries}
 use Rattle.collections_tests.proofs.parts.tree_and_blocks_on_built_words.Goals as goal
 

@@ -3,7 +3,7 @@ use Rattle.std.specs.FinMap as entry_map
 use Rattle.books_model.specs.Books.{ClearingBooks}
 use Rattle.txn_books.specs.Layout.{words_of, shape_of}
 use Rattle.txn_books.specs.Standing.{Stands}
-use Rattle.txn_books.proofs.States.{tree_apart}
+use Rattle.txn_books.proofs.OneState.States.{tree_apart}
 use Rattle.collections_tests.proofs.paths.empty_map.Goals as goal
 
 pub new-requires : goal.new-requires

@@ -1,6 +1,6 @@
-use Rattle.history_model.proofs.FittingLaws.{each_fresh}
+use Rattle.history_model.proofs.Traces.FittingLaws.{each_fresh}
 use Rattle.txn_alloc.specs.EntryMaps.{HasMapApart}
-use Rattle.txn_alloc.proofs.Parts.{held}
+use Rattle.txn_alloc.proofs.Maps.Parts.{held}
 use Rattle.txn_tree_map.specs.Trees.{tree_part}
 use Rattle.collections_tests.specs.declared.paths.TheConstants.{MAP}
 use Rattle.collections_tests.proofs.paths.reads_of_a_sum.Goals as goal

@@ -1,6 +1,6 @@
 use Rattle.std.proofs.Common.{sym, subst}
 use Rattle.txn_books.specs.Standing.{IsGoodFor}
-use Rattle.txn_books.proofs.ByHand.{hand_shape, hand_good}
+use Rattle.txn_books.proofs.LaidOut.ByHand.{hand_shape, hand_good}
 use Rattle.collections_tests.proofs.reading.every_kind_of_entry_is_read.Goals as goal
 
 pub read_books-requires : goal.read_books-requires

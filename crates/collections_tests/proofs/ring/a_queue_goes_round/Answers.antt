@@ -1,5 +1,5 @@
 use Rattle.std.proofs.Common.{refl, ap}
-use Rattle.history_model.proofs.FittingLaws.{each_fresh}
+use Rattle.history_model.proofs.Traces.FittingLaws.{each_fresh}
 use Rattle.txn_words.specs.Plainly.{PlainView}
 use Rattle.collections_tests.specs.declared.ring.TwoPlaces.{TwoPlaces}
 use Rattle.txn_ring.specs.Queues.{IsInOrder}

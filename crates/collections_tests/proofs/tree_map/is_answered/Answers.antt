@@ -1,7 +1,7 @@
 use Rattle.txn_words.proofs.CallLaws.{state_after}
 use Rattle.std.proofs.Common.{sym, subst}
 use Rattle.txn_alloc.specs.EntryMaps.{HasMapApart, Finds, SumsRange}
-use Rattle.txn_alloc.proofs.Parts.{held, order_found}
+use Rattle.txn_alloc.proofs.Maps.Parts.{held, order_found}
 use Rattle.txn_tree_map.specs.Trees.{tree_part}
 use Rattle.txn_tree_map.specs.Firsts.{FindsFirst}
 use Rattle.collections_tests.proofs.tree_map.is_answered.Goals as goal

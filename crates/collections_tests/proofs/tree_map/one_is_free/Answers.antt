@@ -1,6 +1,6 @@
 use Rattle.txn_words.proofs.CallLaws.{state_after}
 use Rattle.txn_alloc.specs.FreeLists.{Lacks, Takes, IsInOrder}
-use Rattle.txn_alloc.proofs.Traces.{lacks_taken}
+use Rattle.txn_alloc.proofs.FreeLists.Traces.{lacks_taken}
 use Rattle.collections_tests.proofs.tree_map.one_is_free.Goals as goal
 
 pub give-requires-clause-lacks : goal.give-requires-clause-lacks

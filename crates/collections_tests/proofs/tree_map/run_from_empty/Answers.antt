@@ -1,6 +1,6 @@
 use Rattle.std.proofs.Common.{ap}
 use Rattle.std.specs.FinMap as entry_map
-use Rattle.history_model.proofs.FittingLaws.{each_fresh}
+use Rattle.history_model.proofs.Traces.FittingLaws.{each_fresh}
 use Rattle.txn_words.specs.Plainly.{PlainView}
 use Rattle.collections_tests.specs.declared.tree_map.NoEntries.{NoEntries}
 use Rattle.txn_tree_map.proofs.Lists.{small, has_entries}

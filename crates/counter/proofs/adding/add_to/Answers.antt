@@ -1,7 +1,6 @@
 use Rattle.std.proofs.Common.{◌≡◌, ◌+◌, ◌<◌, ◌^◌, refl, arith}
-use Rattle.history_model.specs.Fitting.{SomeFits}
-use Rattle.history_model.proofs.FittingLaws.{some_at}
 use Rattle.txn_words.proofs.CallLaws.{each_plain}
+use Rattle.txn_words.proofs.Looks.{some_from}
 use Rattle.txn_words.proofs.FrameLaws.{only_read, only_write, only_then}
 use Rattle.txn_words.proofs.ReadLaws.{sees_read, sees_write, sees_then}
 use Rattle.counter.proofs.Sums.{sum_fits, sum_adds}
@@ -11,8 +10,7 @@ pub overflow_add-v : goal.overflow_add-v
 overflow_add-v g c =
     let words = g.W.Words in
     let shapes = g.W.Shape.Shape in
-    let some : SomeFits (shapes.word_count (words.shape c.args.w.now)) (shapes.good (words.shape c.args.w.now)) (words.trace c.read.new.self) =
-    some_at shapes.word_count shapes.good _ _ _ c.in_ok-v.ensures.shape (g.met.W.Words.fits c.read.new.self c.in_ok-v.ensures.sound) in
+    let some = some_from words shapes c.args.w.now c.read.new.self c.in_ok-v.ensures.shape (g.met.W.Words.fits c.read.new.self c.in_ok-v.ensures.sound) in
     let sum : c.in_ok-v.v + c.args.by < 2 ^ 64 =
     sum_fits _ _ _ _ c.args.a c.in_ok-v.v c.in_ok-v.ensures.value c.args.by (each_plain words shapes _ _ c.requires.room) some in
     omega (arith, sum)

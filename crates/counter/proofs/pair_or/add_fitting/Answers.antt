@@ -1,10 +1,10 @@
-use Rattle.std.proofs.Common.{◌+◌, ◌<◌, ◌^◌, arith}
+use Rattle.std.proofs.Common.{◌+◌, ◌<◌, ◌≤◌, ◌^◌, arith}
 use Rattle.counter.proofs.Fitting.{leads_fits, leads_not}
 use Rattle.counter.proofs.pair_or.add_fitting.Goals as goal
 
 pub returns-then-by-v-clause-added : goal.returns-then-by-v-clause-added
 returns-then-by-v-clause-added g c =
-    let over : 18446744073709551615 < c.in_ok-v.v + c.args.by = omega arith in
+    let over : 2 ^ 64 ≤ c.in_ok-v.v + c.args.by = omega arith in
     record { at = (leads_not _ _ _ _ c.in_ok-v.v c.args.by c.in_ok-v.ensures.value over).at }
 
 pub returns-clause-added : goal.returns-clause-added

@@ -1,7 +1,7 @@
 use Rattle.std.proofs.Common.{ℕ, true, false, ◌∙◌, subst}
 use Rattle.history_model.specs.Traces.{Trace, Begins}
-use Rattle.history_model.proofs.TraceLaws.{begins_trans}
-use Rattle.history_model.proofs.FittingLaws.{fits_begins}
+use Rattle.history_model.proofs.Traces.TraceLaws.{begins_trans}
+use Rattle.history_model.proofs.Traces.FittingLaws.{fits_begins}
 use Rattle.txn_words.specs.Calls.{LeadsTo}
 use Rattle.txn_words.specs.Marks.{TakesBack}
 use Rattle.txn_words.proofs.CallLaws.{leads_marked, leads_then}

@@ -1,4 +1,4 @@
-use Rattle.history_model.proofs.ItemDrops.{drops_agree, drops_arranged, drops_values}
+use Rattle.history_model.proofs.Items.ItemDrops.{drops_agree, drops_arranged, drops_values}
 use Rattle.history_model.proofs.laws.drops_items.Goals as goal
 
 pub returns : goal.returns

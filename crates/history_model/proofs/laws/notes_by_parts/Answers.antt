@@ -1,4 +1,4 @@
-use Rattle.history_model.proofs.MarkLaws.{notes_by_parts, notes_counted}
+use Rattle.history_model.proofs.Traces.MarkLaws.{notes_by_parts, notes_counted}
 use Rattle.history_model.proofs.laws.notes_by_parts.Goals as goal
 
 pub returns : goal.returns

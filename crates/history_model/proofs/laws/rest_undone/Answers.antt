@@ -1,4 +1,4 @@
-use Rattle.history_model.proofs.MarkLaws.{rest_undone}
+use Rattle.history_model.proofs.Traces.MarkLaws.{rest_undone}
 use Rattle.history_model.proofs.laws.rest_undone.Goals as goal
 
 pub returns : goal.returns

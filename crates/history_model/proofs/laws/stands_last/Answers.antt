@@ -1,4 +1,4 @@
-use Rattle.history_model.proofs.ItemEnds.{ends_agree, ends_arranged, ends_values, ends_moved}
+use Rattle.history_model.proofs.Items.ItemEnds.{ends_agree, ends_arranged, ends_values, ends_moved}
 use Rattle.history_model.proofs.laws.stands_last.Goals as goal
 
 pub returns : goal.returns

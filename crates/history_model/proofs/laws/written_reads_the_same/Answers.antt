@@ -1,4 +1,4 @@
-use Rattle.history_model.proofs.MarkLaws.{written_reads_the_same}
+use Rattle.history_model.proofs.Traces.MarkLaws.{written_reads_the_same}
 use Rattle.history_model.proofs.laws.written_reads_the_same.Goals as goal
 
 pub returns : goal.returns

@@ -1,5 +1,5 @@
 use Rattle.std.proofs.Common.{◌∙◌}
-use Rattle.history_model.proofs.TraceLaws.{length-after}
+use Rattle.history_model.proofs.Traces.TraceLaws.{length-after}
 use Rattle.memory_tests.proofs.bound.end.Goals as goal
 
 -- any three words are good, and a trace keeps their number

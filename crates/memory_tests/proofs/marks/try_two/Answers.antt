@@ -1,4 +1,4 @@
-use Rattle.history_model.proofs.TraceLaws.{begins_trans}
+use Rattle.history_model.proofs.Traces.TraceLaws.{begins_trans}
 use Rattle.txn_words.proofs.GoingBack.{marked_stays}
 use Rattle.memory_tests.proofs.marks.try_two.Goals as goal
 

@@ -1,5 +1,5 @@
 use Rattle.std.proofs.Common.{refl, ◌∙◌}
-use Rattle.history_model.proofs.TraceLaws.{begins_refl, begins_trans}
+use Rattle.history_model.proofs.Traces.TraceLaws.{begins_refl, begins_trans}
 use Rattle.memory_tests.proofs.marks.write_many.Goals as goal
 
 pub loop-a-init : goal.loop-a-init

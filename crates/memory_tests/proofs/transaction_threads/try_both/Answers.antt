@@ -1,4 +1,4 @@
-use Rattle.history_model.proofs.TraceLaws.{begins_trans}
+use Rattle.history_model.proofs.Traces.TraceLaws.{begins_trans}
 use Rattle.txn_words.proofs.GoingBack.{marked_stays}
 use Rattle.memory_tests.proofs.transaction_threads.try_both.Goals as goal
 

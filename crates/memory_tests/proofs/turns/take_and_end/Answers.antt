@@ -1,5 +1,5 @@
 use Rattle.std.proofs.Common.{◌∙◌}
-use Rattle.history_model.proofs.TraceLaws.{length-after}
+use Rattle.history_model.proofs.Traces.TraceLaws.{length-after}
 use Rattle.memory_tests.proofs.turns.take_and_end.Goals as goal
 
 -- any two words are good, and a trace keeps their number

@@ -1,8 +1,8 @@
 use Rattle.std.proofs.Common.{◌≡◌, ◌*◌, All, length, sum}
 use Rattle.history_model.specs.declared.view.Phase.TheVariants.{Idle}
+use Rattle.history_model.specs.SeatEntries.{entries_of}
 use Rattle.history_model.specs.Views.{number}
 use Rattle.transfers.specs.Making.{AreMade}
-use Rattle.transfers.specs.Telling.{entries_of}
 use Rattle.transfers.proofs.teller.make_moves.Given as goal
 
 -- so many moves were made, and as many audits, which told the sum

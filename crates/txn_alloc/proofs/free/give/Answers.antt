@@ -1,13 +1,13 @@
 use Rattle.std.proofs.Common.{◌≡◌, ◌+◌, ◌*◌, ◌<◌, inl, inr, arith, ap, ◌∙◌, rules}
 use Rattle.std.proofs.lemmas.Result.{IfOk-from_err}
-use Rattle.history_model.proofs.TraceLaws.{begins_trans}
+use Rattle.history_model.proofs.Traces.TraceLaws.{begins_trans}
 use Rattle.txn_words.specs.Calls.{GoesOn}
 use Rattle.txn_words.proofs.CallLaws.{each_plain, state_after, goes_call, goes_then, goes_as}
 use Rattle.txn_words.proofs.ReadLaws.{sees_read, sees_then, sees_write}
 use Rattle.txn_words.proofs.FrameLaws.{only_read, only_write, only_then, writes_keep}
 use Rattle.txn_alloc.specs.FreeLists.{block_at, IsHeadOrFirst, IsInOrder, Gives}
-use Rattle.txn_alloc.proofs.Rounds.{own_head}
-use Rattle.txn_alloc.proofs.Traces.{Lies, lies, gives_back, order_given}
+use Rattle.txn_alloc.proofs.FreeLists.Rounds.{own_head}
+use Rattle.txn_alloc.proofs.FreeLists.Traces.{Lies, lies, gives_back, order_given}
 use Rattle.txn_alloc.proofs.free.give.Goals as goal
 
 pub read-requires-clause-within : goal.read-requires-clause-within

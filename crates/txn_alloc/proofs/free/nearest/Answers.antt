@@ -1,11 +1,10 @@
 use Rattle.std.proofs.Common.{◌≡◌, ◌+◌, ◌-◌, ◌%◌, ◌<◌, refl, arith, rules, ap, ◌∙◌}
 use Rattle.std.proofs.lemmas.Result.{IfOk-from_err}
-use Rattle.history_model.specs.Fitting.{SomeFits}
-use Rattle.history_model.proofs.FittingLaws.{some_at}
 use Rattle.txn_words.specs.Calls.{GoesOn}
 use Rattle.txn_words.proofs.CallLaws.{each_plain, goes, goes_call, goes_then, goes_as}
-use Rattle.txn_alloc.proofs.Traces.{lies}
-use Rattle.txn_alloc.proofs.Takings.{none_passed, one_passed, found_block, found_below, all_passed}
+use Rattle.txn_words.proofs.Looks.{some_from}
+use Rattle.txn_alloc.proofs.FreeLists.Traces.{lies}
+use Rattle.txn_alloc.proofs.FreeLists.Takings.{none_passed, one_passed, found_block, found_below, all_passed}
 use Rattle.txn_alloc.proofs.free.nearest.Goals as goal
 
 pub loop-passed-init : goal.loop-passed-init
@@ -42,9 +41,7 @@ prove-unreachable-requires g c =
     let i = c.loop-passed.invariant in
     let read = c.in_ok-name.ensures in
     let one_more : c.in_ok-name.name ≡ (c.in_ok-name.name - 1) + 1 = omega (arith, c.if-name-ne0.true) in
-    let some : SomeFits (g.W.Shape.Shape.word_count (g.W.Words.shape c.args.w.now))
-    (g.W.Shape.Shape.good (g.W.Words.shape c.args.w.now)) (g.W.Words.trace c.read.new.self) =
-    some_at g.W.Shape.Shape.word_count g.W.Shape.Shape.good _ _ _ (read.shape ∙ i.shape) (g.met.W.Words.fits c.read.new.self read.sound) in
+    let some = some_from g.W.Words g.W.Shape.Shape c.args.w.now c.read.new.self (read.shape ∙ i.shape) (g.met.W.Words.fits c.read.new.self read.sound) in
     let lt : c.in_ok-name.name - 1 < a.blocks =
     found_below a c.args.near _ _ _ _ _ c.loop-passed.passed _ _ i.looks c.head_of.ensures read.value
     (c.in_ok-name.name - 1) c.loop-passed-test.true one_more (each_plain g.W.Words g.W.Shape.Shape _ _ c.requires.order) some in

@@ -1,6 +1,6 @@
 use Rattle.std.proofs.Common.{◌≡◌, None}
 use Rattle.txn_words.specs.Looks.{Looks}
-use Rattle.txn_alloc.proofs.Takings.{AreEmpty, IsHeadWithin}
+use Rattle.txn_alloc.proofs.FreeLists.Takings.{AreEmpty, IsHeadWithin}
 use Rattle.txn_alloc.proofs.free.nearest.Given as goal
 
 -- so many lists were looked at, and all of them are empty

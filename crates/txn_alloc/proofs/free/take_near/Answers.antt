@@ -1,15 +1,14 @@
 use Rattle.std.proofs.Common.{Some, inl, inr, arith, ap, ◌∙◌}
-use Rattle.history_model.specs.Fitting.{SomeFits}
-use Rattle.history_model.proofs.TraceLaws.{begins_trans}
-use Rattle.history_model.proofs.FittingLaws.{some_at}
+use Rattle.history_model.proofs.Traces.TraceLaws.{begins_trans}
+use Rattle.history_model.proofs.Traces.FittingLaws.{some_at}
 use Rattle.txn_words.proofs.CallLaws.{each_plain, leads_plain, state_after}
 use Rattle.txn_words.proofs.ReadLaws.{sees_read, sees_then, sees_write, sees_more}
 use Rattle.txn_words.proofs.FrameLaws.{only_read, only_write, only_then, only_more, writes_keep}
-use Rattle.txn_words.proofs.Looks.{each_looked, each_from}
+use Rattle.txn_words.proofs.Looks.{each_looked, each_from, some_from}
 use Rattle.txn_alloc.specs.FreeLists.{IsHeadTo, IsWrittenByTake, IsReadByTake, IsInOrder, HasNone, Lacks, Takes}
-use Rattle.txn_alloc.proofs.Rounds.{own_head, last_head}
-use Rattle.txn_alloc.proofs.Traces.{lies, taken_from_some, order_taken, lacks_itself}
-use Rattle.txn_alloc.proofs.Takings.{found_none, takes_nearest, takes_some}
+use Rattle.txn_alloc.proofs.FreeLists.Rounds.{own_head, last_head}
+use Rattle.txn_alloc.proofs.FreeLists.Traces.{lies, taken_from_some, order_taken, lacks_itself}
+use Rattle.txn_alloc.proofs.FreeLists.Takings.{found_none, takes_nearest, takes_some}
 use Rattle.txn_alloc.proofs.free.take_near.Goals as goal
 
 pub returns-in_default-clause-none : goal.returns-in_default-clause-none
@@ -62,10 +61,8 @@ returns-clause-nearest g c =
 pub returns-clause-none_if : goal.returns-clause-none_if
 returns-clause-none_if g c =
     let a = c.args.arena.now in
-    let some : SomeFits (g.W.Shape.Shape.word_count (g.W.Words.shape c.args.w.now))
-    (g.W.Shape.Shape.good (g.W.Words.shape c.args.w.now)) (g.W.Words.trace c.write.new.self) =
-    some_at g.W.Shape.Shape.word_count g.W.Shape.Shape.good _ _ _ (c.in_ok-write.ensures.shape
-    ∙ c.in_ok-next.ensures.shape ∙ c.in_ok-number.ensures.goes_on.shape) (g.met.W.Words.fits c.write.new.self c.in_ok-write.ensures.sound) in
+    let some = some_from g.W.Words g.W.Shape.Shape c.args.w.now c.write.new.self (c.in_ok-write.ensures.shape ∙ c.in_ok-next.ensures.shape ∙ c.in_ok-number.ensures.goes_on.shape)
+    (g.met.W.Words.fits c.write.new.self c.in_ok-write.ensures.sound) in
     λ none. taken_from_some a _ _ _ _ c.of.result some
     (leads_plain g.W.Words g.W.Shape.Shape _ _ (Takes a (Some c.of.result)) (returns-clause-taken g c))
     (leads_plain g.W.Words g.W.Shape.Shape _ _ (λ before after. HasNone a before) none)

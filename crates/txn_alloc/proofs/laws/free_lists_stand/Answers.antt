@@ -1,4 +1,4 @@
-use Rattle.txn_alloc.proofs.Lists.{free_kept}
+use Rattle.txn_alloc.proofs.FreeLists.Lists.{free_kept}
 use Rattle.txn_alloc.proofs.laws.free_lists_stand.Goals as goal
 
 pub returns : goal.returns

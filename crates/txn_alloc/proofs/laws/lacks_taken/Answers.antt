@@ -1,4 +1,4 @@
-use Rattle.txn_alloc.proofs.Traces.{lacks_taken}
+use Rattle.txn_alloc.proofs.FreeLists.Traces.{lacks_taken}
 use Rattle.txn_alloc.proofs.laws.lacks_taken.Goals as goal
 
 pub returns : goal.returns

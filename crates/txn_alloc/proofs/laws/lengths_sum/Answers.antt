@@ -1,4 +1,4 @@
-use Rattle.txn_alloc.proofs.Counting.{lengths_sum}
+use Rattle.txn_alloc.proofs.Maps.Counting.{lengths_sum}
 use Rattle.txn_alloc.proofs.laws.lengths_sum.Goals as goal
 
 pub returns : goal.returns

@@ -1,4 +1,4 @@
-use Rattle.txn_alloc.proofs.Lists.{one_set}
+use Rattle.txn_alloc.proofs.FreeLists.Lists.{one_set}
 use Rattle.txn_alloc.proofs.laws.one_free_set.Goals as goal
 
 pub returns : goal.returns

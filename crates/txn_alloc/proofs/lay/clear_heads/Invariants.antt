@@ -1,4 +1,4 @@
-use Rattle.txn_alloc.proofs.Laid.{AreCleared}
+use Rattle.txn_alloc.proofs.FreeLists.Laid.{AreCleared}
 use Rattle.txn_alloc.proofs.lay.clear_heads.Given as goal
 
 abbrev pub invariant-loop-head : goal.invariant-loop-head

@@ -1,6 +1,6 @@
 use Rattle.std.proofs.Common.{◌≡◌, ℕ, suc, ◌+◌, ◌-◌, ◌<◌, drop, length, get_or, slice_set, subst, arith}
 use Rattle.txn_alloc.specs.FreeLists.{block_at, head_of}
-use Rattle.txn_alloc.proofs.Laid.{IsLaidFrom, laid_back, laid_free}
+use Rattle.txn_alloc.proofs.FreeLists.Laid.{IsLaidFrom, laid_back, laid_free}
 use Rattle.txn_alloc.proofs.lay.lay_free.Goals as goal
 
 pub loop-passed-preserved : goal.loop-passed-preserved

@@ -1,5 +1,5 @@
 use Rattle.std.proofs.Common.{◌-◌, drop, length}
-use Rattle.txn_alloc.proofs.Laid.{IsLaidFrom}
+use Rattle.txn_alloc.proofs.FreeLists.Laid.{IsLaidFrom}
 use Rattle.txn_alloc.proofs.lay.lay_free.Given as goal
 
 -- the last blocks, as many as were gone over, are in their lists

@@ -5,9 +5,9 @@ use Rattle.txn_alloc.specs.EntryMaps.{HasMapApart}
 use Rattle.txn_tree_map.specs.Trees.{tree_part}
 use Rattle.txn_books.specs.Layout.{tree_of}
 use Rattle.txn_books.specs.Standing.{Stands}
-use Rattle.txn_books.proofs.Calls.{IsPut}
-use Rattle.txn_books.proofs.Accounts.{tree_apart_there}
-use Rattle.txn_books.proofs.Built.{built_good, led, fresh, as_many, account_put, built_of}
+use Rattle.txn_books.proofs.OnBooks.Calls.{IsPut}
+use Rattle.txn_books.proofs.OnBooks.Accounts.{tree_apart_there}
+use Rattle.txn_books.proofs.OnBooks.Built.{built_good, led, fresh, as_many, account_put, built_of}
 use Rattle.txn_books.proofs.building.add_account.Goals as goal
 
 pub new-plain-requires : goal.new-plain-requires

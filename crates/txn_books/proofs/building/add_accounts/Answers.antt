@@ -3,7 +3,7 @@ use Rattle.std.specs.Ordering.{nat_cmp}
 use Rattle.std.specs.FinMap as entry_map
 use Rattle.txn_books.specs.Inner.Reading.{nothing_yet}
 use Rattle.txn_books.specs.Inner.Building.{IsBuilt, above}
-use Rattle.txn_books.proofs.Growing.{number_next, one_less, accounts_first, account_step, accounts_done}
+use Rattle.txn_books.proofs.ReadOff.Growing.{number_next, one_less, accounts_first, account_step, accounts_done}
 use Rattle.txn_books.proofs.building.add_accounts.Goals as goal
 
 pub loop-account-init : goal.loop-account-init

@@ -2,7 +2,7 @@ use Rattle.std.proofs.Common.{take, subst, arith}
 use Rattle.std.proofs.lemmas.List.{take_all}
 use Rattle.txn_books.specs.Inner.Reading.{with_positions}
 use Rattle.txn_books.specs.Inner.Building.{IsBuilt}
-use Rattle.txn_books.proofs.Growing.{call_is, call_fits, call_step}
+use Rattle.txn_books.proofs.ReadOff.Growing.{call_is, call_fits, call_step}
 use Rattle.txn_books.proofs.building.add_calls.Goals as goal
 
 pub add_call-requires-clause-books : goal.add_call-requires-clause-books

@@ -10,10 +10,10 @@ use Rattle.txn_books.specs.Standing.{Stands}
 use Rattle.txn_words.specs.Access.{OfModel}
 use Rattle.txn_books.specs.Access.{lacks_position_room}
 use Rattle.txn_books.specs.Inner.Rooms.{had_room}
-use Rattle.txn_books.proofs.Whole.{one_books}
-use Rattle.txn_books.proofs.Calls.{IsPut}
-use Rattle.txn_books.proofs.Holdings.{MayHold, place_of, chains_apart_there, quantity_put}
-use Rattle.txn_books.proofs.Built.{built_good, led, fresh, as_many, roomy, position_room, quantity_is, built_of}
+use Rattle.txn_books.proofs.OneState.Whole.{one_books}
+use Rattle.txn_books.proofs.OnBooks.Calls.{IsPut}
+use Rattle.txn_books.proofs.OnBooks.Holdings.{MayHold, place_of, chains_apart_there, quantity_put}
+use Rattle.txn_books.proofs.OnBooks.Built.{built_good, led, fresh, as_many, roomy, position_room, quantity_is, built_of}
 use Rattle.txn_books.proofs.building.add_position.Goals as goal
 
 pub new-plain-requires : goal.new-plain-requires

@@ -3,7 +3,7 @@ use Rattle.std.specs.FinMap as entry_map
 use Rattle.books_model.specs.Books.{position_cmp}
 use Rattle.txn_books.specs.Inner.Reading.{with_prices}
 use Rattle.txn_books.specs.Inner.Building.{IsBuilt, above}
-use Rattle.txn_books.proofs.Growing.{one_less, positions_first, position_found, position_step, positions_done}
+use Rattle.txn_books.proofs.ReadOff.Growing.{one_less, positions_first, position_found, position_step, positions_done}
 use Rattle.txn_books.proofs.building.add_positions.Goals as goal
 
 pub loop-account-init : goal.loop-account-init

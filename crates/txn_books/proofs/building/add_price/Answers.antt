@@ -3,7 +3,7 @@ use Rattle.books_model.specs.Books.{put_price}
 use Rattle.txn_words.specs.Access.{ChangesWithRoom}
 use Rattle.txn_books.specs.Access.{lacks_price_room}
 use Rattle.txn_books.specs.Standing.{Stands, IsGoodFor}
-use Rattle.txn_books.proofs.Built.{built_good, led, fresh, as_many, roomy, price_room, built_of}
+use Rattle.txn_books.proofs.OnBooks.Built.{built_good, led, fresh, as_many, roomy, price_room, built_of}
 use Rattle.txn_books.proofs.building.add_price.Goals as goal
 
 pub new-plain-requires : goal.new-plain-requires

@@ -5,7 +5,7 @@ use Rattle.books_model.specs.Ranges.{IsWithin}
 use Rattle.txn_books.specs.declared.shape.BooksShape.{BooksShape}
 use Rattle.txn_books.specs.Inner.Reading.{with_accounts}
 use Rattle.txn_books.specs.Inner.Building.{IsBuilt, above}
-use Rattle.txn_books.proofs.Growing.{number_next, one_less, prices_first, price_step, prices_done}
+use Rattle.txn_books.proofs.ReadOff.Growing.{number_next, one_less, prices_first, price_step, prices_done}
 use Rattle.txn_books.proofs.building.add_prices.Goals as goal
 
 pub loop-instrument-init : goal.loop-instrument-init

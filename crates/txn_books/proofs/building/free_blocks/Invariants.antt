@@ -1,6 +1,6 @@
 use Rattle.txn_alloc.specs.EntryMaps.{Blocks}
 use Rattle.txn_alloc.specs.FreeLists.{FreeListsHold}
-use Rattle.txn_books.proofs.Relaid.{AreFreeBelow}
+use Rattle.txn_books.proofs.LaidOut.Relaid.{AreFreeBelow}
 use Rattle.txn_books.proofs.building.free_blocks.Given as goal
 
 -- the lists up to here were gone through

@@ -1,8 +1,8 @@
 use Rattle.std.proofs.Common.{◌≡◌, ◌+◌, ◌-◌, ◌<◌, length, get_or, ◌++◌, Some, sym, ap, ◌∙◌, subst, arith, length-append}
 use Rattle.std.proofs.lemmas.Option.{slice_get-get_or}
 use Rattle.txn_alloc.specs.FreeLists.{block_at, HasList}
-use Rattle.txn_alloc.proofs.Lists.{block_in}
-use Rattle.txn_books.proofs.Relaid.{through_none, through_below, through_next, list_there, list_short}
+use Rattle.txn_alloc.proofs.FreeLists.Lists.{block_in}
+use Rattle.txn_books.proofs.LaidOut.Relaid.{through_none, through_below, through_next, list_there, list_short}
 use Rattle.txn_books.proofs.building.list_blocks.Goals as goal
 
 pub loop-name-init : goal.loop-name-init

@@ -1,6 +1,6 @@
 use Rattle.std.proofs.Common.{ℕ, ◌+◌, ◌-◌, List, length}
 use Rattle.txn_alloc.specs.FreeLists.{HasList}
-use Rattle.txn_books.proofs.Relaid.{GoesThrough}
+use Rattle.txn_books.proofs.LaidOut.Relaid.{GoesThrough}
 use Rattle.txn_books.proofs.building.list_blocks.Given as goal
 
 -- the blocks that were gone through, and then those from the name on, are the list

@@ -3,11 +3,11 @@ use Rattle.std.proofs.Math.Seq.{take-append_seam}
 use Rattle.std.proofs.lemmas.List.Sorted.{IsNonDecreasingBy-from_sort}
 use Rattle.std.proofs.lemmas.Map.Keys.{IsStrictlyIncreasing-from_distinct}
 use Rattle.books_model.specs.Books.{ClearingBooks}
-use Rattle.txn_alloc.proofs.Laid.{rising_of}
+use Rattle.txn_alloc.proofs.FreeLists.Laid.{rising_of}
 use Rattle.txn_books.specs.Layout.{arena_of}
 use Rattle.txn_alloc.specs.Laying.{of_list, HasRisingList}
 use Rattle.txn_books.specs.Inner.Building.{IsBuilt, AreFree}
-use Rattle.txn_books.proofs.Relaid.{free_held, sorted_once, sorted_below, relaid_built}
+use Rattle.txn_books.proofs.LaidOut.Relaid.{free_held, sorted_once, sorted_below, relaid_built}
 use Rattle.txn_books.proofs.building.sort_free.Goals as goal
 use Rattle.txn_books.proofs.building.sort_free.Goals.{In_ok-order, In_ok-sort, After-lay_free}
 

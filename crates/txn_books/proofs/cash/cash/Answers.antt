@@ -5,8 +5,8 @@ use Rattle.txn_tree_map.specs.Trees.{tree_part}
 use Rattle.txn_books.specs.Layout.{tree_of}
 use Rattle.txn_words.specs.Access.{Tells}
 use Rattle.txn_books.specs.Standing.{Stands}
-use Rattle.txn_books.proofs.Calls.{leads_less, in_some, each_told, looked_stands}
-use Rattle.txn_books.proofs.Accounts.{tree_there, tells_cash, cash_most}
+use Rattle.txn_books.proofs.OnBooks.Calls.{leads_less, in_some, each_told, looked_stands}
+use Rattle.txn_books.proofs.OnBooks.Accounts.{tree_there, tells_cash, cash_most}
 use Rattle.txn_books.proofs.cash.cash.Goals as goal
 
 pub get-requires-clause-order : goal.get-requires-clause-order

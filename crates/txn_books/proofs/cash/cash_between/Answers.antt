@@ -1,14 +1,14 @@
 use Rattle.std.proofs.Common.{◌<◌, ◌^◌, arith}
 use Rattle.books_model.specs.Interpreter.{cash_between}
-use Rattle.history_model.specs.Fitting.{SomeFits}
-use Rattle.history_model.proofs.FittingLaws.{some_at, fits_begins}
+use Rattle.history_model.proofs.Traces.FittingLaws.{fits_begins}
+use Rattle.txn_words.proofs.Looks.{some_from}
 use Rattle.txn_alloc.specs.EntryMaps.{SumsRange}
 use Rattle.txn_tree_map.specs.Trees.{tree_part}
 use Rattle.txn_books.specs.Layout.{tree_of}
 use Rattle.txn_words.specs.Access.{Tells}
 use Rattle.txn_books.specs.Standing.{Stands}
-use Rattle.txn_books.proofs.Calls.{leads_less, looked_stands}
-use Rattle.txn_books.proofs.Accounts.{tree_there, between_small, tells_between}
+use Rattle.txn_books.proofs.OnBooks.Calls.{leads_less, looked_stands}
+use Rattle.txn_books.proofs.OnBooks.Accounts.{tree_there, between_small, tells_between}
 use Rattle.txn_books.proofs.cash.cash_between.Goals as goal
 
 pub sum_range-requires-clause-order : goal.sum_range-requires-clause-order
@@ -19,9 +19,7 @@ prove-unreachable-requires g c =
     let shape = c.args.shape.now in
     let goes = c.in_ok-total.ensures.goes_on in
     let sums = rw c.from.ensures at rw c.from-2.ensures at rw c.tree.ensures at c.in_ok-total.ensures.sum in
-    let some : SomeFits (g.W.Shape.Shape.word_count (g.W.Words.shape c.args.w.now))
-    (g.W.Shape.Shape.good (g.W.Words.shape c.args.w.now)) (g.W.Words.trace c.sum_range.new.w) =
-    some_at g.W.Shape.Shape.word_count g.W.Shape.Shape.good _ _ _ goes.shape (g.met.W.Words.fits c.sum_range.new.w goes.sound) in
+    let some = some_from g.W.Words g.W.Shape.Shape c.args.w.now c.sum_range.new.w goes.shape (g.met.W.Words.fits c.sum_range.new.w goes.sound) in
     let fits : c.in_ok-total.total < 2 ^ 64 =
     between_small shape c.args.low c.args.high c.in_ok-total.total _ _
     (c.requires.stands.at some.0 (fits_begins _ _ _ _ some.0 goes.begins some.1)) (sums.at some.0 some.1) in

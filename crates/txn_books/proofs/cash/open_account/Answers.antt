@@ -1,7 +1,7 @@
 use Rattle.txn_tree_map.specs.Trees.{tree_part}
 use Rattle.txn_books.specs.Layout.{tree_of}
-use Rattle.txn_books.proofs.Calls.{leads_when, leads_put, room_stands}
-use Rattle.txn_books.proofs.Accounts.{tree_apart_there, account_opened}
+use Rattle.txn_books.proofs.OnBooks.Calls.{leads_when, leads_put, room_stands}
+use Rattle.txn_books.proofs.OnBooks.Accounts.{tree_apart_there, account_opened}
 use Rattle.txn_books.proofs.cash.open_account.Goals as goal
 
 pub insert-requires-clause-order : goal.insert-requires-clause-order

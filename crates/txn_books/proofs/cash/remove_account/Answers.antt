@@ -1,7 +1,7 @@
 use Rattle.txn_tree_map.specs.Trees.{tree_part}
 use Rattle.txn_books.specs.Layout.{tree_of}
-use Rattle.txn_books.proofs.Calls.{leads_when, leads_cut, changed_stands}
-use Rattle.txn_books.proofs.Accounts.{tree_apart_there, account_removed}
+use Rattle.txn_books.proofs.OnBooks.Calls.{leads_when, leads_cut, changed_stands}
+use Rattle.txn_books.proofs.OnBooks.Accounts.{tree_apart_there, account_removed}
 use Rattle.txn_books.proofs.cash.remove_account.Goals as goal
 
 pub remove-requires-clause-order : goal.remove-requires-clause-order

@@ -1,6 +1,6 @@
 use Rattle.std.proofs.Common.{◌≡◌, ◌+◌, ℕ, length, List, [], ◌∷◌, Result, Ok, Err, IfOk, All, sym, ap, subst, ◌∙◌, arith}
 use Rattle.history_model.specs.Traces.{Trace, Begins}
-use Rattle.history_model.proofs.TraceLaws.{begins_trans}
+use Rattle.history_model.proofs.Traces.TraceLaws.{begins_trans}
 use Rattle.books_model.specs.declared.reply.Reply.{Reply}
 use Rattle.books_model.specs.declared.reply.Value.{Value}
 use Rattle.books_model.specs.declared.reply.Value.TheVariants as value
@@ -11,8 +11,8 @@ use Rattle.txn_words.specs.Marks.{TakesBack}
 use Rattle.txn_words.proofs.GoingBack.{marked_stays, same_as_at_mark}
 use Rattle.txn_books.specs.Inner.Scripts.{Runs}
 use Rattle.txn_books.specs.Operating.{IsOperationIn}
-use Rattle.txn_books.proofs.Turning.{Turned}
-use Rattle.txn_books.proofs.Scripted.{turned_marked, marked_runs, turned_stands, first_done, gone_back, second_ran}
+use Rattle.txn_books.proofs.OnBooks.Turning.{Turned}
+use Rattle.txn_books.proofs.OnBooks.Scripted.{turned_marked, marked_runs, turned_stands, first_done, gone_back, second_ran}
 use Rattle.txn_books.proofs.job.run_either.Goals as goal
 use Rattle.txn_books.proofs.job.run_either.Goals.{In_ok-back_to}
 

@@ -5,8 +5,8 @@ use Rattle.std.proofs.lemmas.List.Elements.{All-drop}
 use Rattle.books_model.specs.declared.script.Op.{Op}
 use Rattle.books_model.specs.Interpreter.{after_values, run_from}
 use Rattle.txn_books.specs.Operating.{IsOperationIn}
-use Rattle.txn_books.proofs.Turning.{Turned}
-use Rattle.txn_books.proofs.Scripted.{SoFar, turned_stands, run_begins, run_ends, run_gives, run_declined, run_full}
+use Rattle.txn_books.proofs.OnBooks.Turning.{Turned}
+use Rattle.txn_books.proofs.OnBooks.Scripted.{SoFar, turned_stands, run_begins, run_ends, run_gives, run_declined, run_full}
 use Rattle.txn_books.proofs.job.run_operations.Goals as goal
 use Rattle.txn_books.proofs.job.run_operations.Goals.{In-Some}
 

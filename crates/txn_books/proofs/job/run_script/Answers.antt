@@ -7,10 +7,10 @@ use Rattle.books_model.specs.Scripts.{operations_of}
 use Rattle.books_model.specs.Interpreter.{run_parts}
 use Rattle.books_model.proofs.Scripts.Branches.{All-front, All-back}
 use Rattle.books_model.proofs.Scripts.Runs.{after_values-none}
-use Rattle.history_model.proofs.TraceLaws.{begins_trans}
+use Rattle.history_model.proofs.Traces.TraceLaws.{begins_trans}
 use Rattle.txn_books.specs.Operating.{IsOperationIn}
-use Rattle.txn_books.proofs.Turning.{Turned}
-use Rattle.txn_books.proofs.Scripted.{SoFar, turned_stands, run_begins, script_ends, one_gives, one_declined, one_full, part_done, part_refused}
+use Rattle.txn_books.proofs.OnBooks.Turning.{Turned}
+use Rattle.txn_books.proofs.OnBooks.Scripted.{SoFar, turned_stands, run_begins, script_ends, one_gives, one_declined, one_full, part_done, part_refused}
 use Rattle.txn_books.proofs.job.run_script.Goals as goal
 use Rattle.txn_books.proofs.job.run_script.Goals.{In-Some}
 

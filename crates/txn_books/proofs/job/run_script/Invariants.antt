@@ -4,8 +4,8 @@ use Rattle.books_model.specs.declared.limits.TheConstants.{MOST_OPERATIONS}
 use Rattle.books_model.specs.Scripts.{operations_of}
 use Rattle.books_model.specs.Interpreter.{run_parts}
 use Rattle.txn_books.specs.Operating.{IsOperationIn}
-use Rattle.txn_books.proofs.Turning.{Turned}
-use Rattle.txn_books.proofs.Scripted.{SoFar}
+use Rattle.txn_books.proofs.OnBooks.Turning.{Turned}
+use Rattle.txn_books.proofs.OnBooks.Scripted.{SoFar}
 use Rattle.txn_books.proofs.job.run_script.Given as goal
 
 -- the values so far and the run of the parts that are left are the whole run

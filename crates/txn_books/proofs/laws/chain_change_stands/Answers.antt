@@ -1,4 +1,4 @@
-use Rattle.txn_books.proofs.Changes.{chain_change}
+use Rattle.txn_books.proofs.OneState.Changes.{chain_change}
 use Rattle.txn_books.proofs.laws.chain_change_stands.Goals as goal
 
 pub returns : goal.returns

@@ -1,4 +1,4 @@
-use Rattle.txn_books.proofs.Whole.{counted}
+use Rattle.txn_books.proofs.OneState.Whole.{counted}
 use Rattle.txn_books.proofs.laws.free_blocks_counted.Goals as goal
 
 pub returns : goal.returns

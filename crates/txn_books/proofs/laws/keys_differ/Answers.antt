@@ -1,5 +1,5 @@
 use Rattle.std.proofs.Common.{arith}
-use Rattle.txn_books.proofs.Chained.{price_differs, key_differs}
+use Rattle.txn_books.proofs.OneState.Chained.{price_differs, key_differs}
 use Rattle.txn_books.proofs.laws.keys_differ.Goals as goal
 
 pub returns : goal.returns

@@ -1,4 +1,4 @@
-use Rattle.txn_books.proofs.Whole.{one_books}
+use Rattle.txn_books.proofs.OneState.Whole.{one_books}
 use Rattle.txn_books.proofs.laws.one_books.Goals as goal
 
 pub returns : goal.returns

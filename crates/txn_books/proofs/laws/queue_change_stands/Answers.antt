@@ -1,4 +1,4 @@
-use Rattle.txn_books.proofs.Changes.{queue_change}
+use Rattle.txn_books.proofs.OneState.Changes.{queue_change}
 use Rattle.txn_books.proofs.laws.queue_change_stands.Goals as goal
 
 pub returns : goal.returns

@@ -1,4 +1,4 @@
-use Rattle.txn_books.proofs.Changes.{tree_change}
+use Rattle.txn_books.proofs.OneState.Changes.{tree_change}
 use Rattle.txn_books.proofs.laws.tree_change_stands.Goals as goal
 
 pub returns : goal.returns

@@ -8,7 +8,7 @@ use Rattle.txn_alloc.specs.FreeLists.{HasList, FreeListsHold}
 use Rattle.txn_books.specs.Layout.{words_of, arena_of}
 use Rattle.txn_books.specs.Standing.{Stands}
 use Rattle.txn_alloc.specs.Laying.{IsWrittenByLaying, of_list}
-use Rattle.txn_books.proofs.Emptied.{all_blocks, empty_stands, all_below, all_once}
+use Rattle.txn_books.proofs.LaidOut.Emptied.{all_blocks, empty_stands, all_below, all_once}
 use Rattle.txn_books.proofs.lay.empty_words.Goals as goal
 use Rattle.txn_books.proofs.lay.empty_words.Goals.{After-lay_free}
 

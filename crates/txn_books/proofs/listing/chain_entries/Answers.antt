@@ -1,5 +1,5 @@
 use Rattle.std.proofs.Common.{ℕ, ◌+◌, sym, subst, arith}
-use Rattle.txn_books.proofs.Walked.{Gathers, gathers_none, gathers_more, gathers_all, bucket_chain}
+use Rattle.txn_books.proofs.ReadOff.Walked.{Gathers, gathers_none, gathers_more, gathers_all, bucket_chain}
 use Rattle.txn_books.proofs.listing.chain_entries.Goals as goal
 
 pub loop-bucket-init : goal.loop-bucket-init

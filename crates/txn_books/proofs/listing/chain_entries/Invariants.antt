@@ -1,6 +1,6 @@
 use Rattle.txn_alloc.specs.EntryMaps.{Entries, Blocks}
 use Rattle.txn_hash_map.specs.Chains.{ChainsHold}
-use Rattle.txn_books.proofs.Walked.{Gathers}
+use Rattle.txn_books.proofs.ReadOff.Walked.{Gathers}
 use Rattle.txn_books.proofs.listing.chain_entries.Given as goal
 
 abbrev pub invariant-loop-bucket : goal.invariant-loop-bucket

@@ -4,7 +4,7 @@ use Rattle.std.proofs.lemmas.Option.{slice_get-get_or}
 use Rattle.txn_alloc.specs.EntryMaps.{Cell}
 use Rattle.txn_alloc.specs.FreeLists.{block_at}
 use Rattle.txn_books.specs.Inner.Reading.{entries_in}
-use Rattle.txn_books.proofs.Walked.{chain_there, follows_none, follows_below, follows_next}
+use Rattle.txn_books.proofs.ReadOff.Walked.{chain_there, follows_none, follows_below, follows_next}
 use Rattle.txn_books.proofs.listing.list_chain.Goals as goal
 
 pub bounds-words-place : goal.bounds-words-place

@@ -5,7 +5,7 @@ use Rattle.std.specs.FinMap as entry_map
 use Rattle.txn_alloc.specs.FreeLists.{block_at}
 use Rattle.txn_tree_map.specs.Trees.{name_of}
 use Rattle.txn_books.specs.Inner.Reading.{AddsUp, entries_in}
-use Rattle.txn_books.proofs.Visited.{Visits, down, visits_all, visits_end, visits_none, visits_node, visits_below, down_adds, down_few}
+use Rattle.txn_books.proofs.ReadOff.Visited.{Visits, down, visits_all, visits_end, visits_none, visits_node, visits_below, down_adds, down_few}
 use Rattle.txn_books.proofs.listing.tree_entries.Goals as goal
 use Rattle.txn_books.proofs.listing.tree_entries.Goals.{In-Some}
 

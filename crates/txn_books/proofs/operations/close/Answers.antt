@@ -4,8 +4,8 @@ use Rattle.txn_words.specs.Calls.{GoesOn}
 use Rattle.txn_words.proofs.CallLaws.{goes_then, goes_as}
 use Rattle.books_model.specs.declared.reply.Value.TheVariants as value
 use Rattle.books_model.specs.Interpreter.{Gives}
-use Rattle.txn_books.proofs.Turning.{looked, look_then, answers, look_turn, of_change, comes}
-use Rattle.txn_books.proofs.Operating.{close_absent, close_cash, close_held, close_done}
+use Rattle.txn_books.proofs.OnBooks.Turning.{looked, look_then, answers, look_turn, of_change, comes}
+use Rattle.txn_books.proofs.OnBooks.Operating.{close_absent, close_cash, close_held, close_done}
 use Rattle.txn_books.proofs.operations.close.Goals as goal
 
 pub returns-in_default : goal.returns-in_default

@@ -4,8 +4,8 @@ use Rattle.txn_words.specs.Calls.{GoesOn}
 use Rattle.txn_words.proofs.CallLaws.{goes_then, goes_as}
 use Rattle.books_model.specs.declared.reply.Value.TheVariants as value
 use Rattle.books_model.specs.Interpreter.{Gives}
-use Rattle.txn_books.proofs.Turning.{looked, answers, look_turn, of_change, comes}
-use Rattle.txn_books.proofs.Operating.{deposit_absent, deposit_limit, deposit_done}
+use Rattle.txn_books.proofs.OnBooks.Turning.{looked, answers, look_turn, of_change, comes}
+use Rattle.txn_books.proofs.OnBooks.Operating.{deposit_absent, deposit_limit, deposit_done}
 use Rattle.txn_books.proofs.operations.deposit.Goals as goal
 
 pub returns-in_default : goal.returns-in_default

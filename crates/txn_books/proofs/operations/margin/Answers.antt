@@ -5,8 +5,8 @@ use Rattle.txn_words.proofs.CallLaws.{goes_then, goes_as}
 use Rattle.books_model.specs.Books.{put_call}
 use Rattle.books_model.specs.declared.reply.Value.TheVariants as value
 use Rattle.books_model.specs.Interpreter.{Gives}
-use Rattle.txn_books.proofs.Turning.{looked, look_then, answers, look_turn, of_room, comes}
-use Rattle.txn_books.proofs.Operating.{margin_absent, margin_none, margin_queue, margin_done, left_with}
+use Rattle.txn_books.proofs.OnBooks.Turning.{looked, look_then, answers, look_turn, of_room, comes}
+use Rattle.txn_books.proofs.OnBooks.Operating.{margin_absent, margin_none, margin_queue, margin_done, left_with}
 use Rattle.txn_books.proofs.operations.margin.Goals as goal
 
 pub returns-in_default : goal.returns-in_default

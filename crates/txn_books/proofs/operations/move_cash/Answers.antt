@@ -7,8 +7,8 @@ use Rattle.books_model.specs.Books.{put_cash}
 use Rattle.books_model.proofs.Drafts.{put_cash-apart}
 use Rattle.books_model.specs.declared.reply.Value.TheVariants as value
 use Rattle.books_model.specs.Interpreter.{Gives}
-use Rattle.txn_books.proofs.Turning.{unlooked, looked, look_then, answers, look_turn, turn_then, of_change, comes, each_looked, each_turned}
-use Rattle.txn_books.proofs.Operating.{move_same, move_payer_absent, move_payee_absent, move_cash, move_limit, move_done}
+use Rattle.txn_books.proofs.OnBooks.Turning.{unlooked, looked, look_then, answers, look_turn, turn_then, of_change, comes, each_looked, each_turned}
+use Rattle.txn_books.proofs.OnBooks.Operating.{move_same, move_payer_absent, move_payee_absent, move_cash, move_limit, move_done}
 use Rattle.txn_books.proofs.operations.move_cash.Goals as goal
 
 pub returns-then-payer-payee : goal.returns-then-payer-payee

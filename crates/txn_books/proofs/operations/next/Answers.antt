@@ -1,5 +1,5 @@
-use Rattle.txn_books.proofs.Turning.{turned, of_taking, comes}
-use Rattle.txn_books.proofs.Operating.{next_none, next_call}
+use Rattle.txn_books.proofs.OnBooks.Turning.{turned, of_taking, comes}
+use Rattle.txn_books.proofs.OnBooks.Operating.{next_none, next_call}
 use Rattle.txn_books.proofs.operations.next.Goals as goal
 
 pub returns-in-None-clause-step : goal.returns-in-None-clause-step

@@ -5,8 +5,8 @@ use Rattle.txn_words.proofs.CallLaws.{goes_then, goes_as}
 use Rattle.books_model.specs.declared.reply.Value.TheVariants as value
 use Rattle.books_model.specs.Books.{put_cash}
 use Rattle.books_model.specs.Interpreter.{Gives}
-use Rattle.txn_books.proofs.Turning.{looked, answers, look_turn, of_room, comes}
-use Rattle.txn_books.proofs.Operating.{open_exists, open_full, open_done, left_with}
+use Rattle.txn_books.proofs.OnBooks.Turning.{looked, answers, look_turn, of_room, comes}
+use Rattle.txn_books.proofs.OnBooks.Operating.{open_exists, open_full, open_done, left_with}
 use Rattle.txn_books.proofs.operations.open.Goals as goal
 
 pub returns-then-is_some : goal.returns-then-is_some

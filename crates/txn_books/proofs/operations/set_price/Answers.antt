@@ -2,8 +2,8 @@ use Rattle.std.proofs.Common.{ap, ◌∙◌}
 use Rattle.books_model.specs.declared.reply.Value.TheVariants as value
 use Rattle.books_model.specs.Books.{put_price}
 use Rattle.books_model.specs.Interpreter.{Gives}
-use Rattle.txn_books.proofs.Turning.{turned, of_room, comes}
-use Rattle.txn_books.proofs.Operating.{price_full, price_done, left_with}
+use Rattle.txn_books.proofs.OnBooks.Turning.{turned, of_room, comes}
+use Rattle.txn_books.proofs.OnBooks.Operating.{price_full, price_done, left_with}
 use Rattle.txn_books.proofs.operations.set_price.Goals as goal
 
 pub returns-then-not-branch-clause-step : goal.returns-then-not-branch-clause-step

@@ -1,5 +1,5 @@
-use Rattle.txn_books.proofs.Turning.{looked, answers}
-use Rattle.txn_books.proofs.Operating.{show_absent, show_found}
+use Rattle.txn_books.proofs.OnBooks.Turning.{looked, answers}
+use Rattle.txn_books.proofs.OnBooks.Operating.{show_absent, show_found}
 use Rattle.txn_books.proofs.operations.show.Goals as goal
 
 pub returns-in-Some-clause-step : goal.returns-in-Some-clause-step

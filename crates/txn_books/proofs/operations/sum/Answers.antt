@@ -1,7 +1,7 @@
 use Rattle.std.proofs.Common.{sym, ap}
 use Rattle.books_model.specs.declared.reply.Value.TheVariants as value
 use Rattle.books_model.specs.Interpreter.{Gives}
-use Rattle.txn_books.proofs.Turning.{looked, answers}
+use Rattle.txn_books.proofs.OnBooks.Turning.{looked, answers}
 use Rattle.txn_books.proofs.operations.sum.Goals as goal
 
 pub returns-clause-step : goal.returns-clause-step

@@ -5,9 +5,10 @@ use Rattle.txn_words.specs.Calls.{GoesOn}
 use Rattle.txn_words.proofs.CallLaws.{goes_then, goes_as}
 use Rattle.books_model.specs.declared.reply.Value.TheVariants as value
 use Rattle.books_model.specs.Interpreter.{Gives}
-use Rattle.txn_books.proofs.Turning.{unlooked, looked, look_then, answers, look_turn, comes, each_looked}
-use Rattle.txn_books.proofs.TradeSides.{found_side, no_side, may_exchange, of_exchange, left_exchanged, trade_same, trade_buyer_absent, trade_seller_absent}
-use Rattle.txn_books.proofs.TradeSides.{trade_price, trade_quantity, trade_cash, trade_limit, trade_full, trade_done}
+use Rattle.txn_books.proofs.OnBooks.Turning.{unlooked, looked, look_then, answers, look_turn, comes, each_looked}
+use Rattle.txn_books.proofs.OnBooks.TradeSides.{found_side, no_side, may_exchange, of_exchange, left_exchanged, trade_same, trade_buyer_absent}
+use Rattle.txn_books.proofs.OnBooks.TradeSides.{trade_seller_absent}
+use Rattle.txn_books.proofs.OnBooks.TradeSides.{trade_price, trade_quantity, trade_cash, trade_limit, trade_full, trade_done}
 use Rattle.txn_books.proofs.operations.trade.Goals as goal
 use Rattle.txn_books.proofs.operations.trade.Goals.{then-sells-cost-gt-GREATEST_CASH-via-then-sells-cost-gt-GREATEST_CASH}
 use Rattle.txn_books.proofs.operations.trade.Goals.{then-sells-cost-gt-GREATEST_CASH-via-else-sells-cost-gt-GREATEST_CASH+then-buys-amount-gt-GREATEST_QUANTITY}

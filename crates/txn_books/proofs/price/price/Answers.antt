@@ -5,8 +5,8 @@ use Rattle.txn_hash_map.specs.Chains.{chain_part}
 use Rattle.txn_books.specs.Layout.{chains_of, price_key_of}
 use Rattle.txn_words.specs.Access.{Tells}
 use Rattle.txn_books.specs.Standing.{Stands}
-use Rattle.txn_books.proofs.Calls.{leads_less, in_some, each_told, looked_stands}
-use Rattle.txn_books.proofs.Holdings.{chains_there, tells_price, price_most}
+use Rattle.txn_books.proofs.OnBooks.Calls.{leads_less, in_some, each_told, looked_stands}
+use Rattle.txn_books.proofs.OnBooks.Holdings.{chains_there, tells_price, price_most}
 use Rattle.txn_books.proofs.price.price.Goals as goal
 
 pub get-requires-clause-order : goal.get-requires-clause-order

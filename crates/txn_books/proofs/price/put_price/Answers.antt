@@ -1,7 +1,7 @@
 use Rattle.txn_hash_map.specs.Chains.{chain_part}
 use Rattle.txn_books.specs.Layout.{chains_of, price_key_of}
-use Rattle.txn_books.proofs.Calls.{leads_less, leads_put, room_stands}
-use Rattle.txn_books.proofs.Holdings.{chains_apart_there, price_put}
+use Rattle.txn_books.proofs.OnBooks.Calls.{leads_less, leads_put, room_stands}
+use Rattle.txn_books.proofs.OnBooks.Holdings.{chains_apart_there, price_put}
 use Rattle.txn_books.proofs.price.put_price.Goals as goal
 
 pub insert-requires-clause-order : goal.insert-requires-clause-order

@@ -1,11 +1,11 @@
 use Rattle.std.proofs.Common.{◌≡◌, true, false, None, sym, ap, subst, ◌∙◌, inl, inr, arith}
 use Rattle.std.specs.FinMap as map
 use Rattle.std.proofs.lemmas.Bool.{cases_lt}
-use Rattle.history_model.proofs.TraceLaws.{begins_trans}
+use Rattle.history_model.proofs.Traces.TraceLaws.{begins_trans}
 use Rattle.books_model.specs.Interpreter.{holds_any}
 use Rattle.books_model.proofs.Maps.Comparing.{none_of}
 use Rattle.books_model.proofs.Sums.{holds_nothing, holds_one}
-use Rattle.txn_books.proofs.Looking.{saw_told, told_saw, saw_then, saw_stands}
+use Rattle.txn_books.proofs.OnBooks.Looking.{saw_told, told_saw, saw_then, saw_stands}
 use Rattle.txn_books.proofs.quantity.holds_any.Goals as goal
 
 pub quantity-requires-clause-stands : goal.quantity-requires-clause-stands

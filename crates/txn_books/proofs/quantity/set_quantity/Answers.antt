@@ -2,8 +2,8 @@ use Rattle.txn_hash_map.specs.Chains.{chain_part}
 use Rattle.txn_books.specs.Layout.{chains_of, position_key_of}
 use Rattle.txn_words.specs.Access.{OfModel}
 use Rattle.txn_books.specs.Standing.{Stands}
-use Rattle.txn_books.proofs.Calls.{leads_when, leads_put, leads_cut, room_stands}
-use Rattle.txn_books.proofs.Holdings.{MayHold, chains_apart_there, place_of, quantity_put, quantity_cut}
+use Rattle.txn_books.proofs.OnBooks.Calls.{leads_when, leads_put, leads_cut, room_stands}
+use Rattle.txn_books.proofs.OnBooks.Holdings.{MayHold, chains_apart_there, place_of, quantity_put, quantity_cut}
 use Rattle.txn_books.proofs.quantity.set_quantity.Goals as goal
 
 pub position_key-key-requires : goal.position_key-key-requires

@@ -1,9 +1,9 @@
 use Rattle.std.proofs.Common.{◌≡◌, ◌+◌, ◌*◌, refl, sym, ap, ◌∙◌, arith}
-use Rattle.history_model.proofs.TraceLaws.{begins_refl, begins_trans}
+use Rattle.history_model.proofs.Traces.TraceLaws.{begins_refl, begins_trans}
 use Rattle.books_model.specs.Books.{position_of, price_of}
 use Rattle.books_model.specs.Interpreter.{worth_of}
 use Rattle.books_model.proofs.Sums.{worth_below, worth_first, worth_next, worth_last}
-use Rattle.txn_books.proofs.Looking.{saw_told, told_saw, saw_first, saw_then, saw_stands}
+use Rattle.txn_books.proofs.OnBooks.Looking.{saw_told, told_saw, saw_first, saw_then, saw_stands}
 use Rattle.txn_books.proofs.quantity.worth.Goals as goal
 
 pub loop-instrument-init : goal.loop-instrument-init

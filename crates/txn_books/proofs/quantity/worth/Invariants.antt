@@ -1,8 +1,9 @@
 use Rattle.std.proofs.Common.{◌≡◌, ◌+◌, ◌*◌, ◌≤◌, None}
 use Rattle.history_model.specs.Traces.{Begins}
+use Rattle.books_model.specs.declared.limits.TheConstants.{GREATEST_QUANTITY, GREATEST_PRICE}
 use Rattle.books_model.proofs.Sums.{worth_below}
 use Rattle.txn_words.specs.Calls.{LeadsTo}
-use Rattle.txn_books.proofs.Looking.{Saw}
+use Rattle.txn_books.proofs.OnBooks.Looking.{Saw}
 use Rattle.txn_books.proofs.quantity.worth.Given as goal
 
 -- the total is the worth of the positions so far, each at most a million at a thousand million
@@ -17,5 +18,5 @@ invariant-loop-instrument g l =
       sound : words.is_sound l.w;
       from : 1 ≤ l.instrument;
       worth : LeadsTo words g.W.Shape.Shape l.fn.w l.w (Saw l.shape (λ books. l.total ≡ worth_below books l.account l.instrument));
-      most : l.total + 1000000000000000 ≤ l.instrument * 1000000000000000;
+      most : l.total + GREATEST_QUANTITY * GREATEST_PRICE ≤ l.instrument * (GREATEST_QUANTITY * GREATEST_PRICE);
     }

@@ -4,8 +4,8 @@ use Rattle.txn_words.specs.Calls.{GoesOn}
 use Rattle.txn_words.proofs.CallLaws.{goes_then, goes_as}
 use Rattle.std.specs.FinMap as map
 use Rattle.books_model.specs.Books.{position_of, price_of}
-use Rattle.txn_books.proofs.Holdings.{worth_here}
-use Rattle.txn_books.proofs.Looking.{saw_told, told_saw, saw_then}
+use Rattle.txn_books.proofs.OnBooks.Holdings.{worth_here}
+use Rattle.txn_books.proofs.OnBooks.Looking.{saw_told, told_saw, saw_then}
 use Rattle.txn_books.proofs.quantity.worth_in.Goals as goal
 
 pub returns : goal.returns

@@ -1,7 +1,7 @@
 use Rattle.std.proofs.lemmas.Result.{IfOk-weaker}
 use Rattle.txn_books.specs.Layout.{queue_of}
-use Rattle.txn_books.proofs.Calls.{IsPushed, ok_both, leads_less, leads_pushed, room_stands}
-use Rattle.txn_books.proofs.MarginCalls.{queue_there, call_queued}
+use Rattle.txn_books.proofs.OnBooks.Calls.{IsPushed, ok_both, leads_less, leads_pushed, room_stands}
+use Rattle.txn_books.proofs.OnBooks.MarginCalls.{queue_there, call_queued}
 use Rattle.txn_books.proofs.queue.queue_call.Goals as goal
 
 pub push-requires-clause-order : goal.push-requires-clause-order

@@ -4,8 +4,8 @@ use Rattle.txn_words.proofs.CallLaws.{state_after}
 use Rattle.txn_ring.specs.Queues.{IsEmpty, Pops}
 use Rattle.txn_books.specs.Layout.{queue_of}
 use Rattle.txn_books.specs.Standing.{IsGoodFor}
-use Rattle.txn_books.proofs.Calls.{leads_less, leads_both, leads_popped, in_some, told_stands}
-use Rattle.txn_books.proofs.MarginCalls.{queue_there, front_lacking, front_taken, front_is_call}
+use Rattle.txn_books.proofs.OnBooks.Calls.{leads_less, leads_both, leads_popped, in_some, told_stands}
+use Rattle.txn_books.proofs.OnBooks.MarginCalls.{queue_there, front_lacking, front_taken, front_is_call}
 use Rattle.txn_books.proofs.queue.take_front.Goals as goal
 
 pub pop-requires-clause-order : goal.pop-requires-clause-order

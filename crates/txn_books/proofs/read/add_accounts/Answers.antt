@@ -1,5 +1,5 @@
 use Rattle.std.proofs.Common.{arith}
-use Rattle.txn_books.proofs.Filling.{account_at}
+use Rattle.txn_books.proofs.ReadOff.Filling.{account_at}
 use Rattle.txn_books.proofs.read.add_accounts.Goals as goal
 
 pub overflow_cast-account : goal.overflow_cast-account

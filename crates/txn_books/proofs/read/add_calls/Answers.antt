@@ -1,6 +1,6 @@
 use Rattle.std.proofs.Common.{◌<◌, length, sym, ap, ◌∙◌, subst, arith}
 use Rattle.books_model.specs.Books.{ClearingBooks, put_call}
-use Rattle.txn_books.proofs.Queued.{count_is, call_range, call_room, call_next, calls_end}
+use Rattle.txn_books.proofs.ReadOff.Queued.{count_is, call_range, call_room, call_next, calls_end}
 use Rattle.txn_books.proofs.read.add_calls.Goals as goal
 
 pub overflow_cast-account : goal.overflow_cast-account

@@ -1,5 +1,5 @@
 use Rattle.std.proofs.Common.{arith}
-use Rattle.txn_books.proofs.Filling.{no_price, position_at}
+use Rattle.txn_books.proofs.ReadOff.Filling.{no_price, position_at}
 use Rattle.txn_books.proofs.read.add_positions.Goals as goal
 
 pub overflow_cast-account : goal.overflow_cast-account

@@ -1,5 +1,5 @@
 use Rattle.std.proofs.Common.{arith}
-use Rattle.txn_books.proofs.Filling.{is_price, price_at}
+use Rattle.txn_books.proofs.ReadOff.Filling.{is_price, price_at}
 use Rattle.txn_books.proofs.read.add_prices.Goals as goal
 
 pub add_price-requires-clause-instrument : goal.add_price-requires-clause-instrument

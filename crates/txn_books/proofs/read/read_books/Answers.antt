@@ -5,7 +5,7 @@ use Rattle.txn_tree_map.specs.Trees.{TreeHolds, tree_part}
 use Rattle.txn_hash_map.specs.Chains.{ChainsHold, chain_part}
 use Rattle.txn_books.specs.Standing.{Stands}
 use Rattle.txn_books.specs.Inner.Reading.{AddsUp, AddsAccounts, AddsPrices, AddsPositions, AddsCalls, with_accounts, with_prices, with_positions}
-use Rattle.txn_books.proofs.Stages.{has_tree, has_chains, first_stage, second_stage, third_stage, last_stage}
+use Rattle.txn_books.proofs.ReadOff.Stages.{has_tree, has_chains, first_stage, second_stage, third_stage, last_stage}
 use Rattle.txn_books.proofs.read.read_books.Goals as goal
 use Rattle.txn_books.proofs.read.read_books.Goals.{After-deref, After-deref-2, After-deref-3}
 

@@ -8,8 +8,8 @@ use Rattle.books_model.specs.Books.{put_cash}
 use Rattle.books_model.specs.Interpreter.{put_position}
 use Rattle.books_model.proofs.Maps.Trees.{stays_after_insert}
 use Rattle.txn_books.specs.Inner.Trading.{sold}
-use Rattle.txn_books.proofs.Turning.{turn_then, turned_less, of_change, each_turned}
-use Rattle.txn_books.proofs.TradeSides.{has_sold, has_bought, bought, exchanges}
+use Rattle.txn_books.proofs.OnBooks.Turning.{turn_then, turned_less, of_change, each_turned}
+use Rattle.txn_books.proofs.OnBooks.TradeSides.{has_sold, has_bought, bought, exchanges}
 use Rattle.txn_books.proofs.trading.exchange.Goals as goal
 
 pub set_quantity-requires-clause-account : goal.set_quantity-requires-clause-account

@@ -5,7 +5,7 @@ use Rattle.txn_words.proofs.CallLaws.{goes_then, goes_as}
 use Rattle.books_model.specs.Books.{position_of}
 use Rattle.txn_books.specs.declared.trading.Side.{Side}
 use Rattle.txn_books.specs.Inner.Trading.{side_with}
-use Rattle.txn_books.proofs.Turning.{looked, look_then, tells}
+use Rattle.txn_books.proofs.OnBooks.Turning.{looked, look_then, tells}
 use Rattle.txn_books.proofs.trading.side_at.Goals as goal
 
 abbrev side_found : ℕ → ℕ → ℕ → Option Side

@@ -1,7 +1,7 @@
 use Rattle.std.proofs.Common.{◌≡◌, List, ℕ, Bool, true, false, sym, ◌∙◌, subst, rules}
 use Rattle.history_model.specs.Fitting.{IsGood}
 use Rattle.history_model.specs.Traces.{IsLegalTrace, after}
-use Rattle.history_model.proofs.TraceLaws.{length-after}
+use Rattle.history_model.proofs.Traces.TraceLaws.{length-after}
 use Rattle.txn_commit.proofs.transaction.settle.Goals.{then-not-kept, else-not-kept}
 use Rattle.txn_commit.proofs.transaction.settle.Goals as goal
 

@@ -1,13 +1,11 @@
 use Rattle.std.proofs.Common.{◌≡◌, ◌+◌, ◌*◌, ◌-◌, ◌<◌, Some, refl, ap, ◌∙◌, subst, rules, arith}
 use Rattle.std.proofs.lemmas.Result.{IfOk-from_err}
-use Rattle.history_model.specs.Fitting.{SomeFits}
-use Rattle.history_model.proofs.FittingLaws.{some_at}
 use Rattle.txn_words.specs.Calls.{GoesOn}
 use Rattle.txn_hash_map.specs.Searches.{IsPassed, IsFoundAt, IsMissing, IsLink}
 use Rattle.txn_hash_map.proofs.Steps.{bucket_fits, passed_none, passed_end, passed_more, passed_found, passed_all}
-use Rattle.txn_words.proofs.Looks.{looks_none, looks_map}
+use Rattle.txn_words.proofs.Looks.{looks_none, looks_map, some_from}
 use Rattle.txn_words.proofs.CallLaws.{goes, goes_call, goes_then, goes_as}
-use Rattle.txn_alloc.proofs.Traces.{laid_block}
+use Rattle.txn_alloc.proofs.FreeLists.Traces.{laid_block}
 use Rattle.txn_hash_map.proofs.Looks.{looks_within, looks_names, looks_name, looks_key}
 use Rattle.txn_hash_map.proofs.find.find.Goals as goal
 
@@ -34,9 +32,7 @@ loop-init g c =
 pub read-requires-clause-within : goal.read-requires-clause-within
 read-requires-clause-within g c =
     let i = c.loop.invariant in
-    let some : SomeFits (g.W.Shape.Shape.word_count (g.W.Words.shape c.args.w.now))
-    (g.W.Shape.Shape.good (g.W.Words.shape c.args.w.now)) (g.W.Words.trace c.loop.w) =
-    some_at g.W.Shape.Shape.word_count g.W.Shape.Shape.good _ _ _ i.shape (g.met.W.Words.fits c.loop.w i.sound) in
+    let some = some_from g.W.Words g.W.Shape.Shape c.args.w.now c.loop.w i.shape (g.met.W.Words.fits c.loop.w i.sound) in
     let within : c.loop.place < g.W.Shape.Shape.word_count (g.W.Words.shape c.args.w.now) =
     looks_within _ _ _ (IsLink c.args.map.now c.args.key) c.args.map.now c.args.key _ c.loop.place c.loop.counter i.looks some in
     omega (arith, within, ap g.W.Shape.Shape.word_count i.shape)
@@ -45,10 +41,8 @@ pub prove-unreachable-requires : goal.prove-unreachable-requires
 prove-unreachable-requires g c =
     let m = c.args.map.now in
     let i = c.loop.invariant in
-    let some : SomeFits (g.W.Shape.Shape.word_count (g.W.Words.shape c.args.w.now))
-    (g.W.Shape.Shape.good (g.W.Words.shape c.args.w.now)) (g.W.Words.trace c.read.new.self) =
-    some_at g.W.Shape.Shape.word_count g.W.Shape.Shape.good _ _ _ (c.in_ok-name.ensures.shape
-    ∙ i.shape) (g.met.W.Words.fits c.read.new.self c.in_ok-name.ensures.sound) in
+    let some = some_from g.W.Words g.W.Shape.Shape c.args.w.now c.read.new.self (c.in_ok-name.ensures.shape ∙ i.shape)
+    (g.met.W.Words.fits c.read.new.self c.in_ok-name.ensures.sound) in
     let one_more : c.in_ok-name.name ≡ (c.in_ok-name.name - 1) + 1 = omega (arith, c.if-name-eq0.false) in
     let lt : c.in_ok-name.name - 1 < m.arena.blocks =
     looks_names _ _ _ (IsLink m c.args.key) m c.args.key _ c.loop.place c.loop.counter c.in_ok-name.name (c.in_ok-name.name - 1)
@@ -59,9 +53,7 @@ pub read-requires-in-loop-clause-within : goal.read-requires-in-loop-clause-with
 read-requires-in-loop-clause-within g c =
     let m = c.args.map.now in
     let i = c.loop.invariant in
-    let some : SomeFits (g.W.Shape.Shape.word_count (g.W.Words.shape c.args.w.now))
-    (g.W.Shape.Shape.good (g.W.Words.shape c.args.w.now)) (g.W.Words.trace c.loop.w) =
-    some_at g.W.Shape.Shape.word_count g.W.Shape.Shape.good _ _ _ i.shape (g.met.W.Words.fits c.loop.w i.sound) in
+    let some = some_from g.W.Words g.W.Shape.Shape c.args.w.now c.loop.w i.shape (g.met.W.Words.fits c.loop.w i.sound) in
     let b = c.in_ok-name.name - 1 in
     let lt : b < m.arena.blocks = omega arith in
     let in_list = laid_block m.arena _ _ _ some b (record { at = λ s fit. (i.looks.holds s fit).laid.arena }) lt in

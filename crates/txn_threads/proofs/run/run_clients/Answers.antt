@@ -1,7 +1,7 @@
 use Rattle.std.proofs.Common.{sym, subst}
 use Rattle.history_model.specs.Fitting.{IsGood}
 use Rattle.history_model.specs.Legal.{IsLegalHistory}
-use Rattle.history_model.proofs.HistoryLaws.{replay_is_good}
+use Rattle.history_model.proofs.Histories.HistoryLaws.{replay_is_good}
 use Rattle.txn_threads.proofs.Working.{all_passes, seen_its_own}
 use Rattle.txn_threads.proofs.run.run_clients.Goals as goal
 

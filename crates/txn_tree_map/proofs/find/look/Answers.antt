@@ -1,14 +1,12 @@
 use Rattle.std.proofs.Common.{◌≡◌, ◌+◌, ◌-◌, ◌<◌, Some, inl, inr, sym, ap, ◌∙◌, arith, slice_get, rules}
 use Rattle.std.proofs.lemmas.Result.{IfOk-from_err}
-use Rattle.history_model.specs.Fitting.{SomeFits}
-use Rattle.history_model.proofs.FittingLaws.{some_at}
 use Rattle.txn_words.proofs.CallLaws.{each_plain, goes_call, goes_then, goes_as}
 use Rattle.txn_words.specs.Calls.{GoesOn}
 use Rattle.txn_alloc.specs.FreeLists.{block_at}
-use Rattle.txn_words.proofs.Looks.{looks_at, looks_map, looks_read, looks_still, looks_wider}
+use Rattle.txn_words.proofs.Looks.{looks_at, looks_map, looks_read, looks_still, looks_wider, some_from}
 use Rattle.txn_tree_map.specs.Searches.{HasTop, IsPlace, IsPlaceOrKey, IsNamed, IsEnd}
-use Rattle.txn_alloc.proofs.Traces.{laid_block}
-use Rattle.txn_tree_map.proofs.Searching.{top_within, top_below}
+use Rattle.txn_alloc.proofs.FreeLists.Traces.{laid_block}
+use Rattle.txn_tree_map.proofs.Searches.SearchCalls.{top_within, top_below}
 use Rattle.txn_tree_map.proofs.find.look.Goals as goal
 
 pub read-requires-clause-within : goal.read-requires-clause-within
@@ -31,9 +29,8 @@ pub prove-unreachable-requires : goal.prove-unreachable-requires
 prove-unreachable-requires g c =
     let m = c.args.map.now in
     let name = c.in_ok-name.name in
-    let some : SomeFits (g.W.Shape.Shape.word_count (g.W.Words.shape c.args.w.now))
-    (g.W.Shape.Shape.good (g.W.Words.shape c.args.w.now)) (g.W.Words.trace c.read.new.self) =
-    some_at g.W.Shape.Shape.word_count g.W.Shape.Shape.good _ _ _ c.in_ok-name.ensures.shape (g.met.W.Words.fits c.read.new.self c.in_ok-name.ensures.sound) in
+    let some = some_from g.W.Words g.W.Shape.Shape c.args.w.now c.read.new.self c.in_ok-name.ensures.shape
+    (g.met.W.Words.fits c.read.new.self c.in_ok-name.ensures.sound) in
     let seen = looks_still _ _ _ (IsPlace c.args.place) _ (λ s. slice_get s c.args.place ≡ Some name)
     (HasTop m c.args.place) (each_plain g.W.Words g.W.Shape.Shape _ _ c.requires.top)
     (looks_at _ _ _ _ c.args.place name c.in_ok-name.ensures.value) in

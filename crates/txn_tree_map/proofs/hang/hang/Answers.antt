@@ -4,7 +4,7 @@ use Rattle.txn_words.specs.Calls.{GoesOn}
 use Rattle.txn_words.proofs.CallLaws.{each_plain, goes_call, goes_then, goes_as}
 use Rattle.txn_words.proofs.FrameLaws.{only_read, only_write, only_then}
 use Rattle.txn_words.proofs.ReadLaws.{sees_read, sees_write, sees_then}
-use Rattle.txn_tree_map.proofs.Splitting.{are_within, hangs_leads}
+use Rattle.txn_tree_map.proofs.Inserts.SplitCalls.{are_within, hangs_leads}
 use Rattle.txn_tree_map.proofs.hang.hang.Goals as goal
 
 pub read-requires-clause-within : goal.read-requires-clause-within

@@ -1,13 +1,11 @@
 use Rattle.std.proofs.Common.{◌≡◌, ◌+◌, ◌<◌, ap, ◌∙◌, arith, rules}
 use Rattle.std.proofs.lemmas.Result.{IfOk-from_err}
-use Rattle.history_model.specs.Fitting.{SomeFits}
-use Rattle.history_model.proofs.FittingLaws.{some_at}
 use Rattle.txn_words.specs.Calls.{GoesOn}
 use Rattle.txn_words.proofs.CallLaws.{each_plain, goes_call, goes_then, goes_as}
 use Rattle.txn_alloc.specs.FreeLists.{block_at}
-use Rattle.txn_words.proofs.Looks.{each_from, leads_from, within_from, reads_from}
-use Rattle.txn_alloc.proofs.Traces.{laid_block}
-use Rattle.txn_tree_map.proofs.Putting.{seat_within, can_split, put_leads, put_own, put_seen}
+use Rattle.txn_words.proofs.Looks.{each_from, leads_from, within_from, reads_from, some_from}
+use Rattle.txn_alloc.proofs.FreeLists.Traces.{laid_block}
+use Rattle.txn_tree_map.proofs.Inserts.PutCalls.{seat_within, can_split, put_leads, put_own, put_seen}
 use Rattle.txn_tree_map.proofs.insert.put_in.Goals as goal
 
 pub find_seat-requires-clause-missing : goal.find_seat-requires-clause-missing
@@ -45,9 +43,7 @@ write-requires-3-clause-within g c =
     let m = c.args.map.now in
     let seat = c.in_ok-seat.seat in
     let goes = c.in_ok-seat.ensures.goes_on in
-    let some : SomeFits (g.W.Shape.Shape.word_count (g.W.Words.shape c.args.w.now))
-    (g.W.Shape.Shape.good (g.W.Words.shape c.args.w.now)) (g.W.Words.trace c.find_seat.new.w) =
-    some_at g.W.Shape.Shape.word_count g.W.Shape.Shape.good _ _ _ goes.shape (g.met.W.Words.fits c.find_seat.new.w goes.sound) in
+    let some = some_from g.W.Words g.W.Shape.Shape c.args.w.now c.find_seat.new.w goes.shape (g.met.W.Words.fits c.find_seat.new.w goes.sound) in
     let within = seat_within m c.args.key c.args.value c.args.block seat.place seat.name _ _ _ _
     c.in_ok-seat.ensures.seat (each_plain g.W.Words g.W.Shape.Shape _ _ c.requires.missing) some in
     omega (

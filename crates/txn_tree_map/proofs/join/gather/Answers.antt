@@ -1,14 +1,14 @@
 use Rattle.std.proofs.Common.{refl, ◌∙◌, arith, rules}
 use Rattle.std.proofs.lemmas.Result.{IfOk-from_err}
-use Rattle.history_model.proofs.TraceLaws.{begins_refl, begins_trans}
+use Rattle.history_model.proofs.Traces.TraceLaws.{begins_refl, begins_trans}
 use Rattle.txn_words.proofs.FrameLaws.{only_same}
 use Rattle.txn_words.proofs.ReadLaws.{sees_same}
 use Rattle.txn_words.proofs.Looks.{each_from, leads_from}
 use Rattle.txn_words.specs.Calls.{GoesOn}
 use Rattle.txn_words.proofs.CallLaws.{goes, goes_then, goes_as}
 use Rattle.txn_tree_map.specs.Joins.{CanGoOn}
-use Rattle.txn_tree_map.proofs.Joinings.{joined_none, gathered_no_left, gathered_no_right, gathered_all}
-use Rattle.txn_tree_map.proofs.Joining.{joined_more, gap_own_more, gap_seen_more}
+use Rattle.txn_tree_map.proofs.Removals.JoinSteps.{joined_none, gathered_no_left, gathered_no_right, gathered_all}
+use Rattle.txn_tree_map.proofs.Removals.JoinCalls.{joined_more, gap_own_more, gap_seen_more}
 use Rattle.txn_tree_map.proofs.join.gather.Goals as goal
 
 pub loop-init : goal.loop-init

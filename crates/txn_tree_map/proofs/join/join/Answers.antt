@@ -1,19 +1,16 @@
 use Rattle.std.proofs.Common.{ap, arith, rules}
 use Rattle.std.proofs.lemmas.Result.{IfOk-from_err}
-use Rattle.history_model.specs.Fitting.{SomeFits}
-use Rattle.history_model.proofs.FittingLaws.{some_at}
 use Rattle.txn_words.specs.Calls.{GoesOn}
 use Rattle.txn_words.proofs.CallLaws.{leads_plain, goes_call, goes_then, goes_as}
-use Rattle.txn_tree_map.proofs.Joining.{last_within, joins_leads, joins_own, joins_seen}
+use Rattle.txn_words.proofs.Looks.{some_from}
+use Rattle.txn_tree_map.proofs.Removals.JoinCalls.{last_within, joins_leads, joins_own, joins_seen}
 use Rattle.txn_tree_map.proofs.join.join.Goals as goal
 
 pub write-requires-clause-within : goal.write-requires-clause-within
 write-requires-clause-within g c =
     let p = c.in_ok-last.last in
     let one = c.in_ok-last.ensures in
-    let some : SomeFits (g.W.Shape.Shape.word_count (g.W.Words.shape c.args.w.now))
-    (g.W.Shape.Shape.good (g.W.Words.shape c.args.w.now)) (g.W.Words.trace c.gather.new.w) =
-    some_at g.W.Shape.Shape.word_count g.W.Shape.Shape.good _ _ _ one.goes_on.shape (g.met.W.Words.fits c.gather.new.w one.goes_on.sound) in
+    let some = some_from g.W.Words g.W.Shape.Shape c.args.w.now c.gather.new.w one.goes_on.shape (g.met.W.Words.fits c.gather.new.w one.goes_on.sound) in
     let within = last_within c.args.map.now c.args.hole c.args.left c.args.right _ _ _ _ p.place p.name
     (leads_plain g.W.Words g.W.Shape.Shape _ _ _ one.gathered) some in
     omega (arith, within, ap g.W.Shape.Shape.word_count one.goes_on.shape)

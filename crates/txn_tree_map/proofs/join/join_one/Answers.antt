@@ -9,9 +9,9 @@ use Rattle.txn_words.proofs.Looks.{looks_at, looks_read, looks_wider, each_looke
 use Rattle.txn_tree_map.specs.Searches.{IsPlace}
 use Rattle.txn_tree_map.specs.Sums.{IsAnyWord}
 use Rattle.txn_tree_map.specs.Joins.{CanGoOn, IsPlaceOrTop}
-use Rattle.txn_alloc.proofs.Traces.{laid_block}
-use Rattle.txn_tree_map.proofs.Joinings.{joined_laid}
-use Rattle.txn_tree_map.proofs.Joining.{can_go_on_within, can_go_on_below, joins_left, joins_right}
+use Rattle.txn_alloc.proofs.FreeLists.Traces.{laid_block}
+use Rattle.txn_tree_map.proofs.Removals.JoinSteps.{joined_laid}
+use Rattle.txn_tree_map.proofs.Removals.JoinCalls.{can_go_on_within, can_go_on_below, joins_left, joins_right}
 use Rattle.txn_tree_map.proofs.join.join_one.Goals as goal
 
 pub prove-unreachable-requires : goal.prove-unreachable-requires

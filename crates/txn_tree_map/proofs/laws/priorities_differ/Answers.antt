@@ -1,4 +1,4 @@
-use Rattle.txn_tree_map.proofs.Priorities.{priorities_differ}
+use Rattle.txn_tree_map.proofs.Held.Priorities.{priorities_differ}
 use Rattle.txn_tree_map.proofs.laws.priorities_differ.Goals as goal
 
 pub returns : goal.returns

@@ -4,8 +4,8 @@ use Rattle.txn_words.specs.Calls.{GoesOn}
 use Rattle.txn_words.proofs.CallLaws.{each_plain, goes_call, goes_then, goes_as}
 use Rattle.txn_alloc.specs.FreeLists.{block_at}
 use Rattle.txn_words.proofs.Looks.{each_from, leads_from, within_from, reads_from}
-use Rattle.txn_alloc.proofs.Traces.{laid_block}
-use Rattle.txn_tree_map.proofs.Removing.{can_join, cuts_leads, cuts_own, cuts_seen}
+use Rattle.txn_alloc.proofs.FreeLists.Traces.{laid_block}
+use Rattle.txn_tree_map.proofs.Removals.RemoveCalls.{can_join, cuts_leads, cuts_own, cuts_seen}
 use Rattle.txn_tree_map.proofs.remove.cut.Goals as goal
 
 pub read-requires-clause-within : goal.read-requires-clause-within

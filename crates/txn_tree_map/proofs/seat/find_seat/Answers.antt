@@ -6,9 +6,9 @@ use Rattle.txn_words.proofs.Looks.{looks_none, looks_map, looks_grow, looks_each
 use Rattle.txn_words.proofs.CallLaws.{goes, goes_then, goes_as}
 use Rattle.txn_tree_map.specs.Trees.{priority_of}
 use Rattle.txn_tree_map.specs.Searches.{HasTop, IsPassed, IsNamed, IsEnd, IsSeat, IsLink, IsPlace, IsPlaceOrKey}
-use Rattle.txn_tree_map.proofs.Descents.{passed_top, passed_down}
-use Rattle.txn_tree_map.proofs.Seats.{passed_missing, missing_other, seat_end, seat_all, seat_here}
-use Rattle.txn_tree_map.proofs.Links.{passed_place, passed_near}
+use Rattle.txn_tree_map.proofs.Searches.SearchSteps.{passed_top, passed_down}
+use Rattle.txn_tree_map.proofs.Inserts.Seats.{passed_missing, missing_other, seat_end, seat_all, seat_here}
+use Rattle.txn_tree_map.proofs.Searches.Links.{passed_place, passed_near}
 use Rattle.txn_tree_map.proofs.seat.find_seat.Goals as goal
 
 pub loop-init : goal.loop-init

@@ -1,6 +1,6 @@
 use Rattle.std.proofs.Common.{◌≡◌, refl, ◌∙◌, arith, rules}
 use Rattle.std.proofs.lemmas.Result.{IfOk-from_err}
-use Rattle.history_model.proofs.TraceLaws.{begins_refl, begins_trans}
+use Rattle.history_model.proofs.Traces.TraceLaws.{begins_refl, begins_trans}
 use Rattle.txn_words.proofs.FrameLaws.{only_same}
 use Rattle.txn_words.proofs.ReadLaws.{sees_same}
 use Rattle.txn_words.specs.Calls.{GoesOn}
@@ -8,8 +8,8 @@ use Rattle.txn_alloc.specs.FreeLists.{block_at}
 use Rattle.txn_words.proofs.Looks.{each_from, leads_from}
 use Rattle.txn_words.proofs.CallLaws.{goes, goes_then, goes_as}
 use Rattle.txn_tree_map.specs.Changes.{CanPart}
-use Rattle.txn_tree_map.proofs.Partings.{parted_end, parted_all}
-use Rattle.txn_tree_map.proofs.Splitting.{parted_start, parted_more, own_more, seen_more}
+use Rattle.txn_tree_map.proofs.Inserts.SplitSteps.{parted_end, parted_all}
+use Rattle.txn_tree_map.proofs.Inserts.SplitCalls.{parted_start, parted_more, own_more, seen_more}
 use Rattle.txn_tree_map.proofs.split.part.Goals as goal
 
 pub loop-init : goal.loop-init

@@ -7,9 +7,9 @@ use Rattle.txn_words.proofs.ReadLaws.{sees_read, sees_then, sees_more}
 use Rattle.txn_alloc.specs.FreeLists.{block_at}
 use Rattle.txn_words.proofs.Looks.{looks_at, each_looked, each_from, leads_from}
 use Rattle.txn_tree_map.specs.Changes.{CanPart, IsEndOrTop}
-use Rattle.txn_alloc.proofs.Traces.{laid_block}
-use Rattle.txn_tree_map.proofs.Partings.{parted_laid}
-use Rattle.txn_tree_map.proofs.Splitting.{can_part_within, can_part_below, parts_low, parts_high}
+use Rattle.txn_alloc.proofs.FreeLists.Traces.{laid_block}
+use Rattle.txn_tree_map.proofs.Inserts.SplitSteps.{parted_laid}
+use Rattle.txn_tree_map.proofs.Inserts.SplitCalls.{can_part_within, can_part_below, parts_low, parts_high}
 use Rattle.txn_tree_map.proofs.split.part_one.Goals as goal
 
 pub prove-unreachable-requires : goal.prove-unreachable-requires

@@ -1,10 +1,9 @@
 use Rattle.std.proofs.Common.{ap, ◌∙◌, arith, rules}
 use Rattle.std.proofs.lemmas.Result.{IfOk-from_err}
-use Rattle.history_model.specs.Fitting.{SomeFits}
-use Rattle.history_model.proofs.FittingLaws.{some_at}
 use Rattle.txn_words.specs.Calls.{GoesOn}
 use Rattle.txn_words.proofs.CallLaws.{leads_plain, goes_call, goes_then, goes_as}
-use Rattle.txn_tree_map.proofs.Splitting.{splits_leads, splits_own, splits_seen, ends_within}
+use Rattle.txn_words.proofs.Looks.{some_from}
+use Rattle.txn_tree_map.proofs.Inserts.SplitCalls.{splits_leads, splits_own, splits_seen, ends_within}
 use Rattle.txn_tree_map.proofs.split.split.Goals as goal
 
 pub write-requires-clause-within : goal.write-requires-clause-within
@@ -12,9 +11,7 @@ write-requires-clause-within g c =
     let m = c.args.map.now in
     let e = c.in_ok-ends.ends in
     let one = c.in_ok-ends.ensures in
-    let some : SomeFits (g.W.Shape.Shape.word_count (g.W.Words.shape c.args.w.now))
-    (g.W.Shape.Shape.good (g.W.Words.shape c.args.w.now)) (g.W.Words.trace c.part.new.w) =
-    some_at g.W.Shape.Shape.word_count g.W.Shape.Shape.good _ _ _ one.goes_on.shape (g.met.W.Words.fits c.part.new.w one.goes_on.sound) in
+    let some = some_from g.W.Words g.W.Shape.Shape c.args.w.now c.part.new.w one.goes_on.shape (g.met.W.Words.fits c.part.new.w one.goes_on.sound) in
     let within = ends_within m c.args.key c.args.block c.args.name _ _ _ _ e.smaller e.greater (leads_plain g.W.Words g.W.Shape.Shape _ _ _ one.parted) some in
     omega (arith, within.0, ap g.W.Shape.Shape.word_count one.goes_on.shape)
 
@@ -23,9 +20,7 @@ write-requires-2-clause-within g c =
     let m = c.args.map.now in
     let e = c.in_ok-ends.ends in
     let one = c.in_ok-ends.ensures in
-    let some : SomeFits (g.W.Shape.Shape.word_count (g.W.Words.shape c.args.w.now))
-    (g.W.Shape.Shape.good (g.W.Words.shape c.args.w.now)) (g.W.Words.trace c.part.new.w) =
-    some_at g.W.Shape.Shape.word_count g.W.Shape.Shape.good _ _ _ one.goes_on.shape (g.met.W.Words.fits c.part.new.w one.goes_on.sound) in
+    let some = some_from g.W.Words g.W.Shape.Shape c.args.w.now c.part.new.w one.goes_on.shape (g.met.W.Words.fits c.part.new.w one.goes_on.sound) in
     let within = ends_within m c.args.key c.args.block c.args.name _ _ _ _ e.smaller e.greater (leads_plain g.W.Words g.W.Shape.Shape _ _ _ one.parted) some in
     omega (arith, within.1, ap g.W.Shape.Shape.word_count (c.in_ok-write.ensures.shape ∙ one.goes_on.shape))
 

@@ -1,14 +1,13 @@
 use Rattle.std.proofs.Common.{◌≡◌, ◌+◌, ◌<◌, ◌∙◌, ap, arith, rules}
 use Rattle.std.proofs.lemmas.Result.{IfOk-from_err}
-use Rattle.history_model.specs.Fitting.{SomeFits}
-use Rattle.history_model.proofs.FittingLaws.{some_at}
 use Rattle.txn_words.specs.Calls.{GoesOn}
 use Rattle.txn_words.proofs.CallLaws.{each_plain, goes_call, goes_then, goes_as}
-use Rattle.txn_words.proofs.Looks.{looks_at, each_looked, each_from}
+use Rattle.txn_words.proofs.Looks.{looks_at, each_looked, each_from, some_from}
 use Rattle.txn_alloc.specs.FreeLists.{block_at}
-use Rattle.txn_alloc.proofs.Traces.{laid_block}
+use Rattle.txn_alloc.proofs.FreeLists.Traces.{laid_block}
 use Rattle.txn_tree_map.specs.Walks.{IsWalk}
-use Rattle.txn_tree_map.proofs.Totals.{come_some, come_none, come_behind, none_from, past_from, links_from, node_below, node_from, next_from, value_from}
+use Rattle.txn_tree_map.proofs.InOrder.SumCalls.{come_some, come_none, come_behind, none_from, past_from, links_from, node_below, node_from, next_from}
+use Rattle.txn_tree_map.proofs.InOrder.SumCalls.{value_from}
 use Rattle.txn_tree_map.proofs.sum.next_entry.Goals as goal
 
 pub prove-unreachable-requires : goal.prove-unreachable-requires
@@ -16,9 +15,7 @@ prove-unreachable-requires g c =
     let node = c.in-Some.node in
     let nearest = come_some c.args.map.now _ _ _ _ c.next_node.new.walk c.args.least c.in-Some.node (rw c.in-Some.is at c.in_ok-next_node.ensures.come) in
     let goes = c.in_ok-next_node.ensures.goes_on in
-    let some : SomeFits (g.W.Shape.Shape.word_count (g.W.Words.shape c.args.w.now))
-    (g.W.Shape.Shape.good (g.W.Words.shape c.args.w.now)) (g.W.Words.trace c.next_node.new.w) =
-    some_at g.W.Shape.Shape.word_count g.W.Shape.Shape.good _ _ _ goes.shape (g.met.W.Words.fits c.next_node.new.w goes.sound) in
+    let some = some_from g.W.Words g.W.Shape.Shape c.args.w.now c.next_node.new.w goes.shape (g.met.W.Words.fits c.next_node.new.w goes.sound) in
     let lt : node.block < c.args.map.now.arena.blocks = node_below c.args.map.now _ _ _ _ c.args.least c.args.high node nearest some in
     omega (arith, lt, c.if-prove.true)
 
@@ -88,9 +85,7 @@ pub returns-in_ok-value-in-Some-clause-low : goal.returns-in_ok-value-in-Some-cl
 returns-in_ok-value-in-Some-clause-low g c =
     let nearest = come_some c.args.map.now _ _ _ _ c.next_node.new.walk c.args.least c.in-Some.node (rw c.in-Some.is at c.in_ok-next_node.ensures.come) in
     let goes = c.in_ok-next_node.ensures.goes_on in
-    let some : SomeFits (g.W.Shape.Shape.word_count (g.W.Words.shape c.args.w.now))
-    (g.W.Shape.Shape.good (g.W.Words.shape c.args.w.now)) (g.W.Words.trace c.next_node.new.w) =
-    some_at g.W.Shape.Shape.word_count g.W.Shape.Shape.good _ _ _ goes.shape (g.met.W.Words.fits c.next_node.new.w goes.sound) in
+    let some = some_from g.W.Words g.W.Shape.Shape c.args.w.now c.next_node.new.w goes.shape (g.met.W.Words.fits c.next_node.new.w goes.sound) in
     node_from c.args.map.now _ _ _ _ c.args.least c.args.high c.in-Some.node nearest some
 
 pub returns-in_err-next_node : goal.returns-in_err-next_node

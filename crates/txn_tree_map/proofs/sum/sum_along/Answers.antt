@@ -5,9 +5,9 @@ use Rattle.txn_alloc.specs.EntryMaps.{HasMap}
 use Rattle.txn_words.proofs.Looks.{looks_none, looks_map, looks_then, looks_only, looks_from, each_looked, each_from, reads_from}
 use Rattle.txn_tree_map.specs.Trees.{tree_part}
 use Rattle.txn_tree_map.specs.Sums.{IsAnyWord, IsTotal, IsNext, HasNoneTo}
-use Rattle.txn_tree_map.proofs.Places.{at_tree}
-use Rattle.txn_tree_map.proofs.Summing.{summed_none, summed_more, total_none, total_all, total_high}
-use Rattle.txn_tree_map.proofs.Totals.{reads_on, sums_range}
+use Rattle.txn_tree_map.proofs.Held.Places.{at_tree}
+use Rattle.txn_tree_map.proofs.InOrder.SumSteps.{summed_none, summed_more, total_none, total_all, total_high}
+use Rattle.txn_tree_map.proofs.InOrder.SumCalls.{reads_on, sums_range}
 use Rattle.txn_tree_map.proofs.sum.sum_along.Goals as goal
 
 pub loop-init : goal.loop-init

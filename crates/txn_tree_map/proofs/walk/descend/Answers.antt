@@ -6,7 +6,7 @@ use Rattle.txn_words.proofs.Looks.{looks_none, looks_map, looks_grow, looks_each
 use Rattle.txn_alloc.specs.FreeLists.{block_at}
 use Rattle.txn_tree_map.specs.Searches.{HasTop, IsNamed, IsEnd, IsLink, IsPlace, IsPlaceOrKey}
 use Rattle.txn_tree_map.specs.Walks.{IsWalk}
-use Rattle.txn_tree_map.proofs.Walks.{walk_top, walk_place, walk_near, walk_end, walk_all, walk_down, keeps_whole}
+use Rattle.txn_tree_map.proofs.InOrder.WalkSteps.{walk_top, walk_place, walk_near, walk_end, walk_all, walk_down, keeps_whole}
 use Rattle.txn_tree_map.proofs.walk.descend.Goals as goal
 
 pub loop-init : goal.loop-init

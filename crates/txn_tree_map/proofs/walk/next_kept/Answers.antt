@@ -1,12 +1,10 @@
 use Rattle.std.proofs.Common.{◌≡◌, ◌+◌, ◌<◌, [], ◌∷◌, ◌++◌, Some, refl, arith, rules}
-use Rattle.history_model.specs.Fitting.{SomeFits}
-use Rattle.history_model.proofs.FittingLaws.{some_at}
-use Rattle.txn_words.proofs.Looks.{looks_map}
+use Rattle.txn_words.proofs.Looks.{looks_map, some_from}
 use Rattle.txn_alloc.specs.FreeLists.{block_at}
 use Rattle.txn_tree_map.specs.Searches.{IsLink}
 use Rattle.txn_tree_map.specs.Sums.{IsFirstFrom}
-use Rattle.txn_tree_map.proofs.Totals.{node_below}
-use Rattle.txn_tree_map.proofs.Walks.{walk_none, walk_first, walk_behind}
+use Rattle.txn_tree_map.proofs.InOrder.SumCalls.{node_below}
+use Rattle.txn_tree_map.proofs.InOrder.WalkSteps.{walk_none, walk_first, walk_behind}
 use Rattle.txn_tree_map.proofs.walk.next_kept.Goals as goal
 
 pub returns-in_default-clause-come : goal.returns-in_default-clause-come
@@ -20,9 +18,7 @@ prove-unreachable-requires g c =
     let m = c.args.map.now in
     let node = c.in-Some.node in
     let goes = c.in_ok-descend.ensures.goes_on in
-    let some : SomeFits (g.W.Shape.Shape.word_count (g.W.Words.shape c.args.w.now))
-    (g.W.Shape.Shape.good (g.W.Words.shape c.args.w.now)) (g.W.Words.trace c.descend.new.w) =
-    some_at g.W.Shape.Shape.word_count g.W.Shape.Shape.good _ _ _ goes.shape (g.met.W.Words.fits c.descend.new.w goes.sound) in
+    let some = some_from g.W.Words g.W.Shape.Shape c.args.w.now c.descend.new.w goes.shape (g.met.W.Words.fits c.descend.new.w goes.sound) in
     let kept : c.descend.new.walk.kept.items ≡ c.pop.new.self.items ++ node ∷ [] = c.in-Some.ensures.items in
     let nearest = looks_map _ _ _ (IsLink m) _ _ (IsFirstFrom m c.args.least (Some node))
     (λ s h. walk_first m s c.descend.new.walk c.args.least h c.pop.new.self.items node kept) c.in_ok-descend.ensures.end in

@@ -2,7 +2,7 @@ use Rattle.std.proofs.lemmas.Result.{IfOk-weaker}
 use Rattle.txn_words.proofs.Looks.{looks_map, looks_then, looks_from, each_looked, each_from}
 use Rattle.txn_tree_map.specs.Searches.{IsLink}
 use Rattle.txn_tree_map.specs.Walks.{IsWalk, HasCome}
-use Rattle.txn_tree_map.proofs.Walks.{walk_root, walk_tree}
+use Rattle.txn_tree_map.proofs.InOrder.WalkSteps.{walk_root, walk_tree}
 use Rattle.txn_tree_map.proofs.walk.next_node.Goals as goal
 
 pub next_kept-requires-2-clause-walk : goal.next_kept-requires-2-clause-walk

@@ -1,6 +1,6 @@
 use Rattle.std.proofs.Common.{◌≡◌, ℕ, List, ◌∷◌, [], ◌++◌, slice_set, refl, ap, sym, ◌∙◌}
 use Rattle.history_model.specs.Undoing.{Notes, written_back}
-use Rattle.history_model.proofs.UndoLaws.{newest_first}
+use Rattle.history_model.proofs.Traces.UndoLaws.{newest_first}
 use Rattle.txn_words.proofs.plain.write_back.Goals as goal
 
 -- one note written back, and the others after it

@@ -1,4 +1,4 @@
-use Rattle.values_rule.proofs.LockKinds.{claim_writer_values}
+use Rattle.values_rule.proofs.StepKinds.LockKinds.{claim_writer_values}
 use Rattle.values_rule.proofs.laws.claim_writer.Goals as goal
 
 pub returns : goal.returns

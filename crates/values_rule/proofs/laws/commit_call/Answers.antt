@@ -1,5 +1,5 @@
-use Rattle.values_rule.proofs.LocksStand.{commit_call_locks}
-use Rattle.values_rule.proofs.Commits.{commit_call_values}
+use Rattle.values_rule.proofs.StepKinds.LocksStand.{commit_call_locks}
+use Rattle.values_rule.proofs.StepKinds.Commits.{commit_call_values}
 use Rattle.values_rule.proofs.laws.commit_call.Goals as goal
 
 pub returns-clause-locks : goal.returns-clause-locks

@@ -1,4 +1,4 @@
-use Rattle.values_rule.proofs.Joins.{join_seats_values}
+use Rattle.values_rule.proofs.CutsAndJoins.Joins.{join_seats_values}
 use Rattle.values_rule.proofs.laws.join_seats.Goals as goal
 
 pub returns : goal.returns

@@ -1,5 +1,5 @@
-use Rattle.values_rule.proofs.LocksStand.{load_serial_locks}
-use Rattle.values_rule.proofs.Looks.{load_serial_values}
+use Rattle.values_rule.proofs.StepKinds.LocksStand.{load_serial_locks}
+use Rattle.values_rule.proofs.StepKinds.Looks.{load_serial_values}
 use Rattle.values_rule.proofs.laws.load_serial.Goals as goal
 
 pub returns-clause-locks : goal.returns-clause-locks

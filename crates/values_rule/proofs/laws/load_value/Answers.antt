@@ -1,5 +1,5 @@
-use Rattle.values_rule.proofs.LocksStand.{load_value_locks}
-use Rattle.values_rule.proofs.ValueKinds.{load_value_values}
+use Rattle.values_rule.proofs.StepKinds.LocksStand.{load_value_locks}
+use Rattle.values_rule.proofs.StepKinds.ValueKinds.{load_value_values}
 use Rattle.values_rule.proofs.laws.load_value.Goals as goal
 
 pub returns-clause-locks : goal.returns-clause-locks

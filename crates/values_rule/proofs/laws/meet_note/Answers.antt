@@ -1,4 +1,4 @@
-use Rattle.values_rule.proofs.Joins.{meet_note_values}
+use Rattle.values_rule.proofs.CutsAndJoins.Joins.{meet_note_values}
 use Rattle.values_rule.proofs.laws.meet_note.Goals as goal
 
 pub returns : goal.returns

@@ -1,4 +1,4 @@
-use Rattle.values_rule.proofs.LockKinds.{release_writer_values}
+use Rattle.values_rule.proofs.StepKinds.LockKinds.{release_writer_values}
 use Rattle.values_rule.proofs.laws.release_writer.Goals as goal
 
 pub returns : goal.returns

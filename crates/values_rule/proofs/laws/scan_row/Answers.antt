@@ -1,4 +1,4 @@
-use Rattle.values_rule.proofs.LockKinds.{scan_row_values}
+use Rattle.values_rule.proofs.StepKinds.LockKinds.{scan_row_values}
 use Rattle.values_rule.proofs.laws.scan_row.Goals as goal
 
 pub returns : goal.returns

@@ -1,4 +1,4 @@
-use Rattle.values_rule.proofs.LockKinds.{set_read_bit_values}
+use Rattle.values_rule.proofs.StepKinds.LockKinds.{set_read_bit_values}
 use Rattle.values_rule.proofs.laws.set_read_bit.Goals as goal
 
 pub returns : goal.returns

@@ -1,4 +1,4 @@
-use Rattle.values_rule.proofs.Cuts.{split_seat_values}
+use Rattle.values_rule.proofs.CutsAndJoins.Cuts.{split_seat_values}
 use Rattle.values_rule.proofs.laws.split_seat.Goals as goal
 
 pub returns : goal.returns

@@ -1,5 +1,5 @@
-use Rattle.values_rule.proofs.LocksStand.{store_value_locks}
-use Rattle.values_rule.proofs.ValueKinds.{store_value_values}
+use Rattle.values_rule.proofs.StepKinds.LocksStand.{store_value_locks}
+use Rattle.values_rule.proofs.StepKinds.ValueKinds.{store_value_values}
 use Rattle.values_rule.proofs.laws.store_value.Goals as goal
 
 pub returns-clause-locks : goal.returns-clause-locks

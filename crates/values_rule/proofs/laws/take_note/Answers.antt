@@ -1,4 +1,4 @@
-use Rattle.values_rule.proofs.Cuts.{take_note_values}
+use Rattle.values_rule.proofs.CutsAndJoins.Cuts.{take_note_values}
 use Rattle.values_rule.proofs.laws.take_note.Goals as goal
 
 pub returns : goal.returns

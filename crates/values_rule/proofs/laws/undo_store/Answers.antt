@@ -1,5 +1,5 @@
-use Rattle.values_rule.proofs.LocksStand.{undo_store_locks}
-use Rattle.values_rule.proofs.ValueKinds.{undo_store_values}
+use Rattle.values_rule.proofs.StepKinds.LocksStand.{undo_store_locks}
+use Rattle.values_rule.proofs.StepKinds.ValueKinds.{undo_store_values}
 use Rattle.values_rule.proofs.laws.undo_store.Goals as goal
 
 pub returns-clause-locks : goal.returns-clause-locks

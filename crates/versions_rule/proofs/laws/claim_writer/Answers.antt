@@ -1,4 +1,4 @@
-use Rattle.versions_rule.proofs.LockKinds.{claim_writer_values}
+use Rattle.versions_rule.proofs.StepKinds.LockKinds.{claim_writer_values}
 use Rattle.versions_rule.proofs.laws.claim_writer.Goals as goal
 
 pub returns : goal.returns

@@ -1,4 +1,4 @@
-use Rattle.versions_rule.proofs.LockKinds.{clear_read_bit_values}
+use Rattle.versions_rule.proofs.StepKinds.LockKinds.{clear_read_bit_values}
 use Rattle.versions_rule.proofs.laws.clear_read_bit.Goals as goal
 
 pub returns : goal.returns

@@ -1,4 +1,4 @@
-use Rattle.versions_rule.proofs.LockKinds.{load_writer_values}
+use Rattle.versions_rule.proofs.StepKinds.LockKinds.{load_writer_values}
 use Rattle.versions_rule.proofs.laws.load_writer.Goals as goal
 
 pub returns : goal.returns

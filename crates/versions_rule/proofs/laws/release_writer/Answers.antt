@@ -1,4 +1,4 @@
-use Rattle.versions_rule.proofs.LockKinds.{release_writer_values}
+use Rattle.versions_rule.proofs.StepKinds.LockKinds.{release_writer_values}
 use Rattle.versions_rule.proofs.laws.release_writer.Goals as goal
 
 pub returns : goal.returns

@@ -1,4 +1,4 @@
-use Rattle.versions_rule.proofs.LockKinds.{scan_row_values}
+use Rattle.versions_rule.proofs.StepKinds.LockKinds.{scan_row_values}
 use Rattle.versions_rule.proofs.laws.scan_row.Goals as goal
 
 pub returns : goal.returns

@@ -1,4 +1,4 @@
-use Rattle.versions_rule.proofs.LockKinds.{set_read_bit_values}
+use Rattle.versions_rule.proofs.StepKinds.LockKinds.{set_read_bit_values}
 use Rattle.versions_rule.proofs.laws.set_read_bit.Goals as goal
 
 pub returns : goal.returns

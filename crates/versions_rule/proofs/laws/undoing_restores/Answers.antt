@@ -1,4 +1,4 @@
-use Rattle.versions_rule.proofs.Undone.{undoing_restores}
+use Rattle.versions_rule.proofs.Whole.Undone.{undoing_restores}
 use Rattle.versions_rule.proofs.laws.undoing_restores.Goals as goal
 
 pub returns : goal.returns

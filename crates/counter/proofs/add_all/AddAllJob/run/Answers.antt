@@ -1,4 +1,4 @@
-use Rattle.std.proofs.Common.{◌≡◌, ◌+◌, ◌<◌, ◌^◌, sum, take, get_or, ◌∙◌, sym, subst, [], arith}
+use Rattle.std.proofs.Common.{◌≡◌, ◌+◌, ◌<◌, ◌≤◌, ◌^◌, sum, take, get_or, ◌∙◌, sym, subst, [], arith}
 use Rattle.std.proofs.lemmas.List.Sums.{sum_by_more}
 use Rattle.std.specs.Prelude.{⊤}
 use Rattle.history_model.specs.Fitting.{Leads}
@@ -25,8 +25,9 @@ loop-x-preserved g c =
 
 pub returns-then-x-v-clause-meaning : goal.returns-then-x-v-clause-meaning
 returns-then-x-v-clause-meaning g c =
-    adds_none 1 (λ _. ⊤) _ _ c.args.self.now.amounts.now c.loop-x.x-index c.in_ok-v.v c.loop-x.invariant.grown
-    c.in_ok-v.ensures.value c.loop-x-test.true c.if-x-v.true
+    let xs = c.args.self.now.amounts.now in
+    let over : 2 ^ 64 ≤ c.in_ok-v.v + get_or xs c.loop-x.x-index 0 = omega arith in
+    adds_none 1 (λ _. ⊤) _ _ xs c.loop-x.x-index c.in_ok-v.v c.loop-x.invariant.grown c.in_ok-v.ensures.value c.loop-x-test.true over
 
 pub returns-clause-meaning : goal.returns-clause-meaning
 returns-clause-meaning g c =

@@ -1,7 +1,7 @@
 use Rattle.std.proofs.Common.{◌+◌, true, false, subst}
 use Rattle.std.specs.Prelude.{⊤}
 use Rattle.history_model.specs.Fitting.{Leads}
-use Rattle.history_model.proofs.FittingLaws.{leads_fresh, leads_leads}
+use Rattle.history_model.proofs.Traces.FittingLaws.{leads_fresh, leads_leads}
 use Rattle.counter.specs.Counting.{AddsWhereFits}
 use Rattle.counter.proofs.Fitting.{neither_fits, other_fits, pair_fits}
 use Rattle.counter.proofs.pair_or.AddPairOrJob.run.Goals as goal

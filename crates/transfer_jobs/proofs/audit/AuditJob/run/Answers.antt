@@ -1,8 +1,4 @@
 use Rattle.std.proofs.Common.{◌+◌, ◌<◌, ◌^◌, refl, ◌∙◌, arith}
-use Rattle.history_model.specs.Fitting.{SomeFits}
-use Rattle.history_model.proofs.FittingLaws.{some_at}
-use Rattle.transfer_jobs.specs.declared.vault.Vault.{Vault}
-use Rattle.transfer_jobs.specs.Moving.{HasSum}
 use Rattle.transfer_jobs.proofs.Auditing.{none_summed, one_more, has_room}
 use Rattle.transfer_jobs.proofs.audit.AuditJob.run.Goals as goal
 
@@ -19,15 +15,10 @@ loop-place-init g c =
 
 pub overflow_add-total : goal.overflow_add-total
 overflow_add-total g c =
-    let words = g.W.Words in
     let vault = c.args.self.now.vault in
     let at = c.loop-place in
-    let read = c.in_ok-total.ensures in
-    let some : SomeFits vault.words (HasSum vault.total) (words.trace c.read.new.self) =
-    some_at (λ (v : Vault). v.words) (λ (v : Vault). HasSum v.total) _ _ _ (read.shape ∙ at.invariant.shape ∙ c.requires.shape)
-    (g.met.W.Words.fits c.read.new.self read.sound) in
-    let room : at.total + c.in_ok-total.field-0 < 2 ^ 64 =
-    has_room vault.words vault.total at.place at.total c.in_ok-total.field-0 _ _ read.value at.invariant.summed some in
+    let room : at.total + c.in_ok-held.held < 2 ^ 64 =
+    has_room vault.words vault.total at.place at.total c.in_ok-held.held _ _ c.in_ok-held.ensures.value at.invariant.summed c.some_fits.ensures.some in
     omega (arith, room)
 
 pub loop-place-preserved : goal.loop-place-preserved
@@ -35,11 +26,11 @@ loop-place-preserved g c =
     let vault = c.args.self.now.vault in
     let at = c.loop-place in
     let i = at.invariant in
-    let read = c.in_ok-total.ensures in
+    let read = c.in_ok-held.ensures in
     record {
       shape = read.shape ∙ i.shape;
       origin = read.origin ∙ i.origin;
       stop = read.stops;
       sound = read.sound;
-      summed = one_more vault.words vault.total at.place at.total c.in_ok-total.field-0 _ _ read.value i.summed;
+      summed = one_more vault.words vault.total at.place at.total c.in_ok-held.held _ _ read.value i.summed;
     }

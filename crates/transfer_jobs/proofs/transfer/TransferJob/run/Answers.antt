@@ -1,8 +1,4 @@
-use Rattle.std.proofs.Common.{◌≢◌, ◌+◌, ◌<◌, ◌≤◌, ◌^◌, ◌∙◌, sym, arith}
-use Rattle.history_model.specs.Fitting.{SomeFits}
-use Rattle.history_model.proofs.FittingLaws.{some_at}
-use Rattle.transfer_jobs.specs.declared.vault.Vault.{Vault}
-use Rattle.transfer_jobs.specs.Moving.{HasSum}
+use Rattle.std.proofs.Common.{◌≢◌, ◌+◌, ◌<◌, ◌≤◌, ◌^◌, sym, arith}
 use Rattle.transfer_jobs.proofs.Transferring.{too_little, has_room, keeps, stays_good}
 use Rattle.transfer_jobs.proofs.transfer.TransferJob.run.Goals as goal
 
@@ -14,16 +10,12 @@ returns-then-held-amount-clause-meaning g c =
 
 pub overflow_add-target : goal.overflow_add-target
 overflow_add-target g c =
-    let words = g.W.Words in
     let job = c.args.self.now in
     let differ : job.to ≢ job.from = λ e. c.if-from-to.false (sym e) in
     let enough : job.amount ≤ c.in_ok-held.held = omega arith in
-    let some : SomeFits job.vault.words (HasSum job.vault.total) (words.trace c.read-2.new.self) =
-    some_at (λ (v : Vault). v.words) (λ (v : Vault). HasSum v.total) _ _ _ (c.in_ok-target.ensures.shape
-    ∙ c.in_ok-held.ensures.shape ∙ c.requires.shape) (g.met.W.Words.fits c.read-2.new.self c.in_ok-target.ensures.sound) in
     let room : c.in_ok-target.target + job.amount < 2 ^ 64 =
     has_room job.vault.words job.vault.total job.from job.to job.amount c.in_ok-held.held _ _ c.requires.fresh
-    c.in_ok-held.ensures.value c.in_ok-target.target _ c.in_ok-target.ensures.value differ enough some in
+    c.in_ok-held.ensures.value c.in_ok-target.target _ c.in_ok-target.ensures.value differ enough c.some_fits.ensures.some in
     omega (arith, room)
 
 pub returns-clause-meaning : goal.returns-clause-meaning

@@ -5,7 +5,7 @@ use Rattle.txn_words.specs.Verdicts.{is_kept, answer_of}
 use Rattle.txn_books.specs.Layout.{words_of}
 use Rattle.txn_books.specs.Standing.{IsGoodFor}
 use Rattle.txn_books.specs.Meaning.{ScriptOn, ScriptMeans}
-use Rattle.txn_books.proofs.Scripted.{fresh_good, fresh_means, fresh_leaves}
+use Rattle.txn_books.proofs.OnBooks.Scripted.{fresh_good, fresh_means, fresh_leaves}
 use Rattle.txn_books.proofs.job.ScriptJobJob.run.Goals as goal
 
 pub run_script-requires-clause-stands : goal.run_script-requires-clause-stands

@@ -1,7 +1,7 @@
 use Rattle.std.proofs.Common.{◌+◌, ◌*◌, [], ◌∷◌, take, sym, ap, ◌∙◌, subst}
-use Rattle.history_model.proofs.TraceLaws.{begins_trans}
+use Rattle.history_model.proofs.Traces.TraceLaws.{begins_trans}
 use Rattle.txn_words.specs.Calls.{LeadsTo, InEachState}
-use Rattle.history_model.proofs.FittingLaws.{some_at}
+use Rattle.history_model.proofs.Traces.FittingLaws.{some_at}
 use Rattle.txn_cells.specs.declared.typed.TypedEvent.TheVariants.{Get, Set}
 use Rattle.txn_cells.specs.Cells.{AreCells, IsOfCell}
 use Rattle.txn_cells.proofs.Arrays.{on_ok_then, value_found, sets, cells_after, does_next}

@@ -1,5 +1,5 @@
 use Rattle.std.proofs.Common.{◌≡◌, ◌+◌, ◌*◌, ◌≤◌, get_or, ap, ◌∙◌, arith}
-use Rattle.history_model.proofs.TraceLaws.{begins_trans}
+use Rattle.history_model.proofs.Traces.TraceLaws.{begins_trans}
 use Rattle.txn_words.proofs.CallLaws.{each_plain}
 use Rattle.txn_words.proofs.FrameLaws.{only_write, only_then}
 use Rattle.txn_words.proofs.ReadLaws.{sees_write, sees_then}

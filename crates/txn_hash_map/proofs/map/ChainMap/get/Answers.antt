@@ -1,19 +1,17 @@
 use Rattle.std.proofs.Common.{◌≡◌, ◌+◌, None, Some, arith, ap, ◌∙◌, rules}
 use Rattle.std.proofs.lemmas.Result.{IfOk-from_err}
-use Rattle.history_model.specs.Fitting.{SomeFits}
-use Rattle.history_model.proofs.TraceLaws.{begins_trans}
-use Rattle.history_model.proofs.FittingLaws.{some_at}
+use Rattle.history_model.proofs.Traces.TraceLaws.{begins_trans}
 use Rattle.txn_words.specs.Calls.{GoesOn, LeadsTo}
 use Rattle.txn_words.proofs.CallLaws.{each_plain, state_after, goes_call, goes_then, goes_as}
 use Rattle.txn_alloc.specs.FreeLists.{block_at}
 use Rattle.txn_alloc.specs.EntryMaps.{HasMap, Finds}
 use Rattle.txn_hash_map.specs.Chains.{chain_part}
 use Rattle.txn_hash_map.specs.Searches.{IsLink}
-use Rattle.txn_alloc.proofs.Parts.{held_found, finds_none}
+use Rattle.txn_alloc.proofs.Maps.Parts.{held_found, finds_none}
 use Rattle.txn_hash_map.proofs.Steps.{missing_value}
-use Rattle.txn_words.proofs.Looks.{looks_only}
-use Rattle.txn_alloc.proofs.Traces.{laid_block}
-use Rattle.txn_alloc.proofs.Founds.{looks_value, IsNearOr, finds_some, sees_near, sees_value}
+use Rattle.txn_words.proofs.Looks.{looks_only, some_from}
+use Rattle.txn_alloc.proofs.FreeLists.Traces.{laid_block}
+use Rattle.txn_alloc.proofs.Maps.Founds.{looks_value, IsNearOr, finds_some, sees_near, sees_value}
 use Rattle.txn_hash_map.proofs.Looks.{near_own, keys_block}
 use Rattle.txn_hash_map.proofs.map.ChainMap.get.Goals as goal
 
@@ -48,9 +46,7 @@ read-requires-clause-within g c =
     let found = rw c.in-Some.is at c.in_ok-find.ensures.found in
     let below = rw c.in-Some.is at c.in_ok-find.ensures.block in
     let goes = c.in_ok-find.ensures.goes_on in
-    let some : SomeFits (g.W.Shape.Shape.word_count (g.W.Words.shape c.args.w.now))
-    (g.W.Shape.Shape.good (g.W.Words.shape c.args.w.now)) (g.W.Words.trace c.find.new.w) =
-    some_at g.W.Shape.Shape.word_count g.W.Shape.Shape.good _ _ _ goes.shape (g.met.W.Words.fits c.find.new.w goes.sound) in
+    let some = some_from g.W.Words g.W.Shape.Shape c.args.w.now c.find.new.w goes.shape (g.met.W.Words.fits c.find.new.w goes.sound) in
     let in_list = laid_block m.arena _ _ _ some c.in-Some.found.block (record { at = λ s fit. (found.holds s fit).laid.arena }) below in
     omega (arith, in_list.0, ap g.W.Shape.Shape.word_count goes.shape, c.place_of.ensures)
 

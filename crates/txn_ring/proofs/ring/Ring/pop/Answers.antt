@@ -1,11 +1,10 @@
 use Rattle.std.proofs.Common.{◌≡◌, ℕ, ◌+◌, ◌-◌, ◌*◌, ◌%◌, ◌<◌, ◌≤◌, Option, None, Some, arith, refl, ap, ◌∙◌, rules}
 use Rattle.std.proofs.lemmas.Result.{IfOk-from_err}
-use Rattle.history_model.specs.Fitting.{SomeFits}
 use Rattle.history_model.specs.Traces.{Begins}
-use Rattle.history_model.proofs.TraceLaws.{begins_trans}
-use Rattle.history_model.proofs.FittingLaws.{some_at}
+use Rattle.history_model.proofs.Traces.TraceLaws.{begins_trans}
 use Rattle.txn_words.specs.Calls.{GoesOn, LeadsTo, WritesOnly}
 use Rattle.txn_words.proofs.CallLaws.{each_plain, leads_plain, state_after, goes_call, goes_then, goes_as}
+use Rattle.txn_words.proofs.Looks.{some_from}
 use Rattle.txn_words.proofs.FrameLaws.{only_read, only_write, only_then, writes_keep}
 use Rattle.txn_words.proofs.ReadLaws.{sees_read, sees_write, sees_then}
 use Rattle.txn_ring.specs.Queues.{place_at, IsOwn, IsInOrder, IsEmpty, Pops}
@@ -52,10 +51,8 @@ returns-in_err-count g c =
 pub prove-unreachable-requires-2 : goal.prove-unreachable-requires-2
 prove-unreachable-requires-2 g c =
     let ring = c.args.self.now in
-    let some : SomeFits (g.W.Shape.Shape.word_count (g.W.Words.shape c.args.w.now))
-    (g.W.Shape.Shape.good (g.W.Words.shape c.args.w.now)) (g.W.Words.trace c.read-2.new.self) =
-    some_at g.W.Shape.Shape.word_count g.W.Shape.Shape.good _ _ _ (c.in_ok-front.ensures.shape
-    ∙ c.in_ok-count.ensures.shape) (g.met.W.Words.fits c.read-2.new.self c.in_ok-front.ensures.sound) in
+    let some = some_from g.W.Words g.W.Shape.Shape c.args.w.now c.read-2.new.self (c.in_ok-front.ensures.shape ∙ c.in_ok-count.ensures.shape)
+    (g.met.W.Words.fits c.read-2.new.self c.in_ok-front.ensures.sound) in
     let b : (c.in_ok-front.front < ring.capacity) × (c.in_ok-count.count ≤ ring.capacity) =
     bounds ring _ _ _ _ c.in_ok-count.count c.in_ok-count.ensures.value _ c.in_ok-front.front
     c.in_ok-front.ensures.value (each_plain g.W.Words g.W.Shape.Shape _ _ c.requires.order) some in
@@ -188,9 +185,8 @@ returns g c =
     let shape : g.W.Words.shape c.write-2.new.self ≡ g.W.Words.shape c.args.w.now = c.in_ok-write-2.ensures.shape
     ∙ c.in_ok-write.ensures.shape ∙ c.in_ok-second.ensures.shape ∙ c.in_ok-first.ensures.shape
     ∙ c.in_ok-front.ensures.shape ∙ c.in_ok-count.ensures.shape in
-    let some : SomeFits (g.W.Shape.Shape.word_count (g.W.Words.shape c.args.w.now))
-    (g.W.Shape.Shape.good (g.W.Words.shape c.args.w.now)) (g.W.Words.trace c.write-2.new.self) =
-    some_at g.W.Shape.Shape.word_count g.W.Shape.Shape.good _ _ _ shape (g.met.W.Words.fits c.write-2.new.self c.in_ok-write-2.ensures.sound) in
+    let some = some_from g.W.Words g.W.Shape.Shape c.args.w.now c.write-2.new.self shape
+    (g.met.W.Words.fits c.write-2.new.self c.in_ok-write-2.ensures.sound) in
     record {
       popped = popped;
       none = tt;

@@ -1,11 +1,10 @@
 use Rattle.std.proofs.Common.{◌≡◌, ◌≢◌, ◌+◌, ◌*◌, ◌%◌, ◌<◌, ◌≤◌, true, false, true≢false, arith, mod-lt, refl, ap, ◌∙◌, rules}
 use Rattle.std.proofs.lemmas.Result.{IfOk-from_err}
-use Rattle.history_model.specs.Fitting.{SomeFits}
 use Rattle.history_model.specs.Traces.{Begins}
-use Rattle.history_model.proofs.TraceLaws.{begins_trans}
-use Rattle.history_model.proofs.FittingLaws.{some_at}
+use Rattle.history_model.proofs.Traces.TraceLaws.{begins_trans}
 use Rattle.txn_words.specs.Calls.{GoesOn, LeadsTo, WritesOnly}
 use Rattle.txn_words.proofs.CallLaws.{each_plain, leads_plain, state_after, goes_call, goes_then, goes_as}
+use Rattle.txn_words.proofs.Looks.{some_from}
 use Rattle.txn_words.proofs.FrameLaws.{only_read, only_write, only_then, writes_keep}
 use Rattle.txn_words.proofs.ReadLaws.{sees_read, sees_write, sees_then}
 use Rattle.txn_ring.specs.Queues.{place_at, IsOwn, IsInOrder, IsFull, Pushes}
@@ -60,10 +59,8 @@ read-requires-2-clause-within g c =
 pub prove-unreachable-requires-2 : goal.prove-unreachable-requires-2
 prove-unreachable-requires-2 g c =
     let ring = c.args.self.now in
-    let some : SomeFits (g.W.Shape.Shape.word_count (g.W.Words.shape c.args.w.now))
-    (g.W.Shape.Shape.good (g.W.Words.shape c.args.w.now)) (g.W.Words.trace c.read-2.new.self) =
-    some_at g.W.Shape.Shape.word_count g.W.Shape.Shape.good _ _ _ (c.in_ok-front.ensures.shape
-    ∙ c.in_ok-count.ensures.shape) (g.met.W.Words.fits c.read-2.new.self c.in_ok-front.ensures.sound) in
+    let some = some_from g.W.Words g.W.Shape.Shape c.args.w.now c.read-2.new.self (c.in_ok-front.ensures.shape ∙ c.in_ok-count.ensures.shape)
+    (g.met.W.Words.fits c.read-2.new.self c.in_ok-front.ensures.sound) in
     let b : (c.in_ok-front.front < ring.capacity) × (c.in_ok-count.count ≤ ring.capacity) =
     bounds ring _ _ _ _ c.in_ok-count.count c.in_ok-count.ensures.value _ c.in_ok-front.front
     c.in_ok-front.ensures.value (each_plain g.W.Words g.W.Shape.Shape _ _ c.requires.order) some in
@@ -72,10 +69,8 @@ prove-unreachable-requires-2 g c =
 pub prove-unreachable-requires-3 : goal.prove-unreachable-requires-3
 prove-unreachable-requires-3 g c =
     let ring = c.args.self.now in
-    let some : SomeFits (g.W.Shape.Shape.word_count (g.W.Words.shape c.args.w.now))
-    (g.W.Shape.Shape.good (g.W.Words.shape c.args.w.now)) (g.W.Words.trace c.read-2.new.self) =
-    some_at g.W.Shape.Shape.word_count g.W.Shape.Shape.good _ _ _ (c.in_ok-front.ensures.shape
-    ∙ c.in_ok-count.ensures.shape) (g.met.W.Words.fits c.read-2.new.self c.in_ok-front.ensures.sound) in
+    let some = some_from g.W.Words g.W.Shape.Shape c.args.w.now c.read-2.new.self (c.in_ok-front.ensures.shape ∙ c.in_ok-count.ensures.shape)
+    (g.met.W.Words.fits c.read-2.new.self c.in_ok-front.ensures.sound) in
     let b : (c.in_ok-front.front < ring.capacity) × (c.in_ok-count.count ≤ ring.capacity) =
     bounds ring _ _ _ _ c.in_ok-count.count c.in_ok-count.ensures.value _ c.in_ok-front.front
     c.in_ok-front.ensures.value (each_plain g.W.Words g.W.Shape.Shape _ _ c.requires.order) some in
@@ -182,9 +177,8 @@ returns g c =
     let begins : Begins (g.W.Words.trace c.args.w.now) (g.W.Words.trace c.write-3.new.self) = begins_trans _ _ _ c.in_ok-count.ensures.begins later in
     let shape : g.W.Words.shape c.write-3.new.self ≡ g.W.Words.shape c.args.w.now = c.in_ok-write-3.ensures.shape
     ∙ c.in_ok-write-2.ensures.shape ∙ c.in_ok-write.ensures.shape ∙ c.in_ok-front.ensures.shape ∙ c.in_ok-count.ensures.shape in
-    let some : SomeFits (g.W.Shape.Shape.word_count (g.W.Words.shape c.args.w.now))
-    (g.W.Shape.Shape.good (g.W.Words.shape c.args.w.now)) (g.W.Words.trace c.write-3.new.self) =
-    some_at g.W.Shape.Shape.word_count g.W.Shape.Shape.good _ _ _ shape (g.met.W.Words.fits c.write-3.new.self c.in_ok-write-3.ensures.sound) in
+    let some = some_from g.W.Words g.W.Shape.Shape c.args.w.now c.write-3.new.self shape
+    (g.met.W.Words.fits c.write-3.new.self c.in_ok-write-3.ensures.sound) in
     let has_room : c.in_ok-count.count ≢ ring.capacity = λ e. absurd (omega (arith, e)) in
     record {
       pushed = pushed;

@@ -7,11 +7,11 @@ use Rattle.txn_alloc.specs.EntryMaps.{HasMap}
 use Rattle.txn_words.proofs.Looks.{looks_only, each_looked, each_from}
 use Rattle.txn_tree_map.specs.Trees.{tree_part}
 use Rattle.txn_tree_map.specs.Searches.{IsLink}
-use Rattle.txn_alloc.proofs.Parts.{finds_none}
-use Rattle.txn_tree_map.proofs.Descents.{missing_value}
-use Rattle.txn_alloc.proofs.Traces.{laid_block}
-use Rattle.txn_alloc.proofs.Founds.{IsNearOr, looks_value, finds_some, sees_near, sees_value}
-use Rattle.txn_tree_map.proofs.Gets.{near_own, keys_block}
+use Rattle.txn_alloc.proofs.Maps.Parts.{finds_none}
+use Rattle.txn_tree_map.proofs.Searches.SearchSteps.{missing_value}
+use Rattle.txn_alloc.proofs.FreeLists.Traces.{laid_block}
+use Rattle.txn_alloc.proofs.Maps.Founds.{IsNearOr, looks_value, finds_some, sees_near, sees_value}
+use Rattle.txn_tree_map.proofs.Searches.Gets.{near_own, keys_block}
 use Rattle.txn_tree_map.proofs.map.TreeMap.get.Goals as goal
 
 pub returns-in_err-find : goal.returns-in_err-find

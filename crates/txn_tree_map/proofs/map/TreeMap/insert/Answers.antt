@@ -1,33 +1,24 @@
-use Rattle.std.proofs.Common.{◌≡◌, ◌+◌, refl, arith, rules, ap, ◌∙◌}
+use Rattle.std.proofs.Common.{◌≡◌, ◌+◌, arith, rules, ap, ◌∙◌}
 use Rattle.std.proofs.lemmas.Result.{IfOk-from_err}
-use Rattle.history_model.specs.Fitting.{SomeFits}
-use Rattle.history_model.proofs.TraceLaws.{begins_trans}
-use Rattle.history_model.proofs.FittingLaws.{some_at}
 use Rattle.txn_words.specs.Calls.{GoesOn}
-use Rattle.txn_words.proofs.CallLaws.{each_plain, leads_plain, state_after, goes_call, goes_then, goes_as}
-use Rattle.txn_words.proofs.FrameLaws.{only_more, only_then}
-use Rattle.txn_alloc.specs.declared.put.Put.TheVariants.{New, Old, Full}
+use Rattle.txn_words.proofs.CallLaws.{each_plain, goes_call, goes_then, goes_as}
 use Rattle.txn_alloc.specs.FreeLists.{block_at, HasNone}
 use Rattle.txn_alloc.specs.FreeLists as lists
-use Rattle.txn_alloc.specs.EntryMaps.{HasMapApart, Inserts, LacksRoom}
-use Rattle.txn_words.proofs.Looks.{each_looked, each_from, leads_from, leads_back, within_from, reads_from}
+use Rattle.txn_words.proofs.Looks.{each_looked, each_from, leads_from, within_from, reads_from, some_from}
 use Rattle.txn_tree_map.specs.Trees.{tree_part}
-use Rattle.txn_alloc.proofs.Wider.{take_keeps}
-use Rattle.txn_alloc.proofs.Parts.{order_inserted, lacks_room, not_new, not_old, new_not_old, old_not_new, full_not_new, full_not_old, new_not_full}
-use Rattle.txn_alloc.proofs.Parts.{old_not_full}
-use Rattle.txn_tree_map.proofs.Descents.{missing_value}
-use Rattle.txn_alloc.proofs.Traces.{laid_block}
-use Rattle.txn_alloc.proofs.Founds.{looks_value, inserts_old, owns_old, owns_value, sees_old, sees_none}
-use Rattle.txn_tree_map.proofs.Gets.{near_own, keys_block}
-use Rattle.txn_tree_map.proofs.Values.{inserted_old}
-use Rattle.txn_tree_map.proofs.Inserting.{can_put_each, inserts_new, takes_new, owns_new, sees_new}
+use Rattle.txn_alloc.proofs.FreeLists.Wider.{take_keeps}
+use Rattle.txn_tree_map.proofs.Searches.SearchSteps.{missing_value}
+use Rattle.txn_alloc.proofs.FreeLists.Traces.{laid_block}
+use Rattle.txn_alloc.proofs.Maps.Parts.{held}
+use Rattle.txn_alloc.proofs.Maps.Founds.{looks_value}
+use Rattle.txn_alloc.proofs.Maps.Inserted.{revalued, put_new, found_full}
+use Rattle.txn_tree_map.proofs.Searches.Gets.{near_own, keys_block}
+use Rattle.txn_tree_map.proofs.Inserts.Values.{inserted_old}
+use Rattle.txn_tree_map.proofs.Inserts.InsertCalls.{can_put_each, inserts_new, takes_new, owns_new, sees_new}
 use Rattle.txn_tree_map.proofs.map.TreeMap.insert.Goals as goal
 
 pub find-requires-clause-order : goal.find-requires-clause-order
-find-requires-clause-order g c = record {
-  at = λ s fit. let o = c.requires.order.at s fit in
-      record { entries = o.entries; used = o.used; holds = o.holds.map };
-}
+find-requires-clause-order g c = record { at = λ s fit. held (c.requires.order.at s fit) }
 
 pub read-requires-clause-within : goal.read-requires-clause-within
 read-requires-clause-within g c =
@@ -68,235 +59,104 @@ put_in-requires-clause-missing g c =
     (take_keeps m.arena c.in_ok-block-in-None.field-0 _ _ _ _ (leads_from g.W.Words g.W.Shape.Shape c.args.w.now
     c.find.new.w c.take_near.new.w _ goes.shape then.others))))
 
-pub returns-in_ok-put_in-in-Some-2-clause-goes_on : goal.returns-in_ok-put_in-in-Some-2-clause-goes_on
-returns-in_ok-put_in-in-Some-2-clause-goes_on g c =
-    let one = c.in_ok-found.ensures.goes_on in
-    let two = c.in_ok-block-in-None.ensures.goes_on in
-    let three = c.in_ok-put_in-in-Some-2.ensures.goes_on in
-    goes_as (goes_then (goes_then one two) three) three.stops
-
-pub returns-in_ok-write-in-Some-clause-put : goal.returns-in_ok-write-in-Some-clause-put
-returns-in_ok-write-in-Some-clause-put g c =
+pub returns-in_ok-write-in-Some : goal.returns-in_ok-write-in-Some
+returns-in_ok-write-in-Some g c =
     let m = c.args.self.now in
-    let found = rw c.in-Some.is at c.in_ok-found.ensures.found in
+    let key = c.args.key in
+    let b = c.in-Some.found.block in
     let q = c.place_of-at.result + 1 in
-    let is_value : q ≡ block_at m.arena c.in-Some.found.block + 1 = omega (arith, c.place_of-at.ensures) in
-    record {
-      at = (inserts_old (tree_part m) c.args.key _ _ _ _ c.in-Some.found.block q c.in_ok-old-in-Some.old is_value
-          (keys_block m c.args.key c.in-Some.found.place c.in-Some.found.block)
-          (looks_value _ _ _ _ found _ q c.in_ok-old-in-Some.old c.in_ok-old-in-Some.ensures.value)
-          (each_plain g.W.Words g.W.Shape.Shape _ _ c.requires.order) _ c.args.value
-          c.in_ok-write-in-Some.ensures.value
-          (λ s f used free hold h. inserted_old m c.args.key c.in-Some.found.place c.in-Some.found.block c.args.value s h f used free hold)).at;
-    }
-
-pub returns-in_ok-write-in-Some-clause-full_if : goal.returns-in_ok-write-in-Some-clause-full_if
-returns-in_ok-write-in-Some-clause-full_if g c =
-    let m = c.args.self.now in
-    let goes = c.in_ok-found.ensures.goes_on in
-    let begins = begins_trans _ _ _ goes.begins (begins_trans _ _ _ c.in_ok-old-in-Some.ensures.begins c.in_ok-write-in-Some.ensures.begins) in
-    let some : SomeFits (g.W.Shape.Shape.word_count (g.W.Words.shape c.args.w.now))
-    (g.W.Shape.Shape.good (g.W.Words.shape c.args.w.now)) (g.W.Words.trace c.write.new.self) =
-    some_at g.W.Shape.Shape.word_count g.W.Shape.Shape.good _ _ _ (c.in_ok-write-in-Some.ensures.shape
-    ∙ c.in_ok-old-in-Some.ensures.shape ∙ goes.shape) (g.met.W.Words.fits c.write.new.self c.in_ok-write-in-Some.ensures.sound) in
-    λ lacks. not_old (tree_part m) c.args.key c.args.value _ _ _ _ (each_plain g.W.Words g.W.Shape.Shape _ _ c.requires.order) begins some
-    (leads_plain g.W.Words g.W.Shape.Shape _ _ (λ before after. LacksRoom (tree_part m) c.args.key before) lacks) c.in_ok-old-in-Some.old
-    (leads_plain g.W.Words g.W.Shape.Shape _ _
-    (Inserts (tree_part m) c.args.key c.args.value (Old c.in_ok-old-in-Some.old)) (returns-in_ok-write-in-Some-clause-put g c))
-
-pub returns-in_ok-write-in-Some-clause-order : goal.returns-in_ok-write-in-Some-clause-order
-returns-in_ok-write-in-Some-clause-order g c =
-    let m = c.args.self.now in
-    let goes = c.in_ok-found.ensures.goes_on in
-    let begins = begins_trans _ _ _ goes.begins (begins_trans _ _ _ c.in_ok-old-in-Some.ensures.begins c.in_ok-write-in-Some.ensures.begins) in
-    state_after g.W.Words g.W.Shape.Shape _ _ (HasMapApart (tree_part m)) (HasMapApart (tree_part m))
-    (Inserts (tree_part m) c.args.key c.args.value (Old c.in_ok-old-in-Some.old))
-    (c.in_ok-write-in-Some.ensures.shape ∙ c.in_ok-old-in-Some.ensures.shape ∙ goes.shape) begins c.requires.order (returns-in_ok-write-in-Some-clause-put g c)
-    (order_inserted (tree_part m) c.args.key c.args.value (Old c.in_ok-old-in-Some.old))
-
-pub returns-in_ok-write-in-Some-clause-frame : goal.returns-in_ok-write-in-Some-clause-frame
-returns-in_ok-write-in-Some-clause-frame g c =
-    let m = c.args.self.now in
+    let read = c.in_ok-old-in-Some.ensures in
+    let write = c.in_ok-write-in-Some.ensures in
     let found = rw c.in-Some.is at c.in_ok-found.ensures.found in
-    let q = c.place_of-at.result + 1 in
-    let is_value : q ≡ block_at m.arena c.in-Some.found.block + 1 = omega (arith, c.place_of-at.ensures) in
+    let is_value : q ≡ block_at m.arena b + 1 = omega (arith, c.place_of-at.ensures) in
+    let goes = goes_then (goes_then c.in_ok-found.ensures.goes_on (goes_call read)) (goes_call write) in
+    let some = some_from g.W.Words g.W.Shape.Shape c.args.w.now c.write.new.self goes.shape (g.met.W.Words.fits c.write.new.self goes.sound) in
+    let i = revalued g.W.Words g.W.Shape.Shape (tree_part m) key c.args.value c.args.w.now c.write.new.self goes.shape goes.begins
+    c.requires.order some b q c.in_ok-old-in-Some.old is_value _ (keys_block m key c.in-Some.found.place b) (near_own m key)
+    (looks_value _ _ _ _ found _ q c.in_ok-old-in-Some.old read.value) write.value
+    (λ s f used free hold h. inserted_old m key c.in-Some.found.place b c.args.value s h f used free hold) in
     record {
-      at = owns_old (tree_part m) c.args.key _ _ _ _ c.in-Some.found.block q c.in_ok-old-in-Some.old is_value
-          (keys_block m c.args.key c.in-Some.found.place c.in-Some.found.block)
-          (looks_value _ _ _ _ found _ q c.in_ok-old-in-Some.old c.in_ok-old-in-Some.ensures.value)
-          (each_plain g.W.Words g.W.Shape.Shape _ _ c.requires.order) _ c.args.value
-          c.in_ok-write-in-Some.ensures.value;
+      put = i.put;
+      nearest = i.nearest;
+      full = i.full;
+      full_if = i.full_if;
+      order = i.order;
+      frame = i.frame;
+      old = i.old;
+      full_frame = i.full_frame;
+      reads = i.reads;
+      goes_on = goes_as goes write.stops;
     }
 
-pub returns-in_ok-write-in-Some-clause-old : goal.returns-in_ok-write-in-Some-clause-old
-returns-in_ok-write-in-Some-clause-old g c =
+pub returns-in_ok-put_in-in-Some-2 : goal.returns-in_ok-put_in-in-Some-2
+returns-in_ok-put_in-in-Some-2 g c =
     let m = c.args.self.now in
-    let found = rw c.in-Some.is at c.in_ok-found.ensures.found in
-    let q = c.place_of-at.result + 1 in
-    let is_value : q ≡ block_at m.arena c.in-Some.found.block + 1 = omega (arith, c.place_of-at.ensures) in
-    λ was e. record {
-      at = owns_value (tree_part m) c.args.key _ _ _ _ c.in-Some.found.block q c.in_ok-old-in-Some.old is_value
-          (keys_block m c.args.key c.in-Some.found.place c.in-Some.found.block)
-          (looks_value _ _ _ _ found _ q c.in_ok-old-in-Some.old c.in_ok-old-in-Some.ensures.value)
-          (each_plain g.W.Words g.W.Shape.Shape _ _ c.requires.order) _ c.args.value
-          c.in_ok-write-in-Some.ensures.value;
-    }
-
-pub returns-in_ok-write-in-Some-clause-reads : goal.returns-in_ok-write-in-Some-clause-reads
-returns-in_ok-write-in-Some-clause-reads g c =
-    let m = c.args.self.now in
-    let found = rw c.in-Some.is at c.in_ok-found.ensures.found in
-    let q = c.place_of-at.result + 1 in
-    let is_value : q ≡ block_at m.arena c.in-Some.found.block + 1 = omega (arith, c.place_of-at.ensures) in
+    let key = c.args.key in
+    let b = c.in-Some-2.block in
+    let first = c.in_ok-found.ensures.goes_on in
+    let take = c.in_ok-block-in-None.ensures in
+    let last = c.in_ok-put_in-in-Some-2.ensures in
+    let goes = goes_then (goes_then first take.goes_on) last.goes_on in
+    let missing = rw c.in-None.is at c.in_ok-found.ensures.missing in
+    let order = each_plain g.W.Words g.W.Shape.Shape _ _ c.requires.order in
+    let taken = leads_from g.W.Words g.W.Shape.Shape c.args.w.now c.find.new.w c.take_near.new.w _ first.shape (rw c.in-Some-2.is at take.taken) in
+    let nearest = leads_from g.W.Words g.W.Shape.Shape c.args.w.now c.find.new.w c.take_near.new.w _ first.shape (rw c.in-Some-2.is at take.nearest) in
+    let kept = take_keeps m.arena c.in_ok-block-in-None.field-0 _ _ _ _
+    (leads_from g.W.Words g.W.Shape.Shape c.args.w.now c.find.new.w c.take_near.new.w _ first.shape take.others) in
+    let heads = rw c.in-Some-2.is at take.frame in
+    let names = rw c.in-Some-2.is at take.reads in
+    let same = take.goes_on.shape ∙ first.shape in
+    let put = leads_from g.W.Words g.W.Shape.Shape c.args.w.now c.take_near.new.w c.put_in.new.w _ same (rw c.number.ensures at last.put) in
+    let own = rw c.number.ensures at last.frame in
+    let seen = rw c.number.ensures at last.reads in
+    let some = some_from g.W.Words g.W.Shape.Shape c.args.w.now c.put_in.new.w goes.shape (g.met.W.Words.fits c.put_in.new.w goes.sound) in
+    let i = put_new g.W.Words g.W.Shape.Shape (tree_part m) key c.args.value c.args.w.now c.put_in.new.w goes.shape goes.begins c.requires.order some
+    (inserts_new m key c.args.value _ _ _ _ order missing _ take.goes_on.begins b taken kept _ last.goes_on.begins put)
+    (takes_new m key c.args.value _ _ _ _ order missing _ take.goes_on.begins b taken kept _ last.goes_on.begins put nearest)
+    (owns_new m key c.args.value _ _ _ _ order missing _ take.goes_on.begins b taken kept _ last.goes_on.begins put heads.appended (within_from g.W.Words g.W.Shape.Shape c.args.w.now c.take_near.new.w c.put_in.new.w _ same own))
+    (sees_new m key c.args.value _ _ _ _ order missing _ take.goes_on.begins b taken kept _ last.goes_on.begins put names (reads_from g.W.Words g.W.Shape.Shape c.args.w.now c.take_near.new.w c.put_in.new.w _ same seen)) in
     record {
-      at = sees_old (tree_part m) c.args.key _ _ _ _ c.in-Some.found.block q c.in_ok-old-in-Some.old is_value
-          (keys_block m c.args.key c.in-Some.found.place c.in-Some.found.block)
-          (looks_value _ _ _ _ found _ q c.in_ok-old-in-Some.old c.in_ok-old-in-Some.ensures.value)
-          (each_plain g.W.Words g.W.Shape.Shape _ _ c.requires.order) _ c.args.value
-          c.in_ok-write-in-Some.ensures.value (near_own m c.args.key);
+      put = i.put;
+      nearest = i.nearest;
+      full = i.full;
+      full_if = i.full_if;
+      order = i.order;
+      frame = i.frame;
+      old = i.old;
+      full_frame = i.full_frame;
+      reads = i.reads;
+      goes_on = goes_as goes last.goes_on.stops;
     }
 
-pub returns-in_ok-put_in-in-Some-2-clause-put : goal.returns-in_ok-put_in-in-Some-2-clause-put
-returns-in_ok-put_in-in-Some-2-clause-put g c =
+pub returns-in-None-2 : goal.returns-in-None-2
+returns-in-None-2 g c =
     let m = c.args.self.now in
+    let key = c.args.key in
+    let first = c.in_ok-found.ensures.goes_on in
+    let take = c.in_ok-block-in-None.ensures in
+    let goes = goes_then first take.goes_on in
     let missing = rw c.in-None.is at c.in_ok-found.ensures.missing in
-    let goes = c.in_ok-found.ensures.goes_on in
-    let then = c.in_ok-block-in-None.ensures in
-    let taken = rw c.in-Some-2.is at then.taken in
-    let put = rw c.number.ensures at c.in_ok-put_in-in-Some-2.ensures.put in
+    let taken = rw c.in-None-2.is at take.taken in
+    let none = rw c.in-None-2.is at take.none in
+    let still = rw c.in-None-2.is at take.frame in
+    let names = rw c.in-None-2.is at take.reads in
+    let i = found_full g.W.Words g.W.Shape.Shape (tree_part m) key c.args.value c.args.w.now c.take_near.new.w goes.shape goes.begins
+    c.requires.order _ (near_own m key) (λ s f used h. missing_value m key s f used h) missing take.goes_on.begins
+    (leads_from g.W.Words g.W.Shape.Shape c.args.w.now c.find.new.w c.take_near.new.w _ first.shape taken)
+    (leads_from g.W.Words g.W.Shape.Shape c.args.w.now c.find.new.w c.take_near.new.w (λ before after. HasNone m.arena before) first.shape none)
+    still.appended names in
     record {
-      at = (inserts_new m c.args.key c.args.value _ _ _ _ (each_plain g.W.Words g.W.Shape.Shape _ _ c.requires.order)
-          missing _ then.goes_on.begins c.in-Some-2.block
-          (leads_from g.W.Words g.W.Shape.Shape c.args.w.now c.find.new.w c.take_near.new.w _ goes.shape taken)
-          (take_keeps m.arena c.in_ok-block-in-None.field-0 _ _ _ _ (leads_from g.W.Words g.W.Shape.Shape c.args.w.now
-          c.find.new.w c.take_near.new.w _ goes.shape then.others)) _ c.in_ok-put_in-in-Some-2.ensures.goes_on.begins
-          (leads_from g.W.Words g.W.Shape.Shape c.args.w.now c.take_near.new.w c.put_in.new.w _ (then.goes_on.shape ∙ goes.shape) put)).at;
+      put = i.put;
+      nearest = i.nearest;
+      full = i.full;
+      full_if = i.full_if;
+      order = i.order;
+      frame = i.frame;
+      old = i.old;
+      full_frame = i.full_frame;
+      reads = i.reads;
+      goes_on = goes_as goes take.goes_on.stops;
     }
-
-pub returns-in_ok-put_in-in-Some-2-clause-full_if : goal.returns-in_ok-put_in-in-Some-2-clause-full_if
-returns-in_ok-put_in-in-Some-2-clause-full_if g c =
-    let m = c.args.self.now in
-    let goes = returns-in_ok-put_in-in-Some-2-clause-goes_on g c in
-    let some : SomeFits (g.W.Shape.Shape.word_count (g.W.Words.shape c.args.w.now))
-    (g.W.Shape.Shape.good (g.W.Words.shape c.args.w.now)) (g.W.Words.trace c.put_in.new.w) =
-    some_at g.W.Shape.Shape.word_count g.W.Shape.Shape.good _ _ _ (goes.shape) (g.met.W.Words.fits c.put_in.new.w goes.sound) in
-    λ lacks. not_new (tree_part m) c.args.key c.args.value _ _ _ _ (each_plain g.W.Words g.W.Shape.Shape _ _ c.requires.order) goes.begins some
-    (leads_plain g.W.Words g.W.Shape.Shape _ _ (λ before after. LacksRoom (tree_part m) c.args.key before) lacks)
-    (leads_plain g.W.Words g.W.Shape.Shape _ _ (Inserts (tree_part m) c.args.key c.args.value New) (returns-in_ok-put_in-in-Some-2-clause-put g c))
-
-pub returns-in_ok-put_in-in-Some-2-clause-order : goal.returns-in_ok-put_in-in-Some-2-clause-order
-returns-in_ok-put_in-in-Some-2-clause-order g c =
-    let m = c.args.self.now in
-    let goes = returns-in_ok-put_in-in-Some-2-clause-goes_on g c in
-    state_after g.W.Words g.W.Shape.Shape _ _ (HasMapApart (tree_part m)) (HasMapApart (tree_part m))
-    (Inserts (tree_part m) c.args.key c.args.value New) goes.shape goes.begins c.requires.order
-    (returns-in_ok-put_in-in-Some-2-clause-put g c) (order_inserted (tree_part m) c.args.key c.args.value New)
-
-pub returns-in_ok-put_in-in-Some-2-clause-frame : goal.returns-in_ok-put_in-in-Some-2-clause-frame
-returns-in_ok-put_in-in-Some-2-clause-frame g c =
-    let m = c.args.self.now in
-    let missing = rw c.in-None.is at c.in_ok-found.ensures.missing in
-    let goes = c.in_ok-found.ensures.goes_on in
-    let then = c.in_ok-block-in-None.ensures in
-    let taken = rw c.in-Some-2.is at then.taken in
-    let put = rw c.number.ensures at c.in_ok-put_in-in-Some-2.ensures.put in
-    let heads = rw c.in-Some-2.is at then.frame in
-    let front = rw c.number.ensures at c.in_ok-put_in-in-Some-2.ensures.frame in
-    record {
-      at = owns_new m c.args.key c.args.value _ _ _ _ (each_plain g.W.Words g.W.Shape.Shape _ _ c.requires.order)
-          missing _ then.goes_on.begins c.in-Some-2.block
-          (leads_from g.W.Words g.W.Shape.Shape c.args.w.now c.find.new.w c.take_near.new.w _ goes.shape taken)
-          (take_keeps m.arena c.in_ok-block-in-None.field-0 _ _ _ _ (leads_from g.W.Words g.W.Shape.Shape c.args.w.now
-          c.find.new.w c.take_near.new.w _ goes.shape then.others)) _ c.in_ok-put_in-in-Some-2.ensures.goes_on.begins
-          (leads_from g.W.Words g.W.Shape.Shape c.args.w.now c.take_near.new.w c.put_in.new.w _ (then.goes_on.shape ∙ goes.shape) put)
-          heads.appended (within_from g.W.Words g.W.Shape.Shape c.args.w.now c.take_near.new.w c.put_in.new.w _ (then.goes_on.shape ∙ goes.shape) front);
-    }
-
-pub returns-in_ok-put_in-in-Some-2-clause-reads : goal.returns-in_ok-put_in-in-Some-2-clause-reads
-returns-in_ok-put_in-in-Some-2-clause-reads g c =
-    let m = c.args.self.now in
-    let missing = rw c.in-None.is at c.in_ok-found.ensures.missing in
-    let goes = c.in_ok-found.ensures.goes_on in
-    let then = c.in_ok-block-in-None.ensures in
-    let taken = rw c.in-Some-2.is at then.taken in
-    let put = rw c.number.ensures at c.in_ok-put_in-in-Some-2.ensures.put in
-    let names = rw c.in-Some-2.is at then.reads in
-    let front = rw c.number.ensures at c.in_ok-put_in-in-Some-2.ensures.reads in
-    record {
-      at = sees_new m c.args.key c.args.value _ _ _ _ (each_plain g.W.Words g.W.Shape.Shape _ _ c.requires.order)
-          missing _ then.goes_on.begins c.in-Some-2.block
-          (leads_from g.W.Words g.W.Shape.Shape c.args.w.now c.find.new.w c.take_near.new.w _ goes.shape taken)
-          (take_keeps m.arena c.in_ok-block-in-None.field-0 _ _ _ _ (leads_from g.W.Words g.W.Shape.Shape c.args.w.now
-          c.find.new.w c.take_near.new.w _ goes.shape then.others)) _ c.in_ok-put_in-in-Some-2.ensures.goes_on.begins
-          (leads_from g.W.Words g.W.Shape.Shape c.args.w.now c.take_near.new.w c.put_in.new.w _ (then.goes_on.shape ∙ goes.shape) put)
-          names (reads_from g.W.Words g.W.Shape.Shape c.args.w.now c.take_near.new.w c.put_in.new.w _ (then.goes_on.shape ∙ goes.shape) front);
-    }
-
-pub returns-in_ok-put_in-in-Some-2-clause-old : goal.returns-in_ok-put_in-in-Some-2-clause-old
-returns-in_ok-put_in-in-Some-2-clause-old g c = λ was e. absurd (new_not_old was e)
-
-pub returns-in-None-2-clause-put : goal.returns-in-None-2-clause-put
-returns-in-None-2-clause-put g c =
-    let m = c.args.self.now in
-    let missing = rw c.in-None.is at c.in_ok-found.ensures.missing in
-    let goes = c.in_ok-found.ensures.goes_on in
-    let then = c.in_ok-block-in-None.ensures in
-    let taken = rw c.in-None-2.is at then.taken in
-    record {
-      at = (leads_back _ _ _ _ missing _ (λ before after. after ≡ before) then.goes_on.begins
-          (leads_from g.W.Words g.W.Shape.Shape c.args.w.now c.find.new.w c.take_near.new.w _ goes.shape taken)).at;
-    }
-
-pub returns-in-None-2-clause-full : goal.returns-in-None-2-clause-full
-returns-in-None-2-clause-full g c =
-    let m = c.args.self.now in
-    let missing = rw c.in-None.is at c.in_ok-found.ensures.missing in
-    let goes = c.in_ok-found.ensures.goes_on in
-    let then = c.in_ok-block-in-None.ensures in
-    let none = rw c.in-None-2.is at then.none in
-    λ e. record {
-      at = (lacks_room (tree_part m) c.args.key _ _ _ _ (λ s f v. missing_value m c.args.key s f v) missing _ then.goes_on.begins
-          (leads_from g.W.Words g.W.Shape.Shape c.args.w.now c.find.new.w c.take_near.new.w (λ before after. HasNone m.arena before) goes.shape none)).at;
-    }
-
-pub returns-in-None-2-clause-order : goal.returns-in-None-2-clause-order
-returns-in-None-2-clause-order g c =
-    let m = c.args.self.now in
-    let goes = c.in_ok-found.ensures.goes_on in
-    let then = c.in_ok-block-in-None.ensures in
-    state_after g.W.Words g.W.Shape.Shape _ _ (HasMapApart (tree_part m)) (HasMapApart (tree_part m))
-    (Inserts (tree_part m) c.args.key c.args.value Full) (then.goes_on.shape ∙ goes.shape)
-    (begins_trans _ _ _ goes.begins then.goes_on.begins) c.requires.order
-    (returns-in-None-2-clause-put g c) (order_inserted (tree_part m) c.args.key c.args.value Full)
-
-pub returns-in-None-2-clause-full_frame : goal.returns-in-None-2-clause-full_frame
-returns-in-None-2-clause-full_frame g c =
-    let missing = rw c.in-None.is at c.in_ok-found.ensures.missing in
-    let still = rw c.in-None-2.is at c.in_ok-block-in-None.ensures.frame in
-    λ e. record { appended = only_then (λ a. ⊥) _ _ _ missing.writes still.appended }
-
-pub returns-in-None-2-clause-frame : goal.returns-in-None-2-clause-frame
-returns-in-None-2-clause-frame g c = record { at = λ s fit. only_more (λ a. ⊥) _ _ _ (λ a k. absurd k) (returns-in-None-2-clause-full_frame g c refl).appended }
-
-pub returns-in-None-2-clause-old : goal.returns-in-None-2-clause-old
-returns-in-None-2-clause-old g c = λ was e. absurd (full_not_old was e)
-
-pub returns-in-None-2-clause-reads : goal.returns-in-None-2-clause-reads
-returns-in-None-2-clause-reads g c =
-    let m = c.args.self.now in
-    let missing = rw c.in-None.is at c.in_ok-found.ensures.missing in
-    let then = c.in_ok-block-in-None.ensures in
-    let names = rw c.in-None-2.is at then.reads in
-    record {
-      at = sees_none (tree_part m) c.args.key _ _ _ _ (near_own m c.args.key) missing
-          (each_plain g.W.Words g.W.Shape.Shape _ _ c.requires.order) _ then.goes_on.begins names;
-    }
-
-pub returns-in_ok-write-in-Some-clause-full_frame : goal.returns-in_ok-write-in-Some-clause-full_frame
-returns-in_ok-write-in-Some-clause-full_frame g c = λ e. absurd (old_not_full _ e)
-
-pub returns-in_ok-put_in-in-Some-2-clause-full_frame : goal.returns-in_ok-put_in-in-Some-2-clause-full_frame
-returns-in_ok-put_in-in-Some-2-clause-full_frame g c = λ e. absurd (new_not_full e)
 
 pub returns-in_err-found : goal.returns-in_err-found
 returns-in_err-found g c =
@@ -333,28 +193,3 @@ returns-in_err-put_in-in-Some-2 g c =
     goes_as (goes_then (goes_then c.in_ok-found.ensures.goes_on c.in_ok-block-in-None.ensures.goes_on)
     c.in_err-put_in-in-Some-2.ensures.goes_on) (search rules) in
     search IfOk-from_err
-
-pub returns-in_ok-put_in-in-Some-2-clause-nearest : goal.returns-in_ok-put_in-in-Some-2-clause-nearest
-returns-in_ok-put_in-in-Some-2-clause-nearest g c =
-    let m = c.args.self.now in
-    let missing = rw c.in-None.is at c.in_ok-found.ensures.missing in
-    let goes = c.in_ok-found.ensures.goes_on in
-    let then = c.in_ok-block-in-None.ensures in
-    let taken = rw c.in-Some-2.is at then.taken in
-    let nearest = rw c.in-Some-2.is at then.nearest in
-    let put = rw c.number.ensures at c.in_ok-put_in-in-Some-2.ensures.put in
-    λ e. record {
-      at = (takes_new m c.args.key c.args.value _ _ _ _ (each_plain g.W.Words g.W.Shape.Shape _ _ c.requires.order)
-          missing _ then.goes_on.begins c.in-Some-2.block
-          (leads_from g.W.Words g.W.Shape.Shape c.args.w.now c.find.new.w c.take_near.new.w _ goes.shape taken)
-          (take_keeps m.arena c.in_ok-block-in-None.field-0 _ _ _ _ (leads_from g.W.Words g.W.Shape.Shape c.args.w.now
-          c.find.new.w c.take_near.new.w _ goes.shape then.others)) _ c.in_ok-put_in-in-Some-2.ensures.goes_on.begins
-          (leads_from g.W.Words g.W.Shape.Shape c.args.w.now c.take_near.new.w c.put_in.new.w _ (then.goes_on.shape ∙ goes.shape) put)
-          (leads_from g.W.Words g.W.Shape.Shape c.args.w.now c.find.new.w c.take_near.new.w _ goes.shape nearest)).at;
-    }
-
-pub returns-in_ok-write-in-Some-clause-nearest : goal.returns-in_ok-write-in-Some-clause-nearest
-returns-in_ok-write-in-Some-clause-nearest g c = λ e. absurd (old_not_new _ e)
-
-pub returns-in-None-2-clause-nearest : goal.returns-in-None-2-clause-nearest
-returns-in-None-2-clause-nearest g c = λ e. absurd (full_not_new e)

@@ -1,6 +1,6 @@
 use Rattle.std.proofs.Common.{Some, None, arith, ◌∙◌, rules}
 use Rattle.std.proofs.lemmas.Result.{IfOk-from_err}
-use Rattle.txn_words.specs.Calls.{GoesOn}
+use Rattle.txn_words.specs.Calls.{GoesOn, LeadsTo}
 use Rattle.txn_words.proofs.CallLaws.{each_plain, state_after, goes_then, goes_as}
 use Rattle.txn_words.proofs.FrameLaws.{only_more}
 use Rattle.txn_alloc.specs.EntryMaps.{HasMapApart, Removes}
@@ -8,19 +8,16 @@ use Rattle.txn_words.proofs.Looks.{looks_each, looks_map, looks_only, each_from,
 use Rattle.txn_tree_map.specs.Trees.{tree_part}
 use Rattle.txn_tree_map.specs.Searches.{IsLink}
 use Rattle.txn_tree_map.specs.Joins.{CanCut}
-use Rattle.txn_alloc.proofs.Wider.{give_keeps}
-use Rattle.txn_alloc.proofs.Parts.{held, order_removed, finds_none}
-use Rattle.txn_tree_map.proofs.Descents.{missing_value}
-use Rattle.txn_alloc.proofs.Founds.{sees_near}
-use Rattle.txn_tree_map.proofs.Gets.{near_own}
-use Rattle.txn_tree_map.proofs.Removing.{order_cut, lacks_cut, removes_some, owns_removed, sees_removed}
+use Rattle.txn_alloc.proofs.FreeLists.Wider.{give_keeps}
+use Rattle.txn_alloc.proofs.Maps.Parts.{held, order_removed, finds_none}
+use Rattle.txn_tree_map.proofs.Searches.SearchSteps.{missing_value}
+use Rattle.txn_alloc.proofs.Maps.Founds.{sees_near}
+use Rattle.txn_tree_map.proofs.Searches.Gets.{near_own}
+use Rattle.txn_tree_map.proofs.Removals.RemoveCalls.{order_cut, lacks_cut, removes_some, owns_removed, sees_removed}
 use Rattle.txn_tree_map.proofs.map.TreeMap.remove.Goals as goal
 
 pub find-requires-clause-order : goal.find-requires-clause-order
-find-requires-clause-order g c = record {
-  at = λ s fit. let o = c.requires.order.at s fit in
-      record { entries = o.entries; used = o.used; holds = o.holds.map };
-}
+find-requires-clause-order g c = record { at = λ s fit. held (c.requires.order.at s fit) }
 
 pub cut-requires-clause-block : goal.cut-requires-clause-block
 cut-requires-clause-block g c = rw c.in-Some.is at c.in_ok-find.ensures.block
@@ -62,104 +59,58 @@ give-requires-clause-lacks g c =
     (each_plain g.W.Words g.W.Shape.Shape _ _ c.requires.order) found cut.goes_on.begins
     (leads_from g.W.Words g.W.Shape.Shape c.args.w.now c.find.new.w c.cut.new.w _ goes.shape cut.cut)))
 
-pub returns-in-None-clause-removed : goal.returns-in-None-clause-removed
-returns-in-None-clause-removed g c =
-    let missing = rw c.in-None.is at c.in_ok-find.ensures.missing in
-    record { at = (finds_none (tree_part c.args.self.now) c.args.key _ _ _ _ (λ s f v. missing_value c.args.self.now c.args.key s f v) missing).at }
-
-pub returns-in-None-clause-order : goal.returns-in-None-clause-order
-returns-in-None-clause-order g c =
-    let m = c.args.self.now in
+pub returns-in-None : goal.returns-in-None
+returns-in-None g c =
+    let part = tree_part c.args.self.now in
+    let key = c.args.key in
     let goes = c.in_ok-find.ensures.goes_on in
-    state_after g.W.Words g.W.Shape.Shape _ _ (HasMapApart (tree_part m)) (HasMapApart (tree_part m))
-    (Removes (tree_part m) c.args.key None) goes.shape goes.begins c.requires.order
-    (returns-in-None-clause-removed g c) (order_removed (tree_part m) c.args.key None)
-
-pub returns-in-None-clause-frame : goal.returns-in-None-clause-frame
-returns-in-None-clause-frame g c =
     let missing = rw c.in-None.is at c.in_ok-find.ensures.missing in
-    record { at = λ s fit. only_more (λ a. ⊥) _ _ _ (λ a k. absurd k) missing.writes }
-
-pub returns-in-None-clause-none_frame : goal.returns-in-None-clause-none_frame
-returns-in-None-clause-none_frame g c =
-    let missing = rw c.in-None.is at c.in_ok-find.ensures.missing in
-    looks_only g.W.Words g.W.Shape.Shape _ _ (IsLink c.args.self.now) _ missing
-
-pub returns-in-None-clause-reads : goal.returns-in-None-clause-reads
-returns-in-None-clause-reads g c =
-    let missing = rw c.in-None.is at c.in_ok-find.ensures.missing in
+    let removed : LeadsTo g.W.Words g.W.Shape.Shape c.args.w.now c.find.new.w (Removes part key None) =
+    record { at = (finds_none part key _ _ _ _ (λ s f v. missing_value c.args.self.now key s f v) missing).at } in
     record {
-      at = sees_near (tree_part c.args.self.now) c.args.key _ _ _ _ (near_own c.args.self.now c.args.key) missing
-          (record { at = λ s fit. held (c.requires.order.at s fit) });
+      removed = removed;
+      order = state_after g.W.Words g.W.Shape.Shape _ _ (HasMapApart part) (HasMapApart part) (Removes part key None)
+          goes.shape goes.begins c.requires.order removed (order_removed part key None);
+      frame = record { at = λ s fit. only_more (λ a. ⊥) _ _ _ (λ a k. absurd k) missing.writes };
+      none_frame = looks_only g.W.Words g.W.Shape.Shape _ _ (IsLink c.args.self.now) _ missing;
+      reads = record {
+        at = sees_near part key _ _ _ _ (near_own c.args.self.now key) missing (record { at = λ s fit. held (c.requires.order.at s fit) });
+      };
+      goes_on = goes_as goes goes.stops;
     }
 
-pub returns-in_ok-give-in-Some-clause-goes_on : goal.returns-in_ok-give-in-Some-clause-goes_on
-returns-in_ok-give-in-Some-clause-goes_on g c =
-    let one = c.in_ok-find.ensures.goes_on in
-    let two = c.in_ok-value-in-Some.ensures.goes_on in
-    let three = c.in_ok-give-in-Some.ensures.goes_on in
-    goes_as (goes_then (goes_then one two) three) three.stops
-
-pub returns-in_ok-give-in-Some-clause-removed : goal.returns-in_ok-give-in-Some-clause-removed
-returns-in_ok-give-in-Some-clause-removed g c =
+pub returns-in_ok-give-in-Some : goal.returns-in_ok-give-in-Some
+returns-in_ok-give-in-Some g c =
     let m = c.args.self.now in
-    let f = c.in-Some.found in
-    let goes = c.in_ok-find.ensures.goes_on in
+    let key = c.args.key in
+    let place = c.in-Some.found.place in
+    let b = c.in-Some.found.block in
+    let y = c.in_ok-value-in-Some.value in
+    let first = c.in_ok-find.ensures.goes_on in
     let cut = c.in_ok-value-in-Some.ensures in
-    let same = cut.goes_on.shape ∙ goes.shape in
+    let give = c.in_ok-give-in-Some.ensures in
+    let goes = goes_then (goes_then first cut.goes_on) give.goes_on in
+    let same = cut.goes_on.shape ∙ first.shape in
+    let order = each_plain g.W.Words g.W.Shape.Shape _ _ c.requires.order in
     let found = rw c.in-Some.is at c.in_ok-find.ensures.found in
-    let given = rw c.of.ensures at c.in_ok-give-in-Some.ensures.given in
-    let kept = rw c.of.ensures at c.in_ok-give-in-Some.ensures.others in
+    let cuts = leads_from g.W.Words g.W.Shape.Shape c.args.w.now c.find.new.w c.cut.new.w _ first.shape cut.cut in
+    let given = leads_from g.W.Words g.W.Shape.Shape c.args.w.now c.cut.new.w c.give.new.w _ same (rw c.of.ensures at give.given) in
+    let kept = give_keeps m.arena b _ _ _ _
+    (leads_from g.W.Words g.W.Shape.Shape c.args.w.now c.cut.new.w c.give.new.w _ same (rw c.of.ensures at give.others)) in
+    let own = within_from g.W.Words g.W.Shape.Shape c.args.w.now c.find.new.w c.cut.new.w _ first.shape cut.frame in
+    let seen = reads_from g.W.Words g.W.Shape.Shape c.args.w.now c.find.new.w c.cut.new.w _ first.shape cut.reads in
+    let frame = rw c.of.ensures at give.frame in
+    let names = rw c.of.ensures at give.reads in
+    let removed : LeadsTo g.W.Words g.W.Shape.Shape c.args.w.now c.give.new.w (Removes (tree_part m) key (Some y)) =
+    record { at = (removes_some m key place b y _ _ _ _ _ order found cut.goes_on.begins cuts _ give.goes_on.begins given kept).at } in
     record {
-      at = (removes_some m c.args.key f.place f.block c.in_ok-value-in-Some.value _ _ _ _ _
-          (each_plain g.W.Words g.W.Shape.Shape _ _ c.requires.order) found cut.goes_on.begins
-          (leads_from g.W.Words g.W.Shape.Shape c.args.w.now c.find.new.w c.cut.new.w _ goes.shape cut.cut) _ c.in_ok-give-in-Some.ensures.goes_on.begins
-          (leads_from g.W.Words g.W.Shape.Shape c.args.w.now c.cut.new.w c.give.new.w _ same given)
-          (give_keeps m.arena c.in-Some.found.block _ _ _ _ (leads_from g.W.Words g.W.Shape.Shape c.args.w.now c.cut.new.w c.give.new.w _ same kept))).at;
-    }
-
-pub returns-in_ok-give-in-Some-clause-order : goal.returns-in_ok-give-in-Some-clause-order
-returns-in_ok-give-in-Some-clause-order g c =
-    let m = c.args.self.now in
-    let goes = returns-in_ok-give-in-Some-clause-goes_on g c in
-    state_after g.W.Words g.W.Shape.Shape _ _ (HasMapApart (tree_part m)) (HasMapApart (tree_part m))
-    (Removes (tree_part m) c.args.key (Some c.in_ok-value-in-Some.value)) goes.shape goes.begins c.requires.order
-    (returns-in_ok-give-in-Some-clause-removed g c) (order_removed (tree_part m) c.args.key (Some c.in_ok-value-in-Some.value))
-
-pub returns-in_ok-give-in-Some-clause-frame : goal.returns-in_ok-give-in-Some-clause-frame
-returns-in_ok-give-in-Some-clause-frame g c =
-    let m = c.args.self.now in
-    let f = c.in-Some.found in
-    let goes = c.in_ok-find.ensures.goes_on in
-    let cut = c.in_ok-value-in-Some.ensures in
-    let same = cut.goes_on.shape ∙ goes.shape in
-    let found = rw c.in-Some.is at c.in_ok-find.ensures.found in
-    let kept = rw c.of.ensures at c.in_ok-give-in-Some.ensures.others in
-    let frame = rw c.of.ensures at c.in_ok-give-in-Some.ensures.frame in
-    record {
-      at = owns_removed m c.args.key f.place f.block c.in_ok-value-in-Some.value _ _ _ _ _
-          (each_plain g.W.Words g.W.Shape.Shape _ _ c.requires.order) found cut.goes_on.begins
-          (leads_from g.W.Words g.W.Shape.Shape c.args.w.now c.find.new.w c.cut.new.w _ goes.shape cut.cut) _ c.in_ok-give-in-Some.ensures.goes_on.begins
-          (give_keeps m.arena f.block _ _ _ _ (leads_from g.W.Words g.W.Shape.Shape c.args.w.now c.cut.new.w c.give.new.w _ same kept))
-          (within_from g.W.Words g.W.Shape.Shape c.args.w.now c.find.new.w c.cut.new.w _ goes.shape cut.frame) frame.appended;
-    }
-
-pub returns-in_ok-give-in-Some-clause-reads : goal.returns-in_ok-give-in-Some-clause-reads
-returns-in_ok-give-in-Some-clause-reads g c =
-    let m = c.args.self.now in
-    let f = c.in-Some.found in
-    let goes = c.in_ok-find.ensures.goes_on in
-    let cut = c.in_ok-value-in-Some.ensures in
-    let same = cut.goes_on.shape ∙ goes.shape in
-    let found = rw c.in-Some.is at c.in_ok-find.ensures.found in
-    let kept = rw c.of.ensures at c.in_ok-give-in-Some.ensures.others in
-    let names = rw c.of.ensures at c.in_ok-give-in-Some.ensures.reads in
-    record {
-      at = sees_removed m c.args.key f.place f.block c.in_ok-value-in-Some.value _ _ _ _ _
-          (each_plain g.W.Words g.W.Shape.Shape _ _ c.requires.order) found cut.goes_on.begins
-          (leads_from g.W.Words g.W.Shape.Shape c.args.w.now c.find.new.w c.cut.new.w _ goes.shape cut.cut) _ c.in_ok-give-in-Some.ensures.goes_on.begins
-          (give_keeps m.arena f.block _ _ _ _ (leads_from g.W.Words g.W.Shape.Shape c.args.w.now c.cut.new.w c.give.new.w _ same kept))
-          (reads_from g.W.Words g.W.Shape.Shape c.args.w.now c.find.new.w c.cut.new.w _ goes.shape cut.reads) names;
+      removed = removed;
+      order = state_after g.W.Words g.W.Shape.Shape _ _ (HasMapApart (tree_part m)) (HasMapApart (tree_part m))
+          (Removes (tree_part m) key (Some y)) goes.shape goes.begins c.requires.order removed (order_removed (tree_part m) key (Some y));
+      frame = record { at = owns_removed m key place b y _ _ _ _ _ order found cut.goes_on.begins cuts _ give.goes_on.begins kept own frame.appended };
+      none_frame = tt;
+      reads = record { at = sees_removed m key place b y _ _ _ _ _ order found cut.goes_on.begins cuts _ give.goes_on.begins kept seen names };
+      goes_on = goes_as goes give.goes_on.stops;
     }
 
 pub returns-in_err-find : goal.returns-in_err-find

@@ -1,5 +1,5 @@
-use Rattle.txn_tree_map.proofs.Places.{at_tree}
-use Rattle.txn_tree_map.proofs.Walks.{walk_root}
+use Rattle.txn_tree_map.proofs.Held.Places.{at_tree}
+use Rattle.txn_tree_map.proofs.InOrder.WalkSteps.{walk_root}
 use Rattle.txn_tree_map.proofs.map.TreeMap.sum_range.Goals as goal
 
 pub sum_along-requires-clause-walk : goal.sum_along-requires-clause-walk

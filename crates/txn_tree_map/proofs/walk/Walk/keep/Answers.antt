@@ -1,5 +1,5 @@
 use Rattle.std.proofs.Common.{refl}
-use Rattle.txn_tree_map.proofs.Walks.{keeps_one}
+use Rattle.txn_tree_map.proofs.InOrder.WalkSteps.{keeps_one}
 use Rattle.txn_tree_map.proofs.walk.Walk.keep.Goals as goal
 
 pub returns-clause-kept : goal.returns-clause-kept

@@ -1,5 +1,5 @@
 use Rattle.std.proofs.Common.{ap}
-use Rattle.history_model.proofs.TraceLaws.{begins_trans}
+use Rattle.history_model.proofs.Traces.TraceLaws.{begins_trans}
 use Rattle.txn_words.proofs.GoingBack.{marked_stays}
 use Rattle.txn_words.proofs.Listed.{trace_of}
 use Rattle.txn_words.proofs.plain.tests.going_back_writes_the_old_values_newest_first.Goals as goal

@@ -1,6 +1,6 @@
 use Rattle.std.proofs.Common.{ap, sym, subst}
 use Rattle.history_model.specs.Traces.{Trace, Begins}
-use Rattle.history_model.proofs.TraceLaws.{begins_refl, begins_trans}
+use Rattle.history_model.proofs.Traces.TraceLaws.{begins_refl, begins_trans}
 use Rattle.txn_words.proofs.GoingBack.{marked_stays}
 use Rattle.txn_words.proofs.Listed.{trace_of}
 use Rattle.txn_words.proofs.plain.tests.marks_stay_good_after_going_back.Goals as goal

@@ -1,0 +1,163 @@
+-- What calls on the tree of accounts say of books.
+use Rattle.std.proofs.Common.{◌≡◌, ℕ, ◌*◌, ◌^◌, ◌<◌, ◌≤◌, Bool, true, false, nat_le, ◌&&◌, if◌then◌else◌, Option, Some, None, IsSome, IfSome, List, [], length}
+use Rattle.std.proofs.Common.{refl, sym, ◌∙◌, subst, arith}
+use Rattle.std.specs.Cmp.{nat_cmp_total}
+use Rattle.std.specs.FinMap as map
+use Rattle.std.proofs.lemmas.Map.Lookups.{exact_unsigned}
+use Rattle.books_model.proofs.Maps.Entries.{All-entries, sum_by-most}
+use Rattle.books_model.proofs.Drafts.{closed-in_range}
+use Rattle.books_model.specs.declared.limits.TheConstants.{GREATEST_CASH}
+use Rattle.books_model.specs.Books.{ClearingBooks, used, put_cash}
+use Rattle.books_model.specs.Interpreter.{is_full, holds_any, cash_between}
+use Rattle.books_model.specs.Ranges.{AreInRange, IsAccountNumber}
+use Rattle.books_model.proofs.InRange.{put_cash-in_range, used_after_insert, change-in_range}
+use Rattle.txn_words.specs.Frames.{KeepsOthers}
+use Rattle.txn_alloc.specs.declared.put.Put.{Put}
+use Rattle.txn_alloc.specs.declared.put.Put.TheVariants.{New, Old, Full}
+use Rattle.txn_alloc.specs.EntryMaps.{HasMap, HasMapApart, Finds, IsOwn, Inserts, Removes, SumsRange}
+use Rattle.txn_alloc.proofs.Maps.Parts.{held}
+use Rattle.txn_tree_map.specs.Trees.{tree_part}
+use Rattle.txn_books.specs.declared.shape.BooksShape.{BooksShape}
+use Rattle.txn_books.specs.Layout.{shape_of, tree_of}
+use Rattle.txn_books.specs.Standing.{Stands, IsGoodFor}
+use Rattle.txn_words.specs.Access.{OfModel, Tells, Changes, ChangesWithRoom}
+use Rattle.txn_books.specs.Inner.Rooms.{had_room}
+use Rattle.txn_books.proofs.OneState.ChainedChanges.{remove_absent}
+use Rattle.txn_books.proofs.OneState.Parts.{good_parts, some_tree, tree_free, tree_new, tree_old, tree_cut}
+use Rattle.txn_books.proofs.OneState.States.{tree_apart, has_room, no_room, is_below, is_at}
+use Rattle.txn_books.proofs.OnBooks.Calls.{IsPut, IsCut}
+
+-- a value that is counted, or 0 in its place
+counted_most : (b : Bool) (v most : ℕ) → v ≤ most → (if b then v else 0) ≤ most
+counted_most true v most le = le
+counted_most false v most le = omega arith
+
+-- the cash between two accounts of books in range fits a word
+cash_fits : (books : ClearingBooks) (low high : ℕ) → AreInRange books → cash_between books low high < 2 ^ 64
+cash_fits books low high range =
+    let most : cash_between books low high ≤ length (map.entries books.accounts) * GREATEST_CASH =
+    sum_by-most (λ e. if nat_le low e.0 && nat_le e.0 high then e.1 else 0) GREATEST_CASH (map.entries books.accounts)
+    (All-entries nat_cmp_total exact_unsigned _ books.accounts (λ k v there.
+    counted_most (nat_le low k && nat_le k high) v GREATEST_CASH (range.accounts k v there).1)) in
+    omega (arith, most, map.len-entries books.accounts, range.blocks_used, range.blocks.1)
+
+-- an account's cash is in range
+pub cash_most : (books : ClearingBooks) → AreInRange books → (a : ℕ) (answer : Option ℕ)
+    → answer ≡ map.get books.accounts a → IfSome answer (λ cash. cash ≤ GREATEST_CASH)
+cash_most books range a None e = tt
+cash_most books range a (Some cash) e = (range.accounts a cash (sym e)).1
+
+module _ (shape : BooksShape) where
+  pub tree_apart_there : (x : List ℕ) → IsGoodFor shape x → HasMapApart (tree_part (tree_of shape)) x
+  tree_apart_there x good = some_tree shape x (good_parts shape x good)
+
+  pub tree_there : (x : List ℕ) → IsGoodFor shape x → HasMap (tree_part (tree_of shape)) x
+  tree_there x good = held (tree_apart_there x good)
+
+  pub tells_cash : (a : ℕ) (answer : Option ℕ) (x y : List ℕ) → Finds (tree_part (tree_of shape)) a answer x y
+      → Tells (Stands shape) (λ books. map.get books.accounts a) answer x y
+  tells_cash a answer x y finds =
+      record { same = finds.same; told = λ books stand. finds.found books.accounts stand.parts.tree_used (tree_apart shape x books stand).map }
+
+  pub tells_between : (low high total : ℕ) (x y : List ℕ) → SumsRange (tree_part (tree_of shape)) low high total x y
+      → Tells (Stands shape) (λ books. cash_between books low high) total x y
+  tells_between low high total x y sums =
+      record { same = sums.same; told = λ books stand. sums.sum books.accounts stand.parts.tree_used (tree_apart shape x books stand).map }
+
+  -- a sum of cash fits a word
+  pub between_small : (low high total : ℕ) (x y : List ℕ) → IsGoodFor shape x → SumsRange (tree_part (tree_of shape)) low high total x y → total < 2 ^ 64
+  between_small low high total x y good sums =
+      subst (λ (n : ℕ). n < 2 ^ 64) (sym ((tells_between low high total x y sums).told good.0 good.1)) (cash_fits good.0 low high good.1.range)
+
+module _ (shape : BooksShape) (x y : List ℕ) (books : ClearingBooks) (stand : Stands shape x books) (a : ℕ)
+    (keeps : KeepsOthers (IsOwn (tree_part (tree_of shape)) a x y) x y) where
+  kept : KeepsOthers (IsOwn (tree_part (tree_of (shape_of books))) a x y) x y
+  kept = subst (λ z. KeepsOthers (IsOwn (tree_part (tree_of z)) a x y) x y) (sym stand.sizes) keeps
+
+  -- an account more
+  pub account_new : (v : ℕ) → IsAccountNumber a → v ≤ GREATEST_CASH → Inserts (tree_part (tree_of shape)) a v New x y
+      → (used books < books.blocks) × Stands shape y (put_cash books a v)
+  account_new v number fits inserts =
+      let k = (subst (λ z. Inserts (tree_part (tree_of z)) a v New x y) (sym stand.sizes) inserts) books.accounts
+      stand.parts.tree_used stand.parts.free (tree_free x books [] stand.parts) in
+      let room : used books < books.blocks = has_room x books stand.parts stand.range k.block k.was_free in (
+        room,
+        record {
+          sizes = stand.sizes;
+          range = put_cash-in_range books a v stand.range number fits (omega (arith, room, used_after_insert books a v k.absent));
+          parts = tree_new x y books [] stand.parts a v k kept;
+        },
+      )
+
+  -- other cash of an account
+  pub account_old : (v : ℕ) → v ≤ GREATEST_CASH → (was : ℕ) → Inserts (tree_part (tree_of shape)) a v (Old was) x y → Stands shape y (put_cash books a v)
+  account_old v fits was inserts =
+      let k = (subst (λ z. Inserts (tree_part (tree_of z)) a v (Old was) x y) (sym stand.sizes) inserts) books.accounts
+      stand.parts.tree_used stand.parts.free (tree_free x books [] stand.parts) in
+      record {
+        sizes = stand.sizes;
+        range = change-in_range books a v stand.range (subst IsSome (sym k.present) refl) fits;
+        parts = tree_old x y books [] stand.parts a v was k kept;
+      }
+
+-- an account that was absent had no cash
+not_there : {A : Type 0} (shape : BooksShape) (a v was : ℕ) (x y : List ℕ)
+    → OfModel (Stands shape) (λ books. map.get books.accounts a ≡ None) x
+    → Inserts (tree_part (tree_of shape)) a v (Old was) x y → (books : ClearingBooks) → Stands shape x books → A
+not_there shape a v was x y absent inserts books stand =
+    let k = inserts books.accounts stand.parts.tree_used stand.parts.free (tree_apart shape x books stand) in
+    let e : None ≡ Some was = sym (absent books stand) ∙ k.present in
+    absurd (cc)
+
+-- what an insert of an account that was absent did to the books
+module _ (shape : BooksShape) (a : ℕ) (number : IsAccountNumber a) where
+  pub account_opened : (put : Put) (x y : List ℕ) → OfModel (Stands shape) (λ books. map.get books.accounts a ≡ None) x
+      → IsPut (tree_part (tree_of shape)) a 0 put x y → ChangesWithRoom (Stands shape) is_full (λ books. put_cash books a 0) (had_room put) x y
+  account_opened New x y absent put =
+      let each : (books : ClearingBooks) → Stands shape x books → (used books < books.blocks)
+      × Stands shape y (put_cash books a 0) = λ books stand. account_new shape x y books stand a put.keeps 0 number (omega arith) put.inserts in
+      record { answer = λ books stand. is_below (used books) books.blocks (each books stand).0; left = λ books stand. (each books stand).1 }
+  account_opened (Old was) x y absent put =
+      record {
+        answer = λ books stand. not_there shape a 0 was x y absent put.inserts books stand;
+        left =
+            λ books stand. not_there shape a 0 was x y absent put.inserts books stand;
+      }
+  account_opened Full x y absent put = record {
+    answer = λ books stand. is_at (used books) books.blocks
+        (no_room x books stand.parts stand.range (put.full refl books.accounts stand.parts.tree_used stand.parts.free (tree_apart shape x books stand)).1);
+    left = λ books stand. subst (λ z. Stands shape z books) (sym put.inserts) stand;
+  }
+
+-- an account that is there is not absent
+is_there : {A : Type 0} (o : Option ℕ) → IsSome o → o ≡ None → A
+is_there o there none = let no : IsSome {T = ℕ} None = subst (λ (q : Option ℕ). IsSome q) none there in absurd (cc)
+
+-- what an insert of an account that was there did
+pub account_set : (shape : BooksShape) (a v : ℕ) → v ≤ GREATEST_CASH → (put : Put) (x y : List ℕ)
+    → OfModel (Stands shape) (λ books. IsSome (map.get books.accounts a)) x → IsPut (tree_part (tree_of shape)) a v put x y
+    → Changes (Stands shape) (λ books. put_cash books a v) x y
+account_set shape a v fits New x y there put = λ books stand.
+    let k = put.inserts books.accounts stand.parts.tree_used stand.parts.free (tree_apart shape x books stand) in
+    is_there (map.get books.accounts a) (there books stand) k.absent
+account_set shape a v fits (Old was) x y there put = λ books stand. account_old shape x y books stand a put.keeps v fits was put.inserts
+account_set shape a v fits Full x y there put = λ books stand.
+    is_there (map.get books.accounts a) (there books stand) (put.full refl books.accounts stand.parts.tree_used
+    stand.parts.free (tree_apart shape x books stand)).0
+
+-- what a removal of an account that holds nothing did
+pub account_removed : (shape : BooksShape) (a : ℕ) (answer : Option ℕ) (x y : List ℕ)
+    → OfModel (Stands shape) (λ books. holds_any books a ≡ false) x → IsCut (tree_part (tree_of shape)) a answer x y
+    → Changes (Stands shape) (λ books. record books { accounts = map.remove books.accounts a }) x y
+account_removed shape a None x y nothing cut = λ books stand.
+    let none : map.get books.accounts a ≡ None = sym (cut.removes.found books.accounts stand.parts.tree_used (tree_apart shape x books stand).map) in
+    subst (λ m. Stands shape y (record books { accounts = m }))
+    (sym (remove_absent nat_cmp_total map.nat_cmp-IsAntisymmetric books.accounts a none)) (subst (λ z. Stands shape z books) (sym cut.removes.same) stand)
+account_removed shape a (Some was) x y nothing cut = λ books stand.
+    let k = (subst (λ z. Removes (tree_part (tree_of z)) a (Some was) x y) (sym stand.sizes) cut.removes) books.accounts
+    stand.parts.tree_used stand.parts.free (tree_free x books [] stand.parts) in
+    record {
+      sizes = stand.sizes;
+      range = closed-in_range books a stand.range (nothing books stand);
+      parts = tree_cut x y books [] stand.parts a was k (kept shape x y books stand a cut.keeps);
+    }

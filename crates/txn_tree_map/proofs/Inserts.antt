@@ -1,0 +1,14 @@
+-- the place where a new node hangs, in one word list
+pub mod Seats
+-- the steps by which a tree is parted around a key, in one word list
+pub mod SplitSteps
+-- what the calls that part a tree lead to, in every fitting state at once
+pub mod SplitCalls
+-- a new cell put into the tree, in one word list
+pub mod PutSteps
+-- what the call that puts a new cell into the tree leads to, in every fitting state at once
+pub mod PutCalls
+-- another value at a key that was found
+pub mod Values
+-- what an insert of a new key leads to, writes and reads, in every fitting state at once
+pub mod InsertCalls

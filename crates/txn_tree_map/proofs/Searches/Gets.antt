@@ -1,0 +1,30 @@
+-- What a search that found the key says of the map, and which words it reads.
+use Rattle.std.proofs.Common.{◌≡◌, ℕ, ◌<◌, true, List, []}
+use Rattle.std.specs.FinSet as set
+use Rattle.txn_alloc.specs.EntryMaps.{Entries, Blocks, IsUsedIn}
+use Rattle.txn_alloc.proofs.Maps.Founds.{IsOwnNear, IsKeysBlock}
+use Rattle.txn_tree_map.specs.declared.map.TreeMap.{TreeMap}
+use Rattle.txn_tree_map.specs.Trees.{TreeHolds, tree_part}
+use Rattle.txn_tree_map.specs.Searches.{IsLink, IsFoundAt}
+use Rattle.txn_tree_map.proofs.Held.Places.{at_tree, at_below, used_count}
+use Rattle.txn_tree_map.proofs.Searches.SearchSteps.{found_value, found_key}
+use Rattle.txn_tree_map.proofs.Searches.Links.{found_of, tree_used, link_seen}
+
+-- a used block is one of the arena's
+pub used_below : (map : TreeMap) (s : List ℕ) (f : Entries) (u : Blocks) (b : ℕ) → TreeHolds map s f u → set.contains u b ≡ true → b < map.arena.blocks
+used_below map s f u b hold k = let m = at_tree map s f u hold in at_below map s [] hold.tree m b (used_count map s [] hold.tree m f u hold b k)
+
+pub uses_below : (map : TreeMap) (s : List ℕ) (b : ℕ) → IsUsedIn (tree_part map) s b → b < map.arena.blocks
+uses_below map s b k = used_below map s k.0 k.1 b k.2 k.3
+
+-- what is near a search is the map's own
+pub near_own : (map : TreeMap) (key : ℕ) → IsOwnNear (tree_part map) key (IsLink map)
+near_own map key s f u hold a k = link_seen map s f u hold key (λ d. d ≡ key) a k
+
+-- and the block where it found the key is the key's
+pub keys_block : (map : TreeMap) (key p b : ℕ) → IsKeysBlock (tree_part map) key b (IsFoundAt map key p b)
+keys_block map key p b = record {
+  used = λ s f u m hold. tree_used map s f u hold b (found_of map key p b s m);
+  key_there = λ s m. found_key map key s p b m;
+  value = λ s f u x m e hold. found_value map key s f u p b x m e hold;
+}
