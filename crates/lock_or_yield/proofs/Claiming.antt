@@ -11,7 +11,9 @@ use Rattle.word_table.specs.declared.answer.Claimed.{Claimed}
 use Rattle.word_table.specs.declared.answer.Claimed.TheVariants as claimed
 use Rattle.word_table.specs.Calls.{ClaimedBy, GrantsStay, MetOn, SameCall}
 use Rattle.lock_or_yield.specs.Asking.{GainsAtMost, AsksToWrite, with_locks}
-use Rattle.lock_or_yield.specs.Turns.{ClaimsAndScans, MeetsSeat, ScansClear, ScansUpTo}
+use Rattle.lock_or_yield.specs.declared.turn.Intent.TheVariants as intent
+use Rattle.lock_or_yield.specs.Intents.{AsksOnce, MeetsSeat}
+use Rattle.lock_or_yield.specs.Turns.{ScansClear, ScansUpTo}
 use Rattle.lock_or_yield.proofs.Steps.{gains_none, gains_one}
 use Rattle.lock_or_yield.proofs.Turning.{nobody_met}
 
@@ -66,10 +68,10 @@ claim_leaves sound v a r u (inr t) = let s = t.1 in
 -- the lock was claimed, and then no seat was met
 pub claims_clear : (a : ℕ) (old claimed_view new : View) → SameCall old claimed_view → GrantsStay old claimed_view
     → AsksToWrite (lock_of_word a) old claimed_view → GainsAtMost a old.asked claimed_view.asked
-    → ScansClear (lock_of_word a) claimed_view new → ClaimsAndScans a old new
+    → ScansClear (lock_of_word a) claimed_view new → AsksOnce intent.Write a old new
 claims_clear a old mid new call grants writes asked c = record {
   call = c.view ∙ (ap (λ (x : View). record x { scans = new.scans }) call ∙ agree);
-  writes = record {
+  locks = record {
     bits = ap (λ (x : View). x.bits) c.view ∙ writes.bits;
     reads = ap (λ (x : View). x.reads) c.view ∙ writes.reads;
     claims = λ l n. ap (λ (x : View). has l x.claims) c.view ∙ writes.claims l n;
@@ -94,18 +96,18 @@ same_call old new x e r = e ∙ (r ∙ ap (λ (y : View). like old y) (sym e))
 -- or one was
 pub claims_up_to : (sound : List ℕ → List View → Type 0) (a j : ℕ) (old mid new : View) → SameCall old mid
     → GrantsStay old mid → AsksToWrite (lock_of_word a) old mid → GainsAtMost a old.asked mid.asked
-    → ScansUpTo sound (lock_of_word a) j mid new → ClaimsAndScans a old new
+    → ScansUpTo sound (lock_of_word a) j mid new → AsksOnce intent.Write a old new
 claims_up_to sound a j old mid new call grants writes asked u =
     let before : View = u.before in
     let b = claims_clear a old mid before call grants writes asked u.clear in
     let stay : GrantsStay before new = subst (λ (x : View). GrantsStay before x) (sym u.view) (λ l. (λ t. t, λ t. t)) in record {
       call = same_call old new (record (like old before) { met = j ∷ before.met; meetings = before.meetings ++ (lock_of_word a, j) ∷ [] })
           (u.view ∙ ap (λ (x : View). record x { met = j ∷ before.met; meetings = before.meetings ++ (lock_of_word a, j) ∷ [] }) b.call) refl;
-      writes = record {
-        bits = ap (λ (x : View). x.bits) u.view ∙ b.writes.bits;
-        reads = ap (λ (x : View). x.reads) u.view ∙ b.writes.reads;
-        claims = λ l n. ap (λ (x : View). has l x.claims) u.view ∙ b.writes.claims l n;
-        scans = λ l i n. ap (λ (x : View). has_pair l i x.scans) u.view ∙ b.writes.scans l i n;
+      locks = record {
+        bits = ap (λ (x : View). x.bits) u.view ∙ b.locks.bits;
+        reads = ap (λ (x : View). x.reads) u.view ∙ b.locks.reads;
+        claims = λ l n. ap (λ (x : View). has l x.claims) u.view ∙ b.locks.claims l n;
+        scans = λ l i n. ap (λ (x : View). has_pair l i x.scans) u.view ∙ b.locks.scans l i n;
       };
       asked = subst (λ (l : List ℕ). GainsAtMost a old.asked l) (sym (ap (λ (x : View). x.asked) u.view)) b.asked;
       grants = λ l. (λ t. (stay l).0 ((b.grants l).0 t), λ t. (stay l).1 ((b.grants l).1 t));
@@ -114,7 +116,7 @@ claims_up_to sound a j old mid new call grants writes asked u =
 -- the lock was claimed, and the scans came to this
 pub claims_and_scans : (sound : List ℕ → List View → Type 0) (a k : ℕ) (r : Option ℕ) (old mid new : View)
     → k ≡ lock_of_word a → SameCall old mid → GrantsStay old mid → ClaimedBy sound old a claimed.Pending mid
-    → (IsNone r → ScansClear k mid new × HasWriteGrant new k) → IfSome r (λ j. ScansUpTo sound k j mid new) → ClaimsAndScans a old new
+    → (IsNone r → ScansClear k mid new × HasWriteGrant new k) → IfSome r (λ j. ScansUpTo sound k j mid new) → AsksOnce intent.Write a old new
 claims_and_scans sound a k None old mid new e call grants claims clear met =
     let left = claim_leaves sound old a claimed.Pending mid claims in
     claims_clear a old mid new call grants left.writes left.asked (subst (λ (l : ℕ). ScansClear l mid new) e (clear refl).0)
@@ -133,7 +135,7 @@ scans_nobody sound a k old mid new e claims clear =
     )
 
 scans_meet : (sound : List ℕ → List View → Type 0) (a j : ℕ) (old mid new : View) → SameCall old mid
-    → ClaimedBy sound old a claimed.Pending mid → ScansUpTo sound (lock_of_word a) j mid new → MeetsSeat sound (lock_of_word a) j old new
+    → ClaimedBy sound old a claimed.Pending mid → ScansUpTo sound (lock_of_word a) j mid new → MeetsSeat intent.Write sound (lock_of_word a) j old new
 scans_meet sound a j old mid new call claims u =
     let k : ℕ = lock_of_word a in let before : View = u.before in
     let same = (claim_leaves sound old a claimed.Pending mid claims).nobody refl in
@@ -157,14 +159,14 @@ scans_meet sound a j old mid new call claims u =
 
 pub scans_met : (sound : List ℕ → List View → Type 0) (a k : ℕ) (r : Option ℕ) (old mid new : View) → k ≡ lock_of_word a
     → SameCall old mid → ClaimedBy sound old a claimed.Pending mid → IfSome r (λ j. ScansUpTo sound k j mid new)
-    → IfSome r (λ j. MeetsSeat sound (lock_of_word a) j old new)
+    → IfSome r (λ j. MeetsSeat intent.Write sound (lock_of_word a) j old new)
 scans_met sound a k None old mid new e call claims met = met
 scans_met sound a k (Some j) old mid new e call claims met = scans_meet sound a j old mid new call claims (subst (λ (l : ℕ). ScansUpTo sound l j mid new) e met)
 
 -- the lock was claimed by another
 pub claim_meets : (sound : List ℕ → List View → Type 0) (a j : ℕ) (old new : View)
     → ClaimedBy sound old a (claimed.Met j) new
-    → MetOn sound (claim_writer_action (number old) (lock_of_word a) a) old old new (lock_of_word a) j → MeetsSeat sound (lock_of_word a) j old new
+    → MetOn sound (claim_writer_action (number old) (lock_of_word a) a) old old new (lock_of_word a) j → MeetsSeat intent.Write sound (lock_of_word a) j old new
 claim_meets sound a j old new claims m = record {
   seat = m.seat;
   met = (claim_leaves sound old a (claimed.Met j) new claims).somebody j refl;

@@ -1,23 +1,31 @@
 -- What a turn comes to, from its steps on locks and the judgement of the seat that it met.
-use Rattle.std.proofs.Common.{◌≡◌, ◌≢◌, ℕ, zero, suc, ◌+◌, ◌<◌, true, List, [], ◌∷◌, ◌++◌, length, Some, slice_get, refl, sym, ap, ◌∙◌, subst, arith, eq-eqb}
+use Rattle.std.proofs.Common.{◌≡◌, ◌≢◌, ℕ, zero, suc, ◌+◌, ◌<◌, true, inl, inr, ⊎_elim, List, [], ◌∷◌, ◌++◌, length, Some, None, slice_get, refl, sym, ap, ◌∙◌, subst, arith, eq-eqb}
 use Rattle.std.proofs.Common.{ne_eqb, ◌==◌}
 use Rattle.std.proofs.lemmas.List.{append-nil, length_push}
 use Rattle.history_model.specs.declared.event.Cause.{Cause}
+use Rattle.history_model.specs.declared.shape.Shape.{Ghosts as Shapes}
 use Rattle.history_model.specs.declared.view.View.{View}
 use Rattle.history_model.specs.Legal.{IsIn}
 use Rattle.history_model.specs.Locks.{lock_of_word}
 use Rattle.history_model.specs.Sets.{has, without, has_pair, flag}
+use Rattle.history_model.specs.Views.{number, IsGranted}
+use Rattle.locks_rule.specs.Steps.{load_writer_action}
 use Rattle.stamps_rule.specs.Causes.{newest, past_causes}
+use Rattle.stamps_rule.specs.Stamps.{AreRestartsBounded}
 use Rattle.stamps_rule.specs.Steps.{after_giving_way}
 use Rattle.word_table.specs.declared.answer.Judged.{Judged}
 use Rattle.word_table.specs.declared.answer.Judged.TheVariants as judged
 use Rattle.word_table.specs.declared.answer.Shared.TheVariants as shared
-use Rattle.word_table.specs.Calls.{SameCall, GrantsStay, GaveWay, SharedBy}
+use Rattle.word_table.specs.Calls.{SameCall, GrantsStay, GaveWay, MetOn, SharedBy, with_bit}
+use Rattle.word_table.specs.Desks.{DeskView, RuleHolds, AreGoodWords}
+use Rattle.lock_or_yield.specs.declared.turn.Intent.{Intent}
+use Rattle.lock_or_yield.specs.declared.turn.Intent.TheVariants as intent
 use Rattle.lock_or_yield.specs.declared.turn.Tried.{Tried}
 use Rattle.lock_or_yield.specs.declared.turn.Tried.TheVariants as tried
 use Rattle.lock_or_yield.specs.Asking.{GainsAtMost, GainsOn, Asks, AsksToRead, AsksToWrite, draws_once, with_locks, MeetsNobody, MeetsSome, MeetsAndYields}
-use Rattle.lock_or_yield.proofs.Steps.{share_leaves}
 use Rattle.lock_or_yield.specs.Turns.{tried_of, JudgesMet, JudgedToWait, JudgedToYield}
+use Rattle.lock_or_yield.specs.Intents.{AsksTo, ComesTo, MeetsFirst, TurnsOnce}
+use Rattle.lock_or_yield.proofs.Steps.{share_leaves}
 
 pub without_one : (j : ℕ) → without j (j ∷ []) ≡ []
 unfolding without
@@ -288,15 +296,91 @@ settled_to_yield good n base cause met drawn shown new draws kept shows low high
       kept = λ h. last ∙ (first ∙ kept h);
     }
 
--- a read that met somebody
-pub read_turned : (sound : List ℕ → List View → Type 0) (good : List ℕ → Type 0) (n : ℕ) (base : List ℕ) (a i : ℕ) (old met : View) (r : Tried) (new : View)
-    → old.met ≡ [] → i < old.seats → SharedBy sound old a (shared.Met i) met → SameCall old met → GrantsStay old met
-    → met.meetings ≡ old.meetings ++ (lock_of_word a, i) ∷ []
-    → JudgesMet sound met i r new
-    → ((j : ℕ) → r ≡ tried.Wait j → (j ≡ i) × JudgedToWait met new)
-    → ((cause : Cause) → r ≡ tried.Yield cause → (cause.seat ≡ i) × JudgedToYield good n base cause met new)
-    → Turned good n base a old met r new
-read_turned sound good n base a i old met r new none seat shares call grants meetings judges waits yields =
-    let left = share_leaves sound old a (shared.Met i) met shares in
-    turned good n base a i judges.answer old met r new none seat
-    (somebody_met (lock_of_word a) i old met call (left.somebody i refl) meetings none) left.asked grants judges.comes_to waits yields
+-- what is known of locks is the same as when a seat was met
+locks_same : (i : Intent) (k : ℕ) (old met new : View) → with_locks new old ≡ with_locks met old → AsksTo i k old met → AsksTo i k old new
+locks_same intent.Read k old met new e h = reads_same k old met new e h
+locks_same intent.Write k old met new e h = writes_same k old met new e h
+
+module _ {S : Type 0} (shapes : Shapes S) (desk : DeskView S) (i : Intent) (a : ℕ) (old : View) where
+  -- a turn met nobody
+  pub turn_clear : (new : View) → old.met ≡ [] → ComesTo i (RuleHolds shapes desk) a old None new → TurnsOnce shapes desk i a old tried.Granted new
+  turn_clear new none once = let clear = once.clear refl in
+      let view : MeetsNobody old new = nobody_met old new once.asks.call clear.1 clear.2 in record {
+        asks = asks_nobody a old new view once.asks.asked once.asks.grants;
+        locks = once.asks.locks;
+        judged = clear.1 ∙ none;
+        turn = record {
+          granted = λ e. (clear.0, view);
+          waits = λ j e. absurd cc;
+          yields = λ cause e. absurd cc;
+          met = inl refl;
+          held = λ h. (refl, (once.held h).1);
+          bounded = inl refl;
+        };
+      }
+
+  -- a turn met seat j, which was judged
+  pub turn_met : (j : ℕ) (met : View) (r : Tried) (new : View) → MeetsFirst i (RuleHolds shapes desk) a j old met
+      → JudgesMet (RuleHolds shapes desk) met j r new
+      → ((l : ℕ) → r ≡ tried.Wait l → (l ≡ j) × JudgedToWait met new)
+      → ((cause : Cause) → r ≡ tried.Yield cause → (cause.seat ≡ j) × JudgedToYield (AreGoodWords shapes desk) desk.seats desk.base cause met new)
+      → AreRestartsBounded desk.seats (number met) new → TurnsOnce shapes desk i a old r new
+  turn_met j met r new first judges waits yields bounded =
+      let once = first.once.asks in let m = first.once.met in
+      let t = turned (AreGoodWords shapes desk) desk.seats desk.base a j judges.answer old met r new first.judged m.seat
+      (somebody_met (lock_of_word a) j old met once.call m.met m.meetings first.judged) once.asked once.grants judges.comes_to waits yields in record {
+        asks = t.asks;
+        locks = locks_same i (lock_of_word a) old met new t.locks once.locks;
+        judged = t.judged;
+        turn = record {
+          granted = λ e. absurd (t.granted e);
+          waits = t.waits;
+          yields = t.yields;
+          met = inr (record { seat = j; met = met; meets = m.meets; judges = judges });
+          held = λ h. let none = (first.once.held h).0 in absurd cc;
+          bounded = inr (subst (λ (n : ℕ). AreRestartsBounded desk.seats n new) (ap number once.call) bounded);
+        };
+      }
+
+-- the seat that was met is one of the table's, and the only one to judge
+module _ (i : Intent) (sound : List ℕ → List View → Type 0) (a j : ℕ) (old new : View) (first : MeetsFirst i sound a j old new) where
+  pub met_seat : j < new.seats
+  met_seat = subst (λ (n : ℕ). j < n) (sym (ap (λ (v : View). v.seats) first.once.asks.call)) first.once.met.seat
+
+  pub met_alone : new.met ≡ j ∷ []
+  met_alone = first.once.met.met ∙ ap (λ (l : List ℕ). j ∷ l) first.judged
+
+-- share was granted
+pub share_clear : (sound : List ℕ → List View → Type 0) (a : ℕ) (old new : View) → SharedBy sound old a shared.Granted new
+    → SameCall old new → GrantsStay old new → IsGranted new (lock_of_word a) → ComesTo intent.Read sound a old None new
+share_clear sound a old new shares call grants held =
+    let left = share_leaves sound old a shared.Granted new shares in let nobody = left.nobody refl in record {
+      asks = record { call = call; locks = left.reads; asked = left.asked; grants = grants };
+      clear = λ _. (held, nobody.0, nobody.1);
+      met = tt;
+      held = λ before. (refl, ⊎_elim (λ stays. stays.2) (λ asks. absurd (asks.0 before)) shares);
+    }
+
+-- or it met a seat
+pub share_meets : (sound : List ℕ → List View → Type 0) (a j : ℕ) (old new : View) → SharedBy sound old a (shared.Met j) new
+    → SameCall old new → GrantsStay old new
+    → MetOn sound (load_writer_action (number old) (lock_of_word a) a) old (with_bit (lock_of_word a) a old) new (lock_of_word a) j
+    → ComesTo intent.Read sound a old (Some j) new
+share_meets sound a j old new shares call grants m = let left = share_leaves sound old a (shared.Met j) new shares in record {
+  asks = record { call = call; locks = left.reads; asked = left.asked; grants = grants };
+  clear = λ e. absurd cc;
+  met = record {
+    seat = m.seat;
+    met = left.somebody j refl;
+    meetings = m.conflict.0.1;
+    meets = record {
+      action = load_writer_action (number old) (lock_of_word a) a;
+      before = old;
+      locks = refl;
+      asking = with_bit (lock_of_word a) a old;
+      step = (a, refl, refl, refl);
+      meets = m;
+    };
+  };
+  held = λ before. ⊎_elim (λ stays. let granted = stays.1 in absurd cc) (λ asks. absurd (asks.0 before)) shares;
+}

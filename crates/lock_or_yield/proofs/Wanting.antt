@@ -1,21 +1,26 @@
 -- What several turns of asking for a lock come to.
-use Rattle.std.proofs.Common.{◌≡◌, ℕ, zero, suc, ◌+◌, ◌<◌, true, ◌⊎◌, inl, inr, ⊎_elim, List, [], ◌∷◌, ◌++◌, length, length-append, refl, sym, ap, ◌∙◌, subst}
+use Rattle.std.proofs.Common.{◌≡◌, ℕ, zero, suc, ◌+◌, ◌<◌, true, ◌⊎◌, inl, inr, ⊎_elim, List, [], ◌∷◌, ◌++◌, None, length, length-append, refl, sym, ap, ◌∙◌, subst}
 use Rattle.std.proofs.Common.{arith}
 use Rattle.std.proofs.lemmas.List.{append-nil, append_assoc}
 use Rattle.history_model.specs.declared.event.Cause.{Cause}
+use Rattle.history_model.specs.declared.shape.Shape.{Ghosts as Shapes}
 use Rattle.history_model.specs.declared.view.View.{View}
 use Rattle.history_model.specs.Legal.{IsIn}
 use Rattle.history_model.specs.Locks.{lock_of_word}
 use Rattle.history_model.specs.Views.{number}
 use Rattle.stamps_rule.specs.Stamps.{AreRestartsBounded}
 use Rattle.word_table.specs.Calls.{GaveWay}
+use Rattle.word_table.specs.Desks.{DeskView, RuleHolds, AreGoodWords}
+use Rattle.lock_or_yield.specs.declared.turn.Intent.{Intent}
+use Rattle.lock_or_yield.specs.declared.turn.Intent.TheVariants as intent
 use Rattle.lock_or_yield.specs.declared.turn.Tried.TheVariants as tried
+use Rattle.lock_or_yield.specs.declared.want.Got.{Got}
 use Rattle.lock_or_yield.specs.declared.want.Got.TheVariants as got
-use Rattle.lock_or_yield.specs.Asking.{GainsOn, Asks, AsksToRead, AsksToWrite, draws_once, with_locks, MeetsNobody, MeetsSome, MeetsAndYields, WentOn}
+use Rattle.lock_or_yield.specs.Asking.{GainsOn, Asks, draws_once, with_locks, MeetsSome, MeetsAndYields, WentOn}
 use Rattle.lock_or_yield.specs.Turns.{MeetsAndJudges}
-use Rattle.locks_rule.specs.Actions.{Action}
+use Rattle.lock_or_yield.specs.Intents.{AsksSince, AsksTo, AsksUntilHeld, ComesTo, IsStepTo, TakesTurn, TurnsOnce}
 use Rattle.lock_or_yield.proofs.Steps.{gains_none, gains_twice}
-use Rattle.lock_or_yield.proofs.Turning.{changed, rest_of, gains_nothing}
+use Rattle.lock_or_yield.proofs.Turning.{changed, rest_of, gains_nothing, turn_clear}
 
 in_either : (xs ys : List (ℕ × ℕ)) (p : ℕ × ℕ) → IsIn p (xs ++ ys) → IsIn p xs ⊎ IsIn p ys
 in_either [] ys p h = inr h
@@ -68,22 +73,18 @@ asks_more a old mid new f s = record {
   grants = λ k. (λ t. (s.grants k).0 ((f.grants k).0 t), λ t. (s.grants k).1 ((f.grants k).1 t));
 }
 
-pub reads_none : (k : ℕ) (v : View) → AsksToRead k v v
-reads_none k v = record { claims = refl; scans = refl; bits = λ l n. refl; reads = λ l n. refl }
+pub locks_none : (i : Intent) (k : ℕ) (v : View) → AsksTo i k v v
+locks_none intent.Read k v = record { claims = refl; scans = refl; bits = λ l n. refl; reads = λ l n. refl }
+locks_none intent.Write k v = record { bits = refl; reads = refl; claims = λ l n. refl; scans = λ l j n. refl }
 
-pub reads_more : (k : ℕ) (old mid new : View) → AsksToRead k old mid → AsksToRead k mid new → AsksToRead k old new
-reads_more k old mid new f s = record {
+pub locks_more : (i : Intent) (k : ℕ) (old mid new : View) → AsksTo i k old mid → AsksTo i k mid new → AsksTo i k old new
+locks_more intent.Read k old mid new f s = record {
   claims = s.claims ∙ f.claims;
   scans = s.scans ∙ f.scans;
   bits = λ l n. s.bits l n ∙ f.bits l n;
   reads = λ l n. s.reads l n ∙ f.reads l n;
 }
-
-pub writes_none : (k : ℕ) (v : View) → AsksToWrite k v v
-writes_none k v = record { bits = refl; reads = refl; claims = λ l n. refl; scans = λ l j n. refl }
-
-pub writes_more : (k : ℕ) (old mid new : View) → AsksToWrite k old mid → AsksToWrite k mid new → AsksToWrite k old new
-writes_more k old mid new f s = record {
+locks_more intent.Write k old mid new f s = record {
   bits = s.bits ∙ f.bits;
   reads = s.reads ∙ f.reads;
   claims = λ l n. s.claims l n ∙ f.claims l n;
@@ -94,22 +95,19 @@ writes_more k old mid new f s = record {
 abbrev wandered : View → View → View
 wandered old new = record (with_locks new old) { meetings = new.meetings; stamp = new.stamp; announced = new.announced; draws = new.draws }
 
-went : (old mid new x : View) → WentOn old mid → new ≡ x → x ≡ wandered mid x → WentOn old new
-went old mid new x f e r =
-    let s : new ≡ wandered mid new = e ∙ (r ∙ ap (λ (v : View). wandered mid v) (sym e)) in
-    s ∙ ap (λ (v : View). wandered v new) f
+went : (old new x : View) → new ≡ x → x ≡ wandered old x → WentOn old new
+went old new x e r = e ∙ (r ∙ ap (λ (v : View). wandered old v) (sym e))
 
-pub went_nobody : (old mid new : View) → WentOn old mid → MeetsNobody mid new → WentOn old new
-went_nobody old mid new f e = went old mid new (with_locks new mid) f e refl
-
-pub went_on : (met : List (ℕ × ℕ)) (old mid new : View) → WentOn old mid → MeetsSome met mid new → WentOn old new
-went_on met old mid new f s = went old mid new (record (with_locks new mid) {
-  meetings = mid.meetings ++ met;
-  stamp =
-      new.stamp;
+pub went_on : (met : List (ℕ × ℕ)) (old new : View) → MeetsSome met old new → WentOn old new
+went_on met old new s = went old new (record (with_locks new old) {
+  meetings = old.meetings ++ met;
+  stamp = new.stamp;
   announced = true;
-  draws = draws_once mid;
-}) f s.view refl
+  draws = draws_once old;
+}) s.view refl
+
+pub went_more : (old mid new : View) → WentOn old mid → WentOn mid new → WentOn old new
+went_more old mid new f s = s ∙ ap (λ (v : View). wandered v new) f
 
 gives_way_more : (good : List ℕ → Type 0) (n : ℕ) (base : List ℕ) (k : ℕ) (met : List (ℕ × ℕ)) (cause : Cause)
     (old mid new : View) → WentOn old mid → draws_once mid ≡ draws_once old → GainsOn k old.meetings mid.meetings → MeetsAndYields good n base met cause mid new
@@ -153,27 +151,59 @@ yield_is x y e = cc
 gave_way : (x : Cause) (P : Type 0) → (tried.Yield x ≡ tried.Granted) ⊎ P → P
 gave_way x P h = ⊎_elim (λ e. absurd cc) (λ p. p) h
 
--- the turns went on from the view old to mid, and the last of them gave way at new, to the cause x
-module _ (old mid new : View) (x : Cause) (on : WentOn old mid) where
-  pub turns_yield : (good : List ℕ → Type 0) (n : ℕ) (base : List ℕ) (k : ℕ) (cause : Cause)
-      → got.Yield x ≡ got.Yield cause → draws_once mid ≡ draws_once old → GainsOn k old.meetings mid.meetings
-      → MeetsAndYields good n base ((k, x.seat) ∷ []) x mid new
-      → (waited : List (ℕ × ℕ)) × MeetsAndYields good n base (waited ++ (k, cause.seat) ∷ []) cause old new
-  turns_yield good n base k cause e once more gives =
-      subst (λ (y : Cause). (waited : List (ℕ × ℕ)) × MeetsAndYields good n base (waited ++ (k, y.seat) ∷ []) y old new) (yield_is x cause e)
-      (gives_way_more good n base k ((k, x.seat) ∷ []) x old mid new on once more gives)
+-- asking ends with the turn that is granted or gives way, and what it came to is the same of all turns together
+module _ {S : Type 0} (shapes : Shapes S) (desk : DeskView S) (i : Intent) (a : ℕ) (old : View) where
+  pub ends_granted : (new : View) → TakesTurn shapes desk i (lock_of_word a) old tried.Granted new
+      → AsksUntilHeld shapes desk i (lock_of_word a) old got.Granted new
+  ends_granted new t = let held = t.granted refl in record {
+    granted = λ e. (held.0, went old new (with_locks new old) held.1 refl);
+    yields = λ cause e. absurd cc;
+    met = λ cause e. absurd cc;
+    bounded = λ cause e. absurd cc;
+  }
 
-  pub turns_met : (is_step : ℕ → ℕ → View → (View → Action) → View → Type 0) (sound : List ℕ → List View
-      → Type 0) (k : ℕ) (cause : Cause) → got.Yield x ≡ got.Yield cause → (tried.Yield x ≡ tried.Granted)
-      ⊎ MeetsAndJudges is_step sound mid k (tried.Yield x) new
-      → (before : View) × WentOn old before × MeetsAndJudges is_step sound before k (tried.Yield cause) new
-  turns_met is_step sound k cause e met = (
-    mid,
-    on,
-    subst (λ (y : Cause). MeetsAndJudges is_step sound mid k (tried.Yield y) new) (yield_is x cause e)
-        (gave_way x (MeetsAndJudges is_step sound mid k (tried.Yield x) new) met),
-  )
+  pub ends_giving_way : (x : Cause) (new : View) → TakesTurn shapes desk i (lock_of_word a) old (tried.Yield x) new
+      → AsksUntilHeld shapes desk i (lock_of_word a) old (got.Yield x) new
+  ends_giving_way x new t = record {
+    granted = λ e. absurd cc;
+    yields = λ cause e. subst (λ (y : Cause). (waited : List (ℕ × ℕ))
+        × MeetsAndYields (AreGoodWords shapes desk) desk.seats desk.base (waited ++ (lock_of_word a, y.seat) ∷ []) y old new)
+        (yield_is x cause e) ([], t.yields x refl);
+    met = λ cause e. (
+      old,
+      refl,
+      subst (λ (y : Cause). MeetsAndJudges (IsStepTo i) (RuleHolds shapes desk) old (lock_of_word a) (tried.Yield y) new)
+          (yield_is x cause e) (gave_way x (MeetsAndJudges (IsStepTo i) (RuleHolds shapes desk) old (lock_of_word a) (tried.Yield x) new) t.met),
+    );
+    bounded = λ cause e. gave_way x (AreRestartsBounded desk.seats (number old) new) t.bounded;
+  }
 
-  -- the restart bound, of a call that went on before
-  pub turns_bounded : (n : ℕ) → (tried.Yield x ≡ tried.Granted) ⊎ AreRestartsBounded n (number mid) new → AreRestartsBounded n (number old) new
-  turns_bounded n h = subst (λ (j : ℕ). AreRestartsBounded n j new) (ap number on) (gave_way x (AreRestartsBounded n (number mid) new) h)
+  pub asked_before : (mid new : View) (r : Got) → Asks a old mid → WentOn old mid
+      → AsksUntilHeld shapes desk i (lock_of_word a) mid r new → AsksUntilHeld shapes desk i (lock_of_word a) old r new
+  asked_before mid new r asks on h = let k : ℕ = lock_of_word a in record {
+    granted = λ e. let g = h.granted e in (g.0, went_more old mid new on g.1);
+    yields = λ cause e. let y = h.yields cause e in
+        let all = gives_way_more (AreGoodWords shapes desk) desk.seats desk.base k (y.0 ++ (k, cause.seat) ∷ []) cause old mid new
+        on asks.drawn_once asks.meetings y.1 in (
+          all.0 ++ y.0,
+          subst (λ (l : List (ℕ × ℕ)). MeetsAndYields (AreGoodWords shapes desk) desk.seats desk.base l cause old new)
+              (sym (append_assoc all.0 y.0 ((k, cause.seat) ∷ []))) all.1,
+        );
+    met = λ cause e. let m = h.met cause e in (m.0, went_more old mid m.0 on m.1, m.2);
+    bounded = λ cause e. subst (λ (n : ℕ). AreRestartsBounded desk.seats n new) (ap number on) (h.bounded cause e);
+  }
+
+  -- where asking once met nobody it is all
+  pub since_clear : (new : View) → old.met ≡ [] → ComesTo i (RuleHolds shapes desk) a old None new → AsksSince shapes desk i a old got.Granted new
+  since_clear new none once = let t = turn_clear shapes desk i a old new none once in
+      record { asks = t.asks; locks = t.locks; judged = t.judged; answer = ends_granted new t.turn }
+
+  -- and behind a turn that waits
+  pub since_waiting : (j : ℕ) (mid new : View) (r : Got) → TurnsOnce shapes desk i a old (tried.Wait j) mid → AsksSince shapes desk i a mid r new
+      → AsksSince shapes desk i a old r new
+  since_waiting j mid new r t on = record {
+    asks = asks_more a old mid new t.asks on.asks;
+    locks = locks_more i (lock_of_word a) old mid new t.locks on.locks;
+    judged = on.judged;
+    answer = asked_before mid new r t.asks (went_on ((lock_of_word a, j) ∷ []) old mid (t.turn.waits j refl)) on.answer;
+  }

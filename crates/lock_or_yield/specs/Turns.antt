@@ -10,12 +10,12 @@ use Rattle.locks_rule.specs.Steps.{load_writer_action, claim_writer_action, scan
 use Rattle.stamps_rule.specs.Causes.{newest, past_causes}
 use Rattle.word_table.specs.declared.answer.Judged.{Judged}
 use Rattle.word_table.specs.declared.answer.Judged.TheVariants as judged
-use Rattle.word_table.specs.Calls.{GaveWay, GrantsStay, JudgedBy, MetOn, SameCall, with_bit}
+use Rattle.word_table.specs.Calls.{GaveWay, GrantsStay, JudgedBy, MetOn, with_bit}
 use Rattle.word_table.specs.Least.{IsLeast}
 use Rattle.word_table.specs.Unscanned.{IsUnscanned}
 use Rattle.lock_or_yield.specs.declared.turn.Tried.{Tried}
 use Rattle.lock_or_yield.specs.declared.turn.Tried.TheVariants as tried
-use Rattle.lock_or_yield.specs.Asking.{AsksToWrite, GainsAtMost, draws_once, with_locks}
+use Rattle.lock_or_yield.specs.Asking.{draws_once, with_locks}
 
 -- what a turn comes to that met seat j, where judge answers this of it
 abbrev pub tried_of : ℕ → Judged → Tried
@@ -88,17 +88,3 @@ pub record ScansUpTo (sound : List ℕ → List View → Type 0) (k j : ℕ) (ol
   pub least : IsLeast (IsUnscanned before k) (Some j)
   pub meets : MetOn sound (scan_row_action (number before) k j) before before new k j
   pub view : new ≡ record before { met = j ∷ before.met; meetings = before.meetings ++ (k, j) ∷ [] }
-
--- the lock of word a was claimed, or tried to, and seats were scanned for the claim
-pub record ClaimsAndScans (a : ℕ) (old new : View) : Type 0 where
-  pub call : SameCall old new
-  pub writes : AsksToWrite (lock_of_word a) old new
-  pub asked : GainsAtMost a old.asked new.asked
-  pub grants : GrantsStay old new
-
--- by that seat j was met
-pub record MeetsSeat (sound : List ℕ → List View → Type 0) (k j : ℕ) (old new : View) : Type 0 where
-  pub seat : j < old.seats
-  pub met : new.met ≡ j ∷ old.met
-  pub meetings : new.meetings ≡ old.meetings ++ (k, j) ∷ []
-  pub meets : MeetsOn IsWriteStep sound old k j new

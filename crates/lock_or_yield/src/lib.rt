@@ -10,5 +10,5 @@
 pub mod turn;
 pub mod want;
 
-pub use turn::{Tried, try_read, try_write};
-pub use want::{Got, want_read, want_write};
+pub use turn::{Intent, Tried, try_read, try_write};
+pub use want::{Got, go_on, want_read, want_write};

@@ -1,15 +1,23 @@
 //! One turn of asking for a lock.
 
-ghost use Rattle.std.specs.Prelude.{◌≡◌, ◌≢◌, ◌⊎◌, ◌<◌, ℕ, [], ◌∷◌, length, true, Some, IfSome, IsNone};
+ghost use Rattle.std.specs.Prelude.{◌≡◌, ◌≢◌, ◌<◌, ℕ, [], ◌∷◌, length, true, IfSome, IsNone};
 ghost use Rattle.history_model.specs.Locks.{lock_of_word};
-ghost use Rattle.history_model.specs.Views.{number, HasClaim, HasWriteGrant, IsGranted};
+ghost use Rattle.history_model.specs.Views.{number, HasClaim, HasWriteGrant};
 ghost use Rattle.stamps_rule.specs.Stamps.{AreRestartsBounded};
-ghost use Rattle.lock_or_yield.specs.Asking.{Asks, AsksToRead, AsksToWrite, MeetsAndYields, MeetsSome, MeetsNobody, draws_once};
-ghost use Rattle.lock_or_yield.specs.Turns.{ClaimsAndScans, IsReadStep, IsWriteStep, JudgedToWait, JudgedToYield, JudgesMet, MeetsAndJudges, MeetsSeat, ScansClear, ScansUpTo};
+ghost use Rattle.lock_or_yield.specs.Asking.{Asks, AsksToRead, AsksToWrite, draws_once};
+ghost use Rattle.lock_or_yield.specs.Intents.{AsksOnce, ComesTo, IsClear, MeetsSeat, TakesTurn, TurnsOnce};
+ghost use Rattle.lock_or_yield.specs.Turns.{JudgedToWait, JudgedToYield, JudgesMet, ScansClear, ScansUpTo};
 ghost use Rattle.word_table.specs.Desks.{AreGoodWords, RuleHolds};
 
 use history_model::{Cause, LOCKS, Phase, Shape, lock_of};
 use word_table::{Claimed, Desk, Judged, Pass, Scanned, Shared};
+
+/// What a lock is asked for.
+#[derive(Clone, Copy, Debug, PartialEq, Eq)]
+pub enum Intent {
+    Read,
+    Write,
+}
 
 /// What one turn of asking for a lock came to.
 #[derive(Clone, Copy, Debug, PartialEq, Eq)]
@@ -53,8 +61,11 @@ fn announce_once<S: Shape>(desk: &Desk<S>, pass: &mut Pass<S>)
     }
 }
 
-// What a turn comes to that met the seat `other`: the timestamp is shown, and the other's looked at.
-fn judge_met<S: Shape>(desk: &Desk<S>, pass: &mut Pass<S>, other: u32) -> Tried
+// What a turn comes to that met the seat `other`: the timestamp is shown, and the other's looked at. It stands by itself,
+// so that a turn that meets nobody is short enough to stand where it is called.
+#[cold]
+#[inline(never)]
+pub(crate) fn judge_met<S: Shape>(desk: &Desk<S>, pass: &mut Pass<S>, other: u32) -> Tried
     requires desk { pass.old.table ≡ desk.now.table }
     requires phase { pass.old.view.phase ≡ Phase.Running }
     requires other { other < pass.old.view.seats }
@@ -74,37 +85,6 @@ fn judge_met<S: Shape>(desk: &Desk<S>, pass: &mut Pass<S>, other: u32) -> Tried
     match desk.judge(pass, other) {
         Judged::Wait => Tried::Wait(other),
         Judged::Yield(stamp) => Tried::Yield(Cause { seat: other, stamp }),
-    }
-}
-
-/// One turn of asking for the lock of word a, to read it. The read bit stays set where the turn waits.
-pub fn try_read<S: Shape>(desk: &Desk<S>, pass: &mut Pass<S>, a: u64) -> Tried
-    requires desk { pass.old.table ≡ desk.now.table }
-    requires phase { pass.old.view.phase ≡ Phase.Running }
-    requires word { a < length pass.old.view.base }
-    requires judged { pass.old.view.met ≡ [] }
-    ensures desk { pass.new.table ≡ pass.old.table }
-    ensures asks { Asks a pass.old.view pass.new.view }
-    ensures reads { AsksToRead (lock_of_word a) pass.old.view pass.new.view }
-    ensures judged { pass.new.view.met ≡ [] }
-    ensures granted { result ≡ Tried.Granted
-        → IsGranted pass.new.view (lock_of_word a) × MeetsNobody pass.old.view pass.new.view }
-    ensures waits { (j : ℕ) → result ≡ Tried.Wait j
-        → MeetsSome ((lock_of_word a, j) ∷ []) pass.old.view pass.new.view }
-    ensures yields { (cause : Cause) → result ≡ Tried.Yield cause
-        → MeetsAndYields (AreGoodWords S.Shape desk.now)
-        desk.now.seats desk.now.base ((lock_of_word a, cause.seat) ∷ []) cause
-        pass.old.view pass.new.view }
-    ensures met { (result ≡ Tried.Granted) ⊎ MeetsAndJudges IsReadStep
-        (RuleHolds S.Shape desk.now) pass.old.view (lock_of_word a) result pass.new.view }
-    ensures held { IsGranted pass.old.view (lock_of_word a)
-        → (result ≡ Tried.Granted) × (pass.new.view ≡ pass.old.view) }
-    ensures bounded { (result ≡ Tried.Granted)
-        ⊎ AreRestartsBounded desk.now.seats (number pass.old.view) pass.new.view }
-{
-    match desk.share(pass, a) {
-        Shared::Granted => Tried::Granted,
-        Shared::Met(other) => judge_met(desk, pass, other),
     }
 }
 
@@ -137,11 +117,10 @@ fn claim_and_scan<S: Shape>(desk: &Desk<S>, pass: &mut Pass<S>, a: u64) -> Optio
     requires phase { pass.old.view.phase ≡ Phase.Running }
     requires word { a < length pass.old.view.base }
     ensures desk { pass.new.table ≡ pass.old.table }
-    ensures asks { ClaimsAndScans a pass.old.view pass.new.view }
-    ensures granted { IsNone result → HasWriteGrant pass.new.view (lock_of_word a)
-        × (pass.new.view.met ≡ pass.old.view.met)
-        × (pass.new.view.meetings ≡ pass.old.view.meetings) }
-    ensures met { IfSome result (λ j. MeetsSeat (RuleHolds S.Shape desk.now)
+    ensures asks { AsksOnce Intent.Write a pass.old.view pass.new.view }
+    ensures clear { IsNone result
+        → IsClear Intent.Write (lock_of_word a) pass.old.view pass.new.view }
+    ensures met { IfSome result (λ j. MeetsSeat Intent.Write (RuleHolds S.Shape desk.now)
         (lock_of_word a) j pass.old.view pass.new.view) }
     ensures held { HasWriteGrant pass.old.view (lock_of_word a)
         → IsNone result × (pass.new.view ≡ pass.old.view) }
@@ -150,6 +129,60 @@ fn claim_and_scan<S: Shape>(desk: &Desk<S>, pass: &mut Pass<S>, a: u64) -> Optio
         Claimed::Pending => scan_rest(desk, pass, lock_of(a)),
         Claimed::Met(seat) => Some(seat),
     }
+}
+
+// Asks once for the lock of word a, and tells which seat was met, if one was.
+#[inline]
+pub(crate) fn ask_once<S: Shape>(
+    desk: &Desk<S>,
+    pass: &mut Pass<S>,
+    a: u64,
+    intent: Intent,
+) -> Option<u32>
+    requires desk { pass.old.table ≡ desk.now.table }
+    requires phase { pass.old.view.phase ≡ Phase.Running }
+    requires word { a < length pass.old.view.base }
+    ensures desk { pass.new.table ≡ pass.old.table }
+    ensures once { ComesTo intent (RuleHolds S.Shape desk.now) a pass.old.view result pass.new.view }
+{
+    match intent {
+        Intent::Read => match desk.share(pass, a) {
+            Shared::Granted => None,
+            Shared::Met(seat) => Some(seat),
+        },
+        Intent::Write => claim_and_scan(desk, pass, a),
+    }
+}
+
+// One turn of asking for the lock of word a, with this intent.
+pub(crate) fn try_to<S: Shape>(desk: &Desk<S>, pass: &mut Pass<S>, a: u64, intent: Intent) -> Tried
+    requires desk { pass.old.table ≡ desk.now.table }
+    requires phase { pass.old.view.phase ≡ Phase.Running }
+    requires word { a < length pass.old.view.base }
+    requires judged { pass.old.view.met ≡ [] }
+    ensures desk { pass.new.table ≡ pass.old.table }
+    ensures turn { TurnsOnce S.Shape desk.now intent a pass.old.view result pass.new.view }
+{
+    match ask_once(desk, pass, a, intent) {
+        None => Tried::Granted,
+        Some(other) => judge_met(desk, pass, other),
+    }
+}
+
+/// One turn of asking for the lock of word a, to read it. The read bit stays set where the turn waits.
+pub fn try_read<S: Shape>(desk: &Desk<S>, pass: &mut Pass<S>, a: u64) -> Tried
+    requires desk { pass.old.table ≡ desk.now.table }
+    requires phase { pass.old.view.phase ≡ Phase.Running }
+    requires word { a < length pass.old.view.base }
+    requires judged { pass.old.view.met ≡ [] }
+    ensures desk { pass.new.table ≡ pass.old.table }
+    ensures asks { Asks a pass.old.view pass.new.view }
+    ensures reads { AsksToRead (lock_of_word a) pass.old.view pass.new.view }
+    ensures judged { pass.new.view.met ≡ [] }
+    ensures turn { TakesTurn S.Shape desk.now Intent.Read (lock_of_word a) pass.old.view result
+        pass.new.view }
+{
+    try_to(desk, pass, a, Intent::Read)
 }
 
 /// One turn of asking for the lock of word a, to write it. The lock is claimed, and the other seats are scanned for
@@ -163,23 +196,8 @@ pub fn try_write<S: Shape>(desk: &Desk<S>, pass: &mut Pass<S>, a: u64) -> Tried
     ensures asks { Asks a pass.old.view pass.new.view }
     ensures writes { AsksToWrite (lock_of_word a) pass.old.view pass.new.view }
     ensures judged { pass.new.view.met ≡ [] }
-    ensures granted { result ≡ Tried.Granted
-        → HasWriteGrant pass.new.view (lock_of_word a) × MeetsNobody pass.old.view pass.new.view }
-    ensures waits { (j : ℕ) → result ≡ Tried.Wait j
-        → MeetsSome ((lock_of_word a, j) ∷ []) pass.old.view pass.new.view }
-    ensures yields { (cause : Cause) → result ≡ Tried.Yield cause
-        → MeetsAndYields (AreGoodWords S.Shape desk.now)
-        desk.now.seats desk.now.base ((lock_of_word a, cause.seat) ∷ []) cause
-        pass.old.view pass.new.view }
-    ensures met { (result ≡ Tried.Granted) ⊎ MeetsAndJudges IsWriteStep
-        (RuleHolds S.Shape desk.now) pass.old.view (lock_of_word a) result pass.new.view }
-    ensures held { HasWriteGrant pass.old.view (lock_of_word a)
-        → (result ≡ Tried.Granted) × (pass.new.view ≡ pass.old.view) }
-    ensures bounded { (result ≡ Tried.Granted)
-        ⊎ AreRestartsBounded desk.now.seats (number pass.old.view) pass.new.view }
+    ensures turn { TakesTurn S.Shape desk.now Intent.Write (lock_of_word a) pass.old.view result
+        pass.new.view }
 {
-    match claim_and_scan(desk, pass, a) {
-        None => Tried::Granted,
-        Some(other) => judge_met(desk, pass, other),
-    }
+    try_to(desk, pass, a, Intent::Write)
 }

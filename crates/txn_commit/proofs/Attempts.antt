@@ -52,9 +52,6 @@ pub saw_others : (good : List ℕ → Type 0) (n : ℕ) (base : List ℕ) (met :
 saw_others good n base met cause old new g = subst (λ (h : List Entry). GainsOthers (number old) old.seen h) (ap (λ (v : View). v.seen) (sym g.gave_way.view))
     (gains_history (number old) old.seen g.gave_way.history g.gave_way.begins g.gave_way.others)
 
-pub same_cause : (a b : Cause) → asked.Yield a ≡ asked.Yield b → a ≡ b
-same_cause a b e = cc
-
 -- the attempt ran when it gave way
 gave_way_since : (n : ℕ) (cause : Cause) (began old new : View) → Runs began old → GaveWayTo n cause old new → GaveWayTo n cause began new
 gave_way_since n cause began old new r g = record {
@@ -105,11 +102,11 @@ not_halted None e = refl
 not_halted (Some (halt.Yield cause)) e = absurd (cc)
 not_halted (Some halt.Memory) e = absurd (cc)
 
-pub held_not_yield : (cause : Cause) → asked.Held ≢ asked.Yield cause
-held_not_yield cause e = cc
+pub held_not_yield : asked.Held ≢ asked.Yield
+held_not_yield e = cc
 
-pub granted_not_yield : (cause : Cause) → asked.Granted ≢ asked.Yield cause
-granted_not_yield cause e = cc
+pub granted_not_yield : asked.Granted ≢ asked.Yield
+granted_not_yield e = cc
 
 saw_same : (who : ℕ) (old new : List Entry) → new ≡ old → GainsOthers who old new
 saw_same who old new e = subst (λ (l : List Entry). GainsOthers who old l) (sym e) (gains_none who old)

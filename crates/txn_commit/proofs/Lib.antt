@@ -6,6 +6,8 @@ pub mod Releasing
 pub mod Footprints
 -- an attempt between two of its calls
 pub mod Attempts
+-- what asking for a lock comes to, and a load after it leaves
+pub mod Asking
 -- what a job's answer means, by the entry that its call has
 pub mod Meaning
 -- how a transaction begins and ends

@@ -1,5 +1,5 @@
 -- Giving up locks, one after another, and undoing writes.
-use Rattle.std.proofs.Common.{◌≡◌, ◌≢◌, ℕ, ◌<◌, ◌≤◌, ◌⊎◌, inl, inr, ⊎_elim, [], Option, Some, None, IfSome, refl, sym, ap, ◌∙◌, subst, arith}
+use Rattle.std.proofs.Common.{◌≡◌, ◌≢◌, ℕ, ◌*◌, ◌/◌, ◌<◌, ◌≤◌, ◌⊎◌, inl, inr, ⊎_elim, [], Option, Some, None, IfSome, refl, sym, ap, ◌∙◌, subst, arith}
 use Rattle.std.proofs.lemmas.Bool.{cases_lt}
 use Rattle.history_model.specs.declared.TheConstants.{LOCKS}
 use Rattle.history_model.specs.declared.view.View.{View}
@@ -15,7 +15,7 @@ above : (P : ℕ → Type 0) (from : ℕ) → ((k : ℕ) → k < from → ¬ P k
 above P from below k p = ⊎_elim (λ lt. absurd (below k lt p)) (λ le. le) (cases_lt k from)
 
 -- none below a number, and this is the least from there on
-pub least_from : (P : ℕ → Type 0) (from : ℕ) (next : Option ℕ) → ((k : ℕ) → k < from → ¬ P k) → IsLeast (λ k. (from ≤ k) × P k) next → IsLeast P next
+least_from : (P : ℕ → Type 0) (from : ℕ) (next : Option ℕ) → ((k : ℕ) → k < from → ¬ P k) → IsLeast (λ k. (from ≤ k) × P k) next → IsLeast P next
 least_from P from None below least = λ k p. least k (above P from below k p, p)
 least_from P from (Some j) below least = (least.0.1, λ k lt p. least.1 k lt (above P from below k p, p))
 
@@ -29,16 +29,27 @@ least_below P next lock e least = (subst (λ (o : Option ℕ). IsLeast P o) e le
 pub near_next : (next : Option ℕ) (lock : ℕ) → next ≡ Some lock → IfSome next (λ k. k < LOCKS) → lock < LOCKS
 near_next next lock e near = subst (λ (o : Option ℕ). IfSome o (λ k. k < LOCKS)) e near
 
-not_same : (P : ℕ → Type 0) (lock j : ℕ) → ¬ P lock → (lock ≤ j) × P j → lock < j
-not_same P lock j gone at = ⊎_elim (λ lt. lt) (λ le. absurd (gone (subst P (back at.0 le) at.1))) (cases_lt lock j) where
-  back : lock ≤ j → j ≤ lock → j ≡ lock
-  back a b = omega arith
+-- the first lock of its word
+word_below : (lock k : ℕ) → k < lock / 64 * 64 → k < lock
+word_below lock k lt = omega arith
+
+-- none below a lock, and this is the least from its word on
+pub least_from_word : (P : ℕ → Type 0) (lock : ℕ) (next : Option ℕ) → ((k : ℕ) → k < lock → ¬ P k)
+    → IsLeast (λ k. (lock / 64 * 64 ≤ k) × P k) next → IsLeast P next
+least_from_word P lock next below least = least_from P (lock / 64 * 64) next (λ k lt. below k (word_below lock k lt)) least
 
 -- the next one comes later
-pub fewer_left : (P : ℕ → Type 0) (lock : ℕ) (next : Option ℕ) → lock < LOCKS → ¬ P lock
-    → IsLeast (λ k. (lock ≤ k) × P k) next → IfSome next (λ k. k < LOCKS) → turns_left next < turns_left (Some lock)
-fewer_left P lock None lt gone least near = omega arith
-fewer_left P lock (Some j) lt gone least near = let far : lock < j = not_same P lock j gone least.0 in omega arith
+pub fewer_left : (P : ℕ → Type 0) (lock : ℕ) (now next : Option ℕ) → now ≡ Some lock → lock < LOCKS → ¬ P lock → ((k : ℕ) → k < lock → ¬ P k)
+    → IsLeast (λ k. (lock / 64 * 64 ≤ k) × P k) next → IfSome next (λ k. k < LOCKS) → turns_left next < turns_left now
+fewer_left P lock now next e lt gone below least near =
+    subst (λ (o : Option ℕ). turns_left next < turns_left o) (sym e) (fewer next least near) where
+      later : (j : ℕ) → P j → lock < j
+      later j p = ⊎_elim (λ (far : lock < j). far) (λ (le : j ≤ lock). ⊎_elim (λ (before : j < lock). absurd (below j before p))
+          (λ (behind : lock ≤ j). let same : j ≡ lock = omega arith in absurd (gone (subst P same p))) (cases_lt j lock)) (cases_lt lock j)
+
+      fewer : (next : Option ℕ) → IsLeast (λ k. (lock / 64 * 64 ≤ k) × P k) next → IfSome next (λ k. k < LOCKS) → turns_left next < turns_left (Some lock)
+      fewer None least near = omega arith
+      fewer (Some j) least near = let far : lock < j = later j least.0.1 in omega arith
 
 released_twice : (p : Phase) → released_phase (released_phase p) ≡ released_phase p
 released_twice Idle = refl

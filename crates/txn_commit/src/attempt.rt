@@ -1,24 +1,26 @@
 //! One attempt of a transaction, as the words that its job reads and writes.
 
-ghost use Rattle.std.specs.Prelude.{◌≡◌, ◌≢◌, ◌+◌, ◌<◌, ◌≤◌, [], None, length, true, OnOk, OnErr};
+ghost use Rattle.std.specs.Prelude.{◌≡◌, ◌+◌, ◌<◌, ◌≤◌, [], ◌∷◌, None, length, OnOk, OnErr};
+ghost use Rattle.history_model.specs.declared.view.View.{View};
 ghost use Rattle.history_model.specs.Locks.{lock_of_word};
-ghost use Rattle.history_model.specs.Sets.{has_pair};
-ghost use Rattle.history_model.specs.Views.{number, HasWriteGrant, IsGranted};
-ghost use Rattle.lock_or_yield.specs.Asking.{Asks, AsksToRead, AsksToWrite, WentOn};
+ghost use Rattle.history_model.specs.Views.{HasReadGrant};
+ghost use Rattle.lock_or_yield.specs.Asking.{AsksToRead, AsksToWrite};
+ghost use Rattle.lock_or_yield.specs.Intents.{MeetsFirst};
+ghost use Rattle.word_table.specs.Desks.{RuleHolds};
 ghost use Rattle.history_model.specs.Marks.{count_writes};
 ghost use Rattle.history_model.specs.Traces.{Begins};
 ghost use Rattle.txn_words.specs.Marks.{PutsBack, TakesBack};
-ghost use Rattle.txn_commit.specs.Attempts.{DidEvents, GaveWayTo, IsSoundAttempt};
-ghost use Rattle.txn_commit.specs.Transactions.{GainsOthers};
+ghost use Rattle.txn_commit.specs.Attempts.{DidEvents, IsSoundAttempt};
+ghost use Rattle.txn_commit.specs.Inner.Asking.{AsksForWord};
 
 use history_model::{Cause, Phase, Shape, lock_of};
 use io_ends::OutOfMemory;
-use lock_or_yield::{Got, want_read, want_write};
+use lock_or_yield::{Got, Intent, go_on, want_write};
 use std::snapshot::Snapshot;
 use std::sync::Wait;
 use txn_words::{Mark, Stop, Words};
 use undo_log::UndoLog;
-use word_table::{Desk, Pass};
+use word_table::{Desk, Pass, Shared};
 use worker_gate::{Gate, Point, Stage};
 
 /// How many writes an attempt notes without memory.
@@ -83,63 +85,95 @@ enum Asked {
     Held,
     // It is held by now.
     Granted,
-    // The attempt gives way to this cause.
-    Yield(Cause),
+    // The attempt gives way, and halts for the cause.
+    Yield,
 }
 
-// Asks for the lock of word a, to read it, where it is not held. It stands by itself, so that a read whose lock is held is
-// short enough to stand where it is called.
+// Goes on asking for the lock of word a, to read it, once the seat `other` was met.
+#[cold]
 #[inline(never)]
-fn ask_to_read<R: Wait, S: Shape>(rt: &R, desk: &Desk<S>, pass: &mut Pass<S>, a: u64) -> Asked
+fn go_on_to_read<R: Wait, S: Shape>(
+    rt: &R,
+    desk: &Desk<S>,
+    pass: &mut Pass<S>,
+    a: u64,
+    other: u32,
+    halt: &mut Option<Halt>,
+) -> Asked
+    requires desk { pass.old.table ≡ desk.now.table }
+    requires phase { pass.old.view.phase ≡ Phase.Running }
+    requires word { a < length pass.old.view.base }
+    requires other { other < pass.old.view.seats }
+    requires met { pass.old.view.met ≡ other ∷ [] }
+    ensures desk { pass.new.table ≡ pass.old.table }
+    ensures asked { (old : View)
+        → MeetsFirst Intent.Read (RuleHolds S.Shape desk.now) a other old pass.old.view
+        → AsksForWord desk.now.seats Intent.Read a old halt.old result halt.new pass.new.view }
+{
+    match go_on(rt, desk, pass, a, Intent::Read, other) {
+        Got::Granted => Asked::Granted,
+        Got::Yield(cause) => {
+            *halt = Some(Halt::Yield(cause));
+            Asked::Yield
+        }
+    }
+}
+
+// Asks for the lock of word a, to read it, where it is not held so. It stands by itself, so that a read whose lock is held
+// is short enough to stand where it is called; and what comes once a seat was met stands by itself too, so that a lock
+// that is granted costs few instructions.
+#[inline(never)]
+fn ask_to_read<R: Wait, S: Shape>(
+    rt: &R,
+    desk: &Desk<S>,
+    pass: &mut Pass<S>,
+    a: u64,
+    halt: &mut Option<Halt>,
+) -> Asked
     requires desk { pass.old.table ≡ desk.now.table }
     requires phase { pass.old.view.phase ≡ Phase.Running }
     requires word { a < length pass.old.view.base }
     requires judged { pass.old.view.met ≡ [] }
+    requires unheld { ¬ HasReadGrant pass.old.view (lock_of_word a) }
     ensures desk { pass.new.table ≡ pass.old.table }
-    ensures asks { Asks a pass.old.view pass.new.view }
-    ensures reads { AsksToRead (lock_of_word a) pass.old.view pass.new.view }
-    ensures judged { pass.new.view.met ≡ [] }
-    ensures yields { (cause : Cause) → result ≡ Asked.Yield cause
-        → GaveWayTo desk.now.seats cause pass.old.view pass.new.view
-        × GainsOthers (number pass.old.view) pass.old.view.seen pass.new.view.seen
-        × (has_pair (lock_of_word a) cause.seat pass.new.view.meetings ≡ true) }
-    ensures goes_on { ((cause : Cause) → result ≢ Asked.Yield cause)
-        → IsGranted pass.new.view (lock_of_word a) × WentOn pass.old.view pass.new.view }
+    ensures asked { AsksForWord desk.now.seats Intent.Read a pass.old.view halt.old result halt.new
+        pass.new.view }
 {
-    let lock = lock_of(a);
-    if pass.has_read(lock) || pass.has_write(lock) {
+    if pass.has_write(lock_of(a)) {
         return Asked::Held;
     }
-    match want_read(rt, desk, pass, a) {
-        Got::Granted => Asked::Granted,
-        Got::Yield(cause) => Asked::Yield(cause),
+    match desk.share_new(pass, a) {
+        Shared::Granted => Asked::Granted,
+        Shared::Met(other) => go_on_to_read(rt, desk, pass, a, other, halt),
     }
 }
 
 // Asks for the lock of word a, to write it, where it is not held so.
 #[inline(never)]
-fn ask_to_write<R: Wait, S: Shape>(rt: &R, desk: &Desk<S>, pass: &mut Pass<S>, a: u64) -> Asked
+fn ask_to_write<R: Wait, S: Shape>(
+    rt: &R,
+    desk: &Desk<S>,
+    pass: &mut Pass<S>,
+    a: u64,
+    halt: &mut Option<Halt>,
+) -> Asked
     requires desk { pass.old.table ≡ desk.now.table }
     requires phase { pass.old.view.phase ≡ Phase.Running }
     requires word { a < length pass.old.view.base }
     requires judged { pass.old.view.met ≡ [] }
     ensures desk { pass.new.table ≡ pass.old.table }
-    ensures asks { Asks a pass.old.view pass.new.view }
-    ensures writes { AsksToWrite (lock_of_word a) pass.old.view pass.new.view }
-    ensures judged { pass.new.view.met ≡ [] }
-    ensures yields { (cause : Cause) → result ≡ Asked.Yield cause
-        → GaveWayTo desk.now.seats cause pass.old.view pass.new.view
-        × GainsOthers (number pass.old.view) pass.old.view.seen pass.new.view.seen
-        × (has_pair (lock_of_word a) cause.seat pass.new.view.meetings ≡ true) }
-    ensures goes_on { ((cause : Cause) → result ≢ Asked.Yield cause)
-        → HasWriteGrant pass.new.view (lock_of_word a) × WentOn pass.old.view pass.new.view }
+    ensures asked { AsksForWord desk.now.seats Intent.Write a pass.old.view halt.old result halt.new
+        pass.new.view }
 {
     if pass.has_write(lock_of(a)) {
         return Asked::Held;
     }
     match want_write(rt, desk, pass, a) {
         Got::Granted => Asked::Granted,
-        Got::Yield(cause) => Asked::Yield(cause),
+        Got::Yield(cause) => {
+            *halt = Some(Halt::Yield(cause));
+            Asked::Yield
+        }
     }
 }
 
@@ -257,7 +291,7 @@ impl<'a, S: Shape, G: Gate, R: Wait> Words for Attempt<'a, S, G, R> {
         if self.pass.has_read(lock_of(a)) {
             return Ok(self.desk.load(self.pass, a));
         }
-        match ask_to_read(self.rt, self.desk, self.pass, a) {
+        match ask_to_read(self.rt, self.desk, self.pass, a, &mut self.halt) {
             Asked::Held => {}
             Asked::Granted => {
                 let stage = Stage::Granted {
@@ -266,10 +300,7 @@ impl<'a, S: Shape, G: Gate, R: Wait> Words for Attempt<'a, S, G, R> {
                 };
                 self.gate.at(self.rt, self.caller.at(stage));
             }
-            Asked::Yield(cause) => {
-                self.halt = Some(Halt::Yield(cause));
-                return Err(Stop::Yield);
-            }
+            Asked::Yield => return Err(Stop::Yield),
         }
         Ok(self.desk.load(self.pass, a))
     }
@@ -297,7 +328,7 @@ impl<'a, S: Shape, G: Gate, R: Wait> Words for Attempt<'a, S, G, R> {
         ensures writes { AsksToWrite (lock_of_word a) self.old.pass.now.view
             self.new.pass.now.view }
     {
-        match ask_to_write(self.rt, self.desk, self.pass, a) {
+        match ask_to_write(self.rt, self.desk, self.pass, a, &mut self.halt) {
             Asked::Held => {}
             Asked::Granted => {
                 let stage = Stage::Granted {
@@ -306,10 +337,7 @@ impl<'a, S: Shape, G: Gate, R: Wait> Words for Attempt<'a, S, G, R> {
                 };
                 self.gate.at(self.rt, self.caller.at(stage));
             }
-            Asked::Yield(cause) => {
-                self.halt = Some(Halt::Yield(cause));
-                return Err(Stop::Yield);
-            }
+            Asked::Yield => return Err(Stop::Yield),
         }
         let old = self.desk.load(self.pass, a);
         if self.undo.note(a, old).is_err() {

@@ -8,7 +8,7 @@ ghost use Rattle.txn_commit.specs.Inner.Releasing.{Releases};
 use history_model::{Phase, Shape};
 use word_table::{Desk, Pass};
 
-// Gives up all claims, the least lock first. Each turn goes on from the lock of the turn before.
+// Gives up all claims, the least lock first. Each turn goes on from the word of bits that has the lock of the turn before.
 fn release_claims<S: Shape>(desk: &Desk<S>, pass: &mut Pass<S>)
     requires desk { pass.old.table ≡ desk.now.table }
     requires undone { (pass.old.view.undo ≡ []) ⊎ (pass.old.view.phase ≡ Phase.Releasing) }
@@ -20,7 +20,7 @@ fn release_claims<S: Shape>(desk: &Desk<S>, pass: &mut Pass<S>)
     let mut next = pass.next_claim();
     while let Some(lock) = next {
         desk.unclaim(pass, lock);
-        next = pass.next_claim_from(lock);
+        next = pass.next_claim_from(lock / 64 * 64);
     }
 }
 
@@ -37,7 +37,7 @@ fn release_bits<S: Shape>(desk: &Desk<S>, pass: &mut Pass<S>)
     let mut next = pass.next_bit();
     while let Some(lock) = next {
         desk.unshare(pass, lock);
-        next = pass.next_bit_from(lock);
+        next = pass.next_bit_from(lock / 64 * 64);
     }
 }
 

@@ -53,6 +53,29 @@ impl<S: Shape> Desk<S> {
         if pass.is_granted(lock_of(a)) {
             return Shared::Granted;
         }
+        self.share_new(pass, a)
+    }
+
+    /// Asks for the lock of word a, to read it, which is not held: all that `share` does then, with no test whether it is
+    /// held.
+    #[inline(always)]
+    pub fn share_new(&self, pass: &mut Pass<S>, a: u64) -> Shared
+        requires desk { pass.old.table ≡ self.now.table }
+        requires phase { pass.old.view.phase ≡ Phase.Running }
+        requires word { a < length pass.old.view.base }
+        requires free { ¬ IsGranted pass.old.view (lock_of_word a) }
+        ensures desk { pass.new.table ≡ pass.old.table }
+        ensures step { SharedBy (RuleHolds S.Shape self.now) pass.old.view a result pass.new.view }
+        ensures granted { result ≡ Shared.Granted → IsGranted pass.new.view (lock_of_word a) }
+        ensures met { (j : ℕ) → result ≡ Shared.Met j → MetOn (RuleHolds S.Shape self.now)
+            (load_writer_action (number pass.old.view) (lock_of_word a) a)
+            pass.old.view (with_bit (lock_of_word a) a pass.old.view) pass.new.view (lock_of_word a)
+            j }
+        ensures bit { (j : ℕ) → result ≡ Shared.Met j → HasBit pass.new.view (lock_of_word a) }
+        ensures moves { pass.new.view ≢ pass.old.view }
+        ensures call { SameCall pass.old.view pass.new.view }
+        ensures grants { GrantsStay pass.old.view pass.new.view }
+    {
         pass.make_seen(&self.table.shared, a);
         pass.look(&self.table.shared, a)
     }

@@ -18,13 +18,13 @@ use crate::step::Step;
 use crate::{bits, step};
 use history_model::{LOCKS, Phase, Shape, lock_of};
 
-// The phase once a lock was released.
-fn after_release(phase: Phase) -> Phase
-    ensures { result ≡ released_phase phase }
+// The phase once a lock was released. It is stored where it changes.
+fn leave_running(phase: &mut Phase)
+    ensures { phase.new ≡ released_phase phase.old }
 {
-    match phase {
-        Phase::Yielding => Phase::Yielding,
-        Phase::Idle | Phase::Running | Phase::Withdrawing | Phase::Releasing => Phase::Releasing,
+    match *phase {
+        Phase::Yielding | Phase::Releasing => {}
+        Phase::Idle | Phase::Running | Phase::Withdrawing => *phase = Phase::Releasing,
     }
 }
 
@@ -210,8 +210,7 @@ impl<S: Shape> Pass<S> {
         let nobody = 0;
         bits::lower(&mut self.locks.claims, k);
         bits::forget_if(&mut self.locks.scans, k, true);
-        let after_unclaim = after_release(self.call.phase);
-        self.call.phase = after_unclaim;
+        leave_running(&mut self.call.phase);
         step::store(
             table,
             &mut self.seat,
@@ -240,8 +239,7 @@ impl<S: Shape> Pass<S> {
         let new = bits::lowered(&self.locks.bits, k);
         bits::lower(&mut self.locks.bits, k);
         bits::lower(&mut self.locks.reads, k);
-        let after_unshare = after_release(self.call.phase);
-        self.call.phase = after_unshare;
+        leave_running(&mut self.call.phase);
         step::store(
             table,
             &mut self.seat,

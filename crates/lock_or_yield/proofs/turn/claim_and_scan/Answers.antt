@@ -18,7 +18,7 @@ pub returns-in-Met-clause-asks : goal.returns-in-Met-clause-asks
 returns-in-Met-clause-asks g c =
     let left = claim_leaves (DeskHolds g.S.Shape.word_count g.S.Shape.good c.args.desk.now) c.args.pass.now.view
     c.args.a (claimed.Met c.in-Met.seat) c.claim.new.pass.view c.in-Met.ensures.step in
-    record { call = c.in-Met.ensures.call; writes = left.writes; asked = left.asked; grants = c.in-Met.ensures.grants }
+    record { call = c.in-Met.ensures.call; locks = left.writes; asked = left.asked; grants = c.in-Met.ensures.grants }
 
 pub returns-in-Met-clause-met : goal.returns-in-Met-clause-met
 returns-in-Met-clause-met g c = claim_meets (DeskHolds g.S.Shape.word_count g.S.Shape.good c.args.desk.now) c.args.a

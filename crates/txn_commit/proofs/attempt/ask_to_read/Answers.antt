@@ -1,25 +1,44 @@
-use Rattle.std.proofs.Common.{◌≡◌, true, refl, subst}
-use Rattle.history_model.specs.declared.event.Cause.{Cause}
-use Rattle.history_model.specs.Fitting.{IsGood}
-use Rattle.history_model.specs.Locks.{lock_of_word}
-use Rattle.history_model.specs.Sets.{has_pair}
-use Rattle.history_model.specs.Views.{number}
-use Rattle.txn_commit.specs.Attempts.{GaveWayTo}
-use Rattle.txn_commit.specs.Transactions.{GainsOthers}
-use Rattle.txn_commit.proofs.Attempts.{gave_way_to, saw_others, same_cause}
-use Rattle.txn_commit.proofs.Footprints.{met_cause}
+use Rattle.std.proofs.Common.{◌<◌, ℕ, inr, ⊎_elim, length, refl, sym, ap, ◌∙◌, subst}
+use Rattle.history_model.specs.declared.view.View.{View}
+use Rattle.history_model.specs.Views.{HasWriteGrant}
+use Rattle.word_table.specs.Desks.{RuleHolds}
+use Rattle.lock_or_yield.specs.declared.turn.Intent.TheVariants as intent
+use Rattle.lock_or_yield.specs.Intents.{MeetsFirst}
+use Rattle.lock_or_yield.proofs.Turning.{met_alone, met_seat, share_clear, share_meets}
+use Rattle.lock_or_yield.proofs.Wanting.{since_clear}
+use Rattle.txn_commit.proofs.Asking.{asked_granted, asked_held}
 use Rattle.txn_commit.proofs.attempt.ask_to_read.Goals as goal
 
-pub returns-in-Yield-clause-yields : goal.returns-in-Yield-clause-yields
-returns-in-Yield-clause-yields g c cause e = let old = c.args.pass.now.view in let new = c.want_read.new.pass.view in let own = c.in-Yield.cause in
-    let way = c.in-Yield.ensures.yields own refl in
-    let good = IsGood (g.S.Shape.word_count c.args.desk.now.shape) (g.S.Shape.good c.args.desk.now.shape) in
-    subst (λ (x : Cause). GaveWayTo c.args.desk.now.seats x old new × GainsOthers (number old) old.seen new.seen
-    × (has_pair (lock_of_word c.args.a) x.seat new.meetings ≡ true)) (same_cause own cause e) (
-      gave_way_to good c.args.desk.now.seats c.args.desk.now.base _ own old new way.1 (c.in-Yield.ensures.bounded own refl),
-      saw_others good c.args.desk.now.seats c.args.desk.now.base _ own old new way.1,
-      met_cause good c.args.desk.now.seats c.args.desk.now.base (lock_of_word c.args.a) way.0 own old new way.1,
-    )
+pub returns-then-has_write-clause-asked : goal.returns-then-has_write-clause-asked
+returns-then-has_write-clause-asked g c = asked_held c.args.desk.now.seats intent.Read c.args.a c.args.pass.now.view c.args.halt.now c.requires.judged
+    (inr (subst (λ (k : ℕ). HasWriteGrant c.args.pass.now.view k) c.lock_of.ensures.lock (c.has_write.ensures.0 c.if-has_write.true)))
 
-pub returns-in-Yield-clause-goes_on : goal.returns-in-Yield-clause-goes_on
-returns-in-Yield-clause-goes_on g c none = absurd (none c.in-Yield.cause refl)
+pub share_new-requires-clause-free : goal.share_new-requires-clause-free
+share_new-requires-clause-free g c = ⊎_elim c.requires.unheld
+    (λ held. let found = c.has_write.ensures.1 (subst (λ (k : ℕ). HasWriteGrant c.args.pass.now.view k) (sym c.lock_of.ensures.lock) held) in
+    let none = c.if-has_write.false in cc)
+
+pub go_on_to_read-requires : goal.go_on_to_read-requires
+go_on_to_read-requires g c = let h = c.in-Met.ensures in let old = c.args.pass.now.view in let met = c.share_new.new.pass.view in
+    let sound = RuleHolds g.S.Shape c.args.desk.now in let j = c.in-Met.other in
+    let first : MeetsFirst intent.Read sound c.args.a j old met =
+    record { judged = c.requires.judged; once = share_meets sound c.args.a j old met h.step h.call h.grants (h.met j refl) } in record {
+      desk = h.desk ∙ c.requires.desk;
+      phase = ap (λ (v : View). v.phase) h.call ∙ c.requires.phase;
+      word = subst (λ (n : ℕ). c.args.a < n) (sym (ap (λ (v : View). length v.base) h.call)) c.requires.word;
+      other = met_seat intent.Read sound c.args.a j old met first;
+      met = met_alone intent.Read sound c.args.a j old met first;
+    }
+
+pub returns-in-Granted-clause-asked : goal.returns-in-Granted-clause-asked
+returns-in-Granted-clause-asked g c = let h = c.in-Granted.ensures in let old = c.args.pass.now.view in let new = c.share_new.new.pass.view in
+    asked_granted g.S.Shape c.args.desk.now intent.Read c.args.a old new c.args.halt.now
+    (since_clear g.S.Shape c.args.desk.now intent.Read c.args.a old new c.requires.judged
+    (share_clear (RuleHolds g.S.Shape c.args.desk.now) c.args.a old new h.step h.call h.grants (h.granted refl)))
+
+pub returns-in-Met-clause-asked : goal.returns-in-Met-clause-asked
+returns-in-Met-clause-asked g c = let h = c.in-Met.ensures in let old = c.args.pass.now.view in let j = c.in-Met.other in
+    c.go_on_to_read.ensures.asked old (record {
+      judged = c.requires.judged;
+      once = share_meets (RuleHolds g.S.Shape c.args.desk.now) c.args.a j old c.share_new.new.pass.view h.step h.call h.grants (h.met j refl);
+    })

@@ -1,25 +1,19 @@
-use Rattle.std.proofs.Common.{◌≡◌, true, refl, subst}
-use Rattle.history_model.specs.declared.event.Cause.{Cause}
-use Rattle.history_model.specs.Fitting.{IsGood}
-use Rattle.history_model.specs.Locks.{lock_of_word}
-use Rattle.history_model.specs.Sets.{has_pair}
-use Rattle.history_model.specs.Views.{number}
-use Rattle.txn_commit.specs.Attempts.{GaveWayTo}
-use Rattle.txn_commit.specs.Transactions.{GainsOthers}
-use Rattle.txn_commit.proofs.Attempts.{gave_way_to, saw_others, same_cause}
-use Rattle.txn_commit.proofs.Footprints.{met_cause}
+use Rattle.std.proofs.Common.{ℕ, subst}
+use Rattle.history_model.specs.Views.{HasWriteGrant}
+use Rattle.lock_or_yield.specs.declared.turn.Intent.TheVariants as intent
+use Rattle.txn_commit.proofs.Asking.{asked_granted, asked_held, asked_yields}
 use Rattle.txn_commit.proofs.attempt.ask_to_write.Goals as goal
 
-pub returns-in-Yield-clause-yields : goal.returns-in-Yield-clause-yields
-returns-in-Yield-clause-yields g c cause e = let old = c.args.pass.now.view in let new = c.want_write.new.pass.view in let own = c.in-Yield.cause in
-    let way = c.in-Yield.ensures.yields own refl in
-    let good = IsGood (g.S.Shape.word_count c.args.desk.now.shape) (g.S.Shape.good c.args.desk.now.shape) in
-    subst (λ (x : Cause). GaveWayTo c.args.desk.now.seats x old new × GainsOthers (number old) old.seen new.seen
-    × (has_pair (lock_of_word c.args.a) x.seat new.meetings ≡ true)) (same_cause own cause e) (
-      gave_way_to good c.args.desk.now.seats c.args.desk.now.base _ own old new way.1 (c.in-Yield.ensures.bounded own refl),
-      saw_others good c.args.desk.now.seats c.args.desk.now.base _ own old new way.1,
-      met_cause good c.args.desk.now.seats c.args.desk.now.base (lock_of_word c.args.a) way.0 own old new way.1,
-    )
+pub returns-then-has_write-clause-asked : goal.returns-then-has_write-clause-asked
+returns-then-has_write-clause-asked g c = asked_held c.args.desk.now.seats intent.Write c.args.a c.args.pass.now.view c.args.halt.now c.requires.judged
+    (subst (λ (k : ℕ). HasWriteGrant c.args.pass.now.view k) c.lock_of.ensures.lock (c.has_write.ensures.0 c.if-has_write.true))
 
-pub returns-in-Yield-clause-goes_on : goal.returns-in-Yield-clause-goes_on
-returns-in-Yield-clause-goes_on g c none = absurd (none c.in-Yield.cause refl)
+pub returns-in-Granted-clause-asked : goal.returns-in-Granted-clause-asked
+returns-in-Granted-clause-asked g c = let h = c.in-Granted.ensures in
+    asked_granted _ _ intent.Write c.args.a c.args.pass.now.view c.want_write.new.pass.view c.args.halt.now
+    (record { asks = h.asks; locks = h.writes; judged = h.judged; answer = h.answer })
+
+pub returns-in-Yield-clause-asked : goal.returns-in-Yield-clause-asked
+returns-in-Yield-clause-asked g c = let h = c.in-Yield.ensures in
+    asked_yields _ _ intent.Write c.args.a c.args.pass.now.view c.want_write.new.pass.view c.args.halt.now c.in-Yield.cause
+    (record { asks = h.asks; locks = h.writes; judged = h.judged; answer = h.answer })

@@ -1,6 +1,6 @@
 use Rattle.std.proofs.Common.{◌∙◌}
 use Rattle.history_model.specs.Views.{number, HasBit}
-use Rattle.txn_commit.proofs.Releasing.{at_next, near_next, least_from, least_below, claims_stay, releases_more, bit_cleared, bits_without, still_undone}
+use Rattle.txn_commit.proofs.Releasing.{at_next, near_next, fewer_left, least_from_word, least_below, claims_stay, releases_more, bit_cleared, bits_without, still_undone}
 use Rattle.txn_commit.proofs.Releasing.{still_begun}
 use Rattle.txn_commit.proofs.release.release_bits.Goals as goal
 
@@ -19,8 +19,16 @@ loop-next-preserved g c = let inv = c.loop-next.invariant in let old = c.loop-ne
       undone = still_undone old new step inv.undone;
       begun = still_begun old new step inv.begun;
       near = c.next_bit_from-next.ensures.lock;
-      least = least_from (HasBit new) c.in-Some.lock c.next_bit_from-next.result
+      least = least_from_word (HasBit new) c.in-Some.lock c.next_bit_from-next.result
           (λ k lt h. least_below (HasBit old) c.loop-next.next c.in-Some.lock c.in-Some.is inv.least k lt
           (bits_without old new (number old) c.in-Some.lock k c.unshare.ensures.step h))
           c.next_bit_from-next.ensures.least;
     }
+
+pub loop-next-smaller : goal.loop-next-smaller
+loop-next-smaller g c = let inv = c.loop-next.invariant in let old = c.loop-next.pass.view in let new = c.unshare.new.pass.view in
+    fewer_left (HasBit new) c.in-Some.lock c.loop-next.next c.next_bit_from-next.result c.in-Some.is
+    (near_next c.loop-next.next c.in-Some.lock c.in-Some.is inv.near) c.unshare.ensures.gone.0
+    (λ k lt h. least_below (HasBit old) c.loop-next.next c.in-Some.lock c.in-Some.is inv.least k lt
+    (bits_without old new (number old) c.in-Some.lock k c.unshare.ensures.step h))
+    c.next_bit_from-next.ensures.least c.next_bit_from-next.ensures.lock

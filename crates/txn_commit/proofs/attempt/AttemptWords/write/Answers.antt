@@ -6,42 +6,26 @@ use Rattle.history_model.specs.Traces.{Trace}
 use Rattle.history_model.specs.Views.{number, HasWriteGrant}
 use Rattle.values_rule.specs.Steps.{store_value_action}
 use Rattle.undo_log.specs.Room.{Room}
-use Rattle.lock_or_yield.specs.Asking.{Asks, AsksToWrite, GainsAtMost}
+use Rattle.lock_or_yield.specs.declared.turn.Intent.TheVariants as intent
+use Rattle.lock_or_yield.specs.Asking.{AsksToWrite, GainsAtMost}
 use Rattle.txn_commit.specs.declared.attempt.Halt.{Halt}
 use Rattle.txn_commit.specs.declared.attempt.Halt.TheVariants as halt
-use Rattle.txn_commit.specs.Attempts.{IsSoundAttempt}
+use Rattle.txn_commit.specs.Attempts.{IsSoundAttempt, stop_of}
 use Rattle.txn_commit.proofs.Attempts.{asks_table, loaded_last, not_halted, of_refused, of_made, refused_when_full, yields_sound, held_sound, memory_sound}
 use Rattle.txn_commit.proofs.Attempts.{store_sound, held_not_yield, granted_not_yield}
+use Rattle.txn_commit.proofs.Asking.{asks_trace, load_asked, load_locks, load_trace}
 use Rattle.txn_commit.proofs.attempt.AttemptWords.write.Goals.{in-Held, in-Granted}
 use Rattle.txn_commit.proofs.attempt.AttemptWords.write.Goals as goal
 
--- what asking for a lock, a load after that, and a store after that leave of the trace and of the words asked for
-asks_trace : (a : ℕ) (first asked : View) → Asks a first asked → asked.trace ≡ first.trace
-asks_trace a first asked asks = ap (λ (v : View). v.trace) asks.rest
-
-load_trace : (a was : ℕ) (first asked loaded : View) → Asks a first asked → loaded.trace ≡ asked.trace ++ Read a was ∷ []
-    → loaded.trace ≡ first.trace ++ Read a was ∷ []
-load_trace a was first asked loaded asks last = last ∙ ap (λ (t : Trace). t ++ Read a was ∷ []) (asks_trace a first asked asks)
-
+-- what a store after a load leaves of the trace, of the words asked for and of locks
 store_trace : (a was x : ℕ) (first loaded stored : View) → loaded.trace ≡ first.trace ++ Read a was ∷ []
     → stored ≡ (store_value_action (number loaded) a x loaded).view [] 0 → stored.trace ≡ first.trace ++ Read a was ∷ Write a x ∷ []
 store_trace a was x first loaded stored read step =
     ap (λ (v : View). v.trace) step ∙ ap (λ (t : Trace). t ++ Write a x ∷ []) read ∙ append_assoc first.trace (Read a was ∷ []) (Write a x ∷ [])
 
-load_asked : (a was : ℕ) (first asked loaded : View) → Asks a first asked → loaded ≡ record asked { trace = asked.trace ++ Read a was ∷ [] }
-    → GainsAtMost a first.asked loaded.asked
-load_asked a was first asked loaded asks event = subst (λ (v : View). GainsAtMost a first.asked v.asked) (sym event) asks.asked
-
 store_asked : (a x : ℕ) (first loaded stored : View) → GainsAtMost a first.asked loaded.asked
     → stored ≡ (store_value_action (number loaded) a x loaded).view [] 0 → GainsAtMost a first.asked stored.asked
 store_asked a x first loaded stored asked step = subst (λ (v : View). GainsAtMost a first.asked v.asked) (sym step) asked
-
--- and of locks
-load_writes : (a was : ℕ) (first asked loaded : View) → AsksToWrite (lock_of_word a) first asked
-    → loaded ≡ record asked { trace = asked.trace ++ Read a was ∷ [] }
-    → AsksToWrite (lock_of_word a) first loaded
-load_writes a was first asked loaded writes event = subst (λ (v : View). AsksToWrite (lock_of_word a) first v) (sym event)
-    (record { bits = writes.bits; reads = writes.reads; claims = writes.claims; scans = writes.scans })
 
 store_writes : (a x : ℕ) (first loaded stored : View) → AsksToWrite (lock_of_word a) first loaded
     → stored ≡ (store_value_action (number loaded) a x loaded).view [] 0 → AsksToWrite (lock_of_word a) first stored
@@ -53,21 +37,23 @@ returns-in-Yield g c =
     let none = not_halted c.args.self.now.halt c.requires.going in
     let sound = subst (λ (h : Option Halt). IsSoundAttempt g.S.Shape.word_count g.S.Shape.good c.args.self.now.desk.now
     c.args.self.now.began.value c.args.self.now.pass.now c.args.self.now.undo h) none c.requires.sound in
-    let asks = c.in-Yield.ensures.asks in
-    let way = c.in-Yield.ensures.yields c.in-Yield.cause refl in
+    let asks = c.in-Yield.ensures.asked.asks in
+    let way = c.in-Yield.ensures.asked.yields refl in
     record {
       value = search rules;
       begins = ([], asks_trace c.args.a c.args.self.now.pass.now.view c.ask_to_write.new.pass.view asks ∙ sym (append-nil c.args.self.now.pass.now.view.trace));
-      stops = refl;
+      stops = ap stop_of way.1;
       shape = refl;
       origin = refl;
       sound =
-          yields_sound g.S.Shape.word_count g.S.Shape.good c.args.self.now.desk.now c.args.self.now.began.value c.args.a
-          c.args.self.now.pass.now c.ask_to_write.new.pass c.args.self.now.undo c.in-Yield.cause
-          sound c.in-Yield.ensures.desk asks c.in-Yield.ensures.judged way.0 way.1 way.2;
+          subst (λ (h : Option Halt). IsSoundAttempt g.S.Shape.word_count g.S.Shape.good c.args.self.now.desk.now
+          c.args.self.now.began.value c.ask_to_write.new.pass c.args.self.now.undo h) (sym way.1)
+          (yields_sound g.S.Shape.word_count g.S.Shape.good c.args.self.now.desk.now c.args.self.now.began.value c.args.a
+          c.args.self.now.pass.now c.ask_to_write.new.pass c.args.self.now.undo way.0
+          sound c.in-Yield.ensures.desk asks c.in-Yield.ensures.asked.judged way.2 way.3 way.4);
       memory = λ room e. cc;
       asked = asks.asked;
-      writes = c.in-Yield.ensures.writes;
+      writes = c.in-Yield.ensures.asked.locks;
     }
 
 pub load-old-requires : goal.load-old-requires
@@ -75,14 +61,14 @@ load-old-requires g c =
     let none = not_halted c.args.self.now.halt c.requires.going in
     let sound = subst (λ (h : Option Halt). IsSoundAttempt g.S.Shape.word_count g.S.Shape.good c.args.self.now.desk.now
     c.args.self.now.began.value c.args.self.now.pass.now c.args.self.now.undo h) none c.requires.sound in
-    let goes_on = c.ask_to_write.ensures.goes_on (elim c.match-ask_to_write.branch [
+    let goes_on = c.ask_to_write.ensures.asked.goes_on (elim c.match-ask_to_write.branch [
       | in-Held w ↦
-          λ cause e. held_not_yield cause (sym w.in-Held.is ∙ e)
-      | in-Granted w ↦ λ cause e. granted_not_yield cause (sym w.in-Granted.is ∙ e)
+          λ e. held_not_yield (sym w.in-Held.is ∙ e)
+      | in-Granted w ↦ λ e. granted_not_yield (sym w.in-Granted.is ∙ e)
     ]) in
     let asked = asks_table g.S.Shape.word_count g.S.Shape.good c.args.self.now.desk.now c.args.self.now.began.value
     c.args.a c.args.self.now.pass.now c.ask_to_write.new.pass c.args.self.now.undo
-    sound c.ask_to_write.ensures.desk c.ask_to_write.ensures.asks goes_on.1 in
+    sound c.ask_to_write.ensures.desk c.ask_to_write.ensures.asked.asks goes_on.1 in
     record {
       desk = asked.0;
       phase = asked.1;
@@ -92,15 +78,15 @@ load-old-requires g c =
 
 pub store-requires : goal.store-requires
 store-requires g c =
-    let goes_on = c.ask_to_write.ensures.goes_on (elim c.match-ask_to_write.branch [
+    let goes_on = c.ask_to_write.ensures.asked.goes_on (elim c.match-ask_to_write.branch [
       | in-Held w ↦
-          λ cause e. held_not_yield cause (sym w.in-Held.is ∙ e)
-      | in-Granted w ↦ λ cause e. granted_not_yield cause (sym w.in-Granted.is ∙ e)
+          λ e. held_not_yield (sym w.in-Held.is ∙ e)
+      | in-Granted w ↦ λ e. granted_not_yield (sym w.in-Granted.is ∙ e)
     ]) in
     let held = held_sound g.S.Shape.word_count g.S.Shape.good c.args.self.now.desk.now c.args.self.now.began.value
     c.args.a c.load-old.result c.args.self.now.pass.now c.ask_to_write.new.pass c.load-old.new.pass c.args.self.now.undo c.args.self.now.halt
-    c.requires.going c.requires.sound c.ask_to_write.ensures.desk c.ask_to_write.ensures.asks
-    c.ask_to_write.ensures.judged goes_on.1 c.load-old.ensures.desk c.load-old.ensures.event c.load-old.ensures.fits in
+    c.requires.going c.requires.sound c.ask_to_write.ensures.desk c.ask_to_write.ensures.asked.asks
+    c.ask_to_write.ensures.asked.judged goes_on.1 c.load-old.ensures.desk c.load-old.ensures.event c.load-old.ensures.fits in
     let last = loaded_last c.args.a c.load-old.result c.ask_to_write.new.pass.view c.load-old.new.pass.view c.load-old.ensures.event in
     record {
       desk = held.table;
@@ -112,30 +98,30 @@ store-requires g c =
 
 pub returns : goal.returns
 returns g c =
-    let goes_on = c.ask_to_write.ensures.goes_on (elim c.match-ask_to_write.branch [
+    let goes_on = c.ask_to_write.ensures.asked.goes_on (elim c.match-ask_to_write.branch [
       | in-Held w ↦
-          λ cause e. held_not_yield cause (sym w.in-Held.is ∙ e)
-      | in-Granted w ↦ λ cause e. granted_not_yield cause (sym w.in-Granted.is ∙ e)
+          λ e. held_not_yield (sym w.in-Held.is ∙ e)
+      | in-Granted w ↦ λ e. granted_not_yield (sym w.in-Granted.is ∙ e)
     ]) in
     let held = held_sound g.S.Shape.word_count g.S.Shape.good c.args.self.now.desk.now c.args.self.now.began.value
     c.args.a c.load-old.result c.args.self.now.pass.now c.ask_to_write.new.pass c.load-old.new.pass c.args.self.now.undo c.args.self.now.halt
-    c.requires.going c.requires.sound c.ask_to_write.ensures.desk c.ask_to_write.ensures.asks
-    c.ask_to_write.ensures.judged goes_on.1 c.load-old.ensures.desk c.load-old.ensures.event c.load-old.ensures.fits in
+    c.requires.going c.requires.sound c.ask_to_write.ensures.desk c.ask_to_write.ensures.asked.asks
+    c.ask_to_write.ensures.asked.judged goes_on.1 c.load-old.ensures.desk c.load-old.ensures.event c.load-old.ensures.fits in
     let last = loaded_last c.args.a c.load-old.result c.ask_to_write.new.pass.view c.load-old.new.pass.view c.load-old.ensures.event in
-    let asks = c.ask_to_write.ensures.asks in
-    let read = load_trace c.args.a c.load-old.result c.args.self.now.pass.now.view c.ask_to_write.new.pass.view c.load-old.new.pass.view asks last in
+    let asks = c.ask_to_write.ensures.asked.asks in
+    let read = load_trace c.args.a c.load-old.result c.args.self.now.pass.now.view c.ask_to_write.new.pass.view c.load-old.new.pass.view asks c.load-old.ensures.event in
     let written = store_trace c.args.a c.load-old.result c.args.v c.args.self.now.pass.now.view c.load-old.new.pass.view
     c.store.new.pass.view read c.store.ensures.step in
     let made = sym c.if-is_err.ensures.value in
     record {
       value = inr (c.load-old.result, written);
       begins = (Read c.args.a c.load-old.result ∷ Write c.args.a c.args.v ∷ [], written);
-      stops = c.requires.going;
+      stops = ap stop_of goes_on.2 ∙ c.requires.going;
       shape = refl;
       origin = refl;
       sound =
           subst (λ (h : Option Halt). IsSoundAttempt g.S.Shape.word_count g.S.Shape.good c.args.self.now.desk.now
-          c.args.self.now.began.value c.store.new.pass c.note.new.self h) (sym (not_halted c.args.self.now.halt c.requires.going))
+          c.args.self.now.began.value c.store.new.pass c.note.new.self h) (sym (goes_on.2 ∙ not_halted c.args.self.now.halt c.requires.going))
           (store_sound g.S.Shape.word_count g.S.Shape.good c.args.self.now.desk.now c.args.self.now.began.value c.args.a
           c.args.v c.load-old.result c.ask_to_write.new.pass.view.trace c.load-old.new.pass c.store.new.pass c.args.self.now.undo c.note.new.self
           held c.requires.within (subst (λ (v : View). HasWriteGrant v (lock_of_word c.args.a))
@@ -149,21 +135,21 @@ returns g c =
           c.load-old.new.pass.view asks c.load-old.ensures.event) c.store.ensures.step;
       writes =
           store_writes c.args.a c.args.v c.args.self.now.pass.now.view c.load-old.new.pass.view c.store.new.pass.view
-          (load_writes c.args.a c.load-old.result c.args.self.now.pass.now.view c.ask_to_write.new.pass.view
-          c.load-old.new.pass.view c.ask_to_write.ensures.writes c.load-old.ensures.event) c.store.ensures.step;
+          (load_locks intent.Write c.args.a c.load-old.result c.args.self.now.pass.now.view c.ask_to_write.new.pass.view
+          c.load-old.new.pass.view c.ask_to_write.ensures.asked.locks c.load-old.ensures.event) c.store.ensures.step;
     }
 
 pub returns-then-is_err-clause-sound : goal.returns-then-is_err-clause-sound
 returns-then-is_err-clause-sound g c =
-    let goes_on = c.ask_to_write.ensures.goes_on (elim c.match-ask_to_write.branch [
+    let goes_on = c.ask_to_write.ensures.asked.goes_on (elim c.match-ask_to_write.branch [
       | in-Held w ↦
-          λ cause e. held_not_yield cause (sym w.in-Held.is ∙ e)
-      | in-Granted w ↦ λ cause e. granted_not_yield cause (sym w.in-Granted.is ∙ e)
+          λ e. held_not_yield (sym w.in-Held.is ∙ e)
+      | in-Granted w ↦ λ e. granted_not_yield (sym w.in-Granted.is ∙ e)
     ]) in
     let held = held_sound g.S.Shape.word_count g.S.Shape.good c.args.self.now.desk.now c.args.self.now.began.value
     c.args.a c.load-old.result c.args.self.now.pass.now c.ask_to_write.new.pass c.load-old.new.pass c.args.self.now.undo c.args.self.now.halt
-    c.requires.going c.requires.sound c.ask_to_write.ensures.desk c.ask_to_write.ensures.asks
-    c.ask_to_write.ensures.judged goes_on.1 c.load-old.ensures.desk c.load-old.ensures.event c.load-old.ensures.fits in
+    c.requires.going c.requires.sound c.ask_to_write.ensures.desk c.ask_to_write.ensures.asked.asks
+    c.ask_to_write.ensures.asked.judged goes_on.1 c.load-old.ensures.desk c.load-old.ensures.event c.load-old.ensures.fits in
     let refused = sym c.if-is_err.ensures.value in
     let full : c.args.self.now.undo.spare ≡ 0 = refused_when_full c.note.result c.args.self.now.undo.spare refused c.note.ensures.succeeds in
     let room = c.requires.sound.room in
@@ -174,5 +160,5 @@ returns-then-is_err-clause-sound g c =
 
 pub returns-then-is_err-clause-writes : goal.returns-then-is_err-clause-writes
 returns-then-is_err-clause-writes g c =
-    load_writes c.args.a c.load-old.result c.args.self.now.pass.now.view c.ask_to_write.new.pass.view
-    c.load-old.new.pass.view c.ask_to_write.ensures.writes c.load-old.ensures.event
+    load_locks intent.Write c.args.a c.load-old.result c.args.self.now.pass.now.view c.ask_to_write.new.pass.view
+    c.load-old.new.pass.view c.ask_to_write.ensures.asked.locks c.load-old.ensures.event

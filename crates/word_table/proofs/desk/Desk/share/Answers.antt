@@ -1,54 +1,14 @@
-use Rattle.std.proofs.Common.{inr}
 use Rattle.history_model.specs.Locks.{lock_of_word}
-use Rattle.history_model.specs.Views.{number}
-use Rattle.word_table.specs.Calls.{MakesSeen, Looked}
-use Rattle.word_table.specs.Desks.{DeskHolds}
-use Rattle.word_table.proofs.Answering.{not_granted, one_before, asks_shared, share_granted, share_met, share_bit}
-use Rattle.word_table.proofs.Taken.{of_desk}
-use Rattle.word_table.proofs.Staying.{share_leaves, share_unchanged}
+use Rattle.word_table.proofs.Answering.{not_granted}
 use Rattle.word_table.proofs.desk.Desk.share.Goals as goal
 
--- the lock was not held, and both steps were taken
-pub returns-clause-step : goal.returns-clause-step
-returns-clause-step g c = inr (
-  not_granted c.args.pass.now.view (lock_of_word c.args.a) c.lock_of.result c.is_granted.result c.lock_of.ensures.lock
-      c.is_granted.ensures.1 c.if-is_granted.false,
-  asks_shared (DeskHolds g.S.Shape.word_count g.S.Shape.good c.args.self.now) c.args.pass.now.view
-      c.make_seen.new.self.view c.look.new.self.view c.args.a c.look.result
-      (of_desk g.S.Shape.word_count g.S.Shape.good _ c.args.self.now
-      (λ sound. MakesSeen sound c.args.pass.now.view c.args.a) c.self.view_is c.make_seen.ensures.seen)
-      c.make_seen.ensures.view
-      (of_desk g.S.Shape.word_count g.S.Shape.good _ c.args.self.now
-      (λ sound. Looked sound c.make_seen.new.self.view c.args.a c.look.result c.look.new.self.view) c.self.view_is c.look.ensures.looked),
-)
-
-pub returns-clause-granted : goal.returns-clause-granted
-returns-clause-granted g c = share_granted (DeskHolds g.S.Shape.word_count g.S.Shape.good c.args.self.now)
-    c.args.pass.now.view c.args.a c.look.result c.look.new.self.view (returns-clause-step g c)
-
-pub returns-clause-met : goal.returns-clause-met
-returns-clause-met g c = share_met (DeskHolds g.S.Shape.word_count g.S.Shape.good c.args.self.now) c.args.self.now.seats
-    c.args.self.now.base (λ ws vs h. h.locks) c.args.pass.now.view c.args.a (number c.args.pass.now.view) c.look.result
-    c.look.new.self.view (one_before c.args.pass.now.view c.make_seen.new.self.view c.args.a c.make_seen.ensures.view
-    c.look.ensures.one) (returns-clause-step g c)
-
-pub returns-clause-bit : goal.returns-clause-bit
-returns-clause-bit g c = share_bit (DeskHolds g.S.Shape.word_count g.S.Shape.good c.args.self.now) c.args.pass.now.view
-    c.args.a c.look.result c.look.new.self.view (returns-clause-step g c)
+pub share_new-requires-clause-free : goal.share_new-requires-clause-free
+share_new-requires-clause-free g c = not_granted c.args.pass.now.view (lock_of_word c.args.a) c.lock_of.result c.is_granted.result
+    c.lock_of.ensures.lock c.is_granted.ensures.1 c.if-is_granted.false
 
 pub returns-clause-held : goal.returns-clause-held
-returns-clause-held g c held =
-    absurd (not_granted c.args.pass.now.view (lock_of_word c.args.a) c.lock_of.result c.is_granted.result
+returns-clause-held g c held = absurd (not_granted c.args.pass.now.view (lock_of_word c.args.a) c.lock_of.result c.is_granted.result
     c.lock_of.ensures.lock c.is_granted.ensures.1 c.if-is_granted.false held)
 
-pub returns-clause-call : goal.returns-clause-call
-returns-clause-call g c = (share_leaves (DeskHolds g.S.Shape.word_count g.S.Shape.good c.args.self.now)
-    c.args.pass.now.view c.args.a c.look.result c.look.new.self.view (returns-clause-step g c)).call
-
-pub returns-clause-grants : goal.returns-clause-grants
-returns-clause-grants g c = (share_leaves (DeskHolds g.S.Shape.word_count g.S.Shape.good c.args.self.now)
-    c.args.pass.now.view c.args.a c.look.result c.look.new.self.view (returns-clause-step g c)).grants
-
 pub returns-clause-held_if : goal.returns-clause-held_if
-returns-clause-held_if g c = share_unchanged (DeskHolds g.S.Shape.word_count g.S.Shape.good c.args.self.now)
-    c.args.pass.now.view c.args.a c.look.result c.look.new.self.view (returns-clause-step g c)
+returns-clause-held_if g c same = absurd (c.share_new.ensures.moves same)

@@ -12,14 +12,14 @@ use Rattle.word_table.proofs.pass.Pass.release_writer.Goals as goal
 pub invariant_of-self : goal.invariant_of-self
 invariant_of-self g c = let i = c.self.invariant in let p = c.self.inside in let l = i.locks_are in let v : View =
     (release_writer_action p.call.who c.args.k p.seat.me.0).view [] 0 in
-    copy_stored i c.after_release-after_unclaim.result (record p.locks {
+    copy_stored i c.leave_running.new.phase (record p.locks {
       claims = c.lower.new.row;
       scans =
           c.forget_if.new.masks;
     }) c.store.new.seat.table_id c.store.new.seat.me v c.store.ensures.seat
     c.store.ensures.view
     (steady p.seat.me.0 v refl refl refl refl refl refl refl) (ap (λ (x : Phase). released_phase x) i.call_is.phase_is
-    ∙ sym c.after_release-after_unclaim.ensures)
+    ∙ sym c.leave_running.ensures)
     (lock_copy (record p.locks { claims = c.lower.new.row; scans = c.forget_if.new.masks }) v l.bits_are l.reads_are
     (c.lower.ensures p.seat.me.0.claims l.claims_are) (c.forget_if.ensures p.seat.me.0.scans l.scans_are))
     (busy v (releases_on p.seat.me.0.phase (λ e. c.requires.begun (sym (ap (λ (x : PassView). x.view.phase) c.self.view_is) ∙ e))))
