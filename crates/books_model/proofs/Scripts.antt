@@ -2,7 +2,7 @@
 pub mod Runs
 -- what holds of a step, and of the run of a script, wherever it is done
 pub mod Outcomes
--- what holds of the operations of both branches holds of those of each
+-- scripts by their operations: those of each branch, and of one more part
 pub mod Branches
 -- what operations do to all cash, and to all that is held of an instrument
 pub mod CashLaws

@@ -119,8 +119,12 @@ deposits_none first (o ∷ ops) each second =
 
 pub deposits_most : (first : Bool) (script : List Part) → IsMadeScript first script → deposits_of script ≤ 300
 deposits_most first script m =
-    omega (arith, m.few, sum_by-most paid_in_by 100 (operations_of script)
-    (AllByRecursion-weaker (IsMade first) (λ o. paid_in_by o ≤ 100) (pays_little first) (operations_of script) m.each))
+    omega (
+      arith,
+      m.few,
+      sum_by-most paid_in_by 100 (operations_of script)
+          (AllByRecursion-weaker (IsMade first) (λ o. paid_in_by o ≤ 100) (pays_little first) (operations_of script) m.each),
+    )
 
 -- a draw is below its bound
 drawn_below : (n x : ℕ) → 0 < n → drawn n x < n

@@ -8,6 +8,7 @@ use Rattle.books_model.specs.declared.script.Op.{Op}
 use Rattle.books_model.specs.declared.script.Part.{Part}
 use Rattle.books_model.specs.declared.script.Part.TheVariants as part
 use Rattle.books_model.specs.Scripts.{operations_in, operations_of, alternatives_in}
+use Rattle.books_model.proofs.Scripts.Branches.{behind_parts}
 use Rattle.books_model.specs.Books.{ClearingBooks}
 use Rattle.script_reader.specs.Text.{operation_words, part_words}
 use Rattle.script_reader.specs.Input.{Submission}
@@ -39,10 +40,6 @@ words_more parts (InSecond first second) o =
     ∙ ap (λ l. flat_map part_words parts ++ ((codes "try" ∷ []) ∷ l))
     (sym (append_assoc (map operation_words first) ((codes "else" ∷ []) ∷ map operation_words second) (operation_words o ∷ [])))
     ∙ sym (append_assoc (flat_map part_words parts) (open_words (InSecond first second)) (operation_words o ∷ []))
-
--- the operations behind those of parts
-pub behind_parts : (parts : List Part) (p : Part) → operations_of (parts ++ p ∷ []) ≡ operations_of parts ++ operations_in p
-behind_parts parts p = flat_map-append operations_in parts (p ∷ []) ∙ ap (λ l. operations_of parts ++ l) (append-nil (operations_in p))
 
 -- how many operations there are with those of a branch
 pub first_count : (parts : List Part) (ops : List Op) → length (operations_of (parts_with parts (InFirst ops))) ≡ length (operations_of parts) + length ops

@@ -3,10 +3,9 @@ use Rattle.std.proofs.Common.{◌≡◌, ◌<◌, ◌≤◌, ◌+◌, ℕ, Bool,
 use Rattle.std.specs.List.{flat_map}
 use Rattle.std.specs.Option.{is_none}
 use Rattle.std.proofs.lemmas.Bool.{le-leb, lt-leb}
-use Rattle.std.proofs.lemmas.List.Elements.{All-append, recursion_from_All}
+use Rattle.std.proofs.lemmas.List.Elements.{recursion_from_All}
 use Rattle.std.proofs.lemmas.List.{append-nil}
 use Rattle.std.proofs.lemmas.List.Concat.{flat_map-append}
-use Rattle.std.proofs.lemmas.List.Sums.{sum_by-append}
 use Rattle.books_model.specs.Books.{ClearingBooks}
 use Rattle.books_model.specs.Ranges.{AreInRange, IsOperationFor, IsScriptFor}
 use Rattle.books_model.specs.Scripts.{operations_in, operations_of, alternatives_in}
@@ -25,7 +24,7 @@ use Rattle.script_reader.specs.Inner.Rows.{row_fault}
 use Rattle.script_reader.specs.Forms.{Words, Form, Region, InScript, form, has_form, operation_forms, turning_forms, script_forms, form_of, is_only, ranges_of, are_numbers, are_in_range}
 use Rattle.script_reader.specs.Faults.{AreFaultless, IsFaultyBehind, fault_of, first_reason, is_too_many}
 use Rattle.script_reader.proofs.Printing.Scripted.{inside_at, inside_fault_is}
-use Rattle.script_reader.proofs.Printing.Opened.{inside_more, rest_of_branch, first_count, second_count, behind_parts, words_try, words_else}
+use Rattle.script_reader.proofs.Printing.Opened.{inside_more, rest_of_branch, first_count, second_count, words_try, words_else}
 use Rattle.script_reader.proofs.WithoutFault.NoFault.{operation_fault, try_fault}
 use Rattle.script_reader.proofs.WithoutFault.BooksFaultless.{printed, printed_small, instruments_fit}
 use Rattle.script_reader.proofs.WithoutFault.ScriptsFaultless.{operations_faultless, turning_faultless, parts_faultless}
@@ -180,14 +179,3 @@ pub script_text_more : (script : List Part) (p : Part) → script_lines (script 
 script_text_more script p =
     ap (flat_map line) (flat_map-append part_words script (p ∷ []) ∙ ap (λ l. flat_map part_words script ++ l) (append-nil (part_words p)))
     ∙ flat_map-append line (flat_map part_words script) (part_words p)
-
--- a script with one more part for which there is room
-pub script_more : (b : ClearingBooks) (script : List Part) (p : Part) → IsScriptFor b script → All (IsOperationFor b) (operations_in p)
-    → length (operations_of script) + length (operations_in p) ≤ MOST_OPERATIONS
-    → sum_by alternatives_in script + alternatives_in p ≤ MOST_ALTERNATIVES → IsScriptFor b (script ++ p ∷ [])
-script_more b script p valid each few few_alternatives = record {
-  few = omega (arith, few, ap length (behind_parts script p), length-append (operations_of script) (operations_in p));
-  few_alternatives = omega (arith, few_alternatives, sum_by-append alternatives_in script (p ∷ []));
-  each = subst (All (IsOperationFor b)) (sym (behind_parts script p))
-      (All-append (IsOperationFor b) (operations_of script) (operations_in p) valid.each each);
-}

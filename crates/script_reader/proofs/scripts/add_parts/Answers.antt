@@ -13,9 +13,9 @@ use Rattle.script_reader.specs.declared.fault.Refusal.TheVariants as refusal
 use Rattle.script_reader.specs.Text.{line, operation_words, part_words, script_lines}
 use Rattle.script_reader.specs.Inner.LinesAsWords.{BetweenParts, lines_inside}
 use Rattle.script_reader.proofs.LineFaults.LineKinds.{only_word}
-use Rattle.script_reader.proofs.Printing.Opened.{behind_parts}
+use Rattle.books_model.proofs.Scripts.Branches.{behind_parts, script_more}
 use Rattle.script_reader.proofs.Texts.Following.{line_shorter, behind_end, behind_line}
-use Rattle.script_reader.proofs.Texts.Branching.{behind_parts_read, behind_try, try_limit, part_fault, part_limit, script_text_more, script_more}
+use Rattle.script_reader.proofs.Texts.Branching.{behind_parts_read, behind_try, try_limit, part_fault, part_limit, script_text_more}
 use Rattle.script_reader.proofs.scripts.add_parts.Goals as goal
 
 pub returns-in_err-words-clause-fault : goal.returns-in_err-words-clause-fault
