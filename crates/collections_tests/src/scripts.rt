@@ -1,7 +1,7 @@
 //! Scripts on words and in the plain interpreter, side by side: the same rows through both, with replies computed by
 //! hand.
 
-ghost use Rattle.std.specs.Prelude.{◌≡◌, IfOk};
+ghost use Rattle.std.specs.Prelude.{◌≡◌, ◌≤◌, length, All, IfOk};
 ghost use Rattle.std.specs.Bool.{OnTrue};
 ghost use Rattle.books_model.specs.Ranges.{IsWithin};
 ghost use Rattle.books_model.specs.declared.limits.TheConstants.{GREATEST_AMOUNT};
@@ -14,7 +14,7 @@ use books_model::limits::{
     GREATEST_AMOUNT, GREATEST_CASH, GREATEST_PRICE, GREATEST_QUANTITY, GREATEST_RATE,
     GREATEST_SHORTFALL,
 };
-use books_model::{Books, Decline, Op, Reply, Script, Value, run_plain};
+use books_model::{Books, Decline, Op, Ops, Part, Reply, Script, Value, Values, run_plain};
 use io_ends::OutOfMemory;
 use std::alloc::Global;
 use std::process::Abort;
@@ -122,21 +122,56 @@ fn is_in(shape: &BooksShape, op: Op) -> bool
     }
 }
 
+// These operations, of which there are few.
+fn ops_of(
+    rt: &impl Abort,
+    alloc: Global,
+    shape: &BooksShape,
+    operations: &[Op],
+) -> Result<Ops, OutOfMemory>
+    ensures few { IfOk result (λ ops. length ops ≤ 32) }
+    ensures range { IfOk result (λ ops. All (IsOperationIn shape.now) ops) }
+{
+    assert!(rt; operations.len() <= 32);
+    let mut ops = Ops::new(alloc);
+    for operation in operations {
+        let fits = is_in(shape, *operation);
+        assert!(rt; fits);
+        ops.push(*operation)?;
+    }
+    Ok(ops)
+}
+
+// How a row is run: its operations by themselves, or as the first branch of an alternative, of which the second branch
+// shows account 1.
+#[derive(Clone, Copy)]
+enum How {
+    Alone,
+    InFirstBranch,
+}
+
 // A script of these operations.
 fn script_of(
     rt: &impl Abort,
     alloc: Global,
     shape: &BooksShape,
     operations: &[Op],
+    how: How,
 ) -> Result<Script, OutOfMemory>
     ensures { IfOk result (λ script. IsScriptIn shape.now script) }
 {
-    assert!(rt; operations.len() <= 64);
+    let first = ops_of(rt, alloc, shape, operations)?;
     let mut script = Script::new(alloc);
-    for operation in operations {
-        let fits = is_in(shape, *operation);
-        assert!(rt; fits);
-        script.push(*operation)?;
+    match how {
+        How::Alone => {
+            for operation in &first {
+                script.push(Part::One(*operation))?;
+            }
+        }
+        How::InFirstBranch => {
+            let second = ops_of(rt, alloc, shape, &[Op::Show(1)])?;
+            script.push(Part::Either(first, second))?;
+        }
     }
     Ok(script)
 }
@@ -165,9 +200,10 @@ fn run_on_words(
     alloc: Global,
     books: &Books,
     operations: &[Op],
+    how: How,
 ) -> Result<Ran, OutOfMemory> {
     let shape = sizes_of(books);
-    let script = script_of(rt, alloc, &shape, operations)?;
+    let script = script_of(rt, alloc, &shape, operations, how)?;
     let mut words = build(alloc, books)?;
     let reply = run_on_plain(alloc, &shape, &script, &mut words)?;
     let books = read_books(alloc, &shape, &words)?;
@@ -180,27 +216,49 @@ fn run_in_memory(
     alloc: Global,
     books: &Books,
     operations: &[Op],
+    how: How,
 ) -> Result<Ran, OutOfMemory> {
     let shape = sizes_of(books);
     scripts_go_by_instruments();
-    let script = script_of(rt, alloc, &shape, operations)?;
+    let script = script_of(rt, alloc, &shape, operations, how)?;
     let mut books = books.copy()?;
     let reply = run_plain(alloc, &script, &mut books)?;
     Ok(Ran { reply, books })
 }
 
-// Whether a reply is the one that is wanted.
+// Whether these are the values, behind so many others.
+fn are_behind(values: &Values, others: usize, wanted: &[Value]) -> bool {
+    if values.len() < others || values.len() - others != wanted.len() {
+        return false;
+    }
+    (0..wanted.len()).all(|place| values.at(others + place) == wanted[place])
+}
+
+// Whether a reply is the one that is wanted of the operations alone.
 fn is_wanted(reply: &Reply, want: Want<'_>) -> bool {
     match (reply, want) {
-        (Reply::Done(values), Want::Done(wanted)) => {
-            values.len() == wanted.len()
-                && (0..wanted.len()).all(|place| values.at(place) == wanted[place])
-        }
+        (Reply::Done(values), Want::Done(wanted)) => are_behind(values, 0, wanted),
         (Reply::Declined(number, why), Want::Declined(wanted, reason)) => {
             *number == wanted && *why == reason
         }
         (Reply::Full(number), Want::Full(wanted)) => *number == wanted,
         _ => false,
+    }
+}
+
+// Whether a reply is the one that is wanted of the operations as a first branch: where they are refused, account 1 has
+// its 100 as before.
+fn is_wanted_of_either(reply: &Reply, want: Want<'_>) -> bool {
+    let Reply::Done(values) = reply else {
+        return false;
+    };
+    match want {
+        Want::Done(wanted) => {
+            values.len() > 0 && values.at(0) == Value::First && are_behind(values, 1, wanted)
+        }
+        Want::Declined(..) | Want::Full(_) => {
+            are_behind(values, 0, &[Value::Second, Value::Number(100)])
+        }
     }
 }
 
@@ -227,7 +285,7 @@ fn agree(books: &Books, others: &Books) -> bool {
     books.price(1) == others.price(1) && books.price(2) == others.price(2)
 }
 
-// Runs each script from the opening books anew, in both ways.
+// Runs each script from the opening books anew, in both ways, and once more as the first branch of an alternative.
 fn compare(
     rt: &impl Abort,
     alloc: Global,
@@ -236,10 +294,15 @@ fn compare(
 ) -> Result<(), OutOfMemory> {
     let books = opening(rt, alloc, blocks)?;
     for (operations, want) in rows {
-        let on_words = run_on_words(rt, alloc, &books, operations)?;
-        let in_memory = run_in_memory(rt, alloc, &books, operations)?;
+        let on_words = run_on_words(rt, alloc, &books, operations, How::Alone)?;
+        let in_memory = run_in_memory(rt, alloc, &books, operations, How::Alone)?;
         assert!(rt; is_wanted(&on_words.reply, *want));
         assert!(rt; is_wanted(&in_memory.reply, *want));
+        assert!(rt; agree(&on_words.books, &in_memory.books));
+        let on_words = run_on_words(rt, alloc, &books, operations, How::InFirstBranch)?;
+        let in_memory = run_in_memory(rt, alloc, &books, operations, How::InFirstBranch)?;
+        assert!(rt; is_wanted_of_either(&on_words.reply, *want));
+        assert!(rt; is_wanted_of_either(&in_memory.reply, *want));
         assert!(rt; agree(&on_words.books, &in_memory.books));
     }
     Ok(())
@@ -362,7 +425,8 @@ fn scripts_are_done_or_change_nothing(rt: HostRuntime) -> Result<(), Fail> {
 fn a_first_script(rt: HostRuntime) -> Result<(), Fail> {
     let mut books = Books::new(rt.alloc(), 4, 1, 1);
     add_account(&rt, &mut books, 7, 100)?;
-    let ran = run_on_words(&rt, rt.alloc(), &books, &[Op::Deposit(7, 5), Op::Show(7)])?;
+    let operations = &[Op::Deposit(7, 5), Op::Show(7)];
+    let ran = run_on_words(&rt, rt.alloc(), &books, operations, How::Alone)?;
     let want = Want::Done(&[Value::Done, Value::Number(105)]);
     assert!(rt; is_wanted(&ran.reply, want));
     assert_eq!(rt; ran.books.cash(7), Some(105));
