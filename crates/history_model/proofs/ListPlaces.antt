@@ -1,8 +1,8 @@
 -- A list by its places: its first part, one element more at its end, and lists that are one.
-use Rattle.std.proofs.Common.{◌≡◌, ℕ, zero, suc, ◌<◌, ◌⊎◌, inl, inr, ⊎_elim, List, [], ◌∷◌, ◌++◌, length, slice_get, take, get_or, Some, refl}
+use Rattle.std.proofs.Common.{◌≡◌, ℕ, zero, suc, ◌<◌, ◌⊎◌, inl, inr, ⊎_elim, List, [], ◌∷◌, ◌++◌, length, slice_get, take, get_or, Some, replicate, map, refl}
 use Rattle.std.proofs.Common.{sym, ap, ◌∙◌, arith}
 use Rattle.std.proofs.Math.Seq.{take-suc}
-use Rattle.std.proofs.lemmas.List.{same_lists}
+use Rattle.std.proofs.lemmas.List.{same_lists, length-replicate, get_or-replicate}
 use Rattle.std.proofs.lemmas.Option.{slice_get_within, slice_get-get_or, get_or_from_slice_get, same_Some}
 
 -- what stands at a place of the first part
@@ -51,3 +51,23 @@ take-more {A} p xs x e = take-suc xs p x (slice_get_within xs p x e) ∙ ap (λ 
 -- lists of one length with the same elements are one
 pub same_list : {A : Type 0} (xs ys : List A) → length xs ≡ length ys → ((i : ℕ) (x : A) → slice_get xs i ≡ Some x → slice_get ys i ≡ Some x) → xs ≡ ys
 same_list xs ys l h = same_lists xs ys l (λ k d lt. sym (get_or_from_slice_get ys k (get_or xs k d) d (h k (get_or xs k d) (slice_get-get_or xs k d lt))))
+
+-- what stands in a mapped list
+pub map_at : {A B : Type 0} (f : A → B) (xs : List A) (i : ℕ) (y : B) → slice_get (map f xs) i ≡ Some y → (x : A) × (slice_get xs i ≡ Some x) × (f x ≡ y)
+map_at f [] i y e = cc
+map_at f (x ∷ xs) zero y e = (x, refl, cc)
+map_at f (x ∷ xs) (suc i) y e = map_at f xs i y e
+
+-- and the other way round
+pub at_map : {A B : Type 0} (f : A → B) (xs : List A) (i : ℕ) (x : A) → slice_get xs i ≡ Some x → slice_get (map f xs) i ≡ Some (f x)
+at_map f [] i x e = cc
+at_map f (z ∷ xs) zero x e = let q : z ≡ x = cc in ap (λ w. Some (f w)) q
+at_map f (z ∷ xs) (suc i) x e = at_map f xs i x e
+
+-- each word of a list of zeros is 0
+pub zero_there : (n i : ℕ) (ws : List ℕ) → ws ≡ replicate n 0 → i < n → slice_get ws i ≡ Some 0
+zero_there n i ws e lt =
+    let nil : ℕ = 0 in
+    let zeros : List ℕ = replicate n nil in
+    ap (λ xs. slice_get xs i) e ∙ slice_get-get_or zeros i 0 (let long : length zeros ≡ n = length-replicate n nil in
+    omega (arith, long, lt)) ∙ ap (λ k. Some k) (get_or-replicate n i nil nil lt)

@@ -13,7 +13,7 @@ use Rattle.history_model.specs.declared.placed.Spot.{Spot}
 use Rattle.order_rebuild.specs.Order.{Precedes, Orderable}
 use Rattle.order_rebuild.specs.Turns.{key_of, IsRising, HasAbove, IsLockCode, caller_code, IsTurnOf}
 
-same_use : (us : List LockUse) (i : ℕ) (u v : LockUse) → slice_get us i ≡ Some u → slice_get us i ≡ Some v → u ≡ v
+pub same_use : (us : List LockUse) (i : ℕ) (u v : LockUse) → slice_get us i ≡ Some u → slice_get us i ≡ Some v → u ≡ v
 same_use us i u v e f = let q : Some u ≡ Some v = sym e ∙ f in cc
 
 same_spot : (list : List Spot) (p : ℕ) (x y : Spot) → slice_get list p ≡ Some x → slice_get list p ≡ Some y → x ≡ y

@@ -1,5 +1,5 @@
 -- The entries in the order of their calls are in the order of their uses.
-use Rattle.std.proofs.Common.{◌≡◌, ℕ, zero, suc, inl, List, [], ◌∷◌, slice_get, get_or, map, Some, refl, sym, ap, ◌∙◌, arith, ◌<◌, inr, ⊎_elim, length}
+use Rattle.std.proofs.Common.{◌≡◌, ℕ, inl, List, slice_get, get_or, Some, sym, ap, ◌∙◌, arith, ◌<◌, inr, ⊎_elim, length}
 use mathlib.Core.Logic.{dite}
 use native.Mathlib.Decide.{ℕ_discrete, dec_lt}
 use Rattle.history_model.specs.declared.item.Item.{Item}
@@ -7,21 +7,11 @@ use Rattle.history_model.specs.declared.item.LockUse.{LockUse}
 use Rattle.history_model.specs.Items.{UsedBefore, KeepsUses}
 use Rattle.history_model.specs.Arrangements.{IsArrangement, WasSeenBefore}
 use Rattle.std.proofs.lemmas.Option.{slice_get_within, slice_get-get_or}
-use Rattle.history_model.proofs.ListPlaces.{below_get}
+use Rattle.history_model.proofs.ListPlaces.{map_at, at_map, below_get}
 use Rattle.history_model.specs.declared.placed.Spot.{Spot}
 use Rattle.order_rebuild.specs.Order.{IsOrder, Orderable}
 use Rattle.order_rebuild.specs.Legal.{SameUses, AreEntries, entries_at}
 use Rattle.order_rebuild.proofs.Stuck.{order_once, order_keeps}
-
-map_at : {A B : Type 0} (f : A → B) (xs : List A) (i : ℕ) (y : B) → slice_get (map f xs) i ≡ Some y → (x : A) × (slice_get xs i ≡ Some x) × (f x ≡ y)
-map_at f [] i y e = cc
-map_at f (x ∷ xs) zero y e = (x, refl, cc)
-map_at f (x ∷ xs) (suc i) y e = map_at f xs i y e
-
-at_map : {A B : Type 0} (f : A → B) (xs : List A) (i : ℕ) (x : A) → slice_get xs i ≡ Some x → slice_get (map f xs) i ≡ Some (f x)
-at_map f [] i x e = cc
-at_map f (z ∷ xs) zero x e = let q : z ≡ x = cc in ap (λ w. Some (f w)) q
-at_map f (z ∷ xs) (suc i) x e = at_map f xs i x e
 
 -- who comes before by some uses does so by others with the same members
 pub before_same : (us vs ws xs : List LockUse) → SameUses us ws → SameUses vs xs → UsedBefore us vs → UsedBefore ws xs

@@ -5,23 +5,21 @@ use native.Mathlib.Decide.{ℕ_discrete}
 use Rattle.std.proofs.lemmas.Option.{slice_get_within, slice_get-get_or}
 use Rattle.history_model.specs.declared.item.LockUse.{LockUse}
 use Rattle.order_rebuild.specs.Turns.{key_of, IsRising, HasKey, IsLeastKey, HasAbove}
+use Rattle.order_rebuild.proofs.Codes.{same_use}
 
 abbrev pub IsRisingBelow : List LockUse → ℕ → Type 0
 IsRisingBelow us n = (i j : ℕ) (u v : LockUse) → slice_get us i ≡ Some u → slice_get us j ≡ Some v → i < j → j < n → u.lock < v.lock
-
-one_use : (us : List LockUse) (i : ℕ) (u v : LockUse) → slice_get us i ≡ Some u → slice_get us i ≡ Some v → u ≡ v
-one_use us i u v e f = let q : Some u ≡ Some v = sym e ∙ f in cc
 
 pub rising_more : (us : List LockUse) (i : ℕ) (d : LockUse) → 1 ≤ i → i < length us → IsRisingBelow us i
     → (get_or us (i - 1) d).lock < (get_or us i d).lock → IsRisingBelow us (i + 1)
 rising_more us i d one lt below step a b u v eu ev ab bi = dite (ℕ_discrete b i)
     (λ s.
-    let v_is : get_or us i d ≡ v = one_use us i (get_or us i d) v (slice_get-get_or us i d lt) (ap (λ (k : ℕ). slice_get us k) (sym s) ∙ ev) in
+    let v_is : get_or us i d ≡ v = same_use us i (get_or us i d) v (slice_get-get_or us i d lt) (ap (λ (k : ℕ). slice_get us k) (sym s) ∙ ev) in
     let at : slice_get us (i - 1) ≡ Some (get_or us (i - 1) d) = slice_get-get_or us (i - 1) d (omega arith) in
     let lv = ap (λ (w : LockUse). w.lock) v_is in
     dite (ℕ_discrete a (i - 1))
     (λ t. let u_is : get_or us (i - 1) d ≡ u =
-    one_use us (i - 1) (get_or us (i - 1) d) u at (ap (λ (k : ℕ). slice_get us k) (sym t) ∙ eu) in let lu =
+    same_use us (i - 1) (get_or us (i - 1) d) u at (ap (λ (k : ℕ). slice_get us k) (sym t) ∙ eu) in let lu =
     ap (λ (w : LockUse). w.lock) u_is in omega arith)
     (λ n. let h = below a (i - 1) u (get_or us (i - 1) d) eu at (omega arith) (omega arith) in omega arith))
     (λ n. below a b u v eu ev ab (omega arith))
@@ -38,7 +36,7 @@ IsLeastBelow us k low n = (i : ℕ) (u : LockUse) → i < n → slice_get us i �
 pub least_more : (us : List LockUse) (k old low n : ℕ) (w : LockUse) → IsLeastBelow us k old n → low ≤ old
     → slice_get us n ≡ Some w → (w.lock ≡ k → low ≤ key_of w) → IsLeastBelow us k low (n + 1)
 least_more us k old low n w below le at here i u lt e l = dite (ℕ_discrete i n)
-    (λ s. let same : w ≡ u = one_use us n w u at (ap (λ (j : ℕ). slice_get us j) (sym s) ∙ e) in let h =
+    (λ s. let same : w ≡ u = same_use us n w u at (ap (λ (j : ℕ). slice_get us j) (sym s) ∙ e) in let h =
     here (ap (λ (z : LockUse). z.lock) same ∙ l) in let q = ap key_of same in omega arith)
     (λ m. let h = below i u (omega arith) e l in omega arith)
 
@@ -51,7 +49,7 @@ NoneAboveBelow us k low n = (i : ℕ) (u : LockUse) → i < n → slice_get us i
 pub none_more : (us : List LockUse) (k low n : ℕ) (w : LockUse) → NoneAboveBelow us k low n → slice_get us n ≡ Some w
     → (w.lock ≡ k → low < key_of w → ⊥) → NoneAboveBelow us k low (n + 1)
 none_more us k low n w below at here i u lt e l high = dite (ℕ_discrete i n)
-    (λ s. let same : w ≡ u = one_use us n w u at (ap (λ (j : ℕ). slice_get us j) (sym s) ∙ e) in
+    (λ s. let same : w ≡ u = same_use us n w u at (ap (λ (j : ℕ). slice_get us j) (sym s) ∙ e) in
     here (ap (λ (z : LockUse). z.lock) same ∙ l) (let q = ap key_of same in omega arith))
     (λ m. below i u (omega arith) e l high)
 

@@ -4,7 +4,5 @@ pub mod Sets
 pub mod FreeLists
 -- what all maps on blocks share
 pub mod Maps
--- lists of zeros, from which tests begin
-pub mod Zeros
 -- the words of tests: 285 zeros but for the two that link two free blocks
 pub mod TwoBlocks

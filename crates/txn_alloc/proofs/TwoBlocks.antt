@@ -13,7 +13,7 @@ use Rattle.txn_alloc.specs.declared.arena.Arena.{Arena}
 use Rattle.txn_alloc.specs.declared.arena.TheConstants.{HEADS}
 use Rattle.txn_alloc.specs.FreeLists.{IsLaidOut, FreeListHolds, FreeListsHold}
 use Rattle.txn_alloc.proofs.Sets.{Blocks, in_here, in_or, out_empty, contains-insert_other}
-use Rattle.txn_alloc.proofs.Zeros.{zero_there}
+use Rattle.history_model.proofs.ListPlaces.{zero_there}
 
 abbrev pub two : Arena
 two = record { heads = 1; first = 277; blocks = 2 }

@@ -1,6 +1,5 @@
 -- The calls of an array, over any words.
-use Rattle.std.proofs.Common.{◌≡◌, ℕ, ◌+◌, ◌*◌, ◌<◌, ◌≤◌, List, [], ◌∷◌, ◌++◌, Result, Ok, Err, length, sym, subst}
-use Rattle.std.specs.Result.{OnOk}
+use Rattle.std.proofs.Common.{◌≡◌, ℕ, ◌+◌, ◌*◌, ◌<◌, ◌≤◌, List, [], ◌∷◌, ◌++◌, length, sym, subst}
 use Rattle.history_model.specs.declared.shape.Shape.{Ghosts as Shapes}
 use Rattle.history_model.specs.Traces.{after, Begins}
 use Rattle.history_model.specs.Fitting.{SomeFits, Leads}
@@ -15,11 +14,6 @@ use Rattle.txn_cells.specs.Cells.{AreCells, cell_words}
 use Rattle.txn_cells.specs.Typed.{TypedTrace, after_typed, DoesTyped}
 use Rattle.txn_cells.specs.Inner.Puts.{PutsWords}
 use Rattle.txn_cells.proofs.Calls.{does_both, value_read, does_get, does_set}
-
--- what follows from what holds of Ok
-pub on_ok_then : {A E P Q : Type 0} (r : Result A E) → (P → Q) → OnOk r P → OnOk r Q
-on_ok_then (Ok x) step h = step h
-on_ok_then (Err e) step h = h
 
 module _ {W S O T : Type 0} (words : AnyWords W S O) (shapes : Shapes S) (code : Codes T) (at len : ℕ) where
   -- the cells are there still

@@ -52,12 +52,12 @@ own_buckets : (n i : ℕ) (cs : List Cell) → i < n → HasKeysIn i cs → AllB
 own_buckets n i [] lt h = tt
 own_buckets n i (c ∷ cs) lt h = (omega (arith, lt, h.0), own_buckets n i cs lt h.1)
 
-some_or_none : (o : Option ℕ) → (o ≡ None) ⊎ (o ≢ None)
+pub some_or_none : (o : Option ℕ) → (o ≡ None) ⊎ (o ≢ None)
 some_or_none None = inl refl
 some_or_none (Some x) = inr (λ e. cc)
 
 -- a key of another bucket is in none of these cells
-absent_in : (i k : ℕ) (cs : List Cell) → HasKeysIn i cs → bucket_of k ≢ i → value_of k cs ≡ None
+pub absent_in : (i k : ℕ) (cs : List Cell) → HasKeysIn i cs → bucket_of k ≢ i → value_of k cs ≡ None
 absent_in i k cs own ne = elim (some_or_none (value_of k cs)) [ inl e ↦ e | inr m ↦ absurd (ne (key_own i k cs own m)) ]
 
 module _ (map : ChainMap) (s : List ℕ) (cells : ℕ → List Cell) where

@@ -1,9 +1,9 @@
 -- A ring in a list of zeros, which is empty.
 use Rattle.std.proofs.Common.{◌≡◌, ℕ, ◌<◌, List, [], length, slice_get, slice_set, Some, replicate, ap, ◌∙◌, arith}
-use Rattle.std.proofs.lemmas.List.{length-set, length-replicate, get_or-replicate}
-use Rattle.std.proofs.lemmas.Option.{slice_get-get_or}
+use Rattle.std.proofs.lemmas.List.{length-set, length-replicate}
 use Rattle.history_model.specs.Fitting.{IsGood}
 use Rattle.history_model.proofs.Traces.TraceLaws.{get_set_other}
+use Rattle.history_model.proofs.ListPlaces.{zero_there}
 use Rattle.txn_ring.specs.declared.ring.Ring.{Ring}
 use Rattle.txn_ring.specs.Queues.{IsInOrder}
 use Rattle.txn_ring.proofs.Items.{starts_empty}
@@ -13,14 +13,6 @@ one_place = record { at = 273; capacity = 1 }
 
 abbrev pub two_places : Ring
 two_places = record { at = 0; capacity = 2 }
-
--- each word of a list of zeros is 0
-zero_there : (n i : ℕ) (ws : List ℕ) → ws ≡ replicate n 0 → i < n → slice_get ws i ≡ Some 0
-zero_there n i ws e lt =
-    let nil : ℕ = 0 in
-    let zeros : List ℕ = replicate n nil in
-    ap (λ xs. slice_get xs i) e ∙ slice_get-get_or zeros i 0 (let long : length zeros ≡ n = length-replicate n nil in
-    omega (arith, long, lt)) ∙ ap (λ k. Some k) (get_or-replicate n i nil nil lt)
 
 -- a ring in a list of zeros is empty
 pub zeros_good : (n : ℕ) (ws : List ℕ) → n ≡ 6 → ws ≡ replicate n 0 → IsGood 6 (IsInOrder two_places) ws

@@ -46,7 +46,8 @@ sum_both : (n : ℕ) (f g : ℕ → ℕ) → sum_below n (λ k. f k + g k) ≡ s
 sum_both zero f g = refl
 sum_both (suc n) f g = let rest : sum_below n (λ k. f k + g k) ≡ sum_below n f + sum_below n g = sum_both n f g in omega (arith, rest)
 
-some_member : (s : Blocks) (b : ℕ) → set.contains s b ≡ true → 1 ≤ set.len s
+-- a set with a member is not empty
+pub some_member : (s : Blocks) (b : ℕ) → set.contains s b ≡ true → 1 ≤ set.len s
 some_member s b h = at (set.len s) refl
   where
     at : (m : ℕ) → set.len s ≡ m → 1 ≤ set.len s

@@ -26,7 +26,7 @@ use Rattle.txn_alloc.proofs.Sets.{out_empty, contains-insert_other}
 use Rattle.txn_alloc.proofs.TwoBlocks.{only_one}
 use Rattle.txn_alloc.proofs.Maps.Cells.{value_none}
 use Rattle.txn_alloc.proofs.Maps.Counting.{times_of}
-use Rattle.txn_alloc.proofs.Zeros.{zero_there}
+use Rattle.history_model.proofs.ListPlaces.{zero_there}
 use Rattle.txn_tree_map.specs.Trees.{TreeHolds}
 use Rattle.txn_tree_map.specs.Trees.Tree.{Leaf, Node}
 use Rattle.txn_hash_map.specs.Chains.{ChainsHold, HasChain, HasKeysIn, bucket_of}

@@ -21,7 +21,7 @@ use Rattle.txn_words.specs.Frames.{KeepsOthers}
 use Rattle.txn_alloc.specs.FreeLists.{IsHead, IsLaidOut, FreeListsHold}
 use Rattle.txn_alloc.proofs.Maps.Counting.{times_of}
 use Rattle.txn_alloc.proofs.Sets.{out_empty}
-use Rattle.txn_alloc.proofs.Zeros.{zero_there}
+use Rattle.history_model.proofs.ListPlaces.{zero_there}
 use Rattle.txn_tree_map.specs.Trees.{TreeHolds}
 use Rattle.txn_tree_map.specs.Trees.Tree.{Leaf}
 use Rattle.txn_hash_map.specs.Chains.{ChainsHold}

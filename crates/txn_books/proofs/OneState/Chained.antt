@@ -48,7 +48,7 @@ key_rises x y p q less = at (nat_cmp x.0 y.0) refl
 price_rises : (i j : ℕ) → IsInstrument i → IsInstrument j → nat_cmp i j ≡ Less → price_key_of i < price_key_of j
 price_rises i j p q less = let lt : i < j = less_than i j less in omega (arith, lt, p.0, q.0)
 
-some_of : (o : Option ℕ) → IsSome o → (x : ℕ) × (o ≡ Some x)
+pub some_of : (o : Option ℕ) → IsSome o → (x : ℕ) × (o ≡ Some x)
 some_of None h = absurd (cc)
 some_of (Some x) h = (x, refl)
 

@@ -1,8 +1,8 @@
 -- Lists of entries whose keys a rising function changes to numbers, and two lists of entries in one.
 use Rattle.std.proofs.Common.{◌≡◌, ◌≢◌, ℕ, ◌<◌, ◌≤◌, Bool, true, false, cond, T, nat_lt, List, [], ◌∷◌, ◌++◌, map, Some, None, refl, sym, ap, ◌∙◌, arith, rules}
 use Rattle.std.specs.declared.cmp.Ordering.{Ordering}
-use Rattle.std.specs.declared.cmp.Ordering.TheVariants.{Less, Equal}
-use Rattle.std.specs.Cmp.{IsTotalOrder, tied_itself, nat_cmp_is, both_ways}
+use Rattle.std.specs.declared.cmp.Ordering.TheVariants.{Less}
+use Rattle.std.specs.Cmp.{IsTotalOrder, tied_itself, both_ways}
 use Rattle.std.specs.Ordering.{nat_cmp, eq_by_cmp, is_eq, is_lt}
 use Rattle.std.specs.List.{AllByRecursion}
 use Rattle.std.specs.FinMap.Entries.{find, is_sorted, below_all}
@@ -10,27 +10,15 @@ use Rattle.std.specs.FinMap.{nat_cmp-IsAntisymmetric}
 use Rattle.std.proofs.lemmas.Map.Lookups.{CmpEqualImpliesEq}
 use Rattle.std.proofs.lemmas.Map.Views.{tells_apart}
 use Rattle.books_model.proofs.Maps.Keys.{below_first, below_rest, sorted_first, sorted_rest, is_lt-nat_cmp}
+use Rattle.txn_tree_map.proofs.Held.Entries.{lower, tied, untied}
 
 -- what a truth says as a test
 pub holds : (b : Bool) → T b → b ≡ true
 holds true h = refl
 holds false h = absurd h
 
-lower : (x y : ℕ) → x < y → is_lt (nat_cmp x y) ≡ true
-lower x y lt = ap is_lt (sym (nat_cmp_is x y Less lt))
-
 pub less_than : (x y : ℕ) → nat_cmp x y ≡ Less → x < y
 less_than x y e = let test : nat_lt x y ≡ true = is_lt-nat_cmp x y ∙ ap is_lt e in grind (arith, rules, test)
-
-pub tied : (x y : ℕ) → x ≡ y → eq_by_cmp nat_cmp x y ≡ true
-tied x y e = ap is_eq (sym (nat_cmp_is x y Equal e))
-
-pub untied : (x y : ℕ) → x ≢ y → eq_by_cmp nat_cmp x y ≡ false
-untied x y ne = at (eq_by_cmp nat_cmp x y) refl
-  where
-    at : (b : Bool) → eq_by_cmp nat_cmp x y ≡ b → eq_by_cmp nat_cmp x y ≡ false
-    at false e = e
-    at true e = absurd (ne (tells_apart nat_cmp-IsAntisymmetric x y e))
 
 -- keys below a number, and keys from it on
 abbrev pub AreBelow : ℕ → List (ℕ × ℕ) → Type 0

@@ -1,13 +1,11 @@
 -- What words that stand for books say of each part, at the shape's sizes, and whether a block is left.
-use Rattle.std.proofs.Common.{◌≡◌, ℕ, zero, suc, ◌<◌, ◌≤◌, true, false, not, ◌==◌, List, [], refl, sym, ap, ◌∙◌, subst, arith}
-use mathlib.Core.Bool.{true≢false}
+use Rattle.std.proofs.Common.{◌≡◌, ℕ, ◌<◌, true, false, not, ◌==◌, List, [], ap, ◌∙◌, subst, arith}
 use Rattle.std.proofs.lemmas.Bool.Decides.{nat_tests}
 use Rattle.std.specs.Ordering.{nat_cmp}
 use Rattle.std.specs.FinSet as set
 use Rattle.books_model.specs.Books.{ClearingBooks, used}
 use Rattle.books_model.specs.Ranges.{AreInRange}
-use Rattle.txn_alloc.specs.EntryMaps.{Blocks, HoldsApart}
-use Rattle.txn_alloc.proofs.Sets.{out_empty}
+use Rattle.txn_alloc.specs.EntryMaps.{HoldsApart}
 use Rattle.txn_tree_map.specs.Trees.{tree_part}
 use Rattle.txn_hash_map.specs.Chains.{chain_part}
 use Rattle.txn_ring.specs.Queues.{QueueHolds}
@@ -16,6 +14,7 @@ use Rattle.txn_books.specs.Layout.{tree_of, chains_of, queue_of, chained}
 use Rattle.txn_books.specs.Standing.{HasParts, Stands}
 use Rattle.txn_books.proofs.OneState.Whole.{counted}
 use Rattle.txn_books.proofs.OneState.Parts.{tree_free, chains_free}
+use Rattle.txn_alloc.proofs.Maps.Counting.{some_member}
 
 module _ (shape : BooksShape) (words : List ℕ) (books : ClearingBooks) (stand : Stands shape words books) where
   pub tree_apart : HoldsApart (tree_part (tree_of shape)) words books.accounts stand.parts.tree_used stand.parts.free
@@ -29,18 +28,10 @@ module _ (shape : BooksShape) (words : List ℕ) (books : ClearingBooks) (stand 
   pub queue_held : QueueHolds (queue_of shape) words books.calls
   queue_held = subst (λ z. QueueHolds (queue_of z) words books.calls) stand.sizes stand.parts.queue
 
--- a set with a member is not empty
-has_member : (s : Blocks) (b : ℕ) → set.contains s b ≡ true → 1 ≤ set.len s
-has_member s b h = at (set.len s) refl
-  where
-    at : (m : ℕ) → set.len s ≡ m → 1 ≤ set.len s
-    at zero e = absurd (true≢false (sym h ∙ ap (λ z. set.contains z b) (set.empty_of_len s e) ∙ out_empty b))
-    at (suc m) e = omega (arith, e)
-
 module _ (words : List ℕ) (books : ClearingBooks) (parts : HasParts words books []) (range : AreInRange books) where
   -- a free block is room for one more
   pub has_room : (b : ℕ) → set.contains parts.free b ≡ true → used books < books.blocks
-  has_room b free = omega (arith, has_member parts.free b free, counted words books [] parts range)
+  has_room b free = omega (arith, some_member parts.free b free, counted words books [] parts range)
 
   -- and where none is free there is no room
   pub no_room : parts.free ≡ set.empty → used books ≡ books.blocks

@@ -1,6 +1,6 @@
 -- Books to which one entry after another is added.
-use Rattle.std.proofs.Common.{◌≡◌, ℕ, suc, get_or, drop, ◌+◌, ◌/◌, ◌%◌, ◌<◌, ◌≤◌, true, false, cond, List, [], ◌∷◌, length, map, filter, not, Option, Some}
-use Rattle.std.proofs.Common.{None, IsSome, refl, sym, ap, ◌∙◌, subst, arith, rules}
+use Rattle.std.proofs.Common.{◌≡◌, ℕ, suc, get_or, drop, ◌+◌, ◌/◌, ◌%◌, ◌<◌, ◌≤◌, true, false, cond, List, [], ◌∷◌, length, map, filter, not}
+use Rattle.std.proofs.Common.{None, IsSome, sym, ap, ◌∙◌, subst, arith, rules}
 use Rattle.std.proofs.Math.Seq.{drop-cons}
 use Rattle.std.specs.Cmp.{nat_cmp_total}
 use Rattle.std.specs.FinMap.{nat_cmp-IsAntisymmetric}
@@ -11,6 +11,7 @@ use Rattle.books_model.specs.Ranges.{AreInRange, IsWithin, IsAccountNumber, IsIn
 use Rattle.books_model.specs.Inner.Keys.{positions_total, exact_positions}
 use Rattle.txn_books.specs.Inner.Reading.{AddsUp, is_price_key, prices_in, positions_in, AddsAccounts, AddsPrices, AddsPositions}
 use Rattle.txn_books.proofs.ReadOff.Adding.{adds_first, adds_length}
+use Rattle.txn_books.proofs.OneState.Chained.{some_of}
 
 -- which keys are those of prices
 pub is_price : (key : ℕ) → key < MOST_INSTRUMENTS → is_price_key key ≡ true
@@ -49,10 +50,6 @@ new_price i price rest books after adds same range =
           omega (arith, long, uses, blocks, range.blocks_used);
     }
 
-some_in : (o : Option ℕ) → IsSome o → (x : ℕ) × (o ≡ Some x)
-some_in None h = absurd (cc)
-some_in (Some x) h = (x, refl)
-
 -- and so is a position, whose account and price are there
 pub record NewPosition (a i quantity : ℕ) (books : ClearingBooks) : Type 0 where
   pub owner : IsSome (entry_map.get books.accounts a)
@@ -71,7 +68,7 @@ new_position a i quantity rest books after adds same range =
     adds_length positions_total exact_positions (((a, i), quantity) ∷ rest) books.positions after.positions adds in
     let uses : used after ≡ used (record books { positions = after.positions }) = ap (λ b. used b) same in
     let blocks : after.blocks ≡ books.blocks = ap (λ (b : ClearingBooks). b.blocks) same in
-    let some = some_in (entry_map.get after.accounts a) there.0 in
+    let some = some_of (entry_map.get after.accounts a) there.0 in
     record {
       owner = subst (λ m. IsSome (entry_map.get m a)) (ap (λ (b : ClearingBooks). b.accounts) same) there.0;
       number = (range.accounts a some.0 some.1).0;

@@ -1,5 +1,5 @@
 -- Trees and chains that are walked block by block.
-use Rattle.std.proofs.Common.{◌≡◌, ◌≢◌, ℕ, zero, suc, ◌+◌, ◌-◌, ◌<◌, ◌≤◌, List, [], ◌∷◌, ◌++◌, length, get_or, slice_get, Option, Some, None, ◌⊎◌, inl, inr}
+use Rattle.std.proofs.Common.{◌≡◌, ◌≢◌, ℕ, zero, suc, ◌+◌, ◌-◌, ◌<◌, ◌≤◌, List, [], ◌∷◌, ◌++◌, length, get_or, slice_get, Some, None}
 use Rattle.std.proofs.Common.{refl, sym, ap, ◌∙◌, subst, arith}
 use Rattle.std.proofs.Common.{length-append, append_assoc}
 use Rattle.std.proofs.lemmas.List.{append-nil}
@@ -19,6 +19,7 @@ use Rattle.txn_hash_map.specs.Chains.{HasChain, HasKeysIn, bucket_of, ChainsHold
 use Rattle.txn_hash_map.proofs.Cells.{bucket_below, key_own, chain_short}
 use Rattle.txn_books.specs.Inner.Reading.{AddsUp, entries_in}
 use Rattle.txn_books.proofs.ReadOff.Adding.{or_else, or_none, put_all, get_all, adds_cells, adds_append}
+use Rattle.txn_hash_map.proofs.Numbers.{absent_in}
 
 -- four words in a row
 pub four_words : (ws : List ℕ) (p j : ℕ) → p + 4 ≤ length ws → j ≤ 3
@@ -99,14 +100,6 @@ gathers_none entries = record {
   low = λ key lt. absurd (omega (arith, lt));
   high = λ key le. entry_map.get-empty nat_cmp key;
 }
-
-some_or_none : (o : Option ℕ) → (o ≡ None) ⊎ (o ≢ None)
-some_or_none None = inl refl
-some_or_none (Some x) = inr (λ e. cc)
-
--- a key of another bucket is in none of these cells
-absent_in : (i key : ℕ) (cs : List Cell) → HasKeysIn i cs → bucket_of key ≢ i → value_of key cs ≡ None
-absent_in i key cs own ne = elim (some_or_none (value_of key cs)) [ inl e ↦ e | inr m ↦ absurd (ne (key_own i key cs own m)) ]
 
 module _ (map : ChainMap) (words : List ℕ) (entries : Entries) (used : Blocks) (h : ChainsHold map words entries used) where
   pub gathers_more : (n : ℕ) (listed : List (ℕ × ℕ)) → n < BUCKETS → Gathers n entries listed → Gathers (n + 1) entries (listed ++ entries_in (h.cells n))

@@ -17,14 +17,14 @@ abbrev pub pairs_of : List Cell → List (ℕ × ℕ)
 pairs_of [] = []
 pairs_of (c ∷ cs) = (c.key, c.value) ∷ pairs_of cs
 
-lower : (x y : ℕ) → x < y → is_lt (nat_cmp x y) ≡ true
+pub lower : (x y : ℕ) → x < y → is_lt (nat_cmp x y) ≡ true
 lower x y lt = ap is_lt (sym (nat_cmp_is x y Less lt))
 
-same : (x y : ℕ) → x ≡ y → eq_by_cmp nat_cmp x y ≡ true
-same x y e = ap is_eq (sym (nat_cmp_is x y Equal e))
+pub tied : (x y : ℕ) → x ≡ y → eq_by_cmp nat_cmp x y ≡ true
+tied x y e = ap is_eq (sym (nat_cmp_is x y Equal e))
 
-other : (x y : ℕ) → x ≢ y → eq_by_cmp nat_cmp x y ≡ false
-other x y ne = at (nat_lt x y) refl
+pub untied : (x y : ℕ) → x ≢ y → eq_by_cmp nat_cmp x y ≡ false
+untied x y ne = at (nat_lt x y) refl
   where
     at : (b : Bool) → nat_lt x y ≡ b → eq_by_cmp nat_cmp x y ≡ false
     at true e = ap is_eq (sym (nat_cmp_is x y Less (grind (arith, rules, e))))
@@ -41,8 +41,8 @@ sorted_pairs (c ∷ cs) h = grind (rules, below_pairs c.key cs h.0, sorted_pairs
 find_pairs : (key : ℕ) (cs : List Cell) → find nat_cmp key (pairs_of cs) ≡ value_of key cs
 find_pairs key [] = refl
 find_pairs key (c ∷ cs) = dite (ℕ_discrete c.key key)
-    (λ e. grind (rules, same key c.key (sym e), e))
-    (λ ne. grind (rules, other key c.key (λ e. ne (sym e)), ne, find_pairs key cs))
+    (λ e. grind (rules, tied key c.key (sym e), e))
+    (λ ne. grind (rules, untied key c.key (λ e. ne (sym e)), ne, find_pairs key cs))
 
 pub entries_cells : (map : TreeMap) (s : List ℕ) (f : Entries) (u : Blocks) (h : TreeHolds map s f u) → entry_map.entries f ≡ pairs_of (cells_of h.tree)
 entries_cells map s f u h =

@@ -38,7 +38,7 @@ use Rattle.values_rule.proofs.Counting.{history_is, open_count-set}
 use Rattle.values_rule.proofs.Frames.{shut_out}
 use Rattle.values_rule.proofs.Notes.{oldest-nil, option_cases, is_missing}
 
-attempt_open : (p : Phase) → is_attempt p ≡ true → is_open p ≡ true
+pub attempt_open : (p : Phase) → is_attempt p ≡ true → is_open p ≡ true
 attempt_open Idle t = absurd (cc)
 attempt_open Running t = refl
 attempt_open Yielding t = absurd (cc)

@@ -12,19 +12,15 @@ use Rattle.history_model.specs.Table.{Knows, history_of, row_word, writer_word}
 use Rattle.history_model.specs.Views.{HasClaim, HasReadGrant, HasWriteGrant}
 use Rattle.history_model.proofs.SetLemmas.{has-join_old, pair-join_old, pair-without_other}
 use Rattle.locks_rule.specs.Actions.{found_by, words_after}
-use Rattle.locks_rule.specs.Locks.{AskedFor}
 use Rattle.locks_rule.specs.Steps.{after_asking, after_meeting, released_phase, is_free, MayRelease, MaySetReadBit, MayClearReadBit, MayLoadWriter}
 use Rattle.locks_rule.specs.Steps.{MayClaimWriter, MayScanRow, MayReleaseWriter, set_read_bit_action, clear_read_bit_action, load_writer_action}
 use Rattle.locks_rule.specs.Steps.{claim_writer_action, scan_row_action, release_writer_action}
 use Rattle.locks_rule.proofs.Asides.{picked}
-use Rattle.locks_rule.proofs.Own.{own}
+use Rattle.locks_rule.proofs.Own.{own, lock_near}
 use Rattle.values_rule.specs.Asides.{IsAside, SameCalls, SameValues}
 use Rattle.values_rule.specs.Keeping.{KeepsValueRule}
 use Rattle.values_rule.specs.Values.{ValuesHold}
 use Rattle.values_rule.proofs.Asides.{words_apart, aside_keeps, values_ended}
-
-asked_below : (v : View) (k : ℕ) → AskedFor v k → k < LOCKS
-asked_below v k a = let e : a.0 % LOCKS ≡ k = a.2 in omega arith
 
 row_aside : (n m j k : ℕ) → m ≡ n → j < n → k < LOCKS → IsAside n (row_word m j k)
 row_aside n m j k e below near = record { serial = omega arith; calls = inr (omega arith); values = omega arith }
@@ -191,7 +187,7 @@ release_calls v w may seen olds who joined call floor abandoned stamp phase = re
 pub clear_read_bit_values : (good : List ℕ → Type 0) (j k : ℕ) → KeepsValueRule good (MayClearReadBit j k) (clear_read_bit_action j k)
 clear_read_bit_values good j k n base ws vs id v h q me may =
     let o = own n base ws vs id j v h me may.who in
-    let near : k < LOCKS = asked_below v k (h.bits_were_asked id k v me may.bit) in
+    let near : k < LOCKS = lock_near v k (h.bits_were_asked id k v me may.bit) in
     let w : View = (clear_read_bit_action j k v).view (history_of vs) (found_by (clear_read_bit_action j k v) ws) in
     let none = undone good n base ws vs id v q me may.release in
     let x : ℕ = (clear_read_bit_action j k v).writes (found_by (clear_read_bit_action j k v) ws) in

@@ -46,7 +46,7 @@ store_value_locks n base j a x ws vs id v h me may =
     refl refl refl refl refl refl refl (λ i t. t)
     (λ e. let z : Running ≡ Idle = sym may.phase ∙ e in cc))
 
-undoing_idle : (p : Phase) → is_open p ≡ true → undoing_phase p ≡ Idle → ⊥
+pub undoing_idle : (p : Phase) → is_open p ≡ true → undoing_phase p ≡ Idle → ⊥
 undoing_idle Idle o e = cc
 undoing_idle Running o e = cc
 undoing_idle Yielding o e = cc

@@ -60,7 +60,7 @@ nobody_noted good n base ws vs id j v h q me single a granted none other u k = d
     (option_cases (oldest a u.undo)))
 
 -- what is there is not missing
-not_none : (a old : ℕ) {o : Option ℕ} → (y : ℕ) × (o ≡ Some y) → o ≡ None → ⊥
+pub not_none : (a old : ℕ) {o : Option ℕ} → (y : ℕ) × (o ≡ Some y) → o ≡ None → ⊥
 not_none a old s e = let z : Some s.0 ≡ None = sym s.1 ∙ e in cc
 
 pub load_value_values : (good : List ℕ → Type 0) (j a : ℕ) → KeepsValueRule good (MayLoadValue j a) (load_value_action j a)
@@ -195,28 +195,28 @@ store_value_values good j a x n base ws vs id v h q me may =
     }
 
 -- the phase as a write is undone
-undoing_attempt : (p : Phase) → is_open p ≡ true → is_attempt (undoing_phase p) ≡ true → is_attempt p ≡ true
+pub undoing_attempt : (p : Phase) → is_open p ≡ true → is_attempt (undoing_phase p) ≡ true → is_attempt p ≡ true
 undoing_attempt Idle o t = absurd (cc)
 undoing_attempt Running o t = refl
 undoing_attempt Yielding o t = absurd (cc)
 undoing_attempt Withdrawing o t = refl
 undoing_attempt Releasing o t = absurd (cc)
 
-undoing_open : (p : Phase) → is_open (undoing_phase p) ≡ true → is_open p ≡ true
+pub undoing_open : (p : Phase) → is_open (undoing_phase p) ≡ true → is_open p ≡ true
 undoing_open Idle t = absurd (cc)
 undoing_open Running t = refl
 undoing_open Yielding t = refl
 undoing_open Withdrawing t = refl
 undoing_open Releasing t = absurd (cc)
 
-undoing_runs : (p : Phase) → undoing_phase p ≡ Running → ⊥
+pub undoing_runs : (p : Phase) → undoing_phase p ≡ Running → ⊥
 undoing_runs Idle t = cc
 undoing_runs Running t = cc
 undoing_runs Yielding t = cc
 undoing_runs Withdrawing t = cc
 undoing_runs Releasing t = cc
 
-undoing_rests : (p : Phase) → is_open p ≡ true → (undoing_phase p ≡ Idle) ⊎ (undoing_phase p ≡ Releasing) → ⊥
+pub undoing_rests : (p : Phase) → is_open p ≡ true → (undoing_phase p ≡ Idle) ⊎ (undoing_phase p ≡ Releasing) → ⊥
 undoing_rests Idle o t = cc
 undoing_rests Running o (inl t) = cc
 undoing_rests Running o (inr t) = cc
@@ -226,7 +226,7 @@ undoing_rests Withdrawing o (inl t) = cc
 undoing_rests Withdrawing o (inr t) = cc
 undoing_rests Releasing o t = cc
 
-open_begun : (p : Phase) → is_open p ≡ true → p ≢ Idle
+pub open_begun : (p : Phase) → is_open p ≡ true → p ≢ Idle
 open_begun p o e = let z : true ≡ false = sym o ∙ ap is_open e in cc
 
 pub undo_store_values : (good : List ℕ → Type 0) (j a old : ℕ) → KeepsValueRule good (MayUndoStore j a old) (undo_store_action j a old)

@@ -38,7 +38,9 @@ use Rattle.versions_rule.specs.Keeping.{KeepsValueRule}
 use Rattle.versions_rule.specs.Records.{IsRecorded, Knew, KnewSoMany, AreCauses, RecordsClosed, CallsCounted, FloorAndAbandoned}
 use Rattle.versions_rule.specs.Steps.{MayCommitCall, entry_of, locks_of, after_commit, commit_call_action}
 use Rattle.versions_rule.specs.Versions.{ItemsArranged, OwedHeld, UsesCurrent, ValuesHold}
-use Rattle.versions_rule.proofs.Told.Excludes.{attempt_open, open_begun, not_released}
+use Rattle.versions_rule.proofs.Told.Excludes.{not_released}
+use Rattle.values_rule.proofs.StepKinds.Commits.{attempt_open}
+use Rattle.values_rule.proofs.StepKinds.ValueKinds.{open_begun}
 use Rattle.versions_rule.proofs.Told.ItemsIn.{IsAttemptOf, OfEntry, OfOpen, items_from, items_into, in_parts}
 use Rattle.versions_rule.proofs.Told.Knowing.{last_least, last_is, last_more, knew_at, knew_past}
 use Rattle.versions_rule.proofs.Told.Newest.{newest_moved, length-newest}

@@ -29,7 +29,8 @@ use Rattle.versions_rule.specs.Keeping.{GivingWayKeeps}
 use Rattle.versions_rule.specs.Records.{AreCauses}
 use Rattle.versions_rule.specs.Steps.{attempt_of, after_giving_way}
 use Rattle.versions_rule.specs.Versions.{ValuesHold}
-use Rattle.versions_rule.proofs.Told.Excludes.{open_begun, not_released}
+use Rattle.versions_rule.proofs.Told.Excludes.{not_released}
+use Rattle.values_rule.proofs.StepKinds.ValueKinds.{open_begun}
 use Rattle.versions_rule.proofs.Parts.Frames.{records_same, calls_same, memory_same, recorded_to, recorded_from}
 use Rattle.versions_rule.proofs.Told.ItemsIn.{IsAttemptOf, OfEntry, OfOpen, items_from, items_into, in_parts}
 use Rattle.versions_rule.proofs.Told.Newest.{newest_moved}

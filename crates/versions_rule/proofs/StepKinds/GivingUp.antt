@@ -18,7 +18,9 @@ use Rattle.versions_rule.specs.Keeping.{GivesUp, SameWords, GivingUpKeeps}
 use Rattle.versions_rule.specs.Records.{AreCauses}
 use Rattle.versions_rule.specs.Versions.{ValuesHold}
 use Rattle.versions_rule.proofs.Parts.Asides.{is_kept, entries_stay, giving_up_drops}
-use Rattle.versions_rule.proofs.Told.Excludes.{attempt_open, open_begun, not_released}
+use Rattle.versions_rule.proofs.Told.Excludes.{not_released}
+use Rattle.values_rule.proofs.StepKinds.Commits.{attempt_open}
+use Rattle.values_rule.proofs.StepKinds.ValueKinds.{open_begun}
 use Rattle.versions_rule.proofs.Parts.Frames.{records_same, calls_same, items_kept, now_kept}
 use Rattle.versions_rule.proofs.Told.Owing.{owed_same}
 

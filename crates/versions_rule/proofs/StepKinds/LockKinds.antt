@@ -23,7 +23,7 @@ use Rattle.values_rule.specs.Steps.{clear_stamp_action}
 use Rattle.versions_rule.specs.Keeping.{KeepsValueRule, SameValues, SameWords}
 use Rattle.versions_rule.specs.Steps.{MayReleaseUnowed, MayClearStamp}
 use Rattle.versions_rule.specs.Versions.{ValuesHold}
-use Rattle.versions_rule.proofs.Told.Excludes.{attempt_open}
+use Rattle.values_rule.proofs.StepKinds.Commits.{attempt_open}
 use Rattle.versions_rule.proofs.StepKinds.GivingUp.{giving_up_values}
 use Rattle.versions_rule.proofs.Told.Owing.{version_kept}
 use Rattle.versions_rule.proofs.StepKinds.Quiet.{quiet_values}

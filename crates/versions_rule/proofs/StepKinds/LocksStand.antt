@@ -1,9 +1,7 @@
 -- The kinds of step on calls, versions, values and entries keep the lock invariant, since none is on a word of a lock; so
 -- do the joins, by which no lock is held.
-use Rattle.std.proofs.Common.{◌≡◌, ℕ, Bool, true, ⊎_elim, List, [], refl, sym, ◌∙◌, arith}
-use Rattle.history_model.specs.declared.view.Phase.{Phase}
-use Rattle.history_model.specs.declared.view.Phase.TheVariants.{Idle, Running, Yielding, Withdrawing, Releasing}
-use Rattle.history_model.specs.Counts.{is_open}
+use Rattle.std.proofs.Common.{◌≡◌, ℕ, Bool, ⊎_elim, List, [], refl, sym, ◌∙◌, arith}
+use Rattle.history_model.specs.declared.view.Phase.TheVariants.{Idle, Running, Releasing}
 use Rattle.history_model.specs.Sets.{has}
 use Rattle.history_model.specs.Table.{history_of}
 use Rattle.history_model.proofs.Views.Changes.{JoinTouches, NewByJoin}
@@ -15,10 +13,11 @@ use Rattle.locks_rule.proofs.Own.{own}
 use Rattle.locks_rule.proofs.Asides.{aside_keeps, same_locks}
 use Rattle.locks_rule.proofs.Joining.{joins, note_union, seats_union}
 use Rattle.locks_rule.proofs.Rearranging.{rearranged}
-use Rattle.values_rule.specs.Steps.{load_value_action, store_value_action, undo_store_action, undoing_phase, clear_stamp_action}
+use Rattle.values_rule.specs.Steps.{load_value_action, store_value_action, undo_store_action, clear_stamp_action}
 use Rattle.versions_rule.specs.Joins.{after_note, after_joining}
 use Rattle.versions_rule.specs.Steps.{MayBeginCall, begin_call_action, MayLoadVersion, load_version_action, MayStoreVersion, store_version_action, MayLoadValue}
 use Rattle.versions_rule.specs.Steps.{MayStoreValue, MayUndoStore, MayCommitCall, commit_call_action, MayClearStamp}
+use Rattle.values_rule.proofs.StepKinds.LocksStand.{undoing_idle}
 
 pub begin_call_locks : (n : ℕ) (base : List ℕ) (j : ℕ) → Keeps (LocksHold n base) (MayBeginCall j) (begin_call_action j)
 begin_call_locks n base j ws vs id v h me may =
@@ -68,13 +67,6 @@ store_value_locks n base j a x ws vs id v h me may =
     (same_locks v ((store_value_action j a x v).view (history_of vs) (found_by (store_value_action j a x v) ws)) refl
     refl refl refl refl refl refl refl (λ i t. t)
     (λ e. let z : Running ≡ Idle = sym may.phase ∙ e in cc))
-
-undoing_idle : (p : Phase) → is_open p ≡ true → undoing_phase p ≡ Idle → ⊥
-undoing_idle Idle o e = cc
-undoing_idle Running o e = cc
-undoing_idle Yielding o e = cc
-undoing_idle Withdrawing o e = cc
-undoing_idle Releasing o e = cc
 
 pub undo_store_locks : (n : ℕ) (base : List ℕ) (j a old : ℕ) → Keeps (LocksHold n base) (MayUndoStore j a old) (undo_store_action j a old)
 undo_store_locks n base j a old ws vs id v h me may =

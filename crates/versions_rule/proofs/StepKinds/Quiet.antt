@@ -18,7 +18,8 @@ use Rattle.versions_rule.specs.History.{now_of}
 use Rattle.versions_rule.specs.Keeping.{IsQuiet, SameWords, QuietKeeps, RestartKeeps}
 use Rattle.versions_rule.specs.Records.{AreCauses}
 use Rattle.versions_rule.specs.Versions.{ValuesHold}
-use Rattle.versions_rule.proofs.Told.Excludes.{open_begun, not_released}
+use Rattle.versions_rule.proofs.Told.Excludes.{not_released}
+use Rattle.values_rule.proofs.StepKinds.ValueKinds.{open_begun}
 use Rattle.versions_rule.proofs.Parts.Frames.{calls_same}
 use Rattle.versions_rule.proofs.Parts.Moves.{moves}
 use Rattle.versions_rule.proofs.StepKinds.Same.{same_attempt}

@@ -1,5 +1,5 @@
 -- A load, a store and its undoing keep the value invariant.
-use Rattle.std.proofs.Common.{◌≡◌, ◌≢◌, ℕ, ◌-◌, ◌<◌, true, ◌⊎◌, inl, inr, ⊎_elim, List, [], ◌∷◌, ◌++◌, length, take, Option, Some, None, IsSome, unwrap_or}
+use Rattle.std.proofs.Common.{◌≡◌, ◌≢◌, ℕ, ◌-◌, ◌<◌, true, inl, inr, ⊎_elim, List, [], ◌∷◌, ◌++◌, length, take, Option, Some, None, IsSome, unwrap_or}
 use Rattle.std.proofs.Common.{slice_get, slice_index, slice_set, refl, sym, ap, ◌∙◌, subst, arith, get_or-set_other}
 use Rattle.std.proofs.lemmas.Option.{same_Some}
 use mathlib.Core.Logic.{dite}
@@ -27,7 +27,7 @@ use Rattle.values_rule.specs.Steps.{load_value_action, store_value_action, known
 use Rattle.values_rule.specs.Values.{value_at, oldest}
 use Rattle.values_rule.proofs.Notes.{option_cases, is_missing, oldest_more, oldest_first, oldest_one, oldest_other, oldest_apart, older_is}
 use Rattle.values_rule.proofs.Frames.{shut_out}
-use Rattle.values_rule.proofs.StepKinds.ValueKinds.{in_base, set_here, set_there}
+use Rattle.values_rule.proofs.StepKinds.ValueKinds.{in_base, set_here, set_there, not_none, undoing_attempt, undoing_open, undoing_runs, undoing_rests, open_begun}
 use Rattle.versions_rule.specs.Keeping.{KeepsValueRule}
 use Rattle.versions_rule.specs.Steps.{MayLoadValue, MayStoreValue, MayUndoStore}
 use Rattle.versions_rule.specs.Versions.{ValuesHold}
@@ -35,7 +35,7 @@ use Rattle.versions_rule.specs.History.{now_of}
 use Rattle.versions_rule.proofs.Told.Owing.{version_kept}
 use Rattle.versions_rule.proofs.Parts.Frames.{calls_same}
 use Rattle.versions_rule.proofs.Told.Current.{current}
-use Rattle.versions_rule.proofs.Told.Excludes.{open_begun, not_released}
+use Rattle.versions_rule.proofs.Told.Excludes.{not_released}
 use Rattle.versions_rule.proofs.Parts.Moves.{moves}
 
 -- a word under the own exclusive lock that this seat has not noted, nobody has
@@ -49,10 +49,6 @@ nobody_noted good n base ws vs id j v h q me single a granted none other u k = d
     let c = q.undo.noted other a t.0 u k t.1 in
     absurd (shut_out n base ws vs other id j (lock_of_word a) u v h (λ z. ne (sym z)) k (own n base ws vs id j v h me single).seat (inr granted) c.1))
     (option_cases (oldest a u.undo)))
-
--- what is there is not missing
-not_none : (a old : ℕ) {o : Option ℕ} → (y : ℕ) × (o ≡ Some y) → o ≡ None → ⊥
-not_none a old s e = let z : Some s.0 ≡ None = sym s.1 ∙ e in cc
 
 -- a word that was read last is touched
 was_read : (t : Trace) (a : ℕ) → (before : Trace) × (old : ℕ) × (t ≡ before ++ Read a old ∷ []) → Touches t a
@@ -191,44 +187,12 @@ store_value_values good j a x n base ws vs id v h q me may =
       rested = λ t. absurd (⊎_elim (λ e. let z : Running ≡ Idle = sym may.phase ∙ e in cc) (λ e. let z : Running ≡ Releasing = sym may.phase ∙ e in cc) t);
     })
 
--- the phase as a write is undone
-undoing_attempt : (p : Phase) → is_open p ≡ true → is_attempt (undoing_phase p) ≡ true → is_attempt p ≡ true
-undoing_attempt Idle o t = absurd (cc)
-undoing_attempt Running o t = refl
-undoing_attempt Yielding o t = absurd (cc)
-undoing_attempt Withdrawing o t = refl
-undoing_attempt Releasing o t = absurd (cc)
-
 undoing_stays : (p : Phase) → is_open p ≡ true → is_open (undoing_phase p) ≡ true
 undoing_stays Idle t = absurd (cc)
 undoing_stays Running t = refl
 undoing_stays Yielding t = refl
 undoing_stays Withdrawing t = refl
 undoing_stays Releasing t = absurd (cc)
-
-undoing_open : (p : Phase) → is_open (undoing_phase p) ≡ true → is_open p ≡ true
-undoing_open Idle t = absurd (cc)
-undoing_open Running t = refl
-undoing_open Yielding t = refl
-undoing_open Withdrawing t = refl
-undoing_open Releasing t = absurd (cc)
-
-undoing_runs : (p : Phase) → undoing_phase p ≡ Running → ⊥
-undoing_runs Idle t = cc
-undoing_runs Running t = cc
-undoing_runs Yielding t = cc
-undoing_runs Withdrawing t = cc
-undoing_runs Releasing t = cc
-
-undoing_rests : (p : Phase) → is_open p ≡ true → (undoing_phase p ≡ Idle) ⊎ (undoing_phase p ≡ Releasing) → ⊥
-undoing_rests Idle o t = cc
-undoing_rests Running o (inl t) = cc
-undoing_rests Running o (inr t) = cc
-undoing_rests Yielding o (inl t) = cc
-undoing_rests Yielding o (inr t) = cc
-undoing_rests Withdrawing o (inl t) = cc
-undoing_rests Withdrawing o (inr t) = cc
-undoing_rests Releasing o t = cc
 
 pub undo_store_values : (good : List ℕ → Type 0) (j a old : ℕ) → KeepsValueRule good (MayUndoStore j a old) (undo_store_action j a old)
 undo_store_values good j a old n base ws vs id v h q me may =

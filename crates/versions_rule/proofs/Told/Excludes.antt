@@ -1,24 +1,14 @@
 -- A lock that one seat holds for writing no other seat holds, and phases.
-use Rattle.std.proofs.Common.{◌≡◌, ◌≢◌, ℕ, ◌<◌, true, false, inl, inr, List, refl, sym, ap, ◌∙◌}
+use Rattle.std.proofs.Common.{◌≡◌, ℕ, ◌<◌, true, false, inl, inr, List, sym, ap, ◌∙◌}
 use Rattle.history_model.specs.declared.view.View.{View}
 use Rattle.history_model.specs.declared.view.Phase.{Phase}
-use Rattle.history_model.specs.declared.view.Phase.TheVariants.{Idle, Running, Yielding, Withdrawing, Releasing}
+use Rattle.history_model.specs.declared.view.Phase.TheVariants.{Releasing}
 use Rattle.history_model.specs.declared.TheConstants.{LOCKS}
-use Rattle.history_model.specs.Counts.{is_attempt, is_open}
+use Rattle.history_model.specs.Counts.{is_open}
 use Rattle.history_model.specs.Table.{Knows}
 use Rattle.history_model.specs.Views.{IsGranted}
 use Rattle.locks_rule.specs.Locks.{LocksHold}
 use Rattle.locks_rule.proofs.Own.{lock_near}
-
-pub attempt_open : (p : Phase) → is_attempt p ≡ true → is_open p ≡ true
-attempt_open Idle t = absurd (cc)
-attempt_open Running t = refl
-attempt_open Yielding t = absurd (cc)
-attempt_open Withdrawing t = refl
-attempt_open Releasing t = absurd (cc)
-
-pub open_begun : (p : Phase) → is_open p ≡ true → p ≢ Idle
-open_begun p t e = let z : true ≡ false = sym t ∙ ap is_open e in cc
 
 pub not_released : (p : Phase) → is_open p ≡ true → p ≡ Releasing → ⊥
 not_released p t e = let z : true ≡ false = sym t ∙ ap is_open e in cc

@@ -25,7 +25,9 @@ use Rattle.values_rule.proofs.Frames.{shut_out}
 use Rattle.versions_rule.specs.History.{last_call, knew_of, uses_of, items_of, owed_by, next_version, now_of, writes_lock}
 use Rattle.versions_rule.specs.Records.{IsRecorded}
 use Rattle.versions_rule.specs.Versions.{ValuesHold}
-use Rattle.versions_rule.proofs.Told.Excludes.{attempt_open, open_begun, not_released}
+use Rattle.versions_rule.proofs.Told.Excludes.{not_released}
+use Rattle.values_rule.proofs.StepKinds.Commits.{attempt_open}
+use Rattle.values_rule.proofs.StepKinds.ValueKinds.{open_begun}
 use Rattle.versions_rule.proofs.Told.ItemsIn.{IsAttemptOf, OfEntry, OfOpen, items_from}
 use Rattle.versions_rule.proofs.Told.Knowing.{last_is, knew_at, knew_past}
 use Rattle.versions_rule.proofs.Told.Newest.{newest-at, length-newest}

@@ -1,5 +1,5 @@
 -- The uses of an attempt, and the item that they make.
-use Rattle.std.proofs.Common.{◌≡◌, ℕ, zero, suc, Bool, true, false, ◌&&◌, ◌||◌, ⊎_elim, List, [], ◌∷◌, map, Some, slice_get, refl, sym, ap, ◌∙◌, subst, eq-eqb}
+use Rattle.std.proofs.Common.{◌≡◌, ℕ, zero, suc, Bool, true, false, ◌&&◌, ◌||◌, ⊎_elim, List, [], ◌∷◌, Some, slice_get, refl, sym, ap, ◌∙◌, subst, eq-eqb}
 use Rattle.std.proofs.Common.{ne_eqb}
 use Rattle.std.specs.Prelude.{◌==◌}
 use Rattle.std.proofs.lemmas.Bool.{and_parts}
@@ -18,6 +18,7 @@ use Rattle.history_model.proofs.SetLemmas.{has-nil, has-join, has-join_same, has
 use Rattle.values_rule.specs.Values.{oldest}
 use Rattle.versions_rule.specs.History.{writes_lock, use_of, uses_of}
 use Rattle.versions_rule.specs.Steps.{locks_of}
+use Rattle.history_model.proofs.ListPlaces.{map_at, at_map}
 
 -- the test of a write under a lock
 pub lock_written : (k : ℕ) (t : Trace) → writes_lock k t ≡ true → (a : ℕ) × (lock_of_word a ≡ k) × Writes t a
@@ -40,16 +41,6 @@ written_lock k a t q w = at t w.0 w.1 w.2
     at (Write b w ∷ t) zero v e = let s : b ≡ a = cc in
         let z : lock_of_word b ≡ k = ap (λ (n : ℕ). lock_of_word n) s ∙ q in rw (eq-eqb (lock_of_word b) k z) refl
     at (Write b w ∷ t) (suc i) v e = elim (lock_of_word b == k) as (λ (c : Bool). (c || writes_lock k t) ≡ true) [ true ↦ refl | false ↦ at t i v e ]
-
-map_at : {A B : Type 0} (f : A → B) (xs : List A) (i : ℕ) (y : B) → slice_get (map f xs) i ≡ Some y → (x : A) × (slice_get xs i ≡ Some x) × (f x ≡ y)
-map_at f [] i y e = cc
-map_at f (x ∷ xs) zero y e = (x, refl, cc)
-map_at f (x ∷ xs) (suc i) y e = map_at f xs i y e
-
-at_map : {A B : Type 0} (f : A → B) (xs : List A) (i : ℕ) (x : A) → slice_get xs i ≡ Some x → slice_get (map f xs) i ≡ Some (f x)
-at_map f [] i x e = cc
-at_map f (z ∷ xs) zero x e = let q : z ≡ x = cc in ap (λ w. Some (f w)) q
-at_map f (z ∷ xs) (suc i) x e = at_map f xs i x e
 
 pair_is : (p : ℕ × ℕ) (k v : ℕ) → p.0 ≡ k → p.1 ≡ v → p ≡ (k, v)
 pair_is p k v l w = rw (← l, ← w) refl

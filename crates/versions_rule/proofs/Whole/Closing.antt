@@ -23,7 +23,7 @@ use Rattle.values_rule.proofs.Notes.{oldest-nil, option_cases}
 use Rattle.versions_rule.specs.History.{version_at, items_of_entry, items_of, owed_by, next_version}
 use Rattle.versions_rule.specs.Records.{IsRecorded}
 use Rattle.versions_rule.specs.Versions.{ValuesHold}
-use Rattle.versions_rule.proofs.Told.Excludes.{open_begun}
+use Rattle.values_rule.proofs.StepKinds.ValueKinds.{open_begun}
 use Rattle.versions_rule.proofs.Parts.Frames.{agree_by}
 use Rattle.versions_rule.proofs.Told.ItemsIn.{OfEntry, OfOpen, items_from, items_into, entry_from, entry_into, flat_map_in, in_flat_map}
 use Rattle.versions_rule.proofs.Told.Newest.{newest-at}

@@ -23,7 +23,7 @@ use Rattle.versions_rule.specs.Closing.{IsPlaced}
 use Rattle.versions_rule.specs.History.{item_of_entry, items_of, next_version, now_of}
 use Rattle.versions_rule.specs.Records.{IsRecorded}
 use Rattle.versions_rule.specs.Versions.{ValuesHold}
-use Rattle.versions_rule.proofs.Told.Excludes.{open_begun}
+use Rattle.values_rule.proofs.StepKinds.ValueKinds.{open_begun}
 use Rattle.versions_rule.proofs.Told.ItemsIn.{IsAttemptOf, OfEntry, OfOpen, items_from}
 use Rattle.versions_rule.proofs.Told.Knowing.{last_least, knew_at}
 use Rattle.versions_rule.proofs.Told.Newest.{newest_is}

@@ -4,7 +4,8 @@ use Rattle.txn_words.specs.Calls.{LeadsTo, InEachState}
 use Rattle.history_model.proofs.Traces.FittingLaws.{some_at}
 use Rattle.txn_cells.specs.declared.typed.TypedEvent.TheVariants.{Get, Set}
 use Rattle.txn_cells.specs.Cells.{AreCells, IsOfCell}
-use Rattle.txn_cells.proofs.Arrays.{on_ok_then, value_found, sets, cells_after, does_next}
+use Rattle.txn_words.proofs.Listed.{map_ok}
+use Rattle.txn_cells.proofs.Arrays.{value_found, sets, cells_after, does_next}
 use Rattle.txn_cells.proofs.Swapping.{cells_looked, Crossed, crossed, either_written, either_read}
 use Rattle.txn_cells.specs.Inner.Puts.{PutsWords}
 use Rattle.txn_cells.proofs.array.CellArray.swap.Given.{Over}
@@ -75,7 +76,7 @@ returns-clause-typed g c =
     let second = c.in_ok-second.ensures.goes_on in
     let write = c.in_ok-write_cell.ensures.goes_on in
     let last = c.write_cell-2.ensures in
-    on_ok_then c.write_cell-2.result (λ puts. (
+    map_ok c.write_cell-2.result (λ puts. (
       cross.former,
       cross.latter,
       does_next g.W.Words g.W.Shape.Shape g.T.Coded array.at array.len c.args.w.now c.write_cell.new.w
@@ -93,7 +94,7 @@ returns-clause-cells g c =
     let second = c.in_ok-second.ensures.goes_on in
     let write = c.in_ok-write_cell.ensures.goes_on in
     let last = c.write_cell-2.ensures.goes_on in
-    on_ok_then c.write_cell-2.result (λ does.
+    map_ok c.write_cell-2.result (λ does.
     cells_after g.W.Words g.W.Shape.Shape g.T.Coded array.at array.len c.args.w.now c.write_cell-2.new.w _ (last.shape
     ∙ write.shape ∙ second.shape ∙ first.shape)
     (begins_trans _ _ _ first.begins (begins_trans _ _ _ second.begins (begins_trans _ _ _ write.begins last.begins))) c.requires.cells does.2)
@@ -103,7 +104,7 @@ pub returns-clause-frame : goal.returns-clause-frame
 returns-clause-frame g c =
     let IsFirst = IsOfCell g.T.Coded.WORDS c.args.self.now.at c.args.i in
     let IsSecond = IsOfCell g.T.Coded.WORDS c.args.self.now.at c.args.j in
-    on_ok_then c.write_cell-2.result (λ last. record {
+    map_ok c.write_cell-2.result (λ last. record {
       appended = either_written IsFirst IsSecond _ _ _ _ _ c.in_ok-first.ensures.looks.writes
           c.in_ok-second.ensures.looks.writes c.in_ok-write_cell.ensures.frame.appended last.appended;
     }) c.write_cell-2.ensures.frame
@@ -117,7 +118,7 @@ returns-clause-reads g c =
     let second = c.in_ok-second.ensures in
     let fits_first = some_at shapes.word_count shapes.good _ _ _ first.goes_on.shape (g.met.W.Words.fits c.read_cell.new.w first.goes_on.sound) in
     let fits_second = some_at shapes.word_count shapes.good _ _ _ second.goes_on.shape (g.met.W.Words.fits c.read_cell-2.new.w second.goes_on.sound) in
-    on_ok_then c.write_cell-2.result (λ last. record {
+    map_ok c.write_cell-2.result (λ last. record {
       appended = either_read IsFirst IsSecond _ _ _ _ _ (first.looks.reads fits_first.0 fits_first.1)
           (second.looks.reads fits_second.0 fits_second.1) c.in_ok-write_cell.ensures.reads.appended last.appended;
     }) c.write_cell-2.ensures.reads
