@@ -16,9 +16,9 @@ use Rattle.worker_pool.specs.Days as days
 use Rattle.twoplsf.specs.Day.{ran_of_item, line_of, journal_of, closing_books, IsDayOf}
 
 -- the places of a journal are those of its items
-places_same : (done : List Done) → places_run (map ran_of_item done) ≡ days.places_of done
+places_same : (done : List Done) → places_run (map ran_of_item done) ≡ days.places_of_items done
 places_same [] = refl
-places_same (item ∷ done) = ap (λ places. days.place_of item ∷ places) (places_same done)
+places_same (item ∷ done) = ap (λ places. days.place_of_item item ∷ places) (places_same done)
 
 -- and so are its replies
 replies_same : (done : List Done) → map (λ (ran : Ran). ran.reply) (map ran_of_item done) ≡ map (λ (item : Done). item.reply) done
@@ -36,13 +36,13 @@ as_many (item ∷ done) = ap (λ n. suc n) (as_many done)
 
 module _ (input : ClearingInput) (workers : ℕ) (day : DayEnd) (is : IsDayOf input workers day) where
   -- each line is of a script of the input
-  pub lines_places : All (λ (l : Line). IsPlace input (lines.place_of l)) (map line_of day.done.items)
-  lines_places = All-map (λ (l : Line). IsPlace input (lines.place_of l)) line_of day.done.items
+  pub lines_places : All (λ (l : Line). IsPlace input (lines.place_of_line l)) (map line_of day.done.items)
+  lines_places = All-map (λ (l : Line). IsPlace input (lines.place_of_line l)) line_of day.done.items
       (All-from_map day.done.items is.is_day.journal.only)
     where
-      All-from_map : (done : List Done) → All (IsPlace input) (days.places_of done) → All (λ (item : Done). IsPlace input (days.place_of item)) done
-      All-from_map done all k d lt = subst (IsPlace input) (get_or-map days.place_of done k d (days.place_of d) lt)
-          (all k (days.place_of d) (subst (λ n. k < n) (sym (length-map done days.place_of)) lt))
+      All-from_map : (done : List Done) → All (IsPlace input) (days.places_of_items done) → All (λ (item : Done). IsPlace input (days.place_of_item item)) done
+      All-from_map done all k d lt = subst (IsPlace input) (get_or-map days.place_of_item done k d (days.place_of_item d) lt)
+          (all k (days.place_of_item d) (subst (λ n. k < n) (sym (length-map done days.place_of_item)) lt))
 
   -- the books that it left close the output
   pub text_is : (text : List ℕ) (lines : List Line) (replies : List Reply) (closing : ClearingBooks)

@@ -104,7 +104,8 @@ module _ (result : Status) (words : List (List ℕ)) (bytes : List ℕ) where
   on_input (HasFailed (inr (inr memory))) within have read write = inr (inr memory)
 
   -- and for `run W`, which compares no text
-  on_run : (result ≡ status.Differs → IsCheck words) → IsAnyRunCommand words → (result ≡ status.Done) ⊎ (result ≡ status.Differs) ⊎ (result ≡ status.OutOfMemory)
+  on_run : (result ≡ status.Differs → IsCheck words) → IsAnyRunCommand words
+      → (result ≡ status.Done) ⊎ (result ≡ status.Differs) ⊎ (result ≡ status.OutOfMemory)
       → (result ≡ status.Done) ⊎ (result ≡ status.OutOfMemory)
   on_run only run (inl is) = inl is
   on_run only run (inr (inl is)) = absurd (run_not_check words run (only is))

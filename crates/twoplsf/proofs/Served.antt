@@ -2,7 +2,6 @@
 use Rattle.std.proofs.Common.{Vec, Global, ◌≡◌, ◌≢◌, ◌≤◌, ◌⊎◌, ◌++◌, ℕ, List, length, refl, Option, Some, None, IfSome, IsSome, ◌↔◌, sym, ap, ◌∙◌, subst, inl}
 use Rattle.std.proofs.Common.{inr, arith, append-nil, true≢false}
 use Rattle.std.specs.Io.KnownBytes.{Appends, Consumes, IsAtEnd}
-use Rattle.std.proofs.lemmas.Option.{IfSome_then}
 use Rattle.io_ends.specs.Taken.{AppendsPrefix}
 use Rattle.script_reader.specs.declared.fault.Fault.{Fault}
 use Rattle.script_reader.specs.Faults.{IsFirstFault, IsFrontFault}
@@ -299,7 +298,8 @@ printed_day words r left now bytes answer result kept before after R h p = by an
     none is = subst Told (sym is) tt
 
     by : (a : Answer) → HasAnswered words r left now bytes a → HasPrinted a result kept before after R
-        → (result ≡ status_of a × Appends before after (text_of_answer a)) ⊎ (result ≡ status.WriteFault × R × AppendsPrefix before after (text_of_answer a)) → Told kept
+        → (result ≡ status_of a × Appends before after (text_of_answer a))
+        ⊎ (result ≡ status.WriteFault × R × AppendsPrefix before after (text_of_answer a)) → Told kept
     by a h p (inr fault) = none (none_kept result status.WriteFault kept fault.0 (λ e. cc) p.other)
     by (Output text day) h p (inl wrote) =
         subst Told (sym (p.done wrote.0)) (of_read h (λ all. IsDayFor words all before after day)

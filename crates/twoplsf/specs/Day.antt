@@ -28,7 +28,7 @@ journal_of day = map ran_of_item day.done.items
 
 -- the books that the interpreter leaves after the items, in their order
 abbrev pub closing_books : ClearingInput → DayEnd → ClearingBooks
-closing_books input day = books_after input input.books (days.places_of day.done.items)
+closing_books input day = books_after input input.books (days.places_of_items day.done.items)
 
 -- a day of the input by so many workers: a table with a seat for each, whose words stood for the opening books, and a
 -- legal history of all that was done on it, whose replay its words are at the end; each caller was run whole by one

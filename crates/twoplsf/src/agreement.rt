@@ -19,7 +19,7 @@ pub struct Agreement {
     compared: (),
 }
 
-/// Makes the output of a day, and compares it with the input. It agrees.
+// Makes the output of a day, and compares it with the input. It agrees.
 pub(crate) fn agree(
     alloc: Global,
     input: &Input,

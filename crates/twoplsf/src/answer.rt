@@ -36,7 +36,7 @@ pub enum Answer {
 }
 
 impl Answer {
-    /// The status that it is printed with, its text, and its day, which an output alone has.
+    // The status that it is printed with, its text, and its day, which an output alone has.
     pub(crate) fn into_parts(self) -> (Status, Vec<u8>, Option<DayEnd>)
         ensures status { result.0 ≡ status_of self }
         ensures text { result.1.items ≡ text_of_answer self }
@@ -51,6 +51,7 @@ impl Answer {
     }
 }
 
+// The line that refuses bytes, by their first faulty line.
 pub(crate) fn refusal_of(alloc: Global, line: u32, why: Fault) -> Result<Vec<u8>, OutOfMemory>
     ensures { IfOk result (λ text. text.items ≡ refused_line line why) }
 {

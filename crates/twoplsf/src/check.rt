@@ -10,6 +10,7 @@ use io_ends::OutOfMemory;
 use script_reader::{Input, InputFault, read_front};
 use std::alloc::Global;
 
+// The line that names the first wrong line of a text.
 fn difference_of(alloc: Global, line: u32) -> Result<Vec<u8>, OutOfMemory>
     ensures { IfOk result (λ text. text.items ≡ differs_line line) }
 {

@@ -133,8 +133,8 @@ pub fn drill_of(words: &[String]) -> Option<(u32, Plan)>
     Some((workers, plan))
 }
 
-/// The plan that three words are. It takes no memory.
-pub fn plan_of(seed: &[u8], callers: &[u8], scripts: &[u8]) -> Option<Plan>
+// The plan that three words are. It takes no memory.
+fn plan_of(seed: &[u8], callers: &[u8], scripts: &[u8]) -> Option<Plan>
     ensures some { IfSome result (λ plan. ArePlanned seed.now callers.now scripts.now
         plan.seed plan.callers plan.scripts) }
     ensures none { IfNone result ((s c n : ℕ)
@@ -153,8 +153,8 @@ pub fn plan_of(seed: &[u8], callers: &[u8], scripts: &[u8]) -> Option<Plan>
     })
 }
 
-/// The number that a word is, where it is one between two others, which both count. It takes no memory.
-pub fn number_within(word: &[u8], least: u32, most: u32) -> Option<u32>
+// The number that a word is, where it is one between two others, which both count. It takes no memory.
+fn number_within(word: &[u8], least: u32, most: u32) -> Option<u32>
     ensures some { IfSome result (λ n. (word.now ≡ number n) × IsWithin least most n) }
     ensures none { IfNone result ((n : ℕ) → word.now ≡ number n → ¬ IsWithin least most n) }
 {

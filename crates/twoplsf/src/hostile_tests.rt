@@ -60,11 +60,11 @@ fn surely<R: Threads + Wait + Sync>(
     Ok((served.status, served.day.is_some()))
 }
 
-/// The first input.
+// The first input.
 const WHOLE: &str =
     "books 1 blocks 4 instruments 1 ring 1\naccount 7 100\nscripts\nscript ann\ndeposit 7 5\nshow 7\nend\nfinish\n";
 
-/// Its output.
+// Its output.
 const PRINTED: &str =
     "journal\n1 ann 1 0 done ok 105\nbooks 1 blocks 4 instruments 1 ring 1\naccount 7 105\nfinish\n";
 

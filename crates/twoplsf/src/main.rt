@@ -19,7 +19,7 @@ use std::process::ExitCode;
 use std::{env, io};
 use worker_gate::OpenGate;
 
-/// The words after the program's name. Words that are no text are no words at all, which no command has.
+// The words after the program's name. Words that are no text are no words at all, which no command has.
 fn words_of(rt: &HostRuntime) -> Result<Vec<String>, OutOfMemory> {
     let mut words = Vec::new(rt.alloc());
     match env::args(rt) {

@@ -37,7 +37,7 @@ pub struct Made {
     pub day: Option<DayEnd>,
 }
 
-/// The input of a plan, read from its text.
+// The input of a plan, read from its text.
 fn input_of(alloc: Global, plan: Plan) -> Result<Input, OutOfMemory>
     requires { AreForMake plan.seed plan.callers plan.scripts }
     ensures { IfOk result (λ input. input ≡ planned_input plan) }
@@ -60,7 +60,7 @@ fn write_sum(text: &mut String, name: &str, sum: u64) -> Result<(), AllocError>
     write!(text, "{name} {sum}\n")
 }
 
-/// What is said of a drill whose output agrees: how many scripts it ran, and what its closing books come to.
+// What is said of a drill whose output agrees: how many scripts it ran, and what its closing books come to.
 fn summary_of(
     alloc: Global,
     _agreement: Agreement,
@@ -79,7 +79,7 @@ fn summary_of(
     Ok(text.into_bytes())
 }
 
-/// Compares the output of a day with its input, and sums up its closing books.
+// Compares the output of a day with its input, and sums up its closing books.
 fn summary_of_day(
     alloc: Global,
     input: &Input,

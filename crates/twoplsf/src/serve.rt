@@ -40,7 +40,17 @@ pub struct Served {
     pub day: Option<DayEnd>,
 }
 
-/// Writes a text, and answers the status that goes with it, or `WriteFault`.
+impl Served {
+    // What serving came to where no day is told.
+    fn without_day(status: Status) -> Served
+        ensures status { result.status ≡ status }
+        ensures day { result.day ≡ None }
+    {
+        Served { status, day: None }
+    }
+}
+
+// Writes a text, and answers the status that goes with it, or `WriteFault`.
 fn finish<K: Sink>(sink: &mut K, text: &[u8], status: Status) -> Status
     ensures { (result ≡ status × Appends (K.taken sink.old) (K.taken sink.new) text.now)
         ⊎ (result ≡ Status.WriteFault × Rose (K.faults sink.old) (K.faults sink.new)
@@ -52,7 +62,7 @@ fn finish<K: Sink>(sink: &mut K, text: &[u8], status: Status) -> Status
     }
 }
 
-/// The day, where its output was written whole.
+// The day, where its output was written whole.
 fn day_after(status: Status, day: Option<DayEnd>) -> Option<DayEnd>
     ensures done { status ≡ Status.Done → result ≡ day }
     ensures other { status ≢ Status.Done → result ≡ None }
@@ -60,7 +70,7 @@ fn day_after(status: Status, day: Option<DayEnd>) -> Option<DayEnd>
     if status == Status::Done { day } else { None }
 }
 
-/// Writes the text of an answer.
+// Writes the text of an answer.
 fn print_answer<K: Sink>(sink: &mut K, answer: Answer) -> Served
     ensures text { (result.status ≡ status_of answer
         × Appends (K.taken sink.old) (K.taken sink.new) (text_of_answer answer))
@@ -75,7 +85,7 @@ fn print_answer<K: Sink>(sink: &mut K, answer: Answer) -> Served
     Served { status, day }
 }
 
-/// What a command has to say of the bytes that were read.
+// What a command has to say of the bytes that were read.
 fn answer_by<R: Threads + Wait + Sync, G: Gate>(
     rt: &R,
     alloc: Global,
@@ -92,7 +102,7 @@ fn answer_by<R: Threads + Wait + Sync, G: Gate>(
     }
 }
 
-/// Does what a command that makes its input asks for: prints the text, which is all made before the first write.
+// Does what a command that makes its input asks for: prints the text, which is all made before the first write.
 fn serve_making<R: Threads + Wait + Sync, K: Sink, G: Gate>(
     rt: &R,
     alloc: Global,
@@ -115,14 +125,11 @@ fn serve_making<R: Threads + Wait + Sync, K: Sink, G: Gate>(
             let day = day_after(status, made.day);
             Served { status, day }
         }
-        Err(_) => {
-            let status = Status::OutOfMemory;
-            Served { status, day: None }
-        }
+        Err(_) => Served::without_day(Status::OutOfMemory),
     }
 }
 
-/// Does the whole work of `serve`. Its clauses are those from which the contract of `serve` follows.
+// Does the whole work of `serve`. Its clauses are those from which the contract of `serve` follows.
 fn serve_words<R: Threads + Wait + Sync, S: Source, K: Sink, G: Gate>(
     rt: &R,
     alloc: Global,
@@ -166,7 +173,7 @@ fn serve_words<R: Threads + Wait + Sync, S: Source, K: Sink, G: Gate>(
 {
     let Some(command) = command_of(words) else {
         let status = finish(sink, b"refused words\n", Status::BadWords);
-        return Served { status, day: None };
+        return Served::without_day(status);
     };
     let reading = match command {
         Command::Read(reading) => reading,
@@ -174,25 +181,16 @@ fn serve_words<R: Threads + Wait + Sync, S: Source, K: Sink, G: Gate>(
     };
     let bytes = match read_all(alloc, source, MOST_INPUT_BYTES) {
         Ok(bytes) => bytes,
-        Err(ReadStop::Fault) => {
-            let status = Status::ReadFault;
-            return Served { status, day: None };
-        }
+        Err(ReadStop::Fault) => return Served::without_day(Status::ReadFault),
         Err(ReadStop::TooLarge) => {
             let status = finish(sink, b"refused size\n", Status::TooLarge);
-            return Served { status, day: None };
+            return Served::without_day(status);
         }
-        Err(ReadStop::OutOfMemory) => {
-            let status = Status::OutOfMemory;
-            return Served { status, day: None };
-        }
+        Err(ReadStop::OutOfMemory) => return Served::without_day(Status::OutOfMemory),
     };
     match answer_by(rt, alloc, reading, &bytes, gate) {
         Ok(answer) => print_answer(sink, answer),
-        Err(_) => {
-            let status = Status::OutOfMemory;
-            Served { status, day: None }
-        }
+        Err(_) => Served::without_day(Status::OutOfMemory),
     }
 }
 

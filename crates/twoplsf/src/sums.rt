@@ -23,6 +23,7 @@ pub fn quantity_of_all(books: &Books) -> u64
     summed_quantity(books)
 }
 
+// The sum over the accounts, in the order of their numbers.
 fn summed_cash(books: &Books) -> u64
     requires { AreInRange books.now }
     ensures { result ≡ all_cash books.now }
@@ -36,6 +37,7 @@ fn summed_cash(books: &Books) -> u64
     sum
 }
 
+// The sum over the positions, in the order of their accounts and instruments.
 fn summed_quantity(books: &Books) -> u64
     requires { AreInRange books.now }
     ensures { result ≡ all_quantities books.now }

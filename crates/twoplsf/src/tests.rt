@@ -10,24 +10,24 @@ use std::test::Fail;
 use std::thread::Threads;
 use worker_gate::OpenGate;
 
-/// An input with the sizes 4, 1 and 1.
+// An input with the sizes 4, 1 and 1.
 pub(crate) const HEADER: &str = "books 1 blocks 4 instruments 1 ring 1\n";
 
-/// What deposits and shows account 7.
+// What deposits and shows account 7.
 pub(crate) const FIRST: &str =
     "account 7 100\nscripts\nscript ann\ndeposit 7 5\nshow 7\nend\nfinish\n";
 
-/// Its output, but for the header.
+// Its output, but for the header.
 pub(crate) const FIRST_OUTPUT: (&str, &str) = (
     "journal\n1 ann 1 0 done ok 105\n",
     "account 7 105\nfinish\n",
 );
 
-/// Books of four blocks, and two trades of which the second finds no block.
+// Books of four blocks, and two trades of which the second finds no block.
 const TRADES: &str =
     "account 1 100\naccount 2 0\nprice 1 10\nposition 2 1 3\nscripts\nscript ann\ntrade 1 2 1 3\nend\nscript ann\ntrade 2 1 1 1\nend\nfinish\n";
 
-/// What a run came to, and what its sink took.
+// What a run came to, and what its sink took.
 #[derive(Drop)]
 pub(crate) struct Outcome {
     pub(crate) status: Status,
@@ -41,7 +41,7 @@ impl Outcome {
     }
 }
 
-/// How the ends behave: the most bytes that a call moves, and the call of each that fails (0: none).
+// How the ends behave: the most bytes that a call moves, and the call of each that fails (0: none).
 #[derive(Clone, Copy)]
 pub(crate) struct Ends {
     pub(crate) most: usize,
@@ -49,14 +49,15 @@ pub(crate) struct Ends {
     pub(crate) write_fails: u64,
 }
 
-/// Ends that move much and never fail.
+// Ends that move much and never fail.
 pub(crate) const GOOD: Ends = Ends {
     most: 1_000_000,
     read_fails: 0,
     write_fails: 0,
 };
 
-pub fn words(alloc: Global, line: &str) -> Result<Vec<String>, OutOfMemory> {
+// The words of a command line.
+pub(crate) fn words(alloc: Global, line: &str) -> Result<Vec<String>, OutOfMemory> {
     let mut words = Vec::new(alloc);
     for word in line.split_whitespace() {
         words.push(String::from_str(alloc, word)?)?;
@@ -64,6 +65,7 @@ pub fn words(alloc: Global, line: &str) -> Result<Vec<String>, OutOfMemory> {
     Ok(words)
 }
 
+// What a command comes to over ends of this kind.
 pub(crate) fn served<R: Threads + Wait + Sync>(
     rt: &R,
     alloc: Global,
@@ -88,7 +90,8 @@ pub(crate) fn served<R: Threads + Wait + Sync>(
     })
 }
 
-pub fn text(alloc: Global, parts: &[&str]) -> Result<Vec<u8>, OutOfMemory> {
+// The bytes of texts, one behind the other.
+pub(crate) fn text(alloc: Global, parts: &[&str]) -> Result<Vec<u8>, OutOfMemory> {
     let mut bytes = Vec::new(alloc);
     for part in parts {
         bytes.extend_from_slice(part.as_bytes())?;

@@ -12,15 +12,15 @@ use std::test::Fail;
 use std::thread::Threads;
 use worker_gate::{Gate, OpenGate, Point, Stage};
 
-/// Two accounts without cash.
+// Two accounts without cash.
 pub(crate) const TWO_ACCOUNTS: &str =
     "books 1 blocks 2 instruments 1 ring 1\naccount 1 0\naccount 2 0\n";
 
-/// Two callers who want both accounts, in opposite order.
+// Two callers who want both accounts, in opposite order.
 pub(crate) const CROSSING: &str =
     "scripts\nscript ann\ndeposit 1 5\ndeposit 2 5\nend\nscript bob\ndeposit 2 5\ndeposit 1 5\nend\nfinish\n";
 
-/// How often a gate looks before it gives up.
+// How often a gate looks before it gives up.
 const LOOKS: u32 = 100_000_000;
 
 // Waits until the mark is a number from 1 on, or gives up, and says so.
@@ -33,13 +33,13 @@ fn await_mark(mark: &AtomicCell<u64>, gave_up: &AtomicCell<bool>) {
     gave_up.store(true);
 }
 
-/// Holds the first caller's script at its first lock until another script, by its tag, is committed.
+// Holds the first caller's script at its first lock until another script, by its tag, is committed.
 #[derive(Drop)]
 struct OtherFirst {
     other: u64,
-    /// The seat that committed the other script.
+    // The seat that committed the other script.
     seat: AtomicCell<u32>,
-    /// Which of the seat's calls that was, once it is committed.
+    // Which of the seat's calls that was, once it is committed.
     call: AtomicCell<u64>,
     gave_up: AtomicCell<bool>,
 }
@@ -70,14 +70,14 @@ impl Gate for OtherFirst {
     }
 }
 
-/// Holds each of two callers' scripts at its first lock to write until the other has one too.
+// Holds each of two callers' scripts at its first lock to write until the other has one too.
 #[derive(Drop)]
 pub(crate) struct BothWrite {
-    /// The word that the first caller's script was granted last, to write.
+    // The word that the first caller's script was granted last, to write.
     first: AtomicCell<u64>,
-    /// That of the second caller's.
+    // That of the second caller's.
     second: AtomicCell<u64>,
-    /// How often one of two seats gave way to the other.
+    // How often one of two seats gave way to the other.
     yields: AtomicCell<u64>,
     gave_up: AtomicCell<bool>,
 }
@@ -243,7 +243,7 @@ fn of_two_that_cross_one_gives_way(rt: HostRuntime) -> Result<(), Fail> {
     Ok(())
 }
 
-/// The names of eight callers.
+// The names of eight callers.
 const NAMES: [&str; 8] = ["a", "b", "c", "d", "e", "f", "g", "h"];
 
 // The scripts of these callers, 25 each: every one deposits 1 into account 1, and shows it.
@@ -323,12 +323,12 @@ fn each_script_of_a_day_is_run_once_in_its_callers_order(rt: HostRuntime) -> Res
     Ok(())
 }
 
-/// Counts the scripts that are committed, and sums up what it is told of them.
+// Counts the scripts that are committed, and sums up what it is told of them.
 #[derive(Drop)]
 struct Commits {
-    /// How many were about to be committed.
+    // How many were about to be committed.
     before: AtomicCell<u64>,
-    /// How many were committed.
+    // How many were committed.
     after: AtomicCell<u64>,
     tags: AtomicCell<u64>,
     seats: AtomicCell<u32>,

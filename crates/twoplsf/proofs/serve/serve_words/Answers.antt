@@ -7,7 +7,7 @@ use Rattle.twoplsf.specs.Command.{IsValidCommand}
 use Rattle.script_reader.specs.declared.limits.TheConstants.{MOST_INPUT_BYTES}
 use Rattle.twoplsf.specs.declared.status.Status.TheVariants as status
 use Rattle.twoplsf.specs.Answer.{refused_words, refused_size}
-use Rattle.twoplsf.proofs.Served.{read_by, read_is, not_made, took_text, HasAnswered, HasPrinted, printed_text, printed_day, printed_has_day}
+use Rattle.twoplsf.proofs.Served.{read_by, read_is, took_text, HasAnswered, HasPrinted, printed_text, printed_day, printed_has_day}
 use Rattle.twoplsf.proofs.Makings.{made_by, made_is, not_read, runs_of, day_of_making, took_making, none_of_making, no_other_end}
 use Rattle.twoplsf.proofs.serve.serve_words.Given.{Over}
 use Rattle.twoplsf.proofs.serve.serve_words.Goals as goal
@@ -27,18 +27,18 @@ serve_making-requires g c = (
 pub returns-in_default-clause-text : goal.returns-in_default-clause-text
 returns-in_default-clause-text g c =
     let none : IsValidCommand (map string_bytes c.args.words.now) → ⊥ = search rules in
-    took_text c.finish-status.result status.BadWords (map string_bytes c.args.words.now)
+    rw c.without_day.ensures.status (took_text c.finish-status.result status.BadWords (map string_bytes c.args.words.now)
     (g.S.Source.left c.args.source.now) (g.S.Source.left c.args.source.now) (g.K.Sink.taken c.args.sink.now)
-    (g.K.Sink.taken c.finish-status.new.sink) refused_words _ (none, refl) c.finish-status.ensures
+    (g.K.Sink.taken c.finish-status.new.sink) refused_words _ (none, refl) c.finish-status.ensures)
 
 pub returns-in-Err-TooLarge-clause-text : goal.returns-in-Err-TooLarge-clause-text
 returns-in-Err-TooLarge-clause-text g c =
     let above : IfSome (count_taken (g.S.Source.left c.args.source.now) (g.S.Source.left c.read_all.new.source))
     (λ n. n ≡ MOST_INPUT_BYTES + 1) = search rules in
-    took_text c.finish-status-in-Err-TooLarge.result status.TooLarge (map string_bytes c.args.words.now)
+    rw c.without_day-in-Err-TooLarge.ensures.status (took_text c.finish-status-in-Err-TooLarge.result status.TooLarge (map string_bytes c.args.words.now)
     (g.S.Source.left c.args.source.now) (g.S.Source.left c.read_all.new.source) (g.K.Sink.taken c.args.sink.now)
     (g.K.Sink.taken c.finish-status-in-Err-TooLarge.new.sink) refused_size _
-    (read_is (map string_bytes c.args.words.now) c.in-Read.is c.in-Some.ensures.some, above, refl) c.finish-status-in-Err-TooLarge.ensures
+    (read_is (map string_bytes c.args.words.now) c.in-Read.is c.in-Some.ensures.some, above, refl) c.finish-status-in-Err-TooLarge.ensures)
 
 pub returns-in-Make-clause-day : goal.returns-in-Make-clause-day
 returns-in-Make-clause-day g c run = absurd (not_read (map string_bytes c.args.words.now) c.in-Make.is c.in-Some.ensures.some (inl run))
