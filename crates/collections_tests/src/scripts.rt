@@ -311,7 +311,18 @@ fn compare(
 /// Accounts, where two blocks are left.
 #[test]
 fn accounts_and_cash(rt: HostRuntime) -> Result<(), Fail> {
-    const ROWS: [(&[Op], Want<'static>); 17] = [
+    const ROWS: [(&[Op], Want<'static>); 18] = [
+        // Every part of the books is changed before the operation that is declined.
+        (
+            &[
+                Op::OpenAccount(5),
+                Op::Trade(1, 2, 1, 1),
+                Op::Next,
+                Op::Margin(2, 100),
+                Op::Withdraw(9, 1),
+            ],
+            Want::Declined(5, Decline::Absent),
+        ),
         (&[Op::OpenAccount(5)], OK),
         (&[Op::OpenAccount(1)], Want::Declined(1, Decline::Exists)),
         (&[Op::Close(4)], OK),

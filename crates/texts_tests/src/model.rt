@@ -8,7 +8,7 @@ use books_model::limits::{
     GREATEST_AMOUNT, GREATEST_CASH, GREATEST_PRICE, GREATEST_QUANTITY, GREATEST_RATE,
     GREATEST_SHORTFALL, MOST_BLOCKS, MOST_INSTRUMENTS, MOST_RING,
 };
-use books_model::{Books, Decline, Op, Reply, Script, Value, Values, run_plain};
+use books_model::{Books, Decline, Op, Part, Reply, Script, Value, Values, run_plain};
 use io_ends::OutOfMemory;
 use std::alloc::Global;
 use std::test::Fail;
@@ -154,7 +154,7 @@ fn script_of(alloc: Global, operations: &[Op], books: &Books) -> Result<Option<S
         if !is_for(books, *operation) {
             return Ok(None);
         }
-        script.push(*operation)?;
+        script.push(Part::One(*operation))?;
     }
     Ok(Some(script))
 }

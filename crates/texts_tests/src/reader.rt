@@ -2,7 +2,7 @@
 
 ghost use Rattle.std.specs.Prelude.{◌≤◌};
 
-use books_model::{Op, Script};
+use books_model::{Op, Part, Script};
 use script_reader::{Fault, Input, InputFault, read_front, read_input};
 use std::alloc::{AllocError, Global};
 use std::test::Fail;
@@ -17,10 +17,12 @@ enum Told<'a> {
     Counts(u32, u32),
     // The name of a caller, and how many scripts it has.
     Caller(u32, (&'a str, u32)),
-    // How many operations a script of a caller has.
+    // How many parts a script of a caller has.
     Length(u32, u32, usize),
-    // An operation of a script of a caller.
+    // A part of a script of a caller that is an operation.
     Operation(u32, u32, usize, Op),
+    // How many operations each branch of a part has that is an alternative.
+    Branches(u32, u32, usize, (usize, usize)),
 }
 
 fn opening_of(input: &Input, account: u32) -> (Option<u64>, u32) {
@@ -46,12 +48,26 @@ fn length_of(input: &Input, caller: u32, index: u32) -> Option<usize> {
     Some(script_of(input, caller, index)?.len())
 }
 
-fn operation_of(input: &Input, caller: u32, index: u32, place: usize) -> Option<Op> {
+fn part_of(input: &Input, caller: u32, index: u32, place: usize) -> Option<&Part> {
     let script = script_of(input, caller, index)?;
     if place >= script.len() {
         return None;
     }
     Some(script.at(place))
+}
+
+fn operation_of(input: &Input, caller: u32, index: u32, place: usize) -> Option<Op> {
+    match part_of(input, caller, index, place)? {
+        Part::One(operation) => Some(*operation),
+        Part::Either(..) => None,
+    }
+}
+
+fn branches_of(input: &Input, caller: u32, index: u32, place: usize) -> Option<(usize, usize)> {
+    match part_of(input, caller, index, place)? {
+        Part::One(_) => None,
+        Part::Either(first, second) => Some((first.len(), second.len())),
+    }
 }
 
 fn is_told(input: &Input, told: &Told<'_>) -> bool {
@@ -62,6 +78,9 @@ fn is_told(input: &Input, told: &Told<'_>) -> bool {
         Told::Length(caller, index, len) => length_of(input, caller, index) == Some(len),
         Told::Operation(caller, index, place, op) => {
             operation_of(input, caller, index, place) == Some(op)
+        }
+        Told::Branches(caller, index, place, lens) => {
+            branches_of(input, caller, index, place) == Some(lens)
         }
     }
 }
@@ -143,6 +162,102 @@ fn alternating_callers(rt: HostRuntime) -> Result<(), Fail> {
         Told::Operation(1, 0, 0, Op::Show(2)),
     ];
     assert_eq!(rt; first_wrong_of(rt.alloc(), rest, told)?, None);
+    Ok(())
+}
+
+#[test]
+fn alternatives(rt: HostRuntime) -> Result<(), Fail> {
+    let rest =
+        "scripts\nscript ann\nshow 1\ntry\nshow 2\nshow 3\nelse\nshow 4\ndone\ntry\nelse\ndone\nend\nfinish\n";
+    let told = &[
+        Told::Counts(1, 1),
+        Told::Length(0, 0, 3),
+        Told::Operation(0, 0, 0, Op::Show(1)),
+        Told::Branches(0, 0, 1, (2, 1)),
+        Told::Branches(0, 0, 2, (0, 0)),
+    ];
+    assert_eq!(rt; first_wrong_of(rt.alloc(), rest, told)?, None);
+    Ok(())
+}
+
+// The text of a script of lines that each stand there so many times, up to the last of them.
+fn text_of_lines(alloc: Global, lines: &[(&str, usize)]) -> Result<String, AllocError> {
+    let mut text = [HEADER, "scripts\nscript ann\n"].concat(alloc)?;
+    for (line, count) in lines {
+        let repeated = line.repeat(alloc, *count)?;
+        text.push_str(repeated.as_str())?;
+    }
+    Ok(text)
+}
+
+fn fault_of_lines(
+    alloc: Global,
+    lines: &[(&str, usize)],
+) -> Result<Option<(u32, Fault)>, AllocError> {
+    let text = text_of_lines(alloc, lines)?;
+    Ok(fault_of(alloc, text.as_str()))
+}
+
+/// The words of alternatives where they may not stand, and the most alternatives and operations of a script.
+#[test]
+fn faults_of_alternatives(rt: HostRuntime) -> Result<(), Fail> {
+    const END: (&str, usize) = ("end\nfinish\n", 1);
+    const ROWS: [(&[(&str, usize)], Option<(u32, Fault)>); 18] = [
+        // In a script, outside an alternative.
+        (&[("else\n", 1)], Some((4, Fault::Word))),
+        (&[("done\n", 1)], Some((4, Fault::Word))),
+        (&[("try 1\n", 1)], Some((4, Fault::Word))),
+        // In a first branch.
+        (&[("try\n", 2)], Some((5, Fault::Word))),
+        (&[("try\ndone\n", 1)], Some((5, Fault::Word))),
+        (&[("try\nend\n", 1)], Some((5, Fault::Word))),
+        (&[("try\nfinish\n", 1)], Some((5, Fault::Word))),
+        // In a second branch.
+        (&[("try\nelse\ntry\n", 1)], Some((6, Fault::Word))),
+        (&[("try\nelse\nelse\n", 1)], Some((6, Fault::Word))),
+        (&[("try\nelse\nend\n", 1)], Some((6, Fault::Word))),
+        // Behind scripts, and behind an alternative.
+        (&[("end\ntry\n", 1)], Some((5, Fault::Word))),
+        (&[("try\nelse\ndone\nelse\n", 1)], Some((7, Fault::Word))),
+        // 64 alternatives, and one more.
+        (&[("try\nelse\ndone\n", 64), END], None),
+        (&[("try\nelse\ndone\n", 65)], Some((196, Fault::Limit))),
+        // 64 operations of both branches, and one more in each place.
+        (
+            &[
+                ("try\n", 1),
+                ("show 1\n", 32),
+                ("else\n", 1),
+                ("show 1\n", 32),
+                ("done\n", 1),
+                END,
+            ],
+            None,
+        ),
+        (
+            &[
+                ("try\n", 1),
+                ("show 1\n", 32),
+                ("else\n", 1),
+                ("show 1\n", 33),
+            ],
+            Some((70, Fault::Limit)),
+        ),
+        (
+            &[
+                ("try\n", 1),
+                ("show 1\n", 32),
+                ("else\n", 1),
+                ("show 1\n", 32),
+                ("done\nshow 1\n", 1),
+            ],
+            Some((71, Fault::Limit)),
+        ),
+        (&[("try\n", 1), ("show 1\n", 65)], Some((69, Fault::Limit))),
+    ];
+    for (lines, fault) in &ROWS {
+        assert_eq!(rt; fault_of_lines(rt.alloc(), *lines)?, *fault, "{lines:?}");
+    }
     Ok(())
 }
 
@@ -239,6 +354,24 @@ fn first_faults(rt: HostRuntime) {
         ),
         (
             "books 1 blocks 4 instruments 1 ring 1\nscripts\naccount 1 1\n",
+            3,
+            Fault::Word,
+        ),
+        ("books 1 blocks 4 instruments 1 ring 1\ntry\n", 2, Fault::Word),
+        ("books 1 blocks 4 instruments 1 ring 1\nelse\n", 2, Fault::Word),
+        ("books 1 blocks 4 instruments 1 ring 1\ndone\n", 2, Fault::Word),
+        (
+            "books 1 blocks 4 instruments 1 ring 1\nscripts\ntry\n",
+            3,
+            Fault::Word,
+        ),
+        (
+            "books 1 blocks 4 instruments 1 ring 1\nscripts\nelse\n",
+            3,
+            Fault::Word,
+        ),
+        (
+            "books 1 blocks 4 instruments 1 ring 1\nscripts\ndone\n",
             3,
             Fault::Word,
         ),

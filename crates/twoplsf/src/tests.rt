@@ -27,6 +27,9 @@ pub(crate) const FIRST_OUTPUT: (&str, &str) = (
 const TRADES: &str =
     "account 1 100\naccount 2 0\nprice 1 10\nposition 2 1 3\nscripts\nscript ann\ntrade 1 2 1 3\nend\nscript ann\ntrade 2 1 1 1\nend\nfinish\n";
 
+// A script with an alternative.
+const EITHER: &str = "scripts\nscript ann\ntry\nopen 1\nelse\nopen 2\ndone\nend\nfinish\n";
+
 // What a run came to, and what its sink took.
 #[derive(Drop)]
 pub(crate) struct Outcome {
@@ -192,6 +195,30 @@ fn scripts_are_run_and_printed(rt: HostRuntime) -> Result<(), Fail> {
             "journal\n1 ann 1 0 done 0 2000000000000001 0\n",
             "account 1 1000000000000000\naccount 2 1000000000000000\naccount 5 1\nfinish\n",
         ),
+        // refused_first_branch_runs_the_second
+        (
+            "account 1 10\naccount 2 0\nscripts\nscript ann\ntry\ndeposit 1 5\nwithdraw 1 100\nelse\ndeposit 2 3\ndone\nshow 1\nend\nfinish\n",
+            "journal\n1 ann 1 0 done second ok 10\n",
+            "account 1 10\naccount 2 3\nfinish\n",
+        ),
+        // refusal_in_the_second_branch_counts_both
+        (
+            "account 1 10\nscripts\nscript ann\ntry\nwithdraw 1 100\nelse\nshow 9\ndone\nend\nfinish\n",
+            "journal\n1 ann 1 0 declined 2 absent\n",
+            "account 1 10\nfinish\n",
+        ),
+        // empty_alternative_takes_its_first_branch
+        (
+            "scripts\nscript ann\ntry\nelse\ndone\nend\nfinish\n",
+            "journal\n1 ann 1 0 done first\n",
+            "finish\n",
+        ),
+        // two alternatives one behind the other, and operations numbered through both branches of each
+        (
+            "account 1 10\nscripts\nscript ann\ntry\nwithdraw 1 100\nelse\nwithdraw 1 4\ndone\ntry\ndeposit 1 1\nelse\ndone\nshow 1\nwithdraw 1 100\nend\nscript bob\ntry\nwithdraw 1 100\nelse\nwithdraw 1 4\ndone\ntry\ndeposit 1 1\nelse\ndone\nshow 1\nend\nfinish\n",
+            "journal\n1 ann 1 0 declined 5 cash\n2 bob 1 0 done second ok first ok 7\n",
+            "account 1 7\nfinish\n",
+        ),
         // a declined script leaves the books, and the next one finds them so
         (
             "account 1 10\nscripts\nscript ann\ndeposit 1 5\nshow 2\nend\nscript bob\nshow 1\nend\nfinish\n",
@@ -237,6 +264,13 @@ fn scripts_are_run_on_other_sizes(rt: HostRuntime) -> Result<(), Fail> {
             "scripts\nscript ann\nopen 1\nopen 2\nend\nfinish\n",
             "journal\n1 ann 1 0 full 2\n",
             "finish\n",
+        ),
+        // first_branch_gives_its_block_back
+        (
+            "books 1 blocks 1 instruments 1 ring 1\n",
+            "scripts\nscript ann\ntry\nopen 1\nopen 2\nelse\nopen 3\ndone\nend\nfinish\n",
+            "journal\n1 ann 1 0 done second ok\n",
+            "account 3 0\nfinish\n",
         ),
         // accounts_are_closed_and_opened
         (
@@ -386,7 +420,11 @@ fn faulty_lines_are_refused(rt: HostRuntime) -> Result<(), Fail> {
             "refused line 3 word\n",
         ),
         ("scripts\naccount 1 1\n", "refused line 3 word\n"),
-        ("scripts\nscript ann\ntry\nend\n", "refused line 4 word\n"),
+        // end_inside_a_branch_is_refused
+        (
+            "scripts\nscript ann\ntry\nend\nfinish\n",
+            "refused line 5 word\n",
+        ),
         (
             "scripts\nscript abcdefghijklmnopq\n",
             "refused line 3 word\n",
@@ -463,13 +501,15 @@ fn faults_in_whole_texts_are_refused(rt: HostRuntime) -> Result<(), Fail> {
 #[test]
 fn each_proper_prefix_lacks_its_end(rt: HostRuntime) -> Result<(), Fail> {
     let alloc = rt.alloc();
-    let whole = text(alloc, &[HEADER, TRADES])?;
-    for end in 0..whole.len() {
-        let front = &whole[..end];
-        let lines = front.iter().filter(|b| **b == b'\n').count() as u64;
-        let run = served(&rt, alloc, "run 1", front.to_vec(alloc)?, GOOD)?;
-        let want = format!(in alloc; "refused line {} end\n", lines.saturating_add(1))?;
-        assert!(rt; run.is_so(Status::BadInput, want.as_bytes()), "{end}");
+    for input in &[TRADES, EITHER] {
+        let whole = text(alloc, &[HEADER, *input])?;
+        for end in 0..whole.len() {
+            let front = &whole[..end];
+            let lines = front.iter().filter(|b| **b == b'\n').count() as u64;
+            let run = served(&rt, alloc, "run 1", front.to_vec(alloc)?, GOOD)?;
+            let want = format!(in alloc; "refused line {} end\n", lines.saturating_add(1))?;
+            assert!(rt; run.is_so(Status::BadInput, want.as_bytes()), "{end}");
+        }
     }
     Ok(())
 }

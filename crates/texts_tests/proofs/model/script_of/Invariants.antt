@@ -1,10 +1,12 @@
-use Rattle.std.proofs.Common.{◌≡◌, length, All}
-use Rattle.books_model.specs.Ranges.{IsOperationFor}
+use Rattle.std.proofs.Common.{◌≡◌, length, sum_by}
+use Rattle.books_model.specs.Ranges.{IsScriptFor}
+use Rattle.books_model.specs.Scripts.{operations_of, alternatives_in}
 use Rattle.texts_tests.proofs.model.script_of.Given as goal
 
--- the script has as many operations as were looked at, and their numbers are in range
+-- the script has as many operations as were looked at, no alternative, and numbers in their ranges
 abbrev pub invariant-loop-operation : goal.invariant-loop-operation
 invariant-loop-operation l = record {
-  long : length l.script ≡ l.operation-index;
-  each : All (IsOperationFor l.books) l.script;
+  script : IsScriptFor l.books l.script;
+  long : length (operations_of l.script) ≡ l.operation-index;
+  none : sum_by alternatives_in l.script ≡ 0;
 }
