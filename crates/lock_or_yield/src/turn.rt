@@ -61,8 +61,8 @@ fn announce_once<S: Shape>(desk: &Desk<S>, pass: &mut Pass<S>)
     }
 }
 
-// What a turn comes to that met the seat `other`: the timestamp is shown, and the other's looked at. It stands by itself,
-// so that a turn that meets nobody is short enough to stand where it is called.
+// What a turn comes to that met the seat `other`: the timestamp is shown, and the other's looked at. It stands by
+// itself, so that a turn that meets nobody is short enough to stand where it is called.
 #[cold]
 #[inline(never)]
 pub(crate) fn judge_met<S: Shape>(desk: &Desk<S>, pass: &mut Pass<S>, other: u32) -> Tried

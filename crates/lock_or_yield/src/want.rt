@@ -49,9 +49,9 @@ fn ask_again<R: Wait, S: Shape>(
     unreachable!()
 }
 
-/// Goes on asking for the lock of word a, once the first turn met the seat `other`: this is judged, and turn follows turn
-/// until the lock is held or the attempt gives way. What is said is said of all turns together, from the view `old` before
-/// the first.
+/// Goes on asking for the lock of word a, once the first turn met the seat `other`: this is judged, and turn follows
+/// turn until the lock is held or the attempt gives way. What is said is said of all turns together, from the view
+/// `old` before the first.
 #[cold]
 #[inline(never)]
 pub fn go_on<R: Wait, S: Shape>(

@@ -119,9 +119,9 @@ fn go_on_to_read<R: Wait, S: Shape>(
     }
 }
 
-// Asks for the lock of word a, to read it, where it is not held so. It stands by itself, so that a read whose lock is held
-// is short enough to stand where it is called; and what comes once a seat was met stands by itself too, so that a lock
-// that is granted costs few instructions.
+// Asks for the lock of word a, to read it, where it is not held so. It stands by itself, so that a read whose lock is
+// held is short enough to stand where it is called; and what comes once a seat was met stands by itself too, so that a
+// lock that is granted costs few instructions.
 #[inline(never)]
 fn ask_to_read<R: Wait, S: Shape>(
     rt: &R,

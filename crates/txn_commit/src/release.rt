@@ -8,7 +8,8 @@ ghost use Rattle.txn_commit.specs.Inner.Releasing.{Releases};
 use history_model::{Phase, Shape};
 use word_table::{Desk, Pass};
 
-// Gives up all claims, the least lock first. Each turn goes on from the word of bits that has the lock of the turn before.
+// Gives up all claims, the least lock first. Each turn goes on from the word of bits that has the lock of the turn
+// before.
 fn release_claims<S: Shape>(desk: &Desk<S>, pass: &mut Pass<S>)
     requires desk { pass.old.table ≡ desk.now.table }
     requires undone { (pass.old.view.undo ≡ []) ⊎ (pass.old.view.phase ≡ Phase.Releasing) }

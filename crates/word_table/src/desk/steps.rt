@@ -56,8 +56,8 @@ impl<S: Shape> Desk<S> {
         self.share_new(pass, a)
     }
 
-    /// Asks for the lock of word a, to read it, which is not held: all that `share` does then, with no test whether it is
-    /// held.
+    /// Asks for the lock of word a, to read it, which is not held: all that `share` does then, with no test whether it
+    /// is held.
     #[inline(always)]
     pub fn share_new(&self, pass: &mut Pass<S>, a: u64) -> Shared
         requires desk { pass.old.table ≡ self.now.table }

@@ -30,8 +30,8 @@ loop-preserved g c = let old = c.args.pass.now.view in let mid = c.loop.pass.vie
     }
 
 pub returns-in-Granted-clause-answer : goal.returns-in-Granted-clause-answer
-returns-in-Granted-clause-answer g c = let old = c.args.pass.now.view in let mid = c.loop.pass.view in let new = c.try_to.new.pass.view in let inv = c.loop.invariant in
-    let h = c.in-Granted.ensures in record {
+returns-in-Granted-clause-answer g c = let old = c.args.pass.now.view in let mid = c.loop.pass.view in let new = c.try_to.new.pass.view in
+    let inv = c.loop.invariant in let h = c.in-Granted.ensures in record {
       asks = asks_more c.args.a old mid new inv.asks h.turn.asks;
       locks = locks_more c.args.intent (lock_of_word c.args.a) old mid new inv.locks h.turn.locks;
       judged = h.turn.judged;
@@ -39,8 +39,8 @@ returns-in-Granted-clause-answer g c = let old = c.args.pass.now.view in let mid
     }
 
 pub returns-in-Yield-clause-answer : goal.returns-in-Yield-clause-answer
-returns-in-Yield-clause-answer g c = let old = c.args.pass.now.view in let mid = c.loop.pass.view in let new = c.try_to.new.pass.view in let inv = c.loop.invariant in
-    let h = c.in-Yield.ensures in record {
+returns-in-Yield-clause-answer g c = let old = c.args.pass.now.view in let mid = c.loop.pass.view in let new = c.try_to.new.pass.view in
+    let inv = c.loop.invariant in let h = c.in-Yield.ensures in record {
       asks = asks_more c.args.a old mid new inv.asks h.turn.asks;
       locks = locks_more c.args.intent (lock_of_word c.args.a) old mid new inv.locks h.turn.locks;
       judged = h.turn.judged;

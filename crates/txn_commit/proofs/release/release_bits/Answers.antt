@@ -1,6 +1,7 @@
 use Rattle.std.proofs.Common.{◌∙◌}
 use Rattle.history_model.specs.Views.{number, HasBit}
-use Rattle.txn_commit.proofs.Releasing.{at_next, near_next, fewer_left, least_from_word, least_below, claims_stay, releases_more, bit_cleared, bits_without, still_undone}
+use Rattle.txn_commit.proofs.Releasing.{at_next, near_next, fewer_left, least_from_word, least_below, claims_stay, releases_more, bit_cleared}
+use Rattle.txn_commit.proofs.Releasing.{bits_without, still_undone}
 use Rattle.txn_commit.proofs.Releasing.{still_begun}
 use Rattle.txn_commit.proofs.release.release_bits.Goals as goal
 

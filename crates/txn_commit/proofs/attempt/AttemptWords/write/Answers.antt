@@ -109,7 +109,8 @@ returns g c =
     c.ask_to_write.ensures.asked.judged goes_on.1 c.load-old.ensures.desk c.load-old.ensures.event c.load-old.ensures.fits in
     let last = loaded_last c.args.a c.load-old.result c.ask_to_write.new.pass.view c.load-old.new.pass.view c.load-old.ensures.event in
     let asks = c.ask_to_write.ensures.asked.asks in
-    let read = load_trace c.args.a c.load-old.result c.args.self.now.pass.now.view c.ask_to_write.new.pass.view c.load-old.new.pass.view asks c.load-old.ensures.event in
+    let read = load_trace c.args.a c.load-old.result c.args.self.now.pass.now.view c.ask_to_write.new.pass.view
+    c.load-old.new.pass.view asks c.load-old.ensures.event in
     let written = store_trace c.args.a c.load-old.result c.args.v c.args.self.now.pass.now.view c.load-old.new.pass.view
     c.store.new.pass.view read c.store.ensures.step in
     let made = sym c.if-is_err.ensures.value in
