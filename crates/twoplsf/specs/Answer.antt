@@ -92,14 +92,16 @@ pub record TellsOfDay (input : ClearingInput) (workers : ℕ) (text : List ℕ) 
 
 -- the answer to bytes: a day of the input that they spell and its output, or the refusal of their first fault
 abbrev pub IsAnswerTo : ℕ → List ℕ → Answer → Type 0
-IsAnswerTo workers bytes (Output text day) = (input : ClearingInput) × Spells bytes input × TellsOfDay input workers text.items day
+IsAnswerTo workers bytes (Output text day) =
+    (input : ClearingInput) × Spells bytes input × TellsOfDay input workers text.items day
 IsAnswerTo workers bytes (Agrees text) = ⊥
 IsAnswerTo workers bytes (Difference text) = ⊥
 IsAnswerTo workers bytes (Refusal text) = IsRefusalOf bytes text.items
 
 -- the day of a run: that of the input that the bytes spell, by as many workers as the words say; and what was printed
 -- is the output for its items, in their order and with their restarts
-pub record IsDayFor (words : List (List ℕ)) (bytes : List ℕ) (before now : Option (List ℕ)) (day : DayEnd) : Type 0 where
+pub record IsDayFor (words : List (List ℕ)) (bytes : List ℕ) (before now : Option (List ℕ)) (day : DayEnd)
+    : Type 0 where
   pub workers : ℕ
   pub command : IsRunCommand words workers
   pub input : ClearingInput
@@ -118,7 +120,8 @@ pub record IsRefusalOfFront (bytes text : List ℕ) : Type 0 where
 abbrev pub IsComparison : ClearingInput → List ℕ → Answer → Type 0
 IsComparison input read (Output text day) = ⊥
 IsComparison input read (Agrees text) = IsOutput input RESTARTS_BELOW read × (text.items ≡ agrees_line)
-IsComparison input read (Difference text) = (n : ℕ) × IsFirstWrongLine input RESTARTS_BELOW read n × (text.items ≡ differs_line n)
+IsComparison input read (Difference text) =
+    (n : ℕ) × IsFirstWrongLine input RESTARTS_BELOW read n × (text.items ≡ differs_line n)
 IsComparison input read (Refusal text) = ⊥
 
 -- the answer to bytes that are to be an input and an output of it
@@ -143,7 +146,8 @@ IsDifferenceFor words bytes text = IsCheck words × ((n : ℕ) × HoldWrongLine 
 
 -- what refuses bytes that do not have the input that the command reads
 abbrev pub IsRefusalFor : List (List ℕ) → List ℕ → List ℕ → Type 0
-IsRefusalFor words bytes text = (IsAnyRunCommand words × IsRefusalOf bytes text) ⊎ (IsCheck words × IsRefusalOfFront bytes text)
+IsRefusalFor words bytes text =
+    (IsAnyRunCommand words × IsRefusalOf bytes text) ⊎ (IsCheck words × IsRefusalOfFront bytes text)
 
 -- the bytes have the input that the command reads: all of them are one, or they begin with one
 abbrev pub HaveInputFor : List (List ℕ) → List ℕ → Type 0
@@ -152,26 +156,35 @@ HaveInputFor words bytes = (IsAnyRunCommand words × IsValidInput bytes) ⊎ (Is
 -- a text goes with a status, by the words and by what the source had left and has left now
 abbrev pub IsTextFor : Status → List (List ℕ) → Option (List ℕ) → Option (List ℕ) → List ℕ → Type 0
 IsTextFor status.Done words left now text =
-    (IsReading words × IsAtEnd now × OfBytesRead left (λ bytes. (length bytes ≤ MOST_INPUT_BYTES) × IsDoneText words bytes text))
+    (IsReading words × IsAtEnd now
+    × OfBytesRead left (λ bytes. (length bytes ≤ MOST_INPUT_BYTES) × IsDoneText words bytes text))
     ⊎ IsMadeText words text
 IsTextFor status.Differs words left now text = IsReading words × IsAtEnd now
     × OfBytesRead left (λ bytes. (length bytes ≤ MOST_INPUT_BYTES) × IsDifferenceFor words bytes text)
 IsTextFor status.BadWords words left now text = (¬ IsValidCommand words) × (text ≡ refused_words)
 IsTextFor status.BadInput words left now text = IsReading words × IsAtEnd now
     × OfBytesRead left (λ bytes. (length bytes ≤ MOST_INPUT_BYTES) × IsRefusalFor words bytes text)
-IsTextFor status.TooLarge words left now text = IsReading words × IfSome (count_taken left now) (λ n. n ≡ MOST_INPUT_BYTES + 1) × (text ≡ refused_size)
+IsTextFor status.TooLarge words left now text =
+    IsReading words × IfSome (count_taken left now) (λ n. n ≡ MOST_INPUT_BYTES + 1) × (text ≡ refused_size)
 IsTextFor status.ReadFault words left now text = ⊥
 IsTextFor status.WriteFault words left now text = ⊥
 IsTextFor status.OutOfMemory words left now text = ⊥
 
 -- the sink took a whole text that goes with the status; after a write fault a prefix of one that goes with another; and
 -- nothing is said of it after a read fault and out of memory
-abbrev pub TookText : Status → List (List ℕ) → Option (List ℕ) → Option (List ℕ) → Option (List ℕ) → Option (List ℕ) → Type 0
-TookText status.Done words left now before after = (text : List ℕ) × IsTextFor status.Done words left now text × Appends before after text
-TookText status.Differs words left now before after = (text : List ℕ) × IsTextFor status.Differs words left now text × Appends before after text
-TookText status.BadWords words left now before after = (text : List ℕ) × IsTextFor status.BadWords words left now text × Appends before after text
-TookText status.BadInput words left now before after = (text : List ℕ) × IsTextFor status.BadInput words left now text × Appends before after text
-TookText status.TooLarge words left now before after = (text : List ℕ) × IsTextFor status.TooLarge words left now text × Appends before after text
-TookText status.WriteFault words left now before after = (is : Status) × (text : List ℕ) × IsTextFor is words left now text × AppendsPrefix before after text
+abbrev pub TookText : Status → List (List ℕ) → Option (List ℕ) → Option (List ℕ) → Option (List ℕ) → Option (List ℕ)
+    → Type 0
+TookText status.Done words left now before after =
+    (text : List ℕ) × IsTextFor status.Done words left now text × Appends before after text
+TookText status.Differs words left now before after =
+    (text : List ℕ) × IsTextFor status.Differs words left now text × Appends before after text
+TookText status.BadWords words left now before after =
+    (text : List ℕ) × IsTextFor status.BadWords words left now text × Appends before after text
+TookText status.BadInput words left now before after =
+    (text : List ℕ) × IsTextFor status.BadInput words left now text × Appends before after text
+TookText status.TooLarge words left now before after =
+    (text : List ℕ) × IsTextFor status.TooLarge words left now text × Appends before after text
+TookText status.WriteFault words left now before after =
+    (is : Status) × (text : List ℕ) × IsTextFor is words left now text × AppendsPrefix before after text
 TookText status.ReadFault words left now before after = Unit {0}
 TookText status.OutOfMemory words left now before after = Unit {0}

@@ -21,11 +21,13 @@ exit_status status.OutOfMemory = 7
 -- the number that the program ends with, for words, for what the source had left and has left now, what the sink had
 -- taken and has taken now, and whether a read or a write failed: it is that of a status, which goes with what was
 -- printed
-pub record EndsWith (n : ℕ) (words : List (List ℕ)) (left now before after : Option (List ℕ)) (read_failed write_failed : Type 0) : Type 0 where
+pub record EndsWith (n : ℕ) (words : List (List ℕ)) (left now before after : Option (List ℕ))
+    (read_failed write_failed : Type 0) : Type 0 where
   pub is : Status
   pub number_is : n ≡ exit_status is
   pub text : TookText is words left now before after
   pub read_fault : is ≡ status.ReadFault → read_failed
   pub write_fault : is ≡ status.WriteFault → write_failed
   pub words_first : (¬ IsValidCommand words) → (is ≡ status.BadWords) ⊎ (is ≡ status.WriteFault)
-  pub above_limit : count_taken left now ≡ Some (MOST_INPUT_BYTES + 1) → (is ≡ status.TooLarge) ⊎ (is ≡ status.WriteFault) ⊎ (is ≡ status.OutOfMemory)
+  pub above_limit : count_taken left now ≡ Some (MOST_INPUT_BYTES + 1)
+      → (is ≡ status.TooLarge) ⊎ (is ≡ status.WriteFault) ⊎ (is ≡ status.OutOfMemory)
