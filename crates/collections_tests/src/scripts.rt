@@ -1,7 +1,7 @@
 //! Scripts on words and in the plain interpreter, side by side: the same rows through both, with replies computed by
 //! hand.
 
-ghost use Rattle.std.specs.Prelude.{◌≡◌, ◌≤◌, length, All, IfOk};
+ghost use Rattle.std.specs.Prelude.{◌≡◌, ◌≤◌, ◌+◌, ◌++◌, length, All, IfOk};
 ghost use Rattle.std.specs.Bool.{OnTrue};
 ghost use Rattle.books_model.specs.Ranges.{IsWithin};
 ghost use Rattle.books_model.specs.declared.limits.TheConstants.{GREATEST_AMOUNT};
@@ -142,12 +142,37 @@ fn ops_of(
     Ok(ops)
 }
 
-// How a row is run: its operations by themselves, or as the first branch of an alternative, of which the second branch
-// shows account 1.
+// How a row is run: its operations by themselves; as the first branch of an alternative, of which the second branch
+// shows account 1; or as the second, of which the first branch is declined, since there is no account 9.
 #[derive(Clone, Copy)]
 enum How {
     Alone,
     InFirstBranch,
+    InSecondBranch,
+}
+
+// A script of operations alone.
+fn alone(alloc: Global, shape: &BooksShape, ops: &Ops) -> Result<Script, OutOfMemory>
+    requires few { length ops.now ≤ 32 }
+    requires range { All (IsOperationIn shape.now) ops.now }
+    ensures { IfOk result (λ script. IsScriptIn shape.now script) }
+{
+    let mut script = Script::new(alloc);
+    for operation in ops {
+        script.push(Part::One(*operation))?;
+    }
+    Ok(script)
+}
+
+// A script of one alternative.
+fn either(alloc: Global, shape: &BooksShape, first: Ops, second: Ops) -> Result<Script, OutOfMemory>
+    requires few { length first + length second ≤ 64 }
+    requires range { All (IsOperationIn shape.now) (first ++ second) }
+    ensures { IfOk result (λ script. IsScriptIn shape.now script) }
+{
+    let mut script = Script::new(alloc);
+    script.push(Part::Either(first, second))?;
+    Ok(script)
 }
 
 // A script of these operations.
@@ -160,20 +185,18 @@ fn script_of(
 ) -> Result<Script, OutOfMemory>
     ensures { IfOk result (λ script. IsScriptIn shape.now script) }
 {
-    let first = ops_of(rt, alloc, shape, operations)?;
-    let mut script = Script::new(alloc);
+    let ops = ops_of(rt, alloc, shape, operations)?;
     match how {
-        How::Alone => {
-            for operation in &first {
-                script.push(Part::One(*operation))?;
-            }
-        }
+        How::Alone => alone(alloc, shape, &ops),
         How::InFirstBranch => {
-            let second = ops_of(rt, alloc, shape, &[Op::Show(1)])?;
-            script.push(Part::Either(first, second))?;
+            let other = ops_of(rt, alloc, shape, &[Op::Show(1)])?;
+            either(alloc, shape, ops, other)
+        }
+        How::InSecondBranch => {
+            let other = ops_of(rt, alloc, shape, &[Op::Show(9)])?;
+            either(alloc, shape, other, ops)
         }
     }
-    Ok(script)
 }
 
 // The sizes of books.
@@ -234,31 +257,33 @@ fn are_behind(values: &Values, others: usize, wanted: &[Value]) -> bool {
     (0..wanted.len()).all(|place| values.at(others + place) == wanted[place])
 }
 
-// Whether a reply is the one that is wanted of the operations alone.
-fn is_wanted(reply: &Reply, want: Want<'_>) -> bool {
-    match (reply, want) {
-        (Reply::Done(values), Want::Done(wanted)) => are_behind(values, 0, wanted),
-        (Reply::Declined(number, why), Want::Declined(wanted, reason)) => {
-            *number == wanted && *why == reason
-        }
-        (Reply::Full(number), Want::Full(wanted)) => *number == wanted,
-        _ => false,
-    }
+// Whether the values begin with this one, and are these behind it.
+fn are_named(values: &Values, name: Value, wanted: &[Value]) -> bool {
+    values.len() > 0 && values.at(0) == name && are_behind(values, 1, wanted)
 }
 
-// Whether a reply is the one that is wanted of the operations as a first branch: where they are refused, account 1 has
-// its 100 as before.
-fn is_wanted_of_either(reply: &Reply, want: Want<'_>) -> bool {
-    let Reply::Done(values) = reply else {
-        return false;
-    };
-    match want {
-        Want::Done(wanted) => {
-            values.len() > 0 && values.at(0) == Value::First && are_behind(values, 1, wanted)
+// Whether a reply is the one that is wanted of the operations, run so. As a first branch that is refused they leave
+// account 1 its 100; as a second branch they are numbered from 2.
+fn is_wanted(reply: &Reply, want: Want<'_>, how: How) -> bool {
+    let before = if let How::InSecondBranch = how { 1 } else { 0 };
+    match (reply, want, how) {
+        (Reply::Done(values), Want::Done(wanted), How::Alone) => are_behind(values, 0, wanted),
+        (Reply::Done(values), Want::Done(wanted), How::InFirstBranch) => {
+            are_named(values, Value::First, wanted)
         }
-        Want::Declined(..) | Want::Full(_) => {
-            are_behind(values, 0, &[Value::Second, Value::Number(100)])
+        (Reply::Done(values), Want::Done(wanted), How::InSecondBranch) => {
+            are_named(values, Value::Second, wanted)
         }
+        (Reply::Done(values), _, How::InFirstBranch) => {
+            are_named(values, Value::Second, &[Value::Number(100)])
+        }
+        (Reply::Declined(number, why), Want::Declined(wanted, reason), _) => {
+            *number > before && *number - before == wanted && *why == reason
+        }
+        (Reply::Full(number), Want::Full(wanted), _) => {
+            *number > before && *number - before == wanted
+        }
+        _ => false,
     }
 }
 
@@ -285,7 +310,7 @@ fn agree(books: &Books, others: &Books) -> bool {
     books.price(1) == others.price(1) && books.price(2) == others.price(2)
 }
 
-// Runs each script from the opening books anew, in both ways, and once more as the first branch of an alternative.
+// Runs each script from the opening books anew, on words and in memory.
 fn compare(
     rt: &impl Abort,
     alloc: Global,
@@ -294,16 +319,13 @@ fn compare(
 ) -> Result<(), OutOfMemory> {
     let books = opening(rt, alloc, blocks)?;
     for (operations, want) in rows {
-        let on_words = run_on_words(rt, alloc, &books, operations, How::Alone)?;
-        let in_memory = run_in_memory(rt, alloc, &books, operations, How::Alone)?;
-        assert!(rt; is_wanted(&on_words.reply, *want));
-        assert!(rt; is_wanted(&in_memory.reply, *want));
-        assert!(rt; agree(&on_words.books, &in_memory.books));
-        let on_words = run_on_words(rt, alloc, &books, operations, How::InFirstBranch)?;
-        let in_memory = run_in_memory(rt, alloc, &books, operations, How::InFirstBranch)?;
-        assert!(rt; is_wanted_of_either(&on_words.reply, *want));
-        assert!(rt; is_wanted_of_either(&in_memory.reply, *want));
-        assert!(rt; agree(&on_words.books, &in_memory.books));
+        for how in &[How::Alone, How::InFirstBranch, How::InSecondBranch] {
+            let on_words = run_on_words(rt, alloc, &books, operations, *how)?;
+            let in_memory = run_in_memory(rt, alloc, &books, operations, *how)?;
+            assert!(rt; is_wanted(&on_words.reply, *want, *how));
+            assert!(rt; is_wanted(&in_memory.reply, *want, *how));
+            assert!(rt; agree(&on_words.books, &in_memory.books));
+        }
     }
     Ok(())
 }
@@ -439,7 +461,7 @@ fn a_first_script(rt: HostRuntime) -> Result<(), Fail> {
     let operations = &[Op::Deposit(7, 5), Op::Show(7)];
     let ran = run_on_words(&rt, rt.alloc(), &books, operations, How::Alone)?;
     let want = Want::Done(&[Value::Done, Value::Number(105)]);
-    assert!(rt; is_wanted(&ran.reply, want));
+    assert!(rt; is_wanted(&ran.reply, want, How::Alone));
     assert_eq!(rt; ran.books.cash(7), Some(105));
     assert_eq!(rt; ran.books.used(), 1);
     Ok(())

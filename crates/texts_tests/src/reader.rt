@@ -357,9 +357,21 @@ fn first_faults(rt: HostRuntime) {
             3,
             Fault::Word,
         ),
-        ("books 1 blocks 4 instruments 1 ring 1\ntry\n", 2, Fault::Word),
-        ("books 1 blocks 4 instruments 1 ring 1\nelse\n", 2, Fault::Word),
-        ("books 1 blocks 4 instruments 1 ring 1\ndone\n", 2, Fault::Word),
+        (
+            "books 1 blocks 4 instruments 1 ring 1\ntry\n",
+            2,
+            Fault::Word,
+        ),
+        (
+            "books 1 blocks 4 instruments 1 ring 1\nelse\n",
+            2,
+            Fault::Word,
+        ),
+        (
+            "books 1 blocks 4 instruments 1 ring 1\ndone\n",
+            2,
+            Fault::Word,
+        ),
         (
             "books 1 blocks 4 instruments 1 ring 1\nscripts\ntry\n",
             3,
