@@ -33,6 +33,7 @@ pub enum Outcome {
 }
 
 /// One operation of a script.
+#[inline(never)]
 pub fn run_operation<W: Words>(w: &mut W, shape: &BooksShape, op: Op) -> Result<Outcome, Stop>
     requires ready { IsReady W.Words w.old }
     requires stands { InEachState W.Words W.Shape.Shape w.old (IsGoodFor shape.now) }
