@@ -38,16 +38,19 @@ pub enum Op {
 /// Operations in order.
 #[derive(Debug, Drop)]
 pub struct Ops {
-    operations: Vec<Op>,
+    alloc: Global,
+    // Boxed, so that a part of a script is hardly longer than an operation; None until one is added.
+    operations: Option<Box<Vec<Op>>>,
 }
 
 impl Model for Ops {
-    ghost use Rattle.std.specs.Prelude.{List};
+    ghost use Rattle.std.specs.Prelude.{List, []};
+    ghost use Rattle.std.specs.Option.{option_map_or};
     ghost use Rattle.books_model.specs.declared.script.Op.{Op};
 
     ghost Value = { List Op };
 
-    ghost view = { λ o. o.operations.items };
+    ghost view = { λ o. option_map_or (λ b. b.value.items) o.operations [] };
 }
 
 impl Ops {
@@ -56,7 +59,8 @@ impl Ops {
         ensures { result ≡ [] }
     {
         Ops {
-            operations: Vec::new(alloc),
+            alloc,
+            operations: None,
         }
     }
 
@@ -65,29 +69,45 @@ impl Ops {
         ensures ok { OnOk result (self.new ≡ self.old ++ op ∷ []) }
         ensures err { OnErr result (self.new ≡ self.old) }
     {
-        self.operations.push(op)?;
+        match &mut self.operations {
+            Some(operations) => operations.push(op)?,
+            None => {
+                let mut operations = Vec::new(self.alloc);
+                operations.push(op)?;
+                self.operations = Some(Box::new(self.alloc, operations)?);
+            }
+        }
         Ok(())
+    }
+
+    fn as_slice(&self) -> &[Op]
+        ensures { result.now ≡ self.now }
+    {
+        match &self.operations {
+            Some(operations) => operations.as_slice(),
+            None => &[],
+        }
     }
 
     /// How many operations there are.
     pub fn len(&self) -> usize
         ensures { result ≡ length self.now }
     {
-        self.operations.len()
+        self.as_slice().len()
     }
 
     /// Whether there is no operation.
     pub fn is_empty(&self) -> bool
         ensures { IsTrue result ↔ (self.now ≡ []) }
     {
-        self.operations.is_empty()
+        self.as_slice().is_empty()
     }
 
     /// The operations in order.
     pub fn iter(&self) -> slice::Iter<'_, Op>
         ensures { iter_rest result ≡ self.now }
     {
-        self.operations.iter()
+        self.as_slice().iter()
     }
 
     /// The operation at a place, from 0.
@@ -95,7 +115,7 @@ impl Ops {
         requires { index < length self.now }
         ensures { slice_get self.now index ≡ Some result }
     {
-        self.operations[index]
+        self.as_slice()[index]
     }
 }
 
