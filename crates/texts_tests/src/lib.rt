@@ -3,9 +3,13 @@
 #![tactic(auto)]
 
 #[cfg(test)]
+mod books;
+#[cfg(test)]
 mod checks;
 #[cfg(test)]
 mod ends;
+#[cfg(test)]
+mod faults;
 #[cfg(test)]
 mod model;
 #[cfg(test)]

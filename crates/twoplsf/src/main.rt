@@ -46,10 +46,14 @@ fn main(rt: HostRuntime) -> ExitCode {
 }
 
 #[cfg(test)]
+mod faults_tests;
+#[cfg(test)]
 mod hostile_tests;
 #[cfg(test)]
 mod refused_tests;
 #[cfg(test)]
 mod tests;
+#[cfg(test)]
+mod text_tests;
 #[cfg(test)]
 mod thread_tests;

@@ -1,7 +1,7 @@
 use Rattle.std.proofs.Common.{◌≡◌, length, sum_by}
 use Rattle.books_model.specs.Ranges.{IsScriptFor}
 use Rattle.books_model.specs.Scripts.{operations_of, alternatives_in}
-use Rattle.texts_tests.proofs.model.script_of.Given as goal
+use Rattle.texts_tests.proofs.books.script_of.Given as goal
 
 -- the script has as many operations as were looked at, no alternative, and numbers in their ranges
 abbrev pub invariant-loop-operation : goal.invariant-loop-operation
