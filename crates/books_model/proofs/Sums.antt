@@ -1,5 +1,5 @@
 -- Sums over books: cash between two accounts, and what positions are worth.
-use Rattle.std.proofs.Common.{◌≡◌, ℕ, ◌+◌, ◌*◌, ◌<◌, ◌≤◌, Bool, true, false, cond, ◌&&◌, not, ◌==◌, nat_lt, nat_le, List, [], ◌∷◌, length, Option, Some, None}
+use Rattle.std.proofs.Common.{◌≡◌, ℕ, ◌+◌, ◌*◌, ◌^◌, ◌<◌, ◌≤◌, Bool, true, false, cond, ◌&&◌, not, ◌==◌, nat_lt, nat_le, List, [], ◌∷◌, length, Option, Some, None}
 use Rattle.std.proofs.Common.{IsSome, IfSome, unwrap_or, refl, sym, ap, ◌∙◌, arith, eq-eqb}
 use Rattle.std.proofs.Math.Nat.{mul-le-mul}
 use Rattle.std.specs.Cmp.{IsTotalOrder, nat_cmp_total, tied_itself}
@@ -72,8 +72,8 @@ range_cash books a b es above from sorted is =
     ap (sum_by (λ e. e.1)) is ∙ sum_between (λ e. e.1) a b es
     ∙ ap (sum_by (λ e. cond (nat_le a e.0 && nat_le e.0 b) e.1 0)) (sym (entries-from_entries nat_cmp_total es sorted) ∙ ap map.entries from)
 
--- the cash of accounts fits 64 bits
-pub cash-fits : (books : ClearingBooks) (a b : ℕ) → AreInRange books → cash_between books a b < 18446744073709551616
+-- the cash of accounts fits 128 bits
+pub cash-fits : (books : ClearingBooks) (a b : ℕ) → AreInRange books → cash_between books a b < 2 ^ 128
 cash-fits books a b h =
     let most : cash_between books a b ≤ length (map.entries books.accounts) * GREATEST_CASH =
     sum_by-most (λ e. cond (nat_le a e.0 && nat_le e.0 b) e.1 0) GREATEST_CASH (map.entries books.accounts)

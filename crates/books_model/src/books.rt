@@ -252,13 +252,13 @@ impl Books {
     }
 
     // The cash of all accounts from one number to another, both included.
-    pub(crate) fn cash_between(&self, low: u32, high: u32) -> u64
+    pub(crate) fn cash_between(&self, low: u32, high: u32) -> u128
         requires { low ≤ high }
         ensures { result ≡ cash_between self.now low high }
     {
         let mut total = 0;
         for (_, cash) in self.accounts.range((Included(low), Included(high))) {
-            total += *cash;
+            total += u128::from(*cash);
         }
         total
     }

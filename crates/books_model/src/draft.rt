@@ -345,7 +345,7 @@ impl<'a> Draft<'a> {
     }
 
     // The cash of all accounts from one number to another, both included.
-    pub(crate) fn cash_between(&self, low: u32, high: u32) -> u64
+    pub(crate) fn cash_between(&self, low: u32, high: u32) -> u128
         ensures { result ≡ cash_between self.now.after low high }
     {
         if low > high {
@@ -357,18 +357,18 @@ impl<'a> Draft<'a> {
 }
 
 // What accounts from one number to another had before changes, and have after them, as far as they are changed.
-fn changed_between(changes: &BTreeMap<u32, Change>, low: u32, high: u32) -> (u64, u64)
+fn changed_between(changes: &BTreeMap<u32, Change>, low: u32, high: u32) -> (u128, u128)
     requires forward { low ≤ high }
-    requires before { before_between changes.now.entries low high < 2 ^ 64 }
-    requires now { now_between changes.now.entries low high < 2 ^ 64 }
+    requires before { before_between changes.now.entries low high < 2 ^ 128 }
+    requires now { now_between changes.now.entries low high < 2 ^ 128 }
     ensures before { result.0 ≡ before_between changes.now.entries low high }
     ensures now { result.1 ≡ now_between changes.now.entries low high }
 {
     let mut before = 0;
     let mut now = 0;
     for (_, change) in changes.range((Included(low), Included(high))) {
-        before += change.before.unwrap_or(0);
-        now += change.now.unwrap_or(0);
+        before += u128::from(change.before.unwrap_or(0));
+        now += u128::from(change.now.unwrap_or(0));
     }
     (before, now)
 }

@@ -11,12 +11,12 @@ use crate::limits::{
 
 /// The limits of the language, in digits: whatever cites them by name means these numbers.
 pub fn limits_are_those_of_the_language()
-    ensures blocks { MOST_BLOCKS ≡ 16_384 }
+    ensures blocks { MOST_BLOCKS ≡ 65_536 }
     ensures instruments { MOST_INSTRUMENTS ≡ 64 }
     ensures ring { MOST_RING ≡ 1_024 }
     ensures account { GREATEST_ACCOUNT ≡ 4_294_967_295 }
-    ensures cash { GREATEST_CASH ≡ 1_000_000_000_000_000 }
-    ensures amount { GREATEST_AMOUNT ≡ 1_000_000_000_000_000 }
+    ensures cash { GREATEST_CASH ≡ 1_000_000_000_000_000_000 }
+    ensures amount { GREATEST_AMOUNT ≡ 1_000_000_000_000_000_000 }
     ensures price { GREATEST_PRICE ≡ 1_000_000_000 }
     ensures quantity { GREATEST_QUANTITY ≡ 1_000_000 }
     ensures rate { GREATEST_RATE ≡ 100 }

@@ -280,7 +280,7 @@ impl<'a> Draft<'a> {
             return Ok(Outcome::Declines(Decline::Queue));
         }
         self.queue_call(account, shortfall)?;
-        Ok(Outcome::Gives(Value::Number(shortfall)))
+        Ok(Outcome::Gives(Value::Number(u128::from(shortfall))))
     }
 
     fn next(&mut self) -> Outcome
@@ -298,7 +298,7 @@ impl<'a> Draft<'a> {
         ensures { step_of (Op.Show account) self.now.after ≡ step_with result self.now.after }
     {
         match self.cash(account) {
-            Some(cash) => Outcome::Gives(Value::Number(cash)),
+            Some(cash) => Outcome::Gives(Value::Number(u128::from(cash))),
             None => Outcome::Declines(Decline::Absent),
         }
     }

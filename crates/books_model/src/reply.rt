@@ -58,7 +58,7 @@ pub enum Value {
     /// It was done.
     Done,
     /// Cash, a sum of cash, or a shortfall.
-    Number(u64),
+    Number(u128),
     /// The margin call that was taken: its account and its shortfall.
     Call(u32, u64),
     /// No margin call was queued.
@@ -133,6 +133,7 @@ impl Values {
     /// Adds values at the end.
     pub fn append(&mut self, more: &Values) -> Result<(), OutOfMemory>
         ensures ok { OnOk result (self.new ≡ self.old ++ more.now) }
+        ensures err { OnErr result (self.new ≡ self.old) }
     {
         self.values.extend_from_slice(&more.values)?;
         Ok(())

@@ -4,6 +4,7 @@ use Rattle.std.specs.Prelude.{◌≡◌, ◌≢◌, ℕ, ◌+◌, ◌<◌, ◌==
 use Rattle.std.specs.List.{concat}
 use Rattle.std.specs.FinMap as map
 use Rattle.books_model.specs.Books.{ClearingBooks}
+use Rattle.script_reader.specs.declared.version.Version.TheVariants.{Two}
 use Rattle.script_reader.specs.Text.{line, header_line, account_line, price_line, position_line, call_line, finish_line}
 use Rattle.script_reader.specs.Input.{ClearingInput, caller_at, count_scripts}
 use Rattle.script_reader.specs.Journal.{Place, IsPlace}
@@ -37,7 +38,7 @@ lines_of input serial (ran ∷ scripts) =
 -- the lines of closing books, and the last line
 abbrev pub closing_lines : ClearingBooks → List (List ℕ)
 closing_lines books =
-    header_line books
+    header_line Two books
     ∷ (map_list account_line (map.entries books.accounts)
     ++ (map_list price_line (map.entries books.prices)
     ++ (map_list position_line (map.entries books.positions)

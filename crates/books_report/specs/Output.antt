@@ -3,6 +3,7 @@ use Rattle.std.specs.Prelude.{◌≡◌, ℕ, ◌+◌, ◌<◌, List, [], ◌∷
 use Rattle.books_model.specs.declared.reply.Reply.{Reply}
 use Rattle.books_model.specs.Books.{ClearingBooks}
 use Rattle.books_model.specs.Interpreter.{outcome_of}
+use Rattle.script_reader.specs.declared.version.Version.TheVariants.{Two}
 use Rattle.script_reader.specs.Text.{number, line, books_lines, finish_line}
 use Rattle.script_reader.specs.Input.{ClearingInput, caller_at, script_at}
 use Rattle.script_reader.specs.Journal.{Place, IsJournal}
@@ -29,10 +30,10 @@ journal_lines input serial [] = []
 journal_lines input serial (ran ∷ scripts) =
     journal_line serial (caller_at input ran.place.caller).name ran ++ journal_lines input (serial + 1) scripts
 
--- the whole text of a journal and of closing books
+-- the whole text of a journal and of closing books, which are printed as those of a text of version 2
 abbrev pub text_of : ClearingInput → List Ran → ClearingBooks → List ℕ
 text_of input scripts closing =
-    line (codes "journal" ∷ []) ++ journal_lines input 1 scripts ++ books_lines closing ++ finish_line
+    line (codes "journal" ∷ []) ++ journal_lines input 1 scripts ++ books_lines Two closing ++ finish_line
 
 -- what the sequential interpreter replies to the script at a place, run on these books
 abbrev pub reply_to : ClearingInput → ClearingBooks → Place → Reply

@@ -6,6 +6,7 @@ ghost use Rattle.std.specs.List.{flat_map};
 ghost use Rattle.std.specs.FinMap.{entries};
 ghost use Rattle.books_model.specs.Ranges.{AreInRange};
 ghost use Rattle.script_reader.specs.declared.words.TheConstants.{SPACE};
+ghost use Rattle.script_reader.specs.declared.version.Version.TheVariants.{Two};
 ghost use Rattle.script_reader.specs.Text.{account_line, books_lines, call_line, header_line, number, position_line, price_line};
 
 use crate::decimal::push_next;
@@ -25,9 +26,9 @@ fn write_size(text: &mut String, name: &str, size: u32) -> Result<(), AllocError
 
 fn write_header(text: &mut String, books: &Books) -> Result<(), AllocError>
     ensures { OnOk result
-        (string_bytes text.new ≡ string_bytes text.old ++ header_line books.now) }
+        (string_bytes text.new ≡ string_bytes text.old ++ header_line Two books.now) }
 {
-    text.push_str("books 1")?;
+    text.push_str("books 2")?;
     write_size(text, "blocks", books.blocks())?;
     write_size(text, "instruments", books.instruments())?;
     write_size(text, "ring", books.ring())?;
@@ -137,9 +138,9 @@ fn write_calls(text: &mut String, books: &Books) -> Result<(), AllocError>
     Ok(())
 }
 
-/// Appends the lines of the books.
+/// Appends the lines of the books, as those of a text of version 2.
 pub fn write_books(text: &mut String, books: &Books) -> Result<(), AllocError>
-    ensures { OnOk result (string_bytes text.new ≡ string_bytes text.old ++ books_lines books.now) }
+    ensures { OnOk result (string_bytes text.new ≡ string_bytes text.old ++ books_lines Two books.now) }
 {
     books.ranges();
     write_header(text, books)?;
@@ -149,9 +150,9 @@ pub fn write_books(text: &mut String, books: &Books) -> Result<(), AllocError>
     write_calls(text, books)
 }
 
-/// The lines of the books: the header, accounts, prices and positions in rising order, and the queue of margin calls.
+/// The lines of the books, as those of a text of version 2: the header, accounts, prices and positions in rising order, and the queue of margin calls.
 pub fn books_text(alloc: Global, books: &Books) -> Result<Vec<u8>, OutOfMemory>
-    ensures { IfOk result (λ text. text.items ≡ books_lines books.now) }
+    ensures { IfOk result (λ text. text.items ≡ books_lines Two books.now) }
 {
     let mut text = String::new(alloc);
     write_books(&mut text, books)?;

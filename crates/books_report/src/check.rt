@@ -1,6 +1,6 @@
 //! Whether a text is an output of an input.
 
-ghost use Rattle.std.specs.Prelude.{◌≡◌, ◌≢◌, ℕ, ◌+◌, ◌<◌, ◌==◌, ◌^◌, List, ◌∷◌, ◌++◌, Ok, Some, codes, length, replicate, count_by, slice_index, IfOk, IfSome, IfNone, IsSomeAnd, OnOk};
+ghost use Rattle.std.specs.Prelude.{◌≡◌, ◌≢◌, ℕ, ◌+◌, ◌<◌, ◌≤◌, ◌==◌, ◌^◌, List, ◌∷◌, ◌++◌, Ok, Some, codes, length, replicate, count_by, slice_index, IfOk, IfSome, IfNone, IsSomeAnd, OnOk};
 ghost use Rattle.std.specs.List.{concat};
 ghost use Rattle.script_reader.specs.declared.words.TheConstants.{SPACE, LINE_FEED};
 ghost use Rattle.script_reader.specs.Lines.{IsFreeOf};
@@ -14,7 +14,7 @@ ghost use Rattle.books_report.specs.Inner.Audit.{IsFor, HasRun, BeginsWithLine, 
 
 use crate::books::write_books;
 use crate::journal::write_line;
-use crate::limits::RESTARTS_BELOW;
+use crate::limits::{MOST_CLOSING_LINES, RESTARTS_BELOW};
 use crate::line::Line;
 use books_model::laws::{scripts_go_by_instruments, scripts_keep_sizes};
 use books_model::{Books, run_plain};
@@ -180,7 +180,7 @@ fn check_closing(alloc: Global, books: &Books, text: &[u8]) -> Result<Option<u32
         (text.now ≡ concat (closing_lines books.now))) }
     ensures stops { IfOk result (λ lines. IfSome lines
         (λ lines. StopsAfter (closing_lines books.now) text.now lines)) }
-    ensures few { IfOk result (λ lines. IfSome lines (λ lines. lines < 2 ^ 16)) }
+    ensures few { IfOk result (λ lines. IfSome lines (λ lines. lines ≤ MOST_CLOSING_LINES)) }
 {
     books.ranges();
     let mut expected = String::new(alloc);

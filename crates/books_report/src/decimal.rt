@@ -55,6 +55,28 @@ pub(crate) fn push_number(text: &mut String, value: u64) -> Result<(), AllocErro
     push_pair(text, value % 100)
 }
 
+// Appends the digits of a number that may be above 64 bits, likewise.
+fn push_wide(text: &mut String, value: u128) -> Result<(), AllocError>
+    ensures { OnOk result (string_bytes text.new ≡ string_bytes text.old ++ number value) }
+{
+    if value <= u64::MAX as u128 {
+        return push_number(text, value as u64);
+    }
+    push_wide(text, value / 100)?;
+    push_pair(text, (value % 100) as u64)
+}
+
+// Appends a space and a number that may be above 64 bits.
+pub(crate) fn push_next_wide(text: &mut String, value: u128) -> Result<(), AllocError>
+    ensures { OnOk result (string_bytes text.new ≡ string_bytes text.old ++ SPACE ∷ number value) }
+{
+    if value <= u64::MAX as u128 {
+        return push_next(text, value as u64);
+    }
+    text.push(' ')?;
+    push_wide(text, value)
+}
+
 // Appends a space and a number.
 pub(crate) fn push_next(text: &mut String, value: u64) -> Result<(), AllocError>
     ensures { OnOk result (string_bytes text.new ≡ string_bytes text.old ++ SPACE ∷ number value) }

@@ -8,7 +8,7 @@ ghost use Rattle.script_reader.specs.Text.{number};
 ghost use Rattle.books_model.specs.Words.{value_word};
 ghost use Rattle.books_report.specs.Words.{reply_words};
 
-use crate::decimal::{push_next, push_number};
+use crate::decimal::{push_next, push_next_wide, push_number};
 use books_model::{Reply, Value, Values};
 use std::alloc::AllocError;
 
@@ -28,7 +28,7 @@ fn write_value(text: &mut String, value: Value) -> Result<(), AllocError>
 {
     match value {
         Value::Done => text.push_str(" ok"),
-        Value::Number(number) => push_next(text, number),
+        Value::Number(number) => push_next_wide(text, number),
         Value::Call(account, shortfall) => write_taken(text, account, shortfall),
         Value::Nothing => text.push_str(" none"),
         Value::First => text.push_str(" first"),

@@ -12,7 +12,7 @@ ghost use Rattle.txn_books.specs.Meaning.{IsScriptIn};
 use books_model::laws::scripts_go_by_instruments;
 use books_model::limits::{
     GREATEST_AMOUNT, GREATEST_CASH, GREATEST_PRICE, GREATEST_QUANTITY, GREATEST_RATE,
-    GREATEST_SHORTFALL,
+    GREATEST_SHORTFALL, MOST_BLOCKS,
 };
 use books_model::{Books, Decline, Op, Ops, Part, Reply, Script, Value, Values, run_plain};
 use io_ends::OutOfMemory;
@@ -85,7 +85,7 @@ fn add_call(
 // Accounts 1 to 4, the third at both limits; a price of instrument 1 and none of instrument 2; and a queue of one margin
 // call, which is full.
 fn opening(rt: &impl Abort, alloc: Global, blocks: u32) -> Result<Books, OutOfMemory> {
-    assert!(rt; blocks >= USED && blocks <= 16_384);
+    assert!(rt; blocks >= USED && blocks <= MOST_BLOCKS);
     let mut books = Books::new(alloc, blocks, 2, 1);
     for (account, cash) in &[(1, 100), (2, 0), (3, GREATEST_CASH), (4, 0)] {
         add_account(rt, &mut books, *account, *cash)?;
@@ -333,7 +333,7 @@ fn compare(
 /// Accounts, where two blocks are left.
 #[test]
 fn accounts_and_cash(rt: HostRuntime) -> Result<(), Fail> {
-    const ROWS: [(&[Op], Want<'static>); 18] = [
+    const ROWS: [(&[Op], Want<'static>); 22] = [
         // Every part of the books is changed before the operation that is declined.
         (
             &[
@@ -354,6 +354,14 @@ fn accounts_and_cash(rt: HostRuntime) -> Result<(), Fail> {
         (&[Op::Deposit(1, 5)], OK),
         (&[Op::Deposit(9, 1)], Want::Declined(1, Decline::Absent)),
         (&[Op::Deposit(3, 1)], Want::Declined(1, Decline::Limit)),
+        (
+            &[Op::Deposit(1, 999_999_999_999_999_900), Op::Show(1)],
+            Want::Done(&[Value::Done, Value::Number(1_000_000_000_000_000_000)]),
+        ),
+        (
+            &[Op::Deposit(1, 999_999_999_999_999_901)],
+            Want::Declined(1, Decline::Limit),
+        ),
         (&[Op::Withdraw(1, 100)], OK),
         (&[Op::Withdraw(9, 1)], Want::Declined(1, Decline::Absent)),
         (&[Op::Withdraw(1, 101)], Want::Declined(1, Decline::Cash)),
@@ -362,6 +370,11 @@ fn accounts_and_cash(rt: HostRuntime) -> Result<(), Fail> {
         (&[Op::Move(1, 9, 1)], Want::Declined(1, Decline::Absent)),
         (&[Op::Move(2, 1, 1)], Want::Declined(1, Decline::Cash)),
         (&[Op::Move(1, 3, 1)], Want::Declined(1, Decline::Limit)),
+        (&[Op::Move(3, 1, 999_999_999_999_999_900)], OK),
+        (
+            &[Op::Move(3, 1, 999_999_999_999_999_901)],
+            Want::Declined(1, Decline::Limit),
+        ),
     ];
     compare(&rt, rt.alloc(), USED + 2, &ROWS)?;
     Ok(())
@@ -408,11 +421,33 @@ fn margin_calls_and_sums(rt: HostRuntime) -> Result<(), Fail> {
         (&[Op::Show(9)], Want::Declined(1, Decline::Absent)),
         (
             &[Op::Sum(1, 3)],
-            Want::Done(&[Value::Number(1_000_000_000_000_100)]),
+            Want::Done(&[Value::Number(1_000_000_000_000_000_100)]),
         ),
         (&[Op::Sum(3, 1)], Want::Done(&[Value::Number(0)])),
     ];
     compare(&rt, rt.alloc(), USED + 2, &ROWS)?;
+    Ok(())
+}
+
+// The most accounts, numbered from 1, each with the most cash.
+fn most_accounts(rt: &impl Abort, alloc: Global) -> Result<Books, OutOfMemory> {
+    let mut books = Books::new(alloc, MOST_BLOCKS, 1, 1);
+    for account in 1..=MOST_BLOCKS {
+        add_account(rt, &mut books, account, GREATEST_CASH)?;
+    }
+    Ok(books)
+}
+
+/// The greatest sum that there can be, of 65,536 accounts.
+#[test]
+fn the_cash_of_the_most_accounts_is_summed(rt: HostRuntime) -> Result<(), Fail> {
+    let books = most_accounts(&rt, rt.alloc())?;
+    let all = &[Op::Sum(1, 65_536)];
+    let want = Want::Done(&[Value::Number(65_536_000_000_000_000_000_000)]);
+    let in_memory = run_in_memory(&rt, rt.alloc(), &books, all, How::Alone)?;
+    assert!(rt; is_wanted(&in_memory.reply, want, How::Alone));
+    let on_words = run_on_words(&rt, rt.alloc(), &books, all, How::Alone)?;
+    assert!(rt; is_wanted(&on_words.reply, want, How::Alone));
     Ok(())
 }
 

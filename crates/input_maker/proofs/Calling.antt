@@ -13,7 +13,10 @@ use Rattle.std.proofs.lemmas.List.Folds.{list_any-append}
 use Rattle.std.proofs.lemmas.List.FromFn.{length-map-range_with_len}
 use Rattle.std.proofs.lemmas.List.Sums.{fold_push}
 use Rattle.script_reader.specs.declared.limits.TheConstants.{MOST_CALLERS, MOST_SCRIPTS}
-use Rattle.script_reader.specs.Input.{Submission, AreCallersFor, IsName, add_name, first_seen, callers_of}
+use Rattle.script_reader.specs.Inner.OfVersion.{AreCallersOf}
+use Rattle.script_reader.specs.declared.version.Version.TheVariants.{One}
+use Rattle.script_reader.proofs.Versions.{callers_for, callers_within}
+use Rattle.script_reader.specs.Input.{Caller, Submission, IsName, add_name, first_seen, callers_of}
 use Rattle.script_reader.specs.Inner.Callers.{is_caller}
 use Rattle.script_reader.proofs.Grouped.Grouping.{callers_of-push, no-names}
 use Rattle.script_reader.proofs.Texts.Reaching.{scripts_counted, callers_counted, caller_named}
@@ -21,7 +24,7 @@ use Rattle.script_reader.proofs.Grouped.Submitting.{callers_more}
 use Rattle.input_maker.specs.Made.{made_books, caller_name, script_from, made_submission, made_submissions, submissions_to, state_of_script}
 use Rattle.input_maker.specs.Statements.{MadeInputsAreInputs}
 use Rattle.input_maker.proofs.Listing.{submissions-none, submissions-more}
-use Rattle.input_maker.proofs.Opening.{made_books_in_range}
+use Rattle.input_maker.proofs.Opening.{made_books_in_range, made_books_within}
 use Rattle.input_maker.proofs.Making.{script_fits, script_made}
 
 is_letter : (d : ℕ) → d < 26 → (nat_le 97 (97 + d) && nat_le (97 + d) 122) ≡ true
@@ -104,9 +107,9 @@ submissions_length seed callers n = length-map-range_with_len (made_submission s
 
 -- the callers of the first n scripts are for the opening books
 callers_fit : (seed callers n : ℕ) → 1 ≤ callers → callers ≤ MOST_CALLERS → n ≤ MOST_SCRIPTS
-    → AreCallersFor made_books (callers_of (submissions_to seed callers n))
+    → AreCallersOf One made_books (callers_of (submissions_to seed callers n))
 callers_fit seed callers zero some few room =
-    subst (λ subs. AreCallersFor made_books (callers_of subs)) (sym (submissions-none seed callers)) (record {
+    subst (λ subs. AreCallersOf One made_books (callers_of subs)) (sym (submissions-none seed callers)) (record {
       few = omega arith;
       few_scripts = omega arith;
       names = λ k d less. absurd (omega (arith, less));
@@ -125,18 +128,26 @@ callers_fit seed callers (suc n) some few room =
       | inl less ↦ omega (arith, less, few, seen.few, callers_counted subs)
       | inr past ↦ absurd (true≢false (sym (seen.all (n % callers) (omega (arith, within, past)) within) ∙ sym (caller_named s.caller subs) ∙ new))
     ] in
-    subst (λ m. AreCallersFor made_books (callers_of (submissions_to seed callers m))) (add-one n)
-    (subst (λ subs. AreCallersFor made_books (callers_of subs)) (sym (submissions-more seed callers n))
-    (subst (AreCallersFor made_books) (sym (callers_of-push subs s))
-    (callers_more made_books (callers_of subs) s (callers_fit seed callers n some few (omega (arith, room)))
+    subst (λ m. AreCallersOf One made_books (callers_of (submissions_to seed callers m))) (add-one n)
+    (subst (λ subs. AreCallersOf One made_books (callers_of subs)) (sym (submissions-more seed callers n))
+    (subst (AreCallersOf One made_books) (sym (callers_of-push subs s))
+    (callers_more One made_books (callers_of subs) s (callers_fit seed callers n some few (omega (arith, room)))
     (caller_name_is_name (n % callers) (omega (arith, within, few))) (script_fits made.0 (script_from (state_of_script seed n)) made.1)
     (omega (arith, room, scripts_counted subs, submissions_length seed callers n)) space)))
 
 -- each generated text is of an input
 pub made_inputs : MadeInputsAreInputs
 made_inputs seed callers scripts h = record {
+  version = One;
   submissions = made_submissions seed callers scripts;
   text = refl;
   callers = refl;
-  valid = record { books = made_books_in_range; callers = callers_fit seed callers (callers * scripts) h.callers_range.0 h.callers_range.1 h.few };
+  valid = record { books = made_books_in_range; callers = callers_for One made_books made fits };
+  within = record { books = made_books_within; scripts = callers_within One made_books made fits };
 }
+  where
+    made : List Caller
+    made = callers_of (made_submissions seed callers scripts)
+
+    fits : AreCallersOf One made_books made
+    fits = callers_fit seed callers (callers * scripts) h.callers_range.0 h.callers_range.1 h.few

@@ -11,6 +11,7 @@ use Rattle.books_model.specs.Scripts.{operations_of}
 use Rattle.input_maker.proofs.Listing.{lines_alone}
 use Rattle.books_model.proofs.Maps.Entries.{AllByRecursion-weaker, sum_by-most}
 use Rattle.script_reader.specs.declared.words.TheConstants.{SPACE, LINE_FEED}
+use Rattle.script_reader.specs.declared.version.Version.TheVariants.{One}
 use Rattle.script_reader.specs.Text.{line, number, header_line, account_line, price_line, position_line, books_lines, operation_words, script_lines}
 use Rattle.script_reader.specs.Text.{scripts_line, end_line, finish_line}
 use Rattle.script_reader.specs.Input.{Submission}
@@ -199,20 +200,20 @@ positions_short =
     (λ e h. position_short e.0.0 e.0.1 e.1 h.0.1 h.1.1 (omega (arith, h.2))) (positions_to 200) positions_hold in
     omega (arith, positions_length, lines_most position_line 22 (positions_to 200) each)
 
-header_short : length (header_line made_books) ≤ 60
+header_short : length (header_line One made_books) ≤ 60
 header_short =
     let words : List (List ℕ) = codes "1" ∷ codes "blocks" ∷ number 4096 ∷ codes "instruments" ∷ number 8 ∷ codes "ring" ∷ number 64 ∷ [] in
     let sizes : size_of (codes "books" ∷ words)
     ≡ 5 + 1 + (1 + 1 + (6 + 1 + (length (number 4096) + 1 + (11 + 1 + (length (number 8) + 1 + (4 + 1 + (length (number 64) + 1 + 0))))))) = refl in
     omega (arith, sizes, line_length (codes "books") words, four 4096 (omega arith), four 8 (omega arith), four 64 (omega arith))
 
-books_short : length (books_lines made_books) ≤ 40000
+books_short : length (books_lines One made_books) ≤ 40000
 books_short =
     let accounts : List ℕ = flat_map account_line (accounts_to 200) in
     let prices : List ℕ = flat_map price_line (prices_to 8) in
     let positions : List ℕ = flat_map position_line (positions_to 200) in
-    let all = row4 (header_line made_books) accounts prices positions 60 4000 120 35200 header_short accounts_short prices_short positions_short in
-    let same : length (books_lines made_books) ≡ length (header_line made_books ++ accounts ++ prices ++ positions) = ap length opening_lines in
+    let all = row4 (header_line One made_books) accounts prices positions 60 4000 120 35200 header_short accounts_short prices_short positions_short in
+    let same : length (books_lines One made_books) ≡ length (header_line One made_books ++ accounts ++ prices ++ positions) = ap length opening_lines in
     omega (arith, all, same)
 
 pub made_inputs_fit : MadeInputsFit
@@ -221,5 +222,5 @@ made_inputs_fit seed callers scripts range =
     let written : List ℕ = flat_map submission_lines (submissions_to seed callers n) in
     let begins : length scripts_line ≤ 8 = omega arith in
     let ends : length finish_line ≤ 7 = omega arith in
-    let all = row4 (books_lines made_books) scripts_line written finish_line 40000 8 (n * 100) 7 books_short begins (submissions_short seed callers n) ends in
+    let all = row4 (books_lines One made_books) scripts_line written finish_line 40000 8 (n * 100) 7 books_short begins (submissions_short seed callers n) ends in
     omega (arith, range.few, all)

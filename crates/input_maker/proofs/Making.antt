@@ -12,7 +12,7 @@ use Rattle.books_model.specs.declared.script.Op.TheVariants as op
 use Rattle.books_model.specs.declared.script.Part.{Part}
 use Rattle.books_model.specs.declared.script.Part.TheVariants as part
 use Rattle.books_model.specs.Scripts.{operations_of, alternatives_in}
-use Rattle.books_model.specs.Ranges.{IsWithin, IsOperationFor, IsScriptFor}
+use Rattle.books_model.specs.Ranges.{IsWithin, IsOperationFor}
 use Rattle.books_model.proofs.Maps.Entries.{AllByRecursion-weaker, sum_by-most}
 use Rattle.script_reader.specs.Input.{Submission, first_seen, scripts_by, callers_of}
 use Rattle.input_maker.specs.Generator.{drawn, state_after}
@@ -20,6 +20,10 @@ use Rattle.input_maker.specs.Made.{made_books, first_kind, second_kind, operatio
 use Rattle.input_maker.specs.Made.{state_of_script, state_after_operations}
 use Rattle.input_maker.specs.Days.{IsOfFirstKind, deposits_in, deposits_of, is_of_first_kind, paid_in_by}
 use Rattle.input_maker.proofs.Opening.{all_mapped}
+use Rattle.script_reader.specs.declared.version.Version.TheVariants.{One}
+use Rattle.script_reader.specs.Versions.{amount_of}
+use Rattle.script_reader.specs.Inner.OfVersion.{IsOperationOf, IsScriptOf}
+use Rattle.script_reader.proofs.Versions.{operation_of}
 
 -- an operation that is made, with its numbers in their ranges
 pub data IsMade : Bool → Op → Type 0 where
@@ -48,6 +52,21 @@ operation_fits first o (made_trade a b i q buyer seller instrument quantity) =
     (wider 1 200 _ a (omega arith) buyer, wider 1 200 _ b (omega arith) seller, instrument, wider 1 100 _ q (omega arith) quantity)
 operation_fits first o (made_margin a m account rate) = (wider 1 200 _ a (omega arith) account, rate)
 operation_fits first o (made_show a account) = wider 1 200 _ a (omega arith) account
+
+-- its amount is no more than a hundred
+amount_little : (first : Bool) (o : Op) → IsMade first o → amount_of o ≤ 100
+amount_little first o (made_deposit a x account amount) = amount.1
+amount_little first o (made_move a b x payer payee amount) = amount.1
+amount_little first o (made_price i p instrument price) = omega arith
+amount_little first o made_next = omega arith
+amount_little first o (made_sum a b from to) = omega arith
+amount_little first o (made_trade a b i q buyer seller instrument quantity) = omega arith
+amount_little first o (made_margin a m account rate) = omega arith
+amount_little first o (made_show a account) = omega arith
+
+-- so a text of version 1 can give it
+operation_of_one : (first : Bool) (o : Op) → IsMade first o → IsOperationOf One made_books o
+operation_of_one first o m = operation_of One made_books o (operation_fits first o m) (omega (arith, amount_little first o m))
 
 -- it pays in no more than a hundred
 pub pays_little : (first : Bool) (o : Op) → IsMade first o → paid_in_by o ≤ 100
@@ -84,13 +103,13 @@ no_alternatives : (ops : List Op) → sum_by alternatives_in (map part.One ops) 
 no_alternatives [] = refl
 no_alternatives (o ∷ ops) = omega (arith, sum_by-cons alternatives_in (part.One o) (map part.One ops), no_alternatives ops)
 
--- it is for the opening books
-pub script_fits : (first : Bool) (script : List Part) → IsMadeScript first script → IsScriptFor made_books script
+-- a text of version 1 with the opening books can give it
+pub script_fits : (first : Bool) (script : List Part) → IsMadeScript first script → IsScriptOf One made_books script
 script_fits first script m = record {
   few = omega (arith, m.few);
   few_alternatives = omega (arith, ap (λ parts. sum_by alternatives_in parts) m.alone, no_alternatives (operations_of script));
-  each = All-from_recursion (IsOperationFor made_books) (operations_of script)
-      (AllByRecursion-weaker (IsMade first) (IsOperationFor made_books) (operation_fits first) (operations_of script) m.each);
+  each = All-from_recursion (IsOperationOf One made_books) (operations_of script)
+      (AllByRecursion-weaker (IsMade first) (IsOperationOf One made_books) (operation_of_one first) (operations_of script) m.each);
 }
 
 -- a script of such operations

@@ -13,6 +13,8 @@ use Rattle.std.proofs.lemmas.List.FromFn.{length-map-range_with_len}
 use Rattle.std.proofs.lemmas.List.{append-nil}
 use Rattle.books_model.specs.Books.{position_cmp, used}
 use Rattle.books_model.specs.Ranges.{IsWithin, AreInRange}
+use Rattle.script_reader.specs.declared.version.Version.TheVariants.{One}
+use Rattle.script_reader.specs.Versions.{AreBooksWithin}
 use Rattle.script_reader.specs.Text.{books_lines, header_line, account_line, price_line, position_line}
 use Rattle.script_reader.proofs.Printing.Sections.{less_number}
 use Rattle.books_report.proofs.Outputs.Rows.{all_both}
@@ -226,21 +228,25 @@ made_books_in_range = record {
   blocks_used = omega (arith, blocks_used);
 }
 
+-- and in the ranges of a text of version 1
+pub made_books_within : AreBooksWithin One made_books
+made_books_within = record { blocks = omega arith; cash = λ a cash found. omega (arith, (account_found a cash found).1) }
+
 -- the lines of the opening books
-pub opening_lines : books_lines made_books ≡ header_line made_books ++ flat_map account_line (accounts_to 200)
+pub opening_lines : books_lines One made_books ≡ header_line One made_books ++ flat_map account_line (accounts_to 200)
     ++ flat_map price_line (prices_to 8) ++ flat_map position_line (positions_to 200)
 opening_lines =
     append-nil _
-    ∙ (λ t. header_line made_books ++ flat_map account_line (accounts_entries t) ++ flat_map price_line
+    ∙ (λ t. header_line One made_books ++ flat_map account_line (accounts_entries t) ++ flat_map price_line
     (prices_entries t) ++ flat_map position_line (positions_entries t))
 
 -- and they are written one kind after the other
-pub opening_written : (text header accounts prices positions : List ℕ) → header ≡ text ++ header_line made_books
+pub opening_written : (text header accounts prices positions : List ℕ) → header ≡ text ++ header_line One made_books
     → accounts ≡ header ++ flat_map account_line (accounts_to 200)
     → prices ≡ accounts ++ flat_map price_line (prices_to 8)
-    → positions ≡ prices ++ flat_map position_line (positions_to 200) → positions ≡ text ++ books_lines made_books
+    → positions ≡ prices ++ flat_map position_line (positions_to 200) → positions ≡ text ++ books_lines One made_books
 opening_written text header accounts prices positions h a p q =
-    let H = header_line made_books in
+    let H = header_line One made_books in
     let A = flat_map account_line (accounts_to 200) in
     let P = flat_map price_line (prices_to 8) in
     let Q = flat_map position_line (positions_to 200) in

@@ -7,6 +7,7 @@ use Rattle.books_model.specs.declared.script.Op.TheVariants as op
 use Rattle.books_model.specs.declared.script.Part.{Part}
 use Rattle.books_model.specs.declared.script.Part.TheVariants as part
 use Rattle.books_model.specs.Books.{ClearingBooks}
+use Rattle.script_reader.specs.declared.version.Version.TheVariants.{One}
 use Rattle.script_reader.specs.Input.{ClearingInput, Submission, callers_of}
 use Rattle.script_reader.specs.Grammar.{input_text}
 use Rattle.input_maker.specs.Generator.{state_after, drawn}
@@ -114,6 +115,6 @@ abbrev pub made_input : ℕ → ℕ → ℕ → ClearingInput
 made_input seed callers scripts =
     record { books = made_books; callers = callers_of (made_submissions seed callers scripts) }
 
--- its text, with the scripts in the order in which they are drawn
+-- its text, which is of version 1, with the scripts in the order in which they are drawn
 abbrev pub made_input_text : ℕ → ℕ → ℕ → List ℕ
-made_input_text seed callers scripts = input_text made_books (made_submissions seed callers scripts)
+made_input_text seed callers scripts = input_text One made_books (made_submissions seed callers scripts)

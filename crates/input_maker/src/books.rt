@@ -5,6 +5,7 @@ ghost use Rattle.std.specs.String.{string_bytes};
 ghost use Rattle.std.specs.List.{flat_map};
 ghost use Rattle.books_model.specs.Books.{empty_books};
 ghost use Rattle.script_reader.specs.declared.words.TheConstants.{SPACE};
+ghost use Rattle.script_reader.specs.declared.version.Version.TheVariants.{One};
 ghost use Rattle.script_reader.specs.Text.{account_line, books_lines, header_line, number, position_line, price_line};
 ghost use Rattle.input_maker.specs.Made.{accounts_to, made_books, positions_in, positions_to, prices_to};
 
@@ -38,7 +39,7 @@ fn write_header(
     ring: u32,
 ) -> Result<(), AllocError>
     ensures { OnOk result (string_bytes text.new
-        ≡ string_bytes text.old ++ header_line (empty_books blocks instruments ring)) }
+        ≡ string_bytes text.old ++ header_line One (empty_books blocks instruments ring)) }
 {
     text.push_str("books 1")?;
     write_size(text, "blocks", blocks)?;
@@ -88,10 +89,10 @@ fn write_positions(text: &mut String) -> Result<(), AllocError>
     Ok(())
 }
 
-// Appends the lines of the opening books.
+// Appends the lines of the opening books, as those of a text of version 1.
 pub(crate) fn write_opening(text: &mut String) -> Result<(), AllocError>
     ensures { OnOk result
-        (string_bytes text.new ≡ string_bytes text.old ++ books_lines made_books) }
+        (string_bytes text.new ≡ string_bytes text.old ++ books_lines One made_books) }
 {
     write_header(text, BLOCKS, INSTRUMENTS, RING)?;
     write_accounts(text)?;

@@ -9,7 +9,7 @@ use Rattle.locks_rule.specs.Steps.{is_free, set_read_bit_action, load_writer_act
 use Rattle.word_table.specs.declared.answer.Shared.{Shared}
 use Rattle.word_table.specs.declared.answer.Shared.TheVariants as shared
 use Rattle.word_table.specs.Calls.{SharedBy}
-use Rattle.word_table.proofs.Answering.{with_bit_cases}
+use Rattle.word_table.proofs.Calls.Answering.{with_bit_cases}
 use Rattle.lock_or_yield.specs.Asking.{GainsAtMost, AsksToRead}
 
 pub gains_none : (a : ℕ) (xs : List ℕ) → GainsAtMost a xs xs

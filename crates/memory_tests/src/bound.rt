@@ -174,6 +174,7 @@ fn give_up(desk: &Desk<Triple>, pass: &mut Pass<Triple>, lock: u32) -> bool
     ensures rest { pass.new.view ≡ record pass.old.view {
       claims = pass.new.view.claims;
       scans = pass.new.view.scans;
+      owed = pass.new.view.owed;
     } }
     ensures no_claim { IsTrue result → (k : ℕ) → ¬ HasClaim pass.new.view k }
     ensures no_bit { IsTrue result → (k : ℕ) → ¬ HasBit pass.new.view k }

@@ -27,6 +27,8 @@ mod transactions;
 #[cfg(test)]
 mod turns;
 #[cfg(test)]
+mod uses;
+#[cfg(test)]
 mod values;
 #[cfg(test)]
 mod wants;

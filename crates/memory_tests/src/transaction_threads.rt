@@ -1,7 +1,7 @@
 //! Transactions on threads: two that cross, of which one gives way once, also where one takes back what it tried, and four
 //! that add to both words in either order.
 
-ghost use Rattle.std.specs.Prelude.{◌≡◌, ◌<◌, [], ◌∷◌, None, IfOk};
+ghost use Rattle.std.specs.Prelude.{◌≡◌, ◌<◌, [], ◌∷◌, None, IfOk, length};
 ghost use Rattle.history_model.specs.declared.view.Phase.TheVariants.{Idle};
 ghost use Rattle.locks_rule.specs.Splits.{opening_view};
 ghost use Rattle.std.specs.Thread.{IsSync};
@@ -18,7 +18,7 @@ use std::thread;
 use std::thread::Threads;
 use txn_commit::transact;
 use txn_words::{Job, Stop, Verdict, Words};
-use word_table::{Desk, Pass};
+use word_table::{Desk, Pass, Shared};
 use worker_gate::{Gate, OpenGate, Point, Stage};
 
 /// Any two words are good.
@@ -126,6 +126,7 @@ fn add<R: Wait, G: Gate>(
     requires idle { (pass.old.view.phase ≡ Idle) × (pass.old.view.call ≡ 0) }
     ensures desk { pass.new.table ≡ desk.now.table }
     ensures idle { (pass.new.view.phase ≡ Idle) × (pass.new.view.who ≡ pass.old.view.who) }
+    ensures base { pass.new.view.base ≡ pass.old.view.base }
     ensures few { 0 < desk.now.seats → IfOk result (λ most. most < desk.now.seats) }
 {
     let mut most = 0;
@@ -150,6 +151,7 @@ fn add_all<R: Wait, G: Gate>(
     requires idle { (pass.view.phase ≡ Idle) × (pass.view.call ≡ 0) }
     ensures desk { result.0.table ≡ desk.now.table }
     ensures idle { (result.0.view.phase ≡ Idle) × (result.0.view.who ≡ pass.view.who) }
+    ensures base { result.0.view.base ≡ pass.view.base }
     ensures few { 0 < desk.now.seats → IfOk result.1 (λ most. most < desk.now.seats) }
 {
     let most = add(rt, alloc, desk, &mut pass, job, calls, gate);
@@ -200,6 +202,7 @@ fn cross<R: Threads + Wait + Sync, G: Gate>(
         × (result.0.0.view.who ≡ zero.view.who) }
     ensures one { (result.1.0.table ≡ desk.now.table) × (result.1.0.view.phase ≡ Idle)
         × (result.1.0.view.who ≡ one.view.who) }
+    ensures base { result.0.0.view.base ≡ zero.view.base }
     ensures few { 0 < desk.now.seats → IfOk result.0.1 (λ most. most < desk.now.seats)
         × IfOk result.1.1 (λ most. most < desk.now.seats) }
 {
@@ -209,7 +212,7 @@ fn cross<R: Threads + Wait + Sync, G: Gate>(
             requires { (zero.table ≡ desk.now.table) × (zero.view.phase ≡ Idle)
                 × (zero.view.call ≡ 0) }
             ensures { (result.0.table ≡ desk.entry.now.table) × (result.0.view.phase ≡ Idle)
-                × (result.0.view.who ≡ zero.view.who)
+                × (result.0.view.who ≡ zero.view.who) × (result.0.view.base ≡ zero.view.base)
                 × (0 < desk.entry.now.seats → IfOk result.1 (λ most. most < desk.entry.now.seats)) }
         { add_all(rt, alloc, desk, zero, left, calls, gate) },
         move || -> Ended
@@ -247,6 +250,7 @@ fn cross_twice<R: Threads + Wait + Sync>(
         × (result.1.0.0.view.who ≡ two.view.who) }
     ensures three { (result.1.1.0.table ≡ desk.now.table) × (result.1.1.0.view.phase ≡ Idle)
         × (result.1.1.0.view.who ≡ three.view.who) }
+    ensures base { result.0.0.0.view.base ≡ zero.view.base }
 {
     thread::join(
         rt,
@@ -256,6 +260,7 @@ fn cross_twice<R: Threads + Wait + Sync>(
                 × (one.table ≡ desk.now.table) × (one.view.phase ≡ Idle) × (one.view.call ≡ 0) }
             ensures { (result.0.0.table ≡ desk.entry.now.table) × (result.0.0.view.phase ≡ Idle)
                 × (result.0.0.view.who ≡ zero.view.who)
+                × (result.0.0.view.base ≡ zero.view.base)
                 × (result.1.0.table ≡ desk.entry.now.table) × (result.1.0.view.phase ≡ Idle)
                 × (result.1.0.view.who ≡ one.view.who) }
         {
@@ -298,6 +303,7 @@ fn cross_twice<R: Threads + Wait + Sync>(
 fn open_four(
     alloc: Global,
 ) -> Result<(Desk<Pair>, Pass<Pair>, Pass<Pair>, Pass<Pair>, Pass<Pair>), OutOfMemory>
+    ensures words { IfOk result (λ opened. length opened.0.base ≡ 2) }
     ensures seats { IfOk result (λ opened. opened.0.seats ≡ 4) }
     ensures zero { IfOk result (λ opened. opened.1 ≡ record {
       table = opened.0.table;
@@ -357,6 +363,28 @@ fn close_four(
     }
 }
 
+// The versions of locks 0 and 1, as a call finds them that reads both words.
+fn versions_found(desk: &Desk<Pair>, pass: &mut Pass<Pair>) -> Option<(u64, u64)>
+    requires desk { (pass.old.table ≡ desk.now.table) × (length pass.old.view.base ≡ 2) }
+    requires idle { pass.old.view.phase ≡ Idle }
+{
+    if pass.calls_left() == 0 {
+        return None;
+    }
+    let _ = desk.begin(pass);
+    let Shared::Granted = desk.share(pass, 0) else {
+        return None;
+    };
+    let _ = desk.load(pass, 0);
+    let Shared::Granted = desk.share(pass, 1) else {
+        return None;
+    };
+    let _ = desk.load(pass, 1);
+    let left = pass.use_of(0)?;
+    let right = pass.use_of(1)?;
+    Some((left.version, right.version))
+}
+
 // What two calls come to that cross and wait for each other with their first words, of which the one that has the left
 // word first is this: how many restarts they had, how often the gate was told that one gave way, and the words.
 fn crossed<R: Threads + Wait + Sync>(
@@ -413,5 +441,24 @@ fn four_threads_add_ten_thousand_times(rt: HostRuntime) -> Result<(), Fail> {
     let most = first?.max(second?).max(third?).max(fourth?);
     assert!(rt; most < 4);
     assert_eq!(rt; words.as_slice(), [10_000, 10_000].as_slice());
+    Ok(())
+}
+
+// Each call writes both words, so that a thousand calls raise both versions by a thousand; and the reading call, none.
+#[test]
+fn versions_rise_by_one_a_kept_write(rt: HostRuntime) -> Result<(), Fail> {
+    let (desk, zero, one, two, three) = open_four(rt.alloc())?;
+    let (((mut zero, first), (_one, second)), ((_two, third), (_three, fourth))) = cross_twice(
+        &rt,
+        rt.alloc(),
+        &desk,
+        zero,
+        one,
+        two,
+        three,
+        250,
+    );
+    let _ = first?.max(second?).max(third?).max(fourth?);
+    assert_eq!(rt; versions_found(&desk, &mut zero), Some((1_000, 1_000)));
     Ok(())
 }

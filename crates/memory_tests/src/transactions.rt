@@ -6,7 +6,7 @@ ghost use Rattle.history_model.specs.declared.view.Phase.TheVariants.{Idle};
 ghost use Rattle.locks_rule.specs.Splits.{opening_view};
 ghost use Rattle.txn_words.specs.Steps.{stop_after};
 
-use history_model::{Phase, Shape};
+use history_model::{LockUse, Phase, Shape};
 use io_ends::OutOfMemory;
 use std::alloc::Global;
 use std::sync::Wait;
@@ -146,12 +146,22 @@ fn call<R: Wait>(
     transact(rt, alloc, desk, pass, job, &OpenGate)
 }
 
+// The use of a lock at this version.
+fn used(lock: u32, version: u64, wrote: bool) -> LockUse {
+    LockUse {
+        lock,
+        version,
+        wrote,
+    }
+}
+
 #[test]
 fn two_words_of_one_lock_are_written_in_one_call(rt: HostRuntime) -> Result<(), Fail> {
     let (desk, mut zero, one) = open_wide(rt.alloc())?;
     let receipt = call(&rt, rt.alloc(), &desk, &mut zero, &Step::Write)?;
     let words = close_two(rt.alloc(), desk, zero, one)?;
     assert_eq!(rt; (receipt.serial, receipt.call, receipt.restarts), (1, 1, 0));
+    assert_eq!(rt; receipt.uses.as_slice(), [used(5, 0, true)].as_slice());
     let written = words.iter().filter(|word| **word != 0).count();
     assert_eq!(rt;
         (words.get(5), words.get(1029), written),
@@ -168,6 +178,7 @@ fn a_pass_that_was_told_of_a_call_reads_what_it_wrote(rt: HostRuntime) -> Result
     desk.meet(&mut one, note);
     let read = call(&rt, rt.alloc(), &desk, &mut one, &Step::Read)?;
     assert_eq!(rt; (written.serial, read.serial, read.answer), (1, 2, 5));
+    assert_eq!(rt; read.uses.as_slice(), [used(5, 1, false)].as_slice());
     Ok(())
 }
 

@@ -15,6 +15,7 @@ use Rattle.script_reader.proofs.Printing.Printed.{is_low_in}
 use Rattle.script_reader.proofs.Printing.Sections.{pair_less, less_pair, less_is}
 use Rattle.script_reader.proofs.WithoutFault.BooksFaultless.{printed, found_is_given, some_of}
 use Rattle.script_reader.proofs.Printing.Extending.{key_found}
+use Rattle.script_reader.specs.declared.version.Version.{Version}
 
 -- a search finds where a test that agrees passes
 pub found_any : {A : Type 0} (p q : A → Bool) (xs : List A) → AllByRecursion (λ x. p x ≡ q x) xs → is_some (find p xs) ≡ list_any q xs
@@ -109,15 +110,15 @@ given_is_found m a v same (Some x) at =
     found_is_given v (map.entries m) (subst IsSome (get-entries m v) (subst (λ n. IsSome (map.get m n)) same (subst IsSome at refl)))
 
 -- whether an account or a price does not rise, as the first entry above the number before it tells
-pub account_low : (b : ClearingBooks) (a v : ℕ) (found : Option (ℕ × ℕ)) → 1 ≤ a → a ≡ v
-    → found ≡ find (λ e. nat_lt (a - 1) e.0) (map.entries b.accounts) → is_low_in 0 (v, 0) (printed b) ≡ is_some found
-account_low b a v found some same first = or_false _ ∙ sym (low_found a v (map.entries b.accounts) some same) ∙ sym (ap is_some first)
+pub account_low : (version : Version) (b : ClearingBooks) (a v : ℕ) (found : Option (ℕ × ℕ)) → 1 ≤ a → a ≡ v
+    → found ≡ find (λ e. nat_lt (a - 1) e.0) (map.entries b.accounts) → is_low_in 0 (v, 0) (printed version b) ≡ is_some found
+account_low version b a v found some same first = or_false _ ∙ sym (low_found a v (map.entries b.accounts) some same) ∙ sym (ap is_some first)
 
-pub price_low : (b : ClearingBooks) (i v : ℕ) (found : Option (ℕ × ℕ)) → 1 ≤ i → i ≡ v
-    → found ≡ find (λ e. nat_lt (i - 1) e.0) (map.entries b.prices) → is_low_in 1 (v, 0) (printed b) ≡ is_some found
-price_low b i v found some same first = or_false _ ∙ sym (low_found i v (map.entries b.prices) some same) ∙ sym (ap is_some first)
+pub price_low : (version : Version) (b : ClearingBooks) (i v : ℕ) (found : Option (ℕ × ℕ)) → 1 ≤ i → i ≡ v
+    → found ≡ find (λ e. nat_lt (i - 1) e.0) (map.entries b.prices) → is_low_in 1 (v, 0) (printed version b) ≡ is_some found
+price_low version b i v found some same first = or_false _ ∙ sym (low_found i v (map.entries b.prices) some same) ∙ sym (ap is_some first)
 
 -- and so for a position
-pub position_low : {B : Type 0} (f : (ℕ × ℕ) × ℕ → B) (b : ClearingBooks) (a i v w : ℕ) (found : Option B) → 1 ≤ i → a ≡ v → i ≡ w
-    → found ≡ option_map f (find (λ e. is_lt (position_cmp (a, i - 1) e.0)) (map.entries b.positions)) → is_low_in 2 (v, w) (printed b) ≡ is_some found
-position_low f b a i v w found some same also first = sym (low_position_found f a i v w (map.entries b.positions) some same also) ∙ sym (ap is_some first)
+pub position_low : {B : Type 0} (f : (ℕ × ℕ) × ℕ → B) (version : Version) (b : ClearingBooks) (a i v w : ℕ) (found : Option B) → 1 ≤ i → a ≡ v → i ≡ w
+    → found ≡ option_map f (find (λ e. is_lt (position_cmp (a, i - 1) e.0)) (map.entries b.positions)) → is_low_in 2 (v, w) (printed version b) ≡ is_some found
+position_low f version b a i v w found some same also first = sym (low_position_found f a i v w (map.entries b.positions) some same also) ∙ sym (ap is_some first)

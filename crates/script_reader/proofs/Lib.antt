@@ -14,3 +14,5 @@ pub mod WithoutFault
 pub mod Texts
 -- whether a search finds an element
 pub mod Finding
+-- the versions of texts
+pub mod Versions

@@ -2,7 +2,7 @@
 -- Reasons are tried in this order, each where it can apply: header, word, order of kinds, number, limit, order of
 -- lines, account, price, blocks. `IsFirstFault` has what is beside them: a line that does not exist, or comes after
 -- the last.
-use Rattle.std.specs.Prelude.{◌≡◌, ◌≢◌, ◌⊎◌, ℕ, ◌+◌, Bool, true, false, not, ◌&&◌, ◌||◌, ◌==◌, nat_lt, nat_le, if◌then◌else◌, List, [], ◌∷◌, ◌++◌, Option, Some}
+use Rattle.std.specs.Prelude.{◌≡◌, ◌≢◌, ◌⊎◌, ℕ, ◌+◌, Bool, false, not, ◌&&◌, ◌||◌, ◌==◌, nat_lt, nat_le, if◌then◌else◌, List, [], ◌∷◌, ◌++◌, Option, Some}
 use Rattle.std.specs.Prelude.{None, codes, length, drop, map, filter, fold, count_by, slice_index_or}
 use Rattle.std.specs.List.{list_any, flat_map, position_or_len}
 use Rattle.std.specs.Option.{is_none}
@@ -12,10 +12,13 @@ use Rattle.script_reader.specs.declared.limits.TheConstants.{MOST_CALLERS, MOST_
 use Rattle.script_reader.specs.declared.words.TheConstants.{LINE_FEED}
 use Rattle.script_reader.specs.declared.fault.Fault.{Fault}
 use Rattle.script_reader.specs.declared.fault.Fault.TheVariants as fault
+use Rattle.script_reader.specs.declared.version.Version.{Version}
+use Rattle.script_reader.specs.declared.version.Version.TheVariants.{Two}
 use Rattle.script_reader.specs.Lines.{IsFreeOf, AreWords, word_at}
 use Rattle.script_reader.specs.Text.{line}
 use Rattle.script_reader.specs.Input.{ClearingInput, first_seen}
 use Rattle.script_reader.specs.Grammar.{Spells}
+use Rattle.script_reader.specs.Versions.{version_of}
 use Rattle.script_reader.specs.Forms.{Words, Region, OutsideScripts, InScript, InFirstBranch, InSecondBranch, sizes, books_forms, script_forms, begins, is_only, form_of, ranges_of, is_header, is_script_line, size_words}
 use Rattle.script_reader.specs.Forms.{value_at, are_numbers, are_in_range}
 
@@ -28,18 +31,26 @@ first_reason (reason ∷ reasons) = if reason.0 then Some reason.1 else first_re
 abbrev pub size_at : List Words → ℕ → ℕ
 size_at before i = value_at (slice_index_or before 0 []) i
 
+-- the version of a header
+abbrev pub header_version : Words → Version
+header_version words = version_of (word_at words 1)
+
+-- the version of a text, by its header
+abbrev pub version_at : List Words → Version
+version_at before = header_version (slice_index_or before 0 [])
+
 -- what is wrong with the first line
 abbrev pub header_fault : Words → Option Fault
 header_fault words = first_reason (
     (not (is_header words), fault.Header)
     ∷ (not (are_numbers (size_words words)), fault.Number)
-    ∷ (not (are_in_range (size_words words) sizes), fault.Limit)
+    ∷ (not (are_in_range (size_words words) (sizes (header_version words))), fault.Limit)
     ∷ []
     )
 
--- which kind of line of books a line is, from 0, in the order in which they stand
+-- which kind of line of books a line is, from 0, in the order in which they stand, whatever its numbers
 abbrev pub kind_of : Words → ℕ
-kind_of words = position_or_len (λ f. begins f.keyword words) (books_forms 0)
+kind_of words = position_or_len (λ f. begins f.keyword words) (books_forms Two 0)
 
 -- accounts, prices and positions take a block each
 abbrev pub takes_block : Words → Bool
@@ -69,7 +80,7 @@ is_given before keyword n = list_any (λ w. begins keyword w && value_at w 1 == 
 -- what is wrong with a line before the scripts, or with the line that begins them
 abbrev pub books_fault : List Words → Words → Option Fault
 books_fault before words =
-    let form = form_of (books_forms (size_at before 5)) words in
+    let form = form_of (books_forms (version_at before) (size_at before 5)) words in
     first_reason (
     (is_none form, fault.Word)
     ∷ (is_late before words, fault.Order)
@@ -143,7 +154,7 @@ is_too_many operations alternatives words =
 -- what is wrong with a line of a script
 abbrev pub inside_fault : Region → List Words → Words → Option Fault
 inside_fault region before words =
-    let form = form_of (script_forms region (size_at before 5)) words in
+    let form = form_of (script_forms (version_at before) region (size_at before 5)) words in
     first_reason (
     (is_none form, fault.Word)
     ∷ (not (are_numbers (drop 1 words)), fault.Number)

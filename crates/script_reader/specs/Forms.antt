@@ -3,11 +3,13 @@ use Rattle.std.specs.Prelude.{ℕ, ◌+◌, Bool, ◌&&◌, ◌==◌, nat_le, Li
 use Rattle.std.specs.List.{list_all, zip}
 use Rattle.std.specs.Str.{bytes_eq}
 use Rattle.std.specs.Str.Parse.{digits_value}
-use Rattle.books_model.specs.declared.limits.TheConstants.{MOST_BLOCKS, MOST_INSTRUMENTS, MOST_RING, GREATEST_ACCOUNT, GREATEST_CASH, GREATEST_AMOUNT}
+use Rattle.books_model.specs.declared.limits.TheConstants.{MOST_INSTRUMENTS, MOST_RING, GREATEST_ACCOUNT}
 use Rattle.books_model.specs.declared.limits.TheConstants.{GREATEST_PRICE, GREATEST_QUANTITY, GREATEST_RATE, GREATEST_SHORTFALL}
+use Rattle.script_reader.specs.declared.version.Version.{Version}
 use Rattle.script_reader.specs.Lines.{word_at}
 use Rattle.script_reader.specs.Number.{is_number}
 use Rattle.script_reader.specs.Input.{is_name}
+use Rattle.script_reader.specs.Versions.{is_version, most_blocks, greatest_cash, greatest_amount}
 
 -- a line, as its words
 abbrev pub Words : Type 0
@@ -25,8 +27,8 @@ form keyword ranges = record { keyword = keyword; ranges = ranges }
 abbrev pub accounts : ℕ × ℕ
 accounts = (1, GREATEST_ACCOUNT)
 
-abbrev pub amounts : ℕ × ℕ
-amounts = (1, GREATEST_AMOUNT)
+abbrev pub amounts : Version → ℕ × ℕ
+amounts version = (1, greatest_amount version)
 
 abbrev pub prices : ℕ × ℕ
 prices = (1, GREATEST_PRICE)
@@ -35,13 +37,13 @@ abbrev pub quantities : ℕ × ℕ
 quantities = (1, GREATEST_QUANTITY)
 
 -- the sizes of a header: blocks, instruments and ring
-abbrev pub sizes : List (ℕ × ℕ)
-sizes = (1, MOST_BLOCKS) ∷ (1, MOST_INSTRUMENTS) ∷ (1, MOST_RING) ∷ []
+abbrev pub sizes : Version → List (ℕ × ℕ)
+sizes version = (1, most_blocks version) ∷ (1, MOST_INSTRUMENTS) ∷ (1, MOST_RING) ∷ []
 
 -- the lines of books with so many instruments, and the line that ends them, in the order of their kinds
-abbrev pub books_forms : ℕ → List Form
-books_forms instruments =
-    form (codes "account") (accounts ∷ (0, GREATEST_CASH) ∷ [])
+abbrev pub books_forms : Version → ℕ → List Form
+books_forms version instruments =
+    form (codes "account") (accounts ∷ (0, greatest_cash version) ∷ [])
     ∷ form (codes "price") ((1, instruments) ∷ prices ∷ [])
     ∷ form (codes "position") (accounts ∷ (1, instruments) ∷ quantities ∷ [])
     ∷ form (codes "call") (accounts ∷ (1, GREATEST_SHORTFALL) ∷ [])
@@ -49,13 +51,13 @@ books_forms instruments =
     ∷ []
 
 -- the operations of a script on books with so many instruments
-abbrev pub operation_forms : ℕ → List Form
-operation_forms instruments =
+abbrev pub operation_forms : Version → ℕ → List Form
+operation_forms version instruments =
     form (codes "open") (accounts ∷ [])
     ∷ form (codes "close") (accounts ∷ [])
-    ∷ form (codes "deposit") (accounts ∷ amounts ∷ [])
-    ∷ form (codes "withdraw") (accounts ∷ amounts ∷ [])
-    ∷ form (codes "move") (accounts ∷ accounts ∷ amounts ∷ [])
+    ∷ form (codes "deposit") (accounts ∷ amounts version ∷ [])
+    ∷ form (codes "withdraw") (accounts ∷ amounts version ∷ [])
+    ∷ form (codes "move") (accounts ∷ accounts ∷ amounts version ∷ [])
     ∷ form (codes "price") ((1, instruments) ∷ prices ∷ [])
     ∷ form (codes "trade") (accounts ∷ accounts ∷ (1, instruments) ∷ quantities ∷ [])
     ∷ form (codes "margin") (accounts ∷ (1, GREATEST_RATE) ∷ [])
@@ -79,8 +81,8 @@ turning_forms InFirstBranch = form (codes "else") [] ∷ []
 turning_forms InSecondBranch = form (codes "done") [] ∷ []
 
 -- the lines that may stand there, on books with so many instruments
-abbrev pub script_forms : Region → ℕ → List Form
-script_forms region instruments = operation_forms instruments ++ turning_forms region
+abbrev pub script_forms : Version → Region → ℕ → List Form
+script_forms version region instruments = operation_forms version instruments ++ turning_forms region
 
 -- the line begins with this word
 abbrev pub begins : List ℕ → Words → Bool
@@ -107,12 +109,15 @@ ranges_of (Some f) = f.ranges
 abbrev pub is_script_line : Words → Bool
 is_script_line words = begins (codes "script") words && length words == 2 && is_name (word_at words 1)
 
--- eight words, with those of a header around its sizes
-abbrev pub is_header : Words → Bool
-is_header words =
-    (length words == 8) && bytes_eq (word_at words 0) (codes "books") && bytes_eq (word_at words 1) (codes "1")
-    && bytes_eq (word_at words 2) (codes "blocks")
+-- eight words, with those of a header around its version and its sizes
+abbrev pub has_header_words : Words → Bool
+has_header_words words =
+    (length words == 8) && bytes_eq (word_at words 0) (codes "books") && bytes_eq (word_at words 2) (codes "blocks")
     && bytes_eq (word_at words 4) (codes "instruments") && bytes_eq (word_at words 6) (codes "ring")
+
+-- and a version among them
+abbrev pub is_header : Words → Bool
+is_header words = has_header_words words && is_version (word_at words 1)
 
 -- the words of a header that are sizes
 abbrev pub size_words : Words → Words

@@ -3,23 +3,28 @@
 use Rattle.std.specs.Prelude.{◌≡◌, ℕ, List, [], ◌∷◌, ◌++◌, codes}
 use Rattle.std.specs.List.{flat_map}
 use Rattle.books_model.specs.Books.{ClearingBooks}
+use Rattle.script_reader.specs.declared.version.Version.{Version}
 use Rattle.script_reader.specs.Text.{line, books_lines, script_lines, scripts_line, end_line, finish_line}
 use Rattle.script_reader.specs.Input.{ClearingInput, Submission, IsInput, callers_of}
+use Rattle.script_reader.specs.Versions.{IsInputWithin}
 
 -- the line `script CALLER`, the operations and alternatives, and the line `end`
 abbrev pub submission_lines : Submission → List ℕ
 submission_lines s = line (codes "script" ∷ s.caller ∷ []) ++ script_lines s.script ++ end_line
 
 -- the text of books and of scripts in the order in which they are given
-abbrev pub input_text : ClearingBooks → List Submission → List ℕ
-input_text books submissions = books_lines books ++ scripts_line ++ flat_map submission_lines submissions ++ finish_line
+abbrev pub input_text : Version → ClearingBooks → List Submission → List ℕ
+input_text version books submissions = books_lines version books ++ scripts_line ++ flat_map submission_lines submissions ++ finish_line
 
--- the bytes are a text of the input, whose callers gave their scripts in some order
+-- The bytes are a text of the input, whose callers gave their scripts in some order. The text is of a version, in the
+-- ranges of which its numbers are. The input itself is of none.
 pub record Spells (bytes : List ℕ) (input : ClearingInput) : Type 0 where
+  pub version : Version
   pub submissions : List Submission
-  pub text : bytes ≡ input_text input.books submissions
+  pub text : bytes ≡ input_text version input.books submissions
   pub callers : input.callers ≡ callers_of submissions
   pub valid : IsInput input
+  pub within : IsInputWithin version input
 
 -- some input has these bytes as its text
 abbrev pub IsValidInput : List ℕ → Type 0

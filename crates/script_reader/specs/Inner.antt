@@ -8,3 +8,4 @@ pub mod Callers
 pub mod Scripts
 pub mod Cuts
 pub mod Branches
+pub mod OfVersion

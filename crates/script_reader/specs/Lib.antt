@@ -2,6 +2,7 @@ pub mod Text
 pub mod Lines
 pub mod Number
 pub mod Input
+pub mod Versions
 pub mod Grammar
 pub mod Forms
 pub mod Faults

@@ -1,7 +1,9 @@
 -- What the laws of texts say.
 use Rattle.std.specs.Prelude.{◌≡◌, ◌⊎◌, ℕ, List}
 use Rattle.script_reader.specs.declared.fault.Fault.{Fault}
-use Rattle.script_reader.specs.Input.{ClearingInput}
+use Rattle.script_reader.specs.declared.version.Version.TheVariants.{Two}
+use Rattle.script_reader.specs.Input.{ClearingInput, IsInput}
+use Rattle.script_reader.specs.Versions.{IsInputWithin}
 use Rattle.script_reader.specs.Grammar.{Spells, IsValidInput, AreTwoTexts, BeginWithInput}
 use Rattle.script_reader.specs.Faults.{IsFirstFault, IsFrontFault}
 
@@ -13,6 +15,10 @@ HasFault text = (number : ℕ) × (why : Fault) × IsFirstFault text number why
 pub record ValidOrFaulty : Type 0 where
   pub either : (text : List ℕ) → IsValidInput text ⊎ HasFault text
   pub not_both : (text : List ℕ) → IsValidInput text → ¬ HasFault text
+
+-- each input is in the ranges of version 2
+abbrev pub EachInputIsWithinTwo : Type 0
+EachInputIsWithinTwo = (input : ClearingInput) → IsInput input → IsInputWithin Two input
 
 -- a text is of one input at most
 abbrev pub OneInput : Type 0

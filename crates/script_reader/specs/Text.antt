@@ -9,6 +9,8 @@ use Rattle.books_model.specs.declared.script.Part.{Part}
 use Rattle.books_model.specs.declared.script.Part.TheVariants as part
 use Rattle.books_model.specs.Books.{ClearingBooks}
 use Rattle.script_reader.specs.declared.words.TheConstants.{SPACE, LINE_FEED}
+use Rattle.script_reader.specs.declared.version.Version.{Version}
+use Rattle.script_reader.specs.Versions.{version_word}
 
 -- a number in a text: decimal digits, with no zero in front
 abbrev pub number : ℕ → List ℕ
@@ -19,16 +21,16 @@ abbrev pub line : List (List ℕ) → List ℕ
 line words = join_with_byte SPACE words ++ LINE_FEED ∷ []
 
 -- the words of the header
-abbrev pub header_words : ClearingBooks → List (List ℕ)
-header_words books =
-    codes "books" ∷ codes "1"
+abbrev pub header_words : Version → ClearingBooks → List (List ℕ)
+header_words version books =
+    codes "books" ∷ version_word version
     ∷ codes "blocks" ∷ number books.blocks
     ∷ codes "instruments" ∷ number books.instruments
     ∷ codes "ring" ∷ number books.ring ∷ []
 
--- the first line: sizes of books
-abbrev pub header_line : ClearingBooks → List ℕ
-header_line books = line (header_words books)
+-- the first line: the version of the text, and the sizes of books
+abbrev pub header_line : Version → ClearingBooks → List ℕ
+header_line version books = line (header_words version books)
 
 -- the words of an account
 abbrev pub account_words : ℕ × ℕ → List (List ℕ)
@@ -64,9 +66,9 @@ abbrev pub call_line : ℕ × ℕ → List ℕ
 call_line call = line (call_words call)
 
 -- the lines of books: the header, and then accounts, prices and positions in rising order, and the queue from its front
-abbrev pub books_lines : ClearingBooks → List ℕ
-books_lines books =
-    header_line books
+abbrev pub books_lines : Version → ClearingBooks → List ℕ
+books_lines version books =
+    header_line version books
     ++ flat_map account_line (map.entries books.accounts)
     ++ flat_map price_line (map.entries books.prices)
     ++ flat_map position_line (map.entries books.positions)

@@ -1,22 +1,23 @@
 //! The books of a text.
 
-ghost use Rattle.std.specs.Prelude.{◌≡◌, ◌+◌, nat_le, None, ◌∷◌, [], ◌++◌, ◌&&◌, ◌||◌, ◌==◌, true, false, length, codes, IfOk, IfErr, OnOk, Some, Err};
+ghost use Rattle.std.specs.Prelude.{◌≡◌, IsTrue, ◌+◌, nat_le, None, ◌∷◌, [], ◌++◌, ◌&&◌, ◌||◌, ◌==◌, true, false, length, codes, IfOk, IfErr, OnOk, Some, Err};
 ghost use Rattle.std.specs.FinMap as map;
 ghost use Rattle.std.specs.List.{flat_map, list_any};
 ghost use Rattle.books_model.specs.Ranges.{AreInRange};
 ghost use Rattle.script_reader.specs.declared.fault.Fault.{Fault as AnyFault};
+ghost use Rattle.script_reader.specs.declared.version.Version.{Version as AnyVersion};
 ghost use Rattle.script_reader.specs.Text.{line};
 ghost use Rattle.script_reader.specs.Inner.LinesAsWords.{books_words};
+ghost use Rattle.script_reader.specs.Versions.{AreBooksWithin};
 ghost use Rattle.script_reader.specs.Inner.BooksRows.{Fits, IsRow, with_row};
-ghost use Rattle.script_reader.specs.Forms.{begins, is_only, is_header, value_at};
-ghost use Rattle.script_reader.specs.Faults.{header_fault, fault_of, IsFaultyBehind};
+ghost use Rattle.script_reader.specs.Forms.{begins, has_header_words, is_only, is_header, value_at};
+ghost use Rattle.script_reader.specs.Faults.{header_fault, header_version, fault_of, IsFaultyBehind};
 
 use crate::fault::{Fault, Refusal};
 use crate::lines::Lines;
 use crate::numbers::{both_within, within};
-use crate::rows::{
-    ACCOUNTS, BLOCKS, CASH, INSTRUMENTS, PRICES, QUANTITIES, RINGS, SHORTFALLS, instruments_of,
-};
+use crate::rows::{ACCOUNTS, INSTRUMENTS, PRICES, QUANTITIES, RINGS, SHORTFALLS, instruments_of};
+use crate::version::Version;
 use crate::words::Words;
 use books_model::Books;
 use io_ends::OutOfMemory;
@@ -35,29 +36,32 @@ pub(crate) enum Row {
     Call(u32, u64),
 }
 
-// The books of the next lines, and the line that begins the scripts.
-pub(crate) fn books_of(alloc: Global, lines: &mut Lines<'_>) -> Result<Books, Refusal>
-    ensures range { IfOk result (λ books. AreInRange books) }
+// The version and the books of the next lines, and the line that begins the scripts.
+pub(crate) fn books_of(alloc: Global, lines: &mut Lines<'_>) -> Result<(Version, Books), Refusal>
+    ensures range { IfOk result (λ found. AreInRange found.1) }
+    ensures within { IfOk result (λ found. AreBooksWithin found.0 found.1) }
     ensures text { IfOk result
-        (λ books. lines.old
-        ≡ flat_map line (books_words books) ++ (line (codes "scripts" ∷ []) ++ lines.new)) }
+        (λ found. lines.old ≡ flat_map line (books_words found.0 found.1)
+        ++ (line (codes "scripts" ∷ []) ++ lines.new)) }
     ensures fault { (why : AnyFault) → result ≡ Err (Refusal.LineFault why)
         → IsFaultyBehind [] lines.old lines.new why }
 {
     let words = lines.words()?;
-    let mut books = header_of(alloc, &words)?;
-    fill(lines, &mut books)?;
-    Ok(books)
+    let (version, mut books) = header_of(alloc, &words)?;
+    fill(lines, version, &mut books)?;
+    Ok((version, books))
 }
 
 // Adds to the books what the next lines give, up to the line that begins the scripts.
-fn fill(lines: &mut Lines<'_>, books: &mut Books) -> Result<(), Refusal>
+fn fill(lines: &mut Lines<'_>, version: Version, books: &mut Books) -> Result<(), Refusal>
+    requires within { AreBooksWithin version books.old }
     ensures range { OnOk result (AreInRange books.new) }
-    ensures text { OnOk result
-        (flat_map line (books_words books.old) ++ lines.old
-        ≡ flat_map line (books_words books.new) ++ (line (codes "scripts" ∷ []) ++ lines.new)) }
+    ensures within { OnOk result (AreBooksWithin version books.new) }
+    ensures text { OnOk result (flat_map line (books_words version books.old) ++ lines.old
+        ≡ flat_map line (books_words version books.new)
+        ++ (line (codes "scripts" ∷ []) ++ lines.new)) }
     ensures fault { (why : AnyFault) → result ≡ Err (Refusal.LineFault why)
-        → IsFaultyBehind (books_words books.old) lines.old lines.new why }
+        → IsFaultyBehind (books_words version books.old) lines.old lines.new why }
 {
     loop {
         books.ranges();
@@ -65,35 +69,49 @@ fn fill(lines: &mut Lines<'_>, books: &mut Books) -> Result<(), Refusal>
         if words.is_only(b"scripts") {
             return Ok(());
         }
-        let row = row_of(books, &words)?;
+        let row = row_of(version, books, &words)?;
         add_row(books, row)?;
     }
 }
 
-// The empty books of a header.
-fn header_of(alloc: Global, words: &Words<'_>) -> Result<Books, Fault>
-    ensures found { IfOk result (λ books. books_words books ≡ words.now ∷ []) }
+// The version of a header, and its empty books.
+fn header_of(alloc: Global, words: &Words<'_>) -> Result<(Version, Books), Fault>
+    ensures found { IfOk result (λ found. books_words found.0 found.1 ≡ words.now ∷ []) }
+    ensures within { IfOk result (λ found. AreBooksWithin found.0 found.1) }
+    ensures version { IfOk result (λ found. found.0 ≡ header_version words.now) }
     ensures fine { OnOk result (header_fault words.now ≡ None) }
     ensures err { IfErr result (λ why. header_fault words.now ≡ Some why) }
 {
-    let (blocks, instruments, ring) = sizes_of(words)?;
-    Ok(Books::new(alloc, blocks, instruments, ring))
+    let version = version_of(words)?;
+    let (blocks, instruments, ring) = sizes_of(words, version)?;
+    Ok((version, Books::new(alloc, blocks, instruments, ring)))
+}
+
+// The version of a line that has the words of a header around its numbers.
+fn version_of(words: &Words<'_>) -> Result<Version, Fault>
+    ensures found { IfOk result
+        (λ version. (is_header words.now ≡ true) × (version ≡ header_version words.now)) }
+    ensures err { IfErr result (λ why. header_fault words.now ≡ Some why) }
+{
+    if !has_header_words(words) {
+        return Err(Fault::Header);
+    }
+    Version::named(words.at(1)).ok_or(Fault::Header)
 }
 
 // The blocks, the instruments and the ring of a header.
-fn sizes_of(words: &Words<'_>) -> Result<(u32, u32, u32), Fault>
+fn sizes_of(words: &Words<'_>, version: Version) -> Result<(u32, u32, u32), Fault>
+    requires header { is_header words.now ≡ true }
+    requires version { version ≡ header_version words.now }
     ensures found { IfOk result
         (λ sizes. (sizes.0 ≡ value_at words.now 3) × (sizes.1 ≡ value_at words.now 5)
         × (sizes.2 ≡ value_at words.now 7)) }
     ensures fine { OnOk result (header_fault words.now ≡ None) }
     ensures err { IfErr result (λ why. header_fault words.now ≡ Some why) }
 {
-    if !is_header(words) {
-        return Err(Fault::Header);
-    }
     let (blocks, instruments) = words.both_numbers(3, 5)?;
     let ring = words.number(7)?;
-    both_within(blocks, BLOCKS, instruments, INSTRUMENTS)?;
+    both_within(blocks, version.blocks(), instruments, INSTRUMENTS)?;
     Ok((
         blocks as u32,
         instruments as u32,
@@ -101,27 +119,28 @@ fn sizes_of(words: &Words<'_>) -> Result<(u32, u32, u32), Fault>
     ))
 }
 
-// Whether a line has the words of a header around its numbers.
-fn is_header(words: &Words<'_>) -> bool
-    ensures { result ≡ is_header words.now }
+// Whether a line has the words of a header around its version and its numbers.
+fn has_header_words(words: &Words<'_>) -> bool
+    ensures length { IsTrue result → length words.now ≡ 8 }
+    ensures value { result ≡ has_header_words words.now }
 {
     words.len() == 8
         && words.is(0, b"books")
-        && words.is(1, b"1")
         && words.is(2, b"blocks")
         && words.is(4, b"instruments")
         && words.is(6, b"ring")
 }
 
 // The row that a line gives. It is not the line that begins the scripts.
-fn row_of(books: &Books, words: &Words<'_>) -> Result<Row, Fault>
+fn row_of(version: Version, books: &Books, words: &Words<'_>) -> Result<Row, Fault>
     requires { is_only (codes "scripts") words.now ≡ false }
-    ensures row { IfOk result (λ row. IsRow books.now words.now row) }
-    ensures err { IfErr result (λ why. fault_of (books_words books.now) words.now ≡ Some why) }
+    ensures row { IfOk result (λ row. IsRow version books.now words.now row) }
+    ensures err { IfErr result
+        (λ why. fault_of (books_words version books.now) words.now ≡ Some why) }
 {
     books.ranges();
     if words.is_row(b"account", 3) {
-        return account_of(books, words);
+        return account_of(version, books, words);
     }
     if words.is_row(b"price", 3) {
         return price_of(books, words);
@@ -202,16 +221,17 @@ fn is_full(books: &Books) -> bool
 }
 
 // The row of a line that gives an account.
-fn account_of(books: &Books, words: &Words<'_>) -> Result<Row, Fault>
+fn account_of(version: Version, books: &Books, words: &Words<'_>) -> Result<Row, Fault>
     requires { (begins (codes "account") words.now && length words.now == 3) ≡ true }
-    ensures row { IfOk result (λ row. IsRow books.now words.now row) }
-    ensures err { IfErr result (λ why. fault_of (books_words books.now) words.now ≡ Some why) }
+    ensures row { IfOk result (λ row. IsRow version books.now words.now row) }
+    ensures err { IfErr result
+        (λ why. fault_of (books_words version books.now) words.now ≡ Some why) }
 {
     books.ranges();
     if is_past_accounts(books) {
         return Err(Fault::Order);
     }
-    let (account, cash) = words.two_numbers(ACCOUNTS, CASH)?;
+    let (account, cash) = words.two_numbers(ACCOUNTS, version.cash())?;
     let account = account as u32;
     if books.account_after(account - 1).is_some() {
         return Err(Fault::Order);
@@ -225,8 +245,10 @@ fn account_of(books: &Books, words: &Words<'_>) -> Result<Row, Fault>
 // The row of a line that gives a price.
 fn price_of(books: &Books, words: &Words<'_>) -> Result<Row, Fault>
     requires { (begins (codes "price") words.now && length words.now == 3) ≡ true }
-    ensures row { IfOk result (λ row. IsRow books.now words.now row) }
-    ensures err { IfErr result (λ why. fault_of (books_words books.now) words.now ≡ Some why) }
+    ensures row { IfOk result (λ row. (version : AnyVersion) → IsRow version books.now words.now row) }
+    ensures err { IfErr result
+        (λ why. (version : AnyVersion)
+        → fault_of (books_words version books.now) words.now ≡ Some why) }
 {
     books.ranges();
     if is_past_prices(books) {
@@ -247,8 +269,10 @@ fn price_of(books: &Books, words: &Words<'_>) -> Result<Row, Fault>
 // The row of a line that gives a position.
 fn position_of(books: &Books, words: &Words<'_>) -> Result<Row, Fault>
     requires { (begins (codes "position") words.now && length words.now == 4) ≡ true }
-    ensures row { IfOk result (λ row. IsRow books.now words.now row) }
-    ensures err { IfErr result (λ why. fault_of (books_words books.now) words.now ≡ Some why) }
+    ensures row { IfOk result (λ row. (version : AnyVersion) → IsRow version books.now words.now row) }
+    ensures err { IfErr result
+        (λ why. (version : AnyVersion)
+        → fault_of (books_words version books.now) words.now ≡ Some why) }
 {
     books.ranges();
     if has_calls(books) {
@@ -276,8 +300,10 @@ fn position_of(books: &Books, words: &Words<'_>) -> Result<Row, Fault>
 // The row of a line that gives a margin call.
 fn call_of(books: &Books, words: &Words<'_>) -> Result<Row, Fault>
     requires { (begins (codes "call") words.now && length words.now == 3) ≡ true }
-    ensures row { IfOk result (λ row. IsRow books.now words.now row) }
-    ensures err { IfErr result (λ why. fault_of (books_words books.now) words.now ≡ Some why) }
+    ensures row { IfOk result (λ row. (version : AnyVersion) → IsRow version books.now words.now row) }
+    ensures err { IfErr result
+        (λ why. (version : AnyVersion)
+        → fault_of (books_words version books.now) words.now ≡ Some why) }
 {
     books.ranges();
     let (account, shortfall) = words.two_numbers(ACCOUNTS, SHORTFALLS)?;

@@ -71,8 +71,8 @@ fn input_of(alloc: Global, lines: &mut Lines<'_>) -> Result<Input, Refusal>
     ensures fault { (why : AnyFault) → result ≡ Err (Refusal.LineFault why)
         → IsFaultyBehind [] lines.old lines.new why }
 {
-    let books = books_of(alloc, lines)?;
-    let callers = scripts_of(alloc, lines, &books)?;
+    let (version, books) = books_of(alloc, lines)?;
+    let callers = scripts_of(alloc, lines, version, &books)?;
     Ok(Input::new(books, callers))
 }
 

@@ -1,9 +1,12 @@
 //! What follows of texts, each law the contract of a function that does nothing.
 
 ghost use Rattle.std.specs.Prelude.{◌≡◌};
-ghost use Rattle.script_reader.specs.Statements.{FrontOrFaulty, OneFault, OneFront, OneInput, ValidOrFaulty};
+ghost use Rattle.script_reader.specs.Statements.{EachInputIsWithinTwo, FrontOrFaulty, OneFault, OneFront, OneInput, ValidOrFaulty};
 
-use crate::limits::{LONGEST_NAME, MOST_CALLERS, MOST_INPUT_BYTES, MOST_SCRIPTS, MOST_WORKERS};
+use crate::limits::{
+    GREATEST_AMOUNT_OF_ONE, GREATEST_CASH_OF_ONE, LONGEST_NAME, MOST_BLOCKS_OF_ONE, MOST_CALLERS,
+    MOST_INPUT_BYTES, MOST_SCRIPTS, MOST_WORKERS,
+};
 use crate::words::{LINE_FEED, MOST_WORDS, SPACE};
 
 /// The limits of a text, and of a line's words, in digits, and the bytes that separate words and lines, which are those of
@@ -14,9 +17,17 @@ pub fn limits_are_those_of_the_language()
     ensures scripts { MOST_SCRIPTS ≡ 65_536 }
     ensures name { LONGEST_NAME ≡ 16 }
     ensures workers { MOST_WORKERS ≡ 16 }
+    ensures blocks { MOST_BLOCKS_OF_ONE ≡ 16_384 }
+    ensures cash { GREATEST_CASH_OF_ONE ≡ 1_000_000_000_000_000 }
+    ensures amount { GREATEST_AMOUNT_OF_ONE ≡ 1_000_000_000_000_000 }
     ensures words { MOST_WORDS ≡ 8 }
     ensures space { SPACE ≡ 32 }
     ensures line_feed { LINE_FEED ≡ 10 }
+{}
+
+/// Each input is in the ranges of version 2.
+pub fn each_input_is_within_two()
+    ensures { EachInputIsWithinTwo }
 {}
 
 /// A text is of one input at most.

@@ -14,9 +14,11 @@ pub mod numbers;
 mod operations;
 mod rows;
 mod scripts;
+pub mod version;
 pub mod words;
 
 pub use fault::{Fault, InputFault};
 pub use front::{read_front, read_input};
 pub use input::Input;
 pub use numbers::numeral;
+pub use version::Version;

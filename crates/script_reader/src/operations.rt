@@ -2,27 +2,30 @@
 
 ghost use Rattle.std.specs.Prelude.{◌≡◌, ℕ, ◌&&◌, ◌==◌, Some, true, false, length, IfOk, IfErr, codes};
 ghost use Rattle.books_model.specs.Books.{ClearingBooks};
-ghost use Rattle.books_model.specs.Ranges.{IsOperationFor};
+ghost use Rattle.script_reader.specs.Inner.OfVersion.{IsOperationOf};
+ghost use Rattle.script_reader.specs.declared.version.Version.{Version as AnyVersion};
 ghost use Rattle.script_reader.specs.Text.{operation_words};
 ghost use Rattle.script_reader.specs.Forms.{begins, operation_forms};
 ghost use Rattle.script_reader.specs.Inner.Rows.{row_fault};
 
 use crate::fault::Fault;
-use crate::rows::{ACCOUNTS, AMOUNTS, PRICES, QUANTITIES, RATES, instruments_of};
+use crate::rows::{ACCOUNTS, PRICES, QUANTITIES, RATES, instruments_of};
+use crate::version::Version;
 use crate::words::Words;
 use books_model::{Books, Op};
 
-// The operation of a line in a script for the books.
-pub(crate) fn operation_of(words: &Words<'_>, books: &Books) -> Result<Op, Fault>
+// The operation of a line in a script for the books, in a text of the version.
+pub(crate) fn operation_of(words: &Words<'_>, version: Version, books: &Books) -> Result<Op, Fault>
     ensures found { IfOk result
-        (λ op. IsOperationFor books.now op × (words.now ≡ operation_words op)) }
+        (λ op. IsOperationOf version books.now op × (words.now ≡ operation_words op)) }
     ensures err { IfErr result
-        (λ why. row_fault (operation_forms books.now.instruments) words.now ≡ Some why) }
+        (λ why. row_fault (operation_forms version books.now.instruments) words.now
+        ≡ Some why) }
 {
     match words.len() {
         2 => with_one_number(words),
-        3 => with_two_numbers(words, books),
-        4 => with_three_numbers(words),
+        3 => with_two_numbers(words, version, books),
+        4 => with_three_numbers(words, version),
         5 => with_four_numbers(words, books),
         _ if words.is_only(b"next") => Ok(Op::Next),
         _ => Err(Fault::Word),
@@ -32,10 +35,11 @@ pub(crate) fn operation_of(words: &Words<'_>, books: &Books) -> Result<Op, Fault
 // The operation of a line of two words.
 fn with_one_number(words: &Words<'_>) -> Result<Op, Fault>
     requires { length words.now ≡ 2 }
-    ensures found { IfOk result (λ op. (books : ClearingBooks) → IsOperationFor books op
-        × (words.now ≡ operation_words op)) }
+    ensures found { IfOk result (λ op. (version : AnyVersion) (books : ClearingBooks)
+        → IsOperationOf version books op × (words.now ≡ operation_words op)) }
     ensures err { IfErr result
-        (λ why. (instruments : ℕ) → row_fault (operation_forms instruments) words.now ≡ Some why) }
+        (λ why. (version : AnyVersion) (instruments : ℕ)
+        → row_fault (operation_forms version instruments) words.now ≡ Some why) }
 {
     if words.is_row(b"open", 2) {
         let account = words.one_number(ACCOUNTS)?;
@@ -53,19 +57,20 @@ fn with_one_number(words: &Words<'_>) -> Result<Op, Fault>
 }
 
 // The operation of a line of three words.
-fn with_two_numbers(words: &Words<'_>, books: &Books) -> Result<Op, Fault>
+fn with_two_numbers(words: &Words<'_>, version: Version, books: &Books) -> Result<Op, Fault>
     requires { length words.now ≡ 3 }
     ensures found { IfOk result
-        (λ op. IsOperationFor books.now op × (words.now ≡ operation_words op)) }
+        (λ op. IsOperationOf version books.now op × (words.now ≡ operation_words op)) }
     ensures err { IfErr result
-        (λ why. row_fault (operation_forms books.now.instruments) words.now ≡ Some why) }
+        (λ why. row_fault (operation_forms version books.now.instruments) words.now
+        ≡ Some why) }
 {
     if words.is_row(b"deposit", 3) {
-        let (account, amount) = words.two_numbers(ACCOUNTS, AMOUNTS)?;
+        let (account, amount) = words.two_numbers(ACCOUNTS, version.amounts())?;
         return Ok(Op::Deposit(account as u32, amount));
     }
     if words.is_row(b"withdraw", 3) {
-        let (account, amount) = words.two_numbers(ACCOUNTS, AMOUNTS)?;
+        let (account, amount) = words.two_numbers(ACCOUNTS, version.amounts())?;
         return Ok(Op::Withdraw(account as u32, amount));
     }
     if words.is_row(b"price", 3) {
@@ -86,9 +91,10 @@ fn with_two_numbers(words: &Words<'_>, books: &Books) -> Result<Op, Fault>
 fn price_of(words: &Words<'_>, books: &Books) -> Result<Op, Fault>
     requires { (begins (codes "price") words.now && length words.now == 3) ≡ true }
     ensures found { IfOk result
-        (λ op. IsOperationFor books.now op × (words.now ≡ operation_words op)) }
+        (λ op. (version : AnyVersion) → IsOperationOf version books.now op × (words.now ≡ operation_words op)) }
     ensures err { IfErr result
-        (λ why. row_fault (operation_forms books.now.instruments) words.now ≡ Some why) }
+        (λ why. (version : AnyVersion)
+        → row_fault (operation_forms version books.now.instruments) words.now ≡ Some why) }
 {
     books.ranges();
     let (instrument, price) = words.two_numbers(instruments_of(books), PRICES)?;
@@ -96,15 +102,16 @@ fn price_of(words: &Words<'_>, books: &Books) -> Result<Op, Fault>
 }
 
 // The operation of a line of four words.
-fn with_three_numbers(words: &Words<'_>) -> Result<Op, Fault>
+fn with_three_numbers(words: &Words<'_>, version: Version) -> Result<Op, Fault>
     requires { length words.now ≡ 4 }
-    ensures found { IfOk result (λ op. (books : ClearingBooks) → IsOperationFor books op
+    ensures found { IfOk result (λ op. (books : ClearingBooks) → IsOperationOf version books op
         × (words.now ≡ operation_words op)) }
     ensures err { IfErr result
-        (λ why. (instruments : ℕ) → row_fault (operation_forms instruments) words.now ≡ Some why) }
+        (λ why. (instruments : ℕ)
+        → row_fault (operation_forms version instruments) words.now ≡ Some why) }
 {
     if words.is_row(b"move", 4) {
-        let (from, to, amount) = words.three_numbers(ACCOUNTS, ACCOUNTS, AMOUNTS)?;
+        let (from, to, amount) = words.three_numbers(ACCOUNTS, ACCOUNTS, version.amounts())?;
         return Ok(Op::Move(from as u32, to as u32, amount));
     }
     Err(Fault::Word)
@@ -114,9 +121,10 @@ fn with_three_numbers(words: &Words<'_>) -> Result<Op, Fault>
 fn with_four_numbers(words: &Words<'_>, books: &Books) -> Result<Op, Fault>
     requires { length words.now ≡ 5 }
     ensures found { IfOk result
-        (λ op. IsOperationFor books.now op × (words.now ≡ operation_words op)) }
+        (λ op. (version : AnyVersion) → IsOperationOf version books.now op × (words.now ≡ operation_words op)) }
     ensures err { IfErr result
-        (λ why. row_fault (operation_forms books.now.instruments) words.now ≡ Some why) }
+        (λ why. (version : AnyVersion)
+        → row_fault (operation_forms version books.now.instruments) words.now ≡ Some why) }
 {
     books.ranges();
     if words.is_row(b"trade", 5) {

@@ -12,22 +12,16 @@ use crate::numbers::{both_within, within};
 use crate::words::Words;
 use books_model::Books;
 use books_model::limits::{
-    GREATEST_ACCOUNT, GREATEST_AMOUNT, GREATEST_CASH, GREATEST_PRICE, GREATEST_QUANTITY,
-    GREATEST_RATE, GREATEST_SHORTFALL, MOST_BLOCKS, MOST_INSTRUMENTS, MOST_RING,
+    GREATEST_ACCOUNT, GREATEST_PRICE, GREATEST_QUANTITY, GREATEST_RATE, GREATEST_SHORTFALL,
+    MOST_INSTRUMENTS, MOST_RING,
 };
 
-// The least and the greatest of each kind of number.
-pub(crate) const BLOCKS: (u64, u64) = (1, MOST_BLOCKS as u64);
-
+// The least and the greatest of each kind of number whose range is that of every version.
 pub(crate) const INSTRUMENTS: (u64, u64) = (1, MOST_INSTRUMENTS as u64);
 
 pub(crate) const RINGS: (u64, u64) = (1, MOST_RING as u64);
 
 pub(crate) const ACCOUNTS: (u64, u64) = (1, GREATEST_ACCOUNT as u64);
-
-pub(crate) const CASH: (u64, u64) = (0, GREATEST_CASH);
-
-pub(crate) const AMOUNTS: (u64, u64) = (1, GREATEST_AMOUNT);
 
 pub(crate) const PRICES: (u64, u64) = (1, GREATEST_PRICE);
 

@@ -2,7 +2,6 @@
 
 ghost use Rattle.std.specs.Prelude.{◌≡◌, ◌≤◌, ◌+◌, ℕ, List, All, [], ◌∷◌, ◌++◌, length, map, false, codes, IfOk, OnOk, Err};
 ghost use Rattle.std.specs.List.{flat_map};
-ghost use Rattle.books_model.specs.Ranges.{IsOperationFor, IsScriptFor};
 ghost use Rattle.books_model.specs.Scripts.{operations_of};
 ghost use Rattle.books_model.specs.declared.script.Op.{Op as AnyOp};
 ghost use Rattle.books_model.specs.declared.script.Part.{Part as AnyPart};
@@ -12,6 +11,7 @@ ghost use Rattle.script_reader.specs.Input.{Submission, callers_of};
 ghost use Rattle.script_reader.specs.Lines.{AreWords};
 ghost use Rattle.script_reader.specs.Forms.{is_only};
 ghost use Rattle.script_reader.specs.Inner.LinesAsWords.{BetweenParts, InFirst, lines_so_far, lines_inside, parts_with};
+ghost use Rattle.script_reader.specs.Inner.OfVersion.{IsOperationOf, IsScriptOf};
 ghost use Rattle.script_reader.specs.Inner.Branches.{branch_with, closing_word};
 ghost use Rattle.script_reader.specs.Inner.Callers.{callers_in, IsEven};
 ghost use Rattle.script_reader.specs.Faults.{IsFaultyBehind};
@@ -22,6 +22,7 @@ use crate::fault::{Fault, Refusal};
 use crate::lines::Lines;
 use crate::names::caller_of;
 use crate::operations::operation_of;
+use crate::version::Version;
 use crate::words::Words;
 use books_model::limits::{MOST_ALTERNATIVES, MOST_OPERATIONS};
 use books_model::{Books, Ops, Part, Script};
@@ -50,6 +51,7 @@ impl Branch {
 // operations before them.
 fn add_branch(
     lines: &mut Lines<'_>,
+    version: Version,
     books: &Books,
     branch: Branch,
     so_far: usize,
@@ -58,13 +60,13 @@ fn add_branch(
     requires none { operations.old ≡ [] }
     requires few { so_far ≤ MOST_OPERATIONS }
     ensures few { OnOk result (so_far + length operations.new ≤ MOST_OPERATIONS) }
-    ensures range { OnOk result (All (IsOperationFor books.now) operations.new) }
+    ensures range { OnOk result (All (IsOperationOf version books.now) operations.new) }
     ensures text { OnOk result (lines.old ≡ flat_map line (map operation_words operations.new)
         ++ (line (closing_word branch ∷ []) ++ lines.new)) }
     ensures fault { (why : AnyFault) → result ≡ Err (Refusal.LineFault why)
         → (subs : List Submission) (name : List ℕ) (parts : List AnyPart) (first : List AnyOp)
         → length (operations_of (parts_with parts (branch_with branch first []))) ≡ so_far
-        → IsFaultyBehind (lines_inside books.now subs name parts (branch_with branch first []))
+        → IsFaultyBehind (lines_inside version books.now subs name parts (branch_with branch first []))
         lines.old lines.new why }
 {
     books.ranges();
@@ -73,7 +75,7 @@ fn add_branch(
         if words.is_only(branch.closing()) {
             return Ok(());
         }
-        let operation = operation_of(&words, books)?;
+        let operation = operation_of(&words, version, books)?;
         if operations.len() >= MOST_OPERATIONS - so_far {
             return Err(Refusal::LineFault(Fault::Limit));
         }
@@ -85,24 +87,25 @@ fn add_branch(
 fn branch_of(
     alloc: Global,
     lines: &mut Lines<'_>,
+    version: Version,
     books: &Books,
     branch: Branch,
     so_far: usize,
 ) -> Result<Ops, Refusal>
     requires few { so_far ≤ MOST_OPERATIONS }
     ensures few { IfOk result (λ operations. so_far + length operations ≤ MOST_OPERATIONS) }
-    ensures range { IfOk result (λ operations. All (IsOperationFor books.now) operations) }
+    ensures range { IfOk result (λ operations. All (IsOperationOf version books.now) operations) }
     ensures text { IfOk result
         (λ operations. lines.old ≡ flat_map line (map operation_words operations)
         ++ (line (closing_word branch ∷ []) ++ lines.new)) }
     ensures fault { (why : AnyFault) → result ≡ Err (Refusal.LineFault why)
         → (subs : List Submission) (name : List ℕ) (parts : List AnyPart) (first : List AnyOp)
         → length (operations_of (parts_with parts (branch_with branch first []))) ≡ so_far
-        → IsFaultyBehind (lines_inside books.now subs name parts (branch_with branch first []))
+        → IsFaultyBehind (lines_inside version books.now subs name parts (branch_with branch first []))
         lines.old lines.new why }
 {
     let mut operations = Ops::new(alloc);
-    add_branch(lines, books, branch, so_far, &mut operations)?;
+    add_branch(lines, version, books, branch, so_far, &mut operations)?;
     Ok(operations)
 }
 
@@ -110,24 +113,26 @@ fn branch_of(
 fn alternative_of(
     alloc: Global,
     lines: &mut Lines<'_>,
+    version: Version,
     books: &Books,
     so_far: usize,
 ) -> Result<(Ops, Ops), Refusal>
     requires few { so_far ≤ MOST_OPERATIONS }
     ensures few { IfOk result
         (λ both. so_far + length both.0 + length both.1 ≤ MOST_OPERATIONS) }
-    ensures range { IfOk result (λ both. All (IsOperationFor books.now) (both.0 ++ both.1)) }
+    ensures range { IfOk result (λ both. All (IsOperationOf version books.now) (both.0 ++ both.1)) }
     ensures text { IfOk result (λ both. line (codes "try" ∷ []) ++ lines.old
         ≡ flat_map line (part_words (Part.Either both.0 both.1)) ++ lines.new) }
     ensures fault { (why : AnyFault) → result ≡ Err (Refusal.LineFault why)
         → (subs : List Submission) (name : List ℕ) (parts : List AnyPart)
         → length (operations_of parts) ≡ so_far
-        → IsFaultyBehind (lines_inside books.now subs name parts (InFirst [])) lines.old lines.new
+        → IsFaultyBehind (lines_inside version books.now subs name parts (InFirst [])) lines.old lines.new
         why }
 {
     books.ranges();
-    let first = branch_of(alloc, lines, books, Branch::First, so_far)?;
-    let second = branch_of(alloc, lines, books, Branch::Second, so_far + first.len())?;
+    let first = branch_of(alloc, lines, version, books, Branch::First, so_far)?;
+    let so_far = so_far + first.len();
+    let second = branch_of(alloc, lines, version, books, Branch::Second, so_far)?;
     Ok((first, second))
 }
 
@@ -135,15 +140,16 @@ fn alternative_of(
 fn add_parts(
     alloc: Global,
     lines: &mut Lines<'_>,
+    version: Version,
     books: &Books,
     script: &mut Script,
 ) -> Result<(), Refusal>
     requires { script.old ≡ [] }
-    ensures range { OnOk result (IsScriptFor books.now script.new) }
+    ensures range { OnOk result (IsScriptOf version books.now script.new) }
     ensures text { OnOk result (lines.old ≡ script_lines script.new ++ (end_line ++ lines.new)) }
     ensures fault { (why : AnyFault) → result ≡ Err (Refusal.LineFault why)
         → (subs : List Submission) (name : List ℕ)
-        → IsFaultyBehind (lines_inside books.now subs name [] BetweenParts) lines.old lines.new
+        → IsFaultyBehind (lines_inside version books.now subs name [] BetweenParts) lines.old lines.new
         why }
 {
     books.ranges();
@@ -158,12 +164,12 @@ fn add_parts(
             if alternatives >= MOST_ALTERNATIVES {
                 return Err(Refusal::LineFault(Fault::Limit));
             }
-            let (first, second) = alternative_of(alloc, lines, books, operations)?;
+            let (first, second) = alternative_of(alloc, lines, version, books, operations)?;
             operations += first.len() + second.len();
             alternatives += 1;
             script.push(Part::Either(first, second))?;
         } else {
-            let operation = operation_of(&words, books)?;
+            let operation = operation_of(&words, version, books)?;
             if operations >= MOST_OPERATIONS {
                 return Err(Refusal::LineFault(Fault::Limit));
             }
@@ -175,17 +181,22 @@ fn add_parts(
 
 // The parts of a script, and the line that ends it. What is wrong with its lines does not depend on the scripts before it,
 // nor on its caller.
-fn script_of(alloc: Global, lines: &mut Lines<'_>, books: &Books) -> Result<Script, Refusal>
-    ensures range { IfOk result (λ script. IsScriptFor books.now script) }
+fn script_of(
+    alloc: Global,
+    lines: &mut Lines<'_>,
+    version: Version,
+    books: &Books,
+) -> Result<Script, Refusal>
+    ensures range { IfOk result (λ script. IsScriptOf version books.now script) }
     ensures text { IfOk result
         (λ script. lines.old ≡ script_lines script ++ (end_line ++ lines.new)) }
     ensures fault { (why : AnyFault) → result ≡ Err (Refusal.LineFault why)
         → (subs : List Submission) (name : List ℕ)
-        → IsFaultyBehind (lines_inside books.now subs name [] BetweenParts) lines.old lines.new
+        → IsFaultyBehind (lines_inside version books.now subs name [] BetweenParts) lines.old lines.new
         why }
 {
     let mut script = Script::new(alloc);
-    add_parts(alloc, lines, books, &mut script)?;
+    add_parts(alloc, lines, version, books, &mut script)?;
     Ok(script)
 }
 
@@ -193,6 +204,7 @@ fn script_of(alloc: Global, lines: &mut Lines<'_>, books: &Books) -> Result<Scri
 fn add_script(
     alloc: Global,
     lines: &mut Lines<'_>,
+    version: Version,
     books: &Books,
     callers: &mut Callers,
     words: &Words<'_>,
@@ -201,18 +213,18 @@ fn add_script(
     requires unfinished { is_only (codes "finish") words.now ≡ false }
     ensures even { OnOk result (IsEven callers.new) }
     ensures added { OnOk result
-        (IsAdded books.now words.now (callers_in callers.old) (callers_in callers.new) lines.old
+        (IsAdded version books.now words.now (callers_in callers.old) (callers_in callers.new) lines.old
         lines.new) }
     ensures fault { (why : AnyFault) → result ≡ Err (Refusal.LineFault why)
         → (subs : List Submission) (left : List ℕ) → callers_in callers.old ≡ callers_of subs
         → AreWords words.now → left ≡ line words.now ++ lines.old
-        → IsFaultyBehind (lines_so_far books.now subs) left lines.new why }
+        → IsFaultyBehind (lines_so_far version books.now subs) left lines.new why }
 {
     let name = caller_of(words)?;
     if callers.is_full_for(name) {
         return Err(Refusal::LineFault(Fault::Limit));
     }
-    let script = script_of(alloc, lines, books)?;
+    let script = script_of(alloc, lines, version, books)?;
     callers.add(alloc, name, script)?;
     Ok(())
 }
@@ -221,6 +233,7 @@ fn add_script(
 fn gather(
     alloc: Global,
     lines: &mut Lines<'_>,
+    version: Version,
     books: &Books,
     callers: &mut Callers,
 ) -> Result<(), Refusal>
@@ -228,9 +241,9 @@ fn gather(
     requires even { IsEven callers.old }
     ensures even { OnOk result (IsEven callers.new) }
     ensures found { OnOk result
-        (IsReadOf books.now (callers_in callers.new) lines.old lines.new) }
+        (IsReadOf version books.now (callers_in callers.new) lines.old lines.new) }
     ensures fault { (why : AnyFault) → result ≡ Err (Refusal.LineFault why)
-        → IsFaultyBehind (lines_so_far books.now []) lines.old lines.new why }
+        → IsFaultyBehind (lines_so_far version books.now []) lines.old lines.new why }
 {
     books.ranges();
     loop {
@@ -238,7 +251,7 @@ fn gather(
         if words.is_only(b"finish") {
             return Ok(());
         }
-        add_script(alloc, lines, books, callers, &words)?;
+        add_script(alloc, lines, version, books, callers, &words)?;
     }
 }
 
@@ -246,15 +259,16 @@ fn gather(
 pub(crate) fn scripts_of(
     alloc: Global,
     lines: &mut Lines<'_>,
+    version: Version,
     books: &Books,
 ) -> Result<Callers, Refusal>
     ensures even { IfOk result (λ callers. IsEven callers) }
     ensures found { IfOk result
-        (λ callers. IsReadOf books.now (callers_in callers) lines.old lines.new) }
+        (λ callers. IsReadOf version books.now (callers_in callers) lines.old lines.new) }
     ensures fault { (why : AnyFault) → result ≡ Err (Refusal.LineFault why)
-        → IsFaultyBehind (lines_so_far books.now []) lines.old lines.new why }
+        → IsFaultyBehind (lines_so_far version books.now []) lines.old lines.new why }
 {
     let mut callers = Callers::new(alloc);
-    gather(alloc, lines, books, &mut callers)?;
+    gather(alloc, lines, version, books, &mut callers)?;
     Ok(callers)
 }

@@ -12,6 +12,7 @@ use Rattle.history_model.specs.Sets.{has, without}
 use Rattle.history_model.specs.Table.{serial_word, clock_word, stamps_word}
 use Rattle.history_model.specs.Views.{HasBit, HasClaim}
 use Rattle.locks_rule.specs.Actions.{Action}
+use Rattle.locks_rule.specs.Versions.{uses_of}
 use Rattle.stamps_rule.specs.Causes.{past_causes, newest}
 
 -- a call that met another draws a timestamp: the clock goes up by 1
@@ -64,13 +65,14 @@ judge_stamp_action j i v = record {
   view = λ h w. record v { met = without i v.met; due = judged i w v.stamp };
 }
 
--- the attempt of a view that gives way to a cause, and whose reads are legal on so many entries
+-- the attempt of a view that gives way to a cause, and whose reads are legal on so many entries. It wrote no lock that
+-- it used: it undoes all
 abbrev pub attempt_of : Cause → ℕ → View → Abandoned
 attempt_of cause front v = record {
   cause = cause;
   front = front;
   trace = v.trace;
-  uses = [];
+  uses = uses_of false v.trace v.uses;
 }
 
 -- the attempt gives way to a cause, where this is the history
@@ -114,9 +116,9 @@ pub record MayLoadCauseStamp (j i stamp : ℕ) (v : View) : Type 0 where
 abbrev pub after_waiting : View → View
 after_waiting v = record v { waits = v.waits + 1 }
 
--- the call makes another attempt, with the timestamp that it has
+-- the call makes another attempt, with the timestamp that it has. It has used no lock yet
 abbrev pub after_restarting : View → View
-after_restarting v = record v { phase = Running; trace = [] }
+after_restarting v = record v { phase = Running; trace = []; uses = [] }
 
 abbrev pub load_cause_stamp_action : ℕ → ℕ → ℕ → View → Action
 load_cause_stamp_action j i stamp v = record {

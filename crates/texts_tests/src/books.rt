@@ -61,7 +61,7 @@ fn add_account(books: &mut Books, account: u32, cash: u64) -> Result<bool, OutOf
 
 // Adds as many accounts as there may be, each with the most cash, where they fit.
 fn add_most_accounts(books: &mut Books) -> Result<bool, OutOfMemory> {
-    for account in 1..16_385 {
+    for account in 1..65_537 {
         if !add_account(books, account, GREATEST_CASH)? {
             return Ok(false);
         }

@@ -30,7 +30,7 @@ const LINES: [&str; 7] = [
     "1 ann 1 0 done ok 105\n",
     "2 bob 1 3 done ok\n",
     "3 ann 2 15 declined 1 cash\n",
-    "books 1 blocks 4 instruments 1 ring 1\n",
+    "books 2 blocks 4 instruments 1 ring 1\n",
     "account 7 104\n",
     "finish\n",
 ];
@@ -87,7 +87,7 @@ fn outputs_agree(rt: HostRuntime) -> Result<(), Fail> {
 1 ann 1 0 done ok 105
 2 bob 1 3 done ok
 3 ann 2 15 declined 1 cash
-books 1 blocks 4 instruments 1 ring 1
+books 2 blocks 4 instruments 1 ring 1
 account 7 104
 finish
 ",
@@ -96,7 +96,7 @@ finish
 1 bob 1 0 done ok
 2 ann 1 1 done ok 104
 3 ann 2 0 declined 1 cash
-books 1 blocks 4 instruments 1 ring 1
+books 2 blocks 4 instruments 1 ring 1
 account 7 104
 finish
 ",
@@ -104,7 +104,7 @@ finish
 1 ann 1 10 done ok 105
 2 ann 2 9 declined 1 cash
 3 bob 1 14 done ok
-books 1 blocks 4 instruments 1 ring 1
+books 2 blocks 4 instruments 1 ring 1
 account 7 104
 finish
 ",
@@ -267,7 +267,9 @@ fn the_header_is_looked_at(rt: HostRuntime) -> Result<(), Fail> {
         &LINES,
         5,
         &[
-            ("books 1 blocks 5 instruments 1 ring 1\n", 5),
+            ("books 2 blocks 5 instruments 1 ring 1\n", 5),
+            // What is printed is of version 2, whatever the version of the input was.
+            ("books 1 blocks 4 instruments 1 ring 1\n", 5),
             ("4 ann 3 0 done\n", 5),
             ("finish\n", 5),
         ],
@@ -412,17 +414,44 @@ fn a_text_is_cut_after_every_byte(rt: HostRuntime) -> Result<(), Fail> {
     Ok(())
 }
 
+// The same input as a text of version 2.
+const INPUT_OF_TWO: &str = "books 2 blocks 4 instruments 1 ring 1
+account 7 100
+scripts
+script ann
+deposit 7 5
+show 7
+end
+script bob
+withdraw 7 1
+end
+script ann
+withdraw 7 500
+end
+finish
+";
+
+#[test]
+fn an_output_is_one_whatever_the_version_of_the_input(rt: HostRuntime) -> Result<(), Fail> {
+    let text = LINES.concat(rt.alloc())?;
+    for input in &[INPUT, INPUT_OF_TWO] {
+        let input = input_of(&rt, rt.alloc(), *input);
+        finds_for(&rt, rt.alloc(), &input, text.as_str(), Checked::Agrees)?;
+    }
+    Ok(())
+}
+
 #[test]
 fn an_input_without_scripts(rt: HostRuntime) -> Result<(), Fail> {
     let text = "books 1 blocks 4 instruments 1 ring 1\nscripts\nfinish\n";
     let input = input_of(&rt, rt.alloc(), text);
     for (text, want) in &[
         (
-            "journal\nbooks 1 blocks 4 instruments 1 ring 1\nfinish\n",
+            "journal\nbooks 2 blocks 4 instruments 1 ring 1\nfinish\n",
             Checked::Agrees,
         ),
         (
-            "journal\n1 ann 1 0 done\nbooks 1 blocks 4 instruments 1 ring 1\nfinish\n",
+            "journal\n1 ann 1 0 done\nbooks 2 blocks 4 instruments 1 ring 1\nfinish\n",
             Checked::Differs(2),
         ),
         ("journal\nfinish\n", Checked::Differs(2)),

@@ -155,3 +155,82 @@ fn first_faults(rt: HostRuntime) {
         assert_eq!(rt; fault_of(rt.alloc(), *text), Some((*line, *why)), "{text}");
     }
 }
+
+// The version of a text decides its ranges: what is refused in a text of version 1 and taken in one of version 2, the ends
+// of both, and headers of no version.
+#[test]
+fn the_version_decides_the_ranges_of_the_text(rt: HostRuntime) {
+    for (text, fault) in &[
+        (
+            "books 1 blocks 4 instruments 1 ring 1\naccount 1 1000000000000001\n",
+            (2, Fault::Limit),
+        ),
+        (
+            "books 2 blocks 4 instruments 1 ring 1\naccount 1 1000000000000001\n",
+            (3, Fault::End),
+        ),
+        (
+            "books 1 blocks 4 instruments 1 ring 1\naccount 1 1000000000000000\n",
+            (3, Fault::End),
+        ),
+        (
+            "books 2 blocks 4 instruments 1 ring 1\naccount 1 1000000000000000000\n",
+            (3, Fault::End),
+        ),
+        (
+            "books 2 blocks 4 instruments 1 ring 1\naccount 1 1000000000000000001\n",
+            (2, Fault::Limit),
+        ),
+        (
+            "books 1 blocks 4 instruments 1 ring 1\nscripts\nscript ann\ndeposit 1 1000000000000001\n",
+            (4, Fault::Limit),
+        ),
+        (
+            "books 1 blocks 4 instruments 1 ring 1\nscripts\nscript ann\nwithdraw 1 1000000000000001\n",
+            (4, Fault::Limit),
+        ),
+        (
+            "books 1 blocks 4 instruments 1 ring 1\nscripts\nscript ann\nmove 1 2 1000000000000001\n",
+            (4, Fault::Limit),
+        ),
+        (
+            "books 2 blocks 4 instruments 1 ring 1\nscripts\nscript ann\ndeposit 1 1000000000000000000\nwithdraw 1 1000000000000000000\nmove 1 2 1000000000000000000\n",
+            (7, Fault::End),
+        ),
+        (
+            "books 2 blocks 4 instruments 1 ring 1\nscripts\nscript ann\ntry\ndeposit 1 1000000000000000001\n",
+            (5, Fault::Limit),
+        ),
+        (
+            "books 1 blocks 16384 instruments 1 ring 1\n",
+            (2, Fault::End),
+        ),
+        (
+            "books 1 blocks 16385 instruments 1 ring 1\n",
+            (1, Fault::Limit),
+        ),
+        (
+            "books 2 blocks 65536 instruments 1 ring 1\n",
+            (2, Fault::End),
+        ),
+        (
+            "books 2 blocks 65537 instruments 1 ring 1\n",
+            (1, Fault::Limit),
+        ),
+        (
+            "books 3 blocks 4 instruments 1 ring 1\n",
+            (1, Fault::Header),
+        ),
+        (
+            "books 0 blocks 4 instruments 1 ring 1\n",
+            (1, Fault::Header),
+        ),
+        (
+            "books 02 blocks 4 instruments 1 ring 1\n",
+            (1, Fault::Header),
+        ),
+        ("books  blocks 4 instruments 1 ring 1\n", (1, Fault::Header)),
+    ] {
+        assert_eq!(rt; fault_of(rt.alloc(), *text), Some(*fault), "{text}");
+    }
+}

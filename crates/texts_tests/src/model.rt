@@ -62,10 +62,10 @@ fn accounts_open_while_a_block_is_left(rt: HostRuntime) -> Result<(), Fail> {
 #[test]
 fn cash_has_a_limit(rt: HostRuntime) -> Result<(), Fail> {
     let calls = &[
-        Call::AddAccount(1, 999_999_999_999_999),
+        Call::AddAccount(1, 999_999_999_999_999_999),
         Call::Run(&[Op::Deposit(1, 1)], OK),
         Call::Run(&[Op::Deposit(1, 1)], Want::Declined(1, Decline::Limit)),
-        Call::Tell(Told::Cash(1, Some(1_000_000_000_000_000))),
+        Call::Tell(Told::Cash(1, Some(1_000_000_000_000_000_000))),
     ];
     assert_eq!(rt; first_wrong(rt.alloc(), 4, 2, 2, calls)?, None);
     Ok(())
@@ -76,7 +76,7 @@ fn cash_moves_from_one_account_to_another(rt: HostRuntime) -> Result<(), Fail> {
     let calls = &[
         Call::AddAccount(1, 50),
         Call::AddAccount(2, 0),
-        Call::AddAccount(3, 1_000_000_000_000_000),
+        Call::AddAccount(3, 1_000_000_000_000_000_000),
         Call::RunOnCopy(&[Op::Move(1, 2, 50)], OK, 0, 50),
         Call::RunOnCopy(
             &[Op::Move(1, 1, 1)],
@@ -206,20 +206,20 @@ fn margin_calls_are_taken_from_the_front(rt: HostRuntime) -> Result<(), Fail> {
 #[test]
 fn cash_is_summed_from_end_to_end(rt: HostRuntime) -> Result<(), Fail> {
     let calls = &[
-        Call::AddAccount(1, 1_000_000_000_000_000),
-        Call::AddAccount(2, 1_000_000_000_000_000),
+        Call::AddAccount(1, 1_000_000_000_000_000_000),
+        Call::AddAccount(2, 1_000_000_000_000_000_000),
         Call::AddAccount(5, 1),
         Call::Run(
             &[Op::Sum(3, 4), Op::Sum(1, 4_294_967_295), Op::Sum(5, 1)],
             Want::Done(&[
                 Value::Number(0),
-                Value::Number(2_000_000_000_000_001),
+                Value::Number(2_000_000_000_000_000_001),
                 Value::Number(0),
             ]),
         ),
         Call::Run(
             &[
-                Op::Withdraw(1, 1_000_000_000_000_000),
+                Op::Withdraw(1, 1_000_000_000_000_000_000),
                 Op::Close(1),
                 Op::OpenAccount(4),
                 Op::Deposit(4, 2),
@@ -230,7 +230,7 @@ fn cash_is_summed_from_end_to_end(rt: HostRuntime) -> Result<(), Fail> {
                 Value::Done,
                 Value::Done,
                 Value::Done,
-                Value::Number(1_000_000_000_000_002),
+                Value::Number(1_000_000_000_000_000_002),
             ]),
         ),
     ];
@@ -243,11 +243,11 @@ fn the_cash_of_the_most_accounts_is_summed(rt: HostRuntime) -> Result<(), Fail> 
     let calls = &[
         Call::AddMostAccounts,
         Call::Run(
-            &[Op::Sum(1, 16_384)],
-            Want::Done(&[Value::Number(16_384_000_000_000_000_000)]),
+            &[Op::Sum(1, 65_536)],
+            Want::Done(&[Value::Number(65_536_000_000_000_000_000_000)]),
         ),
     ];
-    assert_eq!(rt; first_wrong(rt.alloc(), 16_384, 2, 2, calls)?, None);
+    assert_eq!(rt; first_wrong(rt.alloc(), 65_536, 2, 2, calls)?, None);
     Ok(())
 }
 

@@ -138,6 +138,29 @@ fn whole_text(rt: HostRuntime) -> Result<(), Fail> {
     Ok(())
 }
 
+// An input is the same in each version, and one of version 2 may have more blocks and cash.
+#[test]
+fn an_input_has_no_version(rt: HostRuntime) -> Result<(), Fail> {
+    for (text, opening) in &[
+        (
+            "books 1 blocks 4 instruments 1 ring 1\naccount 7 100\nscripts\nfinish\n",
+            (Some(100), 4),
+        ),
+        (
+            "books 2 blocks 4 instruments 1 ring 1\naccount 7 100\nscripts\nfinish\n",
+            (Some(100), 4),
+        ),
+        (
+            "books 2 blocks 65536 instruments 1 ring 1\naccount 7 1000000000000000000\nscripts\nfinish\n",
+            (Some(1_000_000_000_000_000_000), 65_536),
+        ),
+    ] {
+        let input = read(rt.alloc(), *text)?;
+        assert_eq!(rt; opening_of(&input, 7), *opening);
+    }
+    Ok(())
+}
+
 #[test]
 fn front_of_a_longer_text(rt: HostRuntime) -> Result<(), Fail> {
     let rest = "account 7 100\nscripts\nscript ann\ndeposit 7 5\nend\nfinish\njournal\n";

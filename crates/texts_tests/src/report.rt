@@ -2,6 +2,7 @@
 
 use books_model::limits::{GREATEST_CASH, GREATEST_PRICE, GREATEST_QUANTITY, GREATEST_SHORTFALL};
 use books_model::{Books, Decline, Reply, Value, Values};
+use books_report::words::write_reply;
 use books_report::{Line, books_text, journal_text};
 use io_ends::OutOfMemory;
 use script_reader::{Input, read_input};
@@ -10,9 +11,9 @@ use std::process::Abort;
 use std::test::Fail;
 
 // The text of the books that `full_books` makes.
-const FULL_BOOKS: &str = "books 1 blocks 8 instruments 2 ring 2
+const FULL_BOOKS: &str = "books 2 blocks 8 instruments 2 ring 2
 account 1 0
-account 30 1000000000000000
+account 30 1000000000000000000
 price 1 10
 price 2 1000000000
 position 1 2 5
@@ -217,6 +218,35 @@ fn a_journal_has_every_word_of_replies(rt: HostRuntime) -> Result<(), Fail> {
     for replies in [&replies, &copies] {
         let text = journal_before_full_books(&rt, alloc, &input, replies)?;
         assert_eq!(rt; text.as_slice(), want.as_bytes());
+    }
+    Ok(())
+}
+
+// Numbers, each with its digits: at each change of their count that the code looks at, and at the ends of 64 and 128 bits.
+const DECIMALS: [(u128, &str); 9] = [
+    (0, "0"),
+    (9, "9"),
+    (10, "10"),
+    (99, "99"),
+    (100, "100"),
+    (18_446_744_073_709_551_615, "18446744073709551615"),
+    (18_446_744_073_709_551_616, "18446744073709551616"),
+    (100_000_000_000_000_000_000, "100000000000000000000"),
+    (
+        340_282_366_920_938_463_463_374_607_431_768_211_455,
+        "340282366920938463463374607431768211455",
+    ),
+];
+
+#[test]
+fn decimals_of_128_bits(rt: HostRuntime) -> Result<(), Fail> {
+    let alloc = rt.alloc();
+    for (number, digits) in &DECIMALS {
+        let mut text = String::new(alloc);
+        let reply = Reply::Done(Values::only(alloc, Value::Number(*number))?);
+        write_reply(&mut text, &reply)?;
+        let want = ["done ", *digits].concat(alloc)?;
+        assert_eq!(rt; text.as_str(), want.as_str());
     }
     Ok(())
 }

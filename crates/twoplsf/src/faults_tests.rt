@@ -78,9 +78,22 @@ fn faults_in_whole_texts_are_refused(rt: HostRuntime) -> Result<(), Fail> {
             "books 1 blocks 04 instruments 1 ring 1\n",
             "refused line 1 number\n",
         ),
+        // version_decides_the_ranges_of_the_text
         (
             "books 1 blocks 16385 instruments 1 ring 1\n",
             "refused line 1 limit\n",
+        ),
+        (
+            "books 1 blocks 4 instruments 1 ring 1\naccount 1 1000000000000001\n",
+            "refused line 2 limit\n",
+        ),
+        (
+            "books 2 blocks 16385 instruments 1 ring 1\naccount 1 1000000000000001\n",
+            "refused line 3 end\n",
+        ),
+        (
+            "books 3 blocks 4 instruments 1 ring 1\n",
+            "refused line 1 header\n",
         ),
         (
             "books 1 blocks 1 instruments 1 ring 1\naccount 1 1\naccount 2 1\n",

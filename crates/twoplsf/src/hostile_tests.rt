@@ -32,7 +32,7 @@ fn source_fails_at_each_read(rt: HostRuntime) -> Result<(), Fail> {
 #[test]
 fn sink_fails_at_each_write(rt: HostRuntime) -> Result<(), Fail> {
     let alloc = rt.alloc();
-    let output = b"journal\n1 ann 1 0 done ok 105\nbooks 1 blocks 4".as_slice();
+    let output = b"journal\n1 ann 1 0 done ok 105\nbooks 2 blocks 4".as_slice();
     for call in 1..=40u8 {
         let ends = Ends {
             most: 1,
@@ -66,7 +66,7 @@ const WHOLE: &str =
 
 // Its output.
 const PRINTED: &str =
-    "journal\n1 ann 1 0 done ok 105\nbooks 1 blocks 4 instruments 1 ring 1\naccount 7 105\nfinish\n";
+    "journal\n1 ann 1 0 done ok 105\nbooks 2 blocks 4 instruments 1 ring 1\naccount 7 105\nfinish\n";
 
 #[test]
 fn sure_ends_never_fault(rt: HostRuntime) -> Result<(), Fail> {

@@ -53,7 +53,7 @@ fn input_of(alloc: Global, plan: Plan) -> Result<Input, OutOfMemory>
 }
 
 // Appends a line with a number.
-fn write_sum(text: &mut String, name: &str, sum: u64) -> Result<(), AllocError>
+fn write_sum(text: &mut String, name: &str, sum: u128) -> Result<(), AllocError>
     ensures { OnOk result
         (string_bytes text.new ≡ string_bytes text.old ++ sum_line name.now sum) }
 {
@@ -72,9 +72,9 @@ fn summary_of(
         ++ sum_line (codes "quantity") (all_quantities closing.now) ++ agrees_line) }
 {
     let mut text = String::new(alloc);
-    write_sum(&mut text, "scripts", scripts)?;
+    write_sum(&mut text, "scripts", u128::from(scripts))?;
     write_sum(&mut text, "cash", cash_of_all(closing))?;
-    write_sum(&mut text, "quantity", quantity_of_all(closing))?;
+    write_sum(&mut text, "quantity", u128::from(quantity_of_all(closing)))?;
     text.push_str("agrees\n")?;
     Ok(text.into_bytes())
 }

@@ -3,7 +3,7 @@
 
 use crate::serve::serve;
 use crate::status::Status;
-use crate::tests::{FIRST, FIRST_OUTPUT, GOOD, HEADER, served, text, words};
+use crate::tests::{FIRST, FIRST_OUTPUT, GOOD, HEADER, PRINTED_HEADER, served, text, words};
 use crate::thread_tests::{BothWrite, CROSSING, TWO_ACCOUNTS};
 use books_report::{Checked, check_text};
 use io_ends::{MemSink, MemSource, OutOfMemory};
@@ -27,14 +27,20 @@ fn is_done_or_not<R: Threads + Wait + Sync>(
 #[test]
 fn first_input_is_done_or_no_memory_is_found(rt: HostRuntime) {
     let output =
-        b"journal\n1 ann 1 0 done ok 105\nbooks 1 blocks 4 instruments 1 ring 1\naccount 7 105\nfinish\n";
+        b"journal\n1 ann 1 0 done ok 105\nbooks 2 blocks 4 instruments 1 ring 1\naccount 7 105\nfinish\n";
     let ended = is_done_or_not(&rt, rt.alloc(), "run 1", &[HEADER, FIRST], output);
     assert!(rt; matches!(ended, Ok(true) | Err(OutOfMemory)));
 }
 
 #[test]
 fn first_output_agrees_or_no_memory_is_found(rt: HostRuntime) {
-    let both = [HEADER, FIRST, FIRST_OUTPUT.0, HEADER, FIRST_OUTPUT.1];
+    let both = [
+        HEADER,
+        FIRST,
+        FIRST_OUTPUT.0,
+        PRINTED_HEADER,
+        FIRST_OUTPUT.1,
+    ];
     let ended = is_done_or_not(&rt, rt.alloc(), "check", &both, b"agrees\n");
     assert!(rt; matches!(ended, Ok(true) | Err(OutOfMemory)));
 }

@@ -8,7 +8,7 @@ ghost use Rattle.input_maker.specs.Days.{all_quantities};
 use books_model::Books;
 
 /// The cash of all accounts.
-pub fn cash_of_all(books: &Books) -> u64
+pub fn cash_of_all(books: &Books) -> u128
     ensures { result ≡ all_cash books.now }
 {
     books.ranges();
@@ -24,14 +24,14 @@ pub fn quantity_of_all(books: &Books) -> u64
 }
 
 // The sum over the accounts, in the order of their numbers.
-fn summed_cash(books: &Books) -> u64
+fn summed_cash(books: &Books) -> u128
     requires { AreInRange books.now }
     ensures { result ≡ all_cash books.now }
 {
     let mut last = 0;
     let mut sum = 0;
     while let Some((account, cash)) = books.account_after(last) {
-        sum += cash;
+        sum += u128::from(cash);
         last = account;
     }
     sum

@@ -13,6 +13,9 @@ use worker_gate::OpenGate;
 // An input with the sizes 4, 1 and 1.
 pub(crate) const HEADER: &str = "books 1 blocks 4 instruments 1 ring 1\n";
 
+// What is printed of it: all output is of version 2.
+pub(crate) const PRINTED_HEADER: &str = "books 2 blocks 4 instruments 1 ring 1\n";
+
 // What deposits and shows account 7.
 pub(crate) const FIRST: &str =
     "account 7 100\nscripts\nscript ann\ndeposit 7 5\nshow 7\nend\nfinish\n";
@@ -163,8 +166,8 @@ fn scripts_are_run_and_printed(rt: HostRuntime) -> Result<(), Fail> {
         // deposit_up_to_the_cash_limit
         (
             "account 1 999999999999999\nscripts\nscript ann\ndeposit 1 1\nend\nscript ann\ndeposit 1 1\nend\nfinish\n",
-            "journal\n1 ann 1 0 done ok\n2 ann 2 0 declined 1 limit\n",
-            "account 1 1000000000000000\nfinish\n",
+            "journal\n1 ann 1 0 done ok\n2 ann 2 0 done ok\n",
+            "account 1 1000000000000001\nfinish\n",
         ),
         // a_declined_script_leaves_the_books
         (
@@ -227,7 +230,7 @@ fn scripts_are_run_and_printed(rt: HostRuntime) -> Result<(), Fail> {
             "account 1 10\nfinish\n",
         ),
     ] {
-        let output = [*journal, HEADER, *books];
+        let output = [*journal, PRINTED_HEADER, *books];
         look(
             &rt,
             rt.alloc(),
@@ -242,7 +245,7 @@ fn scripts_are_run_and_printed(rt: HostRuntime) -> Result<(), Fail> {
 
 #[test]
 fn one_caller_has_one_output_for_all_workers(rt: HostRuntime) -> Result<(), Fail> {
-    let output = [FIRST_OUTPUT.0, HEADER, FIRST_OUTPUT.1];
+    let output = [FIRST_OUTPUT.0, PRINTED_HEADER, FIRST_OUTPUT.1];
     for command in &["run 1", "run 2", "run 4", "run 9", "run 15", "run 16"] {
         look(
             &rt,
@@ -256,37 +259,102 @@ fn one_caller_has_one_output_for_all_workers(rt: HostRuntime) -> Result<(), Fail
     Ok(())
 }
 
+// Accounts 1 to 19, each with as much cash as it can have, and scripts that sum it and add to it.
+const NINETEEN_ACCOUNTS_AND_SUMS: &str = "account 1 1000000000000000000
+account 2 1000000000000000000
+account 3 1000000000000000000
+account 4 1000000000000000000
+account 5 1000000000000000000
+account 6 1000000000000000000
+account 7 1000000000000000000
+account 8 1000000000000000000
+account 9 1000000000000000000
+account 10 1000000000000000000
+account 11 1000000000000000000
+account 12 1000000000000000000
+account 13 1000000000000000000
+account 14 1000000000000000000
+account 15 1000000000000000000
+account 16 1000000000000000000
+account 17 1000000000000000000
+account 18 1000000000000000000
+account 19 1000000000000000000
+scripts
+script ann
+sum 1 19
+deposit 1 1
+end
+script ann
+sum 1 19
+end
+finish
+";
+
+// The same accounts when the books close.
+const NINETEEN_ACCOUNTS: &str = "account 1 1000000000000000000
+account 2 1000000000000000000
+account 3 1000000000000000000
+account 4 1000000000000000000
+account 5 1000000000000000000
+account 6 1000000000000000000
+account 7 1000000000000000000
+account 8 1000000000000000000
+account 9 1000000000000000000
+account 10 1000000000000000000
+account 11 1000000000000000000
+account 12 1000000000000000000
+account 13 1000000000000000000
+account 14 1000000000000000000
+account 15 1000000000000000000
+account 16 1000000000000000000
+account 17 1000000000000000000
+account 18 1000000000000000000
+account 19 1000000000000000000
+finish
+";
+
 #[test]
 fn scripts_are_run_on_other_sizes(rt: HostRuntime) -> Result<(), Fail> {
-    for (header, input, journal, books) in &[
+    for (version, sizes, input, journal, books) in &[
         // second_account_finds_no_block
         (
-            "books 1 blocks 1 instruments 1 ring 1\n",
+            "books 1",
+            " blocks 1 instruments 1 ring 1\n",
             "scripts\nscript ann\nopen 1\nopen 2\nend\nfinish\n",
             "journal\n1 ann 1 0 full 2\n",
             "finish\n",
         ),
         // first_branch_gives_its_block_back
         (
-            "books 1 blocks 1 instruments 1 ring 1\n",
+            "books 1",
+            " blocks 1 instruments 1 ring 1\n",
             "scripts\nscript ann\ntry\nopen 1\nopen 2\nelse\nopen 3\ndone\nend\nfinish\n",
             "journal\n1 ann 1 0 done second ok\n",
             "account 3 0\nfinish\n",
         ),
         // accounts_are_closed_and_opened
         (
-            "books 1 blocks 8 instruments 1 ring 1\n",
+            "books 1",
+            " blocks 8 instruments 1 ring 1\n",
             "account 1 5\naccount 2 0\naccount 3 0\nprice 1 10\nposition 2 1 1\nscripts\nscript ann\nclose 1\nend\nscript ann\nclose 2\nend\nscript ann\nclose 3\nend\nscript ann\nclose 3\nend\nscript ann\nopen 1\nend\nscript ann\ntrade 1 2 1 1\nend\nscript ann\ntrade 1 2 1 2\nend\nscript ann\ntrade 1 9 1 1\nend\nfinish\n",
             "journal\n1 ann 1 0 declined 1 cash\n2 ann 2 0 declined 1 held\n3 ann 3 0 done ok\n4 ann 4 0 declined 1 absent\n5 ann 5 0 declined 1 exists\n6 ann 6 0 declined 1 cash\n7 ann 7 0 declined 1 quantity\n8 ann 8 0 declined 1 absent\n",
             "account 1 5\naccount 2 0\nprice 1 10\nposition 2 1 1\nfinish\n",
         ),
+        // sum_above_64_bits_and_the_new_cash_limit
+        (
+            "books 2",
+            " blocks 32 instruments 1 ring 1\n",
+            NINETEEN_ACCOUNTS_AND_SUMS,
+            "journal\n1 ann 1 0 declined 2 limit\n2 ann 2 0 done 19000000000000000000\n",
+            NINETEEN_ACCOUNTS,
+        ),
     ] {
-        let output = [*journal, *header, *books];
+        let output = [*journal, "books 2", *sizes, *books];
         look(
             &rt,
             rt.alloc(),
             "run 1",
-            &[*header, *input],
+            &[*version, *sizes, *input],
             Status::Done,
             &output,
         )?;
@@ -294,20 +362,20 @@ fn scripts_are_run_on_other_sizes(rt: HostRuntime) -> Result<(), Fail> {
     Ok(())
 }
 
-// As many accounts as there can be, each with as much cash as it can have.
-fn all_accounts(alloc: Global) -> Result<Vec<u8>, OutOfMemory> {
-    let mut input = String::from_str(alloc, "books 1 blocks 16384 instruments 1 ring 1\n")?;
+// A quarter of the accounts that there can be, each with as much cash as it can have: their sum is above 64 bits.
+fn many_accounts(alloc: Global) -> Result<Vec<u8>, OutOfMemory> {
+    let mut input = String::from_str(alloc, "books 2 blocks 16384 instruments 1 ring 1\n")?;
     for account in 1..=16_384u32 {
-        write!(input, "account {account} 1000000000000000\n")?;
+        write!(input, "account {account} 1000000000000000000\n")?;
     }
     input.push_str("scripts\nscript ann\nsum 1 16384\nend\nfinish\n")?;
     Ok(input.into_bytes())
 }
 
 #[test]
-fn the_cash_of_all_accounts_is_summed(rt: HostRuntime) -> Result<(), Fail> {
-    let taken = printed(&rt, rt.alloc(), "run 1", all_accounts(rt.alloc())?)?;
-    let want = b"journal\n1 ann 1 0 done 16384000000000000000\nbooks ".as_slice();
+fn the_cash_of_many_accounts_is_summed(rt: HostRuntime) -> Result<(), Fail> {
+    let taken = printed(&rt, rt.alloc(), "run 1", many_accounts(rt.alloc())?)?;
+    let want = b"journal\n1 ann 1 0 done 16384000000000000000000\nbooks ".as_slice();
     assert!(rt; taken.starts_with(want));
     Ok(())
 }

@@ -1,7 +1,9 @@
 //! Texts that are compared with inputs, and made inputs, from bytes to bytes.
 
 use crate::status::Status;
-use crate::tests::{FIRST, FIRST_OUTPUT, GOOD, HEADER, look, printed, served, text};
+use crate::tests::{
+    FIRST, FIRST_OUTPUT, GOOD, HEADER, PRINTED_HEADER, look, printed, served, text,
+};
 use io_ends::OutOfMemory;
 use std::alloc::Global;
 use std::test::Fail;
@@ -54,7 +56,7 @@ fn texts_are_compared_with_inputs(rt: HostRuntime) -> Result<(), Fail> {
             "differs line 6\n",
         ),
     ] {
-        let both = [HEADER, FIRST, *journal, HEADER, *books];
+        let both = [HEADER, FIRST, *journal, PRINTED_HEADER, *books];
         look(&rt, rt.alloc(), "check", &both, *status, &[*output])?;
     }
     Ok(())

@@ -158,7 +158,7 @@ fn second_comes_first<R: Abort + Threads + Wait + Sync>(
     let taken = printed(rt, alloc, command, input, gate)?;
     let output = &[
         "journal\n1 bob 1 0 done ok\n2 ann 1 0 done ok 7\n",
-        "books 1 blocks 2 instruments 1 ring 1\naccount 1 5\naccount 2 7\nfinish\n",
+        "books 2 blocks 2 instruments 1 ring 1\naccount 1 5\naccount 2 7\nfinish\n",
     ];
     Ok(is_text(&taken, output) && !gate.gave_up.load())
 }
@@ -193,7 +193,7 @@ fn idle_worker_steals_a_caller(rt: HostRuntime) -> Result<(), Fail> {
     let taken = printed(&rt, rt.alloc(), "run 2", input, &gate)?;
     let output = &[
         "journal\n1 bob 1 0 done ok\n2 cid 1 0 done ok\n3 ann 1 0 done ok 1 1\n",
-        "books 1 blocks 3 instruments 1 ring 1\naccount 1 1\naccount 2 1\naccount 3 1\nfinish\n",
+        "books 2 blocks 3 instruments 1 ring 1\naccount 1 1\naccount 2 1\naccount 3 1\nfinish\n",
     ];
     assert!(rt; is_text(&taken, output) && !gate.gave_up.load());
     Ok(())
@@ -216,7 +216,7 @@ fn one_caller_has_nearly_all_scripts(rt: HostRuntime) -> Result<(), Fail> {
     let input = [TWO_ACCOUNTS, scripts.as_str()];
     let taken = printed(&rt, alloc, "run 4", &input, &OpenGate)?;
     let taken = String::from_utf8(taken).expect(&rt, "the output is ASCII");
-    let closing = "books 1 blocks 2 instruments 1 ring 1\naccount 1 1015\naccount 2 0\nfinish\n";
+    let closing = "books 2 blocks 2 instruments 1 ring 1\naccount 1 1015\naccount 2 0\nfinish\n";
     assert!(rt; taken.as_str().ends_with(closing));
     Ok(())
 }
@@ -228,7 +228,7 @@ fn of_two_that_cross_one_gives_way(rt: HostRuntime) -> Result<(), Fail> {
     let gate = BothWrite::new();
     let input = &[TWO_ACCOUNTS, CROSSING];
     let taken = printed(&rt, rt.alloc(), "run 2", input, &gate)?;
-    let closing = "books 1 blocks 2 instruments 1 ring 1\naccount 1 10\naccount 2 10\nfinish\n";
+    let closing = "books 2 blocks 2 instruments 1 ring 1\naccount 1 10\naccount 2 10\nfinish\n";
     let first = &[
         "journal\n1 ann 1 0 done ok ok\n2 bob 1 1 done ok ok\n",
         closing,
@@ -295,7 +295,7 @@ fn is_day_of_deposits(alloc: Global, text: &str) -> Result<bool, OutOfMemory> {
         }
     }
     for want in &[
-        "books 1 blocks 2 instruments 1 ring 1",
+        "books 2 blocks 2 instruments 1 ring 1",
         "account 1 200",
         "account 2 0",
         "finish",

@@ -13,6 +13,7 @@ ghost use Rattle.std.specs.FinSet as set;
 ghost use Rattle.txn_alloc.specs.declared.arena.TheConstants.{HEADS};
 ghost use Rattle.txn_alloc.specs.EntryMaps.{Blocks};
 ghost use Rattle.txn_alloc.specs.FreeLists.{HasList, FreeListsHold, IsInOrder};
+ghost use Rattle.txn_books.specs.declared.layout.TheConstants.{MOST_BOOK_WORDS};
 ghost use Rattle.txn_books.specs.Layout.{shape_of, words_of, arena_of};
 ghost use Rattle.txn_books.specs.Standing.{Stands};
 ghost use Rattle.txn_alloc.specs.Laying.{HasRisingList};
@@ -261,6 +262,7 @@ fn sort_free(alloc: Global, shape: &BooksShape, words: Vec<u64>) -> Result<Vec<u
 /// Words that stand for the books. The free blocks of each list are listed by rising number.
 pub fn build(alloc: Global, books: &Books) -> Result<Vec<u64>, OutOfMemory>
     ensures count { IfOk result (λ words. length words.items ≡ words_of (shape_of books.now)) }
+    ensures few { IfOk result (λ words. length words.items ≤ MOST_BOOK_WORDS) }
     ensures stands { IfOk result (λ words. Stands (shape_of books.now) words.items books.now) }
     ensures rising { IfOk result
         (λ words. (h : ℕ) → h < HEADS

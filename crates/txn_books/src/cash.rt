@@ -86,7 +86,7 @@ pub fn cash_between<W: Words>(
     shape: &BooksShape,
     low: u32,
     high: u32,
-) -> Result<u64, Stop>
+) -> Result<u128, Stop>
     requires ready { IsReady W.Words w.old }
     requires stands { InEachState W.Words W.Shape.Shape w.old (IsGoodFor shape.now) }
     ensures told { IfOk result (λ answer. LeadsTo W.Words W.Shape.Shape w.old w.new
@@ -94,7 +94,5 @@ pub fn cash_between<W: Words>(
     ensures stands { OnOk result (InEachState W.Words W.Shape.Shape w.new (IsGoodFor shape.now)) }
     ensures goes_on { GoesOn W.Words w.old w.new result }
 {
-    let total = shape.tree().sum_range(w, u64::from(low), u64::from(high))?;
-    prove!(total <= u128::from(u64::MAX));
-    Ok(total as u64)
+    shape.tree().sum_range(w, u64::from(low), u64::from(high))
 }

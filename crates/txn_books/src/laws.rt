@@ -3,7 +3,7 @@
 ghost use Rattle.std.specs.Prelude.{◌≡◌};
 ghost use Rattle.txn_books.specs.Statements.{KeysDiffer, OneBooks, TreeChangeStands, ChainChangeStands, QueueChangeStands, FreeBlocksCounted};
 
-use crate::layout::{BUCKETS_AT, HEADS_AT, RING_AT, RING_ITEMS, ROOT};
+use crate::layout::{BUCKETS_AT, HEADS_AT, MOST_BOOK_WORDS, RING_AT, RING_ITEMS, ROOT};
 
 /// Different positions and prices have different keys.
 pub fn keys_differ()
@@ -35,11 +35,12 @@ pub fn free_blocks_counted()
     ensures { FreeBlocksCounted }
 {}
 
-/// Where each part lies.
+/// Where each part lies, and how many words there are at most.
 pub fn places()
     ensures root { ROOT ≡ 0 }
     ensures heads { HEADS_AT ≡ 1 }
     ensures buckets { BUCKETS_AT ≡ 17 }
     ensures ring { RING_AT ≡ 273 }
     ensures ring_items { RING_ITEMS ≡ 275 }
+    ensures words { MOST_BOOK_WORDS ≡ 264_467 }
 {}

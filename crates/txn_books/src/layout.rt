@@ -6,8 +6,9 @@ ghost use Rattle.books_model.specs.declared.limits.TheConstants.{MOST_INSTRUMENT
 ghost use Rattle.txn_books.specs.Layout.{arena_of, tree_of, chains_of, queue_of, price_key_of, position_key_of};
 
 use crate::shape::BooksShape;
-use books_model::limits::MOST_INSTRUMENTS;
+use books_model::limits::{MOST_BLOCKS, MOST_INSTRUMENTS, MOST_RING};
 use txn_alloc::Arena;
+use txn_alloc::arena::BLOCK_WORDS;
 use txn_hash_map::ChainMap;
 use txn_ring::Ring;
 use txn_tree_map::TreeMap;
@@ -26,6 +27,11 @@ pub const RING_AT: u64 = 273;
 
 /// The first word of the ring's places. Behind its last place the blocks begin.
 pub const RING_ITEMS: u64 = 275;
+
+/// The most words that books take.
+pub const MOST_BOOK_WORDS: u64 = RING_ITEMS
+    + 2 * MOST_RING as u64
+    + BLOCK_WORDS * MOST_BLOCKS as u64;
 
 impl BooksShape {
     /// The blocks, and the heads of the free ones.

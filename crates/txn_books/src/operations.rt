@@ -33,7 +33,6 @@ pub enum Outcome {
 }
 
 /// One operation of a script.
-#[inline(never)]
 pub fn run_operation<W: Words>(w: &mut W, shape: &BooksShape, op: Op) -> Result<Outcome, Stop>
     requires ready { IsReady W.Words w.old }
     requires stands { InEachState W.Words W.Shape.Shape w.old (IsGoodFor shape.now) }
@@ -293,7 +292,7 @@ pub fn margin<W: Words>(
     if !queue_call(w, shape, account, shortfall)? {
         return Ok(Outcome::Declines(Decline::Queue));
     }
-    Ok(Outcome::Gives(Value::Number(shortfall)))
+    Ok(Outcome::Gives(Value::Number(u128::from(shortfall))))
 }
 
 /// Takes the front of the queue of margin calls.
@@ -321,7 +320,7 @@ pub fn show<W: Words>(w: &mut W, shape: &BooksShape, account: u32) -> Result<Out
     ensures goes_on { GoesOn W.Words w.old w.new result }
 {
     match cash(w, shape, account)? {
-        Some(held) => Ok(Outcome::Gives(Value::Number(held))),
+        Some(held) => Ok(Outcome::Gives(Value::Number(u128::from(held)))),
         None => Ok(Outcome::Declines(Decline::Absent)),
     }
 }

@@ -63,7 +63,7 @@ pub asks_trace : (a : ℕ) (first asked : View) → Asks a first asked → asked
 asks_trace a first asked asks = ap (λ (v : View). v.trace) asks.rest
 
 abbrev pub Loads : ℕ → ℕ → View → View → Type 0
-Loads a x asked loaded = loaded ≡ record asked { trace = asked.trace ++ Read a x ∷ [] }
+Loads a x asked loaded = loaded ≡ record asked { trace = asked.trace ++ Read a x ∷ []; uses = loaded.uses }
 
 pub load_trace : (a x : ℕ) (first asked loaded : View) → Asks a first asked → Loads a x asked loaded → loaded.trace ≡ first.trace ++ Read a x ∷ []
 load_trace a x first asked loaded asks event = ap (λ (v : View). v.trace) event ∙ ap (λ (t : Trace). t ++ Read a x ∷ []) (asks_trace a first asked asks)

@@ -115,15 +115,16 @@ runs_on : (began old new : View) → Runs began old → new.phase ≡ old.phase 
 runs_on began old new r phase abandoned = record { phase = phase ∙ r.phase; abandoned = abandoned ∙ r.abandoned }
 
 -- a load's event is the trace's last
-pub loaded_last : (a x : ℕ) (old new : View) → new ≡ record old { trace = old.trace ++ Read a x ∷ [] } → new.trace ≡ old.trace ++ Read a x ∷ []
+pub loaded_last : (a x : ℕ) (old new : View) → new ≡ record old { trace = old.trace ++ Read a x ∷ []; uses = new.uses }
+    → new.trace ≡ old.trace ++ Read a x ∷ []
 loaded_last a x old new e = ap (λ (v : View). v.trace) e
 
 -- the events and notes of a view, and nothing else, are these
-abbrev pub with_events : Trace → Notes → View → View
-with_events trace notes v = record v { trace = trace; undo = notes }
+abbrev pub with_events : Trace → Notes → List (ℕ × ℕ) → View → View
+with_events trace notes uses v = record v { trace = trace; undo = notes; uses = uses }
 
-events_same_call : (trace : Trace) (notes : Notes) (old new : View) → new ≡ with_events trace notes old → StaysInCall old new
-events_same_call trace notes old new e = record {
+events_same_call : (trace : Trace) (notes : Notes) (uses : List (ℕ × ℕ)) (old new : View) → new ≡ with_events trace notes uses old → StaysInCall old new
+events_same_call trace notes uses old new e = record {
   seat = record { who = ap (λ (v : View). v.who) e; base = ap (λ (v : View). v.base) e; seats = ap (λ (v : View). v.seats) e };
   call = ap (λ (v : View). v.call) e;
   floor = ap (λ (v : View). v.floor) e;
@@ -166,8 +167,10 @@ asks_granted : (a : ℕ) (old new : View) (notes : Notes) → Asks a old new →
 asks_granted a old new notes asks granted = λ k d near. (asks.grants (lock_of_word (get_or notes k d).0)).1 (granted k d near)
 
 -- an attempt that loads and stores a word under a lock that it held knows the same of all else
-pub did_load : (events : Trace) (first asked loaded : View) → asked ≡ first → loaded ≡ record asked { trace = events } → DidEvents first loaded
-did_load events first asked loaded same event = subst (λ (v : View). DidEvents first v) (sym (event ∙ ap (λ (v : View). record v { trace = events }) same)) refl
+pub did_load : (events : Trace) (first asked loaded : View) → asked ≡ first → loaded ≡ record asked { trace = events; uses = loaded.uses }
+    → DidEvents first loaded
+did_load events first asked loaded same event = subst (λ (v : View). DidEvents first v)
+    (sym (event ∙ ap (λ (v : View). record v { trace = events; uses = loaded.uses }) same)) refl
 
 pub did_store : (j a x : ℕ) (first loaded stored : View) → DidEvents first loaded
     → stored ≡ (store_value_action j a x loaded).view [] 0 → DidEvents first stored
@@ -176,7 +179,7 @@ did_store j a x first loaded stored did step =
     subst (λ (v : View). DidEvents first v) (sym step) (ap (λ (v : View). record v { trace = more.trace; undo = more.undo }) did)
 
 pub did_more : (first old new : View) → DidEvents first old → DidEvents old new → DidEvents first new
-did_more first old new did more = more ∙ ap (λ (v : View). record v { trace = new.trace; undo = new.undo }) did
+did_more first old new did more = more ∙ ap (λ (v : View). record v { trace = new.trace; undo = new.undo; uses = new.uses }) did
 
 module _ {S : Type 0} (word_count : S → ℕ) (good : S → List ℕ → Type 0) (desk : DeskView S) (began pass : PassView)
     (log : Room) (halted : Option Halt) (s : IsSoundAttempt word_count good desk began pass log halted) where
@@ -234,7 +237,7 @@ module _ {S : Type 0} (word_count : S → ℕ) (good : S → List ℕ → Type 0
 
   -- the attempt did something to words
   pub events_sound : (trace : Trace) (notes : Notes) (old new : PassView) (log later : Room) → IsSoundAttempt word_count good desk began old log None
-      → new.table ≡ old.table → new.view ≡ with_events trace notes old.view → later.list ≡ notes
+      → new.table ≡ old.table → new.view ≡ with_events trace notes old.view.uses old.view → later.list ≡ notes
       → All (λ note. note.0 < word_count desk.shape) later.list
       → ((w : List ℕ) → Fits (word_count desk.shape) (good desk.shape) trace w → notes ≡ notes_of trace w)
       → AreGranted old.view notes → UNDO_ROOM ≤ later.spare + length later.list
@@ -243,7 +246,7 @@ module _ {S : Type 0} (word_count : S → ℕ) (good : S → List ℕ → Type 0
   events_sound trace notes old new log later s table e list within noted granted room fits more longer = record {
     table = table ∙ s.table;
     words = ap (λ (v : View). length v.base) e ∙ s.words;
-    call = same_call began.view old.view new.view s.call (events_same_call trace notes old.view new.view e);
+    call = same_call began.view old.view new.view s.call (events_same_call trace notes old.view.uses old.view new.view e);
     stands = runs_on began.view old.view new.view s.stands (ap (λ (v : View). v.phase) e) (ap (λ (v : View). v.abandoned) e);
     judged = ap (λ (v : View). v.met) e ∙ s.judged;
     log_is = list ∙ ap (λ (v : View). v.undo) (sym e);
@@ -290,7 +293,7 @@ module _ {S : Type 0} (word_count : S → ℕ) (good : S → List ℕ → Type 0
       → later.list ≡ log.list ++ (a, was) ∷ [] → log.spare ≤ later.spare + 1 → IsSoundAttempt word_count good desk began new later None
   store_sound a x was before old new log later s within granted last table step noted list spare =
       events_sound (old.view.trace ++ Write a x ∷ []) (old.view.undo ++ (a, was) ∷ []) old new log later s table
-      (step ∙ ap (λ (n : Notes). with_events (old.view.trace ++ Write a x ∷ []) n old.view) (sym (ap (λ (v : View). v.undo) step) ∙ noted))
+      (step ∙ ap (λ (n : Notes). with_events (old.view.trace ++ Write a x ∷ []) n old.view.uses old.view) (sym (ap (λ (v : View). v.undo) step) ∙ noted))
       (list ∙ ap (λ (l : Notes). l ++ (a, was) ∷ []) s.log_is)
       (subst (λ (l : Notes). All (λ note. note.0 < word_count desk.shape) l) (sym list)
       (All-append (λ note. note.0 < word_count desk.shape) log.list ((a, was) ∷ []) s.within (one_within a was (word_count desk.shape) within)))
@@ -309,12 +312,12 @@ module _ {S : Type 0} (word_count : S → ℕ) (good : S → List ℕ → Type 0
   pub held_sound : (a x : ℕ) (old mid new : PassView) (log : Room) (halted : Option Halt) → stop_of halted ≡ None
       → IsSoundAttempt word_count good desk began old log halted
       → mid.table ≡ old.table → Asks a old.view mid.view → mid.view.met ≡ [] → WentOn old.view mid.view
-      → new.table ≡ mid.table → new.view ≡ record mid.view { trace = mid.view.trace ++ Read a x ∷ [] }
+      → new.table ≡ mid.table → new.view ≡ record mid.view { trace = mid.view.trace ++ Read a x ∷ []; uses = new.view.uses }
       → ReadsHistory (IsGood (word_count desk.shape) (good desk.shape)) desk.seats desk.base new.view → IsSoundAttempt word_count good desk began new log None
   held_sound a x old mid new log halted going held table asks judged went same event fits =
       let s : IsSoundAttempt word_count good desk began old log None =
       subst (λ (h : Option Halt). IsSoundAttempt word_count good desk began old log h) (not_halted halted going) held in
-      let on = events_same_call (mid.view.trace ++ Read a x ∷ []) mid.view.undo mid.view new.view event in record {
+      let on = events_same_call (mid.view.trace ++ Read a x ∷ []) mid.view.undo new.view.uses mid.view new.view event in record {
         table = same ∙ (table ∙ s.table);
         words = ap (λ (v : View). length v.base) event ∙ (ap (λ (v : View). length v.base) asks.rest ∙ s.words);
         call = same_call began.view mid.view new.view

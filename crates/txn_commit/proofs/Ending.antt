@@ -14,10 +14,9 @@ use Rattle.history_model.specs.Table.{history_of}
 use Rattle.history_model.specs.Histories.{replay}
 use Rattle.history_model.specs.Traces.{Trace, after, IsLegalTrace}
 use Rattle.history_model.specs.Locks.{lock_of_word}
-use Rattle.history_model.specs.Sets.{has}
 use Rattle.history_model.specs.Undoing.{Notes, notes_of}
 use Rattle.history_model.specs.Views.{number, HasWriteGrant}
-use Rattle.history_model.proofs.SetLemmas.{has-join_same}
+use Rattle.locks_rule.proofs.Own.{own_number}
 use Rattle.locks_rule.specs.Actions.{Action}
 use Rattle.stamps_rule.specs.Stamps.{AreRestartsBounded}
 use Rattle.values_rule.specs.Steps.{begin_call_action, clear_stamp_action, entry_of}
@@ -31,6 +30,8 @@ use Rattle.txn_commit.specs.declared.transaction.Receipt.{Receipt}
 use Rattle.txn_commit.specs.declared.attempt.Halt.{Halt}
 use Rattle.txn_commit.specs.declared.attempt.Halt.TheVariants as halt
 use Rattle.txn_commit.specs.Attempts.{GaveWayTo, IsSoundAttempt, Runs, StaysInCall, StandsAs, start_of}
+use Rattle.locks_rule.specs.Versions.{uses_of}
+use Rattle.txn_commit.specs.Uses.{ListsUses}
 use Rattle.txn_commit.specs.Inner.Releasing.{Releases, Undoes}
 use Rattle.txn_commit.specs.Transactions.{AsksItsFootprint, EndsWithoutEntry, GainsOthers, GetsEntry, LeavesFootprint, ReadOneState}
 use Rattle.txn_commit.proofs.Attempts.{same_call, some_fits}
@@ -49,19 +50,16 @@ ends_bounded n j old new b e = subst (λ (v : View). AreRestartsBounded n (numbe
   earlier = λ x is running. absurd (running refl);
 })
 
-named : (v : View) (j : ℕ) → v.who ≡ j ∷ [] → has j v.who ≡ true
-named v j e = subst (λ (l : List ℕ). has j l ≡ true) (sym e) (has-join_same j [])
-
 module _ {S : Type 0} (word_count : S → ℕ) (good : S → List ℕ → Type 0) (desk : DeskView S) (action : Action) (old : View) (found : ℕ) (new : View) where
   -- who took a step at the table has a seat there
   pub some_seats : (j : ℕ) → TakenIn (DeskHolds word_count good desk) action old found new → old.who ≡ j ∷ [] → 0 < desk.seats
   some_seats j t one = let below : j < desk.seats =
-      t.holds.locks.numbers_below t.place j old (record { knows = t.knows; named = named old j one }) in omega arith
+      t.holds.locks.numbers_below t.place j old (record { knows = t.knows; named = own_number old j one }) in omega arith
 
   -- and knows as many words as the desk's shape says
   pub words_counted : (j : ℕ) → TakenIn (DeskHolds word_count good desk) action old found new → old.who ≡ j ∷ [] → length old.base ≡ word_count desk.shape
   words_counted j t one = ap (λ (l : List ℕ). length l)
-      (t.holds.locks.bases_alike t.place j old (record { knows = t.knows; named = named old j one })) ∙ t.holds.values.history.base_good.count
+      (t.holds.locks.bases_alike t.place j old (record { knows = t.knows; named = own_number old j one })) ∙ t.holds.values.history.base_good.count
 
   -- and its attempts that gave way read one state each
   pub one_state : TakenIn (DeskHolds word_count good desk) action old found new → old.phase ≢ Idle
@@ -179,13 +177,15 @@ ends_with_footprint j committed released new rel clear = still_its_footprint com
     (ap (λ (v : View). v.meetings) clear ∙ ap (λ (v : View). v.meetings) rel.rest)
 
 -- an attempt was committed
-pub gets_entry : {A : Type 0} (word_count : ℕ) (good : List ℕ → Type 0) (base : List ℕ) (means : List ℕ → Bool → A
+pub gets_entry : {A : Type 0} (word_count : ℕ) (good words : List ℕ → Type 0) (base : List ℕ) (means : List ℕ → Bool → A
     → List ℕ → Type 0) (kept : Bool) (call : ℕ) (first old new : View) (receipt : Receipt A)
     → StaysInCall first old → first.floor ≡ length first.seen → first.call ≡ call
     → CommitsAt word_count good base kept old new receipt.serial → receipt.call ≡ call → length old.abandoned ≡ receipt.restarts
+    → ListsUses (uses_of kept old.trace old.uses) receipt.uses.items
     → ((s : List ℕ) → Fits word_count good old.trace s → means s kept receipt.answer (after old.trace s))
-    → GetsEntry base means (number first) call first.seen new.seen receipt
-gets_entry word_count good base means kept call first old new receipt same floor number_is commits call_is restarts meaning =
+    → ((s : List ℕ) → words s → IsGood word_count good s)
+    → GetsEntry words base means (number first) call first.seen new.seen receipt
+gets_entry word_count good words base means kept call first old new receipt same floor number_is commits call_is restarts uses meaning is_good =
     let who : number old ≡ number first = ap (λ (l : List ℕ). slice_index l 0) same.seat.who in
     let more = gains_history (number old) old.seen commits.history commits.begins commits.others in
     let all = gains_more (number first) first.seen old.seen commits.history same.seen (subst (λ (j : ℕ). GainsOthers j old.seen commits.history) who more) in
@@ -199,8 +199,11 @@ gets_entry word_count good base means kept call first old new receipt same floor
       floor_is = same.floor ∙ floor;
       serial_is = commits.place_is ∙ sym (ap (λ (h : List Entry). length h) seen ∙ length-append commits.history (entry_of kept old ∷ []));
       restarts_are = sym restarts;
+      uses_are = uses;
       meaning = subst (λ (h : List Entry). means (replay base h) kept receipt.answer (after old.trace (replay base h)))
           all.seen (meaning (replay base commits.history) commits.fits);
+      anywhere = λ s at legal. let begun = is_good s at in
+          meaning s (record { count = begun.count; good = begun.good; legal = legal });
     }
 
 -- an attempt was undone

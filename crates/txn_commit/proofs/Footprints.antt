@@ -1,7 +1,6 @@
 -- Which words a call asked for: those that its attempts touch, and those at which one of them gave way.
 use Rattle.std.proofs.Common.{◌≡◌, ℕ, ◌+◌, Bool, true, ◌⊎◌, inl, inr, ⊎_elim, List, [], ◌∷◌, ◌++◌, length, sym, ap, ◌∙◌, subst}
 use Rattle.std.proofs.lemmas.List.{append_assoc}
-use Rattle.std.proofs.lemmas.Option.{slice_get_within}
 use Rattle.history_model.specs.declared.entry.Abandoned.{Abandoned}
 use Rattle.history_model.specs.declared.entry.Entry.{Entry}
 use Rattle.history_model.specs.declared.event.Cause.{Cause}
@@ -12,10 +11,10 @@ use Rattle.history_model.specs.Locks.{lock_of_word}
 use Rattle.history_model.specs.Sets.{has, has_pair}
 use Rattle.history_model.specs.Traces.{Trace, Touches}
 use Rattle.history_model.proofs.Traces.EndEvents.{touches_first}
-use Rattle.history_model.proofs.ListPlaces.{get_first}
 use Rattle.history_model.proofs.SetLemmas.{differ, has-nil}
 use Rattle.stamps_rule.proofs.LockKinds.{pair-append_old, pair-append_last}
 use Rattle.values_rule.specs.Steps.{entry_of}
+use Rattle.values_rule.proofs.Members.{in_first}
 use Rattle.lock_or_yield.specs.Asking.{Asks, MeetsAndYields, WentOn}
 use Rattle.txn_commit.specs.Attempts.{GaveWayTo}
 use Rattle.txn_commit.specs.Transactions.{IsFootprint, LeavesFootprint, AsksItsFootprint}
@@ -24,9 +23,6 @@ use Rattle.txn_commit.proofs.Others.{get_second}
 -- what stands at the end of a list
 last_in : {A : Type 0} (xs : List A) (x : A) → IsIn x (xs ++ x ∷ [])
 last_in xs x = (length xs + 0, get_second xs (x ∷ []) 0)
-
-first_in : {A : Type 0} (xs ys : List A) (x : A) → IsIn x xs → IsIn x (xs ++ ys)
-first_in xs ys x i = (i.0, get_first xs ys i.0 (slice_get_within xs i.0 x i.1) ∙ i.1)
 
 touches_read_last : (t : Trace) (a x : ℕ) → Touches (t ++ Read a x ∷ []) a
 touches_read_last t a x = (length t + 0, x, inl (get_second t (Read a x ∷ []) 0))
@@ -70,10 +66,10 @@ met_more : (a : ℕ) (old new : View) → Asks a old new → (k j : ℕ) → has
 met_more a old new asks k j m = subst (λ (l : List (ℕ × ℕ)). has_pair k j l ≡ true) (sym asks.meetings.1) (pair-append_old k j old.meetings asks.meetings.0 m)
 
 -- it asked for a word's lock, and loaded the word
-pub footprint_loaded : (a x : ℕ) (old mid new : View) → Asks a old mid → WentOn old mid → new ≡ record mid { trace = mid.trace ++ Read a x ∷ [] }
+pub footprint_loaded : (a x : ℕ) (old mid new : View) → Asks a old mid → WentOn old mid → new ≡ record mid { trace = mid.trace ++ Read a x ∷ []; uses = new.uses }
     → LeavesFootprint old → LeavesFootprint new
 footprint_loaded a x old mid new asks went event =
-    subst (λ (v : View). LeavesFootprint old → LeavesFootprint v) (sym event) (footprint_on old (record mid { trace = mid.trace ++ Read a x ∷ [] })
+    subst (λ (v : View). LeavesFootprint old → LeavesFootprint v) (sym event) (footprint_on old (record mid { trace = mid.trace ++ Read a x ∷ []; uses = new.uses })
     (λ b k. inl (touches_first mid.trace (Read a x ∷ []) b (subst (λ (t : Trace). Touches t b) (ap (λ (v : View). v.trace) (sym asks.rest)) k)))
     (λ y i. subst (λ (l : List Abandoned). IsIn y l) (ap (λ (v : View). v.abandoned) (sym went)) i)
     (met_more a old mid asks)
@@ -90,7 +86,7 @@ footprint_yields n a cause old new asks gave met =
     let there : IsIn attempt new.abandoned = subst (λ (l : List Abandoned). IsIn attempt l) (sym gave.abandoned.1) (last_in old.abandoned attempt) in
     footprint_on old new
     (λ b k. inl (subst (λ (t : Trace). Touches t b) (ap (λ (v : View). v.trace) (sym asks.rest)) k))
-    (λ y i. subst (λ (l : List Abandoned). IsIn y l) (sym gave.abandoned.1) (first_in old.abandoned (attempt ∷ []) y i))
+    (λ y i. subst (λ (l : List Abandoned). IsIn y l) (sym gave.abandoned.1) (in_first old.abandoned (attempt ∷ []) y i))
     (met_more a old new asks)
     (λ b t. ⊎_elim
     (λ (e : b ≡ a). inl (inr (

@@ -2,6 +2,8 @@
 pub mod Others
 -- giving up locks and undoing writes
 pub mod Releasing
+-- the uses of an attempt, listed by rising lock
+pub mod Listing
 -- which words a call asked for
 pub mod Footprints
 -- an attempt between two of its calls
@@ -10,5 +12,7 @@ pub mod Attempts
 pub mod Asking
 -- what a job's answer means, by the entry that its call has
 pub mod Meaning
+-- an attempt is settled: its writes are kept or undone, what it used is listed, and it gets its entry, or is given up
+pub mod Settling
 -- how a transaction begins and ends
 pub mod Ending

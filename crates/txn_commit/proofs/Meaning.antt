@@ -12,7 +12,7 @@ use Rattle.txn_commit.specs.Transactions.{GetsEntry, IsMeant}
 module _ {A : Type 0} (good : List ℕ → Type 0) (n : ℕ) (base : List ℕ) (means : List ℕ → Bool → A → List ℕ → Type 0) (who call : ℕ)
     (old new : List Entry) (begun : good base) where
   -- the words that the job found are what the entries before its own leave
-  pub by_entry : (receipt : Receipt A) → IsLegalHistory good n base new → GetsEntry base means who call old new receipt
+  pub by_entry : (receipt : Receipt A) → IsLegalHistory good n base new → GetsEntry good base means who call old new receipt
       → IsMeant good means receipt.answer
   by_entry receipt legal gets =
       let before : List Entry = old ++ gets.others in
@@ -26,6 +26,6 @@ module _ {A : Type 0} (good : List ℕ → Type 0) (n : ℕ) (base : List ℕ) (
       }
 
   pub is_meant : {E : Type 0} (ended : Result (Receipt A) E) → OnOk ended (IsLegalHistory good n base new)
-      → IfOk ended (λ receipt. GetsEntry base means who call old new receipt) → IfOk ended (λ receipt. IsMeant good means receipt.answer)
+      → IfOk ended (λ receipt. GetsEntry good base means who call old new receipt) → IfOk ended (λ receipt. IsMeant good means receipt.answer)
   is_meant (Ok receipt) legal gets = by_entry receipt legal gets
   is_meant (Err e) legal gets = cc

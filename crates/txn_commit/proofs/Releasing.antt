@@ -8,6 +8,7 @@ use Rattle.history_model.specs.declared.view.Phase.TheVariants.{Idle, Running, Y
 use Rattle.history_model.specs.Views.{HasBit, HasClaim}
 use Rattle.history_model.proofs.SetLemmas.{has-without}
 use Rattle.locks_rule.specs.Steps.{released_phase, release_writer_action, clear_read_bit_action}
+use Rattle.word_table.specs.Calls.{paid}
 use Rattle.word_table.specs.Least.{IsLeast}
 use Rattle.txn_commit.specs.Inner.Releasing.{Releases, turns_left}
 
@@ -62,7 +63,14 @@ pub releases_none : (v : View) → Releases v v
 releases_none v = record { rest = refl; phase = inl refl }
 
 abbrev changed : View → View → View
-changed old new = record old { phase = new.phase; bits = new.bits; reads = new.reads; claims = new.claims; scans = new.scans }
+changed old new = record old {
+  phase = new.phase;
+  bits = new.bits;
+  reads = new.reads;
+  claims = new.claims;
+  scans = new.scans;
+  owed = new.owed;
+}
 
 pub releases_more : (old mid new : View) → Releases old mid → Releases mid new → Releases old new
 releases_more old mid new f s = record {
@@ -71,11 +79,11 @@ releases_more old mid new f s = record {
       (λ e. ⊎_elim (λ d. inr (e ∙ ap released_phase d)) (λ d. inr (e ∙ (ap released_phase d ∙ released_twice old.phase))) f.phase) s.phase;
 }
 
--- a step that gives up a claim
-pub claim_given_up : (v new : View) (j k : ℕ) → new ≡ (release_writer_action j k v).view [] 0 → Releases v new
+-- a step that gives up a claim, once what was owed was paid
+pub claim_given_up : (v new : View) (j k : ℕ) → new ≡ (release_writer_action j k (paid k v)).view [] 0 → Releases v new
 claim_given_up v new j k e = subst (λ (w : View). Releases v w) (sym e) (record { rest = refl; phase = inr refl })
 
-pub claims_without : (v new : View) (j k l : ℕ) → new ≡ (release_writer_action j k v).view [] 0 → HasClaim new l → HasClaim v l
+pub claims_without : (v new : View) (j k l : ℕ) → new ≡ (release_writer_action j k (paid k v)).view [] 0 → HasClaim new l → HasClaim v l
 claims_without v new j k l e h = (has-without l k v.claims (subst (λ (w : View). HasClaim w l) e h)).1
 
 -- a step that clears a bit

@@ -60,9 +60,10 @@ StandsAs n None began now = Runs began now
 StandsAs n (Some (halt.Yield cause)) began now = GaveWayTo n cause began now
 StandsAs n (Some halt.Memory) began now = Runs began now
 
--- the attempt did something to words, and the pass knows the same of all else: it holds the same locks, and asked for no other
+-- the attempt did something to words, and the pass knows the same of all else: it holds the same locks, and asked for no
+-- other. It may have found the version of one that it had not used
 abbrev pub DidEvents : View → View → Type 0
-DidEvents old new = new ≡ record old { trace = new.trace; undo = new.undo }
+DidEvents old new = new ≡ record old { trace = new.trace; undo = new.undo; uses = new.uses }
 
 -- an attempt over this desk and pass, with this undo log; word_count and good are those of the shape
 pub record IsSoundAttempt {S : Type 0} (word_count : S → ℕ) (good : S → List ℕ → Type 0) (desk : DeskView S)

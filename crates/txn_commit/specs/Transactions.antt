@@ -7,12 +7,13 @@ use Rattle.history_model.specs.Histories.{replay}
 use Rattle.history_model.specs.Legal.{IsIn, IsPrefix, AreAttemptsLegal, IsLegalHistory}
 use Rattle.history_model.specs.Locks.{lock_of_word}
 use Rattle.history_model.specs.Sets.{has, has_pair}
-use Rattle.history_model.specs.Traces.{Trace, Touches, after}
+use Rattle.history_model.specs.Traces.{Trace, Touches, IsLegalTrace, after}
 use Rattle.history_model.specs.Views.{number}
 use Rattle.stamps_rule.specs.Stamps.{AreRestartsBounded}
 use Rattle.word_table.specs.Calls.{ReadsHistory}
 use Rattle.word_table.specs.Copies.{HoldsNothing}
 use Rattle.txn_commit.specs.declared.transaction.Receipt.{Receipt}
+use Rattle.txn_commit.specs.Uses.{ListsUses}
 
 -- no entry of the list is by this seat
 abbrev pub AreByOthers : ℕ → List Entry → Type 0
@@ -26,8 +27,8 @@ pub record GainsOthers (who : ℕ) (old new : List Entry) : Type 0 where
 
 -- a call of this seat got one entry, behind what the seat had seen and then entries of others alone; and of the words
 -- that all these leave of the base, the job's meaning holds: whether its writes are kept, its answer, and what its trace
--- leaves
-pub record GetsEntry {A : Type 0} (base : List ℕ) (means : List ℕ → Bool → A → List ℕ → Type 0)
+-- leaves; as it does of all good words on which the trace is legal
+pub record GetsEntry {A : Type 0} (good : List ℕ → Type 0) (base : List ℕ) (means : List ℕ → Bool → A → List ℕ → Type 0)
     (who call : ℕ) (old new : List Entry) (receipt : Receipt A) : Type 0 where
   pub others : List Entry
   pub entry : Entry
@@ -38,7 +39,10 @@ pub record GetsEntry {A : Type 0} (base : List ℕ) (means : List ℕ → Bool �
   pub floor_is : entry.floor ≡ length old
   pub serial_is : receipt.serial ≡ length new
   pub restarts_are : receipt.restarts ≡ length entry.abandoned
+  -- the locks that it used, by rising lock
+  pub uses_are : ListsUses entry.uses receipt.uses.items
   pub meaning : means (replay base (old ++ others)) entry.kept receipt.answer (after entry.trace (replay base (old ++ others)))
+  pub anywhere : (s : List ℕ) → good s → IsLegalTrace entry.trace s → means s entry.kept receipt.answer (after entry.trace s)
 
 -- at some good words the job's meaning holds of the answer
 pub record IsMeant {A : Type 0} (good : List ℕ → Type 0) (means : List ℕ → Bool → A → List ℕ → Type 0) (answer : A) : Type 0 where

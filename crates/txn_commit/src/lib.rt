@@ -10,6 +10,7 @@ pub mod laws;
 pub mod release;
 pub mod rollback;
 pub mod transaction;
+mod uses;
 
 pub use attempt::{Attempt, Halt, Start, UNDO_ROOM};
 pub use transaction::{Receipt, transact};

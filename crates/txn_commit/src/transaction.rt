@@ -5,20 +5,24 @@ ghost use Rattle.history_model.specs.Counts.{is_attempt};
 ghost use Rattle.history_model.specs.Fitting.{Fits};
 ghost use Rattle.history_model.specs.Traces.{after};
 ghost use Rattle.history_model.specs.Views.{number};
+ghost use Rattle.locks_rule.specs.Versions.{uses_of};
 ghost use Rattle.stamps_rule.specs.Causes.{newest, past_causes};
 ghost use Rattle.txn_words.specs.Verdicts.{is_kept, answer_of};
 ghost use Rattle.word_table.specs.Calls.{CommitsAt, ReadsHistory};
 ghost use Rattle.word_table.specs.Copies.{HoldsNothing};
 ghost use Rattle.word_table.specs.declared.limits.TheConstants.{LAST_CALL};
+ghost use Rattle.txn_commit.specs.Uses.{ListsUses};
+ghost use Rattle.txn_commit.specs.Inner.Releasing.{Undoes};
 ghost use Rattle.txn_commit.specs.Attempts.{IsSoundAttempt, StaysInCall, stop_of};
 ghost use Rattle.txn_commit.specs.Transactions.{AsksItsFootprint, EndsWithoutEntry, GainsOthers, GetsEntry, IsMeant, LeavesFootprint, SameSeat};
 ghost use Rattle.word_table.specs.Desks.{AreGoodWords, IsLegalFor};
 
 use crate::attempt::{Attempt, Caller, Halt, UNDO_ROOM, tell};
 use crate::release::release_all;
-use crate::rollback::undo_all;
+use crate::rollback::{undo_all, undo_unless};
+use crate::uses::list_uses;
 use crossbeam_utils::Backoff;
-use history_model::{Cause, Phase, Shape};
+use history_model::{Cause, LockUse, Phase, Shape};
 use io_ends::OutOfMemory;
 use std::alloc::Global;
 use std::snapshot::Snapshot;
@@ -37,6 +41,9 @@ pub struct Receipt<A> {
     pub call: u32,
     /// How many attempts gave way before the one that was committed.
     pub restarts: u32,
+    /// The locks that the attempt which was committed used, by rising lock: each with the version that it found there, and
+    /// whether a write of it stands.
+    pub uses: Vec<LockUse>,
     /// What the job answers.
     pub answer: A,
 }
@@ -53,6 +60,7 @@ fn wait_out<R: Wait, S: Shape>(rt: &R, desk: &Desk<S>, pass: &mut Pass<S>, cause
     ensures restarts { pass.new.view ≡ record pass.old.view {
       phase = Phase.Running;
       trace = [];
+      uses = [];
       waits = pass.new.view.waits;
     } }
     ensures fits { ReadsHistory (AreGoodWords S.Shape desk.now)
@@ -109,8 +117,13 @@ fn give_way<S: Shape, G: Gate, R: Wait>(attempt: &mut Attempt<S, G, R>, cause: C
     attempt.began = Snapshot::of(&*attempt.pass);
 }
 
-// Commits the attempt, whose writes are kept or else undone first: the place of its entry.
-fn settle<S: Shape, G: Gate, R: Wait>(attempt: &mut Attempt<S, G, R>, kept: bool) -> u64
+// Settles the attempt: its writes are kept or else undone, what it used is listed, and it is committed. It gives the place
+// of its entry, and the list. Where there is no memory for the list, all is undone, and there is no entry.
+fn settle<S: Shape, G: Gate, R: Wait>(
+    alloc: Global,
+    attempt: &mut Attempt<S, G, R>,
+    kept: bool,
+) -> Result<(u64, Vec<LockUse>), OutOfMemory>
     requires sound { IsSoundAttempt S.word_count S.good attempt.old.desk.now attempt.old.began.value
         attempt.old.pass.now attempt.old.undo attempt.old.halt }
     requires going { attempt.old.halt ≡ None }
@@ -120,28 +133,40 @@ fn settle<S: Shape, G: Gate, R: Wait>(attempt: &mut Attempt<S, G, R>, kept: bool
         → S.good attempt.old.desk.now.shape (after attempt.old.pass.now.view.trace s) }
     ensures name { attempt.new.pass.ghost_name ≡ attempt.old.pass.ghost_name }
     ensures desk { attempt.new.pass.now.table ≡ attempt.old.desk.now.table }
-    ensures entry { CommitsAt (S.word_count attempt.old.desk.now.shape)
+    ensures entry { IfOk result (λ done. CommitsAt (S.word_count attempt.old.desk.now.shape)
         (S.good attempt.old.desk.now.shape) attempt.old.desk.now.base kept
-        attempt.old.pass.now.view attempt.new.pass.now.view result }
-    ensures legal { IsLegalFor S.Shape attempt.old.desk.now attempt.new.pass.now.view.seen }
-    ensures few { length attempt.old.pass.now.view.abandoned < attempt.old.desk.now.seats }
+        attempt.old.pass.now.view attempt.new.pass.now.view done.0) }
+    ensures uses { IfOk result (λ done. ListsUses
+        (uses_of kept attempt.old.pass.now.view.trace attempt.old.pass.now.view.uses)
+        done.1.items) }
+    ensures legal { OnOk result
+        (IsLegalFor S.Shape attempt.old.desk.now attempt.new.pass.now.view.seen) }
+    ensures few { OnOk result
+        (length attempt.old.pass.now.view.abandoned < attempt.old.desk.now.seats) }
+    ensures undone { OnErr result
+        (Undoes attempt.old.pass.now.view attempt.new.pass.now.view) }
 {
-    if !kept {
+    undo_unless(attempt.desk, attempt.pass, &mut attempt.undo, kept);
+    let Ok(uses) = list_uses(alloc, attempt.pass) else {
         undo_all(attempt.desk, attempt.pass, &mut attempt.undo);
-    }
+        return Err(OutOfMemory);
+    };
     tell(attempt, Stage::BeforeCommit);
     let serial = attempt.desk.commit(attempt.pass, kept);
     tell(attempt, Stage::AfterCommit);
-    serial
+    Ok((serial, uses))
 }
 
 // Makes attempts until one need not give way, and commits what the job decided in it. Each attempt that gives way has
 // another seat as its cause, so there are no more than seats.
 fn run_attempts<S: Shape, G: Gate, R: Wait, J: Job<Shape = S>>(
+    alloc: Global,
     attempt: &mut Attempt<S, G, R>,
     job: &J,
     call: u32,
 ) -> Result<Receipt<J::Answer>, OutOfMemory>
+where
+    J::Answer: Drop,
     requires sound { IsSoundAttempt S.word_count S.good attempt.old.desk.now attempt.old.began.value
         attempt.old.pass.now attempt.old.undo attempt.old.halt }
     requires job { J.shape job.now ≡ attempt.old.desk.now.shape }
@@ -157,7 +182,9 @@ fn run_attempts<S: Shape, G: Gate, R: Wait, J: Job<Shape = S>>(
     ensures seat { SameSeat attempt.old.pass.now.view attempt.new.pass.now.view }
     ensures call { attempt.new.pass.now.view.call ≡ call }
     ensures undone { attempt.new.pass.now.view.undo ≡ [] }
-    ensures entry { IfOk result (λ receipt. GetsEntry attempt.old.desk.now.base (J.means job.now)
+    ensures entry { IfOk result (λ receipt. GetsEntry
+        (AreGoodWords S.Shape attempt.old.desk.now)
+        attempt.old.desk.now.base (J.means job.now)
         (number attempt.old.pass.now.view) call
         attempt.old.pass.now.view.seen attempt.new.pass.now.view.seen receipt) }
     ensures legal { OnOk result
@@ -180,11 +207,14 @@ fn run_attempts<S: Shape, G: Gate, R: Wait, J: Job<Shape = S>>(
         match job.run(attempt) {
             Ok(verdict) => {
                 let (kept, answer) = decision(verdict);
-                let serial = settle(attempt, kept);
+                let Ok((serial, uses)) = settle(alloc, attempt, kept) else {
+                    return Err(OutOfMemory);
+                };
                 return Ok(Receipt {
                     serial,
                     call,
                     restarts,
+                    uses,
                     answer,
                 });
             }
@@ -233,6 +263,8 @@ pub fn transact<S: Shape, G: Gate, R: Wait, J: Job<Shape = S>>(
     job: &J,
     gate: &G,
 ) -> Result<Receipt<J::Answer>, OutOfMemory>
+where
+    J::Answer: Drop,
     requires desk { pass.old.table ≡ desk.now.table }
     requires phase { pass.old.view.phase ≡ Phase.Idle }
     requires room { pass.old.view.call < LAST_CALL }
@@ -242,7 +274,8 @@ pub fn transact<S: Shape, G: Gate, R: Wait, J: Job<Shape = S>>(
     ensures idle { pass.new.view.phase ≡ Phase.Idle }
     ensures nothing { HoldsNothing pass.new.view }
     ensures call { OnOk result (pass.new.view.call ≡ pass.old.view.call + 1) }
-    ensures entry { IfOk result (λ receipt. GetsEntry desk.now.base (J.means job.now)
+    ensures entry { IfOk result (λ receipt. GetsEntry
+        (AreGoodWords S.Shape desk.now) desk.now.base (J.means job.now)
         (number pass.old.view) (pass.old.view.call + 1)
         pass.old.view.seen pass.new.view.seen receipt) }
     ensures meant { IfOk result (λ receipt. IsMeant
@@ -275,7 +308,7 @@ pub fn transact<S: Shape, G: Gate, R: Wait, J: Job<Shape = S>>(
         halt: None,
         began,
     };
-    let ended = run_attempts(&mut attempt, job, call);
+    let ended = run_attempts(alloc, &mut attempt, job, call);
     let Attempt {
         rt: _rt,
         desk: _desk,

@@ -22,6 +22,7 @@ pub(crate) struct Entry {
 
 /// Of the entries whose keys are from `least` to `high`, both included, the one with the least key.
 /// The walk then stands right behind it.
+#[inline(always)]
 pub(crate) fn next_entry<W: Words>(
     w: &mut W,
     map: &TreeMap,

@@ -114,6 +114,7 @@ fn descend<W: Words>(w: &mut W, map: &TreeMap, walk: &mut Walk, least: u64) -> R
 
 /// Of the nodes whose keys are `least` or more, the one with the least key, if the walk keeps it. The
 /// walk then stands right behind it.
+#[inline(always)]
 fn next_kept<W: Words>(
     w: &mut W,
     map: &TreeMap,
@@ -139,6 +140,7 @@ fn next_kept<W: Words>(
 
 /// Of the nodes whose keys are `least` or more, the one with the least key. The walk then stands
 /// right behind it.
+#[inline(always)]
 pub(crate) fn next_node<W: Words>(
     w: &mut W,
     map: &TreeMap,

@@ -24,6 +24,7 @@ use Rattle.history_model.proofs.SetLemmas.{differ, has-join_same}
 use Rattle.history_model.proofs.TableLaws.{seen_at_most}
 use Rattle.locks_rule.specs.Actions.{Action, found_by, words_after, views_after}
 use Rattle.locks_rule.specs.Locks.{LocksHold, IsSeat}
+use Rattle.locks_rule.specs.Versions.{uses_of}
 use Rattle.locks_rule.proofs.Counting.{calls_below-same}
 use Rattle.values_rule.specs.Asides.{IsAside, IsLoad, GoesOn, SameCalls, SameValues, IsNewCause, GivesWay, Restarts}
 use Rattle.values_rule.specs.Values.{value_at, oldest, ValuesHold}
@@ -249,7 +250,7 @@ module _ (good : List ℕ → Type 0) (n : ℕ) (base ws : List ℕ) (vs : List 
       let whole : length w.seen ≡ length (history_of vs) = ap (λ (l : List Entry). length l) s.seen in
       let few = seen_at_most vs id v me in
       let floor = q.floor.floor_seen id v me in
-      let y : Abandoned = record { cause = cause; front = length (history_of vs); trace = v.trace; uses = [] } in
+      let y : Abandoned = record { cause = cause; front = length (history_of vs); trace = v.trace; uses = uses_of false v.trace v.uses } in
       let legal : IsLegalTrace v.trace (replay base (take (length (history_of vs)) (history_of vs))) =
       subst (λ (l : List Entry). IsLegalTrace v.trace (replay base l))
       (sym (take_all (length (history_of vs)) (history_of vs) (omega arith))) (q.trace.legal id v me (attempt_runs v s.runs)) in

@@ -11,6 +11,7 @@ use Rattle.history_model.specs.Sets.{has}
 use Rattle.history_model.specs.Table.{value_word}
 use Rattle.history_model.specs.Views.{HasWriteGrant, IsGranted}
 use Rattle.locks_rule.specs.Actions.{Action, found_by}
+use Rattle.locks_rule.specs.Versions.{uses_of}
 
 -- a word that is none of SERIAL, CALLS and VALUES
 pub record IsAside (n i : ℕ) : Type 0 where
@@ -65,7 +66,7 @@ pub record GivesWay (cause : Cause) (history : List Entry) (v w : View) : Type 0
   pub olds : w.olds ≡ v.olds
   pub stamp : w.stamp ≡ v.stamp
   pub abandoned : w.abandoned
-      ≡ v.abandoned ++ record { cause = cause; front = length history; trace = v.trace; uses = [] } ∷ []
+      ≡ v.abandoned ++ record { cause = cause; front = length history; trace = v.trace; uses = uses_of false v.trace v.uses } ∷ []
   pub undo : w.undo ≡ v.undo
   pub writes : (k : ℕ) → HasWriteGrant v k → HasWriteGrant w k
 

@@ -1,7 +1,7 @@
 -- The kinds of step on calls, values and the history: when a seat may take one, and what it does. In-place writes with
 -- an undo log and the counter that orders commits are those of 2PLSF (Ramalhete, Correia, Felber, PPoPP 2023). The seat
 -- has the number j, and a is a word of the memory.
-use Rattle.std.specs.Prelude.{◌≡◌, ◌⊎◌, ℕ, ◌+◌, ◌-◌, ◌^◌, ◌<◌, Bool, true, false, List, [], ◌∷◌, ◌++◌, length, take, None, unwrap_or}
+use Rattle.std.specs.Prelude.{◌≡◌, ◌⊎◌, ℕ, ◌+◌, ◌-◌, ◌^◌, ◌<◌, Bool, true, false, List, [], ◌∷◌, ◌++◌, length, take, None, unwrap_or, if◌then◌else◌}
 use Rattle.history_model.specs.declared.entry.Entry.{Entry}
 use Rattle.history_model.specs.declared.event.Event.TheVariants.{Read, Write}
 use Rattle.history_model.specs.declared.view.View.{View}
@@ -14,6 +14,7 @@ use Rattle.history_model.specs.Traces.{Trace, after, IsLegalTrace, value_after}
 use Rattle.history_model.specs.Undoing.{Notes}
 use Rattle.history_model.specs.Views.{number, HasBit, HasClaim, HasWriteGrant, IsGranted}
 use Rattle.locks_rule.specs.Actions.{Action}
+use Rattle.locks_rule.specs.Versions.{locks_of, uses_of}
 
 -- a call is begun: its number is stored to the own CALLS word
 pub record MayBeginCall (j : ℕ) (v : View) : Type 0 where
@@ -34,6 +35,8 @@ begin_call_action j v = record {
     met = [];
     trace = [];
     undo = [];
+    uses = [];
+    owed = [];
     meetings = [];
     waits = 0;
     abandoned = [];
@@ -97,7 +100,8 @@ undo_store_action j a old v = record {
   view = λ h w. record v { phase = undoing_phase v.phase; undo = take (length v.undo - 1) v.undo };
 }
 
--- the call gets its entry: the counter of entries goes up by 1. A call whose writes are kept leaves good words, whatever
+-- the call gets its entry: the counter of entries goes up by 1, and the call owes the locks that it wrote their next
+-- versions where its writes are kept. A call whose writes are kept leaves good words, whatever
 -- good words its trace is legal on; one whose writes are not kept has undone them
 pub record MayCommitCall (good : List ℕ → Type 0) (j : ℕ) (kept : Bool) (v : View) : Type 0 where
   pub who : v.who ≡ j ∷ []
@@ -108,7 +112,8 @@ pub record MayCommitCall (good : List ℕ → Type 0) (j : ℕ) (kept : Bool) (v
   pub undone : kept ≡ false → v.undo ≡ []
   pub no_cause : v.due ≡ None
 
--- the entry of the view's call
+-- the entry of the view's call, with the locks that it used. What its pass knew is nobody's affair as long as a counter
+-- orders the entries
 abbrev pub entry_of : Bool → View → Entry
 entry_of kept v = record {
   who = number v;
@@ -118,7 +123,7 @@ entry_of kept v = record {
   kept = kept;
   trace = v.trace;
   abandoned = v.abandoned;
-  uses = [];
+  uses = uses_of kept v.trace v.uses;
   knew = [];
 }
 
@@ -126,7 +131,12 @@ abbrev pub commit_call_action : ℕ → Bool → View → Action
 commit_call_action j kept v = record {
   at = serial_word;
   writes = λ w. w + 1;
-  view = λ h w. record v { seen = h ++ entry_of kept v ∷ []; undo = []; phase = Releasing };
+  view = λ h w. record v {
+    seen = h ++ entry_of kept v ∷ [];
+    owed = if kept then locks_of v.undo else [];
+    undo = [];
+    phase = Releasing;
+  };
 }
 
 -- the call ends: 0 is stored to the own STAMPS word

@@ -8,7 +8,7 @@ pub mod Owing
 pub mod Newest
 -- the uses of an attempt, and the item that they make
 pub mod Uses
--- phases, and that what a seat holds is a lock
+-- phases
 pub mod Excludes
 -- what the invariant says to a seat in a call
 pub mod Seeing

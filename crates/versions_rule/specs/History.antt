@@ -1,12 +1,10 @@
 -- What the table and its views say of a history that no counter orders: the items of all that was seen, the versions of
 -- locks, and the newest value of each word.
-use Rattle.std.specs.Prelude.{ℕ, zero, suc, ◌+◌, Bool, true, false, ◌||◌, ◌&&◌, ◌==◌, max, List, [], ◌∷◌, ◌++◌, map, length, slice_index, nat_lt, if◌then◌else◌}
+use Rattle.std.specs.Prelude.{ℕ, zero, suc, ◌+◌, Bool, true, false, ◌||◌, ◌==◌, max, List, [], ◌∷◌, ◌++◌, length, slice_index, nat_lt, if◌then◌else◌}
 use Rattle.std.specs.List.{flat_map}
 use Rattle.history_model.specs.declared.entry.Abandoned.{Abandoned}
 use Rattle.history_model.specs.declared.entry.Entry.{Entry}
-use Rattle.history_model.specs.declared.event.Event.TheVariants.{Read, Write}
 use Rattle.history_model.specs.declared.item.Item.{Item}
-use Rattle.history_model.specs.declared.item.LockUse.{LockUse}
 use Rattle.history_model.specs.declared.TheConstants.{LOCKS}
 use Rattle.history_model.specs.declared.view.View.{View}
 use Rattle.history_model.specs.Counts.{is_open}
@@ -14,7 +12,6 @@ use Rattle.history_model.specs.Items.{value_at}
 use Rattle.history_model.specs.Locks.{lock_of_word}
 use Rattle.history_model.specs.Sets.{has, flag}
 use Rattle.history_model.specs.Table.{version_word}
-use Rattle.history_model.specs.Traces.{Trace}
 use Rattle.history_model.specs.Views.{number}
 
 -- the greatest call of seat j among the entries, or 0
@@ -30,20 +27,6 @@ knew_from j (suc n) entries = last_call j entries ∷ knew_from (suc j) n entrie
 -- for each of n seats the greatest call among its entries, or 0: what a pass that has seen these entries knows
 abbrev pub knew_of : ℕ → List Entry → List ℕ
 knew_of n entries = knew_from 0 n entries
-
--- whether the trace writes a word of lock k
-unfoldable pub writes_lock : ℕ → Trace → Bool
-writes_lock k [] = false
-writes_lock k (Read a v ∷ trace) = writes_lock k trace
-writes_lock k (Write a v ∷ trace) = lock_of_word a == k || writes_lock k trace
-
--- the use of a lock by an attempt that found it at a version: it wrote there if its writes are kept and it has one
-abbrev pub use_of : Bool → Trace → ℕ × ℕ → LockUse
-use_of kept trace found = record { lock = found.0; version = found.1; wrote = kept && writes_lock found.0 trace }
-
--- the uses of an attempt, of all locks whose versions it found
-abbrev pub uses_of : Bool → Trace → List (ℕ × ℕ) → List LockUse
-uses_of kept trace found = map (use_of kept trace) found
 
 -- the item of an attempt that came after `turn` others of its call
 abbrev pub item_of_attempt : ℕ → ℕ → List ℕ → ℕ → Abandoned → Item

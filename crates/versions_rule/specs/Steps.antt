@@ -1,7 +1,8 @@
--- The kinds of step on calls, versions, values and entries where no counter orders the entries: when a seat may take one,
--- and what it does. The seat has the number j, k is a lock, and a is a word of the memory. What a load, a store and its
--- undoing do is what they do under the rule with a counter, and so is what ends a call.
-use Rattle.std.specs.Prelude.{◌≡◌, ◌⊎◌, ℕ, ◌+◌, ◌^◌, ◌<◌, Bool, true, false, List, [], ◌∷◌, ◌++◌, map, length, if◌then◌else◌}
+-- The kinds of step on calls, values and entries where no counter orders the entries: when a seat may take one, and what
+-- it does. The seat has the number j, and a is a word of the memory. What a load, a store and its undoing do is what they
+-- do under the rule with a counter, and so is what begins a call and what ends it; the steps on versions are those of
+-- the locks.
+use Rattle.std.specs.Prelude.{◌≡◌, ◌⊎◌, ℕ, ◌+◌, ◌^◌, ◌<◌, Bool, true, false, List, [], ◌∷◌, ◌++◌, length, if◌then◌else◌}
 use Rattle.history_model.specs.declared.entry.Abandoned.{Abandoned}
 use Rattle.history_model.specs.declared.entry.Entry.{Entry}
 use Rattle.history_model.specs.declared.event.Cause.{Cause}
@@ -11,42 +12,13 @@ use Rattle.history_model.specs.declared.event.Event.TheVariants.{Read}
 use Rattle.history_model.specs.Counts.{is_attempt, is_open}
 use Rattle.history_model.specs.Legal.{IsIn}
 use Rattle.history_model.specs.Locks.{lock_of_word}
-use Rattle.history_model.specs.Sets.{has, without}
-use Rattle.history_model.specs.Table.{calls_word, commits_word, version_word}
+use Rattle.history_model.specs.Table.{commits_word}
 use Rattle.history_model.specs.Traces.{Trace, after, IsLegalTrace}
 use Rattle.history_model.specs.Undoing.{Notes}
 use Rattle.history_model.specs.Views.{number, HasBit, HasClaim, HasWriteGrant, IsGranted}
 use Rattle.locks_rule.specs.Actions.{Action}
-use Rattle.locks_rule.specs.Steps.{MayReleaseWriter}
-use Rattle.versions_rule.specs.History.{knew_of, uses_of}
-
--- the version of lock k is loaded, while the lock is held, once in an attempt
-pub record MayLoadVersion (j k : ℕ) (v : View) : Type 0 where
-  pub who : v.who ≡ j ∷ []
-  pub phase : v.phase ≡ Running
-  pub granted : IsGranted v k
-  pub unused : (x : ℕ) → IsIn (k, x) v.uses → ⊥
-
-abbrev pub load_version_action : ℕ → ℕ → View → Action
-load_version_action j k v = record {
-  at = version_word v.seats k;
-  writes = λ w. w;
-  view = λ h w. record v { uses = v.uses ++ (k, w) ∷ [] };
-}
-
--- 1 more than the version x that the call found of lock k is stored, while its kept write of the lock is owed
-pub record MayStoreVersion (j k x : ℕ) (v : View) : Type 0 where
-  pub who : v.who ≡ j ∷ []
-  pub phase : v.phase ≡ Releasing
-  pub owed : has k v.owed ≡ true
-  pub found : IsIn (k, x) v.uses
-
-abbrev pub store_version_action : ℕ → ℕ → ℕ → View → Action
-store_version_action j k x v = record {
-  at = version_word v.seats k;
-  writes = λ w. x + 1;
-  view = λ h w. record v { owed = without k v.owed };
-}
+use Rattle.locks_rule.specs.Versions.{locks_of, uses_of}
+use Rattle.versions_rule.specs.History.{knew_of}
 
 -- the call gets its entry: its number is stored to the own COMMITS word. A call whose writes are kept leaves good words,
 -- whatever good words its trace is legal on; one whose writes are not kept has undone them
@@ -71,10 +43,6 @@ entry_of kept v = record {
   uses = uses_of kept v.trace v.uses;
   knew = knew_of v.seats v.seen;
 }
-
--- the locks of the words that are noted, which are those that were written
-abbrev pub locks_of : Notes → List ℕ
-locks_of notes = map (λ note. lock_of_word note.0) notes
 
 -- what the view then knows: it has seen its entry, and owes the locks that it wrote their next versions
 abbrev pub after_commit : Bool → View → View
@@ -136,31 +104,6 @@ pub record MayBeginCall (j : ℕ) (v : View) : Type 0 where
   pub who : v.who ≡ j ∷ []
   pub phase : v.phase ≡ Idle
   pub room : v.call + 1 < 2 ^ 32
-
-abbrev pub begin_call_action : ℕ → View → Action
-begin_call_action j v = record {
-  at = calls_word v.seats j;
-  writes = λ w. v.call + 1;
-  view = λ h w. record v {
-    phase = Running;
-    call = v.call + 1;
-    floor = length v.seen;
-    asked = [];
-    met = [];
-    trace = [];
-    undo = [];
-    uses = [];
-    owed = [];
-    meetings = [];
-    waits = 0;
-    abandoned = [];
-  };
-}
-
--- the claim of lock k is given up, where no version of it is owed
-pub record MayReleaseUnowed (j k : ℕ) (v : View) : Type 0 where
-  pub releases : MayReleaseWriter j k v
-  pub unowed : has k v.owed ≡ false
 
 -- the call ends: 0 is stored to the own STAMPS word
 pub record MayClearStamp (j : ℕ) (v : View) : Type 0 where

@@ -15,12 +15,13 @@ ghost use Rattle.locks_rule.specs.Joins.{KeepsJoin, MayMeetNote, MayJoinSeats, M
 ghost use Rattle.locks_rule.specs.Locks.{LocksHold};
 ghost use Rattle.locks_rule.specs.Splits.{MaySplitSeat, left_by_split, given_by_split};
 ghost use Rattle.locks_rule.specs.Steps.{MaySetReadBit, MayClearReadBit, MayLoadWriter, MayClaimWriter, MayScanRow, set_read_bit_action, clear_read_bit_action, load_writer_action, claim_writer_action, scan_row_action, release_writer_action};
-ghost use Rattle.values_rule.specs.Steps.{load_value_action, store_value_action, undo_store_action, clear_stamp_action};
+ghost use Rattle.values_rule.specs.Steps.{load_value_action, store_value_action, undo_store_action, clear_stamp_action, begin_call_action};
 ghost use Rattle.versions_rule.specs.Closing.{OfEveryArrangement, ArePlaced, LeavesGood, AttemptsAreLegal, UndoingRestores, OfOneForAll, AgreeWithTable, HasArrangement, MemoryIsLeft};
 ghost use Rattle.versions_rule.specs.Joins.{after_note, after_joining};
 ghost use Rattle.versions_rule.specs.Keeping.{KeepsValueRule, KeepsValueRuleSplit, KeepsValueRuleJoin, GivingWayKeeps, RestartKeeps, GivingUpKeeps, QuietKeeps, AsideKeeps};
 ghost use Rattle.versions_rule.specs.Opening.{OpeningHolds};
-ghost use Rattle.versions_rule.specs.Steps.{MayBeginCall, begin_call_action, MayLoadVersion, load_version_action, MayStoreVersion, store_version_action, MayLoadValue, MayStoreValue, MayUndoStore, MayCommitCall, commit_call_action, MayReleaseUnowed, MayClearStamp};
+ghost use Rattle.locks_rule.specs.Versions.{MayLoadVersion, load_version_action, MayStoreVersion, store_version_action, MayReleaseUnowed};
+ghost use Rattle.versions_rule.specs.Steps.{MayBeginCall, MayLoadValue, MayStoreValue, MayUndoStore, MayCommitCall, commit_call_action, MayClearStamp};
 
 use history_model::Shape;
 

@@ -1,6 +1,6 @@
 -- What each call of a desk answers, and what it does to what the pass knows. A step of a call is told of in a state of
 -- the table that is sound, as `sound` says.
-use Rattle.std.specs.Prelude.{◌≡◌, ◌≢◌, ◌⊎◌, ℕ, ◌+◌, ◌-◌, ◌%◌, ◌<◌, ◌≤◌, Bool, false, ◌&&◌, nat_lt, List, [], ◌∷◌, ◌++◌, length, slice_get, Some, ◌==◌}
+use Rattle.std.specs.Prelude.{◌≡◌, ◌≢◌, ◌⊎◌, ℕ, ◌+◌, ◌-◌, ◌%◌, ◌<◌, ◌≤◌, Bool, true, false, ◌&&◌, nat_lt, List, [], ◌∷◌, ◌++◌, length, slice_get, Some, ◌==◌}
 use Rattle.std.specs.Prelude.{if◌then◌else◌}
 use Rattle.std.specs.Int.{bit_at}
 use Rattle.history_model.specs.declared.view.View.{View}
@@ -10,15 +10,16 @@ use Rattle.history_model.specs.declared.view.Phase.TheVariants.{Releasing}
 use Rattle.history_model.specs.Conflicts.{IsConflict}
 use Rattle.history_model.specs.Fitting.{Fits}
 use Rattle.history_model.specs.Histories.{replay}
-use Rattle.history_model.specs.Legal.{IsPrefix, AreAttemptsLegal, IsLegalHistory}
+use Rattle.history_model.specs.Legal.{IsIn, IsPrefix, AreAttemptsLegal, IsLegalHistory}
 use Rattle.history_model.specs.Locks.{lock_of_word}
 use Rattle.history_model.specs.Sets.{has, without}
 use Rattle.history_model.specs.Table.{Knows}
 use Rattle.history_model.specs.Traces.{IsLegalTrace}
 use Rattle.history_model.specs.Views.{number, HasBit, HasReadGrant, HasClaim, HasWriteGrant, IsGranted}
 use Rattle.locks_rule.specs.Actions.{Action}
-use Rattle.locks_rule.specs.Steps.{is_free, set_read_bit_action, load_writer_action, claim_writer_action, scan_row_action}
-use Rattle.values_rule.specs.Steps.{entry_of}
+use Rattle.locks_rule.specs.Steps.{is_free, set_read_bit_action, load_writer_action, claim_writer_action, scan_row_action, release_writer_action}
+use Rattle.locks_rule.specs.Versions.{locks_of, load_version_action, store_version_action}
+use Rattle.values_rule.specs.Steps.{entry_of, load_value_action}
 use Rattle.stamps_rule.specs.Steps.{judge_stamp_action, load_serial_at_yield_action, after_giving_way}
 use Rattle.word_table.specs.declared.answer.Shared.{Shared}
 use Rattle.word_table.specs.declared.answer.Shared.TheVariants as shared
@@ -29,6 +30,7 @@ use Rattle.word_table.specs.declared.answer.Scanned.TheVariants as scanned
 use Rattle.word_table.specs.declared.answer.Judged.{Judged}
 use Rattle.word_table.specs.declared.answer.Judged.TheVariants as judged
 use Rattle.word_table.specs.Kinds.{TakenIn}
+use Rattle.word_table.specs.Versions.{HasUse, locks_found}
 
 -- the call that began with the view old met another seat, i, on lock k: by a step that it took from the view asking, in
 -- a state of the table in which that seat stood on the lock
@@ -127,11 +129,50 @@ pub record ScannedBy (sound : List ℕ → List View → Type 0) (v : View) (k i
   pub met_set : (j : ℕ) → r ≡ scanned.Met j → (j ≡ i) × (bit_at found (k % 64) ≡ 1)
   pub set_met : bit_at found (k % 64) ≡ 1 → r ≡ scanned.Met i
 
+-- the version of lock k was found before in this attempt, or a step found it
+abbrev pub FindsVersion : (List ℕ → List View → Type 0) → ℕ → View → View → Type 0
+FindsVersion sound k old new =
+    (HasUse old k × (new ≡ old))
+    ⊎ ((has k (locks_found old.uses) ≡ false) × ((found : ℕ) × TakenIn sound (load_version_action (number old) k old) old found new))
+
+-- load found the version of the lock of word a, where that was its first use in the attempt, and loaded the value then
+pub record LoadedBy (sound : List ℕ → List View → Type 0) (v : View) (a r : ℕ) (w : View) : Type 0 where
+  pub between : View
+  pub finds : FindsVersion sound (lock_of_word a) v between
+  pub taken : TakenIn sound (load_value_action (number between) a between) between r w
+
+-- the uses are as before where they had one of lock k, and else they gain one
+pub record GainsUse (k : ℕ) (old new : List (ℕ × ℕ)) : Type 0 where
+  pub had : has k (locks_found old) ≡ true → new ≡ old
+  pub gained : has k (locks_found old) ≡ false → (version : ℕ) × (new ≡ old ++ (k, version) ∷ [])
+
+-- the view when no version of lock k is owed any more
+abbrev pub paid : ℕ → View → View
+paid k v = record v { owed = without k v.owed }
+
+-- the version of lock k is not owed, or 1 more than the version that the call found was stored
+abbrev pub Pays : (List ℕ → List View → Type 0) → ℕ → View → Type 0
+Pays sound k v =
+    (has k v.owed ≡ false)
+    ⊎ ((version : ℕ) × (IsIn (k, version) v.uses
+    × ((found : ℕ) × TakenIn sound (store_version_action (number v) k version v) v found (paid k v))))
+
+-- the next version of lock k was stored, where that was owed, and 0 to the writer word then
+pub record GaveUp (sound : List ℕ → List View → Type 0) (k : ℕ) (v w : View) : Type 0 where
+  pub pays : Pays sound k v
+  pub found : ℕ
+  pub taken : TakenIn sound (release_writer_action (number v) k (paid k v)) (paid k v) found w
+
 -- the call got its entry, at this place of the history from 1: behind what the pass had seen and then other seats'
 -- entries alone; and its trace is legal on the good words that these leave of the base
 pub record CommitsAt (word_count : ℕ) (good : List ℕ → Type 0) (base : List ℕ) (kept : Bool) (old new : View) (place : ℕ) : Type 0 where
   pub history : List Entry
-  pub view : new ≡ record old { seen = history ++ entry_of kept old ∷ []; undo = []; phase = Releasing }
+  pub view : new ≡ record old {
+    seen = history ++ entry_of kept old ∷ [];
+    owed = if kept then locks_of old.undo else [];
+    undo = [];
+    phase = Releasing;
+  }
   pub place_is : place ≡ length history + 1
   pub begins : IsPrefix old.seen history
   pub others : (q : ℕ) (e : Entry) → length old.seen ≤ q → slice_get history q ≡ Some e → e.who ≢ number old

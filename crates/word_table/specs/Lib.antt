@@ -1,6 +1,7 @@
 pub mod Least
 pub mod Copies
 pub mod Sound
+pub mod Versions
 pub mod Kinds
 pub mod Desks
 pub mod Notes
@@ -10,3 +11,4 @@ pub mod Unscanned
 pub mod Calls
 pub mod Runs
 pub mod Meetings
+pub mod Writes

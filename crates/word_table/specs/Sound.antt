@@ -7,12 +7,14 @@ use Rattle.locks_rule.specs.Locks.{LocksHold}
 use Rattle.values_rule.specs.Values.{ValuesHold}
 use Rattle.stamps_rule.specs.Stamps.{StampsHold}
 use Rattle.word_table.specs.declared.rule.Ground.{Ground}
+use Rattle.word_table.specs.Versions.{VersionsBounded}
 
 -- for n seats and the words base that the memory began with, of which some lists are good
 pub record IsSound (good : List ℕ → Type 0) (n : ℕ) (base words : List ℕ) (views : List View) : Type 0 where
   pub locks : LocksHold n base words views
   pub values : ValuesHold good n base words views
   pub stamps : StampsHold n words views
+  pub versions : VersionsBounded n words views
 
 -- the same, for a table that was made with this ground; word_count and good are those of its shape
 abbrev pub GroundHolds : {S : Type 0} → (S → ℕ) → (S → List ℕ → Type 0) → Ground S → List ℕ → List View → Type 0

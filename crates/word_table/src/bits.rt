@@ -1,6 +1,6 @@
 //! Sets of locks, a bit for each in sixteen words, and sets of seats, a bit for each in one word.
 
-ghost use Rattle.std.specs.Prelude.{◌≡◌, ◌<◌, ◌≤◌, ◌/◌, ◌%◌, ◌^◌, ℕ, List, ◌∷◌, true, slice_index, length, bit_and, bit_or, if◌then◌else◌};
+ghost use Rattle.std.specs.Prelude.{◌≡◌, ◌<◌, ◌≤◌, ◌/◌, ◌%◌, ◌^◌, ℕ, List, [], ◌∷◌, true, slice_index, length, bit_and, bit_or, if◌then◌else◌};
 ghost use Rattle.std.specs.Int.{bit_at, bit_not};
 ghost use mir.Syntax.{w64};
 ghost use Rattle.history_model.specs.Sets.{has, without, without_first, flag};
@@ -62,6 +62,16 @@ pub(crate) fn raise_if(row: &mut [u64; 16], lock: u32, yes: bool)
 {
     if yes {
         raise(row, lock);
+    }
+}
+
+/// All locks leave the set, unless `kept`.
+pub(crate) fn clear_unless(row: &mut [u64; 16], kept: bool)
+    ensures { (locks : List ℕ) → ShowsLocks row.old locks
+        → ShowsLocks row.new (if kept then locks else []) }
+{
+    if !kept {
+        *row = [0; 16];
     }
 }
 

@@ -17,12 +17,22 @@ pub(crate) struct CallCopy {
     pub(crate) announced: bool,
 }
 
+/// The versions: the locks whose versions the attempt found, and those that the call has written or owes, a bit for each
+/// lock, and for each lock the version that was found last.
+#[derive(Drop)]
+pub(crate) struct VersionCopy {
+    pub(crate) used: [u64; 16],
+    pub(crate) written: [u64; 16],
+    pub(crate) found: Vec<u64>,
+}
+
 /// The locks: the read bits, the read grants and the claims, a bit for each lock, and for each lock a word that has a
-/// bit for each seat that was scanned for the claim on it.
+/// bit for each seat that was scanned for the claim on it. What is known of their versions stands beside that.
 #[derive(Drop)]
 pub(crate) struct LockCopy {
     pub(crate) bits: [u64; 16],
     pub(crate) reads: [u64; 16],
     pub(crate) claims: [u64; 16],
     pub(crate) scans: Vec<u64>,
+    pub(crate) versions: VersionCopy,
 }

@@ -66,10 +66,12 @@ pub(crate) fn deal<S: Shape>(
     let mut passes = Vec::new(alloc);
     for j in 0..n - 1 {
         let scans = vec![in alloc; 0u64; LOCKS as usize]?;
+        let found = vec![in alloc; 0u64; LOCKS as usize]?;
         let own = deal_one(table, &mut seat, n, j);
-        passes.push(Pass::of(own, n, j, scans))?;
+        passes.push(Pass::of(own, n, j, scans, found))?;
     }
     let scans = vec![in alloc; 0u64; LOCKS as usize]?;
-    passes.push(Pass::of(seat, n, n - 1, scans))?;
+    let found = vec![in alloc; 0u64; LOCKS as usize]?;
+    passes.push(Pass::of(seat, n, n - 1, scans, found))?;
     Ok(passes)
 }

@@ -12,6 +12,7 @@ ghost use Rattle.word_table.specs.Kinds.{action_of, May};
 ghost use Rattle.word_table.specs.Meetings.{ClockCountsDraws, MeetsInConflict, NeverMeetsApart, OnlyDrawsMoveClock, ReadsOneState, RestartsFew, SeatsAreDealt, StampsAreKept};
 ghost use Rattle.word_table.specs.Runs.{IsOpening, IsRun, Steps};
 ghost use Rattle.word_table.specs.Sound.{IsSound};
+ghost use Rattle.word_table.specs.Writes.{HaveNoCommonWord, WritesOwnAndAsked};
 
 use crate::limits::{MOST_PASSES, MOST_WORDS};
 use history_model::Shape;
@@ -85,6 +86,15 @@ pub fn every_draw<S: Shape>()
         → ClockCountsDraws (IsGood (S.word_count shape) (S.good shape)) n base }
     ensures alone { (shape : _) (n : ℕ) (base : List ℕ)
         → OnlyDrawsMoveClock (IsGood (S.word_count shape) (S.good shape)) n base }
+{}
+
+/// Of the words that a call changes, in every state of every run: each is one of its seat's own, or one of a lock that
+/// the call asked for, or one of the two that all calls share: the clock, where the call has met another, and the
+/// number of entries (`own`). So two calls that asked for no common lock change no common word but those two (`apart`).
+pub fn every_write<S: Shape>()
+    ensures own { (shape : _) (n : ℕ) (base : List ℕ)
+        → WritesOwnAndAsked (IsGood (S.word_count shape) (S.good shape)) n base }
+    ensures apart { HaveNoCommonWord }
 {}
 
 /// Runs get to where calls begin: for every good memory and every number of seats above 0, some run comes to a state in

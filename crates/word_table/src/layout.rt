@@ -1,7 +1,7 @@
 //! Where the words of the locks stand in a table.
 
 ghost use Rattle.std.specs.Prelude.{◌≡◌, ◌<◌, ◌≤◌};
-ghost use Rattle.history_model.specs.Table.{calls_word, stamps_word, row_word, writer_word, value_word};
+ghost use Rattle.history_model.specs.Table.{calls_word, stamps_word, row_word, writer_word, version_word, value_word};
 
 use crate::copies::CallCopy;
 use crate::limits::{MOST_PASSES, MOST_WORDS};
@@ -56,6 +56,15 @@ pub(crate) fn place_of_stamp(seats: u32, seat: u32) -> usize
     ensures { result ≡ stamps_word seats seat }
 {
     (2 + seats + seat) as usize
+}
+
+/// The word that has a lock's version.
+pub(crate) fn place_of_version(seats: u32, lock: u32) -> usize
+    requires seats { seats ≤ MOST_PASSES }
+    requires lock { lock < LOCKS }
+    ensures { result ≡ version_word seats lock }
+{
+    2 + 19 * seats as usize + LOCKS as usize + lock as usize
 }
 
 /// The word that has a value of the memory.

@@ -2,27 +2,31 @@
 //!
 //! The copies have a fixed size, which `Desk::new` makes. The rest of what a pass knows is its view, which exists in
 //! contracts alone. What a pass tells stands here; its steps stand in modules of their own, by what they are on: locks,
-//! values, the clock, and notes.
+//! versions, values, the clock, and notes.
 
-ghost use Rattle.std.specs.Prelude.{◌≡◌, ◌↔◌, ◌<◌, ◌≤◌, ◌+◌, true, IsTrue, IfSome, IsNone, length, [], ◌∷◌, replicate};
+ghost use Rattle.std.specs.Prelude.{◌≡◌, ◌↔◌, ◌⊎◌, ◌<◌, ◌≤◌, ◌+◌, true, IsTrue, IfSome, IsNone, length, [], ◌∷◌, replicate, ℕ};
+ghost use Rattle.history_model.specs.Legal.{IsIn};
 ghost use Rattle.history_model.specs.Sets.{has};
 ghost use Rattle.history_model.specs.Table.{table_words};
 ghost use Rattle.history_model.specs.Views.{number, HasBit, HasReadGrant, HasClaim, HasWriteGrant, IsGranted};
 ghost use Rattle.locks_rule.specs.Splits.{opening_view};
+ghost use Rattle.locks_rule.specs.Versions.{locks_of};
 ghost use Rattle.word_table.specs.Copies.{HoldsNothing};
 ghost use Rattle.word_table.specs.Least.{IsLeast};
 ghost use Rattle.word_table.specs.Unscanned.{IsUnscanned};
+ghost use Rattle.word_table.specs.Versions.{HasUse};
 
 mod clock;
 mod locks;
 mod notes;
 mod values;
+mod versions;
 
 use crate::bits;
-use crate::copies::{CallCopy, LockCopy};
+use crate::copies::{CallCopy, LockCopy, VersionCopy};
 use crate::limits::{LAST_CALL, MOST_PASSES, MOST_WORDS};
 use atomic_table::Seat;
-use history_model::{LOCKS, Phase, Shape, View};
+use history_model::{LOCKS, LockUse, Phase, Shape, View};
 use std::marker::{Model, PhantomData};
 
 /// One caller's seat at a desk. A thread steps with its own pass, which no other thread has.
@@ -46,12 +50,19 @@ impl<S> Model for Pass<S> {
 
 impl<S: Shape> Pass<S> {
     // A pass that has done nothing.
-    pub(crate) fn of(seat: Seat<(), View>, seats: u32, who: u32, scans: Vec<u64>) -> Pass<S>
+    pub(crate) fn of(
+        seat: Seat<(), View>,
+        seats: u32,
+        who: u32,
+        scans: Vec<u64>,
+        found: Vec<u64>,
+    ) -> Pass<S>
         requires seat { seat.me ≡ (opening_view seat.me.0.base seats (who ∷ []) [], []) }
         requires counts { (who < seats) × (seats ≤ MOST_PASSES)
             × (length seat.me.0.base ≤ MOST_WORDS) }
         requires table { seat.table_id.words ≡ table_words seats (length seat.me.0.base) }
         requires scans { scans.items ≡ replicate LOCKS 0 }
+        requires found { found.items ≡ replicate LOCKS 0 }
         ensures table { result.table ≡ seat.table_id }
         ensures view { result.view ≡ opening_view seat.me.0.base seats (who ∷ []) [] }
     {
@@ -71,6 +82,11 @@ impl<S: Shape> Pass<S> {
             reads: [0; 16],
             claims: [0; 16],
             scans,
+            versions: VersionCopy {
+                used: [0; 16],
+                written: [0; 16],
+                found,
+            },
         };
         Pass {
             seat,
@@ -189,6 +205,40 @@ impl<S: Shape> Pass<S> {
             return true;
         }
         self.has_write(k)
+    }
+
+    /// What the attempt used of the lock: the version that it found there, and whether it has written a word of it. There
+    /// is none where the attempt did nothing to a word of the lock. It takes no memory.
+    pub fn use_of(&self, k: u32) -> Option<LockUse>
+        requires { (self.now.view.phase ≡ Phase.Running)
+            ⊎ ((self.now.view.phase ≡ Phase.Withdrawing) × (self.now.view.undo ≡ [])) }
+        ensures none { IsNone result ↔ ¬ HasUse self.now.view k }
+        ensures found { IfSome result
+            (λ used. (used.lock ≡ k) × IsIn (k, used.version) self.now.view.uses) }
+        ensures once { IfSome result
+            (λ used. (x : ℕ) → IsIn (k, x) self.now.view.uses → x ≡ used.version) }
+        ensures wrote { IfSome result (λ used. used.wrote ≡ has k (locks_of self.now.view.undo)) }
+    {
+        if u64::from(k) >= LOCKS || !bits::test(&self.locks.versions.used, k) {
+            return None;
+        }
+        Some(LockUse {
+            lock: k,
+            version: self.locks.versions.found[k as usize],
+            wrote: bits::test(&self.locks.versions.written, k),
+        })
+    }
+
+    /// The least lock from `from` on that the attempt has used. So who lists all uses goes on behind the last one.
+    pub fn next_use_from(&self, from: u32) -> Option<u32>
+        ensures least { IsLeast (λ k. (from ≤ k) × HasUse self.now.view k) result }
+        ensures lock { IfSome result (λ k. k < LOCKS) }
+    {
+        let used = &self.locks.versions.used;
+        if u64::from(from) >= LOCKS {
+            return None;
+        }
+        bits::least_from(used, from)
     }
 
     /// The least lock that the pass claims.

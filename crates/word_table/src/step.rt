@@ -58,6 +58,10 @@ pub enum Step {
     LoadSerialAtYield { seat: u32 },
     /// The timestamp of the attempt's cause is loaded, which showed this one.
     LoadCauseStamp { seat: u32, other: u32, stamp: u64 },
+    /// The version of a lock that is held is loaded, at the attempt's first use of the lock.
+    LoadVersion { seat: u32, lock: u32 },
+    /// 1 more than the version that the call found of the lock is stored.
+    StoreVersion { seat: u32, lock: u32, found: u64 },
 }
 
 /// The kind of a step, and the rule that a step of it tells of. A call picks both for its proof.

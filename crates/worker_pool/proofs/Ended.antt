@@ -8,12 +8,14 @@ use Rattle.std.proofs.lemmas.List.FromFn.{get_or-range_with_len, length-range_wi
 use Rattle.std.proofs.lemmas.List.Folds.{flat_map-map}
 use mathlib.Core.List.{map-map}
 use Rattle.std.proofs.lemmas.Option.{get_or_from_slice_get, slice_get-get_or, slice_get_within}
+use Rattle.history_model.specs.Fitting.{IsGood}
 use Rattle.history_model.specs.Histories.{replay}
 use Rattle.history_model.specs.Legal.{IsIn, IsPrefix, IsLegalHistory}
 use Rattle.books_model.specs.Laws.{RefusedChangesNothing}
 use Rattle.script_reader.specs.Input.{ClearingInput}
 use Rattle.txn_books.specs.declared.shape.BooksShape.{BooksShape}
-use Rattle.txn_books.specs.Standing.{Stands}
+use Rattle.txn_books.specs.Layout.{words_of}
+use Rattle.txn_books.specs.Standing.{IsGoodFor, Stands}
 use Rattle.word_table.specs.Closing.{AreAllPasses, AreOwnersAmong, ClosedView}
 use Rattle.word_table.specs.Copies.{PassView}
 use Rattle.word_table.specs.Desks.{DeskView}
@@ -82,20 +84,21 @@ module _ (desk : DeskView BooksShape) (input : ClearingInput) (shares : List Sha
       some_worker : (pass : PassView) → IsIn pass (map pass_of ws) → Tally
       some_worker pass (k, is) = first_of ws k (omega (arith, slice_get_within (map pass_of ws) k pass is, length-map ws pass_of))
 
-  pub day_of_all : (good : List ℕ → Type 0) (passes : List PassView) (gathered done : List Done) (closed : ClosedView BooksShape)
+  pub day_of_all : (passes : List PassView) (gathered done : List Done) (closed : ClosedView BooksShape)
       → passes ≡ map share_pass shares → gathered ≡ flat_map share_items shares
       → (closed.base ≡ desk.base) → (closed.seats ≡ desk.seats) → (closed.shape ≡ desk.shape)
-      → IsLegalHistory good desk.seats desk.base closed.history → closed.words ≡ replay desk.base closed.history
+      → IsGood (words_of desk.shape) (IsGoodFor desk.shape) desk.base
+      → IsLegalHistory (IsGood (words_of desk.shape) (IsGoodFor desk.shape)) desk.seats desk.base closed.history → closed.words ≡ replay desk.base closed.history
       → ((pass : PassView) → IsIn pass passes → IsPrefix pass.view.seen closed.history) → AreOwnersAmong passes closed.history
       → RefusedChangesNothing → Stands desk.shape desk.base input.books
       → IsPermutation gathered done → IsNonDecreasingBy serial_of done → IsDay input closed done
-  day_of_all good passes gathered done closed are gathered_are base seats shape legal words seen owners refused opening moved up =
+  day_of_all passes gathered done closed are gathered_are base seats shape begun legal words seen owners refused opening moved up =
       let passes_are = its_passes passes are in
       let items_are : gathered ≡ flat_map items_of ws = gathered_are ∙ ap (flat_map share_items) (sym all.are) ∙ flat_map-map share_items share_of ws in
       let day = day_is desk input closed.history ws all_worked numbers
       (λ pass at. seen pass (subst (λ l. IsIn pass l) (sym passes_are) at))
       (subst (λ l. AreOwnersAmong l closed.history) passes_are owners)
-      good legal all.once refused opening done
+      legal all.once refused begun opening done
       (subst (λ l. IsPermutation l done) items_are moved) up closed.words words in
       subst (λ (c : ClosedView BooksShape). IsDay input c done)
       (λ i. record { base = sym base i; seats = sym seats i; shape = sym shape i; history = closed.history; words = closed.words }) day

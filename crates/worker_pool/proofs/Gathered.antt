@@ -16,6 +16,7 @@ use Rattle.std.proofs.lemmas.Bool.Decides.{nat_tests}
 use mathlib.Core.Logic.{dite}
 use native.Mathlib.Decide.{dec_le}
 use Rattle.history_model.specs.declared.entry.Entry.{Entry}
+use Rattle.history_model.specs.Fitting.{IsGood}
 use Rattle.history_model.specs.Histories.{replay}
 use Rattle.history_model.specs.Legal.{IsIn, IsPrefix, IsLegalHistory}
 use Rattle.books_model.specs.Laws.{RefusedChangesNothing}
@@ -23,7 +24,8 @@ use Rattle.script_reader.specs.Input.{ClearingInput}
 use Rattle.script_reader.specs.Journal.{Place, IsPlace, IsJournal}
 use Rattle.books_report.specs.Output.{replies_of, books_after}
 use Rattle.txn_books.specs.declared.shape.BooksShape.{BooksShape}
-use Rattle.txn_books.specs.Standing.{Stands}
+use Rattle.txn_books.specs.Layout.{words_of}
+use Rattle.txn_books.specs.Standing.{IsGoodFor, Stands}
 use Rattle.txn_commit.specs.Transactions.{GainsOthers}
 use Rattle.txn_commit.proofs.Others.{gains_history}
 use Rattle.word_table.specs.Closing.{AreOwnersAmong, ClosedView}
@@ -38,7 +40,7 @@ use Rattle.worker_pool.proofs.Serials.{serials-append, serials-others, serials_r
 use Rattle.worker_pool.proofs.Making.{made_stays}
 use Rattle.worker_pool.proofs.Orders.{in_order}
 use Rattle.worker_pool.proofs.Running.{among_had, one_if}
-use Rattle.worker_pool.proofs.Replayed.{as_many, entries_of, runs_to, RunsTo}
+use Rattle.worker_pool.proofs.Replayed.{beside, entries_of, legal_down, runs_to, AreMadeBy, RunsTo}
 
 abbrev pub items_of : Tally → List Done
 items_of tally = tally.share.done.items
@@ -195,7 +197,7 @@ module _ (old new : List Done) (moved : IsPermutation old new) (n : ℕ) (serial
 module _ (desk : DeskView BooksShape) (input : ClearingInput) (history : List Entry) (ws : List Tally)
     (worked : All (IsDone desk input) ws) (numbers : map tally_number ws ≡ range_with_len 0 desk.seats)
     (seen : (pass : PassView) → IsIn pass (map pass_of ws) → IsPrefix pass.view.seen history) (owners : AreOwnersAmong (map pass_of ws) history)
-    (good : List ℕ → Type 0) (legal : IsLegalHistory good desk.seats desk.base history) where
+    (legal : IsLegalHistory (IsGood (words_of desk.shape) (IsGoodFor desk.shape)) desk.seats desk.base history) where
   number_at : (k : ℕ) (d : Tally) → k < length ws → tally_number (get_or ws k d) ≡ k
   number_at k d lt =
       let long : length ws ≡ desk.seats = sym (length-map ws tally_number) ∙ ap length numbers ∙ length-range_with_len 0 desk.seats in
@@ -253,10 +255,10 @@ module _ (desk : DeskView BooksShape) (input : ClearingInput) (history : List En
       sum_over m serial_of all_items ∙ counted_by (λ item. m (serial_of item)) items_of ws ∙ sum_alike by_worker (λ w. by_seat (tally_number w)) ws each
       ∙ sym (sum_over by_seat tally_number ws) ∙ ap (sum_by by_seat) numbers ∙ serials_sum m 1 history (range_with_len 0 desk.seats) each_seat_once
 
-  made_all : All (IsMade desk input history) all_items
-  made_all = all_flat (IsMade desk input history) items_of ws (λ k d lt.
+  made_all : All (IsMade desk.shape input history) all_items
+  made_all = all_flat (IsMade desk.shape input history) items_of ws (λ k d lt.
       let w : Tally = get_or ws k d in
-      All-weaker (IsMade desk input w.share.pass.view.seen) (IsMade desk input history) (λ item made.
+      All-weaker (IsMade desk.shape input w.share.pass.view.seen) (IsMade desk.shape input history) (λ item made.
       made_stays desk input w.share.pass.view.seen history (seen w.share.pass (pass_in k d lt)) item made) w.share.done.items (worked k d lt).made.made)
 
   below_all : All (λ (item : Done). item.restarts < desk.seats) all_items
@@ -297,7 +299,8 @@ module _ (desk : DeskView BooksShape) (input : ClearingInput) (history : List En
         below_one : (x : ℕ) → once_below x (length input.callers) ≤ 1
         below_one x = grind arith
 
-    module _ (refused : RefusedChangesNothing) (opening : Stands desk.shape desk.base input.books) (done : List Done)
+    module _ (refused : RefusedChangesNothing) (begun : IsGood (words_of desk.shape) (IsGoodFor desk.shape) desk.base)
+        (opening : Stands desk.shape desk.base input.books) (done : List Done)
         (moved : IsPermutation all_items done) (up : IsNonDecreasingBy serial_of done) where
       serials_sorted : map serial_of done ≡ range_with_len 1 (length history)
       serials_sorted = in_order serial_of 1 (length history) done up (λ x.
@@ -305,8 +308,8 @@ module _ (desk : DeskView BooksShape) (input : ClearingInput) (history : List En
           (IsPermutation-map serial_of all_items done moved)
           ∙ sum_serials (λ (y : ℕ). if y == x then 1 else 0))
 
-      made_sorted : All (IsMade desk input history) done
-      made_sorted = All-permutation (IsMade desk input history) all_items done moved made_all
+      made_sorted : All (IsMade desk.shape input history) done
+      made_sorted = All-permutation (IsMade desk.shape input history) all_items done moved made_all
 
       journal_sorted : IsJournal input (places_of_items done)
       journal_sorted = record {
@@ -323,16 +326,18 @@ module _ (desk : DeskView BooksShape) (input : ClearingInput) (history : List En
       pub day_is : (words : List ℕ) → words ≡ replay desk.base history → IsDay input (closed_as words) done
       day_is words left =
           let n : ℕ = length done in
-          let to : (k : ℕ) → k ≤ n → RunsTo desk input history done k = runs_to refused desk input history done opening serials_sorted made_sorted in
+          let made_by : AreMadeBy desk.shape input history done = beside desk.shape input history done serials_sorted made_sorted in
+          let to : (k : ℕ) → k ≤ n → RunsTo desk.shape desk.base input history done k = runs_to refused desk.shape desk.base input history done opening
+          (legal_down (IsGood (words_of desk.shape) (IsGoodFor desk.shape)) desk.seats desk.base history begun legal) made_by in
           let whole : take n done ≡ done = take_all n done (omega arith) in
           let seen_all : take n history ≡ history =
-          take_all n history (omega (arith, as_many refused desk input history done opening serials_sorted made_sorted)) in
+          take_all n history (omega (arith, made_by.as_many)) in
           let end = to n (omega arith) in
           let at_end : Stands desk.shape (replay desk.base history) (books_after input input.books (places_of_items done)) =
           subst (λ (h : List Entry). Stands desk.shape (replay desk.base h) (books_after input input.books (places_of_items done))) seen_all
           (subst (λ (l : List Done). Stands desk.shape (replay desk.base (take n history)) (books_after input input.books (places_of_items l))) whole end.stands) in
           record {
-            entries = entries_of refused desk input history done opening serials_sorted made_sorted;
+            entries = entries_of desk.shape input history done serials_sorted made_sorted;
             journal = journal_sorted;
             below = All-permutation (λ (item : Done). item.restarts < desk.seats) all_items done moved below_all;
             replies = subst (λ (l : List Done). map (λ (item : Done). item.reply) l ≡ replies_of input input.books (places_of_items l)) whole end.replies;

@@ -30,7 +30,7 @@ pub mod Orders
 pub mod Making
 -- one script more of a caller, and one caller more
 pub mod Running
--- items in the order of their serials
+-- items in an order, each beside its entry
 pub mod Replayed
 -- what all workers did, put together: the day
 pub mod Gathered

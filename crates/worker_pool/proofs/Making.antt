@@ -1,19 +1,20 @@
 -- A call of a pass, and its item.
-use Rattle.std.proofs.Common.{◌≡◌, ℕ, ◌+◌, ◌<◌, List, [], ◌∷◌, ◌++◌, All, map, length, take, slice_get, sym, ap, ◌∙◌, subst, arith, length-append, append_assoc}
-use Rattle.std.proofs.lemmas.List.{map_push, take-append-le}
+use Rattle.std.proofs.Common.{◌≡◌, ℕ, ◌+◌, ◌<◌, List, [], ◌∷◌, ◌++◌, All, map, length, slice_get, sym, ap, ◌∙◌, subst, arith, length-append, append_assoc}
+use Rattle.std.proofs.lemmas.List.{map_push}
 use Rattle.std.proofs.lemmas.List.Elements.{All-nil, All-push, All-weaker}
 use Rattle.std.proofs.lemmas.Option.{slice_get_within}
-use Rattle.std.proofs.Math.Seq.{take-append_seam}
 use Rattle.history_model.specs.declared.entry.Entry.{Entry}
 use Rattle.history_model.specs.declared.view.Phase.TheVariants.{Idle}
-use Rattle.history_model.specs.Histories.{replay}
+use Rattle.history_model.specs.Fitting.{IsGood}
 use Rattle.history_model.specs.Legal.{IsPrefix}
 use Rattle.history_model.specs.Traces.{after}
 use Rattle.history_model.specs.Views.{number}
 use Rattle.history_model.proofs.ListPlaces.{get_first, get_last}
 use Rattle.script_reader.specs.Input.{ClearingInput, script_at}
 use Rattle.txn_books.specs.declared.shape.BooksShape.{BooksShape}
+use Rattle.txn_books.specs.Layout.{words_of}
 use Rattle.txn_books.specs.Meaning.{ScriptMeans}
+use Rattle.txn_books.specs.Standing.{IsGoodFor}
 use Rattle.txn_commit.specs.declared.transaction.Receipt.{Receipt}
 use Rattle.txn_commit.specs.Transactions.{GetsEntry}
 use Rattle.books_model.specs.declared.reply.Reply.{Reply}
@@ -25,18 +26,16 @@ use Rattle.worker_pool.proofs.Serials.{serials-gain}
 
 module _ (desk : DeskView BooksShape) (input : ClearingInput) where
   -- an item's entry stays where it is when more is seen
-  pub made_stays : (seen longer : List Entry) → IsPrefix seen longer → (item : Done) → IsMade desk input seen item → IsMade desk input longer item
+  pub made_stays : (seen longer : List Entry) → IsPrefix seen longer → (item : Done)
+      → IsMade desk.shape input seen item → IsMade desk.shape input longer item
   made_stays seen longer (more, is) item m =
       let within : m.place < length seen = slice_get_within seen m.place m.entry m.stands_at in
-      let before : take m.place longer ≡ take m.place seen = ap (take m.place) is ∙ take-append-le m.place seen more (omega (arith, within)) in
       record {
         place = m.place;
         entry = m.entry;
         serial_is = m.serial_is;
         stands_at = ap (λ l. slice_get l m.place) is ∙ get_first seen more m.place within ∙ m.stands_at;
-        is_of = m.is_of;
-        meaning = subst (λ (l : List Entry). ScriptMeans desk.shape (script_at input item.caller item.index)
-            (replay desk.base l) m.entry.kept item.reply (after m.entry.trace (replay desk.base l))) (sym before) m.meaning;
+        made_by = m.made_by;
       }
 
   -- the item is what the receipt says of a call
@@ -48,28 +47,27 @@ module _ (desk : DeskView BooksShape) (input : ClearingInput) where
     pub reply : item.reply ≡ receipt.answer
 
   module _ (who call : ℕ) (old new : List Entry) (receipt : Receipt Reply) (item : Done)
-      (gets : GetsEntry desk.base (ScriptMeans desk.shape (script_at input item.caller item.index)) who call old new
-      receipt) (its : IsReceipted who receipt item) where
-    made_now : IsMade desk input new item
+      (gets : GetsEntry (IsGood (words_of desk.shape) (IsGoodFor desk.shape)) desk.base
+      (ScriptMeans desk.shape (script_at input item.caller item.index)) who call old new receipt) (its : IsReceipted who receipt item) where
+    made_now : IsMade desk.shape input new item
     made_now =
         let before : List Entry = old ++ gets.others in
         let long : length new ≡ length before + 1 = ap length gets.seen ∙ length-append before (gets.entry ∷ []) in
-        let taken : take (length before) new ≡ before = ap (take (length before)) gets.seen ∙ take-append_seam before (gets.entry ∷ []) in
-        let Means : List Entry → Reply → Type 0 =
-        λ l r. ScriptMeans desk.shape (script_at input item.caller item.index) (replay desk.base l) gets.entry.kept
-        r (after gets.entry.trace (replay desk.base l)) in
         record {
           place = length before;
           entry = gets.entry;
           serial_is = its.serial ∙ gets.serial_is ∙ long;
           stands_at = ap (λ l. slice_get l (length before)) gets.seen ∙ get_last before gets.entry;
-          is_of = record {
-            seat_is = gets.made_by ∙ sym its.seat;
-            call_is = gets.call_is.0 ∙ sym gets.call_is.1
-                ∙ sym its.call;
-            restarts_are = sym gets.restarts_are ∙ sym its.restarts;
+          made_by = record {
+            is_of = record {
+              seat_is = gets.made_by ∙ sym its.seat;
+              call_is = gets.call_is.0 ∙ sym gets.call_is.1 ∙ sym its.call;
+              restarts_are = sym gets.restarts_are ∙ sym its.restarts;
+            };
+            meaning = λ s good legal.
+                subst (λ (r : Reply). ScriptMeans desk.shape (script_at input item.caller item.index) s gets.entry.kept
+                r (after gets.entry.trace s)) (sym its.reply) (gets.anywhere s good legal);
           };
-          meaning = subst (λ (l : List Entry). Means l item.reply) (sym taken) (subst (λ (r : Reply). Means before r) (sym its.reply) gets.meaning);
         }
 
     longer : IsPrefix old new
@@ -91,11 +89,11 @@ module _ (desk : DeskView BooksShape) (input : ClearingInput) where
               ∙ ap (λ n. map (λ (x : Done). x.serial) done ++ n ∷ []) item_serial
               ∙ ap (λ l. l ++ length ((old ++ gets.others) ++ gets.entry ∷ []) ∷ []) (h.serials ∙ ap (serials_by who 1) was)
               ∙ sym (serials-gain who old gets.others gets.entry gets.by_others gets.made_by) ∙ ap (serials_by who 1) (sym gets.seen ∙ sym now);
-          made = subst (λ (l : List Done). All (IsMade desk input next.view.seen) l) (sym is)
-              (subst (λ (s : List Entry). All (IsMade desk input s) (done ++ item ∷ [])) (sym now)
-              (All-push (IsMade desk input new) done item
-              (All-weaker (IsMade desk input old) (IsMade desk input new) (λ x m. made_stays old new longer x m) done
-              (subst (λ (s : List Entry). All (IsMade desk input s) done) was h.made)) made_now));
+          made = subst (λ (l : List Done). All (IsMade desk.shape input next.view.seen) l) (sym is)
+              (subst (λ (s : List Entry). All (IsMade desk.shape input s) (done ++ item ∷ [])) (sym now)
+              (All-push (IsMade desk.shape input new) done item
+              (All-weaker (IsMade desk.shape input old) (IsMade desk.shape input new) (λ x m. made_stays old new longer x m) done
+              (subst (λ (s : List Entry). All (IsMade desk.shape input s) done) was h.made)) made_now));
           below = subst (λ (l : List Done). All (λ x. x.restarts < desk.seats) l) (sym is)
               (All-push (λ (x : Done). x.restarts < desk.seats) done item h.below few);
         }
@@ -111,6 +109,6 @@ module _ (desk : DeskView BooksShape) (input : ClearingInput) where
     calls = calls ∙ sym (ap length is);
     seats = subst (λ (l : List Done). All (λ x. x.seat ≡ who) l) (sym is) (All-nil (λ (x : Done). x.seat ≡ who));
     serials = ap (map (λ (x : Done). x.serial)) is ∙ sym (ap (serials_by who 1) seen);
-    made = subst (λ (l : List Done). All (IsMade desk input pass.view.seen) l) (sym is) (All-nil (IsMade desk input pass.view.seen));
+    made = subst (λ (l : List Done). All (IsMade desk.shape input pass.view.seen) l) (sym is) (All-nil (IsMade desk.shape input pass.view.seen));
     below = subst (λ (l : List Done). All (λ x. x.restarts < desk.seats) l) (sym is) (All-nil (λ (x : Done). x.restarts < desk.seats));
   }

@@ -1,15 +1,17 @@
--- Items in the order of their serials: the interpreter, run down them, replies what they reply, and leaves the books for
--- which the words stand that the history leaves.
+-- Items in an order, each beside its entry: the interpreter, run down them, replies what they reply, and leaves the books
+-- for which the words stand that the entries leave.
 use Rattle.std.proofs.Common.{◌≡◌, ◌≢◌, ℕ, zero, suc, ◌+◌, ◌<◌, ◌≤◌, Bool, true, false, List, [], ◌∷◌, ◌++◌, All, map, length, take, get_or, slice_get, Some}
 use Rattle.std.proofs.Common.{refl, sym, ap, ◌∙◌, subst, arith, true≢false}
 use Rattle.std.specs.List.{range_with_len}
 use Rattle.std.proofs.lemmas.List.{take_more, map_push, length-map, get_or-map}
 use Rattle.std.proofs.lemmas.List.FromFn.{get_or-range_with_len, length-range_with_len}
-use Rattle.std.proofs.lemmas.Option.{get_or_from_slice_get, slice_get_within}
+use Rattle.std.proofs.lemmas.Option.{get_or_from_slice_get, slice_get-get_or, slice_get_within}
 use Rattle.history_model.specs.declared.entry.Entry.{Entry}
 use Rattle.history_model.specs.Histories.{replay}
-use Rattle.history_model.specs.Traces.{after}
-use Rattle.history_model.proofs.Histories.HistoryLaws.{replay_nothing}
+use Rattle.history_model.specs.Fitting.{IsGood}
+use Rattle.history_model.specs.Legal.{IsLegalHistory}
+use Rattle.history_model.specs.Traces.{IsLegalTrace, after}
+use Rattle.history_model.proofs.Histories.HistoryLaws.{prefixes_leave_good, replay_nothing}
 use Rattle.history_model.proofs.Histories.ReplayLaws.{replay_kept, replay_reverted}
 use Rattle.books_model.specs.declared.reply.Reply.{Reply}
 use Rattle.books_model.specs.declared.reply.Value.{Value}
@@ -23,12 +25,12 @@ use Rattle.script_reader.specs.Journal.{Place}
 use Rattle.books_report.specs.Output.{reply_to, books_left, replies_of, books_after}
 use Rattle.books_report.proofs.Order.Turns.{books_after-push}
 use Rattle.txn_books.specs.declared.shape.BooksShape.{BooksShape}
-use Rattle.txn_books.specs.Standing.{Stands}
+use Rattle.txn_books.specs.Layout.{words_of}
+use Rattle.txn_books.specs.Standing.{IsGoodFor, Stands}
 use Rattle.txn_books.specs.Meaning.{is_done, ScriptMeans}
-use Rattle.word_table.specs.Desks.{DeskView}
 use Rattle.worker_pool.specs.declared.done.Done.{Done}
-use Rattle.worker_pool.specs.Days.{place_of_item, places_of_items, IsEntryOf, AreEntriesOf}
-use Rattle.worker_pool.specs.Inner.Makers.{IsMade}
+use Rattle.worker_pool.specs.Days.{place_of_item, places_of_items, AreEntriesOf}
+use Rattle.worker_pool.specs.Inner.Makers.{IsMade, IsMadeBy}
 
 -- the replies with one more script
 pub replies_of-push : (input : ClearingInput) (books : ClearingBooks) (places : List Place) (p : Place)
@@ -55,65 +57,56 @@ after_one refused shape base entries e script answer books means stands = by_kep
         subst (λ (b : ClearingBooks). Stands shape (replay base (entries ++ e ∷ [])) b) (sym same)
         (subst (λ words. Stands shape words books) (sym (replay_reverted base entries e kept)) stands)
 
+-- down the entries each trace is legal on what those before it leave, and that is good
+pub record IsLegalDown (good : List ℕ → Type 0) (base : List ℕ) (entries : List Entry) : Type 0 where
+  pub trace_legal : (k : ℕ) (e : Entry) → slice_get entries k ≡ Some e → IsLegalTrace e.trace (replay base (take k entries))
+  pub good_before : (k : ℕ) → good (replay base (take k entries))
+
+-- so it is down a legal history
+pub legal_down : (good : List ℕ → Type 0) (n : ℕ) (base : List ℕ) (history : List Entry) → good base
+    → IsLegalHistory good n base history → IsLegalDown good base history
+legal_down good n base history begun legal = record {
+  trace_legal = λ k e at. (legal.at k e at).trace_legal;
+  good_before = prefixes_leave_good good n base history begun legal;
+}
+
+-- each item was made by the entry beside it
+pub record AreMadeBy (shape : BooksShape) (input : ClearingInput) (entries : List Entry) (done : List Done) : Type 0 where
+  pub as_many : length done ≡ length entries
+  pub each : (k : ℕ) (item : Done) (entry : Entry) → slice_get done k ≡ Some item → slice_get entries k ≡ Some entry
+      → IsMadeBy shape input entry item
+
 -- the first items, as far as a place
-pub record RunsTo (desk : DeskView BooksShape) (input : ClearingInput) (history : List Entry) (done : List Done) (k : ℕ) : Type 0 where
+pub record RunsTo (shape : BooksShape) (base : List ℕ) (input : ClearingInput) (entries : List Entry) (done : List Done) (k : ℕ) : Type 0 where
   pub replies : map (λ (item : Done). item.reply) (take k done) ≡ replies_of input input.books (places_of_items (take k done))
-  pub stands : Stands desk.shape (replay desk.base (take k history)) (books_after input input.books (places_of_items (take k done)))
+  pub stands : Stands shape (replay base (take k entries)) (books_after input input.books (places_of_items (take k done)))
 
-module _ (refused : RefusedChangesNothing) (desk : DeskView BooksShape) (input : ClearingInput) (history : List Entry) (done : List Done)
-    (opening : Stands desk.shape desk.base input.books)
-    (serials : map (λ (item : Done). item.serial) done ≡ range_with_len 1 (length history))
-    (made : All (IsMade desk input history) done) where
-  pub as_many : length done ≡ length history
-  as_many = sym (length-map done (λ (item : Done). item.serial)) ∙ ap length serials ∙ length-range_with_len 1 (length history)
+first_of : {X : Type 0} (xs : List X) → 0 < length xs → X
+first_of [] lt = absurd (omega arith)
+first_of (x ∷ xs) lt = x
 
-  pub serial_at : (k : ℕ) (d : Done) → k < length done → (get_or done k d).serial ≡ 1 + k
-  serial_at k d lt = sym (get_or-map (λ (item : Done). item.serial) done k d d.serial lt)
-      ∙ ap (λ l. get_or l k d.serial) serials ∙ get_or-range_with_len 1 (length history) k d.serial (omega (arith, as_many, lt))
-
-  pub place_at : (k : ℕ) (d : Done) (lt : k < length done) → (made k d lt).place ≡ k
-  place_at k d lt = omega (arith, (made k d lt).serial_is, serial_at k d lt)
-
-  pub entry_at : (k : ℕ) (d : Done) (lt : k < length done) → slice_get history k ≡ Some (made k d lt).entry
-  entry_at k d lt = subst (λ p. slice_get history p ≡ Some (made k d lt).entry) (place_at k d lt) (made k d lt).stands_at
-
-  pub entries_of : AreEntriesOf done history
-  entries_of = record {
-    serials = serials;
-    each = λ k item entry at entry_is.
-        let lt : k < length done = slice_get_within done k item at in
-        let same : get_or done k item ≡ item = get_or_from_slice_get done k item item at in
-        let found : Some (made k item lt).entry ≡ Some entry = sym (entry_at k item lt) ∙ entry_is in
-        let its : (made k item lt).entry ≡ entry = cc in
-        subst (λ (x : Done). IsEntryOf x entry) same (subst (λ (e : Entry). IsEntryOf (get_or done k item) e) its (made k item lt).is_of);
-  }
-
-  pub runs_to : (k : ℕ) → k ≤ length done → RunsTo desk input history done k
-  runs_to zero le = record { replies = refl; stands = subst (λ words. Stands desk.shape words input.books) (sym (replay_nothing desk.base)) opening }
-  runs_to (suc k) le = one (runs_to k (omega arith)) (last_of done (omega arith))
+module _ (refused : RefusedChangesNothing) (shape : BooksShape) (base : List ℕ) (input : ClearingInput) (entries : List Entry) (done : List Done)
+    (opening : Stands shape base input.books) (legal : IsLegalDown (IsGood (words_of shape) (IsGoodFor shape)) base entries)
+    (made : AreMadeBy shape input entries done) where
+  pub runs_to : (k : ℕ) → k ≤ length done → RunsTo shape base input entries done k
+  runs_to zero le = record { replies = refl; stands = subst (λ words. Stands shape words input.books) (sym (replay_nothing base)) opening }
+  runs_to (suc k) le = one (runs_to k (omega arith)) (first_of done (omega arith)) (first_of entries (omega (arith, made.as_many)))
     where
-      last_of : (xs : List Done) → 0 < length xs → Done
-      last_of [] lt = absurd (omega arith)
-      last_of (x ∷ xs) lt = x
-
-      one : RunsTo desk input history done k → Done → RunsTo desk input history done (suc k)
-      one prev d =
+      one : RunsTo shape base input entries done k → Done → Entry → RunsTo shape base input entries done (suc k)
+      one prev d f =
           let lt : k < length done = omega arith in
+          let long : k < length entries = omega (arith, made.as_many, lt) in
           let x : Done = get_or done k d in
-          let m = made k d lt in
+          let e : Entry = get_or entries k f in
+          let beside : slice_get entries k ≡ Some e = slice_get-get_or entries k f long in
           let books : ClearingBooks = books_after input input.books (places_of_items (take k done)) in
           let script = script_at input x.caller x.index in
-          let here = place_at k d lt in
-          let means : ScriptMeans desk.shape script (replay desk.base (take k history)) m.entry.kept x.reply
-          (after m.entry.trace (replay desk.base (take k history))) =
-          subst (λ p. ScriptMeans desk.shape script (replay desk.base (take p history)) m.entry.kept x.reply
-          (after m.entry.trace (replay desk.base (take p history)))) here m.meaning in
+          let means : ScriptMeans shape script (replay base (take k entries)) e.kept x.reply (after e.trace (replay base (take k entries))) =
+          (made.each k x e (slice_get-get_or done k d lt) beside).meaning (replay base (take k entries))
+          (legal.good_before k) (legal.trace_legal k e beside) in
           let next : suc k ≡ k + 1 = omega arith in
           let taken : take (suc k) done ≡ take k done ++ x ∷ [] = ap (λ n. take n done) next ∙ take_more done k d lt in
-          let long : k < length history = omega (arith, as_many, lt) in
-          let entry : get_or history k m.entry ≡ m.entry = get_or_from_slice_get history k m.entry m.entry (entry_at k d lt) in
-          let seen : take (suc k) history ≡ take k history ++ m.entry ∷ [] = ap (λ n. take n history) next
-          ∙ take_more history k m.entry long ∙ ap (λ e. take k history ++ e ∷ []) entry in
+          let left_by : take (suc k) entries ≡ take k entries ++ e ∷ [] = ap (λ n. take n entries) next ∙ take_more entries k f long in
           let places : places_of_items (take (suc k) done) ≡ places_of_items (take k done) ++ place_of_item x ∷ [] = ap places_of_items taken ∙ map_push place_of_item (take k done) x in
           let left : books_after input input.books (places_of_items (take (suc k) done)) ≡ (outcome_of script books).1 =
           ap (books_after input input.books) places ∙ books_after-push input input.books (places_of_items (take k done)) (place_of_item x) in
@@ -122,7 +115,39 @@ module _ (refused : RefusedChangesNothing) (desk : DeskView BooksShape) (input :
             replies = ap (map (λ (item : Done). item.reply)) taken ∙ map_push (λ (item : Done). item.reply) (take k done) x
                 ∙ ap (λ rs. rs ++ x.reply ∷ []) prev.replies ∙ ap (λ r. replies_of input input.books (places_of_items (take k done)) ++ r ∷ []) told
                 ∙ sym (replies_of-push input input.books (places_of_items (take k done)) (place_of_item x)) ∙ ap (replies_of input input.books) (sym places);
-            stands = subst (λ (b : ClearingBooks). Stands desk.shape (replay desk.base (take (suc k) history)) b) (sym left)
-                (subst (λ (h : List Entry). Stands desk.shape (replay desk.base h) (outcome_of script books).1) (sym seen)
-                (after_one refused desk.shape desk.base (take k history) m.entry script x.reply books means prev.stands));
+            stands = subst (λ (b : ClearingBooks). Stands shape (replay base (take (suc k) entries)) b) (sym left)
+                (subst (λ (h : List Entry). Stands shape (replay base h) (outcome_of script books).1) (sym left_by)
+                (after_one refused shape base (take k entries) e script x.reply books means prev.stands));
           }
+
+-- items in the order of their serials stand beside their entries
+module _ (shape : BooksShape) (input : ClearingInput) (history : List Entry) (done : List Done)
+    (serials : map (λ (item : Done). item.serial) done ≡ range_with_len 1 (length history))
+    (made : All (IsMade shape input history) done) where
+  pub as_many : length done ≡ length history
+  as_many = sym (length-map done (λ (item : Done). item.serial)) ∙ ap length serials ∙ length-range_with_len 1 (length history)
+
+  serial_at : (k : ℕ) (d : Done) → k < length done → (get_or done k d).serial ≡ 1 + k
+  serial_at k d lt = sym (get_or-map (λ (item : Done). item.serial) done k d d.serial lt)
+      ∙ ap (λ l. get_or l k d.serial) serials ∙ get_or-range_with_len 1 (length history) k d.serial (omega (arith, as_many, lt))
+
+  place_at : (k : ℕ) (d : Done) (lt : k < length done) → (made k d lt).place ≡ k
+  place_at k d lt = omega (arith, (made k d lt).serial_is, serial_at k d lt)
+
+  entry_at : (k : ℕ) (d : Done) (lt : k < length done) → slice_get history k ≡ Some (made k d lt).entry
+  entry_at k d lt = subst (λ p. slice_get history p ≡ Some (made k d lt).entry) (place_at k d lt) (made k d lt).stands_at
+
+  pub beside : AreMadeBy shape input history done
+  beside = record {
+    as_many = as_many;
+    each = λ k item entry at entry_is.
+        let lt : k < length done = slice_get_within done k item at in
+        let same : get_or done k item ≡ item = get_or_from_slice_get done k item item at in
+        let found : Some (made k item lt).entry ≡ Some entry = sym (entry_at k item lt) ∙ entry_is in
+        let its : (made k item lt).entry ≡ entry = cc in
+        subst (λ (x : Done). IsMadeBy shape input entry x) same
+        (subst (λ (e : Entry). IsMadeBy shape input e (get_or done k item)) its (made k item lt).made_by);
+  }
+
+  pub entries_of : AreEntriesOf done history
+  entries_of = record { serials = serials; each = λ k item entry at entry_is. (beside.each k item entry at entry_is).is_of }

@@ -309,6 +309,7 @@ fn end_day(
     ensures whole { IfOk result (λ day. AreCallersWhole day.done.items) }
 {
     refused_changes_nothing();
+    desk.began_good();
     let (passes, mut done) = join_shares(alloc, shares)?;
     let Ok(closed) = desk.close(alloc, passes) else {
         return Err(OutOfMemory);

@@ -1,5 +1,5 @@
 -- The lines that two texts have in common.
-use Rattle.std.proofs.Common.{◌≡◌, ◌≢◌, ◌⊎◌, inl, inr, ℕ, ◌+◌, ◌<◌, ◌≤◌, ◌^◌, ◌==◌, cond, if◌then◌else◌, List, [], ◌∷◌, ◌++◌, length, map, count_by, refl, sym}
+use Rattle.std.proofs.Common.{◌≡◌, ◌≢◌, ◌⊎◌, inl, inr, ℕ, ◌+◌, ◌≤◌, ◌==◌, cond, if◌then◌else◌, List, [], ◌∷◌, ◌++◌, length, map, count_by, refl, sym}
 use Rattle.std.proofs.Common.{ap, ◌∙◌, subst, length-append, arith}
 use Rattle.std.specs.List.{AllByRecursion, concat, join_with_byte}
 use Rattle.std.proofs.lemmas.Bool.{eq-eqb}
@@ -14,6 +14,7 @@ use Rattle.script_reader.specs.Text.{account_line, price_line, position_line, ca
 use Rattle.script_reader.proofs.Tokens.Cutting.{join-free}
 use Rattle.script_reader.proofs.Texts.Fronting.{count_line}
 use Rattle.script_reader.proofs.Texts.Counting.{few_entries}
+use Rattle.books_report.specs.declared.limits.TheConstants.{MOST_CLOSING_LINES}
 use Rattle.books_report.specs.Checking.{closing_lines}
 use Rattle.books_report.specs.Inner.Audit.{StopsAfter, in_common}
 use Rattle.books_report.proofs.Outputs.Rows.{IsRow}
@@ -83,7 +84,7 @@ pub stops_within : (lines : List (List ℕ)) (text : List ℕ) (count : ℕ) →
 stops_within lines text count s = omega (arith, s.count_is, ap length s.lines_are, length-append s.done s.rest)
 
 -- closing books have few lines
-pub few_closing : (b : ClearingBooks) → AreInRange b → length (closing_lines b) < 2 ^ 16
+pub few_closing : (b : ClearingBooks) → AreInRange b → length (closing_lines b) ≤ MOST_CLOSING_LINES
 few_closing b range = omega (
   arith,
   few_entries b range account_line price_line position_line (map call_line b.calls ++ finish_line ∷ []),

@@ -6,6 +6,8 @@ use Rattle.books_model.specs.Books.{ClearingBooks}
 use Rattle.books_model.specs.Laws.{BooksStayInRange, ScriptsKeepSizes, ScriptsGoByInstruments}
 use Rattle.books_model.specs.Ranges.{AreInRange, IsScriptFor}
 use Rattle.script_reader.specs.Input.{Caller, ClearingInput, AreCallersFor, IsInput, caller_at, callers_of, script_at}
+use Rattle.script_reader.specs.declared.version.Version.TheVariants.{Two}
+use Rattle.script_reader.specs.Statements.{EachInputIsWithinTwo}
 use Rattle.script_reader.specs.Journal.{Place, IsPlace}
 use Rattle.books_report.specs.Output.{books_left, books_after}
 use Rattle.books_report.specs.Statements.{ClosingBooksOpen}
@@ -15,7 +17,8 @@ pub script_of_place : (input : ClearingInput) (caller index : ℕ) → IsInput i
     → index < length (caller_at input caller).scripts → IsScriptFor input.books (script_at input caller index)
 script_of_place input caller index valid within at = valid.callers.scripts caller (record { name = []; scripts = [] }) within index [] at
 
-module _ (in_range : BooksStayInRange) (keep_sizes : ScriptsKeepSizes) (by_instruments : ScriptsGoByInstruments) where
+module _ (in_range : BooksStayInRange) (keep_sizes : ScriptsKeepSizes) (by_instruments : ScriptsGoByInstruments)
+    (within_two : EachInputIsWithinTwo) where
   -- scripts of places leave books in range, with as many instruments
   along : (input : ClearingInput) → IsInput input → (order : List Place) → AllByRecursion (IsPlace input) order
       → (books : ClearingBooks) → AreInRange books → books.instruments ≡ input.books.instruments
@@ -44,9 +47,13 @@ module _ (in_range : BooksStayInRange) (keep_sizes : ScriptsKeepSizes) (by_instr
   closing_books_open input order submissions valid journal callers =
       let closing = books_after input input.books order in
       let stays = along input valid order (recursion_from_All (IsPlace input) order journal.only) input.books valid.books refl in
+      let new : IsInput (record { books = closing; callers = callers_of submissions }) =
+      record { books = stays.0; callers = callers_for input.books closing stays.1 (callers_of submissions) callers } in
       record {
+        version = Two;
         submissions = submissions;
         text = refl;
         callers = refl;
-        valid = record { books = stays.0; callers = callers_for input.books closing stays.1 (callers_of submissions) callers };
+        valid = new;
+        within = within_two (record { books = closing; callers = callers_of submissions }) new;
       }

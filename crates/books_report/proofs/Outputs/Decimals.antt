@@ -1,6 +1,6 @@
 -- The digits of a number in a text.
 use Rattle.std.proofs.Common.{◌≡◌, ℕ, ◌+◌, ◌/◌, ◌%◌, ◌^◌, ◌<◌, ◌≤◌, List, [], ◌∷◌, ◌++◌, sym, ap, ◌∙◌, append_assoc, arith}
-use Rattle.std.proofs.lemmas.Fmt.{decimal_digit, decimal_step}
+use Rattle.std.proofs.lemmas.Fmt.{decimal_digit, decimal_step_wide}
 use Rattle.script_reader.specs.Text.{number}
 
 -- two digits
@@ -13,20 +13,20 @@ one_digit before now n small written = written ∙ ap (λ ds. before ++ ds) (sym
 
 -- from there to a hundred it is two
 number-pair : (n : ℕ) → 10 ≤ n → n < 100 → number n ≡ pair n
-number-pair n great small = rw (decimal_step n great (omega arith), decimal_digit (n / 10) (omega arith))
+number-pair n great small = rw (decimal_step_wide n great (omega arith), decimal_digit (n / 10) (omega arith))
 
 pub two_digits : (before now : List ℕ) (n : ℕ) → 10 ≤ n → n < 100 → now ≡ before ++ pair n → now ≡ before ++ number n
 two_digits before now n great small written = written ∙ ap (λ ds. before ++ ds) (sym (number-pair n great small))
 
 -- and from there on the last two stand behind those of a hundredth
-number-more : (n : ℕ) → 100 ≤ n → n < 2 ^ 64 → number n ≡ number (n / 100) ++ pair (n % 100)
+number-more : (n : ℕ) → 100 ≤ n → n < 2 ^ 128 → number n ≡ number (n / 100) ++ pair (n % 100)
 number-more n great fits =
     let a : n / 10 / 10 ≡ n / 100 = omega arith in
     let b : n / 10 % 10 ≡ n % 100 / 10 = omega arith in
     let c : n % 10 ≡ n % 100 % 10 = omega arith in
-    rw (decimal_step n (omega arith) fits, decimal_step (n / 10) (omega arith) (omega arith), append_assoc, a, b, ← c)
+    rw (decimal_step_wide n (omega arith) (omega arith), decimal_step_wide (n / 10) (omega arith) (omega arith), append_assoc, a, b, ← c)
 
-pub two_more : (before hundredth now : List ℕ) (n : ℕ) → 100 ≤ n → n < 2 ^ 64 → hundredth ≡ before ++ number (n / 100)
+pub two_more : (before hundredth now : List ℕ) (n : ℕ) → 100 ≤ n → n < 2 ^ 128 → hundredth ≡ before ++ number (n / 100)
     → now ≡ hundredth ++ pair (n % 100) → now ≡ before ++ number n
 two_more before hundredth now n great fits first last =
     last ∙ ap (λ ds. ds ++ pair (n % 100)) first ∙ append_assoc before (number (n / 100)) (pair (n % 100))

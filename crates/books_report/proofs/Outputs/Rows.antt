@@ -15,6 +15,7 @@ use Rattle.books_model.specs.declared.reply.Reply.TheVariants as reply
 use Rattle.books_model.specs.Books.{ClearingBooks}
 use Rattle.books_model.specs.Words.{value_word, decline_word}
 use Rattle.script_reader.specs.declared.words.TheConstants.{SPACE, LINE_FEED}
+use Rattle.script_reader.specs.declared.version.Version.TheVariants.{Two}
 use Rattle.script_reader.specs.Lines.{IsFreeOf, IsWord, AreWords}
 use Rattle.script_reader.specs.Text.{line, number, header_words, header_line, account_line, account_words, price_line, price_words, position_line}
 use Rattle.script_reader.specs.Text.{position_words, call_line, call_words, finish_line, books_lines}
@@ -130,15 +131,15 @@ map_rows : {A : Type 0} (f : A → List ℕ) → ((x : A) → IsRow (f x)) → (
 map_rows f is [] = tt
 map_rows f is (x ∷ xs) = (is x, map_rows f is xs)
 
-header_row : (b : ClearingBooks) → IsRow (header_line b)
+header_row : (b : ClearingBooks) → IsRow (header_line Two b)
 header_row b = (
-  header_words b,
+  header_words Two b,
   record {
     some = omega arith;
     each = (
       word_from_test (codes "books") refl,
       (
-        word_from_test (codes "1") refl,
+        word_from_test (codes "2") refl,
         (
           word_from_test (codes "blocks") refl,
           (
@@ -240,13 +241,13 @@ concat_map f [] ys = refl
 concat_map f (x ∷ xs) ys = ap (λ l. f x ++ l) (concat_map f xs ys) ∙ sym (append_assoc (f x) (flat_map f xs) (concat ys))
 
 -- the text of closing books
-pub closing_text : (b : ClearingBooks) → concat (closing_lines b) ≡ books_lines b ++ finish_line
+pub closing_text : (b : ClearingBooks) → concat (closing_lines b) ≡ books_lines Two b ++ finish_line
 closing_text b =
     let accounts = flat_map account_line (finmap.entries b.accounts) in
     let prices = flat_map price_line (finmap.entries b.prices) in
     let positions = flat_map position_line (finmap.entries b.positions) in
     let calls = flat_map call_line b.calls in
-    ap (λ l. header_line b ++ l) (
+    ap (λ l. header_line Two b ++ l) (
     concat_map account_line (finmap.entries b.accounts) _
     ∙ ap (λ l. accounts ++ l) (
     concat_map price_line (finmap.entries b.prices) _
@@ -254,7 +255,7 @@ closing_text b =
     concat_map position_line (finmap.entries b.positions) _
     ∙ ap (λ l. positions ++ l) (
     concat_map call_line b.calls _ ∙ ap (λ l. calls ++ l) (append-nil finish_line)))))
-    ∙ sym (grouped (header_line b) accounts prices positions calls finish_line)
+    ∙ sym (grouped (header_line Two b) accounts prices positions calls finish_line)
   where
     grouped : (h a p q c f : List ℕ) → ((((h ++ a) ++ p) ++ q) ++ c) ++ f ≡ h ++ (a ++ (p ++ (q ++ (c ++ f))))
     grouped h a p q c f = append_assoc (((h ++ a) ++ p) ++ q) c f ∙ append_assoc ((h ++ a) ++ p) q (c ++ f)
@@ -272,7 +273,7 @@ pub output_text : (input : ClearingInput) (scripts : List Ran) → length script
 output_text input scripts all =
     let title = line (codes "journal" ∷ []) in
     let journal = journal_lines input 1 scripts in
-    let books = books_lines (books_after input input.books (places_run scripts)) in
+    let books = books_lines Two (books_after input input.books (places_run scripts)) in
     ap (λ l. title ++ l) (
     concat-both (lines_of input 1 scripts) (lines_behind input scripts)
     ∙ (λ i. journal_text input 1 scripts i ++ (ap concat (behind_all input scripts all) ∙ closing_text (books_after input input.books (places_run scripts))) i))

@@ -9,16 +9,17 @@ use Rattle.std.proofs.lemmas.List.{length-map}
 use Rattle.std.proofs.lemmas.List.Elements.{All-push, All-from_recursion, recursion_from_All}
 use Rattle.std.proofs.lemmas.Slice.Eq.{bytes_eq-Decides}
 use Rattle.books_model.specs.Books.{ClearingBooks}
-use Rattle.books_model.specs.Ranges.{IsScriptFor}
 use Rattle.script_reader.specs.declared.limits.TheConstants.{MOST_CALLERS, MOST_SCRIPTS}
 use Rattle.script_reader.specs.declared.words.TheConstants.{SPACE, LINE_FEED}
 use Rattle.script_reader.specs.Lines.{IsFreeOf, AreWords}
-use Rattle.script_reader.specs.Input.{Caller, Submission, AreCallersFor, count_scripts, add_name, callers_of, IsName}
+use Rattle.script_reader.specs.Input.{Caller, Submission, count_scripts, add_name, callers_of, IsName}
 use Rattle.script_reader.specs.Inner.Callers.{add_submission, is_caller}
 use Rattle.script_reader.proofs.Tokens.Cutting.{word_from_test}
 use Rattle.script_reader.proofs.Conditions.{both}
 use Rattle.script_reader.proofs.Grouped.Gathering.{choice-cons, any-map, count-add}
 use Rattle.script_reader.proofs.Grouped.Grouping.{add_name-distinct, callers_of-gathered}
+use Rattle.script_reader.specs.Inner.OfVersion.{IsScriptOf, AreCallersOf}
+use Rattle.script_reader.specs.declared.version.Version.{Version}
 
 -- what holds of callers holds after one more script, if it holds of a caller with it
 all-add : (P : Caller → Type 0) (s : Submission)
@@ -51,10 +52,10 @@ length-add_name most names name true room few = few
 length-add_name most names name false room few = omega (arith, room refl, length-append names (name ∷ []))
 
 -- callers with one more script
-pub callers_more : (books : ClearingBooks) (callers : List Caller) (s : Submission) → AreCallersFor books callers → IsName s.caller → IsScriptFor books s.script
+pub callers_more : (version : Version) (books : ClearingBooks) (callers : List Caller) (s : Submission) → AreCallersOf version books callers → IsName s.caller → IsScriptOf version books s.script
     → count_scripts callers < MOST_SCRIPTS → (is_caller s.caller callers ≡ false → length callers < MOST_CALLERS)
-    → AreCallersFor books (add_submission callers s)
-callers_more books callers s h name script room space = record {
+    → AreCallersOf version books (add_submission callers s)
+callers_more version books callers s h name script room space = record {
   few =
       let names : length (map (λ c. c.name) (add_submission callers s))
       ≡ length (add_name (map (λ c. c.name) callers) s.caller) = ap length (names-add callers s) in
@@ -72,8 +73,8 @@ callers_more books callers s h name script room space = record {
   few_scripts = omega (arith, count-add callers s);
   names = All-from_recursion _ _ (all-add (λ c. IsName c.name) s (λ c n. n) name callers (recursion_from_All _ _ h.names));
   names_differ = subst (IsDistinct bytes_eq) (sym (names-add callers s)) (add_name-distinct (map (λ c. c.name) callers) s.caller h.names_differ);
-  scripts = All-from_recursion _ _ (all-add (λ c. All (IsScriptFor books) c.scripts) s (λ c all. All-push (IsScriptFor books) c.scripts s.script all script)
-      (All-push (IsScriptFor books) [] s.script (λ k d less. absurd (omega arith)) script) callers (recursion_from_All _ _ h.scripts));
+  scripts = All-from_recursion _ _ (all-add (λ c. All (IsScriptOf version books) c.scripts) s (λ c all. All-push (IsScriptOf version books) c.scripts s.script all script)
+      (All-push (IsScriptOf version books) [] s.script (λ k d less. absurd (omega arith)) script) callers (recursion_from_All _ _ h.scripts));
   some_scripts = All-from_recursion _ _
       (all-add (λ c. 1 ≤ length c.scripts) s (λ c some. omega (arith, some, length-append c.scripts (s.script ∷ [])))
       (omega arith) callers (recursion_from_All _ _ h.some_scripts));
@@ -85,55 +86,55 @@ all_but_last P [] x all = (tt, all.0)
 all_but_last P (y ∷ xs) x all = let rest = all_but_last P xs x all.1 in ((all.0, rest.0), rest.1)
 
 -- a caller with a name, whose scripts are for the books
-pub record IsGood (books : ClearingBooks) (c : Caller) : Type 0 where
+pub record IsGood (version : Version) (books : ClearingBooks) (c : Caller) : Type 0 where
   pub name : IsName c.name
-  pub scripts : AllByRecursion (IsScriptFor books) c.scripts
+  pub scripts : AllByRecursion (IsScriptOf version books) c.scripts
 
 -- a script for the books, of a caller with a name
-pub record IsGoodScript (books : ClearingBooks) (s : Submission) : Type 0 where
+pub record IsGoodScript (version : Version) (books : ClearingBooks) (s : Submission) : Type 0 where
   pub name : IsName s.caller
-  pub script : IsScriptFor books s.script
+  pub script : IsScriptOf version books s.script
 
 -- callers that are good after one more script were good before, and so is the script
-good-add : (books : ClearingBooks) (callers : List Caller) (s : Submission)
-    → AllByRecursion (IsGood books) (add_submission callers s) → AllByRecursion (IsGood books) callers × IsGoodScript books s
-good-add books [] s all = (tt, record { name = all.0.name; script = all.0.scripts.0 })
-good-add books (c ∷ callers) s all = by (bytes_eq s.caller c.name) refl all (good-add books callers s)
+good-add : (version : Version) (books : ClearingBooks) (callers : List Caller) (s : Submission)
+    → AllByRecursion (IsGood version books) (add_submission callers s) → AllByRecursion (IsGood version books) callers × IsGoodScript version books s
+good-add version books [] s all = (tt, record { name = all.0.name; script = all.0.scripts.0 })
+good-add version books (c ∷ callers) s all = by (bytes_eq s.caller c.name) refl all (good-add version books callers s)
   where
     by : (b : Bool) → bytes_eq s.caller c.name ≡ b
-        → AllByRecursion (IsGood books) (if b then record { name = c.name; scripts = c.scripts ++ s.script ∷ [] } ∷ callers else c ∷ add_submission callers s)
-        → (AllByRecursion (IsGood books) (add_submission callers s) → AllByRecursion (IsGood books) callers × IsGoodScript books s)
-        → AllByRecursion (IsGood books) (c ∷ callers) × IsGoodScript books s
+        → AllByRecursion (IsGood version books) (if b then record { name = c.name; scripts = c.scripts ++ s.script ∷ [] } ∷ callers else c ∷ add_submission callers s)
+        → (AllByRecursion (IsGood version books) (add_submission callers s) → AllByRecursion (IsGood version books) callers × IsGoodScript version books s)
+        → AllByRecursion (IsGood version books) (c ∷ callers) × IsGoodScript version books s
     by true e all rest =
-        let scripts = all_but_last (IsScriptFor books) c.scripts s.script all.0.scripts in (
+        let scripts = all_but_last (IsScriptOf version books) c.scripts s.script all.0.scripts in (
           (record { name = all.0.name; scripts = scripts.0 }, all.1),
           record { name = subst IsName (sym ((bytes_eq-Decides s.caller c.name).0 e)) all.0.name; script = scripts.1 },
         )
     by false e all rest = let before = rest all.1 in ((all.0, before.0), before.1)
 
 -- so are the scripts of good callers
-good-scripts : (books : ClearingBooks) (callers : List Caller) (subs : List Submission) → AllByRecursion (IsGood books) (fold add_submission callers subs)
-    → AllByRecursion (IsGood books) callers × AllByRecursion (IsGoodScript books) subs
-good-scripts books callers [] all = (all, tt)
-good-scripts books callers (s ∷ subs) all =
-    let rest = good-scripts books (add_submission callers s) subs all in
-    let here = good-add books callers s rest.0 in
+good-scripts : (version : Version) (books : ClearingBooks) (callers : List Caller) (subs : List Submission) → AllByRecursion (IsGood version books) (fold add_submission callers subs)
+    → AllByRecursion (IsGood version books) callers × AllByRecursion (IsGoodScript version books) subs
+good-scripts version books callers [] all = (all, tt)
+good-scripts version books callers (s ∷ subs) all =
+    let rest = good-scripts version books (add_submission callers s) subs all in
+    let here = good-add version books callers s rest.0 in
     (here.0, (here.1, rest.1))
 
 -- callers with scripts for the books are good
-good_callers : (books : ClearingBooks) (callers : List Caller) → AllByRecursion (λ c. IsName c.name) callers
-    → AllByRecursion (λ c. All (IsScriptFor books) c.scripts) callers → AllByRecursion (IsGood books) callers
-good_callers books [] names scripts = tt
-good_callers books (c ∷ callers) names scripts = (
+good_callers : (version : Version) (books : ClearingBooks) (callers : List Caller) → AllByRecursion (λ c. IsName c.name) callers
+    → AllByRecursion (λ c. All (IsScriptOf version books) c.scripts) callers → AllByRecursion (IsGood version books) callers
+good_callers version books [] names scripts = tt
+good_callers version books (c ∷ callers) names scripts = (
   record { name = names.0; scripts = recursion_from_All _ _ scripts.0 },
-  good_callers books callers names.1 scripts.1,
+  good_callers version books callers names.1 scripts.1,
 )
 
 -- so each script of theirs is good
-pub scripts_are_good : (books : ClearingBooks) (subs : List Submission) → AreCallersFor books (callers_of subs) → AllByRecursion (IsGoodScript books) subs
-scripts_are_good books subs valid =
-    (good-scripts books [] subs (subst (AllByRecursion (IsGood books)) (callers_of-gathered subs)
-    (good_callers books (callers_of subs) (recursion_from_All _ _ valid.names) (recursion_from_All _ _ valid.scripts)))).1
+pub scripts_are_good : (version : Version) (books : ClearingBooks) (subs : List Submission) → AreCallersOf version books (callers_of subs) → AllByRecursion (IsGoodScript version books) subs
+scripts_are_good version books subs valid =
+    (good-scripts version books [] subs (subst (AllByRecursion (IsGood version books)) (callers_of-gathered subs)
+    (good_callers version books (callers_of subs) (recursion_from_All _ _ valid.names) (recursion_from_All _ _ valid.scripts)))).1
 
 -- how many scripts there are
 pub count-fold : (callers : List Caller) (subs : List Submission) → count_scripts (fold add_submission callers subs) ≡ count_scripts callers + length subs

@@ -4,7 +4,7 @@ use Rattle.std.proofs.Common.{drop, length, Option, Some, None, refl, ap, subst,
 use Rattle.std.specs.Option.{is_none}
 use Rattle.std.proofs.lemmas.Bool.{leb-true, eqb-true}
 use Rattle.std.proofs.lemmas.Slice.Eq.{bytes_eq-Decides}
-use Rattle.books_model.specs.Ranges.{IsWithin, IsOperationFor}
+use Rattle.books_model.specs.Ranges.{IsWithin}
 use Rattle.books_model.specs.Books.{ClearingBooks}
 use Rattle.books_model.specs.declared.script.Op.{Op}
 use Rattle.books_model.specs.declared.script.Op.TheVariants as op
@@ -15,6 +15,9 @@ use Rattle.script_reader.specs.Forms.{Words, Form, form, InScript, books_forms, 
 use Rattle.script_reader.specs.Forms.{are_in_range}
 use Rattle.script_reader.proofs.Tokens.Numerals.{text_of_number}
 use Rattle.script_reader.proofs.Conditions.{both}
+use Rattle.script_reader.proofs.Versions.{amount_small}
+use Rattle.script_reader.specs.Inner.OfVersion.{IsOperationOf}
+use Rattle.script_reader.specs.declared.version.Version.{Version}
 
 -- a reason that does not apply, and what follows it
 pub none_applies : (c : Bool) (why : Fault) (rest : Option Fault) → (if c then Some why else rest) ≡ None → (c ≡ false) × (rest ≡ None)
@@ -112,9 +115,9 @@ line_words (PositionLine a i quantity) = codes "position" ∷ a ∷ i ∷ quanti
 line_words (CallLine a shortfall) = codes "call" ∷ a ∷ shortfall ∷ []
 line_words ScriptsLine = codes "scripts" ∷ []
 
-pub books_line : (instruments : ℕ) (words : Words) → is_none (form_of (books_forms instruments) words) ≡ false → (l : BooksLine) × (words ≡ line_words l)
+pub books_line : (version : Version) (instruments : ℕ) (words : Words) → is_none (form_of (books_forms version instruments) words) ≡ false → (l : BooksLine) × (words ≡ line_words l)
 unfolding IsOneOf
-books_line instruments words h = elim (one_of (books_forms instruments) words h) [
+books_line version instruments words h = elim (one_of (books_forms version instruments) words h) [
   | inl is ↦ let e = two_behind (codes "account") words is in (AccountLine e.0 e.1, e.2)
   | inr other ↦ elim other [
     | inl is ↦ let e = two_behind (codes "price") words is in (PriceLine e.0 e.1, e.2)
@@ -151,49 +154,49 @@ read_line forms words these e n r =
     (subst (λ w. are_in_range (drop 1 w) (ranges_of (form_of forms w)) ≡ true) e r)
 
 -- the operation of a line of a script, unless it is one of other forms
-pub operation_line : (books : ClearingBooks) (others : List Form) (words : Words) → books.instruments < 2 ^ 64
-    → is_none (form_of (operation_forms books.instruments ++ others) words) ≡ false → are_numbers (drop 1 words) ≡ true
-    → are_in_range (drop 1 words) (ranges_of (form_of (operation_forms books.instruments ++ others) words)) ≡ true
-    → IsOneOf others words ⊎ ((o : Op) × IsOperationFor books o × (words ≡ operation_words o))
+pub operation_line : (version : Version) (books : ClearingBooks) (others : List Form) (words : Words) → books.instruments < 2 ^ 64
+    → is_none (form_of (operation_forms version books.instruments ++ others) words) ≡ false → are_numbers (drop 1 words) ≡ true
+    → are_in_range (drop 1 words) (ranges_of (form_of (operation_forms version books.instruments ++ others) words)) ≡ true
+    → IsOneOf others words ⊎ ((o : Op) × IsOperationOf version books o × (words ≡ operation_words o))
 unfolding IsOneOf
-operation_line books others words few h n r = elim (one_of (operation_forms books.instruments ++ others) words h) [
+operation_line version books others words few h n r = elim (one_of (operation_forms version books.instruments ++ others) words h) [
   | inl is ↦ let e = one_behind (codes "open") words is in
-      let read = read_line (operation_forms books.instruments ++ others) words _ e.1 n r in
+      let read = read_line (operation_forms version books.instruments ++ others) words _ e.1 n r in
       inr (op.OpenAccount (value_of e.0), (read.0 (lit< tt)).1, e.1 ∙ (λ i. codes "open" ∷ (read.0 (lit< tt)).0 i ∷ []))
   | inr other ↦ elim other [
     | inl is ↦ let e = one_behind (codes "close") words is in
-        let read = read_line (operation_forms books.instruments ++ others) words _ e.1 n r in
+        let read = read_line (operation_forms version books.instruments ++ others) words _ e.1 n r in
         inr (op.Close (value_of e.0), (read.0 (lit< tt)).1, e.1 ∙ (λ i. codes "close" ∷ (read.0 (lit< tt)).0 i ∷ []))
     | inr other ↦ elim other [
       | inl is ↦ let e = two_behind (codes "deposit") words is in
-          let read = read_line (operation_forms books.instruments ++ others) words _ e.2 n r in
+          let read = read_line (operation_forms version books.instruments ++ others) words _ e.2 n r in
           inr (
             op.Deposit (value_of e.0) (value_of e.1),
-            ((read.0 (lit< tt)).1, (read.1.0 (lit< tt)).1),
+            ((read.0 (lit< tt)).1, (read.1.0 (amount_small version)).1),
             e.2
-                ∙ (λ i. codes "deposit" ∷ (read.0 (lit< tt)).0 i ∷ (read.1.0 (lit< tt)).0 i ∷ []),
+                ∙ (λ i. codes "deposit" ∷ (read.0 (lit< tt)).0 i ∷ (read.1.0 (amount_small version)).0 i ∷ []),
           )
       | inr other ↦ elim other [
         | inl is ↦ let e = two_behind (codes "withdraw") words is in
-            let read = read_line (operation_forms books.instruments ++ others) words _ e.2 n r in
+            let read = read_line (operation_forms version books.instruments ++ others) words _ e.2 n r in
             inr (
               op.Withdraw (value_of e.0) (value_of e.1),
-              ((read.0 (lit< tt)).1, (read.1.0 (lit< tt)).1),
+              ((read.0 (lit< tt)).1, (read.1.0 (amount_small version)).1),
               e.2
-                  ∙ (λ i. codes "withdraw" ∷ (read.0 (lit< tt)).0 i ∷ (read.1.0 (lit< tt)).0 i ∷ []),
+                  ∙ (λ i. codes "withdraw" ∷ (read.0 (lit< tt)).0 i ∷ (read.1.0 (amount_small version)).0 i ∷ []),
             )
         | inr other ↦ elim other [
           | inl is ↦ let e = three_behind (codes "move") words is in
-              let read = read_line (operation_forms books.instruments ++ others) words _ e.3 n r in
+              let read = read_line (operation_forms version books.instruments ++ others) words _ e.3 n r in
               inr (
                 op.Move (value_of e.0) (value_of e.1) (value_of e.2),
-                ((read.0 (lit< tt)).1, (read.1.0 (lit< tt)).1, (read.1.1.0 (lit< tt)).1),
+                ((read.0 (lit< tt)).1, (read.1.0 (lit< tt)).1, (read.1.1.0 (amount_small version)).1),
                 e.3
-                    ∙ (λ i. codes "move" ∷ (read.0 (lit< tt)).0 i ∷ (read.1.0 (lit< tt)).0 i ∷ (read.1.1.0 (lit< tt)).0 i ∷ []),
+                    ∙ (λ i. codes "move" ∷ (read.0 (lit< tt)).0 i ∷ (read.1.0 (lit< tt)).0 i ∷ (read.1.1.0 (amount_small version)).0 i ∷ []),
               )
           | inr other ↦ elim other [
             | inl is ↦ let e = two_behind (codes "price") words is in
-                let read = read_line (operation_forms books.instruments ++ others) words _ e.2 n r in
+                let read = read_line (operation_forms version books.instruments ++ others) words _ e.2 n r in
                 inr (
                   op.Price (value_of e.0) (value_of e.1),
                   ((read.0 few).1, (read.1.0 (lit< tt)).1),
@@ -202,7 +205,7 @@ operation_line books others words few h n r = elim (one_of (operation_forms book
                 )
             | inr other ↦ elim other [
               | inl is ↦ let e = four_behind (codes "trade") words is in
-                  let read = read_line (operation_forms books.instruments ++ others) words _ e.4 n r in
+                  let read = read_line (operation_forms version books.instruments ++ others) words _ e.4 n r in
                   inr (
                     op.Trade (value_of e.0) (value_of e.1) (value_of e.2)
                         (value_of e.3),
@@ -212,7 +215,7 @@ operation_line books others words few h n r = elim (one_of (operation_forms book
                   )
               | inr other ↦ elim other [
                 | inl is ↦ let e = two_behind (codes "margin") words is in
-                    let read = read_line (operation_forms books.instruments ++ others) words _ e.2 n r in
+                    let read = read_line (operation_forms version books.instruments ++ others) words _ e.2 n r in
                     inr (
                       op.Margin (value_of e.0) (value_of e.1),
                       ((read.0 (lit< tt)).1, (read.1.0 (lit< tt)).1),
@@ -223,11 +226,11 @@ operation_line books others words few h n r = elim (one_of (operation_forms book
                   | inl is ↦ inr (op.Next, tt, only_word (codes "next") words is)
                   | inr other ↦ elim other [
                     | inl is ↦ let e = one_behind (codes "show") words is in
-                        let read = read_line (operation_forms books.instruments ++ others) words _ e.1 n r in
+                        let read = read_line (operation_forms version books.instruments ++ others) words _ e.1 n r in
                         inr (op.Show (value_of e.0), (read.0 (lit< tt)).1, e.1 ∙ (λ i. codes "show" ∷ (read.0 (lit< tt)).0 i ∷ []))
                     | inr other ↦ elim other [
                       | inl is ↦ let e = two_behind (codes "sum") words is in
-                          let read = read_line (operation_forms books.instruments ++ others) words _ e.2 n r in
+                          let read = read_line (operation_forms version books.instruments ++ others) words _ e.2 n r in
                           inr (
                             op.Sum (value_of e.0) (value_of e.1),
                             ((read.0 (lit< tt)).1, (read.1.0 (lit< tt)).1),

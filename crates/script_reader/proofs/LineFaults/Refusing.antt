@@ -21,6 +21,7 @@ use Rattle.script_reader.proofs.Printing.Scripted.{in_books}
 use Rattle.script_reader.proofs.LineFaults.LineKinds.{two_behind, three_behind}
 use Rattle.script_reader.proofs.WithoutFault.BooksFaultless.{printed, printed_small}
 use Rattle.script_reader.proofs.Printing.Extending.{adds_account, adds_price, adds_position, adds_call}
+use Rattle.script_reader.specs.declared.version.Version.{Version}
 
 -- the reasons against a line of books, in their order
 abbrev pub reasons : Bool → Bool → Bool → Bool → Bool → Bool → Bool → Bool → Option Fault
@@ -59,22 +60,22 @@ some_is xs = any_fixed true xs
 
 -- no block is left
 abbrev pub has_no_block : ClearingBooks → Bool
-has_no_block b = nat_le b.blocks (length (printed b).accounts + length (printed b).prices + length (printed b).positions)
+has_no_block b = nat_le b.blocks (length (finmap.entries b.accounts) + length (finmap.entries b.prices) + length (finmap.entries b.positions))
 
 -- the reasons against a row of a kind: its place, its numbers, how many there are, and then its key, what it is of and what it takes
-pub record IsRefused (b : ClearingBooks) (words : Words) (ranges : List (ℕ × ℕ)) (late many low account price full : Bool) : Type 0 where
-  pub fault : fault_of (books_words b) words
+pub record IsRefused (version : Version) (b : ClearingBooks) (words : Words) (ranges : List (ℕ × ℕ)) (late many low account price full : Bool) : Type 0 where
+  pub fault : fault_of (books_words version b) words
       ≡ reasons false late (not (are_numbers (drop 1 words))) (not (are_in_range (drop 1 words) ranges) || many) low account price full
 
-module _ {b : ClearingBooks} {words : Words} {ranges : List (ℕ × ℕ)} {late many low account price full : Bool}
-    (refused : IsRefused b words ranges late many low account price full) where
+module _ {version : Version} {b : ClearingBooks} {words : Words} {ranges : List (ℕ × ℕ)} {late many low account price full : Bool}
+    (refused : IsRefused version b words ranges late many low account price full) where
   -- a row behind lines of a later kind
-  pub late_row : late ≡ true → fault_of (books_words b) words ≡ Some fault.Order
+  pub late_row : late ≡ true → fault_of (books_words version b) words ≡ Some fault.Order
   late_row is = refused.fault ∙ (λ i. reasons false (is i) (not (are_numbers (drop 1 words)))
       (not (are_in_range (drop 1 words) ranges) || many) low account price full)
 
   -- a row whose numbers are wrong
-  pub numbers_row : {why : Fault} → late ≡ false → numbers_fault words ranges ≡ Some why → fault_of (books_words b) words ≡ Some why
+  pub numbers_row : {why : Fault} → late ≡ false → numbers_fault words ranges ≡ Some why → fault_of (books_words version b) words ≡ Some why
   numbers_row {why = why} early wrong = refused.fault
       ∙ (λ i. reasons false (early i) (not (are_numbers (drop 1 words))) (not (are_in_range (drop 1 words) ranges) || many) low account price full)
       ∙ numbers_first _ _ many low account price full why wrong
@@ -82,52 +83,52 @@ module _ {b : ClearingBooks} {words : Words} {ranges : List (ℕ × ℕ)} {late 
   -- a row whose numbers are read
   pub read_row : {many' low' account' price' full' : Bool} → late ≡ false → HasNumbers words ranges → many ≡ many' → low ≡ low'
       → account ≡ account' → price ≡ price' → full ≡ full'
-      → fault_of (books_words b) words ≡ reasons false false false many' low' account' price' full'
+      → fault_of (books_words version b) words ≡ reasons false false false many' low' account' price' full'
   read_row {many' = many'} {low' = low'} {account' = account'} {price' = price'} {full' = full'} early numbers m l a p f = refused.fault
       ∙ (λ i. reasons false (early i) (not (numbers.numbers i)) (not (numbers.in_range i) || m i) (l i) (a i) (p i) (f i))
 
-module _ (b : ClearingBooks) (range : AreInRange b) (words : Words) where
+module _ (version : Version) (b : ClearingBooks) (range : AreInRange b) (words : Words) where
   -- what is wrong with a line of a kind
   by_kind : (f : Form) (kind : ℕ) (key : ℕ × ℕ) (call position block : Bool)
-      → form_of (books_forms b.instruments) words ≡ Some f → kind_of words ≡ kind → key_of words ≡ key
+      → form_of (books_forms version b.instruments) words ≡ Some f → kind_of words ≡ kind → key_of words ≡ key
       → begins (codes "call") words ≡ call → begins (codes "position") words ≡ position → takes_block words ≡ block
-      → fault_of (books_words b) words ≡ reasons false (is_late_in kind (printed b)) (not (are_numbers (drop 1 words)))
-      (not (are_in_range (drop 1 words) f.ranges) || (call && nat_le b.ring (length b.calls))) (is_low_in kind key (printed b))
-      (position && not (list_any (λ e. e.0 == value_at words 1) (printed b).accounts))
-      (position && not (list_any (λ e. e.0 == value_at words 2) (printed b).prices)) (block && has_no_block b)
+      → fault_of (books_words version b) words ≡ reasons false (is_late_in kind (printed version b)) (not (are_numbers (drop 1 words)))
+      (not (are_in_range (drop 1 words) f.ranges) || (call && nat_le b.ring (length b.calls))) (is_low_in kind key (printed version b))
+      (position && not (list_any (λ e. e.0 == value_at words 1) (finmap.entries b.accounts)))
+      (position && not (list_any (λ e. e.0 == value_at words 2) (finmap.entries b.prices))) (block && has_no_block b)
   by_kind f kind key call position block form_is kind_is key_is call_is position_is block_is =
-      in_books (printed b) words ∙ books_fault_is (printed b) words (printed_small b range)
-      ∙ (λ i. reasons (is_none (form_is i)) (is_late_in (kind_is i) (printed b)) (not (are_numbers (drop 1 words)))
+      in_books (printed version b) words ∙ books_fault_is (printed version b) words (printed_small b range version)
+      ∙ (λ i. reasons (is_none (form_is i)) (is_late_in (kind_is i) (printed version b)) (not (are_numbers (drop 1 words)))
       (not (are_in_range (drop 1 words) (ranges_of (form_is i))) || (call_is i && nat_le b.ring (length b.calls)))
-      (is_low_in (kind_is i) (key_is i) (printed b))
-      (position_is i && not (list_any (λ e. e.0 == value_at words 1) (printed b).accounts))
-      (position_is i && not (list_any (λ e. e.0 == value_at words 2) (printed b).prices)) (block_is i && has_no_block b))
+      (is_low_in (kind_is i) (key_is i) (printed version b))
+      (position_is i && not (list_any (λ e. e.0 == value_at words 1) (finmap.entries b.accounts)))
+      (position_is i && not (list_any (λ e. e.0 == value_at words 2) (finmap.entries b.prices))) (block_is i && has_no_block b))
 
   pub account_fault : (begins (codes "account") words && length words == 3) ≡ true
-      → IsRefused b words account_ranges (is_late_in 0 (printed b)) false (is_low_in 0 (value_at words 1, 0) (printed b)) false false (has_no_block b)
+      → IsRefused version b words (account_ranges version) (is_late_in 0 (printed version b)) false (is_low_in 0 (value_at words 1, 0) (printed version b)) false false (has_no_block b)
   account_fault row =
       let e = two_behind (codes "account") words row in
       record {
-        fault = by_kind (form (codes "account") account_ranges) 0 (value_at words 1, 0) false
-            false true (ap (form_of (books_forms b.instruments)) e.2) (ap kind_of e.2) (ap key_of e.2
+        fault = by_kind (form (codes "account") (account_ranges version)) 0 (value_at words 1, 0) false
+            false true (ap (form_of (books_forms version b.instruments)) e.2) (ap kind_of e.2) (ap key_of e.2
             ∙ sym (ap (λ w. (value_at w 1, 0)) e.2)) (ap (begins (codes "call")) e.2) (ap (begins (codes "position")) e.2) (ap takes_block e.2);
       }
 
   pub price_fault : (begins (codes "price") words && length words == 3) ≡ true
-      → IsRefused b words (price_ranges b.instruments) (is_late_in 1 (printed b)) false (is_low_in 1 (value_at words 1, 0) (printed b)) false false
+      → IsRefused version b words (price_ranges b.instruments) (is_late_in 1 (printed version b)) false (is_low_in 1 (value_at words 1, 0) (printed version b)) false false
       (has_no_block b)
   price_fault row =
       let e = two_behind (codes "price") words row in
       record {
         fault = by_kind (form (codes "price") (price_ranges b.instruments)) 1 (value_at words 1, 0) false false
-            true (ap (form_of (books_forms b.instruments)) e.2) (ap kind_of e.2) (ap key_of e.2
+            true (ap (form_of (books_forms version b.instruments)) e.2) (ap kind_of e.2) (ap key_of e.2
             ∙ sym (ap (λ w. (value_at w 1, 0)) e.2)) (ap (begins (codes "call")) e.2) (ap (begins (codes "position")) e.2) (ap takes_block e.2);
       }
 
   pub position_fault : (begins (codes "position") words && length words == 4) ≡ true
-      → IsRefused b words (position_ranges b.instruments) (is_late_in 2 (printed b)) false
-      (is_low_in 2 (value_at words 1, value_at words 2) (printed b))
-      (not (list_any (λ e. e.0 == value_at words 1) (printed b).accounts)) (not (list_any (λ e. e.0 == value_at words 2) (printed b).prices))
+      → IsRefused version b words (position_ranges b.instruments) (is_late_in 2 (printed version b)) false
+      (is_low_in 2 (value_at words 1, value_at words 2) (printed version b))
+      (not (list_any (λ e. e.0 == value_at words 1) (finmap.entries b.accounts))) (not (list_any (λ e. e.0 == value_at words 2) (finmap.entries b.prices)))
       (has_no_block b)
   position_fault row =
       let e = three_behind (codes "position") words row in
@@ -135,17 +136,17 @@ module _ (b : ClearingBooks) (range : AreInRange b) (words : Words) where
         fault = by_kind (form (codes "position") (position_ranges b.instruments)) 2 (
           value_at words 1,
           value_at words 2,
-        ) false true true (ap (form_of (books_forms b.instruments)) e.3) (ap kind_of e.3) (ap key_of e.3
+        ) false true true (ap (form_of (books_forms version b.instruments)) e.3) (ap kind_of e.3) (ap key_of e.3
             ∙ sym (ap (λ w. (value_at w 1, value_at w 2)) e.3)) (ap (begins (codes "call")) e.3) (ap (begins (codes "position")) e.3) (ap takes_block e.3);
       }
 
   pub call_fault : (begins (codes "call") words && length words == 3) ≡ true
-      → IsRefused b words call_ranges false (nat_le b.ring (length b.calls)) false false false false
+      → IsRefused version b words call_ranges false (nat_le b.ring (length b.calls)) false false false false
   call_fault row =
       let e = two_behind (codes "call") words row in
       record {
         fault = by_kind (form (codes "call") call_ranges) 3 (value_at words 1, 0) true false
-            false (ap (form_of (books_forms b.instruments)) e.2) (ap kind_of e.2) (ap key_of e.2
+            false (ap (form_of (books_forms version b.instruments)) e.2) (ap kind_of e.2) (ap key_of e.2
             ∙ sym (ap (λ w. (value_at w 1, 0)) e.2)) (ap (begins (codes "call")) e.2) (ap (begins (codes "position")) e.2) (ap takes_block e.2);
       }
 
@@ -153,69 +154,69 @@ module _ (b : ClearingBooks) (range : AreInRange b) (words : Words) where
   pub word_fault : (begins (codes "account") words && length words == 3) ≡ false
       → (begins (codes "price") words && length words == 3) ≡ false
       → (begins (codes "position") words && length words == 4) ≡ false → (begins (codes "call") words && length words == 3) ≡ false
-      → (begins (codes "scripts") words && length words == 1) ≡ false → fault_of (books_words b) words ≡ Some fault.Word
-  word_fault a p q c s = in_books (printed b) words ∙ books_fault_is (printed b) words (printed_small b range)
-      ∙ by (form_of (books_forms b.instruments) words) none
+      → (begins (codes "scripts") words && length words == 1) ≡ false → fault_of (books_words version b) words ≡ Some fault.Word
+  word_fault a p q c s = in_books (printed version b) words ∙ books_fault_is (printed version b) words (printed_small b range version)
+      ∙ by (form_of (books_forms version b.instruments) words) none
     where
-      none : form_of (books_forms b.instruments) words ≡ None
-      none i = cond (a i) (Some (form (codes "account") account_ranges))
+      none : form_of (books_forms version b.instruments) words ≡ None
+      none i = cond (a i) (Some (form (codes "account") (account_ranges version)))
           (cond (p i) (Some (form (codes "price") (price_ranges b.instruments)))
           (cond (q i) (Some (form (codes "position") (position_ranges b.instruments)))
           (cond (c i) (Some (form (codes "call") call_ranges))
           (cond (s i) (Some (form (codes "scripts") [])) None))))
 
       by : (o : Option Form) → o ≡ None
-          → reasons (is_none o) (is_late_in (kind_of words) (printed b)) (not (are_numbers (drop 1 words)))
+          → reasons (is_none o) (is_late_in (kind_of words) (printed version b)) (not (are_numbers (drop 1 words)))
           (not (are_in_range (drop 1 words) (ranges_of o)) ||
-          (begins (codes "call") words && nat_le b.ring (length b.calls))) (is_low_in (kind_of words) (key_of words) (printed b))
-          (begins (codes "position") words && not (list_any (λ e. e.0 == value_at words 1) (printed b).accounts))
-          (begins (codes "position") words && not (list_any (λ e. e.0 == value_at words 2) (printed b).prices))
+          (begins (codes "call") words && nat_le b.ring (length b.calls))) (is_low_in (kind_of words) (key_of words) (printed version b))
+          (begins (codes "position") words && not (list_any (λ e. e.0 == value_at words 1) (finmap.entries b.accounts)))
+          (begins (codes "position") words && not (list_any (λ e. e.0 == value_at words 2) (finmap.entries b.prices)))
           (takes_block words && has_no_block b) ≡ Some fault.Word
       by None e = refl
       by (Some f) e = absurd (none-some _ (sym e))
 
 -- whether lines of a later kind stand behind those of accounts, of prices and of positions
-pub accounts_late : (b : ClearingBooks) → is_late_in 0 (printed b) ≡ (list_any (λ _. true) (finmap.entries b.prices)
+pub accounts_late : (version : Version) (b : ClearingBooks) → is_late_in 0 (printed version b) ≡ (list_any (λ _. true) (finmap.entries b.prices)
     || (list_any (λ _. true) (finmap.entries b.positions) || list_any (λ _. true) b.calls))
-accounts_late b = sym (λ i. some_is (finmap.entries b.prices) i || (some_is (finmap.entries b.positions) i || some_is b.calls i))
+accounts_late version b = sym (λ i. some_is (finmap.entries b.prices) i || (some_is (finmap.entries b.positions) i || some_is b.calls i))
 
-pub prices_late : (b : ClearingBooks) → is_late_in 1 (printed b) ≡ (list_any (λ _. true) (finmap.entries b.positions) || list_any (λ _. true) b.calls)
-prices_late b = sym (λ i. some_is (finmap.entries b.positions) i || some_is b.calls i)
+pub prices_late : (version : Version) (b : ClearingBooks) → is_late_in 1 (printed version b) ≡ (list_any (λ _. true) (finmap.entries b.positions) || list_any (λ _. true) b.calls)
+prices_late version b = sym (λ i. some_is (finmap.entries b.positions) i || some_is b.calls i)
 
-module _ (b : ClearingBooks) (range : AreInRange b) where
+module _ (version : Version) (b : ClearingBooks) (range : AreInRange b) where
   -- no reason applies to a line behind the lines of books
-  at_books : (words : Words) → fault_of (books_words b) words ≡ None → fault_at (printed b) words ≡ None
-  at_books words none = sym (in_books (printed b) words ∙ books_fault_is (printed b) words (printed_small b range)) ∙ none
+  at_books : (words : Words) → fault_of (books_words version b) words ≡ None → fault_at (printed version b) words ≡ None
+  at_books words none = sym (in_books (printed version b) words ∙ books_fault_is (printed version b) words (printed_small b range version)) ∙ none
 
   -- the rows that lines without fault give
   pub gives_account : (words : Words) → (begins (codes "account") words && length words == 3) ≡ true
-      → fault_of (books_words b) words ≡ None → IsRow b words (row.Account (value_at words 1) (value_at words 2))
+      → fault_of (books_words version b) words ≡ None → IsRow version b words (row.Account (value_at words 1) (value_at words 2))
   gives_account words is none =
       let e = two_behind (codes "account") words is in
-      let h = adds_account b range e.0 e.1 (subst (λ w. fault_at (printed b) w ≡ None) e.2 (at_books words none)) in
-      subst (λ w. IsRow b w (row.Account (value_at w 1) (value_at w 2))) (sym e.2)
-      (record { fits = (h.number_is, h.fits, h.absent, h.room); lines = h.lines })
+      let h = adds_account version b range e.0 e.1 (subst (λ w. fault_at (printed version b) w ≡ None) e.2 (at_books words none)) in
+      subst (λ w. IsRow version b w (row.Account (value_at w 1) (value_at w 2))) (sym e.2)
+      (record { fits = (h.number_is, h.fits, h.absent, h.room); within = h.within; lines = h.lines })
 
-  pub gives_price : (words : Words) → (begins (codes "price") words && length words == 3) ≡ true → fault_of (books_words b) words ≡ None
-      → IsRow b words (row.Price (value_at words 1) (value_at words 2))
+  pub gives_price : (words : Words) → (begins (codes "price") words && length words == 3) ≡ true → fault_of (books_words version b) words ≡ None
+      → IsRow version b words (row.Price (value_at words 1) (value_at words 2))
   gives_price words is none =
       let e = two_behind (codes "price") words is in
-      let h = adds_price b range e.0 e.1 (subst (λ w. fault_at (printed b) w ≡ None) e.2 (at_books words none)) in
-      subst (λ w. IsRow b w (row.Price (value_at w 1) (value_at w 2))) (sym e.2)
-      (record { fits = (h.number_is, h.fits, h.absent, h.room); lines = h.lines })
+      let h = adds_price version b range e.0 e.1 (subst (λ w. fault_at (printed version b) w ≡ None) e.2 (at_books words none)) in
+      subst (λ w. IsRow version b w (row.Price (value_at w 1) (value_at w 2))) (sym e.2)
+      (record { fits = (h.number_is, h.fits, h.absent, h.room); within = tt; lines = h.lines })
 
   pub gives_position : (words : Words) → (begins (codes "position") words && length words == 4) ≡ true
-      → fault_of (books_words b) words ≡ None → IsRow b words (row.Position (value_at words 1) (value_at words 2) (value_at words 3))
+      → fault_of (books_words version b) words ≡ None → IsRow version b words (row.Position (value_at words 1) (value_at words 2) (value_at words 3))
   gives_position words is none =
       let e = three_behind (codes "position") words is in
-      let h = adds_position b range e.0 e.1 e.2 (subst (λ w. fault_at (printed b) w ≡ None) e.3 (at_books words none)) in
-      subst (λ w. IsRow b w (row.Position (value_at w 1) (value_at w 2) (value_at w 3))) (sym e.3)
-      (record { fits = (h.given, h.priced, h.fits, h.absent, h.room); lines = h.lines })
+      let h = adds_position version b range e.0 e.1 e.2 (subst (λ w. fault_at (printed version b) w ≡ None) e.3 (at_books words none)) in
+      subst (λ w. IsRow version b w (row.Position (value_at w 1) (value_at w 2) (value_at w 3))) (sym e.3)
+      (record { fits = (h.given, h.priced, h.fits, h.absent, h.room); within = tt; lines = h.lines })
 
-  pub gives_call : (words : Words) → (begins (codes "call") words && length words == 3) ≡ true → fault_of (books_words b) words ≡ None
-      → IsRow b words (row.Call (value_at words 1) (value_at words 2))
+  pub gives_call : (words : Words) → (begins (codes "call") words && length words == 3) ≡ true → fault_of (books_words version b) words ≡ None
+      → IsRow version b words (row.Call (value_at words 1) (value_at words 2))
   gives_call words is none =
       let e = two_behind (codes "call") words is in
-      let h = adds_call b range e.0 e.1 (subst (λ w. fault_at (printed b) w ≡ None) e.2 (at_books words none)) in
-      subst (λ w. IsRow b w (row.Call (value_at w 1) (value_at w 2))) (sym e.2)
-      (record { fits = (h.call, h.room); lines = h.lines })
+      let h = adds_call version b range e.0 e.1 (subst (λ w. fault_at (printed version b) w ≡ None) e.2 (at_books words none)) in
+      subst (λ w. IsRow version b w (row.Call (value_at w 1) (value_at w 2))) (sym e.2)
+      (record { fits = (h.call, h.room); within = tt; lines = h.lines })

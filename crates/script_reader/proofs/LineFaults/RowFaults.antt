@@ -3,6 +3,7 @@ use Rattle.std.proofs.Common.{◌≡◌, ℕ, Bool, true, false, not, ◌&&◌, 
 use Rattle.std.specs.List.{AllByRecursion}
 use Rattle.std.specs.Option.{is_none}
 use Rattle.std.proofs.lemmas.Bool.{eqb-true}
+use Rattle.script_reader.specs.declared.version.Version.{Version}
 use Rattle.script_reader.specs.declared.fault.Fault.{Fault}
 use Rattle.script_reader.specs.declared.fault.Fault.TheVariants as fault
 use Rattle.script_reader.specs.Forms.{Words, Form, form, operation_forms, begins, has_form, form_of, ranges_of, are_numbers, are_in_range}
@@ -68,7 +69,7 @@ module _ (forms : List Form) (words : Words) where
       numbers_wrong (form k (r ∷ s ∷ t ∷ u ∷ [])) why (ap (form_of forms) e.4 ∙ is e.0 e.1 e.2 e.3) h
 
 -- a line that is no operation
-pub unknown_word : (n : ℕ) (words : Words)
+pub unknown_word : (version : Version) (n : ℕ) (words : Words)
     → (begins (codes "open") words && length words == 2) ≡ false
     → (begins (codes "close") words && length words == 2) ≡ false
     → (begins (codes "deposit") words && length words == 3) ≡ false
@@ -80,5 +81,5 @@ pub unknown_word : (n : ℕ) (words : Words)
     → (begins (codes "next") words && length words == 1) ≡ false
     → (begins (codes "show") words && length words == 2) ≡ false
     → (begins (codes "sum") words && length words == 3) ≡ false
-    → row_fault (operation_forms n) words ≡ Some fault.Word
-unknown_word n words a b c d e f g h i j k = word_wrong (operation_forms n) words (a, (b, (c, (d, (e, (f, (g, (h, (i, (j, (k, tt)))))))))))
+    → row_fault (operation_forms version n) words ≡ Some fault.Word
+unknown_word version n words a b c d e f g h i j k = word_wrong (operation_forms version n) words (a, (b, (c, (d, (e, (f, (g, (h, (i, (j, (k, tt)))))))))))

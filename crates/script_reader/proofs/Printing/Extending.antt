@@ -10,6 +10,7 @@ use Rattle.std.specs.FinMap as finmap
 use Rattle.std.specs.FinMap.{find, get-entries, len-entries, len-empty}
 use Rattle.std.proofs.lemmas.Bool.{leb-false, ltb-true, false≢true, eqb-true}
 use Rattle.std.proofs.lemmas.Cmp.{ranked}
+use Rattle.std.proofs.lemmas.Option.{none-some}
 use Rattle.books_model.specs.Books.{ClearingBooks, empty_books, position_cmp, put_cash, put_price, put_quantity, put_call, used}
 use Rattle.books_model.specs.Ranges.{AreInRange, IsWithin, IsAccountNumber, IsInstrumentOf, IsCall}
 use Rattle.books_model.proofs.Maps.Trees.{positions_total}
@@ -23,17 +24,20 @@ use Rattle.script_reader.specs.Text.{number, header_words, account_words, price_
 use Rattle.script_reader.specs.Inner.LinesAsWords.{books_words}
 use Rattle.std.specs.Option.{is_none}
 use Rattle.books_model.specs.declared.limits.TheConstants.{GREATEST_ACCOUNT, GREATEST_CASH, GREATEST_PRICE, GREATEST_QUANTITY, GREATEST_SHORTFALL}
-use Rattle.books_model.specs.declared.limits.TheConstants.{MOST_BLOCKS, MOST_INSTRUMENTS, MOST_RING}
+use Rattle.books_model.specs.declared.limits.TheConstants.{MOST_INSTRUMENTS, MOST_RING}
+use Rattle.script_reader.specs.Versions.{most_blocks, greatest_cash, AreBooksWithin}
 use Rattle.script_reader.specs.Forms.{Words, books_forms, begins, form_of, ranges_of, value_of, value_at, are_numbers, are_in_range, accounts, prices}
 use Rattle.script_reader.specs.Forms.{quantities}
 use Rattle.script_reader.specs.declared.fault.Fault.TheVariants as fault
-use Rattle.script_reader.specs.Faults.{header_fault, kind_of, takes_block, key_of, is_below}
+use Rattle.script_reader.specs.Faults.{header_fault, header_version, kind_of, takes_block, key_of, is_below}
+use Rattle.script_reader.proofs.Versions.{blocks_small, cash_small, blocks_within, cash_within, word_of_version}
 use Rattle.script_reader.proofs.Conditions.{both, passed, neither, or_false, is_some_list}
 use Rattle.script_reader.proofs.LineFaults.LineKinds.{none_applies, ranged}
 use Rattle.script_reader.proofs.Printing.Printed.{Printed, fault_at, is_late_in, is_low_in}
 use Rattle.script_reader.proofs.Printing.Sections.{entries_above, absent_above, less_number, less_pair, all_follow}
 use Rattle.script_reader.proofs.Printing.Growing.{account_more, price_more, position_more, call_more}
 use Rattle.script_reader.proofs.WithoutFault.BooksFaultless.{printed, instruments_fit}
+use Rattle.script_reader.specs.declared.version.Version.{Version}
 
 -- a list with no element
 pub no_elements : {A : Type 0} (xs : List A) → is_some_list xs ≡ false → xs ≡ []
@@ -65,10 +69,10 @@ read_two a c r s fits also n w =
 
 -- what is known of a line of books to which no reason applies
 pub record HasNoFault (p : Printed) (words : Words) : Type 0 where
-  pub formed : is_none (form_of (books_forms p.instruments) words) ≡ false
+  pub formed : is_none (form_of (books_forms p.version p.instruments) words) ≡ false
   pub in_order : is_late_in (kind_of words) p ≡ false
   pub numbers : are_numbers (drop 1 words) ≡ true
-  pub ranges : are_in_range (drop 1 words) (ranges_of (form_of (books_forms p.instruments) words)) ≡ true
+  pub ranges : are_in_range (drop 1 words) (ranges_of (form_of (books_forms p.version p.instruments) words)) ≡ true
   pub queued : (begins (codes "call") words && nat_le p.ring (length p.calls)) ≡ false
   pub rises : is_low_in (kind_of words) (key_of words) p ≡ false
   pub account : (begins (codes "position") words && not (list_any (λ e. e.0 == value_at words 1) p.accounts)) ≡ false
@@ -116,7 +120,7 @@ key_found m a h = subst IsSome (sym (get-entries m a)) (by (finmap.entries m) h)
         here Greater q true f g rest = absurd (omega (arith, ranked a e.0 Greater (sym q), eqb-true e.0 a f))
         here Greater q false f g rest = rest g
 
-module _ (b : ClearingBooks) (range : AreInRange b) where
+module _ (version : Version) (b : ClearingBooks) (range : AreInRange b) where
   -- a block is left where no reason says otherwise
   free : nat_le b.blocks (length (finmap.entries b.accounts) + length (finmap.entries b.prices)
       + length (finmap.entries b.positions)) ≡ false → used b < b.blocks
@@ -135,19 +139,21 @@ module _ (b : ClearingBooks) (range : AreInRange b) where
     pub amount : cash ≡ number (value_of cash)
     pub number_is : IsAccountNumber (value_of a)
     pub fits : value_of cash ≤ GREATEST_CASH
+    pub within : value_of cash ≤ greatest_cash version
     pub absent : finmap.get b.accounts (value_of a) ≡ None
     pub room : used b < b.blocks
     pub in_range : AreInRange (put_cash b (value_of a) (value_of cash))
-    pub lines : books_words (put_cash b (value_of a) (value_of cash)) ≡ books_words b ++ (codes "account" ∷ a ∷ cash ∷ []) ∷ []
+    pub lines : books_words version (put_cash b (value_of a) (value_of cash)) ≡ books_words version b ++ (codes "account" ∷ a ∷ cash ∷ []) ∷ []
 
-  pub adds_account : (a cash : List ℕ) → fault_at (printed b) (codes "account" ∷ a ∷ cash ∷ []) ≡ None → AddsAccount a cash
+  pub adds_account : (a cash : List ℕ) → fault_at (printed version b) (codes "account" ∷ a ∷ cash ∷ []) ≡ None → AddsAccount a cash
   adds_account a cash h =
-      let none = has_no_fault (printed b) (codes "account" ∷ a ∷ cash ∷ []) h in
+      let none = has_no_fault (printed version b) (codes "account" ∷ a ∷ cash ∷ []) h in
       let late = neither none.in_order in
       let no_prices = no_elements (finmap.entries b.prices) late.0 in
       let no_positions = no_elements (finmap.entries b.positions) (neither late.1).0 in
       let no_calls = no_elements b.calls (neither late.1).1 in
-      let read = read_two a cash accounts (0, GREATEST_CASH) (lit< tt) (lit< tt) none.numbers none.ranges in
+      let read = read_two a cash accounts (0, greatest_cash version) (lit< tt) (cash_small version) none.numbers none.ranges in
+      let fits : value_of cash ≤ GREATEST_CASH = omega (arith, read.3.1, cash_within version) in
       let low = all_are_below (λ e. (e.0, 0)) (value_of a, 0) (finmap.entries b.accounts) (sym (or_false _) ∙ none.rises) in
       let behind = all_follow (λ e. is_below (e.0, 0) (value_of a, 0) ≡ true) (λ e. nat_cmp e.0 (value_of a) ≡ Less)
       (finmap.entries b.accounts) (λ e g. less_number e.0 (value_of a) (below_is_less e.0 (value_of a) g)) low in
@@ -157,18 +163,19 @@ module _ (b : ClearingBooks) (range : AreInRange b) where
         account = read.0;
         amount = read.2;
         number_is = read.1;
-        fits = read.3.1;
+        fits = fits;
+        within = read.3.1;
         absent = absent;
         room = room;
-        in_range = put_cash-in_range b (value_of a) (value_of cash) range read.1 read.3.1
+        in_range = put_cash-in_range b (value_of a) (value_of cash) range read.1 fits
             (omega (arith, used_after_insert b (value_of a) (value_of cash) absent, room));
-        lines = ap (λ l. header_words b ∷ l) (
+        lines = ap (λ l. header_words version b ∷ l) (
             (λ i. map account_words (entries_above nat_cmp nat_cmp_total b.accounts (value_of a) (value_of cash) behind
             i) ++ (map price_words (finmap.entries b.prices) ++ (map position_words (finmap.entries b.positions) ++ map call_words b.calls)))
             ∙ account_more (finmap.entries b.accounts) (finmap.entries b.prices) (finmap.entries b.positions) b.calls
             (value_of a, value_of cash) no_prices no_positions no_calls
             )
-            ∙ (λ i. books_words b ++ (codes "account" ∷ sym read.0 i ∷ sym read.2 i ∷ []) ∷ []);
+            ∙ (λ i. books_words version b ++ (codes "account" ∷ sym read.0 i ∷ sym read.2 i ∷ []) ∷ []);
       }
 
   -- what a price's line adds
@@ -180,11 +187,11 @@ module _ (b : ClearingBooks) (range : AreInRange b) where
     pub absent : finmap.get b.prices (value_of i) ≡ None
     pub room : used b < b.blocks
     pub in_range : AreInRange (put_price b (value_of i) (value_of price))
-    pub lines : books_words (put_price b (value_of i) (value_of price)) ≡ books_words b ++ (codes "price" ∷ i ∷ price ∷ []) ∷ []
+    pub lines : books_words version (put_price b (value_of i) (value_of price)) ≡ books_words version b ++ (codes "price" ∷ i ∷ price ∷ []) ∷ []
 
-  pub adds_price : (i price : List ℕ) → fault_at (printed b) (codes "price" ∷ i ∷ price ∷ []) ≡ None → AddsPrice i price
+  pub adds_price : (i price : List ℕ) → fault_at (printed version b) (codes "price" ∷ i ∷ price ∷ []) ≡ None → AddsPrice i price
   adds_price i price h =
-      let none = has_no_fault (printed b) (codes "price" ∷ i ∷ price ∷ []) h in
+      let none = has_no_fault (printed version b) (codes "price" ∷ i ∷ price ∷ []) h in
       let late = neither none.in_order in
       let no_positions = no_elements (finmap.entries b.positions) late.0 in
       let no_calls = no_elements b.calls late.1 in
@@ -203,14 +210,14 @@ module _ (b : ClearingBooks) (range : AreInRange b) where
         room = room;
         in_range = put_price-in_range b (value_of i) (value_of price) range read.1 read.3
             (omega (arith, used_after_price b (value_of i) (value_of price) absent, room));
-        lines = ap (λ l. header_words b ∷ l) (
+        lines = ap (λ l. header_words version b ∷ l) (
             (λ t. map account_words (finmap.entries b.accounts)
             ++ (map price_words (entries_above nat_cmp nat_cmp_total b.prices (value_of i) (value_of price) behind
             t) ++ (map position_words (finmap.entries b.positions) ++ map call_words b.calls)))
             ∙ price_more (finmap.entries b.accounts) (finmap.entries b.prices) (finmap.entries b.positions) b.calls
             (value_of i, value_of price) no_positions no_calls
             )
-            ∙ (λ t. books_words b ++ (codes "price" ∷ sym read.0 t ∷ sym read.2 t ∷ []) ∷ []);
+            ∙ (λ t. books_words version b ++ (codes "price" ∷ sym read.0 t ∷ sym read.2 t ∷ []) ∷ []);
       }
 
   -- what a position's line adds
@@ -224,11 +231,11 @@ module _ (b : ClearingBooks) (range : AreInRange b) where
     pub absent : finmap.get b.positions (value_of a, value_of i) ≡ None
     pub room : used b < b.blocks
     pub in_range : AreInRange (put_quantity b (value_of a) (value_of i) (value_of quantity))
-    pub lines : books_words (put_quantity b (value_of a) (value_of i) (value_of quantity)) ≡ books_words b ++ (codes "position" ∷ a ∷ i ∷ quantity ∷ []) ∷ []
+    pub lines : books_words version (put_quantity b (value_of a) (value_of i) (value_of quantity)) ≡ books_words version b ++ (codes "position" ∷ a ∷ i ∷ quantity ∷ []) ∷ []
 
-  pub adds_position : (a i quantity : List ℕ) → fault_at (printed b) (codes "position" ∷ a ∷ i ∷ quantity ∷ []) ≡ None → AddsPosition a i quantity
+  pub adds_position : (a i quantity : List ℕ) → fault_at (printed version b) (codes "position" ∷ a ∷ i ∷ quantity ∷ []) ≡ None → AddsPosition a i quantity
   adds_position a i quantity h =
-      let none = has_no_fault (printed b) (codes "position" ∷ a ∷ i ∷ quantity ∷ []) h in
+      let none = has_no_fault (printed version b) (codes "position" ∷ a ∷ i ∷ quantity ∷ []) h in
       let no_calls = no_elements b.calls none.in_order in
       let first = ranged a 1 GREATEST_ACCOUNT (lit< tt) (both none.numbers).0 (both none.ranges).0 in
       let read = read_two i quantity (1, b.instruments) quantities (instruments_fit b range) (lit< tt) (both none.numbers).1 (both none.ranges).1 in
@@ -250,7 +257,7 @@ module _ (b : ClearingBooks) (range : AreInRange b) where
         room = room;
         in_range = put_quantity-in_range b (value_of a) (value_of i) (value_of quantity) range given priced read.3
             (omega (arith, used_after_position b (value_of a) (value_of i) (value_of quantity) absent, room));
-        lines = ap (λ l. header_words b ∷ l) (
+        lines = ap (λ l. header_words version b ∷ l) (
             (λ t. map account_words (finmap.entries b.accounts)
             ++ (map price_words (finmap.entries b.prices)
             ++ (map position_words (entries_above position_cmp positions_total b.positions (value_of a, value_of i)
@@ -258,7 +265,7 @@ module _ (b : ClearingBooks) (range : AreInRange b) where
             ∙ position_more (finmap.entries b.accounts) (finmap.entries b.prices) (finmap.entries b.positions) b.calls
             ((value_of a, value_of i), value_of quantity) no_calls
             )
-            ∙ (λ t. books_words b ++ (codes "position" ∷ sym first.0 t ∷ sym read.0 t ∷ sym read.2 t ∷ []) ∷ []);
+            ∙ (λ t. books_words version b ++ (codes "position" ∷ sym first.0 t ∷ sym read.0 t ∷ sym read.2 t ∷ []) ∷ []);
       }
 
   -- what a margin call's line adds
@@ -268,11 +275,11 @@ module _ (b : ClearingBooks) (range : AreInRange b) where
     pub call : IsCall (value_of a, value_of shortfall)
     pub room : length b.calls < b.ring
     pub in_range : AreInRange (put_call b (value_of a) (value_of shortfall))
-    pub lines : books_words (put_call b (value_of a) (value_of shortfall)) ≡ books_words b ++ (codes "call" ∷ a ∷ shortfall ∷ []) ∷ []
+    pub lines : books_words version (put_call b (value_of a) (value_of shortfall)) ≡ books_words version b ++ (codes "call" ∷ a ∷ shortfall ∷ []) ∷ []
 
-  pub adds_call : (a shortfall : List ℕ) → fault_at (printed b) (codes "call" ∷ a ∷ shortfall ∷ []) ≡ None → AddsCall a shortfall
+  pub adds_call : (a shortfall : List ℕ) → fault_at (printed version b) (codes "call" ∷ a ∷ shortfall ∷ []) ≡ None → AddsCall a shortfall
   adds_call a shortfall h =
-      let none = has_no_fault (printed b) (codes "call" ∷ a ∷ shortfall ∷ []) h in
+      let none = has_no_fault (printed version b) (codes "call" ∷ a ∷ shortfall ∷ []) h in
       let read = read_two a shortfall accounts (1, GREATEST_SHORTFALL) (lit< tt) (lit< tt) none.numbers none.ranges in
       let room = leb-false b.ring (length b.calls) none.queued in
       record {
@@ -281,9 +288,9 @@ module _ (b : ClearingBooks) (range : AreInRange b) where
         call = (read.1, read.3);
         room = room;
         in_range = put_call-in_range b (value_of a) (value_of shortfall) range (read.1, read.3) room;
-        lines = ap (λ l. header_words b ∷ l) (call_more (finmap.entries b.accounts) (finmap.entries b.prices)
+        lines = ap (λ l. header_words version b ∷ l) (call_more (finmap.entries b.accounts) (finmap.entries b.prices)
             (finmap.entries b.positions) b.calls (value_of a, value_of shortfall))
-            ∙ (λ t. books_words b ++ (codes "call" ∷ sym read.0 t ∷ sym read.2 t ∷ []) ∷ []);
+            ∙ (λ t. books_words version b ++ (codes "call" ∷ sym read.0 t ∷ sym read.2 t ∷ []) ∷ []);
       }
 
 -- eight words, one by one
@@ -293,39 +300,43 @@ eight_words (a ∷ b ∷ c ∷ d ∷ e ∷ f ∷ g ∷ h ∷ []) is = refl
 eight_words words is = absurd (omega arith)
 
 -- what a first line without fault is
-pub record IsHeaderOf (words : Words) (b : ClearingBooks) : Type 0 where
+pub record IsHeaderOf (words : Words) (version : Version) (b : ClearingBooks) : Type 0 where
   pub in_range : AreInRange b
-  pub words_are : words ≡ header_words b
-  pub lines : books_words b ≡ words ∷ []
+  pub within : AreBooksWithin version b
+  pub words_are : words ≡ header_words version b
+  pub lines : books_words version b ≡ words ∷ []
 
 -- the books of a header
 abbrev pub books_of_header : Words → ClearingBooks
 books_of_header words = empty_books (value_at words 3) (value_at words 5) (value_at words 7)
 
-pub header_adds : (words : Words) → header_fault words ≡ None → IsHeaderOf words (books_of_header words)
+pub header_adds : (words : Words) → header_fault words ≡ None → IsHeaderOf words (header_version words) (books_of_header words)
 header_adds words none =
     let n1 = none_applies _ fault.Header _ none in
     let n2 = none_applies _ fault.Number _ n1.1 in
     let n3 = none_applies _ fault.Limit _ n2.1 in
     let numbers = passed n2.0 in
     let ranges = passed n3.0 in
-    let blocks = ranged (word_at words 3) 1 MOST_BLOCKS (lit< tt) (both numbers).0 (both ranges).0 in
+    let version = header_version words in
+    let blocks = ranged (word_at words 3) 1 (most_blocks version) (blocks_small version) (both numbers).0 (both ranges).0 in
     let instruments = ranged (word_at words 5) 1 MOST_INSTRUMENTS (lit< tt) (both (both numbers).1).0 (both (both ranges).1).0 in
     let ring = ranged (word_at words 7) 1 MOST_RING (lit< tt) (both (both (both numbers).1).1).0 (both (both (both ranges).1).1).0 in
-    let form = both (passed n1.0) in
+    let named = both (passed n1.0) in
+    let form = both named.0 in
     let form1 = both form.0 in
     let form2 = both form1.0 in
     let form3 = both form2.0 in
-    let form4 = both form3.0 in
     let same : (i : ℕ) (k : List ℕ) → bytes_eq (word_at words i) k ≡ true → word_at words i ≡ k = λ i k e. (bytes_eq-Decides (word_at words i) k).0 e in
-    let is : words ≡ header_words (books_of_header words) =
-    eight_words words (eqb-true (length words) 8 form4.0)
-    ∙ (λ t. same 0 (codes "books") form4.1 t ∷ same 1 (codes "1") form3.1 t ∷ same 2 (codes "blocks") form2.1 t
+    let is : words ≡ header_words version (books_of_header words) =
+    eight_words words (eqb-true (length words) 8 form3.0)
+    ∙ (λ t. same 0 (codes "books") form3.1 t ∷ word_of_version (word_at words 1) named.1 t ∷ same 2 (codes "blocks") form2.1 t
     ∷ blocks.0 t ∷ same 4 (codes "instruments") form1.1 t ∷ instruments.0 t ∷ same 6 (codes "ring") form.1 t ∷ ring.0 t ∷ []) in
     record {
-      in_range = empty_books-in_range (value_at words 3) (value_at words 5) (value_at words 7) blocks.1 instruments.1 ring.1;
+      in_range = empty_books-in_range (value_at words 3) (value_at words 5) (value_at words 7)
+          (blocks.1.0, omega (arith, blocks.1.1, blocks_within version)) instruments.1 ring.1;
+      within = record { blocks = blocks.1.1; cash = λ a cash found. absurd (none-some _ (sym (finmap.get-empty nat_cmp a) ∙ found)) };
       words_are = is;
-      lines = (λ t. header_words (books_of_header words)
+      lines = (λ t. header_words version (books_of_header words)
           ∷ (map account_words (no_entries nat_cmp t)
           ++ (map price_words (no_entries nat_cmp t) ++ (map position_words (no_entries position_cmp t) ++ [])))) ∙ ap (λ w. w ∷ []) (sym is);
     }

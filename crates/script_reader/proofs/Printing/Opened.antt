@@ -1,5 +1,5 @@
 -- A script that has not ended, with one more line.
-use Rattle.std.proofs.Common.{◌≡◌, ℕ, ◌+◌, List, [], ◌∷◌, ◌++◌, codes, map, length, length-append, sum_by, refl, sym, ap, ◌∙◌, append_assoc, arith}
+use Rattle.std.proofs.Common.{◌≡◌, ℕ, ◌+◌, List, [], ◌∷◌, ◌++◌, codes, map, length, length-append, sum_by, sym, ap, ◌∙◌, append_assoc, arith}
 use Rattle.std.specs.List.{flat_map}
 use Rattle.std.proofs.lemmas.List.{append-nil, map-append}
 use Rattle.std.proofs.lemmas.List.Concat.{flat_map-append}
@@ -7,13 +7,14 @@ use Rattle.std.proofs.lemmas.List.Sums.{sum_by-append}
 use Rattle.books_model.specs.declared.script.Op.{Op}
 use Rattle.books_model.specs.declared.script.Part.{Part}
 use Rattle.books_model.specs.declared.script.Part.TheVariants as part
-use Rattle.books_model.specs.Scripts.{operations_in, operations_of, alternatives_in}
+use Rattle.books_model.specs.Scripts.{operations_of, alternatives_in}
 use Rattle.books_model.proofs.Scripts.Branches.{behind_parts}
 use Rattle.books_model.specs.Books.{ClearingBooks}
 use Rattle.script_reader.specs.Text.{operation_words, part_words}
 use Rattle.script_reader.specs.Input.{Submission}
 use Rattle.script_reader.specs.Forms.{Words}
-use Rattle.script_reader.specs.Inner.LinesAsWords.{Open, BetweenParts, InFirst, InSecond, open_words, parts_with, region_of, script_words, lines_so_far, lines_inside}
+use Rattle.script_reader.specs.Inner.LinesAsWords.{Open, BetweenParts, InFirst, InSecond, open_words, parts_with, script_words, lines_so_far, lines_inside}
+use Rattle.script_reader.specs.declared.version.Version.{Version}
 
 -- with an operation more
 abbrev pub parts_more : List Part → Open → Op → List Part
@@ -111,11 +112,11 @@ words_done parts first second =
     ∙ sym (append_assoc (flat_map part_words parts) (open_words (InSecond first second)) ((codes "done" ∷ []) ∷ []))
 
 -- all lines of the text, with one more
-pub inside_more : (b : ClearingBooks) (subs : List Submission) (name : List ℕ) (parts others : List Part) (stage other : Open) (more : List Words)
-    → script_words others other ≡ script_words parts stage ++ more → lines_inside b subs name others other ≡ lines_inside b subs name parts stage ++ more
-inside_more b subs name parts others stage other more is =
-    ap (λ l. lines_so_far b subs ++ ((codes "script" ∷ name ∷ []) ∷ l)) is
-    ∙ sym (append_assoc (lines_so_far b subs) ((codes "script" ∷ name ∷ []) ∷ script_words parts stage) more)
+pub inside_more : (version : Version) (b : ClearingBooks) (subs : List Submission) (name : List ℕ) (parts others : List Part) (stage other : Open) (more : List Words)
+    → script_words others other ≡ script_words parts stage ++ more → lines_inside version b subs name others other ≡ lines_inside version b subs name parts stage ++ more
+inside_more version b subs name parts others stage other more is =
+    ap (λ l. lines_so_far version b subs ++ ((codes "script" ∷ name ∷ []) ∷ l)) is
+    ∙ sym (append_assoc (lines_so_far version b subs) ((codes "script" ∷ name ∷ []) ∷ script_words parts stage) more)
 
 -- with the rest of its branch
 pub rest_of_branch : (parts : List Part) (first second : List Op)

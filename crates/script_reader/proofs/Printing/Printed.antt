@@ -4,17 +4,21 @@ use Rattle.std.proofs.Common.{ap, ◌∙◌, arith}
 use Rattle.std.specs.List.{list_any, count_by, AllByRecursion}
 use Rattle.std.specs.Option.{is_none}
 use Rattle.std.proofs.lemmas.List.Sums.{sum_by-cons}
+use Rattle.script_reader.specs.declared.version.Version.{Version}
 use Rattle.script_reader.specs.declared.fault.Fault.{Fault}
 use Rattle.script_reader.specs.declared.fault.Fault.TheVariants as fault
 use Rattle.script_reader.specs.Text.{number, account_words, price_words, position_words, call_words}
+use Rattle.script_reader.specs.Versions.{version_word}
 use Rattle.script_reader.specs.Forms.{Words, books_forms, begins, form_of, ranges_of, value_of, value_at, are_numbers, are_in_range}
 use Rattle.script_reader.specs.Faults.{first_reason, kind_of, takes_block, key_of, is_below, is_late, is_low, is_given, books_fault}
 use Rattle.script_reader.proofs.Tokens.Numerals.{value_of_number}
+use Rattle.script_reader.proofs.Versions.{version_read}
 use Rattle.script_reader.proofs.Conditions.{is_some_list, any_part, any_last, count_part, count_last, any_never, any_fixed, any_agree, any_and, or_false}
 use Rattle.script_reader.proofs.Conditions.{count_never, count_always}
 
 -- books as lists, in the order in which they are printed
 pub record Printed : Type 0 where
+  pub version : Version
   pub blocks : ℕ
   pub instruments : ℕ
   pub ring : ℕ
@@ -24,7 +28,7 @@ pub record Printed : Type 0 where
   pub calls : List (ℕ × ℕ)
 
 abbrev pub header_of : Printed → Words
-header_of p = codes "books" ∷ codes "1" ∷ codes "blocks" ∷ number p.blocks ∷ codes "instruments" ∷ number p.instruments ∷ codes "ring" ∷ number p.ring ∷ []
+header_of p = codes "books" ∷ version_word p.version ∷ codes "blocks" ∷ number p.blocks ∷ codes "instruments" ∷ number p.instruments ∷ codes "ring" ∷ number p.ring ∷ []
 
 -- their lines behind the header
 abbrev pub entries_of : Printed → List Words
@@ -154,7 +158,7 @@ block_count p = omega (
 -- what is wrong with a line behind the lines of books
 abbrev pub fault_at : Printed → Words → Option Fault
 fault_at p words =
-    let form = form_of (books_forms p.instruments) words in
+    let form = form_of (books_forms p.version p.instruments) words in
     first_reason (
     (is_none form, fault.Word)
     ∷ (is_late_in (kind_of words) p, fault.Order)
@@ -169,7 +173,7 @@ fault_at p words =
 
 pub books_fault_is : (p : Printed) (words : Words) → IsSmall p → books_fault (print p) words ≡ fault_at p words
 books_fault_is p words small i =
-    let form = form_of (books_forms (value_of_number p.instruments small.instruments i)) words in
+    let form = form_of (books_forms (version_read p.version i) (value_of_number p.instruments small.instruments i)) words in
     first_reason (
     (is_none form, fault.Word)
     ∷ (late p words i, fault.Order)

@@ -16,6 +16,7 @@ use Rattle.books_model.specs.declared.script.Part.{Part}
 use Rattle.books_model.specs.declared.script.Part.TheVariants as part
 use Rattle.books_model.specs.Scripts.{operations_in, operations_of, alternatives_in}
 use Rattle.script_reader.specs.declared.limits.TheConstants.{MOST_CALLERS, MOST_SCRIPTS}
+use Rattle.script_reader.specs.declared.version.Version.{Version}
 use Rattle.script_reader.specs.declared.fault.Fault.{Fault}
 use Rattle.script_reader.specs.declared.fault.Fault.TheVariants as fault
 use Rattle.script_reader.specs.Lines.{word_at}
@@ -26,6 +27,7 @@ use Rattle.script_reader.specs.Forms.{Words, Region, OutsideScripts, InScript, I
 use Rattle.script_reader.specs.Faults.{first_reason, region_after, region_behind, is_turning, is_too_many, script_before, operations_before, alternatives_before, callers_before}
 use Rattle.script_reader.specs.Faults.{inside_fault, scripts_fault, books_fault, fault_of}
 use Rattle.script_reader.proofs.Tokens.Numerals.{value_of_number}
+use Rattle.script_reader.proofs.Versions.{version_read}
 use Rattle.script_reader.proofs.Conditions.{any_never}
 use Rattle.script_reader.proofs.Printing.Printed.{Printed, IsSmall, header_of, entries_of, print, any_entry}
 
@@ -427,9 +429,9 @@ outside_fault_is p subs words =
     count = count_filter (begins (codes "script")) (print p ++ ended subs) ∙ ap length (begun p subs) ∙ length_map (λ s. codes "script" ∷ s.caller ∷ []) subs
 
 -- what is wrong with a line of a script on books with so many instruments, behind so many operations and alternatives
-abbrev pub inside_at : Region → ℕ → ℕ → ℕ → Words → Option Fault
-inside_at region instruments operations alternatives words =
-    let form = form_of (script_forms region instruments) words in
+abbrev pub inside_at : Version → Region → ℕ → ℕ → ℕ → Words → Option Fault
+inside_at version region instruments operations alternatives words =
+    let form = form_of (script_forms version region instruments) words in
     first_reason (
     (is_none form, fault.Word)
     ∷ (not (are_numbers (drop 1 words)), fault.Number)
@@ -444,11 +446,11 @@ within_script (InSecond first second) before words = refl
 
 pub inside_fault_is : (p : Printed) (subs : List Submission) (name : List ℕ) (parts : List Part) (stage : Open) (words : Words) → IsSmall p
     → fault_of (print p ++ ended subs ++ opened name parts stage) words
-    ≡ inside_at (region_of stage) p.instruments (length (operations_of (parts_with parts stage))) (sum_by alternatives_in (parts_with parts stage)) words
+    ≡ inside_at p.version (region_of stage) p.instruments (length (operations_of (parts_with parts stage))) (sum_by alternatives_in (parts_with parts stage)) words
 inside_fault_is p subs name parts stage words small =
     (λ i. if not (scripts i) then books_fault lines words else scripts_fault (region_inside p subs name parts stage i) lines words)
     ∙ within_script stage lines words
-    ∙ (λ i. let form = form_of (script_forms (region_of stage) (value_of_number p.instruments small.instruments i)) words in
+    ∙ (λ i. let form = form_of (script_forms (version_read p.version i) (region_of stage) (value_of_number p.instruments small.instruments i)) words in
     first_reason (
     (is_none form, fault.Word)
     ∷ (not (are_numbers (drop 1 words)), fault.Number)

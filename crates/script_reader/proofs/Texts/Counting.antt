@@ -7,7 +7,8 @@ use Rattle.std.specs.FinMap.{len-entries}
 use Rattle.std.proofs.lemmas.List.{length-map}
 use Rattle.std.proofs.lemmas.List.Concat.{flat_map-append}
 use Rattle.std.proofs.lemmas.List.Sums.{sum_by-append, sum_by-cons}
-use Rattle.books_model.specs.declared.limits.TheConstants.{MOST_BLOCKS}
+use Rattle.books_model.specs.declared.limits.TheConstants.{MOST_ALTERNATIVES, MOST_BLOCKS, MOST_OPERATIONS, MOST_RING}
+use Rattle.script_reader.specs.declared.limits.TheConstants.{MOST_SCRIPTS}
 use Rattle.books_model.specs.declared.script.Part.{Part}
 use Rattle.books_model.specs.declared.script.Part.TheVariants as part
 use Rattle.books_model.specs.Scripts.{operations_in, operations_of, alternatives_in}
@@ -18,17 +19,19 @@ use Rattle.script_reader.specs.declared.fault.Fault.{Fault}
 use Rattle.script_reader.specs.declared.fault.Fault.TheVariants as fault
 use Rattle.script_reader.specs.Text.{line, finish_line, account_words, price_words, position_words, call_words, operation_words, part_words}
 use Rattle.script_reader.specs.Inner.LinesAsWords.{Open, BetweenParts, InFirst, InSecond, open_words, parts_with, script_words, books_words, submission_words, lines_so_far}
-use Rattle.script_reader.specs.Input.{ClearingInput, Submission, AreCallersFor, callers_of}
+use Rattle.script_reader.specs.Input.{ClearingInput, Submission, callers_of}
 use Rattle.script_reader.specs.Grammar.{Spells}
 use Rattle.script_reader.specs.Forms.{Words, Region, OutsideScripts, InScript, InFirstBranch, InSecondBranch, is_only, begins, value_at, are_numbers, are_in_range, ranges_of, form_of, books_forms}
 use Rattle.script_reader.specs.Faults.{StartsFaulty, IsFaultyBehind, fault_of, books_fault, inside_fault, outside_fault, scripts_fault, region_behind, is_late, is_low, is_given}
-use Rattle.script_reader.specs.Faults.{takes_block, size_at}
+use Rattle.script_reader.specs.Faults.{takes_block, size_at, version_at}
 use Rattle.script_reader.proofs.Grouped.Submitting.{IsGoodScript, scripts_are_good}
 use Rattle.script_reader.proofs.Printing.Scripted.{opened}
 use Rattle.script_reader.proofs.Texts.Reaching.{IsReached, AtStart, InBooks, Outside, WithinScript, reach_all, scripts_counted}
 use Rattle.script_reader.proofs.Texts.Fronting.{count_line, count_lines, take_front}
 use Rattle.script_reader.proofs.Texts.OneReading.{finish_words}
 use Rattle.script_reader.proofs.Texts.Deciding.{spelled}
+use Rattle.script_reader.specs.Inner.OfVersion.{AreCallersOf}
+use Rattle.script_reader.specs.declared.version.Version.{Version}
 
 -- lines for the entries of books in range, and lines behind them
 pub few_entries : {A : Type 0} (b : ClearingBooks) → AreInRange b → (f g : ℕ × ℕ → A) (h : (ℕ × ℕ) × ℕ → A) (ends : List A)
@@ -50,8 +53,8 @@ few_entries b range f g h ends = omega (
 )
 
 -- books have few lines
-few_of_books : (b : ClearingBooks) → AreInRange b → length (books_words b) ≤ 20000
-few_of_books b range = omega (
+few_of_books : (version : Version) (b : ClearingBooks) → AreInRange b → length (books_words version b) ≤ MOST_BLOCKS + MOST_RING + 1
+few_of_books version b range = omega (
   arith,
   few_entries b range account_words price_words position_words (map call_words b.calls),
   length-map b.calls call_words,
@@ -104,42 +107,50 @@ lines_of_open parts (InSecond first second) = omega (
   length-append (map operation_words first) ((codes "else" ∷ []) ∷ map operation_words second),
 )
 
+-- the most lines of a script, with the line that begins it and the one that ends it
+abbrev most_script_lines : ℕ
+most_script_lines = MOST_OPERATIONS + 3 * MOST_ALTERNATIVES + 2
+
+-- the most lines of books and scripts
+abbrev pub most_lines : ℕ
+most_lines = MOST_BLOCKS + MOST_RING + 2 + most_script_lines * MOST_SCRIPTS
+
 -- scripts have few lines each
-few_each : (b : ClearingBooks) (subs : List Submission) → AllByRecursion (IsGoodScript b) subs → length (flat_map submission_words subs) ≤ 258 * length subs
-few_each b [] good = omega arith
-few_each b (s ∷ subs) good = omega (
+few_each : (version : Version) (b : ClearingBooks) (subs : List Submission) → AllByRecursion (IsGoodScript version b) subs → length (flat_map submission_words subs) ≤ most_script_lines * length subs
+few_each version b [] good = omega arith
+few_each version b (s ∷ subs) good = omega (
   arith,
   length-append (submission_words s) (flat_map submission_words subs),
   length-append (flat_map part_words s.script) ((codes "end" ∷ []) ∷ []),
   lines_of_parts s.script,
   good.0.script.few,
   good.0.script.few_alternatives,
-  few_each b subs good.1,
+  few_each version b subs good.1,
 )
 
 -- so have books and scripts
-few_so_far : (b : ClearingBooks) (subs : List Submission) → AreInRange b → AreCallersFor b (callers_of subs) → length (lines_so_far b subs) ≤ 17000000
-few_so_far b subs range valid = omega (
+few_so_far : (version : Version) (b : ClearingBooks) (subs : List Submission) → AreInRange b → AreCallersOf version b (callers_of subs) → length (lines_so_far version b subs) ≤ most_lines
+few_so_far version b subs range valid = omega (
   arith,
-  length-append (books_words b) ((codes "scripts" ∷ []) ∷ flat_map submission_words subs),
-  few_of_books b range,
-  few_each b subs (scripts_are_good b subs valid),
+  length-append (books_words version b) ((codes "scripts" ∷ []) ∷ flat_map submission_words subs),
+  few_of_books version b range,
+  few_each version b subs (scripts_are_good version b subs valid),
   scripts_counted subs,
   valid.few_scripts,
 )
 
 -- so have lines without fault, whatever they are
-few_lines : (lines : List Words) → IsReached lines → length lines ≤ 17100000
+few_lines : (lines : List Words) → IsReached lines → length lines ≤ most_lines + most_script_lines
 few_lines lines (AtStart e) = omega (arith, ap length e)
-few_lines lines (InBooks b range e) = omega (arith, ap length e, few_of_books b range)
-few_lines lines (Outside r) = omega (arith, ap length r.lines_are, few_so_far r.books r.subs r.range r.valid)
+few_lines lines (InBooks version b range within e) = omega (arith, ap length e, few_of_books version b range)
+few_lines lines (Outside r) = omega (arith, ap length r.lines_are, few_so_far r.version r.books r.subs r.range r.valid)
 few_lines lines (WithinScript r) = omega (
   arith,
   ap length r.lines_are,
-  length-append (lines_so_far r.books r.subs) (opened r.name r.parts r.stage),
+  length-append (lines_so_far r.version r.books r.subs) (opened r.name r.parts r.stage),
   lines_of_open r.parts r.stage,
   lines_of_parts (parts_with r.parts r.stage),
-  few_so_far r.books r.subs r.range r.valid,
+  few_so_far r.version r.books r.subs r.range r.valid,
   r.script.few,
   r.script.few_alternatives,
 )
@@ -168,7 +179,7 @@ not_missing (header ∷ lines) words = by (list_any (is_only (codes "scripts")) 
     before = header ∷ lines
 
     is_beyond_limits : Bool
-    is_beyond_limits = not (are_in_range (drop 1 words) (ranges_of (form_of (books_forms (size_at before 5)) words))) ||
+    is_beyond_limits = not (are_in_range (drop 1 words) (ranges_of (form_of (books_forms (version_at before) (size_at before 5)) words))) ||
         (begins (codes "call") words && nat_le (size_at before 7) (count_by (begins (codes "call")) before))
 
     lacks : List ℕ → ℕ → Bool
@@ -198,7 +209,7 @@ pub record Told (text left : List ℕ) (why : Fault) (before : ℕ) : Type 0 whe
 pub told : (text left : List ℕ) (why : Fault) → (h : IsFaultyBehind [] text left why) → Told text left why (length h.more)
 told text left why h = by h.here
   where
-    few : length h.more ≤ 17100000
+    few : length h.more ≤ most_lines + most_script_lines
     few = few_lines h.more (reach_all [] h.more (AtStart refl) h.faultless)
 
     lines : List ℕ

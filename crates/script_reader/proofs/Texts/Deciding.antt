@@ -9,14 +9,16 @@ use Rattle.std.proofs.lemmas.Option.{none-some}
 use Rattle.script_reader.specs.declared.words.TheConstants.{SPACE, LINE_FEED}
 use Rattle.script_reader.specs.declared.fault.Fault.{Fault}
 use Rattle.script_reader.specs.declared.fault.Fault.TheVariants as fault
+use Rattle.script_reader.specs.declared.version.Version.{Version}
 use Rattle.script_reader.specs.Lines.{AreWords}
 use Rattle.script_reader.specs.Text.{line, finish_line}
-use Rattle.script_reader.specs.Input.{ClearingInput, AreCallersFor, callers_of}
+use Rattle.script_reader.specs.Input.{ClearingInput, callers_of}
 use Rattle.script_reader.specs.Grammar.{Spells, IsValidInput}
 use Rattle.script_reader.specs.Inner.LinesAsWords.{Open, BetweenParts, InFirst, InSecond, parts_with, region_of, lines_so_far}
 use Rattle.script_reader.specs.Forms.{Words, is_only}
 use Rattle.script_reader.specs.Faults.{AreFaultless, IsFrontFault, IsFirstFault, fault_of}
 use Rattle.script_reader.specs.Statements.{HasFault}
+use Rattle.script_reader.proofs.Versions.{callers_for, callers_within, callers_of_version}
 use Rattle.script_reader.proofs.Tokens.Cutting.{found_at, found_none, taken}
 use Rattle.script_reader.proofs.LineFaults.LineKinds.{only_word}
 use Rattle.script_reader.proofs.Printing.Printed.{books_fault_is}
@@ -26,25 +28,26 @@ use Rattle.script_reader.proofs.WithoutFault.BooksFaultless.{printed, printed_sm
 use Rattle.script_reader.proofs.WithoutFault.ScriptsFaultless.{input_faultless}
 use Rattle.script_reader.proofs.Texts.OneReading.{text_of_input, finish_once, no_fault, fault_once}
 use Rattle.script_reader.proofs.Texts.Reaching.{IsReached, AtStart, InBooks, Outside, WithinScript, Between, reach_all}
+use Rattle.script_reader.specs.Inner.OfVersion.{AreCallersOf}
 
 -- the last line of a text is none of a script
-no_finish : (stage : Open) (instruments count alternatives : ℕ)
-    → inside_at (region_of stage) instruments count alternatives (codes "finish" ∷ []) ≡ Some fault.Word
-no_finish BetweenParts instruments count alternatives = refl
-no_finish (InFirst first) instruments count alternatives = refl
-no_finish (InSecond first second) instruments count alternatives = refl
+no_finish : (version : Version) (stage : Open) (instruments count alternatives : ℕ)
+    → inside_at version (region_of stage) instruments count alternatives (codes "finish" ∷ []) ≡ Some fault.Word
+no_finish version BetweenParts instruments count alternatives = refl
+no_finish version (InFirst first) instruments count alternatives = refl
+no_finish version (InSecond first second) instruments count alternatives = refl
 
 -- the last line stands behind scripts that have ended
 pub at_finish : (lines : List Words) → IsReached lines → fault_of lines (codes "finish" ∷ []) ≡ None → Between lines
 at_finish lines (AtStart e) none = absurd (none-some _ (sym (sym (ap (λ l. fault_of l (codes "finish" ∷ [])) e) ∙ none)))
-at_finish lines (InBooks b range e) none =
+at_finish lines (InBooks version b range within e) none =
     absurd (none-some _ (sym (sym (ap (λ l. fault_of l (codes "finish" ∷ [])) e
-    ∙ in_books (printed b) (codes "finish" ∷ []) ∙ books_fault_is (printed b) (codes "finish" ∷ []) (printed_small b range)) ∙ none)))
+    ∙ in_books (printed version b) (codes "finish" ∷ []) ∙ books_fault_is (printed version b) (codes "finish" ∷ []) (printed_small b range version)) ∙ none)))
 at_finish lines (Outside r) none = r
 at_finish lines (WithinScript r) none =
     absurd (none-some _ (sym (sym (ap (λ l. fault_of l (codes "finish" ∷ [])) r.lines_are
-    ∙ inside_fault_is (printed r.books) r.subs r.name r.parts r.stage (codes "finish" ∷ []) (printed_small r.books r.range)
-    ∙ no_finish r.stage (printed r.books).instruments (length (operations_of (parts_with r.parts r.stage))) (sum_by alternatives_in (parts_with r.parts r.stage)))
+    ∙ inside_fault_is (printed r.version r.books) r.subs r.name r.parts r.stage (codes "finish" ∷ []) (printed_small r.books r.range r.version)
+    ∙ no_finish r.version r.stage (printed r.version r.books).instruments (length (operations_of (parts_with r.parts r.stage))) (sum_by alternatives_in (parts_with r.parts r.stage)))
     ∙ none)))
 
 -- the lines of an input
@@ -54,25 +57,32 @@ pub record Spelled (text : List ℕ) : Type 0 where
   pub ends : fault_of lines (codes "finish" ∷ []) ≡ None
   pub text_is : text ≡ flat_map line lines ++ finish_line
 
+-- its callers are those that a text of its version can give
+pub callers_spelled : (text : List ℕ) (input : ClearingInput) (h : Spells text input) → AreCallersOf h.version input.books (callers_of h.submissions)
+callers_spelled text input h =
+    subst (AreCallersOf h.version input.books) h.callers (callers_of_version h.version input.books input.callers h.valid.callers h.within.scripts)
+
 pub spelled : (text : List ℕ) (input : ClearingInput) → Spells text input → Spelled text
 spelled text input h = record {
-  lines = lines_so_far input.books h.submissions;
-  faultless = input_faultless input.books h.valid.books h.submissions (subst (AreCallersFor input.books) h.callers h.valid.callers);
-  ends = outside_fault_is (printed input.books) h.submissions (codes "finish" ∷ []);
-  text_is = h.text ∙ text_of_input input.books h.submissions;
+  lines = lines_so_far h.version input.books h.submissions;
+  faultless = input_faultless h.version input.books h.valid.books h.within.books h.submissions (callers_spelled text input h);
+  ends = outside_fault_is (printed h.version input.books) h.submissions (codes "finish" ∷ []);
+  text_is = h.text ∙ text_of_input h.version input.books h.submissions;
 }
 
-pub spelled_lines : (text : List ℕ) (input : ClearingInput) (h : Spells text input) → (spelled text input h).lines ≡ lines_so_far input.books h.submissions
+pub spelled_lines : (text : List ℕ) (input : ClearingInput) (h : Spells text input) → (spelled text input h).lines ≡ lines_so_far h.version input.books h.submissions
 unfolding spelled
 spelled_lines text input h = refl
 
 -- lines behind which the last line may stand spell an input
 pub spells : (lines : List Words) → (r : Between lines) → Spells (flat_map line lines ++ finish_line) (record { books = r.books; callers = callers_of r.subs })
 spells lines r = record {
+  version = r.version;
   submissions = r.subs;
-  text = ap (λ l. flat_map line l ++ finish_line) r.lines_are ∙ sym (text_of_input r.books r.subs);
+  text = ap (λ l. flat_map line l ++ finish_line) r.lines_are ∙ sym (text_of_input r.version r.books r.subs);
   callers = refl;
-  valid = record { books = r.range; callers = r.valid };
+  valid = record { books = r.range; callers = callers_for r.version r.books (callers_of r.subs) r.valid };
+  within = record { books = r.within; scripts = callers_within r.version r.books (callers_of r.subs) r.valid };
 }
 
 -- a list is empty or not

@@ -14,36 +14,46 @@ use Rattle.script_reader.specs.Inner.LinesAsWords.{books_words, lines_so_far}
 use Rattle.script_reader.specs.Input.{Caller}
 use Rattle.script_reader.specs.Grammar.{submission_lines, input_text}
 use Rattle.script_reader.specs.Inner.Scripts.{IsReadOf, HasFront}
+use Rattle.script_reader.specs.Versions.{AreBooksWithin}
 use Rattle.script_reader.specs.Forms.{Words}
 use Rattle.script_reader.specs.Faults.{AreFaultless, IsFaultyBehind}
+use Rattle.script_reader.proofs.Versions.{callers_for, callers_within}
 use Rattle.script_reader.proofs.Tokens.Cutting.{join-free}
 use Rattle.script_reader.proofs.Texts.OneReading.{text_of_books}
 use Rattle.script_reader.proofs.WithoutFault.ScriptsFaultless.{input_faultless}
 use Rattle.script_reader.proofs.Texts.Reaching.{no_callers}
 use Rattle.script_reader.proofs.Texts.Following.{behind_more}
+use Rattle.script_reader.specs.declared.version.Version.{Version}
 
 -- a fault behind books that were read
-pub behind_books : (b : ClearingBooks) (range : AreInRange b) (start left after : List ℕ) (why : Fault)
-    → start ≡ flat_map line (books_words b) ++ (scripts_line ++ left) → IsFaultyBehind (lines_so_far b []) left after why → IsFaultyBehind [] start after why
-behind_books b range start left after why text h =
-    behind_more [] (lines_so_far b []) start left after why (input_faultless b range [] (no_callers b))
-    (text ∙ sym (append_assoc (flat_map line (books_words b)) scripts_line left)
-    ∙ ap (λ l. l ++ left) (ap (λ l. flat_map line (books_words b) ++ l) (sym (append-nil scripts_line))
-    ∙ sym (flat_map-append line (books_words b) ((codes "scripts" ∷ []) ∷ [])))) h
+pub behind_books : (version : Version) (b : ClearingBooks) (range : AreInRange b) → AreBooksWithin version b → (start left after : List ℕ) (why : Fault)
+    → start ≡ flat_map line (books_words version b) ++ (scripts_line ++ left) → IsFaultyBehind (lines_so_far version b []) left after why → IsFaultyBehind [] start after why
+behind_books version b range within start left after why text h =
+    behind_more [] (lines_so_far version b []) start left after why (input_faultless version b range within [] (no_callers version b))
+    (text ∙ sym (append_assoc (flat_map line (books_words version b)) scripts_line left)
+    ∙ ap (λ l. l ++ left) (ap (λ l. flat_map line (books_words version b) ++ l) (sym (append-nil scripts_line))
+    ∙ sym (flat_map-append line (books_words version b) ((codes "scripts" ∷ []) ∷ [])))) h
 
 -- the front of books and scripts that were read
-pub front_of : (b : ClearingBooks) (callers : List Caller) (start middle after : List ℕ) → AreInRange b
-    → start ≡ flat_map line (books_words b) ++ (scripts_line ++ middle) → IsReadOf b callers middle after
+pub front_of : (version : Version) (b : ClearingBooks) (callers : List Caller) (start middle after : List ℕ) → AreInRange b → AreBooksWithin version b
+    → start ≡ flat_map line (books_words version b) ++ (scripts_line ++ middle) → IsReadOf version b callers middle after
     → HasFront (record { books = b; callers = callers }) start after
-front_of b callers start middle after range text rest =
+front_of version b callers start middle after range within text rest =
     let S : List ℕ = flat_map submission_lines rest.submissions in
     record {
-      front = input_text b rest.submissions;
-      text = text ∙ (λ i. text_of_books b i ++ (scripts_line ++ rest.text i))
-          ∙ sym (append_assoc (books_lines b) scripts_line (S ++ (finish_line ++ after)))
-          ∙ sym (append_assoc (books_lines b ++ scripts_line) S (finish_line ++ after))
-          ∙ sym (append_assoc (books_lines b ++ scripts_line ++ S) finish_line after);
-      spelled = record { submissions = rest.submissions; text = refl; callers = rest.made; valid = record { books = range; callers = rest.valid } };
+      front = input_text version b rest.submissions;
+      text = text ∙ (λ i. text_of_books version b i ++ (scripts_line ++ rest.text i))
+          ∙ sym (append_assoc (books_lines version b) scripts_line (S ++ (finish_line ++ after)))
+          ∙ sym (append_assoc (books_lines version b ++ scripts_line) S (finish_line ++ after))
+          ∙ sym (append_assoc (books_lines version b ++ scripts_line ++ S) finish_line after);
+      spelled = record {
+        version = version;
+        submissions = rest.submissions;
+        text = refl;
+        callers = rest.made;
+        valid = record { books = range; callers = callers_for version b callers rest.valid };
+        within = record { books = within; scripts = callers_within version b callers rest.valid };
+      };
     }
 
 -- what stands in front of a rest

@@ -13,7 +13,7 @@ use Rattle.script_reader.specs.declared.fault.Fault.TheVariants as fault
 use Rattle.script_reader.specs.Lines.{word_at}
 use Rattle.script_reader.specs.Text.{line, script_lines, end_line, finish_line}
 use Rattle.script_reader.specs.Inner.LinesAsWords.{BetweenParts, books_words, submission_words, lines_so_far, lines_inside}
-use Rattle.script_reader.specs.Input.{Submission, AreCallersFor, callers_of, count_scripts, IsName}
+use Rattle.script_reader.specs.Input.{Submission, callers_of, count_scripts, IsName}
 use Rattle.script_reader.specs.Inner.Callers.{is_caller}
 use Rattle.script_reader.specs.Grammar.{submission_lines}
 use Rattle.script_reader.specs.Forms.{Words, is_only, is_script_line}
@@ -25,20 +25,22 @@ use Rattle.script_reader.proofs.Grouped.Submitting.{caller-AreWords}
 use Rattle.script_reader.proofs.Texts.OneReading.{text_of_submission, flat_of_flat}
 use Rattle.script_reader.proofs.Texts.Reaching.{scripts_counted, callers_counted, caller_named}
 use Rattle.script_reader.proofs.Texts.Following.{behind_more}
+use Rattle.script_reader.specs.Inner.OfVersion.{AreCallersOf}
+use Rattle.script_reader.specs.declared.version.Version.{Version}
 
 -- a fault behind scripts that were read
-pub behind_scripts : (b : ClearingBooks) (range : AreInRange b) (subs : List Submission) (start left after : List ℕ)
-    (why : Fault) → AreCallersFor b (callers_of subs) → start ≡ flat_map line (flat_map submission_words subs) ++ left
-    → IsFaultyBehind (lines_so_far b subs) left after why → IsFaultyBehind (lines_so_far b []) start after why
-behind_scripts b range subs start left after why valid text h =
-    behind_more (lines_so_far b []) (flat_map submission_words subs) start left after why (scripts_faultless b range subs valid) text
-    (subst (λ l. IsFaultyBehind l left after why) (sym (append_assoc (books_words b) (ended []) (flat_map submission_words subs))) h)
+pub behind_scripts : (version : Version) (b : ClearingBooks) (range : AreInRange b) (subs : List Submission) (start left after : List ℕ)
+    (why : Fault) → AreCallersOf version b (callers_of subs) → start ≡ flat_map line (flat_map submission_words subs) ++ left
+    → IsFaultyBehind (lines_so_far version b subs) left after why → IsFaultyBehind (lines_so_far version b []) start after why
+behind_scripts version b range subs start left after why valid text h =
+    behind_more (lines_so_far version b []) (flat_map submission_words subs) start left after why (scripts_faultless version b range subs valid) text
+    (subst (λ l. IsFaultyBehind l left after why) (sym (append_assoc (books_words version b) (ended []) (flat_map submission_words subs))) h)
 
 -- a line between scripts that is neither the last one nor begins a script
-pub outside_word : (b : ClearingBooks) (subs : List Submission) (words : Words) → is_only (codes "finish") words ≡ false
-    → is_script_line words ≡ false → fault_of (lines_so_far b subs) words ≡ Some fault.Word
-outside_word b subs words more no_script =
-    outside_fault_is (printed b) subs words
+pub outside_word : (version : Version) (b : ClearingBooks) (subs : List Submission) (words : Words) → is_only (codes "finish") words ≡ false
+    → is_script_line words ≡ false → fault_of (lines_so_far version b subs) words ≡ Some fault.Word
+outside_word version b subs words more no_script =
+    outside_fault_is (printed version b) subs words
     ∙ (λ i. first_reason ((not (more i || no_script i), fault.Word) ∷ (is_script_line words && is_beyond_at subs (word_at words 1), fault.Limit) ∷ []))
 
 -- the line that begins a script
@@ -46,27 +48,27 @@ begins_script : (name : List ℕ) (words : Words) → words ≡ codes "script" �
 begins_script name words is named = ap is_script_line is ∙ named
 
 -- one script too many, or one caller
-pub outside_limit : (b : ClearingBooks) (subs : List Submission) (name : List ℕ) (words : Words)
-    → words ≡ codes "script" ∷ name ∷ [] → IsName name → is_beyond_at subs name ≡ true → fault_of (lines_so_far b subs) words ≡ Some fault.Limit
-outside_limit b subs name words is named beyond =
-    ap (fault_of (lines_so_far b subs)) is ∙ outside_fault_is (printed b) subs (codes "script" ∷ name ∷ [])
+pub outside_limit : (version : Version) (b : ClearingBooks) (subs : List Submission) (name : List ℕ) (words : Words)
+    → words ≡ codes "script" ∷ name ∷ [] → IsName name → is_beyond_at subs name ≡ true → fault_of (lines_so_far version b subs) words ≡ Some fault.Limit
+outside_limit version b subs name words is named beyond =
+    ap (fault_of (lines_so_far version b subs)) is ∙ outside_fault_is (printed version b) subs (codes "script" ∷ name ∷ [])
     ∙ (λ i. first_reason ((not (false || named i), fault.Word) ∷ (named i && beyond i, fault.Limit) ∷ []))
 
 -- neither
-pub outside_none : (b : ClearingBooks) (subs : List Submission) (name : List ℕ) → IsName name
-    → is_beyond_at subs name ≡ false → fault_of (lines_so_far b subs) (codes "script" ∷ name ∷ []) ≡ None
-outside_none b subs name named room =
-    outside_fault_is (printed b) subs (codes "script" ∷ name ∷ [])
+pub outside_none : (version : Version) (b : ClearingBooks) (subs : List Submission) (name : List ℕ) → IsName name
+    → is_beyond_at subs name ≡ false → fault_of (lines_so_far version b subs) (codes "script" ∷ name ∷ []) ≡ None
+outside_none version b subs name named room =
+    outside_fault_is (printed version b) subs (codes "script" ∷ name ∷ [])
     ∙ (λ i. first_reason ((not (false || named i), fault.Word) ∷ (named i && room i, fault.Limit) ∷ []))
 
 -- a fault inside the script that begins here
-pub behind_script : (b : ClearingBooks) (subs : List Submission) (name : List ℕ) (words : Words)
+pub behind_script : (version : Version) (b : ClearingBooks) (subs : List Submission) (name : List ℕ) (words : Words)
     (left middle after : List ℕ) (why : Fault) → words ≡ codes "script" ∷ name ∷ [] → IsName name → is_beyond_at subs name ≡ false
-    → left ≡ line words ++ middle → IsFaultyBehind (lines_inside b subs name [] BetweenParts) middle after why → IsFaultyBehind (lines_so_far b subs) left after why
-behind_script b subs name words left middle after why is named room text h =
+    → left ≡ line words ++ middle → IsFaultyBehind (lines_inside version b subs name [] BetweenParts) middle after why → IsFaultyBehind (lines_so_far version b subs) left after why
+behind_script version b subs name words left middle after why is named room text h =
     let first : Words = codes "script" ∷ name ∷ [] in
-    behind_more (lines_so_far b subs) (first ∷ []) left middle after why
-    (caller-AreWords name named, outside_none b subs name named room, refl, tt)
+    behind_more (lines_so_far version b subs) (first ∷ []) left middle after why
+    (caller-AreWords name named, outside_none version b subs name named room, refl, tt)
     (text ∙ ap (λ w. line w ++ middle) is ∙ ap (λ l. l ++ middle) (sym (append-nil (line first)))) h
 
 -- whether there are too many scripts or callers, as it is looked up

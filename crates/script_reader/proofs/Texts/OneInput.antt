@@ -4,11 +4,13 @@ use Rattle.std.specs.List.{flat_map}
 use Rattle.std.proofs.Common.{true≢false, arith}
 use Rattle.std.specs.List.{flat_map, AllByRecursion}
 use Rattle.std.specs.FinMap as finmap
+use Rattle.std.specs.Cmp.{nat_cmp_total}
+use Rattle.std.specs.Ordering.{nat_cmp}
 use Rattle.std.specs.FinMap.{same_entries_map}
 use Rattle.std.proofs.lemmas.List.{append-nil}
 use Rattle.std.proofs.lemmas.List.Elements.{recursion_from_All}
 use Rattle.books_model.specs.Books.{ClearingBooks}
-use Rattle.books_model.specs.Ranges.{AreInRange, IsOperationFor}
+use Rattle.books_model.specs.Ranges.{AreInRange}
 use Rattle.books_model.specs.declared.script.Op.{Op}
 use Rattle.books_model.specs.declared.script.Op.TheVariants as op
 use Rattle.books_model.specs.declared.script.Part.{Part}
@@ -17,20 +19,23 @@ use Rattle.books_model.specs.Scripts.{operations_in, operations_of}
 use Rattle.books_model.proofs.Scripts.Branches.{All-front, All-back}
 use Rattle.script_reader.specs.Text.{line, number, header_words, account_words, price_words, position_words, call_words, operation_words, part_words, finish_line}
 use Rattle.script_reader.specs.Inner.LinesAsWords.{books_words, submission_words, lines_so_far}
-use Rattle.script_reader.specs.Input.{ClearingInput, Submission, AreCallersFor, callers_of}
+use Rattle.script_reader.specs.Input.{ClearingInput, Submission, callers_of}
 use Rattle.script_reader.specs.Grammar.{Spells}
 use Rattle.script_reader.specs.Lines.{word_at}
 use Rattle.script_reader.specs.Forms.{Words, begins, is_only, value_of, value_at}
 use Rattle.script_reader.proofs.Tokens.Numerals.{value_of_number}
 use Rattle.script_reader.proofs.Printing.Scripted.{ended, no_turning, no_try}
 use Rattle.script_reader.specs.Faults.{is_turning}
-use Rattle.script_reader.proofs.Printing.Sections.{all_follow}
-use Rattle.script_reader.proofs.WithoutFault.Faultless.{IsAccount, IsPrice, IsPosition, IsMarginCall}
-use Rattle.script_reader.proofs.WithoutFault.BooksFaultless.{blocks_fit, instruments_fit, ring_fits, accounts_are, prices_are, positions_are, calls_are}
+use Rattle.script_reader.proofs.Printing.Sections.{all_follow, each_entry}
+use Rattle.script_reader.proofs.WithoutFault.Faultless.{IsPrice, IsPosition, IsMarginCall}
+use Rattle.script_reader.proofs.WithoutFault.BooksFaultless.{blocks_fit, instruments_fit, ring_fits, prices_are, positions_are, calls_are}
 use Rattle.script_reader.proofs.Grouped.Submitting.{IsGoodScript, scripts_are_good}
 use Rattle.script_reader.proofs.Texts.OneReading.{finish_once}
 use Rattle.script_reader.proofs.Texts.Reaching.{operation_goes_on}
-use Rattle.script_reader.proofs.Texts.Deciding.{spelled, spelled_lines}
+use Rattle.script_reader.proofs.Texts.Deciding.{callers_spelled, spelled, spelled_lines}
+use Rattle.script_reader.proofs.Versions.{amount_within, one_version}
+use Rattle.script_reader.specs.Inner.OfVersion.{IsOperationOf, AreCallersOf}
+use Rattle.script_reader.specs.declared.version.Version.{Version}
 
 -- numbers with the same text are the same
 number_once : (n m : ℕ) → n < 2 ^ 64 → m < 2 ^ 64 → number n ≡ number m → n ≡ m
@@ -78,7 +83,8 @@ position_once e f h k same i = (
 
 module _ (b : ClearingBooks) (r : AreInRange b) where
   small_accounts : AllByRecursion AreSmall (finmap.entries b.accounts)
-  small_accounts = all_follow IsAccount AreSmall (finmap.entries b.accounts) (λ e h. (omega (arith, h.0.1), omega (arith, h.2.0.1))) (accounts_are b r)
+  small_accounts = each_entry nat_cmp nat_cmp_total AreSmall b.accounts (λ e found. let h =
+      r.accounts e.0 e.1 found in (omega (arith, h.0.1), omega (arith, h.1)))
 
   small_prices : AllByRecursion AreSmall (finmap.entries b.prices)
   small_prices = all_follow (IsPrice b.instruments) AreSmall (finmap.entries b.prices)
@@ -106,14 +112,14 @@ operation_of w =
     else (if begins (codes "sum") w then op.Sum (value_at w 1) (value_at w 2)
     else op.Next)))))))))
 
-module _ (b : ClearingBooks) (fits : b.instruments < 2 ^ 64) where
-  is_operation_of : (o : Op) → IsOperationFor b o → operation_of (operation_words o) ≡ o
+module _ (version : Version) (b : ClearingBooks) (fits : b.instruments < 2 ^ 64) where
+  is_operation_of : (o : Op) → IsOperationOf version b o → operation_of (operation_words o) ≡ o
   is_operation_of (op.OpenAccount a) h i = op.OpenAccount (value_of_number a (omega (arith, h.1)) i)
   is_operation_of (op.Close a) h i = op.Close (value_of_number a (omega (arith, h.1)) i)
-  is_operation_of (op.Deposit a x) h i = op.Deposit (value_of_number a (omega (arith, h.0.1)) i) (value_of_number x (omega (arith, h.1.1)) i)
-  is_operation_of (op.Withdraw a x) h i = op.Withdraw (value_of_number a (omega (arith, h.0.1)) i) (value_of_number x (omega (arith, h.1.1)) i)
+  is_operation_of (op.Deposit a x) h i = op.Deposit (value_of_number a (omega (arith, h.0.1)) i) (value_of_number x (omega (arith, h.1.1, amount_within version)) i)
+  is_operation_of (op.Withdraw a x) h i = op.Withdraw (value_of_number a (omega (arith, h.0.1)) i) (value_of_number x (omega (arith, h.1.1, amount_within version)) i)
   is_operation_of (op.Move a c x) h i =
-      op.Move (value_of_number a (omega (arith, h.0.1)) i) (value_of_number c (omega (arith, h.1.1)) i) (value_of_number x (omega (arith, h.2.1)) i)
+      op.Move (value_of_number a (omega (arith, h.0.1)) i) (value_of_number c (omega (arith, h.1.1)) i) (value_of_number x (omega (arith, h.2.1, amount_within version)) i)
   is_operation_of (op.Price n q) h i = op.Price (value_of_number n (omega (arith, h.0.1, fits)) i) (value_of_number q (omega (arith, h.1.1)) i)
   is_operation_of (op.Trade a c n q) h i =
       op.Trade (value_of_number a (omega (arith, h.0.1)) i) (value_of_number c (omega (arith, h.1.1)) i)
@@ -123,15 +129,15 @@ module _ (b : ClearingBooks) (fits : b.instruments < 2 ^ 64) where
   is_operation_of (op.Show a) h i = op.Show (value_of_number a (omega (arith, h.1)) i)
   is_operation_of (op.Sum a c) h i = op.Sum (value_of_number a (omega (arith, h.0.1)) i) (value_of_number c (omega (arith, h.1.1)) i)
 
-  operation_once : (o q : Op) → IsOperationFor b o → IsOperationFor b q → operation_words o ≡ operation_words q → o ≡ q
+  operation_once : (o q : Op) → IsOperationOf version b o → IsOperationOf version b q → operation_words o ≡ operation_words q → o ≡ q
   operation_once o q h k e = sym (is_operation_of o h) ∙ ap operation_of e ∙ is_operation_of q k
 
   -- operations in front of a line that is none are the same
   branch_once : (word : List ℕ) → is_turning (word ∷ []) ≡ true → (ops others : List Op) (rest more : List Words)
-      → All (IsOperationFor b) ops → All (IsOperationFor b) others
+      → All (IsOperationOf version b) ops → All (IsOperationOf version b) others
       → map operation_words ops ++ ((word ∷ []) ∷ rest) ≡ map operation_words others ++ ((word ∷ []) ∷ more) → (ops ≡ others) × (rest ≡ more)
   branch_once word turns ops others rest more p q e =
-      let parts = part_once (λ w. not (is_turning w)) operation_words (IsOperationFor b) operation_once (λ o. ap not (no_turning o)) ops others
+      let parts = part_once (λ w. not (is_turning w)) operation_words (IsOperationOf version b) operation_once (λ o. ap not (no_turning o)) ops others
       ((word ∷ []) ∷ rest) ((word ∷ []) ∷ more) (recursion_from_All _ _ p) (recursion_from_All _ _ q) (ap not turns) (ap not turns) e in
       (parts.0, ap (drop 1) parts.1)
 
@@ -141,12 +147,12 @@ module _ (b : ClearingBooks) (fits : b.instruments < 2 ^ 64) where
   goes_on_part (part.Either first second) rest = (codes "try" ∷ [], _, refl, refl)
 
   -- the first part of lines is the same
-  one_part : (p q : Part) (rest more : List Words) → All (IsOperationFor b) (operations_in p) → All (IsOperationFor b) (operations_in q)
+  one_part : (p q : Part) (rest more : List Words) → All (IsOperationOf version b) (operations_in p) → All (IsOperationOf version b) (operations_in q)
       → part_words p ++ rest ≡ part_words q ++ more → (p ≡ q) × (rest ≡ more)
   one_part (part.One o) (part.One w) rest more h k e =
       let heads : operation_words o ≡ operation_words w = cc in
       let tails : rest ≡ more = cc in
-      (ap part.One (operation_once o w (recursion_from_All (IsOperationFor b) (o ∷ []) h).0 (recursion_from_All (IsOperationFor b) (w ∷ []) k).0 heads), tails)
+      (ap part.One (operation_once o w (recursion_from_All (IsOperationOf version b) (o ∷ []) h).0 (recursion_from_All (IsOperationOf version b) (w ∷ []) k).0 heads), tails)
   one_part (part.One o) (part.Either first second) rest more h k e =
       let heads : operation_words o ≡ codes "try" ∷ [] = cc in
       absurd (true≢false (sym (ap (is_only (codes "try")) heads) ∙ no_try o))
@@ -156,15 +162,15 @@ module _ (b : ClearingBooks) (fits : b.instruments < 2 ^ 64) where
   one_part (part.Either first second) (part.Either others last) rest more h k e =
       let tails : (map operation_words first ++ ((codes "else" ∷ []) ∷ (map operation_words second ++ (codes "done" ∷ []) ∷ []))) ++ rest
       ≡ (map operation_words others ++ ((codes "else" ∷ []) ∷ (map operation_words last ++ (codes "done" ∷ []) ∷ []))) ++ more = cc in
-      let one = branch_once (codes "else") refl first others _ _ (All-front (IsOperationFor b) first second h) (All-front (IsOperationFor b) others last k)
+      let one = branch_once (codes "else") refl first others _ _ (All-front (IsOperationOf version b) first second h) (All-front (IsOperationOf version b) others last k)
       (sym (append_assoc (map operation_words first) _ rest) ∙ tails ∙ append_assoc (map operation_words others) _ more) in
-      let two = branch_once (codes "done") refl second last rest more (All-back (IsOperationFor b) first second h) (All-back (IsOperationFor b) others last k)
+      let two = branch_once (codes "done") refl second last rest more (All-back (IsOperationOf version b) first second h) (All-back (IsOperationOf version b) others last k)
       (sym (append_assoc (map operation_words second) ((codes "done" ∷ []) ∷ []) rest) ∙ one.1 ∙ append_assoc (map operation_words last) ((codes "done" ∷ []) ∷ []) more) in
       ((λ i. part.Either (one.0 i) (two.0 i)), two.1)
 
   -- parts in front of the line that ends their script are the same
   script_once : (parts others : List Part) (rest more : List Words)
-      → All (IsOperationFor b) (operations_of parts) → All (IsOperationFor b) (operations_of others)
+      → All (IsOperationOf version b) (operations_of parts) → All (IsOperationOf version b) (operations_of others)
       → flat_map part_words parts ++ ((codes "end" ∷ []) ∷ rest) ≡ flat_map part_words others ++ ((codes "end" ∷ []) ∷ more) → (parts ≡ others) × (rest ≡ more)
   script_once [] [] rest more h k e = (refl, ap (drop 1) e)
   script_once [] (q ∷ others) rest more h k e =
@@ -178,15 +184,15 @@ module _ (b : ClearingBooks) (fits : b.instruments < 2 ^ 64) where
       let heads : codes "end" ∷ [] ≡ begins.0 = cc in
       absurd (true≢false (ap (is_only (codes "end")) heads ∙ begins.3))
   script_once (p ∷ parts) (q ∷ others) rest more h k e =
-      let one = one_part p q _ _ (All-front (IsOperationFor b) (operations_in p) (operations_of parts) h)
-      (All-front (IsOperationFor b) (operations_in q) (operations_of others) k)
+      let one = one_part p q _ _ (All-front (IsOperationOf version b) (operations_in p) (operations_of parts) h)
+      (All-front (IsOperationOf version b) (operations_in q) (operations_of others) k)
       (sym (append_assoc (part_words p) (flat_map part_words parts) _) ∙ e ∙ append_assoc (part_words q) (flat_map part_words others) _) in
-      let behind = script_once parts others rest more (All-back (IsOperationFor b) (operations_in p) (operations_of parts) h)
-      (All-back (IsOperationFor b) (operations_in q) (operations_of others) k) one.1 in
+      let behind = script_once parts others rest more (All-back (IsOperationOf version b) (operations_in p) (operations_of parts) h)
+      (All-back (IsOperationOf version b) (operations_in q) (operations_of others) k) one.1 in
       ((λ i. one.0 i ∷ behind.0 i), behind.1)
 
   -- scripts with the same lines are the same
-  scripts_once : (subs vs : List Submission) → AllByRecursion (IsGoodScript b) subs → AllByRecursion (IsGoodScript b) vs
+  scripts_once : (subs vs : List Submission) → AllByRecursion (IsGoodScript version b) subs → AllByRecursion (IsGoodScript version b) vs
       → flat_map submission_words subs ≡ flat_map submission_words vs → subs ≡ vs
   scripts_once [] [] p q e = refl
   scripts_once [] (v ∷ vs) p q e = cc
@@ -204,10 +210,10 @@ module _ (b : ClearingBooks) (fits : b.instruments < 2 ^ 64) where
       (λ i. record { caller = names i; script = parts.0 i } ∷ rest i)
 
 -- the lines of books in front of others
-tail_form : (b : ClearingBooks) (rest : List Words) → books_words b ++ rest
-    ≡ header_words b ∷ (map account_words (finmap.entries b.accounts)
+tail_form : (version : Version) (b : ClearingBooks) (rest : List Words) → books_words version b ++ rest
+    ≡ header_words version b ∷ (map account_words (finmap.entries b.accounts)
     ++ (map price_words (finmap.entries b.prices) ++ (map position_words (finmap.entries b.positions) ++ (map call_words b.calls ++ rest))))
-tail_form b rest = ap (λ l. header_words b ∷ l) (
+tail_form version b rest = ap (λ l. header_words version b ∷ l) (
     append_assoc (map account_words (finmap.entries b.accounts)) _ rest
     ∙ ap (λ l. map account_words (finmap.entries b.accounts) ++ l) (append_assoc (map price_words (finmap.entries b.prices)) _ rest)
     ∙ ap (λ l. map account_words (finmap.entries b.accounts) ++ (map price_words (finmap.entries b.prices) ++ l))
@@ -215,13 +221,15 @@ tail_form b rest = ap (λ l. header_words b ∷ l) (
     )
 
 -- books and scripts with the same lines are the same
-lines_once : (b c : ClearingBooks) (subs vs : List Submission) → AreInRange b → AreInRange c
-    → AreCallersFor b (callers_of subs) → AreCallersFor c (callers_of vs) → lines_so_far b subs ≡ lines_so_far c vs → (b ≡ c) × (subs ≡ vs)
-lines_once b c subs vs r s valid also e =
+lines_once : (version other : Version) (b c : ClearingBooks) (subs vs : List Submission) → AreInRange b → AreInRange c
+    → AreCallersOf version b (callers_of subs) → AreCallersOf other c (callers_of vs) → lines_so_far version b subs ≡ lines_so_far other c vs
+    → (b ≡ c) × (subs ≡ vs)
+lines_once version other b c subs vs r s valid also e =
     let S : List Words = ended subs in
     let V : List Words = ended vs in
-    let same = sym (tail_form b S) ∙ e ∙ tail_form c V in
-    let heads : header_words b ≡ header_words c = cc in
+    let same = sym (tail_form version b S) ∙ e ∙ tail_form other c V in
+    let heads : header_words version b ≡ header_words other c = cc in
+    let versions = one_version version other (ap (λ w. word_at w 1) heads) in
     let blocks = number_once b.blocks c.blocks (blocks_fit b r) (blocks_fit c s) (ap (λ w. word_at w 3) heads) in
     let instruments = number_once b.instruments c.instruments (instruments_fit b r) (instruments_fit c s) (ap (λ w. word_at w 5) heads) in
     let ring = number_once b.ring c.ring (ring_fits b r) (ring_fits c s) (ap (λ w. word_at w 7) heads) in
@@ -259,8 +267,9 @@ lines_once b c subs vs r s valid also e =
     } in
     let scripts : flat_map submission_words subs ≡ flat_map submission_words vs = let rest : S ≡ V = calls.1 in cc in (
       books,
-      scripts_once b (instruments_fit b r) subs vs (scripts_are_good b subs valid)
-          (subst (λ d. AllByRecursion (IsGoodScript d) vs) (sym books) (scripts_are_good c vs also)) scripts,
+      scripts_once version b (instruments_fit b r) subs vs (scripts_are_good version b subs valid)
+          (subst (λ d. AllByRecursion (IsGoodScript version d) vs) (sym books)
+          (subst (λ w. AllByRecursion (IsGoodScript w c) vs) (sym versions) (scripts_are_good other c vs also))) scripts,
     )
 
 pub one_input : (text : List ℕ) (input other : ClearingInput) → Spells text input → Spells text other → input ≡ other
@@ -270,7 +279,6 @@ one_input text input other h k =
     let lines = finish_once [] s.lines t.lines [] [] s.faultless t.faultless
     (ap (λ l. flat_map line s.lines ++ l) (append-nil finish_line) ∙ sym s.text_is ∙ t.text_is
     ∙ ap (λ l. flat_map line t.lines ++ l) (sym (append-nil finish_line))) in
-    let same = lines_once input.books other.books h.submissions k.submissions h.valid.books k.valid.books
-    (subst (AreCallersFor input.books) h.callers h.valid.callers)
-    (subst (AreCallersFor other.books) k.callers k.valid.callers) (sym (spelled_lines text input h) ∙ lines.0 ∙ spelled_lines text other k) in
+    let same = lines_once h.version k.version input.books other.books h.submissions k.submissions h.valid.books k.valid.books
+    (callers_spelled text input h) (callers_spelled text other k) (sym (spelled_lines text input h) ∙ lines.0 ∙ spelled_lines text other k) in
     (λ t. record { books = same.0 t; callers = (h.callers ∙ ap callers_of same.1 ∙ sym k.callers) t })

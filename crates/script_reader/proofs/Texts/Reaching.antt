@@ -5,11 +5,11 @@ use Rattle.std.specs.List.{list_any, flat_map}
 use Rattle.std.specs.Option.{is_none}
 use Rattle.std.specs.Str.{bytes_eq}
 use Rattle.std.proofs.lemmas.Bool.{leb-false, true≢false}
-use Rattle.std.proofs.lemmas.List.{append-nil, map-append, length-map}
+use Rattle.std.proofs.lemmas.List.{append-nil, length-map}
 use Rattle.std.proofs.lemmas.List.Concat.{flat_map-append}
 use Rattle.std.proofs.lemmas.List.Elements.{All-push}
 use Rattle.books_model.specs.Books.{ClearingBooks, put_cash, put_price, put_quantity, put_call}
-use Rattle.books_model.specs.Ranges.{AreInRange, IsScriptFor, IsOperationFor}
+use Rattle.books_model.specs.Ranges.{AreInRange}
 use Rattle.books_model.specs.declared.limits.TheConstants.{MOST_ALTERNATIVES, MOST_OPERATIONS}
 use Rattle.books_model.specs.declared.script.Op.{Op}
 use Rattle.books_model.specs.declared.script.Op.TheVariants as op
@@ -21,10 +21,13 @@ use Rattle.script_reader.specs.declared.fault.Fault.TheVariants as fault
 use Rattle.script_reader.specs.Lines.{word_at}
 use Rattle.script_reader.specs.Text.{operation_words, part_words}
 use Rattle.script_reader.specs.Inner.LinesAsWords.{Open, BetweenParts, InFirst, InSecond, parts_with, region_of, script_words, books_words, submission_words, lines_so_far, lines_inside}
-use Rattle.script_reader.specs.Input.{Submission, AreCallersFor, callers_of, first_seen, count_scripts, scripts_by, is_name, IsName}
+use Rattle.script_reader.specs.Input.{Submission, callers_of, first_seen, count_scripts, scripts_by, is_name, IsName}
 use Rattle.script_reader.specs.Inner.Callers.{is_caller}
 use Rattle.script_reader.specs.Forms.{Words, Region, script_forms, turning_forms, form_of, ranges_of, is_only, is_script_line, value_of, are_numbers, are_in_range}
-use Rattle.script_reader.specs.Faults.{AreFaultless, fault_of, is_too_many}
+use Rattle.script_reader.specs.Versions.{AreBooksWithin}
+use Rattle.script_reader.specs.declared.books.Row.TheVariants as row
+use Rattle.script_reader.specs.Faults.{AreFaultless, fault_of, is_too_many, header_version}
+use Rattle.script_reader.proofs.Versions.{row_within}
 use Rattle.script_reader.proofs.Conditions.{both, passed, neither, any_last}
 use Rattle.script_reader.proofs.Printing.Printed.{books_fault_is, fault_at}
 use Rattle.script_reader.proofs.Printing.Scripted.{ended, opened, in_books, is_beyond_at, outside_at, outside_fault_is, inside_at, inside_fault_is, no_turning}
@@ -36,40 +39,46 @@ use Rattle.script_reader.proofs.WithoutFault.BooksFaultless.{printed, printed_sm
 use Rattle.script_reader.proofs.Grouped.Submitting.{callers_more, count-fold}
 use Rattle.script_reader.proofs.Grouped.Grouping.{callers_of-push, callers_of-gathered, no-names}
 use Rattle.script_reader.proofs.Printing.Extending.{has_no_fault, adds_account, adds_price, adds_position, adds_call, header_adds, books_of_header}
+use Rattle.script_reader.specs.Inner.OfVersion.{IsOperationOf, IsScriptOf, AreCallersOf}
+use Rattle.script_reader.specs.declared.version.Version.{Version}
 
 -- books in range, and callers for them whose scripts have ended
 pub record Between (lines : List Words) : Type 0 where
+  pub version : Version
   pub books : ClearingBooks
   pub subs : List Submission
   pub range : AreInRange books
-  pub valid : AreCallersFor books (callers_of subs)
-  pub lines_are : lines ≡ lines_so_far books subs
+  pub within : AreBooksWithin version books
+  pub valid : AreCallersOf version books (callers_of subs)
+  pub lines_are : lines ≡ lines_so_far version books subs
 
 -- and an open script, for which there is room
 pub record Inside (lines : List Words) : Type 0 where
+  pub version : Version
   pub books : ClearingBooks
   pub subs : List Submission
   pub name : List ℕ
   pub parts : List Part
   pub stage : Open
   pub range : AreInRange books
-  pub valid : AreCallersFor books (callers_of subs)
+  pub within : AreBooksWithin version books
+  pub valid : AreCallersOf version books (callers_of subs)
   pub is_name : IsName name
-  pub script : IsScriptFor books (parts_with parts stage)
+  pub script : IsScriptOf version books (parts_with parts stage)
   pub room : count_scripts (callers_of subs) < MOST_SCRIPTS
   pub space : is_caller name (callers_of subs) ≡ false → length (callers_of subs) < MOST_CALLERS
-  pub lines_are : lines ≡ lines_inside books subs name parts stage
+  pub lines_are : lines ≡ lines_inside version books subs name parts stage
 
 -- how far lines without fault go
 pub data IsReached (lines : List Words) : Type 0 where
   AtStart : lines ≡ [] → IsReached lines
-  InBooks : (b : ClearingBooks) → AreInRange b → lines ≡ books_words b → IsReached lines
+  InBooks : (version : Version) (b : ClearingBooks) → AreInRange b → AreBooksWithin version b → lines ≡ books_words version b → IsReached lines
   Outside : Between lines → IsReached lines
   WithinScript : Inside lines → IsReached lines
 
 -- no callers are for all books
-pub no_callers : (b : ClearingBooks) → AreCallersFor b (callers_of [])
-no_callers b = record {
+pub no_callers : (version : Version) (b : ClearingBooks) → AreCallersOf version b (callers_of [])
+no_callers version b = record {
   few = omega arith;
   few_scripts = omega arith;
   names = λ k d less. absurd (omega arith);
@@ -91,32 +100,36 @@ pub caller_named : (name : List ℕ) (subs : List Submission)
 caller_named name subs = any_last (λ c. bytes_eq name c.name) (λ n. record { name = n; scripts = scripts_by n subs }) (first_seen (map (λ s. s.caller) subs))
 
 -- a line of books
-books_step : (b : ClearingBooks) (range : AreInRange b) (words : Words) → fault_of (books_words b) words ≡ None → IsReached (books_words b ++ words ∷ [])
-books_step b range words none = by (books_line b.instruments words (has_no_fault (printed b) words at).formed)
+books_step : (version : Version) (b : ClearingBooks) (range : AreInRange b) → AreBooksWithin version b → (words : Words) → fault_of (books_words version b) words ≡ None → IsReached (books_words version b ++ words ∷ [])
+books_step version b range within words none = by (books_line version b.instruments words (has_no_fault (printed version b) words at).formed)
   where
-    at : fault_at (printed b) words ≡ None
-    at = sym (in_books (printed b) words ∙ books_fault_is (printed b) words (printed_small b range)) ∙ none
+    at : fault_at (printed version b) words ≡ None
+    at = sym (in_books (printed version b) words ∙ books_fault_is (printed version b) words (printed_small b range version)) ∙ none
 
-    by : (l : BooksLine) × (words ≡ line_words l) → IsReached (books_words b ++ words ∷ [])
+    by : (l : BooksLine) × (words ≡ line_words l) → IsReached (books_words version b ++ words ∷ [])
     by (AccountLine a cash, e) = let adds =
-        adds_account b range a cash (subst (λ w. fault_at (printed b) w ≡ None) e at) in
-        InBooks (put_cash b (value_of a) (value_of cash)) adds.in_range (ap (λ w. books_words b ++ w ∷ []) e ∙ sym adds.lines)
+        adds_account version b range a cash (subst (λ w. fault_at (printed version b) w ≡ None) e at) in
+        InBooks version (put_cash b (value_of a) (value_of cash)) adds.in_range (row_within version b (row.Account (value_of a) (value_of cash)) within adds.within)
+        (ap (λ w. books_words version b ++ w ∷ []) e ∙ sym adds.lines)
     by (PriceLine i price, e) = let adds =
-        adds_price b range i price (subst (λ w. fault_at (printed b) w ≡ None) e at) in
-        InBooks (put_price b (value_of i) (value_of price)) adds.in_range (ap (λ w. books_words b ++ w ∷ []) e ∙ sym adds.lines)
+        adds_price version b range i price (subst (λ w. fault_at (printed version b) w ≡ None) e at) in
+        InBooks version (put_price b (value_of i) (value_of price)) adds.in_range (row_within version b (row.Price (value_of i) (value_of price)) within tt)
+        (ap (λ w. books_words version b ++ w ∷ []) e ∙ sym adds.lines)
     by (PositionLine a i quantity, e) = let adds =
-        adds_position b range a i quantity (subst (λ w. fault_at (printed b) w ≡ None) e at) in
-        InBooks (put_quantity b (value_of a) (value_of i) (value_of quantity)) adds.in_range (ap (λ w. books_words b ++ w ∷ []) e ∙ sym adds.lines)
+        adds_position version b range a i quantity (subst (λ w. fault_at (printed version b) w ≡ None) e at) in
+        InBooks version (put_quantity b (value_of a) (value_of i) (value_of quantity)) adds.in_range (row_within version b (row.Position (value_of a) (value_of i) (value_of quantity)) within tt)
+        (ap (λ w. books_words version b ++ w ∷ []) e ∙ sym adds.lines)
     by (CallLine a shortfall, e) = let adds =
-        adds_call b range a shortfall (subst (λ w. fault_at (printed b) w ≡ None) e at) in
-        InBooks (put_call b (value_of a) (value_of shortfall)) adds.in_range (ap (λ w. books_words b ++ w ∷ []) e ∙ sym adds.lines)
-    by (ScriptsLine, e) = Outside (record { books = b; subs = []; range = range; valid = no_callers b; lines_are = ap (λ w. books_words b ++ w ∷ []) e })
+        adds_call version b range a shortfall (subst (λ w. fault_at (printed version b) w ≡ None) e at) in
+        InBooks version (put_call b (value_of a) (value_of shortfall)) adds.in_range (row_within version b (row.Call (value_of a) (value_of shortfall)) within tt)
+        (ap (λ w. books_words version b ++ w ∷ []) e ∙ sym adds.lines)
+    by (ScriptsLine, e) = Outside (record { version = version; books = b; subs = []; range = range; within = within; valid = no_callers version b; lines_are = ap (λ w. books_words version b ++ w ∷ []) e })
 
 -- a line between scripts, which is not the last one
 outside_step : (lines : List Words) (words : Words) → (r : Between lines) → fault_of lines words ≡ None
     → is_only (codes "finish") words ≡ false → IsReached (lines ++ words ∷ [])
 outside_step lines words r none more =
-    let at : outside_at r.subs words ≡ None = sym (ap (λ l. fault_of l words) r.lines_are ∙ outside_fault_is (printed r.books) r.subs words) ∙ none in
+    let at : outside_at r.subs words ≡ None = sym (ap (λ l. fault_of l words) r.lines_are ∙ outside_fault_is (printed r.version r.books) r.subs words) ∙ none in
     let n1 = none_applies _ fault.Word _ at in
     let n2 = none_applies _ fault.Limit _ n1.1 in
     let begins_script : is_script_line words ≡ true = other (passed n1.0) more in
@@ -128,12 +141,14 @@ outside_step lines words r none more =
     subst (λ w. is_beyond_at r.subs (word_at w 1) ≡ false) is (sym (ap (λ c. c && is_beyond_at r.subs (word_at words 1)) begins_script) ∙ n2.0) in
     let limits = neither beyond in
     WithinScript (record {
+      version = r.version;
       books = r.books;
       subs = r.subs;
       name = name.0;
       parts = [];
       stage = BetweenParts;
       range = r.range;
+      within = r.within;
       valid = r.valid;
       is_name = named;
       script = record { few = omega arith; few_alternatives = omega arith; each = λ k d less. absurd (omega arith) };
@@ -171,27 +186,27 @@ operation_has_room count alternatives o room =
     sym (ap (λ b. not b && nat_le MOST_OPERATIONS count) (no_turning o)) ∙ limit.0
 
 -- the lines of a script that ends
-ended_more : (b : ClearingBooks) (subs : List Submission) (name : List ℕ) (parts : List Part)
-    → lines_inside b subs name parts BetweenParts ++ (codes "end" ∷ []) ∷ [] ≡ lines_so_far b (subs ++ record { caller = name; script = parts } ∷ [])
-ended_more b subs name parts =
-    append_assoc (lines_so_far b subs) (opened name parts BetweenParts) ((codes "end" ∷ []) ∷ [])
-    ∙ append_assoc (books_words b) (ended subs) (opened name parts BetweenParts ++ (codes "end" ∷ []) ∷ [])
-    ∙ ap (λ l. books_words b ++ ((codes "scripts" ∷ []) ∷ l)) (
+ended_more : (version : Version) (b : ClearingBooks) (subs : List Submission) (name : List ℕ) (parts : List Part)
+    → lines_inside version b subs name parts BetweenParts ++ (codes "end" ∷ []) ∷ [] ≡ lines_so_far version b (subs ++ record { caller = name; script = parts } ∷ [])
+ended_more version b subs name parts =
+    append_assoc (lines_so_far version b subs) (opened name parts BetweenParts) ((codes "end" ∷ []) ∷ [])
+    ∙ append_assoc (books_words version b) (ended subs) (opened name parts BetweenParts ++ (codes "end" ∷ []) ∷ [])
+    ∙ ap (λ l. books_words version b ++ ((codes "scripts" ∷ []) ∷ l)) (
     ap (λ l. flat_map submission_words subs ++ ((codes "script" ∷ name ∷ []) ∷ (l ++ (codes "end" ∷ []) ∷ []))) (append-nil (flat_map part_words parts))
     ∙ ap (λ l. flat_map submission_words subs ++ l) (sym (append-nil (submission_words (record { caller = name; script = parts }))))
     ∙ sym (flat_map-append submission_words subs (record { caller = name; script = parts } ∷ []))
     )
 
 -- what is known of a line of a script to which no reason applies
-pub record HasNoFaultInside (region : Region) (instruments count alternatives : ℕ) (words : Words) : Type 0 where
-  pub formed : is_none (form_of (script_forms region instruments) words) ≡ false
+pub record HasNoFaultInside (version : Version) (region : Region) (instruments count alternatives : ℕ) (words : Words) : Type 0 where
+  pub formed : is_none (form_of (script_forms version region instruments) words) ≡ false
   pub numbers : are_numbers (drop 1 words) ≡ true
-  pub ranges : are_in_range (drop 1 words) (ranges_of (form_of (script_forms region instruments) words)) ≡ true
+  pub ranges : are_in_range (drop 1 words) (ranges_of (form_of (script_forms version region instruments) words)) ≡ true
   pub few : is_too_many count alternatives words ≡ false
 
-has_no_fault_inside : (region : Region) (instruments count alternatives : ℕ) (words : Words)
-    → inside_at region instruments count alternatives words ≡ None → HasNoFaultInside region instruments count alternatives words
-has_no_fault_inside region instruments count alternatives words none =
+has_no_fault_inside : (version : Version) (region : Region) (instruments count alternatives : ℕ) (words : Words)
+    → inside_at version region instruments count alternatives words ≡ None → HasNoFaultInside version region instruments count alternatives words
+has_no_fault_inside version region instruments count alternatives words none =
     let n1 = none_applies _ fault.Word _ none in
     let n2 = none_applies _ fault.Number _ n1.1 in
     let n3 = none_applies _ fault.Limit _ n2.1 in
@@ -199,70 +214,72 @@ has_no_fault_inside region instruments count alternatives words none =
     record { formed = n1.0; numbers = passed n2.0; ranges = passed limit.0; few = limit.1 }
 
 -- a script that has not ended, with one more operation for which there is room
-operation_fits : (b : ClearingBooks) (parts : List Part) (stage : Open) (o : Op) → IsScriptFor b (parts_with parts stage) → IsOperationFor b o
+operation_fits : (version : Version) (b : ClearingBooks) (parts : List Part) (stage : Open) (o : Op) → IsScriptOf version b (parts_with parts stage) → IsOperationOf version b o
     → length (operations_of (parts_with parts stage)) < MOST_OPERATIONS
-    → IsScriptFor b (parts_with (parts_more parts stage o) (open_more stage o))
-operation_fits b parts stage o script fits room = record {
+    → IsScriptOf version b (parts_with (parts_more parts stage o) (open_more stage o))
+operation_fits version b parts stage o script fits room = record {
   few = omega (arith, ap length (operations_more parts stage o), length-append (operations_of (parts_with parts stage)) (o ∷ []), room);
   few_alternatives = omega (arith, alternatives_more parts stage o, script.few_alternatives);
-  each = subst (All (IsOperationFor b)) (sym (operations_more parts stage o))
-      (All-push (IsOperationFor b) (operations_of (parts_with parts stage)) o script.each fits);
+  each = subst (All (IsOperationOf version b)) (sym (operations_more parts stage o))
+      (All-push (IsOperationOf version b) (operations_of (parts_with parts stage)) o script.each fits);
 }
 
 -- the line that begins an alternative for which there is room
-try_fits : (b : ClearingBooks) (parts : List Part) → IsScriptFor b parts → sum_by alternatives_in parts < MOST_ALTERNATIVES
-    → IsScriptFor b (parts_with parts (InFirst []))
-try_fits b parts script room = record {
+try_fits : (version : Version) (b : ClearingBooks) (parts : List Part) → IsScriptOf version b parts → sum_by alternatives_in parts < MOST_ALTERNATIVES
+    → IsScriptOf version b (parts_with parts (InFirst []))
+try_fits version b parts script room = record {
   few = omega (arith, ap length (operations_try parts), script.few);
   few_alternatives = omega (arith, alternatives_try parts, room);
-  each = subst (All (IsOperationFor b)) (sym (operations_try parts)) script.each;
+  each = subst (All (IsOperationOf version b)) (sym (operations_try parts)) script.each;
 }
 
 module _ (lines : List Words) (words : Words) (r : Inside lines) (none : fault_of lines words ≡ None) where
   -- no reason applies
-  no_reason : HasNoFaultInside (region_of r.stage) r.books.instruments (length (operations_of (parts_with r.parts r.stage)))
+  no_reason : HasNoFaultInside r.version (region_of r.stage) r.books.instruments (length (operations_of (parts_with r.parts r.stage)))
       (sum_by alternatives_in (parts_with r.parts r.stage)) words
-  no_reason = has_no_fault_inside (region_of r.stage) r.books.instruments _ _ words
+  no_reason = has_no_fault_inside r.version (region_of r.stage) r.books.instruments _ _ words
       (sym (ap (λ l. fault_of l words) r.lines_are
-      ∙ inside_fault_is (printed r.books) r.subs r.name r.parts r.stage words (printed_small r.books r.range)) ∙ none)
+      ∙ inside_fault_is (printed r.version r.books) r.subs r.name r.parts r.stage words (printed_small r.books r.range r.version)) ∙ none)
 
   -- the script goes on with this line
-  goes_on_with : (parts : List Part) (stage : Open) (these : Words) → words ≡ these → IsScriptFor r.books (parts_with parts stage)
+  goes_on_with : (parts : List Part) (stage : Open) (these : Words) → words ≡ these → IsScriptOf r.version r.books (parts_with parts stage)
       → script_words parts stage ≡ script_words r.parts r.stage ++ these ∷ [] → IsReached (lines ++ words ∷ [])
   goes_on_with parts stage these is script more = WithinScript (record {
+    version = r.version;
     books = r.books;
     subs = r.subs;
     name = r.name;
     parts = parts;
     stage = stage;
     range = r.range;
+    within = r.within;
     valid = r.valid;
     is_name = r.is_name;
     script = script;
     room = r.room;
     space = r.space;
-    lines_are = (λ t. r.lines_are t ++ is t ∷ []) ∙ sym (inside_more r.books r.subs r.name r.parts parts r.stage stage (these ∷ []) more);
+    lines_are = (λ t. r.lines_are t ++ is t ∷ []) ∙ sym (inside_more r.version r.books r.subs r.name r.parts parts r.stage stage (these ∷ []) more);
   })
 
   -- it goes on with an operation
-  with_operation : (o : Op) → IsOperationFor r.books o → words ≡ operation_words o → IsReached (lines ++ words ∷ [])
+  with_operation : (o : Op) → IsOperationOf r.version r.books o → words ≡ operation_words o → IsReached (lines ++ words ∷ [])
   with_operation o fits is =
       let room : nat_le MOST_OPERATIONS (length (operations_of (parts_with r.parts r.stage))) ≡ false =
       operation_has_room _ _ o (ap (is_too_many (length (operations_of (parts_with r.parts r.stage))) (sum_by alternatives_in (parts_with r.parts r.stage))) (sym is)
       ∙ no_reason.few) in
       goes_on_with (parts_more r.parts r.stage o) (open_more r.stage o) (operation_words o) is
-      (operation_fits r.books r.parts r.stage o r.script fits (leb-false MOST_OPERATIONS _ room)) (words_more r.parts r.stage o)
+      (operation_fits r.version r.books r.parts r.stage o r.script fits (leb-false MOST_OPERATIONS _ room)) (words_more r.parts r.stage o)
 
 -- a line of a script
 within_step : (lines : List Words) (words : Words) → (r : Inside lines) → fault_of lines words ≡ None → IsReached (lines ++ words ∷ [])
 within_step lines words r none = by r.stage refl
   where
-    n : HasNoFaultInside (region_of r.stage) r.books.instruments (length (operations_of (parts_with r.parts r.stage)))
+    n : HasNoFaultInside r.version (region_of r.stage) r.books.instruments (length (operations_of (parts_with r.parts r.stage)))
         (sum_by alternatives_in (parts_with r.parts r.stage)) words
     n = no_reason lines words r none
 
-    line_is : IsOneOf (turning_forms (region_of r.stage)) words ⊎ ((o : Op) × IsOperationFor r.books o × (words ≡ operation_words o))
-    line_is = operation_line r.books (turning_forms (region_of r.stage)) words (instruments_fit r.books r.range) n.formed n.numbers n.ranges
+    line_is : IsOneOf (turning_forms (region_of r.stage)) words ⊎ ((o : Op) × IsOperationOf r.version r.books o × (words ≡ operation_words o))
+    line_is = operation_line r.version r.books (turning_forms (region_of r.stage)) words (instruments_fit r.books r.range) n.formed n.numbers n.ranges
 
     s : Submission
     s = record { caller = r.name; script = r.parts }
@@ -271,44 +288,46 @@ within_step lines words r none = by r.stage refl
     at stage is = ap (script_words r.parts) is
 
     by : (stage : Open) → r.stage ≡ stage → IsReached (lines ++ words ∷ [])
-    by stage is = turn stage is (subst (λ o. IsOneOf (turning_forms (region_of o)) words ⊎ ((o : Op) × IsOperationFor r.books o × (words ≡ operation_words o))) is line_is)
+    by stage is = turn stage is (subst (λ o. IsOneOf (turning_forms (region_of o)) words ⊎ ((o : Op) × IsOperationOf r.version r.books o × (words ≡ operation_words o))) is line_is)
       where
         turn : (stage : Open) → r.stage ≡ stage
-            → IsOneOf (turning_forms (region_of stage)) words ⊎ ((o : Op) × IsOperationFor r.books o × (words ≡ operation_words o)) → IsReached (lines ++ words ∷ [])
+            → IsOneOf (turning_forms (region_of stage)) words ⊎ ((o : Op) × IsOperationOf r.version r.books o × (words ≡ operation_words o)) → IsReached (lines ++ words ∷ [])
         turn stage is (inr o) = with_operation lines words r none o.0 o.1 o.2
         turn BetweenParts is (inl turns) = elim (end_or_try words turns) [
           | inl e ↦ Outside (record {
+            version = r.version;
             books = r.books;
             subs = r.subs ++ s ∷ [];
             range = r.range;
-            valid = subst (AreCallersFor r.books) (sym (callers_of-push r.subs s))
-                (callers_more r.books (callers_of r.subs) s r.valid r.is_name (subst (λ o. IsScriptFor r.books (parts_with r.parts o)) is r.script) r.room r.space);
+            within = r.within;
+            valid = subst (AreCallersOf r.version r.books) (sym (callers_of-push r.subs s))
+                (callers_more r.version r.books (callers_of r.subs) s r.valid r.is_name (subst (λ o. IsScriptOf r.version r.books (parts_with r.parts o)) is r.script) r.room r.space);
             lines_are = (λ t. r.lines_are t ++ e t ∷ [])
-                ∙ ap (λ o. lines_inside r.books r.subs r.name r.parts o ++ (codes "end" ∷ []) ∷ []) is ∙ ended_more r.books r.subs r.name r.parts;
+                ∙ ap (λ o. lines_inside r.version r.books r.subs r.name r.parts o ++ (codes "end" ∷ []) ∷ []) is ∙ ended_more r.version r.books r.subs r.name r.parts;
           })
           | inr e ↦ goes_on_with lines words r none r.parts (InFirst []) (codes "try" ∷ []) e
-              (try_fits r.books r.parts (subst (λ o. IsScriptFor r.books (parts_with r.parts o)) is r.script)
+              (try_fits r.version r.books r.parts (subst (λ o. IsScriptOf r.version r.books (parts_with r.parts o)) is r.script)
               (leb-false MOST_ALTERNATIVES _ (sym (ap (λ w. is_too_many (length (operations_of r.parts)) (sum_by alternatives_in r.parts) w) e)
               ∙ ap (λ o. is_too_many (length (operations_of (parts_with r.parts o))) (sum_by alternatives_in (parts_with r.parts o)) words) (sym is) ∙ n.few)))
               (words_try r.parts ∙ ap (λ l. l ++ (codes "try" ∷ []) ∷ []) (sym (at BetweenParts is)))
         ]
         turn (InFirst first) is (inl turns) =
             goes_on_with lines words r none r.parts (InSecond first []) (codes "else" ∷ []) (closing (codes "else") words turns)
-            (subst (λ o. IsScriptFor r.books (parts_with r.parts o)) is r.script)
+            (subst (λ o. IsScriptOf r.version r.books (parts_with r.parts o)) is r.script)
             (words_else r.parts first ∙ ap (λ l. l ++ (codes "else" ∷ []) ∷ []) (sym (at (InFirst first) is)))
         turn (InSecond first second) is (inl turns) =
             goes_on_with lines words r none (r.parts ++ part.Either first second ∷ []) BetweenParts (codes "done" ∷ []) (closing (codes "done") words turns)
-            (subst (λ o. IsScriptFor r.books (parts_with r.parts o)) is r.script)
+            (subst (λ o. IsScriptOf r.version r.books (parts_with r.parts o)) is r.script)
             (words_done r.parts first second ∙ ap (λ l. l ++ (codes "done" ∷ []) ∷ []) (sym (at (InSecond first second) is)))
 
 -- one more line without fault
 pub reach : (lines : List Words) (words : Words) → IsReached lines → fault_of lines words ≡ None
     → is_only (codes "finish") words ≡ false → IsReached (lines ++ words ∷ [])
 reach lines words (AtStart e) none more = subst (λ l. IsReached (l ++ words ∷ [])) (sym e) (
-    let h = header_adds words (sym (ap (λ l. fault_of l words) e) ∙ none) in InBooks (books_of_header words) h.in_range (sym h.lines)
+    let h = header_adds words (sym (ap (λ l. fault_of l words) e) ∙ none) in InBooks (header_version words) (books_of_header words) h.in_range h.within (sym h.lines)
     )
-reach lines words (InBooks b range e) none more =
-    subst (λ l. IsReached (l ++ words ∷ [])) (sym e) (books_step b range words (sym (ap (λ l. fault_of l words) e) ∙ none))
+reach lines words (InBooks version b range within e) none more =
+    subst (λ l. IsReached (l ++ words ∷ [])) (sym e) (books_step version b range within words (sym (ap (λ l. fault_of l words) e) ∙ none))
 reach lines words (Outside r) none more = outside_step lines words r none more
 reach lines words (WithinScript r) none more = within_step lines words r none
 

@@ -15,21 +15,25 @@ use Rattle.std.proofs.lemmas.List.Elements.{recursion_from_All}
 use Rattle.books_model.specs.Books.{ClearingBooks, position_cmp}
 use Rattle.books_model.specs.Ranges.{AreInRange, IsCall}
 use Rattle.books_model.proofs.Maps.Trees.{positions_total}
-use Rattle.script_reader.specs.Lines.{AreWords}
+use Rattle.script_reader.specs.declared.version.Version.TheVariants.{One, Two}
+use Rattle.script_reader.specs.Versions.{version_word, AreBooksWithin}
+use Rattle.script_reader.specs.Lines.{IsWord, AreWords}
 use Rattle.script_reader.specs.Text.{header_words, account_words, price_words, position_words, call_words}
 use Rattle.script_reader.specs.Inner.LinesAsWords.{books_words}
-use Rattle.script_reader.specs.Forms.{Words, sizes}
+use Rattle.script_reader.specs.Forms.{Words, sizes, size_words, are_numbers, are_in_range}
 use Rattle.script_reader.specs.Faults.{first_reason, header_fault, AreFaultless}
 use Rattle.script_reader.specs.declared.fault.Fault.TheVariants as fault
 use Rattle.script_reader.proofs.Tokens.Cutting.{word_from_test}
 use Rattle.script_reader.proofs.Tokens.Numerals.{number-IsWord}
+use Rattle.script_reader.proofs.Versions.{version_known, version_read, blocks_small, cash_small}
 use Rattle.script_reader.proofs.Conditions.{or_right}
 use Rattle.script_reader.proofs.Printing.Printed.{Printed, IsSmall}
 use Rattle.script_reader.proofs.WithoutFault.NoFault.{AreWithin, texts_are_numbers, texts_are_in_range}
 use Rattle.script_reader.proofs.Printing.Sections.{rises_entries, rises_follow, number_less, pair_less, each_entry, all_follow}
-use Rattle.script_reader.proofs.WithoutFault.Faultless.{faultless_append, IsAccount, IsPrice, IsPosition, IsMarginCall, small_account, small_price}
+use Rattle.script_reader.proofs.WithoutFault.Faultless.{faultless_append, IsAccount, IsPrice, IsPosition, IsMarginCall, small_price}
 use Rattle.script_reader.proofs.WithoutFault.Faultless.{small_position}
 use Rattle.script_reader.proofs.WithoutFault.Faultless.{accounts_faultless, prices_faultless, positions_faultless, calls_faultless}
+use Rattle.script_reader.specs.declared.version.Version.{Version}
 
 -- a key that is found is one of the keys
 pub found_is_given : (a : ℕ) (es : List (ℕ × ℕ)) → IsSome (find nat_cmp a es) → list_any (λ x. x.0 == a) es ≡ true
@@ -43,8 +47,9 @@ found_is_given a (e ∷ es) h = by (nat_cmp a e.0) refl h (found_is_given a es)
     by Greater same there rest = or_right (e.0 == a) (rest there)
 
 -- books in range, as they are printed
-abbrev pub printed : ClearingBooks → Printed
-printed b = record {
+abbrev pub printed : Version → ClearingBooks → Printed
+printed version b = record {
+  version = version;
   blocks = b.blocks;
   instruments = b.instruments;
   ring = b.ring;
@@ -74,9 +79,9 @@ module _ (b : ClearingBooks) (range : AreInRange b) where
   ring_fits = omega (arith, range.ring.1)
 
   -- the entries keep to their ranges
-  pub accounts_are : AllByRecursion IsAccount (finmap.entries b.accounts)
-  accounts_are = each_entry nat_cmp nat_cmp_total IsAccount b.accounts (λ e found. let h =
-      range.accounts e.0 e.1 found in (h.0, lit< tt, ((omega arith, h.1), lit< tt, tt)))
+  pub accounts_are : (version : Version) → AreBooksWithin version b → AllByRecursion (IsAccount version) (finmap.entries b.accounts)
+  accounts_are version within = each_entry nat_cmp nat_cmp_total (IsAccount version) b.accounts (λ e found.
+      ((range.accounts e.0 e.1 found).0, lit< tt, ((omega arith, within.cash e.0 e.1 found), cash_small version, tt)))
 
   pub prices_are : AllByRecursion (IsPrice b.instruments) (finmap.entries b.prices)
   prices_are = each_entry nat_cmp nat_cmp_total (IsPrice b.instruments) b.prices (λ e found. let h =
@@ -98,7 +103,7 @@ module _ (b : ClearingBooks) (range : AreInRange b) where
   calls_are = all_follow IsCall IsMarginCall b.calls (λ e h. (h.0, lit< tt, (h.1, lit< tt, tt))) (recursion_from_All IsCall b.calls range.calls)
 
   pub small_accounts : AllByRecursion (λ e. e.0 < 2 ^ 64) (finmap.entries b.accounts)
-  small_accounts = all_follow IsAccount (λ e. e.0 < 2 ^ 64) (finmap.entries b.accounts) small_account accounts_are
+  small_accounts = each_entry nat_cmp nat_cmp_total (λ e. e.0 < 2 ^ 64) b.accounts (λ e found. omega (arith, (range.accounts e.0 e.1 found).0.1))
 
   pub small_prices : AllByRecursion (λ e. e.0 < 2 ^ 64) (finmap.entries b.prices)
   small_prices = all_follow (IsPrice b.instruments) (λ e. e.0 < 2 ^ 64) (finmap.entries b.prices) (small_price b.instruments) prices_are
@@ -108,8 +113,8 @@ module _ (b : ClearingBooks) (range : AreInRange b) where
       × (e.0.1 < 2 ^ 64)) (finmap.entries b.positions) (small_position b.instruments) positions_are
 
   -- what is printed of them has texts
-  pub printed_small : IsSmall (printed b)
-  printed_small = record {
+  pub printed_small : (version : Version) → IsSmall (printed version b)
+  printed_small version = record {
     blocks = blocks_fit;
     instruments = instruments_fit;
     ring = ring_fits;
@@ -119,21 +124,27 @@ module _ (b : ClearingBooks) (range : AreInRange b) where
     positions = small_positions;
   }
 
+-- a word of a version can stand in a line
+version_is_word : (version : Version) → IsWord (version_word version)
+version_is_word One = word_from_test (codes "1") refl
+version_is_word Two = word_from_test (codes "2") refl
+
+module _ (version : Version) (b : ClearingBooks) (range : AreInRange b) (within : AreBooksWithin version b) where
   -- the header
-  pub header_words_are : AreWords (header_words b)
+  pub header_words_are : AreWords (header_words version b)
   header_words_are = record {
     some = omega arith;
     each = (
       word_from_test (codes "books") refl,
       (
-        word_from_test (codes "1") refl,
+        version_is_word version,
         (
           word_from_test (codes "blocks") refl,
           (
-            number-IsWord b.blocks blocks_fit,
+            number-IsWord b.blocks (blocks_fit b range),
             (
               word_from_test (codes "instruments") refl,
-              (number-IsWord b.instruments instruments_fit, (word_from_test (codes "ring") refl, (number-IsWord b.ring ring_fits, tt))),
+              (number-IsWord b.instruments (instruments_fit b range), (word_from_test (codes "ring") refl, (number-IsWord b.ring (ring_fits b range), tt))),
             ),
           ),
         ),
@@ -141,24 +152,31 @@ module _ (b : ClearingBooks) (range : AreInRange b) where
     );
   }
 
-  sizes_within : AreWithin (b.blocks ∷ b.instruments ∷ b.ring ∷ []) sizes
-  sizes_within = (range.blocks, lit< tt, (range.instruments, lit< tt, (range.ring, lit< tt, tt)))
+  sizes_within : AreWithin (b.blocks ∷ b.instruments ∷ b.ring ∷ []) (sizes version)
+  sizes_within = ((range.blocks.0, within.blocks), blocks_small version, (range.instruments, lit< tt, (range.ring, lit< tt, tt)))
 
-  pub header_has_none : header_fault (header_words b) ≡ None
-  header_has_none i = first_reason (
-      (false, fault.Header)
-      ∷ (not (texts_are_numbers (b.blocks ∷ b.instruments ∷ b.ring ∷ []) sizes refl sizes_within i), fault.Number)
-      ∷ (not (texts_are_in_range (b.blocks ∷ b.instruments ∷ b.ring ∷ []) sizes sizes_within i), fault.Limit)
+  pub header_has_none : header_fault (header_words version b) ≡ None
+  header_has_none =
+      (λ i. first_reason (
+      (not (version_known version i), fault.Header)
+      ∷ (not (are_numbers (size_words (header_words version b))), fault.Number)
+      ∷ (not (are_in_range (size_words (header_words version b)) (sizes (version_read version i))), fault.Limit)
       ∷ []
-      )
+      ))
+      ∙ (λ i. first_reason (
+      (false, fault.Header)
+      ∷ (not (texts_are_numbers (b.blocks ∷ b.instruments ∷ b.ring ∷ []) (sizes version) refl sizes_within i), fault.Number)
+      ∷ (not (texts_are_in_range (b.blocks ∷ b.instruments ∷ b.ring ∷ []) (sizes version) sizes_within i), fault.Limit)
+      ∷ []
+      ))
 
   -- all lines of the books
-  pub books_faultless : AreFaultless [] (books_words b)
+  pub books_faultless : AreFaultless [] (books_words version b)
   books_faultless =
       let A : List Words = map account_words (finmap.entries b.accounts) in
       let P : List Words = map price_words (finmap.entries b.prices) in
       let Q : List Words = map position_words (finmap.entries b.positions) in
-      let h : Words = header_words b in
+      let h : Words = header_words version b in
       let room : length (finmap.entries b.accounts) + length (finmap.entries b.prices)
       + length (finmap.entries b.positions) ≤ b.blocks =
       omega (arith, range.blocks_used, len-entries b.accounts, len-entries b.prices, len-entries b.positions) in (
@@ -166,22 +184,22 @@ module _ (b : ClearingBooks) (range : AreInRange b) where
         header_has_none,
         refl,
         faultless_append (h ∷ []) A _
-            (accounts_faultless b.blocks b.instruments b.ring blocks_fit instruments_fit ring_fits []
-            (finmap.entries b.accounts) tt accounts_are (rises_follow _ _ [] _ (λ x e. number_less x.0 e.0)
+            (accounts_faultless version b.blocks b.instruments b.ring (blocks_fit b range) (instruments_fit b range) (ring_fits b range) []
+            (finmap.entries b.accounts) tt (accounts_are b range version within) (rises_follow _ _ [] _ (λ x e. number_less x.0 e.0)
             (rises_entries nat_cmp b.accounts)) (omega (arith, room)))
             (faultless_append (h ∷ A) P _
             (subst (λ l. AreFaultless (h ∷ l) P) (append-nil A)
-            (prices_faultless b.blocks b.instruments b.ring blocks_fit instruments_fit ring_fits
-            (finmap.entries b.accounts) small_accounts [] (finmap.entries b.prices) tt prices_are
+            (prices_faultless version b.blocks b.instruments b.ring (blocks_fit b range) (instruments_fit b range) (ring_fits b range)
+            (finmap.entries b.accounts) (small_accounts b range) [] (finmap.entries b.prices) tt (prices_are b range)
             (rises_follow _ _ [] _ (λ x e. number_less x.0 e.0) (rises_entries nat_cmp b.prices)) (omega (arith, room))))
             (faultless_append (h ∷ (A ++ P)) Q _
             (subst (λ l. AreFaultless (h ∷ (A ++ l)) Q) (append-nil P)
-            (positions_faultless b.blocks b.instruments b.ring blocks_fit instruments_fit ring_fits
-            (finmap.entries b.accounts) small_accounts (finmap.entries b.prices) small_prices []
-            (finmap.entries b.positions) tt positions_are positions_given
+            (positions_faultless version b.blocks b.instruments b.ring (blocks_fit b range) (instruments_fit b range) (ring_fits b range)
+            (finmap.entries b.accounts) (small_accounts b range) (finmap.entries b.prices) (small_prices b range) []
+            (finmap.entries b.positions) tt (positions_are b range) (positions_given b range)
             (rises_follow _ _ [] _ (λ x e. pair_less x.0 e.0) (rises_entries position_cmp b.positions)) (omega (arith, room))))
             (subst (λ l. AreFaultless (h ∷ l) (map call_words b.calls)) (ap (λ l. A ++ (P ++ l)) (append-nil Q) ∙ sym (append_assoc A P Q))
-            (calls_faultless b.blocks b.instruments b.ring blocks_fit instruments_fit ring_fits
-            (finmap.entries b.accounts) small_accounts (finmap.entries b.prices) small_prices
-            (finmap.entries b.positions) small_positions [] b.calls calls_are (omega (arith, range.queue)))))),
+            (calls_faultless version b.blocks b.instruments b.ring (blocks_fit b range) (instruments_fit b range) (ring_fits b range)
+            (finmap.entries b.accounts) (small_accounts b range) (finmap.entries b.prices) (small_prices b range)
+            (finmap.entries b.positions) (small_positions b range) [] b.calls (calls_are b range) (omega (arith, range.queue)))))),
       )

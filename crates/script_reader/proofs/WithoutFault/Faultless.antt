@@ -3,6 +3,7 @@ use Rattle.std.proofs.Common.{◌≡◌, ℕ, ◌+◌, ◌<◌, ◌≤◌, ◌^�
 use Rattle.std.proofs.Common.{arith}
 use Rattle.std.specs.List.{list_any, AllByRecursion}
 use Rattle.std.proofs.lemmas.List.{append-nil}
+use Rattle.script_reader.specs.declared.version.Version.{Version}
 use Rattle.script_reader.specs.Inner.Rows.{account_ranges, price_ranges, position_ranges, call_ranges}
 use Rattle.script_reader.specs.Lines.{IsWord, AreWords}
 use Rattle.script_reader.specs.Text.{number, account_words, price_words, position_words, call_words}
@@ -37,8 +38,8 @@ all_more P [] x all here = (here, tt)
 all_more P (y ∷ xs) x all here = (all.0, all_more P xs x all.1 here)
 
 -- what the numbers of entries keep to
-abbrev pub IsAccount : ℕ × ℕ → Type 0
-IsAccount e = AreWithin (e.0 ∷ e.1 ∷ []) account_ranges
+abbrev pub IsAccount : Version → ℕ × ℕ → Type 0
+IsAccount version e = AreWithin (e.0 ∷ e.1 ∷ []) (account_ranges version)
 
 abbrev pub IsPrice : ℕ → ℕ × ℕ → Type 0
 IsPrice instruments e = AreWithin (e.0 ∷ e.1 ∷ []) (price_ranges instruments)
@@ -49,8 +50,8 @@ IsPosition instruments e = AreWithin (e.0.0 ∷ e.0.1 ∷ e.1 ∷ []) (position_
 abbrev pub IsMarginCall : ℕ × ℕ → Type 0
 IsMarginCall e = AreWithin (e.0 ∷ e.1 ∷ []) call_ranges
 
-pub small_account : (e : ℕ × ℕ) → IsAccount e → e.0 < 2 ^ 64
-small_account e h = omega (arith, h.0.1)
+pub small_account : (version : Version) (e : ℕ × ℕ) → IsAccount version e → e.0 < 2 ^ 64
+small_account version e h = omega (arith, h.0.1)
 
 pub small_price : (instruments : ℕ) (e : ℕ × ℕ) → IsPrice instruments e → e.0 < 2 ^ 64
 small_price instruments e h = omega (arith, h.0.1, h.1)
@@ -58,10 +59,11 @@ small_price instruments e h = omega (arith, h.0.1, h.1)
 pub small_position : (instruments : ℕ) (e : (ℕ × ℕ) × ℕ) → IsPosition instruments e → (e.0.0 < 2 ^ 64) × (e.0.1 < 2 ^ 64)
 small_position instruments e h = (omega (arith, h.0.1), omega (arith, h.2.0.1, h.2.1))
 
-module _ (blocks instruments ring : ℕ) (small_blocks : blocks < 2 ^ 64) (small_instruments : instruments < 2 ^ 64) (small_ring : ring < 2 ^ 64) where
+module _ (version : Version) (blocks instruments ring : ℕ) (small_blocks : blocks < 2 ^ 64) (small_instruments : instruments < 2 ^ 64) (small_ring : ring < 2 ^ 64) where
   -- books of these sizes
   abbrev pub sized : List (ℕ × ℕ) → List (ℕ × ℕ) → List ((ℕ × ℕ) × ℕ) → List (ℕ × ℕ) → Printed
   sized accounts prices positions calls = record {
+    version = version;
     blocks = blocks;
     instruments = instruments;
     ring = ring;
@@ -74,7 +76,7 @@ module _ (blocks instruments ring : ℕ) (small_blocks : blocks < 2 ^ 64) (small
 
   -- accounts that rise behind accounts
   pub accounts_faultless : (done rest : List (ℕ × ℕ)) → AllByRecursion (λ e. e.0 < 2 ^ 64) done
-      → AllByRecursion IsAccount rest → Rises (λ x e. x.0 < e.0) done rest
+      → AllByRecursion (IsAccount version) rest → Rises (λ x e. x.0 < e.0) done rest
       → length done + length rest ≤ blocks → AreFaultless (print (sized done [] [] [])) (map account_words rest)
   unfolding Rises
   accounts_faultless done [] small all rises room = tt
@@ -89,12 +91,12 @@ module _ (blocks instruments ring : ℕ) (small_blocks : blocks < 2 ^ 64) (small
         prices = tt;
         positions = tt;
       } in (
-        row_are_words (codes "account") (e.0 ∷ e.1 ∷ []) account_ranges (word_from_test (codes "account") refl) refl all.0,
+        row_are_words (codes "account") (e.0 ∷ e.1 ∷ []) (account_ranges version) (word_from_test (codes "account") refl) refl all.0,
         account_has_none p is_small e refl refl refl all.0 rises.0 (omega (arith, room)),
         refl,
         subst (λ ls. AreFaultless (header_of p ∷ ls) (map account_words rest)) (account_more done [] [] [] e refl refl refl)
             (accounts_faultless (done ++ e ∷ []) rest
-            (all_more (λ e. e.0 < 2 ^ 64) done e small (small_account e all.0)) all.1 rises.1 (omega (arith, room, length-append done (e ∷ [])))),
+            (all_more (λ e. e.0 < 2 ^ 64) done e small (small_account version e all.0)) all.1 rises.1 (omega (arith, room, length-append done (e ∷ [])))),
       )
 
   module _ (accounts : List (ℕ × ℕ)) (small_accounts : AllByRecursion (λ e. e.0 < 2 ^ 64) accounts) where

@@ -5,7 +5,7 @@ use Rattle.std.specs.List.{list_any, AllByRecursion}
 use Rattle.std.proofs.lemmas.Bool.{le-leb, lt-leb, lt-ltb}
 use Rattle.script_reader.specs.Inner.Rows.{account_ranges, price_ranges, position_ranges, call_ranges}
 use Rattle.books_model.specs.declared.limits.TheConstants.{MOST_ALTERNATIVES, MOST_OPERATIONS, GREATEST_RATE}
-use Rattle.books_model.specs.Ranges.{IsWithin, IsOperationFor}
+use Rattle.books_model.specs.Ranges.{IsWithin}
 use Rattle.books_model.specs.Books.{ClearingBooks}
 use Rattle.books_model.specs.declared.script.Op.{Op}
 use Rattle.books_model.specs.declared.script.Op.TheVariants as op
@@ -14,9 +14,12 @@ use Rattle.script_reader.specs.Text.{number, account_words, price_words, positio
 use Rattle.script_reader.specs.Forms.{Region, InScript, value_of, are_numbers, are_in_range, accounts, amounts, quantities}
 use Rattle.script_reader.specs.Faults.{first_reason, is_below, fault_of}
 use Rattle.script_reader.proofs.Tokens.Numerals.{value_of_number, number-IsNumber}
+use Rattle.script_reader.proofs.Versions.{amount_small}
 use Rattle.script_reader.proofs.Conditions.{and_true, or_false, is_some_list}
 use Rattle.script_reader.proofs.Printing.Printed.{Printed, IsSmall, print, books_fault_is, is_late_in, is_low_in}
 use Rattle.script_reader.proofs.Printing.Scripted.{in_books, inside_at}
+use Rattle.script_reader.specs.Inner.OfVersion.{IsOperationOf}
+use Rattle.script_reader.specs.declared.version.Version.{Version}
 
 -- numbers in their ranges, which have texts
 abbrev pub AreWithin : List ℕ → List (ℕ × ℕ) → Type 0
@@ -56,15 +59,15 @@ all_below n (e ∷ es) all = (below_number e.0 n all.0, all_below n es all.1)
 module _ (p : Printed) (small : IsSmall p) where
   -- an account behind lower ones, where nothing else is given and a block is left
   pub account_has_none : (e : ℕ × ℕ) → p.prices ≡ [] → p.positions ≡ [] → p.calls ≡ []
-      → AreWithin (e.0 ∷ e.1 ∷ []) account_ranges → AllByRecursion (λ x. x.0 < e.0) p.accounts → length p.accounts < p.blocks
+      → AreWithin (e.0 ∷ e.1 ∷ []) (account_ranges p.version) → AllByRecursion (λ x. x.0 < e.0) p.accounts → length p.accounts < p.blocks
       → fault_of (print p) (account_words e) ≡ None
   account_has_none e no_prices no_positions no_calls within rises room =
       in_books p (account_words e) ∙ books_fault_is p (account_words e) small
       ∙ (λ i. first_reason (
       (false, fault.Word)
       ∷ (late i, fault.Order)
-      ∷ (not (texts_are_numbers (e.0 ∷ e.1 ∷ []) account_ranges refl within i), fault.Number)
-      ∷ (not (texts_are_in_range (e.0 ∷ e.1 ∷ []) account_ranges within i) || false, fault.Limit)
+      ∷ (not (texts_are_numbers (e.0 ∷ e.1 ∷ []) (account_ranges p.version) refl within i), fault.Number)
+      ∷ (not (texts_are_in_range (e.0 ∷ e.1 ∷ []) (account_ranges p.version) within i) || false, fault.Limit)
       ∷ (low i, fault.Order)
       ∷ (false, fault.Account)
       ∷ (false, fault.Price)
@@ -171,7 +174,7 @@ module _ (p : Printed) (small : IsSmall p) where
   pub scripts_has_none : fault_of (print p) (codes "scripts" ∷ []) ≡ None
   scripts_has_none = in_books p (codes "scripts" ∷ []) ∙ books_fault_is p (codes "scripts" ∷ []) small
 
-module _ (books : ClearingBooks) (fits : books.instruments < 2 ^ 64) (region : Region) (count alternatives : ℕ) (full : Bool)
+module _ (version : Version) (books : ClearingBooks) (fits : books.instruments < 2 ^ 64) (region : Region) (count alternatives : ℕ) (full : Bool)
     (is_full : nat_le MOST_OPERATIONS count ≡ full) where
   -- a line with numbers in their ranges, behind operations
   row : (ns : List ℕ) (ranges : List (ℕ × ℕ)) → length ns ≡ length ranges → AreWithin ns ranges
@@ -189,13 +192,13 @@ module _ (books : ClearingBooks) (fits : books.instruments < 2 ^ 64) (region : R
       limit_of false = refl
 
   -- an operation has no fault, unless there are too many before it
-  pub operation_fault : (o : Op) → IsOperationFor books o → inside_at region books.instruments count alternatives (operation_words o) ≡ (if full then Some fault.Limit else None)
+  pub operation_fault : (o : Op) → IsOperationOf version books o → inside_at version region books.instruments count alternatives (operation_words o) ≡ (if full then Some fault.Limit else None)
   operation_fault (op.OpenAccount a) h = row (a ∷ []) (accounts ∷ []) refl (h, lit< tt, tt)
   operation_fault (op.Close a) h = row (a ∷ []) (accounts ∷ []) refl (h, lit< tt, tt)
-  operation_fault (op.Deposit a x) h = row (a ∷ x ∷ []) (accounts ∷ amounts ∷ []) refl (h.0, lit< tt, (h.1, lit< tt, tt))
-  operation_fault (op.Withdraw a x) h = row (a ∷ x ∷ []) (accounts ∷ amounts ∷ []) refl (h.0, lit< tt, (h.1, lit< tt, tt))
+  operation_fault (op.Deposit a x) h = row (a ∷ x ∷ []) (accounts ∷ amounts version ∷ []) refl (h.0, lit< tt, (h.1, amount_small version, tt))
+  operation_fault (op.Withdraw a x) h = row (a ∷ x ∷ []) (accounts ∷ amounts version ∷ []) refl (h.0, lit< tt, (h.1, amount_small version, tt))
   operation_fault (op.Move a b x) h =
-      row (a ∷ b ∷ x ∷ []) (accounts ∷ accounts ∷ amounts ∷ []) refl (h.0, lit< tt, (h.1, lit< tt, (h.2, lit< tt, tt)))
+      row (a ∷ b ∷ x ∷ []) (accounts ∷ accounts ∷ amounts version ∷ []) refl (h.0, lit< tt, (h.1, lit< tt, (h.2, amount_small version, tt)))
   operation_fault (op.Price i q) h = row (i ∷ q ∷ []) (price_ranges books.instruments) refl (h.0, fits, (h.1, lit< tt, tt))
   operation_fault (op.Trade a b i q) h =
       row (a ∷ b ∷ i ∷ q ∷ []) (accounts ∷ accounts ∷ (1, books.instruments) ∷ quantities ∷ []) refl
@@ -205,12 +208,12 @@ module _ (books : ClearingBooks) (fits : books.instruments < 2 ^ 64) (region : R
   operation_fault (op.Show a) h = row (a ∷ []) (accounts ∷ []) refl (h, lit< tt, tt)
   operation_fault (op.Sum a b) h = row (a ∷ b ∷ []) (accounts ∷ accounts ∷ []) refl (h.0, lit< tt, (h.1, lit< tt, tt))
 
-pub operation_has_none : (books : ClearingBooks) → books.instruments < 2 ^ 64 → (region : Region) (count alternatives : ℕ)
-    → count < MOST_OPERATIONS → (o : Op) → IsOperationFor books o → inside_at region books.instruments count alternatives (operation_words o) ≡ None
-operation_has_none books fits region count alternatives room =
-    operation_fault books fits region count alternatives false (lt-leb MOST_OPERATIONS count room)
+pub operation_has_none : (version : Version) (books : ClearingBooks) → books.instruments < 2 ^ 64 → (region : Region) (count alternatives : ℕ)
+    → count < MOST_OPERATIONS → (o : Op) → IsOperationOf version books o → inside_at version region books.instruments count alternatives (operation_words o) ≡ None
+operation_has_none version books fits region count alternatives room =
+    operation_fault version books fits region count alternatives false (lt-leb MOST_OPERATIONS count room)
 
 -- the line that begins an alternative, unless there are too many before it
-pub try_fault : (instruments count alternatives : ℕ) (full : Bool) → nat_le MOST_ALTERNATIVES alternatives ≡ full
-    → inside_at InScript instruments count alternatives (codes "try" ∷ []) ≡ (if full then Some fault.Limit else None)
-try_fault instruments count alternatives full is_full i = if is_full i then Some fault.Limit else None
+pub try_fault : (version : Version) (instruments count alternatives : ℕ) (full : Bool) → nat_le MOST_ALTERNATIVES alternatives ≡ full
+    → inside_at version InScript instruments count alternatives (codes "try" ∷ []) ≡ (if full then Some fault.Limit else None)
+try_fault version instruments count alternatives full is_full i = if is_full i then Some fault.Limit else None

@@ -10,7 +10,7 @@ use Rattle.std.proofs.lemmas.List.Elements.{recursion_from_All}
 use Rattle.std.proofs.lemmas.List.Sums.{fold-append, sum_by-append, sum_by-cons}
 use Rattle.script_reader.specs.Inner.Rows.{price_ranges}
 use Rattle.books_model.specs.Books.{ClearingBooks}
-use Rattle.books_model.specs.Ranges.{AreInRange, IsOperationFor}
+use Rattle.books_model.specs.Ranges.{AreInRange}
 use Rattle.books_model.specs.declared.limits.TheConstants.{MOST_ALTERNATIVES, MOST_OPERATIONS, GREATEST_RATE}
 use Rattle.books_model.specs.declared.script.Op.{Op}
 use Rattle.books_model.specs.declared.script.Op.TheVariants as op
@@ -23,9 +23,11 @@ use Rattle.script_reader.specs.declared.fault.Fault.TheVariants as fault
 use Rattle.script_reader.specs.Lines.{AreWords, IsWord}
 use Rattle.script_reader.specs.Text.{operation_words, part_words}
 use Rattle.script_reader.specs.Inner.LinesAsWords.{Open, BetweenParts, InFirst, InSecond, parts_with, region_of, script_words, books_words, submission_words, lines_so_far, lines_inside}
-use Rattle.script_reader.specs.Input.{Submission, AreCallersFor, add_name, callers_of, first_seen, count_scripts}
+use Rattle.script_reader.specs.Input.{Submission, add_name, callers_of, first_seen, count_scripts}
+use Rattle.script_reader.specs.Versions.{AreBooksWithin}
 use Rattle.script_reader.specs.Forms.{Words, is_only, accounts, amounts, quantities}
 use Rattle.script_reader.specs.Faults.{first_reason, AreFaultless}
+use Rattle.script_reader.proofs.Versions.{amount_small}
 use Rattle.script_reader.proofs.Tokens.Cutting.{word_from_test}
 use Rattle.script_reader.proofs.Printing.Scripted.{ended, is_beyond_at, outside_fault_is, inside_at, inside_fault_is}
 use Rattle.script_reader.proofs.Printing.Opened.{parts_more, open_more, words_more, operations_more, words_try, operations_try, words_else, inside_more, rest_of_branch, first_count}
@@ -34,35 +36,37 @@ use Rattle.script_reader.proofs.WithoutFault.Faultless.{faultless_append, row_ar
 use Rattle.script_reader.proofs.WithoutFault.BooksFaultless.{printed, printed_small, instruments_fit, books_faultless}
 use Rattle.script_reader.proofs.Grouped.Submitting.{IsGoodScript, scripts_are_good, caller-AreWords, count-fold}
 use Rattle.script_reader.proofs.Grouped.Grouping.{callers_of-gathered}
+use Rattle.script_reader.specs.Inner.OfVersion.{IsOperationOf, AreCallersOf}
+use Rattle.script_reader.specs.declared.version.Version.{Version}
 
 -- the words of an operation are those of a line
-pub operation-AreWords : (books : ClearingBooks) → books.instruments < 2 ^ 64 → (o : Op) → IsOperationFor books o → AreWords (operation_words o)
-operation-AreWords books fits (op.OpenAccount a) h =
+pub operation-AreWords : (version : Version) (books : ClearingBooks) → books.instruments < 2 ^ 64 → (o : Op) → IsOperationOf version books o → AreWords (operation_words o)
+operation-AreWords version books fits (op.OpenAccount a) h =
     row_are_words (codes "open") (a ∷ []) (accounts ∷ []) (word_from_test (codes "open") refl) refl (h, lit< tt, tt)
-operation-AreWords books fits (op.Close a) h =
+operation-AreWords version books fits (op.Close a) h =
     row_are_words (codes "close") (a ∷ []) (accounts ∷ []) (word_from_test (codes "close") refl) refl (h, lit< tt, tt)
-operation-AreWords books fits (op.Deposit a x) h =
-    row_are_words (codes "deposit") (a ∷ x ∷ []) (accounts ∷ amounts ∷ [])
-    (word_from_test (codes "deposit") refl) refl (h.0, lit< tt, (h.1, lit< tt, tt))
-operation-AreWords books fits (op.Withdraw a x) h =
-    row_are_words (codes "withdraw") (a ∷ x ∷ []) (accounts ∷ amounts ∷ [])
-    (word_from_test (codes "withdraw") refl) refl (h.0, lit< tt, (h.1, lit< tt, tt))
-operation-AreWords books fits (op.Move a b x) h =
-    row_are_words (codes "move") (a ∷ b ∷ x ∷ []) (accounts ∷ accounts ∷ amounts ∷ [])
-    (word_from_test (codes "move") refl) refl (h.0, lit< tt, (h.1, lit< tt, (h.2, lit< tt, tt)))
-operation-AreWords books fits (op.Price i q) h =
+operation-AreWords version books fits (op.Deposit a x) h =
+    row_are_words (codes "deposit") (a ∷ x ∷ []) (accounts ∷ amounts version ∷ [])
+    (word_from_test (codes "deposit") refl) refl (h.0, lit< tt, (h.1, amount_small version, tt))
+operation-AreWords version books fits (op.Withdraw a x) h =
+    row_are_words (codes "withdraw") (a ∷ x ∷ []) (accounts ∷ amounts version ∷ [])
+    (word_from_test (codes "withdraw") refl) refl (h.0, lit< tt, (h.1, amount_small version, tt))
+operation-AreWords version books fits (op.Move a b x) h =
+    row_are_words (codes "move") (a ∷ b ∷ x ∷ []) (accounts ∷ accounts ∷ amounts version ∷ [])
+    (word_from_test (codes "move") refl) refl (h.0, lit< tt, (h.1, lit< tt, (h.2, amount_small version, tt)))
+operation-AreWords version books fits (op.Price i q) h =
     row_are_words (codes "price") (i ∷ q ∷ []) (price_ranges books.instruments)
     (word_from_test (codes "price") refl) refl (h.0, fits, (h.1, lit< tt, tt))
-operation-AreWords books fits (op.Trade a b i q) h =
+operation-AreWords version books fits (op.Trade a b i q) h =
     row_are_words (codes "trade") (a ∷ b ∷ i ∷ q ∷ []) (accounts ∷ accounts ∷ (1, books.instruments)
     ∷ quantities ∷ []) (word_from_test (codes "trade") refl) refl (h.0, lit< tt, (h.1, lit< tt, (h.2, fits, (h.3, lit< tt, tt))))
-operation-AreWords books fits (op.Margin a m) h =
+operation-AreWords version books fits (op.Margin a m) h =
     row_are_words (codes "margin") (a ∷ m ∷ []) (accounts ∷ (1, GREATEST_RATE) ∷ []) (word_from_test (codes "margin") refl) refl
     (h.0, lit< tt, (h.1, lit< tt, tt))
-operation-AreWords books fits op.Next h = row_are_words (codes "next") [] [] (word_from_test (codes "next") refl) refl tt
-operation-AreWords books fits (op.Show a) h =
+operation-AreWords version books fits op.Next h = row_are_words (codes "next") [] [] (word_from_test (codes "next") refl) refl tt
+operation-AreWords version books fits (op.Show a) h =
     row_are_words (codes "show") (a ∷ []) (accounts ∷ []) (word_from_test (codes "show") refl) refl (h, lit< tt, tt)
-operation-AreWords books fits (op.Sum a b) h =
+operation-AreWords version books fits (op.Sum a b) h =
     row_are_words (codes "sum") (a ∷ b ∷ []) (accounts ∷ accounts ∷ [])
     (word_from_test (codes "sum") refl) refl (h.0, lit< tt, (h.1, lit< tt, tt))
 
@@ -92,23 +96,23 @@ length-seen : (names seen : List (List ℕ)) → length seen ≤ length (fold ad
 length-seen [] seen = omega arith
 length-seen (n ∷ names) seen = omega (arith, length-add_name seen n, length-seen names (add_name seen n))
 
-module _ (b : ClearingBooks) (range : AreInRange b) where
+module _ (version : Version) (b : ClearingBooks) (range : AreInRange b) where
   -- lines behind scripts that have ended
   before : List Submission → List Words
-  before subs = books_words b ++ ended subs
+  before subs = books_words version b ++ ended subs
 
   -- operations, behind those of an open script
   pub operations_faultless : (subs : List Submission) (name : List ℕ) (parts : List Part) (stage : Open) (rest : List Op)
-      → AllByRecursion (IsOperationFor b) rest → length (operations_of (parts_with parts stage)) + length rest ≤ MOST_OPERATIONS
-      → AreFaultless (lines_inside b subs name parts stage) (map operation_words rest)
+      → AllByRecursion (IsOperationOf version b) rest → length (operations_of (parts_with parts stage)) + length rest ≤ MOST_OPERATIONS
+      → AreFaultless (lines_inside version b subs name parts stage) (map operation_words rest)
   operations_faultless subs name parts stage [] all room = tt
   operations_faultless subs name parts stage (o ∷ rest) all room = (
-    operation-AreWords b (instruments_fit b range) o all.0,
-    inside_fault_is (printed b) subs name parts stage (operation_words o) (printed_small b range)
-        ∙ operation_has_none b (instruments_fit b range) (region_of stage) (length (operations_of (parts_with parts stage))) _ (omega (arith, room)) o all.0,
+    operation-AreWords version b (instruments_fit b range) o all.0,
+    inside_fault_is (printed version b) subs name parts stage (operation_words o) (printed_small b range version)
+        ∙ operation_has_none version b (instruments_fit b range) (region_of stage) (length (operations_of (parts_with parts stage))) _ (omega (arith, room)) o all.0,
     operation_unfinished o,
     subst (λ ls. AreFaultless ls (map operation_words rest))
-        (inside_more b subs name parts (parts_more parts stage o) stage (open_more stage o) (operation_words o ∷ []) (words_more parts stage o))
+        (inside_more version b subs name parts (parts_more parts stage o) stage (open_more stage o) (operation_words o ∷ []) (words_more parts stage o))
         (operations_faultless subs name (parts_more parts stage o) (open_more stage o) rest all.1
         (omega (arith, room, ap length (operations_more parts stage o), length-append (operations_of (parts_with parts stage)) (o ∷ [])))),
   )
@@ -116,52 +120,52 @@ module _ (b : ClearingBooks) (range : AreInRange b) where
   -- a line of one word of a script that turns it
   pub turning_faultless : (subs : List Submission) (name : List ℕ) (parts : List Part) (stage : Open) (word : List ℕ)
       → IsWord word → is_only (codes "finish") (word ∷ []) ≡ false
-      → inside_at (region_of stage) b.instruments (length (operations_of (parts_with parts stage))) (sum_by alternatives_in (parts_with parts stage)) (word ∷ []) ≡ None
-      → AreFaultless (lines_inside b subs name parts stage) ((word ∷ []) ∷ [])
+      → inside_at version (region_of stage) b.instruments (length (operations_of (parts_with parts stage))) (sum_by alternatives_in (parts_with parts stage)) (word ∷ []) ≡ None
+      → AreFaultless (lines_inside version b subs name parts stage) ((word ∷ []) ∷ [])
   turning_faultless subs name parts stage word is more none = (
     record { some = omega arith; each = (is, tt) },
-    inside_fault_is (printed b) subs name parts stage (word ∷ []) (printed_small b range) ∙ none,
+    inside_fault_is (printed version b) subs name parts stage (word ∷ []) (printed_small b range version) ∙ none,
     more,
     tt,
   )
 
   -- a part behind others
   part_faultless : (subs : List Submission) (name : List ℕ) (parts : List Part) (p : Part)
-      → All (IsOperationFor b) (operations_in p) → length (operations_of parts) + length (operations_in p) ≤ MOST_OPERATIONS
+      → All (IsOperationOf version b) (operations_in p) → length (operations_of parts) + length (operations_in p) ≤ MOST_OPERATIONS
       → sum_by alternatives_in parts + alternatives_in p ≤ MOST_ALTERNATIVES
-      → AreFaultless (lines_inside b subs name parts BetweenParts) (part_words p)
+      → AreFaultless (lines_inside version b subs name parts BetweenParts) (part_words p)
   part_faultless subs name parts (part.One o) all room few =
-      operations_faultless subs name parts BetweenParts (o ∷ []) (recursion_from_All (IsOperationFor b) (o ∷ []) all) (omega (arith, room))
+      operations_faultless subs name parts BetweenParts (o ∷ []) (recursion_from_All (IsOperationOf version b) (o ∷ []) all) (omega (arith, room))
   part_faultless subs name parts (part.Either first second) all room few =
-      let start = lines_inside b subs name parts BetweenParts in
+      let start = lines_inside version b subs name parts BetweenParts in
       let long = length-append first second in
-      let begun = inside_more b subs name parts parts BetweenParts (InFirst []) ((codes "try" ∷ []) ∷ []) (words_try parts) in
-      let branch = inside_more b subs name parts parts (InFirst []) (InFirst first) (map operation_words first) (rest_of_branch parts first second).0 in
-      let turned = inside_more b subs name parts parts (InFirst first) (InSecond first []) ((codes "else" ∷ []) ∷ []) (words_else parts first) in
-      let other = inside_more b subs name parts parts (InSecond first []) (InSecond first second) (map operation_words second) (rest_of_branch parts first second).1 in
+      let begun = inside_more version b subs name parts parts BetweenParts (InFirst []) ((codes "try" ∷ []) ∷ []) (words_try parts) in
+      let branch = inside_more version b subs name parts parts (InFirst []) (InFirst first) (map operation_words first) (rest_of_branch parts first second).0 in
+      let turned = inside_more version b subs name parts parts (InFirst first) (InSecond first []) ((codes "else" ∷ []) ∷ []) (words_else parts first) in
+      let other = inside_more version b subs name parts parts (InSecond first []) (InSecond first second) (map operation_words second) (rest_of_branch parts first second).1 in
       let count = first_count parts first in
       faultless_append start ((codes "try" ∷ []) ∷ []) (map operation_words first ++ ((codes "else" ∷ []) ∷ (map operation_words second ++ (codes "done" ∷ []) ∷ [])))
       (turning_faultless subs name parts BetweenParts (codes "try") (word_from_test (codes "try") refl) refl
-      (try_fault b.instruments (length (operations_of parts)) (sum_by alternatives_in parts) false (lt-leb MOST_ALTERNATIVES (sum_by alternatives_in parts) (omega (arith, few)))))
+      (try_fault version b.instruments (length (operations_of parts)) (sum_by alternatives_in parts) false (lt-leb MOST_ALTERNATIVES (sum_by alternatives_in parts) (omega (arith, few)))))
       (subst (λ ls. AreFaultless ls (map operation_words first ++ ((codes "else" ∷ []) ∷ (map operation_words second ++ (codes "done" ∷ []) ∷ [])))) begun
-      (faultless_append (lines_inside b subs name parts (InFirst [])) (map operation_words first) ((codes "else" ∷ []) ∷ (map operation_words second ++ (codes "done" ∷ []) ∷ []))
+      (faultless_append (lines_inside version b subs name parts (InFirst [])) (map operation_words first) ((codes "else" ∷ []) ∷ (map operation_words second ++ (codes "done" ∷ []) ∷ []))
       (operations_faultless subs name parts (InFirst []) first
-      (recursion_from_All (IsOperationFor b) first (All-front (IsOperationFor b) first second all)) (omega (arith, room, ap length (operations_try parts), long)))
+      (recursion_from_All (IsOperationOf version b) first (All-front (IsOperationOf version b) first second all)) (omega (arith, room, ap length (operations_try parts), long)))
       (subst (λ ls. AreFaultless ls ((codes "else" ∷ []) ∷ (map operation_words second ++ (codes "done" ∷ []) ∷ []))) branch
-      (faultless_append (lines_inside b subs name parts (InFirst first)) ((codes "else" ∷ []) ∷ []) (map operation_words second ++ (codes "done" ∷ []) ∷ [])
+      (faultless_append (lines_inside version b subs name parts (InFirst first)) ((codes "else" ∷ []) ∷ []) (map operation_words second ++ (codes "done" ∷ []) ∷ [])
       (turning_faultless subs name parts (InFirst first) (codes "else") (word_from_test (codes "else") refl) refl refl)
       (subst (λ ls. AreFaultless ls (map operation_words second ++ (codes "done" ∷ []) ∷ [])) turned
-      (faultless_append (lines_inside b subs name parts (InSecond first [])) (map operation_words second) ((codes "done" ∷ []) ∷ [])
+      (faultless_append (lines_inside version b subs name parts (InSecond first [])) (map operation_words second) ((codes "done" ∷ []) ∷ [])
       (operations_faultless subs name parts (InSecond first []) second
-      (recursion_from_All (IsOperationFor b) second (All-back (IsOperationFor b) first second all)) (omega (arith, room, count, long)))
+      (recursion_from_All (IsOperationOf version b) second (All-back (IsOperationOf version b) first second all)) (omega (arith, room, count, long)))
       (subst (λ ls. AreFaultless ls ((codes "done" ∷ []) ∷ [])) other
       (turning_faultless subs name parts (InSecond first second) (codes "done") (word_from_test (codes "done") refl) refl refl))))))))
 
   -- parts behind others
   pub parts_faultless : (subs : List Submission) (name : List ℕ) (done rest : List Part)
-      → All (IsOperationFor b) (operations_of rest) → length (operations_of done) + length (operations_of rest) ≤ MOST_OPERATIONS
+      → All (IsOperationOf version b) (operations_of rest) → length (operations_of done) + length (operations_of rest) ≤ MOST_OPERATIONS
       → sum_by alternatives_in done + sum_by alternatives_in rest ≤ MOST_ALTERNATIVES
-      → AreFaultless (lines_inside b subs name done BetweenParts) (flat_map part_words rest)
+      → AreFaultless (lines_inside version b subs name done BetweenParts) (flat_map part_words rest)
   parts_faultless subs name done [] all room few = tt
   parts_faultless subs name done (p ∷ rest) all room few =
       let one : flat_map part_words (p ∷ []) ≡ part_words p = append-nil (part_words p) in
@@ -170,10 +174,10 @@ module _ (b : ClearingBooks) (range : AreInRange b) where
       ∙ (λ i. sym (append-nil (flat_map part_words done)) i ++ one i) in
       let long = length-append (operations_in p) (operations_of rest) in
       let counted = sum_by-cons alternatives_in p rest in
-      faultless_append (lines_inside b subs name done BetweenParts) (part_words p) (flat_map part_words rest)
-      (part_faultless subs name done p (All-front (IsOperationFor b) (operations_in p) (operations_of rest) all) (omega (arith, room, long)) (omega (arith, few, counted)))
-      (subst (λ ls. AreFaultless ls (flat_map part_words rest)) (inside_more b subs name done (done ++ p ∷ []) BetweenParts BetweenParts (part_words p) more)
-      (parts_faultless subs name (done ++ p ∷ []) rest (All-back (IsOperationFor b) (operations_in p) (operations_of rest) all)
+      faultless_append (lines_inside version b subs name done BetweenParts) (part_words p) (flat_map part_words rest)
+      (part_faultless subs name done p (All-front (IsOperationOf version b) (operations_in p) (operations_of rest) all) (omega (arith, room, long)) (omega (arith, few, counted)))
+      (subst (λ ls. AreFaultless ls (flat_map part_words rest)) (inside_more version b subs name done (done ++ p ∷ []) BetweenParts BetweenParts (part_words p) more)
+      (parts_faultless subs name (done ++ p ∷ []) rest (All-back (IsOperationOf version b) (operations_in p) (operations_of rest) all)
       (omega (arith, room, long, ap length (flat_map-append operations_in done (p ∷ [])), length-append (operations_of done) (operations_in p ++ []), length-append (operations_in p) []))
       (omega (arith, few, counted, sum_by-append alternatives_in done (p ∷ [])))))
 
@@ -203,49 +207,49 @@ module _ (b : ClearingBooks) (range : AreInRange b) where
           lt-leb MOST_CALLERS (length seen) (omega (arith, more, space, ap length whole, length-seen (map (λ s. s.caller) rest) (add_name seen s.caller)))
 
   -- a script behind others
-  submission_faultless : (done rest : List Submission) (s : Submission) → IsGoodScript b s
+  submission_faultless : (done rest : List Submission) (s : Submission) → IsGoodScript version b s
       → length done + length (s ∷ rest) ≤ MOST_SCRIPTS → length (first_seen (map (λ s. s.caller) (done ++ s ∷ rest))) ≤ MOST_CALLERS
-      → AreFaultless (lines_so_far b done) (submission_words s)
+      → AreFaultless (lines_so_far version b done) (submission_words s)
   submission_faultless done rest s good room space = (
     caller-AreWords s.caller good.name,
-    outside_fault_is (printed b) done (codes "script" ∷ s.caller ∷ [])
+    outside_fault_is (printed version b) done (codes "script" ∷ s.caller ∷ [])
         ∙ (λ i. first_reason ((not (false || good.name i), fault.Word) ∷ (good.name i && not_beyond done rest s room space i, fault.Limit) ∷ [])),
     refl,
-    faultless_append (lines_inside b done s.caller [] BetweenParts) (flat_map part_words s.script) ((codes "end" ∷ []) ∷ [])
+    faultless_append (lines_inside version b done s.caller [] BetweenParts) (flat_map part_words s.script) ((codes "end" ∷ []) ∷ [])
         (parts_faultless done s.caller [] s.script good.script.each (omega (arith, good.script.few)) (omega (arith, good.script.few_alternatives)))
         (subst (λ ls. AreFaultless ls ((codes "end" ∷ []) ∷ []))
-        (inside_more b done s.caller [] s.script BetweenParts BetweenParts (flat_map part_words s.script) (append-nil (flat_map part_words s.script)))
+        (inside_more version b done s.caller [] s.script BetweenParts BetweenParts (flat_map part_words s.script) (append-nil (flat_map part_words s.script)))
         (turning_faultless done s.caller s.script BetweenParts (codes "end") (word_from_test (codes "end") refl) refl refl)),
   )
 
-  pub submissions_faultless : (done rest : List Submission) → AllByRecursion (IsGoodScript b) rest
+  pub submissions_faultless : (done rest : List Submission) → AllByRecursion (IsGoodScript version b) rest
       → length done + length rest ≤ MOST_SCRIPTS → length (first_seen (map (λ s. s.caller) (done ++ rest))) ≤ MOST_CALLERS
-      → AreFaultless (lines_so_far b done) (flat_map submission_words rest)
+      → AreFaultless (lines_so_far version b done) (flat_map submission_words rest)
   submissions_faultless done [] all room space = tt
   submissions_faultless done (s ∷ rest) all room space =
       let one : flat_map submission_words (s ∷ []) ≡ submission_words s = append-nil (submission_words s) in
-      let more : lines_so_far b done ++ submission_words s ≡ lines_so_far b (done ++ s ∷ []) =
-      append_assoc (books_words b) (ended done) (submission_words s)
-      ∙ ap (λ l. books_words b ++ ((codes "scripts" ∷ []) ∷ l)) (ap (λ l. flat_map submission_words done ++ l) (sym one)
+      let more : lines_so_far version b done ++ submission_words s ≡ lines_so_far version b (done ++ s ∷ []) =
+      append_assoc (books_words version b) (ended done) (submission_words s)
+      ∙ ap (λ l. books_words version b ++ ((codes "scripts" ∷ []) ∷ l)) (ap (λ l. flat_map submission_words done ++ l) (sym one)
       ∙ sym (flat_map-append submission_words done (s ∷ []))) in
-      faultless_append (lines_so_far b done) (submission_words s) (flat_map submission_words rest)
+      faultless_append (lines_so_far version b done) (submission_words s) (flat_map submission_words rest)
       (submission_faultless done rest s all.0 room space)
       (subst (λ ls. AreFaultless ls (flat_map submission_words rest)) (sym more)
       (submissions_faultless (done ++ s ∷ []) rest all.1 (omega (arith, room, length-append done (s ∷ [])))
       (subst (λ l. length (first_seen (map (λ s. s.caller) l)) ≤ MOST_CALLERS) (sym (append_assoc done (s ∷ []) rest)) space)))
 
   -- the lines of scripts of callers
-  pub scripts_faultless : (subs : List Submission) → AreCallersFor b (callers_of subs) → AreFaultless (lines_so_far b []) (flat_map submission_words subs)
+  pub scripts_faultless : (subs : List Submission) → AreCallersOf version b (callers_of subs) → AreFaultless (lines_so_far version b []) (flat_map submission_words subs)
   scripts_faultless subs valid =
       let counted : count_scripts (callers_of subs) ≡ length subs = ap count_scripts (callers_of-gathered subs) ∙ count-fold [] subs ∙ omega arith in
       let named : length (callers_of subs) ≡ length (first_seen (map (λ s. s.caller) subs)) = simp length-map in
-      submissions_faultless [] subs (scripts_are_good b subs valid) (omega (arith, valid.few_scripts, counted)) (omega (arith, valid.few, named))
+      submissions_faultless [] subs (scripts_are_good version b subs valid) (omega (arith, valid.few_scripts, counted)) (omega (arith, valid.few, named))
 
   -- all lines of an input before its last
-  pub input_faultless : (subs : List Submission) → AreCallersFor b (callers_of subs) → AreFaultless [] (lines_so_far b subs)
-  input_faultless subs valid = faultless_append [] (books_words b) (ended subs) (books_faultless b range) (
+  pub input_faultless : AreBooksWithin version b → (subs : List Submission) → AreCallersOf version b (callers_of subs) → AreFaultless [] (lines_so_far version b subs)
+  input_faultless within subs valid = faultless_append [] (books_words version b) (ended subs) (books_faultless version b range within) (
     record { some = omega arith; each = (word_from_test (codes "scripts") refl, tt) },
-    scripts_has_none (printed b) (printed_small b range),
+    scripts_has_none (printed version b) (printed_small b range version),
     refl,
     scripts_faultless subs valid,
   )

@@ -4,8 +4,10 @@ use Rattle.std.specs.FinMap as map
 use Rattle.books_model.specs.declared.limits.TheConstants.{GREATEST_CASH, GREATEST_PRICE, GREATEST_QUANTITY}
 use Rattle.books_model.specs.Books.{ClearingBooks, put_cash, put_price, put_quantity, put_call, used}
 use Rattle.books_model.specs.Ranges.{IsWithin, IsAccountNumber, IsInstrumentOf, IsCall}
+use Rattle.script_reader.specs.declared.version.Version.{Version}
 use Rattle.script_reader.specs.declared.books.Row.{Row}
 use Rattle.script_reader.specs.declared.books.Row.TheVariants as row
+use Rattle.script_reader.specs.Versions.{greatest_cash}
 use Rattle.script_reader.specs.Forms.{Words}
 use Rattle.script_reader.specs.Inner.LinesAsWords.{books_words}
 
@@ -28,7 +30,13 @@ Fits books (row.Position a i quantity) =
     × (map.get books.positions (a, i) ≡ None) × (used books < books.blocks)
 Fits books (row.Call a shortfall) = IsCall (a, shortfall) × (length books.calls < books.ring)
 
--- the row that a line gives to the books: it fits, and they are printed with the line behind their lines
-pub record IsRow (books : ClearingBooks) (words : Words) (r : Row) : Type 0 where
+-- its cash is in the range of a text of the version
+abbrev pub IsRowWithin : Version → Row → Type 0
+IsRowWithin version (row.Account a cash) = cash ≤ greatest_cash version
+IsRowWithin version _ = Unit {0}
+
+-- the row that a line of a text gives to the books: it fits, and they are printed with the line behind their lines
+pub record IsRow (version : Version) (books : ClearingBooks) (words : Words) (r : Row) : Type 0 where
   pub fits : Fits books r
-  pub lines : books_words (with_row books r) ≡ books_words books ++ words ∷ []
+  pub within : IsRowWithin version r
+  pub lines : books_words version (with_row books r) ≡ books_words version books ++ words ∷ []

@@ -6,14 +6,15 @@ use Rattle.books_model.specs.declared.script.Op.{Op}
 use Rattle.books_model.specs.declared.script.Part.{Part}
 use Rattle.books_model.specs.declared.script.Part.TheVariants as part
 use Rattle.books_model.specs.Books.{ClearingBooks}
+use Rattle.script_reader.specs.declared.version.Version.{Version}
 use Rattle.script_reader.specs.Text.{header_words, account_words, price_words, position_words, call_words, operation_words, part_words}
 use Rattle.script_reader.specs.Input.{Submission}
 use Rattle.script_reader.specs.Forms.{Region, InScript, InFirstBranch, InSecondBranch}
 
 -- the lines of books, as their words
-abbrev pub books_words : ClearingBooks → List (List (List ℕ))
-books_words books =
-    header_words books
+abbrev pub books_words : Version → ClearingBooks → List (List (List ℕ))
+books_words version books =
+    header_words version books
     ∷ (map_list account_words (map.entries books.accounts)
     ++ (map_list price_words (map.entries books.prices)
     ++ (map_list position_words (map.entries books.positions)
@@ -24,8 +25,8 @@ abbrev pub submission_words : Submission → List (List (List ℕ))
 submission_words s = (codes "script" ∷ s.caller ∷ []) ∷ (flat_map part_words s.script ++ (codes "end" ∷ []) ∷ [])
 
 -- the lines of books, and of the scripts behind them so far
-abbrev pub lines_so_far : ClearingBooks → List Submission → List (List (List ℕ))
-lines_so_far books submissions = books_words books ++ ((codes "scripts" ∷ []) ∷ flat_map submission_words submissions)
+abbrev pub lines_so_far : Version → ClearingBooks → List Submission → List (List (List ℕ))
+lines_so_far version books submissions = books_words version books ++ ((codes "scripts" ∷ []) ∷ flat_map submission_words submissions)
 
 -- how far a script has come that has not ended: behind its parts, or in a branch of an alternative
 pub data Open : Type 0 where
@@ -57,6 +58,6 @@ abbrev pub script_words : List Part → Open → List (List (List ℕ))
 script_words parts stage = flat_map part_words parts ++ open_words stage
 
 -- the lines of scripts so far, and those of a script that has not ended
-abbrev pub lines_inside : ClearingBooks → List Submission → List ℕ → List Part → Open → List (List (List ℕ))
-lines_inside books submissions name parts stage =
-    lines_so_far books submissions ++ ((codes "script" ∷ name ∷ []) ∷ script_words parts stage)
+abbrev pub lines_inside : Version → ClearingBooks → List Submission → List ℕ → List Part → Open → List (List (List ℕ))
+lines_inside version books submissions name parts stage =
+    lines_so_far version books submissions ++ ((codes "script" ∷ name ∷ []) ∷ script_words parts stage)

@@ -3,7 +3,9 @@ use Rattle.std.specs.Prelude.{◌≡◌, ℕ, true, not, List, [], ◌∷◌, Op
 use Rattle.std.specs.Option.{is_none}
 use Rattle.script_reader.specs.declared.fault.Fault.{Fault}
 use Rattle.script_reader.specs.declared.fault.Fault.TheVariants as fault
-use Rattle.books_model.specs.declared.limits.TheConstants.{GREATEST_CASH, GREATEST_SHORTFALL}
+use Rattle.books_model.specs.declared.limits.TheConstants.{GREATEST_SHORTFALL}
+use Rattle.script_reader.specs.declared.version.Version.{Version}
+use Rattle.script_reader.specs.Versions.{greatest_cash}
 use Rattle.script_reader.specs.Forms.{Words, Form, accounts, prices, quantities, form_of, ranges_of, are_numbers, are_in_range}
 use Rattle.script_reader.specs.Faults.{first_reason}
 
@@ -32,8 +34,8 @@ row_fault forms words =
     )
 
 -- the ranges of the numbers in each row of books, of as many instruments
-abbrev pub account_ranges : List (ℕ × ℕ)
-account_ranges = accounts ∷ (0, GREATEST_CASH) ∷ []
+abbrev pub account_ranges : Version → List (ℕ × ℕ)
+account_ranges version = accounts ∷ (0, greatest_cash version) ∷ []
 
 abbrev pub price_ranges : ℕ → List (ℕ × ℕ)
 price_ranges instruments = (1, instruments) ∷ prices ∷ []

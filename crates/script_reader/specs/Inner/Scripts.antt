@@ -2,20 +2,21 @@
 use Rattle.std.specs.Prelude.{◌≡◌, ℕ, false, not, ◌&&◌, ◌||◌, nat_le, List, [], ◌∷◌, ◌++◌, codes, length}
 use Rattle.std.specs.List.{flat_map}
 use Rattle.books_model.specs.Books.{ClearingBooks}
-use Rattle.books_model.specs.Ranges.{IsScriptFor}
+use Rattle.script_reader.specs.declared.version.Version.{Version}
 use Rattle.script_reader.specs.declared.limits.TheConstants.{MOST_CALLERS, MOST_SCRIPTS}
 use Rattle.script_reader.specs.Text.{script_lines, end_line, finish_line}
-use Rattle.script_reader.specs.Input.{Caller, ClearingInput, Submission, AreCallersFor, IsName, callers_of, count_scripts}
+use Rattle.script_reader.specs.Input.{Caller, ClearingInput, Submission, IsName, callers_of, count_scripts}
 use Rattle.script_reader.specs.Inner.Callers.{is_caller, add_submission}
+use Rattle.script_reader.specs.Inner.OfVersion.{IsScriptOf, AreCallersOf}
 use Rattle.script_reader.specs.Grammar.{Spells, submission_lines}
 
 -- the text before begins with scripts that make the callers, and with the line `finish`, and goes on with the text
 -- after
-pub record IsReadOf (books : ClearingBooks) (callers : List Caller) (before after : List ℕ) : Type 0 where
+pub record IsReadOf (version : Version) (books : ClearingBooks) (callers : List Caller) (before after : List ℕ) : Type 0 where
   pub submissions : List Submission
   pub text : before ≡ flat_map submission_lines submissions ++ (finish_line ++ after)
   pub made : callers ≡ callers_of submissions
-  pub valid : AreCallersFor books callers
+  pub valid : AreCallersOf version books callers
 
 -- the text before begins with a text of the input, and goes on with the text after
 pub record HasFront (input : ClearingInput) (before after : List ℕ) : Type 0 where
@@ -25,13 +26,13 @@ pub record HasFront (input : ClearingInput) (before after : List ℕ) : Type 0 w
 
 -- the line begins a script, for which and for whose caller there is room; the text before begins with its other
 -- lines, and goes on with the text after; and more is the callers with the script
-pub record IsAdded (books : ClearingBooks) (words : List (List ℕ)) (callers more : List Caller) (before after : List ℕ)
-    : Type 0 where
+pub record IsAdded (version : Version) (books : ClearingBooks) (words : List (List ℕ)) (callers more : List Caller)
+    (before after : List ℕ) : Type 0 where
   pub submission : Submission
   pub begins : words ≡ codes "script" ∷ submission.caller ∷ []
   pub named : IsName submission.caller
   pub room : (nat_le MOST_SCRIPTS (count_scripts callers)
       || (not (is_caller submission.caller callers) && nat_le MOST_CALLERS (length callers))) ≡ false
-  pub valid : IsScriptFor books submission.script
+  pub valid : IsScriptOf version books submission.script
   pub text : before ≡ script_lines submission.script ++ (end_line ++ after)
   pub made : more ≡ add_submission callers submission

@@ -1,10 +1,8 @@
 -- What calls on the tree of accounts say of books.
-use Rattle.std.proofs.Common.{◌≡◌, ℕ, ◌*◌, ◌^◌, ◌<◌, ◌≤◌, Bool, true, false, nat_le, ◌&&◌, if◌then◌else◌, Option, Some, None, IsSome, IfSome, List, [], length}
+use Rattle.std.proofs.Common.{◌≡◌, ℕ, ◌<◌, ◌≤◌, false, Option, Some, None, IsSome, IfSome, List, []}
 use Rattle.std.proofs.Common.{refl, sym, ◌∙◌, subst, arith}
 use Rattle.std.specs.Cmp.{nat_cmp_total}
 use Rattle.std.specs.FinMap as map
-use Rattle.std.proofs.lemmas.Map.Lookups.{exact_unsigned}
-use Rattle.books_model.proofs.Maps.Entries.{All-entries, sum_by-most}
 use Rattle.books_model.proofs.Drafts.{closed-in_range}
 use Rattle.books_model.specs.declared.limits.TheConstants.{GREATEST_CASH}
 use Rattle.books_model.specs.Books.{ClearingBooks, used, put_cash}
@@ -26,20 +24,6 @@ use Rattle.txn_books.proofs.OneState.ChainedChanges.{remove_absent}
 use Rattle.txn_books.proofs.OneState.Parts.{good_parts, some_tree, tree_free, tree_new, tree_old, tree_cut}
 use Rattle.txn_books.proofs.OneState.States.{tree_apart, has_room, no_room, is_below, is_at}
 use Rattle.txn_books.proofs.OnBooks.Calls.{IsPut, IsCut}
-
--- a value that is counted, or 0 in its place
-counted_most : (b : Bool) (v most : ℕ) → v ≤ most → (if b then v else 0) ≤ most
-counted_most true v most le = le
-counted_most false v most le = omega arith
-
--- the cash between two accounts of books in range fits a word
-cash_fits : (books : ClearingBooks) (low high : ℕ) → AreInRange books → cash_between books low high < 2 ^ 64
-cash_fits books low high range =
-    let most : cash_between books low high ≤ length (map.entries books.accounts) * GREATEST_CASH =
-    sum_by-most (λ e. if nat_le low e.0 && nat_le e.0 high then e.1 else 0) GREATEST_CASH (map.entries books.accounts)
-    (All-entries nat_cmp_total exact_unsigned _ books.accounts (λ k v there.
-    counted_most (nat_le low k && nat_le k high) v GREATEST_CASH (range.accounts k v there).1)) in
-    omega (arith, most, map.len-entries books.accounts, range.blocks_used, range.blocks.1)
 
 -- an account's cash is in range
 pub cash_most : (books : ClearingBooks) → AreInRange books → (a : ℕ) (answer : Option ℕ)
@@ -63,11 +47,6 @@ module _ (shape : BooksShape) where
       → Tells (Stands shape) (λ books. cash_between books low high) total x y
   tells_between low high total x y sums =
       record { same = sums.same; told = λ books stand. sums.sum books.accounts stand.parts.tree_used (tree_apart shape x books stand).map }
-
-  -- a sum of cash fits a word
-  pub between_small : (low high total : ℕ) (x y : List ℕ) → IsGoodFor shape x → SumsRange (tree_part (tree_of shape)) low high total x y → total < 2 ^ 64
-  between_small low high total x y good sums =
-      subst (λ (n : ℕ). n < 2 ^ 64) (sym ((tells_between low high total x y sums).told good.0 good.1)) (cash_fits good.0 low high good.1.range)
 
 module _ (shape : BooksShape) (x y : List ℕ) (books : ClearingBooks) (stand : Stands shape x books) (a : ℕ)
     (keeps : KeepsOthers (IsOwn (tree_part (tree_of shape)) a x y) x y) where

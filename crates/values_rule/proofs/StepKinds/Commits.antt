@@ -29,6 +29,7 @@ use Rattle.history_model.proofs.SetLemmas.{differ, has-join_same}
 use Rattle.history_model.proofs.TableLaws.{seen_at_most}
 use Rattle.history_model.proofs.Traces.TraceAgree.{legal_agree}
 use Rattle.locks_rule.specs.Locks.{LocksHold, IsSeat}
+use Rattle.locks_rule.specs.Versions.{locks_of}
 use Rattle.locks_rule.proofs.Counting.{calls_below-same}
 use Rattle.locks_rule.proofs.Own.{Own, own}
 use Rattle.values_rule.specs.Keeping.{KeepsValueRule}
@@ -45,7 +46,7 @@ attempt_open Yielding t = absurd (cc)
 attempt_open Withdrawing t = refl
 attempt_open Releasing t = absurd (cc)
 
-attempt_begun : (p : Phase) → is_attempt p ≡ true → p ≢ Idle
+pub attempt_begun : (p : Phase) → is_attempt p ≡ true → p ≢ Idle
 attempt_begun p t e = let z : true ≡ false = sym t ∙ ap is_attempt e in cc
 
 module _ (good : List ℕ → Type 0) (n : ℕ) (base ws : List ℕ) (vs : List View) (id j : ℕ) (kept : Bool) (v : View)
@@ -66,7 +67,12 @@ module _ (good : List ℕ → Type 0) (n : ℕ) (base ws : List ℕ) (vs : List 
   left = replay base (history_of vs ++ entry_of kept v ∷ [])
 
   abbrev w : View
-  w = record v { seen = history_of vs ++ entry_of kept v ∷ []; undo = []; phase = Releasing }
+  w = record v {
+    seen = history_of vs ++ entry_of kept v ∷ [];
+    owed = if kept then locks_of v.undo else [];
+    undo = [];
+    phase = Releasing;
+  }
 
   abbrev ws' : List ℕ
   ws' = slice_set ws serial_word (slice_index ws serial_word + 1)

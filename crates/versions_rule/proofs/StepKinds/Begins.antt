@@ -19,7 +19,8 @@ use Rattle.values_rule.proofs.Asides.{fresh_trace}
 use Rattle.versions_rule.specs.History.{last_call, now_of}
 use Rattle.versions_rule.specs.Keeping.{KeepsValueRule}
 use Rattle.versions_rule.specs.Records.{CallsCounted}
-use Rattle.versions_rule.specs.Steps.{MayBeginCall, begin_call_action}
+use Rattle.values_rule.specs.Steps.{begin_call_action}
+use Rattle.versions_rule.specs.Steps.{MayBeginCall}
 use Rattle.versions_rule.proofs.Parts.Frames.{recorded_to}
 use Rattle.versions_rule.proofs.Parts.Moves.{moves}
 use Rattle.versions_rule.proofs.Told.Owing.{version_kept}

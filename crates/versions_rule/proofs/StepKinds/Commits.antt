@@ -33,10 +33,11 @@ use Rattle.values_rule.specs.Values.{value_at, oldest, UndoRestores, TraceCurren
 use Rattle.values_rule.proofs.Members.{in_join, none_in, in_first, in_second}
 use Rattle.values_rule.proofs.Notes.{oldest-nil, option_cases, is_missing}
 use Rattle.values_rule.proofs.Frames.{shut_out}
-use Rattle.versions_rule.specs.History.{last_call, knew_of, item_of_entry, items_of, version_at, owed_by, next_version, now_of, writes_lock}
+use Rattle.locks_rule.specs.Versions.{writes_lock, locks_of}
+use Rattle.versions_rule.specs.History.{last_call, knew_of, item_of_entry, items_of, version_at, owed_by, next_version, now_of}
 use Rattle.versions_rule.specs.Keeping.{KeepsValueRule}
 use Rattle.versions_rule.specs.Records.{IsRecorded, Knew, KnewSoMany, AreCauses, RecordsClosed, CallsCounted, FloorAndAbandoned}
-use Rattle.versions_rule.specs.Steps.{MayCommitCall, entry_of, locks_of, after_commit, commit_call_action}
+use Rattle.versions_rule.specs.Steps.{MayCommitCall, entry_of, after_commit, commit_call_action}
 use Rattle.versions_rule.specs.Versions.{ItemsArranged, OwedHeld, UsesCurrent, ValuesHold}
 use Rattle.versions_rule.proofs.Told.Excludes.{not_released}
 use Rattle.values_rule.proofs.StepKinds.Commits.{attempt_open}

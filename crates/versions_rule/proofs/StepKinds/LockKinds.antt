@@ -21,7 +21,8 @@ use Rattle.locks_rule.proofs.Asides.{picked}
 use Rattle.locks_rule.proofs.Own.{own, lock_near}
 use Rattle.values_rule.specs.Steps.{clear_stamp_action}
 use Rattle.versions_rule.specs.Keeping.{KeepsValueRule, SameValues, SameWords}
-use Rattle.versions_rule.specs.Steps.{MayReleaseUnowed, MayClearStamp}
+use Rattle.locks_rule.specs.Versions.{MayReleaseUnowed}
+use Rattle.versions_rule.specs.Steps.{MayClearStamp}
 use Rattle.versions_rule.specs.Versions.{ValuesHold}
 use Rattle.values_rule.proofs.StepKinds.Commits.{attempt_open}
 use Rattle.versions_rule.proofs.StepKinds.GivingUp.{giving_up_values}

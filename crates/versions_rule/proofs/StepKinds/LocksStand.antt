@@ -13,9 +13,10 @@ use Rattle.locks_rule.proofs.Own.{own}
 use Rattle.locks_rule.proofs.Asides.{aside_keeps, same_locks}
 use Rattle.locks_rule.proofs.Joining.{joins, note_union, seats_union}
 use Rattle.locks_rule.proofs.Rearranging.{rearranged}
-use Rattle.values_rule.specs.Steps.{load_value_action, store_value_action, undo_store_action, clear_stamp_action}
+use Rattle.values_rule.specs.Steps.{load_value_action, store_value_action, undo_store_action, clear_stamp_action, begin_call_action}
 use Rattle.versions_rule.specs.Joins.{after_note, after_joining}
-use Rattle.versions_rule.specs.Steps.{MayBeginCall, begin_call_action, MayLoadVersion, load_version_action, MayStoreVersion, store_version_action, MayLoadValue}
+use Rattle.locks_rule.specs.Versions.{MayLoadVersion, load_version_action, MayStoreVersion, store_version_action}
+use Rattle.versions_rule.specs.Steps.{MayBeginCall, MayLoadValue}
 use Rattle.versions_rule.specs.Steps.{MayStoreValue, MayUndoStore, MayCommitCall, commit_call_action, MayClearStamp}
 use Rattle.values_rule.proofs.StepKinds.LocksStand.{undoing_idle}
 

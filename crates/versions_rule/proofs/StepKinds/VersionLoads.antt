@@ -15,15 +15,16 @@ use Rattle.history_model.specs.Locks.{lock_of_word}
 use Rattle.history_model.specs.Traces.{Touches}
 use Rattle.history_model.proofs.Views.Places.{same_view, put_here, put_there, put_cases}
 use Rattle.locks_rule.specs.Locks.{LocksHold}
+use Rattle.locks_rule.proofs.Own.{granted_near}
 use Rattle.values_rule.specs.Values.{UndoRestores, TraceCurrent}
 use Rattle.values_rule.proofs.Members.{in_join, none_in, in_first}
 use Rattle.versions_rule.specs.Records.{AreCauses}
 use Rattle.versions_rule.specs.History.{items_of, owed_by, next_version, now_of}
 use Rattle.versions_rule.specs.Keeping.{KeepsValueRule}
-use Rattle.versions_rule.specs.Steps.{MayLoadVersion, load_version_action}
+use Rattle.locks_rule.specs.Versions.{MayLoadVersion, load_version_action}
 use Rattle.versions_rule.specs.Versions.{ValuesHold}
 use Rattle.versions_rule.proofs.Parts.Asides.{aside_drops}
-use Rattle.versions_rule.proofs.Told.Excludes.{not_released, granted_near}
+use Rattle.versions_rule.proofs.Told.Excludes.{not_released}
 use Rattle.versions_rule.proofs.Parts.Frames.{records_same, calls_same, memory_same, items_kept, now_kept}
 use Rattle.versions_rule.proofs.Told.ItemsIn.{in_parts}
 use Rattle.versions_rule.proofs.Told.Owing.{owed_same, version_is}

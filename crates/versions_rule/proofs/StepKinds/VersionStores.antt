@@ -21,7 +21,7 @@ use Rattle.values_rule.proofs.Frames.{shut_out}
 use Rattle.versions_rule.specs.Records.{AreCauses}
 use Rattle.versions_rule.specs.History.{version_at, items_of, owed_by, next_version, now_of}
 use Rattle.versions_rule.specs.Keeping.{KeepsValueRule}
-use Rattle.versions_rule.specs.Steps.{MayStoreVersion, store_version_action}
+use Rattle.locks_rule.specs.Versions.{MayStoreVersion, store_version_action}
 use Rattle.versions_rule.specs.Versions.{ValuesHold}
 use Rattle.versions_rule.proofs.Parts.Asides.{aside_drops}
 use Rattle.versions_rule.proofs.Parts.Frames.{records_same, calls_same, memory_same, items_kept, now_kept}

@@ -22,7 +22,8 @@ use Rattle.history_model.proofs.Traces.TraceAgree.{legal_agree}
 use Rattle.locks_rule.specs.Locks.{LocksHold}
 use Rattle.locks_rule.proofs.Own.{Own, own, own_number}
 use Rattle.values_rule.proofs.Frames.{shut_out}
-use Rattle.versions_rule.specs.History.{last_call, knew_of, uses_of, items_of, owed_by, next_version, now_of, writes_lock}
+use Rattle.locks_rule.specs.Versions.{uses_of, writes_lock}
+use Rattle.versions_rule.specs.History.{last_call, knew_of, items_of, owed_by, next_version, now_of}
 use Rattle.versions_rule.specs.Records.{IsRecorded}
 use Rattle.versions_rule.specs.Versions.{ValuesHold}
 use Rattle.versions_rule.proofs.Told.Excludes.{not_released}

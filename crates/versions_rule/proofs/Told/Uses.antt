@@ -16,8 +16,7 @@ use Rattle.history_model.specs.Traces.{Trace, Writes, Touches}
 use Rattle.history_model.specs.Undoing.{Notes}
 use Rattle.history_model.proofs.SetLemmas.{has-nil, has-join, has-join_same, has-join_old, differ}
 use Rattle.values_rule.specs.Values.{oldest}
-use Rattle.versions_rule.specs.History.{writes_lock, use_of, uses_of}
-use Rattle.versions_rule.specs.Steps.{locks_of}
+use Rattle.locks_rule.specs.Versions.{writes_lock, use_of, uses_of, locks_of}
 use Rattle.history_model.proofs.ListPlaces.{map_at, at_map}
 
 -- the test of a write under a lock

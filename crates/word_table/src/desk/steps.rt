@@ -11,12 +11,12 @@ ghost use Rattle.history_model.specs.Traces.{after, IsLegalTrace};
 ghost use Rattle.history_model.specs.Undoing.{Notes};
 ghost use Rattle.history_model.specs.Views.{number, HasBit, HasReadGrant, HasClaim, IsScanned, HasWriteGrant, IsGranted};
 ghost use Rattle.locks_rule.specs.Steps.{load_writer_action, claim_writer_action, scan_row_action, release_writer_action, clear_read_bit_action};
-ghost use Rattle.values_rule.specs.Steps.{begin_call_action, load_value_action, store_value_action, undo_store_action, commit_call_action, clear_stamp_action};
+ghost use Rattle.values_rule.specs.Steps.{begin_call_action, store_value_action, undo_store_action, commit_call_action, clear_stamp_action};
 ghost use Rattle.stamps_rule.specs.Causes.{newest, past_causes};
 ghost use Rattle.stamps_rule.specs.Stamps.{AreRestartsBounded};
 ghost use Rattle.stamps_rule.specs.Steps.{draw_stamp_action, announce_stamp_action, load_cause_stamp_action};
 ghost use Rattle.history_model.specs.Sets.{has, without};
-ghost use Rattle.word_table.specs.Calls.{ClaimedBy, CommitsAt, GaveWay, GrantsStay, JudgedBy, MetOn, ReadsHistory, SameCall, ScannedBy, SharedBy, with_bit};
+ghost use Rattle.word_table.specs.Calls.{ClaimedBy, CommitsAt, GainsUse, GaveUp, GaveWay, GrantsStay, JudgedBy, LoadedBy, MetOn, ReadsHistory, SameCall, ScannedBy, SharedBy, paid, with_bit};
 ghost use Rattle.word_table.specs.Kinds.{TakenIn};
 ghost use Rattle.word_table.specs.Desks.{AreGoodWords, IsLegalFor, RuleHolds};
 
@@ -127,7 +127,9 @@ impl<S: Shape> Desk<S> {
         pass.look_for_bit(&self.table.shared, k, other)
     }
 
-    /// Gives up the own claim on lock k. The call ends with that, unless it gives way.
+    /// Gives up the own claim on lock k. The call ends with that, unless it gives way. Where the call owes the lock its
+    /// next version, that is stored before: 1 more than the version that the call found, which nobody can have changed
+    /// since.
     pub fn unclaim(&self, pass: &mut Pass<S>, k: u32)
         requires desk { pass.old.table ≡ self.now.table }
         requires claim { (k < LOCKS) × HasClaim pass.old.view k }
@@ -135,12 +137,11 @@ impl<S: Shape> Desk<S> {
         requires begun { pass.old.view.phase ≢ Phase.Idle }
         ensures desk { pass.new.table ≡ pass.old.table }
         ensures step { pass.new.view
-            ≡ (release_writer_action (number pass.old.view) k pass.old.view).view [] 0 }
-        ensures taken { (found : ℕ) × TakenIn (RuleHolds S.Shape self.now)
-            (release_writer_action (number pass.old.view) k pass.old.view) pass.old.view found
-            pass.new.view }
+            ≡ (release_writer_action (number pass.old.view) k (paid k pass.old.view)).view [] 0 }
+        ensures taken { GaveUp (RuleHolds S.Shape self.now) k pass.old.view pass.new.view }
         ensures gone { ¬ HasClaim pass.new.view k }
     {
+        pass.pay_version(&self.table.shared, k);
         pass.release_writer(&self.table.shared, k);
     }
 
@@ -180,7 +181,8 @@ impl<S: Shape> Desk<S> {
     }
 
     /// Loads the value of word a, under its lock. It is what the call's own events and the committed history leave
-    /// there, since whoever would change it has to wait.
+    /// there, since whoever would change it has to wait. At the attempt's first use of the lock its version is loaded
+    /// before, and noted.
     pub fn load(&self, pass: &mut Pass<S>, a: u64) -> u64
         requires desk { pass.old.table ≡ self.now.table }
         requires phase { pass.old.view.phase ≡ Phase.Running }
@@ -188,13 +190,16 @@ impl<S: Shape> Desk<S> {
         requires granted { IsGranted pass.old.view (lock_of_word a) }
         ensures desk { pass.new.table ≡ pass.old.table }
         ensures event { pass.new.view
-            ≡ record pass.old.view { trace = pass.old.view.trace ++ Read a result ∷ [] } }
-        ensures taken { TakenIn (RuleHolds S.Shape self.now)
-            (load_value_action (number pass.old.view) a pass.old.view) pass.old.view result
-            pass.new.view }
+            ≡ record pass.old.view {
+              trace = pass.old.view.trace ++ Read a result ∷ [];
+              uses = pass.new.view.uses;
+            } }
+        ensures uses { GainsUse (lock_of_word a) pass.old.view.uses pass.new.view.uses }
+        ensures taken { LoadedBy (RuleHolds S.Shape self.now) pass.old.view a result pass.new.view }
         ensures fits { ReadsHistory (AreGoodWords S.Shape self.now)
             self.now.seats self.now.base pass.new.view }
     {
+        pass.find_version(&self.table.shared, a);
         pass.load_value(&self.table.shared, a)
     }
 
@@ -359,7 +364,8 @@ impl<S: Shape> Desk<S> {
             (load_cause_stamp_action (number pass.old.view) other stamp pass.old.view)
             pass.old.view found pass.new.view }
         ensures restarts { result ≡ true
-            → pass.new.view ≡ record pass.old.view { phase = Phase.Running; trace = [] } }
+            → pass.new.view
+            ≡ record pass.old.view { phase = Phase.Running; trace = []; uses = [] } }
         ensures waits { result ≡ false
             → pass.new.view ≡ record pass.old.view { waits = pass.old.view.waits + 1 } }
         ensures fits { result ≡ true

@@ -17,8 +17,8 @@ use super::Pass;
 use crate::answer::{Judged, judged_by};
 use crate::layout::{PLACE_OF_CLOCK, PLACE_OF_SERIAL, place_of_stamp};
 use crate::rule::TableWords;
-use crate::step;
 use crate::step::Step;
+use crate::{bits, step};
 use history_model::{Phase, Shape};
 
 // The phase once the timestamp of the cause was looked at.
@@ -121,6 +121,7 @@ impl<S: Shape> Pass<S> {
             },
         );
         self.call.phase = Phase::Yielding;
+        self.locks.versions.written = [0; 16];
         judged
     }
 
@@ -154,6 +155,7 @@ impl<S: Shape> Pass<S> {
         );
         let after_look = phase_after_look(shown, stamp);
         self.call.phase = after_look;
+        bits::clear_unless(&mut self.locks.versions.used, shown == stamp);
         shown
     }
 

@@ -1,8 +1,9 @@
 //! The steps of a pass on locks: a read bit is set or cleared, a writer word is claimed, looked at or given up, and a row
 //! is scanned.
 
-ghost use Rattle.std.specs.Prelude.{◌≡◌, ◌≢◌, ◌⊎◌, ◌<◌, ◌≤◌, ◌+◌, ℕ, [], ◌∷◌};
+ghost use Rattle.std.specs.Prelude.{◌≡◌, ◌≢◌, ◌⊎◌, ◌<◌, ◌≤◌, ◌+◌, ℕ, [], ◌∷◌, false};
 ghost use Rattle.history_model.specs.Locks.{lock_of_word};
+ghost use Rattle.history_model.specs.Sets.{has};
 ghost use Rattle.history_model.specs.Views.{number, HasBit, HasClaim, IsGranted};
 ghost use Rattle.locks_rule.specs.Steps.{released_phase, set_read_bit_action, clear_read_bit_action, load_writer_action, claim_writer_action, scan_row_action, release_writer_action};
 ghost use Rattle.word_table.specs.Calls.{Looked, MakesSeen, ScannedBy, with_bit};
@@ -200,6 +201,7 @@ impl<S: Shape> Pass<S> {
         requires claim { (k < LOCKS) × HasClaim self.old.view k }
         requires undone { (self.old.view.undo ≡ []) ⊎ (self.old.view.phase ≡ Phase.Releasing) }
         requires begun { self.old.view.phase ≢ Phase.Idle }
+        requires unowed { has k self.old.view.owed ≡ false }
         ensures table { self.new.table ≡ self.old.table }
         ensures view { self.new.view
             ≡ (release_writer_action (number self.old.view) k self.old.view).view [] 0 }

@@ -15,14 +15,15 @@ ghost use Rattle.stamps_rule.specs.Stamps.{AreRestartsBounded};
 ghost use Rattle.word_table.specs.Calls.{CommitsAt, ReadsHistory};
 ghost use Rattle.word_table.specs.Kinds.{TakenIn};
 ghost use Rattle.word_table.specs.Sound.{GroundHolds};
+ghost use Rattle.word_table.specs.Versions.{HasUse};
 
 use super::Pass;
 use crate::layout::{PLACE_OF_SERIAL, place_of_calls, place_of_value};
 use crate::limits::LAST_CALL;
 use crate::rule::TableWords;
-use crate::step;
 use crate::step::Step;
-use history_model::{Phase, Shape};
+use crate::{bits, step};
+use history_model::{Phase, Shape, lock_of};
 
 // The phase once a write was undone.
 fn after_undo(phase: Phase) -> Phase
@@ -56,6 +57,8 @@ impl<S: Shape> Pass<S> {
         let next = self.call.calls + 1;
         self.call.calls = next;
         self.call.phase = Phase::Running;
+        self.locks.versions.used = [0; 16];
+        self.locks.versions.written = [0; 16];
         step::store(
             table,
             &mut self.seat,
@@ -74,6 +77,7 @@ impl<S: Shape> Pass<S> {
         requires phase { self.old.view.phase ≡ Phase.Running }
         requires word { a < length self.old.view.base }
         requires granted { IsGranted self.old.view (lock_of_word a) }
+        requires used { HasUse self.old.view (lock_of_word a) }
         ensures table { self.new.table ≡ self.old.table }
         ensures taken { TakenIn (GroundHolds S.word_count S.good table.now.key)
             (load_value_action (number self.old.view) a self.old.view) self.old.view result
@@ -108,6 +112,7 @@ impl<S: Shape> Pass<S> {
             (store_value_action (number self.old.view) a value self.old.view) self.old.view found
             self.new.view }
     {
+        bits::raise(&mut self.locks.versions.written, lock_of(a));
         step::store(
             table,
             &mut self.seat,
@@ -136,6 +141,7 @@ impl<S: Shape> Pass<S> {
     {
         let undoing = after_undo(self.call.phase);
         self.call.phase = undoing;
+        self.locks.versions.written = [0; 16];
         step::store(
             table,
             &mut self.seat,
@@ -175,6 +181,7 @@ impl<S: Shape> Pass<S> {
             self.old.view }
     {
         self.call.phase = Phase::Releasing;
+        bits::clear_unless(&mut self.locks.versions.written, kept);
         step::add(
             table,
             &mut self.seat,

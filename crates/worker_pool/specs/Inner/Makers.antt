@@ -1,16 +1,18 @@
 -- What one worker did.
-use Rattle.std.specs.Prelude.{◌≡◌, ℕ, ◌+◌, ◌<◌, ◌≤◌, ◌&&◌, ◌==◌, nat_lt, if◌then◌else◌, List, [], ◌∷◌, map, length, take, All, AllPairs, count_by, Some}
+use Rattle.std.specs.Prelude.{◌≡◌, ℕ, ◌+◌, ◌<◌, ◌≤◌, ◌&&◌, ◌==◌, nat_lt, if◌then◌else◌, List, [], ◌∷◌, map, length, All, AllPairs, count_by, Some}
 use Rattle.std.specs.Prelude.{slice_get}
 use Rattle.history_model.specs.declared.entry.Entry.{Entry}
 use Rattle.history_model.specs.declared.view.Phase.TheVariants.{Idle}
-use Rattle.history_model.specs.Histories.{replay}
-use Rattle.history_model.specs.Traces.{after}
+use Rattle.history_model.specs.Fitting.{IsGood}
+use Rattle.history_model.specs.Traces.{IsLegalTrace, after}
 use Rattle.word_table.specs.Copies.{PassView}
 use Rattle.word_table.specs.Desks.{DeskView}
 use Rattle.script_reader.specs.Input.{ClearingInput, script_at}
 use Rattle.script_reader.specs.Journal.{Place, IsPlace}
 use Rattle.txn_books.specs.declared.shape.BooksShape.{BooksShape}
+use Rattle.txn_books.specs.Layout.{words_of}
 use Rattle.txn_books.specs.Meaning.{ScriptMeans}
+use Rattle.txn_books.specs.Standing.{IsGoodFor}
 use Rattle.worker_pool.specs.declared.done.Done.{Done}
 use Rattle.worker_pool.specs.Days.{place_of_item, places_of_items, IsEntryOf}
 
@@ -20,16 +22,20 @@ serials_by who serial [] = []
 serials_by who serial (entry ∷ entries) =
     if who == entry.who then serial ∷ serials_by who (serial + 1) entries else serials_by who (serial + 1) entries
 
--- an item has its entry among those that were seen, and of the words that the entries before it leave, the meaning of its
--- script holds
-pub record IsMade (desk : DeskView BooksShape) (input : ClearingInput) (seen : List Entry) (item : Done) : Type 0 where
+-- an entry is that of an item's call, and of all good words on which its trace is legal the meaning of the item's script
+-- holds
+pub record IsMadeBy (shape : BooksShape) (input : ClearingInput) (entry : Entry) (item : Done) : Type 0 where
+  pub is_of : IsEntryOf item entry
+  pub meaning : (s : List ℕ) → IsGood (words_of shape) (IsGoodFor shape) s → IsLegalTrace entry.trace s
+      → ScriptMeans shape (script_at input item.caller item.index) s entry.kept item.reply (after entry.trace s)
+
+-- an item has its entry among those that were seen, at the place that its serial says
+pub record IsMade (shape : BooksShape) (input : ClearingInput) (seen : List Entry) (item : Done) : Type 0 where
   pub place : ℕ
   pub entry : Entry
   pub serial_is : item.serial ≡ place + 1
   pub stands_at : slice_get seen place ≡ Some entry
-  pub is_of : IsEntryOf item entry
-  pub meaning : ScriptMeans desk.shape (script_at input item.caller item.index) (replay desk.base (take place seen))
-      entry.kept item.reply (after entry.trace (replay desk.base (take place seen)))
+  pub made_by : IsMadeBy shape input entry item
 
 -- a pass of the desk made these items, a call each
 pub record HasMade (desk : DeskView BooksShape) (input : ClearingInput) (who : ℕ) (pass : PassView) (done : List Done) : Type 0 where
@@ -39,7 +45,7 @@ pub record HasMade (desk : DeskView BooksShape) (input : ClearingInput) (who : �
   pub calls : pass.view.call ≡ length done
   pub seats : All (λ item. item.seat ≡ who) done
   pub serials : map (λ item. item.serial) done ≡ serials_by who 1 pass.view.seen
-  pub made : All (IsMade desk input pass.view.seen) done
+  pub made : All (IsMade desk.shape input pass.view.seen) done
   pub below : All (λ item. item.restarts < desk.seats) done
 
 -- of caller x the items are all scripts, h x times, and for caller c the first i scripts beside, in their order

@@ -42,14 +42,15 @@ overflow_add-before c = omega (
   before_step (goal.at.overflow_add-before c).In-Some,
   c.loop-change.invariant.before,
   c.requires.before,
-  c.unwrap_or-before.ensures,
+  c.unwrap_or.ensures,
+  c.from-before.ensures,
 )
 
 pub overflow_add-now : goal.overflow_add-now
-overflow_add-now c = omega (arith, now_step (goal.at.overflow_add-now c).In-Some, c.loop-change.invariant.now, c.requires.now, c.unwrap_or-now.ensures)
+overflow_add-now c = omega (arith, now_step (goal.at.overflow_add-now c).In-Some, c.loop-change.invariant.now, c.requires.now, c.unwrap_or-in-loop-change.ensures, c.from-now.ensures)
 
 pub loop-change-preserved : goal.loop-change-preserved
 loop-change-preserved c = record {
-  before = omega (arith, before_step (goal.at.loop-change-preserved c).In-Some, c.loop-change.invariant.before, c.unwrap_or-before.ensures);
-  now = omega (arith, now_step (goal.at.loop-change-preserved c).In-Some, c.loop-change.invariant.now, c.unwrap_or-now.ensures);
+  before = omega (arith, before_step (goal.at.loop-change-preserved c).In-Some, c.loop-change.invariant.before, c.unwrap_or.ensures, c.from-before.ensures);
+  now = omega (arith, now_step (goal.at.loop-change-preserved c).In-Some, c.loop-change.invariant.now, c.unwrap_or-in-loop-change.ensures, c.from-now.ensures);
 }

@@ -1,6 +1,6 @@
-use Rattle.std.proofs.Common.{◌≡◌, ◌+◌, ◌∷◌, ◌++◌, [], length, List, All, sym, ap, subst, ◌∙◌, arith}
+use Rattle.std.proofs.Common.{◌≡◌, ◌+◌, ◌∷◌, ◌++◌, [], length, All, sym, ap, subst, ◌∙◌, arith}
 use Rattle.std.specs.Slice.Iter.{iter_rest}
-use Rattle.std.proofs.lemmas.List.{nil_from_length, length-append}
+use Rattle.std.proofs.lemmas.List.{length-append}
 use Rattle.books_model.specs.declared.script.Part.{Part}
 use Rattle.books_model.specs.declared.script.Part.TheVariants as part
 use Rattle.books_model.specs.Scripts.{operations_of}
@@ -8,7 +8,7 @@ use Rattle.books_model.specs.Ranges.{IsOperationFor}
 use Rattle.books_model.specs.Interpreter.{after_step, after_values, run_from, run_parts}
 use Rattle.books_model.specs.Inner.Steps.{run_with, step_with}
 use Rattle.books_model.proofs.Scripts.Branches.{All-front, All-back}
-use Rattle.books_model.proofs.Scripts.Runs.{part_ends, part_stops, parts_end}
+use Rattle.books_model.proofs.Scripts.Runs.{part_ends}
 use Rattle.books_model.proofs.run.run_all.Goals as goal
 use Rattle.books_model.proofs.run.run_all.Goals.{In-Some}
 

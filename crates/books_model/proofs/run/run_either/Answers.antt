@@ -10,7 +10,10 @@ run_operations-requires-clause-range c =
     (All-front (IsOperationFor c.args.draft.now.before) c.args.first.now c.args.second.now c.requires.range)
 
 pub run_operations-requires-2 : goal.run_operations-requires-2
-run_operations-requires-2 c = record {
-  few = omega (arith, c.requires.few, c.len.ensures);
-  range = All-back (IsOperationFor c.args.draft.now.before) c.args.first.now c.args.second.now c.requires.range;
-}
+run_operations-requires-2 c =
+    let before = c.args.draft.now.before in
+    let in_range = All-back (IsOperationFor before) c.args.first.now c.args.second.now c.requires.range in
+    record {
+      few = omega (arith, c.requires.few, c.len.ensures);
+      range = grind (arith, in_range);
+    }

@@ -4,6 +4,7 @@ use Rattle.std.proofs.lemmas.Bool.Decides.{Decides-eqb, not_from_Decides}
 use Rattle.std.proofs.lemmas.Result.{IfOk-from_err}
 use Rattle.std.proofs.lemmas.Slice.Eq.{slice_eq-Decides}
 use Rattle.books_model.specs.Books.{ClearingBooks}
+use Rattle.script_reader.specs.declared.version.Version.TheVariants.{Two}
 use Rattle.script_reader.specs.Text.{books_lines, finish_line}
 use Rattle.books_report.specs.Checking.{closing_lines}
 use Rattle.books_report.specs.Inner.Audit.{StopsAfter}
@@ -14,8 +15,8 @@ use Rattle.books_report.proofs.check.check_closing.Goals as goal
 
 -- what was written are the closing lines
 written : (b : ClearingBooks) (none books all expected : List ℕ) → expected ≡ all → all ≡ books ++ finish_line
-    → books ≡ none ++ books_lines b → none ≡ [] → expected ≡ concat (closing_lines b)
-written b none books all expected e f g h = e ∙ f ∙ ap (λ l. l ++ finish_line) (g ∙ ap (λ l. l ++ books_lines b) h) ∙ sym (closing_text b)
+    → books ≡ none ++ books_lines Two b → none ≡ [] → expected ≡ concat (closing_lines b)
+written b none books all expected e f g h = e ∙ f ∙ ap (λ l. l ++ finish_line) (g ∙ ap (λ l. l ++ books_lines Two b) h) ∙ sym (closing_text b)
 
 -- a text that is another stops among them
 stops : (b : ClearingBooks) (expected text : List ℕ) (count : ℕ) → expected ≡ concat (closing_lines b) → text ≢ expected

@@ -19,5 +19,5 @@ returns t c =
     ] in
     IfOk-weaker c.push_pair-2.result _ _
     (λ _ h. two_more before (string_bytes c.if-most-lt100.text) (string_bytes c.push_pair-2.new.text) c.args.value
-    c.if-value-lt100.false c.ranges.value.fits most h)
+    c.if-value-lt100.false (omega (arith, c.ranges.value.fits)) most h)
     c.push_pair-2.ensures

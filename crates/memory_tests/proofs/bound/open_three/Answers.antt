@@ -1,5 +1,5 @@
 use Rattle.std.proofs.Common.{◌≡◌, [], ◌∷◌, refl, arith}
-use Rattle.word_table.proofs.Opened.{three_of, has_opened}
+use Rattle.word_table.proofs.Openings.Opened.{three_of, has_opened}
 use Rattle.memory_tests.proofs.bound.open_three.Goals as goal
 
 all_three : (c : goal.After-drop-passes) → c.in_ok-desk.passes.items ≡ c.in-Some-pop-2.zero ∷ c.in-Some-pop.one ∷ c.in-Some.two ∷ []

@@ -1,7 +1,7 @@
 use Rattle.std.proofs.Common.{List, sym, subst}
 use Rattle.word_table.specs.Closing.{AreAllPasses}
 use Rattle.word_table.specs.Copies.{PassView}
-use Rattle.word_table.proofs.Gathering.{last_went_on}
+use Rattle.word_table.proofs.Joined.Gathering.{last_went_on}
 use Rattle.memory_tests.proofs.closing.one_of_sixteen.Goals as goal
 
 pub close_all-requires : goal.close_all-requires

@@ -1,5 +1,5 @@
 use Rattle.std.proofs.Common.{refl, arith}
-use Rattle.word_table.proofs.Opened.{one_of, has_opened}
+use Rattle.word_table.proofs.Openings.Opened.{one_of, has_opened}
 use Rattle.memory_tests.proofs.locks.open_one.Goals as goal
 
 pub returns-clause-pass : goal.returns-clause-pass

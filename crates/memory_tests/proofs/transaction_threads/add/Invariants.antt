@@ -8,6 +8,7 @@ invariant-loop g l = record {
   table : l.pass.table ≡ l.desk.table;
   idle : l.pass.view.phase ≡ Idle;
   who : l.pass.view.who ≡ l.initial.pass.view.who;
+  base : l.pass.view.base ≡ l.initial.pass.view.base;
   calls : l.pass.view.call ≡ l.counter;
   few : 0 < l.desk.seats → l.most < l.desk.seats;
 }

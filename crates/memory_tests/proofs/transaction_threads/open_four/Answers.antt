@@ -1,5 +1,5 @@
 use Rattle.std.proofs.Common.{◌≡◌, [], ◌∷◌, refl, arith}
-use Rattle.word_table.proofs.Opened.{four_of, has_opened}
+use Rattle.word_table.proofs.Openings.Opened.{four_of, has_opened}
 use Rattle.memory_tests.proofs.transaction_threads.open_four.Goals as goal
 
 all_four : (c : goal.After-drop-passes) → c.in_ok-desk.passes.items ≡ c.in-Some-pop-3.zero ∷ c.in-Some-pop-2.one ∷ c.in-Some-pop.two ∷ c.in-Some.three ∷ []

@@ -1,5 +1,5 @@
 use Rattle.std.proofs.Common.{◌≡◌, [], ◌∷◌, refl, arith}
-use Rattle.word_table.proofs.Opened.{two_of, has_opened}
+use Rattle.word_table.proofs.Openings.Opened.{two_of, has_opened}
 use Rattle.memory_tests.proofs.turns.open_pair.Goals as goal
 
 both : (c : goal.After-drop-passes) → c.in_ok-desk.passes.items ≡ c.in-Some-pop.zero ∷ c.in-Some.one ∷ []

@@ -4,25 +4,31 @@ use Rattle.std.proofs.lemmas.List.Concat.{flat_map-append}
 use Rattle.std.proofs.lemmas.Result.{err_from_is_err_and}
 use Rattle.books_model.specs.Books.{ClearingBooks}
 use Rattle.books_model.specs.Ranges.{AreInRange}
+use Rattle.script_reader.specs.declared.version.Version.{Version}
+use Rattle.script_reader.specs.Versions.{AreBooksWithin}
 use Rattle.script_reader.specs.Text.{line}
 use Rattle.script_reader.specs.Inner.LinesAsWords.{books_words}
 use Rattle.script_reader.specs.Forms.{Words}
 use Rattle.script_reader.specs.Faults.{AreFaultless, fault_of}
+use Rattle.script_reader.proofs.Versions.{row_within}
 use Rattle.script_reader.proofs.LineFaults.LineKinds.{only_word}
 use Rattle.script_reader.proofs.WithoutFault.BooksFaultless.{books_faultless}
 use Rattle.script_reader.proofs.Texts.Following.{line_shorter, more_text, faultless_rest, behind_more, behind_end, behind_line}
 use Rattle.script_reader.proofs.books.fill.Goals as goal
 
 -- the lines that were read are those of books in range
-read_so_far : (books first : ClearingBooks) (more : List Words) → AreInRange books
-    → books_words books ≡ books_words first ++ more → AreFaultless (books_words first) more
-read_so_far books first more range whole = faultless_rest [] (books_words first) more (subst (AreFaultless []) whole (books_faultless books range))
+read_so_far : (version : Version) (books first : ClearingBooks) (more : List Words) → AreInRange books → AreBooksWithin version books
+    → books_words version books ≡ books_words version first ++ more → AreFaultless (books_words version first) more
+read_so_far version books first more range within whole =
+    faultless_rest [] (books_words version first) more (subst (AreFaultless []) whole (books_faultless version books range within))
 
 pub loop-words-preserved : goal.loop-words-preserved
 loop-words-preserved c = record {
+  within = subst (AreBooksWithin c.args.version) (sym c.in_ok-add_row.ensures)
+      (row_within c.args.version c.loop-words.books c.in_ok-row.row c.loop-words.invariant.within c.in_ok-row.ensures.row.within);
   more = c.loop-words.invariant.more ++ c.in_ok-words.words ∷ [];
-  whole = (ap books_words c.in_ok-add_row.ensures ∙ c.in_ok-row.ensures.row.lines) ∙ ap (λ l. l ++ c.in_ok-words.words ∷ []) c.loop-words.invariant.whole
-      ∙ append_assoc (books_words c.args.books.now) c.loop-words.invariant.more (c.in_ok-words.words ∷ []);
+  whole = (ap (books_words c.args.version) c.in_ok-add_row.ensures ∙ c.in_ok-row.ensures.row.lines) ∙ ap (λ l. l ++ c.in_ok-words.words ∷ []) c.loop-words.invariant.whole
+      ∙ append_assoc (books_words c.args.version c.args.books.now) c.loop-words.invariant.more (c.in_ok-words.words ∷ []);
   text = more_text c.args.lines.now c.loop-words.lines c.words.new.self c.loop-words.invariant.more c.in_ok-words.words
       c.loop-words.invariant.text c.in_ok-words.ensures.found.1;
 }
@@ -34,28 +40,28 @@ pub returns-in_err-words-clause-fault : goal.returns-in_err-words-clause-fault
 returns-in_err-words-clause-fault c why e =
     let p = err_from_is_err_and c.from_residual.result c.from_residual.ensures.1 in
     let same : c.in_err-words.field-0.0 ≡ why = cc (p.1, p.2, e) in
-    behind_more (books_words c.args.books.now) c.loop-words.invariant.more c.args.lines.now c.loop-words.lines
-    c.words.new.self why (read_so_far c.loop-words.books c.args.books.now c.loop-words.invariant.more
-    c.ranges-in-loop-words.ensures c.loop-words.invariant.whole) c.loop-words.invariant.text
-    (behind_end (books_words c.args.books.now ++ c.loop-words.invariant.more) c.loop-words.lines c.words.new.self why
+    behind_more (books_words c.args.version c.args.books.now) c.loop-words.invariant.more c.args.lines.now c.loop-words.lines
+    c.words.new.self why (read_so_far c.args.version c.loop-words.books c.args.books.now c.loop-words.invariant.more
+    c.ranges-in-loop-words.ensures c.loop-words.invariant.within c.loop-words.invariant.whole) c.loop-words.invariant.text
+    (behind_end (books_words c.args.version c.args.books.now ++ c.loop-words.invariant.more) c.loop-words.lines c.words.new.self why
     (sym same ∙ c.in_err-words.ensures.end.0, c.in_err-words.ensures.end.1, c.in_err-words.ensures.end.2))
 
 pub returns-then-is_only-clause-text : goal.returns-then-is_only-clause-text
 returns-then-is_only-clause-text c =
     let scripts = only_word (codes "scripts") c.in_ok-words.words (sym c.is_only.ensures ∙ c.if-is_only.true) in
-    ap (λ l. flat_map line (books_words c.args.books.now) ++ l) c.loop-words.invariant.text
-    ∙ sym (append_assoc (flat_map line (books_words c.args.books.now)) (flat_map line c.loop-words.invariant.more) c.loop-words.lines)
+    ap (λ l. flat_map line (books_words c.args.version c.args.books.now) ++ l) c.loop-words.invariant.text
+    ∙ sym (append_assoc (flat_map line (books_words c.args.version c.args.books.now)) (flat_map line c.loop-words.invariant.more) c.loop-words.lines)
     ∙ ap (λ l. l ++ c.loop-words.lines)
-    (sym (flat_map-append line (books_words c.args.books.now) c.loop-words.invariant.more) ∙ ap (flat_map line) (sym c.loop-words.invariant.whole))
-    ∙ ap (λ l. flat_map line (books_words c.loop-words.books) ++ l) (c.in_ok-words.ensures.found.1 ∙ ap (λ w. line w ++ c.words.new.self) scripts)
+    (sym (flat_map-append line (books_words c.args.version c.args.books.now) c.loop-words.invariant.more) ∙ ap (flat_map line) (sym c.loop-words.invariant.whole))
+    ∙ ap (λ l. flat_map line (books_words c.args.version c.loop-words.books) ++ l) (c.in_ok-words.ensures.found.1 ∙ ap (λ w. line w ++ c.words.new.self) scripts)
 
 pub returns-in_err-row-clause-fault : goal.returns-in_err-row-clause-fault
 returns-in_err-row-clause-fault c why e =
     let p = err_from_is_err_and c.from_residual-in_err-row.result c.from_residual-in_err-row.ensures.1 in
     let same : c.in_err-row.field-0.0 ≡ why = cc (p.1, p.2, e) in
-    behind_more (books_words c.args.books.now) c.loop-words.invariant.more c.args.lines.now c.loop-words.lines
-    c.words.new.self why (read_so_far c.loop-words.books c.args.books.now c.loop-words.invariant.more
-    c.ranges-in-loop-words.ensures c.loop-words.invariant.whole) c.loop-words.invariant.text
-    (behind_line (books_words c.args.books.now ++ c.loop-words.invariant.more) c.loop-words.lines c.words.new.self
+    behind_more (books_words c.args.version c.args.books.now) c.loop-words.invariant.more c.args.lines.now c.loop-words.lines
+    c.words.new.self why (read_so_far c.args.version c.loop-words.books c.args.books.now c.loop-words.invariant.more
+    c.ranges-in-loop-words.ensures c.loop-words.invariant.within c.loop-words.invariant.whole) c.loop-words.invariant.text
+    (behind_line (books_words c.args.version c.args.books.now ++ c.loop-words.invariant.more) c.loop-words.lines c.words.new.self
     c.in_ok-words.words why c.in_ok-words.ensures.found.0 c.in_ok-words.ensures.found.1
     (ap (λ b. fault_of b c.in_ok-words.words) (sym c.loop-words.invariant.whole) ∙ c.in_err-row.ensures.err ∙ ap Some same))

@@ -1,5 +1,6 @@
 use Rattle.std.proofs.Common.{◌≡◌, ◌++◌, List, length}
 use Rattle.std.specs.List.{flat_map}
+use Rattle.script_reader.specs.Versions.{AreBooksWithin}
 use Rattle.script_reader.specs.Text.{line}
 use Rattle.script_reader.specs.Inner.LinesAsWords.{books_words}
 use Rattle.script_reader.specs.Forms.{Words}
@@ -7,8 +8,9 @@ use Rattle.script_reader.proofs.books.fill.Given as goal
 
 abbrev pub invariant-loop-words : goal.invariant-loop-words
 invariant-loop-words l = record {
+  within : AreBooksWithin l.version l.books;
   more : List Words;
-  whole : books_words l.books ≡ books_words l.initial.books ++ more;
+  whole : books_words l.version l.books ≡ books_words l.version l.initial.books ++ more;
   text : l.initial.lines ≡ flat_map line more ++ l.lines;
 }
 

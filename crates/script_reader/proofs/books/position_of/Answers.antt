@@ -4,6 +4,7 @@ use Rattle.std.specs.FinMap as map
 use Rattle.std.proofs.lemmas.Result.{err_from_is_err_and}
 use Rattle.books_model.specs.declared.limits.TheConstants.{GREATEST_ACCOUNT}
 use Rattle.books_model.specs.Ranges.{IsWithin}
+use Rattle.script_reader.specs.declared.version.Version.{Version}
 use Rattle.script_reader.specs.declared.books.Row.TheVariants as row
 use Rattle.script_reader.specs.Forms.{accounts, quantities, value_at}
 use Rattle.script_reader.specs.Inner.BooksRows.{IsRow}
@@ -39,32 +40,32 @@ pub overflow_sub-instrument : goal.overflow_sub-instrument
 overflow_sub-instrument c = (instrument_within c).0
 
 pub returns-then-has_calls-clause-err : goal.returns-then-has_calls-clause-err
-returns-then-has_calls-clause-err c =
-    late_row (position_fault c.args.books.now c.ranges-2.ensures c.args.words.now c.requires)
+returns-then-has_calls-clause-err c version =
+    late_row (position_fault version c.args.books.now c.ranges-2.ensures c.args.words.now c.requires)
     (sym (some_is c.args.books.now.calls) ∙ sym c.has_calls.ensures ∙ c.if-has_calls.true)
 
 pub returns-in_err-account-clause-err : goal.returns-in_err-account-clause-err
 returns-in_err-account-clause-err c =
     let p = err_from_is_err_and c.from_residual.result c.from_residual.ensures.1 in
-    rw (p.1, p.2) (numbers_row (position_fault c.args.books.now c.ranges-2.ensures c.args.words.now c.requires)
+    rw (p.1, p.2) (λ version. numbers_row (position_fault version c.args.books.now c.ranges-2.ensures c.args.words.now c.requires)
     (sym (some_is c.args.books.now.calls) ∙ sym c.has_calls.ensures ∙ c.if-has_calls.false)
     (subst (λ r. numbers_fault c.args.words.now (accounts ∷ r ∷ quantities ∷ []) ≡ Some c.in_err-account.field-0.0)
     c.instruments_of-instruments.ensures.number c.in_err-account.ensures.err))
 
 -- what is wrong with the line, its numbers read
-wrong : (c : In_ok-account) {low account price full : Bool}
-    → is_low_in 2 (value_at c.args.words.now 1, value_at c.args.words.now 2) (printed c.args.books.now) ≡ low
+wrong : (version : Version) (c : In_ok-account) {low account price full : Bool}
+    → is_low_in 2 (value_at c.args.words.now 1, value_at c.args.words.now 2) (printed version c.args.books.now) ≡ low
     → not (list_any (λ e. e.0 == value_at c.args.words.now 1) (map.entries c.args.books.now.accounts)) ≡ account
     → not (list_any (λ e. e.0 == value_at c.args.words.now 2) (map.entries c.args.books.now.prices)) ≡ price
     → has_no_block c.args.books.now ≡ full
-    → fault_of (books_words c.args.books.now) c.args.words.now ≡ reasons false false false false low account price full
-wrong c = read_row (position_fault c.args.books.now c.ranges-2.ensures c.args.words.now c.requires)
+    → fault_of (books_words version c.args.books.now) c.args.words.now ≡ reasons false false false false low account price full
+wrong version c = read_row (position_fault version c.args.books.now c.ranges-2.ensures c.args.words.now c.requires)
     (sym (some_is c.args.books.now.calls) ∙ sym c.has_calls.ensures ∙ c.if-has_calls.false) (numbers_of c) refl
 
 -- the position rises, its account is given, and its instrument has a price
-rises : (c : Else-is_some) → 1 ≤ c.in_ok-account.instrument
-    → is_low_in 2 (value_at c.args.words.now 1, value_at c.args.words.now 2) (printed c.args.books.now) ≡ false
-rises c some = position_low _ c.args.books.now _ _ _ _ _ some c.in_ok-account.ensures.found.1 c.in_ok-account.ensures.found.2
+rises : (version : Version) (c : Else-is_some) → 1 ≤ c.in_ok-account.instrument
+    → is_low_in 2 (value_at c.args.words.now 1, value_at c.args.words.now 2) (printed version c.args.books.now) ≡ false
+rises version c some = position_low _ version c.args.books.now _ _ _ _ _ some c.in_ok-account.ensures.found.1 c.in_ok-account.ensures.found.2
     c.position_after.ensures.first ∙ sym c.is_some.ensures ∙ c.if-is_some.false
 
 given : (c : Else-is_none) → not (list_any (λ e. e.0 == value_at c.args.words.now 1) (map.entries c.args.books.now.accounts)) ≡ false
@@ -76,37 +77,37 @@ priced c = ap not (given_is_found c.args.books.now.prices c.in_ok-account.instru
     c.in_ok-account.ensures.found.2 c.price.result c.price.ensures ∙ c.is_none-2.ensures ∙ ap not c.if-is_none-2.false)
 
 pub returns-then-is_some-clause-err : goal.returns-then-is_some-clause-err
-returns-then-is_some-clause-err c =
+returns-then-is_some-clause-err c version =
     let at = goal.at.returns-then-is_some-clause-err c in
     let found = c.in_ok-account.ensures.found in
-    wrong at.In_ok-account (position_low _ c.args.books.now _ _ _ _ _ (instrument_within at.In_ok-account).0 found.1 found.2
+    wrong version at.In_ok-account (position_low _ version c.args.books.now _ _ _ _ _ (instrument_within at.In_ok-account).0 found.1 found.2
     c.position_after.ensures.first ∙ sym c.is_some.ensures ∙ c.if-is_some.true) refl refl refl
 
 pub returns-then-is_none-clause-err : goal.returns-then-is_none-clause-err
-returns-then-is_none-clause-err c =
+returns-then-is_none-clause-err c version =
     let at = goal.at.returns-then-is_none-clause-err c in
-    wrong at.In_ok-account (rises at.Else-is_some (instrument_within at.In_ok-account).0)
+    wrong version at.In_ok-account (rises version at.Else-is_some (instrument_within at.In_ok-account).0)
     (ap not (given_is_found c.args.books.now.accounts c.in_ok-account.account (value_at c.args.words.now 1)
     c.in_ok-account.ensures.found.1 c.cash.result c.cash.ensures ∙ c.is_none.ensures ∙ ap not c.if-is_none.true)) refl refl
 
 pub returns-then-is_none-2-clause-err : goal.returns-then-is_none-2-clause-err
-returns-then-is_none-2-clause-err c =
+returns-then-is_none-2-clause-err c version =
     let at = goal.at.returns-then-is_none-2-clause-err c in
-    wrong at.In_ok-account (rises at.Else-is_some (instrument_within at.In_ok-account).0) (given at.Else-is_none)
+    wrong version at.In_ok-account (rises version at.Else-is_some (instrument_within at.In_ok-account).0) (given at.Else-is_none)
     (ap not (given_is_found c.args.books.now.prices c.in_ok-account.instrument (value_at c.args.words.now 2)
     c.in_ok-account.ensures.found.2 c.price.result c.price.ensures ∙ c.is_none-2.ensures ∙ ap not c.if-is_none-2.true)) refl
 
 pub returns-then-is_full-clause-err : goal.returns-then-is_full-clause-err
-returns-then-is_full-clause-err c =
+returns-then-is_full-clause-err c version =
     let at = goal.at.returns-then-is_full-clause-err c in
-    wrong at.In_ok-account (rises at.Else-is_some (instrument_within at.In_ok-account).0) (given at.Else-is_none)
+    wrong version at.In_ok-account (rises version at.Else-is_some (instrument_within at.In_ok-account).0) (given at.Else-is_none)
     (priced at.Else-is_none-2) (sym c.is_full.ensures ∙ c.if-is_full.true)
 
 pub returns-clause-row : goal.returns-clause-row
-returns-clause-row c =
+returns-clause-row c version =
     let at = goal.at.returns-clause-row c in
     let found = c.in_ok-account.ensures.found in
-    subst (IsRow c.args.books.now c.args.words.now) (sym (λ i. row.Position (found.1 i) (found.2 i) (found.3 i)))
-    (gives_position c.args.books.now c.ranges-2.ensures c.args.words.now c.requires
-    (wrong at.In_ok-account (rises at.Else-is_some (instrument_within at.In_ok-account).0) (given at.Else-is_none)
+    subst (IsRow version c.args.books.now c.args.words.now) (sym (λ i. row.Position (found.1 i) (found.2 i) (found.3 i)))
+    (gives_position version c.args.books.now c.ranges-2.ensures c.args.words.now c.requires
+    (wrong version at.In_ok-account (rises version at.Else-is_some (instrument_within at.In_ok-account).0) (given at.Else-is_none)
     (priced at.Else-is_none-2) (sym c.is_full.ensures ∙ c.if-is_full.false)))

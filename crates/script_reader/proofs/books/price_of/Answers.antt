@@ -1,6 +1,7 @@
 use Rattle.std.proofs.Common.{lit<, ◌≡◌, ◌∷◌, [], false, codes, Some, refl, sym, subst, ◌∙◌, arith}
 use Rattle.std.proofs.lemmas.Result.{err_from_is_err_and}
 use Rattle.books_model.specs.Ranges.{IsWithin}
+use Rattle.script_reader.specs.declared.version.Version.{Version}
 use Rattle.script_reader.specs.declared.books.Row.TheVariants as row
 use Rattle.script_reader.specs.Forms.{prices}
 use Rattle.script_reader.specs.Inner.BooksRows.{IsRow}
@@ -13,8 +14,8 @@ use Rattle.script_reader.proofs.Finding.{price_low}
 use Rattle.script_reader.proofs.books.price_of.Goals as goal
 use Rattle.script_reader.proofs.books.price_of.Goals.{Else-is_past_prices, In_ok-instrument}
 
-early : (c : Else-is_past_prices) → is_late_in 1 (printed c.args.books.now) ≡ false
-early c = prices_late c.args.books.now ∙ sym c.is_past_prices.ensures ∙ c.if-is_past_prices.false
+early : (version : Version) (c : Else-is_past_prices) → is_late_in 1 (printed version c.args.books.now) ≡ false
+early version c = prices_late version c.args.books.now ∙ sym c.is_past_prices.ensures ∙ c.if-is_past_prices.false
 
 numbers_of : (c : In_ok-instrument) → HasNumbers c.args.words.now (price_ranges c.args.books.now.instruments)
 numbers_of c = subst (λ r. HasNumbers c.args.words.now (r ∷ prices ∷ [])) c.instruments_of-instruments.ensures.number c.in_ok-instrument.ensures.found.0
@@ -30,41 +31,41 @@ pub overflow_sub-instrument : goal.overflow_sub-instrument
 overflow_sub-instrument c = (instrument_within c).0
 
 pub returns-then-is_past_prices-clause-err : goal.returns-then-is_past_prices-clause-err
-returns-then-is_past_prices-clause-err c =
-    late_row (price_fault c.args.books.now c.ranges-2.ensures c.args.words.now c.requires)
-    (prices_late c.args.books.now ∙ sym c.is_past_prices.ensures ∙ c.if-is_past_prices.true)
+returns-then-is_past_prices-clause-err c version =
+    late_row (price_fault version c.args.books.now c.ranges-2.ensures c.args.words.now c.requires)
+    (prices_late version c.args.books.now ∙ sym c.is_past_prices.ensures ∙ c.if-is_past_prices.true)
 
 pub returns-in_err-instrument-clause-err : goal.returns-in_err-instrument-clause-err
 returns-in_err-instrument-clause-err c =
     let p = err_from_is_err_and c.from_residual.result c.from_residual.ensures.1 in
-    rw (p.1, p.2) (numbers_row (price_fault c.args.books.now c.ranges-2.ensures c.args.words.now c.requires)
-    (early (goal.at.returns-in_err-instrument-clause-err c).Else-is_past_prices)
+    rw (p.1, p.2) (λ version. numbers_row (price_fault version c.args.books.now c.ranges-2.ensures c.args.words.now c.requires)
+    (early version (goal.at.returns-in_err-instrument-clause-err c).Else-is_past_prices)
     (subst (λ r. numbers_fault c.args.words.now (r ∷ prices ∷ []) ≡ Some c.in_err-instrument.field-0.0)
     c.instruments_of-instruments.ensures.number c.in_err-instrument.ensures.err))
 
 pub returns-then-is_some-clause-err : goal.returns-then-is_some-clause-err
-returns-then-is_some-clause-err c =
+returns-then-is_some-clause-err c version =
     let at = goal.at.returns-then-is_some-clause-err c in
-    read_row (price_fault c.args.books.now c.ranges-2.ensures c.args.words.now c.requires)
-    (early at.Else-is_past_prices) (numbers_of at.In_ok-instrument) refl
-    (price_low c.args.books.now _ _ _ (instrument_within at.In_ok-instrument).0 c.in_ok-instrument.ensures.found.1
+    read_row (price_fault version c.args.books.now c.ranges-2.ensures c.args.words.now c.requires)
+    (early version at.Else-is_past_prices) (numbers_of at.In_ok-instrument) refl
+    (price_low version c.args.books.now _ _ _ (instrument_within at.In_ok-instrument).0 c.in_ok-instrument.ensures.found.1
     c.price_after.ensures.first ∙ sym c.is_some.ensures ∙ c.if-is_some.true) refl refl refl
 
 pub returns-then-is_full-clause-err : goal.returns-then-is_full-clause-err
-returns-then-is_full-clause-err c =
+returns-then-is_full-clause-err c version =
     let at = goal.at.returns-then-is_full-clause-err c in
-    read_row (price_fault c.args.books.now c.ranges-2.ensures c.args.words.now c.requires)
-    (early at.Else-is_past_prices) (numbers_of at.In_ok-instrument) refl
-    (price_low c.args.books.now _ _ _ (instrument_within at.In_ok-instrument).0 c.in_ok-instrument.ensures.found.1
+    read_row (price_fault version c.args.books.now c.ranges-2.ensures c.args.words.now c.requires)
+    (early version at.Else-is_past_prices) (numbers_of at.In_ok-instrument) refl
+    (price_low version c.args.books.now _ _ _ (instrument_within at.In_ok-instrument).0 c.in_ok-instrument.ensures.found.1
     c.price_after.ensures.first ∙ sym c.is_some.ensures ∙ c.if-is_some.false) refl refl (sym c.is_full.ensures ∙ c.if-is_full.true)
 
 pub returns-clause-row : goal.returns-clause-row
-returns-clause-row c =
+returns-clause-row c version =
     let at = goal.at.returns-clause-row c in
     let found = c.in_ok-instrument.ensures.found in
-    let fine = read_row (price_fault c.args.books.now c.ranges-2.ensures c.args.words.now c.requires)
-    (early at.Else-is_past_prices) (numbers_of at.In_ok-instrument) refl
-    (price_low c.args.books.now _ _ _ (instrument_within at.In_ok-instrument).0 found.1 c.price_after.ensures.first
+    let fine = read_row (price_fault version c.args.books.now c.ranges-2.ensures c.args.words.now c.requires)
+    (early version at.Else-is_past_prices) (numbers_of at.In_ok-instrument) refl
+    (price_low version c.args.books.now _ _ _ (instrument_within at.In_ok-instrument).0 found.1 c.price_after.ensures.first
     ∙ sym c.is_some.ensures ∙ c.if-is_some.false) refl refl (sym c.is_full.ensures ∙ c.if-is_full.false) in
-    subst (IsRow c.args.books.now c.args.words.now) (sym (λ i. row.Price (found.1 i) (found.2 i)))
-    (gives_price c.args.books.now c.ranges-2.ensures c.args.words.now c.requires fine)
+    subst (IsRow version c.args.books.now c.args.words.now) (sym (λ i. row.Price (found.1 i) (found.2 i)))
+    (gives_price version c.args.books.now c.ranges-2.ensures c.args.words.now c.requires fine)

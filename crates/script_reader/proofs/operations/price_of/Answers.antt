@@ -14,7 +14,7 @@ use Rattle.script_reader.proofs.operations.price_of.Goals.{In_ok-instrument}
 pub returns-in_err-instrument-clause-err : goal.returns-in_err-instrument-clause-err
 returns-in_err-instrument-clause-err c =
     let p = err_from_is_err_and c.from_residual.result c.from_residual.ensures.1 in
-    rw (p.1, p.2) (two_wrong (operation_forms c.args.books.now.instruments) c.args.words.now (codes "price") (
+    rw (p.1, p.2) (λ version. two_wrong (operation_forms version c.args.books.now.instruments) c.args.words.now (codes "price") (
       1,
       c.args.books.now.instruments,
     ) prices _ (λ a b. refl) c.requires
@@ -39,4 +39,4 @@ overflow_cast-result c = omega (
 )
 
 pub returns-clause-found : goal.returns-clause-found
-returns-clause-found c = read (goal.at.returns-clause-found c).In_ok-instrument
+returns-clause-found c version = read (goal.at.returns-clause-found c).In_ok-instrument

@@ -14,7 +14,7 @@ use Rattle.script_reader.proofs.operations.with_four_numbers.Goals.{In_ok-buyer}
 pub returns-in_err-buyer-clause-err : goal.returns-in_err-buyer-clause-err
 returns-in_err-buyer-clause-err c =
     let p = err_from_is_err_and c.from_residual.result c.from_residual.ensures.1 in
-    rw (p.1, p.2) (four_wrong (operation_forms c.args.books.now.instruments) c.args.words.now (codes "trade") accounts accounts
+    rw (p.1, p.2) (λ version. four_wrong (operation_forms version c.args.books.now.instruments) c.args.words.now (codes "trade") accounts accounts
     (1, c.args.books.now.instruments) quantities _ (λ a b d e. refl) (sym c.is_row.ensures ∙ c.if-is_row.true)
     (subst (λ r. numbers_fault c.args.words.now (accounts ∷ accounts ∷ r ∷ quantities ∷ [])
     ≡ Some c.in_err-buyer.field-0.0) c.instruments_of.ensures.number c.in_err-buyer.ensures.err))
@@ -49,11 +49,11 @@ overflow_cast-result-then-is_row-2 c = omega (
 )
 
 pub returns-then-is_row-clause-found : goal.returns-then-is_row-clause-found
-returns-then-is_row-clause-found c = read (goal.at.returns-then-is_row-clause-found c).In_ok-buyer
+returns-then-is_row-clause-found c version = read (goal.at.returns-then-is_row-clause-found c).In_ok-buyer
 
 pub returns-clause-err : goal.returns-clause-err
-returns-clause-err c =
-    unknown_word c.args.books.now.instruments c.args.words.now
+returns-clause-err c version =
+    unknown_word version c.args.books.now.instruments c.args.words.now
     (other_length (codes "open") 2 c.args.words.now (λ e. omega (arith, e, c.requires)))
     (other_length (codes "close") 2 c.args.words.now (λ e. omega (arith, e, c.requires)))
     (other_length (codes "deposit") 3 c.args.words.now (λ e. omega (arith, e, c.requires)))

@@ -1,9 +1,8 @@
-use Rattle.std.proofs.Common.{◌≡◌, ◌+◌, ◌∷◌, [], ◌++◌, Err, codes, length, Some, sum_by, sym, ap, ◌∙◌, append_assoc, length-append, arith}
+use Rattle.std.proofs.Common.{◌≡◌, ◌∷◌, [], ◌++◌, Err, codes, length, Some, sym, ap, ◌∙◌, append_assoc, length-append, arith}
 use Rattle.std.specs.List.{flat_map}
 use Rattle.std.proofs.lemmas.List.{append-nil}
 use Rattle.std.proofs.lemmas.List.Elements.{All-push}
 use Rattle.std.proofs.lemmas.List.Sums.{sum_by-append}
-use Rattle.books_model.specs.Ranges.{IsOperationFor}
 use Rattle.std.proofs.lemmas.Result.{err_from_is_err_and}
 use Rattle.books_model.specs.Scripts.{operations_of, alternatives_in}
 use Rattle.books_model.specs.declared.script.Part.{Part}
@@ -13,18 +12,20 @@ use Rattle.script_reader.specs.declared.fault.Refusal.TheVariants as refusal
 use Rattle.script_reader.specs.Text.{line, operation_words, part_words, script_lines}
 use Rattle.script_reader.specs.Inner.LinesAsWords.{BetweenParts, lines_inside}
 use Rattle.script_reader.proofs.LineFaults.LineKinds.{only_word}
-use Rattle.books_model.proofs.Scripts.Branches.{behind_parts, script_more}
-use Rattle.script_reader.proofs.Texts.Following.{line_shorter, behind_end, behind_line}
+use Rattle.books_model.proofs.Scripts.Branches.{behind_parts}
+use Rattle.script_reader.proofs.Versions.{script_of_more}
+use Rattle.script_reader.proofs.Texts.Following.{behind_end, behind_line}
 use Rattle.script_reader.proofs.Texts.Branching.{behind_parts_read, behind_try, try_limit, part_fault, part_limit, script_text_more}
 use Rattle.script_reader.proofs.scripts.add_parts.Goals as goal
+use Rattle.script_reader.specs.Inner.OfVersion.{IsOperationOf}
 
 pub returns-in_err-words-clause-fault : goal.returns-in_err-words-clause-fault
 returns-in_err-words-clause-fault c why e subs name =
     let v = c.loop-words.invariant in
     let p = err_from_is_err_and c.from_residual.result c.from_residual.ensures.1 in
     let same : c.in_err-words.field-0.0 ≡ why = cc (p.1, p.2, e) in
-    behind_parts_read c.args.books.now c.ranges-2.ensures subs name c.loop-words.script c.args.lines.now c.loop-words.lines c.words.new.self why v.range v.text
-    (behind_end (lines_inside c.args.books.now subs name c.loop-words.script BetweenParts) c.loop-words.lines c.words.new.self why
+    behind_parts_read c.args.version c.args.books.now c.ranges-2.ensures subs name c.loop-words.script c.args.lines.now c.loop-words.lines c.words.new.self why v.range v.text
+    (behind_end (lines_inside c.args.version c.args.books.now subs name c.loop-words.script BetweenParts) c.loop-words.lines c.words.new.self why
     (sym same ∙ c.in_err-words.ensures.end.0, c.in_err-words.ensures.end.1, c.in_err-words.ensures.end.2))
 
 pub returns-then-is_only-clause-text : goal.returns-then-is_only-clause-text
@@ -37,10 +38,10 @@ pub returns-then-alternatives-ge-MOST_ALTERNATIVES-clause-fault : goal.returns-t
 returns-then-alternatives-ge-MOST_ALTERNATIVES-clause-fault c why e subs name =
     let v = c.loop-words.invariant in
     let same : fault.Limit ≡ why = cc in
-    behind_parts_read c.args.books.now c.ranges-2.ensures subs name c.loop-words.script c.args.lines.now c.loop-words.lines c.words.new.self why v.range v.text
-    (behind_line (lines_inside c.args.books.now subs name c.loop-words.script BetweenParts) c.loop-words.lines c.words.new.self
+    behind_parts_read c.args.version c.args.books.now c.ranges-2.ensures subs name c.loop-words.script c.args.lines.now c.loop-words.lines c.words.new.self why v.range v.text
+    (behind_line (lines_inside c.args.version c.args.books.now subs name c.loop-words.script BetweenParts) c.loop-words.lines c.words.new.self
     c.in_ok-words.words why c.in_ok-words.ensures.found.0 c.in_ok-words.ensures.found.1
-    (try_limit c.args.books.now c.ranges-2.ensures subs name c.loop-words.script c.in_ok-words.words
+    (try_limit c.args.version c.args.books.now c.ranges-2.ensures subs name c.loop-words.script c.in_ok-words.words
     (sym c.is_only-in-loop-words.ensures ∙ c.if-is_only-2.true) (omega (arith, v.alternatives, c.if-alternatives-ge-MOST_ALTERNATIVES.true)) ∙ ap Some same))
 
 pub returns-in_err-first-clause-fault : goal.returns-in_err-first-clause-fault
@@ -48,8 +49,8 @@ returns-in_err-first-clause-fault c why e subs name =
     let v = c.loop-words.invariant in
     let p = err_from_is_err_and c.from_residual-in_err-first.result c.from_residual-in_err-first.ensures.1 in
     let same : c.in_err-first.field-0.0 ≡ refusal.LineFault why = cc (p.1, p.2, e) in
-    behind_parts_read c.args.books.now c.ranges-2.ensures subs name c.loop-words.script c.args.lines.now c.loop-words.lines c.alternative_of.new.lines why v.range v.text
-    (behind_try c.args.books.now c.ranges-2.ensures subs name c.loop-words.script c.in_ok-words.words c.loop-words.lines c.words.new.self c.alternative_of.new.lines why
+    behind_parts_read c.args.version c.args.books.now c.ranges-2.ensures subs name c.loop-words.script c.args.lines.now c.loop-words.lines c.alternative_of.new.lines why v.range v.text
+    (behind_try c.args.version c.args.books.now c.ranges-2.ensures subs name c.loop-words.script c.in_ok-words.words c.loop-words.lines c.words.new.self c.alternative_of.new.lines why
     (sym c.is_only-in-loop-words.ensures ∙ c.if-is_only-2.true) (omega (arith, v.alternatives, c.if-alternatives-ge-MOST_ALTERNATIVES.false))
     c.in_ok-words.ensures.found.1
     (c.alternative_of.ensures.fault why (c.in_err-first.was ∙ ap Err same) subs name c.loop-words.script (sym v.operations)))
@@ -61,7 +62,7 @@ loop-words-preserved-in-Continue-branch-3 c =
     let long = length-append c.in_ok-first.first c.in_ok-first.second in
     let tries = only_word (codes "try") c.in_ok-words.words (sym c.is_only-in-loop-words.ensures ∙ c.if-is_only-2.true) in
     rw c.in_ok-push.ensures.ok (record {
-      range = script_more c.args.books.now c.loop-words.script q v.range c.in_ok-first.ensures.range
+      range = script_of_more c.args.version c.args.books.now c.loop-words.script q v.range c.in_ok-first.ensures.range
           (omega (arith, v.operations, c.in_ok-first.ensures.few, long)) (omega (arith, v.alternatives, c.if-alternatives-ge-MOST_ALTERNATIVES.false));
       operations = omega (
         arith,
@@ -84,10 +85,10 @@ returns-in_err-operation-clause-fault c why e subs name =
     let v = c.loop-words.invariant in
     let p = err_from_is_err_and c.from_residual-in_err-operation.result c.from_residual-in_err-operation.ensures.1 in
     let same : c.in_err-operation.field-0.0 ≡ why = cc (p.1, p.2, e) in
-    behind_parts_read c.args.books.now c.ranges-2.ensures subs name c.loop-words.script c.args.lines.now c.loop-words.lines c.words.new.self why v.range v.text
-    (behind_line (lines_inside c.args.books.now subs name c.loop-words.script BetweenParts) c.loop-words.lines c.words.new.self
+    behind_parts_read c.args.version c.args.books.now c.ranges-2.ensures subs name c.loop-words.script c.args.lines.now c.loop-words.lines c.words.new.self why v.range v.text
+    (behind_line (lines_inside c.args.version c.args.books.now subs name c.loop-words.script BetweenParts) c.loop-words.lines c.words.new.self
     c.in_ok-words.words why c.in_ok-words.ensures.found.0 c.in_ok-words.ensures.found.1
-    (part_fault c.args.books.now c.ranges-2.ensures subs name c.loop-words.script c.in_ok-words.words why (sym c.is_only.ensures ∙ c.if-is_only.false)
+    (part_fault c.args.version c.args.books.now c.ranges-2.ensures subs name c.loop-words.script c.in_ok-words.words why (sym c.is_only.ensures ∙ c.if-is_only.false)
     (sym c.is_only-in-loop-words.ensures ∙ c.if-is_only-2.false) (c.in_err-operation.ensures.err ∙ ap Some same)))
 
 pub returns-then-operations-ge-MOST_OPERATIONS-clause-fault : goal.returns-then-operations-ge-MOST_OPERATIONS-clause-fault
@@ -95,10 +96,10 @@ returns-then-operations-ge-MOST_OPERATIONS-clause-fault c why e subs name =
     let v = c.loop-words.invariant in
     let same : fault.Limit ≡ why = cc in
     let found = c.in_ok-operation.ensures.found in
-    behind_parts_read c.args.books.now c.ranges-2.ensures subs name c.loop-words.script c.args.lines.now c.loop-words.lines c.words.new.self why v.range v.text
-    (behind_line (lines_inside c.args.books.now subs name c.loop-words.script BetweenParts) c.loop-words.lines c.words.new.self
+    behind_parts_read c.args.version c.args.books.now c.ranges-2.ensures subs name c.loop-words.script c.args.lines.now c.loop-words.lines c.words.new.self why v.range v.text
+    (behind_line (lines_inside c.args.version c.args.books.now subs name c.loop-words.script BetweenParts) c.loop-words.lines c.words.new.self
     c.in_ok-words.words why c.in_ok-words.ensures.found.0 c.in_ok-words.ensures.found.1
-    (part_limit c.args.books.now c.ranges-2.ensures subs name c.loop-words.script c.in_ok-words.words c.in_ok-operation.operation found.0 found.1
+    (part_limit c.args.version c.args.books.now c.ranges-2.ensures subs name c.loop-words.script c.in_ok-words.words c.in_ok-operation.operation found.0 found.1
     (omega (arith, v.operations, c.if-operations-ge-MOST_OPERATIONS.true)) ∙ ap Some same))
 
 pub loop-words-preserved : goal.loop-words-preserved
@@ -107,8 +108,8 @@ loop-words-preserved c =
     let found = c.in_ok-operation.ensures.found in
     let q : Part = part.One c.in_ok-operation.operation in
     rw c.in_ok-push-2.ensures.ok (record {
-      range = script_more c.args.books.now c.loop-words.script q v.range
-          (All-push (IsOperationFor c.args.books.now) [] c.in_ok-operation.operation (λ k d less. absurd (omega arith)) found.0)
+      range = script_of_more c.args.version c.args.books.now c.loop-words.script q v.range
+          (All-push (IsOperationOf c.args.version c.args.books.now) [] c.in_ok-operation.operation (λ k d less. absurd (omega arith)) found.0)
           (omega (arith, v.operations, c.if-operations-ge-MOST_OPERATIONS.false)) (omega (arith, v.range.few_alternatives));
       operations = omega (
         arith,

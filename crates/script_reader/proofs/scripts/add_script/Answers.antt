@@ -15,8 +15,8 @@ returns-in_err-name-clause-fault c why e subs left made are is =
     let p = err_from_is_err_and c.from_residual.result c.from_residual.ensures.1 in
     let same : c.in_err-name.field-0.0 ≡ why = cc (p.1, p.2, e) in
     let none = c.in_err-name.ensures.none in
-    behind_line (lines_so_far c.args.books.now subs) left c.args.lines.now c.args.words.now why are is
-    (outside_word c.args.books.now subs c.args.words.now c.requires.unfinished none.1 ∙ ap Some (sym none.0 ∙ same))
+    behind_line (lines_so_far c.args.version c.args.books.now subs) left c.args.lines.now c.args.words.now why are is
+    (outside_word c.args.version c.args.books.now subs c.args.words.now c.requires.unfinished none.1 ∙ ap Some (sym none.0 ∙ same))
 
 pub returns-then-is_full_for-clause-fault : goal.returns-then-is_full_for-clause-fault
 returns-then-is_full_for-clause-fault c why e subs left made are is =
@@ -25,8 +25,8 @@ returns-then-is_full_for-clause-fault c why e subs left made are is =
     let beyond = sym (beyond_is subs c.in_ok-name.name.now)
     ∙ sym (ap (λ l. nat_le MOST_SCRIPTS (count_scripts l) || (not (is_caller c.in_ok-name.name.now l) && nat_le
     MOST_CALLERS (length l))) made) ∙ sym c.is_full_for.ensures ∙ c.if-is_full_for.true in
-    behind_line (lines_so_far c.args.books.now subs) left c.args.lines.now c.args.words.now why are is
-    (outside_limit c.args.books.now subs c.in_ok-name.name.now c.args.words.now found.0 found.1 beyond ∙ ap Some same)
+    behind_line (lines_so_far c.args.version c.args.books.now subs) left c.args.lines.now c.args.words.now why are is
+    (outside_limit c.args.version c.args.books.now subs c.in_ok-name.name.now c.args.words.now found.0 found.1 beyond ∙ ap Some same)
 
 pub returns-in_err-script-clause-fault : goal.returns-in_err-script-clause-fault
 returns-in_err-script-clause-fault c why e subs left made are is =
@@ -36,7 +36,7 @@ returns-in_err-script-clause-fault c why e subs left made are is =
     let room = sym (beyond_is subs c.in_ok-name.name.now)
     ∙ sym (ap (λ l. nat_le MOST_SCRIPTS (count_scripts l) || (not (is_caller c.in_ok-name.name.now l) && nat_le
     MOST_CALLERS (length l))) made) ∙ sym c.is_full_for.ensures ∙ c.if-is_full_for.false in
-    behind_script c.args.books.now subs c.in_ok-name.name.now c.args.words.now left c.args.lines.now c.script_of.new.lines why found.0 found.1 room is
+    behind_script c.args.version c.args.books.now subs c.in_ok-name.name.now c.args.words.now left c.args.lines.now c.script_of.new.lines why found.0 found.1 room is
     (c.script_of.ensures.fault why (c.in_err-script.was ∙ ap Err same) subs c.in_ok-name.name.now)
 
 pub returns-clause-added : goal.returns-clause-added

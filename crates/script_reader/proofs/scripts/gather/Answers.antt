@@ -5,7 +5,7 @@ use Rattle.std.proofs.lemmas.Result.{err_from_is_err_and}
 use Rattle.script_reader.specs.declared.limits.TheConstants.{MOST_CALLERS, MOST_SCRIPTS}
 use Rattle.script_reader.specs.declared.fault.Refusal.TheVariants as refusal
 use Rattle.script_reader.specs.Text.{script_lines, end_line}
-use Rattle.script_reader.specs.Input.{AreCallersFor, callers_of, count_scripts}
+use Rattle.script_reader.specs.Input.{callers_of, count_scripts}
 use Rattle.script_reader.specs.Inner.LinesAsWords.{lines_so_far}
 use Rattle.script_reader.specs.Inner.Callers.{is_caller, add_submission}
 use Rattle.script_reader.proofs.Conditions.{neither}
@@ -16,17 +16,18 @@ use Rattle.script_reader.proofs.Texts.Reaching.{no_callers}
 use Rattle.script_reader.proofs.Texts.Following.{line_shorter, behind_end}
 use Rattle.script_reader.proofs.Texts.Gathered.{behind_scripts, one_more_script, last_text}
 use Rattle.script_reader.proofs.scripts.gather.Goals as goal
+use Rattle.script_reader.specs.Inner.OfVersion.{AreCallersOf}
 
 pub loop-words-init : goal.loop-words-init
-loop-words-init c = record { even = c.requires.even; subs = []; made = c.requires.none; valid = no_callers c.args.books.now; text = refl }
+loop-words-init c = record { even = c.requires.even; subs = []; made = c.requires.none; valid = no_callers c.args.version c.args.books.now; text = refl }
 
 pub returns-in_err-words-clause-fault : goal.returns-in_err-words-clause-fault
 returns-in_err-words-clause-fault c why e =
     let v = c.loop-words.invariant in
     let p = err_from_is_err_and c.from_residual.result c.from_residual.ensures.1 in
     let same : c.in_err-words.field-0.0 ≡ why = cc (p.1, p.2, e) in
-    behind_scripts c.args.books.now c.ranges-2.ensures v.subs c.args.lines.now c.loop-words.lines c.words.new.self why v.valid v.text
-    (behind_end (lines_so_far c.args.books.now v.subs) c.loop-words.lines c.words.new.self why (
+    behind_scripts c.args.version c.args.books.now c.ranges-2.ensures v.subs c.args.lines.now c.loop-words.lines c.words.new.self why v.valid v.text
+    (behind_end (lines_so_far c.args.version c.args.books.now v.subs) c.loop-words.lines c.words.new.self why (
       sym same
           ∙ c.in_err-words.ensures.end.0,
       c.in_err-words.ensures.end.1,
@@ -41,7 +42,7 @@ returns-then-is_only-clause-found c =
       text = last_text c.args.lines.now c.loop-words.lines c.words.new.self v.subs c.in_ok-words.words v.text
           c.in_ok-words.ensures.found.1 (only_word (codes "finish") c.in_ok-words.words (sym c.is_only.ensures ∙ c.if-is_only.true));
       made = v.made;
-      valid = subst (AreCallersFor c.args.books.now) (sym v.made) v.valid;
+      valid = subst (AreCallersOf c.args.version c.args.books.now) (sym v.made) v.valid;
     }
 
 pub returns-in_err-add_script-clause-fault : goal.returns-in_err-add_script-clause-fault
@@ -49,7 +50,7 @@ returns-in_err-add_script-clause-fault c why e =
     let v = c.loop-words.invariant in
     let p = err_from_is_err_and c.from_residual-in_err-add_script.result c.from_residual-in_err-add_script.ensures.1 in
     let same : c.in_err-add_script.field-0.0 ≡ refusal.LineFault why = cc (p.1, p.2, e) in
-    behind_scripts c.args.books.now c.ranges-2.ensures v.subs c.args.lines.now c.loop-words.lines c.add_script.new.lines why v.valid v.text
+    behind_scripts c.args.version c.args.books.now c.ranges-2.ensures v.subs c.args.lines.now c.loop-words.lines c.add_script.new.lines why v.valid v.text
     (c.add_script.ensures.fault why (c.in_err-add_script.was ∙ ap Err same) v.subs c.loop-words.lines v.made
     c.in_ok-words.ensures.found.0 c.in_ok-words.ensures.found.1)
 
@@ -64,8 +65,8 @@ loop-words-preserved c =
       even = c.in_ok-add_script.ensures.even;
       subs = v.subs ++ s ∷ [];
       made = added.made ∙ ap (λ l. add_submission l s) v.made ∙ sym (callers_of-push v.subs s);
-      valid = subst (AreCallersFor c.args.books.now) (sym (callers_of-push v.subs s))
-          (callers_more c.args.books.now (callers_of v.subs) s v.valid added.named added.valid
+      valid = subst (AreCallersOf c.args.version c.args.books.now) (sym (callers_of-push v.subs s))
+          (callers_more c.args.version c.args.books.now (callers_of v.subs) s v.valid added.named added.valid
           (leb-false MOST_SCRIPTS _ room.0) (λ new. leb-false MOST_CALLERS _ (right new room.1)));
       text = one_more_script c.args.lines.now c.loop-words.lines c.words.new.self c.add_script.new.lines v.subs s.caller
           s.script c.in_ok-words.words v.text c.in_ok-words.ensures.found.1 added.begins added.text;

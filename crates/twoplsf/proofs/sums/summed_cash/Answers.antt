@@ -1,4 +1,4 @@
-use Rattle.std.proofs.Common.{◌+◌, not, nat_lt, refl, sym, ap, ◌∙◌, arith, sum_by}
+use Rattle.std.proofs.Common.{not, nat_lt, refl, sym, ap, ◌∙◌, arith, sum_by}
 use Rattle.std.specs.Cmp.{nat_cmp_total}
 use Rattle.std.specs.FinMap.{entries, entries_sorted}
 use Rattle.books_model.proofs.Maps.Keys.{is_lt-nat_cmp}
@@ -27,7 +27,7 @@ loop-account-preserved c =
       c.in-Some.account,
       c.in-Some.cash,
     ) (entries_sorted m) (sym c.in-Some.ensures.first) in
-    ap (λ s. s + c.in-Some.cash) c.loop-account.invariant ∙ sym next
+    omega (arith, c.loop-account.invariant, c.from-sum.ensures, next)
 
 pub returns : goal.returns
 returns c =

@@ -1,5 +1,6 @@
-use Rattle.std.proofs.Common.{◌≡◌, ◌+◌, ℕ, length, List, [], ◌∷◌, Result, Ok, Err, IfOk, All, sym, ap, subst, ◌∙◌, arith}
+use Rattle.std.proofs.Common.{◌≡◌, ◌+◌, ℕ, length, List, [], ◌∷◌, Result, Ok, Err, IfOk, subst, ◌∙◌, arith}
 use Rattle.history_model.specs.Traces.{Trace, Begins}
+use Rattle.history_model.specs.Marks.{count_writes}
 use Rattle.history_model.proofs.Traces.TraceLaws.{begins_trans}
 use Rattle.books_model.specs.declared.reply.Reply.{Reply}
 use Rattle.books_model.specs.declared.reply.Value.{Value}
@@ -33,10 +34,13 @@ run_operations-requires-clause-stands g c =
 pub run_operations-requires-clause-range : goal.run_operations-requires-clause-range
 run_operations-requires-clause-range g c = All-front (IsOperationIn c.args.shape.now) c.args.first.now c.args.second.now c.requires.range
 
--- after going back the books are those from before the first branch, which was refused
-gone : (g : _) (c : In_ok-back_to g) → Turned g.W.Words g.W.Shape.Shape c.args.shape.now c.args.w.now c.back_to.new.self
+-- after going back to a mark from before the first branch, which was refused, the books are those from before it
+gone : (g : _) (c : In_ok-back_to g) (writes : ℕ) → writes ≡ count_writes (g.W.Words.trace c.args.w.now)
+    → TakesBack (g.W.Shape.Shape.word_count (g.W.Words.shape c.run_operations.new.w))
+    (g.W.Shape.Shape.good (g.W.Words.shape c.run_operations.new.w)) writes (g.W.Words.trace c.run_operations.new.w) (g.W.Words.trace c.back_to.new.self)
+    → Turned g.W.Words g.W.Shape.Shape c.args.shape.now c.args.w.now c.back_to.new.self
     (λ books after. (after ≡ books) × ((stop : Reply) × (run_from c.args.number c.args.first.now books ≡ Stops stop)))
-gone g c =
+gone g c writes marked back =
     let words = g.W.Words in let shapes = g.W.Shape.Shape in
     let kept = c.in_ok-values.ensures.hands_on.shape ∙ c.mark-before.ensures.shape in
     let front = begins_marked (words.trace c.run_operations.new.w) c.mark-before.ensures.trace c.in_ok-values.ensures.hands_on.begins in
@@ -46,7 +50,7 @@ gone g c =
     (same_as_at_mark words shapes c.args.w.now c.run_operations.new.w c.back_to.new.self kept front
     c.in_ok-back_to.ensures.begins
     (subst (λ (m : ℕ). TakesBack (shapes.word_count (words.shape c.run_operations.new.w)) (shapes.good (words.shape c.run_operations.new.w)) m
-    (words.trace c.run_operations.new.w) (words.trace c.back_to.new.self)) c.mark-before.ensures.writes c.in_ok-back_to.ensures.back))
+    (words.trace c.run_operations.new.w) (words.trace c.back_to.new.self)) marked back))
 
 pub returns-in-Done-clause-runs : goal.returns-in-Done-clause-runs
 returns-in-Done-clause-runs g c =
@@ -58,9 +62,11 @@ returns-in-Done-clause-runs g c =
 pub back_to-requires : goal.back_to-requires
 back_to-requires g c =
     let words = g.W.Words in
+    let stays = marked_stays (words.trace c.args.w.now) (words.trace c.mark-before.new.self) (words.trace c.run_operations.new.w)
+    c.mark-before.result.writes c.mark-before.ensures.writes c.mark-before.ensures.trace
+    c.in_ok-values.ensures.hands_on.begins in
     record {
-      mark = marked_stays (words.trace c.args.w.now) (words.trace c.mark-before.new.self) (words.trace c.run_operations.new.w)
-          c.mark-before.result.writes c.mark-before.ensures.writes c.mark-before.ensures.trace c.in_ok-values.ensures.hands_on.begins;
+      mark = omega (arith, stays);
       going = c.in_ok-values.ensures.hands_on.done;
       sound = c.in_ok-values.ensures.hands_on.sound;
     }
@@ -68,7 +74,8 @@ back_to-requires g c =
 pub run_operations-requires-2 : goal.run_operations-requires-2
 run_operations-requires-2 g c = record {
   ready = record { going = c.in_ok-back_to.ensures.stops; sound = c.in_ok-back_to.ensures.sound };
-  stands = turned_stands (gone g (goal.at.run_operations-requires-2 g c).In_ok-back_to) c.requires.stands;
+  stands = turned_stands (gone g (goal.at.run_operations-requires-2 g c).In_ok-back_to _
+      c.mark-before.ensures.writes c.in_ok-back_to.ensures.back) c.requires.stands;
   few = omega (arith, c.requires.few, c.len.ensures);
   range = All-back (IsOperationIn c.args.shape.now) c.args.first.now c.args.second.now c.requires.range;
 }
@@ -78,7 +85,9 @@ returns g c =
     let last = c.run_operations-2.ensures.hands_on in
     record {
       runs = ok_less _ _ c.run_operations-2.result (λ answer runs.
-          second_ran c.args.number c.args.first.now c.args.second.now answer (gone g (goal.at.returns g c).In_ok-back_to) last.shape last.begins
+          second_ran c.args.number c.args.first.now c.args.second.now answer
+          (gone g (goal.at.returns g c).In_ok-back_to _ c.mark-before.ensures.writes c.in_ok-back_to.ensures.back)
+          last.shape last.begins
           (subst (λ (so_far : List Value). LeadsTo g.W.Words g.W.Shape.Shape c.back_to.new.self c.run_operations-2.new.w
           (Runs c.args.shape.now (λ books. after_values so_far (run_from (c.args.number + length c.args.first.now) c.args.second.now books)) answer))
           c.in_ok-named-2.ensures

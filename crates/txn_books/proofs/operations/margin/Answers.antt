@@ -1,4 +1,4 @@
-use Rattle.std.proofs.Common.{ap, ◌∙◌, rules}
+use Rattle.std.proofs.Common.{sym, ap, ◌∙◌, rules}
 use Rattle.std.proofs.lemmas.Result.{IfOk-from_err}
 use Rattle.txn_words.specs.Calls.{GoesOn}
 use Rattle.txn_words.proofs.CallLaws.{goes_then, goes_as}
@@ -52,7 +52,9 @@ returns g c = record {
       (λ books after sized k. margin_done books c.args.account c.args.rate c.in-Some.held c.in_ok-worth.field-0
       c.saturating_sub-shortfall.result k.0.0 k.0.1 c.saturating_sub-shortfall.ensures c.if-shortfall-eq0.false _ k.1.0 c.if-not-branch.false
       ∙ ap (Gives (value.Number c.saturating_sub-shortfall.result))
-      (left_with _ (λ books. put_call books c.args.account c.saturating_sub-shortfall.result) books after c.if-not-branch.false k.1.1));
+      (left_with _ (λ books. put_call books c.args.account c.saturating_sub-shortfall.result) books after
+      c.if-not-branch.false k.1.1)
+      ∙ ap (λ n. Gives (value.Number n) after) (sym c.from.ensures));
   stands = c.in_ok-queue_call.ensures.stands;
   goes_on = goes_as (goes_then (goes_then c.in_ok-held.ensures.goes_on c.in_ok-worth.ensures.goes_on) c.in_ok-queue_call.ensures.goes_on) (search rules);
 }

@@ -15,7 +15,7 @@ use Rattle.txn_commit.proofs.transaction.give_way.Goals as goal
 -- what the call asked for stays its footprint
 given_way : (n : ℕ) (cause : Cause) (halted : Option Halt) (began old undone released new : View)
     → halted ≡ Some (halt.Yield cause) → StandsAs n halted began old
-    → Undoes old undone → Releases undone released → new ≡ record released { phase = Running; trace = []; waits = new.waits }
+    → Undoes old undone → Releases undone released → new ≡ record released { phase = Running; trace = []; uses = []; waits = new.waits }
     → LeavesFootprint old → LeavesFootprint new
 given_way n cause halted began old undone released new is stands undo rel restarts =
     footprint_restarts n cause began old new (gave_way n halted cause began old is stands)

@@ -1,10 +1,11 @@
-use Rattle.std.proofs.Common.{◌≡◌, ℕ, ◌<◌, Bool, Option, None, Some, Result, Ok, Err, List, [], ◌∷◌, ◌++◌, length, refl, sym, ap, ◌∙◌, subst, rules}
+use Rattle.std.proofs.Common.{◌≡◌, ℕ, ◌<◌, Bool, Option, None, Some, Result, Ok, Err, List, [], ◌∷◌, ◌++◌, length, refl, sym, ap, ◌∙◌, subst, rules, if◌then◌else◌}
 use Rattle.history_model.specs.declared.entry.Abandoned.{Abandoned}
 use Rattle.history_model.specs.declared.entry.Entry.{Entry}
 use Rattle.history_model.specs.declared.view.Phase.TheVariants.{Running, Releasing}
 use Rattle.history_model.specs.declared.view.View.{View}
 use Rattle.history_model.specs.Fitting.{IsGood}
 use Rattle.history_model.specs.Legal.{IsLegalHistory}
+use Rattle.locks_rule.specs.Versions.{locks_of}
 use Rattle.values_rule.specs.Steps.{entry_of}
 use Rattle.txn_words.specs.declared.words.Stop.{Stop}
 use Rattle.txn_words.specs.declared.words.Stop.TheVariants as stop
@@ -31,7 +32,12 @@ same_table d e same = ap (λ x. x.table) same
 
 -- what a commit leaves, and what undoing leaves
 abbrev Commits : View → View → List Entry → Bool → Type 0
-Commits old new history kept = new ≡ record old { seen = history ++ entry_of kept old ∷ []; undo = []; phase = Releasing }
+Commits old new history kept = new ≡ record old {
+  seen = history ++ entry_of kept old ∷ [];
+  owed = if kept then locks_of old.undo else [];
+  undo = [];
+  phase = Releasing;
+}
 
 seat_after_commit : (first old new : View) (history : List Entry) (kept : Bool) → Commits old new history kept → SameSeat first old → SameSeat first new
 seat_after_commit first old new history kept e same = record {
@@ -91,34 +97,37 @@ returns-in-Ok g c = let inv = c.loop-restarts.invariant in let first = c.args.at
     (not_halted ran.halt (c.in-Ok.ensures.done)) c.run.ensures.sound.stands in
     let desk = same_desk ran.desk.now at.desk.now ran.pass.ghost_name at.pass.ghost_name ran.began.value at.began.value c.run.ensures.origin ∙ inv.desk in
     let shape = ap (λ d. d.shape) desk ∙ sym c.requires.job in
-    let commits = c.settle-serial.ensures.entry in
-    let new = c.settle-serial.new.attempt.pass.now.view in
+    let commits = c.in-Ok-settle.ensures.entry in
+    let new = c.settle.new.attempt.pass.now.view in
     record {
-      name = c.settle-serial.ensures.name
+      name = c.settle.ensures.name
           ∙ (same_name ran.desk.now at.desk.now ran.pass.ghost_name at.pass.ghost_name ran.began.value at.began.value c.run.ensures.origin ∙ inv.name);
-      desk = c.settle-serial.ensures.desk ∙ same_table ran.desk.now c.args.attempt.now.desk.now desk;
+      desk = c.settle.ensures.desk ∙ same_table ran.desk.now c.args.attempt.now.desk.now desk;
       seat = seat_after_commit first ran.pass.now.view new commits.history c.decision-kept.result.0 commits.view same.seat;
       call = call_after_commit ran.pass.now.view new commits.history c.decision-kept.result.0 commits.view ∙ (same.call ∙ c.requires.call);
       undone = undone_by_commit ran.pass.now.view new commits.history c.decision-kept.result.0 commits.view;
       entry =
           gets_entry (g.S.Shape.word_count ran.desk.now.shape) (g.S.Shape.good ran.desk.now.shape)
+          (IsGood (g.S.Shape.word_count c.args.attempt.now.desk.now.shape) (g.S.Shape.good c.args.attempt.now.desk.now.shape))
           c.args.attempt.now.desk.now.base (g.J.Job.means c.args.job.now) c.decision-kept.result.0 c.args.call first
-          ran.pass.now.view c.settle-serial.new.attempt.pass.now.view
-          (record { serial = c.settle-serial.result; call = c.args.call; restarts = c.loop-restarts.restarts; answer = c.decision-kept.result.1 })
+          ran.pass.now.view c.settle.new.attempt.pass.now.view
+          (record { serial = c.in-Ok-settle.serial; call = c.args.call; restarts = c.loop-restarts.restarts; uses = c.in-Ok-settle.uses; answer = c.decision-kept.result.1 })
           same c.requires.floor c.requires.call
           (subst (λ d. CommitsAt (g.S.Shape.word_count ran.desk.now.shape) (g.S.Shape.good ran.desk.now.shape) d.base
-          c.decision-kept.result.0 ran.pass.now.view c.settle-serial.new.attempt.pass.now.view c.settle-serial.result) desk c.settle-serial.ensures.entry)
+          c.decision-kept.result.0 ran.pass.now.view c.settle.new.attempt.pass.now.view c.in-Ok-settle.serial) desk c.in-Ok-settle.ensures.entry)
           refl
           (ap (λ (l : List Abandoned). length l) runs.abandoned
           ∙ (ap (λ (p : PassView). length p.view.abandoned) (same_pass ran.desk.now at.desk.now ran.pass.ghost_name
           at.pass.ghost_name ran.began.value at.began.value c.run.ensures.origin ∙ inv.began) ∙ inv.restarts))
+          c.in-Ok-settle.ensures.uses
           (meant (g.J.Job.means c.args.job.now) g.S.Shape.word_count g.S.Shape.good ran.desk.now.shape
           (g.J.Job.shape c.args.job.now) ran.pass.now.view.trace (is_kept c.in-Ok.verdict) c.decision-kept.result.0
           (answer_of c.in-Ok.verdict) c.decision-kept.result.1
-          shape c.decision-kept.ensures.kept c.decision-kept.ensures.answer c.in-Ok.ensures.meaning);
+          shape c.decision-kept.ensures.kept c.decision-kept.ensures.answer c.in-Ok.ensures.meaning)
+          (λ s good. subst (λ d. IsGood (g.S.Shape.word_count d.shape) (g.S.Shape.good d.shape) s) (sym desk) good);
       legal =
           subst (λ d. IsLegalHistory (IsGood (g.S.Shape.word_count d.shape) (g.S.Shape.good d.shape)) d.seats d.base
-          new.seen) desk c.settle-serial.ensures.legal;
+          new.seen) desk c.in-Ok-settle.ensures.legal;
       few = subst (λ (n : ℕ). n < c.args.attempt.now.desk.now.seats) inv.restarts inv.few;
       committed = phase_after_commit ran.pass.now.view new commits.history c.decision-kept.result.0 commits.view;
       others = search rules;
@@ -186,3 +195,26 @@ loop-restarts-preserved g c = let inv = c.loop-restarts.invariant in let first =
       restarts = more.0;
       few = subst (λ d. length next.pass.now.view.abandoned < d.seats) desk more.1;
     }
+
+-- there was no memory for the list of uses, and all was undone
+pub returns-in_default-clause-others : goal.returns-in_default-clause-others
+returns-in_default-clause-others g c = let inv = c.loop-restarts.invariant in let first = c.args.attempt.now.pass.now.view in let at =
+    c.loop-restarts.attempt in let ran = c.run.new.w in
+    undone_others first ran.pass.now.view c.settle.new.attempt.pass.now.view
+    (ran_on first ran.began.value at.began.value at.pass.now ran.pass.now.view inv.call
+    (same_pass ran.desk.now at.desk.now ran.pass.ghost_name at.pass.ghost_name ran.began.value at.began.value
+    c.run.ensures.origin) inv.began c.run.ensures.sound.call) c.in_default.ensures.undone
+
+pub returns-in_default-clause-left : goal.returns-in_default-clause-left
+returns-in_default-clause-left g c = let ran = c.run.new.w in
+    footprint_undone ran.pass.now.view c.settle.new.attempt.pass.now.view c.in_default.ensures.undone c.run.ensures.sound.footprint
+
+pub returns-in_default-clause-last : goal.returns-in_default-clause-last
+returns-in_default-clause-last g c = let inv = c.loop-restarts.invariant in let at = c.loop-restarts.attempt in let ran = c.run.new.w in
+    let new = c.settle.new.attempt.pass.now.view in
+    let runs = still_runs ran.desk.now.seats ran.halt ran.began.value.view ran.pass.now.view
+    (not_halted ran.halt (c.in-Ok.ensures.done)) c.run.ensures.sound.stands in
+    let desk = same_desk ran.desk.now at.desk.now ran.pass.ghost_name at.pass.ghost_name ran.began.value at.began.value c.run.ensures.origin ∙ inv.desk in
+    subst (λ d. ReadsHistory (IsGood (g.S.Shape.word_count d.shape) (g.S.Shape.good d.shape)) d.seats d.base new) desk
+    (reads_undone (IsGood (g.S.Shape.word_count ran.desk.now.shape) (g.S.Shape.good ran.desk.now.shape))
+    ran.desk.now.seats ran.desk.now.base ran.pass.now.view new c.in_default.ensures.undone (c.run.ensures.sound.current runs.phase))

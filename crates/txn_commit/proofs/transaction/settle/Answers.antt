@@ -1,33 +1,27 @@
-use Rattle.std.proofs.Common.{◌≡◌, List, ℕ, Bool, true, false, sym, ◌∙◌, subst, rules}
+use Rattle.std.proofs.Common.{◌≡◌, List, ℕ, Bool, true, sym, ap, ◌∙◌, subst}
+use Rattle.history_model.specs.declared.view.View.{View}
 use Rattle.history_model.specs.Fitting.{IsGood}
-use Rattle.history_model.specs.Traces.{IsLegalTrace, after}
+use Rattle.history_model.specs.Traces.{Trace, IsLegalTrace, after}
 use Rattle.history_model.proofs.Traces.TraceLaws.{length-after}
-use Rattle.txn_commit.proofs.transaction.settle.Goals.{then-not-kept, else-not-kept}
+use Rattle.txn_commit.proofs.Settling.{lists_since}
 use Rattle.txn_commit.proofs.transaction.settle.Goals as goal
 
-not_both : (b : Bool) → b ≡ true → b ≡ false → ⊥
-not_both b t f = cc
-
 pub commit-serial-requires-clause-leaves_good : goal.commit-serial-requires-clause-leaves_good
-commit-serial-requires-clause-leaves_good g c kept words good legal = elim c.if-not-kept.branch [
-  | then-not-kept w ↦ absurd (not_both c.args.kept kept w.if-not-kept.true)
-  | else-not-kept w ↦ subst (λ a. (ws : List ℕ) → IsGood (g.S.Shape.word_count a.desk.now.shape) (g.S.Shape.good a.desk.now.shape) ws
-      → IsLegalTrace a.pass.now.view.trace ws
-      → IsGood (g.S.Shape.word_count a.desk.now.shape) (g.S.Shape.good a.desk.now.shape) (after a.pass.now.view.trace ws))
-      (sym w.attempt-is)
-      (λ ws fine fits. record {
-        count = length-after c.args.attempt.now.pass.now.view.trace ws ∙ fine.count;
-        good =
-            c.requires.leaves_good kept ws (record { count = fine.count; good = fine.good; legal = fits });
-      })
-      words good legal
-]
+commit-serial-requires-clause-leaves_good g c kept words fine legal =
+    let same = ap (λ (v : View). v.trace) (c.undo_unless.ensures.undone.stays kept) in
+    subst (λ (t : Trace). IsGood (g.S.Shape.word_count c.args.attempt.now.desk.now.shape)
+    (g.S.Shape.good c.args.attempt.now.desk.now.shape) (after t words)) (sym same)
+    (record {
+      count = length-after c.args.attempt.now.pass.now.view.trace words ∙ fine.count;
+      good = c.requires.leaves_good kept words (record {
+        count = fine.count;
+        good = fine.good;
+        legal = subst (λ (t : Trace). IsLegalTrace t words) same legal;
+      });
+    })
 
-pub returns : goal.returns
-returns g c = record {
-  name = search rules;
-  desk = search rules;
-  entry = search rules;
-  legal = search rules;
-  few = search rules;
-}
+-- what was listed before the commit is what the entry has
+pub returns-clause-uses : goal.returns-clause-uses
+returns-clause-uses g c = let sound = c.requires.sound in
+    lists_since c.args.kept c.args.attempt.now.pass.now.view c.undo_unless.new.pass.view c.in-Ok.uses.items c.undo_unless.ensures.undone
+    c.in-Ok.ensures sound.fits.0 (sym sound.log_is ∙ sound.noted sound.fits.0 sound.fits.1)

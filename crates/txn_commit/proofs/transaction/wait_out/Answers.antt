@@ -11,11 +11,11 @@ waited : (first now new : View) → now ≡ record first { waits = now.waits } �
 waited first now new same step =
     step ∙ (ap (λ (v : View). record v { waits = now.waits + 1 }) same ∙ ap (λ (n : ℕ). record first { waits = n }) (sym (ap (λ (v : View). v.waits) step)))
 
-restarted : (first now new : View) → now ≡ record first { waits = now.waits } → new ≡ record now { phase = Running; trace = [] }
-    → new ≡ record first { phase = Running; trace = []; waits = new.waits }
+restarted : (first now new : View) → now ≡ record first { waits = now.waits } → new ≡ record now { phase = Running; trace = []; uses = [] }
+    → new ≡ record first { phase = Running; trace = []; uses = []; waits = new.waits }
 restarted first now new same step =
-    step ∙ (ap (λ (v : View). record v { phase = Running; trace = [] }) same
-    ∙ ap (λ (n : ℕ). record first { phase = Running; trace = []; waits = n }) (sym (ap (λ (v : View). v.waits) step)))
+    step ∙ (ap (λ (v : View). record v { phase = Running; trace = []; uses = [] }) same
+    ∙ ap (λ (n : ℕ). record first { phase = Running; trace = []; uses = []; waits = n }) (sym (ap (λ (v : View). v.waits) step)))
 
 pub gone-requires : goal.gone-requires
 gone-requires g c = let same = sym c.loop.invariant.1 in record {

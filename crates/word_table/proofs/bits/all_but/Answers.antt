@@ -1,4 +1,4 @@
-use Rattle.word_table.proofs.Rows.{shows_others}
+use Rattle.word_table.proofs.Copied.Rows.{shows_others}
 use Rattle.word_table.proofs.bits.all_but.Goals as goal
 
 pub returns : goal.returns

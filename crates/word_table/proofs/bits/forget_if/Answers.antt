@@ -1,4 +1,4 @@
-use Rattle.word_table.proofs.Rows.{forget_yes}
+use Rattle.word_table.proofs.Copied.Rows.{forget_yes}
 use Rattle.word_table.proofs.bits.forget_if.Goals as goal
 
 pub returns-then-yes : goal.returns-then-yes

@@ -1,4 +1,4 @@
-use Rattle.word_table.proofs.Rows.{high_above, high_below}
+use Rattle.word_table.proofs.Copied.Rows.{high_above, high_below}
 use Rattle.word_table.proofs.bits.high_bits.Goals as goal
 
 pub returns-clause-above : goal.returns-clause-above

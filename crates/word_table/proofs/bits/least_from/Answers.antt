@@ -1,5 +1,5 @@
 use Rattle.std.proofs.Common.{◌/◌, refl, arith, rules, slice_index}
-use Rattle.word_table.proofs.Rows.{least_at}
+use Rattle.word_table.proofs.Copied.Rows.{least_at}
 use Rattle.word_table.proofs.bits.least_from.Goals as goal
 
 pub returns-then-rest-ne0 : goal.returns-then-rest-ne0

@@ -1,4 +1,4 @@
-use Rattle.word_table.proofs.Rows.{NoneBefore}
+use Rattle.word_table.proofs.Copied.Rows.{NoneBefore}
 use Rattle.word_table.proofs.bits.least_from.Given as goal
 
 -- the words so far have no bit from `from` on

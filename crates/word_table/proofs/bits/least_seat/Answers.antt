@@ -1,5 +1,5 @@
 use Rattle.std.proofs.Common.{arith}
-use Rattle.word_table.proofs.Rows.{least_bit}
+use Rattle.word_table.proofs.Copied.Rows.{least_bit}
 use Rattle.word_table.proofs.bits.least_seat.Goals as goal
 
 pub returns : goal.returns

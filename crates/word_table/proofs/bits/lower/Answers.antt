@@ -1,4 +1,4 @@
-use Rattle.word_table.proofs.Rows.{shows_lower}
+use Rattle.word_table.proofs.Copied.Rows.{shows_lower}
 use Rattle.word_table.proofs.bits.lower.Goals as goal
 
 pub returns : goal.returns

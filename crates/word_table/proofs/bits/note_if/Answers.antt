@@ -1,4 +1,4 @@
-use Rattle.word_table.proofs.Rows.{note_yes}
+use Rattle.word_table.proofs.Copied.Rows.{note_yes}
 use Rattle.word_table.proofs.bits.note_if.Goals as goal
 
 pub returns-then-yes : goal.returns-then-yes

@@ -1,4 +1,4 @@
-use Rattle.word_table.proofs.Rows.{shows_raise}
+use Rattle.word_table.proofs.Copied.Rows.{shows_raise}
 use Rattle.word_table.proofs.bits.raise.Goals as goal
 
 pub returns : goal.returns

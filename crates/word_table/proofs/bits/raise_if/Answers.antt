@@ -1,4 +1,4 @@
-use Rattle.word_table.proofs.Rows.{raise_yes}
+use Rattle.word_table.proofs.Copied.Rows.{raise_yes}
 use Rattle.word_table.proofs.bits.raise_if.Goals as goal
 
 pub returns-then-yes : goal.returns-then-yes

@@ -1,6 +1,6 @@
 use Rattle.std.proofs.Common.{◌≡◌, ℕ, length, refl, arith, subst, ◌∙◌, length-set}
 use Rattle.std.specs.Slots.{slots_items, slots_counts}
-use Rattle.word_table.proofs.Gathering.{AreCopied, copied_more, all_copied}
+use Rattle.word_table.proofs.Joined.Gathering.{AreCopied, copied_more, all_copied}
 use Rattle.word_table.proofs.closing.copy_words.Goals as goal
 
 pub loop-a-preserved : goal.loop-a-preserved

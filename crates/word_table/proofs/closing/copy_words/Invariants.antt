@@ -1,6 +1,6 @@
 use Rattle.std.proofs.Common.{◌≡◌, length}
 use Rattle.std.specs.Slots.{slots_items}
-use Rattle.word_table.proofs.Gathering.{AreCopied}
+use Rattle.word_table.proofs.Joined.Gathering.{AreCopied}
 use Rattle.word_table.proofs.closing.copy_words.Given as goal
 
 -- the words up to a are copied, and there are as many as before

@@ -4,7 +4,7 @@ use Rattle.history_model.specs.Sets.{has}
 use Rattle.history_model.specs.Views.{number}
 use Rattle.word_table.specs.Copies.{PassView}
 use Rattle.word_table.specs.Gathering.{IsGathered}
-use Rattle.word_table.proofs.Gathering.{first_gathered, next_gathered, next_pass, none_left, seat_view}
+use Rattle.word_table.proofs.Joined.Gathering.{first_gathered, next_gathered, next_pass, none_left, seat_view}
 use Rattle.word_table.proofs.closing.gather.Goals as goal
 
 pub loop-pass-init : goal.loop-pass-init

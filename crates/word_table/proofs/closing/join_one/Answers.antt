@@ -1,5 +1,5 @@
 use Rattle.history_model.specs.Fitting.{IsGood}
-use Rattle.word_table.proofs.Gathering.{joins_at}
+use Rattle.word_table.proofs.Joined.Gathering.{joins_at}
 use Rattle.word_table.proofs.closing.join_one.Goals as goal
 
 pub join_seat-requires : goal.join_seat-requires

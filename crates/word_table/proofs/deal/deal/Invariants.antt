@@ -1,7 +1,7 @@
 use Rattle.std.proofs.Common.{◌≡◌, ◌-◌, []}
 use Rattle.locks_rule.specs.Splits.{opening_view}
 use Rattle.word_table.specs.Sound.{numbers}
-use Rattle.word_table.proofs.Opening.{Dealt}
+use Rattle.word_table.proofs.Openings.Opening.{Dealt}
 use Rattle.word_table.proofs.deal.deal.Given as goal
 
 -- the seat that deals has the numbers from j on, and the passes have the others

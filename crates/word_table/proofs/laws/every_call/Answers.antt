@@ -1,6 +1,6 @@
 use Rattle.history_model.specs.Fitting.{IsGood}
-use Rattle.word_table.proofs.Meetings.{restarts_few, reads_one_state}
-use Rattle.word_table.proofs.Stamped.{stamps_are_kept}
+use Rattle.word_table.proofs.Runs.Meetings.{restarts_few, reads_one_state}
+use Rattle.word_table.proofs.Runs.Stamped.{stamps_are_kept}
 use Rattle.word_table.proofs.laws.every_call.Goals as goal
 
 pub returns-clause-restarts : goal.returns-clause-restarts

@@ -1,5 +1,5 @@
 use Rattle.history_model.specs.Fitting.{IsGood}
-use Rattle.word_table.proofs.KeptChanges.{split_seat_sound, take_note_sound}
+use Rattle.word_table.proofs.Kept.KeptChanges.{split_seat_sound, take_note_sound}
 use Rattle.word_table.proofs.laws.every_cut.Goals as goal
 
 pub returns-clause-seats : goal.returns-clause-seats

@@ -1,5 +1,5 @@
 use Rattle.history_model.specs.Fitting.{IsGood}
-use Rattle.word_table.proofs.KeptChanges.{meet_note_sound, join_seats_sound}
+use Rattle.word_table.proofs.Kept.KeptChanges.{meet_note_sound, join_seats_sound}
 use Rattle.word_table.proofs.laws.every_join.Goals as goal
 
 pub returns-clause-notes : goal.returns-clause-notes

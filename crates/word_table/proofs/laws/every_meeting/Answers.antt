@@ -1,5 +1,5 @@
 use Rattle.history_model.specs.Fitting.{IsGood}
-use Rattle.word_table.proofs.Meetings.{meets_in_conflict, never_meets_apart}
+use Rattle.word_table.proofs.Runs.Meetings.{meets_in_conflict, never_meets_apart}
 use Rattle.word_table.proofs.laws.every_meeting.Goals as goal
 
 pub returns-clause-conflict : goal.returns-clause-conflict

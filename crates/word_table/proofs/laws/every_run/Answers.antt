@@ -1,5 +1,5 @@
 use Rattle.history_model.specs.Fitting.{IsGood}
-use Rattle.word_table.proofs.RunLaws.{run_sound}
+use Rattle.word_table.proofs.Runs.RunLaws.{run_sound}
 use Rattle.word_table.proofs.laws.every_run.Goals as goal
 
 pub returns : goal.returns

@@ -1,5 +1,5 @@
 use Rattle.history_model.specs.Fitting.{IsGood}
-use Rattle.word_table.proofs.KeptKinds.{sound_kept}
+use Rattle.word_table.proofs.Kept.KeptKinds.{sound_kept}
 use Rattle.word_table.proofs.laws.every_step.Goals as goal
 
 pub returns : goal.returns

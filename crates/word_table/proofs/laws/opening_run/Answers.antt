@@ -1,5 +1,5 @@
 use Rattle.history_model.specs.Fitting.{IsGood}
-use Rattle.word_table.proofs.RunLaws.{opening_run}
+use Rattle.word_table.proofs.Runs.RunLaws.{opening_run}
 use Rattle.word_table.proofs.laws.opening_run.Goals as goal
 
 pub returns : goal.returns

@@ -1,5 +1,5 @@
 use Rattle.history_model.specs.Fitting.{IsGood}
-use Rattle.word_table.proofs.Soundness.{add_allowed}
+use Rattle.word_table.proofs.Kept.Soundness.{add_allowed}
 use Rattle.word_table.proofs.step.add_by.Goals as goal
 
 pub fetch_add-requires : goal.fetch_add-requires

@@ -1,5 +1,5 @@
 use Rattle.history_model.specs.Fitting.{IsGood}
-use Rattle.word_table.proofs.Soundness.{exchange_allowed}
+use Rattle.word_table.proofs.Kept.Soundness.{exchange_allowed}
 use Rattle.word_table.proofs.step.exchange_by.Goals as goal
 
 pub compare_exchange-requires : goal.compare_exchange-requires

@@ -1,5 +1,5 @@
 use Rattle.history_model.specs.Fitting.{IsGood}
-use Rattle.word_table.proofs.Soundness.{load_allowed}
+use Rattle.word_table.proofs.Kept.Soundness.{load_allowed}
 use Rattle.word_table.proofs.step.load_by.Goals as goal
 
 pub load-requires : goal.load-requires

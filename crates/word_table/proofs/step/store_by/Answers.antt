@@ -1,5 +1,5 @@
 use Rattle.history_model.specs.Fitting.{IsGood}
-use Rattle.word_table.proofs.Soundness.{store_allowed}
+use Rattle.word_table.proofs.Kept.Soundness.{store_allowed}
 use Rattle.word_table.proofs.step.store_by.Goals as goal
 
 pub store-requires : goal.store-requires

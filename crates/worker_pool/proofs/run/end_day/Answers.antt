@@ -1,10 +1,7 @@
 use Rattle.std.proofs.Common.{ℕ, List, ◌∙◌, ap, rules, sym}
 use Rattle.std.proofs.lemmas.List.Sorted.{IsNonDecreasingBy-from_sort_by_key}
 use Rattle.std.proofs.lemmas.Result.{IfOk-from_err}
-use Rattle.history_model.specs.Fitting.{IsGood}
 use Rattle.history_model.specs.Histories.{replay}
-use Rattle.txn_books.specs.Layout.{words_of}
-use Rattle.txn_books.specs.Standing.{IsGoodFor}
 use Rattle.worker_pool.proofs.Gathered.{serial_of}
 use Rattle.worker_pool.proofs.Ended.{passes_all, day_of_all, whole_of_all}
 use Rattle.worker_pool.proofs.run.end_day.Goals as goal
@@ -29,9 +26,9 @@ returns c =
       desk = closed.desk;
       legal = closed.legal;
       words = closed.words ∙ ap (λ (b : List ℕ). replay b c.in-Ok.closed.history) (sym closed.desk.0);
-      day = day_of_all c.args.desk c.args.input.now c.args.shares.items c.requires.done (IsGood (words_of c.args.desk.shape) (IsGoodFor c.args.desk.shape))
+      day = day_of_all c.args.desk c.args.input.now c.args.shares.items c.requires.done
           c.in_ok-passes.passes.items c.in_ok-passes.done.items c.sort_unstable_by_key.new.self.items c.in-Ok.closed
-          e.passes e.done closed.desk.0 closed.desk.1 closed.desk.2 closed.legal closed.words closed.seen closed.owners
+          e.passes e.done closed.desk.0 closed.desk.1 closed.desk.2 c.began_good.ensures closed.legal closed.words closed.seen closed.owners
           c.refused_changes_nothing.ensures c.requires.stands
           sorted.permutation (IsNonDecreasingBy-from_sort_by_key serial_of _ sorted.sorted (λ a r q k. search rules));
       whole = whole_of_all c.args.desk c.args.input.now c.args.shares.items c.requires.done c.in_ok-passes.done.items

@@ -1,4 +1,4 @@
-use Rattle.std.proofs.Common.{◌≡◌, ◌+◌, ◌<◌, ◌≤◌, ℕ, refl, ap, arith}
+use Rattle.std.proofs.Common.{◌≡◌, ◌+◌, ◌^◌, ◌<◌, ◌≤◌, ℕ, refl, ap, arith}
 use Rattle.books_model.specs.Books.{ClearingBooks}
 use Rattle.books_model.specs.Interpreter.{cash_between}
 use Rattle.books_model.specs.Inner.Changes.{changed_books, before_between, now_between}
@@ -29,7 +29,7 @@ whole c = cash_changed c.self.inside.books.now (so_far c) c.self.inside.changes.
     c.self.invariant.known.ordered c.self.invariant.known.accounts c.args.low c.args.high
 
 -- it fits
-fits : (c : After-self) → cash_between (so_far c) c.args.low c.args.high < 18446744073709551616
+fits : (c : After-self) → cash_between (so_far c) c.args.low c.args.high < 2 ^ 128
 fits c = cash-fits (so_far c) c.args.low c.args.high c.self.invariant.after
 
 pub returns-then-low-high : goal.returns-then-low-high

@@ -4,9 +4,9 @@ use Rattle.history_model.specs.Views.{number}
 use Rattle.locks_rule.specs.Steps.{claim_writer_action}
 use Rattle.word_table.specs.Desks.{DeskHolds}
 use Rattle.word_table.specs.Kinds.{TakenIn}
-use Rattle.word_table.proofs.Answering.{not_claimed, asks_claim, claim_pending, claim_met}
-use Rattle.word_table.proofs.Taken.{of_desk}
-use Rattle.word_table.proofs.Staying.{claim_leaves, claim_unchanged}
+use Rattle.word_table.proofs.Calls.Answering.{not_claimed, asks_claim, claim_pending, claim_met}
+use Rattle.word_table.proofs.Calls.Taken.{of_desk}
+use Rattle.word_table.proofs.Calls.Staying.{claim_leaves, claim_unchanged}
 use Rattle.word_table.proofs.desk.Desk.claim.Goals as goal
 
 -- there was no claim, and the step was taken

@@ -2,7 +2,7 @@ use Rattle.std.proofs.Common.{ℕ, ap, ◌∙◌, arith}
 use Rattle.std.specs.Slots.{slots_items}
 use Rattle.history_model.specs.Fitting.{IsGood}
 use Rattle.history_model.specs.Table.{value_word}
-use Rattle.word_table.proofs.Gathering.{IsClosed, is_closed, desk_closed, all_of_desk}
+use Rattle.word_table.proofs.Joined.Gathering.{IsClosed, is_closed, desk_closed, all_of_desk}
 use Rattle.word_table.proofs.desk.Desk.close_into.Given.{Over}
 use Rattle.word_table.proofs.desk.Desk.close_into.Goals as goal
 

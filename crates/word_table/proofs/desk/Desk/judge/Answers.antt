@@ -5,7 +5,7 @@ use Rattle.stamps_rule.specs.Stamps.{AreRestartsBounded}
 use Rattle.stamps_rule.specs.Steps.{MayJudgeStamp}
 use Rattle.word_table.specs.Calls.{GaveWay}
 use Rattle.word_table.specs.Desks.{DeskView}
-use Rattle.word_table.proofs.Judging.{judged_yields, judged_bounded, judged_cause}
+use Rattle.word_table.proofs.Calls.Judging.{judged_yields, judged_bounded, judged_cause}
 use Rattle.word_table.proofs.desk.Desk.judge.Given.{Over}
 use Rattle.word_table.proofs.desk.Desk.judge.Goals as goal
 

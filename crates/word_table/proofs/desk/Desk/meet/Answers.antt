@@ -1,5 +1,5 @@
 use Rattle.history_model.specs.Fitting.{IsGood}
-use Rattle.word_table.proofs.Noting.{keeps_seen, sees_told}
+use Rattle.word_table.proofs.Joined.Noting.{keeps_seen, sees_told}
 use Rattle.word_table.proofs.desk.Desk.meet.Goals as goal
 
 pub returns-clause-kept : goal.returns-clause-kept

@@ -2,8 +2,8 @@ use Rattle.std.proofs.Common.{ℕ, sym, ap, subst, ◌∙◌}
 use Rattle.std.proofs.lemmas.Result.{IfOk-from_err}
 use Rattle.word_table.specs.Closing.{AreAllPasses}
 use Rattle.history_model.specs.Fitting.{IsGood}
-use Rattle.word_table.proofs.Opening.{opening_sound}
-use Rattle.word_table.proofs.Gathering.{fresh_passes}
+use Rattle.word_table.proofs.Openings.Opening.{opening_sound}
+use Rattle.word_table.proofs.Joined.Gathering.{fresh_passes}
 use Rattle.word_table.proofs.desk.Desk.new.Goals as goal
 
 pub of_words-requires : goal.of_words-requires

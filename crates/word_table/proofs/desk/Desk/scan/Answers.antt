@@ -1,9 +1,9 @@
 use Rattle.history_model.specs.Views.{number}
 use Rattle.word_table.specs.Calls.{ScannedBy}
 use Rattle.word_table.specs.Desks.{DeskHolds}
-use Rattle.word_table.proofs.Answering.{scan_clear, scan_met}
-use Rattle.word_table.proofs.Taken.{of_desk}
-use Rattle.word_table.proofs.Staying.{scan_leaves}
+use Rattle.word_table.proofs.Calls.Answering.{scan_clear, scan_met}
+use Rattle.word_table.proofs.Calls.Taken.{of_desk}
+use Rattle.word_table.proofs.Calls.Staying.{scan_leaves}
 use Rattle.word_table.proofs.desk.Desk.scan.Goals as goal
 
 pub returns-clause-step : goal.returns-clause-step

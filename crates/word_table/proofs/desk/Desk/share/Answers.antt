@@ -1,5 +1,5 @@
 use Rattle.history_model.specs.Locks.{lock_of_word}
-use Rattle.word_table.proofs.Answering.{not_granted}
+use Rattle.word_table.proofs.Calls.Answering.{not_granted}
 use Rattle.word_table.proofs.desk.Desk.share.Goals as goal
 
 pub share_new-requires-clause-free : goal.share_new-requires-clause-free

@@ -1,5 +1,5 @@
 use Rattle.history_model.specs.Views.{number}
-use Rattle.word_table.proofs.Committing.{noted_old}
+use Rattle.word_table.proofs.Calls.Committing.{noted_old}
 use Rattle.word_table.proofs.desk.Desk.store.Goals as goal
 
 pub returns-clause-noted : goal.returns-clause-noted

@@ -1,4 +1,4 @@
-use Rattle.word_table.proofs.Staying.{bit_gone}
+use Rattle.word_table.proofs.Calls.Staying.{bit_gone}
 use Rattle.word_table.proofs.desk.Desk.unshare.Goals as goal
 
 pub returns-clause-gone : goal.returns-clause-gone

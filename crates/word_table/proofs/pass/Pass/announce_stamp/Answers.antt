@@ -2,7 +2,7 @@ use Rattle.std.proofs.Common.{refl}
 use Rattle.history_model.specs.Fitting.{IsGood}
 use Rattle.stamps_rule.specs.Steps.{announce_stamp_action}
 use Rattle.word_table.specs.Sound.{IsSound}
-use Rattle.word_table.proofs.Taken.{taken_in}
+use Rattle.word_table.proofs.Calls.Taken.{taken_in}
 use Rattle.word_table.proofs.pass.Pass.announce_stamp.Goals as goal
 
 pub returns-clause-taken : goal.returns-clause-taken

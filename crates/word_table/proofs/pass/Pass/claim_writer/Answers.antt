@@ -6,9 +6,9 @@ use Rattle.word_table.specs.Sound.{IsSound}
 use Rattle.locks_rule.specs.Steps.{claim_writer_action}
 use Rattle.word_table.specs.declared.limits.TheConstants.{MOST_PASSES}
 use Rattle.word_table.specs.Copies.{PassView}
-use Rattle.word_table.proofs.Found.{not_own_found, writer_small}
-use Rattle.word_table.proofs.Taken.{taken_in}
-use Rattle.word_table.proofs.After.{copy_after, claim_same, claim_phase, claim_copy, busy, runs_on}
+use Rattle.word_table.proofs.Calls.Found.{not_own_found, writer_small}
+use Rattle.word_table.proofs.Calls.Taken.{taken_in}
+use Rattle.word_table.proofs.Copied.After.{copy_after, claim_same, claim_phase, claim_copy, busy, runs_on}
 use Rattle.word_table.proofs.pass.Pass.claim_writer.Goals as goal
 
 pub invariant_of-self : goal.invariant_of-self
@@ -19,7 +19,7 @@ invariant_of-self g c = let i = c.self.invariant in let p = c.self.inside in let
     ((claim_writer_action p.call.who k c.args.a p.seat.me.0).view [] w) c.exchange-found.ensures.seat t.0.view t.1
     (claim_same p.call.who k c.args.a p.seat.me.0 w) (claim_phase p.call.who k c.args.a p.seat.me.0 w ∙ i.call_is.phase_is)
     (claim_copy (record p.locks { claims = c.raise_if.new.row; scans = c.forget_if.new.masks }) p.call.who k c.args.a
-    p.seat.me.0 w l.bits_are l.reads_are (c.raise_if.ensures p.seat.me.0.claims l.claims_are) (c.forget_if.ensures p.seat.me.0.scans l.scans_are))
+    p.seat.me.0 w l.bits_are l.reads_are (c.raise_if.ensures p.seat.me.0.claims l.claims_are) (c.forget_if.ensures p.seat.me.0.scans l.scans_are) l.versions_are)
     (busy ((claim_writer_action p.call.who k c.args.a p.seat.me.0).view [] w)
     (runs_on p.seat.me.0 ((claim_writer_action p.call.who k c.args.a p.seat.me.0).view [] w)
     (claim_phase p.call.who k c.args.a p.seat.me.0 w) (ap (λ (x : PassView). x.view.phase) c.self.view_is ∙ c.requires.phase)))

@@ -3,8 +3,8 @@ use Rattle.history_model.specs.Fitting.{IsGood}
 use Rattle.stamps_rule.specs.Steps.{draw_stamp_action}
 use Rattle.word_table.specs.declared.limits.TheConstants.{MOST_PASSES}
 use Rattle.word_table.specs.Sound.{IsSound}
-use Rattle.word_table.proofs.Growing.{draw_grows}
-use Rattle.word_table.proofs.Taken.{taken_in}
+use Rattle.word_table.proofs.Kept.Growing.{draw_grows}
+use Rattle.word_table.proofs.Calls.Taken.{taken_in}
 use Rattle.word_table.proofs.pass.Pass.draw_stamp.Goals as goal
 
 pub add-found-requires-clause-room : goal.add-found-requires-clause-room

@@ -5,7 +5,7 @@ use Rattle.history_model.specs.declared.view.View.{View}
 use Rattle.history_model.specs.Fitting.{IsGood}
 use Rattle.word_table.specs.Copies.{PassView}
 use Rattle.word_table.specs.Notes.{NoteView}
-use Rattle.word_table.proofs.Noting.{meets_at, told_by, seat_phase}
+use Rattle.word_table.proofs.Joined.Noting.{meets_at, told_by, seat_phase}
 use Rattle.word_table.proofs.pass.Pass.join_note.Goals as goal
 
 pub join_seat-requires : goal.join_seat-requires

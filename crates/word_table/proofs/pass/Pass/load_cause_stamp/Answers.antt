@@ -1,10 +1,31 @@
-use Rattle.std.proofs.Common.{refl}
+use Rattle.std.proofs.Common.{◌≡◌, Bool, true, false, refl, sym, ap, ◌∙◌, ◌==◌, if◌then◌else◌}
+use Rattle.history_model.specs.declared.view.View.{View}
+use Rattle.history_model.specs.declared.view.Phase.TheVariants.{Idle, Running, Yielding}
 use Rattle.history_model.specs.Fitting.{IsGood}
-use Rattle.stamps_rule.specs.Steps.{load_cause_stamp_action}
+use Rattle.stamps_rule.specs.Steps.{load_cause_stamp_action, after_waiting, after_restarting}
+use Rattle.word_table.specs.Copies.{PassView}
+use Rattle.word_table.proofs.Copied.After.{copy_after, busy, look_same, look_phase, look_copy}
 use Rattle.word_table.specs.Sound.{IsSound}
-use Rattle.word_table.proofs.Committing.{restart_reads}
-use Rattle.word_table.proofs.Taken.{taken_in, own_number, still_none}
+use Rattle.word_table.proofs.Calls.Committing.{restart_reads}
+use Rattle.word_table.proofs.Calls.Taken.{taken_in, own_number, still_none}
 use Rattle.word_table.proofs.pass.Pass.load_cause_stamp.Goals as goal
+
+-- the call goes on
+going : (b : Bool) → (if b then Yielding else Running) ≡ Idle → ⊥
+going true e = let z : Yielding ≡ Idle = e in cc
+going false e = let z : Running ≡ Idle = e in cc
+
+pub invariant_of-self : goal.invariant_of-self
+invariant_of-self g c = let i = c.self.invariant in let p = c.self.inside in let v : View = p.seat.me.0 in
+    let t = c.load-shown.ensures.took in let b : Bool = c.load-shown.result == c.args.stamp in
+    let yields : v.phase ≡ Yielding = ap (λ (x : PassView). x.view.phase) c.self.view_is ∙ c.requires.phase in
+    let w : View = if b then after_waiting v else after_restarting v in
+    let phase_is : w.phase ≡ c.phase_after_look-after_look.result = look_phase b v yields ∙ sym c.phase_after_look-after_look.ensures in
+    copy_after i c.phase_after_look-after_look.result (record p.locks { versions = record p.locks.versions { used = c.clear_unless.new.row } })
+    c.load-shown.new.seat.table_id c.load-shown.new.seat.me w c.load-shown.ensures.seat t.0.view t.1 (look_same b v) phase_is
+    (look_copy p.locks v b c.clear_unless.new.row i.locks_are yields
+    (ap (λ (x : PassView). x.view.undo) c.self.view_is ∙ c.requires.undone) c.clear_unless.ensures)
+    (busy w (λ e. going b (sym (look_phase b v yields) ∙ e)))
 
 pub returns-clause-taken : goal.returns-clause-taken
 returns-clause-taken g c = let p = c.self.inside in

@@ -2,8 +2,8 @@ use Rattle.std.proofs.Common.{refl}
 use Rattle.history_model.specs.Fitting.{IsGood}
 use Rattle.values_rule.specs.Steps.{load_serial_action}
 use Rattle.word_table.specs.Sound.{IsSound}
-use Rattle.word_table.proofs.Noting.{sees_legal}
-use Rattle.word_table.proofs.Taken.{taken_in}
+use Rattle.word_table.proofs.Joined.Noting.{sees_legal}
+use Rattle.word_table.proofs.Calls.Taken.{taken_in}
 use Rattle.word_table.proofs.pass.Pass.load_serial.Goals as goal
 
 pub returns-clause-taken : goal.returns-clause-taken

@@ -4,10 +4,10 @@ use Rattle.history_model.specs.Fitting.{IsGood}
 use Rattle.word_table.specs.Sound.{IsSound}
 use Rattle.locks_rule.specs.Steps.{is_free, load_writer_action}
 use Rattle.word_table.specs.declared.limits.TheConstants.{MOST_PASSES}
-use Rattle.word_table.proofs.Found.{writer_small}
-use Rattle.word_table.proofs.Taken.{taken_in}
+use Rattle.word_table.proofs.Calls.Found.{writer_small}
+use Rattle.word_table.proofs.Calls.Taken.{taken_in}
 use Rattle.word_table.specs.Copies.{PassView}
-use Rattle.word_table.proofs.After.{copy_after, load_same, load_phase, load_copy, same_test, busy, runs_on}
+use Rattle.word_table.proofs.Copied.After.{copy_after, load_same, load_phase, load_copy, same_test, busy, runs_on}
 use Rattle.word_table.proofs.pass.Pass.load_writer.Goals as goal
 
 pub invariant_of-self : goal.invariant_of-self
@@ -18,7 +18,7 @@ invariant_of-self g c = let i = c.self.invariant in let p = c.self.inside in let
     (load_same p.call.who k c.args.a p.seat.me.0 w) (load_phase p.call.who k c.args.a p.seat.me.0 w ∙ i.call_is.phase_is)
     (load_copy (record p.locks { reads = c.raise_if.new.row }) p.call.who k c.args.a p.seat.me.0 w l.bits_are
     (same_test c.raise_if.new.row p.seat.me.0.reads k c.is_unclaimed-unclaimed.result (is_free p.call.who w)
-    c.is_unclaimed-unclaimed.ensures (c.raise_if.ensures p.seat.me.0.reads l.reads_are)) l.claims_are l.scans_are)
+    c.is_unclaimed-unclaimed.ensures (c.raise_if.ensures p.seat.me.0.reads l.reads_are)) l.claims_are l.scans_are l.versions_are)
     (busy ((load_writer_action p.call.who k c.args.a p.seat.me.0).view [] w)
     (runs_on p.seat.me.0 ((load_writer_action p.call.who k c.args.a p.seat.me.0).view [] w)
     (load_phase p.call.who k c.args.a p.seat.me.0 w) (ap (λ (x : PassView). x.view.phase) c.self.view_is ∙ c.requires.phase)))

@@ -2,7 +2,7 @@ use Rattle.std.proofs.Common.{subst}
 use Rattle.history_model.specs.Views.{HasClaim}
 use Rattle.word_table.specs.Copies.{PassView}
 use Rattle.word_table.specs.Least.{IsLeast}
-use Rattle.word_table.proofs.Passes.{least_of_all, least_near}
+use Rattle.word_table.proofs.Copied.Passes.{least_of_all, least_near}
 use Rattle.word_table.proofs.pass.Pass.next_claim.Goals as goal
 
 pub returns-clause-least : goal.returns-clause-least

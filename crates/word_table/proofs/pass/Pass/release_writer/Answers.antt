@@ -1,12 +1,14 @@
-use Rattle.std.proofs.Common.{[], refl, sym, ap, ◌∙◌}
+use Rattle.std.proofs.Common.{◌≡◌, ◌⊎◌, [], refl, sym, ap, ◌∙◌, subst}
 use Rattle.history_model.specs.declared.view.Phase.{Phase}
+use Rattle.history_model.specs.declared.view.Phase.TheVariants.{Releasing}
 use Rattle.history_model.specs.declared.view.View.{View}
 use Rattle.history_model.specs.Fitting.{IsGood}
 use Rattle.word_table.specs.Sound.{IsSound}
 use Rattle.locks_rule.specs.Steps.{release_writer_action, released_phase}
-use Rattle.word_table.proofs.Taken.{taken_in}
+use Rattle.word_table.proofs.Calls.Taken.{taken_in}
 use Rattle.word_table.specs.Copies.{PassView}
-use Rattle.word_table.proofs.After.{copy_stored, steady, lock_copy, busy, releases_on}
+use Rattle.word_table.proofs.Copied.After.{copy_stored, steady, lock_copy, busy, releases_on}
+use Rattle.word_table.proofs.Copied.VersionCopies.{versions_released}
 use Rattle.word_table.proofs.pass.Pass.release_writer.Goals as goal
 
 pub invariant_of-self : goal.invariant_of-self
@@ -21,7 +23,10 @@ invariant_of-self g c = let i = c.self.invariant in let p = c.self.inside in let
     (steady p.seat.me.0 v refl refl refl refl refl refl refl) (ap (λ (x : Phase). released_phase x) i.call_is.phase_is
     ∙ sym c.leave_running.ensures)
     (lock_copy (record p.locks { claims = c.lower.new.row; scans = c.forget_if.new.masks }) v l.bits_are l.reads_are
-    (c.lower.ensures p.seat.me.0.claims l.claims_are) (c.forget_if.ensures p.seat.me.0.scans l.scans_are))
+    (c.lower.ensures p.seat.me.0.claims l.claims_are) (c.forget_if.ensures p.seat.me.0.scans l.scans_are)
+    (versions_released p.locks.versions p.seat.me.0.uses p.seat.me.0.owed p.seat.me.0.trace p.seat.me.0.undo p.seat.me.0.phase l.versions_are
+    (λ e. c.requires.begun (sym (ap (λ (x : PassView). x.view.phase) c.self.view_is) ∙ e))
+    (subst (λ (x : PassView). (x.view.undo ≡ []) ⊎ (x.view.phase ≡ Releasing)) (sym c.self.view_is) c.requires.undone)))
     (busy v (releases_on p.seat.me.0.phase (λ e. c.requires.begun (sym (ap (λ (x : PassView). x.view.phase) c.self.view_is) ∙ e))))
 
 pub returns-clause-taken : goal.returns-clause-taken

@@ -2,9 +2,9 @@ use Rattle.std.proofs.Common.{[], ◌∷◌, ◌%◌, ◌∙◌, refl, ap}
 use Rattle.history_model.specs.Fitting.{IsGood}
 use Rattle.word_table.specs.Sound.{IsSound}
 use Rattle.locks_rule.specs.Steps.{scan_row_action}
-use Rattle.word_table.proofs.Taken.{taken_in}
+use Rattle.word_table.proofs.Calls.Taken.{taken_in}
 use Rattle.word_table.specs.Copies.{PassView}
-use Rattle.word_table.proofs.After.{copy_after, clear_bit, scan_same, scan_phase, scan_copy, busy, runs_on}
+use Rattle.word_table.proofs.Copied.After.{copy_after, clear_bit, scan_same, scan_phase, scan_copy, busy, runs_on}
 use Rattle.word_table.proofs.pass.Pass.scan_row.Goals as goal
 
 pub invariant_of-self : goal.invariant_of-self
@@ -15,7 +15,7 @@ invariant_of-self g c = let i = c.self.invariant in let p = c.self.inside in let
     (scan_same p.call.who c.args.k c.args.other p.seat.me.0 w) (scan_phase p.call.who c.args.k c.args.other p.seat.me.0 w ∙ i.call_is.phase_is)
     (scan_copy (record p.locks { scans = c.note_if.new.masks }) p.call.who c.args.k c.args.other p.seat.me.0 w l.bits_are l.reads_are l.claims_are
     (clear_bit c.note_if.new.masks.items w (c.args.k % 64) ((c.args.k, c.args.other) ∷ p.seat.me.0.scans)
-    p.seat.me.0.scans (c.note_if.ensures p.seat.me.0.scans l.scans_are)))
+    p.seat.me.0.scans (c.note_if.ensures p.seat.me.0.scans l.scans_are)) l.versions_are)
     (busy ((scan_row_action p.call.who c.args.k c.args.other p.seat.me.0).view [] w)
     (runs_on p.seat.me.0 ((scan_row_action p.call.who c.args.k c.args.other p.seat.me.0).view [] w)
     (scan_phase p.call.who c.args.k c.args.other p.seat.me.0 w) (ap (λ (x : PassView). x.view.phase) c.self.view_is ∙ c.requires.phase)))

@@ -4,10 +4,10 @@ use Rattle.history_model.specs.Fitting.{IsGood}
 use Rattle.word_table.specs.Sound.{IsSound}
 use Rattle.history_model.specs.Locks.{lock_of_word}
 use Rattle.locks_rule.specs.Steps.{set_read_bit_action}
-use Rattle.word_table.proofs.Found.{set_stores}
-use Rattle.word_table.proofs.Taken.{taken_in}
+use Rattle.word_table.proofs.Calls.Found.{set_stores}
+use Rattle.word_table.proofs.Calls.Taken.{taken_in}
 use Rattle.word_table.specs.Copies.{PassView}
-use Rattle.word_table.proofs.After.{copy_stored, steady, lock_copy, busy, runs_on}
+use Rattle.word_table.proofs.Copied.After.{copy_stored, steady, lock_copy, busy, runs_on}
 use Rattle.word_table.proofs.pass.Pass.set_read_bit.Goals as goal
 
 pub store-requires-clause-stored : goal.store-requires-clause-stored
@@ -22,7 +22,7 @@ invariant_of-self g c = let i = c.self.invariant in let p = c.self.inside in let
     c.store.ensures.view
     (steady p.seat.me.0 v refl refl refl refl refl refl refl) i.call_is.phase_is
     (lock_copy (record p.locks { bits = c.raise.new.row }) v (c.raise.ensures p.seat.me.0.bits i.locks_are.bits_are)
-    i.locks_are.reads_are i.locks_are.claims_are i.locks_are.scans_are)
+    i.locks_are.reads_are i.locks_are.claims_are i.locks_are.scans_are i.locks_are.versions_are)
     (busy v (runs_on p.seat.me.0 v refl (ap (λ (x : PassView). x.view.phase) c.self.view_is ∙ c.requires.phase)))
 
 pub returns-clause-taken : goal.returns-clause-taken

@@ -2,7 +2,7 @@ use Rattle.std.proofs.Common.{◌<◌, ap, ◌∙◌, arith}
 use Rattle.atomic_table.specs.Seated.{TableId}
 use Rattle.history_model.specs.Fitting.{IsGood}
 use Rattle.word_table.specs.Copies.{PassView}
-use Rattle.word_table.proofs.Noting.{gives_at, seat_phase}
+use Rattle.word_table.proofs.Joined.Noting.{gives_at, seat_phase}
 use Rattle.word_table.proofs.pass.Pass.take_note.Goals as goal
 
 pub split_seat-seat-requires : goal.split_seat-seat-requires

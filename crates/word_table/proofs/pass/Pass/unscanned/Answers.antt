@@ -4,7 +4,7 @@ use Rattle.history_model.specs.Views.{HasClaim}
 use Rattle.word_table.specs.Copies.{PassView}
 use Rattle.word_table.specs.Least.{IsLeast}
 use Rattle.word_table.specs.Unscanned.{IsUnscanned}
-use Rattle.word_table.proofs.Passes.{least_unscanned, all_scanned}
+use Rattle.word_table.proofs.Copied.Passes.{least_unscanned, all_scanned}
 use Rattle.word_table.proofs.pass.Pass.unscanned.Goals as goal
 
 pub returns-clause-least : goal.returns-clause-least

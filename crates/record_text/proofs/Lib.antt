@@ -1,0 +1,16 @@
+-- how many blocks records take
+pub mod Rooms
+-- records are indexed
+pub mod Indexes
+-- what the index has at a place
+pub mod Places
+-- records that have their blocks have them after every script
+pub mod Kept
+-- identifiers are listed
+pub mod Listing
+-- a run of operations, from any of them on
+pub mod Runs
+-- a record is taken out
+pub mod Removals
+-- a record is put
+pub mod Puts

@@ -1,0 +1,64 @@
+-- Putting a record: what the step comes to, and the blocks after it.
+use Rattle.std.proofs.Common.{◌≡◌, ℕ, ◌+◌, ◌*◌, ◌<◌, ◌≤◌, Bool, true, false, not, ◌&&◌, cond, nat_lt, Option, Some, None, IsSome, is_some, refl, sym, ap, ◌∙◌, subst, arith}
+use Rattle.std.specs.Bool.{if◌then◌else◌}
+use Rattle.std.specs.FinMap as finite
+use Rattle.std.specs.BTreeMap.{BTreeMap, get_by}
+use Rattle.std.specs.Ordering.{nat_cmp}
+use Rattle.std.specs.Cmp.{nat_cmp_total}
+use Rattle.std.proofs.lemmas.Bool.Decides.{nat_tests}
+use Rattle.books_model.proofs.Maps.Trees.{get-lookup, len_after_change, len_after_insert}
+use Rattle.record_text.specs.declared.script.RecordOp.TheVariants as op
+use Rattle.record_text.specs.declared.reply.RecordValue.{RecordValue}
+use Rattle.record_text.specs.declared.reply.RecordValue.TheVariants as value
+use Rattle.record_text.specs.Records.{Records, RecordStore, blocks_of, is_full}
+use Rattle.record_text.specs.Interpreter.{Step, Gives, LacksBlocks, step_of}
+use Rattle.record_text.specs.Ranges.{HasRoom}
+
+-- the value of a record that is put, by whether it was there
+abbrev pub put_value : Bool → RecordValue
+put_value b = if b then value.Old else value.New
+
+-- whether the record is there, as the tree tells it
+pub contains_tree : (tree : BTreeMap ℕ (ℕ × ℕ)) (store : RecordStore) (id : ℕ) (found : Bool) → finite.from_entries tree.entries ≡ store.records
+    → found ≡ is_some (get_by (nat_cmp id) tree) → finite.contains_key store.records id ≡ found
+contains_tree tree store id found view is = ap (λ records. finite.contains_key records id) (sym view)
+    ∙ ap is_some (get-lookup nat_cmp_total tree.entries id) ∙ sym is
+
+-- the two ends of a step, by its test
+by_test : (b : Bool) (x y : Step) → b ≡ true → (if b then x else y) ≡ x
+by_test true x y e = refl
+by_test false x y e = absurd (cc)
+
+by_other : (b : Bool) (x y : Step) → b ≡ false → (if b then x else y) ≡ y
+by_other true x y e = absurd (cc)
+by_other false x y e = refl
+
+module _ (store : RecordStore) (id rank content : ℕ) where
+  abbrev lacks : Bool
+  lacks = not (finite.contains_key store.records id) && is_full store.blocks store.records
+
+  abbrev there : Bool
+  there = finite.contains_key store.records id
+
+  pub lacks_blocks : lacks ≡ true → step_of store.blocks (op.Put id rank content) store.records ≡ LacksBlocks
+  lacks_blocks e = by_test lacks LacksBlocks (Gives (put_value there) (finite.insert store.records id (rank, content))) e
+
+  pub is_put : lacks ≡ false → step_of store.blocks (op.Put id rank content) store.records
+      ≡ Gives (put_value there) (finite.insert store.records id (rank, content))
+  is_put e = by_other lacks LacksBlocks (Gives (put_value there) (finite.insert store.records id (rank, content))) e
+
+  -- how many blocks the records take after it
+  longer : (found : Option (ℕ × ℕ)) → finite.get store.records id ≡ found → (not (is_some found) && is_full store.blocks store.records) ≡ false
+      → blocks_of store.records ≤ store.blocks → blocks_of (finite.insert store.records id (rank, content)) ≤ store.blocks
+  longer (Some was) e test enough = omega (
+    arith,
+    len_after_change nat_cmp_total store.records id (rank, content) (subst IsSome (sym e) refl),
+    enough,
+  )
+  longer None e test enough = grind (arith, len_after_insert nat_cmp_total store.records id (rank, content) e, enough, nat_tests)
+
+  pub put_fits : lacks ≡ false → blocks_of store.records ≤ store.blocks → blocks_of (finite.insert store.records id (rank, content)) ≤ store.blocks
+  put_fits e enough = longer (finite.get store.records id) refl e enough
+
+  pub has_room : lacks ≡ false → HasRoom store → HasRoom (record store { records = finite.insert store.records id (rank, content) })
+  has_room e room = record { blocks = room.blocks; enough = put_fits e room.enough }

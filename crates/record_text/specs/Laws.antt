@@ -1,0 +1,29 @@
+-- Laws of the language of records.
+use Rattle.std.specs.Prelude.{◌≡◌, ◌≢◌, ℕ, ◌≤◌, ◌==◌, if◌then◌else◌, List, Option, Some, None}
+use Rattle.std.specs.FinMap as finite
+use Rattle.record_text.specs.declared.script.RecordOp.{RecordOp}
+use Rattle.record_text.specs.declared.reply.RecordValue.{RecordValue}
+use Rattle.record_text.specs.declared.reply.RecordReply.TheVariants as reply
+use Rattle.record_text.specs.Records.{Records, blocks_of, index_of}
+use Rattle.record_text.specs.Interpreter.{record_outcome_of}
+
+-- the data of a record, if it has this rank
+abbrev pub data_at_rank : ℕ → Option (ℕ × ℕ) → Option ℕ
+data_at_rank rank None = None
+data_at_rank rank (Some stored) = if stored.0 == rank then Some stored.1 else None
+
+-- the index has the data of each record at its rank, and nothing else
+abbrev pub IndexHasEach : Type 0
+IndexHasEach = (records : Records) (rank id : ℕ)
+    → finite.get (index_of records) (rank, id) ≡ data_at_rank rank (finite.get records id)
+
+-- a script that is not done leaves the records
+abbrev pub RefusedChangesNothing : Type 0
+RefusedChangesNothing = (script : List RecordOp) (records : Records) (blocks : ℕ)
+    → ((values : List RecordValue) → (record_outcome_of script records blocks).0 ≢ reply.Done values)
+    → (record_outcome_of script records blocks).1 ≡ records
+
+-- records that have their blocks have them after every script
+abbrev pub RoomIsKept : Type 0
+RoomIsKept = (script : List RecordOp) (records : Records) (blocks : ℕ) → blocks_of records ≤ blocks
+    → blocks_of (record_outcome_of script records blocks).1 ≤ blocks

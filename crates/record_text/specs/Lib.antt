@@ -1,0 +1,5 @@
+pub mod Records
+pub mod Interpreter
+pub mod Ranges
+pub mod Laws
+pub mod Inner
