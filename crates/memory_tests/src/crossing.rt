@@ -51,6 +51,7 @@ fn add_one(desk: &Desk<Pair>, pass: &mut Pass<Pair>, a: u64) -> u64
     ensures rest { pass.new.view ≡ record pass.old.view {
       trace = pass.new.view.trace;
       undo = pass.new.view.undo;
+      uses = pass.new.view.uses;
     } }
     ensures noted { pass.new.view.undo ≡ pass.old.view.undo ++ (a, result) ∷ [] }
 {
@@ -69,6 +70,7 @@ fn unclaim_all(desk: &Desk<Pair>, pass: &mut Pass<Pair>)
     ensures rest { pass.new.view ≡ record pass.old.view {
       claims = pass.new.view.claims;
       scans = pass.new.view.scans;
+      owed = pass.new.view.owed;
     } }
     ensures no_claim { (k : ℕ) → ¬ HasClaim pass.new.view k }
 {
@@ -107,6 +109,7 @@ fn release_all(desk: &Desk<Pair>, pass: &mut Pass<Pair>)
       reads = pass.new.view.reads;
       claims = pass.new.view.claims;
       scans = pass.new.view.scans;
+      owed = pass.new.view.owed;
     } }
     ensures no_claim { (k : ℕ) → ¬ HasClaim pass.new.view k }
     ensures no_bit { (k : ℕ) → ¬ HasBit pass.new.view k }
@@ -127,6 +130,7 @@ fn wait_for<R: Wait>(rt: &R, desk: &Desk<Pair>, pass: &mut Pass<Pair>, cause: Ca
     ensures restarts { pass.new.view ≡ record pass.old.view {
       phase = Phase.Running;
       trace = [];
+      uses = [];
       waits = pass.new.view.waits;
     } }
 {
