@@ -9,6 +9,8 @@ mod blocks;
 #[cfg(test)]
 mod building;
 #[cfg(test)]
+mod comparing;
+#[cfg(test)]
 mod hash_map;
 #[cfg(test)]
 mod lists;

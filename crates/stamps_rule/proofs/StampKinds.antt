@@ -3,16 +3,19 @@ use Rattle.std.proofs.Common.{◌≡◌, ◌≢◌, ℕ, suc, ◌+◌, ◌<◌, 
 use Rattle.std.proofs.Common.{nat_lt, if◌then◌else◌, slice_index, slice_set, refl, sym, ap, ◌∙◌, subst, arith, eq-eqb, ne_eqb, get_or-set_other}
 use Rattle.std.proofs.Common.{get_or-set_same}
 use Rattle.std.proofs.lemmas.Bool.Decides.{leb_tells}
+use Rattle.std.proofs.lemmas.List.{set-set, set-get_or}
 use Rattle.std.proofs.lemmas.Option.{same_Some}
 use mathlib.Core.Logic.{dite}
 use native.Mathlib.Decide.{ℕ_discrete}
 use Rattle.history_model.specs.declared.entry.Entry.{Entry}
 use Rattle.history_model.specs.declared.event.Cause.{Cause}
 use Rattle.history_model.specs.declared.view.View.{View}
+use Rattle.history_model.specs.declared.view.Phase.TheVariants.{Running}
 use Rattle.history_model.specs.Legal.{IsIn}
 use Rattle.history_model.specs.Sets.{has, without, flag}
 use Rattle.history_model.specs.Table.{Knows, history_of, serial_word, clock_word, calls_word, stamps_word}
 use Rattle.history_model.proofs.SetLemmas.{bool_cases, differ, not_true, has-without}
+use Rattle.history_model.proofs.Views.Places.{put_here}
 use Rattle.locks_rule.specs.Locks.{LocksHold, IsSeat}
 use Rattle.locks_rule.proofs.Counting.{calls_below-same}
 use Rattle.locks_rule.proofs.Own.{own}
@@ -21,14 +24,14 @@ use Rattle.stamps_rule.specs.Keeping.{KeepsStamps}
 use Rattle.stamps_rule.specs.Stamps.{is_idle, is_unstamped, shown_stamp, Shows, GoesAfter, AreSeatsDistinct, WasMet, StampsHold}
 use Rattle.stamps_rule.specs.Steps.{MayDrawStamp, MayAnnounceStamp, MayJudgeStamp, MayLoadSerialAtYield, MayLoadCauseStamp, draw_stamp_action}
 use Rattle.stamps_rule.specs.Steps.{announce_stamp_action, judge_stamp_action, load_serial_at_yield_action, load_cause_stamp_action, judged, attempt_of}
-use Rattle.stamps_rule.specs.Steps.{after_giving_way, after_waiting, after_restarting}
+use Rattle.stamps_rule.specs.Steps.{after_giving_way, after_waiting, after_restarting, judge_and_yield_action, after_judgement}
 use Rattle.stamps_rule.proofs.Asides.{words_unchanged, notes_same, no_due, stamps_kept, all_kept, causes_kept, causes_empty, waited_kept, earlier_kept}
 use Rattle.stamps_rule.proofs.Asides.{stands_aside}
 use Rattle.stamps_rule.proofs.CauseLists.{newest_added, older_added, newest_last, past_added, in_added, pending_running, waited_running, pending_yielding}
 use Rattle.stamps_rule.proofs.CauseLists.{waited_yielding, causes_past, empty_list, distinct_added}
 use Rattle.stamps_rule.proofs.Counting.{unstamped_stamped, unstamped_running}
 use Rattle.stamps_rule.proofs.Frames.{moves}
-use Rattle.stamps_rule.proofs.LocksStand.{runs, yields, yielded}
+use Rattle.stamps_rule.proofs.LocksStand.{runs, yields, yielded, judge_stamp_locks}
 
 hidden : (v : View) → v.announced ≡ false → shown_stamp v ≡ 0
 hidden v e = ap (λ (b : Bool). if b then v.stamp else 0) e
@@ -224,29 +227,54 @@ module _ (n : ℕ) (base ws : List ℕ) (vs : List View) (id j i : ℕ) (v : Vie
 pub judge_stamp_stamps : (j i : ℕ) → KeepsStamps (MayJudgeStamp j i) (judge_stamp_action j i)
 judge_stamp_stamps j i n base ws vs id v h q me may = judge_keeps n base ws vs id j i v h q me may
 
-pub load_serial_at_yield_stamps : (j : ℕ) → KeepsStamps (MayLoadSerialAtYield j) (load_serial_at_yield_action j)
-load_serial_at_yield_stamps j n base ws vs id v h q me may =
-    let c : Cause = may.cause.0 in
-    let history : List Entry = history_of vs in
+-- a load of any word with which an attempt gives way to the cause that was due, where this is the history then
+yields_by : (n : ℕ) (base ws : List ℕ) (vs : List View) (id i : ℕ) (v : View) (c : Cause) (history : List Entry) → LocksHold n base ws vs
+    → StampsHold n ws vs → Knows vs id v → v.phase ≡ Running → v.due ≡ Some c
+    → StampsHold n (slice_set ws i (slice_index ws i)) (slice_set vs id (after_giving_way c history v))
+yields_by n base ws vs id i v c history h q me runs_now is_due =
     let w : View = after_giving_way c history v in
-    let ws' : List ℕ = slice_set ws serial_word (slice_index ws serial_word) in
+    let ws' : List ℕ = slice_set ws i (slice_index ws i) in
     let past : past_causes w ≡ past_causes v ++ c ∷ [] = past_added v.abandoned (attempt_of c (length history) v) in
-    let causes : causes_of w ≡ causes_of v = causes_past w refl ∙ (past ∙ ap (λ (o : Option Cause). past_causes v ++ listed o) (sym may.cause.1)) in
-    let pending : pending_of w ≡ pending_of v = ap newest past ∙ (newest_added (past_causes v) c ∙ sym (pending_running v may.phase ∙ may.cause.1)) in
-    let waited : waited_of w ≡ waited_of v = ap older past ∙ (older_added (past_causes v) c ∙ sym (waited_running v may.phase)) in
-    yielded (λ (u : View). StampsHold n ws' (slice_set vs id u)) v c may.cause.1 history
-    (moves n base ws ws' vs id v w h q me record {
+    let causes : causes_of w ≡ causes_of v = causes_past w refl ∙ (past ∙ ap (λ (o : Option Cause). past_causes v ++ listed o) (sym is_due)) in
+    let pending : pending_of w ≡ pending_of v = ap newest past ∙ (newest_added (past_causes v) c ∙ sym (pending_running v runs_now ∙ is_due)) in
+    let waited : waited_of w ≡ waited_of v = ap older past ∙ (older_added (past_causes v) c ∙ sym (waited_running v runs_now)) in
+    moves n base ws ws' vs id v w h q me record {
       who = refl;
-      stamps = stamps_kept n base ws vs id v h q me w ws' (words_unchanged n ws serial_word) refl refl refl (sym (ap is_idle may.phase));
+      stamps = stamps_kept n base ws vs id v h q me w ws' (words_unchanged n ws i) refl refl refl (sym (ap is_idle runs_now));
       causes = all_kept n base ws vs id v h q me w record {
         who = refl;
         joined = refl;
         causes = causes;
-        busy = λ busy. runs v may.phase;
+        busy = λ busy. runs v runs_now;
         running = λ d t. absurd (no_due w d refl t);
         notes = notes_same v w refl refl;
       } refl pending waited;
-    })
+    }
+
+pub load_serial_at_yield_stamps : (j : ℕ) → KeepsStamps (MayLoadSerialAtYield j) (load_serial_at_yield_action j)
+load_serial_at_yield_stamps j n base ws vs id v h q me may =
+    yielded (λ (u : View). StampsHold n (slice_set ws serial_word (slice_index ws serial_word)) (slice_set vs id u)) v may.cause.0 may.cause.1 (history_of vs)
+    (yields_by n base ws vs id serial_word v may.cause.0 (history_of vs) h q me may.phase may.cause.1)
+
+-- a judgement that gives way at once does what a judgement does, and then what giving way does
+pub judge_and_yield_stamps : (j i : ℕ) → KeepsStamps (MayJudgeStamp j i) (judge_and_yield_action j i)
+judge_and_yield_stamps j i n base ws vs id v h q me may =
+    let found : ℕ = slice_index ws (stamps_word v.seats i) in
+    let ws' : List ℕ = slice_set ws (stamps_word v.seats i) found in
+    let passes : View = record v { met = without i v.met; due = None } in
+    let Stands : Option Cause → Type 0 = λ o. StampsHold n ws' (slice_set vs id (after_judgement o passes)) in
+    ⊎_elim
+    (λ t. subst Stands (sym t) (judge_passes n base ws vs id j i v h q me may))
+    (λ t. subst Stands (sym t.0) (let c : Cause = record { seat = i; stamp = found } in
+    let finds : View = record v { met = without i v.met; due = Some c } in
+    let vs' : List View = slice_set vs id finds in
+    let locks : LocksHold n base ws' vs' = subst (λ (o : Option Cause). LocksHold n base ws' (slice_set vs id (record v { met = without i v.met; due = o })))
+    t.0 (judge_stamp_locks n base j i ws vs id v h me may) in
+    let both = yields_by n base ws' vs' id serial_word finds c v.seen locks (judge_finds n base ws vs id j i v h q me may t.1 t.2)
+    (put_here vs id v finds me) may.phase refl in
+    subst (λ (l : List View). StampsHold n ws' l) (set-set vs id finds (after_giving_way c v.seen passes))
+    (subst (λ (l : List ℕ). StampsHold n l (slice_set vs' id (after_giving_way c v.seen passes))) (set-get_or ws' serial_word 0) both)))
+    (judged_cases i found v.stamp)
 
 -- the cause is still there
 waits_on : (n : ℕ) (base ws : List ℕ) (vs : List View) (id i : ℕ) (v : View) → LocksHold n base ws vs → StampsHold n ws vs → Knows vs id v → v.due ≡ None

@@ -89,6 +89,19 @@ abbrev pub after_yielding : Option Cause → List Entry → View → View
 after_yielding None history v = v
 after_yielding (Some cause) history v = after_giving_way cause history v
 
+-- a judgement that gives way at once: what was seen stays, and all of it is before the attempt
+abbrev pub after_judgement : Option Cause → View → View
+after_judgement None v = v
+after_judgement (Some cause) v = after_giving_way cause v.seen v
+
+-- the same load, where no number of entries is looked at: an attempt that has a cause gives way by this step
+abbrev pub judge_and_yield_action : ℕ → ℕ → View → Action
+judge_and_yield_action j i v = record {
+  at = stamps_word v.seats i;
+  writes = λ w. w;
+  view = λ h w. after_judgement (judged i w v.stamp) (record v { met = without i v.met; due = None });
+}
+
 -- a call that has to give way loads the number of entries, and its attempt is abandoned
 pub record MayLoadSerialAtYield (j : ℕ) (v : View) : Type 0 where
   pub who : v.who ≡ j ∷ []

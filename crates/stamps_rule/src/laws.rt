@@ -18,7 +18,7 @@ ghost use Rattle.stamps_rule.specs.Asides.{IsStampWord, SameStamps, BeginsCall, 
 ghost use Rattle.stamps_rule.specs.Keeping.{KeepsStamps, KeepsStampsSplit, KeepsStampsJoin};
 ghost use Rattle.stamps_rule.specs.Opening.{IsClockUnused};
 ghost use Rattle.stamps_rule.specs.Stamps.{StampsHold, AreRestartsBounded};
-ghost use Rattle.stamps_rule.specs.Steps.{MayDrawStamp, MayAnnounceStamp, MayJudgeStamp, MayLoadSerialAtYield, MayLoadCauseStamp, draw_stamp_action, announce_stamp_action, judge_stamp_action, load_serial_at_yield_action, load_cause_stamp_action};
+ghost use Rattle.stamps_rule.specs.Steps.{MayDrawStamp, MayAnnounceStamp, MayJudgeStamp, MayLoadSerialAtYield, MayLoadCauseStamp, draw_stamp_action, announce_stamp_action, judge_stamp_action, judge_and_yield_action, load_serial_at_yield_action, load_cause_stamp_action};
 
 /// A seat that draws a timestamp keeps both invariants: no call has a later one, and this call had no cause before it.
 pub fn draw_stamp()
@@ -40,6 +40,14 @@ pub fn judge_stamp()
     ensures locks { (n : ℕ) (base : List ℕ) (j i : ℕ)
         → Keeps (LocksHold n base) (MayJudgeStamp j i) (judge_stamp_action j i) }
     ensures stamps { (j i : ℕ) → KeepsStamps (MayJudgeStamp j i) (judge_stamp_action j i) }
+{}
+
+/// A seat that looks at such a timestamp and gives way at once where it finds a cause keeps both invariants: it does what
+/// looking does, and then what giving way does, and needs no word that all share.
+pub fn judge_and_yield()
+    ensures locks { (n : ℕ) (base : List ℕ) (j i : ℕ)
+        → Keeps (LocksHold n base) (MayJudgeStamp j i) (judge_and_yield_action j i) }
+    ensures stamps { (j i : ℕ) → KeepsStamps (MayJudgeStamp j i) (judge_and_yield_action j i) }
 {}
 
 /// A seat that gives way keeps both invariants: the cause that was due is that of its last attempt.

@@ -1,4 +1,6 @@
--- a commit, kept or not, keeps the value invariant
+-- what a commit, kept or not, leaves of words, entries and numbers of calls
+pub mod Recording
+-- a commit keeps the value invariant
 pub mod Commits
 -- a load with which an attempt gives way keeps it
 pub mod Giving

@@ -9,7 +9,7 @@ use Rattle.books_model.specs.declared.script.Part.TheVariants as part
 use Rattle.books_model.specs.Scripts.{operations_of, alternatives_in}
 use Rattle.books_model.proofs.Scripts.Branches.{behind_parts, script_more}
 use Rattle.txn_books.specs.Operating.{IsOperationIn}
-use Rattle.collections_tests.proofs.scripts.alone.Goals as goal
+use Rattle.collections_tests.proofs.comparing.alone.Goals as goal
 
 pub loop-operation-preserved : goal.loop-operation-preserved
 loop-operation-preserved c =

@@ -3,7 +3,7 @@ use Rattle.history_model.specs.Fitting.{IsGood}
 use Rattle.books_model.specs.Interpreter.{outcome_of}
 use Rattle.txn_books.specs.Layout.{words_of}
 use Rattle.txn_books.specs.Standing.{Stands, IsGoodFor}
-use Rattle.collections_tests.proofs.scripts.run_on_words.Goals as goal
+use Rattle.collections_tests.proofs.comparing.run_on_words.Goals as goal
 
 pub run_on_plain-requires-clause-good : goal.run_on_plain-requires-clause-good
 run_on_plain-requires-clause-good g c =

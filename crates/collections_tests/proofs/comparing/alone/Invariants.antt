@@ -3,7 +3,7 @@ use Rattle.std.specs.Slice.Iter.{iter_rest}
 use Rattle.books_model.specs.Scripts.{operations_of, alternatives_in}
 use Rattle.txn_books.specs.Meaning.{IsScriptIn}
 use Rattle.txn_books.specs.Operating.{IsOperationIn}
-use Rattle.collections_tests.proofs.scripts.alone.Given as goal
+use Rattle.collections_tests.proofs.comparing.alone.Given as goal
 
 -- the script has the operations that were looked at, and no alternative
 abbrev pub invariant-loop-operation : goal.invariant-loop-operation

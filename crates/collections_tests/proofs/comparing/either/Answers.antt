@@ -5,7 +5,7 @@ use Rattle.books_model.specs.Ranges.{IsOperationFor, IsScriptFor}
 use Rattle.books_model.specs.declared.script.Part.{Part}
 use Rattle.books_model.specs.declared.script.Part.TheVariants as part
 use Rattle.books_model.proofs.Scripts.Branches.{script_more}
-use Rattle.collections_tests.proofs.scripts.either.Goals as goal
+use Rattle.collections_tests.proofs.comparing.either.Goals as goal
 
 pub returns : goal.returns
 returns c =
