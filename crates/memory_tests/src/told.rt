@@ -1,8 +1,8 @@
-//! A note between two transactions: the pass that meets it sees what the other wrote.
+//! A note between two transactions: the pass that meets it sees what the other wrote, and finds the version that it left.
 
 ghost use Rattle.std.specs.Prelude.{◌≡◌, ◌<◌};
 
-use crate::transactions::close_two;
+use crate::transactions::{close_two, used};
 use crate::values::{Pair, open_pair};
 use history_model::Phase;
 use io_ends::OutOfMemory;
@@ -71,6 +71,8 @@ fn note_shows_a_commit_to_another_pass(rt: HostRuntime) -> Result<(), Fail> {
     desk.meet(&mut one, note);
     let read = call(&rt, rt.alloc(), &desk, &mut one, &Turn::Read)?;
     let words = close_two(rt.alloc(), desk, zero, one)?;
+    assert_eq!(rt; written.uses.as_slice(), [used(0, 0, true)].as_slice());
+    assert_eq!(rt; read.uses.as_slice(), [used(0, 1, false)].as_slice());
     assert_eq!(rt;
         (written.serial, read.serial, read.answer, words.as_slice()),
         (1, 2, 9, [9, 4].as_slice())

@@ -1,7 +1,7 @@
 //! The worked rows of transactions by one thread: two words of one lock, a note between two calls, a job that finds no
-//! memory, and one that writes more words than the undo log has room for at first.
+//! memory, one that takes back what it wrote, and one that writes more words than the undo log has room for at first.
 
-ghost use Rattle.std.specs.Prelude.{◌≡◌, ◌<◌, [], ◌∷◌, None, IfOk, OnOk, OnErr};
+ghost use Rattle.std.specs.Prelude.{◌≡◌, ◌<◌, [], ◌∷◌, None, length, IfOk, OnOk, OnErr};
 ghost use Rattle.history_model.specs.declared.view.Phase.TheVariants.{Idle};
 ghost use Rattle.locks_rule.specs.Splits.{opening_view};
 ghost use Rattle.txn_words.specs.Steps.{stop_after};
@@ -33,6 +33,7 @@ enum Step {
     Write,
     Read,
     WriteAndFail,
+    WriteAndRevert,
     WriteMany,
 }
 
@@ -78,6 +79,10 @@ impl Job for Step {
                 w.write(5, 7)?;
                 Err(Stop::Memory)
             }
+            Step::WriteAndRevert => {
+                w.write(5, 7)?;
+                Ok(Verdict::Revert(0))
+            }
             Step::WriteMany => {
                 write_many(w)?;
                 Ok(Verdict::Keep(0))
@@ -88,6 +93,7 @@ impl Job for Step {
 
 // A desk with 1,030 words, all 0, and two passes.
 pub(crate) fn open_wide(alloc: Global) -> Result<(Desk<Wide>, Pass<Wide>, Pass<Wide>), OutOfMemory>
+    ensures words { IfOk result (λ opened. length opened.0.base ≡ 1030) }
     ensures seats { IfOk result (λ opened. opened.0.seats ≡ 2) }
     ensures zero { IfOk result (λ opened. opened.1 ≡ record {
       table = opened.0.table;
@@ -147,7 +153,7 @@ fn call<R: Wait>(
 }
 
 // The use of a lock at this version.
-fn used(lock: u32, version: u64, wrote: bool) -> LockUse {
+pub(crate) fn used(lock: u32, version: u64, wrote: bool) -> LockUse {
     LockUse {
         lock,
         version,
@@ -195,6 +201,18 @@ fn job_out_of_memory_leaves_an_idle_pass(rt: HostRuntime) -> Result<(), Fail> {
         (1, 2, 0, 0)
     );
     assert!(rt; words.iter().all(|word| *word == 0));
+    Ok(())
+}
+
+// It has its entry and its uses; and who reads the word finds it as it was, at the version as it was.
+#[test]
+fn a_call_that_reverts_has_uses_that_did_not_write(rt: HostRuntime) -> Result<(), Fail> {
+    let (desk, mut zero, _one) = open_wide(rt.alloc())?;
+    let reverted = call(&rt, rt.alloc(), &desk, &mut zero, &Step::WriteAndRevert)?;
+    let read = call(&rt, rt.alloc(), &desk, &mut zero, &Step::Read)?;
+    assert_eq!(rt; (reverted.serial, read.serial, read.answer), (1, 2, 0));
+    assert_eq!(rt; reverted.uses.as_slice(), [used(5, 0, false)].as_slice());
+    assert_eq!(rt; read.uses.as_slice(), [used(5, 0, false)].as_slice());
     Ok(())
 }
 

@@ -1,11 +1,13 @@
 //! What an attempt used, as `use_of` tells it between its steps, and what kept writes make of a lock's version.
 
-ghost use Rattle.std.specs.Prelude.{◌≡◌, length, OnSome};
+ghost use Rattle.std.specs.Prelude.{◌≡◌, [], length, OnSome, IsTrue};
+ghost use Rattle.history_model.specs.Views.{HasWriteGrant};
 
+use crate::transactions::{Wide, open_wide, used};
 use crate::values::{Pair, finish, hold, open_pair};
 use history_model::{LockUse, Phase};
 use std::test::Fail;
-use word_table::{Desk, Pass, Shared};
+use word_table::{Claimed, Desk, Pass, Shared};
 
 // What is told of lock 0 while a call holds it to write: before it does anything to word 0, once it has read the word, and
 // once it has written it; and then it commits.
@@ -83,6 +85,54 @@ fn uses_of_a_read(
     Some((pass.use_of(0), pass.use_of(1)))
 }
 
+// Asks for lock 5 to write, where no other seat stands on it: whether it is held.
+fn hold_five(desk: &Desk<Wide>, pass: &mut Pass<Wide>) -> bool
+    requires desk { (pass.old.table ≡ desk.now.table) × (length pass.old.view.base ≡ 1030) }
+    requires fresh { (pass.old.view.phase ≡ Phase.Running) × (pass.old.view.undo ≡ []) }
+    ensures desk { (pass.new.table ≡ desk.now.table) × (length pass.new.view.base ≡ 1030) }
+    ensures fresh { (pass.new.view.phase ≡ Phase.Running) × (pass.new.view.undo ≡ []) }
+    ensures held { IsTrue result → HasWriteGrant pass.new.view 5 }
+{
+    let Claimed::Pending = desk.claim(pass, 5) else {
+        return false;
+    };
+    if let Some(other) = pass.unscanned(5) {
+        if other == pass.who() {
+            return false;
+        }
+        let _ = desk.scan(pass, 5, other);
+    }
+    pass.has_write(5)
+}
+
+// What is told of lock 5 once a call has written word 5, once it has written word 1029 too, and once it has undone both;
+// and the first lock that it has used, and the first behind lock 5.
+fn uses_of_two_words(
+    desk: &Desk<Wide>,
+    pass: &mut Pass<Wide>,
+) -> Option<([Option<LockUse>; 3], [Option<u32>; 2])>
+    requires desk { (pass.old.table ≡ desk.now.table) × (length pass.old.view.base ≡ 1030) }
+    requires idle { pass.old.view.phase ≡ Phase.Idle }
+{
+    if pass.calls_left() == 0 {
+        return None;
+    }
+    let _ = desk.begin(pass);
+    if !hold_five(desk, pass) {
+        return None;
+    }
+    let low = desk.load(pass, 5);
+    desk.store(pass, 5, 50);
+    let one = pass.use_of(5);
+    let high = desk.load(pass, 1029);
+    desk.store(pass, 1029, 60);
+    let both = pass.use_of(5);
+    let locks = [pass.next_use_from(0), pass.next_use_from(6)];
+    desk.undo_store(pass, 1029, high);
+    desk.undo_store(pass, 5, low);
+    Some(([one, both, pass.use_of(5)], locks))
+}
+
 // The use of lock 0 at this version.
 fn at(version: u64, wrote: bool) -> Option<LockUse> {
     Some(LockUse {
@@ -101,5 +151,15 @@ fn a_use_is_told_as_it_grows(rt: HostRuntime) -> Result<(), Fail> {
     assert_eq!(rt; undone, Some(at(1, false)));
     let read = uses_of_a_read(&desk, &mut one);
     assert_eq!(rt; read, Some((at(1, false), None)));
+    Ok(())
+}
+
+// Words 5 and 1029 are both of lock 5.
+#[test]
+fn two_words_of_one_lock_are_one_use(rt: HostRuntime) -> Result<(), Fail> {
+    let (desk, mut zero, _one) = open_wide(rt.alloc())?;
+    let told = uses_of_two_words(&desk, &mut zero);
+    let (wrote, undone) = (Some(used(5, 0, true)), Some(used(5, 0, false)));
+    assert_eq!(rt; told, Some(([wrote, wrote, undone], [Some(5), None])));
     Ok(())
 }

@@ -4,6 +4,7 @@ use Rattle.std.proofs.lemmas.List.{map_push}
 use Rattle.std.proofs.lemmas.List.Elements.{All-nil, All-push, All-weaker}
 use Rattle.std.proofs.lemmas.Option.{slice_get_within}
 use Rattle.history_model.specs.declared.entry.Entry.{Entry}
+use Rattle.history_model.specs.declared.item.LockUse.{LockUse}
 use Rattle.history_model.specs.declared.view.Phase.TheVariants.{Idle}
 use Rattle.history_model.specs.Fitting.{IsGood}
 use Rattle.history_model.specs.Legal.{IsPrefix}
@@ -17,6 +18,7 @@ use Rattle.txn_books.specs.Meaning.{ScriptMeans}
 use Rattle.txn_books.specs.Standing.{IsGoodFor}
 use Rattle.txn_commit.specs.declared.transaction.Receipt.{Receipt}
 use Rattle.txn_commit.specs.Transactions.{GetsEntry}
+use Rattle.txn_commit.specs.Uses.{ListsUses}
 use Rattle.books_model.specs.declared.reply.Reply.{Reply}
 use Rattle.word_table.specs.Copies.{PassView}
 use Rattle.word_table.specs.Desks.{DeskView}
@@ -43,6 +45,7 @@ module _ (desk : DeskView BooksShape) (input : ClearingInput) where
     pub seat : item.seat ≡ who
     pub call : item.call ≡ receipt.call
     pub serial : item.serial ≡ receipt.serial
+    pub uses : item.uses.items ≡ receipt.uses.items
     pub restarts : item.restarts ≡ receipt.restarts
     pub reply : item.reply ≡ receipt.answer
 
@@ -63,6 +66,7 @@ module _ (desk : DeskView BooksShape) (input : ClearingInput) where
               seat_is = gets.made_by ∙ sym its.seat;
               call_is = gets.call_is.0 ∙ sym gets.call_is.1 ∙ sym its.call;
               restarts_are = sym gets.restarts_are ∙ sym its.restarts;
+              uses_are = subst (λ (l : List LockUse). ListsUses gets.entry.uses l) (sym its.uses) gets.uses_are;
             };
             meaning = λ s good legal.
                 subst (λ (r : Reply). ScriptMeans desk.shape (script_at input item.caller item.index) s gets.entry.kept

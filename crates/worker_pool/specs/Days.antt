@@ -12,6 +12,7 @@ use Rattle.script_reader.specs.Journal.{Place, IsJournal}
 use Rattle.books_report.specs.Output.{replies_of, books_after}
 use Rattle.txn_books.specs.declared.shape.BooksShape.{BooksShape}
 use Rattle.txn_books.specs.Standing.{Stands}
+use Rattle.txn_commit.specs.Uses.{ListsUses}
 use Rattle.worker_pool.specs.declared.done.Done.{Done}
 
 -- the desk is new, and these are all its passes
@@ -27,11 +28,13 @@ place_of_item item = record { caller = item.caller; index = item.index }
 abbrev pub places_of_items : List Done → List Place
 places_of_items done = map place_of_item done
 
--- the entry is of the item's seat and call, and has as many attempts that gave way as the item has restarts
+-- the entry is of the item's seat and call, has as many attempts that gave way as the item has restarts, and has the uses
+-- that the item lists by rising lock
 pub record IsEntryOf (item : Done) (entry : Entry) : Type 0 where
   pub seat_is : entry.who ≡ item.seat
   pub call_is : entry.call ≡ item.call
   pub restarts_are : length entry.abandoned ≡ item.restarts
+  pub uses_are : ListsUses entry.uses item.uses.items
 
 -- the history has an entry for each item, at the place that its serial says, and no other
 pub record AreEntriesOf (done : List Done) (history : List Entry) : Type 0 where

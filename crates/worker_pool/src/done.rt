@@ -1,6 +1,7 @@
 //! What was done.
 
 use books_model::Reply;
+use history_model::{LockUse, Placed};
 use txn_books::BooksShape;
 use word_table::Closed;
 
@@ -17,10 +18,30 @@ pub struct Done {
     pub call: u32,
     /// Its place among all scripts, from 1.
     pub serial: u64,
+    /// What it used: each lock once, by rising lock, with the version that it found there and whether a write of it stands.
+    pub uses: Vec<LockUse>,
     /// How often it gave way before it was committed.
     pub restarts: u32,
     /// What it replied.
     pub reply: Reply,
+}
+
+impl Placed for Done {
+    ghost use Rattle.history_model.specs.declared.placed.Spot.{Spot};
+
+    ghost spot = { λ item. record { caller = item.caller; index = item.index; uses = item.uses.items } };
+
+    fn caller(&self) -> u32 {
+        self.caller
+    }
+
+    fn index(&self) -> u32 {
+        self.index
+    }
+
+    fn uses(&self) -> &[LockUse] {
+        self.uses.as_slice()
+    }
 }
 
 /// What a day came to: its items in the order of their serials, and the closed table.

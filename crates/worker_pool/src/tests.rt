@@ -1,11 +1,15 @@
-//! What a worker takes of the callers that were dealt out: alone, and two on threads.
+//! What a worker takes of the callers that were dealt out: alone, and two on threads; and what an item shows of its place
+//! among calls.
 
 ghost use Rattle.std.specs.Prelude.{◌≡◌, IfOk};
 ghost use Rattle.worker_pool.specs.Inner.Takers.{IsEndOf};
 
 use crate::dealing::{Deques, deal_out};
+use crate::done::Done;
 use crate::rule::Thief;
 use crate::taker::Taker;
+use books_model::Reply;
+use history_model::{LockUse, Placed};
 use io_ends::OutOfMemory;
 use std::alloc::Global;
 use std::sync::Wait;
@@ -163,4 +167,32 @@ fn take_from_small_deques<R: Threads + Wait + Sync>(
 fn each_caller_is_taken_once_or_joins_the_list(rt: HostRuntime) {
     let marks = take_from_small_deques(&rt, rt.alloc());
     assert!(rt; matches!(marks, Ok(0o1_1111_1111) | Err(OutOfMemory)));
+}
+
+// The caller, the index and the uses of whatever has a place among calls.
+fn place_of<P: Placed>(item: &P) -> (u32, u32, &[LockUse]) {
+    (item.caller(), item.index(), item.uses())
+}
+
+#[test]
+fn an_item_shows_its_place_among_calls(rt: HostRuntime) -> Result<(), Fail> {
+    let used = LockUse {
+        lock: 5,
+        version: 0,
+        wrote: true,
+    };
+    let item = Done {
+        caller: 3,
+        index: 4,
+        seat: 1,
+        call: 2,
+        serial: 9,
+        uses: vec![in rt.alloc(); used]?,
+        restarts: 0,
+        reply: Reply::Full(1),
+    };
+    let (caller, index, uses) = place_of(&item);
+    assert_eq!(rt; (caller, index), (3, 4));
+    assert_eq!(rt; uses, [used].as_slice());
+    Ok(())
 }

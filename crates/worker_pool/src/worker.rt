@@ -77,6 +77,7 @@ fn run_script<R: Wait, G: Gate>(
         seat: pass.who(),
         call: receipt.call,
         serial: receipt.serial,
+        uses: receipt.uses,
         restarts: receipt.restarts,
         reply: receipt.answer,
     })

@@ -12,12 +12,11 @@ use Rattle.history_model.specs.Table.{Knows, history_of}
 use Rattle.history_model.specs.Traces.{Trace, value_after}
 use Rattle.history_model.specs.Views.{number}
 use Rattle.history_model.proofs.Traces.EndEvents.{last_read_same}
-use Rattle.history_model.proofs.Histories.HistoryLaws.{prefix_is_legal, replay_is_good}
+use Rattle.history_model.proofs.Histories.HistoryLaws.{prefix_is_legal}
 use Rattle.history_model.proofs.Views.Places.{put_here}
-use Rattle.locks_rule.specs.Actions.{views_after, found_by}
+use Rattle.locks_rule.specs.Actions.{words_after, views_after, found_by}
 use Rattle.values_rule.specs.Steps.{MayBeginCall, MayCommitCall, begin_call_action, load_value_action, store_value_action, known_value}
 use Rattle.values_rule.specs.Steps.{commit_call_action}
-use Rattle.values_rule.specs.Values.{ValuesHold}
 use Rattle.stamps_rule.specs.Steps.{MayLoadCauseStamp, load_cause_stamp_action, after_waiting, after_restarting}
 use Rattle.locks_rule.proofs.Own.{own}
 use Rattle.word_table.specs.declared.step.Step.{Step}
@@ -27,15 +26,12 @@ use Rattle.word_table.specs.Kinds.{action_of, May, TakenIn}
 use Rattle.word_table.specs.Sound.{IsSound}
 use Rattle.word_table.specs.Versions.{MayLoadUsed}
 use Rattle.word_table.proofs.Kept.KeptKinds.{sound_kept}
+use Rattle.word_table.proofs.Known.{ReadsNow, reads_now, reads_history, sees_history}
 
 -- the words that the history leaves fit the trace of an attempt
-fits_now : (count : ℕ) (good : List ℕ → Type 0) (n : ℕ) (base ws : List ℕ) (vs : List View) (id : ℕ) (v : View)
-    → ValuesHold (IsGood count good) n base ws vs → Knows vs id v → is_attempt v.phase ≡ true
-    → Fits count good v.trace (replay base (history_of vs))
-fits_now count good n base ws vs id v q me busy =
-    let fine : IsGood count good (replay base (history_of vs)) =
-    replay_is_good (IsGood count good) n base (history_of vs) q.history.base_good q.history.legal in
-    record { count = fine.count; good = fine.good; legal = q.trace.legal id v me busy }
+fits_now : (count : ℕ) (good : List ℕ → Type 0) (base : List ℕ) (vs : List View) (v : View)
+    → ReadsNow (IsGood count good) base vs v → Fits count good v.trace (replay base (history_of vs))
+fits_now count good base vs v now = record { count = now.left_good.count; good = now.left_good.good; legal = now.legal }
 
 -- the state that a step leads to is sound, and the seat then knows the new view
 pub reads_after : (good : List ℕ → Type 0) (n : ℕ) (base : List ℕ) (st : Step) (old new : View) (found : ℕ)
@@ -47,28 +43,23 @@ reads_after good n base st old new found t may busy =
     let vs : List View = views_after (action_of st old) t.place t.words t.views in
     let after = sound_kept good n base st t.words t.views t.place old t.holds t.knows may in
     let me : Knows vs t.place next = put_here t.views t.place old next t.knows in
-    subst (λ (x : View). ReadsHistory good n base x) (sym is) (record {
-      history = history_of vs;
-      legal = after.values.history.legal;
-      begins = after.values.seen.seen_begin t.place next me;
-      left_good = replay_is_good good n base (history_of vs) after.values.history.base_good after.values.history.legal;
-      fits = after.values.trace.legal t.place next me (subst (λ (x : View). is_attempt x.phase ≡ true) is busy);
-    })
+    subst (λ (x : View). ReadsHistory good n base x) (sym is)
+    (reads_history good n base (words_after (action_of st old) t.words) vs t.place next after me (subst (λ (x : View). is_attempt x.phase ≡ true) is busy))
 
 module _ (count : ℕ) (good : List ℕ → Type 0) (n : ℕ) (base : List ℕ) (kept : Bool) (v w : View) (found : ℕ)
     (t : TakenIn (IsSound (IsGood count good) n base) (commit_call_action (number v) kept v) v found w)
     (may : MayCommitCall (IsGood count good) (number v) kept v) where
   pub commits_at : CommitsAt count good base kept v w (found + 1)
   commits_at =
-      let q = t.holds.values in
-      let seat = (own n base t.words t.views t.place (number v) v t.holds.locks t.knows may.who).seat in
+      let sees = sees_history (IsGood count good) n base t.words t.views t.place v t.holds t.knows in
+      let named = (own n base t.words t.views t.place (number v) v t.holds.locks t.knows may.who).seat.named in
       record {
         history = history_of t.views;
         view = t.view;
-        place_is = ap (λ (x : ℕ). x + 1) (sym t.found_is ∙ q.seen.serial);
-        begins = q.seen.seen_begin t.place v t.knows;
-        others = λ p e le at same. let lt : p < length v.seen = q.calls.own_seen t.place (number v) p v e seat at same in late p (length v.seen) le lt;
-        fits = fits_now count good n base t.words t.views t.place v q t.knows may.phase;
+        place_is = ap (λ (x : ℕ). x + 1) (sym t.found_is ∙ sees.counter);
+        begins = sees.begins;
+        others = λ p e le at same. late p (length v.seen) le (sees.own (number v) p e named at same);
+        fits = fits_now count good base t.views v (reads_now (IsGood count good) n base t.words t.views t.place v t.holds t.knows may.phase);
       }
     where
       late : (a b : ℕ) → b ≤ a → a < b → ⊥
@@ -79,12 +70,12 @@ module _ (count : ℕ) (good : List ℕ → Type 0) (n : ℕ) (base : List ℕ) 
       let action = commit_call_action (number v) kept v in
       let next : View = action.view (history_of t.views) (found_by action t.words) in
       let is : w ≡ next = t.view in
-      let after = (sound_kept (IsGood count good) n base (CommitCall (number v) kept) t.words t.views t.place v t.holds t.knows may).values in
-      let vs : List View = views_after action t.place t.words t.views in
-      let begins = after.seen.seen_begin t.place next (put_here t.views t.place v next t.knows) in
-      let whole : IsLegalHistory (IsGood count good) n base (next.seen ++ begins.0) =
-      subst (λ (l : List Entry). IsLegalHistory (IsGood count good) n base l) begins.1 after.history.legal in
-      subst (λ (x : View). IsLegalHistory (IsGood count good) n base x.seen) (sym is) (prefix_is_legal (IsGood count good) n base next.seen begins.0 whole)
+      let after = sound_kept (IsGood count good) n base (CommitCall (number v) kept) t.words t.views t.place v t.holds t.knows may in
+      let sees = sees_history (IsGood count good) n base (words_after action t.words) (views_after action t.place t.words t.views) t.place next after
+      (put_here t.views t.place v next t.knows) in
+      let whole : IsLegalHistory (IsGood count good) n base (next.seen ++ sees.begins.0) =
+      subst (λ (l : List Entry). IsLegalHistory (IsGood count good) n base l) sees.begins.1 sees.legal in
+      subst (λ (x : View). IsLegalHistory (IsGood count good) n base x.seen) (sym is) (prefix_is_legal (IsGood count good) n base next.seen sees.begins.0 whole)
 
 pub load_reads : (good : List ℕ → Type 0) (n : ℕ) (base : List ℕ) (a : ℕ) (v w : View) (found : ℕ)
     → TakenIn (IsSound good n base) (load_value_action (number v) a v) v found w → MayLoadUsed (number v) a v → ReadsHistory good n base w

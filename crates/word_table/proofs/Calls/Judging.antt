@@ -15,7 +15,6 @@ use Rattle.history_model.specs.Views.{number}
 use Rattle.history_model.proofs.Views.Places.{put_here, put_cases}
 use Rattle.history_model.proofs.SetLemmas.{has-join_same}
 use Rattle.locks_rule.specs.Actions.{Action, found_by, words_after, views_after}
-use Rattle.locks_rule.specs.Locks.{IsSeat}
 use Rattle.values_rule.proofs.Counting.{history_is}
 use Rattle.stamps_rule.specs.Causes.{newest, past_causes}
 use Rattle.stamps_rule.specs.Stamps.{AreRestartsBounded}
@@ -30,6 +29,7 @@ use Rattle.word_table.specs.Calls.{judged_of, JudgedBy, GaveWay}
 use Rattle.word_table.specs.Kinds.{TakenIn}
 use Rattle.word_table.specs.Sound.{IsSound}
 use Rattle.word_table.proofs.Kept.KeptKinds.{sound_kept}
+use Rattle.word_table.proofs.Known.{SeesHistory, sees_history, attempts_read}
 
 -- both are chosen by one test
 shown_cases : (shown own : ℕ) → (((nat_lt 0 shown && nat_lt shown own) ≡ true) × (0 < shown) × (shown < own))
@@ -128,8 +128,11 @@ module _ (good : List ℕ → Type 0) (n : ℕ) (base : List ℕ) (v : View) (i 
     gave_way : w ≡ after_giving_way cause (history_of then.views) (record v { met = without i v.met })
     gave_way = then.view ∙ ap (λ (x : View). after_yielding x.due (history_of then.views) x) is_between
 
-    seat : IsSeat then.views then.place d.between (number v)
-    seat = record { knows = then.knows; named = subst (λ (l : List ℕ). has (number v) l ≡ true) (sym alone_between) (has-join_same (number v) []) }
+    history_seen : SeesHistory good n base then.words then.views d.between
+    history_seen = sees_history good n base then.words then.views then.place d.between then.holds then.knows
+
+    named : has (number v) d.between.who ≡ true
+    named = subst (λ (l : List ℕ). has (number v) l ≡ true) (sym alone_between) (has-join_same (number v) [])
 
     same_seen : d.between.seen ≡ v.seen
     same_seen = ap (λ (x : View). x.seen) is_between
@@ -158,7 +161,7 @@ module _ (good : List ℕ → Type 0) (n : ℕ) (base : List ℕ) (v : View) (i 
         (λ t. subst (λ (x : View). IsPrefix x.seen (history_of then.views)) (some-injective w u (sym knows_second
         ∙ subst (λ (o : ℕ). Knows views' o u) t.0 k))
         (subst (λ (l : List Entry). IsPrefix l (history_of then.views)) (sym sees) ([], sym (append-nil (history_of then.views)))))
-        (λ t. then.holds.values.seen.seen_begin other u t.1)
+        (λ t. (sees_history good n base then.words then.views other u then.holds t.1).begins)
         (put_cases then.views then.place other (second.view (history_of then.views) (found_by second then.words)) u k))
         knows_second sees
 
@@ -171,7 +174,7 @@ module _ (good : List ℕ → Type 0) (n : ℕ) (base : List ℕ) (v : View) (i 
     opaque : AreAttemptsLegal n base (history_of then.views) (number v) v.stamp v.floor (length (history_of then.views)) w.abandoned
     opaque = subst (λ (l : List Entry). AreAttemptsLegal n base l (number v) v.stamp v.floor (length (history_of then.views)) w.abandoned) stays
         (subst (λ (x : View). AreAttemptsLegal n base (history_of views') (number v) x.stamp x.floor (length x.seen) w.abandoned) gave_way
-        (after_second.values.floor.attempts then.place (number v) w knows_second alone busy))
+        (attempts_read good n base (words_after second then.words) views' then.place w after_second knows_second (number v) alone busy))
 
     pub judged_yields : (0 < stamp) × (stamp < v.stamp) × GaveWay good n base (record { seat = i; stamp = stamp }) v w
     judged_yields = (
@@ -180,10 +183,10 @@ module _ (good : List ℕ → Type 0) (n : ℕ) (base : List ℕ) (v : View) (i 
       record {
         history = history_of then.views;
         view = gave_way;
-        begins = subst (λ (l : List Entry). IsPrefix l (history_of then.views)) same_seen (then.holds.values.seen.seen_begin then.place d.between then.knows);
+        begins = subst (λ (l : List Entry). IsPrefix l (history_of then.views)) same_seen history_seen.begins;
         others = λ p x le at same. late p (length v.seen) le (subst (λ (l : List Entry). p < length l) same_seen
-            (then.holds.values.calls.own_seen then.place (number v) p d.between x seat at same));
-        legal = then.holds.values.history.legal;
+            (history_seen.own (number v) p x named at same));
+        legal = history_seen.legal;
         opaque = opaque;
       },
     )

@@ -1,5 +1,5 @@
 -- All passes of a table come together: the last seat has all numbers, and what it knows says what the table left.
-use Rattle.std.proofs.Common.{◌≡◌, ◌≢◌, ℕ, zero, suc, ◌+◌, ◌<◌, ◌≤◌, true, false, ◌⊎◌, inl, inr, ⊎_elim, List, [], ◌∷◌, ◌++◌, length, drop, Some, slice_get}
+use Rattle.std.proofs.Common.{◌≡◌, ℕ, zero, suc, ◌+◌, ◌<◌, ◌≤◌, true, false, ◌⊎◌, inl, inr, ⊎_elim, List, [], ◌∷◌, ◌++◌, length, drop, Some, slice_get}
 use Rattle.std.proofs.Common.{slice_index, slice_set, refl, sym, ap, ◌∙◌, subst, arith, length-drop}
 use Rattle.std.proofs.lemmas.List.{append-nil, ext_get_or, get_or-drop, get_or-set_same, get_or-set_other}
 use Rattle.std.proofs.lemmas.Option.{slice_get_within, same_Some}
@@ -11,31 +11,28 @@ use Rattle.atomic_table.specs.Table.{State, Me, Joins, Final, Seen}
 use Rattle.atomic_table.specs.Seated.{TableId}
 use Rattle.history_model.specs.declared.entry.Entry.{Entry}
 use Rattle.history_model.specs.declared.view.View.{View}
-use Rattle.history_model.specs.declared.view.Phase.{Phase}
-use Rattle.history_model.specs.declared.view.Phase.TheVariants.{Idle, Running, Yielding, Withdrawing, Releasing}
+use Rattle.history_model.specs.declared.view.Phase.TheVariants.{Idle}
 use Rattle.history_model.specs.Fitting.{IsGood}
 use Rattle.history_model.specs.Histories.{replay}
 use Rattle.history_model.specs.Legal.{IsIn, IsPrefix, IsLegalHistory}
 use Rattle.history_model.specs.Sets.{has}
-use Rattle.history_model.specs.Table.{Knows, history_of, value_word}
-use Rattle.history_model.specs.Undoing.{Notes, written_back}
+use Rattle.history_model.specs.Table.{Knows, value_word}
 use Rattle.history_model.specs.Views.{number}
-use Rattle.history_model.proofs.Views.Places.{same_view, put_cases}
+use Rattle.history_model.proofs.Views.Places.{put_cases}
 use Rattle.history_model.proofs.SetLemmas.{has-join_same}
 use Rattle.locks_rule.specs.Joins.{old_of, after_joining, spent_view}
-use Rattle.locks_rule.specs.Locks.{IsSeat}
 use Rattle.locks_rule.specs.Splits.{opening_view}
 use Rattle.locks_rule.proofs.Joining.{has-append_first, has-append_second}
-use Rattle.values_rule.specs.Undone.{memory_of, undone_by}
+use Rattle.values_rule.specs.Undone.{memory_of}
 use Rattle.values_rule.proofs.Counting.{no_more}
 use Rattle.values_rule.proofs.Members.{in_first, in_second, in_join, none_in}
-use Rattle.values_rule.proofs.Undone.{undoing_restores}
 use Rattle.word_table.specs.Closing.{AreAllPasses, AreOwnersAmong}
 use Rattle.word_table.specs.Copies.{PassView}
 use Rattle.word_table.specs.Desks.{DeskView}
 use Rattle.word_table.specs.Gathering.{HasTaken, IsGathered}
 use Rattle.word_table.specs.Sound.{IsSound}
 use Rattle.word_table.proofs.Kept.KeptChanges.{join_seats_sound}
+use Rattle.word_table.proofs.Known.{SeesHistory, SeesAll, entry_at, sees_history, sees_all}
 
 module _ (good : List ℕ → Type 0) (n : ℕ) (base : List ℕ) where
   abbrev Holds : State (Unit {0}) View → Type 0
@@ -142,73 +139,35 @@ pub all_copied : (ws : List ℕ) (first : ℕ) (words : List ℕ) → AreCopied 
 all_copied ws first words c e = ext_get_or 0 words (drop first ws) (let l = length-drop first ws in
     omega arith) (λ k lt. c.at k lt ∙ sym (get_or-drop first ws k 0))
 
--- a number that every smaller number is below
-least_above : (a b : ℕ) → ((p : ℕ) → p < a → p < b) → a ≤ b
-least_above zero b f = omega arith
-least_above (suc m) b f = let here = f m (omega arith) in omega arith
-
-entry_at : (h : List Entry) (p : ℕ) → p < length h → (e : Entry) × (slice_get h p ≡ Some e)
-entry_at [] p lt = absurd (omega arith)
-entry_at (x ∷ h) zero lt = (x, refl)
-entry_at (x ∷ h) (suc p) lt = entry_at h p (omega arith)
-
-idle_or : (p : Phase) → (p ≡ Idle) ⊎ (p ≢ Idle)
-idle_or Idle = inl refl
-idle_or Running = inr (λ e. cc e)
-idle_or Yielding = inr (λ e. cc e)
-idle_or Withdrawing = inr (λ e. cc e)
-idle_or Releasing = inr (λ e. cc e)
-
--- where no view has a note, nothing is written back
-undone_none : (vs : List View) (s : List ℕ) → ((id : ℕ) (u : View) → Knows vs id u → u.undo ≡ []) → undone_by vs s ≡ s
-unfolding undone_by written_back
-undone_none [] s none = refl
-undone_none (v ∷ vs) s none = ap (λ (notes : Notes). undone_by vs (written_back notes s)) (none zero v refl) ∙ undone_none vs s (λ id u e. none (suc id) u e)
-
 -- a table of which one seat between calls has all numbers
 module _ (good : List ℕ → Type 0) (n : ℕ) (base ws : List ℕ) (vs : List View) (id : ℕ) (v : View)
     (h : IsSound good n base ws vs) (me : Knows vs id v) (phase : v.phase ≡ Idle)
     (all : (j : ℕ) → j < n → has j v.who ≡ true) where
-  abbrev hist : List Entry
-  hist = history_of vs
+  known : SeesHistory good n base ws vs v
+  known = sees_history good n base ws vs id v h me
 
-  seat_of : (e : Entry) (p : ℕ) → slice_get hist p ≡ Some e → e.who < n
-  seat_of e p at = (h.values.history.legal.at p e at).seat_below
-
-  -- it has seen the whole history
-  whole : v.seen ≡ history_of vs
-  whole = no_more v.seen hist (h.values.seen.seen_begin id v me) (least_above (length hist) (length v.seen)
-      (λ p lt. let e = entry_at hist p lt in
-      h.values.calls.own_seen id (e.0).who p v e.0 (record { knows = me; named = all (e.0).who (seat_of e.0 p e.1) }) e.1 refl))
-
-  nothing_noted : (other : ℕ) (u : View) → Knows vs other u → u.undo ≡ []
-  nothing_noted other u k = ⊎_elim
-      (λ idle. h.values.trace.rested other u k (inl idle))
-      (λ busy. let c = h.values.calls.callers_alone other u k busy in
-      let seat : IsSeat vs other u c.0 = record { knows = k; named = subst (λ (l : List ℕ). has c.0 l ≡ true) (sym c.1) (has-join_same c.0 []) } in
-      let same : other ≡ id = h.locks.numbers_unique other id c.0 u v seat (record { knows = me; named = all c.0 (h.locks.numbers_below other c.0 u seat) }) in
-      absurd (busy (ap (λ (x : View). x.phase) (same_view vs id other v u me k same) ∙ phase)))
-      (idle_or u.phase)
+  ended : SeesAll n base ws vs v
+  ended = sees_all good n base ws vs id v h me phase all
 
   pub ended_words : memory_of n ws ≡ replay base v.seen
-  ended_words = sym (undone_none vs (memory_of n ws) nothing_noted)
-      ∙ (undoing_restores good n base ws vs h.locks h.values ∙ ap (λ (l : List Entry). replay base l) (sym whole))
+  ended_words = ended.words ∙ ap (λ (l : List Entry). replay base l) (sym ended.whole)
 
   pub ended_legal : IsLegalHistory good n base v.seen
-  ended_legal = subst (λ (l : List Entry). IsLegalHistory good n base l) (sym whole) h.values.history.legal
+  ended_legal = subst (λ (l : List Entry). IsLegalHistory good n base l) (sym ended.whole) known.legal
 
   -- what a pass that it took in had seen
   pub ended_seen : (p : View) → HasTaken v p → IsPrefix p.seen v.seen
   ended_seen p t = ⊎_elim
       (λ e. ([], sym e.0 ∙ sym (append-nil p.seen)))
-      (λ i. subst (λ (l : List Entry). IsPrefix p.seen l) (sym whole) (h.values.seen.olds_begin id v (old_of p.seen p.who) me i)) t.seen
+      (λ i. subst (λ (l : List Entry). IsPrefix p.seen l) (sym ended.whole) (known.olds (old_of p.seen p.who) i)) t.seen
 
   -- and an entry of its number lies in that
   pub ended_own : (p : View) (e : Entry) (q : ℕ) → HasTaken v p → p.who ≡ e.who ∷ [] → slice_get v.seen q ≡ Some e → q < length p.seen
   ended_own p e q t single at = ⊎_elim
       (λ s. subst (λ (l : List Entry). q < length l) (sym s.0) (slice_get_within v.seen q e at))
-      (λ i. h.values.calls.old_seen id e.who q v (old_of p.seen p.who) e me i
-      (subst (λ (l : List ℕ). has e.who l ≡ true) (sym single) (has-join_same e.who [])) (subst (λ (l : List Entry). slice_get l q ≡ Some e) whole at) refl)
+      (λ i. known.old_own e.who q (old_of p.seen p.who) e i
+      (subst (λ (l : List ℕ). has e.who l ≡ true) (sym single) (has-join_same e.who []))
+      (subst (λ (l : List Entry). slice_get l q ≡ Some e) ended.whole at) refl)
       t.seen
 
 -- all passes of a table have come together in one seat, and the table is closed

@@ -17,6 +17,7 @@ use Rattle.word_table.specs.Kinds.{TakenIn}
 use Rattle.word_table.specs.Notes.{NoteView}
 use Rattle.word_table.specs.Sound.{IsSound}
 use Rattle.word_table.proofs.Kept.KeptChanges.{take_note_sound, meet_note_sound}
+use Rattle.word_table.proofs.Known.{SeesHistory, sees_history}
 
 module _ (good : List ℕ → Type 0) (n : ℕ) (base : List ℕ) where
   abbrev Holds : State (Unit {0}) View → Type 0
@@ -35,11 +36,14 @@ module _ (good : List ℕ → Type 0) (n : ℕ) (base : List ℕ) where
     sees : new.seen ≡ history_of t.views
     sees = ap (λ (x : View). x.seen) t.view
 
+    known : SeesHistory good n base t.words t.views v
+    known = sees_history good n base t.words t.views t.place v t.holds t.knows
+
     sees_olds : (o : Old) → IsIn o v.olds → IsPrefix o.seen new.seen
-    sees_olds o i = subst (λ (l : List Entry). IsPrefix o.seen l) (sym sees) (t.holds.values.seen.olds_begin t.place v o t.knows i)
+    sees_olds o i = subst (λ (l : List Entry). IsPrefix o.seen l) (sym sees) (known.olds o i)
 
     pub sees_legal : IsLegalHistory good n base new.seen
-    sees_legal = subst (λ (l : List Entry). IsLegalHistory good n base l) (sym sees) t.holds.values.history.legal
+    sees_legal = subst (λ (l : List Entry). IsLegalHistory good n base l) (sym sees) known.legal
 
   -- after a view was told a history, that and what it had seen are prefixes of what it sees
   module _ (v new : View) (told : List Entry) (found : ℕ)

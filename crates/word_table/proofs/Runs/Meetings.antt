@@ -27,6 +27,7 @@ use Rattle.word_table.specs.declared.step.Step.TheVariants.{LoadSerialAtYield, L
 use Rattle.word_table.specs.Kinds.{May}
 use Rattle.word_table.specs.Meetings.{IsReached, view_after, StandsElsewhere, MeetsInConflict, NeverMeetsApart, RestartsFew, ReadsOneState}
 use Rattle.word_table.specs.Sound.{IsSound}
+use Rattle.word_table.proofs.Known.{sees_history, attempts_read}
 use Rattle.word_table.proofs.Calls.Found.{StandsIn, claimant_found, not_own_found, reader_found}
 use Rattle.word_table.proofs.Runs.RunLaws.{run_sound}
 
@@ -178,4 +179,4 @@ module _ (good : List ℕ → Type 0) (n : ℕ) (base : List ℕ) where
 
   pub reads_one_state : ReadsOneState good n base
   reads_one_state s id j v r me single busy = let h = reached_sound s r in
-      (h.values.floor.attempts id j v me single busy, h.values.seen.seen_begin id v me)
+      (attempts_read good n base s.words s.views id v h me j single busy, (sees_history good n base s.words s.views id v h me).begins)

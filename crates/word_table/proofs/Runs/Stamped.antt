@@ -30,6 +30,7 @@ use Rattle.word_table.specs.declared.step.Step.TheVariants.{LoadSerialAtYield, L
 use Rattle.word_table.specs.Kinds.{action_of, May}
 use Rattle.word_table.specs.Meetings.{view_after, StampsAreKept}
 use Rattle.word_table.specs.Runs.{TakesStep, CutsSeat, TakesNote, Joins, Steps, IsRun}
+use Rattle.word_table.proofs.Known.{never_joined}
 use Rattle.word_table.proofs.Runs.RunLaws.{before, run_sound}
 
 -- what a step does to call and timestamp of the view that takes it: it leaves them, or it ends the call, or it begins the
@@ -227,5 +228,5 @@ stamps_are_kept good n base run p q j earlier later place there v w fine r at at
     let sound_later = run_sound good n base run fine r q later at_later in
     ⊎_elim
     (λ t. ⊎_elim (λ a. a.1) (λ b. ⊎_elim (λ i. absurd (busy i.1)) (λ lt. absurd (omega (arith, call))) b) t.1)
-    (λ t. absurd (differ w.joined t (sound_later.values.calls.alone_unjoined there j w kept one)))
+    (λ t. absurd (differ w.joined t (never_joined good n base later.words later.views there w sound_later kept j one)))
     (kept_to good j v.call v.stamp some n base run r p earlier at start q later le at_later there w kept (own_number w j one))

@@ -1,5 +1,5 @@
 -- Which words the steps of a call change, kind by kind; and that calls which share no lock have none in common.
-use Rattle.std.proofs.Common.{◌≡◌, ◌≢◌, ◌⊎◌, inl, inr, ℕ, ◌+◌, ◌-◌, ◌*◌, ◌/◌, ◌%◌, ◌<◌, Bool, true, false, List, [], ◌∷◌, ◌++◌}
+use Rattle.std.proofs.Common.{◌≡◌, ◌≢◌, ◌⊎◌, inl, inr, ℕ, ◌-◌, ◌<◌, Bool, true, false, List, [], ◌∷◌, ◌++◌}
 use Rattle.std.proofs.Common.{Option, Some, None, slice_get, slice_index, slice_set, refl, sym, ap, ◌∙◌, subst, arith, ◌==◌, if◌then◌else◌}
 use Rattle.std.proofs.Math.Nat.{mod-lt}
 use mathlib.Core.Logic.{dite}
@@ -8,14 +8,14 @@ use Rattle.history_model.specs.declared.TheConstants.{LOCKS}
 use Rattle.history_model.specs.declared.view.View.{View}
 use Rattle.history_model.specs.Locks.{lock_of_word}
 use Rattle.history_model.specs.Sets.{has, without_first}
-use Rattle.history_model.specs.Table.{TableState, Knows, serial_word, clock_word, calls_word, stamps_word, row_word, writer_word, version_word, value_word}
+use Rattle.history_model.specs.Table.{Knows, serial_word, clock_word, calls_word, stamps_word, row_word, writer_word, version_word, value_word}
 use Rattle.history_model.specs.Undoing.{Notes}
 use Rattle.values_rule.specs.Values.{oldest}
-use Rattle.history_model.specs.Views.{number, HasClaim, HasWriteGrant}
+use Rattle.history_model.specs.Views.{number, HasClaim}
 use Rattle.history_model.proofs.SetLemmas.{has-join_same}
 use Rattle.history_model.proofs.Traces.TraceLaws.{get_set_other}
 use Rattle.history_model.proofs.Traces.UndoLaws.{set_same}
-use Rattle.locks_rule.specs.Locks.{LocksHold, AskedFor}
+use Rattle.locks_rule.specs.Locks.{AskedFor}
 use Rattle.locks_rule.specs.Steps.{after_asking, after_meeting}
 use Rattle.locks_rule.proofs.Own.{own, lock_near}
 use Rattle.values_rule.proofs.Notes.{oldest_first, oldest_more, oldest_one}
@@ -27,6 +27,7 @@ use Rattle.word_table.specs.Kinds.{May, action_of}
 use Rattle.word_table.specs.Meetings.{view_after, AsksApart}
 use Rattle.word_table.specs.Sound.{IsSound}
 use Rattle.word_table.specs.Writes.{HaveNoCommonWord, IsAskedWord, IsOwnWord, IsSharedWord, IsWordOfLock, WritesOwnAndAsked}
+use Rattle.word_table.proofs.Known.{noted_held}
 use Rattle.word_table.proofs.Runs.Meetings.{reached_sound}
 
 -- a load changes no word
@@ -102,8 +103,8 @@ module _ (good : List ℕ → Type 0) (n : ℕ) (base ws : List ℕ) (vs : List 
       (inr (inr (b, refl, stores ws (value_word v.seats b) x a c)))
   changes (UndoStore j b old) may c =
       let noted = note_found b old may.newest.0 in
-      let held = s.values.undo.noted id b noted.0 v me (ap (oldest b) may.newest.1 ∙ noted.1) in
-      asked_word j (lock_of_word b) (now (UndoStore j b old)) may.who (claim_asked (lock_of_word b) held.1.0)
+      let held = noted_held good n base ws vs id v s me b noted.0 (ap (oldest b) may.newest.1 ∙ noted.1) in
+      asked_word j (lock_of_word b) (now (UndoStore j b old)) may.who (claim_asked (lock_of_word b) held.0)
       (inr (inr (b, refl, stores ws (value_word v.seats b) old a c)))
   changes (CommitCall j kept) may c = inr (inr (inr (stores ws serial_word _ a c)))
   changes (ClearStamp j) may c = own_word j (now (ClearStamp j)) may.who (inr (inl (stores ws (stamps_word v.seats j) _ a c)))

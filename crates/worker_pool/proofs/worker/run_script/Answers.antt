@@ -27,6 +27,7 @@ returns-clause-made g c = λ done made.
       seat = c.who.result;
       call = receipt.call;
       serial = receipt.serial;
+      uses = receipt.uses;
       restarts = receipt.restarts;
       reply = receipt.answer;
     } in
@@ -39,5 +40,5 @@ returns-clause-made g c = λ done made.
     old.view.seen new.view.seen receipt) script_is e.entry) in
     let named : c.who.result ≡ number old.view = c.who.ensures.number ∙ ap (λ (w : List ℕ). slice_index w 0) e.seat.who in
     made_more desk input (number old.view) (old.view.call + 1) old.view.seen new.view.seen receipt item gets
-    (record { seat = named; call = refl; serial = refl; restarts = refl; reply = refl })
+    (record { seat = named; call = refl; serial = refl; uses = refl; restarts = refl; reply = refl })
     done _ old new refl refl refl e.desk e.idle e.seat.who e.call e.few made
