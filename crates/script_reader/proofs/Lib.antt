@@ -16,3 +16,5 @@ pub mod Texts
 pub mod Finding
 -- the versions of texts
 pub mod Versions
+-- texts of languages whose scripts are lists of operations
+pub mod Listed

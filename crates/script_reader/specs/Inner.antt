@@ -9,3 +9,5 @@ pub mod Scripts
 pub mod Cuts
 pub mod Branches
 pub mod OfVersion
+pub mod Gatherings
+pub mod ListScripts

@@ -8,5 +8,8 @@ pub mod Forms
 pub mod Faults
 pub mod FaultWords
 pub mod Journal
+pub mod Gathered
+pub mod Reading
+pub mod ListLanguage
 pub mod Statements
 pub mod Inner

@@ -74,7 +74,7 @@ pub finish_words : AreWords (codes "finish" ∷ [])
 finish_words = record { some = omega arith; each = (word_from_test (codes "finish") refl, tt) }
 
 -- a line that stands first in a text, and what follows it
-first_line : (w : Words) (ls : List Words) (rest : List ℕ) → flat_map line (w ∷ ls) ++ rest ≡ line w ++ (flat_map line ls ++ rest)
+pub first_line : (w : Words) (ls : List Words) (rest : List ℕ) → flat_map line (w ∷ ls) ++ rest ≡ line w ++ (flat_map line ls ++ rest)
 first_line w ls rest = append_assoc (line w) (flat_map line ls) rest
 
 -- lines without fault up to the last line, and such lines once more, are the same
@@ -94,7 +94,7 @@ finish_once before (l ∷ ls) (k ∷ ks) r s f g e =
     ((λ i. same.0 i ∷ rest.0 i), rest.1)
 
 -- a fault is none where none is
-some_none : {A : Type 0} {o : Option A} {x : A} → o ≡ None → o ≡ Some x → ⊥
+pub some_none : {A : Type 0} {o : Option A} {x : A} → o ≡ None → o ≡ Some x → ⊥
 some_none e h = none-some _ (sym e ∙ h)
 
 -- lines without fault up to the last line leave no room for a fault
