@@ -8,6 +8,8 @@ pub mod Besides
 pub mod Submitting
 -- numbers in their ranges, and the words of a header
 pub mod Numbers
+-- headers of one size and of two, by their places
+pub mod Heads
 -- the first fault of a text by any judge
 pub mod Judging
 -- what the lines of a text say of a line behind them

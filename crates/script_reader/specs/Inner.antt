@@ -11,3 +11,4 @@ pub mod Branches
 pub mod OfVersion
 pub mod Gatherings
 pub mod ListScripts
+pub mod Heads

@@ -6,6 +6,7 @@ pub mod Versions
 pub mod Grammar
 pub mod Forms
 pub mod Faults
+pub mod Rows
 pub mod FaultWords
 pub mod Journal
 pub mod Gathered

@@ -21,6 +21,9 @@ pub record Size : Type 0 where
   pub name : List ℕ
   pub range : ℕ × ℕ
 
+abbrev pub size : List ℕ → ℕ × ℕ → Size
+size name range = record { name = name; range = range }
+
 -- a language with operations of the type O, and scripts of the type S
 pub record ListLanguage (O S : Type 0) : Type 0 where
   -- the first word of a text, and the sizes of its header
@@ -69,6 +72,25 @@ size_words words = seconds (drop 2 words)
 abbrev pub sizes_at : Words → List ℕ
 sizes_at words = map value_of (size_words words)
 
+module _ (title : List ℕ) (sizes : List Size) where
+  -- the words of the header with this title and these numbers
+  abbrev pub head_with : List ℕ → Words
+  head_with numbers = title ∷ codes "1" ∷ size_pairs sizes numbers
+
+  -- the line has the words of a header around its sizes
+  abbrev pub is_head_with : Words → Bool
+  is_head_with words =
+      bytes_eq (word_at words 0) title && bytes_eq (word_at words 1) (codes "1") && have_names sizes (drop 2 words)
+
+  -- what is wrong with the first line
+  abbrev pub head_fault_with : Words → Option Fault
+  head_fault_with words = first_reason (
+      (not (is_head_with words), fault.Header)
+      ∷ (not (are_numbers (size_words words)), fault.Number)
+      ∷ (not (are_in_range (size_words words) (map (λ s. s.range) sizes)), fault.Limit)
+      ∷ []
+      )
+
 -- where a line behind the line `scripts` stands: between scripts, or in one behind so many operations
 pub data LinePlace : Type 0 where
   BetweenScripts : LinePlace
@@ -112,7 +134,7 @@ module _ {O S : Type 0} (g : ListLanguage O S) where
 
   -- the words of the header with these sizes
   abbrev pub head_words : List ℕ → Words
-  head_words sizes = g.title ∷ codes "1" ∷ size_pairs g.sizes sizes
+  head_words sizes = head_with g.title g.sizes sizes
 
   -- the words of an operation, and of a script with the line that begins it and the one that ends it
   abbrev pub operation_words : O → Words
@@ -154,17 +176,11 @@ module _ {O S : Type 0} (g : ListLanguage O S) where
 
   -- the line has the words of a header around its sizes
   abbrev pub is_head : Words → Bool
-  is_head words =
-      bytes_eq (word_at words 0) g.title && bytes_eq (word_at words 1) (codes "1") && have_names g.sizes (drop 2 words)
+  is_head words = is_head_with g.title g.sizes words
 
   -- what is wrong with the first line
   abbrev pub head_fault : Words → Option Fault
-  head_fault words = first_reason (
-      (not (is_head words), fault.Header)
-      ∷ (not (are_numbers (size_words words)), fault.Number)
-      ∷ (not (are_in_range (size_words words) size_ranges), fault.Limit)
-      ∷ []
-      )
+  head_fault words = head_fault_with g.title g.sizes words
 
   -- what is wrong with a line of a text, beside the lines before it
   abbrev pub judge : Judge

@@ -2,7 +2,7 @@
 
 ghost use Rattle.std.specs.Prelude.{◌≡◌, [], ◌∷◌, ◌++◌, Some, IfOk, IfErr, OnOk};
 ghost use Rattle.script_reader.specs.ListLanguage.{AreSizes, IsOperationIn, head_fault, head_words, operation_words};
-ghost use Rattle.script_reader.specs.Inner.Rows.{row_fault};
+ghost use Rattle.script_reader.specs.Rows.{row_fault};
 
 use crate::fault::Fault;
 use crate::words::Words;

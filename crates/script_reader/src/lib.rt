@@ -6,6 +6,8 @@ mod callers;
 pub mod fault;
 mod front;
 pub mod gathered;
+mod gathering;
+mod heads;
 pub mod input;
 pub mod language;
 pub mod laws;

@@ -14,6 +14,7 @@ ghost use Rattle.script_reader.specs.Inner.ListScripts.{AreReadOf, HasTextInFron
 use crate::fault::{Fault, InputFault, Refusal};
 use crate::front::faulty_line;
 use crate::gathered::Gathered;
+use crate::gathering::Gathering;
 use crate::language::Language;
 use crate::lines::Lines;
 use crate::names::caller_of;
@@ -28,11 +29,10 @@ pub fn read_text<L: Language>(
     bytes: &[u8],
 ) -> Result<(L::Sizes, Gathered<L::Script>), InputFault>
     ensures ok { IfOk result (λ found.
-        IsTextOf L.language bytes.now (L.sizes_of found.0) (callers_in found.1)) }
-    ensures even { IfOk result (λ found. IsEven found.1) }
+        IsTextOf L.language bytes.now (L.sizes_of found.0) found.1) }
     ensures read { (sizes : List ℕ) (callers : List (CallerOf L.Script))
         → IsTextOf L.language bytes.now sizes callers
-        → MatchResult result (λ found. (L.sizes_of found.0 ≡ sizes) × (callers_in found.1 ≡ callers))
+        → MatchResult result (λ found. (L.sizes_of found.0 ≡ sizes) × (found.1 ≡ callers))
         (λ fault. fault ≡ InputFault.OutOfMemory) }
     ensures refused { (number : ℕ) (why : AnyFault) → result ≡ Err (InputFault.Line number why)
         → IsFirstFaultIn L.language bytes.now number why }
@@ -67,15 +67,14 @@ fn front_of<L: Language>(
     alloc: Global,
     lines: &mut Lines<'_>,
 ) -> Result<(L::Sizes, Gathered<L::Script>), Refusal>
-    ensures even { IfOk result (λ found. IsEven found.1) }
     ensures found { IfOk result (λ found.
-        HasTextInFront L.language (L.sizes_of found.0) (callers_in found.1) lines.old lines.new) }
+        HasTextInFront L.language (L.sizes_of found.0) found.1 lines.old lines.new) }
     ensures fault { (why : AnyFault) → result ≡ Err (Refusal.LineFault why)
         → IsFaultBehind (judge L.language) [] lines.old lines.new why }
 {
     let sizes = sizes_of::<L>(lines)?;
     let callers = scripts_of::<L>(alloc, lines, sizes)?;
-    Ok((sizes, callers))
+    Ok((sizes, Gathered::new(callers)))
 }
 
 // The sizes of the first line, and the line that begins the scripts.
@@ -100,7 +99,7 @@ fn scripts_of<L: Language>(
     alloc: Global,
     lines: &mut Lines<'_>,
     sizes: L::Sizes,
-) -> Result<Gathered<L::Script>, Refusal>
+) -> Result<Gathering<L::Script>, Refusal>
     requires sized { AreSizes L.language (L.sizes_of sizes) }
     ensures even { IfOk result (λ callers. IsEven callers) }
     ensures found { IfOk result (λ callers.
@@ -109,7 +108,7 @@ fn scripts_of<L: Language>(
         → IsFaultBehind (judge L.language) (lines_of L.language (L.sizes_of sizes) [])
         lines.old lines.new why }
 {
-    let mut callers = Gathered::new(alloc);
+    let mut callers = Gathering::new(alloc);
     gather::<L>(alloc, lines, sizes, &mut callers)?;
     Ok(callers)
 }
@@ -119,7 +118,7 @@ fn gather<L: Language>(
     alloc: Global,
     lines: &mut Lines<'_>,
     sizes: L::Sizes,
-    callers: &mut Gathered<L::Script>,
+    callers: &mut Gathering<L::Script>,
 ) -> Result<(), Refusal>
     requires sized { AreSizes L.language (L.sizes_of sizes) }
     requires none { callers_in callers.old ≡ [] }
@@ -145,7 +144,7 @@ fn add_script<L: Language>(
     alloc: Global,
     lines: &mut Lines<'_>,
     sizes: L::Sizes,
-    callers: &mut Gathered<L::Script>,
+    callers: &mut Gathering<L::Script>,
     words: &Words<'_>,
 ) -> Result<(), Refusal>
     requires sized { AreSizes L.language (L.sizes_of sizes) }

@@ -5,7 +5,7 @@ ghost use Rattle.script_reader.specs.Lines.{word_at};
 ghost use Rattle.script_reader.specs.Number.{is_number};
 ghost use Rattle.script_reader.specs.declared.words.TheConstants.{MOST_WORDS};
 ghost use Rattle.script_reader.specs.Forms.{value_at};
-ghost use Rattle.script_reader.specs.Inner.Rows.{HasNumbers, numbers_fault};
+ghost use Rattle.script_reader.specs.Rows.{HasNumbers, numbers_fault};
 
 use crate::fault::Fault;
 use crate::numbers::{both_within, within};

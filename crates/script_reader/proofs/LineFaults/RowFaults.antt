@@ -8,7 +8,7 @@ use Rattle.script_reader.specs.declared.fault.Fault.{Fault}
 use Rattle.script_reader.specs.declared.fault.Fault.TheVariants as fault
 use Rattle.script_reader.specs.Forms.{Words, Form, form, operation_forms, begins, has_form, form_of, ranges_of, are_numbers, are_in_range}
 use Rattle.script_reader.specs.Faults.{first_reason}
-use Rattle.script_reader.specs.Inner.Rows.{numbers_fault, row_fault}
+use Rattle.script_reader.specs.Rows.{numbers_fault, row_fault}
 use Rattle.script_reader.proofs.LineFaults.LineKinds.{one_behind, two_behind, three_behind, four_behind}
 
 -- a line of another length is none of this keyword and this length

@@ -1,8 +1,7 @@
 -- What was read of a text, and the fault behind it.
-use Rattle.std.proofs.Common.{◌≡◌, ℕ, ◌≤◌, ◌+◌, Bool, true, false, not, ◌&&◌, ◌||◌, if◌then◌else◌, nat_le, List, [], ◌∷◌, ◌++◌, codes, map, drop, length, All, Some, None, refl, sym, ap, subst, ◌∙◌}
+use Rattle.std.proofs.Common.{◌≡◌, ℕ, ◌≤◌, Bool, true, false, not, ◌&&◌, ◌||◌, if◌then◌else◌, nat_le, List, [], ◌∷◌, ◌++◌, codes, map, length, All, Some, None, refl, sym, ap, subst, ◌∙◌}
 use Rattle.std.proofs.Common.{append_assoc, arith}
 use Rattle.std.specs.List.{flat_map}
-use Rattle.std.specs.Option.{is_none}
 use Rattle.std.proofs.lemmas.Bool.{le-leb}
 use Rattle.std.proofs.lemmas.List.{append-nil}
 use Rattle.std.proofs.lemmas.List.Concat.{flat_map-append}
@@ -11,14 +10,14 @@ use Rattle.std.proofs.lemmas.Option.{none-some}
 use Rattle.books_model.specs.declared.limits.TheConstants.{MOST_OPERATIONS}
 use Rattle.script_reader.specs.declared.fault.Fault.{Fault}
 use Rattle.script_reader.specs.declared.fault.Fault.TheVariants as fault
-use Rattle.script_reader.specs.Lines.{AreWords, word_at}
-use Rattle.script_reader.specs.Text.{line, scripts_line, end_line, finish_line}
+use Rattle.script_reader.specs.Lines.{word_at}
+use Rattle.script_reader.specs.Text.{line, end_line, finish_line}
 use Rattle.script_reader.specs.Input.{IsName}
-use Rattle.script_reader.specs.Forms.{Words, Form, is_only, is_script_line, form_of, ranges_of, are_numbers, are_in_range}
+use Rattle.script_reader.specs.Forms.{Words, is_only, is_script_line}
 use Rattle.script_reader.specs.Faults.{first_reason}
-use Rattle.script_reader.specs.Inner.Rows.{row_fault}
+use Rattle.script_reader.specs.Rows.{row_fault}
 use Rattle.script_reader.specs.Gathered.{CallerOf, SubmissionOf, AreCallers, callers_of}
-use Rattle.script_reader.specs.Reading.{HaveNoFault, IsFaultBehind}
+use Rattle.script_reader.specs.Reading.{IsFaultBehind}
 use Rattle.script_reader.specs.ListLanguage.{ListLanguage, AreSizes, IsListLanguage, IsOperationIn, IsScriptIn, operation_fault, operation_words, submission_words, lines_of, text_of, head_words, judge}
 use Rattle.script_reader.specs.Inner.ListScripts.{AreReadOf, HasTextInFront, is_beyond_in, lines_within, operations_text}
 use Rattle.script_reader.proofs.Grouped.Submitting.{caller-AreWords}

@@ -1,6 +1,6 @@
 -- How many lines are read, and which of them is faulty.
-use Rattle.std.proofs.Common.{◌≡◌, ◌≢◌, ◌⊎◌, inl, inr, ℕ, ◌+◌, ◌-◌, ◌*◌, ◌<◌, ◌≤◌, ◌^◌, ◌==◌, Bool, true, false, not, ◌&&◌, ◌||◌, nat_le, cond, if◌then◌else◌, List}
-use Rattle.std.proofs.Common.{[], ◌∷◌, ◌++◌, codes, fold, take, drop, length, Option, Some, None, refl, sym, ap, subst, ◌∙◌, append_assoc, length-append, true≢false, arith}
+use Rattle.std.proofs.Common.{◌≡◌, ◌≢◌, inl, inr, ℕ, ◌+◌, ◌*◌, ◌<◌, ◌≤◌, ◌^◌, ◌==◌, Bool, true, false, not, ◌&&◌, ◌||◌, nat_le, cond, if◌then◌else◌, List}
+use Rattle.std.proofs.Common.{[], ◌∷◌, ◌++◌, codes, drop, length, Option, Some, None, refl, sym, ap, subst, ◌∙◌, append_assoc, length-append, true≢false, arith}
 use Rattle.std.specs.List.{flat_map, count_by}
 use Rattle.std.specs.Option.{is_none}
 use Rattle.std.proofs.lemmas.Bool.{leb-false}
@@ -14,8 +14,8 @@ use Rattle.script_reader.specs.declared.fault.Fault.TheVariants as fault
 use Rattle.script_reader.specs.Lines.{word_at}
 use Rattle.script_reader.specs.Text.{line, finish_line}
 use Rattle.script_reader.specs.Forms.{Words, Form, begins, is_only, form_of, ranges_of, is_script_line, are_numbers, are_in_range}
-use Rattle.script_reader.specs.Faults.{outside_fault, is_beyond, callers_before}
-use Rattle.script_reader.specs.Gathered.{CallerOf, SubmissionOf}
+use Rattle.script_reader.specs.Faults.{is_beyond}
+use Rattle.script_reader.specs.Gathered.{CallerOf}
 use Rattle.script_reader.specs.Reading.{HaveNoFault, BeginsFaulty, IsFaultBehind}
 use Rattle.script_reader.specs.ListLanguage.{ListLanguage, LinePlace, BetweenScripts, WithinScript, IsListLanguage, IsTextOf, place_after, place_behind, script_line_fault, operation_fault, sizes_at, judge, is_head, size_words, size_ranges, lines_of}
 use Rattle.script_reader.proofs.Conditions.{both, neither, passed}

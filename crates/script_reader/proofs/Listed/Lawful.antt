@@ -1,6 +1,6 @@
 -- The lines of a text have no fault.
-use Rattle.std.proofs.Common.{◌≡◌, ℕ, ◌+◌, ◌<◌, ◌≤◌, Bool, true, false, not, ◌&&◌, ◌||◌, nat_le, List, [], ◌∷◌, ◌++◌, codes, map, fold, None, length, refl, sym, ap, subst, ◌∙◌}
-use Rattle.std.proofs.Common.{append_assoc, length-append, arith}
+use Rattle.std.proofs.Common.{◌≡◌, ℕ, ◌+◌, ◌≤◌, Bool, true, false, not, ◌&&◌, ◌||◌, nat_le, List, [], ◌∷◌, ◌++◌, codes, map, fold, None, length, refl, sym, ap, subst, ◌∙◌}
+use Rattle.std.proofs.Common.{length-append, arith}
 use Rattle.std.specs.List.{flat_map, AllByRecursion}
 use Rattle.std.proofs.lemmas.Bool.{lt-leb}
 use Rattle.std.proofs.lemmas.List.{append-nil}
@@ -11,7 +11,6 @@ use Rattle.script_reader.specs.declared.limits.TheConstants.{MOST_CALLERS, MOST_
 use Rattle.script_reader.specs.declared.fault.Fault.TheVariants as fault
 use Rattle.script_reader.specs.Lines.{AreWords}
 use Rattle.script_reader.specs.Input.{IsName}
-use Rattle.script_reader.specs.Forms.{Words}
 use Rattle.script_reader.specs.Faults.{first_reason}
 use Rattle.script_reader.specs.Gathered.{CallerOf, SubmissionOf, AreCallers, callers_of, count_scripts}
 use Rattle.script_reader.specs.Reading.{HaveNoFault}

@@ -1,5 +1,5 @@
 -- Numbers in their ranges, and the words of a header.
-use Rattle.std.proofs.Common.{◌≡◌, ℕ, Bool, true, false, not, ◌&&◌, ◌==◌, nat_le, List, [], ◌∷◌, codes, map, length, None, refl, ap, ◌∙◌, arith}
+use Rattle.std.proofs.Common.{◌≡◌, ℕ, Bool, true, false, not, ◌&&◌, nat_le, List, [], ◌∷◌, codes, map, length, None, refl, ap, ◌∙◌, arith}
 use Rattle.std.specs.List.{AllByRecursion}
 use Rattle.std.proofs.lemmas.Bool.{le-leb, ne_eqb}
 use Rattle.std.proofs.lemmas.Slice.Eq.{bytes_eq-Decides}
@@ -7,7 +7,7 @@ use Rattle.std.specs.Str.{bytes_eq}
 use Rattle.script_reader.specs.declared.fault.Fault.TheVariants as fault
 use Rattle.script_reader.specs.Lines.{IsWord, AreWords}
 use Rattle.script_reader.specs.Text.{number}
-use Rattle.script_reader.specs.Forms.{Words, is_only, begins, value_of, are_numbers, are_in_range}
+use Rattle.script_reader.specs.Forms.{is_only, begins, value_of, are_numbers, are_in_range}
 use Rattle.script_reader.specs.Faults.{first_reason}
 use Rattle.script_reader.specs.ListLanguage.{Size, ListLanguage, AreNumbersIn, AreSizes, IsListLanguage, size_pairs, have_names, seconds, size_words, size_ranges, sizes_at, is_head, head_words, head_fault}
 use Rattle.script_reader.proofs.Conditions.{and_true}
@@ -68,7 +68,7 @@ pairs_are_words (s ∷ sizes) [] names h = absurd h
 pairs_are_words (s ∷ sizes) (n ∷ ns) names h = (names.0, (number-IsWord n h.2, pairs_are_words sizes ns names.1 h.3))
 
 -- a test beside one that does not pass
-and_fails : (b : Bool) {c : Bool} → c ≡ false → (b && c) ≡ false
+pub and_fails : (b : Bool) {c : Bool} → c ≡ false → (b && c) ≡ false
 and_fails true e = e
 and_fails false e = refl
 

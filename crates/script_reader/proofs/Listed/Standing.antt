@@ -1,7 +1,7 @@
 -- What the lines of a text say of a line behind them.
 use Rattle.std.proofs.Common.{◌≡◌, ℕ, ◌+◌, Bool, true, false, not, ◌&&◌, ◌||◌, ◌==◌, nat_le, cond, if◌then◌else◌, List, [], ◌∷◌, ◌++◌, codes, map, filter, fold}
 use Rattle.std.proofs.Common.{length, Option, Some, None, refl, sym, ap, ◌∙◌, append_assoc, arith}
-use Rattle.std.specs.List.{list_any, count_by, flat_map, AllByRecursion}
+use Rattle.std.specs.List.{list_any, count_by, flat_map}
 use Rattle.std.specs.Option.{is_none}
 use Rattle.std.specs.Str.{bytes_eq}
 use Rattle.std.proofs.lemmas.List.{length-map, map-append}
@@ -14,10 +14,10 @@ use Rattle.script_reader.specs.declared.fault.Fault.TheVariants as fault
 use Rattle.script_reader.specs.Lines.{word_at}
 use Rattle.script_reader.specs.Text.{number}
 use Rattle.script_reader.specs.Input.{first_seen}
-use Rattle.script_reader.specs.Forms.{Words, Form, begins, is_only, form_of, ranges_of, is_script_line, are_numbers, are_in_range}
+use Rattle.script_reader.specs.Forms.{Words, begins, is_only, ranges_of, is_script_line, are_numbers, are_in_range}
 use Rattle.script_reader.specs.Faults.{first_reason, callers_before, is_beyond}
 use Rattle.script_reader.specs.Gathered.{CallerOf, SubmissionOf, callers_of, count_scripts, scripts_by}
-use Rattle.script_reader.specs.ListLanguage.{ListLanguage, LinePlace, BetweenScripts, WithinScript, AreSizes, IsListLanguage, IsOperationIn, place_after, place_behind, script_line_fault}
+use Rattle.script_reader.specs.ListLanguage.{ListLanguage, BetweenScripts, WithinScript, AreSizes, IsListLanguage, IsOperationIn, place_after, place_behind, script_line_fault}
 use Rattle.script_reader.specs.ListLanguage.{operation_fault, operation_words, submission_words, lines_of, head_words, sizes_at, judge}
 use Rattle.script_reader.specs.Inner.Gatherings.{is_caller}
 use Rattle.script_reader.specs.Inner.ListScripts.{is_beyond_in, lines_within}

@@ -1,5 +1,5 @@
 -- A text is of one header and of one list of scripts at most, and has no fault.
-use Rattle.std.proofs.Common.{◌≡◌, inl, inr, ℕ, ◌+◌, Bool, true, false, ◌==◌, List, [], ◌∷◌, ◌++◌, codes, map, drop, All, length, refl, sym, ap, subst, ◌∙◌, append_assoc, true≢false, None}
+use Rattle.std.proofs.Common.{◌≡◌, inl, inr, ℕ, ◌+◌, ◌==◌, List, [], ◌∷◌, ◌++◌, codes, map, drop, length, refl, sym, ap, subst, ◌∙◌, append_assoc, true≢false, None}
 use Rattle.std.specs.List.{flat_map, count_by, AllByRecursion}
 use Rattle.std.proofs.lemmas.List.{append-nil}
 use Rattle.std.proofs.lemmas.List.Elements.{recursion_from_All}
@@ -10,7 +10,7 @@ use Rattle.script_reader.specs.Text.{line, number, finish_line}
 use Rattle.script_reader.specs.Forms.{Words, is_only, value_of}
 use Rattle.script_reader.specs.Gathered.{CallerOf, SubmissionOf, AreCallers, callers_of}
 use Rattle.script_reader.specs.Reading.{HaveNoFault, IsFaultInFront}
-use Rattle.script_reader.specs.ListLanguage.{ListLanguage, AreSizes, IsListLanguage, IsOperationIn, IsScriptIn, IsTextOf, IsText, IsFirstFaultIn, operation_words, submission_words, lines_of, head_words, sizes_at, judge}
+use Rattle.script_reader.specs.ListLanguage.{ListLanguage, IsListLanguage, IsOperationIn, IsScriptIn, IsTextOf, IsFirstFaultIn, operation_words, submission_words, lines_of, head_words, sizes_at, judge}
 use Rattle.script_reader.proofs.Listed.Numbers.{sizes_are, values_are}
 use Rattle.script_reader.proofs.Listed.Submitting.{IsGoodScript, scripts_are_good}
 use Rattle.script_reader.proofs.Listed.Judging.{finish_once, no_fault, fault_once}

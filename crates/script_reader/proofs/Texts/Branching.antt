@@ -20,7 +20,7 @@ use Rattle.script_reader.specs.Text.{line, operation_words, part_words, script_l
 use Rattle.script_reader.specs.Input.{Submission}
 use Rattle.script_reader.specs.Inner.LinesAsWords.{Open, BetweenParts, InFirst, InSecond, parts_with, region_of, lines_inside, script_words}
 use Rattle.script_reader.specs.Inner.Branches.{branch_with, closing_word}
-use Rattle.script_reader.specs.Inner.Rows.{row_fault}
+use Rattle.script_reader.specs.Rows.{row_fault}
 use Rattle.script_reader.specs.Forms.{Words, Form, Region, InScript, form, has_form, operation_forms, turning_forms, form_of, is_only, ranges_of, are_numbers, are_in_range}
 use Rattle.script_reader.specs.Faults.{AreFaultless, IsFaultyBehind, fault_of, first_reason, is_too_many}
 use Rattle.script_reader.proofs.Printing.Scripted.{inside_at, inside_fault_is}

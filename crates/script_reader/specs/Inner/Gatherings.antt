@@ -3,7 +3,7 @@ use Rattle.std.specs.Prelude.{◌≡◌, ℕ, suc, zero, Bool, List, [], ◌∷�
 use Rattle.std.specs.List.{list_any}
 use Rattle.std.specs.Str.{bytes_eq}
 use Rattle.std.specs.String.{string_bytes}
-use Rattle.script_reader.specs.declared.gathered.Gathered.{Gathered}
+use Rattle.script_reader.specs.declared.gathering.Gathering.{Gathering}
 use Rattle.script_reader.specs.Gathered.{CallerOf, SubmissionOf, count_scripts}
 
 module _ {S : Type 0} where
@@ -20,11 +20,11 @@ module _ {S : Type 0} where
   put_script (scripts ∷ others) (suc place) script = scripts ∷ put_script others place script
 
   -- the callers that are gathered
-  abbrev pub callers_in : Gathered S → List (CallerOf S)
+  abbrev pub callers_in : Gathering S → List (CallerOf S)
   callers_in store = beside (map string_bytes store.names.keys) (map (λ v. v.items) store.scripts.items)
 
   -- each name has its scripts, and the scripts are counted
-  pub record IsEven (store : Gathered S) : Type 0 where
+  pub record IsEven (store : Gathering S) : Type 0 where
     pub beside : length store.names.keys ≡ length store.scripts.items
     pub counted : store.count ≡ count_scripts (callers_in store)
 

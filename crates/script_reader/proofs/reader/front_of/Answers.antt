@@ -1,7 +1,8 @@
-use Rattle.std.proofs.Common.{◌≡◌, Err, ap, ◌∙◌}
+use Rattle.std.proofs.Common.{◌≡◌, Err, sym, ap, subst, ◌∙◌}
 use Rattle.std.proofs.lemmas.Result.{err_from_is_err_and}
 use Rattle.script_reader.specs.declared.fault.Refusal.TheVariants as refusal
 use Rattle.script_reader.specs.Inner.Gatherings.{callers_in}
+use Rattle.script_reader.specs.Inner.ListScripts.{HasTextInFront}
 use Rattle.script_reader.proofs.Listed.Behind.{behind_front, front_read}
 use Rattle.script_reader.proofs.reader.front_of.Goals as goal
 
@@ -20,5 +21,8 @@ returns-in_err-callers-clause-fault g c why e =
 
 pub returns-clause-found : goal.returns-clause-found
 returns-clause-found g c =
-    front_read g.L.Language.language (g.L.Language.sizes_of c.in_ok-sizes.sizes) (callers_in c.in_ok-callers.callers) c.args.lines.now c.sizes_of.new.lines
-    c.scripts_of.new.lines c.in_ok-sizes.ensures.sized c.in_ok-sizes.ensures.text c.in_ok-callers.ensures.found
+    let language = g.L.Language.language in
+    let ns = g.L.Language.sizes_of c.in_ok-sizes.sizes in
+    subst (λ l. HasTextInFront language ns l c.args.lines.now c.scripts_of.new.lines) (sym c.new.ensures)
+    (front_read language ns (callers_in c.in_ok-callers.callers) c.args.lines.now c.sizes_of.new.lines
+    c.scripts_of.new.lines c.in_ok-sizes.ensures.sized c.in_ok-sizes.ensures.text c.in_ok-callers.ensures.found)

@@ -4,48 +4,47 @@ use Rattle.script_reader.specs.declared.words.TheConstants.{LINE_FEED}
 use Rattle.script_reader.specs.declared.fault.Fault.TheVariants as fault
 use Rattle.script_reader.specs.declared.fault.InputFault.TheVariants as refused
 use Rattle.script_reader.specs.Reading.{IsFaultBehind, IsFaultInFront, GoesOnBehind}
-use Rattle.script_reader.specs.ListLanguage.{IsTextOf, IsText, IsFirstFaultIn, judge}
-use Rattle.script_reader.specs.Inner.Gatherings.{callers_in}
+use Rattle.script_reader.specs.ListLanguage.{IsText, IsFirstFaultIn, judge}
 use Rattle.script_reader.specs.Inner.ListScripts.{HasTextInFront}
 use Rattle.script_reader.proofs.Texts.Counting.{feeds}
 use Rattle.script_reader.proofs.Listed.Feeds.{told}
 use Rattle.script_reader.proofs.Listed.Telling.{one_text, one_fault, not_both}
-use Rattle.script_reader.proofs.Listed.Ending.{in_front, shorter, whole_text, goes_on, few_feeds}
+use Rattle.script_reader.proofs.Listed.Ending.{in_front, whole_text, goes_on, few_feeds}
 use Rattle.script_reader.proofs.reader.read_text.Goals as goal
 
 pub returns-then-len-eq0-clause-read : goal.returns-then-len-eq0-clause-read
 returns-then-len-eq0-clause-read g c sizes callers h =
     let language = g.L.Language.language in
     let ns = g.L.Language.sizes_of c.in-Ok.found.0 in
-    let front = subst (λ l. HasTextInFront language ns (callers_in c.in-Ok.found.1) l c.front_of.new.lines) c.new-lines.ensures c.in-Ok.ensures.found in
-    let whole = whole_text language c.args.bytes.now c.front_of.new.lines ns (callers_in c.in-Ok.found.1) front (sym c.len.ensures ∙ c.if-len-eq0.true) in
-    one_text language g.met.L.Language.lawful c.args.bytes.now ns sizes (callers_in c.in-Ok.found.1) callers whole h
+    let front = subst (λ l. HasTextInFront language ns c.in-Ok.found.1 l c.front_of.new.lines) c.new-lines.ensures c.in-Ok.ensures.found in
+    let whole = whole_text language c.args.bytes.now c.front_of.new.lines ns c.in-Ok.found.1 front (sym c.len.ensures ∙ c.if-len-eq0.true) in
+    one_text language g.met.L.Language.lawful c.args.bytes.now ns sizes c.in-Ok.found.1 callers whole h
 
 pub returns-then-len-eq0-clause-faulty : goal.returns-then-len-eq0-clause-faulty
 returns-then-len-eq0-clause-faulty g c number why h =
     let language = g.L.Language.language in
     let ns = g.L.Language.sizes_of c.in-Ok.found.0 in
-    let front = subst (λ l. HasTextInFront language ns (callers_in c.in-Ok.found.1) l c.front_of.new.lines) c.new-lines.ensures c.in-Ok.ensures.found in
-    let whole = whole_text language c.args.bytes.now c.front_of.new.lines ns (callers_in c.in-Ok.found.1) front (sym c.len.ensures ∙ c.if-len-eq0.true) in
-    not_both language g.met.L.Language.lawful c.args.bytes.now ns (callers_in c.in-Ok.found.1) number why whole h
+    let front = subst (λ l. HasTextInFront language ns c.in-Ok.found.1 l c.front_of.new.lines) c.new-lines.ensures c.in-Ok.ensures.found in
+    let whole = whole_text language c.args.bytes.now c.front_of.new.lines ns c.in-Ok.found.1 front (sym c.len.ensures ∙ c.if-len-eq0.true) in
+    not_both language g.met.L.Language.lawful c.args.bytes.now ns c.in-Ok.found.1 number why whole h
 
 pub overflow_cast-line : goal.overflow_cast-line
 overflow_cast-line g c =
     let language = g.L.Language.language in
     let ns = g.L.Language.sizes_of c.in-Ok.found.0 in
-    let front = subst (λ l. HasTextInFront language ns (callers_in c.in-Ok.found.1) l c.front_of.new.lines) c.new-lines.ensures c.in-Ok.ensures.found in
+    let front = subst (λ l. HasTextInFront language ns c.in-Ok.found.1 l c.front_of.new.lines) c.new-lines.ensures c.in-Ok.ensures.found in
     let counted : c.occurrences-read.result ≡ feeds c.args.bytes.now c.front_of.new.lines = c.occurrences-read.ensures
     ∙ ap (λ n. count_by (λ b. b == LINE_FEED) (take (length c.args.bytes.now - n) c.args.bytes.now)) c.len-in-Ok.ensures in
-    omega (arith, counted, few_feeds language c.args.bytes.now c.front_of.new.lines ns (callers_in c.in-Ok.found.1) front g.met.L.Language.lawful)
+    omega (arith, counted, few_feeds language c.args.bytes.now c.front_of.new.lines ns c.in-Ok.found.1 front g.met.L.Language.lawful)
 
 pub overflow_add-line : goal.overflow_add-line
 overflow_add-line g c =
     let language = g.L.Language.language in
     let ns = g.L.Language.sizes_of c.in-Ok.found.0 in
-    let front = subst (λ l. HasTextInFront language ns (callers_in c.in-Ok.found.1) l c.front_of.new.lines) c.new-lines.ensures c.in-Ok.ensures.found in
+    let front = subst (λ l. HasTextInFront language ns c.in-Ok.found.1 l c.front_of.new.lines) c.new-lines.ensures c.in-Ok.ensures.found in
     let counted : c.occurrences-read.result ≡ feeds c.args.bytes.now c.front_of.new.lines = c.occurrences-read.ensures
     ∙ ap (λ n. count_by (λ b. b == LINE_FEED) (take (length c.args.bytes.now - n) c.args.bytes.now)) c.len-in-Ok.ensures in
-    omega (arith, counted, few_feeds language c.args.bytes.now c.front_of.new.lines ns (callers_in c.in-Ok.found.1) front g.met.L.Language.lawful)
+    omega (arith, counted, few_feeds language c.args.bytes.now c.front_of.new.lines ns c.in-Ok.found.1 front g.met.L.Language.lawful)
 
 pub faulty_line-line-requires : goal.faulty_line-line-requires
 faulty_line-line-requires g c =
@@ -61,22 +60,22 @@ pub returns-else-len-eq0-clause-read : goal.returns-else-len-eq0-clause-read
 returns-else-len-eq0-clause-read g c sizes callers h =
     let language = g.L.Language.language in
     let ns = g.L.Language.sizes_of c.in-Ok.found.0 in
-    let front = subst (λ l. HasTextInFront language ns (callers_in c.in-Ok.found.1) l c.front_of.new.lines) c.new-lines.ensures c.in-Ok.ensures.found in
+    let front = subst (λ l. HasTextInFront language ns c.in-Ok.found.1 l c.front_of.new.lines) c.new-lines.ensures c.in-Ok.ensures.found in
     let counted : c.occurrences-read.result ≡ feeds c.args.bytes.now c.front_of.new.lines = c.occurrences-read.ensures
     ∙ ap (λ n. count_by (λ b. b == LINE_FEED) (take (length c.args.bytes.now - n) c.args.bytes.now)) c.len-in-Ok.ensures in
     let on : GoesOnBehind (IsText language) c.args.bytes.now (c.occurrences-read.result + 1) fault.End =
-    goes_on language c.args.bytes.now c.front_of.new.lines ns (callers_in c.in-Ok.found.1) front (λ none. c.if-len-eq0.false (c.len.ensures ∙ none)) c.occurrences-read.result counted in
+    goes_on language c.args.bytes.now c.front_of.new.lines ns c.in-Ok.found.1 front (λ none. c.if-len-eq0.false (c.len.ensures ∙ none)) c.occurrences-read.result counted in
     absurd (not_both language g.met.L.Language.lawful c.args.bytes.now sizes callers (c.occurrences-read.result + 1) fault.End h (inr on))
 
 pub returns-else-len-eq0-clause-refused : goal.returns-else-len-eq0-clause-refused
 returns-else-len-eq0-clause-refused g c number why e =
     let language = g.L.Language.language in
     let ns = g.L.Language.sizes_of c.in-Ok.found.0 in
-    let front = subst (λ l. HasTextInFront language ns (callers_in c.in-Ok.found.1) l c.front_of.new.lines) c.new-lines.ensures c.in-Ok.ensures.found in
+    let front = subst (λ l. HasTextInFront language ns c.in-Ok.found.1 l c.front_of.new.lines) c.new-lines.ensures c.in-Ok.ensures.found in
     let counted : c.occurrences-read.result ≡ feeds c.args.bytes.now c.front_of.new.lines = c.occurrences-read.ensures
     ∙ ap (λ n. count_by (λ b. b == LINE_FEED) (take (length c.args.bytes.now - n) c.args.bytes.now)) c.len-in-Ok.ensures in
     let on : GoesOnBehind (IsText language) c.args.bytes.now (c.occurrences-read.result + 1) fault.End =
-    goes_on language c.args.bytes.now c.front_of.new.lines ns (callers_in c.in-Ok.found.1) front (λ none. c.if-len-eq0.false (c.len.ensures ∙ none)) c.occurrences-read.result counted in
+    goes_on language c.args.bytes.now c.front_of.new.lines ns c.in-Ok.found.1 front (λ none. c.if-len-eq0.false (c.len.ensures ∙ none)) c.occurrences-read.result counted in
     let same_number : c.occurrences-read.result + 1 ≡ number = cc in
     let same_reason : fault.End ≡ why = cc in
     subst (λ n. IsFirstFaultIn language c.args.bytes.now n why) same_number (subst (IsFirstFaultIn language c.args.bytes.now (c.occurrences-read.result + 1)) same_reason (inr on))
@@ -85,11 +84,11 @@ pub returns-else-len-eq0-clause-faulty : goal.returns-else-len-eq0-clause-faulty
 returns-else-len-eq0-clause-faulty g c number why h =
     let language = g.L.Language.language in
     let ns = g.L.Language.sizes_of c.in-Ok.found.0 in
-    let front = subst (λ l. HasTextInFront language ns (callers_in c.in-Ok.found.1) l c.front_of.new.lines) c.new-lines.ensures c.in-Ok.ensures.found in
+    let front = subst (λ l. HasTextInFront language ns c.in-Ok.found.1 l c.front_of.new.lines) c.new-lines.ensures c.in-Ok.ensures.found in
     let counted : c.occurrences-read.result ≡ feeds c.args.bytes.now c.front_of.new.lines = c.occurrences-read.ensures
     ∙ ap (λ n. count_by (λ b. b == LINE_FEED) (take (length c.args.bytes.now - n) c.args.bytes.now)) c.len-in-Ok.ensures in
     let on : GoesOnBehind (IsText language) c.args.bytes.now (c.occurrences-read.result + 1) fault.End =
-    goes_on language c.args.bytes.now c.front_of.new.lines ns (callers_in c.in-Ok.found.1) front (λ none. c.if-len-eq0.false (c.len.ensures ∙ none)) c.occurrences-read.result counted in
+    goes_on language c.args.bytes.now c.front_of.new.lines ns c.in-Ok.found.1 front (λ none. c.if-len-eq0.false (c.len.ensures ∙ none)) c.occurrences-read.result counted in
     let same = one_fault language g.met.L.Language.lawful c.args.bytes.now (c.occurrences-read.result + 1) number fault.End why (inr on) h in
     inl (λ i. refused.Line (same.0 i) (same.1 i))
 

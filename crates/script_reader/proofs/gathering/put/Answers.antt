@@ -1,6 +1,6 @@
 use Rattle.std.proofs.Common.{[], ◌∷◌, ◌++◌, map, sym, ap, ◌∙◌, arith}
 use Rattle.script_reader.proofs.Listed.Gathering.{map-set-put, map-push-put}
-use Rattle.script_reader.proofs.gathered.put.Goals as goal
+use Rattle.script_reader.proofs.gathering.put.Goals as goal
 
 pub returns-in_ok-push : goal.returns-in_ok-push
 returns-in_ok-push g c = map-set-put (λ v. v.items) c.args.scripts.now.items c.args.place c.index_mut.result.now

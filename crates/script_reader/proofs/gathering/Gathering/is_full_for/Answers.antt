@@ -4,7 +4,7 @@ use Rattle.std.proofs.lemmas.Bool.{lt-leb, le-leb}
 use Rattle.script_reader.specs.declared.limits.TheConstants.{MOST_CALLERS, MOST_SCRIPTS}
 use Rattle.script_reader.specs.Inner.Gatherings.{callers_in, is_caller}
 use Rattle.script_reader.proofs.Listed.Gathering.{count_callers, has_caller}
-use Rattle.script_reader.proofs.gathered.Gathered.is_full_for.Goals as goal
+use Rattle.script_reader.proofs.gathering.Gathering.is_full_for.Goals as goal
 
 -- a test beside one that passes
 with_true : (b : Bool) → b ≡ (b && true)

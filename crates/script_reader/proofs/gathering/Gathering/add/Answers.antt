@@ -3,7 +3,7 @@ use Rattle.std.specs.String.{string_bytes}
 use Rattle.script_reader.specs.Gathered.{count_scripts}
 use Rattle.script_reader.specs.Inner.Gatherings.{callers_in}
 use Rattle.script_reader.proofs.Listed.Gathering.{store-add, even_after, count-add}
-use Rattle.script_reader.proofs.gathered.Gathered.add.Goals as goal
+use Rattle.script_reader.proofs.gathering.Gathering.add.Goals as goal
 
 pub returns-clause-added : goal.returns-clause-added
 returns-clause-added g c =
