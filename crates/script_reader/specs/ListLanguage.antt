@@ -1,15 +1,16 @@
 -- A language of texts whose scripts are lists of operations, each a line: a word and numbers.
 -- A text is a header, the line `scripts`, the scripts of callers, and the line `finish`. Each number and each space has
 -- one spelling, so a text is of one header and of one list of scripts at most.
-use Rattle.std.specs.Prelude.{◌≡◌, ◌⊎◌, ℕ, ◌+◌, ◌<◌, ◌≤◌, ◌^◌, Bool, true, false, not, ◌&&◌, nat_le, if◌then◌else◌, List, [], ◌∷◌, ◌++◌, Option, Some, None}
+use Rattle.std.specs.Prelude.{◌≡◌, ◌⊎◌, ℕ, ◌+◌, ◌<◌, ◌≤◌, ◌^◌, Bool, true, false, not, ◌&&◌, ◌==◌, nat_le, if◌then◌else◌, List, [], ◌∷◌, ◌++◌, Option, Some, None}
 use Rattle.std.specs.Prelude.{codes, length, map, drop, fold, All}
-use Rattle.std.specs.List.{flat_map, AllByRecursion}
+use Rattle.std.specs.List.{flat_map, list_all}
 use Rattle.std.specs.Option.{is_none}
 use Rattle.std.specs.Str.{bytes_eq}
 use Rattle.books_model.specs.declared.limits.TheConstants.{MOST_OPERATIONS}
 use Rattle.script_reader.specs.declared.fault.Fault.{Fault}
 use Rattle.script_reader.specs.declared.fault.Fault.TheVariants as fault
-use Rattle.script_reader.specs.Lines.{IsWord, word_at}
+use Rattle.script_reader.specs.declared.words.TheConstants.{SPACE, LINE_FEED}
+use Rattle.script_reader.specs.Lines.{word_at}
 use Rattle.script_reader.specs.Text.{number, line, finish_line}
 use Rattle.script_reader.specs.Forms.{Words, Form, begins, is_only, form_of, ranges_of, value_of, are_numbers, are_in_range}
 use Rattle.script_reader.specs.Faults.{first_reason, outside_fault}
@@ -37,6 +38,10 @@ pub record ListLanguage (O S : Type 0) : Type 0 where
   pub operation : List ℕ → List ℕ → O
   -- the operations of a script, in order
   pub operations : S → List O
+
+-- bytes that can stand as a word
+abbrev pub is_word : List ℕ → Bool
+is_word word = list_all (λ b. not (b == SPACE) && not (b == LINE_FEED)) word
 
 -- each number is in its range, and one of 64 bits
 abbrev pub AreNumbersIn : List (ℕ × ℕ) → List ℕ → Type 0
@@ -195,9 +200,9 @@ module _ {O S : Type 0} (g : ListLanguage O S) where
 
   -- what the words of a language have to be, and that an operation is told by its line, and a script by its operations
   pub record IsListLanguage : Type 0 where
-    pub title : IsWord g.title
-    pub names : AllByRecursion (λ s. IsWord s.name) g.sizes
-    pub keywords : (o : O) → IsWord (g.keyword o)
+    pub title : is_word g.title ≡ true
+    pub names : list_all (λ s. is_word s.name) g.sizes ≡ true
+    pub keywords : (o : O) → is_word (g.keyword o) ≡ true
     pub no_script : (o : O) → bytes_eq (g.keyword o) (codes "script") ≡ false
     pub no_end : (o : O) → bytes_eq (g.keyword o) (codes "end") ≡ false
     pub no_finish : (o : O) → bytes_eq (g.keyword o) (codes "finish") ≡ false

@@ -9,34 +9,6 @@ use std::test::Fail;
 const TEXT: &str = "steps 1 most 5\nscripts\nscript bob\nadd 9 5\nshow 1\nend\nscript ann\nend\n\
                     script bob\nshow 9\nend\nfinish\n";
 
-// Texts that are refused: the line, and why.
-const REFUSED: [(&str, u32, Fault); 24] = [
-    ("", 1, Fault::End),
-    ("steps 1 most 5", 1, Fault::End),
-    ("steps 1 most 5\n", 2, Fault::End),
-    ("steps 2 most 5\n", 1, Fault::Header),
-    ("steps 1 least 5\n", 1, Fault::Header),
-    ("steps 1 most 5 most 5\n", 1, Fault::Header),
-    ("steps 1 most\n", 1, Fault::Header),
-    ("steps 1 most 05\n", 1, Fault::Number),
-    ("steps 1 most 0\n", 1, Fault::Limit),
-    ("steps 1 most 101\n", 1, Fault::Limit),
-    ("steps 1 most 5\nsteps 1 most 5\n", 2, Fault::Word),
-    ("steps 1 most 5\nscripts\n", 3, Fault::End),
-    ("steps 1 most 5\nscripts\nend\n", 3, Fault::Word),
-    ("steps 1 most 5\nscripts\nscript Ann\n", 3, Fault::Word),
-    ("steps 1 most 5\nscripts\nscript ann\nfinish\n", 4, Fault::Word),
-    ("steps 1 most 5\nscripts\nscript ann\nscript bob\n", 4, Fault::Word),
-    ("steps 1 most 5\nscripts\nscript ann\ntry\n", 4, Fault::Word),
-    ("steps 1 most 5\nscripts\nscript ann\nshow\n", 4, Fault::Word),
-    ("steps 1 most 5\nscripts\nscript ann\nshow 1 2\n", 4, Fault::Word),
-    ("steps 1 most 5\nscripts\nscript ann\nadd 1 +2\n", 4, Fault::Number),
-    ("steps 1 most 5\nscripts\nscript ann\nadd 10 5\n", 4, Fault::Limit),
-    ("steps 1 most 5\nscripts\nscript ann\nadd 9 6\n", 4, Fault::Limit),
-    ("steps 1 most 5\nscripts\nfinish", 3, Fault::End),
-    ("steps 1 most 5\nscripts\nfinish\n\n", 4, Fault::End),
-];
-
 fn script_of(callers: &Gathered<StepScript>, caller: usize, index: usize) -> Option<&StepScript> {
     if caller >= callers.callers() || index >= callers.scripts_of(caller) {
         return None;
@@ -72,10 +44,50 @@ fn is_read(most: u64, callers: &Gathered<StepScript>) -> bool {
 }
 
 #[test]
-fn scripts_are_read_by_caller(alloc: Global) -> Result<(), Fail> {
-    match read_text::<Steps>(alloc, TEXT.as_bytes()) {
-        Ok((most, callers)) => assert!(is_read(most, &callers)),
+fn scripts_are_read_by_caller(rt: HostRuntime) -> Result<(), Fail> {
+    match read_text::<Steps>(rt.alloc(), TEXT.as_bytes()) {
+        Ok((most, callers)) => assert!(rt; is_read(most, &callers)),
         Err(_) => return Err(Fail),
     }
     Ok(())
+}
+
+// The fault of a text that is refused.
+fn fault_of(alloc: Global, text: &str) -> Option<(u32, Fault)> {
+    match read_text::<Steps>(alloc, text.as_bytes()) {
+        Err(InputFault::Line { line, why }) => Some((line, why)),
+        _ => None,
+    }
+}
+
+#[test]
+fn first_faults(rt: HostRuntime) {
+    for (text, line, why) in &[
+        ("", 1, Fault::End),
+        ("steps 1 most 5", 1, Fault::End),
+        ("steps 1 most 5\n", 2, Fault::End),
+        ("steps 2 most 5\n", 1, Fault::Header),
+        ("steps 1 least 5\n", 1, Fault::Header),
+        ("steps 1 most 5 most 5\n", 1, Fault::Header),
+        ("steps 1 most\n", 1, Fault::Header),
+        ("steps 1 most 05\n", 1, Fault::Number),
+        ("steps 1 most 0\n", 1, Fault::Limit),
+        ("steps 1 most 101\n", 1, Fault::Limit),
+        ("steps 1 most 5\nsteps 1 most 5\n", 2, Fault::Word),
+        ("steps 1 most 5\nscripts\n", 3, Fault::End),
+        ("steps 1 most 5\nscripts\nend\n", 3, Fault::Word),
+        ("steps 1 most 5\nscripts\nscript Ann\n", 3, Fault::Word),
+        ("steps 1 most 5\nscripts\nscript ann\nfinish\n", 4, Fault::Word),
+        ("steps 1 most 5\nscripts\nscript ann\nscript bob\n", 4, Fault::Word),
+        ("steps 1 most 5\nscripts\nscript ann\ntry\n", 4, Fault::Word),
+        ("steps 1 most 5\nscripts\nscript ann\nshow\n", 4, Fault::Word),
+        ("steps 1 most 5\nscripts\nscript ann\nshow 1 2\n", 4, Fault::Word),
+        ("steps 1 most 5\nscripts\nscript ann\nadd 1 +2\n", 4, Fault::Number),
+        ("steps 1 most 5\nscripts\nscript ann\nadd 10 5\n", 4, Fault::Limit),
+        ("steps 1 most 5\nscripts\nscript ann\nadd 9 6\n", 4, Fault::Limit),
+        ("steps 1 most 5\nscripts\nfinish", 3, Fault::End),
+        ("steps 1 most 5\nscripts\nfinish\n\n", 4, Fault::End),
+    ] {
+        assert_eq!(rt; fault_of(rt.alloc(), *text), Some((*line, *why)), "{text}");
+    }
 }

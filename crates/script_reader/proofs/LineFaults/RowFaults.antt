@@ -26,7 +26,8 @@ no_form [] words all = refl
 no_form (f ∷ forms) words all = (λ i. cond (all.0 i) (Some f) (form_of forms words)) ∙ no_form forms words all.1
 
 module _ (forms : List Form) (words : Words) where
-  word_wrong : AllByRecursion (λ f. has_form words f ≡ false) forms → row_fault forms words ≡ Some fault.Word
+  -- a line of none of the forms
+  pub word_wrong : AllByRecursion (λ f. has_form words f ≡ false) forms → row_fault forms words ≡ Some fault.Word
   word_wrong all i = first_reason (
       (is_none (no_form forms words all i), fault.Word)
       ∷ (not (are_numbers (drop 1 words)), fault.Number)

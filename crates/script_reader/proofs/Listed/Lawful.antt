@@ -45,7 +45,7 @@ room_for callers s rest few space = by (is_caller s.caller callers) refl
 module _ {O S : Type 0} (g : ListLanguage O S) (lawful : IsListLanguage g) (ns : List ℕ) (sized : AreSizes g ns) where
   -- the words of an operation are those of a line
   operation-AreWords : (o : O) → IsOperationIn g ns o → AreWords (operation_words g o)
-  operation-AreWords o h = record { some = omega arith; each = (lawful.keywords o, texts_are_words h.kind.ranges (g.numbers o) h.within) }
+  operation-AreWords o h = record { some = omega arith; each = (word_from_test (g.keyword o) (lawful.keywords o), texts_are_words h.kind.ranges (g.numbers o) h.within) }
 
   -- operations, behind those of a script that has not ended
   pub operations_faultless : (subs : List (SubmissionOf S)) (name : List ℕ) (done rest : List O) → AllByRecursion (IsOperationIn g ns) rest

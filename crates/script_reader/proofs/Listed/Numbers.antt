@@ -1,6 +1,6 @@
 -- Numbers in their ranges, and the words of a header.
 use Rattle.std.proofs.Common.{◌≡◌, ℕ, Bool, true, false, not, ◌&&◌, nat_le, List, [], ◌∷◌, codes, map, length, None, refl, ap, ◌∙◌, arith}
-use Rattle.std.specs.List.{AllByRecursion}
+use Rattle.std.specs.List.{list_all, AllByRecursion}
 use Rattle.std.proofs.lemmas.Bool.{le-leb, ne_eqb}
 use Rattle.std.proofs.lemmas.Slice.Eq.{bytes_eq-Decides}
 use Rattle.std.specs.Str.{bytes_eq}
@@ -9,8 +9,8 @@ use Rattle.script_reader.specs.Lines.{IsWord, AreWords}
 use Rattle.script_reader.specs.Text.{number}
 use Rattle.script_reader.specs.Forms.{is_only, begins, value_of, are_numbers, are_in_range}
 use Rattle.script_reader.specs.Faults.{first_reason}
-use Rattle.script_reader.specs.ListLanguage.{Size, ListLanguage, AreNumbersIn, AreSizes, IsListLanguage, size_pairs, have_names, seconds, size_words, size_ranges, sizes_at, is_head, head_words, head_fault}
-use Rattle.script_reader.proofs.Conditions.{and_true}
+use Rattle.script_reader.specs.ListLanguage.{is_word, Size, ListLanguage, AreNumbersIn, AreSizes, IsListLanguage, size_pairs, have_names, seconds, size_words, size_ranges, sizes_at, is_head, head_words, head_fault}
+use Rattle.script_reader.proofs.Conditions.{and_true, both}
 use Rattle.script_reader.proofs.Tokens.Cutting.{word_from_test}
 use Rattle.script_reader.proofs.Tokens.Numerals.{value_of_number, number-IsNumber, number-IsWord}
 
@@ -61,11 +61,12 @@ seconds_there [] (n ∷ ns) h = absurd h
 seconds_there (s ∷ sizes) [] h = absurd h
 seconds_there (s ∷ sizes) (n ∷ ns) h = ap (λ l. number n ∷ l) (seconds_there sizes ns h.3)
 
-pairs_are_words : (sizes : List Size) (ns : List ℕ) → AllByRecursion (λ s. IsWord s.name) sizes → AreNumbersIn (map (λ s. s.range) sizes) ns
+pairs_are_words : (sizes : List Size) (ns : List ℕ) → list_all (λ s. is_word s.name) sizes ≡ true → AreNumbersIn (map (λ s. s.range) sizes) ns
     → AllByRecursion IsWord (size_pairs sizes ns)
 pairs_are_words [] ns names h = tt
 pairs_are_words (s ∷ sizes) [] names h = absurd h
-pairs_are_words (s ∷ sizes) (n ∷ ns) names h = (names.0, (number-IsWord n h.2, pairs_are_words sizes ns names.1 h.3))
+pairs_are_words (s ∷ sizes) (n ∷ ns) names h =
+    let parts = both names in (word_from_test s.name parts.0, (number-IsWord n h.2, pairs_are_words sizes ns parts.1 h.3))
 
 -- a test beside one that does not pass
 pub and_fails : (b : Bool) {c : Bool} → c ≡ false → (b && c) ≡ false
@@ -94,7 +95,7 @@ module _ {O S : Type 0} (g : ListLanguage O S) where
   pub head_AreWords : (ns : List ℕ) → IsListLanguage g → AreSizes g ns → AreWords (head_words g ns)
   head_AreWords ns lawful h = record {
     some = omega arith;
-    each = (lawful.title, (word_from_test (codes "1") refl, pairs_are_words g.sizes ns lawful.names h));
+    each = (word_from_test g.title lawful.title, (word_from_test (codes "1") refl, pairs_are_words g.sizes ns lawful.names h));
   }
 
   pub head_goes_on : (ns : List ℕ) → is_only (codes "finish") (head_words g ns) ≡ false
