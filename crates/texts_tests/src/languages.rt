@@ -3,7 +3,6 @@
 use crate::steps::{Step, StepScript, Steps};
 use script_reader::{Fault, Gathered, InputFault, read_text};
 use std::alloc::Global;
-use std::test::Fail;
 
 // A text with two callers, of whom the first gave the first script and the last.
 const TEXT: &str = "steps 1 most 5\nscripts\nscript bob\nadd 9 5\nshow 1\nend\nscript ann\nend\n\
@@ -43,13 +42,17 @@ fn is_read(most: u64, callers: &Gathered<StepScript>) -> bool {
         && step_at(callers, 1, 0, 0) == None
 }
 
-#[test]
-fn scripts_are_read_by_caller(rt: HostRuntime) -> Result<(), Fail> {
-    match read_text::<Steps>(rt.alloc(), TEXT.as_bytes()) {
-        Ok((most, callers)) => assert!(rt; is_read(most, &callers)),
-        Err(_) => return Err(Fail),
+// Whether the text is read as it stands.
+fn is_text_read(alloc: Global, text: &str) -> bool {
+    match read_text::<Steps>(alloc, text.as_bytes()) {
+        Ok((most, callers)) => is_read(most, &callers),
+        Err(_) => false,
     }
-    Ok(())
+}
+
+#[test]
+fn scripts_are_read_by_caller(rt: HostRuntime) {
+    assert!(rt; is_text_read(rt.alloc(), TEXT));
 }
 
 // The fault of a text that is refused.
@@ -77,14 +80,42 @@ fn first_faults(rt: HostRuntime) {
         ("steps 1 most 5\nscripts\n", 3, Fault::End),
         ("steps 1 most 5\nscripts\nend\n", 3, Fault::Word),
         ("steps 1 most 5\nscripts\nscript Ann\n", 3, Fault::Word),
-        ("steps 1 most 5\nscripts\nscript ann\nfinish\n", 4, Fault::Word),
-        ("steps 1 most 5\nscripts\nscript ann\nscript bob\n", 4, Fault::Word),
+        (
+            "steps 1 most 5\nscripts\nscript ann\nfinish\n",
+            4,
+            Fault::Word,
+        ),
+        (
+            "steps 1 most 5\nscripts\nscript ann\nscript bob\n",
+            4,
+            Fault::Word,
+        ),
         ("steps 1 most 5\nscripts\nscript ann\ntry\n", 4, Fault::Word),
-        ("steps 1 most 5\nscripts\nscript ann\nshow\n", 4, Fault::Word),
-        ("steps 1 most 5\nscripts\nscript ann\nshow 1 2\n", 4, Fault::Word),
-        ("steps 1 most 5\nscripts\nscript ann\nadd 1 +2\n", 4, Fault::Number),
-        ("steps 1 most 5\nscripts\nscript ann\nadd 10 5\n", 4, Fault::Limit),
-        ("steps 1 most 5\nscripts\nscript ann\nadd 9 6\n", 4, Fault::Limit),
+        (
+            "steps 1 most 5\nscripts\nscript ann\nshow\n",
+            4,
+            Fault::Word,
+        ),
+        (
+            "steps 1 most 5\nscripts\nscript ann\nshow 1 2\n",
+            4,
+            Fault::Word,
+        ),
+        (
+            "steps 1 most 5\nscripts\nscript ann\nadd 1 +2\n",
+            4,
+            Fault::Number,
+        ),
+        (
+            "steps 1 most 5\nscripts\nscript ann\nadd 10 5\n",
+            4,
+            Fault::Limit,
+        ),
+        (
+            "steps 1 most 5\nscripts\nscript ann\nadd 9 6\n",
+            4,
+            Fault::Limit,
+        ),
         ("steps 1 most 5\nscripts\nfinish", 3, Fault::End),
         ("steps 1 most 5\nscripts\nfinish\n\n", 4, Fault::End),
     ] {

@@ -16,6 +16,9 @@ pub const GREATEST_ACCOUNT: u32 = 9;
 /// The greatest size of a header. The least is 1.
 pub const GREATEST_MOST: u64 = 100;
 
+// The least and the greatest account.
+const ACCOUNTS: (u64, u64) = (1, GREATEST_ACCOUNT as u64);
+
 /// An operation.
 #[derive(Clone, Copy, Debug, PartialEq, Eq)]
 pub enum Step {
@@ -126,7 +129,7 @@ fn show_of(words: &Words<'_>) -> Result<Step, Fault>
     if !words.is_row(b"show", 2) {
         return Err(Fault::Word);
     }
-    let account = words.one_number((1, u64::from(GREATEST_ACCOUNT)))?;
+    let account = words.one_number(ACCOUNTS)?;
     Ok(Step::Show(account as u32))
 }
 
@@ -142,6 +145,6 @@ fn add_of(words: &Words<'_>, most: u64) -> Result<Step, Fault>
     if !words.is_row(b"add", 3) {
         return Err(Fault::Word);
     }
-    let (account, amount) = words.two_numbers((1, u64::from(GREATEST_ACCOUNT)), (1, most))?;
+    let (account, amount) = words.two_numbers(ACCOUNTS, (1, most))?;
     Ok(Step::Add(account as u32, amount))
 }
