@@ -10,8 +10,6 @@ pub mod Submitting
 pub mod Numbers
 -- headers of one size and of two, by their places
 pub mod Heads
--- the first fault of a text by any judge
-pub mod Judging
 -- what the lines of a text say of a line behind them
 pub mod Standing
 -- the lines of a text have no fault

@@ -22,7 +22,7 @@ use Rattle.script_reader.specs.ListLanguage.{ListLanguage, AreSizes, IsListLangu
 use Rattle.script_reader.specs.Inner.ListScripts.{AreReadOf, HasTextInFront, is_beyond_in, lines_within, operations_text}
 use Rattle.script_reader.proofs.Grouped.Submitting.{caller-AreWords}
 use Rattle.script_reader.proofs.Grouped.Grouping.{no-names}
-use Rattle.script_reader.proofs.Listed.Judging.{behind_more}
+use Rattle.script_reader.proofs.Judging.{behind_more}
 use Rattle.script_reader.proofs.Listed.Standing.{outside_is, within_in, within_is, operation_is, within_more}
 use Rattle.script_reader.proofs.Listed.Lawful.{begins_faultless, operations_faultless, scripts_faultless, front_faultless}
 

@@ -20,10 +20,9 @@ use Rattle.script_reader.specs.Reading.{HaveNoFault, BeginsFaulty, IsFaultBehind
 use Rattle.script_reader.specs.ListLanguage.{ListLanguage, LinePlace, BetweenScripts, WithinScript, IsListLanguage, IsTextOf, place_after, place_behind, script_line_fault, operation_fault, sizes_at, judge, is_head, size_words, size_ranges, lines_of}
 use Rattle.script_reader.proofs.Conditions.{both, neither, passed}
 use Rattle.script_reader.proofs.LineFaults.LineKinds.{none_applies}
-use Rattle.script_reader.proofs.Texts.OneReading.{finish_words}
-use Rattle.script_reader.proofs.Texts.Fronting.{count_line, take_front}
+use Rattle.script_reader.proofs.Texts.Fronting.{take_front}
 use Rattle.script_reader.proofs.Texts.Counting.{Told, feeds}
-use Rattle.script_reader.proofs.Listed.Judging.{count_lines}
+use Rattle.script_reader.proofs.Judging.{count_line, count_lines, finish_words}
 use Rattle.script_reader.proofs.Listed.Telling.{spelled_faultless}
 
 -- the most lines of a script, with the line that begins it and the one that ends it

@@ -23,7 +23,7 @@ use Rattle.script_reader.proofs.Listed.Numbers.{texts_are_words, head_fine, head
 use Rattle.script_reader.proofs.Listed.Gathering.{count-add}
 use Rattle.script_reader.proofs.Listed.Grouping.{callers_of-push, callers_of-gathered}
 use Rattle.script_reader.proofs.Listed.Submitting.{IsGoodScript, scripts_are_good, count-fold, length-add-new, length-fold-ge}
-use Rattle.script_reader.proofs.Listed.Judging.{faultless_append}
+use Rattle.script_reader.proofs.Judging.{faultless_append}
 use Rattle.script_reader.proofs.Listed.Standing.{operation_goes_on, outside_is, within_is, operation_is, within_more}
 
 -- there is room for one more script, where more scripts keep to the limits

@@ -9,7 +9,7 @@ use Rattle.script_reader.specs.ListLanguage.{IsOperationIn, operation_words, jud
 use Rattle.script_reader.specs.Inner.ListScripts.{lines_within, operations_text}
 use Rattle.script_reader.proofs.LineFaults.LineKinds.{only_word}
 use Rattle.script_reader.proofs.Texts.Following.{line_shorter, more_text}
-use Rattle.script_reader.proofs.Listed.Judging.{behind_end, behind_line}
+use Rattle.script_reader.proofs.Judging.{behind_end, behind_line}
 use Rattle.script_reader.proofs.Listed.Behind.{behind_operations, operation_wrong, operation_limit}
 use Rattle.script_reader.proofs.reader.add_operations.Goals as goal
 

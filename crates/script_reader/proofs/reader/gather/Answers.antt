@@ -15,7 +15,7 @@ use Rattle.script_reader.proofs.LineFaults.LineKinds.{only_word}
 use Rattle.script_reader.proofs.Texts.Following.{line_shorter}
 use Rattle.script_reader.proofs.Listed.Grouping.{callers_of-push}
 use Rattle.script_reader.proofs.Listed.Submitting.{callers_more}
-use Rattle.script_reader.proofs.Listed.Judging.{behind_end}
+use Rattle.script_reader.proofs.Judging.{behind_end}
 use Rattle.script_reader.proofs.Listed.Behind.{behind_scripts, one_more_script, no_callers}
 use Rattle.script_reader.proofs.reader.gather.Goals as goal
 

@@ -6,7 +6,7 @@ use Rattle.script_reader.specs.Text.{line}
 use Rattle.script_reader.specs.Faults.{first_reason}
 use Rattle.script_reader.specs.ListLanguage.{head_words, judge}
 use Rattle.script_reader.proofs.LineFaults.LineKinds.{only_word}
-use Rattle.script_reader.proofs.Listed.Judging.{behind_more, behind_end, behind_line}
+use Rattle.script_reader.proofs.Judging.{behind_more, behind_end, behind_line}
 use Rattle.script_reader.proofs.Listed.Numbers.{head_fine, head_AreWords, head_goes_on}
 use Rattle.script_reader.proofs.reader.sizes_of.Goals as goal
 

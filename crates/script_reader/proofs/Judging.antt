@@ -1,20 +1,46 @@
 -- The first fault of a text by any judge: lines that were read in front of it, and that it is one at most.
-use Rattle.std.proofs.Common.{◌≡◌, inl, inr, ℕ, List, [], ◌∷◌, ◌++◌, codes, length, cond, ◌==◌, Some, None, refl, sym, ap, subst, ◌∙◌, append_assoc, true≢false, arith}
-use Rattle.std.specs.List.{flat_map, count_by}
+use Rattle.std.proofs.Common.{◌≡◌, inl, inr, ℕ, ◌+◌, List, [], ◌∷◌, ◌++◌, codes, length, Option, cond, ◌==◌, Some, None, refl, sym, ap, subst, ◌∙◌, append_assoc, true≢false, arith}
+use Rattle.std.specs.List.{flat_map, count_by, join_with_byte}
 use Rattle.std.proofs.lemmas.List.{append-nil}
 use Rattle.std.proofs.lemmas.List.Concat.{flat_map-append}
-use Rattle.std.proofs.lemmas.List.Sums.{sum_by-append}
-use Rattle.std.proofs.lemmas.Option.{same_Some}
-use Rattle.script_reader.specs.declared.words.TheConstants.{LINE_FEED}
+use Rattle.std.proofs.lemmas.List.Sums.{sum_by-append, sum_by-cons}
+use Rattle.std.proofs.lemmas.Option.{none-some, same_Some}
+use Rattle.script_reader.specs.declared.words.TheConstants.{SPACE, LINE_FEED}
 use Rattle.script_reader.specs.declared.fault.Fault.{Fault}
 use Rattle.script_reader.specs.declared.fault.Fault.TheVariants as fault
 use Rattle.script_reader.specs.Lines.{IsFreeOf, AreWords}
 use Rattle.script_reader.specs.Text.{line, finish_line}
 use Rattle.script_reader.specs.Forms.{Words, is_only}
 use Rattle.script_reader.specs.Reading.{Judge, HaveNoFault, BeginsFaulty, IsFaultBehind}
-use Rattle.script_reader.proofs.Tokens.Cutting.{line_once, no_line}
-use Rattle.script_reader.proofs.Texts.OneReading.{finish_words, first_line, some_none}
-use Rattle.script_reader.proofs.Texts.Fronting.{count_line}
+use Rattle.script_reader.proofs.Tokens.Cutting.{join-free, line_once, no_line, word_from_test}
+
+-- the last line
+finish : Words
+finish = codes "finish" ∷ []
+
+pub finish_words : AreWords (codes "finish" ∷ [])
+finish_words = record { some = omega arith; each = (word_from_test (codes "finish") refl, tt) }
+
+-- a line that stands first in a text, and what follows it
+pub first_line : (w : Words) (ls : List Words) (rest : List ℕ) → flat_map line (w ∷ ls) ++ rest ≡ line w ++ (flat_map line ls ++ rest)
+first_line w ls rest = append_assoc (line w) (flat_map line ls) rest
+
+-- a fault is none where none is
+pub some_none : {A : Type 0} {o : Option A} {x : A} → o ≡ None → o ≡ Some x → ⊥
+some_none e h = none-some _ (sym e ∙ h)
+
+-- a byte is not counted where there is none
+count_free : (c : ℕ) (xs : List ℕ) → IsFreeOf c xs → count_by (λ b. b == c) xs ≡ 0
+count_free c [] f = refl
+count_free c (x ∷ xs) f = sum_by-cons (λ b. cond (b == c) 1 0) x xs ∙ (λ i. cond (f.0 i) 1 0 + count_free c xs f.1 i) ∙ omega arith
+
+-- a line has one line feed
+pub count_line : (words : Words) → AreWords words → count_by (λ b. b == LINE_FEED) (line words) ≡ 1
+count_line words are = omega (
+  arith,
+  sum_by-append (λ b. cond (b == LINE_FEED) 1 0) (join_with_byte SPACE words) (LINE_FEED ∷ []),
+  count_free LINE_FEED (join_with_byte SPACE words) (join-free words are.each),
+)
 
 module _ (judge : Judge) where
   -- lines without fault, behind lines without fault
@@ -22,6 +48,11 @@ module _ (judge : Judge) where
   faultless_append before [] ys first more = subst (λ b. HaveNoFault judge b ys) (append-nil before) more
   faultless_append before (w ∷ xs) ys first more =
       (first.0, first.1, first.2, faultless_append (before ++ w ∷ []) xs ys first.3 (subst (λ b. HaveNoFault judge b ys) (sym (append_assoc before (w ∷ []) xs)) more))
+
+  -- the lines behind the first of some lines without fault
+  pub faultless_rest : (before xs ys : List Words) → HaveNoFault judge before (xs ++ ys) → HaveNoFault judge (before ++ xs) ys
+  faultless_rest before [] ys f = subst (λ b. HaveNoFault judge b ys) (sym (append-nil before)) f
+  faultless_rest before (x ∷ xs) ys f = subst (λ b. HaveNoFault judge b ys) (append_assoc before (x ∷ []) xs) (faultless_rest (before ++ x ∷ []) xs ys f.3)
 
   -- lines that were read before the fault
   pub behind_more : (before done : List Words) (start left after : List ℕ) (why : Fault) → HaveNoFault judge before done
