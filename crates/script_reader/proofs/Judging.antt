@@ -1,5 +1,6 @@
 -- The first fault of a text by any judge: lines that were read in front of it, and that it is one at most.
-use Rattle.std.proofs.Common.{◌≡◌, inl, inr, ℕ, ◌+◌, List, [], ◌∷◌, ◌++◌, codes, length, Option, cond, ◌==◌, Some, None, refl, sym, ap, subst, ◌∙◌, append_assoc, true≢false, arith}
+use Rattle.std.proofs.Common.{◌≡◌, inl, inr, ℕ, ◌+◌, List, [], ◌∷◌, ◌++◌, codes, length, Option, cond, ◌==◌, Some, None, refl, sym, ap, subst, ◌∙◌}
+use Rattle.std.proofs.Common.{append_assoc, true≢false, arith}
 use Rattle.std.specs.List.{flat_map, count_by, join_with_byte}
 use Rattle.std.proofs.lemmas.List.{append-nil}
 use Rattle.std.proofs.lemmas.List.Concat.{flat_map-append}
@@ -46,8 +47,13 @@ module _ (judge : Judge) where
   -- lines without fault, behind lines without fault
   pub faultless_append : (before xs ys : List Words) → HaveNoFault judge before xs → HaveNoFault judge (before ++ xs) ys → HaveNoFault judge before (xs ++ ys)
   faultless_append before [] ys first more = subst (λ b. HaveNoFault judge b ys) (append-nil before) more
-  faultless_append before (w ∷ xs) ys first more =
-      (first.0, first.1, first.2, faultless_append (before ++ w ∷ []) xs ys first.3 (subst (λ b. HaveNoFault judge b ys) (sym (append_assoc before (w ∷ []) xs)) more))
+  faultless_append before (w ∷ xs) ys first more = (
+    first.0,
+    first.1,
+    first.2,
+    faultless_append (before ++ w ∷ []) xs ys first.3 (subst (λ b. HaveNoFault judge b ys) (sym (append_assoc before
+        (w ∷ []) xs)) more),
+  )
 
   -- the lines behind the first of some lines without fault
   pub faultless_rest : (before xs ys : List Words) → HaveNoFault judge before (xs ++ ys) → HaveNoFault judge (before ++ xs) ys
@@ -143,7 +149,8 @@ module _ (judge : Judge) where
       absurd (no_line s l (flat_map line ls ++ r) there.0 (sym e ∙ first_line l ls r))
   fault_once before (l ∷ ls) (k ∷ ks) r s left other why reason f g e here there =
       let same = line_once l k (flat_map line ls ++ r) (flat_map line ks ++ s) f.0 g.0 (sym (first_line l ls r) ∙ e ∙ first_line k ks s) in
-      let rest = fault_once (before ++ l ∷ []) ls ks r s left other why reason f.3 (subst (λ u. HaveNoFault judge (before ++ u ∷ []) ks) (sym same.0) g.3) same.1
+      let rest = fault_once (before ++ l ∷ []) ls ks r s left other why reason f.3 (subst (λ u. HaveNoFault judge (before ++ u ∷ []) ks)
+      (sym same.0) g.3) same.1
       (subst (λ b. BeginsFaulty judge b r left why) (sym (append_assoc before (l ∷ []) ls)) here)
       (subst (λ b. BeginsFaulty judge b s other reason) (sym (append_assoc before (k ∷ []) ks) ∙ ap (λ u. (before ++ u ∷ []) ++ ks) (sym same.0)) there) in
       ((λ i. same.0 i ∷ rest.0 i), rest.1)

@@ -1,5 +1,6 @@
 -- What was read of a text, and the fault behind it.
-use Rattle.std.proofs.Common.{◌≡◌, ℕ, ◌≤◌, Bool, true, false, not, ◌&&◌, ◌||◌, if◌then◌else◌, nat_le, List, [], ◌∷◌, ◌++◌, codes, map, length, All, Some, None, refl, sym, ap, subst, ◌∙◌}
+use Rattle.std.proofs.Common.{◌≡◌, ℕ, ◌≤◌, Bool, true, false, not, ◌&&◌, ◌||◌, if◌then◌else◌, nat_le, List, [], ◌∷◌, ◌++◌, codes, map, length, All}
+use Rattle.std.proofs.Common.{Some, None, refl, sym, ap, subst, ◌∙◌}
 use Rattle.std.proofs.Common.{append_assoc, arith}
 use Rattle.std.specs.List.{flat_map}
 use Rattle.std.proofs.lemmas.Bool.{le-leb}
@@ -18,7 +19,8 @@ use Rattle.script_reader.specs.Faults.{first_reason}
 use Rattle.script_reader.specs.Rows.{row_fault}
 use Rattle.script_reader.specs.Gathered.{CallerOf, SubmissionOf, AreCallers, callers_of}
 use Rattle.script_reader.specs.Reading.{IsFaultBehind}
-use Rattle.script_reader.specs.ListLanguage.{ListLanguage, AreSizes, IsListLanguage, IsOperationIn, IsScriptIn, operation_fault, operation_words, submission_words, lines_of, text_of, head_words, judge}
+use Rattle.script_reader.specs.ListLanguage.{ListLanguage, AreSizes, IsListLanguage, IsOperationIn, IsScriptIn, operation_fault, operation_words}
+use Rattle.script_reader.specs.ListLanguage.{submission_words, lines_of, text_of, head_words, judge}
 use Rattle.script_reader.specs.Inner.ListScripts.{AreReadOf, HasTextInFront, is_beyond_in, lines_within, operations_text}
 use Rattle.script_reader.proofs.Grouped.Submitting.{caller-AreWords}
 use Rattle.script_reader.proofs.Grouped.Grouping.{no-names}
@@ -66,7 +68,11 @@ module _ {O S : Type 0} (g : ListLanguage O S) (lawful : IsListLanguage g) (ns :
       → is_script_line words ≡ false → judge g (lines_of g ns subs) words ≡ Some fault.Word
   outside_word subs words more no_script =
       outside_is g lawful ns subs words
-      ∙ (λ i. first_reason ((not (more i || no_script i), fault.Word) ∷ (is_script_line words && is_beyond_in (callers_of subs) (word_at words 1), fault.Limit) ∷ []))
+      ∙ (λ i. first_reason ((not (more i || no_script i), fault.Word) ∷ (
+        is_script_line words && is_beyond_in (callers_of subs)
+            (word_at words 1),
+        fault.Limit,
+      ) ∷ []))
 
   -- one script too many, or one caller
   pub outside_limit : (subs : List (SubmissionOf S)) (name : List ℕ) (words : Words) → words ≡ codes "script" ∷ name ∷ []
@@ -125,7 +131,8 @@ module _ {O S : Type 0} (g : ListLanguage O S) where
 
   -- the front of a text whose header and scripts were read
   pub front_read : (ns : List ℕ) (callers : List (CallerOf S)) (start middle after : List ℕ) → AreSizes g ns
-      → start ≡ line (head_words g ns) ++ (line (codes "scripts" ∷ []) ++ middle) → AreReadOf g ns callers middle after → HasTextInFront g ns callers start after
+      → start ≡ line (head_words g ns) ++ (line (codes "scripts" ∷ []) ++ middle) → AreReadOf g ns callers middle after
+      → HasTextInFront g ns callers start after
   front_read ns callers start middle after sized text rest =
       let H : List ℕ = line (head_words g ns) in
       let C : List ℕ = line (codes "scripts" ∷ []) in

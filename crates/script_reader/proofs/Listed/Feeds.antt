@@ -17,7 +17,9 @@ use Rattle.script_reader.specs.Forms.{Words, Form, begins, is_only, form_of, ran
 use Rattle.script_reader.specs.Faults.{is_beyond}
 use Rattle.script_reader.specs.Gathered.{CallerOf}
 use Rattle.script_reader.specs.Reading.{HaveNoFault, BeginsFaulty, IsFaultBehind}
-use Rattle.script_reader.specs.ListLanguage.{ListLanguage, LinePlace, BetweenScripts, WithinScript, IsListLanguage, IsTextOf, place_after, place_behind, script_line_fault, operation_fault, sizes_at, judge, is_head, size_words, size_ranges, lines_of}
+use Rattle.script_reader.specs.ListLanguage.{ListLanguage, LinePlace, BetweenScripts, WithinScript, IsListLanguage, IsTextOf, place_after}
+use Rattle.script_reader.specs.ListLanguage.{place_behind, script_line_fault, operation_fault, sizes_at, judge, is_head, size_words, size_ranges}
+use Rattle.script_reader.specs.ListLanguage.{lines_of}
 use Rattle.script_reader.proofs.Conditions.{both, neither, passed}
 use Rattle.script_reader.proofs.LineFaults.LineKinds.{none_applies}
 use Rattle.script_reader.proofs.Texts.Fronting.{take_front}
@@ -119,7 +121,8 @@ no_more : None ≢ Some fault.End
 no_more = λ e. cc
 
 module _ {O S : Type 0} (g : ListLanguage O S) where
-  more_lines : (header scripts : Words) (lines more : List Words) → IsFewAt lines → HaveNoFault (judge g) (header ∷ scripts ∷ lines) more → IsFewAt (lines ++ more)
+  more_lines : (header scripts : Words) (lines more : List Words) → IsFewAt lines → HaveNoFault (judge g) (header ∷ scripts ∷ lines) more
+      → IsFewAt (lines ++ more)
   more_lines header scripts lines [] at f = subst IsFewAt (sym (append-nil lines)) at
   more_lines header scripts lines (w ∷ more) at f =
       subst IsFewAt (append_assoc lines (w ∷ []) more)

@@ -123,7 +123,11 @@ module _ {S : Type 0} where
       scripts_after = put ∙ ap (λ p. put_script (map view xs) p script) at
 
       -- an insertion and a script that is put at the name's place add a script of the caller
-      pub store-add : beside (map bytes keys') (map view xs') ≡ add_submission (beside (map bytes keys) (map view xs)) (record { caller = name; script = script })
+      pub store-add : beside (map bytes keys') (map view xs') ≡ add_submission (beside (map bytes keys) (map view xs)) (record {
+        caller =
+            name;
+        script = script;
+      })
       store-add = ap (λ n. beside n (map view xs')) names_after
           ∙ ap (beside (add_name (map bytes keys) name)) scripts_after
           ∙ beside-add (map bytes keys) (map view xs) (record { caller = name; script = script }) even_views

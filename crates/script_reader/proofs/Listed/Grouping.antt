@@ -117,7 +117,11 @@ module _ {S : Type 0} where
       ∙ has-added (λ n. scripts_by n subs) s names (seen-distinct (map (λ s. s.caller) subs) [] no-names)
       (λ none. no-scripts s.caller subs (sym (any-seen s.caller (map (λ s. s.caller) subs) []) ∙ none))
     where
-      each : (names : List (List ℕ)) → map (λ n. record { name = n; scripts = scripts_by n (subs ++ s ∷ []) }) names ≡ map (has (λ n. scripts_by n subs) s) names
+      each : (names : List (List ℕ)) → map (λ n. record {
+        name = n;
+        scripts =
+            scripts_by n (subs ++ s ∷ []);
+      }) names ≡ map (has (λ n. scripts_by n subs) s) names
       each [] = refl
       each (n ∷ names) = ap (λ l. record {
         name = n;

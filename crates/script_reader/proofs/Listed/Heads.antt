@@ -66,14 +66,16 @@ module _ (title name : List ℕ) (r : ℕ × ℕ) where
         and_assoc true y z = refl
         and_assoc false y z = refl
     two_sizes_are (a ∷ b ∷ c ∷ d ∷ e ∷ f ∷ k ∷ words) =
-        (λ i. ne_eqb (length (a ∷ b ∷ c ∷ d ∷ e ∷ f ∷ k ∷ words)) 6 (λ l. omega (arith, l)) i && bytes_eq a title && bytes_eq b (codes "1") && bytes_eq c name && bytes_eq e other)
+        (λ i. ne_eqb (length (a ∷ b ∷ c ∷ d ∷ e ∷ f ∷ k ∷ words)) 6 (λ l. omega (arith, l)) i && bytes_eq a title && bytes_eq b
+        (codes "1") && bytes_eq c name && bytes_eq e other)
         ∙ sym (and_fails (bytes_eq a title && bytes_eq b (codes "1")) (and_fails (bytes_eq c name) (and_fails (bytes_eq e other) refl)))
 
     pub two_sizes_word : (words : Words) → length words ≡ 6 → size_words words ≡ word_at words 3 ∷ word_at words 5 ∷ []
     two_sizes_word (a ∷ b ∷ c ∷ d ∷ e ∷ f ∷ []) h = refl
     two_sizes_word words h = absurd (omega (arith, h))
 
-    pub two_sizes_words : (words : Words) (n m : ℕ) → length words ≡ 6 → has_two_sizes title name other words ≡ true → word_at words 3 ≡ number n → word_at words 5 ≡ number m
+    pub two_sizes_words : (words : Words) (n m : ℕ) → length words ≡ 6 → has_two_sizes title name other words ≡ true → word_at words 3 ≡ number n
+        → word_at words 5 ≡ number m
         → words ≡ head_with title (size name r ∷ size other s ∷ []) (n ∷ m ∷ [])
     two_sizes_words (a ∷ b ∷ c ∷ d ∷ e ∷ f ∷ []) n m long h at there =
         let names : (bytes_eq a title && bytes_eq b (codes "1") && bytes_eq c name && bytes_eq e other) ≡ true = h in

@@ -1,5 +1,6 @@
 -- The lines of a text have no fault.
-use Rattle.std.proofs.Common.{◌≡◌, ℕ, ◌+◌, ◌≤◌, Bool, true, false, not, ◌&&◌, ◌||◌, nat_le, List, [], ◌∷◌, ◌++◌, codes, map, fold, None, length, refl, sym, ap, subst, ◌∙◌}
+use Rattle.std.proofs.Common.{◌≡◌, ℕ, ◌+◌, ◌≤◌, Bool, true, false, not, ◌&&◌, ◌||◌, nat_le, List, [], ◌∷◌, ◌++◌, codes, map, fold, None, length, refl}
+use Rattle.std.proofs.Common.{sym, ap, subst, ◌∙◌}
 use Rattle.std.proofs.Common.{length-append, arith}
 use Rattle.std.specs.List.{flat_map, AllByRecursion}
 use Rattle.std.proofs.lemmas.Bool.{lt-leb}
@@ -14,7 +15,8 @@ use Rattle.script_reader.specs.Input.{IsName}
 use Rattle.script_reader.specs.Faults.{first_reason}
 use Rattle.script_reader.specs.Gathered.{CallerOf, SubmissionOf, AreCallers, callers_of, count_scripts}
 use Rattle.script_reader.specs.Reading.{HaveNoFault}
-use Rattle.script_reader.specs.ListLanguage.{ListLanguage, AreSizes, IsListLanguage, IsOperationIn, IsScriptIn, operation_words, submission_words, lines_of, head_words, judge}
+use Rattle.script_reader.specs.ListLanguage.{ListLanguage, AreSizes, IsListLanguage, IsOperationIn, IsScriptIn, operation_words, submission_words}
+use Rattle.script_reader.specs.ListLanguage.{lines_of, head_words, judge}
 use Rattle.script_reader.specs.Inner.Gatherings.{is_caller, add_submission}
 use Rattle.script_reader.specs.Inner.ListScripts.{is_beyond_in, lines_within}
 use Rattle.script_reader.proofs.Tokens.Cutting.{word_from_test}
@@ -35,7 +37,8 @@ room_for callers s rest few space = by (is_caller s.caller callers) refl
     scripts : nat_le MOST_SCRIPTS (count_scripts callers) ≡ false
     scripts = lt-leb MOST_SCRIPTS (count_scripts callers) (omega (arith, few, count-fold (add_submission callers s) rest, count-add callers s))
 
-    by : (b : Bool) → is_caller s.caller callers ≡ b → (nat_le MOST_SCRIPTS (count_scripts callers) || (not (is_caller s.caller callers) && nat_le MOST_CALLERS (length callers))) ≡ false
+    by : (b : Bool) → is_caller s.caller callers ≡ b → (nat_le MOST_SCRIPTS (count_scripts callers) || (not
+        (is_caller s.caller callers) && nat_le MOST_CALLERS (length callers))) ≡ false
     by true e = λ i. scripts i || (not (e i) && nat_le MOST_CALLERS (length callers))
     by false e =
         let callers_few = lt-leb MOST_CALLERS (length callers)
@@ -45,7 +48,14 @@ room_for callers s rest few space = by (is_caller s.caller callers) refl
 module _ {O S : Type 0} (g : ListLanguage O S) (lawful : IsListLanguage g) (ns : List ℕ) (sized : AreSizes g ns) where
   -- the words of an operation are those of a line
   operation-AreWords : (o : O) → IsOperationIn g ns o → AreWords (operation_words g o)
-  operation-AreWords o h = record { some = omega arith; each = (word_from_test (g.keyword o) (lawful.keywords o), texts_are_words h.kind.ranges (g.numbers o) h.within) }
+  operation-AreWords o h = record {
+    some = omega arith;
+    each = (
+      word_from_test (g.keyword o) (lawful.keywords o),
+      texts_are_words h.kind.ranges
+          (g.numbers o) h.within,
+    );
+  }
 
   -- operations, behind those of a script that has not ended
   pub operations_faultless : (subs : List (SubmissionOf S)) (name : List ℕ) (done rest : List O) → AllByRecursion (IsOperationIn g ns) rest
@@ -120,4 +130,5 @@ module _ {O S : Type 0} (g : ListLanguage O S) (lawful : IsListLanguage g) (ns :
 
   -- all lines of a text before its last
   pub text_faultless : (subs : List (SubmissionOf S)) → AreCallers (IsScriptIn g ns) (callers_of subs) → HaveNoFault (judge g) [] (lines_of g ns subs)
-  text_faultless subs valid = faultless_append (judge g) [] (lines_of g ns []) (flat_map (submission_words g) subs) front_faultless (scripts_faultless subs valid)
+  text_faultless subs valid = faultless_append (judge g) [] (lines_of g ns []) (flat_map (submission_words g) subs) front_faultless
+      (scripts_faultless subs valid)

@@ -9,7 +9,8 @@ use Rattle.script_reader.specs.Lines.{IsWord, AreWords}
 use Rattle.script_reader.specs.Text.{number}
 use Rattle.script_reader.specs.Forms.{is_only, begins, value_of, are_numbers, are_in_range}
 use Rattle.script_reader.specs.Faults.{first_reason}
-use Rattle.script_reader.specs.ListLanguage.{is_word, Size, ListLanguage, AreNumbersIn, AreSizes, IsListLanguage, size_pairs, have_names, seconds, size_words, size_ranges, sizes_at, is_head, head_words, head_fault}
+use Rattle.script_reader.specs.ListLanguage.{is_word, Size, ListLanguage, AreNumbersIn, AreSizes, IsListLanguage, size_pairs, have_names, seconds}
+use Rattle.script_reader.specs.ListLanguage.{size_words, size_ranges, sizes_at, is_head, head_words, head_fault}
 use Rattle.script_reader.proofs.Conditions.{and_true, both}
 use Rattle.script_reader.proofs.Tokens.Cutting.{word_from_test}
 use Rattle.script_reader.proofs.Tokens.Numerals.{value_of_number, number-IsNumber, number-IsWord}

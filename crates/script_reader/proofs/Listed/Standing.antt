@@ -17,7 +17,8 @@ use Rattle.script_reader.specs.Input.{first_seen}
 use Rattle.script_reader.specs.Forms.{Words, begins, is_only, ranges_of, is_script_line, are_numbers, are_in_range}
 use Rattle.script_reader.specs.Faults.{first_reason, callers_before, is_beyond}
 use Rattle.script_reader.specs.Gathered.{CallerOf, SubmissionOf, callers_of, count_scripts, scripts_by}
-use Rattle.script_reader.specs.ListLanguage.{ListLanguage, BetweenScripts, WithinScript, AreSizes, IsListLanguage, IsOperationIn, place_after, place_behind, script_line_fault}
+use Rattle.script_reader.specs.ListLanguage.{ListLanguage, BetweenScripts, WithinScript, AreSizes, IsListLanguage, IsOperationIn, place_after}
+use Rattle.script_reader.specs.ListLanguage.{place_behind, script_line_fault}
 use Rattle.script_reader.specs.ListLanguage.{operation_fault, operation_words, submission_words, lines_of, head_words, sizes_at, judge}
 use Rattle.script_reader.specs.Inner.Gatherings.{is_caller}
 use Rattle.script_reader.specs.Inner.ListScripts.{is_beyond_in, lines_within}
@@ -85,10 +86,12 @@ module _ {O S : Type 0} (g : ListLanguage O S) (lawful : IsListLanguage g) where
   filter_operations : (ops : List O) → filter (begins (codes "script")) (map (operation_words g) ops) ≡ []
   filter_operations [] = refl
   filter_operations (o ∷ ops) = ap
-      (λ b. cond b (operation_words g o ∷ filter (begins (codes "script")) (map (operation_words g) ops)) (filter (begins (codes "script")) (map (operation_words g) ops)))
+      (λ b. cond b (operation_words g o ∷ filter (begins (codes "script")) (map (operation_words g) ops)) (filter (begins (codes "script")) (map
+      (operation_words g) ops)))
       (lawful.no_script o) ∙ filter_operations ops
 
-  begun : (subs : List (SubmissionOf S)) → filter (begins (codes "script")) (flat_map (submission_words g) subs) ≡ map (λ s. codes "script" ∷ s.caller ∷ []) subs
+  begun : (subs : List (SubmissionOf S)) → filter (begins (codes "script")) (flat_map (submission_words g) subs) ≡ map
+      (λ s. codes "script" ∷ s.caller ∷ []) subs
   begun [] = refl
   begun (s ∷ subs) =
       filter-append (begins (codes "script")) (submission_words g s) (flat_map (submission_words g) subs)
@@ -168,7 +171,8 @@ module _ {O S : Type 0} (g : ListLanguage O S) (lawful : IsListLanguage g) where
       ∷ []
       )) ∙ limit_of full
     where
-      limit_of : (b : Bool) → first_reason ((false, fault.Word) ∷ (false, fault.Number) ∷ (false, fault.Limit) ∷ (b, fault.Limit) ∷ []) ≡ (if b then Some fault.Limit else None)
+      limit_of : (b : Bool) → first_reason ((false, fault.Word) ∷ (false, fault.Number) ∷ (false, fault.Limit) ∷ (b, fault.Limit) ∷ []) ≡
+          (if b then Some fault.Limit else None)
       limit_of true = refl
       limit_of false = refl
 

@@ -42,7 +42,8 @@ module _ {S : Type 0} where
       by false there rest = ap (λ l. c.name ∷ l) rest ∙ sym (choice-cons there c.name (map (λ c. c.name) callers) (map (λ c. c.name) callers ++ s.caller ∷ []))
 
   -- callers with one more script
-  pub callers_more : (IsScript : S → Type 0) (callers : List (CallerOf S)) (s : SubmissionOf S) → AreCallers IsScript callers → IsName s.caller → IsScript s.script
+  pub callers_more : (IsScript : S → Type 0) (callers : List (CallerOf S)) (s : SubmissionOf S) → AreCallers IsScript callers → IsName s.caller
+      → IsScript s.script
       → count_scripts callers < MOST_SCRIPTS → (is_caller s.caller callers ≡ false → length callers < MOST_CALLERS)
       → AreCallers IsScript (add_submission callers s)
   callers_more IsScript callers s h name script room space = record {
@@ -87,7 +88,11 @@ module _ {S : Type 0} where
   good-add IsScript (c ∷ callers) s all = by (bytes_eq s.caller c.name) refl all (good-add IsScript callers s)
     where
       by : (b : Bool) → bytes_eq s.caller c.name ≡ b
-          → AllByRecursion (IsGood IsScript) (if b then record { name = c.name; scripts = c.scripts ++ s.script ∷ [] } ∷ callers else c ∷ add_submission callers s)
+          → AllByRecursion (IsGood IsScript) (if b then record {
+            name = c.name;
+            scripts =
+                c.scripts ++ s.script ∷ [];
+          } ∷ callers else c ∷ add_submission callers s)
           → (AllByRecursion (IsGood IsScript) (add_submission callers s) → AllByRecursion (IsGood IsScript) callers × IsGoodScript IsScript s)
           → AllByRecursion (IsGood IsScript) (c ∷ callers) × IsGoodScript IsScript s
       by true e all rest =
@@ -98,7 +103,8 @@ module _ {S : Type 0} where
       by false e all rest = let before = rest all.1 in ((all.0, before.0), before.1)
 
   -- so are the scripts of good callers
-  good-scripts : (IsScript : S → Type 0) (callers : List (CallerOf S)) (subs : List (SubmissionOf S)) → AllByRecursion (IsGood IsScript) (fold add_submission callers subs)
+  good-scripts : (IsScript : S → Type 0) (callers : List (CallerOf S)) (subs : List (SubmissionOf S))
+      → AllByRecursion (IsGood IsScript) (fold add_submission callers subs)
       → AllByRecursion (IsGood IsScript) callers × AllByRecursion (IsGoodScript IsScript) subs
   good-scripts IsScript callers [] all = (all, tt)
   good-scripts IsScript callers (s ∷ subs) all =
@@ -116,13 +122,15 @@ module _ {S : Type 0} where
   )
 
   -- so each script of theirs is good
-  pub scripts_are_good : (IsScript : S → Type 0) (subs : List (SubmissionOf S)) → AreCallers IsScript (callers_of subs) → AllByRecursion (IsGoodScript IsScript) subs
+  pub scripts_are_good : (IsScript : S → Type 0) (subs : List (SubmissionOf S)) → AreCallers IsScript (callers_of subs)
+      → AllByRecursion (IsGoodScript IsScript) subs
   scripts_are_good IsScript subs valid =
       (good-scripts IsScript [] subs (subst (AllByRecursion (IsGood IsScript)) (callers_of-gathered subs)
       (good_callers IsScript (callers_of subs) (recursion_from_All _ _ valid.names) (recursion_from_All _ _ valid.scripts)))).1
 
   -- how many scripts there are
-  pub count-fold : (callers : List (CallerOf S)) (subs : List (SubmissionOf S)) → count_scripts (fold add_submission callers subs) ≡ count_scripts callers + length subs
+  pub count-fold : (callers : List (CallerOf S)) (subs : List (SubmissionOf S))
+      → count_scripts (fold add_submission callers subs) ≡ count_scripts callers + length subs
   count-fold callers [] = omega arith
   count-fold callers (s ∷ subs) = omega (arith, count-fold (add_submission callers s) subs, count-add callers s)
 
@@ -142,7 +150,8 @@ module _ {S : Type 0} where
   length-fold-ge callers (s ∷ subs) = omega (arith, length-add-ge callers s, length-fold-ge (add_submission callers s) subs)
 
   -- and one of a new caller adds it
-  pub length-add-new : (callers : List (CallerOf S)) (s : SubmissionOf S) → is_caller s.caller callers ≡ false → length callers < length (add_submission callers s)
+  pub length-add-new : (callers : List (CallerOf S)) (s : SubmissionOf S) → is_caller s.caller callers ≡ false
+      → length callers < length (add_submission callers s)
   length-add-new [] s new = omega arith
   length-add-new (c ∷ callers) s new = by (bytes_eq s.caller c.name) new (length-add-new callers s)
     where

@@ -1,5 +1,6 @@
 -- A text is of one header and of one list of scripts at most, and has no fault.
-use Rattle.std.proofs.Common.{◌≡◌, inl, inr, ℕ, ◌+◌, ◌==◌, List, [], ◌∷◌, ◌++◌, codes, map, drop, length, refl, sym, ap, subst, ◌∙◌, append_assoc, true≢false, None}
+use Rattle.std.proofs.Common.{◌≡◌, inl, inr, ℕ, ◌+◌, ◌==◌, List, [], ◌∷◌, ◌++◌, codes, map, drop, length, refl, sym, ap, subst, ◌∙◌, append_assoc}
+use Rattle.std.proofs.Common.{true≢false, None}
 use Rattle.std.specs.List.{flat_map, count_by, AllByRecursion}
 use Rattle.std.proofs.lemmas.List.{append-nil}
 use Rattle.std.proofs.lemmas.List.Elements.{recursion_from_All}
@@ -10,7 +11,8 @@ use Rattle.script_reader.specs.Text.{line, number, finish_line}
 use Rattle.script_reader.specs.Forms.{Words, is_only, value_of}
 use Rattle.script_reader.specs.Gathered.{CallerOf, SubmissionOf, AreCallers, callers_of}
 use Rattle.script_reader.specs.Reading.{HaveNoFault, IsFaultInFront}
-use Rattle.script_reader.specs.ListLanguage.{ListLanguage, IsListLanguage, IsOperationIn, IsScriptIn, IsTextOf, IsFirstFaultIn, operation_words, submission_words, lines_of, head_words, sizes_at, judge}
+use Rattle.script_reader.specs.ListLanguage.{ListLanguage, IsListLanguage, IsOperationIn, IsScriptIn, IsTextOf, IsFirstFaultIn, operation_words}
+use Rattle.script_reader.specs.ListLanguage.{submission_words, lines_of, head_words, sizes_at, judge}
 use Rattle.script_reader.proofs.Listed.Numbers.{sizes_are, values_are}
 use Rattle.script_reader.proofs.Listed.Submitting.{IsGoodScript, scripts_are_good}
 use Rattle.script_reader.proofs.Judging.{finish_once, no_fault, fault_once}
@@ -29,7 +31,8 @@ module _ {O S : Type 0} (g : ListLanguage O S) (lawful : IsListLanguage g) where
   -- operations in front of the line that ends a script are the same
   operations_once : (ns ms : List ℕ) (ops others : List O) (rest more : List Words)
       → AllByRecursion (IsOperationIn g ns) ops → AllByRecursion (IsOperationIn g ms) others
-      → map (operation_words g) ops ++ ((codes "end" ∷ []) ∷ rest) ≡ map (operation_words g) others ++ ((codes "end" ∷ []) ∷ more) → (ops ≡ others) × (rest ≡ more)
+      → map (operation_words g) ops ++ ((codes "end" ∷ []) ∷ rest) ≡ map (operation_words g) others ++ ((codes "end" ∷ []) ∷ more)
+      → (ops ≡ others) × (rest ≡ more)
   operations_once ns ms [] [] rest more p q e = (refl, ap (drop 1) e)
   operations_once ns ms [] (o ∷ others) rest more p q e =
       let heads : codes "end" ∷ [] ≡ operation_words g o = cc in
@@ -63,10 +66,12 @@ module _ {O S : Type 0} (g : ListLanguage O S) (lawful : IsListLanguage g) where
       (λ i. record { caller = names i; script = script i } ∷ rest i)
 
   -- the lines of a text, and that its last line is none of them
-  pub valid_callers : (text : List ℕ) (ns : List ℕ) (callers : List (CallerOf S)) → (h : IsTextOf g text ns callers) → AreCallers (IsScriptIn g ns) (callers_of h.submissions)
+  pub valid_callers : (text : List ℕ) (ns : List ℕ) (callers : List (CallerOf S)) → (h : IsTextOf g text ns callers)
+      → AreCallers (IsScriptIn g ns) (callers_of h.submissions)
   valid_callers text ns callers h = subst (AreCallers (IsScriptIn g ns)) h.callers_are h.valid
 
-  pub spelled_faultless : (text : List ℕ) (ns : List ℕ) (callers : List (CallerOf S)) → (h : IsTextOf g text ns callers) → HaveNoFault (judge g) [] (lines_of g ns h.submissions)
+  pub spelled_faultless : (text : List ℕ) (ns : List ℕ) (callers : List (CallerOf S)) → (h : IsTextOf g text ns callers)
+      → HaveNoFault (judge g) [] (lines_of g ns h.submissions)
   spelled_faultless text ns callers h = text_faultless g lawful ns h.sized h.submissions (valid_callers text ns callers h)
 
   ends : (ns : List ℕ) (subs : List (SubmissionOf S)) → judge g (lines_of g ns subs) (codes "finish" ∷ []) ≡ None
@@ -82,13 +87,15 @@ module _ {O S : Type 0} (g : ListLanguage O S) (lawful : IsListLanguage g) where
       → text ≡ front ++ rest → IsTextOf g front ns callers → IsFaultInFront (judge g) text number why → ⊥
   front_not_both text front rest ns callers number why e h fault =
       no_fault (judge g) [] fault.faulty.more (lines_of g ns h.submissions) fault.faulty.rest fault.left rest why fault.faulty.faultless
-      (spelled_faultless front ns callers h) (ends ns h.submissions) (sym fault.faulty.text_is ∙ with_rest text front rest (lines_of g ns h.submissions) e h.text) fault.faulty.here
+      (spelled_faultless front ns callers h) (ends ns h.submissions) (sym fault.faulty.text_is
+      ∙ with_rest text front rest (lines_of g ns h.submissions) e h.text) fault.faulty.here
 
   -- two fronts of one text have the same lines
   fronts_same : (text front rest other left : List ℕ) (ns ms : List ℕ) (callers others : List (CallerOf S)) → text ≡ front ++ rest → text ≡ other ++ left
       → (h : IsTextOf g front ns callers) (k : IsTextOf g other ms others) → (lines_of g ns h.submissions ≡ lines_of g ms k.submissions) × (rest ≡ left)
   fronts_same text front rest other left ns ms callers others e f h k =
-      finish_once (judge g) [] (lines_of g ns h.submissions) (lines_of g ms k.submissions) rest left (spelled_faultless front ns callers h) (spelled_faultless other ms others k)
+      finish_once (judge g) [] (lines_of g ns h.submissions) (lines_of g ms k.submissions) rest left (spelled_faultless front ns callers h)
+      (spelled_faultless other ms others k)
       (sym (with_rest text front rest (lines_of g ns h.submissions) e h.text) ∙ with_rest text other left (lines_of g ms k.submissions) f k.text)
 
   -- so they are the same
@@ -99,7 +106,8 @@ module _ {O S : Type 0} (g : ListLanguage O S) (lawful : IsListLanguage g) where
       (h.text ∙ ap (λ l. flat_map line l ++ finish_line) same.0 ∙ sym k.text, same.1)
 
   -- and have the same sizes and callers
-  pub one_text : (text : List ℕ) (ns ms : List ℕ) (callers others : List (CallerOf S)) → IsTextOf g text ns callers → IsTextOf g text ms others → (ns ≡ ms) × (callers ≡ others)
+  pub one_text : (text : List ℕ) (ns ms : List ℕ) (callers others : List (CallerOf S)) → IsTextOf g text ns callers → IsTextOf g text ms others
+      → (ns ≡ ms) × (callers ≡ others)
   one_text text ns ms callers others h k =
       let same = fronts_same text text [] text [] ns ms callers others (sym (append-nil text)) (sym (append-nil text)) h k in
       let heads : head_words g ns ≡ head_words g ms = cc in
@@ -108,13 +116,15 @@ module _ {O S : Type 0} (g : ListLanguage O S) (lawful : IsListLanguage g) where
       (sym (sizes_are g ns h.sized) ∙ ap sizes_at heads ∙ sizes_are g ms k.sized, h.callers_are ∙ ap callers_of scripts ∙ sym k.callers_are)
 
   -- a text has no fault
-  pub not_both : (text : List ℕ) (ns : List ℕ) (callers : List (CallerOf S)) (number : ℕ) (why : Fault) → IsTextOf g text ns callers → IsFirstFaultIn g text number why → ⊥
+  pub not_both : (text : List ℕ) (ns : List ℕ) (callers : List (CallerOf S)) (number : ℕ) (why : Fault) → IsTextOf g text ns callers
+      → IsFirstFaultIn g text number why → ⊥
   not_both text ns callers number why h (inl fault) = front_not_both text text [] ns callers number why (sym (append-nil text)) h fault
   not_both text ns callers number why h (inr on) =
       on.some (sym (fronts_once text text [] on.front on.rest ns on.spelled.0 callers on.spelled.1 (sym (append-nil text)) on.text_is h on.spelled.2).1)
 
   -- and a text one first fault at most
-  pub one_fault : (text : List ℕ) (number other : ℕ) (why reason : Fault) → IsFirstFaultIn g text number why → IsFirstFaultIn g text other reason → (number ≡ other) × (why ≡ reason)
+  pub one_fault : (text : List ℕ) (number other : ℕ) (why reason : Fault) → IsFirstFaultIn g text number why → IsFirstFaultIn g text other reason
+      → (number ≡ other) × (why ≡ reason)
   one_fault text number other why reason (inl f) (inl h) =
       let same = fault_once (judge g) [] f.faulty.more h.faulty.more f.faulty.rest h.faulty.rest f.left h.left why reason
       f.faulty.faultless h.faulty.faultless (sym f.faulty.text_is ∙ h.faulty.text_is) f.faulty.here h.faulty.here in

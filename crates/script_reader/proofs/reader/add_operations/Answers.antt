@@ -47,7 +47,8 @@ returns-then-is_only-clause-text g c =
     let language = g.L.Language.language in
     let end = only_word (codes "end") c.in_ok-words.words (sym c.is_only.ensures ∙ c.if-is_only.true) in
     c.loop-words.invariant.text
-    ∙ ap (λ l. operations_text language (language.operations c.loop-words.script) ++ l) (c.in_ok-words.ensures.found.1 ∙ ap (λ w. line w ++ c.words.new.self) end)
+    ∙ ap (λ l. operations_text language (language.operations c.loop-words.script) ++ l) (c.in_ok-words.ensures.found.1
+    ∙ ap (λ w. line w ++ c.words.new.self) end)
 
 pub returns-in_err-operation-clause-fault : goal.returns-in_err-operation-clause-fault
 returns-in_err-operation-clause-fault g c why e subs name =
@@ -88,12 +89,15 @@ loop-words-preserved g c =
     let found = c.in_ok-operation.ensures.found in
     let added = c.in_ok-add.ensures in
     record {
-      range = subst (All (IsOperationIn language (g.L.Language.sizes_of c.args.sizes))) (sym added) (All-push (IsOperationIn language (g.L.Language.sizes_of c.args.sizes)) ops o v.range found.0);
+      range = subst (All (IsOperationIn language (g.L.Language.sizes_of c.args.sizes))) (sym added) (All-push (IsOperationIn language
+          (g.L.Language.sizes_of c.args.sizes)) ops o v.range found.0);
       few = omega (arith, c.if-count-ge-MOST_OPERATIONS.false);
       counted = omega (arith, v.counted, ap length added, length-append ops (o ∷ []));
-      text = more_text c.args.lines.now c.loop-words.lines c.words.new.self (map (operation_words language) ops) c.in_ok-words.words v.text c.in_ok-words.ensures.found.1
+      text = more_text c.args.lines.now c.loop-words.lines c.words.new.self (map
+          (operation_words language) ops) c.in_ok-words.words v.text c.in_ok-words.ensures.found.1
           ∙ ap (λ l. flat_map line l ++ c.words.new.self)
-          (ap (λ w. map (operation_words language) ops ++ w ∷ []) found.1 ∙ sym (map-append (operation_words language) ops (o ∷ [])) ∙ ap (map (operation_words language)) (sym added));
+          (ap (λ w. map (operation_words language) ops ++ w ∷ []) found.1 ∙ sym (map-append (operation_words language) ops (o ∷ []))
+          ∙ ap (map (operation_words language)) (sym added));
     }
 
 pub loop-words-smaller : goal.loop-words-smaller

@@ -46,7 +46,8 @@ returns-then-is_only-clause-found g c =
     let last = only_word (codes "finish") c.in_ok-words.words (sym c.is_only.ensures ∙ c.if-is_only.true) in
     record {
       submissions = v.subs;
-      text = v.text ∙ ap (λ l. flat_map line (flat_map (submission_words language) v.subs) ++ l) (c.in_ok-words.ensures.found.1 ∙ ap (λ w. line w ++ c.words.new.self) last);
+      text = v.text ∙ ap (λ l. flat_map line (flat_map (submission_words language) v.subs) ++ l) (c.in_ok-words.ensures.found.1
+          ∙ ap (λ w. line w ++ c.words.new.self) last);
       made = v.made;
       valid = subst (AreCallers (IsScriptIn language (g.L.Language.sizes_of c.args.sizes))) (sym v.made) v.valid;
     }

@@ -64,7 +64,8 @@ returns-else-len-eq0-clause-read g c sizes callers h =
     let counted : c.occurrences-read.result ≡ feeds c.args.bytes.now c.front_of.new.lines = c.occurrences-read.ensures
     ∙ ap (λ n. count_by (λ b. b == LINE_FEED) (take (length c.args.bytes.now - n) c.args.bytes.now)) c.len-in-Ok.ensures in
     let on : GoesOnBehind (IsText language) c.args.bytes.now (c.occurrences-read.result + 1) fault.End =
-    goes_on language c.args.bytes.now c.front_of.new.lines ns c.in-Ok.found.1 front (λ none. c.if-len-eq0.false (c.len.ensures ∙ none)) c.occurrences-read.result counted in
+    goes_on language c.args.bytes.now c.front_of.new.lines ns c.in-Ok.found.1 front (λ none. c.if-len-eq0.false (c.len.ensures
+    ∙ none)) c.occurrences-read.result counted in
     absurd (not_both language g.met.L.Language.lawful c.args.bytes.now sizes callers (c.occurrences-read.result + 1) fault.End h (inr on))
 
 pub returns-else-len-eq0-clause-refused : goal.returns-else-len-eq0-clause-refused
@@ -75,10 +76,12 @@ returns-else-len-eq0-clause-refused g c number why e =
     let counted : c.occurrences-read.result ≡ feeds c.args.bytes.now c.front_of.new.lines = c.occurrences-read.ensures
     ∙ ap (λ n. count_by (λ b. b == LINE_FEED) (take (length c.args.bytes.now - n) c.args.bytes.now)) c.len-in-Ok.ensures in
     let on : GoesOnBehind (IsText language) c.args.bytes.now (c.occurrences-read.result + 1) fault.End =
-    goes_on language c.args.bytes.now c.front_of.new.lines ns c.in-Ok.found.1 front (λ none. c.if-len-eq0.false (c.len.ensures ∙ none)) c.occurrences-read.result counted in
+    goes_on language c.args.bytes.now c.front_of.new.lines ns c.in-Ok.found.1 front (λ none. c.if-len-eq0.false (c.len.ensures
+    ∙ none)) c.occurrences-read.result counted in
     let same_number : c.occurrences-read.result + 1 ≡ number = cc in
     let same_reason : fault.End ≡ why = cc in
-    subst (λ n. IsFirstFaultIn language c.args.bytes.now n why) same_number (subst (IsFirstFaultIn language c.args.bytes.now (c.occurrences-read.result + 1)) same_reason (inr on))
+    subst (λ n. IsFirstFaultIn language c.args.bytes.now n why) same_number (subst (IsFirstFaultIn language c.args.bytes.now
+    (c.occurrences-read.result + 1)) same_reason (inr on))
 
 pub returns-else-len-eq0-clause-faulty : goal.returns-else-len-eq0-clause-faulty
 returns-else-len-eq0-clause-faulty g c number why h =
@@ -88,7 +91,8 @@ returns-else-len-eq0-clause-faulty g c number why h =
     let counted : c.occurrences-read.result ≡ feeds c.args.bytes.now c.front_of.new.lines = c.occurrences-read.ensures
     ∙ ap (λ n. count_by (λ b. b == LINE_FEED) (take (length c.args.bytes.now - n) c.args.bytes.now)) c.len-in-Ok.ensures in
     let on : GoesOnBehind (IsText language) c.args.bytes.now (c.occurrences-read.result + 1) fault.End =
-    goes_on language c.args.bytes.now c.front_of.new.lines ns c.in-Ok.found.1 front (λ none. c.if-len-eq0.false (c.len.ensures ∙ none)) c.occurrences-read.result counted in
+    goes_on language c.args.bytes.now c.front_of.new.lines ns c.in-Ok.found.1 front (λ none. c.if-len-eq0.false (c.len.ensures
+    ∙ none)) c.occurrences-read.result counted in
     let same = one_fault language g.met.L.Language.lawful c.args.bytes.now (c.occurrences-read.result + 1) number fault.End why (inr on) h in
     inl (λ i. refused.Line (same.0 i) (same.1 i))
 
@@ -117,7 +121,8 @@ returns-in-Err-LineFault-clause-refused g c number why e =
     counted c.faulty_line-line.ensures.missing c.faulty_line-line.ensures.whole in
     let same_number : c.faulty_line-line.result ≡ number = cc in
     let same_reason : c.in-Err-LineFault.why ≡ why = cc in
-    subst (λ n. IsFirstFaultIn language c.args.bytes.now n why) same_number (subst (IsFirstFaultIn language c.args.bytes.now c.faulty_line-line.result) same_reason (inl faulty))
+    subst (λ n. IsFirstFaultIn language c.args.bytes.now n why) same_number (subst
+    (IsFirstFaultIn language c.args.bytes.now c.faulty_line-line.result) same_reason (inl faulty))
 
 pub returns-in-Err-LineFault-clause-faulty : goal.returns-in-Err-LineFault-clause-faulty
 returns-in-Err-LineFault-clause-faulty g c number why h =

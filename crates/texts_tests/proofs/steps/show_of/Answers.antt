@@ -26,7 +26,8 @@ overflow_cast-result c = omega (
 
 pub returns-clause-found : goal.returns-clause-found
 returns-clause-found c sizes =
-    let line = row_one (codes "show") c.args.words.now (1, GREATEST_ACCOUNT) (sym c.is_row.ensures ∙ c.if-not-is_row.false) (lit< tt) c.in_ok-account.ensures.found in (
+    let line = row_one (codes "show") c.args.words.now (1, GREATEST_ACCOUNT) (sym c.is_row.ensures
+    ∙ c.if-not-is_row.false) (lit< tt) c.in_ok-account.ensures.found in (
       record {
         kind = form (codes "show") ((1, GREATEST_ACCOUNT) ∷ []);
         kind_is = refl;

@@ -18,4 +18,5 @@ pub returns : goal.returns
 returns g c =
     c.as_str.ensures.value
     ∙ sym (name_beside string_bytes (λ v. v.items) c.self.inside.gathering.names.keys c.self.inside.gathering.scripts.items
-    c.args.caller c.index.result.now (record { name = []; scripts = [] }) c.self.invariant.beside c.index.ensures) ∙ ap (λ l. (caller_at l c.args.caller).name) c.self.view_is
+    c.args.caller c.index.result.now (record { name = []; scripts = [] }) c.self.invariant.beside c.index.ensures)
+    ∙ ap (λ l. (caller_at l c.args.caller).name) c.self.view_is

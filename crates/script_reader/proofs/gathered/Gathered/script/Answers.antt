@@ -18,7 +18,8 @@ index-requires g c =
 pub index-requires-2 : goal.index-requires-2
 index-requires-2 g c =
     let many = count_callers string_bytes (λ v. v.items) c.self.inside.gathering.names.keys c.self.inside.gathering.scripts.items c.self.invariant.beside in
-    let less : c.args.caller < length c.self.inside.gathering.scripts.items = omega (arith, c.requires.there, ap length c.self.view_is, c.self.invariant.beside, many) in
+    let less : c.args.caller < length c.self.inside.gathering.scripts.items =
+    omega (arith, c.requires.there, ap length c.self.view_is, c.self.invariant.beside, many) in
     let scripts = scripts_beside string_bytes (λ v. v.items) c.self.inside.gathering.names.keys c.self.inside.gathering.scripts.items
     c.args.caller c.index.result.now (record { name = []; scripts = [] }) c.self.invariant.beside less (sym c.index.ensures) in
     omega (arith, c.requires.index, ap length scripts, ap (λ l. length (caller_at l c.args.caller).scripts) c.self.view_is)
@@ -26,8 +27,16 @@ index-requires-2 g c =
 pub returns : goal.returns
 returns g c =
     let many = count_callers string_bytes (λ v. v.items) c.self.inside.gathering.names.keys c.self.inside.gathering.scripts.items c.self.invariant.beside in
-    let less : c.args.caller < length c.self.inside.gathering.scripts.items = omega (arith, c.requires.there, ap length c.self.view_is, c.self.invariant.beside, many) in
+    let less : c.args.caller < length c.self.inside.gathering.scripts.items =
+    omega (arith, c.requires.there, ap length c.self.view_is, c.self.invariant.beside, many) in
     let scripts = scripts_beside string_bytes (λ v. v.items) c.self.inside.gathering.names.keys c.self.inside.gathering.scripts.items
     c.args.caller c.index.result.now (record { name = []; scripts = [] }) c.self.invariant.beside less (sym c.index.ensures) in
-    let inner : c.args.index < length c.index.result.now.items = omega (arith, c.requires.index, ap length scripts, ap (λ l. length (caller_at l c.args.caller).scripts) c.self.view_is) in
-    ap (λ l. slice_get l c.args.index) (sym (ap (λ l. (caller_at l c.args.caller).scripts) c.self.view_is) ∙ scripts) ∙ found_there c.index.result.now.items c.args.index c.index-2.result.now inner c.index-2.ensures
+    let inner : c.args.index < length c.index.result.now.items = omega (
+      arith,
+      c.requires.index,
+      ap length scripts,
+      ap (λ l. length
+          (caller_at l c.args.caller).scripts) c.self.view_is,
+    ) in
+    ap (λ l. slice_get l c.args.index) (sym (ap (λ l. (caller_at l c.args.caller).scripts) c.self.view_is) ∙ scripts)
+    ∙ found_there c.index.result.now.items c.args.index c.index-2.result.now inner c.index-2.ensures

@@ -18,7 +18,8 @@ index-requires g c =
 pub returns : goal.returns
 returns g c =
     let many = count_callers string_bytes (λ v. v.items) c.self.inside.gathering.names.keys c.self.inside.gathering.scripts.items c.self.invariant.beside in
-    let less : c.args.caller < length c.self.inside.gathering.scripts.items = omega (arith, c.requires, ap length c.self.view_is, c.self.invariant.beside, many) in
+    let less : c.args.caller < length c.self.inside.gathering.scripts.items =
+    omega (arith, c.requires, ap length c.self.view_is, c.self.invariant.beside, many) in
     let scripts = scripts_beside string_bytes (λ v. v.items) c.self.inside.gathering.names.keys c.self.inside.gathering.scripts.items
     c.args.caller c.index.result.now (record { name = []; scripts = [] }) c.self.invariant.beside less (sym c.index.ensures) in
     omega (arith, c.len.ensures, ap length scripts, ap (λ l. length (caller_at l c.args.caller).scripts) c.self.view_is)

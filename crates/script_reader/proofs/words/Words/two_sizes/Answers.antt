@@ -16,7 +16,8 @@ returns-clause-found c =
         omega (arith, small),
         (omega (arith, within.1.0), omega (arith, within.1.1), omega (arith, other), tt),
       ),
-      two_sizes_words c.args.title.now c.args.name.now c.args.range c.args.other.now c.args.other_range c.args.self.now c.in_ok-a.a c.in_ok-a.b (c.if-not-has_two_sizes.ensures.length refl)
+      two_sizes_words c.args.title.now c.args.name.now c.args.range c.args.other.now c.args.other_range c.args.self.now c.in_ok-a.a c.in_ok-a.b
+          (c.if-not-has_two_sizes.ensures.length refl)
           (sym c.has_two_sizes.ensures.value ∙ c.if-not-has_two_sizes.false)
           (read_is (word_at c.args.self.now 3) c.in_ok-a.a (found.0, sym found.2) small)
           (read_is (word_at c.args.self.now 5) c.in_ok-a.b (found.1, sym found.3) other),
