@@ -1,4 +1,4 @@
-//! Reads clearing books and scripts from a text.
+//! Reads clearing books and scripts from a text, and the scripts of other stores from texts of other languages.
 #![tactic(auto)]
 
 mod books;

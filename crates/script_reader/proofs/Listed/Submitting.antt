@@ -71,12 +71,12 @@ module _ {S : Type 0} where
         (omega arith) callers (recursion_from_All _ _ h.some_scripts));
   }
 
-  -- a caller with a name, whose scripts are for the books
+  -- a caller with a name, whose scripts are as they have to be
   pub record IsGood (IsScript : S → Type 0) (c : CallerOf S) : Type 0 where
     pub name : IsName c.name
     pub scripts : AllByRecursion IsScript c.scripts
 
-  -- a script for the books, of a caller with a name
+  -- a script as it has to be, of a caller with a name
   pub record IsGoodScript (IsScript : S → Type 0) (s : SubmissionOf S) : Type 0 where
     pub name : IsName s.caller
     pub script : IsScript s.script
@@ -112,7 +112,7 @@ module _ {S : Type 0} where
       let here = good-add IsScript callers s rest.0 in
       (here.0, (here.1, rest.1))
 
-  -- callers with scripts for the books are good
+  -- callers with names and such scripts are good
   good_callers : (IsScript : S → Type 0) (callers : List (CallerOf S)) → AllByRecursion (λ c. IsName c.name) callers
       → AllByRecursion (λ c. All IsScript c.scripts) callers → AllByRecursion (IsGood IsScript) callers
   good_callers IsScript [] names scripts = tt
