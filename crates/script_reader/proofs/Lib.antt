@@ -4,6 +4,8 @@ pub mod Tokens
 pub mod Grouped
 -- tests over lists that are put together
 pub mod Conditions
+-- the first fault of a text by any judge
+pub mod Judging
 -- the lines of books and of scripts, one more at a time
 pub mod Printing
 -- lines by their kinds, and what is wrong with one
@@ -16,3 +18,5 @@ pub mod Texts
 pub mod Finding
 -- the versions of texts
 pub mod Versions
+-- texts of languages whose scripts are lists of operations
+pub mod Listed

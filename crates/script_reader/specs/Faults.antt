@@ -2,9 +2,9 @@
 -- Reasons are tried in this order, each where it can apply: header, word, order of kinds, number, limit, order of
 -- lines, account, price, blocks. `IsFirstFault` has what is beside them: a line that does not exist, or comes after
 -- the last.
-use Rattle.std.specs.Prelude.{◌≡◌, ◌≢◌, ◌⊎◌, ℕ, ◌+◌, Bool, false, not, ◌&&◌, ◌||◌, ◌==◌, nat_lt, nat_le, if◌then◌else◌, List, [], ◌∷◌, ◌++◌, Option, Some}
+use Rattle.std.specs.Prelude.{◌≡◌, ◌≢◌, ◌⊎◌, ℕ, ◌+◌, Bool, not, ◌&&◌, ◌||◌, ◌==◌, nat_lt, nat_le, if◌then◌else◌, List, [], ◌∷◌, ◌++◌, Option, Some}
 use Rattle.std.specs.Prelude.{None, codes, length, drop, map, filter, fold, count_by, slice_index_or}
-use Rattle.std.specs.List.{list_any, flat_map, position_or_len}
+use Rattle.std.specs.List.{list_any, position_or_len}
 use Rattle.std.specs.Option.{is_none}
 use Rattle.std.specs.Str.{bytes_eq}
 use Rattle.books_model.specs.declared.limits.TheConstants.{MOST_OPERATIONS, MOST_ALTERNATIVES}
@@ -14,11 +14,11 @@ use Rattle.script_reader.specs.declared.fault.Fault.{Fault}
 use Rattle.script_reader.specs.declared.fault.Fault.TheVariants as fault
 use Rattle.script_reader.specs.declared.version.Version.{Version}
 use Rattle.script_reader.specs.declared.version.Version.TheVariants.{Two}
-use Rattle.script_reader.specs.Lines.{IsFreeOf, AreWords, word_at}
-use Rattle.script_reader.specs.Text.{line}
+use Rattle.script_reader.specs.Lines.{word_at}
 use Rattle.script_reader.specs.Input.{ClearingInput, first_seen}
 use Rattle.script_reader.specs.Grammar.{Spells}
 use Rattle.script_reader.specs.Versions.{version_of}
+use Rattle.script_reader.specs.Reading.{HaveNoFault, BeginsFaulty, IsFaultBehind, IsFaultInFront}
 use Rattle.script_reader.specs.Forms.{Words, Region, OutsideScripts, InScript, InFirstBranch, InSecondBranch, sizes, books_forms, script_forms, begins, is_only, form_of, ranges_of, is_header, is_script_line, size_words}
 use Rattle.script_reader.specs.Forms.{value_at, are_numbers, are_in_range}
 
@@ -183,30 +183,20 @@ fault_of (header ∷ lines) words =
 -- no line of a list is faulty beside the lines before it and those of the list ahead of it, and none is the last of a
 -- text
 abbrev pub AreFaultless : List Words → List Words → Type 0
-AreFaultless before [] = Unit {0}
-AreFaultless before (words ∷ more) = AreWords words × (fault_of before words ≡ None)
-    × (is_only (codes "finish") words ≡ false) × AreFaultless (before ++ words ∷ []) more
+AreFaultless = HaveNoFault fault_of
 
 -- the text begins with a line with this fault, and goes on; or it has no whole line, which is a fault too
 abbrev pub StartsFaulty : List Words → List ℕ → List ℕ → Fault → Type 0
-StartsFaulty before text left why =
-    ((words : Words) × AreWords words × (text ≡ line words ++ left) × (fault_of before words ≡ Some why))
-    ⊎ (IsFreeOf LINE_FEED text × (left ≡ text) × (why ≡ fault.End))
+StartsFaulty = BeginsFaulty fault_of
 
 -- behind the lines before, the text has lines without fault, and then the fault; what is left stands behind the
 -- faulty line
-pub record IsFaultyBehind (before : List Words) (text left : List ℕ) (why : Fault) : Type 0 where
-  pub more : List Words
-  pub rest : List ℕ
-  pub faultless : AreFaultless before more
-  pub text_is : text ≡ flat_map line more ++ rest
-  pub here : StartsFaulty (before ++ more) rest left why
+abbrev pub IsFaultyBehind : List Words → List ℕ → List ℕ → Fault → Type 0
+IsFaultyBehind = IsFaultBehind fault_of
 
 -- the first fault of a text up to its line `finish`; lines are numbered from 1
-pub record IsFrontFault (text : List ℕ) (number : ℕ) (why : Fault) : Type 0 where
-  pub left : List ℕ
-  pub faulty : IsFaultyBehind [] text left why
-  pub number_is : number ≡ length faulty.more + 1
+abbrev pub IsFrontFault : List ℕ → ℕ → Fault → Type 0
+IsFrontFault = IsFaultInFront fault_of
 
 -- the text goes on behind the line `finish`
 pub record GoesOn (text : List ℕ) (number : ℕ) (why : Fault) : Type 0 where

@@ -9,3 +9,6 @@ pub mod Scripts
 pub mod Cuts
 pub mod Branches
 pub mod OfVersion
+pub mod Gatherings
+pub mod ListScripts
+pub mod Heads

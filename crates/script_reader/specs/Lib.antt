@@ -6,7 +6,11 @@ pub mod Versions
 pub mod Grammar
 pub mod Forms
 pub mod Faults
+pub mod Rows
 pub mod FaultWords
 pub mod Journal
+pub mod Gathered
+pub mod Reading
+pub mod ListLanguage
 pub mod Statements
 pub mod Inner

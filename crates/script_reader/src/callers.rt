@@ -72,7 +72,11 @@ impl Callers {
 }
 
 // The place of a name, behind the others where it is new. A name that is known takes no memory.
-fn place_of(alloc: Global, names: &mut IndexSet<String>, name: &str) -> Result<usize, OutOfMemory>
+pub(crate) fn place_of(
+    alloc: Global,
+    names: &mut IndexSet<String>,
+    name: &str,
+) -> Result<usize, OutOfMemory>
     ensures names { OnOk result
         (map string_bytes names.new.keys ≡ add_name (map string_bytes names.old.keys) name.now) }
     ensures place { IfOk result (λ place. place

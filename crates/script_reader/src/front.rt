@@ -77,7 +77,7 @@ fn input_of(alloc: Global, lines: &mut Lines<'_>) -> Result<Input, Refusal>
 }
 
 // The number of the line with a fault, from 1, where so many lines were read. A line that is missing is the next.
-fn faulty_line(read: usize, why: Fault) -> u32
+pub(crate) fn faulty_line(read: usize, why: Fault) -> u32
     requires { read + 1 < 2 ^ 32 }
     ensures missing { why ≡ Fault.End → result ≡ read + 1 }
     ensures whole { why ≢ Fault.End → result ≡ read }

@@ -9,9 +9,9 @@ use crate::fault::Fault;
 use crate::words::{Words, first_line};
 use std::marker::Model;
 
-// What is left of a text. Contracts see it.
+/// What is left of a text. Contracts see it.
 #[derive(Drop)]
-pub(crate) struct Lines<'a> {
+pub struct Lines<'a> {
     left: &'a [u8],
 }
 
@@ -24,22 +24,22 @@ impl<'a> Model for Lines<'a> {
 }
 
 impl<'a> Lines<'a> {
-    // All lines of a text.
-    pub(crate) fn new(text: &'a [u8]) -> Lines<'a>
+    /// All lines of a text.
+    pub fn new(text: &'a [u8]) -> Lines<'a>
         ensures { result ≡ text.now }
     {
         Lines { left: text }
     }
 
-    // How many bytes are left.
-    pub(crate) fn len(&self) -> usize
+    /// How many bytes are left.
+    pub fn len(&self) -> usize
         ensures { result ≡ length self.now }
     {
         self.left.len()
     }
 
-    // The words of the next line. Where no whole line is left, nothing changes.
-    pub(crate) fn words(&mut self) -> Result<Words<'a>, Fault>
+    /// The words of the next line. Where no whole line is left, nothing changes.
+    pub fn words(&mut self) -> Result<Words<'a>, Fault>
         ensures found { IfOk result
             (λ words. AreWords words × (self.old ≡ text_of words ++ self.new)) }
         ensures end { IfErr result

@@ -39,8 +39,8 @@ fn value_of(word: &[u8]) -> Option<u64>
     Some(value)
 }
 
-// A number that is in its range.
-pub(crate) fn within(number: u64, low: u64, high: u64) -> Result<u64, Fault>
+/// A number that is in its range.
+pub fn within(number: u64, low: u64, high: u64) -> Result<u64, Fault>
     ensures range { OkIff result (IsWithin low high number) number }
     ensures err { IfErr result (λ why. why ≡ Fault.Limit) }
 {
@@ -51,8 +51,8 @@ pub(crate) fn within(number: u64, low: u64, high: u64) -> Result<u64, Fault>
     }
 }
 
-// Whether two numbers are in their ranges, of which each is given by its least and its greatest.
-pub(crate) fn both_within(
+/// Whether two numbers are in their ranges, of which each is given by its least and its greatest.
+pub fn both_within(
     one: u64,
     range: (u64, u64),
     other: u64,

@@ -6,7 +6,7 @@ ghost use Rattle.script_reader.specs.Inner.OfVersion.{IsOperationOf};
 ghost use Rattle.script_reader.specs.declared.version.Version.{Version as AnyVersion};
 ghost use Rattle.script_reader.specs.Text.{operation_words};
 ghost use Rattle.script_reader.specs.Forms.{begins, operation_forms};
-ghost use Rattle.script_reader.specs.Inner.Rows.{row_fault};
+ghost use Rattle.script_reader.specs.Rows.{row_fault};
 
 use crate::fault::Fault;
 use crate::rows::{ACCOUNTS, PRICES, QUANTITIES, RATES, instruments_of};

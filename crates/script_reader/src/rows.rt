@@ -5,7 +5,7 @@ ghost use Rattle.script_reader.specs.Lines.{word_at};
 ghost use Rattle.script_reader.specs.Number.{is_number};
 ghost use Rattle.script_reader.specs.declared.words.TheConstants.{MOST_WORDS};
 ghost use Rattle.script_reader.specs.Forms.{value_at};
-ghost use Rattle.script_reader.specs.Inner.Rows.{HasNumbers, numbers_fault};
+ghost use Rattle.script_reader.specs.Rows.{HasNumbers, numbers_fault};
 
 use crate::fault::Fault;
 use crate::numbers::{both_within, within};
@@ -40,8 +40,8 @@ pub(crate) fn instruments_of(books: &Books) -> (u64, u64)
 }
 
 impl<'a> Words<'a> {
-    // The numbers that the words at two places are, each as `number` has it.
-    pub(crate) fn both_numbers(&self, one: usize, other: usize) -> Result<(u64, u64), Fault>
+    /// The numbers that the words at two places are, each as `number` has it.
+    pub fn both_numbers(&self, one: usize, other: usize) -> Result<(u64, u64), Fault>
         requires there { (one < length self.now) × (other < length self.now) }
         requires early { (one < MOST_WORDS) × (other < MOST_WORDS) }
         ensures found { IfOk result (λ n. (is_number (word_at self.now one) ≡ true)
@@ -56,8 +56,8 @@ impl<'a> Words<'a> {
         Ok((a, b))
     }
 
-    // The number of a line of two words.
-    pub(crate) fn one_number(&self, first: (u64, u64)) -> Result<u64, Fault>
+    /// The number of a line of two words.
+    pub fn one_number(&self, first: (u64, u64)) -> Result<u64, Fault>
         requires two { length self.now ≡ 2 }
         requires exact { first.1 < u64.MAX }
         ensures found { IfOk result
@@ -68,12 +68,8 @@ impl<'a> Words<'a> {
         within(n, first.0, first.1)
     }
 
-    // The numbers of a line of three words.
-    pub(crate) fn two_numbers(
-        &self,
-        first: (u64, u64),
-        second: (u64, u64),
-    ) -> Result<(u64, u64), Fault>
+    /// The numbers of a line of three words.
+    pub fn two_numbers(&self, first: (u64, u64), second: (u64, u64)) -> Result<(u64, u64), Fault>
         requires three { length self.now ≡ 3 }
         requires exact { (first.1 < u64.MAX) × (second.1 < u64.MAX) }
         ensures found { IfOk result
@@ -87,8 +83,8 @@ impl<'a> Words<'a> {
         Ok((a, b))
     }
 
-    // The numbers of a line of four words.
-    pub(crate) fn three_numbers(
+    /// The numbers of a line of four words.
+    pub fn three_numbers(
         &self,
         first: (u64, u64),
         second: (u64, u64),
@@ -108,8 +104,8 @@ impl<'a> Words<'a> {
         Ok((a, b, within(c, third.0, third.1)?))
     }
 
-    // The numbers of a line of five words.
-    pub(crate) fn four_numbers(
+    /// The numbers of a line of five words.
+    pub fn four_numbers(
         &self,
         first: (u64, u64),
         second: (u64, u64),

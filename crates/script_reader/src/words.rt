@@ -23,9 +23,9 @@ pub const LINE_FEED: u8 = b'\n';
 /// The most words of a line that may stand in a text.
 pub const MOST_WORDS: usize = 8;
 
-// The words of a line, with where the first of them end. An empty word is a word.
+/// The words of a line, with where the first of them end. An empty word is a word.
 #[derive(Drop)]
-pub(crate) struct Words<'a> {
+pub struct Words<'a> {
     line: &'a [u8],
     spaces: usize,
     ends: [usize; MOST_WORDS],
@@ -53,15 +53,15 @@ impl<'a> Words<'a> {
         Words { line, spaces, ends }
     }
 
-    // How many words there are: at least one.
-    pub(crate) fn len(&self) -> usize
+    /// How many words there are: at least one.
+    pub fn len(&self) -> usize
         ensures { result ≡ length self.now }
     {
         self.spaces + 1
     }
 
-    // The word at a place, from 0.
-    pub(crate) fn at(&self, index: usize) -> &'a [u8]
+    /// The word at a place, from 0.
+    pub fn at(&self, index: usize) -> &'a [u8]
         requires there { index < length self.now }
         requires early { index < MOST_WORDS }
         ensures { result.now ≡ word_at self.now index }
@@ -72,8 +72,8 @@ impl<'a> Words<'a> {
         between(self.line, self.ends[index - 1] + 1, self.ends[index])
     }
 
-    // Whether the word at a place is the given one.
-    pub(crate) fn is(&self, index: usize, word: &[u8]) -> bool
+    /// Whether the word at a place is the given one.
+    pub fn is(&self, index: usize, word: &[u8]) -> bool
         requires there { index < length self.now }
         requires early { index < MOST_WORDS }
         ensures { result ≡ bytes_eq (word_at self.now index) word.now }
@@ -81,23 +81,23 @@ impl<'a> Words<'a> {
         self.at(index) == word
     }
 
-    // Whether the line has the given first word, and so many words.
-    pub(crate) fn is_row(&self, keyword: &[u8], len: usize) -> bool
+    /// Whether the line has the given first word, and so many words.
+    pub fn is_row(&self, keyword: &[u8], len: usize) -> bool
         requires { 0 < len }
         ensures { result ≡ (begins keyword.now self.now && length self.now == len) }
     {
         self.len() == len && self.is(0, keyword)
     }
 
-    // Whether the line is one word, the given one.
-    pub(crate) fn is_only(&self, word: &[u8]) -> bool
+    /// Whether the line is one word, the given one.
+    pub fn is_only(&self, word: &[u8]) -> bool
         ensures { result ≡ is_only word.now self.now }
     {
         self.is_row(word, 1)
     }
 
-    // The number that the word at a place is, or the greatest `u64` where it is greater.
-    pub(crate) fn number(&self, index: usize) -> Result<u64, Fault>
+    /// The number that the word at a place is, or the greatest `u64` where it is greater.
+    pub fn number(&self, index: usize) -> Result<u64, Fault>
         requires there { index < length self.now }
         requires early { index < MOST_WORDS }
         ensures found { IfOk result

@@ -11,8 +11,11 @@ mod ends;
 #[cfg(test)]
 mod faults;
 #[cfg(test)]
+mod languages;
+#[cfg(test)]
 mod model;
 #[cfg(test)]
 mod reader;
 #[cfg(test)]
 mod report;
+pub mod steps;

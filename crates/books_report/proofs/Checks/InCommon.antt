@@ -12,7 +12,7 @@ use Rattle.script_reader.specs.declared.words.TheConstants.{SPACE, LINE_FEED}
 use Rattle.script_reader.specs.Lines.{IsFreeOf}
 use Rattle.script_reader.specs.Text.{account_line, price_line, position_line, call_line, finish_line}
 use Rattle.script_reader.proofs.Tokens.Cutting.{join-free}
-use Rattle.script_reader.proofs.Texts.Fronting.{count_line}
+use Rattle.script_reader.proofs.Judging.{count_line}
 use Rattle.script_reader.proofs.Texts.Counting.{few_entries}
 use Rattle.books_report.specs.declared.limits.TheConstants.{MOST_CLOSING_LINES}
 use Rattle.books_report.specs.Checking.{closing_lines}

@@ -15,7 +15,7 @@ use Rattle.script_reader.specs.Input.{Caller, Submission, add_name, first_seen, 
 use Rattle.script_reader.specs.Inner.Callers.{add_submission}
 
 -- equal bytes are equal texts, and texts that are equal to one another are equal to the same others
-laws : IsEquivalence bytes_eq
+pub laws : IsEquivalence bytes_eq
 laws = nat_list_eq_equiv
 
 -- some name of a list with one more is the given one
@@ -50,7 +50,7 @@ any-add_name c x seen = by (list_any (bytes_eq x) seen) refl (bytes_eq c x) refl
         right_false false = refl
 
 -- the names that are first seen are all the names
-any-seen : (c : List ℕ) (names seen : List (List ℕ)) → list_any (bytes_eq c) (fold add_name seen names)
+pub any-seen : (c : List ℕ) (names seen : List (List ℕ)) → list_any (bytes_eq c) (fold add_name seen names)
     ≡ (list_any (bytes_eq c) seen || list_any (bytes_eq c) names)
 any-seen c [] seen = by (list_any (bytes_eq c) seen)
   where
@@ -73,7 +73,7 @@ add_name-distinct seen x apart = by (list_any (bytes_eq x) seen) refl
     by false e = IsDistinct-push laws seen x apart e
 
 -- names that are first seen are distinct
-seen-distinct : (names seen : List (List ℕ)) → IsDistinct bytes_eq seen → IsDistinct bytes_eq (fold add_name seen names)
+pub seen-distinct : (names seen : List (List ℕ)) → IsDistinct bytes_eq seen → IsDistinct bytes_eq (fold add_name seen names)
 seen-distinct [] seen apart = apart
 seen-distinct (x ∷ names) seen apart = seen-distinct names (add_name seen x) (add_name-distinct seen x apart)
 

@@ -46,7 +46,7 @@ names-add (c ∷ callers) s = by (bytes_eq s.caller c.name) (list_any (bytes_eq 
     by false there rest = ap (λ l. c.name ∷ l) rest ∙ sym (choice-cons there c.name (map (λ c. c.name) callers) (map (λ c. c.name) callers ++ s.caller ∷ []))
 
 -- how many names there are after one more, which may be new
-length-add_name : (most : ℕ) (names : List (List ℕ)) (name : List ℕ) (there : Bool)
+pub length-add_name : (most : ℕ) (names : List (List ℕ)) (name : List ℕ) (there : Bool)
     → (there ≡ false → length names < most) → length names ≤ most → length (if there then names else names ++ name ∷ []) ≤ most
 length-add_name most names name true room few = few
 length-add_name most names name false room few = omega (arith, room refl, length-append names (name ∷ []))
@@ -81,7 +81,7 @@ callers_more version books callers s h name script room space = record {
 }
 
 -- what holds of each element of two lists holds of the first, and of an element behind it
-all_but_last : {A : Type 0} (P : A → Type 0) (xs : List A) (x : A) → AllByRecursion P (xs ++ x ∷ []) → AllByRecursion P xs × P x
+pub all_but_last : {A : Type 0} (P : A → Type 0) (xs : List A) (x : A) → AllByRecursion P (xs ++ x ∷ []) → AllByRecursion P xs × P x
 all_but_last P [] x all = (tt, all.0)
 all_but_last P (y ∷ xs) x all = let rest = all_but_last P xs x all.1 in ((all.0, rest.0), rest.1)
 

@@ -4,7 +4,7 @@ use Rattle.books_model.specs.Ranges.{IsWithin}
 use Rattle.script_reader.specs.Number.{is_number}
 use Rattle.script_reader.specs.Text.{number}
 use Rattle.script_reader.specs.Forms.{Words, begins, value_of, value_at, is_in_range, are_numbers, are_in_range}
-use Rattle.script_reader.specs.Inner.Rows.{HasNumbers}
+use Rattle.script_reader.specs.Rows.{HasNumbers}
 use Rattle.script_reader.proofs.Conditions.{both}
 use Rattle.script_reader.proofs.LineFaults.LineKinds.{one_behind, two_behind, three_behind, four_behind, ranged}
 

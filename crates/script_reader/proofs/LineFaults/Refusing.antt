@@ -14,7 +14,8 @@ use Rattle.script_reader.specs.Forms.{Words, Form, form, books_forms, begins, fo
 use Rattle.script_reader.specs.Faults.{first_reason, kind_of, key_of, takes_block, fault_of}
 use Rattle.script_reader.specs.declared.books.Row.TheVariants as row
 use Rattle.script_reader.specs.Inner.BooksRows.{IsRow}
-use Rattle.script_reader.specs.Inner.Rows.{HasNumbers, numbers_fault, account_ranges, price_ranges, position_ranges, call_ranges}
+use Rattle.script_reader.specs.Rows.{HasNumbers, numbers_fault}
+use Rattle.script_reader.specs.Inner.Rows.{account_ranges, price_ranges, position_ranges, call_ranges}
 use Rattle.script_reader.proofs.Conditions.{any_fixed, is_some_list}
 use Rattle.script_reader.proofs.Printing.Printed.{books_fault_is, fault_at, is_late_in, is_low_in}
 use Rattle.script_reader.proofs.Printing.Scripted.{in_books}

@@ -8,7 +8,7 @@ use Rattle.script_reader.specs.declared.fault.Fault.{Fault}
 use Rattle.script_reader.specs.declared.fault.Fault.TheVariants as fault
 use Rattle.script_reader.specs.Forms.{Words, Form, form, operation_forms, begins, has_form, form_of, ranges_of, are_numbers, are_in_range}
 use Rattle.script_reader.specs.Faults.{first_reason}
-use Rattle.script_reader.specs.Inner.Rows.{numbers_fault, row_fault}
+use Rattle.script_reader.specs.Rows.{numbers_fault, row_fault}
 use Rattle.script_reader.proofs.LineFaults.LineKinds.{one_behind, two_behind, three_behind, four_behind}
 
 -- a line of another length is none of this keyword and this length
@@ -26,7 +26,8 @@ no_form [] words all = refl
 no_form (f ∷ forms) words all = (λ i. cond (all.0 i) (Some f) (form_of forms words)) ∙ no_form forms words all.1
 
 module _ (forms : List Form) (words : Words) where
-  word_wrong : AllByRecursion (λ f. has_form words f ≡ false) forms → row_fault forms words ≡ Some fault.Word
+  -- a line of none of the forms
+  pub word_wrong : AllByRecursion (λ f. has_form words f ≡ false) forms → row_fault forms words ≡ Some fault.Word
   word_wrong all i = first_reason (
       (is_none (no_form forms words all i), fault.Word)
       ∷ (not (are_numbers (drop 1 words)), fault.Number)

@@ -20,7 +20,7 @@ use Rattle.script_reader.specs.Text.{line, operation_words, part_words, script_l
 use Rattle.script_reader.specs.Input.{Submission}
 use Rattle.script_reader.specs.Inner.LinesAsWords.{Open, BetweenParts, InFirst, InSecond, parts_with, region_of, lines_inside, script_words}
 use Rattle.script_reader.specs.Inner.Branches.{branch_with, closing_word}
-use Rattle.script_reader.specs.Inner.Rows.{row_fault}
+use Rattle.script_reader.specs.Rows.{row_fault}
 use Rattle.script_reader.specs.Forms.{Words, Form, Region, InScript, form, has_form, operation_forms, turning_forms, form_of, is_only, ranges_of, are_numbers, are_in_range}
 use Rattle.script_reader.specs.Faults.{AreFaultless, IsFaultyBehind, fault_of, first_reason, is_too_many}
 use Rattle.script_reader.proofs.Printing.Scripted.{inside_at, inside_fault_is}
@@ -31,9 +31,9 @@ use Rattle.script_reader.proofs.WithoutFault.ScriptsFaultless.{operations_faultl
 use Rattle.script_reader.proofs.Tokens.Cutting.{word_from_test}
 use Rattle.script_reader.proofs.LineFaults.LineKinds.{only_word}
 use Rattle.script_reader.proofs.LineFaults.Refusing.{row_first}
-use Rattle.script_reader.proofs.Texts.Following.{behind_more}
 use Rattle.script_reader.specs.Inner.OfVersion.{IsOperationOf, IsScriptOf}
 use Rattle.script_reader.specs.declared.version.Version.{Version}
+use Rattle.script_reader.proofs.Judging.{behind_more}
 
 -- the lines of a branch behind its first
 branch_lines : (version : Version) (b : ClearingBooks) (subs : List Submission) (name : List ℕ) (parts : List Part) (which : Branch) (first ops : List Op)
@@ -85,7 +85,7 @@ module _ (version : Version) (b : ClearingBooks) (range : AreInRange b) (which :
       → IsFaultyBehind (lines_inside version b subs name parts (branch_with which first ops)) left after why
       → IsFaultyBehind (lines_inside version b subs name parts (branch_with which first [])) start after why
   behind_branch start left after why each few text h =
-      behind_more (lines_inside version b subs name parts (branch_with which first [])) (map operation_words ops) start left after why
+      behind_more fault_of (lines_inside version b subs name parts (branch_with which first [])) (map operation_words ops) start left after why
       (operations_faultless version b range subs name parts (branch_with which first []) ops (recursion_from_All (IsOperationOf version b) ops each) few) text
       (subst (λ l. IsFaultyBehind l left after why) (branch_lines version b subs name parts which first ops) h)
 
@@ -115,7 +115,7 @@ module _ (version : Version) (b : ClearingBooks) (range : AreInRange b) (subs : 
       → start ≡ line (word ∷ []) ++ left → IsFaultyBehind (lines_inside version b subs name parts next) left after why
       → IsFaultyBehind (lines_inside version b subs name parts stage) start after why
   behind_turn parts stage next word start left after why fine more text h =
-      behind_more (lines_inside version b subs name parts stage) ((word ∷ []) ∷ []) start left after why fine
+      behind_more fault_of (lines_inside version b subs name parts stage) ((word ∷ []) ∷ []) start left after why fine
       (text ∙ ap (λ l. l ++ left) (sym (append-nil (line (word ∷ [])))))
       (subst (λ l. IsFaultyBehind l left after why) (inside_more version b subs name parts parts stage next ((word ∷ []) ∷ []) more) h)
 
@@ -137,7 +137,7 @@ module _ (version : Version) (b : ClearingBooks) (range : AreInRange b) (subs : 
       → start ≡ script_lines script ++ left → IsFaultyBehind (lines_inside version b subs name script BetweenParts) left after why
       → IsFaultyBehind (lines_inside version b subs name [] BetweenParts) start after why
   behind_parts_read script start left after why valid text h =
-      behind_more (lines_inside version b subs name [] BetweenParts) (flat_map part_words script) start left after why
+      behind_more fault_of (lines_inside version b subs name [] BetweenParts) (flat_map part_words script) start left after why
       (parts_faultless version b range subs name [] script valid.each (omega (arith, valid.few)) (omega (arith, valid.few_alternatives))) text
       (subst (λ l. IsFaultyBehind l left after why)
       (inside_more version b subs name [] script BetweenParts BetweenParts (flat_map part_words script) (append-nil (flat_map part_words script))) h)

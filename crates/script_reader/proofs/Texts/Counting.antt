@@ -27,11 +27,11 @@ use Rattle.script_reader.specs.Faults.{takes_block, size_at, version_at}
 use Rattle.script_reader.proofs.Grouped.Submitting.{IsGoodScript, scripts_are_good}
 use Rattle.script_reader.proofs.Printing.Scripted.{opened}
 use Rattle.script_reader.proofs.Texts.Reaching.{IsReached, AtStart, InBooks, Outside, WithinScript, reach_all, scripts_counted}
-use Rattle.script_reader.proofs.Texts.Fronting.{count_line, count_lines, take_front}
-use Rattle.script_reader.proofs.Texts.OneReading.{finish_words}
+use Rattle.script_reader.proofs.Texts.Fronting.{take_front}
 use Rattle.script_reader.proofs.Texts.Deciding.{spelled}
 use Rattle.script_reader.specs.Inner.OfVersion.{AreCallersOf}
 use Rattle.script_reader.specs.declared.version.Version.{Version}
+use Rattle.script_reader.proofs.Judging.{count_line, count_lines, finish_words}
 
 -- lines for the entries of books in range, and lines behind them
 pub few_entries : {A : Type 0} (b : ClearingBooks) → AreInRange b → (f g : ℕ × ℕ → A) (h : (ℕ × ℕ) × ℕ → A) (ends : List A)
@@ -221,7 +221,7 @@ told text left why h = by h.here
         let counted : feeds text left ≡ length h.more + 1 =
         ap (count_by (λ b. b == LINE_FEED)) (take_front text (lines ++ line words) left _ e refl)
         ∙ sum_by-append (λ b. if b == LINE_FEED then 1 else 0) lines (line words)
-        ∙ (λ i. count_lines [] h.more h.faultless i + count_line words are i) in
+        ∙ (λ i. count_lines fault_of [] h.more h.faultless i + count_line words are i) in
         record {
           shorter = omega (arith, ap length e, length-append (lines ++ line words) left);
           few = omega (arith, counted, few);
@@ -232,7 +232,7 @@ told text left why h = by h.here
     by (inr (free, same, is_end)) =
         let e : text ≡ lines ++ left = h.text_is ∙ ap (λ l. lines ++ l) (sym same) in
         let counted : feeds text left ≡ length h.more =
-        ap (count_by (λ b. b == LINE_FEED)) (take_front text lines left _ e refl) ∙ count_lines [] h.more h.faultless in
+        ap (count_by (λ b. b == LINE_FEED)) (take_front text lines left _ e refl) ∙ count_lines fault_of [] h.more h.faultless in
         record {
           shorter = omega (arith, ap length e, length-append lines left);
           few = omega (arith, counted, few);
@@ -247,7 +247,7 @@ few_of_input text input h = omega (
   arith,
   ap (count_by (λ b. b == LINE_FEED)) (spelled text input h).text_is,
   sum_by-append (λ b. if b == LINE_FEED then 1 else 0) (flat_map line (spelled text input h).lines) finish_line,
-  count_lines [] (spelled text input h).lines (spelled text input h).faultless,
+  count_lines fault_of [] (spelled text input h).lines (spelled text input h).faultless,
   count_line (codes "finish" ∷ []) finish_words,
   few_lines (spelled text input h).lines (reach_all [] (spelled text input h).lines (AtStart refl) (spelled text input h).faultless),
 )

@@ -23,12 +23,12 @@ use Rattle.script_reader.proofs.Tokens.Cutting.{found_at, found_none, taken}
 use Rattle.script_reader.proofs.LineFaults.LineKinds.{only_word}
 use Rattle.script_reader.proofs.Printing.Printed.{books_fault_is}
 use Rattle.script_reader.proofs.Printing.Scripted.{in_books, outside_fault_is, inside_at, inside_fault_is}
-use Rattle.script_reader.proofs.WithoutFault.Faultless.{faultless_append}
 use Rattle.script_reader.proofs.WithoutFault.BooksFaultless.{printed, printed_small}
 use Rattle.script_reader.proofs.WithoutFault.ScriptsFaultless.{input_faultless}
-use Rattle.script_reader.proofs.Texts.OneReading.{text_of_input, finish_once, no_fault, fault_once}
+use Rattle.script_reader.proofs.Texts.OneReading.{text_of_input}
 use Rattle.script_reader.proofs.Texts.Reaching.{IsReached, AtStart, InBooks, Outside, WithinScript, Between, reach_all}
 use Rattle.script_reader.specs.Inner.OfVersion.{AreCallersOf}
+use Rattle.script_reader.proofs.Judging.{fault_once, faultless_append, finish_once, no_fault}
 
 -- the last line of a text is none of a script
 no_finish : (version : Version) (stage : Open) (instruments count alternatives : ℕ)
@@ -96,7 +96,7 @@ read_on : (fuel : ℕ) (text : List ℕ) (before : List Words) (left : List ℕ)
 read_on zero text before left enough f e = absurd (omega (arith, enough))
 read_on (suc fuel) text before left enough f e =
     by (position (λ b. b == LINE_FEED) left) refl (λ words after are is more fine. read_on fuel text (before ++ words ∷ []) after (shorter words after is)
-    (faultless_append [] before (words ∷ []) f (are, fine, more, tt))
+    (faultless_append fault_of [] before (words ∷ []) f (are, fine, more, tt))
     (e ∙ ap (λ l. flat_map line before ++ l) is ∙ sym (append_assoc (flat_map line before) (line words) after)
     ∙ ap (λ l. l ++ after) (ap (λ l. flat_map line before ++ l) (sym (append-nil (line words))) ∙ sym (flat_map-append line before (words ∷ [])))))
   where
@@ -177,7 +177,7 @@ pub front_not_both : (text front rest : List ℕ) (input : ClearingInput) (numbe
     → text ≡ front ++ rest → Spells front input → IsFrontFault text number why → ⊥
 front_not_both text front rest input number why e h fault =
     let s = spelled front input h in
-    no_fault [] fault.faulty.more s.lines fault.faulty.rest fault.left rest why fault.faulty.faultless s.faultless
+    no_fault fault_of [] fault.faulty.more s.lines fault.faulty.rest fault.left rest why fault.faulty.faultless s.faultless
     s.ends (sym fault.faulty.text_is ∙ with_rest text front rest s.lines e s.text_is) fault.faulty.here
 
 -- two fronts of inputs in one text are the same
@@ -186,7 +186,7 @@ pub fronts_once : (text front rest other left : List ℕ) (input input' : Cleari
 fronts_once text front rest other left input input' e g h k =
     let s = spelled front input h in
     let t = spelled other input' k in
-    let same = finish_once [] s.lines t.lines rest left s.faultless t.faultless
+    let same = finish_once fault_of [] s.lines t.lines rest left s.faultless t.faultless
     (sym (with_rest text front rest s.lines e s.text_is) ∙ with_rest text other left t.lines g t.text_is) in
     (s.text_is ∙ ap (λ l. flat_map line l ++ finish_line) same.0 ∙ sym t.text_is, same.1)
 
@@ -198,7 +198,7 @@ not_both text valid (number, why, inr on) =
 pub one_fault : (text : List ℕ) (number other : ℕ) (why reason : Fault) → IsFirstFault text number why
     → IsFirstFault text other reason → (number ≡ other) × (why ≡ reason)
 one_fault text number other why reason (inl f) (inl g) =
-    let same = fault_once [] f.faulty.more g.faulty.more f.faulty.rest g.faulty.rest f.left g.left why reason
+    let same = fault_once fault_of [] f.faulty.more g.faulty.more f.faulty.rest g.faulty.rest f.left g.left why reason
     f.faulty.faultless g.faulty.faultless (sym f.faulty.text_is ∙ g.faulty.text_is) f.faulty.here g.faulty.here in
     (f.number_is ∙ ap (λ l. length l + 1) same.0 ∙ sym g.number_is, same.1)
 one_fault text number other why reason (inl f) (inr g) = absurd (front_not_both text g.front g.rest g.input number why g.text_is g.spelled f)

@@ -1,35 +1,30 @@
 -- The front of a text: its input, or its fault and the number of the faulty line.
-use Rattle.std.proofs.Common.{◌≡◌, ℕ, ◌+◌, ◌-◌, ◌==◌, cond, List, [], ◌∷◌, ◌++◌, codes, take, length, refl, sym, ap, ◌∙◌, append_assoc, length-append, arith}
-use Rattle.std.specs.List.{flat_map, count_by, join_with_byte}
+use Rattle.std.proofs.Common.{◌≡◌, ℕ, ◌-◌, List, [], ◌∷◌, ◌++◌, codes, take, length, refl, sym, ap, ◌∙◌, append_assoc, length-append, arith}
+use Rattle.std.specs.List.{flat_map}
 use Rattle.std.proofs.lemmas.List.{append-nil}
 use Rattle.std.proofs.lemmas.List.Concat.{flat_map-append}
-use Rattle.std.proofs.lemmas.List.Sums.{sum_by-append, sum_by-cons}
 use Rattle.books_model.specs.Books.{ClearingBooks}
 use Rattle.books_model.specs.Ranges.{AreInRange}
-use Rattle.script_reader.specs.declared.words.TheConstants.{SPACE, LINE_FEED}
 use Rattle.script_reader.specs.declared.fault.Fault.{Fault}
-use Rattle.script_reader.specs.Lines.{IsFreeOf, AreWords}
 use Rattle.script_reader.specs.Text.{line, books_lines, scripts_line, finish_line}
 use Rattle.script_reader.specs.Inner.LinesAsWords.{books_words, lines_so_far}
 use Rattle.script_reader.specs.Input.{Caller}
 use Rattle.script_reader.specs.Grammar.{submission_lines, input_text}
 use Rattle.script_reader.specs.Inner.Scripts.{IsReadOf, HasFront}
 use Rattle.script_reader.specs.Versions.{AreBooksWithin}
-use Rattle.script_reader.specs.Forms.{Words}
-use Rattle.script_reader.specs.Faults.{AreFaultless, IsFaultyBehind}
+use Rattle.script_reader.specs.Faults.{fault_of, IsFaultyBehind}
 use Rattle.script_reader.proofs.Versions.{callers_for, callers_within}
-use Rattle.script_reader.proofs.Tokens.Cutting.{join-free}
 use Rattle.script_reader.proofs.Texts.OneReading.{text_of_books}
 use Rattle.script_reader.proofs.WithoutFault.ScriptsFaultless.{input_faultless}
 use Rattle.script_reader.proofs.Texts.Reaching.{no_callers}
-use Rattle.script_reader.proofs.Texts.Following.{behind_more}
 use Rattle.script_reader.specs.declared.version.Version.{Version}
+use Rattle.script_reader.proofs.Judging.{behind_more}
 
 -- a fault behind books that were read
 pub behind_books : (version : Version) (b : ClearingBooks) (range : AreInRange b) → AreBooksWithin version b → (start left after : List ℕ) (why : Fault)
     → start ≡ flat_map line (books_words version b) ++ (scripts_line ++ left) → IsFaultyBehind (lines_so_far version b []) left after why → IsFaultyBehind [] start after why
 behind_books version b range within start left after why text h =
-    behind_more [] (lines_so_far version b []) start left after why (input_faultless version b range within [] (no_callers version b))
+    behind_more fault_of [] (lines_so_far version b []) start left after why (input_faultless version b range within [] (no_callers version b))
     (text ∙ sym (append_assoc (flat_map line (books_words version b)) scripts_line left)
     ∙ ap (λ l. l ++ left) (ap (λ l. flat_map line (books_words version b) ++ l) (sym (append-nil scripts_line))
     ∙ sym (flat_map-append line (books_words version b) ((codes "scripts" ∷ []) ∷ [])))) h
@@ -65,26 +60,3 @@ take_front start front after end e is =
     take_all : (front after : List ℕ) → take (length front) (front ++ after) ≡ front
     take_all [] after = refl
     take_all (x ∷ front) after = ap (λ l. x ∷ l) (take_all front after)
-
--- a byte is not counted where there is none
-count_free : (c : ℕ) (xs : List ℕ) → IsFreeOf c xs → count_by (λ b. b == c) xs ≡ 0
-count_free c [] f = refl
-count_free c (x ∷ xs) f = sum_by-cons (λ b. cond (b == c) 1 0) x xs ∙ (λ i. cond (f.0 i) 1 0 + count_free c xs f.1 i) ∙ omega arith
-
--- a line has one line feed
-pub count_line : (words : Words) → AreWords words → count_by (λ b. b == LINE_FEED) (line words) ≡ 1
-count_line words are = omega (
-  arith,
-  sum_by-append (λ b. cond (b == LINE_FEED) 1 0) (join_with_byte SPACE words) (LINE_FEED ∷ []),
-  count_free LINE_FEED (join_with_byte SPACE words) (join-free words are.each),
-)
-
--- lines have one each
-pub count_lines : (before lines : List Words) → AreFaultless before lines → count_by (λ b. b == LINE_FEED) (flat_map line lines) ≡ length lines
-count_lines before [] f = refl
-count_lines before (w ∷ lines) f = omega (
-  arith,
-  sum_by-append (λ b. cond (b == LINE_FEED) 1 0) (line w) (flat_map line lines),
-  count_line w f.0,
-  count_lines (before ++ w ∷ []) lines f.3,
-)

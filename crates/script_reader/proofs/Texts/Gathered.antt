@@ -24,16 +24,16 @@ use Rattle.script_reader.proofs.WithoutFault.ScriptsFaultless.{scripts_faultless
 use Rattle.script_reader.proofs.Grouped.Submitting.{caller-AreWords}
 use Rattle.script_reader.proofs.Texts.OneReading.{text_of_submission, flat_of_flat}
 use Rattle.script_reader.proofs.Texts.Reaching.{scripts_counted, callers_counted, caller_named}
-use Rattle.script_reader.proofs.Texts.Following.{behind_more}
 use Rattle.script_reader.specs.Inner.OfVersion.{AreCallersOf}
 use Rattle.script_reader.specs.declared.version.Version.{Version}
+use Rattle.script_reader.proofs.Judging.{behind_more}
 
 -- a fault behind scripts that were read
 pub behind_scripts : (version : Version) (b : ClearingBooks) (range : AreInRange b) (subs : List Submission) (start left after : List ℕ)
     (why : Fault) → AreCallersOf version b (callers_of subs) → start ≡ flat_map line (flat_map submission_words subs) ++ left
     → IsFaultyBehind (lines_so_far version b subs) left after why → IsFaultyBehind (lines_so_far version b []) start after why
 behind_scripts version b range subs start left after why valid text h =
-    behind_more (lines_so_far version b []) (flat_map submission_words subs) start left after why (scripts_faultless version b range subs valid) text
+    behind_more fault_of (lines_so_far version b []) (flat_map submission_words subs) start left after why (scripts_faultless version b range subs valid) text
     (subst (λ l. IsFaultyBehind l left after why) (sym (append_assoc (books_words version b) (ended []) (flat_map submission_words subs))) h)
 
 -- a line between scripts that is neither the last one nor begins a script
@@ -67,7 +67,7 @@ pub behind_script : (version : Version) (b : ClearingBooks) (subs : List Submiss
     → left ≡ line words ++ middle → IsFaultyBehind (lines_inside version b subs name [] BetweenParts) middle after why → IsFaultyBehind (lines_so_far version b subs) left after why
 behind_script version b subs name words left middle after why is named room text h =
     let first : Words = codes "script" ∷ name ∷ [] in
-    behind_more (lines_so_far version b subs) (first ∷ []) left middle after why
+    behind_more fault_of (lines_so_far version b subs) (first ∷ []) left middle after why
     (caller-AreWords name named, outside_none version b subs name named room, refl, tt)
     (text ∙ ap (λ w. line w ++ middle) is ∙ ap (λ l. l ++ middle) (sym (append-nil (line first)))) h
 

@@ -25,17 +25,17 @@ use Rattle.script_reader.specs.Lines.{word_at}
 use Rattle.script_reader.specs.Forms.{Words, begins, is_only, value_of, value_at}
 use Rattle.script_reader.proofs.Tokens.Numerals.{value_of_number}
 use Rattle.script_reader.proofs.Printing.Scripted.{ended, no_turning, no_try}
-use Rattle.script_reader.specs.Faults.{is_turning}
+use Rattle.script_reader.specs.Faults.{fault_of, is_turning}
 use Rattle.script_reader.proofs.Printing.Sections.{all_follow, each_entry}
 use Rattle.script_reader.proofs.WithoutFault.Faultless.{IsPrice, IsPosition, IsMarginCall}
 use Rattle.script_reader.proofs.WithoutFault.BooksFaultless.{blocks_fit, instruments_fit, ring_fits, prices_are, positions_are, calls_are}
 use Rattle.script_reader.proofs.Grouped.Submitting.{IsGoodScript, scripts_are_good}
-use Rattle.script_reader.proofs.Texts.OneReading.{finish_once}
 use Rattle.script_reader.proofs.Texts.Reaching.{operation_goes_on}
 use Rattle.script_reader.proofs.Texts.Deciding.{callers_spelled, spelled, spelled_lines}
 use Rattle.script_reader.proofs.Versions.{amount_within, one_version}
 use Rattle.script_reader.specs.Inner.OfVersion.{IsOperationOf, AreCallersOf}
 use Rattle.script_reader.specs.declared.version.Version.{Version}
+use Rattle.script_reader.proofs.Judging.{finish_once}
 
 -- numbers with the same text are the same
 number_once : (n m : ℕ) → n < 2 ^ 64 → m < 2 ^ 64 → number n ≡ number m → n ≡ m
@@ -276,7 +276,7 @@ pub one_input : (text : List ℕ) (input other : ClearingInput) → Spells text 
 one_input text input other h k =
     let s = spelled text input h in
     let t = spelled text other k in
-    let lines = finish_once [] s.lines t.lines [] [] s.faultless t.faultless
+    let lines = finish_once fault_of [] s.lines t.lines [] [] s.faultless t.faultless
     (ap (λ l. flat_map line s.lines ++ l) (append-nil finish_line) ∙ sym s.text_is ∙ t.text_is
     ∙ ap (λ l. flat_map line t.lines ++ l) (sym (append-nil finish_line))) in
     let same = lines_once h.version k.version input.books other.books h.submissions k.submissions h.valid.books k.valid.books

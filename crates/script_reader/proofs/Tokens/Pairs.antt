@@ -6,7 +6,7 @@ use Rattle.script_reader.specs.declared.fault.Fault.TheVariants as fault
 use Rattle.script_reader.specs.Lines.{word_at}
 use Rattle.script_reader.specs.Forms.{Words, value_of, is_in_range, are_numbers, are_in_range}
 use Rattle.script_reader.specs.Faults.{first_reason}
-use Rattle.script_reader.specs.Inner.Rows.{numbers_fault}
+use Rattle.script_reader.specs.Rows.{numbers_fault}
 use Rattle.script_reader.proofs.Tokens.Numerals.{greatest_u64}
 use Rattle.script_reader.proofs.Conditions.{both}
 

@@ -21,7 +21,7 @@ use Rattle.script_reader.specs.Lines.{IsWord, AreWords}
 use Rattle.script_reader.specs.Text.{header_words, account_words, price_words, position_words, call_words}
 use Rattle.script_reader.specs.Inner.LinesAsWords.{books_words}
 use Rattle.script_reader.specs.Forms.{Words, sizes, size_words, are_numbers, are_in_range}
-use Rattle.script_reader.specs.Faults.{first_reason, header_fault, AreFaultless}
+use Rattle.script_reader.specs.Faults.{fault_of, first_reason, header_fault, AreFaultless}
 use Rattle.script_reader.specs.declared.fault.Fault.TheVariants as fault
 use Rattle.script_reader.proofs.Tokens.Cutting.{word_from_test}
 use Rattle.script_reader.proofs.Tokens.Numerals.{number-IsWord}
@@ -30,10 +30,11 @@ use Rattle.script_reader.proofs.Conditions.{or_right}
 use Rattle.script_reader.proofs.Printing.Printed.{Printed, IsSmall}
 use Rattle.script_reader.proofs.WithoutFault.NoFault.{AreWithin, texts_are_numbers, texts_are_in_range}
 use Rattle.script_reader.proofs.Printing.Sections.{rises_entries, rises_follow, number_less, pair_less, each_entry, all_follow}
-use Rattle.script_reader.proofs.WithoutFault.Faultless.{faultless_append, IsAccount, IsPrice, IsPosition, IsMarginCall, small_price}
+use Rattle.script_reader.proofs.WithoutFault.Faultless.{IsAccount, IsPrice, IsPosition, IsMarginCall, small_price}
 use Rattle.script_reader.proofs.WithoutFault.Faultless.{small_position}
 use Rattle.script_reader.proofs.WithoutFault.Faultless.{accounts_faultless, prices_faultless, positions_faultless, calls_faultless}
 use Rattle.script_reader.specs.declared.version.Version.{Version}
+use Rattle.script_reader.proofs.Judging.{faultless_append}
 
 -- a key that is found is one of the keys
 pub found_is_given : (a : ℕ) (es : List (ℕ × ℕ)) → IsSome (find nat_cmp a es) → list_any (λ x. x.0 == a) es ≡ true
@@ -183,16 +184,16 @@ module _ (version : Version) (b : ClearingBooks) (range : AreInRange b) (within 
         header_words_are,
         header_has_none,
         refl,
-        faultless_append (h ∷ []) A _
+        faultless_append fault_of (h ∷ []) A _
             (accounts_faultless version b.blocks b.instruments b.ring (blocks_fit b range) (instruments_fit b range) (ring_fits b range) []
             (finmap.entries b.accounts) tt (accounts_are b range version within) (rises_follow _ _ [] _ (λ x e. number_less x.0 e.0)
             (rises_entries nat_cmp b.accounts)) (omega (arith, room)))
-            (faultless_append (h ∷ A) P _
+            (faultless_append fault_of (h ∷ A) P _
             (subst (λ l. AreFaultless (h ∷ l) P) (append-nil A)
             (prices_faultless version b.blocks b.instruments b.ring (blocks_fit b range) (instruments_fit b range) (ring_fits b range)
             (finmap.entries b.accounts) (small_accounts b range) [] (finmap.entries b.prices) tt (prices_are b range)
             (rises_follow _ _ [] _ (λ x e. number_less x.0 e.0) (rises_entries nat_cmp b.prices)) (omega (arith, room))))
-            (faultless_append (h ∷ (A ++ P)) Q _
+            (faultless_append fault_of (h ∷ (A ++ P)) Q _
             (subst (λ l. AreFaultless (h ∷ (A ++ l)) Q) (append-nil P)
             (positions_faultless version b.blocks b.instruments b.ring (blocks_fit b range) (instruments_fit b range) (ring_fits b range)
             (finmap.entries b.accounts) (small_accounts b range) (finmap.entries b.prices) (small_prices b range) []

@@ -1,13 +1,11 @@
 -- The lines of an input have no fault.
-use Rattle.std.proofs.Common.{◌≡◌, ℕ, ◌+◌, ◌<◌, ◌≤◌, ◌^◌, true, ◌==◌, List, [], ◌∷◌, ◌++◌, codes, map, length, refl, sym, subst, append_assoc, length-append}
+use Rattle.std.proofs.Common.{◌≡◌, ℕ, ◌+◌, ◌<◌, ◌≤◌, ◌^◌, true, ◌==◌, List, [], ◌∷◌, ◌++◌, codes, map, length, refl, subst, length-append}
 use Rattle.std.proofs.Common.{arith}
 use Rattle.std.specs.List.{list_any, AllByRecursion}
-use Rattle.std.proofs.lemmas.List.{append-nil}
 use Rattle.script_reader.specs.declared.version.Version.{Version}
 use Rattle.script_reader.specs.Inner.Rows.{account_ranges, price_ranges, position_ranges, call_ranges}
 use Rattle.script_reader.specs.Lines.{IsWord, AreWords}
 use Rattle.script_reader.specs.Text.{number, account_words, price_words, position_words, call_words}
-use Rattle.script_reader.specs.Forms.{Words}
 use Rattle.script_reader.specs.Faults.{AreFaultless, is_below}
 use Rattle.script_reader.proofs.Tokens.Cutting.{word_from_test}
 use Rattle.script_reader.proofs.Tokens.Numerals.{number-IsWord}
@@ -15,12 +13,6 @@ use Rattle.script_reader.proofs.Printing.Printed.{Printed, IsSmall, header_of, p
 use Rattle.script_reader.proofs.Printing.Growing.{account_more, price_more, position_more, call_more}
 use Rattle.script_reader.proofs.WithoutFault.NoFault.{AreWithin, account_has_none, price_has_none, position_has_none, call_has_none}
 use Rattle.script_reader.proofs.Printing.Sections.{Rises}
-
--- lines without fault, behind lines without fault
-pub faultless_append : (before xs ys : List Words) → AreFaultless before xs → AreFaultless (before ++ xs) ys → AreFaultless before (xs ++ ys)
-faultless_append before [] ys first more = subst (λ b. AreFaultless b ys) (append-nil before) more
-faultless_append before (w ∷ xs) ys first more =
-    (first.0, first.1, first.2, faultless_append (before ++ w ∷ []) xs ys first.3 (subst (λ b. AreFaultless b ys) (sym (append_assoc before (w ∷ []) xs)) more))
 
 -- texts of numbers are words
 numbers_are_words : (ns : List ℕ) (ranges : List (ℕ × ℕ)) → length ns ≡ length ranges → AreWithin ns ranges → AllByRecursion IsWord (map number ns)

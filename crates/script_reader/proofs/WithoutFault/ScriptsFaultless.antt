@@ -26,18 +26,19 @@ use Rattle.script_reader.specs.Inner.LinesAsWords.{Open, BetweenParts, InFirst, 
 use Rattle.script_reader.specs.Input.{Submission, add_name, callers_of, first_seen, count_scripts}
 use Rattle.script_reader.specs.Versions.{AreBooksWithin}
 use Rattle.script_reader.specs.Forms.{Words, is_only, accounts, amounts, quantities}
-use Rattle.script_reader.specs.Faults.{first_reason, AreFaultless}
+use Rattle.script_reader.specs.Faults.{fault_of, first_reason, AreFaultless}
 use Rattle.script_reader.proofs.Versions.{amount_small}
 use Rattle.script_reader.proofs.Tokens.Cutting.{word_from_test}
 use Rattle.script_reader.proofs.Printing.Scripted.{ended, is_beyond_at, outside_fault_is, inside_at, inside_fault_is}
 use Rattle.script_reader.proofs.Printing.Opened.{parts_more, open_more, words_more, operations_more, words_try, operations_try, words_else, inside_more, rest_of_branch, first_count}
 use Rattle.script_reader.proofs.WithoutFault.NoFault.{operation_has_none, try_fault, scripts_has_none}
-use Rattle.script_reader.proofs.WithoutFault.Faultless.{faultless_append, row_are_words}
+use Rattle.script_reader.proofs.WithoutFault.Faultless.{row_are_words}
 use Rattle.script_reader.proofs.WithoutFault.BooksFaultless.{printed, printed_small, instruments_fit, books_faultless}
 use Rattle.script_reader.proofs.Grouped.Submitting.{IsGoodScript, scripts_are_good, caller-AreWords, count-fold}
 use Rattle.script_reader.proofs.Grouped.Grouping.{callers_of-gathered}
 use Rattle.script_reader.specs.Inner.OfVersion.{IsOperationOf, AreCallersOf}
 use Rattle.script_reader.specs.declared.version.Version.{Version}
+use Rattle.script_reader.proofs.Judging.{faultless_append}
 
 -- the words of an operation are those of a line
 pub operation-AreWords : (version : Version) (books : ClearingBooks) → books.instruments < 2 ^ 64 → (o : Op) → IsOperationOf version books o → AreWords (operation_words o)
@@ -144,18 +145,18 @@ module _ (version : Version) (b : ClearingBooks) (range : AreInRange b) where
       let turned = inside_more version b subs name parts parts (InFirst first) (InSecond first []) ((codes "else" ∷ []) ∷ []) (words_else parts first) in
       let other = inside_more version b subs name parts parts (InSecond first []) (InSecond first second) (map operation_words second) (rest_of_branch parts first second).1 in
       let count = first_count parts first in
-      faultless_append start ((codes "try" ∷ []) ∷ []) (map operation_words first ++ ((codes "else" ∷ []) ∷ (map operation_words second ++ (codes "done" ∷ []) ∷ [])))
+      faultless_append fault_of start ((codes "try" ∷ []) ∷ []) (map operation_words first ++ ((codes "else" ∷ []) ∷ (map operation_words second ++ (codes "done" ∷ []) ∷ [])))
       (turning_faultless subs name parts BetweenParts (codes "try") (word_from_test (codes "try") refl) refl
       (try_fault version b.instruments (length (operations_of parts)) (sum_by alternatives_in parts) false (lt-leb MOST_ALTERNATIVES (sum_by alternatives_in parts) (omega (arith, few)))))
       (subst (λ ls. AreFaultless ls (map operation_words first ++ ((codes "else" ∷ []) ∷ (map operation_words second ++ (codes "done" ∷ []) ∷ [])))) begun
-      (faultless_append (lines_inside version b subs name parts (InFirst [])) (map operation_words first) ((codes "else" ∷ []) ∷ (map operation_words second ++ (codes "done" ∷ []) ∷ []))
+      (faultless_append fault_of (lines_inside version b subs name parts (InFirst [])) (map operation_words first) ((codes "else" ∷ []) ∷ (map operation_words second ++ (codes "done" ∷ []) ∷ []))
       (operations_faultless subs name parts (InFirst []) first
       (recursion_from_All (IsOperationOf version b) first (All-front (IsOperationOf version b) first second all)) (omega (arith, room, ap length (operations_try parts), long)))
       (subst (λ ls. AreFaultless ls ((codes "else" ∷ []) ∷ (map operation_words second ++ (codes "done" ∷ []) ∷ []))) branch
-      (faultless_append (lines_inside version b subs name parts (InFirst first)) ((codes "else" ∷ []) ∷ []) (map operation_words second ++ (codes "done" ∷ []) ∷ [])
+      (faultless_append fault_of (lines_inside version b subs name parts (InFirst first)) ((codes "else" ∷ []) ∷ []) (map operation_words second ++ (codes "done" ∷ []) ∷ [])
       (turning_faultless subs name parts (InFirst first) (codes "else") (word_from_test (codes "else") refl) refl refl)
       (subst (λ ls. AreFaultless ls (map operation_words second ++ (codes "done" ∷ []) ∷ [])) turned
-      (faultless_append (lines_inside version b subs name parts (InSecond first [])) (map operation_words second) ((codes "done" ∷ []) ∷ [])
+      (faultless_append fault_of (lines_inside version b subs name parts (InSecond first [])) (map operation_words second) ((codes "done" ∷ []) ∷ [])
       (operations_faultless subs name parts (InSecond first []) second
       (recursion_from_All (IsOperationOf version b) second (All-back (IsOperationOf version b) first second all)) (omega (arith, room, count, long)))
       (subst (λ ls. AreFaultless ls ((codes "done" ∷ []) ∷ [])) other
@@ -174,7 +175,7 @@ module _ (version : Version) (b : ClearingBooks) (range : AreInRange b) where
       ∙ (λ i. sym (append-nil (flat_map part_words done)) i ++ one i) in
       let long = length-append (operations_in p) (operations_of rest) in
       let counted = sum_by-cons alternatives_in p rest in
-      faultless_append (lines_inside version b subs name done BetweenParts) (part_words p) (flat_map part_words rest)
+      faultless_append fault_of (lines_inside version b subs name done BetweenParts) (part_words p) (flat_map part_words rest)
       (part_faultless subs name done p (All-front (IsOperationOf version b) (operations_in p) (operations_of rest) all) (omega (arith, room, long)) (omega (arith, few, counted)))
       (subst (λ ls. AreFaultless ls (flat_map part_words rest)) (inside_more version b subs name done (done ++ p ∷ []) BetweenParts BetweenParts (part_words p) more)
       (parts_faultless subs name (done ++ p ∷ []) rest (All-back (IsOperationOf version b) (operations_in p) (operations_of rest) all)
@@ -215,7 +216,7 @@ module _ (version : Version) (b : ClearingBooks) (range : AreInRange b) where
     outside_fault_is (printed version b) done (codes "script" ∷ s.caller ∷ [])
         ∙ (λ i. first_reason ((not (false || good.name i), fault.Word) ∷ (good.name i && not_beyond done rest s room space i, fault.Limit) ∷ [])),
     refl,
-    faultless_append (lines_inside version b done s.caller [] BetweenParts) (flat_map part_words s.script) ((codes "end" ∷ []) ∷ [])
+    faultless_append fault_of (lines_inside version b done s.caller [] BetweenParts) (flat_map part_words s.script) ((codes "end" ∷ []) ∷ [])
         (parts_faultless done s.caller [] s.script good.script.each (omega (arith, good.script.few)) (omega (arith, good.script.few_alternatives)))
         (subst (λ ls. AreFaultless ls ((codes "end" ∷ []) ∷ []))
         (inside_more version b done s.caller [] s.script BetweenParts BetweenParts (flat_map part_words s.script) (append-nil (flat_map part_words s.script)))
@@ -232,7 +233,7 @@ module _ (version : Version) (b : ClearingBooks) (range : AreInRange b) where
       append_assoc (books_words version b) (ended done) (submission_words s)
       ∙ ap (λ l. books_words version b ++ ((codes "scripts" ∷ []) ∷ l)) (ap (λ l. flat_map submission_words done ++ l) (sym one)
       ∙ sym (flat_map-append submission_words done (s ∷ []))) in
-      faultless_append (lines_so_far version b done) (submission_words s) (flat_map submission_words rest)
+      faultless_append fault_of (lines_so_far version b done) (submission_words s) (flat_map submission_words rest)
       (submission_faultless done rest s all.0 room space)
       (subst (λ ls. AreFaultless ls (flat_map submission_words rest)) (sym more)
       (submissions_faultless (done ++ s ∷ []) rest all.1 (omega (arith, room, length-append done (s ∷ [])))
@@ -247,7 +248,7 @@ module _ (version : Version) (b : ClearingBooks) (range : AreInRange b) where
 
   -- all lines of an input before its last
   pub input_faultless : AreBooksWithin version b → (subs : List Submission) → AreCallersOf version b (callers_of subs) → AreFaultless [] (lines_so_far version b subs)
-  input_faultless within subs valid = faultless_append [] (books_words version b) (ended subs) (books_faultless version b range within) (
+  input_faultless within subs valid = faultless_append fault_of [] (books_words version b) (ended subs) (books_faultless version b range within) (
     record { some = omega arith; each = (word_from_test (codes "scripts") refl, tt) },
     scripts_has_none (printed version b) (printed_small b range version),
     refl,

@@ -5,7 +5,8 @@ use Rattle.books_model.specs.Ranges.{IsWithin}
 use Rattle.script_reader.specs.declared.books.Row.TheVariants as row
 use Rattle.script_reader.specs.Forms.{accounts}
 use Rattle.script_reader.specs.Inner.BooksRows.{IsRow}
-use Rattle.script_reader.specs.Inner.Rows.{HasNumbers, numbers_fault, account_ranges}
+use Rattle.script_reader.specs.Rows.{HasNumbers, numbers_fault}
+use Rattle.script_reader.specs.Inner.Rows.{account_ranges}
 use Rattle.script_reader.proofs.Printing.Printed.{is_late_in}
 use Rattle.script_reader.proofs.WithoutFault.BooksFaultless.{printed}
 use Rattle.script_reader.proofs.LineFaults.Refusing.{accounts_late, late_row, numbers_row, read_row, account_fault, gives_account}

@@ -13,14 +13,15 @@ use Rattle.script_reader.specs.Faults.{AreFaultless, fault_of}
 use Rattle.script_reader.proofs.Versions.{row_within}
 use Rattle.script_reader.proofs.LineFaults.LineKinds.{only_word}
 use Rattle.script_reader.proofs.WithoutFault.BooksFaultless.{books_faultless}
-use Rattle.script_reader.proofs.Texts.Following.{line_shorter, more_text, faultless_rest, behind_more, behind_end, behind_line}
+use Rattle.script_reader.proofs.Texts.Following.{line_shorter, more_text}
+use Rattle.script_reader.proofs.Judging.{behind_end, behind_line, behind_more, faultless_rest}
 use Rattle.script_reader.proofs.books.fill.Goals as goal
 
 -- the lines that were read are those of books in range
 read_so_far : (version : Version) (books first : ClearingBooks) (more : List Words) → AreInRange books → AreBooksWithin version books
     → books_words version books ≡ books_words version first ++ more → AreFaultless (books_words version first) more
 read_so_far version books first more range within whole =
-    faultless_rest [] (books_words version first) more (subst (AreFaultless []) whole (books_faultless version books range within))
+    faultless_rest fault_of [] (books_words version first) more (subst (AreFaultless []) whole (books_faultless version books range within))
 
 pub loop-words-preserved : goal.loop-words-preserved
 loop-words-preserved c = record {
@@ -40,10 +41,10 @@ pub returns-in_err-words-clause-fault : goal.returns-in_err-words-clause-fault
 returns-in_err-words-clause-fault c why e =
     let p = err_from_is_err_and c.from_residual.result c.from_residual.ensures.1 in
     let same : c.in_err-words.field-0.0 ≡ why = cc (p.1, p.2, e) in
-    behind_more (books_words c.args.version c.args.books.now) c.loop-words.invariant.more c.args.lines.now c.loop-words.lines
+    behind_more fault_of (books_words c.args.version c.args.books.now) c.loop-words.invariant.more c.args.lines.now c.loop-words.lines
     c.words.new.self why (read_so_far c.args.version c.loop-words.books c.args.books.now c.loop-words.invariant.more
     c.ranges-in-loop-words.ensures c.loop-words.invariant.within c.loop-words.invariant.whole) c.loop-words.invariant.text
-    (behind_end (books_words c.args.version c.args.books.now ++ c.loop-words.invariant.more) c.loop-words.lines c.words.new.self why
+    (behind_end fault_of (books_words c.args.version c.args.books.now ++ c.loop-words.invariant.more) c.loop-words.lines c.words.new.self why
     (sym same ∙ c.in_err-words.ensures.end.0, c.in_err-words.ensures.end.1, c.in_err-words.ensures.end.2))
 
 pub returns-then-is_only-clause-text : goal.returns-then-is_only-clause-text
@@ -59,9 +60,9 @@ pub returns-in_err-row-clause-fault : goal.returns-in_err-row-clause-fault
 returns-in_err-row-clause-fault c why e =
     let p = err_from_is_err_and c.from_residual-in_err-row.result c.from_residual-in_err-row.ensures.1 in
     let same : c.in_err-row.field-0.0 ≡ why = cc (p.1, p.2, e) in
-    behind_more (books_words c.args.version c.args.books.now) c.loop-words.invariant.more c.args.lines.now c.loop-words.lines
+    behind_more fault_of (books_words c.args.version c.args.books.now) c.loop-words.invariant.more c.args.lines.now c.loop-words.lines
     c.words.new.self why (read_so_far c.args.version c.loop-words.books c.args.books.now c.loop-words.invariant.more
     c.ranges-in-loop-words.ensures c.loop-words.invariant.within c.loop-words.invariant.whole) c.loop-words.invariant.text
-    (behind_line (books_words c.args.version c.args.books.now ++ c.loop-words.invariant.more) c.loop-words.lines c.words.new.self
+    (behind_line fault_of (books_words c.args.version c.args.books.now ++ c.loop-words.invariant.more) c.loop-words.lines c.words.new.self
     c.in_ok-words.words why c.in_ok-words.ensures.found.0 c.in_ok-words.ensures.found.1
     (ap (λ b. fault_of b c.in_ok-words.words) (sym c.loop-words.invariant.whole) ∙ c.in_err-row.ensures.err ∙ ap Some same))

@@ -10,7 +10,8 @@ use Rattle.script_reader.specs.Forms.{accounts, quantities, value_at}
 use Rattle.script_reader.specs.Inner.BooksRows.{IsRow}
 use Rattle.script_reader.specs.Inner.LinesAsWords.{books_words}
 use Rattle.script_reader.specs.Faults.{fault_of}
-use Rattle.script_reader.specs.Inner.Rows.{HasNumbers, numbers_fault, position_ranges}
+use Rattle.script_reader.specs.Rows.{HasNumbers, numbers_fault}
+use Rattle.script_reader.specs.Inner.Rows.{position_ranges}
 use Rattle.script_reader.proofs.Printing.Printed.{is_low_in}
 use Rattle.script_reader.proofs.WithoutFault.BooksFaultless.{printed}
 use Rattle.script_reader.proofs.LineFaults.Refusing.{reasons, has_no_block, late_row, numbers_row, read_row, some_is, position_fault, gives_position}

@@ -5,7 +5,8 @@ use Rattle.script_reader.specs.declared.version.Version.{Version}
 use Rattle.script_reader.specs.declared.books.Row.TheVariants as row
 use Rattle.script_reader.specs.Forms.{prices}
 use Rattle.script_reader.specs.Inner.BooksRows.{IsRow}
-use Rattle.script_reader.specs.Inner.Rows.{HasNumbers, numbers_fault, price_ranges}
+use Rattle.script_reader.specs.Rows.{HasNumbers, numbers_fault}
+use Rattle.script_reader.specs.Inner.Rows.{price_ranges}
 use Rattle.script_reader.proofs.Printing.Printed.{is_late_in}
 use Rattle.script_reader.proofs.WithoutFault.BooksFaultless.{printed}
 use Rattle.script_reader.proofs.LineFaults.Refusing.{prices_late, late_row, numbers_row, read_row, price_fault, gives_price}

@@ -4,7 +4,7 @@ use Rattle.books_model.specs.declared.limits.TheConstants.{GREATEST_ACCOUNT, GRE
 use Rattle.books_model.specs.Ranges.{IsWithin}
 use Rattle.script_reader.specs.Text.{number}
 use Rattle.script_reader.specs.Forms.{operation_forms, accounts, quantities}
-use Rattle.script_reader.specs.Inner.Rows.{HasNumbers, numbers_fault}
+use Rattle.script_reader.specs.Rows.{HasNumbers, numbers_fault}
 use Rattle.script_reader.proofs.WithoutFault.BooksFaultless.{instruments_fit}
 use Rattle.script_reader.proofs.LineFaults.Operating.{row_four}
 use Rattle.script_reader.proofs.LineFaults.RowFaults.{other_length, unknown_word, four_wrong}

@@ -5,7 +5,7 @@ use Rattle.script_reader.specs.Text.{number}
 use Rattle.script_reader.specs.Versions.{greatest_amount}
 use Rattle.std.proofs.lemmas.Result.{err_from_is_err_and}
 use Rattle.script_reader.specs.Forms.{operation_forms, accounts, amounts}
-use Rattle.script_reader.specs.Inner.Rows.{HasNumbers, numbers_fault}
+use Rattle.script_reader.specs.Rows.{HasNumbers, numbers_fault}
 use Rattle.script_reader.proofs.Versions.{amount_small}
 use Rattle.script_reader.proofs.LineFaults.Operating.{row_three}
 use Rattle.script_reader.proofs.LineFaults.RowFaults.{other_length, unknown_word, three_wrong}

@@ -5,7 +5,7 @@ use Rattle.books_model.specs.Ranges.{IsWithin}
 use Rattle.script_reader.specs.Text.{number}
 use Rattle.script_reader.specs.Versions.{greatest_amount}
 use Rattle.script_reader.specs.Forms.{operation_forms, accounts, amounts}
-use Rattle.script_reader.specs.Inner.Rows.{HasNumbers, numbers_fault}
+use Rattle.script_reader.specs.Rows.{HasNumbers, numbers_fault}
 use Rattle.script_reader.proofs.Versions.{amount_small}
 use Rattle.script_reader.proofs.LineFaults.Operating.{row_two}
 use Rattle.script_reader.proofs.LineFaults.RowFaults.{other_length, unknown_word, two_wrong}

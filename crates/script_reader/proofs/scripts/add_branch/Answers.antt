@@ -8,9 +8,11 @@ use Rattle.script_reader.specs.Text.{line, operation_words}
 use Rattle.script_reader.specs.Inner.LinesAsWords.{lines_inside}
 use Rattle.script_reader.specs.Inner.Branches.{branch_with, closing_word}
 use Rattle.script_reader.specs.Forms.{is_only}
+use Rattle.script_reader.specs.Faults.{fault_of}
 use Rattle.script_reader.proofs.LineFaults.LineKinds.{only_word}
-use Rattle.script_reader.proofs.Texts.Following.{line_shorter, more_text, behind_end, behind_line}
+use Rattle.script_reader.proofs.Texts.Following.{line_shorter, more_text}
 use Rattle.script_reader.proofs.Texts.Branching.{behind_branch, branch_operation_fault, branch_limit}
+use Rattle.script_reader.proofs.Judging.{behind_end, behind_line}
 use Rattle.script_reader.proofs.scripts.add_branch.Goals as goal
 use Rattle.script_reader.specs.Inner.OfVersion.{IsOperationOf}
 
@@ -20,7 +22,7 @@ returns-in_err-words-clause-fault c why e subs name parts first counted =
     let same : c.in_err-words.field-0.0 ≡ why = cc (p.1, p.2, e) in
     behind_branch c.args.version c.args.books.now c.ranges-2.ensures c.args.branch subs name parts first c.loop-words.operations c.args.lines.now c.loop-words.lines
     c.words.new.self why c.loop-words.invariant.range (omega (arith, counted, c.loop-words.invariant.few)) c.loop-words.invariant.text
-    (behind_end (lines_inside c.args.version c.args.books.now subs name parts (branch_with c.args.branch first c.loop-words.operations)) c.loop-words.lines
+    (behind_end fault_of (lines_inside c.args.version c.args.books.now subs name parts (branch_with c.args.branch first c.loop-words.operations)) c.loop-words.lines
     c.words.new.self why (sym same ∙ c.in_err-words.ensures.end.0, c.in_err-words.ensures.end.1, c.in_err-words.ensures.end.2))
 
 pub returns-then-is_only-clause-text : goal.returns-then-is_only-clause-text
@@ -37,7 +39,7 @@ returns-in_err-operation-clause-fault c why e subs name parts first counted =
     let not_closing = sym (c.is_only.ensures ∙ ap (λ k. is_only k c.in_ok-words.words) c.closing.ensures) ∙ c.if-is_only.false in
     behind_branch c.args.version c.args.books.now c.ranges-2.ensures c.args.branch subs name parts first c.loop-words.operations c.args.lines.now c.loop-words.lines
     c.words.new.self why c.loop-words.invariant.range (omega (arith, counted, c.loop-words.invariant.few)) c.loop-words.invariant.text
-    (behind_line (lines_inside c.args.version c.args.books.now subs name parts (branch_with c.args.branch first c.loop-words.operations)) c.loop-words.lines
+    (behind_line fault_of (lines_inside c.args.version c.args.books.now subs name parts (branch_with c.args.branch first c.loop-words.operations)) c.loop-words.lines
     c.words.new.self c.in_ok-words.words why c.in_ok-words.ensures.found.0 c.in_ok-words.ensures.found.1
     (branch_operation_fault c.args.version c.args.books.now c.ranges-2.ensures c.args.branch subs name parts first c.loop-words.operations c.in_ok-words.words why
     not_closing (c.in_err-operation.ensures.err ∙ ap Some same)))
@@ -48,7 +50,7 @@ returns-then-len-so_far-clause-fault c why e subs name parts first counted =
     let found = c.in_ok-operation.ensures.found in
     behind_branch c.args.version c.args.books.now c.ranges-2.ensures c.args.branch subs name parts first c.loop-words.operations c.args.lines.now c.loop-words.lines
     c.words.new.self why c.loop-words.invariant.range (omega (arith, counted, c.loop-words.invariant.few)) c.loop-words.invariant.text
-    (behind_line (lines_inside c.args.version c.args.books.now subs name parts (branch_with c.args.branch first c.loop-words.operations)) c.loop-words.lines
+    (behind_line fault_of (lines_inside c.args.version c.args.books.now subs name parts (branch_with c.args.branch first c.loop-words.operations)) c.loop-words.lines
     c.words.new.self c.in_ok-words.words why c.in_ok-words.ensures.found.0 c.in_ok-words.ensures.found.1
     (branch_limit c.args.version c.args.books.now c.ranges-2.ensures c.args.branch subs name parts first c.loop-words.operations c.in_ok-words.words
     c.in_ok-operation.operation found.0 found.1 (omega (arith, counted, c.len.ensures, c.if-len-so_far.true)) ∙ ap Some same))

@@ -11,11 +11,12 @@ use Rattle.script_reader.specs.declared.fault.Fault.TheVariants as fault
 use Rattle.script_reader.specs.declared.fault.Refusal.TheVariants as refusal
 use Rattle.script_reader.specs.Text.{line, operation_words, part_words, script_lines}
 use Rattle.script_reader.specs.Inner.LinesAsWords.{BetweenParts, lines_inside}
+use Rattle.script_reader.specs.Faults.{fault_of}
 use Rattle.script_reader.proofs.LineFaults.LineKinds.{only_word}
 use Rattle.books_model.proofs.Scripts.Branches.{behind_parts}
 use Rattle.script_reader.proofs.Versions.{script_of_more}
-use Rattle.script_reader.proofs.Texts.Following.{behind_end, behind_line}
 use Rattle.script_reader.proofs.Texts.Branching.{behind_parts_read, behind_try, try_limit, part_fault, part_limit, script_text_more}
+use Rattle.script_reader.proofs.Judging.{behind_end, behind_line}
 use Rattle.script_reader.proofs.scripts.add_parts.Goals as goal
 use Rattle.script_reader.specs.Inner.OfVersion.{IsOperationOf}
 
@@ -25,7 +26,7 @@ returns-in_err-words-clause-fault c why e subs name =
     let p = err_from_is_err_and c.from_residual.result c.from_residual.ensures.1 in
     let same : c.in_err-words.field-0.0 ≡ why = cc (p.1, p.2, e) in
     behind_parts_read c.args.version c.args.books.now c.ranges-2.ensures subs name c.loop-words.script c.args.lines.now c.loop-words.lines c.words.new.self why v.range v.text
-    (behind_end (lines_inside c.args.version c.args.books.now subs name c.loop-words.script BetweenParts) c.loop-words.lines c.words.new.self why
+    (behind_end fault_of (lines_inside c.args.version c.args.books.now subs name c.loop-words.script BetweenParts) c.loop-words.lines c.words.new.self why
     (sym same ∙ c.in_err-words.ensures.end.0, c.in_err-words.ensures.end.1, c.in_err-words.ensures.end.2))
 
 pub returns-then-is_only-clause-text : goal.returns-then-is_only-clause-text
@@ -39,7 +40,7 @@ returns-then-alternatives-ge-MOST_ALTERNATIVES-clause-fault c why e subs name =
     let v = c.loop-words.invariant in
     let same : fault.Limit ≡ why = cc in
     behind_parts_read c.args.version c.args.books.now c.ranges-2.ensures subs name c.loop-words.script c.args.lines.now c.loop-words.lines c.words.new.self why v.range v.text
-    (behind_line (lines_inside c.args.version c.args.books.now subs name c.loop-words.script BetweenParts) c.loop-words.lines c.words.new.self
+    (behind_line fault_of (lines_inside c.args.version c.args.books.now subs name c.loop-words.script BetweenParts) c.loop-words.lines c.words.new.self
     c.in_ok-words.words why c.in_ok-words.ensures.found.0 c.in_ok-words.ensures.found.1
     (try_limit c.args.version c.args.books.now c.ranges-2.ensures subs name c.loop-words.script c.in_ok-words.words
     (sym c.is_only-in-loop-words.ensures ∙ c.if-is_only-2.true) (omega (arith, v.alternatives, c.if-alternatives-ge-MOST_ALTERNATIVES.true)) ∙ ap Some same))
@@ -86,7 +87,7 @@ returns-in_err-operation-clause-fault c why e subs name =
     let p = err_from_is_err_and c.from_residual-in_err-operation.result c.from_residual-in_err-operation.ensures.1 in
     let same : c.in_err-operation.field-0.0 ≡ why = cc (p.1, p.2, e) in
     behind_parts_read c.args.version c.args.books.now c.ranges-2.ensures subs name c.loop-words.script c.args.lines.now c.loop-words.lines c.words.new.self why v.range v.text
-    (behind_line (lines_inside c.args.version c.args.books.now subs name c.loop-words.script BetweenParts) c.loop-words.lines c.words.new.self
+    (behind_line fault_of (lines_inside c.args.version c.args.books.now subs name c.loop-words.script BetweenParts) c.loop-words.lines c.words.new.self
     c.in_ok-words.words why c.in_ok-words.ensures.found.0 c.in_ok-words.ensures.found.1
     (part_fault c.args.version c.args.books.now c.ranges-2.ensures subs name c.loop-words.script c.in_ok-words.words why (sym c.is_only.ensures ∙ c.if-is_only.false)
     (sym c.is_only-in-loop-words.ensures ∙ c.if-is_only-2.false) (c.in_err-operation.ensures.err ∙ ap Some same)))
@@ -97,7 +98,7 @@ returns-then-operations-ge-MOST_OPERATIONS-clause-fault c why e subs name =
     let same : fault.Limit ≡ why = cc in
     let found = c.in_ok-operation.ensures.found in
     behind_parts_read c.args.version c.args.books.now c.ranges-2.ensures subs name c.loop-words.script c.args.lines.now c.loop-words.lines c.words.new.self why v.range v.text
-    (behind_line (lines_inside c.args.version c.args.books.now subs name c.loop-words.script BetweenParts) c.loop-words.lines c.words.new.self
+    (behind_line fault_of (lines_inside c.args.version c.args.books.now subs name c.loop-words.script BetweenParts) c.loop-words.lines c.words.new.self
     c.in_ok-words.words why c.in_ok-words.ensures.found.0 c.in_ok-words.ensures.found.1
     (part_limit c.args.version c.args.books.now c.ranges-2.ensures subs name c.loop-words.script c.in_ok-words.words c.in_ok-operation.operation found.0 found.1
     (omega (arith, v.operations, c.if-operations-ge-MOST_OPERATIONS.true)) ∙ ap Some same))

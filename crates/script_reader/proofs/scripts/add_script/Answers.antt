@@ -6,8 +6,9 @@ use Rattle.script_reader.specs.declared.fault.Refusal.TheVariants as refusal
 use Rattle.script_reader.specs.Input.{count_scripts}
 use Rattle.script_reader.specs.Inner.LinesAsWords.{lines_so_far}
 use Rattle.script_reader.specs.Inner.Callers.{is_caller}
-use Rattle.script_reader.proofs.Texts.Following.{behind_line}
+use Rattle.script_reader.specs.Faults.{fault_of}
 use Rattle.script_reader.proofs.Texts.Gathered.{behind_script, outside_word, outside_limit, beyond_is}
+use Rattle.script_reader.proofs.Judging.{behind_line}
 use Rattle.script_reader.proofs.scripts.add_script.Goals as goal
 
 pub returns-in_err-name-clause-fault : goal.returns-in_err-name-clause-fault
@@ -15,7 +16,7 @@ returns-in_err-name-clause-fault c why e subs left made are is =
     let p = err_from_is_err_and c.from_residual.result c.from_residual.ensures.1 in
     let same : c.in_err-name.field-0.0 ≡ why = cc (p.1, p.2, e) in
     let none = c.in_err-name.ensures.none in
-    behind_line (lines_so_far c.args.version c.args.books.now subs) left c.args.lines.now c.args.words.now why are is
+    behind_line fault_of (lines_so_far c.args.version c.args.books.now subs) left c.args.lines.now c.args.words.now why are is
     (outside_word c.args.version c.args.books.now subs c.args.words.now c.requires.unfinished none.1 ∙ ap Some (sym none.0 ∙ same))
 
 pub returns-then-is_full_for-clause-fault : goal.returns-then-is_full_for-clause-fault
@@ -25,7 +26,7 @@ returns-then-is_full_for-clause-fault c why e subs left made are is =
     let beyond = sym (beyond_is subs c.in_ok-name.name.now)
     ∙ sym (ap (λ l. nat_le MOST_SCRIPTS (count_scripts l) || (not (is_caller c.in_ok-name.name.now l) && nat_le
     MOST_CALLERS (length l))) made) ∙ sym c.is_full_for.ensures ∙ c.if-is_full_for.true in
-    behind_line (lines_so_far c.args.version c.args.books.now subs) left c.args.lines.now c.args.words.now why are is
+    behind_line fault_of (lines_so_far c.args.version c.args.books.now subs) left c.args.lines.now c.args.words.now why are is
     (outside_limit c.args.version c.args.books.now subs c.in_ok-name.name.now c.args.words.now found.0 found.1 beyond ∙ ap Some same)
 
 pub returns-in_err-script-clause-fault : goal.returns-in_err-script-clause-fault

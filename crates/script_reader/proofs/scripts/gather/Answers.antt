@@ -8,13 +8,15 @@ use Rattle.script_reader.specs.Text.{script_lines, end_line}
 use Rattle.script_reader.specs.Input.{callers_of, count_scripts}
 use Rattle.script_reader.specs.Inner.LinesAsWords.{lines_so_far}
 use Rattle.script_reader.specs.Inner.Callers.{is_caller, add_submission}
+use Rattle.script_reader.specs.Faults.{fault_of}
 use Rattle.script_reader.proofs.Conditions.{neither}
 use Rattle.script_reader.proofs.Grouped.Grouping.{callers_of-push}
 use Rattle.script_reader.proofs.Grouped.Submitting.{callers_more}
 use Rattle.script_reader.proofs.LineFaults.LineKinds.{only_word}
 use Rattle.script_reader.proofs.Texts.Reaching.{no_callers}
-use Rattle.script_reader.proofs.Texts.Following.{line_shorter, behind_end}
+use Rattle.script_reader.proofs.Texts.Following.{line_shorter}
 use Rattle.script_reader.proofs.Texts.Gathered.{behind_scripts, one_more_script, last_text}
+use Rattle.script_reader.proofs.Judging.{behind_end}
 use Rattle.script_reader.proofs.scripts.gather.Goals as goal
 use Rattle.script_reader.specs.Inner.OfVersion.{AreCallersOf}
 
@@ -27,7 +29,7 @@ returns-in_err-words-clause-fault c why e =
     let p = err_from_is_err_and c.from_residual.result c.from_residual.ensures.1 in
     let same : c.in_err-words.field-0.0 ≡ why = cc (p.1, p.2, e) in
     behind_scripts c.args.version c.args.books.now c.ranges-2.ensures v.subs c.args.lines.now c.loop-words.lines c.words.new.self why v.valid v.text
-    (behind_end (lines_so_far c.args.version c.args.books.now v.subs) c.loop-words.lines c.words.new.self why (
+    (behind_end fault_of (lines_so_far c.args.version c.args.books.now v.subs) c.loop-words.lines c.words.new.self why (
       sym same
           ∙ c.in_err-words.ensures.end.0,
       c.in_err-words.ensures.end.1,

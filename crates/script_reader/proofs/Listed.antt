@@ -1,0 +1,24 @@
+-- callers with scripts of any type, gathered one script at a time
+pub mod Gathering
+-- the callers of a text's scripts are those that are gathered one script at a time
+pub mod Grouping
+-- callers by their numbers
+pub mod Besides
+-- callers with one more script, and the scripts of callers
+pub mod Submitting
+-- numbers in their ranges, and the words of a header
+pub mod Numbers
+-- headers of one size and of two, by their places
+pub mod Heads
+-- what the lines of a text say of a line behind them
+pub mod Standing
+-- the lines of a text have no fault
+pub mod Lawful
+-- a text is of one header and one list of scripts at most, and has no fault
+pub mod Telling
+-- how many lines are read, and which of them is faulty
+pub mod Feeds
+-- scripts that were read, and the fault behind them
+pub mod Behind
+-- a text that was read up to its last line, or up to its first fault
+pub mod Ending

@@ -1,0 +1,60 @@
+-- A text that was read up to its last line, or up to its first fault.
+use Rattle.std.proofs.Common.{◌≡◌, ◌≢◌, ◌⊎◌, inl, inr, ℕ, ◌+◌, ◌-◌, ◌<◌, ◌≤◌, ◌^◌, ◌==◌, List, [], ◌∷◌, ◌++◌, length, take, refl, sym, ap, subst, ◌∙◌}
+use Rattle.std.proofs.Common.{length-append, arith}
+use Rattle.std.specs.List.{count_by}
+use Rattle.std.proofs.lemmas.List.{append-nil}
+use Rattle.script_reader.specs.declared.words.TheConstants.{LINE_FEED}
+use Rattle.script_reader.specs.declared.fault.Fault.{Fault}
+use Rattle.script_reader.specs.declared.fault.Fault.TheVariants as fault
+use Rattle.script_reader.specs.Gathered.{CallerOf}
+use Rattle.script_reader.specs.Reading.{IsFaultBehind, IsFaultInFront, GoesOnBehind}
+use Rattle.script_reader.specs.ListLanguage.{ListLanguage, IsListLanguage, IsTextOf, IsText, judge}
+use Rattle.script_reader.specs.Inner.ListScripts.{HasTextInFront}
+use Rattle.script_reader.proofs.Texts.Counting.{Told, feeds}
+use Rattle.script_reader.proofs.Texts.Fronting.{take_front}
+use Rattle.script_reader.proofs.Listed.Feeds.{told, few_of_text}
+
+-- no bytes
+no_bytes : (left : List ℕ) → length left ≡ 0 → left ≡ []
+no_bytes [] h = refl
+no_bytes (b ∷ left) h = absurd (omega (arith, h))
+
+module _ {O S : Type 0} (g : ListLanguage O S) where
+  -- the faulty line has this number
+  pub in_front : (text left : List ℕ) (why : Fault) → IsFaultBehind (judge g) [] text left why → (n number : ℕ) → n ≡ feeds text left
+      → (why ≡ fault.End → number ≡ n + 1) → (why ≢ fault.End → number ≡ n) → IsFaultInFront (judge g) text number why
+  in_front text left why behind n number counted missing whole = record { left = left; faulty = behind; number_is = by what.either }
+    where
+      what : Told text left why (length behind.more)
+      what = told g text left why behind
+
+      by : (why ≡ fault.End) ⊎ (why ≢ fault.End) → number ≡ length behind.more + 1
+      by (inl e) = omega (arith, missing e, counted, what.missing e)
+      by (inr other) = omega (arith, whole other, counted, what.whole other)
+
+  module _ (text left : List ℕ) (ns : List ℕ) (callers : List (CallerOf S)) (h : HasTextInFront g ns callers text left) where
+    -- what stands in front of what is left
+    front_is : take (length text - length left) text ≡ h.front
+    front_is = take_front text h.front left (length text - length left) h.text refl
+
+    pub shorter : length left ≤ length text
+    shorter = omega (arith, ap length h.text, length-append h.front left)
+
+    -- nothing is left
+    pub whole_text : length left ≡ 0 → IsTextOf g text ns callers
+    whole_text none = subst (λ t. IsTextOf g t ns callers) (sym (h.text ∙ ap (λ l. h.front ++ l) (no_bytes left none) ∙ append-nil h.front)) h.spelled
+
+    -- something is left
+    pub goes_on : (length left ≡ 0 → ⊥) → (n : ℕ) → n ≡ feeds text left → GoesOnBehind (IsText g) text (n + 1) fault.End
+    goes_on more n counted = record {
+      front = h.front;
+      rest = left;
+      text_is = h.text;
+      spelled = (ns, callers, h.spelled);
+      some = λ none. more (ap length none);
+      number_is = ap (λ m. m + 1) (counted ∙ ap (count_by (λ b. b == LINE_FEED)) front_is);
+      why_is = refl;
+    }
+
+    pub few_feeds : IsListLanguage g → feeds text left + 1 < 2 ^ 32
+    few_feeds lawful = subst (λ t. count_by (λ b. b == LINE_FEED) t + 1 < 2 ^ 32) (sym front_is) (few_of_text g lawful h.front ns callers h.spelled)

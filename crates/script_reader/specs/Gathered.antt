@@ -1,0 +1,42 @@
+-- Callers with scripts of any type, as the scripts of a text give them.
+use Rattle.std.specs.Prelude.{ℕ, ◌≤◌, List, [], map, slice_index_or, filter, length, sum_by, All}
+use Rattle.std.specs.List.{IsDistinct}
+use Rattle.std.specs.Str.{bytes_eq}
+use Rattle.script_reader.specs.declared.limits.TheConstants.{MOST_CALLERS, MOST_SCRIPTS}
+use Rattle.script_reader.specs.Input.{IsName, first_seen}
+
+-- a caller: its name, and its scripts in the order in which they were given
+pub record CallerOf (S : Type 0) : Type 0 where
+  pub name : List ℕ
+  pub scripts : List S
+
+-- a script as it stands in a text, with the name of its caller
+pub record SubmissionOf (S : Type 0) : Type 0 where
+  pub caller : List ℕ
+  pub script : S
+
+module _ {S : Type 0} where
+  -- the scripts of one caller, in order
+  abbrev pub scripts_by : List ℕ → List (SubmissionOf S) → List S
+  scripts_by name submissions = map (λ s. s.script) (filter (λ s. bytes_eq name s.caller) submissions)
+
+  -- the callers of the scripts of a text, in the order in which they are first seen
+  abbrev pub callers_of : List (SubmissionOf S) → List (CallerOf S)
+  callers_of submissions =
+      map (λ name. record { name = name; scripts = scripts_by name submissions }) (first_seen (map (λ s. s.caller) submissions))
+
+  -- the caller with a number, from 0
+  abbrev pub caller_at : List (CallerOf S) → ℕ → CallerOf S
+  caller_at callers c = slice_index_or callers c (record { name = []; scripts = [] })
+
+  abbrev pub count_scripts : List (CallerOf S) → ℕ
+  count_scripts callers = sum_by (λ c. length c.scripts) callers
+
+-- callers that a text can give, each with at least one script, and all their scripts as they have to be
+pub record AreCallers {S : Type 0} (IsScript : S → Type 0) (callers : List (CallerOf S)) : Type 0 where
+  pub few : length callers ≤ MOST_CALLERS
+  pub few_scripts : count_scripts callers ≤ MOST_SCRIPTS
+  pub names : All (λ c. IsName c.name) callers
+  pub names_differ : IsDistinct bytes_eq (map (λ c. c.name) callers)
+  pub scripts : All (λ c. All IsScript c.scripts) callers
+  pub some_scripts : All (λ c. 1 ≤ length c.scripts) callers

@@ -1,0 +1,76 @@
+//! Callers with scripts of any type, in the order in which they were first seen, each with its scripts in their order.
+
+ghost use Rattle.std.specs.Prelude.{◌≡◌, ◌<◌, Some, length, slice_get};
+
+use crate::gathering::Gathering;
+use std::marker::Model;
+
+/// Callers by their numbers from 0, and the scripts of each by theirs.
+#[derive(Drop)]
+pub struct Gathered<S> {
+    gathering: Gathering<S>,
+}
+
+impl<S> Model for Gathered<S> {
+    ghost use Rattle.std.specs.Prelude.{List};
+    ghost use Rattle.script_reader.specs.Gathered.{CallerOf};
+    ghost use Rattle.script_reader.specs.Inner.Gatherings.{callers_in, IsEven};
+
+    ghost Value = { List (CallerOf S) };
+
+    ghost view = { λ g. callers_in g.gathering };
+
+    ghost invariant = { λ g. IsEven g.gathering };
+}
+
+impl<S: Drop> Gathered<S> {
+    ghost use Rattle.script_reader.specs.Gathered.{caller_at, count_scripts};
+    ghost use Rattle.script_reader.specs.Inner.Gatherings.{callers_in, IsEven};
+
+    // The callers that were gathered.
+    pub(crate) fn new(gathering: Gathering<S>) -> Gathered<S>
+        requires { IsEven gathering }
+        ensures { result ≡ callers_in gathering }
+    {
+        Gathered { gathering }
+    }
+
+    /// How many callers there are.
+    pub fn callers(&self) -> usize
+        ensures { result ≡ length self.now }
+    {
+        self.gathering.names.len()
+    }
+
+    /// The name of a caller.
+    pub fn name(&self, caller: usize) -> &str
+        requires { caller < length self.now }
+        ensures { result.now ≡ (caller_at self.now caller).name }
+    {
+        self.gathering.names[caller].as_str()
+    }
+
+    /// How many scripts a caller has.
+    pub fn scripts_of(&self, caller: usize) -> usize
+        requires { caller < length self.now }
+        ensures { result ≡ length (caller_at self.now caller).scripts }
+    {
+        self.gathering.scripts[caller].len()
+    }
+
+    /// A script of a caller.
+    pub fn script(&self, caller: usize, index: usize) -> &S
+        requires there { caller < length self.now }
+        requires index { index < length (caller_at self.now caller).scripts }
+        ensures { slice_get (caller_at self.now caller).scripts index ≡ Some result.now }
+    {
+        &self.gathering.scripts[caller][index]
+    }
+
+    /// How many scripts there are of all callers.
+    pub fn scripts(&self) -> usize
+        ensures { result ≡ count_scripts self.now }
+    {
+        self.gathering.count
+    }
+}
