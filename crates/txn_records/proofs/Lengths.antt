@@ -1,5 +1,5 @@
 -- How many entries trees have that hold records.
-use Rattle.std.proofs.Common.{◌≡◌, ◌≢◌, ℕ, suc, ◌+◌, ◌*◌, ◌/◌, ◌%◌, ◌<◌, List, [], ◌∷◌, length, Option, Some, None, refl, sym, ap, ◌∙◌, subst, arith, rules}
+use Rattle.std.proofs.Common.{◌≡◌, ◌≢◌, ℕ, zero, suc, ◌+◌, ◌*◌, ◌/◌, ◌%◌, ◌<◌, List, [], ◌∷◌, length, Option, Some, None, refl, sym, ap, ◌∙◌, subst, arith, rules}
 use mathlib.Core.Logic.{dite}
 use native.Mathlib.Decide.{ℕ_discrete}
 use Rattle.std.specs.Cmp.{nat_cmp_total}
@@ -28,7 +28,7 @@ one_less m k x has =
 
 -- a map with no entry has no length
 no_entries : (m : Entries) → ((q : ℕ) → finite.get m q ≡ None) → finite.len m ≡ 0
-no_entries m none = ap finite.len (finite.same_map nat_cmp_total nat_cmp-IsAntisymmetric m finite.empty (λ q. none q ∙ sym (get-empty q)))
+no_entries m none = ap finite.len (finite.same_map nat_cmp_total nat_cmp-IsAntisymmetric m finite.empty (λ q. none q ∙ sym (get-empty nat_cmp q)))
     ∙ len-empty nat_cmp ℕ
 
 -- each number is a key of the index
@@ -48,12 +48,12 @@ first_entry {X} m n e = at (finite.entries m) refl
 
 pub lengths : (n : ℕ) (records : Records) (trees : Trees) → finite.len records ≡ n → AreInRange records → HoldRecords trees records
     → (finite.len trees.ranks ≡ n) × (finite.len trees.index ≡ n)
-lengths 0 records trees e range held =
+lengths zero records trees e range held =
     let none : records ≡ finite.empty = empty_of_len records e in
-    let absent : (q : ℕ) → finite.get records q ≡ None = λ q. ap (λ m. finite.get m q) none ∙ get-empty q in (
+    let absent : (q : ℕ) → finite.get records q ≡ None = λ q. ap (λ m. finite.get m q) none ∙ get-empty nat_cmp q in (
       no_entries trees.ranks (λ q. held.ranks q ∙ ap rank_in (absent q)),
       no_entries trees.index (λ q. ap (finite.get trees.index) (as_key q) ∙ held.index (q / RANK_STEP) (q % RANK_STEP) (key_rest q)
-      ∙ ap (data_at_rank (q / RANK_STEP)) (absent (q % RANK_STEP))),
+          ∙ ap (data_at_rank (q / RANK_STEP)) (absent (q % RANK_STEP))),
     )
 lengths (suc n) records trees e range held =
     let first = first_entry records n e in
@@ -66,8 +66,7 @@ lengths (suc n) records trees e range held =
     held.index rank id lt ∙ ap (data_at_rank rank) there ∙ data_here rank first.1.1 in
     let fewer : finite.len (finite.remove records id) ≡ n = omega (arith, e, one_less records id (rank, first.1.1) there) in
     let rest = lengths n (finite.remove records id) (dropped rank id trees) fewer (range_removed records id range)
-    (dropped_held trees records rank id lt held has) in
-    (
+    (dropped_held trees records rank id lt held has) in (
       omega (arith, rest.0, one_less trees.ranks id rank has),
       omega (arith, rest.1, one_less trees.index (index_key_of rank id) first.1.1 found),
     )

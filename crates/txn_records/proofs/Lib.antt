@@ -22,3 +22,5 @@ pub mod Keys
 pub mod Listed
 -- the operations of a script one after another
 pub mod Scripted
+-- the words of a store with no record
+pub mod Emptied

@@ -73,6 +73,7 @@ trees_of shape ByRank words trees entries two = record {
 -- free blocks and those of the trees are all blocks
 pub trees_counted : (shape : RecordShape) (words : List ℕ) (trees : Trees) (h : HasTrees shape words trees)
     → set.len h.free + (finite.len trees.ranks + finite.len trees.index) ≡ shape.blocks
+unfolding two_of
 trees_counted shape words trees h = counted (arena_of shape) (root_of ById) (root_of ByRank) words trees.ranks trees.index (two_of shape ById words trees h)
 
 -- the lengths of both, in either order

@@ -74,6 +74,16 @@ module _ {W S O : Type 0} (words : AnyWords W S O) (shapes : Shapes S) where
       → SomeFits (shapes.word_count (words.shape w)) (shapes.good (words.shape w)) (words.trace w) → InEachState words shapes w P → (s : List ℕ) × P s
   in_some w P some h = (after (words.trace w) some.0, h.at some.0 some.1)
 
+  -- what a call did, in some state, from what held before it
+  pub leads_some : {v w : W} {P : List ℕ → Type 0} {R : List ℕ → List ℕ → Type 0} → words.shape w ≡ words.shape v
+      → Begins (words.trace v) (words.trace w)
+      → SomeFits (shapes.word_count (words.shape w)) (shapes.good (words.shape w)) (words.trace w) → InEachState words shapes v P
+      → LeadsTo words shapes v w R → (x : List ℕ) × (y : List ℕ) × P x × R x y
+  leads_some {v = v} {w = w} {P = P} {R = R} kept begins some each leads =
+      let both = state_after words shapes v w P (λ y. (x : List ℕ) × P x × R x y) R kept begins each leads (λ x y p r. (x, p, r)) in
+      let there = in_some w (λ y. (x : List ℕ) × P x × R x y) some both in
+      (there.1.0, there.0, there.1.1, there.1.2)
+
 module _ {W S O Model : Type 0} {words : AnyWords W S O} {shapes : Shapes S} {stands : List ℕ → Model → Type 0} where
   -- before any call
   pub unlooked : (v : W) (P : Model → Type 0) → ((x : List ℕ) (model : Model) → stands x model → P model) → Leads words shapes v v (Saw stands P)

@@ -1,8 +1,10 @@
 -- Two trees over one arena: a change of one leaves the other.
-use Rattle.std.proofs.Common.{◌≡◌, ◌≢◌, ℕ, ◌+◌, ◌<◌, ◌⊎◌, inl, inr, true, false, ◌==◌, List, [], ◌∷◌, Option, Some, None, slice_get, refl, sym, ap, ◌∙◌, subst, arith, eq-eqb, ne_eqb}
-use Rattle.std.specs.Bool.{Bool}
+use Rattle.std.proofs.Common.{◌≡◌, ◌≢◌, ℕ, ◌+◌, ◌<◌, ◌⊎◌, inl, inr, Bool, true, false, ◌==◌, List, [], ◌∷◌, Option, Some, None, slice_get, refl, sym, ap, ◌∙◌, subst, arith, eq-eqb, ne_eqb}
+use mathlib.Core.Logic.{dite}
+use native.Mathlib.Decide.{ℕ_discrete}
 use Rattle.std.specs.Cmp.{nat_cmp_total}
-use Rattle.std.specs.Ordering.{nat_cmp, eq_by_cmp}
+use Rattle.std.specs.List.{sum_by}
+use Rattle.std.specs.Ordering.{nat_cmp}
 use Rattle.std.specs.FinSet as set
 use Rattle.std.specs.FinMap as finite
 use Rattle.std.specs.FinMap.{nat_cmp-IsAntisymmetric}
@@ -23,6 +25,7 @@ use Rattle.txn_tree_map.proofs.Inserts.InsertCalls.{is_one}
 use Rattle.txn_tree_map.proofs.Held.Numbers.{as_many_blocks}
 use Rattle.txn_records.specs.Standing.{times_among}
 use Rattle.txn_records.specs.Access.{put_answer, put_by}
+use Rattle.txn_records.proofs.Held.{removed_here, removed_there}
 use Rattle.txn_records.proofs.Apart.{three_among, out_other, out_above, not_own, other_out, moved_times}
 
 -- a tree of the arena
@@ -52,10 +55,10 @@ pub record IsCut (part : Part) (key : ℕ) (answer : Option ℕ) (old new : List
 
 -- a map from which an absent key is taken is the same
 remove_absent : (m : Entries) (k : ℕ) → finite.get m k ≡ None → finite.remove m k ≡ m
-remove_absent m k none = finite.same_map nat_cmp_total nat_cmp-IsAntisymmetric (finite.remove m k) m (λ q. at q (eq_by_cmp nat_cmp q k) refl)
-  where
-    at : (q : ℕ) (b : Bool) → eq_by_cmp nat_cmp q k ≡ b → finite.get (finite.remove m k) q ≡ finite.get m q
-    at q b e = grind (finite.gets, rules, none)
+remove_absent m k none = finite.same_map nat_cmp_total nat_cmp-IsAntisymmetric (finite.remove m k) m
+    (λ q. dite (ℕ_discrete q k)
+    (λ e. subst (λ z. finite.get (finite.remove m k) z ≡ finite.get m z) (sym e) (removed_here m k ∙ sym none))
+    (λ ne. removed_there m k q ne))
 
 module _ (arena : Arena) (root other : ℕ) (old : List ℕ) (mine theirs : Entries) (two : HasTwo arena root other old mine theirs) where
   -- free blocks and those of both trees are all blocks
@@ -179,7 +182,7 @@ module _ (arena : Arena) (root other : ℕ) (differ : root ≢ other) (old new :
       let none : None ≡ finite.get mine key = removes.found mine two.used two.tree in (
         none,
         subst (λ m. HasTwo arena root other new m theirs) (sym (remove_absent mine key (sym none)))
-        (subst (λ z. HasTwo arena root other z mine theirs) (sym removes.same) two),
+            (subst (λ z. HasTwo arena root other z mine theirs) (sym removes.same) two),
       )
   cut_two (Some was) removes =
       let k = removes mine two.used two.free (apart arena root other old mine theirs two) in

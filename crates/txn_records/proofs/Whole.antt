@@ -16,6 +16,11 @@ use Rattle.txn_records.proofs.Held.{id_below, some_record, no_record, data_here}
 use Rattle.txn_records.proofs.Lengths.{lengths}
 use Rattle.txn_records.proofs.Sides.{trees_counted}
 
+-- a rank with data
+abbrev with_rank : ℕ → Option ℕ → Option (ℕ × ℕ)
+with_rank rank None = None
+with_rank rank (Some x) = Some (rank, x)
+
 -- trees that hold the same hold the same records
 module _ (mine theirs : Trees) (records others : Records) (held : HoldRecords mine records) (holds : HoldRecords theirs others)
     (range : AreInRange records) (ranks : mine.ranks ≡ theirs.ranks) (index : mine.index ≡ theirs.index) where
@@ -33,10 +38,6 @@ module _ (mine theirs : Trees) (records others : Records) (held : HoldRecords mi
       holds.index stored.0 id lt ∙ ap (data_at_rank stored.0) other.1 ∙ data_here stored.0 other.0 in
       let same : Some stored.1 ≡ Some other.0 = sym here ∙ ap (λ m. finite.get m (index_key_of stored.0 id)) index ∙ there in
       is ∙ ap (λ (x : Option ℕ). with_rank stored.0 x) same ∙ sym other.1
-    where
-      abbrev with_rank : ℕ → Option ℕ → Option (ℕ × ℕ)
-      with_rank rank None = None
-      with_rank rank (Some x) = Some (rank, x)
 
   pub same_records : records ≡ others
   same_records = finite.same_map nat_cmp_total nat_cmp-IsAntisymmetric records others (λ id. same_at id (finite.get records id) refl)

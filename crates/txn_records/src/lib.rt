@@ -11,6 +11,7 @@
 
 pub mod job;
 pub mod laws;
+pub mod lay;
 pub mod layout;
 pub mod listing;
 pub mod operations;
@@ -19,6 +20,7 @@ pub mod shape;
 pub mod trees;
 
 pub use job::RecordJob;
+pub use lay::empty_words;
 pub use listing::ids_from;
 pub use operations::{Outcome, run_operation};
 pub use records::{drop_record, put_record, record_of};

@@ -1,0 +1,2 @@
+use Rattle.std.proofs.Common.{rules}
+use Rattle.txn_records.proofs.operations.remove.Goals as goal
