@@ -43,6 +43,11 @@ module _ (shape : RecordShape) where
     told = λ records stand. key_first key records stand.trees stand.range stand.held answer (t.told stand.trees stand.parts);
   }
 
+  -- a rank that is told is in range
+  pub rank_told : (id : ℕ) (answer : Option ℕ) → (x : List ℕ) × (y : List ℕ) × IsGoodFor shape x
+      × Tells (Stands shape) (λ records. rank_in (finite.get records id)) answer x y → IfSome answer IsRank
+  rank_told id answer some = rank_range some.2.0 some.2.1.range id answer (some.3.told some.2.0 some.2.1)
+
   -- a rank that is taken out was in range
   pub cut_range : (id : ℕ) (answer : Option ℕ) → (x : List ℕ) × (y : List ℕ) × IsGoodFor shape x
       × TellsAndChanges (HasTrees shape) (λ trees. finite.get trees.ranks id) (λ trees. record trees { ranks = finite.remove trees.ranks id }) answer x y

@@ -124,7 +124,7 @@ module _ (records : Records) (range : AreInRange records) where
   place_in p content e =
       let there : finite.get records p.1 ≡ Some (p.0, content) = at_rank p.0 (finite.get records p.1) content (sym (at_place records p.0 p.1) ∙ e) in
       let in_range = range p.1 p.0 content there in
-      (omega (arith, in_range.1.0.1), id_below p.1 in_range.0)
+      (omega (arith, in_range.1.1), id_below p.1 in_range.0)
 
   pub are_places : ArePlaces (finite.entries (index_of records))
   are_places = All-entries positions_total exact_positions (λ (e : Entry). IsPlace e.0) (index_of records) place_in
@@ -132,7 +132,7 @@ module _ (records : Records) (range : AreInRange records) where
   sorted : T (is_sorted nat_cmp (keyed (finite.entries (index_of records))))
   sorted = truly _ (sorted_keyed (finite.entries (index_of records)) are_places (entries_sorted (index_of records)))
 
-  as_map : Entries
+  abbrev as_map : Entries
   as_map = finite.from_sorted (keyed (finite.entries (index_of records)))
 
   -- trees that hold the records have them in their index under their keys
@@ -146,7 +146,7 @@ module _ (records : Records) (range : AreInRange records) where
     none_far r q far None e = refl
     none_far r q far (Some x) e =
         let in_range = range q r x (at_rank r (finite.get records q) x e) in
-        absurd (omega (arith, far, in_range.1.0.1))
+        absurd (omega (arith, far, in_range.1.1))
 
     get_as : (k : ℕ) → finite.get trees.index k ≡ finite.get as_map k
     get_as k = elim (cases_lt (k / RANK_STEP) RANK_STEP) [
@@ -200,9 +200,9 @@ above_all x p (e ∷ es) h below =
     (key_rises x e.0 p h.0 (below_first index_cmp x e es below), above_all x p es h.1 (below_rest index_cmp x e es below))
 
 rising : (es : List Entry) → ArePlaces es → T (is_sorted index_cmp es) → AreRising (map (λ e. key_of e.0) es)
-rising [] h sorted = tt
-rising (e ∷ es) h sorted =
-    (above_all e.0 h.0 es h.1 (sorted_first index_cmp e es sorted), rising es h.1 (sorted_rest index_cmp e es sorted))
+rising [] h order = tt
+rising (e ∷ es) h order =
+    (above_all e.0 h.0 es h.1 (sorted_first index_cmp e es order), rising es h.1 (sorted_rest index_cmp e es order))
 
 pub keys_rise : (records : Records) → AreInRange records → AreRising (keys_of records)
 keys_rise records range = rising (finite.entries (index_of records)) (are_places records range) (entries_sorted (index_of records))

@@ -62,7 +62,7 @@ module _ (trees : Trees) (records : Records) (held : HoldRecords trees records) 
       (λ r ne. inserted_there base (index_key_of rank id) content (index_key_of r id) (λ e. ne (keys_differ r id rank id lt lt e).0) ∙ gone r ne)
 
 module _ (shape : RecordShape) (id rank content : ℕ) (is : IsId id) (fits : content ≤ GREATEST_DATA) (x y : List ℕ) where
-  key : ℕ
+  abbrev key : ℕ
   key = index_key_of rank id
 
   -- a new record's first key found no block
@@ -101,7 +101,7 @@ module _ (shape : RecordShape) (id rank content : ℕ) (is : IsId id) (fits : co
       first_was told = new_answer first (is_used_up shape stand.trees) had
           (told ∙ ap (λ o. put_answer o (is_used_up shape stand.trees)) (stand.held.ranks id ∙ absent records stand))
 
-      with_rank : Trees
+      abbrev with_rank : Trees
       with_rank = record stand.trees { ranks = finite.insert stand.trees.ranks id rank }
 
       -- what the second answers
@@ -199,10 +199,10 @@ module _ (shape : RecordShape) (id rank content : ℕ) (is : IsId id) (fits : co
       below : id < RANK_STEP
       below = id_below id is
 
-      base : Entries
+      abbrev base : Entries
       base = finite.remove stand.trees.index (index_key_of was id)
 
-      middle : Trees
+      abbrev middle : Trees
       middle = record { ranks = finite.insert stand.trees.ranks id rank; index = base }
 
       -- the new key is in the index no more than any other of the record

@@ -1,7 +1,6 @@
 use Rattle.std.proofs.lemmas.Result.{IfOk-weaker}
-use Rattle.txn_records.proofs.Calls.{good_trees, tells_rank}
-use Rattle.txn_records.proofs.Held.{rank_range}
-use Rattle.txn_records.proofs.Turning.{in_some, leads_less, looked, looked_stands, each_looked}
+use Rattle.txn_records.proofs.Calls.{good_trees, tells_rank, rank_told}
+use Rattle.txn_records.proofs.Turning.{leads_some, leads_less, looked, looked_stands}
 use Rattle.txn_records.proofs.records.rank_at.Goals as goal
 
 pub get_in-requires-clause-trees : goal.get_in-requires-clause-trees
@@ -16,12 +15,9 @@ returns-clause-told g c =
 pub returns-clause-range : goal.returns-clause-range
 returns-clause-range g c =
     let goes = c.get_in.ensures.goes_on in
-    IfOk-weaker c.get_in.result _ _ (λ answer told.
-    let stand = in_some g.W.Words g.W.Shape.Shape _ _ (g.met.W.Words.fits c.get_in.new.w goes.sound)
-    (looked_stands (looked goes.shape goes.begins told) c.requires.stands) in
-    let says = in_some g.W.Words g.W.Shape.Shape _ _ (g.met.W.Words.fits c.get_in.new.w goes.sound)
-    (each_looked (looked goes.shape goes.begins told) (λ records k. k)) in
-    rank_range stand.1.0 stand.1.1.range c.args.id answer (says.1 stand.1.0 stand.1.1))
+    IfOk-weaker c.get_in.result _ _
+    (λ answer told. rank_told c.args.shape.now c.args.id answer
+    (leads_some g.W.Words g.W.Shape.Shape goes.shape goes.begins (g.met.W.Words.fits c.get_in.new.w goes.sound) c.requires.stands told))
     (returns-clause-told g c)
 
 pub returns-clause-stands : goal.returns-clause-stands
