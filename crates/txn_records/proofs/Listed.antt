@@ -1,6 +1,7 @@
 -- Identifiers listed one by one, down the keys of the index.
 use Rattle.std.proofs.Common.{◌≡◌, ℕ, suc, ◌+◌, ◌-◌, ◌*◌, ◌%◌, ◌<◌, ◌≤◌, Bool, true, false, cond, nat_le, List, [], ◌∷◌, ◌++◌, map, take, length, Option, Some, None, refl, sym, ap, ◌∙◌, subst, arith, rules, append_assoc, append-nil, unwrap_or}
 use Rattle.std.proofs.lemmas.Bool.Decides.{nat_tests}
+use Rattle.std.proofs.lemmas.List.{take_all}
 use Rattle.std.specs.Prelude.{find as first}
 use Rattle.std.specs.List.{AllByRecursion, filter}
 use Rattle.std.specs.FinMap as finite
@@ -105,11 +106,7 @@ lists_first rank most records range = record {
 module _ (rank most : ℕ) (ids : List ℕ) (left key : ℕ) (records : Records) (so_far : IsListed rank most ids left key records) where
   pub lists_none : None ≡ first_key key records → ids ≡ ids_from rank most records
   lists_none none = sym (so_far.whole ∙ ap (λ ks. ids ++ take left (map id_in ks)) (none_left key (keys_of records) none)
-      ∙ ap (λ l. ids ++ l) (take_none left) ∙ append-nil ids)
-    where
-      take_none : (n : ℕ) → take n ([] {A = ℕ}) ≡ []
-      take_none 0 = refl
-      take_none (suc n) = refl
+      ∙ ap (λ l. ids ++ l) (take_all left [] (omega arith)) ∙ append-nil ids)
 
   pub lists_all : left ≡ 0 → ids ≡ ids_from rank most records
   lists_all nothing = sym (so_far.whole ∙ ap (λ n. ids ++ take n (map id_in (from_key key (keys_of records)))) nothing ∙ append-nil ids)
