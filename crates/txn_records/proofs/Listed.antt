@@ -97,10 +97,14 @@ pub record IsListed (rank most : ℕ) (ids : List ℕ) (left key : ℕ) (records
   pub range : AreInRange records
   pub whole : ids_from rank most records ≡ ids ++ take left (map id_in (from_key key (keys_of records)))
 
-pub lists_first : (rank most : ℕ) (records : Records) → AreInRange records → IsListed rank most [] most (index_key_of rank 0) records
-lists_first rank most records range = record {
+pub lists_first : (rank most : ℕ) (ids : List ℕ) (left key : ℕ) (records : Records) → AreInRange records → ids ≡ [] → left ≡ most
+    → key ≡ index_key_of rank 0 → IsListed rank most ids left key records
+lists_first rank most ids left key records range none all first_is = record {
   range = range;
-  whole = ap (take most) (ids_of_keys rank (finite.entries (index_of records)) (are_places records range));
+  whole = ap (take most) (ids_of_keys rank (finite.entries (index_of records)) (are_places records range))
+      ∙ ap (λ n. take n (map id_in (from_key (index_key_of rank 0) (keys_of records)))) (sym all)
+      ∙ ap (λ k. take left (map id_in (from_key k (keys_of records)))) (sym first_is)
+      ∙ ap (λ l. l ++ take left (map id_in (from_key key (keys_of records)))) (sym none);
 }
 
 module _ (rank most : ℕ) (ids : List ℕ) (left key : ℕ) (records : Records) (so_far : IsListed rank most ids left key records) where
@@ -112,13 +116,15 @@ module _ (rank most : ℕ) (ids : List ℕ) (left key : ℕ) (records : Records)
   lists_all nothing = sym (so_far.whole ∙ ap (λ n. ids ++ take n (map id_in (from_key key (keys_of records)))) nothing ∙ append-nil ids)
 
   -- one more
-  pub lists_one : (n found : ℕ) → left ≡ suc n → Some found ≡ first_key key records → IsListed rank most (ids ++ id_in found ∷ []) n (found + 1) records
-  lists_one n found is told = record {
+  pub lists_one : (n found id : ℕ) (more : List ℕ) → left ≡ suc n → Some found ≡ first_key key records → id ≡ id_in found
+      → more ≡ ids ++ id ∷ [] → IsListed rank most more n (found + 1) records
+  lists_one n found id more is told id_is pushed = record {
     range = so_far.range;
     whole = so_far.whole
         ∙ ap (λ ks. ids ++ take left (map id_in ks)) (first_left key found (keys_of records) (keys_rise records so_far.range) told).1
         ∙ ap (λ m. ids ++ take m (id_in found ∷ map id_in (from_key (found + 1) (keys_of records)))) is
-        ∙ sym (append_assoc ids (id_in found ∷ []) (take n (map id_in (from_key (found + 1) (keys_of records)))));
+        ∙ sym (append_assoc ids (id_in found ∷ []) (take n (map id_in (from_key (found + 1) (keys_of records)))))
+        ∙ ap (λ l. l ++ take n (map id_in (from_key (found + 1) (keys_of records)))) (sym (pushed ∙ ap (λ i. ids ++ i ∷ []) id_is));
   }
 
 -- behind the greatest key there is none

@@ -156,6 +156,14 @@ module _ {W S O Model : Type 0} {words : AnyWords W S O} {shapes : Shapes S} {st
         → ((model : Model) → P model → answer ≡ says model) → LeadsTo words shapes u w (Tells stands says answer)
     tells h means = leads_less words shapes u w _ _ (λ x y k. record { same = k.same; told = λ model stand. means model (k.saw model stand) }) h.leads
 
+    -- less of what was seen
+    pub looked_less : {P Q : Model → Type 0} → Leads words shapes u w (Saw stands P) → ((model : Model) → P model → Q model) → Leads words shapes u w (Saw stands Q)
+    looked_less h less = record {
+      kept = h.kept;
+      begins = h.begins;
+      leads = leads_less words shapes u w _ _ (λ x y k. record { same = k.same; saw = λ model stand. less model (k.saw model stand) }) h.leads;
+    }
+
     -- words stand after looks for what they stood before
     pub looked_stands : {P : Model → Type 0} → Leads words shapes u w (Saw stands P) → InEachState words shapes u (StandsForSome stands)
         → InEachState words shapes w (StandsForSome stands)
