@@ -147,12 +147,13 @@ module _ (shape : RecordShape) (x y : List ℕ) where
   }
 
 -- the values so far, and the run of what is left on the records as they are now, are the whole run
-abbrev pub SoFar : ℕ → List RecordOp → List RecordValue → ℕ → List RecordOp → Records → Records → Type 0
-SoFar blocks script values number rest records now = after_values values (run_from blocks number rest now) ≡ run_from blocks 1 script records
+abbrev pub SoFar : RecordShape → List RecordOp → List RecordValue → ℕ → List RecordOp → Records → Records → Type 0
+SoFar shape script values number rest records now =
+    after_values values (run_from shape.blocks number rest now) ≡ run_from shape.blocks 1 script records
 
 module _ {W S O : Type 0} {words : AnyWords W S O} {shapes : Shapes S} {shape : RecordShape} (script : List RecordOp) where
   -- all is left
-  pub run_begins : (w : W) (ops : List RecordOp) → script ≡ ops → Leads words shapes w w (Turns (Stands shape) (SoFar shape.blocks script [] 1 ops))
+  pub run_begins : (w : W) (ops : List RecordOp) → script ≡ ops → Leads words shapes w w (Turns (Stands shape) (SoFar shape script [] 1 ops))
   run_begins w ops is = record {
     kept = refl;
     begins = begins_refl _;
@@ -169,15 +170,15 @@ module _ {W S O : Type 0} {words : AnyWords W S O} {shapes : Shapes S} {shape : 
 
   module _ {u v w : W} {op : RecordOp} {come : Outcome} (kept : words.shape w ≡ words.shape v) (begins : Begins (words.trace v) (words.trace w))
       (steps : LeadsTo words shapes v w (Steps shape op come)) (values : List RecordValue) (number : ℕ) (rest : List RecordOp)
-      (before : Leads words shapes u v (Turns (Stands shape) (SoFar shape.blocks script values number (op ∷ rest)))) where
+      (before : Leads words shapes u v (Turns (Stands shape) (SoFar shape script values number (op ∷ rest)))) where
     -- one operation more
-    stepped : LeadsTo words shapes u w (λ x z. (y : List ℕ) × Turns (Stands shape) (SoFar shape.blocks script values number (op ∷ rest)) x y
+    stepped : LeadsTo words shapes u w (λ x z. (y : List ℕ) × Turns (Stands shape) (SoFar shape script values number (op ∷ rest)) x y
         × Steps shape op come y z)
     stepped = leads_then words shapes u v w _ _ before.kept begins before.leads steps
 
     -- it gives a value
     pub run_gives : (value : RecordValue) → come ≡ outcome.Gives value
-        → Leads words shapes u w (Turns (Stands shape) (SoFar shape.blocks script (values ++ value ∷ []) (number + 1) rest))
+        → Leads words shapes u w (Turns (Stands shape) (SoFar shape script (values ++ value ∷ []) (number + 1) rest))
     run_gives value is = record {
       kept = kept ∙ before.kept;
       begins = begins_trans _ _ _ before.begins begins;
@@ -227,7 +228,7 @@ module _ {W S O : Type 0} {words : AnyWords W S O} {shapes : Shapes S} {shape : 
 
   -- no operation is left
   pub run_ends : {u w : W} (values : List RecordValue) (number : ℕ)
-      → Leads words shapes u w (Turns (Stands shape) (SoFar shape.blocks script values number [])) → LeadsTo words shapes u w (Runs shape script (reply.Done values))
+      → Leads words shapes u w (Turns (Stands shape) (SoFar shape script values number [])) → LeadsTo words shapes u w (Runs shape script (reply.Done values))
   run_ends {u = u} {w = w} values number h = leads_less words shapes u w _ _
       (λ x z k. record {
         comes = λ records stand.

@@ -17,5 +17,5 @@ invariant-loop-operation g l =
       left : l.number + length (iter_rest l.operation-iterator) ≡ 1 + length l.fn.script;
       each : All IsRecordOp (iter_rest l.operation-iterator);
       run : Leads words g.W.Shape.Shape l.fn.w l.w
-          (Turns (Stands l.shape) (SoFar l.shape.blocks l.fn.script l.values l.number (iter_rest l.operation-iterator)));
+          (Turns (Stands l.shape) (SoFar l.shape l.fn.script l.values l.number (iter_rest l.operation-iterator)));
     }
