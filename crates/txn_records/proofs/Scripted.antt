@@ -264,6 +264,20 @@ run_means shape script answer kept old new where_done runs = record {
       (outcome_left shape new records last.0 answer (sym where_done ∙ is_kept) last.2);
 }
 
+-- a run that is not done leaves the records
+run_stays : (records : Records) (run : Run) → is_done (outcome_from records run).0 ≡ false → (outcome_from records run).1 ≡ records
+run_stays records (Ends values after) is = cc
+run_stays records (Stops stop) is = refl
+
+-- words whose script is not kept stand for the interpreter's records as they are
+pub refused_stands : (shape : RecordShape) (script : List RecordOp) (words : List ℕ) (kept : Bool) (answer : RecordReply)
+    (left : List ℕ) → ScriptMeans shape script words kept answer left → kept ≡ false
+    → (records : Records) → Stands shape words records → Stands shape words (record_outcome_of script records shape.blocks).1
+refused_stands shape script words kept answer left means is_reverted records stand =
+    let not_done : is_done (record_outcome_of script records shape.blocks).0 ≡ false =
+    sym (ap is_done (means.replies records stand)) ∙ sym means.kept_where_done ∙ is_reverted in
+    subst (λ z. Stands shape words z) (sym (run_stays records (run_from shape.blocks 1 script records) not_done)) stand
+
 -- what a done script leaves is good
 done_good : (answer : RecordReply) (P : Type 0) → is_done answer ≡ true → IfDone answer P → P
 done_good (reply.Done values) P is p = p

@@ -14,14 +14,18 @@ pub mod laws;
 pub mod lay;
 pub mod layout;
 pub mod listing;
+pub mod on_plain;
 pub mod operations;
 pub mod records;
 pub mod shape;
+#[cfg(test)]
+mod tests;
 pub mod trees;
 
 pub use job::RecordJob;
 pub use lay::empty_words;
 pub use listing::ids_from;
+pub use on_plain::run_on_plain;
 pub use operations::{Outcome, run_operation};
 pub use records::{drop_record, put_record, record_of};
 pub use shape::RecordShape;
