@@ -1,7 +1,7 @@
 //! Scripts as jobs on words and in the plain interpreter, side by side: the same rows through both, with replies
 //! computed by hand.
 
-ghost use Rattle.std.specs.Prelude.{◌≡◌, All, IfOk, OnOk, length};
+ghost use Rattle.std.specs.Prelude.{IfOk, OnOk};
 ghost use Rattle.std.specs.Bool.{OnTrue};
 ghost use Rattle.history_model.specs.Fitting.{IsGood};
 ghost use Rattle.record_text.specs.Ranges.{IsRecordOp, IsRecordScript};
@@ -99,21 +99,6 @@ fn is_in_range(op: RecordOp) -> bool
     }
 }
 
-// Whether it is a script that a store can be given.
-fn is_script(script: &RecordScript) -> bool
-    ensures { OnTrue result (IsRecordScript script.now) }
-{
-    if script.len() > MOST_OPERATIONS {
-        return false;
-    }
-    for operation in script {
-        if !is_in_range(*operation) {
-            return false;
-        }
-    }
-    true
-}
-
 // A script of these operations.
 fn script_of(
     rt: &impl Abort,
@@ -122,11 +107,13 @@ fn script_of(
 ) -> Result<RecordScript, OutOfMemory>
     ensures { IfOk result IsRecordScript }
 {
+    assert!(rt; operations.len() <= MOST_OPERATIONS);
     let mut script = RecordScript::new(alloc);
     for operation in operations {
+        let fits = is_in_range(*operation);
+        assert!(rt; fits);
         script.push(*operation)?;
     }
-    assert!(rt; is_script(&script));
     Ok(script)
 }
 
