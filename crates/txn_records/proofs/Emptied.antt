@@ -1,6 +1,6 @@
 -- The words of a store with no record: zeros, but for the lists of the free blocks.
-use Rattle.std.proofs.Common.{◌≡◌, ◌≢◌, ℕ, zero, suc, ◌+◌, ◌*◌, ◌<◌, ◌≤◌, ◌^◌, inl, inr, true, false, List, [], length, slice_get, Some, None, nat_eq}
-use Rattle.std.proofs.Common.{replicate, refl, sym, ap, ◌∙◌, arith, rules}
+use Rattle.std.proofs.Common.{◌≡◌, ◌≢◌, ℕ, zero, suc, ◌+◌, ◌<◌, ◌≤◌, ◌^◌, inl, inr, true, false, List, length, slice_get, Some, nat_eq}
+use Rattle.std.proofs.Common.{replicate, sym, ap, ◌∙◌, arith, rules}
 use mathlib.Core.Logic.{dite}
 use native.Mathlib.Decide.{ℕ_discrete}
 use Rattle.std.specs.Ordering.{nat_cmp}
@@ -21,9 +21,8 @@ use Rattle.txn_alloc.proofs.Sets.{out_empty}
 use Rattle.txn_tree_map.specs.Trees.{TreeHolds}
 use Rattle.txn_tree_map.specs.Trees.Tree.{Leaf}
 use Rattle.txn_records.specs.declared.shape.RecordShape.{RecordShape}
-use Rattle.txn_records.specs.declared.layout.Order.{Order}
 use Rattle.txn_records.specs.declared.layout.Order.TheVariants.{ById, ByRank}
-use Rattle.txn_records.specs.Layout.{words_of, arena_of, root_of, tree_of}
+use Rattle.txn_records.specs.Layout.{words_of, arena_of, tree_of}
 use Rattle.txn_records.specs.Standing.{Stands, rank_in}
 use Rattle.txn_records.proofs.Apart.{member_one, out_none, three_among}
 

@@ -1,15 +1,14 @@
 -- Trees that hold records, and hold them after a change.
-use Rattle.std.proofs.Common.{◌≡◌, ◌≢◌, ℕ, ◌+◌, ◌*◌, ◌<◌, ◌≤◌, Bool, true, false, ◌==◌, if◌then◌else◌, List, Option, Some, None, IfSome, unwrap_or, refl, sym, ap, ◌∙◌, subst, arith, rules, eq-eqb, ne_eqb}
+use Rattle.std.proofs.Common.{◌≡◌, ◌≢◌, ℕ, ◌<◌, ◌≤◌, if◌then◌else◌, Option, Some, None, IfSome, unwrap_or, refl, sym, ap, ◌∙◌, subst, arith, rules, eq-eqb, ne_eqb}
 use mathlib.Core.Logic.{dite}
 use native.Mathlib.Decide.{ℕ_discrete}
-use Rattle.std.specs.Ordering.{nat_cmp, eq_by_cmp}
+use Rattle.std.specs.Ordering.{nat_cmp}
 use Rattle.std.specs.FinMap as finite
 use Rattle.std.specs.FinMap.{gets}
-use Rattle.record_text.specs.declared.limits.TheConstants.{GREATEST_ID, GREATEST_DATA}
+use Rattle.record_text.specs.declared.limits.TheConstants.{GREATEST_DATA}
 use Rattle.record_text.specs.Records.{Records}
 use Rattle.record_text.specs.Ranges.{IsId, IsRank}
 use Rattle.record_text.specs.Laws.{data_at_rank}
-use Rattle.txn_alloc.specs.EntryMaps.{Entries}
 use Rattle.txn_records.specs.declared.layout.TheConstants.{RANK_STEP}
 use Rattle.txn_records.specs.Layout.{index_key_of}
 use Rattle.txn_records.specs.Standing.{Trees, HoldRecords, AreInRange, rank_in}

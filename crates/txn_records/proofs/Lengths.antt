@@ -1,5 +1,5 @@
 -- How many entries trees have that hold records.
-use Rattle.std.proofs.Common.{◌≡◌, ◌≢◌, ℕ, zero, suc, ◌+◌, ◌*◌, ◌/◌, ◌%◌, ◌<◌, List, [], ◌∷◌, length, Option, Some, None, refl, sym, ap, ◌∙◌, subst, arith, rules}
+use Rattle.std.proofs.Common.{◌≡◌, ℕ, zero, suc, ◌+◌, ◌/◌, ◌%◌, ◌<◌, List, [], ◌∷◌, length, Some, None, refl, sym, ap, ◌∙◌, subst, arith, rules}
 use mathlib.Core.Logic.{dite}
 use native.Mathlib.Decide.{ℕ_discrete}
 use Rattle.std.specs.Cmp.{nat_cmp_total}
@@ -8,7 +8,6 @@ use Rattle.std.specs.FinMap as finite
 use Rattle.std.specs.FinMap.{nat_cmp-IsAntisymmetric, find, len-entries, get-entries, empty_of_len, len-empty, get-empty}
 use Rattle.books_model.proofs.Maps.Trees.{len_after_insert}
 use Rattle.record_text.specs.Records.{Records}
-use Rattle.record_text.specs.Ranges.{IsId}
 use Rattle.record_text.specs.Laws.{data_at_rank}
 use Rattle.txn_alloc.specs.EntryMaps.{Entries}
 use Rattle.txn_tree_map.proofs.Held.Entries.{tied}

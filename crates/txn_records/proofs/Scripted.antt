@@ -1,5 +1,5 @@
 -- The operations of a script one after another on words that stand for records, and what they come to together.
-use Rattle.std.proofs.Common.{◌≡◌, ◌≢◌, ℕ, ◌+◌, Bool, true, false, not, ◌&&◌, if◌then◌else◌, List, [], ◌∷◌, ◌++◌, Option, Some, None, is_some, Result, refl, sym, ap, ◌∙◌, subst}
+use Rattle.std.proofs.Common.{◌≡◌, ℕ, ◌+◌, Bool, true, false, not, ◌&&◌, if◌then◌else◌, List, [], ◌∷◌, ◌++◌, Option, Some, None, is_some, refl, sym, ap, ◌∙◌, subst}
 use Rattle.std.specs.FinMap as finite
 use Rattle.history_model.specs.declared.shape.Shape.{Ghosts as Shapes}
 use Rattle.history_model.specs.Traces.{after, Begins}
@@ -13,10 +13,9 @@ use Rattle.record_text.specs.declared.reply.RecordValue.TheVariants as value
 use Rattle.record_text.specs.declared.reply.RecordReply.{RecordReply}
 use Rattle.record_text.specs.declared.reply.RecordReply.TheVariants as reply
 use Rattle.record_text.specs.Records.{Records, ids_from, is_full}
-use Rattle.record_text.specs.Interpreter.{Step, Gives, LacksRecord, LacksBlocks, Run, Ends, Stops, outcome_from, record_outcome_of, run_from, step_of, with_record}
+use Rattle.record_text.specs.Interpreter.{Gives, LacksRecord, LacksBlocks, Run, Ends, Stops, outcome_from, record_outcome_of, run_from, step_of, with_record}
 use Rattle.record_text.specs.Inner.Steps.{run_with}
 use Rattle.record_text.proofs.Runs.{after_values, after_values-none, goes_on, lacks_record, lacks_blocks, ends}
-use Rattle.txn_alloc.specs.declared.put.Put.{Put}
 use Rattle.txn_alloc.specs.declared.put.Put.TheVariants.{New, Old, Full}
 use Rattle.txn_words.specs.declared.words.Words.{Ghosts as AnyWords}
 use Rattle.txn_words.specs.Access.{Tells, TellsAndChanges}

@@ -5,7 +5,6 @@ use Rattle.history_model.specs.Traces.{after, Begins}
 use Rattle.history_model.specs.Fitting.{SomeFits}
 use Rattle.history_model.proofs.Traces.FittingLaws.{fits_begins}
 use Rattle.history_model.proofs.Traces.TraceLaws.{begins_refl, begins_trans}
-use Rattle.txn_words.specs.declared.words.Stop.{Stop}
 use Rattle.txn_words.specs.declared.words.Words.{Ghosts as AnyWords}
 use Rattle.txn_words.specs.Access.{OfModel, Tells, TellsAndChanges}
 use Rattle.txn_words.specs.Calls.{InEachState, LeadsTo, WritesWithin}

@@ -1,5 +1,5 @@
 -- Two trees over one arena: a change of one leaves the other.
-use Rattle.std.proofs.Common.{◌≡◌, ◌≢◌, ℕ, ◌+◌, ◌<◌, ◌⊎◌, inl, inr, Bool, true, false, ◌==◌, List, [], ◌∷◌, Option, Some, None, slice_get, refl, sym, ap, ◌∙◌, subst, arith, eq-eqb, ne_eqb}
+use Rattle.std.proofs.Common.{◌≡◌, ◌≢◌, ℕ, ◌+◌, ◌<◌, ◌⊎◌, inl, inr, true, false, ◌==◌, List, [], ◌∷◌, Option, Some, None, slice_get, refl, sym, ap, ◌∙◌, subst, arith, eq-eqb, ne_eqb}
 use mathlib.Core.Logic.{dite}
 use native.Mathlib.Decide.{ℕ_discrete}
 use Rattle.std.specs.Cmp.{nat_cmp_total}
@@ -23,7 +23,6 @@ use Rattle.txn_tree_map.proofs.Maps.{tree_stands}
 use Rattle.txn_tree_map.proofs.Searches.Gets.{used_below}
 use Rattle.txn_tree_map.proofs.Inserts.InsertCalls.{is_one}
 use Rattle.txn_tree_map.proofs.Held.Numbers.{as_many_blocks}
-use Rattle.txn_records.specs.Standing.{times_among}
 use Rattle.txn_records.specs.Access.{put_answer, put_by}
 use Rattle.txn_records.proofs.Held.{removed_here, removed_there}
 use Rattle.txn_records.proofs.Apart.{three_among, out_other, out_above, not_own, other_out, moved_times}

@@ -123,7 +123,8 @@ fn put_new<W: Words>(
     if let Put::Full = put_in(w, shape, Order::ById, u64::from(id), u64::from(rank))? {
         return Ok(Put::Full);
     }
-    put_in(w, shape, Order::ByRank, index_key(rank, id), content)
+    let place = index_key(rank, id);
+    put_in(w, shape, Order::ByRank, place, content)
 }
 
 // Gives a record that has this rank other data.
@@ -174,7 +175,8 @@ fn change_rank<W: Words>(
 {
     put_in(w, shape, Order::ById, u64::from(id), u64::from(rank))?;
     cut_in(w, shape, Order::ByRank, index_key(was, id))?;
-    put_in(w, shape, Order::ByRank, index_key(rank, id), content)?;
+    let place = index_key(rank, id);
+    put_in(w, shape, Order::ByRank, place, content)?;
     Ok(())
 }
 

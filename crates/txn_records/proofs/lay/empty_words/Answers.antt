@@ -1,4 +1,4 @@
-use Rattle.std.proofs.Common.{◌≡◌, ℕ, ◌+◌, ◌++◌, length, take, drop, replicate, sym, ap, ◌∙◌, subst, arith}
+use Rattle.std.proofs.Common.{◌≡◌, ℕ, ◌++◌, length, take, drop, replicate, sym, ap, ◌∙◌, subst, arith}
 use Rattle.std.proofs.Math.Seq.{take-append_seam}
 use Rattle.std.proofs.lemmas.List.{length-replicate}
 use Rattle.std.specs.FinSet as set
@@ -8,7 +8,7 @@ use Rattle.txn_alloc.specs.FreeLists.{FreeListsHold}
 use Rattle.txn_alloc.specs.Laying.{IsWrittenByLaying}
 use Rattle.txn_records.specs.Layout.{words_of, arena_of}
 use Rattle.txn_records.specs.Standing.{Stands}
-use Rattle.txn_records.proofs.Emptied.{all_blocks, blocks_lie, empty_stands, all_below, all_once}
+use Rattle.txn_records.proofs.Emptied.{all_blocks, empty_stands, all_below, all_once}
 use Rattle.txn_records.proofs.lay.empty_words.Goals as goal
 use Rattle.txn_records.proofs.lay.empty_words.Goals.{After-lay_free}
 

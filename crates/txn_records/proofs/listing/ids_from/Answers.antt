@@ -1,7 +1,6 @@
-use Rattle.std.proofs.Common.{◌≡◌, suc, ◌+◌, ◌-◌, ◌*◌, ◌≤◌, refl, sym, ◌∙◌, arith, rules}
-use Rattle.txn_records.specs.Standing.{Stands}
+use Rattle.std.proofs.Common.{◌+◌, ◌-◌, refl, ◌∙◌, arith}
 use Rattle.txn_records.proofs.Listed.{lists_first, lists_none, lists_all, lists_one, lists_last}
-use Rattle.txn_records.proofs.Turning.{Leads, Saw, unlooked, look_then, looked_less, looked_stands, tells}
+use Rattle.txn_records.proofs.Turning.{unlooked, look_then, looked_less, looked_stands, tells}
 use Rattle.txn_records.proofs.listing.ids_from.Goals as goal
 
 pub loop-init : goal.loop-init

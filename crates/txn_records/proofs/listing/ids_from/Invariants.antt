@@ -1,5 +1,4 @@
-use Rattle.std.proofs.Common.{◌≡◌, ◌+◌, ◌-◌, length, None}
-use Rattle.history_model.specs.Traces.{Begins}
+use Rattle.std.proofs.Common.{◌≡◌, ◌-◌, None}
 use Rattle.txn_records.specs.Standing.{Stands}
 use Rattle.txn_records.proofs.Turning.{Leads, Saw}
 use Rattle.txn_records.proofs.Listed.{IsListed}

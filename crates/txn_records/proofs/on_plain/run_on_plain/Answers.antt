@@ -1,4 +1,4 @@
-use Rattle.std.proofs.Common.{◌≡◌, Bool, List, ℕ, length, ap, ◌∙◌, sym, subst}
+use Rattle.std.proofs.Common.{◌≡◌, List, ℕ, length, ap, ◌∙◌, sym, subst}
 use Rattle.history_model.specs.Fitting.{IsGood}
 use Rattle.history_model.specs.Traces.{after}
 use Rattle.history_model.proofs.Traces.TraceLaws.{length-after}

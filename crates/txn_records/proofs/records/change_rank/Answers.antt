@@ -1,7 +1,4 @@
-use Rattle.std.proofs.Common.{rules}
-use Rattle.std.proofs.lemmas.Result.{IfOk-from_err}
-use Rattle.txn_words.specs.Calls.{GoesOn}
-use Rattle.txn_words.proofs.CallLaws.{goes_then, goes_as}
+use Rattle.txn_words.proofs.CallLaws.{goes_then}
 use Rattle.txn_records.proofs.Calls.{good_trees, put_stands}
 use Rattle.txn_records.proofs.Puts.{moved}
 use Rattle.txn_records.proofs.Turning.{leads_when, turned, turn_then}
@@ -18,7 +15,7 @@ returns-clause-put g c =
     let all = turn_then third.shape third.begins (turn_then second.shape second.begins
     (turned first.shape first.begins (rw c.from.ensures at rw c.from-2.ensures at c.in_ok-put_in.ensures.put))
     (rw c.index_key.ensures at c.in_ok-cut_in.ensures.cut))
-    (rw c.index_key-2.ensures at c.in_ok-put_in-2.ensures.put) in
+    (rw c.index_key-place.ensures at c.in_ok-put_in-2.ensures.put) in
     leads_when g.W.Words g.W.Shape.Shape _ _ _ _ _ all.begins c.requires.known
     (λ x y known. moved c.args.shape.now c.args.id c.args.rank c.args.content c.requires.id c.requires.content x y c.requires.rank c.args.was
     c.requires.other known c.in_ok-put_in.field-0 c.in_ok-put_in-2.field-0 c.in_ok-cut_in.field-0)

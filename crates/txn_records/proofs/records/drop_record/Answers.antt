@@ -1,7 +1,7 @@
 use Rattle.std.proofs.Common.{rules}
 use Rattle.std.proofs.lemmas.Result.{IfOk-from_err}
 use Rattle.txn_words.specs.Calls.{GoesOn}
-use Rattle.txn_words.proofs.CallLaws.{goes_then, goes_as, state_after}
+use Rattle.txn_words.proofs.CallLaws.{goes_then, goes_as}
 use Rattle.txn_records.proofs.Held.{id_below}
 use Rattle.txn_records.proofs.Calls.{not_dropped, is_dropped}
 use Rattle.txn_records.proofs.Turning.{leads_less, turned, turn_then, turned_stands}

@@ -1,7 +1,5 @@
-use Rattle.std.proofs.Common.{rules}
-use Rattle.std.proofs.lemmas.Result.{IfOk-from_err, IfOk-weaker}
-use Rattle.txn_words.specs.Calls.{GoesOn}
-use Rattle.txn_words.proofs.CallLaws.{goes_then, goes_as}
+use Rattle.std.proofs.lemmas.Result.{IfOk-weaker}
+use Rattle.txn_words.proofs.CallLaws.{goes_then}
 use Rattle.txn_records.proofs.Calls.{good_trees, new_stands}
 use Rattle.txn_records.proofs.Puts.{full_at_once, new_put}
 use Rattle.txn_records.proofs.Turning.{leads_when, turned, turn_then}
@@ -29,7 +27,7 @@ returns g c =
     c.in_ok-put_in.field-0 c.in_default.not-Full answer)
     (turn_then second.shape second.begins
     (turned first.shape first.begins (rw c.from.ensures at rw c.from-2.ensures at c.in_ok-put_in.ensures.put)) did).leads)
-    (rw c.index_key.ensures at c.put_in-2.ensures.put) in
+    (rw c.index_key-place.ensures at c.put_in-2.ensures.put) in
     record {
       put = put;
       stands = IfOk-weaker c.put_in-2.result _ _

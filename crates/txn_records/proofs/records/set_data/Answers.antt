@@ -1,7 +1,3 @@
-use Rattle.std.proofs.Common.{rules}
-use Rattle.std.proofs.lemmas.Result.{IfOk-from_err}
-use Rattle.txn_words.specs.Calls.{GoesOn}
-use Rattle.txn_words.proofs.CallLaws.{goes_as}
 use Rattle.txn_records.proofs.Calls.{good_trees, put_stands}
 use Rattle.txn_records.proofs.Puts.{data_set}
 use Rattle.txn_records.proofs.Turning.{leads_when}
