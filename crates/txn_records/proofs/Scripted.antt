@@ -13,7 +13,7 @@ use Rattle.record_text.specs.declared.reply.RecordValue.TheVariants as value
 use Rattle.record_text.specs.declared.reply.RecordReply.{RecordReply}
 use Rattle.record_text.specs.declared.reply.RecordReply.TheVariants as reply
 use Rattle.record_text.specs.Records.{Records, ids_from, is_full}
-use Rattle.record_text.specs.Interpreter.{Gives, LacksRecord, LacksBlocks, Run, Ends, Stops, outcome_from, record_outcome_of, run_from, step_of, with_record}
+use Rattle.record_text.specs.Interpreter.{Gives, LacksBlocks, Run, Ends, Stops, outcome_from, record_outcome_of, run_from, step_of, with_record}
 use Rattle.record_text.specs.Inner.Steps.{run_with}
 use Rattle.record_text.proofs.Runs.{after_values, after_values-none, goes_on, lacks_record, lacks_blocks, ends}
 use Rattle.txn_alloc.specs.declared.put.Put.TheVariants.{New, Old, Full}
@@ -26,9 +26,10 @@ use Rattle.txn_records.specs.declared.operations.Outcome.{Outcome}
 use Rattle.txn_records.specs.declared.operations.Outcome.TheVariants as outcome
 use Rattle.txn_records.specs.Standing.{Stands, IsGoodFor, rank_in}
 use Rattle.txn_records.specs.Access.{put_answer, PutsRecord}
-use Rattle.txn_records.specs.Operating.{step_of_outcome, Steps, UnlessLacking}
+use Rattle.txn_records.specs.Operating.{step_of_outcome, Steps, IsLeft}
 use Rattle.txn_records.specs.Meaning.{is_done, ScriptMeans}
 use Rattle.txn_records.specs.Inner.Scripts.{IfDone, Runs}
+use Rattle.txn_records.proofs.Two.{remove_absent}
 use Rattle.txn_records.proofs.Turning.{Leads, Turns, leads_less}
 
 -- what the step of a put comes to, by what was answered
@@ -109,12 +110,16 @@ module _ (shape : RecordShape) (x y : List ℕ) where
   pub absent_steps : (id : ℕ) → TellsAndChanges (Stands shape) (λ records. finite.contains_key records id) (λ records. finite.remove records id) false x y
       → Steps shape (op.Remove id) outcome.LacksRecord x y
   absent_steps id t = record {
-    comes = λ records stand. (finite.remove records id, at records (finite.get records id) refl (t.told records stand), t.left records stand);
+    comes = λ records stand. let none = absent (finite.get records id) (t.told records stand) in (
+      records,
+      ap (λ found. with_record found (λ stored. Gives value.Gone (finite.remove records id))) none,
+      subst (λ r. Stands shape y r) (remove_absent records id none) (t.left records stand),
+    );
   }
     where
-      at : (records : Records) (o : Option (ℕ × ℕ)) → finite.get records id ≡ o → false ≡ is_some o → step_of shape.blocks (op.Remove id) records ≡ LacksRecord
-      at records None is there = ap (λ found. with_record found (λ stored. Gives value.Gone (finite.remove records id))) is
-      at records (Some stored) is there = absurd (cc)
+      absent : (o : Option (ℕ × ℕ)) → false ≡ is_some o → o ≡ None
+      absent None there = refl
+      absent (Some stored) there = absurd (cc)
 
   pub found_steps : (id rank content : ℕ) → Tells (Stands shape) (λ records. finite.get records id) (Some (rank, content)) x y
       → Steps shape (op.Find id) (outcome.Gives (value.Found rank content)) x y
@@ -187,7 +192,7 @@ module _ {W S O : Type 0} {words : AnyWords W S O} {shapes : Shapes S} {shape : 
                 let now = k.1.at records stand in
                 let last = k.2.comes now.0 now.1 in (
                   last.0,
-                  subst (λ o. UnlessLacking o (Stands shape z last.0)) is last.2,
+                  subst (λ o. IsLeft shape z o now.0 last.0) is last.2,
                   goes_on shape.blocks op rest (run_from shape.blocks 1 script records) values number now.0 now.2 value last.0
                       (last.1 ∙ ap (λ o. step_of_outcome o last.0) is),
                 );

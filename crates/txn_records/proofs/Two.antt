@@ -53,7 +53,7 @@ pub record IsCut (part : Part) (key : ℕ) (answer : Option ℕ) (old new : List
   pub keeps : KeepsOthers (IsOwn part key old new) old new
 
 -- a map from which an absent key is taken is the same
-remove_absent : (m : Entries) (k : ℕ) → finite.get m k ≡ None → finite.remove m k ≡ m
+pub remove_absent : {X : Type 0} (m : finite.FinMap nat_cmp X) (k : ℕ) → finite.get m k ≡ None → finite.remove m k ≡ m
 remove_absent m k none = finite.same_map nat_cmp_total nat_cmp-IsAntisymmetric (finite.remove m k) m
     (λ q. dite (ℕ_discrete q k)
     (λ e. subst (λ z. finite.get (finite.remove m k) z ≡ finite.get m z) (sym e) (removed_here m k ∙ sym none))

@@ -20,8 +20,14 @@ UnlessLacking (outcome.Gives v) P = P
 UnlessLacking outcome.LacksRecord P = P
 UnlessLacking outcome.LacksBlocks P = Unit {0}
 
--- from state to state: the outcome is the interpreter's, and the words then stand for the records that its step leaves;
--- where it finds no two blocks nothing is said of them, and where the record is absent they stand for some
+-- which records the words stand for after an operation that began with some: those of its step, or the same where the
+-- record is absent; where no two blocks were found nothing is said
+abbrev pub IsLeft : RecordShape → List ℕ → Outcome → Records → Records → Type 0
+IsLeft shape words (outcome.Gives v) before after = Stands shape words after
+IsLeft shape words outcome.LacksRecord before after = Stands shape words before
+IsLeft shape words outcome.LacksBlocks before after = Unit {0}
+
+-- from state to state: the outcome is the interpreter's, and the words then stand for the records that its step leaves
 pub record Steps (shape : RecordShape) (op : RecordOp) (outcome : Outcome) (old new : List ℕ) : Type 0 where
   pub comes : (records : Records) → Stands shape old records → (after : Records)
-      × (step_of shape.blocks op records ≡ step_of_outcome outcome after) × UnlessLacking outcome (Stands shape new after)
+      × (step_of shape.blocks op records ≡ step_of_outcome outcome after) × IsLeft shape new outcome records after

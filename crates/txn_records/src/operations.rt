@@ -85,7 +85,6 @@ fn put<W: Words>(
 fn remove<W: Words>(w: &mut W, shape: &RecordShape, id: u32) -> Result<Outcome, Stop>
     requires ready { IsReady W.Words w.old }
     requires stands { InEachState W.Words W.Shape.Shape w.old (IsGoodFor shape.now) }
-    requires id { IsId id }
     ensures step { IfOk result (λ outcome. LeadsTo W.Words W.Shape.Shape w.old w.new
         (Steps shape.now (RecordOp.Remove id) outcome)) }
     ensures stands { IfOk result (λ outcome. UnlessLacking outcome
@@ -103,7 +102,6 @@ fn remove<W: Words>(w: &mut W, shape: &RecordShape, id: u32) -> Result<Outcome, 
 fn find<W: Words>(w: &mut W, shape: &RecordShape, id: u32) -> Result<Outcome, Stop>
     requires ready { IsReady W.Words w.old }
     requires stands { InEachState W.Words W.Shape.Shape w.old (IsGoodFor shape.now) }
-    requires id { IsId id }
     ensures step { IfOk result (λ outcome. LeadsTo W.Words W.Shape.Shape w.old w.new
         (Steps shape.now (RecordOp.Find id) outcome)) }
     ensures stands { IfOk result (λ outcome. UnlessLacking outcome

@@ -85,7 +85,6 @@ fn cut_rank<W: Words>(w: &mut W, shape: &RecordShape, id: u32) -> Result<Option<
 pub fn drop_record<W: Words>(w: &mut W, shape: &RecordShape, id: u32) -> Result<bool, Stop>
     requires ready { IsReady W.Words w.old }
     requires stands { InEachState W.Words W.Shape.Shape w.old (IsGoodFor shape.now) }
-    requires id { IsId id }
     ensures dropped { IfOk result (λ was_there. LeadsTo W.Words W.Shape.Shape w.old w.new
         (TellsAndChanges (Stands shape.now) (λ records. finite.contains_key records id)
         (λ records. finite.remove records id) was_there)) }

@@ -1,8 +1,7 @@
-use Rattle.std.proofs.Common.{rules}
+use Rattle.std.proofs.Common.{arith, rules}
 use Rattle.std.proofs.lemmas.Result.{IfOk-from_err}
 use Rattle.txn_words.specs.Calls.{GoesOn}
 use Rattle.txn_words.proofs.CallLaws.{goes_then, goes_as}
-use Rattle.txn_records.proofs.Held.{id_below}
 use Rattle.txn_records.proofs.Calls.{not_dropped, is_dropped}
 use Rattle.txn_records.proofs.Turning.{leads_less, turned, turn_then, turned_stands}
 use Rattle.txn_records.proofs.records.drop_record.Goals as goal
@@ -10,7 +9,7 @@ use Rattle.txn_records.proofs.records.drop_record.Goals as goal
 pub returns-in_default : goal.returns-in_default
 returns-in_default g c =
     let first = c.in_ok-rank.ensures.goes_on in
-    let did = leads_less g.W.Words g.W.Shape.Shape _ _ _ _ (not_dropped c.args.shape.now c.args.id (id_below c.args.id c.requires.id))
+    let did = leads_less g.W.Words g.W.Shape.Shape _ _ _ _ (not_dropped c.args.shape.now c.args.id (omega arith))
     (rw c.in_default.is at c.in_ok-rank.ensures.cut) in
     record {
       dropped = did;
@@ -24,7 +23,7 @@ returns g c =
     let second = c.in_ok-cut_in.ensures.goes_on in
     let both = goes_then first second in
     let did = leads_less g.W.Words g.W.Shape.Shape _ _ _ _
-    (λ x y. is_dropped c.args.shape.now c.args.id (id_below c.args.id c.requires.id) x y c.in-Some.rank c.in_ok-cut_in.field-0)
+    (λ x y. is_dropped c.args.shape.now c.args.id (omega arith) x y c.in-Some.rank c.in_ok-cut_in.field-0)
     (turn_then second.shape second.begins (turned first.shape first.begins (rw c.in-Some.is at c.in_ok-rank.ensures.cut))
     (rw c.index_key.ensures at c.in_ok-cut_in.ensures.cut)).leads in
     record {
