@@ -1,5 +1,6 @@
 -- Trees that hold records, and hold them after a change.
-use Rattle.std.proofs.Common.{◌≡◌, ◌≢◌, ℕ, ◌<◌, ◌≤◌, if◌then◌else◌, Option, Some, None, IfSome, unwrap_or, refl, sym, ap, ◌∙◌, subst, arith, rules, eq-eqb, ne_eqb}
+use Rattle.std.proofs.Common.{◌≡◌, ◌≢◌, ℕ, ◌<◌, ◌≤◌, if◌then◌else◌, Option, Some, None}
+use Rattle.std.proofs.Common.{IfSome, unwrap_or, refl, sym, ap, ◌∙◌, subst, arith, rules, eq-eqb, ne_eqb}
 use mathlib.Core.Logic.{dite}
 use native.Mathlib.Decide.{ℕ_discrete}
 use Rattle.std.specs.Ordering.{nat_cmp}

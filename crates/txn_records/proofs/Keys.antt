@@ -1,5 +1,6 @@
 -- The keys of the index, in order.
-use Rattle.std.proofs.Common.{◌≡◌, ◌≢◌, ℕ, ◌*◌, ◌/◌, ◌%◌, ◌<◌, ◌≤◌, Bool, true, false, cond, T, nat_lt, nat_le, List, [], ◌∷◌, map, Option, Some, None, refl, sym, ap, ◌∙◌, subst, arith, rules, eqb-true, ◌==◌, if◌then◌else◌, unwrap_or, inl, inr}
+use Rattle.std.proofs.Common.{◌≡◌, ◌≢◌, ℕ, ◌*◌, ◌/◌, ◌%◌, ◌<◌, ◌≤◌, Bool, true, false, cond, T, nat_lt, nat_le, List, [], ◌∷◌, map, Option}
+use Rattle.std.proofs.Common.{Some, None, refl, sym, ap, ◌∙◌, subst, arith, rules, eqb-true, ◌==◌, if◌then◌else◌, unwrap_or, inl, inr}
 use Rattle.std.proofs.lemmas.Bool.{cases_lt}
 use Rattle.std.specs.Prelude.{find as first}
 use Rattle.std.specs.declared.cmp.Ordering.{Ordering}
@@ -75,7 +76,8 @@ keyed es = map (λ e. (key_of e.0, e.1)) es
 below_keyed : (x : ℕ × ℕ) → IsPlace x → (es : List Entry) → ArePlaces es → T (below_all index_cmp x es) → below_all nat_cmp (key_of x) (keyed es) ≡ true
 below_keyed x p [] h below = refl
 below_keyed x p (e ∷ es) h below =
-    grind (rules, lower (key_of x) (key_of e.0) (key_rises x e.0 p h.0 (below_first index_cmp x e es below)), below_keyed x p es h.1 (below_rest index_cmp x e es below))
+    let first : key_of x < key_of e.0 = key_rises x e.0 p h.0 (below_first index_cmp x e es below) in
+    grind (rules, lower (key_of x) (key_of e.0) first, below_keyed x p es h.1 (below_rest index_cmp x e es below))
 
 sorted_keyed : (es : List Entry) → ArePlaces es → T (is_sorted index_cmp es) → is_sorted nat_cmp (keyed es) ≡ true
 sorted_keyed [] h sorted = refl

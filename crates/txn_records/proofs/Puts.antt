@@ -1,5 +1,6 @@
 -- A record that is put, from what was done to the trees.
-use Rattle.std.proofs.Common.{◌≡◌, ◌≢◌, ℕ, ◌+◌, ◌*◌, ◌<◌, ◌≤◌, Bool, true, false, ◌==◌, nat_lt, List, Option, Some, None, IsSome, refl, sym, ap, ◌∙◌, subst, arith, eqb-true, ne_eqb}
+use Rattle.std.proofs.Common.{◌≡◌, ◌≢◌, ℕ, ◌+◌, ◌*◌, ◌<◌, ◌≤◌, Bool, true, false, ◌==◌, nat_lt}
+use Rattle.std.proofs.Common.{List, Option, Some, None, IsSome, refl, sym, ap, ◌∙◌, subst, arith, eqb-true, ne_eqb}
 use mathlib.Core.Logic.{dite}
 use native.Mathlib.Decide.{ℕ_discrete}
 use Rattle.std.proofs.lemmas.Bool.Decides.{nat_tests}
@@ -20,7 +21,8 @@ use Rattle.txn_records.specs.Layout.{index_key_of}
 use Rattle.txn_records.specs.Standing.{Trees, HasTrees, HoldRecords, Stands, rank_in}
 use Rattle.txn_records.specs.Access.{is_used_up, put_answer, put_by, PutsRecord}
 use Rattle.txn_records.proofs.Turning.{Turns}
-use Rattle.txn_records.proofs.Held.{id_below, keys_differ, no_record, some_record, data_here, data_elsewhere, removed_here, removed_there, inserted_here, inserted_there, range_inserted, put_held}
+use Rattle.txn_records.proofs.Held.{id_below, keys_differ, no_record, some_record, data_here, data_elsewhere}
+use Rattle.txn_records.proofs.Held.{removed_here, removed_there, inserted_here, inserted_there, range_inserted, put_held}
 use Rattle.txn_records.proofs.Lengths.{lengths, one_less}
 use Rattle.txn_records.proofs.Sides.{trees_counted}
 
@@ -81,7 +83,8 @@ module _ (shape : RecordShape) (id rank content : ℕ) (is : IsId id) (fits : co
   }
 
   -- its second key was put too, or found none
-  module _ (ranked : IsRank rank) (absent : OfModel (Stands shape) (λ records. rank_in (finite.get records id) ≡ None) x) (first : Put) (had : first ≢ Full) where
+  module _ (ranked : IsRank rank) (absent : OfModel (Stands shape) (λ records. rank_in (finite.get records id) ≡ None) x) (first : Put)
+      (had : first ≢ Full) where
     abbrev Both : Put → Type 0
     Both put = Turns (HasTrees shape) (λ trees last. (here : Trees)
         × ((first ≡ put_answer (finite.get trees.ranks id) (is_used_up shape trees)) × (here ≡ record trees { ranks = put_by first id rank trees.ranks }))

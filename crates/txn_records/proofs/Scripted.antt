@@ -1,5 +1,6 @@
 -- The operations of a script one after another on words that stand for records, and what they come to together.
-use Rattle.std.proofs.Common.{◌≡◌, ℕ, ◌+◌, Bool, true, false, not, ◌&&◌, if◌then◌else◌, List, [], ◌∷◌, ◌++◌, Option, Some, None, is_some, refl, sym, ap, ◌∙◌, subst}
+use Rattle.std.proofs.Common.{◌≡◌, ℕ, ◌+◌, Bool, true, false, not, ◌&&◌, if◌then◌else◌, List, [], ◌∷◌, ◌++◌}
+use Rattle.std.proofs.Common.{Option, Some, None, is_some, refl, sym, ap, ◌∙◌, subst}
 use Rattle.std.specs.FinMap as finite
 use Rattle.history_model.specs.declared.shape.Shape.{Ghosts as Shapes}
 use Rattle.history_model.specs.Traces.{after, Begins}
@@ -39,7 +40,8 @@ put_new_step : (blocks id rank content : ℕ) (records : Records) (o : Option (�
 put_new_step blocks id rank content records (Some stored) is told = absurd (cc)
 put_new_step blocks id rank content records None is told = at (is_full blocks records) refl
   where
-    at : (full : Bool) → is_full blocks records ≡ full → step_of blocks (op.Put id rank content) records ≡ Gives value.New (finite.insert records id (rank, content))
+    at : (full : Bool) → is_full blocks records ≡ full
+        → step_of blocks (op.Put id rank content) records ≡ Gives value.New (finite.insert records id (rank, content))
     at true e = let no : New ≡ Full = told ∙ ap (put_answer None) e in absurd (cc)
     at false e = ap (λ (found : Option (ℕ × ℕ)). if not (is_some found) && is_full blocks records then LacksBlocks
         else Gives (if is_some found then value.Old else value.New) (finite.insert records id (rank, content))) is
@@ -53,7 +55,8 @@ put_old_step blocks id rank content was records (Some stored) is told =
     else Gives (if is_some found then value.Old else value.New) (finite.insert records id (rank, content))) is
 put_old_step blocks id rank content was records None is told = at (is_full blocks records) refl
   where
-    at : (full : Bool) → is_full blocks records ≡ full → step_of blocks (op.Put id rank content) records ≡ Gives value.Old (finite.insert records id (rank, content))
+    at : (full : Bool) → is_full blocks records ≡ full
+        → step_of blocks (op.Put id rank content) records ≡ Gives value.Old (finite.insert records id (rank, content))
     at true e = let no : Old was ≡ Full = told ∙ ap (put_answer None) e in absurd (cc)
     at false e = let no : Old was ≡ New = told ∙ ap (put_answer None) e in absurd (cc)
 
@@ -78,7 +81,8 @@ module _ (shape : RecordShape) (x y : List ℕ) where
     );
   }
 
-  pub old_steps : (id rank content was : ℕ) → PutsRecord shape id rank content (Old was) x y → Steps shape (op.Put id rank content) (outcome.Gives value.Old) x y
+  pub old_steps : (id rank content was : ℕ) → PutsRecord shape id rank content (Old was) x y
+      → Steps shape (op.Put id rank content) (outcome.Gives value.Old) x y
   old_steps id rank content was p = record {
     comes = λ records stand. (
       finite.insert records id (rank, content),

@@ -156,7 +156,8 @@ module _ {W S O Model : Type 0} {words : AnyWords W S O} {shapes : Shapes S} {st
     tells h means = leads_less words shapes u w _ _ (λ x y k. record { same = k.same; told = λ model stand. means model (k.saw model stand) }) h.leads
 
     -- less of what was seen
-    pub looked_less : {P Q : Model → Type 0} → Leads words shapes u w (Saw stands P) → ((model : Model) → P model → Q model) → Leads words shapes u w (Saw stands Q)
+    pub looked_less : {P Q : Model → Type 0} → Leads words shapes u w (Saw stands P) → ((model : Model) → P model → Q model)
+        → Leads words shapes u w (Saw stands Q)
     looked_less h less = record {
       kept = h.kept;
       begins = h.begins;

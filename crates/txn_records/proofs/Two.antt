@@ -1,5 +1,6 @@
 -- Two trees over one arena: a change of one leaves the other.
-use Rattle.std.proofs.Common.{◌≡◌, ◌≢◌, ℕ, ◌+◌, ◌<◌, ◌⊎◌, inl, inr, true, false, ◌==◌, List, [], ◌∷◌, Option, Some, None, slice_get, refl, sym, ap, ◌∙◌, subst, arith, eq-eqb, ne_eqb}
+use Rattle.std.proofs.Common.{◌≡◌, ◌≢◌, ℕ, ◌+◌, ◌<◌, ◌⊎◌, inl, inr, true, false, ◌==◌, List, [], ◌∷◌, Option, Some, None}
+use Rattle.std.proofs.Common.{slice_get, refl, sym, ap, ◌∙◌, subst, arith, eq-eqb, ne_eqb}
 use mathlib.Core.Logic.{dite}
 use native.Mathlib.Decide.{ℕ_discrete}
 use Rattle.std.specs.Cmp.{nat_cmp_total}
@@ -134,7 +135,8 @@ module _ (arena : Arena) (root other : ℕ) (differ : root ≢ other) (old new :
       parted = λ b lt. let once = two.parted b lt in let many = as_many b in omega (arith, once, many);
     }
 
-  put_new : (x : ℕ) → InsertsNew (tree_part (at_root arena root)) key x new mine two.used two.free → HasTwo arena root other new (finite.insert mine key x) theirs
+  put_new : (x : ℕ) → InsertsNew (tree_part (at_root arena root)) key x new mine two.used two.free
+      → HasTwo arena root other new (finite.insert mine key x) theirs
   put_new x k =
       let out = free_unused (tree_part (at_root arena root)) old mine two.used two.free k.block (apart arena root other old mine theirs two) k.was_free in
       changed (finite.insert mine key x) (set.insert two.used k.block) (set.remove two.free k.block) k.left.map k.left.free_lists

@@ -42,8 +42,8 @@ UnlessFull New P = P
 UnlessFull (Old was) P = P
 UnlessFull Full P = Unit {0}
 
--- from state to state: the record has this rank and data, or is new and finds no two blocks; of what is left then nothing
--- is said
+-- from state to state: the record has this rank and data, or is new and finds no two blocks; of what is left then
+-- nothing is said
 pub record PutsRecord (shape : RecordShape) (id rank content : ℕ) (put : Put) (old new : List ℕ) : Type 0 where
   pub answer : (records : Records) → Stands shape old records
       → put ≡ put_answer (rank_in (finite.get records id)) (is_full shape.blocks records)

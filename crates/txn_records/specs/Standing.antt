@@ -47,8 +47,8 @@ abbrev pub rank_in : Option (ℕ × ℕ) → Option ℕ
 rank_in None = None
 rank_in (Some stored) = Some stored.0
 
--- both trees hold exactly these records: the one the rank of each, and the index the data of each at the key of the rank
--- that it has
+-- both trees hold exactly these records: the one the rank of each, and the index the data of each at the key of the
+-- rank that it has
 pub record HoldRecords (trees : Trees) (records : Records) : Type 0 where
   pub ranks : (id : ℕ) → finite.get trees.ranks id ≡ rank_in (finite.get records id)
   pub index : (rank id : ℕ) → id < RANK_STEP

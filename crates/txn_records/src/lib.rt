@@ -4,9 +4,9 @@
 //! `RecordShape` has the size of a store, and its methods say where each part lies. Which word lists stand for which
 //! records is `Stands` in `specs/Standing`; `laws` has what follows of it.
 //!
-//! `trees` has a call for each thing that is looked up or changed in one of the two trees, whatever they hold. `records`
-//! has the operations on records, and `operations` the same as operations of scripts. `RecordJob` is a script as a job
-//! over any words of a shape, and `specs/Meaning` says what it means.
+//! `trees` has a call for each thing that is looked up or changed in one of the two trees, whatever they hold.
+//! `records` and `listing` have the operations on records, and `operations` the same as operations of scripts.
+//! `RecordJob` is a script as a job over any words of a shape, and `specs/Meaning` says what it means.
 #![tactic(auto)]
 
 pub mod job;

@@ -179,8 +179,9 @@ fn change_rank<W: Words>(
     Ok(())
 }
 
-/// Gives a record this rank and data, whether or not it was there. Answers `Old` with the rank that it had. `Full`: it is
-/// new, and no two blocks are left for it; the words stand for nothing then, and whoever asked undoes what was written.
+/// Gives a record this rank and data, whether or not it was there. Answers `Old` with the rank that it had. `Full`: it
+/// is new, and no two blocks are left for it; the words stand for nothing then, and whoever asked undoes what was
+/// written.
 ///
 /// Where the rank stays, only the data is written.
 pub fn put_record<W: Words>(

@@ -135,8 +135,8 @@ fn both_reply(
     Ok(is_reply(&reply, row.1) && is_reply(&beside, row.1))
 }
 
-/// Four records take eight of nine blocks. Ranks tie, records move in the index, stay where they are, and go; identifiers,
-/// ranks and data are the greatest; a fifth record finds one block and not two.
+/// Four records take eight of nine blocks. Ranks tie, records move in the index, stay where they are, and go;
+/// identifiers, ranks and data are the greatest; a fifth record finds one block and not two.
 #[test]
 fn scripts_reply_by_hand_on_words_too(rt: HostRuntime) -> Result<(), Fail> {
     let alloc = rt.alloc();

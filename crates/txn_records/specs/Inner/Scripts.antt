@@ -19,8 +19,8 @@ IfDone (reply.Done values) P = P
 IfDone (reply.Declined k) P = Unit {0}
 IfDone (reply.Full k) P = Unit {0}
 
--- from state to state: the interpreter's run ends with this reply, and where it is done the words then stand for the records
--- that it leaves
+-- from state to state: the interpreter's run ends with this reply, and where it is done the words then stand for the
+-- records that it leaves
 pub record Runs (shape : RecordShape) (script : List RecordOp) (answer : RecordReply) (old new : List ℕ) : Type 0 where
   pub comes : (records : Records) → Stands shape old records → (after : Records)
       × (run_from shape.blocks 1 script records ≡ run_with answer after) × IfDone answer (Stands shape new after)

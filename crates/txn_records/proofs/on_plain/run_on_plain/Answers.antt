@@ -32,7 +32,8 @@ returns-in-Keep-clause-words c = λ records stand.
     let d = (goal.at.returns-in-Keep-clause-words c).In_ok-verdict in
     let same : after c.in_ok-verdict.plain.trace c.in_ok-copy.copy.items ≡ c.into_words.result.items =
     ap (after c.in_ok-verdict.plain.trace) (sym c.in_ok-verdict.ensures.origin) ∙ sym c.into_words.ensures in
-    subst (λ z. Stands c.args.shape.now z (record_outcome_of c.args.script.now records c.args.shape.now.blocks).1) same ((means d).leaves (ap is_kept c.in-Keep.is) records stand)
+    subst (λ z. Stands c.args.shape.now z (record_outcome_of c.args.script.now records c.args.shape.now.blocks).1) same
+    ((means d).leaves (ap is_kept c.in-Keep.is) records stand)
 
 pub returns-in-Keep-clause-count : goal.returns-in-Keep-clause-count
 returns-in-Keep-clause-count c =

@@ -31,6 +31,7 @@ returns g c =
     record {
       put = put;
       stands = IfOk-weaker c.put_in-2.result _ _
-          (λ answer did. new_stands g.W.Words g.W.Shape.Shape shape both.shape both.begins c.requires.stands c.args.id c.args.rank c.args.content answer did) put;
+          (λ answer did. new_stands g.W.Words g.W.Shape.Shape shape both.shape both.begins c.requires.stands
+          c.args.id c.args.rank c.args.content answer did) put;
       goes_on = both;
     }
