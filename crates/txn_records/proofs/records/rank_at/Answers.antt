@@ -1,0 +1,26 @@
+use Rattle.std.proofs.lemmas.Result.{IfOk-weaker}
+use Rattle.txn_records.proofs.Calls.{good_trees, tells_rank, rank_told}
+use Rattle.txn_records.proofs.Turning.{leads_some, leads_less, looked, looked_stands}
+use Rattle.txn_records.proofs.records.rank_at.Goals as goal
+
+pub get_in-requires-clause-trees : goal.get_in-requires-clause-trees
+get_in-requires-clause-trees g c = record { at = λ s fit. good_trees c.args.shape.now _ (c.requires.stands.at s fit) }
+
+pub returns-clause-told : goal.returns-clause-told
+returns-clause-told g c =
+    IfOk-weaker c.get_in.result _ _
+    (λ answer. leads_less g.W.Words g.W.Shape.Shape _ _ _ _ (tells_rank c.args.shape.now c.args.id answer))
+    (rw c.from.ensures at c.get_in.ensures.told)
+
+pub returns-clause-range : goal.returns-clause-range
+returns-clause-range g c =
+    let goes = c.get_in.ensures.goes_on in
+    IfOk-weaker c.get_in.result _ _
+    (λ answer told. rank_told c.args.shape.now c.args.id answer
+    (leads_some g.W.Words g.W.Shape.Shape goes.shape goes.begins (g.met.W.Words.fits c.get_in.new.w goes.sound) c.requires.stands told))
+    (returns-clause-told g c)
+
+pub returns-clause-stands : goal.returns-clause-stands
+returns-clause-stands g c =
+    let goes = c.get_in.ensures.goes_on in
+    IfOk-weaker c.get_in.result _ _ (λ answer told. looked_stands (looked goes.shape goes.begins told) c.requires.stands) (returns-clause-told g c)

@@ -1,0 +1,13 @@
+-- The keys of the index, as a listing goes through them.
+use Rattle.std.specs.Prelude.{ℕ, nat_le, find, List, Option, map}
+use Rattle.std.specs.FinMap as finite
+use Rattle.record_text.specs.Records.{Records, index_of}
+use Rattle.txn_records.specs.Layout.{index_key_of}
+
+-- the keys of the index, rising
+abbrev pub keys_of : Records → List ℕ
+keys_of records = map (λ e. index_key_of e.0.0 e.0.1) (finite.entries (index_of records))
+
+-- the first of them from a key on
+abbrev pub first_key : ℕ → Records → Option ℕ
+first_key key records = find (λ k. nat_le key k) (keys_of records)

@@ -1,0 +1,7 @@
+pub mod Layout
+pub mod Standing
+pub mod Access
+pub mod Statements
+pub mod Operating
+pub mod Meaning
+pub mod Inner

@@ -1,0 +1,31 @@
+//! A record store on words: one list of words holds a tree of ranks by identifier, an index of data by rank, and the
+//! free blocks of both.
+//!
+//! `RecordShape` has the size of a store, and its methods say where each part lies. Which word lists stand for which
+//! records is `Stands` in `specs/Standing`; `laws` has what follows of it.
+//!
+//! `trees` has a call for each thing that is looked up or changed in one of the two trees, whatever they hold.
+//! `records` and `listing` have the operations on records, and `operations` the same as operations of scripts.
+//! `RecordJob` is a script as a job over any words of a shape, and `specs/Meaning` says what it means.
+#![tactic(auto)]
+
+pub mod job;
+pub mod laws;
+pub mod lay;
+pub mod layout;
+pub mod listing;
+pub mod on_plain;
+pub mod operations;
+pub mod records;
+pub mod shape;
+#[cfg(test)]
+mod tests;
+pub mod trees;
+
+pub use job::RecordJob;
+pub use lay::empty_words;
+pub use listing::ids_from;
+pub use on_plain::run_on_plain;
+pub use operations::{Outcome, run_operation};
+pub use records::{drop_record, put_record, record_of};
+pub use shape::RecordShape;
