@@ -1,5 +1,5 @@
 -- What a closed table is seen as, what is said of its records, and which passes it takes to close one.
-use Rattle.std.specs.Prelude.{◌≡◌, ℕ, ◌<◌, List, [], ◌∷◌, Some, slice_get}
+use Rattle.std.specs.Prelude.{◌≡◌, ◌↔◌, ℕ, ◌<◌, List, [], ◌∷◌, Some, slice_get}
 use Rattle.atomic_table.specs.Seated.{TableId}
 use Rattle.std.specs.List.{flat_map}
 use Rattle.history_model.specs.declared.entry.Entry.{Entry}
@@ -51,7 +51,6 @@ pub record AreAllPasses (table : TableId) (seats : ℕ) (passes : List PassView)
   pub idle : (pass : PassView) → IsIn pass passes → pass.view.phase ≡ Idle
   pub all : (j : ℕ) → j < seats → (pass : PassView) × IsIn pass passes × (pass.view.who ≡ j ∷ [])
 
--- each entry is by one of the passes, and that pass had seen it
-abbrev pub AreOwnersAmong : List PassView → List Entry → Type 0
-AreOwnersAmong passes entries =
-    (e : Entry) → IsIn e entries → (pass : PassView) × IsIn pass passes × (pass.view.who ≡ e.who ∷ []) × IsIn e pass.view.seen
+-- these are the entries that the passes had seen
+abbrev pub AreSeenBy : List PassView → List Entry → Type 0
+AreSeenBy passes entries = (e : Entry) → IsIn e entries ↔ ((pass : PassView) × (IsIn pass passes × IsIn e pass.view.seen))

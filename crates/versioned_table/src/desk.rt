@@ -2,13 +2,10 @@
 //! pass may note what it has seen, for another to meet.
 
 ghost use Rattle.std.specs.Prelude.{◌≡◌, ◌<◌, ◌≤◌, ℕ, [], ◌∷◌, length, IfOk, IfErr, Some, slice_get};
-ghost use Rattle.history_model.specs.declared.entry.Entry.{Entry};
 ghost use Rattle.history_model.specs.Fitting.{IsGood};
-ghost use Rattle.history_model.specs.Legal.{IsIn};
 ghost use Rattle.locks_rule.specs.Splits.{opening_view};
 ghost use Rattle.versions_rule.specs.Joins.{gains};
-ghost use Rattle.versioned_table.specs.Closing.{AreAllPasses, AreOwnersAmong, AreRecords, IsCoherent, IsLegalInEachOrder};
-ghost use Rattle.versioned_table.specs.Copies.{PassView};
+ghost use Rattle.versioned_table.specs.Closing.{AreAllPasses, AreRecords, AreSeenBy, IsCoherent, IsLegalInEachOrder};
 ghost use Rattle.versioned_table.specs.Desks.{AreGoodWords};
 ghost use Rattle.versioned_table.specs.Sound.{opening_words};
 
@@ -50,8 +47,6 @@ impl<S: Shape> Model for Desk<S> {
     ghost use Rattle.std.specs.Prelude.{◌≡◌, ◌≤◌, length};
     ghost use Rattle.history_model.specs.Fitting.{IsGood};
     ghost use Rattle.history_model.specs.Table.{table_words};
-    ghost use Rattle.versioned_table.specs.Closing.{AreAllPasses, AreOwnersAmong};
-    ghost use Rattle.versioned_table.specs.Copies.{PassView};
     ghost use Rattle.versioned_table.specs.Desks.{DeskView};
 
     ghost Value = { DeskView S };
@@ -158,9 +153,7 @@ impl<S: Shape> Desk<S> {
         ensures coherent { IsCoherent (AreGoodWords S.Shape self) result }
         ensures legal { IsLegalInEachOrder (AreGoodWords S.Shape self) result }
         ensures records { AreRecords result }
-        ensures seen { (pass : PassView) (e : Entry) → IsIn pass passes.items
-            → IsIn e pass.view.seen → IsIn e result.records }
-        ensures owners { AreOwnersAmong passes.items result.records }
+        ensures seen { AreSeenBy passes.items result.records }
     {
         let Desk { table, seats } = self;
         let Some(last_pass) = passes.pop() else {
@@ -187,9 +180,7 @@ impl<S: Shape> Desk<S> {
         ensures legal { IfOk result (λ closed.
             IsLegalInEachOrder (AreGoodWords S.Shape self) closed) }
         ensures records { IfOk result (λ closed. AreRecords closed) }
-        ensures seen { IfOk result (λ closed. (pass : PassView) (e : Entry)
-            → IsIn pass passes.items → IsIn e pass.view.seen → IsIn e closed.records) }
-        ensures owners { IfOk result (λ closed. AreOwnersAmong passes.items closed.records) }
+        ensures seen { IfOk result (λ closed. AreSeenBy passes.items closed.records) }
         ensures refused { IfErr result
             (λ refused. (refused.desk ≡ self) × (refused.passes ≡ passes)) }
     {

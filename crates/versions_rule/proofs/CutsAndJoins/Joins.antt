@@ -70,7 +70,7 @@ module _ (good : List ℕ → Type 0) (n : ℕ) (base ws : List ℕ) (vs : List 
 
   into_second : (e : Entry) → IsIn e w.seen → IsIn e y.seen
   into_second e t = subst (λ (l : List Entry). IsIn e l) (sym u.seen)
-      (gains_second v.seen w.seen e (λ x s who call. q.records.one x e (mine_recorded x s) (their_recorded e t) who call) t)
+      (gains_second v.seen w.seen e t)
 
   from_both : (e : Entry) → IsIn e y.seen → IsIn e v.seen ⊎ IsIn e w.seen
   from_both e t = gains_cases v.seen w.seen e (subst (λ (l : List Entry). IsIn e l) u.seen t)

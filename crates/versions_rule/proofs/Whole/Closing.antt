@@ -40,10 +40,10 @@ module _ (good : List ℕ → Type 0) (n : ℕ) (base ws : List ℕ) (vs : List 
       let same = h.numbers_unique other id c.0 u v it (record { knows = me; named = all c.0 (h.numbers_below other c.0 u it) }) in
       absurd (busy (ap (λ (y : View). y.phase) (same_view vs id other v u me k same) ∙ rests))
 
-  seen_all : (e : Entry) → IsRecorded vs e → IsIn e v.seen
+  pub seen_all : (e : Entry) → IsRecorded vs e → IsIn e v.seen
   seen_all e r = let lt = q.records.by_seat e r in q.records.own_seen id e.who v e (record { knows = me; named = all e.who lt }) r refl
 
-  drops : Drops (λ z. true) (items_of vs) (flat_map items_of_entry v.seen)
+  pub drops : Drops (λ z. true) (items_of vs) (flat_map items_of_entry v.seen)
   drops z = (
     (λ m. let r = in_flat_map items_of_entry v.seen z m in
         (items_into vs z (inl (record { entry = r.0; recorded = record { id = id; view = v; knows = me; seen = r.1 }; is = entry_from r.0 z r.2 })), refl)),
@@ -52,6 +52,14 @@ module _ (good : List ℕ → Type 0) (n : ℕ) (base ws : List ℕ) (vs : List 
         (λ (o : OfOpen vs z). none_busy o.id o.view o.knows (open_begun o.view.phase o.is_open))
         (items_from vs z m.0)),
   )
+
+  -- an arrangement of what it has seen is one of all that was done
+  pub of_all : (order : List Item) → IsArrangement (flat_map items_of_entry v.seen) order → IsArrangement (items_of vs) order
+  of_all order a = record {
+    same = λ z. (λ t. ((drops z).0 ((a.same z).0 t)).0, λ t. (a.same z).1 ((drops z).1 (t, refl)));
+    no_repeat = a.no_repeat;
+    in_order = a.in_order;
+  }
 
   abbrev next : ℕ → ℕ
   next = version_at n ws

@@ -38,8 +38,10 @@ returns-clause-fits g c = let p = c.self.inside in let i = c.self.invariant in l
     let room : c.args.self.now.view.call + 1 < 2 ^ 32 = omega arith in
     begin_reads (IsGood (g.S.Shape.word_count c.args.table.now.key.shape) (g.S.Shape.good c.args.table.now.key.shape))
     c.args.table.now.key.seats c.args.table.now.key.base.items c.args.self.now.view c.store.new.seat.me.0 t.0 t.1 record {
-      who = own_number p.call.who p.seat.me.0 p.seat.table_id c.args.self.now c.self.view_is i.call_is.who_is;
-      phase = c.requires.phase;
-      room = room;
+      allowed = record {
+        who = own_number p.call.who p.seat.me.0 p.seat.table_id c.args.self.now c.self.view_is i.call_is.who_is;
+        phase = c.requires.phase;
+        room = room;
+      };
       no_cause = still_none p.seat.me.0 p.seat.table_id c.args.self.now c.self.view_is i.no_cause;
     }

@@ -19,7 +19,7 @@ load-version-requires-clause-may g c = let i = c.self.invariant in let p = c.sel
     let fresh : has k (locks_found v.uses) ≡ false = ap (λ (x : PassView). has k (locks_found x.view.uses)) c.self.view_is
     ∙ (ap (λ (m : ℕ). has m (locks_found c.args.self.now.view.uses)) c.lock_of-lock.ensures.lock ∙ c.requires.unused) in
     record {
-      loads = record {
+      allowed = record {
         who = i.call_is.who_is;
         phase = ap (λ (x : PassView). x.view.phase) c.self.view_is ∙ c.requires.phase;
         granted = subst (λ (x : PassView). IsGranted x.view k) (sym c.self.view_is)
