@@ -3,6 +3,7 @@
 use Rattle.std.specs.Prelude.{◌≡◌, ◌≢◌, ◌⊎◌, ℕ, ◌+◌, ◌-◌, ◌%◌, ◌<◌, ◌≤◌, Bool, true, false, ◌&&◌, nat_lt, List, [], ◌∷◌, ◌++◌, ◌==◌}
 use Rattle.std.specs.Prelude.{if◌then◌else◌}
 use Rattle.std.specs.Int.{bit_at}
+use Rattle.history_model.specs.declared.event.Cause.{Cause}
 use Rattle.history_model.specs.declared.view.View.{View}
 use Rattle.history_model.specs.declared.entry.Entry.{Entry}
 use Rattle.history_model.specs.declared.item.Item.{Item}
@@ -20,6 +21,7 @@ use Rattle.locks_rule.specs.Steps.{is_free, set_read_bit_action, load_writer_act
 use Rattle.locks_rule.specs.Versions.{load_version_action, store_version_action}
 use Rattle.values_rule.specs.Steps.{load_value_action}
 use Rattle.versions_rule.specs.History.{item_of_entry}
+use Rattle.versions_rule.specs.Steps.{after_giving_way}
 use Rattle.stamps_rule.specs.Steps.{judge_and_yield_action}
 use Rattle.versioned_table.specs.declared.answer.Shared.{Shared}
 use Rattle.versioned_table.specs.declared.answer.Shared.TheVariants as shared
@@ -166,6 +168,10 @@ pub record GaveUp (sound : List ℕ → List View → Type 0) (k : ℕ) (v w : V
 -- what judge answers to a call with the timestamp own where the other seat shows this one
 abbrev pub judged_of : ℕ → ℕ → Judged
 judged_of shown own = if nat_lt 0 shown && nat_lt shown own then judged.Yield shown else judged.Wait
+
+-- the attempt gave way to this cause, whose seat is judged
+abbrev pub GaveWay : Cause → View → View → Type 0
+GaveWay cause old new = new ≡ after_giving_way cause (without cause.seat old.met) old
 
 -- judge loaded the timestamp of seat i, and by the same step the attempt gave way where that was a cause
 pub record JudgedBy (sound : List ℕ → List View → Type 0) (v : View) (i : ℕ) (r : Judged) (w : View) : Type 0 where

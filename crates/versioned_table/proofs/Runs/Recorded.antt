@@ -28,8 +28,7 @@ use Rattle.versioned_table.specs.declared.step.Step.TheVariants.{LoadCauseStamp,
 use Rattle.versioned_table.specs.Kinds.{action_of}
 use Rattle.versioned_table.specs.Meetings.{EntriesStay}
 use Rattle.versioned_table.specs.Runs.{Joins, Steps, IsRun}
-use Rattle.versioned_table.specs.Sound.{IsSound}
-use Rattle.versioned_table.proofs.Runs.RunLaws.{before, run_sound}
+use Rattle.versioned_table.proofs.Runs.RunLaws.{before}
 
 -- what v has seen, w has seen
 abbrev Sees : View → View → Type 0
@@ -110,19 +109,11 @@ recorded_join vs id other v w both e ne me it mine theirs r =
       seen = r.seen;
     }))
 
-module _ (good : List ℕ → Type 0) (n : ℕ) (base : List ℕ) (x y : TableState) (s : IsSound good n base x.words x.views) (e : Entry)
-    (r : IsRecorded x.views e) where
+module _ (good : List ℕ → Type 0) (x y : TableState) (e : Entry) (r : IsRecorded x.views e) where
   joined_by : (may : View → View → Type 0) (both : View → View → View) (t : Joins may both x y)
       → Sees t.view (both t.view t.other_view) → Sees t.other_view (both t.view t.other_view) → IsRecorded y.views e
   joined_by may both t mine theirs = subst (λ (l : List View). IsRecorded l e) (sym t.views_are)
       (recorded_join x.views t.place t.other t.view t.other_view (both t.view t.other_view) e t.apart t.knows t.other_knows mine theirs r)
-
-  -- each entry of the other is there, since none has its seat and call but itself
-  second : (may : View → View → Type 0) (both : View → View → View) (t : Joins may both x y) (z : Entry) → IsIn z t.other_view.seen
-      → (a : Entry) → IsIn a t.view.seen → a.who ≡ z.who → a.call ≡ z.call → a ≡ z
-  second may both t z i a j who call = s.values.records.one a z
-      (record { id = t.place; view = t.view; knows = t.knows; seen = j })
-      (record { id = t.other; view = t.other_view; knows = t.other_knows; seen = i }) who call
 
   stays : Steps good x y → IsRecorded y.views e
   stays = ⊎_elim
@@ -137,9 +128,9 @@ module _ (good : List ℕ → Type 0) (n : ℕ) (base : List ℕ) (x y : TableSt
       (recorded_more (slice_set x.views t.place (left_by_note t.view)) _ e (recorded_put x.views t.place t.view (left_by_note t.view) e t.knows (λ z i. i) r)))
       (λ c. ⊎_elim
       (λ t. joined_by MayMeetNote after_note t (λ z i. gains_first t.view.seen t.other_view.seen z i)
-      (λ z i. gains_second t.view.seen t.other_view.seen z (second MayMeetNote after_note t z i) i))
+      (λ z i. gains_second t.view.seen t.other_view.seen z i))
       (λ t. joined_by MayJoinSeats after_joining t (λ z i. gains_first t.view.seen t.other_view.seen z i)
-      (λ z i. gains_second t.view.seen t.other_view.seen z (second MayJoinSeats after_joining t z i) i)) c) b) a)
+      (λ z i. gains_second t.view.seen t.other_view.seen z i)) c) b) a)
 
 some_same : (x y : TableState) → Some x ≡ Some y → x ≡ y
 some_same x y e = cc
@@ -154,7 +145,7 @@ module _ (good : List ℕ → Type 0) (n : ℕ) (base : List ℕ) (run : List Ta
   kept_to (suc q) y le there = dite (ℕ_discrete p (suc q))
       (λ same. at_once (suc q) y same there)
       (λ ne. let b = before run q y there in
-      stays good n base b.0 y (run_sound good n base run fine r q b.0 b.1) e (kept_to q b.0 (omega arith) b.1) (r.next q b.0 y b.1 there))
+      stays good b.0 y e (kept_to q b.0 (omega arith) b.1) (r.next q b.0 y b.1 there))
 
 pub entries_stay : (good : List ℕ → Type 0) (n : ℕ) (base : List ℕ) → EntriesStay good n base
 entries_stay good n base run p q x y e fine r at_x at_y le here = kept_to good n base run fine r e p x at_x here q y le at_y

@@ -10,12 +10,12 @@ ghost use Rattle.history_model.specs.Undoing.{Notes};
 ghost use Rattle.history_model.specs.Views.{number, HasBit, HasReadGrant, HasClaim, IsScanned, HasWriteGrant, IsGranted};
 ghost use Rattle.locks_rule.specs.Steps.{load_writer_action, claim_writer_action, scan_row_action, release_writer_action, clear_read_bit_action};
 ghost use Rattle.values_rule.specs.Steps.{begin_call_action, store_value_action, undo_store_action, clear_stamp_action};
-ghost use Rattle.versions_rule.specs.Steps.{after_commit, after_giving_way, commit_call_action};
+ghost use Rattle.versions_rule.specs.Steps.{after_commit, commit_call_action};
 ghost use Rattle.stamps_rule.specs.Causes.{newest, past_causes};
 ghost use Rattle.stamps_rule.specs.Stamps.{AreRestartsBounded};
 ghost use Rattle.stamps_rule.specs.Steps.{draw_stamp_action, announce_stamp_action, load_cause_stamp_action};
 ghost use Rattle.history_model.specs.Sets.{has, without};
-ghost use Rattle.versioned_table.specs.Calls.{ClaimedBy, GainsUse, GaveUp, GrantsStay, JudgedBy, LoadedBy, MetOn, ReadsArranged, SameCall, ScannedBy, SharedBy, paid, with_bit};
+ghost use Rattle.versioned_table.specs.Calls.{ClaimedBy, GainsUse, GaveUp, GaveWay, GrantsStay, JudgedBy, LoadedBy, MetOn, ReadsArranged, SameCall, ScannedBy, SharedBy, paid, with_bit};
 ghost use Rattle.versioned_table.specs.Kinds.{TakenIn};
 ghost use Rattle.versioned_table.specs.Desks.{AreGoodWords, RuleHolds};
 
@@ -332,8 +332,7 @@ impl<S: Shape> Desk<S> {
             → pass.new.view ≡ record pass.old.view { met = without other pass.old.view.met } }
         ensures yields { (stamp : ℕ) → result ≡ Judged.Yield stamp
             → (0 < stamp) × (stamp < pass.old.view.stamp)
-            × (pass.new.view ≡ after_giving_way (record { seat = other; stamp = stamp })
-            (without other pass.old.view.met) pass.old.view) }
+            × GaveWay (record { seat = other; stamp = stamp }) pass.old.view pass.new.view }
         ensures cause { (stamp : ℕ) → result ≡ Judged.Yield stamp
             → newest (past_causes pass.new.view) ≡ Some (record { seat = other; stamp = stamp }) }
         ensures bounded { AreRestartsBounded self.now.seats (number pass.old.view) pass.new.view }
