@@ -1,6 +1,6 @@
 -- What each call of a desk answers, and what it does to what the pass knows. A step of a call is told of in a state of
 -- the table that is sound, as `sound` says.
-use Rattle.std.specs.Prelude.{◌≡◌, ◌≢◌, ◌⊎◌, ℕ, ◌+◌, ◌-◌, ◌%◌, ◌<◌, ◌≤◌, Bool, true, false, ◌&&◌, nat_lt, List, [], ◌∷◌, ◌++◌, ◌==◌}
+use Rattle.std.specs.Prelude.{◌≡◌, ◌≢◌, ◌⊎◌, ℕ, ◌+◌, ◌-◌, ◌%◌, ◌<◌, ◌≤◌, Bool, true, false, ◌&&◌, nat_lt, List, [], ◌∷◌, ◌++◌, Some, slice_get, ◌==◌}
 use Rattle.std.specs.Prelude.{if◌then◌else◌}
 use Rattle.std.specs.Int.{bit_at}
 use Rattle.history_model.specs.declared.event.Cause.{Cause}
@@ -20,7 +20,8 @@ use Rattle.locks_rule.specs.Actions.{Action}
 use Rattle.locks_rule.specs.Steps.{is_free, set_read_bit_action, load_writer_action, claim_writer_action, scan_row_action, release_writer_action}
 use Rattle.locks_rule.specs.Versions.{load_version_action, store_version_action}
 use Rattle.values_rule.specs.Steps.{load_value_action}
-use Rattle.versions_rule.specs.History.{item_of_entry}
+use Rattle.versions_rule.specs.Closing.{IsPlaced}
+use Rattle.versions_rule.specs.History.{item_of_entry, items_of_attempts, knew_of}
 use Rattle.versions_rule.specs.Steps.{after_giving_way}
 use Rattle.stamps_rule.specs.Steps.{judge_and_yield_action}
 use Rattle.versioned_table.specs.declared.answer.Shared.{Shared}
@@ -183,11 +184,15 @@ pub record JudgedBy (sound : List ℕ → List View → Type 0) (v : View) (i : 
   pub earlier_yield : 0 < found → found < v.stamp → r ≡ judged.Yield found
 
 -- what the call's last attempt did is legal on the words that all that was done leaves of the base, in whatever order
--- this is arranged, and these are good words; all that the pass has seen is a part of it
-pub record ReadsArranged (good : List ℕ → Type 0) (base : List ℕ) (v : View) : Type 0 where
+-- this is arranged, and these are good words; all that the pass has seen is a part of it, and so are the attempts of the
+-- call that gave way, each of which stands at a legal place
+pub record ReadsArranged (good : List ℕ → Type 0) (n : ℕ) (base : List ℕ) (v : View) : Type 0 where
   pub items : List Item
   pub seen : (e : Entry) → IsIn e v.seen → IsIn (item_of_entry e) items
+  pub attempts : (x : Item) → IsIn x (items_of_attempts (number v) v.call (knew_of v.seats v.seen) 0 v.abandoned) → IsIn x items
   pub order : List Item
   pub arranged : IsArrangement items order
+  pub placed : (order : List Item) → IsArrangement items order → (p : ℕ) (x : Item) → slice_get order p ≡ Some x
+      → IsPlaced good n base order p x
   pub left_good : (order : List Item) → IsArrangement items order → good (replay_items base order)
   pub fits : (order : List Item) → IsArrangement items order → IsLegalTrace v.trace (replay_items base order)

@@ -174,7 +174,7 @@ impl<S: Shape> Desk<S> {
             (begin_call_action (number pass.old.view) pass.old.view) pass.old.view found
             pass.new.view }
         ensures fits { ReadsArranged (AreGoodWords S.Shape self.now)
-            self.now.base pass.new.view }
+            self.now.seats self.now.base pass.new.view }
     {
         pass.begin_call(&self.table.shared)
     }
@@ -196,7 +196,7 @@ impl<S: Shape> Desk<S> {
         ensures uses { GainsUse (lock_of_word a) pass.old.view.uses pass.new.view.uses }
         ensures taken { LoadedBy (RuleHolds S.Shape self.now) pass.old.view a result pass.new.view }
         ensures fits { ReadsArranged (AreGoodWords S.Shape self.now)
-            self.now.base pass.new.view }
+            self.now.seats self.now.base pass.new.view }
     {
         pass.find_version(&self.table.shared, a);
         pass.load_value(&self.table.shared, a)
@@ -363,7 +363,7 @@ impl<S: Shape> Desk<S> {
             → pass.new.view ≡ record pass.old.view { waits = pass.old.view.waits + 1 } }
         ensures fits { result ≡ true
             → ReadsArranged (AreGoodWords S.Shape self.now)
-            self.now.base pass.new.view }
+            self.now.seats self.now.base pass.new.view }
     {
         let shown = pass.load_cause_stamp(&self.table.shared, other, stamp);
         shown != stamp

@@ -132,7 +132,7 @@ impl<S: Shape> Pass<S> {
             result self.new.view }
         ensures fits { result ≢ stamp
             → ReadsArranged (IsGood (S.word_count table.now.key.shape) (S.good table.now.key.shape))
-            table.now.key.base.items self.new.view }
+            table.now.key.seats table.now.key.base.items self.new.view }
     {
         let shown = step::load(
             table,

@@ -52,7 +52,7 @@ impl<S: Shape> Pass<S> {
             self.new.view }
         ensures fits { ReadsArranged
             (IsGood (S.word_count table.now.key.shape) (S.good table.now.key.shape))
-            table.now.key.base.items self.new.view }
+            table.now.key.seats table.now.key.base.items self.new.view }
     {
         let next = self.call.calls + 1;
         self.call.calls = next;
@@ -84,7 +84,7 @@ impl<S: Shape> Pass<S> {
             self.new.view }
         ensures fits { ReadsArranged
             (IsGood (S.word_count table.now.key.shape) (S.good table.now.key.shape))
-            table.now.key.base.items self.new.view }
+            table.now.key.seats table.now.key.base.items self.new.view }
     {
         step::load(
             table,
