@@ -18,7 +18,7 @@ use Rattle.versioned_table.specs.declared.answer.Judged.{Judged}
 use Rattle.versioned_table.specs.declared.answer.Judged.TheVariants as judged
 use Rattle.versioned_table.specs.declared.answer.Shared.TheVariants as shared
 use Rattle.versioned_table.specs.Calls.{SameCall, GrantsStay, GaveWay, MetOn, SharedBy, with_bit}
-use Rattle.versioned_table.specs.Desks.{DeskView, RuleHolds, AreGoodWords}
+use Rattle.versioned_table.specs.Desks.{DeskView, RuleHolds}
 use Rattle.versioned_asking.specs.declared.turn.Intent.{Intent}
 use Rattle.versioned_asking.specs.declared.turn.Intent.TheVariants as intent
 use Rattle.versioned_asking.specs.declared.turn.Tried.{Tried}

@@ -11,7 +11,7 @@ use Rattle.history_model.specs.Locks.{lock_of_word}
 use Rattle.history_model.specs.Views.{number}
 use Rattle.stamps_rule.specs.Stamps.{AreRestartsBounded}
 use Rattle.versioned_table.specs.Calls.{GaveWay}
-use Rattle.versioned_table.specs.Desks.{DeskView, RuleHolds, AreGoodWords}
+use Rattle.versioned_table.specs.Desks.{DeskView, RuleHolds}
 use Rattle.versioned_asking.specs.declared.turn.Intent.{Intent}
 use Rattle.versioned_asking.specs.declared.turn.Intent.TheVariants as intent
 use Rattle.versioned_asking.specs.declared.turn.Tried.TheVariants as tried

@@ -9,7 +9,7 @@ use Rattle.history_model.specs.Views.{number, HasWriteGrant, IsGranted}
 use Rattle.locks_rule.specs.Actions.{Action}
 use Rattle.stamps_rule.specs.Stamps.{AreRestartsBounded}
 use Rattle.versioned_table.specs.Calls.{GrantsStay, SameCall}
-use Rattle.versioned_table.specs.Desks.{DeskView, RuleHolds, AreGoodWords}
+use Rattle.versioned_table.specs.Desks.{DeskView, RuleHolds}
 use Rattle.versioned_asking.specs.declared.turn.Intent.{Intent}
 use Rattle.versioned_asking.specs.declared.turn.Intent.TheVariants as intent
 use Rattle.versioned_asking.specs.declared.turn.Tried.{Tried}

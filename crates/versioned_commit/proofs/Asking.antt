@@ -6,7 +6,7 @@ use Rattle.history_model.specs.declared.shape.Shape.{Ghosts as Shapes}
 use Rattle.history_model.specs.declared.view.View.{View}
 use Rattle.history_model.specs.Locks.{lock_of_word}
 use Rattle.history_model.specs.Traces.{Trace}
-use Rattle.versioned_table.specs.Desks.{DeskView, AreGoodWords}
+use Rattle.versioned_table.specs.Desks.{DeskView}
 use Rattle.versioned_asking.specs.declared.turn.Intent.{Intent}
 use Rattle.versioned_asking.specs.declared.turn.Intent.TheVariants as intent
 use Rattle.versioned_asking.specs.declared.want.Got.TheVariants as got

@@ -1,6 +1,6 @@
 -- The uses of an attempt, listed by rising lock.
-use Rattle.std.proofs.Common.{◌≡◌, ◌≢◌, ℕ, zero, suc, ◌+◌, ◌<◌, ◌≤◌, Bool, true, false, ◌||◌, ◌&&◌, ◌⊎◌, inl, inr, ⊎_elim, List, [], ◌∷◌, ◌++◌, length, map, Option, Some, None}
-use Rattle.std.proofs.Common.{IfSome, slice_get, slice_set, refl, sym, ap, ◌∙◌, subst, arith, ◌==◌, eq-eqb, ne_eqb}
+use Rattle.std.proofs.Common.{◌≡◌, ℕ, ◌+◌, ◌<◌, ◌≤◌, Bool, true, ◌||◌, ◌&&◌, ◌⊎◌, inl, inr, ⊎_elim, List, [], ◌∷◌, ◌++◌, Option, Some, None}
+use Rattle.std.proofs.Common.{IfSome, slice_set, refl, sym, ap, ◌∙◌, subst, arith, eq-eqb, ne_eqb}
 use Rattle.std.proofs.lemmas.Bool.{cases_lt}
 use mathlib.Core.Logic.{dite}
 use native.Mathlib.Decide.{ℕ_discrete}
@@ -12,13 +12,13 @@ use Rattle.history_model.specs.Legal.{IsIn}
 use Rattle.history_model.specs.Locks.{lock_of_word}
 use Rattle.history_model.specs.Sets.{has}
 use Rattle.history_model.specs.Traces.{Trace}
-use Rattle.history_model.specs.Undoing.{Notes, notes_of}
+use Rattle.history_model.specs.Undoing.{notes_of}
 use Rattle.history_model.proofs.ListPlaces.{get_cases, map_at, at_map}
-use Rattle.history_model.proofs.SetLemmas.{differ, has-nil, has-join_same, has-join_other}
+use Rattle.history_model.proofs.SetLemmas.{has-nil, has-join_same, has-join_other}
 use Rattle.locks_rule.specs.Versions.{writes_lock, use_of, uses_of, locks_of}
 use Rattle.values_rule.proofs.Members.{none_in, in_first, in_second}
 use Rattle.versioned_table.specs.Least.{IsLeast}
-use Rattle.versioned_table.specs.Versions.{HasUse, locks_found}
+use Rattle.versioned_table.specs.Versions.{HasUse}
 use Rattle.versioned_table.proofs.Copied.VersionCopies.{found_use}
 use Rattle.versioned_table.proofs.Kept.Bounded.{in_push}
 use Rattle.versioned_commit.specs.Uses.{AreRising, ListsUses}

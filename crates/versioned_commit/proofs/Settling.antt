@@ -1,20 +1,14 @@
 -- An attempt is settled: its writes are kept or undone, what it used is listed, and it gets its entry, or is given up.
-use Rattle.std.proofs.Common.{◌≡◌, ◌≢◌, ℕ, ◌<◌, ◌≤◌, Bool, true, false, ◌&&◌, ◌⊎◌, inl, inr, ⊎_elim, List, [], ◌∷◌, ◌++◌, length, Some, slice_get, All, refl, sym, ap, ◌∙◌, subst, arith}
-use Rattle.history_model.specs.declared.entry.Entry.{Entry}
+use Rattle.std.proofs.Common.{◌≡◌, ℕ, ◌<◌, Bool, true, false, ◌⊎◌, inl, inr, ⊎_elim, List, [], All, refl, sym, ap, ◌∙◌, subst, arith}
 use Rattle.history_model.specs.declared.item.LockUse.{LockUse}
 use Rattle.history_model.specs.declared.view.View.{View}
 use Rattle.history_model.specs.declared.view.Phase.{Phase}
 use Rattle.history_model.specs.declared.view.Phase.TheVariants.{Idle, Running, Yielding, Withdrawing, Releasing}
 use Rattle.history_model.specs.Counts.{is_attempt, is_open}
-use Rattle.history_model.specs.Fitting.{Fits}
-use Rattle.history_model.specs.Histories.{replay}
-use Rattle.history_model.specs.Legal.{IsPrefix}
 use Rattle.history_model.specs.Sets.{has}
-use Rattle.history_model.specs.Traces.{Trace}
 use Rattle.history_model.specs.Undoing.{Notes, notes_of}
-use Rattle.history_model.specs.Views.{number}
 use Rattle.history_model.proofs.SetLemmas.{has-nil}
-use Rattle.locks_rule.specs.Versions.{writes_lock, uses_of, locks_of}
+use Rattle.locks_rule.specs.Versions.{uses_of, locks_of}
 use Rattle.values_rule.specs.Steps.{undoing_phase}
 use Rattle.versions_rule.specs.Steps.{after_commit}
 use Rattle.versioned_commit.specs.Uses.{ListsUses}

@@ -1,6 +1,6 @@
 -- What a call on values tells beside its step: that what its attempt did is legal behind all that was done, however that is
 -- arranged.
-use Rattle.std.proofs.Common.{◌≢◌, if◌then◌else◌, ne_eqb, ◌≡◌, ℕ, ◌+◌, ◌<◌, Bool, true, inl, inr, List, [], ◌∷◌, ◌++◌, Option, Some, None, unwrap_or, refl}
+use Rattle.std.proofs.Common.{◌≢◌, if◌then◌else◌, ne_eqb, ◌≡◌, ℕ, Bool, true, inl, inr, List, [], ◌∷◌, ◌++◌, Option, Some, None, unwrap_or, refl}
 use Rattle.std.proofs.Common.{sym, ap, ◌∙◌, subst}
 use Rattle.history_model.specs.declared.event.Event.TheVariants.{Read}
 use Rattle.history_model.specs.declared.view.View.{View}

@@ -13,7 +13,7 @@ use Rattle.history_model.specs.declared.view.Phase.TheVariants.{Idle, Running, Y
 use Rattle.history_model.specs.Counts.{is_attempt, is_open, calls_sum, open_count}
 use Rattle.history_model.specs.Legal.{IsIn}
 use Rattle.history_model.specs.Sets.{has, without, without_first, flag}
-use Rattle.history_model.specs.Table.{Knows, history_of, serial_word, clock_word, calls_word, stamps_word, row_word, writer_word, commits_word, version_word, value_word}
+use Rattle.history_model.specs.Table.{Knows, history_of, clock_word, calls_word, stamps_word, row_word, writer_word, commits_word, version_word, value_word}
 use Rattle.history_model.proofs.SetLemmas.{differ, has-nil, has-without}
 use Rattle.history_model.proofs.Views.Places.{put_cases, put_there, added_cases}
 use Rattle.locks_rule.specs.Actions.{words_after, views_after}

@@ -1,6 +1,6 @@
 -- The kinds of step on timestamps keep the value invariant: one that gives way has a cause in another seat with an
 -- earlier timestamp, to which no attempt of the call gave way before.
-use Rattle.std.proofs.Common.{◌≡◌, ℕ, ◌+◌, ◌<◌, ◌≤◌, Bool, true, ◌⊎◌, inl, inr, ⊎_elim, List, ◌∷◌, [], Option, Some, None, slice_index, slice_set, ◌==◌, refl, sym, ap, ◌∙◌}
+use Rattle.std.proofs.Common.{◌≡◌, ℕ, ◌+◌, ◌<◌, ◌≤◌, Bool, true, ◌⊎◌, inl, inr, ⊎_elim, List, ◌∷◌, [], Option, Some, None, slice_index, slice_set, ◌==◌, refl, sym, ◌∙◌}
 use Rattle.std.proofs.Common.{subst, arith, get_or-set_other}
 use Rattle.std.proofs.lemmas.List.{set-get_or}
 use Rattle.history_model.specs.declared.entry.Abandoned.{Abandoned}
@@ -19,7 +19,7 @@ use Rattle.values_rule.specs.Asides.{IsNewCause}
 use Rattle.stamps_rule.specs.Causes.{causes_of}
 use Rattle.stamps_rule.specs.Stamps.{StampsHold}
 use Rattle.stamps_rule.specs.Steps.{MayDrawStamp, MayAnnounceStamp, MayJudgeStamp, MayLoadCauseStamp, draw_stamp_action, announce_stamp_action}
-use Rattle.stamps_rule.specs.Steps.{judge_stamp_action, judge_and_yield_action, load_cause_stamp_action, judged, after_judgement, after_giving_way}
+use Rattle.stamps_rule.specs.Steps.{judge_and_yield_action, load_cause_stamp_action, judged, after_judgement, after_giving_way}
 use Rattle.stamps_rule.specs.Steps.{after_waiting, after_restarting}
 use Rattle.stamps_rule.proofs.CauseLists.{due_is_cause, due_elsewhere}
 use Rattle.stamps_rule.proofs.LocksStand.{runs}

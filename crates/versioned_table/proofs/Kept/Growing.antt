@@ -1,6 +1,6 @@
 -- The clock has room for one more, and so has a version: there are no more timestamps than calls that were begun, and no
 -- version is greater than their number.
-use Rattle.std.proofs.Common.{◌≡◌, ℕ, zero, suc, ◌*◌, ◌^◌, ◌<◌, ◌≤◌, ◌+◌, Bool, true, List, [], ◌∷◌, slice_index, sym, ap, subst, arith}
+use Rattle.std.proofs.Common.{◌≡◌, ℕ, zero, suc, ◌*◌, ◌^◌, ◌<◌, ◌≤◌, List, [], ◌∷◌, slice_index, sym, ap, subst, arith}
 use Rattle.history_model.specs.declared.view.View.{View}
 use Rattle.history_model.specs.Counts.{calls_below}
 use Rattle.history_model.specs.Table.{calls_word, version_word}

@@ -1,6 +1,6 @@
 -- The kinds of step on versions keep the timestamp invariant: their words are of nobody else, and a seat that takes one knows
 -- the same of timestamps.
-use Rattle.std.proofs.Common.{◌≡◌, ℕ, ◌<◌, inr, List, None, refl, sym, ◌∙◌, arith}
+use Rattle.std.proofs.Common.{◌≡◌, ℕ, List, None, refl, arith}
 use Rattle.history_model.specs.declared.view.View.{View}
 use Rattle.history_model.specs.Table.{history_of}
 use Rattle.locks_rule.specs.Actions.{found_by}

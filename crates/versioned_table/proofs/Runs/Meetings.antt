@@ -10,7 +10,7 @@ use Rattle.history_model.specs.declared.event.Cause.{Cause}
 use Rattle.history_model.specs.declared.view.View.{View}
 use Rattle.history_model.specs.Conflicts.{Meets, IsAt}
 use Rattle.history_model.specs.Sets.{has, without, without_first}
-use Rattle.history_model.specs.Table.{TableState, Knows, history_of, stamps_word, row_word, writer_word}
+use Rattle.history_model.specs.Table.{TableState, Knows, stamps_word, row_word, writer_word}
 use Rattle.history_model.proofs.Views.Places.{same_view}
 use Rattle.history_model.proofs.SetLemmas.{has-join_same}
 use Rattle.locks_rule.specs.Locks.{LocksHold, AskedFor}

@@ -1,5 +1,5 @@
 -- Which words the steps of a call change, kind by kind; and that calls which share no lock have none in common.
-use Rattle.std.proofs.Common.{◌≡◌, ◌≢◌, ◌⊎◌, inl, inr, ℕ, ◌+◌, ◌-◌, ◌*◌, ◌/◌, ◌%◌, ◌<◌, Bool, true, false, List, [], ◌∷◌, ◌++◌}
+use Rattle.std.proofs.Common.{◌≡◌, ◌≢◌, ◌⊎◌, inl, inr, ℕ, ◌-◌, ◌<◌, Bool, true, false, List, [], ◌∷◌, ◌++◌}
 use Rattle.std.proofs.Common.{Option, Some, None, slice_get, slice_index, slice_set, refl, sym, ap, ◌∙◌, subst, arith, ◌==◌, if◌then◌else◌}
 use Rattle.std.proofs.Math.Nat.{mod-lt}
 use mathlib.Core.Logic.{dite}
@@ -8,14 +8,14 @@ use Rattle.history_model.specs.declared.TheConstants.{LOCKS}
 use Rattle.history_model.specs.declared.view.View.{View}
 use Rattle.history_model.specs.Locks.{lock_of_word}
 use Rattle.history_model.specs.Sets.{has, without_first}
-use Rattle.history_model.specs.Table.{TableState, Knows, clock_word, calls_word, commits_word, stamps_word, row_word, writer_word, version_word, value_word}
+use Rattle.history_model.specs.Table.{Knows, clock_word, calls_word, commits_word, stamps_word, row_word, writer_word, version_word, value_word}
 use Rattle.history_model.specs.Undoing.{Notes}
 use Rattle.values_rule.specs.Values.{oldest}
-use Rattle.history_model.specs.Views.{number, HasClaim, HasWriteGrant}
+use Rattle.history_model.specs.Views.{number, HasClaim}
 use Rattle.history_model.proofs.SetLemmas.{has-join_same}
 use Rattle.history_model.proofs.Traces.TraceLaws.{get_set_other}
 use Rattle.history_model.proofs.Traces.UndoLaws.{set_same}
-use Rattle.locks_rule.specs.Locks.{LocksHold, AskedFor}
+use Rattle.locks_rule.specs.Locks.{AskedFor}
 use Rattle.locks_rule.specs.Steps.{after_asking, after_meeting}
 use Rattle.locks_rule.proofs.Own.{own, lock_near}
 use Rattle.values_rule.proofs.Notes.{oldest_first, oldest_more, oldest_one}

@@ -1,4 +1,4 @@
-//! Steps on the shared table, for lock_or_yield and txn_commit: a program that runs jobs by `transact` calls none of them.
+//! Steps on the shared table, for versioned_asking and versioned_commit: a program that runs jobs by `transact` calls none of them.
 
 ghost use Rattle.std.specs.Prelude.{◌≡◌, ◌≢◌, ◌⊎◌, ◌<◌, ℕ, [], ◌∷◌, length, Some, ◌++◌, ◌+◌, ◌==◌, not, true, false, List};
 ghost use Rattle.history_model.specs.declared.event.Event.{Event};

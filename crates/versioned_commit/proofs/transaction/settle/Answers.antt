@@ -1,4 +1,4 @@
-use Rattle.std.proofs.Common.{◌≡◌, List, ℕ, Bool, true, sym, ap, ◌∙◌, subst}
+use Rattle.std.proofs.Common.{sym, ap, ◌∙◌, subst}
 use Rattle.history_model.specs.declared.view.View.{View}
 use Rattle.history_model.specs.Fitting.{IsGood}
 use Rattle.history_model.specs.Traces.{Trace, IsLegalTrace, after}

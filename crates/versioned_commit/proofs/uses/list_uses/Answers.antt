@@ -1,4 +1,4 @@
-use Rattle.std.proofs.Common.{ℕ, ◌≡◌, [], ◌∷◌, ◌++◌, List, refl, sym, subst}
+use Rattle.std.proofs.Common.{List, sym, subst}
 use Rattle.history_model.specs.declared.item.LockUse.{LockUse}
 use Rattle.versioned_commit.proofs.Listing.{ListedTo, listed_more, use_of_lock}
 use Rattle.versioned_commit.proofs.uses.list_uses.Goals as goal

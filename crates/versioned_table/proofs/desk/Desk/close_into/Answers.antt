@@ -1,4 +1,4 @@
-use Rattle.std.proofs.Common.{ℕ, ap, ◌∙◌, arith}
+use Rattle.std.proofs.Common.{ℕ, ap, ◌∙◌}
 use Rattle.std.specs.Slots.{slots_items}
 use Rattle.history_model.specs.Fitting.{IsGood}
 use Rattle.history_model.specs.Table.{value_word}

@@ -1,4 +1,4 @@
-use Rattle.std.proofs.Common.{◌≡◌, ℕ, ◌<◌, ◌≤◌, true, ap, ◌∙◌, subst, arith}
+use Rattle.std.proofs.Common.{◌<◌, ◌≤◌, ap, ◌∙◌, subst, arith}
 use Rattle.history_model.specs.Sets.{has}
 use Rattle.history_model.specs.declared.TheConstants.{LOCKS}
 use Rattle.versioned_table.specs.Copies.{PassView}
