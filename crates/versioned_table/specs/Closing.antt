@@ -10,7 +10,7 @@ use Rattle.history_model.specs.declared.view.Phase.TheVariants.{Idle}
 use Rattle.history_model.specs.Legal.{IsIn}
 use Rattle.versions_rule.specs.Closing.{IsPlaced}
 use Rattle.versions_rule.specs.History.{items_of_entry}
-use Rattle.versions_rule.specs.Records.{IsApart, AreCauses}
+use Rattle.versions_rule.specs.Records.{IsApart, AreCauses, Knew}
 use Rattle.versioned_table.specs.Copies.{PassView}
 
 -- a closed table: the words that it began with, how many seats it had, which words are good, the records of all that was
@@ -39,10 +39,12 @@ pub record IsLegalInEachOrder {S : Type 0} (good : List ℕ → Type 0) (closed 
       → IsPlaced good closed.seats closed.base order p x
   pub words : (order : List Item) → IsArrangement (items_of_closed closed) order → closed.words ≡ replay_items closed.base order
 
--- the records, each once: the floor of each is how many it knew, and its causes are other seats with earlier timestamps
+-- the records, each once and one for a call: each knew its caller's earlier ones, and its causes are other seats with
+-- earlier timestamps
 pub record AreRecords {S : Type 0} (closed : ClosedView S) : Type 0 where
   pub apart : IsApart closed.records
   pub one : (e x : Entry) → IsIn e closed.records → IsIn x closed.records → e.who ≡ x.who → e.call ≡ x.call → e ≡ x
+  pub knew_own : (e x : Entry) → IsIn e closed.records → IsIn x closed.records → x.who ≡ e.who → x.call < e.call → Knew e x
   pub causes : (e : Entry) → IsIn e closed.records → AreCauses closed.seats e.who e.stamp e.floor e.abandoned
 
 -- all passes of a table, each between calls

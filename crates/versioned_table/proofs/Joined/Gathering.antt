@@ -207,6 +207,7 @@ module _ (good : List ℕ → Type 0) (n : ℕ) (base ws : List ℕ) (vs : List 
     ended_records = record {
       apart = h.values.records.apart id v me;
       one = λ e x i j who call. h.values.records.one e x (recorded e i) (recorded x j) who call;
+      knew_own = λ e x i j who call. h.values.records.knew_own e x (recorded e i) (recorded x j) who call;
       causes = λ e i. h.values.records.causes e (recorded e i);
     }
 
