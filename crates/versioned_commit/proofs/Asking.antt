@@ -1,0 +1,78 @@
+-- What asking for the lock of a word comes to in an attempt, and what a load after it leaves.
+use Rattle.std.proofs.Common.{◌≡◌, ℕ, [], ◌∷◌, ◌++◌, Option, Some, refl, sym, ap, ◌∙◌, subst}
+use Rattle.history_model.specs.declared.event.Cause.{Cause}
+use Rattle.history_model.specs.declared.event.Event.TheVariants.{Read}
+use Rattle.history_model.specs.declared.shape.Shape.{Ghosts as Shapes}
+use Rattle.history_model.specs.declared.view.View.{View}
+use Rattle.history_model.specs.Locks.{lock_of_word}
+use Rattle.history_model.specs.Traces.{Trace}
+use Rattle.versioned_table.specs.Desks.{DeskView}
+use Rattle.versioned_asking.specs.declared.turn.Intent.{Intent}
+use Rattle.versioned_asking.specs.declared.turn.Intent.TheVariants as intent
+use Rattle.versioned_asking.specs.declared.want.Got.TheVariants as got
+use Rattle.versioned_asking.specs.Asking.{Asks, GainsAtMost}
+use Rattle.versioned_asking.specs.Intents.{AsksSince, AsksTo, IsHeldTo}
+use Rattle.versioned_asking.proofs.Wanting.{asks_none, locks_none}
+use Rattle.versioned_commit.specs.declared.attempt.Asked.TheVariants as asked
+use Rattle.versioned_commit.specs.declared.attempt.Halt.{Halt}
+use Rattle.versioned_commit.specs.declared.attempt.Halt.TheVariants as halt
+use Rattle.versioned_commit.specs.Inner.Asking.{AsksForWord}
+use Rattle.versioned_commit.proofs.Attempts.{gave_way_to}
+use Rattle.versioned_commit.proofs.Footprints.{met_cause}
+
+-- it was held before
+pub asked_held : (n : ℕ) (i : Intent) (a : ℕ) (v : View) (h : Option Halt) → v.met ≡ [] → IsHeldTo i v (lock_of_word a)
+    → AsksForWord n i a v h asked.Held h v
+asked_held n i a v h none held = record {
+  asks = asks_none a v;
+  locks = locks_none i (lock_of_word a) v;
+  judged = none;
+  yields = λ e. absurd cc;
+  goes_on = λ _. (held, refl, refl);
+}
+
+-- all turns of asking came to what is said of them
+module _ {S : Type 0} (shapes : Shapes S) (desk : DeskView S) (i : Intent) (a : ℕ) (old new : View) (h : Option Halt) where
+  pub asked_granted : AsksSince shapes desk i a old got.Granted new → AsksForWord desk.seats i a old h asked.Granted h new
+  asked_granted since = let held = since.answer.granted refl in record {
+    asks = since.asks;
+    locks = since.locks;
+    judged = since.judged;
+    yields = λ e. absurd cc;
+    goes_on = λ _. (held.0, held.1, refl);
+  }
+
+  pub asked_yields : (x : Cause) → AsksSince shapes desk i a old (got.Yield x) new
+      → AsksForWord desk.seats i a old h asked.Yield (Some (halt.Yield x)) new
+  asked_yields x since = let way = since.answer.yields x refl in record {
+    asks = since.asks;
+    locks = since.locks;
+    judged = since.judged;
+    yields = λ e. (
+      x,
+      refl,
+      gave_way_to desk.seats _ x old new way.1 (since.answer.bounded x refl),
+      met_cause (lock_of_word a) way.0 x old new way.1,
+    );
+    goes_on = λ no. absurd (no refl);
+  }
+
+-- what asking for a lock, and a load after that, leave of the trace, of the words asked for and of locks
+pub asks_trace : (a : ℕ) (first asked : View) → Asks a first asked → asked.trace ≡ first.trace
+asks_trace a first asked asks = ap (λ (v : View). v.trace) asks.rest
+
+abbrev pub Loads : ℕ → ℕ → View → View → Type 0
+Loads a x asked loaded = loaded ≡ record asked { trace = asked.trace ++ Read a x ∷ []; uses = loaded.uses }
+
+pub load_trace : (a x : ℕ) (first asked loaded : View) → Asks a first asked → Loads a x asked loaded → loaded.trace ≡ first.trace ++ Read a x ∷ []
+load_trace a x first asked loaded asks event = ap (λ (v : View). v.trace) event ∙ ap (λ (t : Trace). t ++ Read a x ∷ []) (asks_trace a first asked asks)
+
+pub load_asked : (a x : ℕ) (first asked loaded : View) → Asks a first asked → Loads a x asked loaded → GainsAtMost a first.asked loaded.asked
+load_asked a x first asked loaded asks event = subst (λ (v : View). GainsAtMost a first.asked v.asked) (sym event) asks.asked
+
+pub load_locks : (i : Intent) (a x : ℕ) (first asked loaded : View) → AsksTo i (lock_of_word a) first asked → Loads a x asked loaded
+    → AsksTo i (lock_of_word a) first loaded
+load_locks intent.Read a x first asked loaded l event = subst (λ (v : View). AsksTo intent.Read (lock_of_word a) first v) (sym event)
+    (record { claims = l.claims; scans = l.scans; bits = l.bits; reads = l.reads })
+load_locks intent.Write a x first asked loaded l event = subst (λ (v : View). AsksTo intent.Write (lock_of_word a) first v) (sym event)
+    (record { bits = l.bits; reads = l.reads; claims = l.claims; scans = l.scans })

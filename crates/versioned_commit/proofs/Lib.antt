@@ -1,0 +1,14 @@
+-- giving up locks and undoing writes
+pub mod Releasing
+-- the uses of an attempt, listed by rising lock
+pub mod Listing
+-- which words a call asked for
+pub mod Footprints
+-- an attempt between two of its calls
+pub mod Attempts
+-- what asking for a lock comes to, and a load after it leaves
+pub mod Asking
+-- an attempt is settled: its writes are kept or undone, what it used is listed, and it gets its entry, or is given up
+pub mod Settling
+-- how a transaction begins and ends
+pub mod Ending

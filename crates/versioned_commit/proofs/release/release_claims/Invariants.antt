@@ -1,0 +1,21 @@
+use Rattle.std.proofs.Common.{◌≡◌, ◌≢◌, ◌⊎◌, ◌<◌, [], IfSome}
+use Rattle.history_model.specs.declared.TheConstants.{LOCKS}
+use Rattle.history_model.specs.declared.view.Phase.TheVariants.{Idle, Releasing}
+use Rattle.history_model.specs.Views.{HasClaim}
+use Rattle.versioned_table.specs.Least.{IsLeast}
+use Rattle.versioned_commit.specs.Inner.Releasing.{Releases, turns_left}
+use Rattle.versioned_commit.proofs.release.release_claims.Given as goal
+
+-- the least claim is the next to go
+abbrev pub invariant-loop-next : goal.invariant-loop-next
+invariant-loop-next g l = record {
+  table : l.pass.table ≡ l.desk.table;
+  released : Releases l.initial.pass.view l.pass.view;
+  undone : (l.pass.view.undo ≡ []) ⊎ (l.pass.view.phase ≡ Releasing);
+  begun : l.pass.view.phase ≢ Idle;
+  near : IfSome l.next (λ k. k < LOCKS);
+  least : IsLeast (HasClaim l.pass.view) l.next;
+}
+
+abbrev pub decreases-loop-next : goal.decreases-loop-next
+decreases-loop-next g l = turns_left l.next

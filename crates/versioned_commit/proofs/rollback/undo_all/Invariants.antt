@@ -1,0 +1,18 @@
+use Rattle.std.proofs.Common.{◌≡◌, ◌<◌, ◌≤◌, ◌+◌, true, length, All}
+use Rattle.history_model.specs.Counts.{is_open}
+use Rattle.versioned_commit.specs.Inner.Releasing.{UndoesSome}
+use Rattle.versioned_commit.proofs.rollback.undo_all.Given as goal
+
+-- the log has the notes of what is left to undo
+abbrev pub invariant-loop-a : goal.invariant-loop-a
+invariant-loop-a g l = record {
+  table : l.pass.table ≡ l.desk.table;
+  undoes : UndoesSome l.initial.pass.view l.pass.view;
+  unfinished : is_open l.pass.view.phase ≡ true;
+  notes : l.undo.list ≡ l.pass.view.undo;
+  within : All (λ note. note.0 < length l.initial.pass.view.base) l.undo.list;
+  room : l.initial.undo.spare + length l.initial.undo.list ≤ l.undo.spare + length l.undo.list;
+}
+
+abbrev pub decreases-loop-a : goal.decreases-loop-a
+decreases-loop-a g l = length l.undo.list

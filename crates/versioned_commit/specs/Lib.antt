@@ -1,0 +1,4 @@
+pub mod Uses
+pub mod Attempts
+pub mod Transactions
+pub mod Inner

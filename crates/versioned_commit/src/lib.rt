@@ -1,0 +1,15 @@
+//! Transactions on the shared table: a job is run until an attempt of it need not give way, and then gets its entry.
+//!
+//! Strict two-phase locking with in-place writes and an undo log, after 2PLSF (Ramalhete, Correia, Felber, PPoPP 2023).
+//! `GetsEntry` in `specs/Transactions` says what a transaction comes to.
+#![tactic(auto)]
+
+pub mod attempt;
+pub mod laws;
+pub mod release;
+pub mod rollback;
+pub mod transaction;
+mod uses;
+
+pub use attempt::{Attempt, Halt, Start, UNDO_ROOM};
+pub use transaction::{Receipt, transact};

@@ -1,0 +1,86 @@
+-- What a call on values tells beside its step: that what its attempt did is legal behind all that was done, however that is
+-- arranged.
+use Rattle.std.proofs.Common.{◌≢◌, if◌then◌else◌, ne_eqb, ◌≡◌, ℕ, Bool, true, inl, inr, List, [], ◌∷◌, ◌++◌, Option, Some, None, unwrap_or, refl}
+use Rattle.std.proofs.Common.{sym, ap, ◌∙◌, subst}
+use Rattle.history_model.specs.declared.event.Event.TheVariants.{Read}
+use Rattle.history_model.specs.declared.view.View.{View}
+use Rattle.history_model.specs.Counts.{is_attempt}
+use Rattle.history_model.specs.Table.{Knows, history_of}
+use Rattle.history_model.specs.Traces.{Trace, value_after}
+use Rattle.history_model.specs.Views.{number}
+use Rattle.history_model.proofs.Traces.EndEvents.{last_read_same}
+use Rattle.history_model.proofs.Views.Places.{put_here}
+use Rattle.locks_rule.specs.Actions.{views_after, found_by}
+use Rattle.values_rule.specs.Steps.{begin_call_action, load_value_action, store_value_action, known_value}
+use Rattle.values_rule.proofs.Members.{in_second}
+use Rattle.values_rule.proofs.StepKinds.Commits.{attempt_open}
+use Rattle.versions_rule.specs.History.{items_of_attempts, item_of_entry, items_of, knew_of}
+use Rattle.versions_rule.specs.Steps.{MayBeginCall, MayLoadValue}
+use Rattle.versions_rule.proofs.Told.ItemsIn.{items_into, entry_from, attempt_from}
+use Rattle.versions_rule.proofs.Whole.Legality.{place, leaves_good, attempts_legal}
+use Rattle.stamps_rule.specs.Steps.{MayLoadCauseStamp, load_cause_stamp_action, after_waiting, after_restarting}
+use Rattle.versioned_table.specs.declared.step.Step.{Step}
+use Rattle.versioned_table.specs.declared.step.Step.TheVariants.{BeginCall, LoadValue, LoadCauseStamp}
+use Rattle.versioned_table.specs.Calls.{ReadsArranged}
+use Rattle.versioned_table.specs.Kinds.{action_of, May, TakenIn}
+use Rattle.versioned_table.specs.Sound.{IsSound}
+use Rattle.versioned_table.specs.Versions.{IsUncaused}
+use Rattle.versioned_table.proofs.Kept.KeptKinds.{sound_kept}
+
+-- the state that a step leads to is sound, and the seat then knows the new view
+pub reads_after : (good : List ℕ → Type 0) (n : ℕ) (base : List ℕ) (st : Step) (old new : View) (found : ℕ)
+    → TakenIn (IsSound good n base) (action_of st old) old found new → May good st old
+    → is_attempt new.phase ≡ true → ReadsArranged good n base new
+reads_after good n base st old new found t may busy =
+    let next : View = (action_of st old).view (history_of t.views) (found_by (action_of st old) t.words) in
+    let is : new ≡ next = t.view ∙ ap (λ (x : ℕ). (action_of st old).view (history_of t.views) x) (sym t.found_is) in
+    let vs : List View = views_after (action_of st old) t.place t.words t.views in
+    let after = sound_kept good n base st t.words t.views t.place old t.holds t.knows may in
+    let me : Knows vs t.place next = put_here t.views t.place old next t.knows in
+    subst (λ (x : View). ReadsArranged good n base x) (sym is) (record {
+      items = items_of vs;
+      seen = λ e i. items_into vs (item_of_entry e) (inl (record {
+        entry = e;
+        recorded = record { id = t.place; view = next; knows = me; seen = i };
+        is = entry_from e (item_of_entry e)
+            (in_second (items_of_attempts e.who e.call e.knew 0 e.abandoned) (item_of_entry e ∷ []) (item_of_entry e) (0, refl));
+      }));
+      attempts = λ x i. items_into vs x (inr (record {
+        id = t.place;
+        view = next;
+        knows = me;
+        is_open = attempt_open next.phase (subst (λ (x : View). is_attempt x.phase ≡ true) is busy);
+        is = attempt_from (number next) next.call (knew_of next.seats next.seen) next.abandoned x i;
+      }));
+      order = after.values.items.order;
+      arranged = after.values.items.arranged;
+      placed = λ order a p x at. place good n base _ vs after.locks after.values order a p x at;
+      left_good = λ order a. leaves_good good n base _ vs after.locks after.values order a;
+      fits = λ order a. attempts_legal good n base _ vs after.locks after.values order a t.place next me
+          (subst (λ (x : View). is_attempt x.phase ≡ true) is busy);
+    })
+
+pub load_reads : (good : List ℕ → Type 0) (n : ℕ) (base : List ℕ) (a : ℕ) (v w : View) (found : ℕ)
+    → TakenIn (IsSound good n base) (load_value_action (number v) a v) v found w → IsUncaused (MayLoadValue (number v) a) v
+    → ReadsArranged good n base w
+load_reads good n base a v w found t may =
+    reads_after good n base (LoadValue (number v) a) v w found t may (ap (λ (x : View). is_attempt x.phase) t.view ∙ ap is_attempt may.allowed.phase)
+
+pub begin_reads : (good : List ℕ → Type 0) (n : ℕ) (base : List ℕ) (v w : View) (found : ℕ)
+    → TakenIn (IsSound good n base) (begin_call_action (number v) v) v found w → IsUncaused (MayBeginCall (number v)) v → ReadsArranged good n base w
+begin_reads good n base v w found t may = reads_after good n base (BeginCall (number v)) v w found t may (ap (λ (x : View). is_attempt x.phase) t.view)
+
+-- a call whose cause is gone makes a new attempt
+pub restart_reads : (good : List ℕ → Type 0) (n : ℕ) (base : List ℕ) (i stamp : ℕ) (v w : View) (found : ℕ)
+    → TakenIn (IsSound good n base) (load_cause_stamp_action (number v) i stamp v) v found w → MayLoadCauseStamp (number v) i stamp v
+    → found ≢ stamp → ReadsArranged good n base w
+restart_reads good n base i stamp v w found t may ne = reads_after good n base (LoadCauseStamp (number v) i stamp) v w found t may
+    (ap (λ (x : View). is_attempt x.phase) (t.view ∙ ap (λ (b : Bool). if b then after_waiting v else after_restarting v) (ne_eqb found stamp ne)))
+
+-- what a store notes is the value that was read last
+pub noted_old : (j a x : ℕ) (v w : View) (before : Trace) (old : ℕ) → w ≡ (store_value_action j a x v).view [] 0
+    → v.trace ≡ before ++ Read a old ∷ [] → w.undo ≡ v.undo ++ (a, old) ∷ []
+noted_old j a x v w before old e trace =
+    let last : value_after v.trace a None ≡ Some old = ap (λ (t : Trace). value_after t a None) trace ∙ last_read_same before a old a refl in
+    let is : known_value v a ≡ old = ap (λ (o : Option ℕ). unwrap_or o 0) last in
+    ap (λ (y : View). y.undo) e ∙ ap (λ (o : ℕ). v.undo ++ (a, o) ∷ []) is

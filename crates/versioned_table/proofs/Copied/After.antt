@@ -1,0 +1,267 @@
+-- A pass's copy after a step.
+use Rattle.std.proofs.Common.{◌≡◌, ◌≢◌, ℕ, ◌-◌, ◌%◌, ◌^◌, ◌/◌, ◌<◌, ◌≤◌, Bool, true, false, List, [], ◌∷◌, length, refl, sym, ap, ◌∙◌, subst, ◌==◌, if◌then◌else◌}
+use Rattle.std.specs.Prelude.{bit_and}
+use Rattle.std.specs.Int.{bit_at}
+use Rattle.std.proofs.lemmas.Nat.Bits.{shr_and_one}
+use Rattle.atomic_table.specs.Table.{Me}
+use Rattle.atomic_table.specs.Seated.{TableId}
+use Rattle.history_model.specs.declared.view.View.{View}
+use Rattle.history_model.specs.declared.view.Phase.{Phase}
+use Rattle.history_model.specs.declared.view.Phase.TheVariants.{Idle, Running, Yielding, Withdrawing, Releasing}
+use Rattle.history_model.specs.Sets.{without_first}
+use Rattle.history_model.specs.Table.{row_word, writer_word, table_words}
+use Rattle.locks_rule.specs.Steps.{is_free, released_phase, load_writer_action, claim_writer_action, scan_row_action, after_asking, after_meeting}
+use Rattle.stamps_rule.specs.Steps.{after_waiting, after_restarting}
+use Rattle.versioned_table.specs.declared.limits.TheConstants.{MOST_PASSES, MOST_WORDS}
+use Rattle.versioned_table.specs.declared.copies.CallCopy.{CallCopy}
+use Rattle.versioned_table.specs.declared.copies.LockCopy.{LockCopy}
+use Rattle.versioned_table.specs.Copies.{ShowsLocks, ShowsOthers, ShowsPairs, HoldsNothing, IsVersionCopy, IsLockCopy, IsCallCopy, IsCopy}
+use Rattle.versioned_table.specs.Versions.{locks_found}
+use Rattle.versioned_table.proofs.Copied.VersionCopies.{versions_restarted}
+
+-- what a pass relies on beside its copies
+pub record SameSeat (v w : View) : Type 0 where
+  pub base : w.base ≡ v.base
+  pub seats : w.seats ≡ v.seats
+  pub who : w.who ≡ v.who
+  pub due : w.due ≡ v.due
+  pub call : w.call ≡ v.call
+  pub stamp : w.stamp ≡ v.stamp
+  pub announced : w.announced ≡ v.announced
+
+pub steady : (v w : View) → w.base ≡ v.base → w.seats ≡ v.seats → w.who ≡ v.who → w.due ≡ v.due → w.call ≡ v.call
+    → w.stamp ≡ v.stamp → w.announced ≡ v.announced → SameSeat v w
+steady v w eb es ew ed ec et ea = record { base = eb; seats = es; who = ew; due = ed; call = ec; stamp = et; announced = ea }
+
+-- a pass's copies after a step of its seat, from the seat, from the number of calls and from the copy of its locks
+pub copy_called : {call : CallCopy} {locks : LockCopy} {table : TableId} {me : Me (Unit {0}) View}
+    → IsCopy call locks table me → (phase : Phase) (calls : ℕ) (locks' : LockCopy) (table' : TableId) (me' : Me (Unit {0}) View) (w : View)
+    → table' ≡ table → me'.0 ≡ w → me'.1 ≡ me.1 → w.base ≡ me.0.base → w.seats ≡ me.0.seats → w.who ≡ me.0.who
+    → w.due ≡ me.0.due → w.call ≡ calls → w.stamp ≡ me.0.stamp → w.announced ≡ me.0.announced → w.phase ≡ phase → IsLockCopy locks' w
+    → (w.phase ≡ Idle → HoldsNothing w) → IsCopy (record call { phase = phase; calls = calls }) locks' table' me'
+copy_called {call} {locks} {table} {me} i phase calls locks' table' me' w et ew es eb en eo ed ec ez ea ep copy rests =
+    subst (λ (t : TableId). IsCopy (record call { phase = phase; calls = calls }) locks' t me') (sym et) record {
+      slots = es ∙ i.slots;
+      no_cause = ap (λ (x : View). x.due) ew ∙ (ed ∙ i.no_cause);
+      others_are = i.others_are;
+      row_is = i.row_is;
+      writers_are = i.writers_are;
+      below = i.below;
+      few = i.few;
+      short = subst (λ (x : List ℕ). length x ≤ MOST_WORDS) (sym (ap (λ (x : View). x.base) ew ∙ eb)) i.short;
+      long = i.long ∙ ap (λ (x : List ℕ). table_words call.seats (length x)) (sym (ap (λ (x : View). x.base) ew ∙ eb));
+      call_is = record {
+        seats_are = ap (λ (x : View). x.seats) ew ∙ (en ∙ i.call_is.seats_are);
+        who_is = ap (λ (x : View). x.who) ew ∙ (eo ∙ i.call_is.who_is);
+        phase_is = ap (λ (x : View). x.phase) ew ∙ ep;
+        calls_are = ap (λ (x : View). x.call) ew ∙ ec;
+        stamp_is = ap (λ (x : View). x.stamp) ew ∙ (ez ∙ i.call_is.stamp_is);
+        announced_is = ap (λ (x : View). x.announced) ew ∙ (ea ∙ i.call_is.announced_is);
+      };
+      locks_are = subst (λ (x : View). IsLockCopy locks' x) (sym ew) copy;
+      rests = subst (λ (x : View). x.phase ≡ Idle → HoldsNothing x) (sym ew) rests;
+    }
+
+-- a pass's copies after a step that tells the view, from a copy of the call and one of its locks
+pub copy_made : {call : CallCopy} {locks : LockCopy} {table : TableId} {me : Me (Unit {0}) View}
+    → IsCopy call locks table me → (call' : CallCopy) (locks' : LockCopy) (table' : TableId) (me' : Me (Unit {0}) View) (w : View)
+    → table' ≡ table → me'.0 ≡ w → me'.1 ≡ me.1 → w.base ≡ me.0.base → w.due ≡ me.0.due
+    → call'.seats ≡ call.seats → call'.who ≡ call.who → call'.others ≡ call.others → call'.row ≡ call.row → call'.writers ≡ call.writers
+    → IsCallCopy call' w → IsLockCopy locks' w → (w.phase ≡ Idle → HoldsNothing w) → IsCopy call' locks' table' me'
+copy_made {call} {locks} {table} {me} i call' locks' table' me' w et ew es eb ed cs cw co cr cp calls copy rests =
+    subst (λ (t : TableId). IsCopy call' locks' t me') (sym et) record {
+      slots = es ∙ i.slots;
+      no_cause = ap (λ (x : View). x.due) ew ∙ (ed ∙ i.no_cause);
+      others_are = subst (λ (m : ℕ). ShowsOthers m call'.seats call'.who) (sym co)
+          (subst (λ (m : ℕ). ShowsOthers call.others m call'.who) (sym cs) (subst (λ (m : ℕ). ShowsOthers call.others call.seats m) (sym cw) i.others_are));
+      row_is = cr ∙ (i.row_is ∙ (ap (λ (m : ℕ). row_word m call.who 0) (sym cs) ∙ ap (λ (m : ℕ). row_word call'.seats m 0) (sym cw)));
+      writers_are = cp ∙ (i.writers_are ∙ ap (λ (m : ℕ). writer_word m 0) (sym cs));
+      below = subst (λ (m : ℕ). m < call'.seats) (sym cw) (subst (λ (m : ℕ). call.who < m) (sym cs) i.below);
+      few = subst (λ (m : ℕ). m ≤ MOST_PASSES) (sym cs) i.few;
+      short = subst (λ (x : List ℕ). length x ≤ MOST_WORDS) (sym (ap (λ (x : View). x.base) ew ∙ eb)) i.short;
+      long = i.long ∙ (ap (λ (m : ℕ). table_words m (length me.0.base)) (sym cs)
+          ∙ ap (λ (x : List ℕ). table_words call'.seats (length x)) (sym (ap (λ (x : View). x.base) ew ∙ eb)));
+      call_is = subst (λ (x : View). IsCallCopy call' x) (sym ew) calls;
+      locks_are = subst (λ (x : View). IsLockCopy locks' x) (sym ew) copy;
+      rests = subst (λ (x : View). x.phase ≡ Idle → HoldsNothing x) (sym ew) rests;
+    }
+
+-- a call that goes on is not over, and neither is one that gives up a lock
+pub busy : (w : View) → w.phase ≢ Idle → w.phase ≡ Idle → HoldsNothing w
+busy w on e = absurd (on e)
+
+pub runs_on : (v w : View) → w.phase ≡ v.phase → v.phase ≡ Running → w.phase ≢ Idle
+runs_on v w same runs e = let z : Running ≡ Idle = sym runs ∙ (sym same ∙ e) in cc
+
+pub releases_on : (p : Phase) → p ≢ Idle → released_phase p ≢ Idle
+releases_on Idle on e = cc
+releases_on Running on e = cc
+releases_on Yielding on e = cc
+releases_on Withdrawing on e = cc
+releases_on Releasing on e = cc
+
+-- the same in the call that goes on
+pub copy_after : {call : CallCopy} {locks : LockCopy} {table : TableId} {me : Me (Unit {0}) View}
+    → IsCopy call locks table me → (phase : Phase) (locks' : LockCopy) (table' : TableId) (me' : Me (Unit {0}) View) (w : View)
+    → table' ≡ table → me'.0 ≡ w → me'.1 ≡ me.1 → SameSeat me.0 w → w.phase ≡ phase → IsLockCopy locks' w
+    → (w.phase ≡ Idle → HoldsNothing w) → IsCopy (record call { phase = phase }) locks' table' me'
+copy_after {call} {locks} {table} {me} i phase locks' table' me' w et ew es same ep copy rests =
+    copy_called i phase call.calls locks' table' me' w et ew es same.base same.seats same.who same.due (same.call
+    ∙ i.call_is.calls_are) same.stamp same.announced ep copy rests
+
+-- the same after a store, which tells the view as a whole
+pub copy_stored : {call : CallCopy} {locks : LockCopy} {table : TableId} {me : Me (Unit {0}) View}
+    → IsCopy call locks table me → (phase : Phase) (locks' : LockCopy) (table' : TableId) (me' : Me (Unit {0}) View) (w : View)
+    → table' ≡ table → me' ≡ (w, me.1) → SameSeat me.0 w → w.phase ≡ phase → IsLockCopy locks' w
+    → (w.phase ≡ Idle → HoldsNothing w) → IsCopy (record call { phase = phase }) locks' table' me'
+copy_stored {call} {locks} {table} {me} i phase locks' table' me' w et em = let after : Me (Unit {0}) View = (w, me.1) in
+    copy_after i phase locks' table' me' w et (ap (λ (m : Me (Unit {0}) View). m.0) {y = after} em) (ap (λ (m : Me (Unit {0}) View). m.1) {y = after} em)
+
+-- a copy's versions are a view's
+abbrev pub VersionsAre : LockCopy → View → Type 0
+VersionsAre copy v = IsVersionCopy copy.versions v.uses v.owed v.trace v.undo v.phase
+
+-- a copy that shows a view's four sets, and its versions
+pub lock_copy : (copy : LockCopy) (v : View) → ShowsLocks copy.bits v.bits → ShowsLocks copy.reads v.reads
+    → ShowsLocks copy.claims v.claims → ShowsPairs copy.scans.items v.scans → VersionsAre copy v → IsLockCopy copy v
+lock_copy copy v sb sr sc ss sv = record { bits_are = sb; reads_are = sr; claims_are = sc; scans_are = ss; versions_are = sv }
+
+-- a copy of a view's locks with other versions
+pub with_versions : (copy copy' : LockCopy) (v w : View) → IsLockCopy copy v → w.bits ≡ v.bits → w.reads ≡ v.reads → w.claims ≡ v.claims
+    → w.scans ≡ v.scans → copy'.bits ≡ copy.bits → copy'.reads ≡ copy.reads → copy'.claims ≡ copy.claims → copy'.scans ≡ copy.scans
+    → VersionsAre copy' w → IsLockCopy copy' w
+with_versions copy copy' v w i eb er ec es fb fr fc fs sv = record {
+  bits_are = subst (λ (row : List ℕ). ShowsLocks row w.bits) (sym fb) (subst (λ (l : List ℕ). ShowsLocks copy.bits l) (sym eb) i.bits_are);
+  reads_are = subst (λ (row : List ℕ). ShowsLocks row w.reads) (sym fr) (subst (λ (l : List ℕ). ShowsLocks copy.reads l) (sym er) i.reads_are);
+  claims_are = subst (λ (row : List ℕ). ShowsLocks row w.claims) (sym fc) (subst (λ (l : List ℕ). ShowsLocks copy.claims l) (sym ec) i.claims_are);
+  scans_are = subst (λ (s : _). ShowsPairs s.items w.scans) (sym fs) (subst (λ (l : List (ℕ × ℕ)). ShowsPairs copy.scans.items l) (sym es) i.scans_are);
+  versions_are = sv;
+}
+
+-- after a look at a writer word, by whether it was granted
+pub load_same : (j k a : ℕ) (v : View) (w : ℕ) → SameSeat v ((load_writer_action j k a v).view [] w)
+load_same j k a v w = let granted : View = record (after_asking v a) { reads = k ∷ v.reads } in let met : View = after_meeting (after_asking v a) k (w - 1) in
+    elim (is_free j w) as (λ (b : Bool). SameSeat v (if b then granted else met)) [
+      | true ↦
+          steady v granted refl refl refl refl refl refl refl
+      | false ↦ steady v met refl refl refl refl refl refl refl
+    ]
+
+pub load_phase : (j k a : ℕ) (v : View) (w : ℕ) → ((load_writer_action j k a v).view [] w).phase ≡ v.phase
+load_phase j k a v w = let granted : View = record (after_asking v a) { reads = k ∷ v.reads } in let met : View = after_meeting (after_asking v a) k (w - 1) in
+    elim (is_free j w) as (λ (b : Bool). (if b then granted else met).phase ≡ v.phase) [ true ↦ refl | false ↦ refl ]
+
+pub load_copy : (copy : LockCopy) (j k a : ℕ) (v : View) (w : ℕ) → ShowsLocks copy.bits v.bits
+    → ShowsLocks copy.reads (if is_free j w then k ∷ v.reads else v.reads) → ShowsLocks copy.claims v.claims → ShowsPairs copy.scans.items v.scans
+    → VersionsAre copy v → IsLockCopy copy ((load_writer_action j k a v).view [] w)
+load_copy copy j k a v w sb sr sc ss sv = let granted : View = record (after_asking v a) { reads = k ∷ v.reads } in
+    let met : View = after_meeting (after_asking v a) k (w - 1) in
+    (elim (is_free j w) as (λ (b : Bool). ShowsLocks copy.reads (if b then k ∷ v.reads else v.reads) → IsLockCopy copy (if b then granted else met)) [
+      | true ↦ λ s. record { bits_are = sb; reads_are = s; claims_are = sc; scans_are = ss; versions_are = sv }
+      | false ↦ λ s. record { bits_are = sb; reads_are = s; claims_are = sc; scans_are = ss; versions_are = sv }
+    ]) sr
+
+-- after a claim, by whether the writer word was 0
+pub claim_same : (j k a : ℕ) (v : View) (w : ℕ) → SameSeat v ((claim_writer_action j k a v).view [] w)
+claim_same j k a v w = let won : View = record (after_asking v a) {
+  claims = k ∷ v.claims;
+  scans =
+      without_first k v.scans;
+} in let met : View = after_meeting (after_asking v a) k (w - 1) in
+    elim (w == 0) as (λ (b : Bool). SameSeat v (if b then won else met)) [
+      | true ↦
+          steady v won refl refl refl refl refl refl refl
+      | false ↦ steady v met refl refl refl refl refl refl refl
+    ]
+
+pub claim_phase : (j k a : ℕ) (v : View) (w : ℕ) → ((claim_writer_action j k a v).view [] w).phase ≡ v.phase
+claim_phase j k a v w = let won : View = record (after_asking v a) {
+  claims = k ∷ v.claims;
+  scans =
+      without_first k v.scans;
+} in let met : View = after_meeting (after_asking v a) k (w - 1) in
+    elim (w == 0) as (λ (b : Bool). (if b then won else met).phase ≡ v.phase) [ true ↦ refl | false ↦ refl ]
+
+pub claim_copy : (copy : LockCopy) (j k a : ℕ) (v : View) (w : ℕ) → ShowsLocks copy.bits v.bits → ShowsLocks copy.reads v.reads
+    → ShowsLocks copy.claims (if w == 0 then k ∷ v.claims else v.claims) → ShowsPairs copy.scans.items (if w == 0 then without_first k v.scans else v.scans)
+    → VersionsAre copy v → IsLockCopy copy ((claim_writer_action j k a v).view [] w)
+claim_copy copy j k a v w sb sr sc ss sv = let won : View = record (after_asking v a) {
+  claims = k ∷ v.claims;
+  scans =
+      without_first k v.scans;
+} in let met : View = after_meeting (after_asking v a) k (w - 1) in
+    (elim (w == 0) as (λ (b : Bool). ShowsLocks copy.claims (if b then k ∷ v.claims else v.claims)
+    → ShowsPairs copy.scans.items (if b then without_first k v.scans else v.scans) → IsLockCopy copy (if b then won else met)) [
+      | true ↦ λ s t. record { bits_are = sb; reads_are = sr; claims_are = s; scans_are = t; versions_are = sv }
+      | false ↦ λ s t. record { bits_are = sb; reads_are = sr; claims_are = s; scans_are = t; versions_are = sv }
+    ]) sc ss
+
+-- after a scan, by whether the bit was clear
+pub scan_same : (j k i : ℕ) (v : View) (w : ℕ) → SameSeat v ((scan_row_action j k i v).view [] w)
+scan_same j k i v w = let clear : View = record v { scans = (k, i) ∷ v.scans } in
+    elim (bit_at w (k % 64) == 0) as (λ (b : Bool). SameSeat v (if b then clear else after_meeting v k i)) [
+      | true ↦
+          steady v clear refl refl refl refl refl refl refl
+      | false ↦ steady v (after_meeting v k i) refl refl refl refl refl refl refl
+    ]
+
+pub scan_phase : (j k i : ℕ) (v : View) (w : ℕ) → ((scan_row_action j k i v).view [] w).phase ≡ v.phase
+scan_phase j k i v w = let clear : View = record v { scans = (k, i) ∷ v.scans } in
+    elim (bit_at w (k % 64) == 0) as (λ (b : Bool). (if b then clear else after_meeting v k i).phase ≡ v.phase) [ true ↦ refl | false ↦ refl ]
+
+pub scan_copy : (copy : LockCopy) (j k i : ℕ) (v : View) (w : ℕ) → ShowsLocks copy.bits v.bits → ShowsLocks copy.reads v.reads
+    → ShowsLocks copy.claims v.claims → ShowsPairs copy.scans.items (if bit_at w (k % 64) == 0 then (k, i) ∷ v.scans else v.scans)
+    → VersionsAre copy v → IsLockCopy copy ((scan_row_action j k i v).view [] w)
+scan_copy copy j k i v w sb sr sc ss sv = let clear : View = record v { scans = (k, i) ∷ v.scans } in
+    (elim (bit_at w (k % 64) == 0) as
+    (λ (b : Bool). ShowsPairs copy.scans.items (if b then (k, i) ∷ v.scans else v.scans) → IsLockCopy copy (if b then clear else after_meeting v k i)) [
+      | true ↦ λ t. record { bits_are = sb; reads_are = sr; claims_are = sc; scans_are = t; versions_are = sv }
+      | false ↦ λ t. record { bits_are = sb; reads_are = sr; claims_are = sc; scans_are = t; versions_are = sv }
+    ]) ss
+
+-- the bit that the code looks at
+pub clear_bit : (masks : List ℕ) (w i : ℕ) (a b : List (ℕ × ℕ))
+    → ShowsPairs masks (if bit_and (w / 2 ^ i) 1 == 0 then a else b) → ShowsPairs masks (if bit_at w i == 0 then a else b)
+clear_bit masks w i a b h = subst (λ (x : ℕ). ShowsPairs masks (if x == 0 then a else b)) (shr_and_one w i) h
+
+-- a row under a test that has the same answer
+pub same_test : (row locks : List ℕ) (k : ℕ) (a b : Bool) → a ≡ b → ShowsLocks row (if a then k ∷ locks else locks) → ShowsLocks row (if b then k ∷ locks else locks)
+same_test row locks k a b e h = subst (λ (x : Bool). ShowsLocks row (if x then k ∷ locks else locks)) e h
+
+-- after a look at the timestamp of the cause, by whether it is still there
+pub look_same : (b : Bool) (v : View) → SameSeat v (if b then after_waiting v else after_restarting v)
+look_same true v = steady v (after_waiting v) refl refl refl refl refl refl refl
+look_same false v = steady v (after_restarting v) refl refl refl refl refl refl refl
+
+pub look_phase : (b : Bool) (v : View) → v.phase ≡ Yielding → (if b then after_waiting v else after_restarting v).phase ≡ (if b then Yielding else Running)
+look_phase true v yields = yields
+look_phase false v yields = refl
+
+pub look_copy : (copy : LockCopy) (v : View) (b : Bool) (used : List ℕ) → IsLockCopy copy v → v.phase ≡ Yielding → v.undo ≡ []
+    → ((locks : List ℕ) → ShowsLocks copy.versions.used locks → ShowsLocks used (if b then locks else []))
+    → IsLockCopy (record copy { versions = record copy.versions { used = used } }) (if b then after_waiting v else after_restarting v)
+look_copy copy v true used i yields undone shows = let r = i.versions_are in record {
+  bits_are = i.bits_are;
+  reads_are = i.reads_are;
+  claims_are = i.claims_are;
+  scans_are = i.scans_are;
+  versions_are = record {
+    used_are = shows (locks_found v.uses) r.used_are;
+    written_are = r.written_are;
+    each_lock = r.each_lock;
+    found_are = r.found_are;
+    fits = r.fits;
+    touched_used = r.touched_used;
+    noted_used = r.noted_used;
+    owed_used = r.owed_used;
+    open_owes_none = r.open_owes_none;
+  };
+}
+look_copy copy v false used i yields undone shows = record {
+  bits_are = i.bits_are;
+  reads_are = i.reads_are;
+  claims_are = i.claims_are;
+  scans_are = i.scans_are;
+  versions_are = versions_restarted copy.versions v.uses v.owed v.trace v.undo v.phase i.versions_are used
+      (shows (locks_found v.uses) i.versions_are.used_are) yields undone;
+}

@@ -1,0 +1,37 @@
+-- Notes are taken and met.
+use Rattle.std.proofs.Common.{◌≡◌, ℕ, ⊎_elim, List, [], ap, ◌∙◌, subst}
+use Rattle.atomic_table.specs.Table.{State, Splits, Joins}
+use Rattle.atomic_table.specs.Seated.{TableId}
+use Rattle.history_model.specs.declared.view.View.{View}
+use Rattle.history_model.specs.declared.view.Phase.TheVariants.{Idle}
+use Rattle.history_model.proofs.Views.Places.{put_cases}
+use Rattle.locks_rule.specs.Joins.{left_by_note, note_of, spent_view}
+use Rattle.versions_rule.specs.Joins.{gains, after_note}
+use Rattle.versioned_table.specs.Copies.{PassView}
+use Rattle.versioned_table.specs.Notes.{NoteView}
+use Rattle.versioned_table.specs.Sound.{IsSound}
+use Rattle.versioned_table.proofs.Kept.KeptChanges.{take_note_sound, meet_note_sound}
+
+module _ (good : List ℕ → Type 0) (n : ℕ) (base : List ℕ) where
+  abbrev Holds : State (Unit {0}) View → Type 0
+  Holds s = IsSound good n base s.words s.views
+
+  pub gives_at : (id : ℕ) (v : View) → v.phase ≡ Idle → Splits Holds id v (left_by_note v) (note_of v)
+  gives_at id v phase s h known = take_note_sound good n base s.words s.views id v h known (record { phase = phase })
+
+  pub meets_at : (id other : ℕ) (v w : View) → v.phase ≡ Idle → w.phase ≡ Idle → w.who ≡ [] → Joins Holds id v other w (after_note v w) spent_view
+  meets_at id other v w phase note_phase unnumbered s h known apart at = meet_note_sound good n base s.words s.views id other v w h apart known
+      (⊎_elim (λ t. absurd (apart t.0)) (λ t. t.1) (put_cases s.views id other (after_note v w) w at))
+      (record { phase = phase; note_phase = note_phase; unnumbered = unnumbered })
+
+-- what the join does to the seats, it does to the pass and the note that have them
+pub met_by : (v w joined : View) (table of : TableId) (pass : PassView) (note : NoteView)
+    → record { table = table; view = v } ≡ pass → record { table = of; seen = w.seen } ≡ note
+    → joined ≡ after_note v w → joined ≡ record pass.view { seen = gains pass.view.seen note.seen; met = [] }
+met_by v w joined table of pass note e f is =
+    subst (λ (x : NoteView). joined ≡ record pass.view { seen = gains pass.view.seen x.seen; met = [] }) f
+    (subst (λ (x : PassView). joined ≡ record x.view { seen = gains x.view.seen w.seen; met = [] }) e is)
+
+-- the phase of a pass is that of its seat's view
+pub seat_phase : (v : View) (table : TableId) (pass : PassView) → record { table = table; view = v } ≡ pass → pass.view.phase ≡ Idle → v.phase ≡ Idle
+seat_phase v table pass e idle = ap (λ (x : PassView). x.view.phase) e ∙ idle

@@ -1,0 +1,149 @@
+-- The kinds of step on timestamps keep the value invariant: one that gives way has a cause in another seat with an
+-- earlier timestamp, to which no attempt of the call gave way before.
+use Rattle.std.proofs.Common.{◌≡◌, ℕ, ◌+◌, ◌<◌, ◌≤◌, Bool, true, ◌⊎◌, inl, inr, ⊎_elim, List, ◌∷◌, [], Option, Some, None, slice_index, slice_set, ◌==◌, refl, sym, ◌∙◌}
+use Rattle.std.proofs.Common.{subst, arith, get_or-set_other}
+use Rattle.std.proofs.lemmas.List.{set-get_or}
+use Rattle.history_model.specs.declared.entry.Abandoned.{Abandoned}
+use Rattle.history_model.specs.declared.event.Cause.{Cause}
+use Rattle.history_model.specs.declared.view.View.{View}
+use Rattle.history_model.specs.declared.view.Phase.TheVariants.{Running}
+use Rattle.history_model.specs.Legal.{IsIn}
+use Rattle.history_model.specs.Sets.{has, without}
+use Rattle.history_model.specs.Table.{Knows, clock_word, calls_word, commits_word, stamps_word, version_word, value_word}
+use Rattle.history_model.proofs.SetLemmas.{not_true}
+use Rattle.history_model.proofs.Views.Places.{put_here}
+use Rattle.locks_rule.specs.Actions.{Action, words_after, views_after}
+use Rattle.locks_rule.proofs.Asides.{picked}
+use Rattle.locks_rule.proofs.Own.{own}
+use Rattle.values_rule.specs.Asides.{IsNewCause}
+use Rattle.stamps_rule.specs.Causes.{causes_of}
+use Rattle.stamps_rule.specs.Stamps.{StampsHold}
+use Rattle.stamps_rule.specs.Steps.{MayDrawStamp, MayAnnounceStamp, MayJudgeStamp, MayLoadCauseStamp, draw_stamp_action, announce_stamp_action}
+use Rattle.stamps_rule.specs.Steps.{judge_and_yield_action, load_cause_stamp_action, judged, after_judgement, after_giving_way}
+use Rattle.stamps_rule.specs.Steps.{after_waiting, after_restarting}
+use Rattle.stamps_rule.proofs.CauseLists.{due_is_cause, due_elsewhere}
+use Rattle.stamps_rule.proofs.LocksStand.{runs}
+use Rattle.stamps_rule.proofs.StampKinds.{judge_stamp_stamps}
+use Rattle.versions_rule.specs.Keeping.{SameValues, SameWords}
+use Rattle.versions_rule.specs.Versions.{ValuesHold}
+use Rattle.versions_rule.proofs.StepKinds.Giving.{giving_way_values}
+use Rattle.versions_rule.proofs.StepKinds.Quiet.{restart_values}
+use Rattle.versions_rule.proofs.StepKinds.Same.{aside_values}
+use Rattle.versions_rule.proofs.Told.Owing.{version_kept}
+use Rattle.versioned_table.specs.Sound.{IsSound}
+
+-- a step of a seat that may take it keeps the value invariant of a sound table
+abbrev pub ValuesStay : (List ℕ → Type 0) → (View → Type 0) → (View → Action) → Type 0
+ValuesStay good may action =
+    (n : ℕ) (base words : List ℕ) (views : List View) (id : ℕ) (v : View)
+    → IsSound good n base words views → Knows views id v → may v
+    → ValuesHold good n base (words_after (action v) words) (views_after (action v) id words views)
+
+-- a call with another timestamp, or with other notes of whom it met
+abbrev restamped : View → ℕ → Bool → ℕ → List ℕ → Option Cause → ℕ → View
+restamped v stamp announced draws met due waits = record v { stamp = stamp; announced = announced; draws = draws; met = met; due = due; waits = waits }
+
+same_values : (v : View) (stamp : ℕ) (announced : Bool) (draws : ℕ) (met : List ℕ) (due : Option Cause) (waits : ℕ)
+    → v.stamp ≤ stamp → SameValues v (restamped v stamp announced draws met due waits)
+same_values v stamp announced draws met due waits later = record {
+  who = refl;
+  joined = refl;
+  seats = refl;
+  seen = refl;
+  call = refl;
+  floor = refl;
+  abandoned = refl;
+  phase = refl;
+  trace = refl;
+  undo = refl;
+  uses = refl;
+  owed = refl;
+  stamp = λ busy. later;
+  grants = λ k g. g;
+  writes = λ k g. g;
+}
+
+-- the clock's word, or one of a timestamp
+words_stay : (n i x : ℕ) (ws : List ℕ) → 0 < i → (i < calls_word n 0) ⊎ (stamps_word n 0 ≤ i) → i < commits_word n 0 → SameWords n ws (slice_set ws i x)
+words_stay n i x ws above away to = record {
+  serial = get_or-set_other ws i 0 x 0 (λ e. omega arith);
+  calls = λ j lt. get_or-set_other ws i (calls_word n j) x 0
+      (λ e. ⊎_elim (λ (low : i < calls_word n 0). omega arith) (λ (high : stamps_word n 0 ≤ i). omega arith) away);
+  commits = λ j lt. get_or-set_other ws i (commits_word n j) x 0 (λ e. omega arith);
+  versions = λ k. version_kept n ws (slice_set ws i x) (λ l near. get_or-set_other ws i (version_word n l) x 0 (λ e. omega arith)) k;
+  values = λ a. get_or-set_other ws i (value_word n a) x 0 (λ e. omega arith);
+}
+
+-- a load changes no word
+same_words : (n i : ℕ) (ws : List ℕ) → SameWords n ws (slice_set ws i (slice_index ws i))
+same_words n i ws = subst (λ (l : List ℕ). SameWords n ws l) (sym (set-get_or ws i 0))
+    (record { serial = refl; calls = λ j lt. refl; commits = λ j lt. refl; versions = λ k. refl; values = λ a. refl })
+
+pub draw_stamp_values : (good : List ℕ → Type 0) (j : ℕ) → ValuesStay good (MayDrawStamp j) (draw_stamp_action j)
+draw_stamp_values good j n base ws vs id v s me may =
+    let zero = may.unstamped in
+    let x : ℕ = slice_index ws clock_word + 1 in
+    aside_values good n base ws (slice_set ws clock_word x) vs id v (restamped v x v.announced (v.draws + 1) v.met v.due v.waits) s.locks s.values me
+    (same_values v x v.announced (v.draws + 1) v.met v.due v.waits (omega arith))
+    (words_stay n clock_word x ws (omega arith) (inl (omega arith)) (omega arith))
+
+pub announce_stamp_values : (good : List ℕ → Type 0) (j : ℕ) → ValuesStay good (MayAnnounceStamp j) (announce_stamp_action j)
+announce_stamp_values good j n base ws vs id v s me may =
+    let o = own n base ws vs id j v s.locks me may.who in
+    let seats = o.seats in
+    let below = o.below in
+    aside_values good n base ws (slice_set ws (stamps_word v.seats j) v.stamp) vs id v (record v { announced = true }) s.locks s.values me
+    (same_values v v.stamp true v.draws v.met v.due v.waits (omega arith))
+    (words_stay n (stamps_word v.seats j) v.stamp ws (omega arith) (inr (omega arith)) (omega arith))
+
+-- a seat that was met and shows an earlier timestamp is a new cause
+new_cause : (good : List ℕ → Type 0) (n : ℕ) (base ws : List ℕ) (vs : List View) (id j : ℕ) (v : View) (c : Cause)
+    → IsSound good n base ws vs → (me : Knows vs id v) → v.who ≡ j ∷ [] → (x : View) → StampsHold n ws (slice_set vs id x)
+    → x.who ≡ v.who → x.abandoned ≡ v.abandoned → x.stamp ≡ v.stamp → x.phase ≡ Running → x.due ≡ Some c → IsNewCause n v c
+new_cause good n base ws vs id j v c s me single x stamps who abandoned stamp running is_due =
+    let o = own n base ws vs id j v s.locks me single in
+    let here : Knows (slice_set vs id x) id x = put_here vs id v x me in
+    let is_cause : IsIn c (causes_of x) = due_is_cause x c is_due in
+    let place = stamps.grounds.elsewhere id j x c here (who ∙ single) is_cause in
+    let early = stamps.grounds.earlier id x c here (runs x running) is_cause in
+    record {
+      elsewhere = (place.0, not_true (has c.seat v.who) (λ t. place.1 (o.is c.seat t)));
+      earlier = (early.0, subst (λ (m : ℕ). c.stamp < m) stamp early.1);
+      first_there = λ y t. due_elsewhere x c y (stamps.seats.distinct id x here) is_due (subst (λ (l : List Abandoned). IsIn y l) (sym abandoned) t);
+    }
+
+-- what a judgement leaves, by what it found
+by_verdict : (P : View → Type 0) (verdict : Option Cause) (u : View) → (verdict ≡ None → P u)
+    → ((c : Cause) → verdict ≡ Some c → P (after_giving_way c u.seen u)) → P (after_judgement verdict u)
+by_verdict P None u p q = p refl
+by_verdict P (Some c) u p q = q c refl
+
+pub judge_stamp_values : (good : List ℕ → Type 0) (j i : ℕ) → ValuesStay good (MayJudgeStamp j i) (judge_and_yield_action j i)
+judge_stamp_values good j i n base ws vs id v s me may =
+    let at : ℕ = stamps_word v.seats i in
+    let found : ℕ = slice_index ws at in
+    let met : List ℕ = without i v.met in
+    let passes : View = record v { met = met; due = None } in
+    by_verdict (λ (u : View). ValuesHold good n base (slice_set ws at found) (slice_set vs id u)) (judged i found v.stamp) passes
+    (λ e. aside_values good n base ws (slice_set ws at found) vs id v passes s.locks s.values me
+    (same_values v v.stamp v.announced v.draws met None v.waits (omega arith)) (same_words n at ws))
+    (λ c e. let finds : View = record v { met = met; due = Some c } in
+    let stamps : StampsHold n ws (slice_set vs id finds) =
+    subst (λ (l : List ℕ). StampsHold n l (slice_set vs id finds)) (set-get_or ws at 0)
+    (subst (λ (o : Option Cause). StampsHold n (slice_set ws at found) (slice_set vs id (record v { met = met; due = o }))) e
+    (judge_stamp_stamps j i n base ws vs id v s.locks s.stamps me may)) in
+    let new = new_cause good n base ws vs id j v c s me may.who finds stamps refl refl refl may.phase refl in
+    let gave : View = after_giving_way c v.seen passes in
+    subst (λ (l : List ℕ). ValuesHold good n base l (slice_set vs id gave)) (sym (set-get_or ws at 0))
+    (subst (λ (o : Option Cause). ValuesHold good n base ws (slice_set vs id (record gave { due = o }))) may.no_cause
+    (giving_way_values good n base ws vs id j v c met s.locks s.values me may.who may.phase new)))
+
+pub load_cause_stamp_values : (good : List ℕ → Type 0) (j i stamp : ℕ) → ValuesStay good (MayLoadCauseStamp j i stamp) (load_cause_stamp_action j i stamp)
+load_cause_stamp_values good j i stamp n base ws vs id v s me may =
+    let at : ℕ = stamps_word v.seats i in
+    let x : ℕ = slice_index ws at in
+    picked (λ (u : View). ValuesHold good n base (slice_set ws at x) (slice_set vs id u)) (x == stamp) (after_waiting v) (after_restarting v)
+    (aside_values good n base ws (slice_set ws at x) vs id v (after_waiting v) s.locks s.values me
+    (same_values v v.stamp v.announced v.draws v.met v.due (v.waits + 1) (omega arith)) (same_words n at ws))
+    (subst (λ (l : List ℕ). ValuesHold good n base l (slice_set vs id (after_restarting v))) (sym (set-get_or ws at 0))
+    (restart_values good n base ws vs id v s.locks s.values me may.phase may.undone))

@@ -1,0 +1,46 @@
+-- The kinds of step on versions keep the timestamp invariant: their words are of nobody else, and a seat that takes one knows
+-- the same of timestamps.
+use Rattle.std.proofs.Common.{◌≡◌, ℕ, List, None, refl, arith}
+use Rattle.history_model.specs.declared.view.View.{View}
+use Rattle.history_model.specs.Table.{history_of}
+use Rattle.locks_rule.specs.Actions.{found_by}
+use Rattle.locks_rule.specs.Versions.{load_version_action, store_version_action}
+use Rattle.locks_rule.proofs.Own.{own}
+use Rattle.stamps_rule.specs.Asides.{SameStamps}
+use Rattle.stamps_rule.proofs.Asides as stamps
+use Rattle.stamps_rule.proofs.Asides.{notes_same}
+use Rattle.versioned_table.specs.Versions.{MayFindVersion, MayRaiseVersion}
+use Rattle.versioned_table.proofs.Kept.ValuePairs.{StampsStay}
+
+-- a view with other uses, or which owes something else
+abbrev used : View → List (ℕ × ℕ) → List ℕ → View
+used v uses owed = record v { uses = uses; owed = owed }
+
+same_stamps : (v : View) (uses : List (ℕ × ℕ)) (owed : List ℕ) → v.due ≡ None → SameStamps v (used v uses owed)
+same_stamps v uses owed none = record {
+  who = refl;
+  joined = refl;
+  stamp = refl;
+  announced = refl;
+  draws = refl;
+  due = refl;
+  no_cause = none;
+  abandoned = refl;
+  idle = refl;
+  yielding = refl;
+  notes = notes_same v (used v uses owed) refl refl;
+}
+
+pub load_version_stamps : (good : List ℕ → Type 0) (j k : ℕ) → StampsStay good (MayFindVersion j k) (load_version_action j k)
+load_version_stamps good j k n base ws vs id v s me may =
+    let o = own n base ws vs id j v s.locks me may.allowed.who in
+    let w : View = (load_version_action j k v).view (history_of vs) (found_by (load_version_action j k v) ws) in
+    stamps.aside_keeps n base ws vs id v (load_version_action j k v) s.locks s.stamps me (λ t. let high = t.1 in let seats = o.seats in omega arith)
+    (same_stamps v w.uses w.owed may.no_cause)
+
+pub store_version_stamps : (good : List ℕ → Type 0) (j k x : ℕ) → StampsStay good (MayRaiseVersion j k x) (store_version_action j k x)
+store_version_stamps good j k x n base ws vs id v s me may =
+    let o = own n base ws vs id j v s.locks me may.stores.who in
+    let w : View = (store_version_action j k x v).view (history_of vs) (found_by (store_version_action j k x v) ws) in
+    stamps.aside_keeps n base ws vs id v (store_version_action j k x v) s.locks s.stamps me (λ t. let high = t.1 in let seats = o.seats in omega arith)
+    (same_stamps v w.uses w.owed may.no_cause)

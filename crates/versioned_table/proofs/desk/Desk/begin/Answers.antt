@@ -1,0 +1,11 @@
+use Rattle.std.proofs.Common.{rules}
+use Rattle.versioned_table.proofs.desk.Desk.begin.Goals as goal
+
+pub returns : goal.returns
+returns g c = let begun = c.begin_call.ensures in record {
+  desk = begun.table;
+  number = begun.number;
+  step = begun.view;
+  taken = search rules;
+  fits = search rules;
+}

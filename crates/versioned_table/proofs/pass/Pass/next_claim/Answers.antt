@@ -1,0 +1,15 @@
+use Rattle.std.proofs.Common.{subst}
+use Rattle.history_model.specs.Views.{HasClaim}
+use Rattle.versioned_table.specs.Copies.{PassView}
+use Rattle.versioned_table.specs.Least.{IsLeast}
+use Rattle.versioned_table.proofs.Copied.Passes.{least_of_all, least_near}
+use Rattle.versioned_table.proofs.pass.Pass.next_claim.Goals as goal
+
+pub returns-clause-least : goal.returns-clause-least
+returns-clause-least g c = let v = c.self.inside.seat.me.0 in let i = c.self.invariant.locks_are in
+    subst (λ (p : PassView). IsLeast (HasClaim p.view) c.least_from.result) c.self.view_is
+    (least_of_all v.claims c.least_from.result (c.least_from.ensures v.claims i.claims_are))
+
+pub returns-clause-lock : goal.returns-clause-lock
+returns-clause-lock g c = let v = c.self.inside.seat.me.0 in let i = c.self.invariant.locks_are in
+    least_near c.self.inside.locks.claims v.claims 0 c.least_from.result i.claims_are (c.least_from.ensures v.claims i.claims_are)

@@ -1,0 +1,10 @@
+use Rattle.history_model.specs.Fitting.{IsGood}
+use Rattle.versioned_table.specs.Sound.{IsSound}
+use Rattle.versioned_table.proofs.step.store.Given as goal
+
+abbrev pub ghosts-store_by : goal.ghosts-store_by
+ghosts-store_by g a = record {
+  step = a.step.now;
+  sound =
+      IsSound (IsGood (g.S.Shape.word_count a.table.now.key.shape) (g.S.Shape.good a.table.now.key.shape)) a.table.now.key.seats a.table.now.key.base.items;
+}

@@ -1,0 +1,14 @@
+pub mod Least
+pub mod Copies
+pub mod Sound
+pub mod Versions
+pub mod Kinds
+pub mod Desks
+pub mod Notes
+pub mod Closing
+pub mod Gathering
+pub mod Unscanned
+pub mod Calls
+pub mod Runs
+pub mod Meetings
+pub mod Writes

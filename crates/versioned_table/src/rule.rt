@@ -1,0 +1,34 @@
+//! The rule that a desk's table keeps between any two steps: `IsSound` of `specs/Sound`.
+
+ghost use Rattle.locks_rule.specs.Splits.{opening_view};
+ghost use Rattle.std.specs.Prelude.{[]};
+ghost use Rattle.versioned_table.specs.Sound.{GroundHolds, numbers};
+
+use atomic_table::TableRule;
+use history_model::{Shape, View};
+use std::marker::PhantomData;
+
+/// What a table was made with, which no step changes.
+#[derive(Drop)]
+pub struct Ground<S> {
+    /// How many seats there are.
+    pub seats: u32,
+    /// The words that the memory began with.
+    pub base: Vec<u64>,
+    /// Which words are good.
+    pub shape: S,
+}
+
+/// The rule of a desk's table. One view begins with the numbers of all seats.
+pub struct DeskRule<S> {
+    shape: PhantomData<S>,
+}
+
+impl<S: Shape> TableRule<(), View, Ground<S>> for DeskRule<S> {
+    ghost holds = { λ made s. GroundHolds S.word_count S.good made s.words s.views };
+
+    ghost first = { λ made. opening_view made.base.items made.seats (numbers 0 made.seats) [] };
+}
+
+/// The words of a desk's table, as threads share them.
+pub type TableWords<S> = atomic_table::Shared<(), View, Ground<S>, DeskRule<S>>;

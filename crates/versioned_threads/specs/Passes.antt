@@ -1,0 +1,18 @@
+-- A pass before and after it was lent to a thread.
+use Rattle.std.specs.Prelude.{◌≡◌, []}
+use Rattle.history_model.specs.declared.view.Phase.TheVariants.{Idle}
+use Rattle.versioned_table.specs.Copies.{PassView}
+use Rattle.versioned_table.specs.Desks.{DeskView}
+
+-- a pass of this desk that made no call and has seen nothing
+pub record IsFresh {S : Type 0} (desk : DeskView S) (pass : PassView) : Type 0 where
+  pub of_table : pass.table ≡ desk.table
+  pub idle : pass.view.phase ≡ Idle
+  pub no_call : pass.view.call ≡ 0
+  pub nothing_seen : pass.view.seen ≡ []
+
+-- the same pass, between calls
+pub record IsNext (old new : PassView) : Type 0 where
+  pub table_stays : new.table ≡ old.table
+  pub idle : new.view.phase ≡ Idle
+  pub who_stays : new.view.who ≡ old.view.who
