@@ -11,7 +11,7 @@ ghost use Rattle.txn_books.specs.Meaning.{IsScriptIn};
 use books_model::laws::scripts_go_by_instruments;
 use books_model::limits::{
     GREATEST_AMOUNT, GREATEST_CASH, GREATEST_PRICE, GREATEST_QUANTITY, GREATEST_RATE,
-    GREATEST_SHORTFALL,
+    GREATEST_SHORTFALL, MOST_BLOCKS,
 };
 use books_model::{Books, Decline, Op, Ops, Part, Reply, Script, Value, Values, run_plain};
 use io_ends::OutOfMemory;
