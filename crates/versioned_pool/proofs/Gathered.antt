@@ -1,0 +1,278 @@
+-- What all workers did, put together, share by share.
+use Rattle.std.proofs.Common.{◌≡◌, ℕ, zero, suc, ◌+◌, ◌<◌, ◌≤◌, ◌&&◌, ◌==◌, ◌↔◌, ◌⊎◌, inl, inr, ⊎_elim, List, [], ◌∷◌, ◌++◌, All, AllPairs, map, flat_map, length}
+use Rattle.std.proofs.Common.{get_or, slice_get, Some, count_by, nat_lt, refl, sym, ap, ◌∙◌, subst, arith, cond, length-append}
+use Rattle.std.specs.Prelude.{sum_by}
+use Rattle.std.proofs.lemmas.List.Concat.{flat_map-cons}
+use Rattle.std.proofs.lemmas.List.Elements.{All-nil, All-append, All-head, All-map, All-tail, All-weaker}
+use Rattle.std.proofs.lemmas.List.Kept.{AllPairs-cons}
+use Rattle.std.proofs.lemmas.List.Sums.{sum_by-append, sum_by-cons}
+use Rattle.std.proofs.lemmas.Option.{get_or_from_slice_get, slice_get-get_or, slice_get_within}
+use Rattle.std.proofs.lemmas.Bool.Decides.{nat_tests}
+use mathlib.Core.Logic.{dite}
+use native.Mathlib.Decide.{dec_lt}
+use Rattle.history_model.specs.declared.entry.Entry.{Entry}
+use Rattle.history_model.specs.Legal.{IsIn}
+use Rattle.values_rule.proofs.Members.{in_first, in_second}
+use Rattle.script_reader.specs.Input.{ClearingInput}
+use Rattle.script_reader.specs.Journal.{Place, IsPlace}
+use Rattle.txn_books.specs.declared.shape.BooksShape.{BooksShape}
+use Rattle.versioned_table.specs.Copies.{PassView}
+use Rattle.versioned_table.specs.Desks.{DeskView}
+use Rattle.versioned_pool.specs.declared.done.Done.{Done}
+use Rattle.versioned_pool.specs.Counting.{once_below}
+use Rattle.versioned_pool.specs.Days.{place_of_item, places_of_items}
+use Rattle.versioned_pool.specs.Inner.Makers.{AreMadeBy}
+use Rattle.versioned_pool.specs.Inner.Workers.{tally_number, IsDone, Tally}
+use Rattle.versioned_pool.proofs.Running.{among_had, one_if}
+
+abbrev pub items_of : Tally → List Done
+items_of tally = tally.share.done.items
+
+abbrev pub pass_of : Tally → PassView
+pass_of tally = tally.share.pass
+
+-- two lists of which each is in pairs, and each of the first with each of the second
+pairs-append : {X : Type 0} (R : X → X → Type 0) (xs ys : List X) → AllPairs R xs → AllPairs R ys → All (λ x. All (R x) ys) xs → AllPairs R (xs ++ ys)
+pairs-append R [] ys first second cross = second
+pairs-append R (x ∷ xs) ys first second cross =
+    let head : All (R x) xs = λ k d lt. first 0 (suc k) d (omega arith) (omega arith) in
+    let tail : AllPairs R xs = λ i j d lt short. first (suc i) (suc j) d (omega arith) (omega arith) in
+    AllPairs-cons R x (xs ++ ys) (All-append (R x) xs ys head (All-head (λ z. All (R z) ys) x xs cross))
+    (pairs-append R xs ys tail second (All-tail (λ z. All (R z) ys) x xs cross))
+
+-- what is counted over all shares' items is the sum over the workers
+counted_by : {X : Type 0} (f : Done → ℕ) (items : X → List Done) (ws : List X) → sum_by f (flat_map items ws) ≡ sum_by (λ w. sum_by f (items w)) ws
+counted_by f items [] = refl
+counted_by f items (w ∷ ws) = omega (
+  arith,
+  ap (sum_by f) (flat_map-cons items w ws),
+  sum_by-append f (items w) (flat_map items ws),
+  counted_by f items ws,
+  sum_by-cons (λ v. sum_by f (items v)) w ws,
+)
+
+sum_alike : {X : Type 0} (f g : X → ℕ) (xs : List X) → All (λ x. f x ≡ g x) xs → sum_by f xs ≡ sum_by g xs
+sum_alike f g [] all = refl
+sum_alike f g (x ∷ xs) all = omega (
+  arith,
+  All-head (λ y. f y ≡ g y) x xs all,
+  sum_alike f g xs (All-tail (λ y. f y ≡ g y) x xs all),
+  sum_by-cons f x xs,
+  sum_by-cons g x xs,
+)
+
+pub sum_over : {X Y : Type 0} (f : Y → ℕ) (h : X → Y) (xs : List X) → sum_by f (map h xs) ≡ sum_by (λ x. f (h x)) xs
+sum_over f h [] = refl
+sum_over f h (x ∷ xs) = omega (arith, sum_over f h xs, sum_by-cons f (h x) (map h xs), sum_by-cons (λ y. f (h y)) x xs)
+
+all_flat : {X Y : Type 0} (P : Y → Type 0) (f : X → List Y) (xs : List X) → All (λ x. All P (f x)) xs → All P (flat_map f xs)
+all_flat P f [] all = All-nil P
+all_flat P f (x ∷ xs) all = subst (λ l. All P l) (sym (flat_map-cons f x xs))
+    (All-append P (f x) (flat_map f xs) (All-head (λ y. All P (f y)) x xs all) (all_flat P f xs (All-tail (λ y. All P (f y)) x xs all)))
+
+-- the pairs of a list of images
+pub pairs_map : {X Y : Type 0} (R : Y → Y → Type 0) (f : X → Y) (xs : List X) → AllPairs (λ x y. R (f x) (f y)) xs → AllPairs R (map f xs)
+pairs_map R f [] pairs = λ i j d lt short. absurd (omega arith)
+pairs_map R f (x ∷ xs) pairs = AllPairs-cons R (f x) (map f xs) (All-map (R (f x)) f xs (λ k d lt. pairs 0 (suc k) d (omega arith) (omega arith)))
+    (pairs_map R f xs (λ i j d lt short. pairs (suc i) (suc j) d (omega arith) (omega arith)))
+
+-- the order that the workers' lists keep: of one caller the items rise, and are later and later calls of one seat
+abbrev pub InOrder : Done → Done → Type 0
+InOrder x y = x.caller ≡ y.caller → (x.index < y.index) × ((x.seat ≡ y.seat) × (x.call < y.call))
+
+-- a caller of whom the workers took all scripts once stands in one worker's list alone
+abbrev pub total_had : List Tally → ℕ → ℕ
+total_had ws x = sum_by (λ (w : Tally). w.had x) ws
+
+pub among_total : (ws : List Tally)
+    → All (λ (w : Tally). All (λ (item : Done). 0 < w.had item.caller) w.share.done.items) ws
+    → All (λ (item : Done). 0 < total_had ws item.caller) (flat_map items_of ws)
+among_total [] each = All-nil (λ (item : Done). 0 < total_had [] item.caller)
+among_total (w ∷ ws) each =
+    let more : (x : ℕ) → total_had (w ∷ ws) x ≡ w.had x + total_had ws x = λ x. sum_by-cons (λ (v : Tally). v.had x) w ws in
+    let own : All (λ (item : Done). 0 < total_had (w ∷ ws) item.caller) w.share.done.items =
+    All-weaker (λ (item : Done). 0 < w.had item.caller) (λ (item : Done). 0 < total_had (w ∷ ws) item.caller)
+    (λ item lt. omega (arith, more item.caller, lt)) w.share.done.items
+    (All-head (λ (v : Tally). All (λ (item : Done). 0 < v.had item.caller) v.share.done.items) w ws each) in
+    let others : All (λ (item : Done). 0 < total_had (w ∷ ws) item.caller) (flat_map items_of ws) =
+    All-weaker (λ (item : Done). 0 < total_had ws item.caller) (λ (item : Done). 0 < total_had (w ∷ ws) item.caller)
+    (λ item lt. omega (arith, more item.caller, lt)) (flat_map items_of ws)
+    (among_total ws (All-tail (λ (v : Tally). All (λ (item : Done). 0 < v.had item.caller) v.share.done.items) w ws each)) in
+    subst (λ l. All (λ (item : Done). 0 < total_had (w ∷ ws) item.caller) l) (sym (flat_map-cons items_of w ws))
+    (All-append (λ (item : Done). 0 < total_had (w ∷ ws) item.caller) w.share.done.items (flat_map items_of ws) own others)
+
+in_order_all : (ws : List Tally) → All (λ (w : Tally). AllPairs InOrder w.share.done.items) ws
+    → All (λ (w : Tally). All (λ (item : Done). 0 < w.had item.caller) w.share.done.items) ws
+    → ((x : ℕ) → total_had ws x ≤ 1) → AllPairs InOrder (flat_map items_of ws)
+in_order_all [] pairs among once = λ i j d lt short. absurd (omega arith)
+in_order_all (w ∷ ws) pairs among once =
+    let more : (x : ℕ) → total_had (w ∷ ws) x ≡ w.had x + total_had ws x = λ x. sum_by-cons (λ (v : Tally). v.had x) w ws in
+    let own : All (λ (item : Done). 0 < w.had item.caller) w.share.done.items =
+    All-head (λ (v : Tally). All (λ (item : Done). 0 < v.had item.caller) v.share.done.items) w ws among in
+    let rest = All-tail (λ (v : Tally). All (λ (item : Done). 0 < v.had item.caller) v.share.done.items) w ws among in
+    let others : All (λ (item : Done). 0 < total_had ws item.caller) (flat_map items_of ws) = among_total ws rest in
+    let cross : All (λ x. All (InOrder x) (flat_map items_of ws)) w.share.done.items = λ k d lt j e short same.
+    absurd (omega (
+      arith,
+      own k d lt,
+      others j e short,
+      more (get_or w.share.done.items k d).caller,
+      once (get_or w.share.done.items k d).caller,
+      ap (total_had ws) same,
+    )) in
+    subst (AllPairs InOrder) (sym (flat_map-cons items_of w ws))
+    (pairs-append InOrder w.share.done.items (flat_map items_of ws) (All-head (λ (v : Tally). AllPairs InOrder v.share.done.items) w ws pairs)
+    (in_order_all ws (All-tail (λ (v : Tally). AllPairs InOrder v.share.done.items) w ws pairs) rest (λ x. omega (arith, once x, more x))) cross)
+
+abbrev pub seen_by : Tally → List Entry
+seen_by tally = tally.share.pass.view.seen
+
+-- what stands at a place of two lists that were put together: it stands in the first, or in the second
+pub either_place : {X Y : Type 0} (ps qs : List X) (us vs : List Y) → length ps ≡ length us → (k : ℕ) (x : X) (y : Y)
+    → slice_get (ps ++ qs) k ≡ Some x → slice_get (us ++ vs) k ≡ Some y
+    → ((slice_get ps k ≡ Some x) × (slice_get us k ≡ Some y))
+    ⊎ ((j : ℕ) × ((slice_get qs j ≡ Some x) × (slice_get vs j ≡ Some y)))
+either_place [] qs [] vs same k x y at_x at_y = inr (k, (at_x, at_y))
+either_place [] qs (u ∷ us) vs same k x y at_x at_y = absurd (omega (arith, same))
+either_place (p ∷ ps) qs [] vs same k x y at_x at_y = absurd (omega (arith, same))
+either_place (p ∷ ps) qs (u ∷ us) vs same zero x y at_x at_y = inl (at_x, at_y)
+either_place (p ∷ ps) qs (u ∷ us) vs same (suc k) x y at_x at_y = either_place ps qs us vs (omega (arith, same)) k x y at_x at_y
+
+-- entries and items of two, put together
+made_both : (shape : BooksShape) (input : ClearingInput) (es fs : List Entry) (ds gs : List Done)
+    → AreMadeBy shape input es ds → AreMadeBy shape input fs gs → AreMadeBy shape input (es ++ fs) (ds ++ gs)
+made_both shape input es fs ds gs first second = record {
+  as_many = omega (arith, first.as_many, second.as_many, length-append ds gs, length-append es fs);
+  each = λ k x e at_x at_e. ⊎_elim (λ t. first.each k x e t.0 t.1) (λ t. second.each t.0 x e t.1.0 t.1.1)
+      (either_place ds gs es fs first.as_many k x e at_x at_e);
+}
+
+made_flat : (shape : BooksShape) (input : ClearingInput) (ws : List Tally)
+    → All (λ (w : Tally). AreMadeBy shape input (seen_by w) (items_of w)) ws
+    → AreMadeBy shape input (flat_map seen_by ws) (flat_map items_of ws)
+made_flat shape input [] all = record { as_many = refl; each = λ k x e at there. absurd (cc) }
+made_flat shape input (w ∷ ws) all =
+    subst (λ (l : List Entry). AreMadeBy shape input l (flat_map items_of (w ∷ ws))) (sym (flat_map-cons seen_by w ws))
+    (subst (λ (l : List Done). AreMadeBy shape input (seen_by w ++ flat_map seen_by ws) l) (sym (flat_map-cons items_of w ws))
+    (made_both shape input (seen_by w) (flat_map seen_by ws) (items_of w) (flat_map items_of ws)
+    (All-head (λ (v : Tally). AreMadeBy shape input (seen_by v) (items_of v)) w ws all)
+    (made_flat shape input ws (All-tail (λ (v : Tally). AreMadeBy shape input (seen_by v) (items_of v)) w ws all))))
+
+-- an entry is among those of all shares exactly where some pass has seen it
+in_append : {X : Type 0} (xs ys : List X) (x : X) → IsIn x (xs ++ ys) → IsIn x xs ⊎ IsIn x ys
+in_append [] ys x h = inr h
+in_append (z ∷ xs) ys x (zero, e) = inl (0, e)
+in_append (z ∷ xs) ys x (suc i, e) = ⊎_elim (λ t. inl (suc t.0, t.1)) (λ t. inr t) (in_append xs ys x (i, e))
+
+pub seen_flat : (ws : List Tally) (e : Entry) → IsIn e (flat_map seen_by ws) ↔ ((pass : PassView) × (IsIn pass (map pass_of ws) × IsIn e pass.view.seen))
+seen_flat [] e = (λ h. absurd (cc (h.1)), λ h. absurd (cc (h.1.0.1)))
+seen_flat (w ∷ ws) e = (
+  λ h. ⊎_elim (λ t. (w.share.pass, ((0, refl), t)))
+      (λ t. let r = (seen_flat ws e).0 t in (r.0, ((suc r.1.0.0, r.1.0.1), r.1.1)))
+      (in_append (seen_by w) (flat_map seen_by ws) e (subst (λ (l : List Entry). IsIn e l) (flat_map-cons seen_by w ws) h)),
+  λ h. subst (λ (l : List Entry). IsIn e l) (sym (flat_map-cons seen_by w ws)) (back (λ p t s. (seen_flat ws e).1 (p, (t, s))) h.0 h.1.0 h.1.1),
+)
+  where
+    same_pass : (p q : PassView) → Some p ≡ Some q → p ≡ q
+    same_pass p q s = cc
+
+    back : ((p : PassView) → IsIn p (map pass_of ws) → IsIn e p.view.seen → IsIn e (flat_map seen_by ws))
+        → (p : PassView) → IsIn p (map pass_of (w ∷ ws)) → IsIn e p.view.seen → IsIn e (seen_by w ++ flat_map seen_by ws)
+    back rest p (zero, at) t = in_first (seen_by w) (flat_map seen_by ws) e
+        (subst (λ (q : PassView). IsIn e q.view.seen) (sym (same_pass w.share.pass p at)) t)
+    back rest p (suc i, at) t = in_second (seen_by w) (flat_map seen_by ws) e (rest p (i, at) t)
+
+module _ (desk : DeskView BooksShape) (input : ClearingInput) (ws : List Tally) (worked : All (IsDone desk input) ws) where
+  abbrev pub all_items : List Done
+  all_items = flat_map items_of ws
+
+  abbrev pub all_entries : List Entry
+  all_entries = flat_map seen_by ws
+
+  pub made_all : AreMadeBy desk.shape input all_entries all_items
+  made_all = made_flat desk.shape input ws (λ k d lt. (worked k d lt).made.made)
+
+  pub below_all : All (λ (item : Done). item.restarts < desk.seats) all_items
+  below_all = all_flat (λ (item : Done). item.restarts < desk.seats) items_of ws (λ k d lt. (worked k d lt).made.below)
+
+  pub only_all : All (λ (item : Done). IsPlace input (place_of_item item)) all_items
+  only_all = all_flat (λ (item : Done). IsPlace input (place_of_item item)) items_of ws (λ k d lt. (worked k d lt).run.only)
+
+  module _ (once : (x : ℕ) → total_had ws x ≡ once_below x (length input.callers)) where
+    pub once_all : (p : Place) → IsPlace input p → count_by (λ q. q.caller == p.caller && q.index == p.index) (places_of_items all_items) ≡ 1
+    once_all p there =
+        let test : Place → ℕ = λ q. cond (q.caller == p.caller && q.index == p.index) 1 0 in
+        let by_worker : Tally → ℕ = λ w. sum_by (λ item. test (place_of_item item)) w.share.done.items in
+        let one : once_below p.caller (length input.callers) ≡ 1 = grind (arith, there.0) in
+        let none : one_if (p.caller == 0 && nat_lt p.index 0) ≡ zero = grind (arith, nat_tests) in
+        let each : All (λ w. by_worker w ≡ w.had p.caller) ws = λ k d lt.
+        sym (sum_over test place_of_item (get_or ws k d).share.done.items) ∙ omega (arith, (worked k d lt).run.each p there, none) in
+        sum_over test place_of_item all_items ∙ counted_by (λ item. test (place_of_item item)) items_of ws
+        ∙ sum_alike by_worker (λ w. w.had p.caller) ws each ∙ once p.caller ∙ one
+
+    pub keeps_all : AllPairs InOrder all_items
+    keeps_all = in_order_all ws
+        (λ k d lt i j e less short same.
+        let w : Tally = get_or ws k d in
+        let items : List Done = w.share.done.items in
+        let made = (worked k d lt).made in
+        let early : i < length items = omega (arith, less, short) in
+        let first = made.numbers i (get_or items i e) (slice_get-get_or items i e early) in
+        let second = made.numbers j (get_or items j e) (slice_get-get_or items j e short) in (
+          (worked k d lt).run.rising i j e less short same,
+          (made.seats i e early ∙ sym (made.seats j e short), omega (arith, first, second, less)),
+        ))
+        (λ k d lt. among_had input (get_or ws k d).had 0 (get_or ws k d).share.done.items (worked k d lt).run)
+        (λ x. omega (arith, once x, below_one x))
+      where
+        below_one : (x : ℕ) → once_below x (length input.callers) ≤ 1
+        below_one x = grind arith
+
+-- of shares whose seats are numbered on from one, no two items have the same seat and call
+abbrev LaterCall : Done → Done → Type 0
+LaterCall x y = x.seat ≡ y.seat → x.call < y.call
+
+calls_apart : (desk : DeskView BooksShape) (input : ClearingInput) (ws : List Tally) (a : ℕ)
+    → ((k : ℕ) (d : Tally) → k < length ws → tally_number (get_or ws k d) ≡ a + k) → All (IsDone desk input) ws
+    → All (λ (item : Done). a ≤ item.seat) (flat_map items_of ws) × AllPairs LaterCall (flat_map items_of ws)
+calls_apart desk input [] a numbered each = (All-nil (λ (item : Done). a ≤ item.seat), λ i j d lt short. absurd (omega arith))
+calls_apart desk input (w ∷ ws) a numbered each =
+    let its = (All-head (IsDone desk input) w ws each).made in
+    let rest = calls_apart desk input ws (a + 1) (λ k d lt. omega (arith, numbered (suc k) d (omega arith)))
+    (All-tail (IsDone desk input) w ws each) in
+    let here : tally_number w ≡ a = omega (arith, numbered 0 w (omega arith)) in
+    let own : AllPairs LaterCall (items_of w) = λ i j d lt short seat.
+    omega (
+      arith,
+      its.numbers i (get_or (items_of w) i d) (slice_get-get_or (items_of w) i d (omega (arith, lt, short))),
+      its.numbers j (get_or (items_of w) j d) (slice_get-get_or (items_of w) j d short),
+      lt,
+    ) in
+    let cross : All (λ x. All (LaterCall x) (flat_map items_of ws)) (items_of w) = λ k d lt j e short seat.
+    absurd (omega (arith, its.seats k d lt, here, seat, rest.0 j e short)) in (
+      subst (λ l. All (λ (item : Done). a ≤ item.seat) l) (sym (flat_map-cons items_of w ws))
+          (All-append (λ (item : Done). a ≤ item.seat) (items_of w) (flat_map items_of ws) (λ k d lt. omega (arith, its.seats k d lt, here))
+          (All-weaker (λ (item : Done). a + 1 ≤ item.seat) (λ (item : Done). a ≤ item.seat) (λ item le. omega (arith, le)) (flat_map items_of ws) rest.0)),
+      subst (AllPairs LaterCall) (sym (flat_map-cons items_of w ws)) (pairs-append LaterCall (items_of w) (flat_map items_of ws) own rest.1 cross),
+    )
+
+-- of two places of a list in pairs, the first is related to the second, or the second to the first, or they are one
+pub by_place : {X : Type 0} (R : X → X → Type 0) (xs : List X) → AllPairs R xs → (p q : ℕ) (x y : X)
+    → slice_get xs p ≡ Some x → slice_get xs q ≡ Some y → p < q → R x y
+by_place {X = X} R xs all p q x y at_x at_y lt =
+    let within = slice_get_within xs q y at_y in
+    let here : get_or xs p x ≡ x = get_or_from_slice_get xs p x x at_x in
+    let there : get_or xs q x ≡ y = get_or_from_slice_get xs q y x at_y in
+    subst (λ (z : X). R z y) here (subst (λ (z : X). R (get_or xs p x) z) there (all p q x lt within))
+
+pub no_two_calls : (desk : DeskView BooksShape) (input : ClearingInput) (ws : List Tally)
+    → ((k : ℕ) (d : Tally) → k < length ws → tally_number (get_or ws k d) ≡ 0 + k) → All (IsDone desk input) ws
+    → (p q : ℕ) (x y : Done) → slice_get (flat_map items_of ws) p ≡ Some x → slice_get (flat_map items_of ws) q ≡ Some y
+    → x.seat ≡ y.seat → x.call ≡ y.call → p ≡ q
+no_two_calls desk input ws numbered each p q x y at_x at_y seat call =
+    let pairs = (calls_apart desk input ws 0 numbered each).1 in
+    dite (dec_lt p q)
+    (λ lt. absurd (omega (arith, by_place LaterCall (flat_map items_of ws) pairs p q x y at_x at_y lt seat, call)))
+    (λ no. dite (dec_lt q p)
+    (λ lt. absurd (omega (arith, by_place LaterCall (flat_map items_of ws) pairs q p y x at_y at_x lt (sym seat), call)))
+    (λ none. omega (arith, no, none)))

@@ -1,0 +1,42 @@
+-- sums over all views of a table, where one view changes, and where one view has all
+pub mod Sums
+-- each kind of step keeps the rule of a deque
+pub mod Steps
+-- lists by their places: one item changes, or one more comes
+pub mod Places
+-- one pass changes among those of a worker
+pub mod Fitting
+-- deques are made, callers are dealt to them in turn, and passes are handed out
+pub mod Dealt
+-- one worker's passes are given back, from the last deque on
+pub mod Returning
+-- all rows are given back, and all deques are emptied
+pub mod Draining
+-- the ends of all workers before they start, and what was dealt to all deques together
+pub mod Opening
+-- how many scripts one caller has
+pub mod Rooms
+-- what a loop over a list's items has given, and what is left
+pub mod Yielded
+-- workers that stand apart: what is so of their list, and of the list of the workers
+pub mod Apart
+-- new passes, one after another, and the workers that get them
+pub mod Seating
+-- what stands at places, each of which stands there once
+pub mod Arranged
+-- a call of a pass, and its item
+pub mod Making
+-- one script more of a caller, and one caller more
+pub mod Running
+-- items in an order, each beside its entry
+pub mod Replayed
+-- what all workers did, put together: the day
+pub mod Gathered
+-- of each caller all items are of one seat
+pub mod Wholes
+-- the items in the order that is rebuilt from their uses, beside their entries
+pub mod Printed
+-- all shares of a day, put together
+pub mod Ended
+-- what the workers leave, and the last round
+pub mod Ending

@@ -1,0 +1,124 @@
+-- The ends of all workers before they start, and what was dealt to all deques together.
+use Rattle.std.proofs.Common.{◌≡◌, ℕ, zero, suc, ◌+◌, ◌%◌, ◌<◌, ◌≤◌, ◌==◌, if◌then◌else◌, All, List, [], ◌∷◌, length, get_or, refl, sym, ap, ◌∙◌, subst, arith}
+use Rattle.std.proofs.Common.{Global, lt_of_not-le, zero-add}
+use Rattle.std.specs.Prelude.{sum_by}
+use Rattle.std.proofs.lemmas.Bool.Decides.{nat_tests}
+use Rattle.std.proofs.lemmas.List.Sums.{sum_by-cons}
+use mathlib.Core.Logic.{dite}
+use native.Mathlib.Decide.{dec_le}
+use Rattle.crossbeam_deque.specs.declared.handles.Stealer.{Stealer}
+use Rattle.crossbeam_deque.specs.declared.handles.Worker.{Worker}
+use Rattle.crossbeam_deque.specs.Handles.{Pass, view, IsPassOf, worker_deque, worker_flavor, worker_view}
+use Rattle.versioned_pool.specs.declared.rule.Deal.{Deal}
+use Rattle.versioned_pool.specs.declared.rule.DealRule.{DealRule}
+use Rattle.versioned_pool.specs.declared.rule.TheConstants.{ALL_PARTS}
+use Rattle.versioned_pool.specs.declared.taker.Taker.{Taker}
+use Rattle.versioned_pool.specs.Counting.{times, once_below}
+use Rattle.versioned_pool.specs.Inner.Dealing.{AreDealtInTurn, AreShown, IsFree, IsNewRow}
+use Rattle.versioned_pool.specs.Inner.Ends.{AreAtEach, owners_dealt, stolen}
+use Rattle.versioned_pool.specs.Inner.Takers.{IsEndOf, HadNone, Thieves}
+use Rattle.std.proofs.Math.Nat.{mod-lt}
+
+abbrev pub OwnerOf : Type 0
+OwnerOf = Worker ℕ Global Deal DealRule
+
+sum_zero : {X : Type 0} (f : X → ℕ) (xs : List X) → ((k : ℕ) (d : X) → k < length xs → f (get_or xs k d) ≡ 0) → sum_by f xs ≡ 0
+sum_zero f [] none = refl
+sum_zero f (x ∷ xs) none = omega (arith, sum_by-cons f x xs, none 0 x (omega arith), sum_zero f xs (λ k d lt. none (suc k) d (omega arith)))
+
+module _ (thieves : Thieves) (owners : List OwnerOf) (n j : ℕ) (taker : Taker) (shown : AreShown thieves owners)
+    (many : length owners ≡ n) (few : n < ALL_PARTS) (free : All (IsFree n) owners) (row : IsNewRow owners taker.passes.items)
+    (own : taker.own ≡ get_or owners j taker.own) (within : j < n) where
+  fits_new : AreAtEach thieves taker.passes.items
+  fits_new = record {
+    count = row.count ∙ sym shown.count;
+    each = λ k s p lt.
+        let less : k < length owners = omega (arith, lt, shown.count) in
+        let it = row.each k taker.own p less in
+        let both = shown.each k s taker.own less in
+        record {
+          deque = subst (λ d. IsPassOf d (get_or taker.passes.items k p)) both.deque it.deque;
+          part = ap (λ (v : Deal). v.parts) it.view_is;
+          dealt = ap (λ (v : Deal). v.dealt) it.view_is;
+          fifo = both.fifo;
+        };
+  }
+
+  pub new_end : taker.seat ≡ j → taker.count ≡ 0 → IsEndOf thieves j taker
+  new_end seat count =
+      let less : j < length owners = omega (arith, within, many) in
+      let its = free j taker.own less in
+      let parts : (worker_view taker.own).parts ≡ (worker_view (get_or owners j taker.own)).parts = ap (λ (w : OwnerOf). (worker_view w).parts) own in
+      record {
+        seat_is = seat;
+        within = omega (arith, within, many, shown.count);
+        few = omega (arith, few, many, shown.count);
+        own = λ s. ap (λ (w : OwnerOf). worker_deque w) own ∙ (shown.each j s taker.own less).deque;
+        fifo = ap (λ (w : OwnerOf). worker_flavor w) own ∙ (shown.each j (first_thief thieves (omega (arith, less, shown.count))) taker.own less).own_fifo;
+        parts = omega (arith, parts, its.parts, shown.count, many);
+        row = fits_new;
+        count = omega (arith, count);
+      }
+    where
+      first_thief : (ts : Thieves) → 0 < length ts → Stealer ℕ Global Deal DealRule
+      first_thief [] lt = absurd (omega arith)
+      first_thief (t ∷ ts) lt = t
+
+  pub new_unused : taker.count ≡ 0 → HadNone taker
+  new_unused count =
+      let less : j < length owners = omega (arith, within, many) in
+      let took : (worker_view taker.own).taken ≡ [] = ap (λ (w : OwnerOf). (worker_view w).taken) own ∙ (free j taker.own less).taken in
+      record {
+        none = λ x.
+            let stole : stolen taker.passes.items x ≡ 0 = sum_zero (λ (p : Pass ℕ Deal Global). times x (view p).taken) taker.passes.items
+            (λ k p lt. ap (λ (v : Deal). times x v.taken) (row.each k taker.own p (omega (arith, lt, row.count))).view_is) in
+            omega (arith, stole, ap (times x) took);
+        count = count;
+      }
+
+-- a sum in which each place but one counts for nothing
+module _ {X : Type 0} (f : X → ℕ) (r left all : ℕ) where
+  abbrev AreTurns : ℕ → List X → Type 0
+  AreTurns a xs = (k : ℕ) (d : X) → k < length xs → f (get_or xs k d) + (if r == a + k then left else 0) ≡ (if r == a + k then all else 0)
+
+  off_turn : (m n : ℕ) → (r ≡ m → 0 ≡ suc zero) → n + (if r == m then left else 0) ≡ (if r == m then all else 0) → n ≡ 0
+  off_turn m n off h = grind (arith, nat_tests, off, h)
+
+  on_turn : (m n : ℕ) → r ≡ m → n + (if r == m then left else 0) ≡ (if r == m then all else 0) → n + left ≡ all
+  on_turn m n on h = grind (arith, nat_tests, on, h)
+
+  sum_off : (a : ℕ) (xs : List X) → r < a → AreTurns a xs → sum_by f xs ≡ 0
+  sum_off a xs less turns = sum_zero f xs (λ k d lt. off_turn (a + k) (f (get_or xs k d)) (λ e. absurd (omega (arith, e, less))) (turns k d lt))
+
+  later : (a : ℕ) (x : X) (xs : List X) → AreTurns a (x ∷ xs) → AreTurns (a + 1) xs
+  later a x xs turns k d lt = subst (λ m. f (get_or xs k d) + (if r == m then left else 0)
+      ≡ (if r == m then all else 0)) (omega arith) (turns (suc k) d (omega arith))
+
+  pub sum_turns : (a : ℕ) (xs : List X) → a ≤ r → r < a + length xs → AreTurns a xs → sum_by f xs + left ≡ all
+  sum_turns a [] le lt turns = absurd (omega (arith, le, lt))
+  sum_turns a (x ∷ xs) le lt turns =
+      let first = turns 0 x (omega arith) in
+      dite (dec_le r a)
+      (λ here. omega (
+        arith,
+        sum_by-cons f x xs,
+        on_turn (a + 0) (f x) (omega (arith, here, le)) first,
+        sum_off (a + 1) xs (omega (arith, here)) (later a x xs turns),
+      ))
+      (λ away. omega (
+        arith,
+        sum_by-cons f x xs,
+        off_turn (a + 0) (f x) (λ e. absurd (omega (arith, e, lt_of_not-le away))) first,
+        sum_turns (a + 1) xs (omega (arith, lt_of_not-le away)) (omega (arith, lt)) (later a x xs turns),
+      ))
+
+-- what was dealt to all deques and what is left is each caller once
+pub dealt_all : (callers : ℕ) (owners : List OwnerOf) (left : List ℕ) → 0 < length owners
+    → AreDealtInTurn callers owners left → (x : ℕ) → owners_dealt owners x + times x left ≡ once_below x callers
+dealt_all callers owners left some h x =
+    let less : x % length owners < length owners = mod-lt x some in
+    sum_turns (λ (w : OwnerOf). times x (worker_view w).dealt) (x % length owners) (times x left) (once_below x callers)
+    0 owners (omega arith) (omega (arith, less))
+    (λ k w lt. subst (λ m. times x (worker_view (get_or owners k w)).dealt
+    + (if x % length owners == m then times x left else 0)
+    ≡ (if x % length owners == m then once_below x callers else 0)) (sym (zero-add k)) (h.each k w x lt))

@@ -1,0 +1,150 @@
+-- Each kind of step keeps the rule of a deque.
+use Rattle.std.proofs.Common.{◌≡◌, ◌≢◌, ℕ, zero, suc, ◌+◌, ◌-◌, ◌*◌, ◌<◌, ◌≤◌, Bool, true, false, List, [], ◌∷◌, ◌++◌, set, length, sym, refl, ap, ◌∙◌, subst}
+use Rattle.std.proofs.Common.{arith, length-append, ◌==◌, if◌then◌else◌, ne_eqb, min}
+use Rattle.std.specs.Prelude.{sum_by}
+use Rattle.std.proofs.lemmas.List.Sums.{sum_by-append}
+use Rattle.crossbeam_deque.specs.Tasks.{Pushes, Takes, Finds, FindsFew, Forks, Merges}
+use Rattle.versioned_pool.specs.declared.rule.Deal.{Deal}
+use Rattle.versioned_pool.specs.declared.rule.TheConstants.{ALL_PARTS}
+use Rattle.versioned_pool.specs.Counting.{times}
+use Rattle.versioned_pool.specs.Inner.Deals.{deal, took, put, IsAllTaken, IsDealt}
+use Rattle.versioned_pool.proofs.Sums.{sum_at_set, alone}
+
+pub times_append : (x : ℕ) (xs ys : List ℕ) → times x (xs ++ ys) ≡ times x xs + times x ys
+times_append x xs ys = sum_by-append (λ (y : ℕ). if y == x then 1 else 0) xs ys
+
+if_none : (b : Bool) (n : ℕ) → b ≡ true → (if b then 0 else n) ≡ (if true then 0 else 0)
+if_none true n e = refl
+if_none false n e = absurd (Rattle.std.proofs.Common.true≢false (sym e))
+
+if_some : (b : Bool) (n : ℕ) → b ≡ false → (if b then 0 else n) ≡ n
+if_some true n e = absurd (Rattle.std.proofs.Common.true≢false e)
+if_some false n e = refl
+
+-- a pass with a part counts with its lists
+took_of : (x : ℕ) (v : Deal) → 0 < v.parts → took x v ≡ times x v.taken
+took_of x v part = if_some (v.parts == 0) (times x v.taken) (ne_eqb v.parts 0 (λ e. omega (arith, e, part)))
+
+put_of : (x : ℕ) (v : Deal) → 0 < v.parts → put x v ≡ times x v.dealt
+put_of x v part = if_some (v.parts == 0) (times x v.dealt) (ne_eqb v.parts 0 (λ e. omega (arith, e, part)))
+
+-- a pass with no part counts for nothing
+no_took : (x : ℕ) (v : Deal) → v.parts ≡ 0 → took x v ≡ 0
+no_took x v e = grind arith
+
+no_put : (x : ℕ) (v : Deal) → v.parts ≡ 0 → put x v ≡ 0
+no_put x v e = grind arith
+
+pub begins : IsDealt [] (deal ALL_PARTS [] [] ∷ [])
+begins = record { parts = refl; once = λ x. refl }
+
+module _ (port : ℕ) (v : Deal) where
+  pub pushes : (xs : List ℕ) → 0 < v.parts → Pushes IsDealt port v xs (λ w. w ≡ deal v.parts (v.dealt ++ xs) v.taken)
+  pushes xs part items views h at = let w : Deal = deal v.parts (v.dealt ++ xs) v.taken in (
+    w,
+    record {
+      parts = omega (arith, h.parts, sum_at_set (λ (u : Deal). u.parts) views port v w at);
+      once = λ x. omega (
+        arith,
+        h.once x,
+        sum_at_set (took x) views port v w at,
+        sum_at_set (put x) views port v w at,
+        took_of x v part,
+        put_of x v part,
+        took_of x w part,
+        put_of x w part,
+        times_append x v.dealt xs,
+        times_append x items xs,
+      );
+    },
+    refl,
+  )
+
+  pub takes : 0 < v.parts → Takes IsDealt port v 1 (λ xs w. w ≡ deal v.parts v.dealt (v.taken ++ xs))
+  takes part xs items views _ _ h at = let w : Deal = deal v.parts v.dealt (v.taken ++ xs) in (
+    w,
+    record {
+      parts = omega (arith, h.parts, sum_at_set (λ (u : Deal). u.parts) views port v w at);
+      once = λ x. omega (
+        arith,
+        h.once x,
+        sum_at_set (took x) views port v w at,
+        sum_at_set (put x) views port v w at,
+        took_of x v part,
+        put_of x v part,
+        took_of x w part,
+        put_of x w part,
+        times_append x v.taken xs,
+        times_append x xs items,
+      );
+    },
+    refl,
+  )
+
+  -- who has all parts and finds nothing knows that all that was dealt was taken
+  pub finds : Finds IsDealt port v (v.parts ≡ ALL_PARTS → IsAllTaken v)
+  finds views h at all x =
+      let P : Deal → ℕ = λ u. u.parts in
+      let whole : sum_by P views ≡ P v = h.parts ∙ sym all in
+      let part : 0 < v.parts = omega (arith, all) in
+      omega (
+        arith,
+        h.once x,
+        alone (took x) P (no_took x) views port v at whole,
+        alone (put x) P (no_put x) views port v at whole,
+        took_of x v part,
+        put_of x v part,
+      )
+
+  pub finds_few : (most : ℕ) → most ≡ 0 → FindsFew IsDealt most port v (v.parts ≡ ALL_PARTS → IsAllTaken v)
+  finds_few most none items views few h at = finds views (subst (λ (l : List ℕ). IsDealt l views) (nothing items (omega (arith, few, none))) h) at
+    where
+      nothing : (l : List ℕ) → length l ≡ 0 → l ≡ []
+      nothing [] e = refl
+      nothing (y ∷ ys) e = absurd (omega arith)
+
+  pub forks : 1 < v.parts → Forks IsDealt port v (deal (v.parts - 1) v.dealt v.taken) (deal 1 [] [])
+  forks parts items views h at =
+      let l : Deal = deal (v.parts - 1) v.dealt v.taken in
+      let r : List Deal = deal 1 [] [] ∷ [] in
+      record {
+        parts = let P : Deal → ℕ = λ u. u.parts in omega (arith, h.parts, sum_at_set P views port v l at, sum_by-append P (set views port l) r);
+        once = λ x. omega (
+          arith,
+          h.once x,
+          sum_at_set (took x) views port v l at,
+          sum_at_set (put x) views port v l at,
+          sum_by-append (took x) (set views port l) r,
+          sum_by-append (put x) (set views port l) r,
+          took_of x v (omega arith),
+          put_of x v (omega arith),
+          took_of x l (omega arith),
+          put_of x l (omega arith),
+        );
+      }
+
+  pub merges : (other : ℕ) (u : Deal) → 0 < v.parts → 0 < u.parts
+      → Merges IsDealt port v other u (deal (v.parts + u.parts) (v.dealt ++ u.dealt) (v.taken ++ u.taken)) (deal 0 [] [])
+  merges other u part part' items views h at two at' =
+      let b : Deal = deal (v.parts + u.parts) (v.dealt ++ u.dealt) (v.taken ++ u.taken) in
+      let z : Deal = deal 0 [] [] in
+      let vs : List Deal = set views port b in
+      record {
+        parts = let P : Deal → ℕ = λ y. y.parts in omega (arith, h.parts, sum_at_set P views port v b at, sum_at_set P vs other u z at');
+        once = λ x. omega (
+          arith,
+          h.once x,
+          sum_at_set (took x) views port v b at,
+          sum_at_set (put x) views port v b at,
+          sum_at_set (took x) vs other u z at',
+          sum_at_set (put x) vs other u z at',
+          took_of x v part,
+          put_of x v part,
+          took_of x u part',
+          put_of x u part',
+          took_of x b (omega arith),
+          put_of x b (omega arith),
+          times_append x v.dealt u.dealt,
+          times_append x v.taken u.taken,
+        );
+      }

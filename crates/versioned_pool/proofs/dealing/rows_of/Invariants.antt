@@ -1,0 +1,11 @@
+use Rattle.std.proofs.Common.{◌≡◌, All, length}
+use Rattle.versioned_pool.specs.Inner.Dealing.{HaveLess, IsNewRow}
+use Rattle.versioned_pool.proofs.dealing.rows_of.Given as goal
+
+-- the rows so far
+abbrev pub invariant-loop-worker : goal.invariant-loop-worker
+invariant-loop-worker l = record {
+  count : length l.rows.items ≡ l._worker;
+  owners : HaveLess l._worker l.fn.owners.items l.owners.items;
+  new : All (λ row. IsNewRow l.fn.owners.items row.items) l.rows.items;
+}

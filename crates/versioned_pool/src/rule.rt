@@ -1,0 +1,90 @@
+//! The rule of a deque, which holds between any two steps (`IsDealt` of `specs/Inner/Deals`), and what each kind of step
+//! does to what a thread knows.
+
+use crossbeam_deque::protocol::{Join, Outcome, Protocol, Split};
+use std::alloc::Global;
+use std::collections::LinkedList;
+
+/// All parts of a deque: more than there may be workers, since each gets one and the owner keeps one at least.
+pub const ALL_PARTS: u64 = 64;
+
+/// What is known of a deque by its owner, or by a pass at it. No value of it is made.
+pub struct Deal {
+    /// Its parts of the whole, which are `ALL_PARTS` together.
+    pub parts: u64,
+    /// The callers that it dealt to the deque.
+    pub dealt: LinkedList<u32>,
+    /// The callers that it took from the deque.
+    pub taken: LinkedList<u32>,
+}
+
+/// The rule of a deque. Its owner begins with all parts.
+pub(crate) struct DealRule;
+
+impl Protocol<u32, Deal> for DealRule {
+    ghost use Rattle.std.specs.Prelude.{[]};
+    ghost use Rattle.versioned_pool.specs.declared.rule.TheConstants.{ALL_PARTS};
+    ghost use Rattle.versioned_pool.specs.Inner.Deals.{deal, IsDealt};
+
+    ghost holds = { IsDealt };
+
+    ghost first = { deal ALL_PARTS [] [] };
+
+    ghost guest = { deal 0 [] [] };
+}
+
+/// Callers are dealt to the deque.
+pub(crate) struct Put;
+
+impl Outcome<u32, Deal> for Put {
+    ghost use Rattle.std.specs.Prelude.{◌≡◌, ◌++◌};
+    ghost use Rattle.versioned_pool.specs.Inner.Deals.{deal};
+
+    ghost then = { λ v xs w. w ≡ deal v.parts (v.dealt ++ xs) v.taken };
+}
+
+/// Callers are taken. Who has all parts and finds none left knows that all that was dealt was taken.
+pub(crate) struct Took;
+
+impl Outcome<u32, Deal> for Took {
+    ghost use Rattle.std.specs.Prelude.{◌≡◌, ◌++◌};
+    ghost use Rattle.versioned_pool.specs.declared.rule.TheConstants.{ALL_PARTS};
+    ghost use Rattle.versioned_pool.specs.Inner.Deals.{deal, IsAllTaken};
+
+    ghost then = { λ v xs w. w ≡ deal v.parts v.dealt (v.taken ++ xs) };
+
+    ghost empty = { λ v. v.parts ≡ ALL_PARTS → IsAllTaken v };
+}
+
+/// A pass gets one part.
+pub(crate) struct Cut;
+
+impl Split<Deal> for Cut {
+    ghost use Rattle.std.specs.Prelude.{[], ◌-◌};
+    ghost use Rattle.versioned_pool.specs.Inner.Deals.{deal};
+
+    ghost left = { λ v. deal (v.parts - 1) v.dealt v.taken };
+
+    ghost right = { λ v. deal 1 [] [] };
+}
+
+/// The parts and lists of two are put together.
+pub(crate) struct Both;
+
+impl Join<Deal> for Both {
+    ghost use Rattle.std.specs.Prelude.{[], ◌++◌, ◌+◌};
+    ghost use Rattle.versioned_pool.specs.Inner.Deals.{deal};
+
+    ghost both = { λ v w. deal (v.parts + w.parts) (v.dealt ++ w.dealt) (v.taken ++ w.taken) };
+
+    ghost spent = { deal 0 [] [] };
+}
+
+/// A deque's owner: it deals callers to the deque, and takes them from it.
+pub(crate) type Owner = crossbeam_deque::Worker<u32, Global, Deal, DealRule>;
+
+/// What threads share of a deque.
+pub(crate) type Thief = crossbeam_deque::Stealer<u32, Global, Deal, DealRule>;
+
+/// What a thread needs beside to take callers from another's deque.
+pub(crate) type DequePass = crossbeam_deque::Pass<u32, Deal>;

@@ -1,0 +1,393 @@
+//! All workers of a day: a thread for each pass, and what they leave.
+
+ghost use Rattle.std.specs.Prelude.{ℕ, ◌≡◌, ◌<◌, ◌≤◌, ◌+◌, ◌*◌, ◌++◌, ◌∷◌, [], length, map, flat_map, slice_get, All, Some, false, IfOk, OnOk};
+ghost use Rattle.std.specs.List.{range_with_len};
+ghost use Rattle.crossbeam_utils.specs.Padded.{padded_value};
+ghost use Rattle.history_model.specs.Fitting.{IsGood};
+ghost use Rattle.script_reader.specs.declared.limits.TheConstants.{MOST_CALLERS, MOST_SCRIPTS};
+ghost use Rattle.txn_books.specs.Layout.{shape_of, words_of};
+ghost use Rattle.txn_books.specs.Standing.{IsGoodFor, Stands, StandsFor};
+ghost use Rattle.versioned_pool.specs.declared.rule.TheConstants.{ALL_PARTS};
+ghost use Rattle.versioned_pool.specs.Counting.{times};
+ghost use Rattle.versioned_pool.specs.Days.{AreAllNew, AreAt, AreCallersWhole, IsDay};
+ghost use Rattle.versioned_table.specs.Closing.{AreRecords, IsCoherent, IsLegalInEachOrder};
+ghost use Rattle.versioned_pool.specs.Inner.Dealing.{AreDealtInTurn, AreShown, IsFree, IsNewRow};
+ghost use Rattle.versioned_pool.specs.Inner.Makers.{HasMade, RunsEach};
+ghost use Rattle.versioned_pool.specs.Inner.Takers.{dealt_to, IsDealtOut};
+ghost use Rattle.versioned_pool.specs.Inner.Workers.{number_of, seat_of, workers_of, AreAllDone, FitTogether, HasEndedItsPart, IsSeated};
+
+use crate::dealing::{Deques, deal_out};
+use crate::done::{DayEnd, Done};
+use crate::finish::settle;
+use crate::rule::{DequePass, Owner};
+use crate::taker::Taker;
+use crate::worker::{Share, Worker, run_caller};
+use crate::workshop::Workshop;
+use books_model::laws::refused_changes_nothing;
+use crossbeam_utils::CachePadded;
+use io_ends::OutOfMemory;
+use order_rebuild::order_of;
+use script_reader::Input;
+use std::alloc::Global;
+use std::sync::Wait;
+use std::thread;
+use std::thread::Threads;
+use txn_books::BooksShape;
+use versioned_table::{Desk, Pass};
+use worker_gate::Gate;
+
+// A worker for each pass, in their order: each gets the deque of its number, and a row of passes.
+// They stand apart: each writes what it has at every step, and a cache line that two of them shared
+// would go to and fro between their threads.
+fn seat_workers<R: Wait, G: Gate>(
+    shop: &Workshop<R, G>,
+    passes: Vec<Pass<BooksShape>>,
+    mut owners: Vec<Owner>,
+    mut rows: Vec<Vec<DequePass>>,
+) -> Result<Vec<CachePadded<Worker>>, OutOfMemory>
+    requires passes { AreAllNew shop.now.desk.now passes.items }
+    requires count { (length owners.items ≡ length passes.items)
+        × (length rows.items ≡ length passes.items) }
+    requires few { length passes.items < ALL_PARTS }
+    requires shown { AreShown shop.now.thieves.now owners.items }
+    requires free { All (IsFree (length passes.items)) owners.items }
+    requires rows { All (λ row. IsNewRow owners.items row.items) rows.items }
+    ensures seated { IfOk result (λ workers.
+        All (IsSeated shop.now.thieves.now shop.now.desk.now) (workers_of workers.items)) }
+    ensures numbers { IfOk result (λ workers.
+        map number_of (workers_of workers.items) ≡ range_with_len 0 shop.now.desk.now.seats) }
+    ensures owners { IfOk result (λ workers.
+        map (λ worker. worker.taker.own) (workers_of workers.items) ≡ owners.items) }
+{
+    let mut workers = Vec::new(shop.alloc);
+    // They are taken from the end.
+    owners.reverse();
+    for pass in passes {
+        let Some(own) = owners.pop() else {
+            unreachable!()
+        };
+        let Some(row) = rows.pop() else {
+            unreachable!()
+        };
+        workers.push(CachePadded::new(Worker {
+            taker: Taker {
+                own,
+                passes: row,
+                seat: workers.len(),
+                count: 0,
+            },
+            share: Share {
+                pass,
+                done: Vec::new(shop.alloc),
+            },
+            failed: false,
+        }))?;
+    }
+    Ok(workers)
+}
+
+// Each worker on a thread of its own.
+fn work_all<R: Threads + Wait + Sync, G: Gate>(
+    shop: &Workshop<R, G>,
+    workers: &mut [CachePadded<Worker>],
+)
+    requires some { 0 < length workers.old }
+    requires fit { FitTogether shop.now.desk.now shop.now.shape shop.now.input.now }
+    requires seated { All (IsSeated shop.now.thieves.now shop.now.desk.now)
+        (workers_of workers.old) }
+    ensures ended { All (HasEndedItsPart shop.now.thieves.now shop.now.desk.now shop.now.input.now)
+        (workers_of workers.new) }
+    ensures numbers { map number_of (workers_of workers.new)
+        ≡ map number_of (workers_of workers.old) }
+    ensures dealt { map (λ worker. dealt_to worker.taker) (workers_of workers.new)
+        ≡ map (λ worker. dealt_to worker.taker) (workers_of workers.old) }
+{
+    thread::for_each_mut(
+        shop.rt,
+        workers,
+        workers.len(),
+        &|_, worker: &mut CachePadded<Worker>|
+            requires { FitTogether shop.now.desk.now shop.now.shape shop.now.input.now
+                × IsSeated shop.now.thieves.now shop.now.desk.now (padded_value worker.now) }
+            ensures { HasEndedItsPart shop.entry.now.thieves.now shop.entry.now.desk.now
+                shop.entry.now.input.now (padded_value worker.exit.now)
+                × (number_of (padded_value worker.exit.now)
+                ≡ number_of (padded_value worker.entry.now))
+                × (dealt_to (padded_value worker.exit.now).taker
+                ≡ dealt_to (padded_value worker.entry.now).taker) }
+        { worker.work(shop) },
+    );
+}
+
+/// What all workers leave, each list in their order.
+#[derive(Drop)]
+pub(crate) struct Leavings {
+    pub owners: Vec<Owner>,
+    pub rows: Vec<Vec<DequePass>>,
+    pub shares: Vec<Share>,
+}
+
+// What one worker leaves, behind what others left, unless it found no memory.
+fn add_worker(worker: Worker, all: &mut Leavings) -> Result<(), OutOfMemory>
+    ensures not_failed { OnOk result (worker.failed ≡ false) }
+    ensures owner { OnOk result (all.new.owners.items
+        ≡ all.old.owners.items ++ worker.taker.own ∷ []) }
+    ensures row { OnOk result (all.new.rows.items
+        ≡ all.old.rows.items ++ worker.taker.passes ∷ []) }
+    ensures share { OnOk result (all.new.shares.items
+        ≡ all.old.shares.items ++ worker.share ∷ []) }
+{
+    let Worker {
+        taker,
+        share,
+        failed,
+    } = worker;
+    if failed {
+        return Err(OutOfMemory);
+    }
+    let Taker {
+        own,
+        passes,
+        seat: _,
+        count: _,
+    } = taker;
+    all.owners.push(own)?;
+    all.rows.push(passes)?;
+    all.shares.push(share)?;
+    Ok(())
+}
+
+// What all workers leave, unless one of them found no memory.
+fn gather(alloc: Global, workers: Vec<CachePadded<Worker>>) -> Result<Leavings, OutOfMemory>
+    ensures none_failed { IfOk result (λ _.
+        All (λ worker. worker.failed ≡ false) (workers_of workers.items)) }
+    ensures owners { IfOk result (λ all.
+        all.owners.items ≡ map (λ worker. worker.taker.own) (workers_of workers.items)) }
+    ensures rows { IfOk result (λ all.
+        all.rows.items ≡ map (λ worker. worker.taker.passes) (workers_of workers.items)) }
+    ensures shares { IfOk result (λ all.
+        all.shares.items ≡ map (λ worker. worker.share) (workers_of workers.items)) }
+{
+    let mut all = Leavings {
+        owners: Vec::new(alloc),
+        rows: Vec::new(alloc),
+        shares: Vec::new(alloc),
+    };
+    for worker in workers {
+        add_worker(worker.into_inner(), &mut all)?;
+    }
+    Ok(all)
+}
+
+// Runs all callers of the list.
+fn run_left<R: Wait, G: Gate>(
+    shop: &Workshop<R, G>,
+    share: &mut Share,
+    left: Vec<u32>,
+) -> Result<(), OutOfMemory>
+    requires fit { FitTogether shop.now.desk.now shop.now.shape shop.now.input.now }
+    requires made { HasMade shop.now.desk.now shop.now.input.now (seat_of share.old)
+        share.old.pass share.old.done.items }
+    requires few { length share.old.done.items ≤ MOST_CALLERS * MOST_SCRIPTS }
+    requires left { length left.items ≤ MOST_CALLERS }
+    ensures made { OnOk result (HasMade shop.now.desk.now shop.now.input.now (seat_of share.old)
+        share.new.pass share.new.done.items) }
+    ensures number { OnOk result (seat_of share.new ≡ seat_of share.old) }
+    ensures run { OnOk result ((h more : ℕ → ℕ) → ((x : ℕ) → more x ≡ h x + times x left.items)
+        → RunsEach shop.now.input.now h share.old.done.items
+        → RunsEach shop.now.input.now more share.new.done.items) }
+{
+    for caller in left {
+        run_caller(shop, share, caller)?;
+    }
+    Ok(())
+}
+
+// What no worker took is run by the calling thread, with the first pass.
+fn last_round<R: Wait, G: Gate>(
+    shop: &Workshop<R, G>,
+    workers: Vec<CachePadded<Worker>>,
+    mut left: Vec<u32>,
+) -> Result<Vec<Share>, OutOfMemory>
+    requires some { 0 < length (workers_of workers.items) }
+    requires fit { FitTogether shop.now.desk.now shop.now.shape shop.now.input.now }
+    requires ended { All (HasEndedItsPart shop.now.thieves.now shop.now.desk.now shop.now.input.now)
+        (workers_of workers.items) }
+    requires numbers { map number_of (workers_of workers.items)
+        ≡ range_with_len 0 shop.now.desk.now.seats }
+    requires thieves { length shop.now.thieves.now ≡ length (workers_of workers.items) }
+    requires dealt { IsDealtOut (length shop.now.input.now.callers)
+        (map (λ worker. dealt_to worker.taker) (workers_of workers.items)) left.items }
+    ensures { IfOk result (λ shares.
+        AreAllDone shop.now.desk.now shop.now.input.now shares.items) }
+{
+    let Leavings {
+        owners,
+        rows,
+        mut shares,
+    } = gather(shop.alloc, workers)?;
+    settle(shop.rt, owners, rows, &mut left)?;
+    run_left(shop, &mut shares[0], left)?;
+    Ok(shares)
+}
+
+// All scripts of the day, each run once.
+fn run_all<R: Threads + Wait + Sync, G: Gate>(
+    shop: &Workshop<R, G>,
+    passes: Vec<Pass<BooksShape>>,
+    owners: Vec<Owner>,
+    rows: Vec<Vec<DequePass>>,
+    left: Vec<u32>,
+) -> Result<Vec<Share>, OutOfMemory>
+    requires fit { FitTogether shop.now.desk.now shop.now.shape shop.now.input.now }
+    requires passes { AreAllNew shop.now.desk.now passes.items }
+    requires some { 0 < length passes.items }
+    requires count { (length owners.items ≡ length passes.items)
+        × (length rows.items ≡ length passes.items) }
+    requires few { length passes.items < ALL_PARTS }
+    requires shown { AreShown shop.now.thieves.now owners.items }
+    requires free { All (IsFree (length passes.items)) owners.items }
+    requires rows { All (λ row. IsNewRow owners.items row.items) rows.items }
+    requires dealt { AreDealtInTurn (length shop.now.input.now.callers) owners.items left.items }
+    ensures { IfOk result (λ shares.
+        AreAllDone shop.now.desk.now shop.now.input.now shares.items) }
+{
+    let mut workers = seat_workers(shop, passes, owners, rows)?;
+    work_all(shop, workers.as_mut_slice());
+    last_round(shop, workers, left)
+}
+
+// One share behind others.
+fn add_share(
+    share: Share,
+    passes: &mut Vec<Pass<BooksShape>>,
+    all: &mut Vec<Done>,
+) -> Result<(), OutOfMemory>
+    ensures pass { OnOk result (passes.new.items ≡ passes.old.items ++ share.pass ∷ []) }
+    ensures done { OnOk result (all.new.items ≡ all.old.items ++ share.done.items) }
+{
+    let Share { pass, mut done } = share;
+    passes.push(pass)?;
+    all.append(&mut done)?;
+    Ok(())
+}
+
+// All passes, and all items, each in the order of the shares.
+fn join_shares(
+    alloc: Global,
+    shares: Vec<Share>,
+) -> Result<(Vec<Pass<BooksShape>>, Vec<Done>), OutOfMemory>
+    ensures passes { IfOk result (λ all. all.0.items ≡ map (λ share. share.pass) shares.items) }
+    ensures done { IfOk result (λ all.
+        all.1.items ≡ flat_map (λ share. share.done.items) shares.items) }
+{
+    let mut passes = Vec::new(alloc);
+    let mut all = Vec::new(alloc);
+    for share in shares {
+        add_share(share, &mut passes, &mut all)?;
+    }
+    Ok((passes, all))
+}
+
+// The items at the places, in their order.
+fn arrange(alloc: Global, done: Vec<Done>, places: &[usize]) -> Result<Vec<Done>, OutOfMemory>
+    requires within { (i p : ℕ) → slice_get places.now i ≡ Some p → p < length done.items }
+    requires once { (i j p : ℕ) → slice_get places.now i ≡ Some p
+        → slice_get places.now j ≡ Some p → i ≡ j }
+    ensures { IfOk result (λ arranged. AreAt done.items places.now arranged.items) }
+{
+    let mut left = Vec::with_capacity(alloc, done.len())?;
+    for item in done {
+        left.push(Some(item))?;
+    }
+    let mut arranged = Vec::with_capacity(alloc, places.len())?;
+    for &place in places {
+        let Some(item) = left[place].take() else {
+            unreachable!()
+        };
+        arranged.push(item)?;
+    }
+    Ok(arranged)
+}
+
+// Closes the table, and puts the items in the order that is rebuilt from what they used.
+fn end_day(
+    alloc: Global,
+    desk: Desk<BooksShape>,
+    input: &Input,
+    shares: Vec<Share>,
+) -> Result<DayEnd, OutOfMemory>
+    requires done { AreAllDone desk input.now shares.items }
+    requires stands { Stands desk.shape desk.base input.now.books }
+    ensures desk { IfOk result (λ day. (day.closed.base ≡ desk.base)
+        × (day.closed.seats ≡ desk.seats) × (day.closed.shape ≡ desk.shape)) }
+    ensures coherent { IfOk result (λ day. IsCoherent
+        (IsGood (words_of desk.shape) (IsGoodFor desk.shape)) day.closed) }
+    ensures legal { IfOk result (λ day. IsLegalInEachOrder
+        (IsGood (words_of desk.shape) (IsGoodFor desk.shape)) day.closed) }
+    ensures records { IfOk result (λ day. AreRecords day.closed) }
+    ensures day { IfOk result (λ day. IsDay input.now day.closed day.done.items) }
+    ensures whole { IfOk result (λ day. AreCallersWhole day.done.items) }
+{
+    refused_changes_nothing();
+    desk.began_good();
+    let (passes, done) = join_shares(alloc, shares)?;
+    let Ok(closed) = desk.close(alloc, passes) else {
+        return Err(OutOfMemory);
+    };
+    let places = order_of(alloc, done.as_slice())?;
+    let done = arrange(alloc, done, places.as_slice())?;
+    Ok(DayEnd { done, closed })
+}
+
+/// Runs all scripts of the input, each as one transaction on the table, with a thread for each pass.
+///
+/// Each caller is run whole by one worker, its scripts in their order. Where a worker finds no memory, the others go on
+/// to their end, and there is no day; the table is dropped then. A worker may wait for others: that a wait ends, no
+/// clause says.
+pub fn run_callers<R: Threads + Wait + Sync, G: Gate>(
+    rt: &R,
+    alloc: Global,
+    desk: Desk<BooksShape>,
+    passes: Vec<Pass<BooksShape>>,
+    input: &Input,
+    gate: &G,
+) -> Result<DayEnd, OutOfMemory>
+    requires passes { AreAllNew desk passes.items }
+    requires shape { desk.shape ≡ shape_of input.now.books }
+    requires stands { StandsFor desk.base input.now.books }
+    // The table of the day is that of the desk, closed.
+    ensures desk { IfOk result (λ day. (day.closed.base ≡ desk.base)
+        × (day.closed.seats ≡ desk.seats) × (day.closed.shape ≡ desk.shape)) }
+    // What was committed, with all attempts that gave way, has an arrangement, and each arrangement is a legal history.
+    ensures coherent { IfOk result (λ day. IsCoherent
+        (IsGood (words_of desk.shape) (IsGoodFor desk.shape)) day.closed) }
+    ensures legal { IfOk result (λ day. IsLegalInEachOrder
+        (IsGood (words_of desk.shape) (IsGoodFor desk.shape)) day.closed) }
+    ensures records { IfOk result (λ day. AreRecords day.closed) }
+    // One serial history of all scripts, and what the interpreter says of it.
+    ensures day { IfOk result (λ day. IsDay input.now day.closed day.done.items) }
+    // Each caller was run whole by one worker.
+    ensures whole { IfOk result (λ day. AreCallersWhole day.done.items) }
+{
+    let (callers, workers) = (input.callers(), desk.seats());
+    // No deque is dealt more.
+    let room = callers as usize / workers as usize + 1;
+    let Deques {
+        owners,
+        thieves,
+        rows,
+        left,
+    } = deal_out(alloc, callers, workers, room)?;
+    let shop = Workshop {
+        rt,
+        alloc,
+        desk: &desk,
+        shape: BooksShape::of(input.books()),
+        thieves: thieves.as_slice(),
+        input,
+        gate,
+    };
+    let shares = run_all(&shop, passes, owners, rows, left)?;
+    end_day(alloc, desk, input, shares)
+}

@@ -1,0 +1,172 @@
+//! One worker: it takes callers and runs their scripts, until it finds none.
+
+ghost use Rattle.std.specs.Prelude.{◌≡◌, ℕ, ◌+◌, ◌*◌, ◌<◌, ◌≤◌, List, [], ◌∷◌, ◌++◌, length, IfOk, OnOk};
+ghost use Rattle.history_model.specs.declared.view.Phase.TheVariants.{Idle};
+ghost use Rattle.history_model.specs.Views.{number};
+ghost use Rattle.script_reader.specs.Input.{caller_at};
+ghost use Rattle.script_reader.specs.declared.limits.TheConstants.{MOST_SCRIPTS};
+ghost use Rattle.versioned_table.specs.declared.limits.TheConstants.{LAST_CALL};
+ghost use Rattle.versioned_pool.specs.Counting.{HadOneMore};
+ghost use Rattle.versioned_pool.specs.Inner.Makers.{HasMade, RanScripts, RunsEach};
+ghost use Rattle.versioned_pool.specs.Inner.Takers.{dealt_to};
+ghost use Rattle.versioned_pool.specs.Inner.Workers.{number_of, FitTogether, HasEndedItsPart, HasDoneItsPart, IsSeated};
+
+use crate::done::Done;
+use crate::taker::Taker;
+use crate::workshop::Workshop;
+use books_model::laws::scripts_go_by_instruments;
+use io_ends::OutOfMemory;
+use script_reader::limits::MOST_SCRIPTS;
+use std::sync::Wait;
+use txn_books::{BooksShape, ScriptJob};
+use versioned_commit::transact;
+use versioned_table::Pass;
+use worker_gate::Gate;
+
+/// What was run by one pass.
+#[derive(Drop)]
+pub(crate) struct Share {
+    pub pass: Pass<BooksShape>,
+    pub done: Vec<Done>,
+}
+
+/// What a worker has for its own.
+#[derive(Drop)]
+pub(crate) struct Worker {
+    pub taker: Taker,
+    pub share: Share,
+    /// It found no memory, and ended before its work was done.
+    pub failed: bool,
+}
+
+// The number by which a gate knows a script: a caller's own lie side by side.
+fn tag_of(caller: u32, index: u32) -> u64
+    ensures { result ≡ caller * MOST_SCRIPTS + index }
+{
+    u64::from(caller) * MOST_SCRIPTS as u64 + u64::from(index)
+}
+
+// The script of a caller as one transaction: its item.
+fn run_script<R: Wait, G: Gate>(
+    shop: &Workshop<R, G>,
+    pass: &mut Pass<BooksShape>,
+    caller: u32,
+    index: u32,
+) -> Result<Done, OutOfMemory>
+    requires fit { FitTogether shop.now.desk.now shop.now.shape shop.now.input.now }
+    requires caller { caller < length shop.now.input.now.callers }
+    requires index { index < length (caller_at shop.now.input.now caller).scripts }
+    requires desk { pass.old.table ≡ shop.now.desk.now.table }
+    requires idle { pass.old.view.phase ≡ Idle }
+    requires room { pass.old.view.call < LAST_CALL }
+    ensures who { pass.new.view.who ≡ pass.old.view.who }
+    ensures made { IfOk result (λ item. (done : List Done)
+        → HasMade shop.now.desk.now shop.now.input.now (number pass.old.view) pass.old done
+        → HasMade shop.now.desk.now shop.now.input.now (number pass.old.view)
+        pass.new (done ++ item ∷ [])) }
+    ensures place { IfOk result (λ item. (item.caller ≡ caller) × (item.index ≡ index)) }
+{
+    // A script for the opening books is one for these sizes.
+    scripts_go_by_instruments();
+    let script = shop.input.script(caller, index);
+    let job = ScriptJob::new(shop.alloc, shop.shape, script, tag_of(caller, index));
+    let receipt = transact(shop.rt, shop.alloc, shop.desk, pass, &job, shop.gate)?;
+    Ok(Done {
+        caller,
+        index,
+        seat: pass.who(),
+        call: receipt.call,
+        uses: receipt.uses,
+        restarts: receipt.restarts,
+        reply: receipt.answer,
+    })
+}
+
+// All scripts of one caller of the input, in their order.
+fn run_scripts<R: Wait, G: Gate>(
+    shop: &Workshop<R, G>,
+    pass: &mut Pass<BooksShape>,
+    done: &mut Vec<Done>,
+    caller: u32,
+) -> Result<(), OutOfMemory>
+    requires fit { FitTogether shop.now.desk.now shop.now.shape shop.now.input.now }
+    requires caller { caller < length shop.now.input.now.callers }
+    requires made { HasMade shop.now.desk.now shop.now.input.now (number pass.old.view)
+        pass.old done.old.items }
+    requires room { length done.old.items + length (caller_at shop.now.input.now caller).scripts
+        ≤ LAST_CALL }
+    ensures who { pass.new.view.who ≡ pass.old.view.who }
+    ensures made { OnOk result (HasMade shop.now.desk.now shop.now.input.now
+        (number pass.old.view) pass.new done.new.items) }
+    ensures run { OnOk result ((h : ℕ → ℕ) → h caller ≡ 0
+        → RanScripts shop.now.input.now h caller 0 done.old.items
+        → RanScripts shop.now.input.now h caller
+        (length (caller_at shop.now.input.now caller).scripts) done.new.items) }
+    ensures count { OnOk result (length done.new.items
+        ≡ length done.old.items + length (caller_at shop.now.input.now caller).scripts) }
+{
+    for index in 0..shop.input.scripts_of(caller) {
+        let item = run_script(shop, pass, caller, index)?;
+        done.push(item)?;
+    }
+    Ok(())
+}
+
+/// All scripts of one caller, in their order. A number that is no caller's is passed over.
+pub(crate) fn run_caller<R: Wait, G: Gate>(
+    shop: &Workshop<R, G>,
+    share: &mut Share,
+    caller: u32,
+) -> Result<(), OutOfMemory>
+    requires fit { FitTogether shop.now.desk.now shop.now.shape shop.now.input.now }
+    requires made { HasMade shop.now.desk.now shop.now.input.now (number share.old.pass.view)
+        share.old.pass share.old.done.items }
+    requires room { length share.old.done.items + MOST_SCRIPTS ≤ LAST_CALL }
+    ensures who { share.new.pass.view.who ≡ share.old.pass.view.who }
+    ensures made { OnOk result (HasMade shop.now.desk.now shop.now.input.now
+        (number share.old.pass.view) share.new.pass share.new.done.items) }
+    ensures run { OnOk result ((h more : ℕ → ℕ) → HadOneMore h more caller
+        → RunsEach shop.now.input.now h share.old.done.items
+        → RunsEach shop.now.input.now more share.new.done.items) }
+    ensures count { OnOk result (length share.new.done.items
+        ≤ length share.old.done.items + MOST_SCRIPTS) }
+{
+    if caller < shop.input.callers() {
+        run_scripts(shop, &mut share.pass, &mut share.done, caller)?;
+    }
+    Ok(())
+}
+
+impl Worker {
+    // Takes callers until it finds none.
+    fn run<R: Wait, G: Gate>(&mut self, shop: &Workshop<R, G>) -> Result<(), OutOfMemory>
+        requires fit { FitTogether shop.now.desk.now shop.now.shape shop.now.input.now }
+        requires seated { IsSeated shop.now.thieves.now shop.now.desk.now self.old }
+        ensures who { self.new.share.pass.view.who ≡ self.old.share.pass.view.who }
+        ensures dealt { dealt_to self.new.taker ≡ dealt_to self.old.taker }
+        ensures worked { OnOk result
+            (HasDoneItsPart shop.now.thieves.now shop.now.desk.now shop.now.input.now self.new) }
+    {
+        for _ in shop.rt.forever() {
+            let Some(caller) = self.taker.next(shop.rt, shop.thieves) else {
+                return Ok(());
+            };
+            run_caller(shop, &mut self.share, caller)?;
+        }
+        unreachable!()
+    }
+
+    /// Takes callers and runs their scripts, until it finds none or there is no memory.
+    pub(crate) fn work<R: Wait, G: Gate>(&mut self, shop: &Workshop<R, G>)
+        requires fit { FitTogether shop.now.desk.now shop.now.shape shop.now.input.now }
+        requires seated { IsSeated shop.now.thieves.now shop.now.desk.now self.old }
+        ensures number { number_of self.new ≡ number_of self.old }
+        ensures dealt { dealt_to self.new.taker ≡ dealt_to self.old.taker }
+        ensures ended { HasEndedItsPart shop.now.thieves.now shop.now.desk.now shop.now.input.now
+            self.new }
+    {
+        if self.run(shop).is_err() {
+            self.failed = true;
+        }
+    }
+}
